@@ -1,0 +1,16 @@
+use Rattle.std.proofs.Common.{◌≡◌, List, ap, ◌∙◌, sym}
+use Rattle.bpf_insn.specs.declared.forms.Insn.{Insn}
+use Rattle.bpf_insn.specs.Programs.{insns_in, image_of}
+use Rattle.bpf_insn.proofs.LayoutLaws.{insns_in-layout, is_laid_out}
+use Rattle.bpf_insn.proofs.image.program_in.Goals as goal
+
+pub invariant_of-result : goal.invariant_of-result
+invariant_of-result c =
+    let read = c.in_ok-slots_in.ensures in
+    is_laid_out read.0 c.in_ok-slots_in.field-0.items read.1 read.3
+
+pub returns-clause-program : goal.returns-clause-program
+returns-clause-program c =
+    let read = c.in_ok-slots_in.ensures in
+    let same = ap insns_in read.3 ∙ insns_in-layout read.0 in
+    (rw same read.1, read.2 ∙ ap image_of (sym same))

@@ -1,0 +1,35 @@
+use Rattle.std.proofs.Common.{◌++◌, ◌∷◌, [], List, ℕ, arith, ap, sym, subst, ◌∙◌}
+use Rattle.bpf_insn.specs.declared.forms.Insn.{Insn}
+use Rattle.bpf_insn.specs.Encoding.{slots_taken}
+use Rattle.bpf_insn.specs.Images.{RefusesImage}
+use Rattle.bpf_insn.proofs.ImageLaws.{IsRead, read_more, read_fault, read_whole, refuses_at, slots_of-last, slots_below, some_left, none_left}
+use Rattle.bpf_insn.proofs.LayoutLaws.{one_slot}
+use Rattle.bpf_insn.proofs.image.scan.Goals as goal
+
+pub overflow_add-slot : goal.overflow_add-slot
+overflow_add-slot c =
+    let read = c.loop-rest.invariant in
+    omega (arith, slots_below c.args.bytes.now read.0 c.loop-rest.rest.now read.1 c.requires.few, read.2, c.slots.ensures.count, one_slot c.in-Ok.insn)
+
+pub loop-rest-preserved : goal.loop-rest-preserved
+loop-rest-preserved c =
+    let read = c.loop-rest.invariant in
+    let insn = c.in-Ok.insn in (
+      read.0 ++ insn ∷ [],
+      subst (λ (rest : List ℕ). IsRead c.args.bytes.now (read.0 ++ insn ∷ []) rest) (sym c.in-Ok.ensures.rest) (read_more c.args.bytes.now read.0 c.loop-rest.rest.now insn read.1 c.in-Ok.ensures.read),
+      omega (arith, slots_of-last read.0 insn, read.2, c.slots.ensures.count),
+    )
+
+pub returns-in-Err-clause-fault : goal.returns-in-Err-clause-fault
+returns-in-Err-clause-fault c =
+    let read = c.loop-rest.invariant in
+    let left = some_left c.loop-rest.rest.now c.loop-rest-test.ensures in
+    subst (RefusesImage c.args.bytes.now) (sym c.at.ensures)
+    (refuses_at c.args.bytes.now c.loop-rest.slot c.in-Err.fault
+    (c.requires.few, read_fault c.args.bytes.now read.0 c.loop-rest.rest.now c.in-Err.fault c.loop-rest.slot read.1 read.2 left c.in-Err.ensures.fault))
+
+pub returns-clause-image : goal.returns-clause-image
+returns-clause-image c =
+    let read = c.loop-rest.invariant in
+    let whole = read_whole c.args.bytes.now read.0 c.loop-rest.rest.now read.1 (none_left c.loop-rest.rest.now c.loop-rest-test.ensures) c.requires.some c.requires.few in
+    (read.0, whole.0, whole.1)

@@ -1,0 +1,165 @@
+//! Images of programs.
+
+ghost use Rattle.std.specs.Prelude.{◌≡◌, ◌≢◌, ◌<◌, ◌≤◌, ◌*◌, ◌++◌, List, length, drop, IfOk, IfErr, OnOk, MatchResult};
+ghost use Rattle.std.specs.List.{flat_map};
+ghost use Rattle.bpf_insn.specs.declared.forms.Insn.{Insn};
+ghost use Rattle.bpf_insn.specs.Encoding.{slots_taken, spelling};
+ghost use Rattle.bpf_insn.specs.Reading.{front_at};
+ghost use Rattle.bpf_insn.specs.Programs.{IsProgram, image_of, layout, spelling_at};
+ghost use Rattle.bpf_insn.specs.Images.{IsImage, RefusesImage};
+
+use crate::forms::Insn;
+use crate::listing::{MAX_SLOTS, Program, push_slots};
+use crate::slot::{Slot, SlotFault, front};
+use std::alloc::{AllocError, Global};
+
+/// Why bytes are no image of a program, with the slot where the first fault is (docs/INSTRUCTIONS.md, "Refusals").
+/// `Empty` and `TooLong` go by the length alone. `Memory` comes only for the image of a program.
+#[derive(Clone, Copy, Debug, PartialEq, Eq)]
+pub enum ImageError {
+    Empty,
+    TooLong,
+    Truncated(u32),
+    UnknownOpcode(u32),
+    BadRegister(u32),
+    NonZeroField(u32),
+    BadWidth(u32),
+    Memory,
+}
+
+impl ImageError {
+    ghost use Rattle.std.specs.Prelude.{◌≡◌};
+    ghost use Rattle.bpf_insn.specs.Images.{error_at};
+
+    fn at(fault: SlotFault, slot: u32) -> ImageError
+        ensures { result ≡ error_at fault slot }
+    {
+        match fault {
+            SlotFault::Truncated => ImageError::Truncated(slot),
+            SlotFault::UnknownOpcode => ImageError::UnknownOpcode(slot),
+            SlotFault::BadRegister => ImageError::BadRegister(slot),
+            SlotFault::NonZeroField => ImageError::NonZeroField(slot),
+            SlotFault::BadWidth => ImageError::BadWidth(slot),
+        }
+    }
+}
+
+impl From<AllocError> for ImageError {
+    ghost use Rattle.std.specs.Prelude.{◌≡◌};
+    ghost use Rattle.bpf_insn.specs.declared.image.ImageError.TheVariants.{Memory};
+
+    ghost from_gives = { λ _ e. e ≡ Memory };
+
+    fn from(_e: AllocError) -> ImageError {
+        ImageError::Memory
+    }
+}
+
+/// The instruction at the front, and what follows it.
+fn next(bytes: &[u8]) -> Result<(Insn, &[u8]), SlotFault>
+    ensures read { IfOk result (λ x. front_at bytes.now ≡ Ok x.0) }
+    ensures rest { IfOk result (λ x. x.1.now ≡ drop (8 * slots_taken x.0) bytes.now) }
+    ensures shorter { IfOk result (λ x. length x.1.now < length bytes.now) }
+    ensures fault { IfErr result (λ fault. front_at bytes.now ≡ Err fault) }
+{
+    let insn = front(bytes)?;
+    let (_, rest) = bytes.split_at(8 * insn.slots());
+    Ok((insn, rest))
+}
+
+/// Reads all of the bytes, and keeps nothing: so a fault is told where memory is short too.
+fn scan(bytes: &[u8]) -> Result<(), ImageError>
+    requires some { 0 < length bytes.now }
+    requires few { length bytes.now ≤ 8 * MAX_SLOTS }
+    ensures image { OnOk result (IsImage bytes.now) }
+    ensures fault { IfErr result (RefusesImage bytes.now) }
+{
+    let mut slot: u32 = 0;
+    let mut rest = bytes;
+    while !rest.is_empty() {
+        match next(rest) {
+            Ok((insn, after)) => {
+                slot += insn.slots() as u32;
+                rest = after;
+            }
+            Err(fault) => return Err(ImageError::at(fault, slot)),
+        }
+    }
+    Ok(())
+}
+
+/// The slots of the program whose image these bytes are.
+fn slots_in(alloc: Global, bytes: &[u8]) -> Result<Vec<Option<Insn>>, AllocError>
+    requires { IsImage bytes.now }
+    ensures { IfOk result (λ slots. (program : List Insn) × IsProgram program × (bytes.now ≡ image_of program) × (slots.items ≡ layout program)) }
+{
+    let mut slots = Vec::with_capacity(alloc, bytes.len() / 8)?;
+    let mut rest = bytes;
+    while !rest.is_empty() {
+        let Ok((insn, after)) = next(rest) else {
+            unreachable!()
+        };
+        push_slots(&mut slots, &insn)?;
+        rest = after;
+    }
+    Ok(slots)
+}
+
+fn program_in(alloc: Global, bytes: &[u8]) -> Result<Program, ImageError>
+    ensures program { IfOk result (λ p. IsProgram p × (bytes.now ≡ image_of p)) }
+    ensures refusal { IfErr result (RefusesImage bytes.now) }
+{
+    if bytes.is_empty() {
+        return Err(ImageError::Empty);
+    }
+    if bytes.len() > 8 * MAX_SLOTS {
+        return Err(ImageError::TooLong);
+    }
+    scan(bytes)?;
+    Ok(Program {
+        slots: slots_in(alloc, bytes)?,
+    })
+}
+
+/// The program of an image (RFC 9669, section 3).
+pub fn decode(alloc: Global, bytes: &[u8]) -> Result<Program, ImageError>
+    ensures program { IfOk result (λ p. IsProgram p × (bytes.now ≡ image_of p)) }
+    ensures refusal { IfErr result (RefusesImage bytes.now) }
+
+    // Each image is decoded, and each refusal is the only one, memory aside.
+    ensures only_program { (p : List Insn) → IsProgram p → bytes.now ≡ image_of p → MatchResult result (λ q. q ≡ p) (λ e. e ≡ ImageError.Memory) }
+    ensures only_refusal { (e : ImageError) → RefusesImage bytes.now e → e ≢ ImageError.Memory → result ≡ Err e }
+{
+    program_in(alloc, bytes)
+}
+
+/// Adds the spelling of what is found at a slot.
+fn push_found(image: &mut Vec<u8>, found: Option<Insn>) -> Result<(), AllocError>
+    ensures { OnOk result (image.new.items ≡ image.old.items ++ spelling_at found) }
+{
+    match found {
+        Some(insn) => {
+            image.extend_from_slice(&Slot::of(&insn).bytes())?;
+            Ok(())
+        }
+        None => Ok(()),
+    }
+}
+
+fn spell_slots(alloc: Global, slots: &[Option<Insn>]) -> Result<Vec<u8>, AllocError>
+    ensures { IfOk result (λ bytes. bytes.items ≡ flat_map spelling_at slots.now) }
+{
+    let mut image = Vec::new(alloc);
+    for found in slots {
+        push_found(&mut image, *found)?;
+    }
+    Ok(image)
+}
+
+/// The image of a program.
+pub fn encode(alloc: Global, program: &Program) -> Result<Vec<u8>, AllocError>
+    ensures image { IfOk result (λ bytes. bytes.items ≡ image_of program.now) }
+    ensures program { IsProgram program.now }
+{
+    spell_slots(alloc, &program.slots)
+}

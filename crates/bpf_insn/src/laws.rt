@@ -1,0 +1,37 @@
+//! Laws of spellings and images.
+
+ghost use Rattle.std.specs.Prelude.{◌≡◌, ◌≢◌, ◌*◌, ◌++◌, List, ℕ, length, MatchResult};
+ghost use Rattle.bpf_insn.specs.declared.forms.Insn.{Insn};
+ghost use Rattle.bpf_insn.specs.Encoding.{InRange, slots_taken, spelling};
+ghost use Rattle.bpf_insn.specs.Programs.{IsProgram, image_of, slots_of};
+ghost use Rattle.bpf_insn.specs.Images.{RefusesImage};
+
+use crate::image::{ImageError, decode, encode};
+use crate::listing::Program;
+use std::alloc::Global;
+
+/// No spelling begins another, and so each instruction has one.
+pub fn one_spelling()
+    ensures { (i j : Insn) (x y : List ℕ) → InRange i → InRange j → spelling i ++ x ≡ spelling j ++ y → (i ≡ j) × (x ≡ y) }
+{}
+
+/// A slot has eight bytes.
+pub fn spelling_length()
+    ensures insn { (i : Insn) → length (spelling i) ≡ 8 * slots_taken i }
+    ensures program { (p : List Insn) → length (image_of p) ≡ 8 * slots_of p }
+{}
+
+/// Bytes are the image of one program or have one refusal, want of memory aside.
+pub fn one_reading()
+    ensures program { (p q : List Insn) → IsProgram p → IsProgram q → image_of p ≡ image_of q → p ≡ q }
+    ensures refusal { (bytes : List ℕ) (e d : ImageError) → RefusesImage bytes e → RefusesImage bytes d → e ≢ ImageError.Memory → d ≢ ImageError.Memory → e ≡ d }
+    ensures apart { (p : List Insn) (e : ImageError) → IsProgram p → RefusesImage (image_of p) e → e ≡ ImageError.Memory }
+{}
+
+/// What is encoded is decoded again.
+pub fn round_trip(alloc: Global, program: &Program) -> Result<Program, ImageError>
+    ensures { MatchResult result (λ again. again ≡ program.now) (λ error. error ≡ ImageError.Memory) }
+{
+    let image = encode(alloc, program)?;
+    decode(alloc, &image)
+}

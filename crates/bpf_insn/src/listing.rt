@@ -1,0 +1,134 @@
+//! Programs.
+
+ghost use Rattle.std.specs.Prelude.{◌≡◌, ◌∷◌, ◌++◌, [], ◌<◌, ◌≤◌, ◌+◌, length, IfOk, IfErr, OnOk, IfSome, IfNone, OnSome};
+ghost use Rattle.std.specs.Prelude.{All, slice_get};
+ghost use Rattle.bpf_insn.specs.Encoding.{InRange};
+ghost use Rattle.bpf_insn.specs.Programs.{slots_of, slots_by, layout, inner, IsProgram, RefusesInsns};
+
+use crate::forms::Insn;
+use std::alloc::{AllocError, Global};
+use std::marker::Model;
+
+/// The most slots of a program.
+pub const MAX_SLOTS: usize = 1024;
+
+/// A program: whole instructions in 1 to `MAX_SLOTS` slots. Contracts see the list of its instructions.
+#[derive(Drop)]
+pub struct Program {
+    /// An instruction at its first slot, and nothing at a further one.
+    pub(crate) slots: Vec<Option<Insn>>,
+}
+
+impl Model for Program {
+    ghost use Rattle.std.specs.Prelude.{List};
+    ghost use Rattle.bpf_insn.specs.declared.forms.Insn.{Insn};
+    ghost use Rattle.bpf_insn.specs.Programs.{insns_in, IsLaidOut};
+
+    ghost Value = { List Insn };
+
+    ghost view = { λ p. insns_in p.slots.items };
+
+    ghost invariant = { λ p. IsLaidOut p.slots.items };
+}
+
+/// Why instructions are no program. `Memory` comes only where they are one.
+#[derive(Clone, Copy, Debug, PartialEq, Eq)]
+pub enum ProgramError {
+    Empty,
+    TooLong,
+    Memory,
+}
+
+/// Adds the slots of an instruction.
+pub(crate) fn push_slots(slots: &mut Vec<Option<Insn>>, insn: &Insn) -> Result<(), AllocError>
+    ensures { OnOk result (slots.new.items ≡ slots.old.items ++ slots_by insn.now) }
+{
+    slots.push(Some(*insn))?;
+    Ok(())
+}
+
+/// The number of slots, where there are not too many.
+fn count_slots(insns: &[Insn]) -> Option<usize>
+    ensures some { IfSome result (λ count. (count ≡ slots_of insns.now) × (count ≤ MAX_SLOTS)) }
+    ensures in_range { OnSome result (All InRange insns.now) }
+    ensures none { IfNone result (MAX_SLOTS < slots_of insns.now) }
+{
+    let mut count = 0;
+    for insn in insns {
+        count += insn.slots();
+        if count > MAX_SLOTS {
+            return None;
+        }
+    }
+    Some(count)
+}
+
+fn lay_out(alloc: Global, insns: &[Insn], count: usize) -> Result<Vec<Option<Insn>>, AllocError>
+    ensures { IfOk result (λ slots. slots.items ≡ layout insns.now) }
+{
+    let mut slots = Vec::with_capacity(alloc, count)?;
+    for insn in insns {
+        push_slots(&mut slots, insn)?;
+    }
+    Ok(slots)
+}
+
+fn look_up(slots: &[Option<Insn>], slot: usize) -> Option<Insn>
+    ensures { result ≡ inner (slice_get slots.now slot) }
+{
+    if slot < slots.len() {
+        slots[slot]
+    } else {
+        None
+    }
+}
+
+/// The program with these instructions. A refusal hands them back.
+pub fn program_of(alloc: Global, insns: Vec<Insn>) -> Result<Program, (Vec<Insn>, ProgramError)>
+    ensures program { IfOk result (λ p. (p ≡ insns.items) × IsProgram p) }
+    ensures back { IfErr result (λ e. e.0 ≡ insns) }
+    ensures refusal { IfErr result (λ e. RefusesInsns insns.items e.1) }
+{
+    if insns.is_empty() {
+        return Err((insns, ProgramError::Empty));
+    }
+    let Some(count) = count_slots(&insns) else {
+        return Err((insns, ProgramError::TooLong));
+    };
+    match lay_out(alloc, &insns, count) {
+        Ok(slots) => Ok(Program { slots }),
+        Err(_) => Err((insns, ProgramError::Memory)),
+    }
+}
+
+impl Program {
+    ghost use Rattle.std.specs.Prelude.{◌≡◌, ◌+◌, ◌≤◌, IfOk, IfSome, IsSome};
+    ghost use Rattle.bpf_insn.specs.Encoding.{slots_taken};
+    ghost use Rattle.bpf_insn.specs.Programs.{insn_at, slots_of, IsProgram};
+
+    /// The number of its slots, 1 to `MAX_SLOTS`.
+    pub fn slot_count(&self) -> u32
+        ensures count { result ≡ slots_of self.now }
+        ensures program { IsProgram self.now }
+        ensures first { IsSome (insn_at self.now 0) }
+    {
+        self.slots.len() as u32
+    }
+
+    /// The instruction that begins at a slot: none at a further slot of an instruction, and none past the end.
+    pub fn insn_at(&self, slot: u32) -> Option<Insn>
+        ensures found { result ≡ insn_at self.now slot }
+        ensures within { IfSome result (λ insn. slot + slots_taken insn ≤ slots_of self.now) }
+    {
+        look_up(&self.slots, slot as usize)
+    }
+
+    /// An equal program.
+    pub fn copy(&self, alloc: Global) -> Result<Program, AllocError>
+        ensures { IfOk result (λ program. program ≡ self.now) }
+    {
+        Ok(Program {
+            slots: Vec::from_slice(alloc, &self.slots)?,
+        })
+    }
+}
