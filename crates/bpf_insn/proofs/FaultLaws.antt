@@ -1,15 +1,12 @@
 -- A fault that is read is the lowest one that holds, and no spelling begins there.
-use Rattle.std.proofs.Common.{◌≡◌, ◌≢◌, ℕ, zero, suc, ◌+◌, ◌*◌, ◌/◌, ◌%◌, ◌-◌, ◌^◌, ◌<◌, ◌≤◌, Bool, true, false, cond, not, List, [], ◌∷◌, ◌++◌, length, get_or, take, drop, Option, Some, None, Result, Ok, Err, refl, sym, ap, subst, ◌∙◌, arith, rules, inl, inr, ◌⊎◌}
+use Rattle.std.proofs.Common.{◌≡◌, ℕ, ◌+◌, ◌*◌, ◌/◌, ◌%◌, ◌^◌, ◌<◌, ◌≤◌, Bool, true, false, cond, not, List, length, drop, Option, Some, None, Result, Ok, Err, refl, sym, ap, ◌∙◌, arith, inl, inr, ◌⊎◌}
 use Rattle.std.specs.Prelude.{◌==◌, nat_lt, slice_index, if◌then◌else◌, bit_and, is_none, ℤ}
-use Rattle.std.specs.Int.{w16, w32, from_le_bytes, cast_unsigned}
-use Rattle.std.proofs.lemmas.Bool.{ltb-false, ltb-true, eqb-true, eqb-false, eq-eqb, ne_eqb, cases_eq, cases_Bool, agree_below_at}
+use Rattle.std.specs.Int.{w16, cast_unsigned}
+use Rattle.std.proofs.lemmas.Bool.{ltb-false, ltb-true, agree_below_at}
 use Rattle.std.proofs.lemmas.Nat.{and_mask}
-use Rattle.std.proofs.lemmas.List.{get_or-take, get_or-drop}
-use Rattle.bpf_insn.specs.declared.forms.AluOp.{AluOp}
 use Rattle.bpf_insn.specs.declared.forms.AluOp.TheVariants as ops
 use Rattle.bpf_insn.specs.declared.forms.Operand.TheVariants as operands
 use Rattle.bpf_insn.specs.declared.forms.Reg.{Reg}
-use Rattle.bpf_insn.specs.declared.forms.Insn.{Insn}
 use Rattle.bpf_insn.specs.declared.forms.Insn.TheVariants as insn
 use Rattle.bpf_insn.specs.declared.opcode.AluCode.TheVariants.{Add, Mov}
 use Rattle.bpf_insn.specs.declared.opcode.Source.TheVariants as source
@@ -20,11 +17,11 @@ use Rattle.bpf_insn.specs.declared.slot.SlotFault.{SlotFault}
 use Rattle.bpf_insn.specs.declared.slot.SlotFault.TheVariants.{Truncated, UnknownOpcode, BadRegister, NonZeroField, BadWidth}
 use Rattle.bpf_insn.specs.Registers.{register_number, register_at}
 use Rattle.bpf_insn.specs.Opcodes.{opcode_byte}
-use Rattle.bpf_insn.specs.Encoding.{slot_bytes, spelling, has_stray_field, InRange}
-use Rattle.bpf_insn.specs.Reading.{◌>>=◌, found, unless, opcode_at, slot_at, fields_at, alu_op_at, operand_at, form_at, front_at}
+use Rattle.bpf_insn.specs.Encoding.{has_stray_field}
+use Rattle.bpf_insn.specs.Reading.{◌>>=◌, found, unless, opcode_at, slot_at, fields_at, alu_op_at, form_at, front_at}
 use Rattle.bpf_insn.specs.Images.{StandsAt, FaultHolds, IsFaultAt, fault_number, has_bad_width}
 use Rattle.bpf_insn.proofs.OpcodeLaws.{opcode_takes, opcode_again, number_small}
-use Rattle.bpf_insn.proofs.SlotLaws.{IsBytes, IsLong, long, long_from, SlotFits, Spells, ok_is, found_ok, slot_takes, slot_again}
+use Rattle.bpf_insn.proofs.SlotLaws.{IsBytes, Spells, ok_is, found_ok, slot_takes, slot_again}
 use Rattle.bpf_insn.proofs.FormLaws.{IsClean, clean_from, slot_with}
 use Rattle.bpf_insn.proofs.FrontLaws.{front_again}
 

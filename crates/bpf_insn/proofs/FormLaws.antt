@@ -1,12 +1,11 @@
 -- A slot gives the instruction that is spelled by it.
-use Rattle.std.proofs.Common.{◌≡◌, ℕ, zero, suc, ◌+◌, ◌*◌, ◌/◌, ◌%◌, ◌-◌, ◌^◌, ◌<◌, ◌≤◌, Bool, true, false, ◌&&◌, ◌||◌, not, cond, List, [], ◌∷◌, ◌++◌, Result, Ok, Err, refl, sym, ap, subst, ◌∙◌, arith, rules}
-use Rattle.std.specs.Prelude.{ℤ, pos, negsuc, FitsSigned, ◌==◌, if◌then◌else◌}
-use Rattle.std.specs.Int.{Width, w16, w32, cast_signed, cast_unsigned, to_le_bytes}
+use Rattle.std.proofs.Common.{◌≡◌, ℕ, Bool, true, false, ◌&&◌, ◌||◌, not, cond, Ok, Err, refl, sym, ap, subst, ◌∙◌, rules}
+use Rattle.std.specs.Prelude.{ℤ, pos, FitsSigned, ◌==◌}
+use Rattle.std.specs.Int.{Width, w16, w32, cast_signed, cast_unsigned}
 use Rattle.std.proofs.lemmas.Bool.{or_parts, eqb-true, not-false}
-use Rattle.std.proofs.lemmas.Int.{to_z-of_z, of_z-to_z, ints}
-use Rattle.std.proofs.Math.Facts.{Fits-of_z}
+use Rattle.std.proofs.lemmas.Int.{to_z-of_z}
 use Rattle.bpf_insn.specs.declared.forms.Reg.{Reg}
-use Rattle.bpf_insn.specs.declared.forms.Reg.TheVariants.{R0, R1, R2, R3, R4, R5, R6, R7, R8, R9, R10}
+use Rattle.bpf_insn.specs.declared.forms.Reg.TheVariants.{R0}
 use Rattle.bpf_insn.specs.declared.forms.AluOp.TheVariants as ops
 use Rattle.bpf_insn.specs.declared.forms.Operand.TheVariants as operands
 use Rattle.bpf_insn.specs.declared.forms.Insn.{Insn}
@@ -15,16 +14,15 @@ use Rattle.bpf_insn.specs.declared.opcode.AluCode.TheVariants.{Add, Mov}
 use Rattle.bpf_insn.specs.declared.opcode.Source.TheVariants as source
 use Rattle.bpf_insn.specs.declared.opcode.Opcode.{Opcode}
 use Rattle.bpf_insn.specs.declared.opcode.Opcode.TheVariants.{Alu, Exit}
-use Rattle.bpf_insn.specs.declared.opcode.Uses.{Uses}
 use Rattle.bpf_insn.specs.declared.slot.Slot.{Slot}
 use Rattle.bpf_insn.specs.declared.slot.SlotFault.{SlotFault}
 use Rattle.bpf_insn.specs.declared.slot.SlotFault.TheVariants.{BadWidth}
 use Rattle.bpf_insn.specs.Registers.{register_number}
 use Rattle.bpf_insn.specs.Opcodes.{uses_of}
 use Rattle.bpf_insn.specs.Encoding.{slot_of, has_stray_field, InRange}
-use Rattle.bpf_insn.specs.Reading.{◌>>=◌, alu_op_at, form_at}
+use Rattle.bpf_insn.specs.Reading.{alu_op_at, form_at}
 use Rattle.bpf_insn.proofs.OpcodeLaws.{number_once}
-use Rattle.bpf_insn.proofs.SlotLaws.{SlotFits, done, ok_is, bind_ok}
+use Rattle.bpf_insn.proofs.SlotLaws.{SlotFits, ok_is, bind_ok}
 
 stray_none : (used : Bool) (n : ℕ) → (not used && not (n == 0)) ≡ false → used ≡ false → n ≡ 0
 stray_none true n e u = absurd cc
@@ -95,6 +93,7 @@ form_takes_at (Alu Mov width source.Reg) dst src offset imm i fits clean e =
 form_takes_at Exit dst src offset imm i fits clean e =
     subst (λ (j : Insn). Makes (slot_with Exit dst src offset imm) j) (ok_is insn.Exit i e)
     (record { slot = same_slot Exit (clean.dst refl) (clean.src refl) (clean.offset refl) (clean.imm refl); range = tt })
+
 pub form_takes : (s : Slot) (i : Insn) → SlotFits s → has_stray_field s ≡ false → form_at s.opcode s ≡ Ok i → Makes s i
 form_takes s i fits clean e = form_takes_at s.opcode s.dst s.src s.offset s.imm i fits (clean_from s fits clean) e
 

@@ -1,25 +1,18 @@
 -- The instruction at the front is the one that is spelled there.
-use Rattle.std.proofs.Common.{◌≡◌, ◌≢◌, ℕ, zero, suc, ◌+◌, ◌*◌, ◌/◌, ◌%◌, ◌-◌, ◌^◌, ◌<◌, ◌≤◌, Bool, true, false, cond, List, [], ◌∷◌, ◌++◌, length, get_or, take, drop, Option, Some, None, Result, Ok, Err, refl, sym, ap, subst, ◌∙◌, append_assoc, arith, rules, ltb, inl, inr, ◌⊎◌}
-use Rattle.std.specs.Prelude.{◌==◌, nat_lt, slice_index, if◌then◌else◌, bit_and}
-use Rattle.std.specs.Int.{w32, to_le_bytes, from_le_bytes}
-use Rattle.std.proofs.lemmas.Bool.{ltb-false, ltb-true, le-ltb, eqb-true, eq-eqb, cases_Bool}
-use Rattle.std.proofs.lemmas.List.{length-append, length-drop}
-use Rattle.std.proofs.lemmas.Nat.{from_le_bytes-to_le_bytes_4}
-use Rattle.bpf_insn.specs.declared.forms.Reg.{Reg}
+use Rattle.std.proofs.Common.{◌≡◌, ℕ, ◌*◌, ◌≤◌, Bool, true, false, List, ◌++◌, length, drop, Some, Result, Ok, refl, arith}
+use Rattle.std.specs.Prelude.{nat_lt, slice_index}
+use Rattle.std.proofs.lemmas.Bool.{ltb-false, le-ltb}
+use Rattle.std.proofs.lemmas.List.{length-append}
 use Rattle.bpf_insn.specs.declared.forms.Insn.{Insn}
-use Rattle.bpf_insn.specs.declared.forms.Insn.TheVariants as insn
-use Rattle.bpf_insn.specs.declared.forms.Operand.TheVariants as operands
 use Rattle.bpf_insn.specs.declared.opcode.Opcode.{Opcode}
 use Rattle.bpf_insn.specs.declared.slot.Slot.{Slot}
 use Rattle.bpf_insn.specs.declared.slot.SlotFault.{SlotFault}
-use Rattle.bpf_insn.specs.declared.slot.SlotFault.TheVariants.{Truncated, UnknownOpcode, BadRegister, NonZeroField, BadWidth}
-use Rattle.bpf_insn.specs.Registers.{register_number, register_at}
-use Rattle.bpf_insn.specs.Opcodes.{opcode_byte}
+use Rattle.bpf_insn.specs.declared.slot.SlotFault.TheVariants.{Truncated, UnknownOpcode, NonZeroField}
 use Rattle.bpf_insn.specs.Encoding.{slot_bytes, slot_of, spelling, has_stray_field, InRange, slots_taken}
-use Rattle.bpf_insn.specs.Reading.{◌>>=◌, found, unless, opcode_at, slot_at, form_at, front_at}
+use Rattle.bpf_insn.specs.Reading.{found, unless, opcode_at, slot_at, form_at, front_at}
 use Rattle.bpf_insn.proofs.OpcodeLaws.{opcode_takes, opcode_again}
-use Rattle.bpf_insn.proofs.SlotLaws.{IsBytes, Spells, bind_ok, found_ok, slot_takes, slot_again}
-use Rattle.bpf_insn.proofs.FormLaws.{Makes, form_takes, form_again, slot_fits, no_stray_field}
+use Rattle.bpf_insn.proofs.SlotLaws.{IsBytes, bind_ok, found_ok, slot_takes, slot_again}
+use Rattle.bpf_insn.proofs.FormLaws.{form_takes, form_again, slot_fits, no_stray_field}
 use Rattle.bpf_insn.proofs.LayoutLaws.{one_slot}
 
 pub unless_ok : {A : Type 0} (b : Bool) (d : SlotFault) (next : Result A SlotFault) (y : A) → unless b d next ≡ Ok y → (b ≡ false) × (next ≡ Ok y)

@@ -1,5 +1,5 @@
 -- Images have one reading, or one fault.
-use Rattle.std.proofs.Common.{◌≡◌, ◌≢◌, ℕ, zero, suc, ◌+◌, ◌*◌, ◌-◌, ◌<◌, ◌≤◌, Bool, true, false, List, [], ◌∷◌, ◌++◌, length, get_or, take, drop, Result, Ok, Err, refl, sym, ap, subst, ◌∙◌, append_assoc, arith, inl, inr, ◌⊎◌}
+use Rattle.std.proofs.Common.{◌≡◌, ℕ, ◌+◌, ◌*◌, ◌<◌, ◌≤◌, true, false, List, [], ◌∷◌, ◌++◌, length, drop, Ok, Err, refl, sym, ap, ◌∙◌, append_assoc, arith, inl, inr}
 use Rattle.std.specs.List.{AllByRecursion}
 use Rattle.std.proofs.lemmas.List.{length-append, drop_at, get_or-drop, append-nil}
 use Rattle.std.specs.Prelude.{◌==◌}
@@ -8,16 +8,14 @@ use Rattle.bpf_insn.specs.declared.forms.Insn.{Insn}
 use Rattle.bpf_insn.specs.declared.slot.SlotFault.{SlotFault}
 use Rattle.bpf_insn.specs.declared.slot.SlotFault.TheVariants.{Truncated, UnknownOpcode, BadRegister, NonZeroField, BadWidth}
 use Rattle.bpf_insn.specs.declared.listing.TheConstants.{MAX_SLOTS}
-use Rattle.bpf_insn.specs.declared.image.ImageError.{ImageError}
-use Rattle.bpf_insn.specs.declared.image.ImageError.TheVariants as errors
 use Rattle.bpf_insn.specs.Encoding.{spelling, InRange, slots_taken}
 use Rattle.bpf_insn.specs.Reading.{front_at}
 use Rattle.bpf_insn.specs.Programs.{image_of, slots_of, IsProgram, layout, slots_by}
-use Rattle.bpf_insn.specs.Images.{IsFaultAt, IsFault, IsFirstFault, RefusesImage, FaultHolds, fault_number, error_at}
+use Rattle.bpf_insn.specs.Images.{IsFaultAt, IsFault, IsFirstFault, RefusesImage, fault_number, error_at}
 use Rattle.bpf_insn.proofs.SlotLaws.{IsBytes, ok_is}
-use Rattle.bpf_insn.proofs.FrontLaws.{IsFirst, front_takes, front_again, length_spelling}
+use Rattle.bpf_insn.proofs.FrontLaws.{front_takes, front_again, length_spelling}
 use Rattle.bpf_insn.proofs.FaultLaws.{front_fault}
-use Rattle.bpf_insn.proofs.LayoutLaws.{slots_of-cons, one_slot}
+use Rattle.bpf_insn.proofs.LayoutLaws.{slots_of-cons}
 
 -- no spelling begins another
 pub one_spelling : (i j : Insn) (x y : List ℕ) → InRange i → InRange j → spelling i ++ x ≡ spelling j ++ y → (i ≡ j) × (x ≡ y)

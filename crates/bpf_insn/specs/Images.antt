@@ -1,5 +1,5 @@
 -- Images of programs, and what is wrong with bytes that are none.
-use Rattle.std.specs.Prelude.{◌≡◌, ◌≢◌, ℕ, ◌+◌, ◌*◌, ◌/◌, ◌%◌, ◌<◌, ◌≤◌, ◌==◌, ◌⊎◌, if◌then◌else◌, Bool, true, false, not, List, [], ◌∷◌, ◌++◌, length, take, drop, slice_index, FitsSigned}
+use Rattle.std.specs.Prelude.{◌≡◌, ◌≢◌, ℕ, ◌*◌, ◌/◌, ◌%◌, ◌<◌, ◌≤◌, ◌==◌, ◌⊎◌, Bool, true, false, not, List, [], ◌++◌, length, drop, slice_index, FitsSigned}
 use Rattle.std.specs.List.{AllByRecursion}
 use Rattle.std.specs.Int.{w16, w32, cast_unsigned}
 use Rattle.bpf_insn.specs.declared.forms.Insn.{Insn}

@@ -1,5 +1,5 @@
 -- What the parts of the decoder give.
-use Rattle.std.specs.Prelude.{ℕ, ◌+◌, ◌*◌, ◌^◌, ◌/◌, ◌==◌, ◌&&◌, ◌||◌, not, nat_lt, if◌then◌else◌, Bool, true, false, bit_and, Option, Some, None, Result, Ok, Err, List, [], ◌∷◌, length, slice_index}
+use Rattle.std.specs.Prelude.{ℕ, ◌/◌, ◌==◌, nat_lt, if◌then◌else◌, Bool, bit_and, Option, Some, None, Result, Ok, Err, List, [], ◌∷◌, length, slice_index}
 use Rattle.std.specs.Int.{w16, w32, cast_signed, cast_unsigned, from_le_bytes}
 use Rattle.bpf_insn.specs.declared.forms.Reg.{Reg}
 use Rattle.bpf_insn.specs.declared.forms.Width.{Width}
@@ -19,7 +19,7 @@ use Rattle.bpf_insn.specs.declared.opcode.Opcode.TheVariants as opcode
 use Rattle.bpf_insn.specs.declared.slot.Slot.{Slot}
 use Rattle.bpf_insn.specs.declared.slot.SlotFault.{SlotFault}
 use Rattle.bpf_insn.specs.declared.slot.SlotFault.TheVariants.{Truncated, UnknownOpcode, BadRegister, NonZeroField, BadWidth}
-use Rattle.bpf_insn.specs.Registers.{register_number, register_at}
+use Rattle.bpf_insn.specs.Registers.{register_at}
 use Rattle.bpf_insn.specs.Encoding.{has_stray_field}
 
 abbrev pub alu_at : Width → ℕ → Source → Option Opcode

@@ -1,6 +1,7 @@
 //! BPF instructions and their images (RFC 9669): the types, and the bytes that stand for them.
 #![tactic(auto)]
 
+mod arithmetic;
 mod forms;
 mod image;
 mod laws;
@@ -8,6 +9,7 @@ mod listing;
 mod opcode;
 mod slot;
 
+pub use arithmetic::alu;
 pub use forms::{AluOp, Insn, Operand, Reg, Width};
 pub use image::{ImageError, decode, encode};
 pub use laws::{one_reading, one_spelling, round_trip, spelling_length};

@@ -119,6 +119,7 @@ impl Program {
     pub fn insn_at(&self, slot: u32) -> Option<Insn>
         ensures found { result ≡ insn_at self.now slot }
         ensures within { IfSome result (λ insn. slot + slots_taken insn ≤ slots_of self.now) }
+        ensures program { IsProgram self.now }
     {
         look_up(&self.slots, slot as usize)
     }

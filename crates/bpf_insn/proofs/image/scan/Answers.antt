@@ -1,6 +1,4 @@
-use Rattle.std.proofs.Common.{◌++◌, ◌∷◌, [], List, ℕ, arith, ap, sym, subst, ◌∙◌}
-use Rattle.bpf_insn.specs.declared.forms.Insn.{Insn}
-use Rattle.bpf_insn.specs.Encoding.{slots_taken}
+use Rattle.std.proofs.Common.{◌++◌, ◌∷◌, [], List, ℕ, arith, sym, subst}
 use Rattle.bpf_insn.specs.Images.{RefusesImage}
 use Rattle.bpf_insn.proofs.ImageLaws.{IsRead, read_more, read_fault, read_whole, refuses_at, slots_of-last, slots_below, some_left, none_left}
 use Rattle.bpf_insn.proofs.LayoutLaws.{one_slot}

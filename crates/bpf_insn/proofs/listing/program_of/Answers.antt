@@ -1,4 +1,4 @@
-use Rattle.std.proofs.Common.{◌≡◌, ◌≢◌, ◌≤◌, List, [], length, arith, sym, ap, subst, ◌∙◌}
+use Rattle.std.proofs.Common.{◌≤◌, List, length, arith, sym, ap, subst, ◌∙◌}
 use Rattle.bpf_insn.specs.declared.forms.Insn.{Insn}
 use Rattle.std.specs.List.{All}
 use Rattle.std.specs.Prelude.{vec_len}

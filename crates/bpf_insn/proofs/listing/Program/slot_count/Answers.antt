@@ -1,5 +1,4 @@
-use Rattle.std.proofs.Common.{◌≡◌, List, arith, ◌∙◌, ap, subst}
-use Rattle.bpf_insn.specs.declared.forms.Insn.{Insn}
+use Rattle.std.proofs.Common.{arith, ◌∙◌, ap, subst}
 use Rattle.bpf_insn.specs.Programs.{IsProgram, slots_of}
 use Rattle.bpf_insn.proofs.LayoutLaws.{first_found, slot_total}
 use Rattle.bpf_insn.proofs.listing.Program.slot_count.Goals as goal

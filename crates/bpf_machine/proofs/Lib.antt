@@ -1,0 +1,3 @@
+pub mod TrapTable
+pub mod OneRun
+pub mod RunSteps

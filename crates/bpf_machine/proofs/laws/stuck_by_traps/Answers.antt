@@ -1,0 +1,8 @@
+use Rattle.bpf_machine.proofs.TrapTable.{goes_on, stuck_by_trap}
+use Rattle.bpf_machine.proofs.laws.stuck_by_traps.Goals as goal
+
+pub returns-clause-stuck : goal.returns-clause-stuck
+returns-clause-stuck c = stuck_by_trap
+
+pub returns-clause-free : goal.returns-clause-free
+returns-clause-free c = goes_on
