@@ -1,0 +1,66 @@
+-- What `exec` answers to the bytes that it read, and the line that says it.
+use Rattle.std.specs.Prelude.{◌≡◌, ◌≢◌, ℕ, List, ◌++◌, codes}
+use Rattle.std.specs.Fmt.{decimal}
+use Rattle.bpf_insn.specs.declared.forms.Insn.{Insn}
+use Rattle.bpf_insn.specs.declared.image.ImageError.{ImageError}
+use Rattle.bpf_insn.specs.declared.image.ImageError.TheVariants as errors
+use Rattle.bpf_insn.specs.Programs.{IsProgram, image_of}
+use Rattle.bpf_insn.specs.Images.{RefusesImage}
+use Rattle.bpf_machine.specs.declared.word.Outcome.{Outcome}
+use Rattle.bpf_machine.specs.declared.word.Outcome.TheVariants as outcomes
+use Rattle.bpf_machine.specs.declared.word.TrapKind.{TrapKind}
+use Rattle.bpf_machine.specs.declared.word.TrapKind.TheVariants as traps
+use Rattle.bpf_machine.specs.Run.{RunAnswers}
+use Rattle.bpf_machine.specs.Traps.{trap_number}
+use Rattle.clockbed.specs.declared.answer.Answer.{Answer}
+use Rattle.clockbed.specs.declared.answer.Answer.TheVariants.{Refused, Ran}
+use Rattle.clockbed.specs.declared.ending.Ending.{Ending}
+use Rattle.clockbed.specs.declared.ending.Ending.TheVariants as endings
+
+-- the bytes are the image of a program (RFC 9669, section 3), whose run comes to this
+pub record RunsImage (bytes : List ℕ) (fuel : ℕ) (outcome : Outcome) : Type 0 where
+  pub program : List Insn
+  pub whole : IsProgram program
+  pub image : bytes ≡ image_of program
+  pub run : RunAnswers program fuel outcome
+
+-- the answer to these bytes with that much fuel. Want of memory is none
+abbrev pub Answers : List ℕ → ℕ → Answer → Type 0
+Answers bytes fuel (Refused error) = RefusesImage bytes error × (error ≢ errors.Memory)
+Answers bytes fuel (Ran outcome given) = RunsImage bytes fuel outcome × (given ≡ fuel)
+
+-- ---- the line of an answer, without its end (docs/COMMANDS.md, "What exec prints")
+
+abbrev pub refusal_line : ImageError → List ℕ
+refusal_line errors.Empty = codes "refused image Empty"
+refusal_line errors.TooLong = codes "refused image TooLong"
+refusal_line (errors.Truncated slot) = codes "refused image Truncated slot " ++ decimal slot
+refusal_line (errors.UnknownOpcode slot) = codes "refused image UnknownOpcode slot " ++ decimal slot
+refusal_line (errors.BadRegister slot) = codes "refused image BadRegister slot " ++ decimal slot
+refusal_line (errors.NonZeroField slot) = codes "refused image NonZeroField slot " ++ decimal slot
+refusal_line (errors.BadWidth slot) = codes "refused image BadWidth slot " ++ decimal slot
+refusal_line errors.Memory = codes "refused image Memory"
+
+abbrev pub trap_name : TrapKind → List ℕ
+trap_name traps.BadJump = codes "BadJump"
+trap_name traps.Unset = codes "Unset"
+trap_name traps.FrameWrite = codes "FrameWrite"
+
+abbrev pub outcome_line : Outcome → ℕ → List ℕ
+outcome_line (outcomes.Ended r0 steps) fuel = codes "r0 " ++ (decimal r0 ++ (codes " steps " ++ decimal steps))
+outcome_line (outcomes.Trap slot kind) fuel =
+    codes "trap " ++ (decimal (trap_number kind) ++ (codes " " ++ (trap_name kind ++ (codes " slot " ++ decimal slot))))
+outcome_line outcomes.OutOfFuel fuel = codes "out of fuel " ++ decimal fuel
+
+abbrev pub line_of : Answer → List ℕ
+line_of (Refused error) = refusal_line error
+line_of (Ran outcome fuel) = outcome_line outcome fuel
+
+-- the line with its end
+abbrev pub text_of : Answer → List ℕ
+text_of answer = line_of answer ++ codes "\n"
+
+-- how the command ends that wrote it
+abbrev pub ending_of : Answer → Ending
+ending_of (Refused error) = endings.Refused
+ending_of (Ran outcome fuel) = endings.Done
