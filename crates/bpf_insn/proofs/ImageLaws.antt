@@ -58,37 +58,37 @@ fault_once (i ∷ b) (j ∷ c) r s f g rb rc at ag e =
     let tail = others.0 in
     (cc, others.1)
 
-fault_by_number : (f g : SlotFault) → fault_number f ≡ fault_number g → f ≡ g
-fault_by_number Truncated Truncated e = refl
-fault_by_number Truncated UnknownOpcode e = absurd (omega arith)
-fault_by_number Truncated BadRegister e = absurd (omega arith)
-fault_by_number Truncated NonZeroField e = absurd (omega arith)
-fault_by_number Truncated BadWidth e = absurd (omega arith)
-fault_by_number UnknownOpcode Truncated e = absurd (omega arith)
-fault_by_number UnknownOpcode UnknownOpcode e = refl
-fault_by_number UnknownOpcode BadRegister e = absurd (omega arith)
-fault_by_number UnknownOpcode NonZeroField e = absurd (omega arith)
-fault_by_number UnknownOpcode BadWidth e = absurd (omega arith)
-fault_by_number BadRegister Truncated e = absurd (omega arith)
-fault_by_number BadRegister UnknownOpcode e = absurd (omega arith)
-fault_by_number BadRegister BadRegister e = refl
-fault_by_number BadRegister NonZeroField e = absurd (omega arith)
-fault_by_number BadRegister BadWidth e = absurd (omega arith)
-fault_by_number NonZeroField Truncated e = absurd (omega arith)
-fault_by_number NonZeroField UnknownOpcode e = absurd (omega arith)
-fault_by_number NonZeroField BadRegister e = absurd (omega arith)
-fault_by_number NonZeroField NonZeroField e = refl
-fault_by_number NonZeroField BadWidth e = absurd (omega arith)
-fault_by_number BadWidth Truncated e = absurd (omega arith)
-fault_by_number BadWidth UnknownOpcode e = absurd (omega arith)
-fault_by_number BadWidth BadRegister e = absurd (omega arith)
-fault_by_number BadWidth NonZeroField e = absurd (omega arith)
-fault_by_number BadWidth BadWidth e = refl
+fault_of_number : (f g : SlotFault) → fault_number f ≡ fault_number g → f ≡ g
+fault_of_number Truncated Truncated e = refl
+fault_of_number Truncated UnknownOpcode e = absurd (omega arith)
+fault_of_number Truncated BadRegister e = absurd (omega arith)
+fault_of_number Truncated NonZeroField e = absurd (omega arith)
+fault_of_number Truncated BadWidth e = absurd (omega arith)
+fault_of_number UnknownOpcode Truncated e = absurd (omega arith)
+fault_of_number UnknownOpcode UnknownOpcode e = refl
+fault_of_number UnknownOpcode BadRegister e = absurd (omega arith)
+fault_of_number UnknownOpcode NonZeroField e = absurd (omega arith)
+fault_of_number UnknownOpcode BadWidth e = absurd (omega arith)
+fault_of_number BadRegister Truncated e = absurd (omega arith)
+fault_of_number BadRegister UnknownOpcode e = absurd (omega arith)
+fault_of_number BadRegister BadRegister e = refl
+fault_of_number BadRegister NonZeroField e = absurd (omega arith)
+fault_of_number BadRegister BadWidth e = absurd (omega arith)
+fault_of_number NonZeroField Truncated e = absurd (omega arith)
+fault_of_number NonZeroField UnknownOpcode e = absurd (omega arith)
+fault_of_number NonZeroField BadRegister e = absurd (omega arith)
+fault_of_number NonZeroField NonZeroField e = refl
+fault_of_number NonZeroField BadWidth e = absurd (omega arith)
+fault_of_number BadWidth Truncated e = absurd (omega arith)
+fault_of_number BadWidth UnknownOpcode e = absurd (omega arith)
+fault_of_number BadWidth BadRegister e = absurd (omega arith)
+fault_of_number BadWidth NonZeroField e = absurd (omega arith)
+fault_of_number BadWidth BadWidth e = refl
 
 pub same_fault : (f g : SlotFault) (bytes : List ℕ) → IsFaultAt f bytes → IsFaultAt g bytes → f ≡ g
 same_fault f g bytes at ag =
     elim (cases_order (fault_number f) (fault_number g)) [
-      | inl e ↦ fault_by_number f g e
+      | inl e ↦ fault_of_number f g e
       | inr (inl lt) ↦ absurd (ag.lowest f lt at.holds)
       | inr (inr lt) ↦ absurd (at.lowest g lt ag.holds)
     ]

@@ -1,14 +1,18 @@
 -- The opcode of a byte is the one that is spelled so.
-use Rattle.std.proofs.Common.{◌≡◌, ℕ, ◌<◌, ◌≤◌, Bool, true, Option, Some, None, refl, arith}
-use Rattle.std.specs.Prelude.{◌==◌}
-use Rattle.std.proofs.lemmas.Bool.{agree_below_at, eqb-true}
+use Rattle.std.proofs.Common.{◌≡◌, ℕ, ◌<◌, ◌≤◌, Bool, true, Option, Some, None, refl, sym, ap, ◌∙◌, arith}
+use Rattle.std.specs.Prelude.{◌==◌, IfSome, IfNone}
+use Rattle.std.proofs.lemmas.Bool.{agree_below_at, eqb-true, ne_eqb}
 use Rattle.bpf_insn.specs.declared.forms.Reg.{Reg}
 use Rattle.bpf_insn.specs.declared.forms.Reg.TheVariants.{R0, R1, R2, R3, R4, R5, R6, R7, R8, R9, R10}
-use Rattle.bpf_insn.specs.declared.forms.Width.TheVariants.{W64}
-use Rattle.bpf_insn.specs.declared.opcode.AluCode.TheVariants.{Add, Mov}
+use Rattle.bpf_insn.specs.declared.forms.Width.TheVariants.{W32, W64}
+use Rattle.bpf_insn.specs.declared.opcode.AluCode.TheVariants.{Add, Sub, Mul, Div, Or, And, Lsh, Rsh, Mod, Xor, Mov, Arsh}
 use Rattle.bpf_insn.specs.declared.opcode.Source.TheVariants as source
 use Rattle.bpf_insn.specs.declared.opcode.Opcode.{Opcode}
-use Rattle.bpf_insn.specs.declared.opcode.Opcode.TheVariants.{Alu, Exit}
+use Rattle.bpf_insn.specs.declared.opcode.Opcode.TheVariants.{Alu, Neg, Swap, Ja, JaLong, Branch, Call, Exit, LoadImm64, Load, LoadSx, StoreImm, StoreReg}
+use Rattle.bpf_insn.specs.declared.forms.Cond.TheVariants as conds
+use Rattle.bpf_insn.specs.declared.forms.Size.TheVariants as sizes
+use Rattle.bpf_insn.specs.declared.forms.SxSize.TheVariants as sx_sizes
+use Rattle.bpf_insn.specs.declared.forms.Order.TheVariants as orders
 use Rattle.bpf_insn.specs.Registers.{register_number, register_at}
 use Rattle.bpf_insn.specs.Opcodes.{opcode_byte}
 use Rattle.bpf_insn.specs.Reading.{opcode_at}
@@ -25,11 +29,123 @@ opcode_takes byte o lt e =
 
 -- an opcode is read again
 pub opcode_again : (o : Opcode) → opcode_at (opcode_byte o) ≡ Some o
+opcode_again (Alu Add W32 source.Imm) = refl
+opcode_again (Alu Add W32 source.Reg) = refl
 opcode_again (Alu Add W64 source.Imm) = refl
 opcode_again (Alu Add W64 source.Reg) = refl
+opcode_again (Alu Sub W32 source.Imm) = refl
+opcode_again (Alu Sub W32 source.Reg) = refl
+opcode_again (Alu Sub W64 source.Imm) = refl
+opcode_again (Alu Sub W64 source.Reg) = refl
+opcode_again (Alu Mul W32 source.Imm) = refl
+opcode_again (Alu Mul W32 source.Reg) = refl
+opcode_again (Alu Mul W64 source.Imm) = refl
+opcode_again (Alu Mul W64 source.Reg) = refl
+opcode_again (Alu Div W32 source.Imm) = refl
+opcode_again (Alu Div W32 source.Reg) = refl
+opcode_again (Alu Div W64 source.Imm) = refl
+opcode_again (Alu Div W64 source.Reg) = refl
+opcode_again (Alu Or W32 source.Imm) = refl
+opcode_again (Alu Or W32 source.Reg) = refl
+opcode_again (Alu Or W64 source.Imm) = refl
+opcode_again (Alu Or W64 source.Reg) = refl
+opcode_again (Alu And W32 source.Imm) = refl
+opcode_again (Alu And W32 source.Reg) = refl
+opcode_again (Alu And W64 source.Imm) = refl
+opcode_again (Alu And W64 source.Reg) = refl
+opcode_again (Alu Lsh W32 source.Imm) = refl
+opcode_again (Alu Lsh W32 source.Reg) = refl
+opcode_again (Alu Lsh W64 source.Imm) = refl
+opcode_again (Alu Lsh W64 source.Reg) = refl
+opcode_again (Alu Rsh W32 source.Imm) = refl
+opcode_again (Alu Rsh W32 source.Reg) = refl
+opcode_again (Alu Rsh W64 source.Imm) = refl
+opcode_again (Alu Rsh W64 source.Reg) = refl
+opcode_again (Alu Mod W32 source.Imm) = refl
+opcode_again (Alu Mod W32 source.Reg) = refl
+opcode_again (Alu Mod W64 source.Imm) = refl
+opcode_again (Alu Mod W64 source.Reg) = refl
+opcode_again (Alu Xor W32 source.Imm) = refl
+opcode_again (Alu Xor W32 source.Reg) = refl
+opcode_again (Alu Xor W64 source.Imm) = refl
+opcode_again (Alu Xor W64 source.Reg) = refl
+opcode_again (Alu Mov W32 source.Imm) = refl
+opcode_again (Alu Mov W32 source.Reg) = refl
 opcode_again (Alu Mov W64 source.Imm) = refl
 opcode_again (Alu Mov W64 source.Reg) = refl
+opcode_again (Alu Arsh W32 source.Imm) = refl
+opcode_again (Alu Arsh W32 source.Reg) = refl
+opcode_again (Alu Arsh W64 source.Imm) = refl
+opcode_again (Alu Arsh W64 source.Reg) = refl
+opcode_again (Neg W32) = refl
+opcode_again (Neg W64) = refl
+opcode_again (Swap orders.Le) = refl
+opcode_again (Swap orders.Be) = refl
+opcode_again (Swap orders.Always) = refl
+opcode_again Ja = refl
+opcode_again JaLong = refl
+opcode_again (Branch conds.Eq W32 source.Imm) = refl
+opcode_again (Branch conds.Eq W32 source.Reg) = refl
+opcode_again (Branch conds.Eq W64 source.Imm) = refl
+opcode_again (Branch conds.Eq W64 source.Reg) = refl
+opcode_again (Branch conds.Gt W32 source.Imm) = refl
+opcode_again (Branch conds.Gt W32 source.Reg) = refl
+opcode_again (Branch conds.Gt W64 source.Imm) = refl
+opcode_again (Branch conds.Gt W64 source.Reg) = refl
+opcode_again (Branch conds.Ge W32 source.Imm) = refl
+opcode_again (Branch conds.Ge W32 source.Reg) = refl
+opcode_again (Branch conds.Ge W64 source.Imm) = refl
+opcode_again (Branch conds.Ge W64 source.Reg) = refl
+opcode_again (Branch conds.Set W32 source.Imm) = refl
+opcode_again (Branch conds.Set W32 source.Reg) = refl
+opcode_again (Branch conds.Set W64 source.Imm) = refl
+opcode_again (Branch conds.Set W64 source.Reg) = refl
+opcode_again (Branch conds.Ne W32 source.Imm) = refl
+opcode_again (Branch conds.Ne W32 source.Reg) = refl
+opcode_again (Branch conds.Ne W64 source.Imm) = refl
+opcode_again (Branch conds.Ne W64 source.Reg) = refl
+opcode_again (Branch conds.Sgt W32 source.Imm) = refl
+opcode_again (Branch conds.Sgt W32 source.Reg) = refl
+opcode_again (Branch conds.Sgt W64 source.Imm) = refl
+opcode_again (Branch conds.Sgt W64 source.Reg) = refl
+opcode_again (Branch conds.Sge W32 source.Imm) = refl
+opcode_again (Branch conds.Sge W32 source.Reg) = refl
+opcode_again (Branch conds.Sge W64 source.Imm) = refl
+opcode_again (Branch conds.Sge W64 source.Reg) = refl
+opcode_again (Branch conds.Lt W32 source.Imm) = refl
+opcode_again (Branch conds.Lt W32 source.Reg) = refl
+opcode_again (Branch conds.Lt W64 source.Imm) = refl
+opcode_again (Branch conds.Lt W64 source.Reg) = refl
+opcode_again (Branch conds.Le W32 source.Imm) = refl
+opcode_again (Branch conds.Le W32 source.Reg) = refl
+opcode_again (Branch conds.Le W64 source.Imm) = refl
+opcode_again (Branch conds.Le W64 source.Reg) = refl
+opcode_again (Branch conds.Slt W32 source.Imm) = refl
+opcode_again (Branch conds.Slt W32 source.Reg) = refl
+opcode_again (Branch conds.Slt W64 source.Imm) = refl
+opcode_again (Branch conds.Slt W64 source.Reg) = refl
+opcode_again (Branch conds.Sle W32 source.Imm) = refl
+opcode_again (Branch conds.Sle W32 source.Reg) = refl
+opcode_again (Branch conds.Sle W64 source.Imm) = refl
+opcode_again (Branch conds.Sle W64 source.Reg) = refl
+opcode_again Call = refl
 opcode_again Exit = refl
+opcode_again LoadImm64 = refl
+opcode_again (Load sizes.B) = refl
+opcode_again (Load sizes.H) = refl
+opcode_again (Load sizes.W) = refl
+opcode_again (Load sizes.Dw) = refl
+opcode_again (StoreImm sizes.B) = refl
+opcode_again (StoreImm sizes.H) = refl
+opcode_again (StoreImm sizes.W) = refl
+opcode_again (StoreImm sizes.Dw) = refl
+opcode_again (StoreReg sizes.B) = refl
+opcode_again (StoreReg sizes.H) = refl
+opcode_again (StoreReg sizes.W) = refl
+opcode_again (StoreReg sizes.Dw) = refl
+opcode_again (LoadSx sx_sizes.B) = refl
+opcode_again (LoadSx sx_sizes.H) = refl
+opcode_again (LoadSx sx_sizes.W) = refl
 
 -- ---- registers
 
@@ -74,3 +190,9 @@ number_once r q e =
     let h : register_at (register_number r) ≡ Some q = rw e (register_again q) in
     let k = register_again r in
     cc
+
+-- a register of the number, and none above 10: that is the register that is read
+pub register_is : (r : Option Reg) (n : ℕ) → IfSome r (λ q. register_number q ≡ n) → IfNone r (10 < n) → r ≡ register_at n
+register_is (Some q) n some none = sym (register_again q) ∙ ap register_at some
+register_is None n some none =
+    sym (rw (ne_eqb n 0 (omega arith), ne_eqb n 1 (omega arith), ne_eqb n 2 (omega arith), ne_eqb n 3 (omega arith), ne_eqb n 4 (omega arith), ne_eqb n 5 (omega arith), ne_eqb n 6 (omega arith), ne_eqb n 7 (omega arith), ne_eqb n 8 (omega arith), ne_eqb n 9 (omega arith), ne_eqb n 10 (omega arith)) refl)

@@ -1,9 +1,10 @@
--- Images of programs, and what is wrong with bytes that are none.
-use Rattle.std.specs.Prelude.{◌≡◌, ◌≢◌, ℕ, ◌*◌, ◌/◌, ◌%◌, ◌<◌, ◌≤◌, ◌==◌, ◌⊎◌, Bool, true, false, not, List, [], ◌++◌, length, drop, slice_index, FitsSigned}
-use Rattle.std.specs.List.{AllByRecursion}
+-- Images of programs, and what is wrong with bytes that are none (RFC 9669, section 3 "Instruction Encoding"; docs/INSTRUCTIONS.md).
+use Rattle.std.specs.Prelude.{◌≡◌, ◌≢◌, ℕ, ◌*◌, ◌/◌, ◌%◌, ◌<◌, ◌≤◌, ◌==◌, ◌⊎◌, if◌then◌else◌, Bool, true, false, not, List, [], ◌∷◌, ◌++◌, length, take, drop, slice_index, FitsSigned}
+use Rattle.std.specs.List.{AllByRecursion, list_any}
 use Rattle.std.specs.Int.{w16, w32, cast_unsigned}
 use Rattle.bpf_insn.specs.declared.forms.Insn.{Insn}
-use Rattle.bpf_insn.specs.declared.opcode.AluCode.TheVariants.{Add, Mov}
+use Rattle.bpf_insn.specs.declared.forms.Width.TheVariants.{W32, W64}
+use Rattle.bpf_insn.specs.declared.opcode.AluCode.TheVariants.{Mov}
 use Rattle.bpf_insn.specs.declared.opcode.Source.TheVariants as source
 use Rattle.bpf_insn.specs.declared.opcode.Opcode.{Opcode}
 use Rattle.bpf_insn.specs.declared.opcode.Opcode.TheVariants as opcode
@@ -25,23 +26,41 @@ pub record StandsAt (slot : Slot) (bytes : List ℕ) : Type 0 where
   pub imm : FitsSigned w32 slot.imm
   pub parts : bytes ≡ slot_bytes slot ++ drop 8 bytes
 
--- the width that a field names is none
+-- the width that a field names is none: the offset of MOV from a register (4.1), the immediate of END (4.2)
 abbrev pub has_bad_width : Slot → Bool
 has_bad_width slot = by_opcode slot.opcode
   where
-    by_opcode : Opcode → Bool
-    by_opcode (opcode.Alu Mov width source.Reg) = not (cast_unsigned w16 slot.offset == 0)
-    by_opcode (opcode.Alu Mov width source.Imm) = false
-    by_opcode (opcode.Alu Add width source) = false
-    by_opcode opcode.Exit = false
+    no_width : ℕ → List ℕ → Bool
+    no_width n widths = not (list_any (λ width. n == width) widths)
 
+    by_opcode : Opcode → Bool
+    by_opcode (opcode.Alu Mov W32 source.Reg) = no_width (cast_unsigned w16 slot.offset) (0 ∷ 8 ∷ 16 ∷ [])
+    by_opcode (opcode.Alu Mov W64 source.Reg) = no_width (cast_unsigned w16 slot.offset) (0 ∷ 8 ∷ 16 ∷ 32 ∷ [])
+    by_opcode (opcode.Alu code width source) = false
+    by_opcode (opcode.Neg width) = false
+    by_opcode (opcode.Swap order) = no_width (cast_unsigned w32 slot.imm) (16 ∷ 32 ∷ 64 ∷ [])
+    by_opcode opcode.Ja = false
+    by_opcode opcode.JaLong = false
+    by_opcode (opcode.Branch cond width source) = false
+    by_opcode opcode.Call = false
+    by_opcode opcode.Exit = false
+    by_opcode opcode.LoadImm64 = false
+    by_opcode (opcode.Load size) = false
+    by_opcode (opcode.LoadSx size) = false
+    by_opcode (opcode.StoreImm size) = false
+    by_opcode (opcode.StoreReg size) = false
+
+-- the faults: too few bytes, by the first byte, the registers, the fields, the width
 abbrev pub FaultHolds : SlotFault → List ℕ → Type 0
-FaultHolds Truncated bytes = (0 < length bytes) × (length bytes < 8)
+FaultHolds Truncated bytes = (0 < length bytes) × (length bytes < (if slice_index bytes 0 == 0x18 then 16 else 8))
 FaultHolds UnknownOpcode bytes = (opcode : Opcode) → opcode_byte opcode ≢ slice_index bytes 0
 FaultHolds BadRegister bytes = (10 < slice_index bytes 1 % 16) ⊎ (10 < slice_index bytes 1 / 16)
-FaultHolds NonZeroField bytes = (slot : Slot) × StandsAt slot bytes × (has_stray_field slot ≡ true)
+FaultHolds NonZeroField bytes =
+    ((slot : Slot) × StandsAt slot bytes × (has_stray_field slot ≡ true))
+    ⊎ ((slice_index bytes 0 ≡ 0x18) × (take 4 (drop 8 bytes) ≢ 0 ∷ 0 ∷ 0 ∷ 0 ∷ []))
 FaultHolds BadWidth bytes = (slot : Slot) × StandsAt slot bytes × (has_bad_width slot ≡ true)
 
+-- of two faults at one slot the lower number is told
 abbrev pub fault_number : SlotFault → ℕ
 fault_number Truncated = 3
 fault_number UnknownOpcode = 4

@@ -1,17 +1,29 @@
 -- What the parts of the decoder give.
-use Rattle.std.specs.Prelude.{ℕ, ◌/◌, ◌==◌, nat_lt, if◌then◌else◌, Bool, bit_and, Option, Some, None, Result, Ok, Err, List, [], ◌∷◌, length, slice_index}
+use Rattle.std.specs.Prelude.{ℕ, ◌+◌, ◌*◌, ◌^◌, ◌/◌, ◌==◌, ◌&&◌, nat_lt, if◌then◌else◌, Bool, true, false, bit_and, ℤ, Option, Some, None, Result, Ok, Err, List, [], ◌∷◌, length, slice_index}
 use Rattle.std.specs.Int.{w16, w32, cast_signed, cast_unsigned, from_le_bytes}
 use Rattle.bpf_insn.specs.declared.forms.Reg.{Reg}
 use Rattle.bpf_insn.specs.declared.forms.Width.{Width}
-use Rattle.bpf_insn.specs.declared.forms.Width.TheVariants.{W64}
+use Rattle.bpf_insn.specs.declared.forms.Width.TheVariants.{W32, W64}
 use Rattle.bpf_insn.specs.declared.forms.AluOp.{AluOp}
 use Rattle.bpf_insn.specs.declared.forms.AluOp.TheVariants as ops
 use Rattle.bpf_insn.specs.declared.forms.Operand.{Operand}
 use Rattle.bpf_insn.specs.declared.forms.Operand.TheVariants as operands
 use Rattle.bpf_insn.specs.declared.forms.Insn.{Insn}
 use Rattle.bpf_insn.specs.declared.forms.Insn.TheVariants as insn
+use Rattle.bpf_insn.specs.declared.forms.MovsxKind.{MovsxKind}
+use Rattle.bpf_insn.specs.declared.forms.MovsxKind.TheVariants as kinds
+use Rattle.bpf_insn.specs.declared.forms.SwapBits.{SwapBits}
+use Rattle.bpf_insn.specs.declared.forms.SwapBits.TheVariants as swaps
+use Rattle.bpf_insn.specs.declared.forms.Cond.{Cond}
+use Rattle.bpf_insn.specs.declared.forms.Cond.TheVariants as conds
+use Rattle.bpf_insn.specs.declared.forms.Size.{Size}
+use Rattle.bpf_insn.specs.declared.forms.Size.TheVariants as sizes
+use Rattle.bpf_insn.specs.declared.forms.SxSize.{SxSize}
+use Rattle.bpf_insn.specs.declared.forms.SxSize.TheVariants as sx_sizes
+use Rattle.bpf_insn.specs.declared.forms.Order.{Order}
+use Rattle.bpf_insn.specs.declared.forms.Order.TheVariants as orders
 use Rattle.bpf_insn.specs.declared.opcode.AluCode.{AluCode}
-use Rattle.bpf_insn.specs.declared.opcode.AluCode.TheVariants.{Add, Mov}
+use Rattle.bpf_insn.specs.declared.opcode.AluCode.TheVariants.{Add, Sub, Mul, Div, Or, And, Lsh, Rsh, Mod, Xor, Mov, Arsh}
 use Rattle.bpf_insn.specs.declared.opcode.Source.{Source}
 use Rattle.bpf_insn.specs.declared.opcode.Source.TheVariants as source
 use Rattle.bpf_insn.specs.declared.opcode.Opcode.{Opcode}
@@ -20,24 +32,110 @@ use Rattle.bpf_insn.specs.declared.slot.Slot.{Slot}
 use Rattle.bpf_insn.specs.declared.slot.SlotFault.{SlotFault}
 use Rattle.bpf_insn.specs.declared.slot.SlotFault.TheVariants.{Truncated, UnknownOpcode, BadRegister, NonZeroField, BadWidth}
 use Rattle.bpf_insn.specs.Registers.{register_at}
+use Rattle.bpf_insn.specs.Opcodes.{is_wide, opcode_slots}
 use Rattle.bpf_insn.specs.Encoding.{has_stray_field}
+
+-- ---- opcodes
+
+abbrev pub alu_code_at : ℕ → Option AluCode
+alu_code_at n =
+    if n == 0 then Some Add
+    else if n == 1 then Some Sub
+    else if n == 2 then Some Mul
+    else if n == 3 then Some Div
+    else if n == 4 then Some Or
+    else if n == 5 then Some And
+    else if n == 6 then Some Lsh
+    else if n == 7 then Some Rsh
+    else if n == 9 then Some Mod
+    else if n == 0xa then Some Xor
+    else if n == 0xb then Some Mov
+    else if n == 0xc then Some Arsh
+    else None
+
+abbrev pub alu_by_code : Width → Source → Option AluCode → Option Opcode
+alu_by_code width source (Some code) = Some (opcode.Alu code width source)
+alu_by_code width source None = None
+
+abbrev pub neg_at : Width → Source → Option Opcode
+neg_at width source.Imm = Some (opcode.Neg width)
+neg_at width source.Reg = None
+
+abbrev pub swap_at : Width → Source → Option Opcode
+swap_at W32 source.Imm = Some (opcode.Swap orders.Le)
+swap_at W32 source.Reg = Some (opcode.Swap orders.Be)
+swap_at W64 source.Imm = Some (opcode.Swap orders.Always)
+swap_at W64 source.Reg = None
 
 abbrev pub alu_at : Width → ℕ → Source → Option Opcode
 alu_at width code source =
-    if code == 0 then Some (opcode.Alu Add width source)
-    else if code == 0xb then Some (opcode.Alu Mov width source)
+    if code == 8 then neg_at width source
+    else if code == 0xd then swap_at width source
+    else alu_by_code width source (alu_code_at code)
+
+abbrev pub cond_at : ℕ → Option Cond
+cond_at n =
+    if n == 1 then Some conds.Eq
+    else if n == 2 then Some conds.Gt
+    else if n == 3 then Some conds.Ge
+    else if n == 4 then Some conds.Set
+    else if n == 5 then Some conds.Ne
+    else if n == 6 then Some conds.Sgt
+    else if n == 7 then Some conds.Sge
+    else if n == 0xa then Some conds.Lt
+    else if n == 0xb then Some conds.Le
+    else if n == 0xc then Some conds.Slt
+    else if n == 0xd then Some conds.Sle
     else None
 
-abbrev pub jump_at : ℕ → Source → Option Opcode
-jump_at code source.Imm = if code == 9 then Some opcode.Exit else None
-jump_at code source.Reg = None
+abbrev pub branch_by_cond : Width → Source → Option Cond → Option Opcode
+branch_by_cond width source (Some cond) = Some (opcode.Branch cond width source)
+branch_by_cond width source None = None
+
+-- the jumps that are no branch
+abbrev pub jump_at : Width → ℕ → Source → Option Opcode
+jump_at W64 code source.Imm =
+    if code == 0 then Some opcode.Ja
+    else if code == 8 then Some opcode.Call
+    else if code == 9 then Some opcode.Exit
+    else branch_by_cond W64 source.Imm (cond_at code)
+jump_at W32 code source.Imm = if code == 0 then Some opcode.JaLong else branch_by_cond W32 source.Imm (cond_at code)
+jump_at width code source.Reg = branch_by_cond width source.Reg (cond_at code)
+
+abbrev pub size_at : ℕ → Size
+size_at n = if n == 0 then sizes.W else if n == 1 then sizes.H else if n == 2 then sizes.B else sizes.Dw
+
+abbrev pub sx_size_at : ℕ → Option SxSize
+sx_size_at n = if n == 0 then Some sx_sizes.W else if n == 1 then Some sx_sizes.H else if n == 2 then Some sx_sizes.B else None
+
+abbrev pub load_sx_by : Option SxSize → Option Opcode
+load_sx_by (Some size) = Some (opcode.LoadSx size)
+load_sx_by None = None
+
+abbrev pub load_at : ℕ → ℕ → Option Opcode
+load_at mode size =
+    if mode == 3 then Some (opcode.Load (size_at size))
+    else if mode == 4 then load_sx_by (sx_size_at size)
+    else None
 
 abbrev pub opcode_at : ℕ → Option Opcode
 opcode_at byte =
     let source = if bit_and byte 8 == 0 then source.Imm else source.Reg in
-    if bit_and byte 7 == 5 then jump_at (byte / 16) source
-    else if bit_and byte 7 == 7 then alu_at W64 (byte / 16) source
+    let code = byte / 16 in
+    let mode = byte / 32 in
+    let size = bit_and (byte / 8) 3 in
+    let class = bit_and byte 7 in
+    if class == 0 && byte == 0x18 then Some opcode.LoadImm64
+    else if class == 1 then load_at mode size
+    else if class == 2 && mode == 3 then Some (opcode.StoreImm (size_at size))
+    else if class == 3 && mode == 3 then Some (opcode.StoreReg (size_at size))
+    else if class == 4 then alu_at W32 code source
+    else if class == 5 then jump_at W64 code source
+    else if class == 6 then jump_at W32 code source
+    else if class == 7 then alu_at W64 code source
     else None
+
+-- ---- slots
 
 infixl 10 ◌>>=◌
 abbrev pub ◌>>=◌ : {A B : Type 0} → Result A SlotFault → (A → Result B SlotFault) → Result B SlotFault
@@ -67,19 +165,82 @@ slot_at opcode bytes = do
   src ← found BadRegister (register_at (slice_index bytes 1 / 16))
   Ok (fields_at opcode dst src bytes)
 
--- the operation of a code
-abbrev pub alu_op_at : AluCode → Slot → Result AluOp SlotFault
-alu_op_at Add s = Ok ops.Add
-alu_op_at Mov s = if cast_unsigned w16 s.offset == 0 then Ok ops.Mov else Err BadWidth
+-- the high half of a wide instruction, and 0 for another
+abbrev pub high_at : Bool → List ℕ → Result ℕ SlotFault
+high_at false bytes = Ok 0
+high_at true bytes =
+    if from_le_bytes w32 (slice_index bytes 8 ∷ slice_index bytes 9 ∷ slice_index bytes 10 ∷ slice_index bytes 11 ∷ []) == 0
+    then Ok (from_le_bytes w32 (slice_index bytes 12 ∷ slice_index bytes 13 ∷ slice_index bytes 14 ∷ slice_index bytes 15 ∷ []))
+    else Err NonZeroField
+
+-- the operation of a code, and of an offset that is 0 or 1
+abbrev pub op_at : AluCode → ℤ → AluOp
+op_at Add offset = ops.Add
+op_at Sub offset = ops.Sub
+op_at Mul offset = ops.Mul
+op_at Div offset = if cast_unsigned w16 offset == 0 then ops.Div else ops.Sdiv
+op_at Or offset = ops.Or
+op_at And offset = ops.And
+op_at Lsh offset = ops.Lsh
+op_at Rsh offset = ops.Rsh
+op_at Mod offset = if cast_unsigned w16 offset == 0 then ops.Mod else ops.Smod
+op_at Xor offset = ops.Xor
+op_at Mov offset = ops.Mov
+op_at Arsh offset = ops.Arsh
 
 abbrev pub operand_at : Source → Slot → Operand
 operand_at source.Imm s = operands.Imm s.imm
 operand_at source.Reg s = operands.Reg s.src
 
+-- what a move of these bits extends
+abbrev pub kind_at : Width → ℤ → Option MovsxKind
+kind_at W32 offset =
+    if cast_unsigned w16 offset == 8 then Some kinds.From8To32
+    else if cast_unsigned w16 offset == 16 then Some kinds.From16To32
+    else None
+kind_at W64 offset =
+    if cast_unsigned w16 offset == 8 then Some kinds.From8To64
+    else if cast_unsigned w16 offset == 16 then Some kinds.From16To64
+    else if cast_unsigned w16 offset == 32 then Some kinds.From32To64
+    else None
+
+abbrev pub extension_by : Slot → Option MovsxKind → Result Insn SlotFault
+extension_by s (Some kind) = Ok (insn.Movsx kind s.dst s.src)
+extension_by s None = Err BadWidth
+
+abbrev pub move_at : Width → Slot → Result Insn SlotFault
+move_at width s = if cast_unsigned w16 s.offset == 0 then Ok (insn.Alu ops.Mov width s.dst (operands.Reg s.src)) else extension_by s (kind_at width s.offset)
+
+abbrev pub alu_insn_at : AluCode → Width → Source → Slot → Result Insn SlotFault
+alu_insn_at Mov width source.Reg s = move_at width s
+alu_insn_at code width source s = Ok (insn.Alu (op_at code s.offset) width s.dst (operand_at source s))
+
+abbrev pub swap_bits_at : ℤ → Option SwapBits
+swap_bits_at imm =
+    if cast_unsigned w32 imm == 16 then Some swaps.Bits16
+    else if cast_unsigned w32 imm == 32 then Some swaps.Bits32
+    else if cast_unsigned w32 imm == 64 then Some swaps.Bits64
+    else None
+
+abbrev pub swap_by : Order → Slot → Option SwapBits → Result Insn SlotFault
+swap_by order s (Some bits) = Ok (insn.Swap order bits s.dst)
+swap_by order s None = Err BadWidth
+
 -- the instruction of a slot whose unused fields are zero
-abbrev pub form_at : Opcode → Slot → Result Insn SlotFault
-form_at (opcode.Alu code width source) s = alu_op_at code s >>= λ op. Ok (insn.Alu op width s.dst (operand_at source s))
-form_at opcode.Exit s = Ok insn.Exit
+abbrev pub form_at : Opcode → Slot → ℕ → Result Insn SlotFault
+form_at (opcode.Alu code width source) s high = alu_insn_at code width source s
+form_at (opcode.Neg width) s high = Ok (insn.Neg width s.dst)
+form_at (opcode.Swap order) s high = swap_by order s (swap_bits_at s.imm)
+form_at opcode.Ja s high = Ok (insn.Ja s.offset)
+form_at opcode.JaLong s high = Ok (insn.JaLong s.imm)
+form_at (opcode.Branch cond width source) s high = Ok (insn.Branch cond width s.dst (operand_at source s) s.offset)
+form_at opcode.Call s high = Ok (insn.Call s.imm)
+form_at opcode.Exit s high = Ok insn.Exit
+form_at opcode.LoadImm64 s high = Ok (insn.LoadImm64 s.dst (high * 2 ^ 32 + cast_unsigned w32 s.imm))
+form_at (opcode.Load size) s high = Ok (insn.Load size s.dst s.src s.offset)
+form_at (opcode.LoadSx size) s high = Ok (insn.LoadSx size s.dst s.src s.offset)
+form_at (opcode.StoreImm size) s high = Ok (insn.StoreImm size s.dst s.offset s.imm)
+form_at (opcode.StoreReg size) s high = Ok (insn.StoreReg size s.dst s.offset s.src)
 
 -- goes on unless the test says that there is a fault
 abbrev pub unless : {A : Type 0} → Bool → SlotFault → Result A SlotFault → Result A SlotFault
@@ -90,5 +251,7 @@ unfoldable pub front_at : List ℕ → Result Insn SlotFault
 front_at bytes =
     unless (nat_lt (length bytes) 8) Truncated do
       opcode ← found UnknownOpcode (opcode_at (slice_index bytes 0))
-      s ← slot_at opcode bytes
-      unless (has_stray_field s) NonZeroField (form_at s.opcode s)
+      unless (nat_lt (length bytes) (8 * opcode_slots opcode)) Truncated do
+        s ← slot_at opcode bytes
+        high ← high_at (is_wide opcode) bytes
+        unless (has_stray_field s) NonZeroField (form_at s.opcode s high)

@@ -1,9 +1,9 @@
-//! Instructions.
+//! Instructions: the forms of RFC 9669, sections 4 and 5, that a program may hold.
 
-ghost use Rattle.std.specs.Prelude.{◌≡◌, ◌<◌, ◌≤◌, IfSome, IfNone};
-ghost use Rattle.bpf_insn.specs.Registers.{register_number, register_at};
+ghost use Rattle.std.specs.Prelude.{◌≡◌, ◌<◌, ◌≤◌, ℕ, IfSome, IfNone};
+ghost use Rattle.bpf_insn.specs.Registers.{register_number};
 
-/// A register, R0 to R10 (RFC 9669, section 4: R10 is the frame pointer).
+/// A register. R10 is the frame pointer.
 #[derive(Clone, Copy, Debug, PartialEq, Eq)]
 pub enum Reg {
     R0,
@@ -20,11 +20,10 @@ pub enum Reg {
 }
 
 impl Reg {
-    /// The register of a number; there is none above 10.
+    /// The register of a number from 0 to 10.
     pub fn of(number: u8) -> Option<Reg>
-        ensures some { IfSome result (λ register. register_number register ≡ number) }
+        ensures some { IfSome result (λ r. register_number r ≡ number) }
         ensures none { IfNone result (10 < number) }
-        ensures read { result ≡ register_at number }
     {
         match number {
             0 => Some(Reg::R0),
@@ -42,7 +41,7 @@ impl Reg {
         }
     }
 
-    /// Its number, 0 to 10.
+    /// Its number.
     pub fn number(self) -> u8
         ensures value { result ≡ register_number self }
         ensures in_range { result ≤ 10 }
@@ -51,36 +50,181 @@ impl Reg {
     }
 }
 
-/// How many bits an operation is of (RFC 9669, section 3.3: the class ALU64).
+/// The bits that an operation works on: 32 (classes ALU and JMP32) or 64 (ALU64 and JMP).
 #[derive(Clone, Copy, Debug, PartialEq, Eq)]
 pub enum Width {
+    W32,
     W64,
 }
 
-/// The second operand: an immediate, which is extended by its sign, or a register (RFC 9669, section 4: the source bit).
+/// The second operand: an immediate, whose sign is extended, or a register.
 #[derive(Clone, Copy, Debug, PartialEq, Eq)]
 pub enum Operand {
     Imm(i32),
     Reg(Reg),
 }
 
-/// An operation of two operands (RFC 9669, section 4.1).
+/// The bytes of a load or a store: 1, 2, 4 or 8 (RFC 9669, section 5.1).
+#[derive(Clone, Copy, Debug, PartialEq, Eq)]
+pub enum Size {
+    B,
+    H,
+    W,
+    Dw,
+}
+
+/// The bytes of a load that extends the sign: 1, 2 or 4 (RFC 9669, section 5.2).
+#[derive(Clone, Copy, Debug, PartialEq, Eq)]
+pub enum SxSize {
+    B,
+    H,
+    W,
+}
+
+/// The condition of a branch (RFC 9669, section 4.3): `Set` is that the operands have a bit in common, and `S` stands for signed.
+#[derive(Clone, Copy, Debug, PartialEq, Eq)]
+pub enum Cond {
+    Eq,
+    Gt,
+    Ge,
+    Set,
+    Ne,
+    Sgt,
+    Sge,
+    Lt,
+    Le,
+    Slt,
+    Sle,
+}
+
+/// An arithmetic operation of two operands (RFC 9669, section 4.1): `S` stands for signed.
 #[derive(Clone, Copy, Debug, PartialEq, Eq)]
 pub enum AluOp {
     Add,
+    Sub,
+    Mul,
+    Div,
+    Sdiv,
+    Or,
+    And,
+    Lsh,
+    Rsh,
+    Mod,
+    Smod,
+    Xor,
     Mov,
+    Arsh,
 }
 
-/// An instruction. Every value has one spelling in an image (docs/INSTRUCTIONS.md).
+/// How many low bits of the source a move extends by their sign, and to how many (RFC 9669, section 4.1).
+#[derive(Clone, Copy, Debug, PartialEq, Eq)]
+pub enum MovsxKind {
+    From8To32,
+    From16To32,
+    From8To64,
+    From16To64,
+    From32To64,
+}
+
+/// The order that bytes are put in (RFC 9669, section 4.2): little-endian, big-endian, or always the reverse.
+#[derive(Clone, Copy, Debug, PartialEq, Eq)]
+pub enum Order {
+    Le,
+    Be,
+    Always,
+}
+
+/// The low bits whose bytes are put in order.
+#[derive(Clone, Copy, Debug, PartialEq, Eq)]
+pub enum SwapBits {
+    Bits16,
+    Bits32,
+    Bits64,
+}
+
+/// An instruction (RFC 9669, sections 4 and 5). Each value has one spelling (docs/INSTRUCTIONS.md); distances count slots from the slot
+/// after the jump, and offsets of memory count bytes from `base`.
 #[derive(Clone, Copy, Debug, PartialEq, Eq)]
 pub enum Insn {
+    /// `dst` becomes the result of `dst` and `src`; of a move, `src`.
     Alu {
         op: AluOp,
         width: Width,
         dst: Reg,
         src: Operand,
     },
+    /// `dst` becomes its negation.
+    Neg {
+        width: Width,
+        dst: Reg,
+    },
+    /// `dst` becomes the low bits of `src`, their sign extended.
+    Movsx {
+        kind: MovsxKind,
+        dst: Reg,
+        src: Reg,
+    },
+    /// The bytes of the low bits of `dst` are put in order.
+    Swap {
+        order: Order,
+        bits: SwapBits,
+        dst: Reg,
+    },
+    /// A jump (class JMP).
+    Ja {
+        off: i16,
+    },
+    /// A jump with a distance of 32 bits (class JMP32).
+    JaLong {
+        off: i32,
+    },
+    /// A jump where the condition of `dst` and `src` holds.
+    Branch {
+        cond: Cond,
+        width: Width,
+        dst: Reg,
+        src: Operand,
+        off: i16,
+    },
+    /// The call of a helper by its number.
+    Call {
+        id: i32,
+    },
+    /// The end of the program.
     Exit,
+    /// `dst` becomes what stands at `base + off`, with zeros above it.
+    Load {
+        size: Size,
+        dst: Reg,
+        base: Reg,
+        off: i16,
+    },
+    /// `dst` becomes what stands at `base + off`, its sign extended.
+    LoadSx {
+        size: SxSize,
+        dst: Reg,
+        base: Reg,
+        off: i16,
+    },
+    /// The low bytes of `src` are put at `base + off`.
+    StoreReg {
+        size: Size,
+        base: Reg,
+        off: i16,
+        src: Reg,
+    },
+    /// The low bytes of the immediate, its sign extended, are put at `base + off`.
+    StoreImm {
+        size: Size,
+        base: Reg,
+        off: i16,
+        imm: i32,
+    },
+    /// `dst` becomes a number of 64 bits. This form alone takes two slots.
+    LoadImm64 {
+        dst: Reg,
+        value: u64,
+    },
 }
 
 impl Insn {
@@ -93,7 +237,20 @@ impl Insn {
         ensures in_range { InRange self }
     {
         match self {
-            Insn::Alu { .. } | Insn::Exit => 1,
+            Insn::LoadImm64 { .. } => 2,
+            Insn::Alu { .. }
+            | Insn::Neg { .. }
+            | Insn::Movsx { .. }
+            | Insn::Swap { .. }
+            | Insn::Ja { .. }
+            | Insn::JaLong { .. }
+            | Insn::Branch { .. }
+            | Insn::Call { .. }
+            | Insn::Exit
+            | Insn::Load { .. }
+            | Insn::LoadSx { .. }
+            | Insn::StoreReg { .. }
+            | Insn::StoreImm { .. } => 1,
         }
     }
 }

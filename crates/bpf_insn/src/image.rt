@@ -1,8 +1,9 @@
-//! Images of programs.
+//! Images of programs: their instructions as bytes (RFC 9669, section 3; docs/INSTRUCTIONS.md).
 
-ghost use Rattle.std.specs.Prelude.{◌≡◌, ◌≢◌, ◌<◌, ◌≤◌, ◌*◌, ◌++◌, List, length, drop, IfOk, IfErr, OnOk, MatchResult};
+ghost use Rattle.std.specs.Prelude.{◌≡◌, ◌≢◌, ◌<◌, ◌≤◌, ◌*◌, ◌++◌, ℕ, List, length, drop, IfOk, IfErr, OnOk, MatchResult};
 ghost use Rattle.std.specs.List.{flat_map};
 ghost use Rattle.bpf_insn.specs.declared.forms.Insn.{Insn};
+ghost use Rattle.bpf_insn.specs.declared.listing.TheConstants.{MAX_SLOTS};
 ghost use Rattle.bpf_insn.specs.Encoding.{slots_taken, spelling};
 ghost use Rattle.bpf_insn.specs.Reading.{front_at};
 ghost use Rattle.bpf_insn.specs.Programs.{IsProgram, image_of, layout, spelling_at};
@@ -13,8 +14,8 @@ use crate::listing::{MAX_SLOTS, Program, push_slots};
 use crate::slot::{Slot, SlotFault, front};
 use std::alloc::{AllocError, Global};
 
-/// Why bytes are no image of a program, with the slot where the first fault is (docs/INSTRUCTIONS.md, "Refusals").
-/// `Empty` and `TooLong` go by the length alone. `Memory` comes only for the image of a program.
+/// Why bytes are not decoded. `Empty` and `TooLong` come first, then the lowest slot is named, and then the first of the other names in this
+/// order; the number is the slot where the instruction at fault begins. `Memory` comes only where the bytes are an image.
 #[derive(Clone, Copy, Debug, PartialEq, Eq)]
 pub enum ImageError {
     Empty,
@@ -99,7 +100,7 @@ fn slots_in(alloc: Global, bytes: &[u8]) -> Result<Vec<Option<Insn>>, AllocError
         let Ok((insn, after)) = next(rest) else {
             unreachable!()
         };
-        push_slots(&mut slots, &insn)?;
+        push_slots(&mut slots, insn)?;
         rest = after;
     }
     Ok(slots)
@@ -121,7 +122,7 @@ fn program_in(alloc: Global, bytes: &[u8]) -> Result<Program, ImageError>
     })
 }
 
-/// The program of an image (RFC 9669, section 3).
+/// The program of an image. The bytes are read once before memory is asked for.
 pub fn decode(alloc: Global, bytes: &[u8]) -> Result<Program, ImageError>
     ensures program { IfOk result (λ p. IsProgram p × (bytes.now ≡ image_of p)) }
     ensures refusal { IfErr result (RefusesImage bytes.now) }
@@ -133,15 +134,37 @@ pub fn decode(alloc: Global, bytes: &[u8]) -> Result<Program, ImageError>
     program_in(alloc, bytes)
 }
 
-/// Adds the spelling of what is found at a slot.
+/// Adds the spelling of an instruction.
+fn push_spelling(image: &mut Vec<u8>, insn: Insn) -> Result<(), AllocError>
+    ensures { OnOk result (image.new.items ≡ image.old.items ++ spelling insn) }
+{
+    image.extend_from_slice(&Slot::of(insn).bytes())?;
+    match insn {
+        Insn::LoadImm64 { value, .. } => {
+            image.extend_from_slice(&[0; 4])?;
+            image.extend_from_slice(&((value >> 32) as u32).to_le_bytes())
+        }
+        Insn::Alu { .. }
+        | Insn::Neg { .. }
+        | Insn::Movsx { .. }
+        | Insn::Swap { .. }
+        | Insn::Ja { .. }
+        | Insn::JaLong { .. }
+        | Insn::Branch { .. }
+        | Insn::Call { .. }
+        | Insn::Exit
+        | Insn::Load { .. }
+        | Insn::LoadSx { .. }
+        | Insn::StoreReg { .. }
+        | Insn::StoreImm { .. } => Ok(()),
+    }
+}
+
 fn push_found(image: &mut Vec<u8>, found: Option<Insn>) -> Result<(), AllocError>
     ensures { OnOk result (image.new.items ≡ image.old.items ++ spelling_at found) }
 {
     match found {
-        Some(insn) => {
-            image.extend_from_slice(&Slot::of(&insn).bytes())?;
-            Ok(())
-        }
+        Some(insn) => push_spelling(image, insn),
         None => Ok(()),
     }
 }
@@ -156,7 +179,7 @@ fn spell_slots(alloc: Global, slots: &[Option<Insn>]) -> Result<Vec<u8>, AllocEr
     Ok(image)
 }
 
-/// The image of a program.
+/// The image of a program: the spellings of its instructions in order.
 pub fn encode(alloc: Global, program: &Program) -> Result<Vec<u8>, AllocError>
     ensures image { IfOk result (λ bytes. bytes.items ≡ image_of program.now) }
     ensures program { IsProgram program.now }

@@ -1,6 +1,6 @@
-//! Laws of spellings and images.
+//! Laws of spellings and images: what these contracts say holds of every instruction and program.
 
-ghost use Rattle.std.specs.Prelude.{◌≡◌, ◌≢◌, ◌*◌, ◌++◌, List, ℕ, length, MatchResult};
+ghost use Rattle.std.specs.Prelude.{◌≡◌, ◌≢◌, ◌*◌, ◌++◌, ℕ, List, length, MatchResult};
 ghost use Rattle.bpf_insn.specs.declared.forms.Insn.{Insn};
 ghost use Rattle.bpf_insn.specs.Encoding.{InRange, slots_taken, spelling};
 ghost use Rattle.bpf_insn.specs.Programs.{IsProgram, image_of, slots_of};
@@ -10,15 +10,15 @@ use crate::image::{ImageError, decode, encode};
 use crate::listing::Program;
 use std::alloc::Global;
 
-/// No spelling begins another, and so each instruction has one.
+/// No spelling begins another, so each instruction has one.
 pub fn one_spelling()
     ensures { (i j : Insn) (x y : List ℕ) → InRange i → InRange j → spelling i ++ x ≡ spelling j ++ y → (i ≡ j) × (x ≡ y) }
 {}
 
-/// A slot has eight bytes.
+/// A slot is eight bytes.
 pub fn spelling_length()
-    ensures insn { (i : Insn) → length (spelling i) ≡ 8 * slots_taken i }
-    ensures program { (p : List Insn) → length (image_of p) ≡ 8 * slots_of p }
+    ensures spelling { (i : Insn) → length (spelling i) ≡ 8 * slots_taken i }
+    ensures image { (p : List Insn) → length (image_of p) ≡ 8 * slots_of p }
 {}
 
 /// Bytes are the image of one program or have one refusal, want of memory aside.
@@ -28,9 +28,9 @@ pub fn one_reading()
     ensures apart { (p : List Insn) (e : ImageError) → IsProgram p → RefusesImage (image_of p) e → e ≡ ImageError.Memory }
 {}
 
-/// What is encoded is decoded again.
+/// Encodes a program, and decodes its image: that gives the program back.
 pub fn round_trip(alloc: Global, program: &Program) -> Result<Program, ImageError>
-    ensures { MatchResult result (λ again. again ≡ program.now) (λ error. error ≡ ImageError.Memory) }
+    ensures { MatchResult result (λ p. p ≡ program.now) (λ e. e ≡ ImageError.Memory) }
 {
     let image = encode(alloc, program)?;
     decode(alloc, &image)

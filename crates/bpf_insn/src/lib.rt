@@ -1,19 +1,28 @@
-//! BPF instructions and their images (RFC 9669): the types, and the bytes that stand for them.
+//! BPF instructions (RFC 9669) and their images. docs/INSTRUCTIONS.md has the table.
 #![tactic(auto)]
 
 mod arithmetic;
+mod arithmetic_laws;
+mod edges;
 mod forms;
 mod image;
 mod laws;
 mod listing;
 mod opcode;
+mod same;
 mod slot;
 
-pub use arithmetic::alu;
-pub use forms::{AluOp, Insn, Operand, Reg, Width};
+pub use arithmetic::{alu, holds, movsx, neg, swap};
+pub use arithmetic_laws::{least_by_minus_one, low_bits_decide, results_fit, swap_twice};
+pub use edges::{Way, distance, edges_by_distance, first_slot_begins, target};
+pub use forms::{AluOp, Cond, Insn, MovsxKind, Operand, Order, Reg, Size, SwapBits, SxSize, Width};
 pub use image::{ImageError, decode, encode};
 pub use laws::{one_reading, one_spelling, round_trip, spelling_length};
 pub use listing::{MAX_SLOTS, Program, ProgramError, program_of};
 
+#[cfg(test)]
+mod arithmetic_tests;
+#[cfg(test)]
+mod edges_tests;
 #[cfg(test)]
 mod tests;

@@ -1,21 +1,22 @@
-//! Programs.
+//! Programs: whole instructions in their slots.
 
 ghost use Rattle.std.specs.Prelude.{◌≡◌, ◌∷◌, ◌++◌, [], ◌<◌, ◌≤◌, ◌+◌, length, IfOk, IfErr, OnOk, IfSome, IfNone, OnSome};
 ghost use Rattle.std.specs.Prelude.{All, slice_get};
+ghost use Rattle.bpf_insn.specs.declared.listing.TheConstants.{MAX_SLOTS};
 ghost use Rattle.bpf_insn.specs.Encoding.{InRange};
 ghost use Rattle.bpf_insn.specs.Programs.{slots_of, slots_by, layout, inner, IsProgram, RefusesInsns};
 
 use crate::forms::Insn;
+use crate::same::same_slots;
 use std::alloc::{AllocError, Global};
 use std::marker::Model;
 
-/// The most slots of a program.
+/// The most slots of a program. An image has 8 bytes for each.
 pub const MAX_SLOTS: usize = 1024;
 
-/// A program: whole instructions in 1 to `MAX_SLOTS` slots. Contracts see the list of its instructions.
+/// A program: one to [`MAX_SLOTS`] slots of whole instructions. Contracts see the list of its instructions.
 #[derive(Drop)]
 pub struct Program {
-    /// An instruction at its first slot, and nothing at a further one.
     pub(crate) slots: Vec<Option<Insn>>,
 }
 
@@ -31,7 +32,7 @@ impl Model for Program {
     ghost invariant = { λ p. IsLaidOut p.slots.items };
 }
 
-/// Why instructions are no program. `Memory` comes only where they are one.
+/// Why instructions are no program: there are none, they take more than [`MAX_SLOTS`] slots, or memory was short.
 #[derive(Clone, Copy, Debug, PartialEq, Eq)]
 pub enum ProgramError {
     Empty,
@@ -40,10 +41,13 @@ pub enum ProgramError {
 }
 
 /// Adds the slots of an instruction.
-pub(crate) fn push_slots(slots: &mut Vec<Option<Insn>>, insn: &Insn) -> Result<(), AllocError>
-    ensures { OnOk result (slots.new.items ≡ slots.old.items ++ slots_by insn.now) }
+pub(crate) fn push_slots(slots: &mut Vec<Option<Insn>>, insn: Insn) -> Result<(), AllocError>
+    ensures { OnOk result (slots.new.items ≡ slots.old.items ++ slots_by insn) }
 {
-    slots.push(Some(*insn))?;
+    slots.push(Some(insn))?;
+    if insn.slots() == 2 {
+        slots.push(None)?;
+    }
     Ok(())
 }
 
@@ -68,7 +72,7 @@ fn lay_out(alloc: Global, insns: &[Insn], count: usize) -> Result<Vec<Option<Ins
 {
     let mut slots = Vec::with_capacity(alloc, count)?;
     for insn in insns {
-        push_slots(&mut slots, insn)?;
+        push_slots(&mut slots, *insn)?;
     }
     Ok(slots)
 }
@@ -83,7 +87,7 @@ fn look_up(slots: &[Option<Insn>], slot: usize) -> Option<Insn>
     }
 }
 
-/// The program with these instructions. A refusal hands them back.
+/// The program with these instructions. A refusal hands them back; `Memory` comes last.
 pub fn program_of(alloc: Global, insns: Vec<Insn>) -> Result<Program, (Vec<Insn>, ProgramError)>
     ensures program { IfOk result (λ p. (p ≡ insns.items) × IsProgram p) }
     ensures back { IfErr result (λ e. e.0 ≡ insns) }
@@ -102,11 +106,12 @@ pub fn program_of(alloc: Global, insns: Vec<Insn>) -> Result<Program, (Vec<Insn>
 }
 
 impl Program {
-    ghost use Rattle.std.specs.Prelude.{◌≡◌, ◌+◌, ◌≤◌, IfOk, IfSome, IsSome};
+    ghost use Rattle.std.specs.Prelude.{◌≡◌};
+    ghost use Rattle.std.specs.Prelude.{IfOk, IfSome, IsSome, IsTrue, ◌↔◌, ◌+◌, ◌≤◌};
     ghost use Rattle.bpf_insn.specs.Encoding.{slots_taken};
     ghost use Rattle.bpf_insn.specs.Programs.{insn_at, slots_of, IsProgram};
 
-    /// The number of its slots, 1 to `MAX_SLOTS`.
+    /// The number of its slots: a wide instruction has two.
     pub fn slot_count(&self) -> u32
         ensures count { result ≡ slots_of self.now }
         ensures program { IsProgram self.now }
@@ -115,7 +120,7 @@ impl Program {
         self.slots.len() as u32
     }
 
-    /// The instruction that begins at a slot: none at a further slot of an instruction, and none past the end.
+    /// The instruction that begins at a slot: none at the second slot of a wide one, and none past the end.
     pub fn insn_at(&self, slot: u32) -> Option<Insn>
         ensures found { result ≡ insn_at self.now slot }
         ensures within { IfSome result (λ insn. slot + slots_taken insn ≤ slots_of self.now) }
@@ -124,9 +129,16 @@ impl Program {
         look_up(&self.slots, slot as usize)
     }
 
-    /// An equal program.
+    /// Whether the other program has the same instructions.
+    pub fn same(&self, other: &Program) -> bool
+        ensures { IsTrue result ↔ (self.now ≡ other.now) }
+    {
+        same_slots(&self.slots, &other.slots)
+    }
+
+    /// A program with the same instructions.
     pub fn copy(&self, alloc: Global) -> Result<Program, AllocError>
-        ensures { IfOk result (λ program. program ≡ self.now) }
+        ensures { IfOk result (λ p. p ≡ self.now) }
     {
         Ok(Program {
             slots: Vec::from_slice(alloc, &self.slots)?,

@@ -1,16 +1,28 @@
 //! Opcodes: what the first byte of an instruction says.
 
-ghost use Rattle.std.specs.Prelude.{◌≡◌, ◌<◌};
-ghost use Rattle.bpf_insn.specs.Opcodes.{source_bit, opcode_byte, uses_of};
-ghost use Rattle.bpf_insn.specs.Reading.{alu_at, jump_at, opcode_at};
+ghost use Rattle.std.specs.Prelude.{◌≡◌, ◌<◌, ◌≤◌};
+ghost use Rattle.bpf_insn.specs.Opcodes.{alu_class, jump_class, alu_number, source_bit, cond_number, size_bits, sx_size_bits, order_byte, opcode_byte, offset_use, uses_of, is_stray, is_wide, opcode_slots};
+ghost use Rattle.bpf_insn.specs.Arithmetic.{movsx_width};
+ghost use Rattle.bpf_insn.specs.Encoding.{code_of, source_of, slot_of};
+ghost use Rattle.bpf_insn.specs.Reading.{alu_code_at, alu_at, cond_at, jump_at, size_at, sx_size_at, load_at, opcode_at};
 
-use crate::forms::{AluOp, Width};
+use crate::forms::{AluOp, Cond, Insn, MovsxKind, Operand, Order, Size, SxSize, Width};
 
 /// The code of an operation of two operands.
 #[derive(Clone, Copy, Debug, PartialEq, Eq)]
 pub enum AluCode {
     Add,
+    Sub,
+    Mul,
+    Div,
+    Or,
+    And,
+    Lsh,
+    Rsh,
+    Mod,
+    Xor,
     Mov,
+    Arsh,
 }
 
 /// Where the second operand is.
@@ -28,51 +40,348 @@ pub enum Opcode {
         width: Width,
         source: Source,
     },
+    Neg {
+        width: Width,
+    },
+    Swap {
+        order: Order,
+    },
+    Ja,
+    JaLong,
+    Branch {
+        cond: Cond,
+        width: Width,
+        source: Source,
+    },
+    Call,
     Exit,
+    LoadImm64,
+    Load {
+        size: Size,
+    },
+    LoadSx {
+        size: SxSize,
+    },
+    StoreImm {
+        size: Size,
+    },
+    StoreReg {
+        size: Size,
+    },
 }
 
-/// Which fields of a slot an opcode uses.
+/// What a field may hold.
+#[derive(Clone, Copy, Debug, PartialEq, Eq)]
+pub enum FieldUse {
+    Zero,
+    ZeroOrOne,
+    Any,
+}
+
+/// What the fields of a slot may hold.
 #[derive(Clone, Copy, Debug, PartialEq, Eq)]
 pub struct Uses {
-    pub dst: bool,
-    pub src: bool,
-    pub offset: bool,
-    pub imm: bool,
+    pub dst: FieldUse,
+    pub src: FieldUse,
+    pub offset: FieldUse,
+    pub imm: FieldUse,
+}
+
+impl FieldUse {
+    /// Whether a field may not hold these bits.
+    pub fn is_stray(self, bits: u32) -> bool
+        ensures { result ≡ is_stray self bits }
+    {
+        match self {
+            FieldUse::Zero => bits != 0,
+            FieldUse::ZeroOrOne => bits > 1,
+            FieldUse::Any => false,
+        }
+    }
 }
 
 impl AluCode {
-    ghost use Rattle.std.specs.Prelude.{◌≡◌, ◌<◌};
-    ghost use Rattle.bpf_insn.specs.Opcodes.{alu_number};
-    ghost use Rattle.bpf_insn.specs.Encoding.{code_of};
-
     pub fn of(op: AluOp) -> AluCode
         ensures { result ≡ code_of op }
     {
         match op {
             AluOp::Add => AluCode::Add,
+            AluOp::Sub => AluCode::Sub,
+            AluOp::Mul => AluCode::Mul,
+            AluOp::Div | AluOp::Sdiv => AluCode::Div,
+            AluOp::Or => AluCode::Or,
+            AluOp::And => AluCode::And,
+            AluOp::Lsh => AluCode::Lsh,
+            AluOp::Rsh => AluCode::Rsh,
+            AluOp::Mod | AluOp::Smod => AluCode::Mod,
+            AluOp::Xor => AluCode::Xor,
             AluOp::Mov => AluCode::Mov,
+            AluOp::Arsh => AluCode::Arsh,
         }
     }
 
-    pub fn number(self) -> u8
+    fn at(number: u8) -> Option<AluCode>
+        ensures { result ≡ alu_code_at number }
+    {
+        match number {
+            0 => Some(AluCode::Add),
+            1 => Some(AluCode::Sub),
+            2 => Some(AluCode::Mul),
+            3 => Some(AluCode::Div),
+            4 => Some(AluCode::Or),
+            5 => Some(AluCode::And),
+            6 => Some(AluCode::Lsh),
+            7 => Some(AluCode::Rsh),
+            9 => Some(AluCode::Mod),
+            0xa => Some(AluCode::Xor),
+            0xb => Some(AluCode::Mov),
+            0xc => Some(AluCode::Arsh),
+            _ => None,
+        }
+    }
+
+    fn number(self) -> u8
         ensures value { result ≡ alu_number self }
         ensures in_range { result < 16 }
     {
         match self {
             AluCode::Add => 0,
+            AluCode::Sub => 1,
+            AluCode::Mul => 2,
+            AluCode::Div => 3,
+            AluCode::Or => 4,
+            AluCode::And => 5,
+            AluCode::Lsh => 6,
+            AluCode::Rsh => 7,
+            AluCode::Mod => 9,
+            AluCode::Xor => 0xa,
             AluCode::Mov => 0xb,
+            AluCode::Arsh => 0xc,
+        }
+    }
+
+    /// What the offset may hold.
+    fn offset_use(self, source: Source) -> FieldUse
+        ensures { result ≡ offset_use self source }
+    {
+        match self {
+            AluCode::Div | AluCode::Mod => FieldUse::ZeroOrOne,
+            AluCode::Mov => match source {
+                Source::Imm => FieldUse::Zero,
+                Source::Reg => FieldUse::Any,
+            },
+            AluCode::Add
+            | AluCode::Sub
+            | AluCode::Mul
+            | AluCode::Or
+            | AluCode::And
+            | AluCode::Lsh
+            | AluCode::Rsh
+            | AluCode::Xor
+            | AluCode::Arsh => FieldUse::Zero,
         }
     }
 }
 
 impl Source {
-    pub fn bit(self) -> u8
+    /// Where an operand is.
+    fn of(operand: Operand) -> Source
+        ensures { result ≡ source_of operand }
+    {
+        match operand {
+            Operand::Imm(_) => Source::Imm,
+            Operand::Reg(_) => Source::Reg,
+        }
+    }
+
+    fn bit(self) -> u8
         ensures value { result ≡ source_bit self }
+        ensures in_range { result ≤ 8 }
     {
         match self {
             Source::Imm => 0,
             Source::Reg => 8,
         }
+    }
+}
+
+fn cond_code_of(number: u8) -> Option<Cond>
+    ensures { result ≡ cond_at number }
+{
+    match number {
+        1 => Some(Cond::Eq),
+        2 => Some(Cond::Gt),
+        3 => Some(Cond::Ge),
+        4 => Some(Cond::Set),
+        5 => Some(Cond::Ne),
+        6 => Some(Cond::Sgt),
+        7 => Some(Cond::Sge),
+        0xa => Some(Cond::Lt),
+        0xb => Some(Cond::Le),
+        0xc => Some(Cond::Slt),
+        0xd => Some(Cond::Sle),
+        _ => None,
+    }
+}
+
+fn cond_code(cond: Cond) -> u8
+    ensures value { result ≡ cond_number cond }
+    ensures in_range { result < 16 }
+{
+    match cond {
+        Cond::Eq => 1,
+        Cond::Gt => 2,
+        Cond::Ge => 3,
+        Cond::Set => 4,
+        Cond::Ne => 5,
+        Cond::Sgt => 6,
+        Cond::Sge => 7,
+        Cond::Lt => 0xa,
+        Cond::Le => 0xb,
+        Cond::Slt => 0xc,
+        Cond::Sle => 0xd,
+    }
+}
+
+/// The size in bits 3 and 4.
+fn size_of_bits(bits: u8) -> Size
+    ensures { result ≡ size_at bits }
+{
+    match bits {
+        0 => Size::W,
+        1 => Size::H,
+        2 => Size::B,
+        _ => Size::Dw,
+    }
+}
+
+fn size_code(size: Size) -> u8
+    ensures value { result ≡ size_bits size }
+    ensures in_range { result ≤ 24 }
+{
+    match size {
+        Size::W => 0,
+        Size::H => 8,
+        Size::B => 16,
+        Size::Dw => 24,
+    }
+}
+
+fn sx_size_of_bits(bits: u8) -> Option<SxSize>
+    ensures { result ≡ sx_size_at bits }
+{
+    match bits {
+        0 => Some(SxSize::W),
+        1 => Some(SxSize::H),
+        2 => Some(SxSize::B),
+        _ => None,
+    }
+}
+
+fn sx_size_code(size: SxSize) -> u8
+    ensures value { result ≡ sx_size_bits size }
+    ensures in_range { result ≤ 16 }
+{
+    match size {
+        SxSize::W => 0,
+        SxSize::H => 8,
+        SxSize::B => 16,
+    }
+}
+
+fn alu_class_of(width: Width) -> u8
+    ensures value { result ≡ alu_class width }
+    ensures in_range { result < 8 }
+{
+    match width {
+        Width::W32 => 4,
+        Width::W64 => 7,
+    }
+}
+
+fn jump_class_of(width: Width) -> u8
+    ensures value { result ≡ jump_class width }
+    ensures in_range { result < 8 }
+{
+    match width {
+        Width::W32 => 6,
+        Width::W64 => 5,
+    }
+}
+
+fn extension_width(kind: MovsxKind) -> Width
+    ensures { result ≡ movsx_width kind }
+{
+    match kind {
+        MovsxKind::From8To32 | MovsxKind::From16To32 => Width::W32,
+        MovsxKind::From8To64 | MovsxKind::From16To64 | MovsxKind::From32To64 => Width::W64,
+    }
+}
+
+fn order_code(order: Order) -> u8
+    ensures { result ≡ order_byte order }
+{
+    match order {
+        Order::Le => 0xd4,
+        Order::Be => 0xdc,
+        Order::Always => 0xd7,
+    }
+}
+
+fn alu_opcode(width: Width, code: u8, source: Source) -> Option<Opcode>
+    ensures { result ≡ alu_at width code source }
+{
+    match (code, width, source) {
+        (8, _, Source::Imm) => Some(Opcode::Neg { width }),
+        (8, _, Source::Reg) => None,
+        (0xd, Width::W32, Source::Imm) => Some(Opcode::Swap { order: Order::Le }),
+        (0xd, Width::W32, Source::Reg) => Some(Opcode::Swap { order: Order::Be }),
+        (0xd, Width::W64, Source::Imm) => Some(Opcode::Swap {
+            order: Order::Always,
+        }),
+        (0xd, Width::W64, Source::Reg) => None,
+        _ => match AluCode::at(code) {
+            Some(code) => Some(Opcode::Alu {
+                code,
+                width,
+                source,
+            }),
+            None => None,
+        },
+    }
+}
+
+fn jump_opcode(width: Width, code: u8, source: Source) -> Option<Opcode>
+    ensures { result ≡ jump_at width code source }
+{
+    match (code, width, source) {
+        (0, Width::W64, Source::Imm) => Some(Opcode::Ja),
+        (0, Width::W32, Source::Imm) => Some(Opcode::JaLong),
+        (8, Width::W64, Source::Imm) => Some(Opcode::Call),
+        (9, Width::W64, Source::Imm) => Some(Opcode::Exit),
+        _ => match cond_code_of(code) {
+            Some(cond) => Some(Opcode::Branch {
+                cond,
+                width,
+                source,
+            }),
+            None => None,
+        },
+    }
+}
+
+fn load_opcode(mode: u8, size: u8) -> Option<Opcode>
+    ensures { result ≡ load_at mode size }
+{
+    match mode {
+        3 => Some(Opcode::Load {
+            size: size_of_bits(size),
+        }),
+        4 => match sx_size_of_bits(size) {
+            Some(size) => Some(Opcode::LoadSx { size }),
+            None => None,
+        },
+        _ => None,
     }
 }
 
@@ -86,31 +395,124 @@ impl Opcode {
         } else {
             Source::Reg
         };
+        let code = byte >> 4;
+        let mode = byte >> 5;
+        let size = (byte >> 3) & 3;
         match byte & 7 {
-            5 => jump_opcode(byte >> 4, source),
-            7 => alu_opcode(Width::W64, byte >> 4, source),
+            0 if byte == 0x18 => Some(Opcode::LoadImm64),
+            1 => load_opcode(mode, size),
+            2 if mode == 3 => Some(Opcode::StoreImm {
+                size: size_of_bits(size),
+            }),
+            3 if mode == 3 => Some(Opcode::StoreReg {
+                size: size_of_bits(size),
+            }),
+            4 => alu_opcode(Width::W32, code, source),
+            5 => jump_opcode(Width::W64, code, source),
+            6 => jump_opcode(Width::W32, code, source),
+            7 => alu_opcode(Width::W64, code, source),
             _ => None,
         }
     }
 
-    /// The fields that it uses.
+    /// The opcode of an instruction.
+    pub fn of_insn(insn: Insn) -> Opcode
+        ensures { result ≡ (slot_of insn).opcode }
+    {
+        match insn {
+            Insn::Alu { op, width, src, .. } => Opcode::Alu {
+                code: AluCode::of(op),
+                width,
+                source: Source::of(src),
+            },
+            Insn::Neg { width, .. } => Opcode::Neg { width },
+            Insn::Movsx { kind, .. } => Opcode::Alu {
+                code: AluCode::Mov,
+                width: extension_width(kind),
+                source: Source::Reg,
+            },
+            Insn::Swap { order, .. } => Opcode::Swap { order },
+            Insn::Ja { .. } => Opcode::Ja,
+            Insn::JaLong { .. } => Opcode::JaLong,
+            Insn::Branch {
+                cond,
+                width,
+                src,
+                ..
+            } => Opcode::Branch {
+                cond,
+                width,
+                source: Source::of(src),
+            },
+            Insn::Call { .. } => Opcode::Call,
+            Insn::Exit => Opcode::Exit,
+            Insn::Load { size, .. } => Opcode::Load { size },
+            Insn::LoadSx { size, .. } => Opcode::LoadSx { size },
+            Insn::StoreReg { size, .. } => Opcode::StoreReg { size },
+            Insn::StoreImm { size, .. } => Opcode::StoreImm { size },
+            Insn::LoadImm64 { .. } => Opcode::LoadImm64,
+        }
+    }
+
+    /// What its fields may hold.
     pub fn uses(self) -> Uses
         ensures { result ≡ uses_of self }
     {
+        use FieldUse::{Any, Zero};
+        let uses = |dst, src, offset, imm| Uses {
+            dst,
+            src,
+            offset,
+            imm,
+        };
         match self {
-            Opcode::Alu { code, source, .. } => Uses {
-                dst: true,
-                src: source == Source::Reg,
-                offset: code == AluCode::Mov && source == Source::Reg,
-                imm: source == Source::Imm,
+            Opcode::Alu { code, source, .. } => match source {
+                Source::Imm => uses(Any, Zero, code.offset_use(source), Any),
+                Source::Reg => uses(Any, Any, code.offset_use(source), Zero),
             },
-            Opcode::Exit => Uses {
-                dst: false,
-                src: false,
-                offset: false,
-                imm: false,
+            Opcode::Neg { .. } => uses(Any, Zero, Zero, Zero),
+            Opcode::Swap { .. } => uses(Any, Zero, Zero, Any),
+            Opcode::Ja => uses(Zero, Zero, Any, Zero),
+            Opcode::JaLong => uses(Zero, Zero, Zero, Any),
+            Opcode::Branch { source, .. } => match source {
+                Source::Imm => uses(Any, Zero, Any, Any),
+                Source::Reg => uses(Any, Any, Any, Zero),
             },
+            Opcode::Call => uses(Zero, Zero, Zero, Any),
+            Opcode::Exit => uses(Zero, Zero, Zero, Zero),
+            Opcode::LoadImm64 => uses(Any, Zero, Zero, Any),
+            Opcode::Load { .. } | Opcode::LoadSx { .. } => uses(Any, Any, Any, Zero),
+            Opcode::StoreImm { .. } => uses(Any, Zero, Any, Any),
+            Opcode::StoreReg { .. } => uses(Any, Any, Any, Zero),
         }
+    }
+
+    /// Whether it takes two slots.
+    pub fn is_wide(self) -> bool
+        ensures { result ≡ is_wide self }
+    {
+        match self {
+            Opcode::LoadImm64 => true,
+            Opcode::Alu { .. }
+            | Opcode::Neg { .. }
+            | Opcode::Swap { .. }
+            | Opcode::Ja
+            | Opcode::JaLong
+            | Opcode::Branch { .. }
+            | Opcode::Call
+            | Opcode::Exit
+            | Opcode::Load { .. }
+            | Opcode::LoadSx { .. }
+            | Opcode::StoreImm { .. }
+            | Opcode::StoreReg { .. } => false,
+        }
+    }
+
+    /// The slots that it takes.
+    pub fn slots(self) -> usize
+        ensures { result ≡ opcode_slots self }
+    {
+        if self.is_wide() { 2 } else { 1 }
     }
 
     /// The byte that stands for it.
@@ -120,34 +522,25 @@ impl Opcode {
         match self {
             Opcode::Alu {
                 code,
-                width: Width::W64,
+                width,
                 source,
-            } => 7 + source.bit() + 16 * code.number(),
+            } => alu_class_of(width) + source.bit() + 16 * code.number(),
+            Opcode::Neg { width } => alu_class_of(width) + 0x80,
+            Opcode::Swap { order } => order_code(order),
+            Opcode::Ja => 0x05,
+            Opcode::JaLong => 0x06,
+            Opcode::Branch {
+                cond,
+                width,
+                source,
+            } => jump_class_of(width) + source.bit() + 16 * cond_code(cond),
+            Opcode::Call => 0x85,
             Opcode::Exit => 0x95,
+            Opcode::LoadImm64 => 0x18,
+            Opcode::Load { size } => 0x61 + size_code(size),
+            Opcode::LoadSx { size } => 0x81 + sx_size_code(size),
+            Opcode::StoreImm { size } => 0x62 + size_code(size),
+            Opcode::StoreReg { size } => 0x63 + size_code(size),
         }
-    }
-}
-
-fn alu_opcode(width: Width, code: u8, source: Source) -> Option<Opcode>
-    ensures { result ≡ alu_at width code source }
-{
-    let code = match code {
-        0 => AluCode::Add,
-        0xb => AluCode::Mov,
-        _ => return None,
-    };
-    Some(Opcode::Alu {
-        code,
-        width,
-        source,
-    })
-}
-
-fn jump_opcode(code: u8, source: Source) -> Option<Opcode>
-    ensures { result ≡ jump_at code source }
-{
-    match (code, source) {
-        (9, Source::Imm) => Some(Opcode::Exit),
-        _ => None,
     }
 }

@@ -1,9 +1,14 @@
 //! Slots: the eight bytes at the front of an instruction.
 
-ghost use Rattle.std.specs.Prelude.{◌≡◌, ◌≤◌, length};
-ghost use Rattle.bpf_insn.specs.Reading.{slot_at, alu_op_at, operand_at, form_at, front_at};
+ghost use Rattle.std.specs.Prelude.{◌≡◌, ◌≤◌, ◌*◌, length};
+ghost use Rattle.bpf_insn.specs.Opcodes.{is_wide, opcode_slots};
+ghost use Rattle.bpf_insn.specs.Registers.{register_at};
+ghost use Rattle.bpf_insn.specs.Reading.{found, slot_at, high_at, op_at, operand_at, kind_at, move_at, alu_insn_at, swap_bits_at, swap_by, form_at, front_at};
+ghost use Rattle.bpf_insn.specs.Encoding.{slot_of, register_in, immediate_in, offset_of, extended_bits, swapped_bits};
 
-use crate::forms::{AluOp, Insn, Operand, Reg};
+use crate::forms::{
+    AluOp, Cond, Insn, MovsxKind, Operand, Order, Reg, Size, SwapBits, SxSize, Width,
+};
 use crate::opcode::{AluCode, Opcode, Source};
 
 /// The fields of a slot.
@@ -49,63 +54,169 @@ impl Slot {
         ]
     }
 
-    /// Whether a field that the opcode does not use is not zero.
+    /// Whether some field holds what it may not.
     pub fn has_stray_field(self) -> bool
         ensures { result ≡ has_stray_field self }
     {
         let uses = self.opcode.uses();
-        (!uses.dst && self.dst.number() != 0)
-            || (!uses.src && self.src.number() != 0)
-            || (!uses.offset && self.offset != 0)
-            || (!uses.imm && self.imm != 0)
+        uses.dst.is_stray(u32::from(self.dst.number()))
+            || uses.src.is_stray(u32::from(self.src.number()))
+            || uses.offset.is_stray(u32::from(self.offset.cast_unsigned()))
+            || uses.imm.is_stray(self.imm.cast_unsigned())
     }
 
     /// The first slot of an instruction.
-    pub fn of(insn: &Insn) -> Slot
-        ensures { result ≡ slot_of insn.now }
+    pub fn of(insn: Insn) -> Slot
+        ensures { result ≡ slot_of insn }
     {
-        match *insn {
-            Insn::Alu {
-                op,
-                width,
-                dst,
-                src,
-            } => {
-                let code = AluCode::of(op);
-                match src {
-                    Operand::Imm(imm) => Slot {
-                        opcode: Opcode::Alu {
-                            code,
-                            width,
-                            source: Source::Imm,
-                        },
-                        dst,
-                        src: Reg::R0,
-                        offset: 0,
-                        imm,
-                    },
-                    Operand::Reg(src) => Slot {
-                        opcode: Opcode::Alu {
-                            code,
-                            width,
-                            source: Source::Reg,
-                        },
-                        dst,
-                        src,
-                        offset: 0,
-                        imm: 0,
-                    },
-                }
-            }
-            Insn::Exit => Slot {
-                opcode: Opcode::Exit,
-                dst: Reg::R0,
-                src: Reg::R0,
-                offset: 0,
-                imm: 0,
-            },
+        Slot {
+            opcode: Opcode::of_insn(insn),
+            dst: dst_field(insn),
+            src: src_field(insn),
+            offset: offset_field(insn),
+            imm: imm_field(insn),
         }
     }
+}
+
+fn dst_field(insn: Insn) -> Reg
+    ensures { result ≡ (slot_of insn).dst }
+{
+    match insn {
+        Insn::Alu { dst, .. }
+        | Insn::Neg { dst, .. }
+        | Insn::Movsx { dst, .. }
+        | Insn::Swap { dst, .. }
+        | Insn::Branch { dst, .. }
+        | Insn::Load { dst, .. }
+        | Insn::LoadSx { dst, .. }
+        | Insn::LoadImm64 { dst, .. } => dst,
+        Insn::StoreReg { base, .. } | Insn::StoreImm { base, .. } => base,
+        Insn::Ja { .. } | Insn::JaLong { .. } | Insn::Call { .. } | Insn::Exit => Reg::R0,
+    }
+}
+
+fn src_field(insn: Insn) -> Reg
+    ensures { result ≡ (slot_of insn).src }
+{
+    match insn {
+        Insn::Alu { src, .. } | Insn::Branch { src, .. } => register_field(src),
+        Insn::Movsx { src, .. } | Insn::StoreReg { src, .. } => src,
+        Insn::Load { base, .. } | Insn::LoadSx { base, .. } => base,
+        Insn::Neg { .. }
+        | Insn::Swap { .. }
+        | Insn::Ja { .. }
+        | Insn::JaLong { .. }
+        | Insn::Call { .. }
+        | Insn::Exit
+        | Insn::StoreImm { .. }
+        | Insn::LoadImm64 { .. } => Reg::R0,
+    }
+}
+
+fn offset_field(insn: Insn) -> i16
+    ensures { result ≡ (slot_of insn).offset }
+{
+    match insn {
+        Insn::Alu { op, .. } => operation_field(op),
+        Insn::Movsx { kind, .. } => extension_field(kind),
+        Insn::Ja { off }
+        | Insn::Branch { off, .. }
+        | Insn::Load { off, .. }
+        | Insn::LoadSx { off, .. }
+        | Insn::StoreReg { off, .. }
+        | Insn::StoreImm { off, .. } => off,
+        Insn::Neg { .. }
+        | Insn::Swap { .. }
+        | Insn::JaLong { .. }
+        | Insn::Call { .. }
+        | Insn::Exit
+        | Insn::LoadImm64 { .. } => 0,
+    }
+}
+
+fn imm_field(insn: Insn) -> i32
+    ensures { result ≡ (slot_of insn).imm }
+{
+    match insn {
+        Insn::Alu { src, .. } | Insn::Branch { src, .. } => immediate_field(src),
+        Insn::Swap { bits, .. } => swap_field(bits),
+        Insn::JaLong { off } => off,
+        Insn::Call { id } => id,
+        Insn::StoreImm { imm, .. } => imm,
+        Insn::LoadImm64 { value, .. } => ((value & 0xffff_ffff) as u32).cast_signed(),
+        Insn::Neg { .. }
+        | Insn::Movsx { .. }
+        | Insn::Ja { .. }
+        | Insn::Exit
+        | Insn::Load { .. }
+        | Insn::LoadSx { .. }
+        | Insn::StoreReg { .. } => 0,
+    }
+}
+
+fn register_field(operand: Operand) -> Reg
+    ensures { result ≡ register_in operand }
+{
+    match operand {
+        Operand::Imm(_) => Reg::R0,
+        Operand::Reg(register) => register,
+    }
+}
+
+fn immediate_field(operand: Operand) -> i32
+    ensures { result ≡ immediate_in operand }
+{
+    match operand {
+        Operand::Imm(value) => value,
+        Operand::Reg(_) => 0,
+    }
+}
+
+fn operation_field(op: AluOp) -> i16
+    ensures { result ≡ offset_of op }
+{
+    match op {
+        AluOp::Sdiv | AluOp::Smod => 1,
+        AluOp::Add
+        | AluOp::Sub
+        | AluOp::Mul
+        | AluOp::Div
+        | AluOp::Or
+        | AluOp::And
+        | AluOp::Lsh
+        | AluOp::Rsh
+        | AluOp::Mod
+        | AluOp::Xor
+        | AluOp::Mov
+        | AluOp::Arsh => 0,
+    }
+}
+
+fn extension_field(kind: MovsxKind) -> i16
+    ensures { result ≡ extended_bits kind }
+{
+    match kind {
+        MovsxKind::From8To32 | MovsxKind::From8To64 => 8,
+        MovsxKind::From16To32 | MovsxKind::From16To64 => 16,
+        MovsxKind::From32To64 => 32,
+    }
+}
+
+fn swap_field(bits: SwapBits) -> i32
+    ensures { result ≡ swapped_bits bits }
+{
+    match bits {
+        SwapBits::Bits16 => 16,
+        SwapBits::Bits32 => 32,
+        SwapBits::Bits64 => 64,
+    }
+}
+
+fn register(number: u8) -> Result<Reg, SlotFault>
+    ensures { result ≡ found SlotFault.BadRegister (register_at number) }
+{
+    Reg::of(number).ok_or(SlotFault::BadRegister)
 }
 
 /// The fields behind the opcode.
@@ -114,8 +225,8 @@ fn slot_of_bytes(opcode: Opcode, bytes: &[u8]) -> Result<Slot, SlotFault>
     requires { 8 ≤ length bytes.now }
     ensures { result ≡ slot_at opcode bytes.now }
 {
-    let dst = Reg::of(bytes[1] & 15).ok_or(SlotFault::BadRegister)?;
-    let src = Reg::of(bytes[1] >> 4).ok_or(SlotFault::BadRegister)?;
+    let dst = register(bytes[1] & 15)?;
+    let src = register(bytes[1] >> 4)?;
     Ok(Slot {
         opcode,
         dst,
@@ -125,15 +236,38 @@ fn slot_of_bytes(opcode: Opcode, bytes: &[u8]) -> Result<Slot, SlotFault>
     })
 }
 
-fn alu_op(code: AluCode, slot: Slot) -> Result<AluOp, SlotFault>
-    ensures { result ≡ alu_op_at code slot }
+/// The high half of a wide instruction.
+fn high_half(opcode: Opcode, bytes: &[u8]) -> Result<u32, SlotFault>
+    requires { 8 * opcode_slots opcode ≤ length bytes.now }
+    ensures { result ≡ high_at (is_wide opcode) bytes.now }
+{
+    if !opcode.is_wide() {
+        return Ok(0);
+    }
+    if u32::from_le_bytes([bytes[8], bytes[9], bytes[10], bytes[11]]) != 0 {
+        return Err(SlotFault::NonZeroField);
+    }
+    Ok(u32::from_le_bytes([bytes[12], bytes[13], bytes[14], bytes[15]]))
+}
+
+fn alu_op(code: AluCode, offset: i16) -> AluOp
+    ensures { result ≡ op_at code offset }
 {
     match code {
-        AluCode::Add => Ok(AluOp::Add),
-        AluCode::Mov => match slot.offset {
-            0 => Ok(AluOp::Mov),
-            _ => Err(SlotFault::BadWidth),
-        },
+        AluCode::Add => AluOp::Add,
+        AluCode::Sub => AluOp::Sub,
+        AluCode::Mul => AluOp::Mul,
+        AluCode::Div if offset == 0 => AluOp::Div,
+        AluCode::Div => AluOp::Sdiv,
+        AluCode::Or => AluOp::Or,
+        AluCode::And => AluOp::And,
+        AluCode::Lsh => AluOp::Lsh,
+        AluCode::Rsh => AluOp::Rsh,
+        AluCode::Mod if offset == 0 => AluOp::Mod,
+        AluCode::Mod => AluOp::Smod,
+        AluCode::Xor => AluOp::Xor,
+        AluCode::Mov => AluOp::Mov,
+        AluCode::Arsh => AluOp::Arsh,
     }
 }
 
@@ -146,22 +280,167 @@ fn operand(source: Source, slot: Slot) -> Operand
     }
 }
 
+fn extension(width: Width, offset: i16) -> Option<MovsxKind>
+    ensures { result ≡ kind_at width offset }
+{
+    match (width, offset) {
+        (Width::W32, 8) => Some(MovsxKind::From8To32),
+        (Width::W32, 16) => Some(MovsxKind::From16To32),
+        (Width::W64, 8) => Some(MovsxKind::From8To64),
+        (Width::W64, 16) => Some(MovsxKind::From16To64),
+        (Width::W64, 32) => Some(MovsxKind::From32To64),
+        _ => None,
+    }
+}
+
+/// A move from a register, of all bits or of the low ones.
+fn move_of(width: Width, slot: Slot) -> Result<Insn, SlotFault>
+    ensures { result ≡ move_at width slot }
+{
+    if slot.offset == 0 {
+        return Ok(Insn::Alu {
+            op: AluOp::Mov,
+            width,
+            dst: slot.dst,
+            src: Operand::Reg(slot.src),
+        });
+    }
+    match extension(width, slot.offset) {
+        Some(kind) => Ok(Insn::Movsx {
+            kind,
+            dst: slot.dst,
+            src: slot.src,
+        }),
+        None => Err(SlotFault::BadWidth),
+    }
+}
+
+fn alu_insn(code: AluCode, width: Width, source: Source, slot: Slot) -> Result<Insn, SlotFault>
+    ensures { result ≡ alu_insn_at code width source slot }
+{
+    if let (AluCode::Mov, Source::Reg) = (code, source) {
+        return move_of(width, slot);
+    }
+    Ok(Insn::Alu {
+        op: alu_op(code, slot.offset),
+        width,
+        dst: slot.dst,
+        src: operand(source, slot),
+    })
+}
+
+fn swap_bits(imm: i32) -> Option<SwapBits>
+    ensures { result ≡ swap_bits_at imm }
+{
+    match imm {
+        16 => Some(SwapBits::Bits16),
+        32 => Some(SwapBits::Bits32),
+        64 => Some(SwapBits::Bits64),
+        _ => None,
+    }
+}
+
+fn swap_insn(order: Order, slot: Slot) -> Result<Insn, SlotFault>
+    ensures { result ≡ swap_by order slot (swap_bits_at slot.imm) }
+{
+    match swap_bits(slot.imm) {
+        Some(bits) => Ok(Insn::Swap {
+            order,
+            bits,
+            dst: slot.dst,
+        }),
+        None => Err(SlotFault::BadWidth),
+    }
+}
+
+fn branch_insn(cond: Cond, width: Width, source: Source, slot: Slot) -> Insn
+    ensures { result ≡ Insn.Branch cond width slot.dst (operand_at source slot) slot.offset }
+{
+    Insn::Branch {
+        cond,
+        width,
+        dst: slot.dst,
+        src: operand(source, slot),
+        off: slot.offset,
+    }
+}
+
+fn load_insn(size: Size, slot: Slot) -> Insn
+    ensures { result ≡ Insn.Load size slot.dst slot.src slot.offset }
+{
+    Insn::Load {
+        size,
+        dst: slot.dst,
+        base: slot.src,
+        off: slot.offset,
+    }
+}
+
+fn load_sx_insn(size: SxSize, slot: Slot) -> Insn
+    ensures { result ≡ Insn.LoadSx size slot.dst slot.src slot.offset }
+{
+    Insn::LoadSx {
+        size,
+        dst: slot.dst,
+        base: slot.src,
+        off: slot.offset,
+    }
+}
+
+fn store_imm_insn(size: Size, slot: Slot) -> Insn
+    ensures { result ≡ Insn.StoreImm size slot.dst slot.offset slot.imm }
+{
+    Insn::StoreImm {
+        size,
+        base: slot.dst,
+        off: slot.offset,
+        imm: slot.imm,
+    }
+}
+
+fn store_reg_insn(size: Size, slot: Slot) -> Insn
+    ensures { result ≡ Insn.StoreReg size slot.dst slot.offset slot.src }
+{
+    Insn::StoreReg {
+        size,
+        base: slot.dst,
+        off: slot.offset,
+        src: slot.src,
+    }
+}
+
 /// The instruction of a slot whose unused fields are zero.
-fn insn_of(slot: Slot) -> Result<Insn, SlotFault>
-    ensures { result ≡ form_at slot.opcode slot }
+fn insn_of(slot: Slot, high: u32) -> Result<Insn, SlotFault>
+    ensures { result ≡ form_at slot.opcode slot high }
 {
     match slot.opcode {
         Opcode::Alu {
             code,
             width,
             source,
-        } => Ok(Insn::Alu {
-            op: alu_op(code, slot)?,
+        } => alu_insn(code, width, source, slot),
+        Opcode::Neg { width } => Ok(Insn::Neg {
             width,
             dst: slot.dst,
-            src: operand(source, slot),
         }),
+        Opcode::Swap { order } => swap_insn(order, slot),
+        Opcode::Ja => Ok(Insn::Ja { off: slot.offset }),
+        Opcode::JaLong => Ok(Insn::JaLong { off: slot.imm }),
+        Opcode::Branch {
+            cond,
+            width,
+            source,
+        } => Ok(branch_insn(cond, width, source, slot)),
+        Opcode::Call => Ok(Insn::Call { id: slot.imm }),
         Opcode::Exit => Ok(Insn::Exit),
+        Opcode::LoadImm64 => Ok(Insn::LoadImm64 {
+            dst: slot.dst,
+            value: (u64::from(high) << 32) + u64::from(slot.imm.cast_unsigned()),
+        }),
+        Opcode::Load { size } => Ok(load_insn(size, slot)),
+        Opcode::LoadSx { size } => Ok(load_sx_insn(size, slot)),
+        Opcode::StoreImm { size } => Ok(store_imm_insn(size, slot)),
+        Opcode::StoreReg { size } => Ok(store_reg_insn(size, slot)),
     }
 }
 
@@ -174,9 +453,13 @@ pub fn front(bytes: &[u8]) -> Result<Insn, SlotFault>
         return Err(SlotFault::Truncated);
     }
     let opcode = Opcode::of(bytes[0]).ok_or(SlotFault::UnknownOpcode)?;
+    if bytes.len() < 8 * opcode.slots() {
+        return Err(SlotFault::Truncated);
+    }
     let slot = slot_of_bytes(opcode, bytes)?;
+    let high = high_half(opcode, bytes)?;
     if slot.has_stray_field() {
         return Err(SlotFault::NonZeroField);
     }
-    insn_of(slot)
+    insn_of(slot, high)
 }

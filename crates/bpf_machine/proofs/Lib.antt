@@ -1,3 +1,9 @@
+pub mod ByteSteps
+pub mod LowestTrap
+pub mod StepCases
 pub mod TrapTable
+pub mod Stuck
 pub mod OneRun
 pub mod RunSteps
+pub mod SoundParts
+pub mod SoundLaws

@@ -4,10 +4,10 @@ use Rattle.std.specs.FinMap as map
 use Rattle.std.specs.FinMap.{FinMap}
 use Rattle.std.specs.Ordering.{nat_cmp}
 use Rattle.std.specs.Coded.{Coded, code_by, coded×, coded_ℕ}
-use Rattle.bpf_machine.specs.Machine.{MachineState}
+use Rattle.bpf_machine.specs.Machine.{Frame}
 use Rattle.bpf_machine.specs.declared.word.Word.{Word}
 
-abbrev pub state_code : Coded Word → Coded MachineState
-state_code word =
-    code_by (ℕ × FinMap nat_cmp Word) (coded× coded_ℕ (map.code coded_ℕ word)) (λ s. (s.slot, s.registers))
-    (λ p. record { slot = p.0; registers = p.1 }) (λ _. refl)
+abbrev pub frame_code : Coded Word → Coded Frame
+frame_code word =
+    code_by (ℕ × (FinMap nat_cmp Word × FinMap nat_cmp ℕ)) (coded× coded_ℕ (coded× (map.code coded_ℕ word) (map.code coded_ℕ coded_ℕ)))
+    (λ f. (f.slot, (f.registers, f.stack))) (λ p. record { slot = p.0; registers = p.1.0; stack = p.1.1 }) (λ _. refl)

@@ -1,7 +1,7 @@
-pub mod Slots
 pub mod Machine
 pub mod Codes
 pub mod Step
 pub mod Traps
 pub mod Run
+pub mod Sound
 pub mod Parts

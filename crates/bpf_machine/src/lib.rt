@@ -1,15 +1,21 @@
 //! The machine of RFC 9669 with a check at each step: it runs any program, and says where it got stuck.
 #![tactic(auto)]
 
+mod alu;
+mod bytes;
+mod calls;
 mod laws;
 mod run;
 mod state;
-mod step;
+mod turn;
 mod word;
 
-pub use laws::{one_run, stuck_by_traps};
+pub use laws::{one_run, stays_sound, stuck_by_traps};
+pub use node_env::Region;
 pub use run::run_checked;
-pub use word::{Outcome, TrapKind};
+pub use state::State;
+pub use turn::step;
+pub use word::{Outcome, TrapKind, Turn, Word};
 
 #[cfg(test)]
 mod tests;

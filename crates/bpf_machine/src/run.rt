@@ -1,20 +1,27 @@
 //! Whole runs.
 
-ghost use Rattle.std.specs.Prelude.{◌≡◌};
+ghost use Rattle.std.specs.Prelude.{◌≡◌, List, ℕ, length};
+ghost use Rattle.std.specs.Ordering.{nat_cmp};
+ghost use Rattle.std.specs.FinMap.{FinMap};
 ghost use Rattle.bpf_machine.specs.Run.{RunAnswers};
 ghost use Rattle.bpf_machine.specs.declared.word.Outcome.{Outcome};
 
 use crate::state::State;
-use crate::step::step;
+use crate::turn::step;
 use crate::word::{Outcome, Turn};
 use bpf_insn::Program;
+use node_env::{Env, Outbox};
 
-fn run(program: &Program, fuel: u64) -> Outcome
-    ensures { RunAnswers program.now fuel result }
+fn run(program: &Program, env: &Env, memory: &mut [u8], outbox: &mut Outbox, fuel: u64) -> Outcome
+    requires memory { length memory.old ≡ env.now.shape.memory }
+    requires nodes { outbox.old.nodes ≡ env.now.shape.nodes }
+    ensures run { RunAnswers program.now env.now memory.old fuel memory.new outbox.new.sent result }
+    ensures nodes { outbox.new.nodes ≡ outbox.old.nodes }
 {
-    let mut state = State::entry();
+    outbox.clear();
+    let mut state = State::entry(env);
     for taken in 0..fuel {
-        match step(program, &mut state) {
+        match step(program, env, &mut state, memory, outbox) {
             Turn::Next => {}
             Turn::Ended(r0) => {
                 return Outcome::Ended {
@@ -33,10 +40,20 @@ fn run(program: &Program, fuel: u64) -> Outcome
     Outcome::OutOfFuel
 }
 
-/// Runs a program from the entry state, where no register is set, for at most `fuel` steps (docs/MACHINE.md).
-pub fn run_checked(program: &Program, fuel: u64) -> Outcome
-    ensures run { RunAnswers program.now fuel result }
-    ensures only { (answer : Outcome) → RunAnswers program.now fuel answer → result ≡ answer }
+/// Runs a program from its entry for at most `fuel` steps (docs/MACHINE.md). The outbox is emptied first. After a trap and where
+/// the fuel runs out, memory and outbox hold what the steps before wrote. `memory` is the node's, and `outbox` has a slot for each node.
+pub fn run_checked(
+    program: &Program,
+    env: &Env,
+    memory: &mut [u8],
+    outbox: &mut Outbox,
+    fuel: u64,
+) -> Outcome
+    requires memory { length memory.old ≡ env.now.shape.memory }
+    requires nodes { outbox.old.nodes ≡ env.now.shape.nodes }
+    ensures run { RunAnswers program.now env.now memory.old fuel memory.new outbox.new.sent result }
+    ensures only { (left : List ℕ) (sent : FinMap nat_cmp ℕ) (answer : Outcome) → RunAnswers program.now env.now memory.old fuel left sent answer → (result ≡ answer) × (memory.new ≡ left) × (outbox.new.sent ≡ sent) }
+    ensures nodes { outbox.new.nodes ≡ outbox.old.nodes }
 {
-    run(program, fuel)
+    run(program, env, memory, outbox, fuel)
 }

@@ -1,45 +1,53 @@
-//! The state of a run.
+//! The part of the machine's state that lives for one run.
 
-ghost use Rattle.std.specs.Prelude.{◌≡◌};
-ghost use Rattle.bpf_machine.specs.Machine.{entry};
-ghost use Rattle.bpf_machine.specs.Step.{word_of, operand_of, with_register};
+ghost use Rattle.std.specs.Prelude.{◌≡◌, ◌<◌, ◌≤◌, ◌+◌};
+ghost use Rattle.std.specs.FinMap as map;
+ghost use Rattle.bpf_machine.specs.Machine.{entry_frame};
+ghost use Rattle.bpf_machine.specs.Step.{after_call, number_in, operand_of, with_number, with_register, word_of, writable};
 
 use crate::word::{TrapKind, Word};
 use bpf_insn::{Operand, Reg};
+use node_env::{Env, Region, STACK_BYTES};
 use std::marker::Model;
 
 /// How many registers there are.
 const REGISTERS: usize = 11;
 
-/// The slot to be run next, and what each register holds.
+/// The slot to be run next, what each register holds, and the stack. Memory and outbox are handed to each step.
 #[derive(Drop)]
 pub struct State {
     slot: u32,
     registers: [Option<Word>; REGISTERS],
+    stack: [Option<u8>; STACK_BYTES as usize],
 }
 
 impl Model for State {
-    ghost use Rattle.bpf_machine.specs.Slots.{map_of};
-    ghost use Rattle.bpf_machine.specs.Machine.{MachineState};
-    ghost use Rattle.bpf_machine.specs.Codes.{state_code};
+    ghost use Rattle.node_env.specs.Slots.{map_of};
+    ghost use Rattle.bpf_machine.specs.Machine.{Frame};
+    ghost use Rattle.bpf_machine.specs.Codes.{frame_code};
     ghost use Rattle.bpf_machine.specs.contracts.word.Word as word;
 
-    ghost Value = { MachineState };
+    ghost Value = { Frame };
 
-    ghost coded = { state_code word.the_row.coded };
+    ghost coded = { frame_code word.the_row.coded };
 
-    ghost view = { λ s. record { slot = s.slot; registers = map_of s.registers } };
+    ghost view = { λ s. record { slot = s.slot; registers = map_of s.registers; stack = map_of s.stack } };
 }
 
 impl State {
-    /// Where a run begins.
-    #[tactic(auto, using(crate::specs::Slots::slots))]
-    pub fn entry() -> State
-        ensures { result ≡ entry }
+    /// Where a run begins: r1 points at the node's memory, r2 is its number, and r10 is the end of the stack.
+    #[tactic(auto, using(node_env::proofs::Slots::slots))]
+    pub fn entry(env: &Env) -> State
+        ensures { result ≡ entry_frame env.now }
     {
+        let mut registers = [None; REGISTERS];
+        registers[1] = Some(Word::Ptr(Region::Mem, 0));
+        registers[2] = Some(Word::Num(u64::from(env.id())));
+        registers[10] = Some(Word::Ptr(Region::Stack, STACK_BYTES));
         State {
             slot: 0,
-            registers: [None; REGISTERS],
+            registers,
+            stack: [None; STACK_BYTES as usize],
         }
     }
 
@@ -51,15 +59,15 @@ impl State {
     }
 
     /// What a register holds.
-    #[tactic(auto, using(crate::specs::Slots::slots))]
-    pub fn word(&self, register: Reg) -> Result<Word, TrapKind>
+    #[tactic(auto, using(node_env::proofs::Slots::slots))]
+    pub(crate) fn word(&self, register: Reg) -> Result<Word, TrapKind>
         ensures { result ≡ word_of self.now register }
     {
         self.registers[register.number() as usize].ok_or(TrapKind::Unset)
     }
 
     /// What an operand is.
-    pub fn operand(&self, operand: Operand) -> Result<Word, TrapKind>
+    pub(crate) fn operand(&self, operand: Operand) -> Result<Word, TrapKind>
         ensures { result ≡ operand_of self.now operand }
     {
         match operand {
@@ -68,16 +76,89 @@ impl State {
         }
     }
 
-    #[tactic(auto, using(crate::specs::Slots::slots))]
-    pub fn set_register(&mut self, register: Reg, word: Word)
+    #[tactic(auto, using(node_env::proofs::Slots::slots))]
+    pub(crate) fn set_register(&mut self, register: Reg, word: Word)
         ensures { self.new ≡ with_register self.old register word }
     {
         self.registers[register.number() as usize] = Some(word);
     }
 
-    pub fn go_to(&mut self, slot: u32)
+    pub(crate) fn go_to(&mut self, slot: u32)
         ensures { self.new ≡ record self.old { slot = slot } }
     {
         self.slot = slot;
+    }
+
+    #[tactic(auto, using(node_env::proofs::Slots::slots))]
+    fn unset(&mut self, number: usize)
+        requires { number < 11 }
+        ensures { self.new ≡ record self.old { registers = map.remove self.old.registers number } }
+    {
+        self.registers[number] = None;
+    }
+
+    /// Takes the words of r1 to r5 out, and puts a helper's answer into r0.
+    pub(crate) fn end_call(&mut self, answer: u64)
+        ensures { self.new ≡ after_call self.old answer }
+    {
+        self.unset(1);
+        self.unset(2);
+        self.unset(3);
+        self.unset(4);
+        self.unset(5);
+        self.set_register(Reg::R0, Word::Num(answer));
+    }
+
+    /// The byte of the stack at an offset, where it is written.
+    #[tactic(auto, using(node_env::proofs::Slots::slots))]
+    pub(crate) fn stack_byte(&self, at: usize) -> Option<u8>
+        ensures { result ≡ map.get self.now.stack at }
+    {
+        match self.stack.get(at) {
+            Some(&byte) => byte,
+            None => None,
+        }
+    }
+
+    #[tactic(auto, using(node_env::proofs::Slots::slots))]
+    fn set_stack_byte(&mut self, at: usize, byte: u8)
+        requires { at < STACK_BYTES }
+        ensures { self.new ≡ record self.old { stack = map.insert self.old.stack at byte } }
+    {
+        self.stack[at] = Some(byte);
+    }
+
+    /// Puts a number's low bytes into the stack, the lowest first.
+    #[tactic(auto, using(crate::proofs::ByteSteps::stores))]
+    pub(crate) fn store(&mut self, first: usize, count: usize, value: u64)
+        requires { first + count ≤ STACK_BYTES }
+        ensures { self.new ≡ record self.old { stack = with_number map.insert self.old.stack first count value } }
+    {
+        let mut rest = value;
+        for i in 0..count {
+            self.set_stack_byte(first + i, (rest % 256) as u8);
+            rest /= 256;
+        }
+    }
+}
+
+/// The number that a word is, or else the trap.
+pub(crate) fn number(word: Word, trap: TrapKind) -> Result<u64, TrapKind>
+    ensures { result ≡ number_in trap word }
+{
+    match word {
+        Word::Num(number) => Ok(number),
+        Word::Ptr(_, _) => Err(trap),
+    }
+}
+
+/// The register, where it may be written: all but R10.
+pub(crate) fn writable(register: Reg) -> Result<Reg, TrapKind>
+    ensures { result ≡ writable register }
+{
+    if register == Reg::R10 {
+        Err(TrapKind::FrameWrite)
+    } else {
+        Ok(register)
     }
 }

@@ -1,31 +1,48 @@
 //! What a register holds, and how a run can end.
 
-/// What a register holds.
+use node_env::Region;
+
+/// What a register holds: a number, or a pointer into a region, by its offset from the region's first byte.
 #[derive(Clone, Copy, Debug, PartialEq, Eq)]
 pub enum Word {
     Num(u64),
+    Ptr(Region, u32),
 }
 
 /// Why a state is stuck (docs/MACHINE.md, "Traps"). Of the traps that apply the one of the lowest number is told.
 #[derive(Clone, Copy, Debug, PartialEq, Eq)]
 pub enum TrapKind {
     BadJump,
+    BadHelper,
     Unset,
     FrameWrite,
+    NotNumber,
+    OutOfRegion,
+    UnsetByte,
+    BadArgument,
+    NotPointer,
+    ExitNotNumber,
 }
 
 impl TrapKind {
     ghost use Rattle.std.specs.Prelude.{◌≡◌};
     ghost use Rattle.bpf_machine.specs.Traps.{trap_number};
 
-    /// The number by which a trap is told.
+    /// The number by which a trap is told, 1 to 10.
     pub fn number(self) -> u32
         ensures { result ≡ trap_number self }
     {
         match self {
             TrapKind::BadJump => 1,
+            TrapKind::BadHelper => 2,
             TrapKind::Unset => 3,
             TrapKind::FrameWrite => 4,
+            TrapKind::NotNumber => 5,
+            TrapKind::OutOfRegion => 6,
+            TrapKind::UnsetByte => 7,
+            TrapKind::BadArgument => 8,
+            TrapKind::NotPointer => 9,
+            TrapKind::ExitNotNumber => 10,
         }
     }
 }

@@ -1,5 +1,8 @@
--- Bytes and fuel have one answer, where images have one reading and programs one run.
-use Rattle.std.proofs.Common.{◌≡◌, ◌≢◌, ℕ, List, ◌∙◌, sym, ap, subst}
+-- Bytes have one answer under given options, where images have one reading and programs one run.
+use Rattle.std.proofs.Common.{◌≡◌, ◌≢◌, ℕ, List, ◌∙◌, refl, sym, ap, subst, replicate}
+use Rattle.std.specs.Ordering.{nat_cmp}
+use Rattle.std.specs.FinMap.{FinMap}
+use Rattle.node_env.specs.Env.{Extent, Setting}
 use Rattle.bpf_insn.specs.declared.forms.Insn.{Insn}
 use Rattle.bpf_insn.specs.declared.image.ImageError.{ImageError}
 use Rattle.bpf_insn.specs.declared.image.ImageError.TheVariants as errors
@@ -7,35 +10,64 @@ use Rattle.bpf_insn.specs.Programs.{IsProgram, image_of}
 use Rattle.bpf_insn.specs.Images.{RefusesImage}
 use Rattle.bpf_machine.specs.declared.word.Outcome.{Outcome}
 use Rattle.bpf_machine.specs.Run.{RunAnswers}
+use Rattle.clockbed.specs.declared.request.ExecOptions.{ExecOptions}
 use Rattle.clockbed.specs.declared.answer.Answer.{Answer}
-use Rattle.clockbed.specs.declared.answer.Answer.TheVariants.{Refused, Ran}
-use Rattle.clockbed.specs.Answer.{Answers, RunsImage}
+use Rattle.clockbed.specs.declared.answer.Answer.TheVariants.{NoShape, Refused, Ran}
+use Rattle.clockbed.specs.Answer.{Answers, BareRun, RunsImage, bare_setting}
+
+-- what the laws of the crates below say
+abbrev OneProgram : Type 0
+OneProgram = (p q : List Insn) → IsProgram p → IsProgram q → image_of p ≡ image_of q → p ≡ q
+
+abbrev OneRefusal : Type 0
+OneRefusal = (bytes : List ℕ) (e d : ImageError) → RefusesImage bytes e → RefusesImage bytes d → e ≢ errors.Memory → d ≢ errors.Memory → e ≡ d
+
+abbrev Apart : Type 0
+Apart = (p : List Insn) (e : ImageError) → IsProgram p → RefusesImage (image_of p) e → e ≡ errors.Memory
+
+abbrev OneRun : Type 0
+OneRun =
+    (program : List Insn) (env : Setting) (memory : List ℕ) (fuel : ℕ) (left right : List ℕ) (sent gone : FinMap nat_cmp ℕ) (first second : Outcome)
+    → RunAnswers program env memory fuel left sent first → RunAnswers program env memory fuel right gone second
+    → (first ≡ second) × (left ≡ right) × (sent ≡ gone)
 
 -- an image of a program has no refusal but want of memory
-not_both : ((p : List Insn) (e : ImageError) → IsProgram p → RefusesImage (image_of p) e → e ≡ errors.Memory)
-    → (bytes : List ℕ) (fuel : ℕ) (e : ImageError) (outcome : Outcome) → RefusesImage bytes e → RunsImage bytes fuel outcome → e ≡ errors.Memory
-not_both apart bytes fuel e outcome refused ran =
+not_both : Apart → (shape : Extent) (bytes : List ℕ) (fuel : ℕ) (e : ImageError) (outcome : Outcome) → RefusesImage bytes e → RunsImage shape bytes fuel outcome → e ≡ errors.Memory
+not_both apart shape bytes fuel e outcome refused ran =
     apart ran.program e ran.whole (subst (λ (l : List ℕ). RefusesImage l e) ran.image refused)
 
-one_outcome : ((p q : List Insn) → IsProgram p → IsProgram q → image_of p ≡ image_of q → p ≡ q)
-    → ((p : List Insn) (fuel : ℕ) (o w : Outcome) → RunAnswers p fuel o → RunAnswers p fuel w → o ≡ w)
-    → (bytes : List ℕ) (fuel : ℕ) (o w : Outcome) → RunsImage bytes fuel o → RunsImage bytes fuel w → o ≡ w
-one_outcome one_program one_run bytes fuel o w first second =
+one_outcome : OneProgram → OneRun → (shape : Extent) (bytes : List ℕ) (fuel : ℕ) (o w : Outcome) → RunsImage shape bytes fuel o → RunsImage shape bytes fuel w → o ≡ w
+one_outcome one_program one_run shape bytes fuel o w first second =
     let same = one_program first.program second.program first.whole second.whole (sym first.image ∙ second.image) in
-    one_run second.program fuel o w (subst (λ (p : List Insn). RunAnswers p fuel o) same first.run) second.run
+    let moved : BareRun shape second.program fuel o = subst (λ (p : List Insn). BareRun shape p fuel o) same first.run in
+    (one_run second.program _ _ fuel moved.left second.run.left moved.sent second.run.sent o w moved.run second.run.run).0
 
-pub one_answer : ((p q : List Insn) → IsProgram p → IsProgram q → image_of p ≡ image_of q → p ≡ q)
-    → ((bytes : List ℕ) (e d : ImageError) → RefusesImage bytes e → RefusesImage bytes d → e ≢ errors.Memory → d ≢ errors.Memory → e ≡ d)
-    → ((p : List Insn) (e : ImageError) → IsProgram p → RefusesImage (image_of p) e → e ≡ errors.Memory)
-    → ((p : List Insn) (fuel : ℕ) (o w : Outcome) → RunAnswers p fuel o → RunAnswers p fuel w → o ≡ w)
-    → (bytes : List ℕ) (fuel : ℕ) (a b : Answer) → Answers bytes fuel a → Answers bytes fuel b → a ≡ b
-one_answer one_program one_refusal apart one_run bytes fuel (Refused e) (Refused d) first second =
-    ap Refused (one_refusal bytes e d first.0 second.0 first.1 second.1)
-one_answer one_program one_refusal apart one_run bytes fuel (Refused e) (Ran w given) first second =
-    absurd (first.1 (not_both apart bytes fuel e w first.0 second.0))
-one_answer one_program one_refusal apart one_run bytes fuel (Ran o given) (Refused d) first second =
-    absurd (second.1 (not_both apart bytes fuel d o second.0 first.0))
-one_answer one_program one_refusal apart one_run bytes fuel (Ran o given) (Ran w other) first second =
-    let outcome = one_outcome one_program one_run bytes fuel o w first.0 second.0 in
-    let fuels : given ≡ other = first.1 ∙ sym second.1 in
+pub one_answer : OneProgram → OneRefusal → Apart → OneRun
+    → (options : ExecOptions) (bytes : List ℕ) (a b : Answer) → Answers options bytes a → Answers options bytes b → a ≡ b
+one_answer one_program one_refusal apart one_run options bytes NoShape NoShape first second = refl
+one_answer one_program one_refusal apart one_run options bytes NoShape (Refused d) first second = absurd (first second.0)
+one_answer one_program one_refusal apart one_run options bytes NoShape (Ran w other) first second = absurd (first second.0)
+one_answer one_program one_refusal apart one_run options bytes (Refused e) NoShape first second = absurd (second first.0)
+one_answer one_program one_refusal apart one_run options bytes (Refused e) (Refused d) first second =
+    ap Refused (one_refusal bytes e d first.1 second.1 first.2 second.2)
+one_answer one_program one_refusal apart one_run options bytes (Refused e) (Ran w given) first second =
+    absurd (first.2 (not_both apart _ bytes options.fuel e w first.1 second.1))
+one_answer one_program one_refusal apart one_run options bytes (Ran o given) NoShape first second = absurd (second first.0)
+one_answer one_program one_refusal apart one_run options bytes (Ran o given) (Refused d) first second =
+    absurd (second.2 (not_both apart _ bytes options.fuel d o second.1 first.1))
+one_answer one_program one_refusal apart one_run options bytes (Ran o given) (Ran w other) first second =
+    let outcome = one_outcome one_program one_run _ bytes options.fuel o w first.1 second.1 in
+    let fuels : given ≡ other = first.2 ∙ sym second.2 in
     ap (λ x. Ran x given) outcome ∙ ap (λ n. Ran w n) fuels
+
+-- a run in a setting that is the bare one, from a memory that is zero
+pub bare_run : (shape : Extent) (program : List Insn) (fuel : ℕ) (outcome : Outcome) (env : Setting) (memory left : List ℕ) (sent : FinMap nat_cmp ℕ)
+    → RunAnswers program env memory fuel left sent outcome → env ≡ bare_setting shape → memory ≡ replicate shape.memory 0 → BareRun shape program fuel outcome
+bare_run shape program fuel outcome env memory left sent run at zeros =
+    record {
+      left = left;
+      sent = sent;
+      run =
+          subst (λ (l : List ℕ). RunAnswers program (bare_setting shape) l fuel left sent outcome) zeros
+          (subst (λ (e : Setting). RunAnswers program e memory fuel left sent outcome) at run);
+    }

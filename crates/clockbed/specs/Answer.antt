@@ -1,6 +1,9 @@
 -- What `exec` answers to the bytes that it read, and the line that says it.
-use Rattle.std.specs.Prelude.{◌≡◌, ◌≢◌, ℕ, List, ◌++◌, codes}
+use Rattle.std.specs.Prelude.{◌≡◌, ◌≢◌, ℕ, List, ◌++◌, codes, replicate}
 use Rattle.std.specs.Fmt.{decimal}
+use Rattle.std.specs.Ordering.{nat_cmp}
+use Rattle.std.specs.FinMap.{FinMap, empty}
+use Rattle.node_env.specs.Env.{Extent, IsExtent, Setting}
 use Rattle.bpf_insn.specs.declared.forms.Insn.{Insn}
 use Rattle.bpf_insn.specs.declared.image.ImageError.{ImageError}
 use Rattle.bpf_insn.specs.declared.image.ImageError.TheVariants as errors
@@ -12,22 +15,41 @@ use Rattle.bpf_machine.specs.declared.word.TrapKind.{TrapKind}
 use Rattle.bpf_machine.specs.declared.word.TrapKind.TheVariants as traps
 use Rattle.bpf_machine.specs.Run.{RunAnswers}
 use Rattle.bpf_machine.specs.Traps.{trap_number}
+use Rattle.clockbed.specs.declared.request.ExecOptions.{ExecOptions}
 use Rattle.clockbed.specs.declared.answer.Answer.{Answer}
-use Rattle.clockbed.specs.declared.answer.Answer.TheVariants.{Refused, Ran}
+use Rattle.clockbed.specs.declared.answer.Answer.TheVariants.{NoShape, Refused, Ran}
 use Rattle.clockbed.specs.declared.ending.Ending.{Ending}
 use Rattle.clockbed.specs.declared.ending.Ending.TheVariants as endings
 
+-- what `exec` lets a program see: node 0 of the shape, with no mail and coin 0 (docs/COMMANDS.md, "What exec runs")
+abbrev pub bare_setting : Extent → Setting
+bare_setting shape = record { shape = shape; id = 0; inbox = empty; coin = 0 }
+
+-- what the run of a program there comes to, from a memory of zeros. What it leaves and sends is not told
+pub record BareRun (shape : Extent) (program : List Insn) (fuel : ℕ) (outcome : Outcome) : Type 0 where
+  pub left : List ℕ
+  pub sent : FinMap nat_cmp ℕ
+  pub run : RunAnswers program (bare_setting shape) (replicate shape.memory 0) fuel left sent outcome
+
 -- the bytes are the image of a program (RFC 9669, section 3), whose run comes to this
-pub record RunsImage (bytes : List ℕ) (fuel : ℕ) (outcome : Outcome) : Type 0 where
+pub record RunsImage (shape : Extent) (bytes : List ℕ) (fuel : ℕ) (outcome : Outcome) : Type 0 where
   pub program : List Insn
   pub whole : IsProgram program
   pub image : bytes ≡ image_of program
-  pub run : RunAnswers program fuel outcome
+  pub run : BareRun shape program fuel outcome
 
--- the answer to these bytes with that much fuel. Want of memory is none
-abbrev pub Answers : List ℕ → ℕ → Answer → Type 0
-Answers bytes fuel (Refused error) = RefusesImage bytes error × (error ≢ errors.Memory)
-Answers bytes fuel (Ran outcome given) = RunsImage bytes fuel outcome × (given ≡ fuel)
+-- the nodes and the memory that are asked for, and whether they make a shape (docs/COMMANDS.md)
+abbrev pub asked_extent : ExecOptions → Extent
+asked_extent asked = record { nodes = asked.nodes; memory = asked.memory }
+
+abbrev pub HasShape : ExecOptions → Type 0
+HasShape asked = IsExtent asked.nodes asked.memory
+
+-- the answer to these bytes under these options. Want of memory is none
+abbrev pub Answers : ExecOptions → List ℕ → Answer → Type 0
+Answers asked bytes NoShape = HasShape asked → ⊥
+Answers asked bytes (Refused error) = HasShape asked × RefusesImage bytes error × (error ≢ errors.Memory)
+Answers asked bytes (Ran outcome given) = HasShape asked × RunsImage (asked_extent asked) bytes asked.fuel outcome × (given ≡ asked.fuel)
 
 -- ---- the line of an answer, without its end (docs/COMMANDS.md, "What exec prints")
 
@@ -43,8 +65,15 @@ refusal_line errors.Memory = codes "refused image Memory"
 
 abbrev pub trap_name : TrapKind → List ℕ
 trap_name traps.BadJump = codes "BadJump"
+trap_name traps.BadHelper = codes "BadHelper"
 trap_name traps.Unset = codes "Unset"
 trap_name traps.FrameWrite = codes "FrameWrite"
+trap_name traps.NotNumber = codes "NotNumber"
+trap_name traps.OutOfRegion = codes "OutOfRegion"
+trap_name traps.UnsetByte = codes "UnsetByte"
+trap_name traps.BadArgument = codes "BadArgument"
+trap_name traps.NotPointer = codes "NotPointer"
+trap_name traps.ExitNotNumber = codes "ExitNotNumber"
 
 abbrev pub outcome_line : Outcome → ℕ → List ℕ
 outcome_line (outcomes.Ended r0 steps) fuel = codes "r0 " ++ (decimal r0 ++ (codes " steps " ++ decimal steps))
@@ -53,6 +82,7 @@ outcome_line (outcomes.Trap slot kind) fuel =
 outcome_line outcomes.OutOfFuel fuel = codes "out of fuel " ++ decimal fuel
 
 abbrev pub line_of : Answer → List ℕ
+line_of NoShape = codes "refused shape"
 line_of (Refused error) = refusal_line error
 line_of (Ran outcome fuel) = outcome_line outcome fuel
 
@@ -62,5 +92,6 @@ text_of answer = line_of answer ++ codes "\n"
 
 -- how the command ends that wrote it
 abbrev pub ending_of : Answer → Ending
+ending_of NoShape = endings.Refused
 ending_of (Refused error) = endings.Refused
 ending_of (Ran outcome fuel) = endings.Done

@@ -7,9 +7,11 @@ use bpf_insn::ImageError;
 use bpf_machine::{Outcome, TrapKind};
 use std::fmt;
 
-/// What came of the bytes: why they are no image, or what the run of their program came to.
+/// Why nothing is read, why the bytes are no image, or what the run of their program came to.
 #[derive(Clone, Copy, Debug, PartialEq, Eq)]
 pub enum Answer {
+    /// The nodes and the memory that are asked for make no shape.
+    NoShape,
     Refused(ImageError),
     Ran { outcome: Outcome, fuel: u64 },
 }
@@ -23,7 +25,7 @@ impl Answer {
         ensures { result ≡ ending_of self.now }
     {
         match self {
-            Answer::Refused(_) => Ending::Refused,
+            Answer::NoShape | Answer::Refused(_) => Ending::Refused,
             Answer::Ran { .. } => Ending::Done,
         }
     }
@@ -34,6 +36,7 @@ impl fmt::Display for Answer {
 
     fn fmt<W: fmt::Write>(&self, f: &mut fmt::Formatter<W>) -> fmt::Result {
         match self {
+            Answer::NoShape => write!(f, "refused shape"),
             Answer::Refused(error) => match error {
                 ImageError::Empty => write!(f, "refused image Empty"),
                 ImageError::TooLong => write!(f, "refused image TooLong"),
@@ -66,7 +69,14 @@ fn name_of(kind: TrapKind) -> &'static str
 {
     match kind {
         TrapKind::BadJump => "BadJump",
+        TrapKind::BadHelper => "BadHelper",
         TrapKind::Unset => "Unset",
         TrapKind::FrameWrite => "FrameWrite",
+        TrapKind::NotNumber => "NotNumber",
+        TrapKind::OutOfRegion => "OutOfRegion",
+        TrapKind::UnsetByte => "UnsetByte",
+        TrapKind::BadArgument => "BadArgument",
+        TrapKind::NotPointer => "NotPointer",
+        TrapKind::ExitNotNumber => "ExitNotNumber",
     }
 }

@@ -21,7 +21,7 @@ pub fn command<S: AsStr, R: Read, W: Write, E: Write>(
     ensures { result ≤ 2 }
 {
     let ended = match request_of(alloc, words) {
-        Ok(Request::Exec { fuel }) => exec(alloc, fuel, reader, out),
+        Ok(Request::Exec(options)) => exec(alloc, options, reader, out),
         Ok(Request::Help { text }) => write_text(out, text.as_bytes()).map(|()| Ending::Done),
         Err(fault) => Err(fault),
     };

@@ -5,6 +5,7 @@ ghost use Rattle.clockbed.specs.Faults.{IsOfCommandLine};
 use crate::fault::Fault;
 use clap::error::ErrorKind;
 use clap::{Arg, ArgMatches, Command, Error, value_parser};
+use node_env::{MAX_MEMORY, MAX_NODES, MEMORY_UNIT};
 use std::alloc::{AllocError, Global};
 use std::convert::AsStr;
 use std::fmt::InlineText;
@@ -12,10 +13,26 @@ use std::fmt::InlineText;
 /// A command with its options, or the help that is asked for in its place.
 #[derive(Debug, Drop)]
 pub enum Request {
-    Exec { fuel: u64 },
+    Exec(ExecOptions),
     /// A text whose last line ends.
     Help { text: String },
 }
+
+/// The options of `exec`. The nodes and the memory may make no shape.
+#[derive(Clone, Copy, Debug, PartialEq, Eq)]
+pub struct ExecOptions {
+    pub nodes: u32,
+    /// The bytes of a node's memory.
+    pub memory: u32,
+    /// The most steps of the run.
+    pub fuel: u64,
+}
+
+/// The number of nodes where none is named.
+const DEFAULT_NODES: u32 = 4;
+
+/// The bytes of memory where none are named.
+const DEFAULT_MEMORY: u32 = 16;
 
 /// The fuel of a run for which none is named.
 const DEFAULT_FUEL: u64 = 1_000_000;
@@ -36,27 +53,57 @@ pub fn request_of<S: AsStr>(alloc: Global, words: &[S]) -> Result<Request, Fault
 }
 
 fn parse<S: AsStr>(alloc: Global, words: &[S]) -> Result<Request, Error> {
-    let fuel = InlineText::<HELP_BYTES>::of(format_args!(
-        "The most steps of the run [default: {DEFAULT_FUEL}]"
-    ));
-    let mut command = command_line(alloc, fuel.as_str())?;
+    let helps = Helps::new();
+    let mut command = command_line(alloc, &helps)?;
     let matches = command.try_get_matches_from_mut(words)?;
     match matches.subcommand() {
-        Some(("exec", options)) => Ok(Request::Exec {
-            fuel: fuel_of(options),
-        }),
+        Some(("exec", options)) => Ok(Request::Exec(exec_options(options))),
         _ => Err(command.error(ErrorKind::MissingSubcommand, "a command is needed")?),
     }
 }
 
-fn command_line<'a>(alloc: Global, fuel_help: &'a str) -> Result<Command<'a>, AllocError> {
+/// The help of each option, with its default.
+#[derive(Drop)]
+struct Helps {
+    nodes: InlineText<HELP_BYTES>,
+    memory: InlineText<HELP_BYTES>,
+    fuel: InlineText<HELP_BYTES>,
+}
+
+impl Helps {
+    fn new() -> Helps {
+        Helps {
+            nodes: InlineText::of(format_args!("The number of nodes [default: {DEFAULT_NODES}]")),
+            memory: InlineText::of(format_args!(
+                "The bytes of a node's memory [default: {DEFAULT_MEMORY}]"
+            )),
+            fuel: InlineText::of(format_args!(
+                "The most steps of the run [default: {DEFAULT_FUEL}]"
+            )),
+        }
+    }
+}
+
+fn command_line<'a>(alloc: Global, helps: &'a Helps) -> Result<Command<'a>, AllocError> {
+    let nodes = Arg::new(alloc, "nodes")
+        .long("nodes")
+        .value_name("COUNT")
+        .help(helps.nodes.as_str())
+        .value_parser(value_parser!(u32).range(1..=i64::from(MAX_NODES)));
+    let memory = Arg::new(alloc, "memory")
+        .long("memory")
+        .value_name("BYTES")
+        .help(helps.memory.as_str())
+        .value_parser(value_parser!(u32).range(i64::from(MEMORY_UNIT)..=i64::from(MAX_MEMORY)));
     let fuel = Arg::new(alloc, "fuel")
         .long("fuel")
         .value_name("STEPS")
-        .help(fuel_help)
+        .help(helps.fuel.as_str())
         .value_parser(value_parser!(u64).range(0..=MOST_FUEL));
     let exec = Command::new(alloc, "exec")
         .about("Runs the image on standard input")
+        .arg(nodes)?
+        .arg(memory)?
         .arg(fuel)?;
     Command::new(alloc, "clockbed")
         .about("A testbed for Byzantine clock synchronisation")
@@ -64,8 +111,12 @@ fn command_line<'a>(alloc: Global, fuel_help: &'a str) -> Result<Command<'a>, Al
         .subcommand(exec)
 }
 
-fn fuel_of(options: &ArgMatches<'_>) -> u64 {
-    options.get_one::<u64>("fuel").unwrap_or(DEFAULT_FUEL)
+fn exec_options(options: &ArgMatches<'_>) -> ExecOptions {
+    ExecOptions {
+        nodes: options.get_one::<u32>("nodes").unwrap_or(DEFAULT_NODES),
+        memory: options.get_one::<u32>("memory").unwrap_or(DEFAULT_MEMORY),
+        fuel: options.get_one::<u64>("fuel").unwrap_or(DEFAULT_FUEL),
+    }
 }
 
 /// What `clap` says in place of a request: the help, or why it refuses the words.

@@ -1,13 +1,13 @@
 use Rattle.std.proofs.Common.{◌++◌, ◌∷◌, [], List, ℕ, arith, sym, subst}
 use Rattle.bpf_insn.specs.Images.{RefusesImage}
 use Rattle.bpf_insn.proofs.ImageLaws.{IsRead, read_more, read_fault, read_whole, refuses_at, slots_of-last, slots_below, some_left, none_left}
-use Rattle.bpf_insn.proofs.LayoutLaws.{one_slot}
+use Rattle.bpf_insn.proofs.LayoutLaws.{one_or_two}
 use Rattle.bpf_insn.proofs.image.scan.Goals as goal
 
 pub overflow_add-slot : goal.overflow_add-slot
 overflow_add-slot c =
     let read = c.loop-rest.invariant in
-    omega (arith, slots_below c.args.bytes.now read.0 c.loop-rest.rest.now read.1 c.requires.few, read.2, c.slots.ensures.count, one_slot c.in-Ok.insn)
+    omega (arith, slots_below c.args.bytes.now read.0 c.loop-rest.rest.now read.1 c.requires.few, read.2, c.slots.ensures.count, one_or_two c.in-Ok.insn)
 
 pub loop-rest-preserved : goal.loop-rest-preserved
 loop-rest-preserved c =

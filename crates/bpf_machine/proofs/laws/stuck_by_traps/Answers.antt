@@ -1,4 +1,4 @@
-use Rattle.bpf_machine.proofs.TrapTable.{goes_on, stuck_by_trap}
+use Rattle.bpf_machine.proofs.Stuck.{goes_on, stuck_by_trap}
 use Rattle.bpf_machine.proofs.laws.stuck_by_traps.Goals as goal
 
 pub returns-clause-stuck : goal.returns-clause-stuck

@@ -1,5 +1,12 @@
+use Rattle.std.proofs.Common.{◌≡◌}
+use Rattle.bpf_machine.specs.Machine.{state_of}
 use Rattle.bpf_machine.specs.Run.{RunsTo}
 use Rattle.bpf_machine.proofs.run.run.Given as goal
 
 abbrev pub invariant-loop-taken : goal.invariant-loop-taken
-invariant-loop-taken l = RunsTo l.program l.taken l.state
+invariant-loop-taken l =
+    record {
+      there : RunsTo l.program l.env l.fn.memory l.taken (state_of l.state l.memory l.outbox.sent);
+      nodes : l.outbox.nodes ≡ l.env.shape.nodes;
+      same : l.outbox.nodes ≡ l.fn.outbox.nodes;
+    }

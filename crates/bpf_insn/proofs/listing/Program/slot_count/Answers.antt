@@ -1,6 +1,8 @@
-use Rattle.std.proofs.Common.{arith, ◌∙◌, ap, subst}
-use Rattle.bpf_insn.specs.Programs.{IsProgram, slots_of}
-use Rattle.bpf_insn.proofs.LayoutLaws.{first_found, slot_total}
+use Rattle.std.proofs.Common.{arith, ◌∙◌, ap, subst, List}
+use Rattle.std.specs.Prelude.{IsSome}
+use Rattle.bpf_insn.specs.declared.forms.Insn.{Insn}
+use Rattle.bpf_insn.specs.Programs.{slots_of, insn_at, insns_in}
+use Rattle.bpf_insn.proofs.LayoutLaws.{slot_total, first_slot}
 use Rattle.bpf_insn.proofs.listing.Program.slot_count.Goals as goal
 
 pub overflow_cast-result : goal.overflow_cast-result
@@ -12,4 +14,4 @@ returns-clause-count c =
     c.len.ensures ∙ c.self.inside.slots.ok.0 ∙ slot_total c.self.inside.slots.items c.self.invariant ∙ ap slots_of c.self.view_is
 
 pub returns-clause-first : goal.returns-clause-first
-returns-clause-first c = first_found c.args.self.now (subst IsProgram c.self.view_is c.self.invariant.program)
+returns-clause-first c = subst (λ (p : List Insn). IsSome (insn_at p 0)) c.self.view_is (first_slot (insns_in c.self.inside.slots.items) c.self.invariant.program)

@@ -1,0 +1,49 @@
+//! Command lines.
+use super::*;
+
+#[test]
+fn refuses_a_command_line(rt: HostRuntime) {
+    let lines: [&[&str]; 14] = [
+        &[],
+        &["clockbed"],
+        &["clockbed", "fly"],
+        &["clockbed", "exec", "more"],
+        &["clockbed", "exec", "--fuel"],
+        &["clockbed", "exec", "--fuel", "1000000001"],
+        &["clockbed", "exec", "--fuel", "-1"],
+        &["clockbed", "exec", "--fuel", "x"],
+        &["clockbed", "exec", "--nodes", "0"],
+        &["clockbed", "exec", "--nodes", "33"],
+        &["clockbed", "exec", "--nodes", "0x4"],
+        &["clockbed", "exec", "--memory", "7"],
+        &["clockbed", "exec", "--memory", "257"],
+        &["clockbed", "exec", "--memory", "4294967304"],
+    ];
+    for words in lines {
+        let got = run_on(rt.alloc(), words, SEVEN);
+        assert_eq!(rt; got.out.as_slice(), b"".as_slice());
+        assert!(rt; 1 < got.err.len() && got.err.as_slice().ends_with(b"\n"));
+        assert_eq!(rt; got.status, 1);
+    }
+}
+
+#[test]
+fn helps_on_standard_output(rt: HostRuntime) {
+    let lines: [&[&str]; 3] = [
+        &["clockbed", "--help"],
+        &["clockbed", "help"],
+        &["clockbed", "exec", "--help"],
+    ];
+    for words in lines {
+        let got = run_on(rt.alloc(), words, b"");
+        assert!(rt; 1 < got.out.len() && got.out.as_slice().ends_with(b"\n"));
+        assert_eq!(rt; got.err.as_slice(), b"".as_slice());
+        assert_eq!(rt; got.status, 0);
+    }
+    let mut input = b"".as_slice();
+    let mut out = Narrow::new(rt.alloc(), 3);
+    let mut err = Vec::new(rt.alloc());
+    let status = command(rt.alloc(), lines[0], &mut input, &mut out, &mut err);
+    assert_eq!(rt; err.as_slice(), b"fault write after 3\n".as_slice());
+    assert_eq!(rt; status, 1);
+}

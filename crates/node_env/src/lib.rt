@@ -1,0 +1,19 @@
+//! What a node's program sees of its surroundings in a pulse, and what it leaves there: shape, mail, coin and outbox.
+#![tactic(auto)]
+
+mod env;
+mod helper;
+mod mail;
+mod outbox;
+mod region;
+mod shape;
+
+pub use env::{Env, NO_MAIL};
+pub use helper::Helper;
+pub use mail::Mail;
+pub use outbox::Outbox;
+pub use region::{Region, STACK_BYTES};
+pub use shape::{MAX_MEMORY, MAX_NODES, MEMORY_UNIT, Shape};
+
+#[cfg(test)]
+mod tests;
