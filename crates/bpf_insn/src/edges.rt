@@ -41,6 +41,7 @@ pub fn distance(insn: &Insn) -> Option<i32>
     }
 }
 
+#[inline(always)]
 fn jump_slot(slot: u32, off: i32) -> Option<u64>
     ensures { result ≡ moved (slot + 1) off }
 {
@@ -53,6 +54,7 @@ fn jump_slot(slot: u32, off: i32) -> Option<u64>
     }
 }
 
+#[inline(always)]
 fn after(insn: Insn, slot: u32, way: Way) -> Option<u64>
     ensures { result ≡ next_edge insn slot way }
 {
@@ -62,6 +64,7 @@ fn after(insn: Insn, slot: u32, way: Way) -> Option<u64>
     }
 }
 
+#[inline(always)]
 fn after_jump(slot: u32, off: i32, way: Way) -> Option<u64>
     ensures { result ≡ jump_edge slot off way }
 {
@@ -71,6 +74,7 @@ fn after_jump(slot: u32, off: i32, way: Way) -> Option<u64>
     }
 }
 
+#[inline(always)]
 fn after_branch(slot: u32, off: i32, way: Way) -> Option<u64>
     ensures { result ≡ branch_edge slot off way }
 {
@@ -83,6 +87,7 @@ fn after_branch(slot: u32, off: i32, way: Way) -> Option<u64>
 /// The slot to which an instruction at `slot` leads on a way: `None` where it has no such way, as
 /// after EXIT, or where the jump goes below slot 0. It may lie past the end of a program, or in
 /// the middle of an instruction.
+#[inline(always)]
 pub fn target(insn: &Insn, slot: u32, way: Way) -> Option<u64>
     ensures { result ≡ target insn.now slot way }
 {

@@ -1,12 +1,12 @@
 //! Images of programs: their instructions as bytes (RFC 9669, section 3; docs/INSTRUCTIONS.md).
 
-ghost use Rattle.std.specs.Prelude.{◌≡◌, ◌≢◌, ◌<◌, ◌≤◌, ◌*◌, ◌++◌, ℕ, List, length, drop, IfOk, IfErr, OnOk, MatchResult};
+ghost use Rattle.std.specs.Prelude.{◌≡◌, ◌≢◌, ◌<◌, ◌≤◌, ◌*◌, ◌++◌, ℕ, List, [], length, drop, IfOk, IfErr, OnOk, MatchResult};
 ghost use Rattle.std.specs.List.{flat_map};
 ghost use Rattle.bpf_insn.specs.declared.forms.Insn.{Insn};
 ghost use Rattle.bpf_insn.specs.declared.listing.TheConstants.{MAX_SLOTS};
 ghost use Rattle.bpf_insn.specs.Encoding.{slots_taken, spelling};
 ghost use Rattle.bpf_insn.specs.Reading.{front_at};
-ghost use Rattle.bpf_insn.specs.Programs.{IsProgram, image_of, layout, spelling_at};
+ghost use Rattle.bpf_insn.specs.Programs.{IsProgram, image_of, layout, slots_by, spelling_at};
 ghost use Rattle.bpf_insn.specs.Images.{IsImage, RefusesImage};
 
 use crate::forms::Insn;
@@ -75,33 +75,77 @@ fn scan(bytes: &[u8]) -> Result<(), ImageError>
     ensures image { OnOk result (IsImage bytes.now) }
     ensures fault { IfErr result (RefusesImage bytes.now) }
 {
+    let mut count: u32 = 0;
+    let mut rest = bytes;
+    while !rest.is_empty() {
+        match next(rest) {
+            Ok((insn, after)) => {
+                count += insn.slots() as u32;
+                rest = after;
+            }
+            Err(fault) => return Err(ImageError::at(fault, count)),
+        }
+    }
+    Ok(())
+}
+
+/// The refusal of bytes for which memory was short: their fault, where they have one.
+fn short_of_memory(bytes: &[u8]) -> ImageError
+    requires some { 0 < length bytes.now }
+    requires few { length bytes.now ≤ 8 * MAX_SLOTS }
+    ensures { RefusesImage bytes.now result }
+{
+    match scan(bytes) {
+        Ok(()) => ImageError::Memory,
+        Err(error) => error,
+    }
+}
+
+/// Room for the slots of these bytes.
+fn room_for(alloc: Global, bytes: &[u8]) -> Result<Vec<Option<Insn>>, ImageError>
+    requires some { 0 < length bytes.now }
+    requires few { length bytes.now ≤ 8 * MAX_SLOTS }
+    ensures empty { IfOk result (λ slots. slots.items ≡ []) }
+    ensures refusal { IfErr result (RefusesImage bytes.now) }
+{
+    match Vec::with_capacity(alloc, bytes.len() / 8) {
+        Ok(slots) => Ok(slots),
+        Err(_) => Err(short_of_memory(bytes)),
+    }
+}
+
+/// Adds the slots of an instruction that these bytes hold.
+fn keep(slots: &mut Vec<Option<Insn>>, insn: Insn, bytes: &[u8]) -> Result<(), ImageError>
+    requires some { 0 < length bytes.now }
+    requires few { length bytes.now ≤ 8 * MAX_SLOTS }
+    ensures kept { OnOk result (slots.new.items ≡ slots.old.items ++ slots_by insn) }
+    ensures refusal { IfErr result (RefusesImage bytes.now) }
+{
+    match push_slots(slots, insn) {
+        Ok(()) => Ok(()),
+        Err(_) => Err(short_of_memory(bytes)),
+    }
+}
+
+/// The slots of the program whose image these bytes are.
+fn slots_in(alloc: Global, bytes: &[u8]) -> Result<Vec<Option<Insn>>, ImageError>
+    requires some { 0 < length bytes.now }
+    requires few { length bytes.now ≤ 8 * MAX_SLOTS }
+    ensures program { IfOk result (λ slots. (program : List Insn) × IsProgram program × (bytes.now ≡ image_of program) × (slots.items ≡ layout program)) }
+    ensures refusal { IfErr result (RefusesImage bytes.now) }
+{
+    let mut slots = room_for(alloc, bytes)?;
     let mut slot: u32 = 0;
     let mut rest = bytes;
     while !rest.is_empty() {
         match next(rest) {
             Ok((insn, after)) => {
                 slot += insn.slots() as u32;
+                keep(&mut slots, insn, bytes)?;
                 rest = after;
             }
             Err(fault) => return Err(ImageError::at(fault, slot)),
         }
-    }
-    Ok(())
-}
-
-/// The slots of the program whose image these bytes are.
-fn slots_in(alloc: Global, bytes: &[u8]) -> Result<Vec<Option<Insn>>, AllocError>
-    requires { IsImage bytes.now }
-    ensures { IfOk result (λ slots. (program : List Insn) × IsProgram program × (bytes.now ≡ image_of program) × (slots.items ≡ layout program)) }
-{
-    let mut slots = Vec::with_capacity(alloc, bytes.len() / 8)?;
-    let mut rest = bytes;
-    while !rest.is_empty() {
-        let Ok((insn, after)) = next(rest) else {
-            unreachable!()
-        };
-        push_slots(&mut slots, insn)?;
-        rest = after;
     }
     Ok(slots)
 }
@@ -116,13 +160,12 @@ fn program_in(alloc: Global, bytes: &[u8]) -> Result<Program, ImageError>
     if bytes.len() > 8 * MAX_SLOTS {
         return Err(ImageError::TooLong);
     }
-    scan(bytes)?;
     Ok(Program {
         slots: slots_in(alloc, bytes)?,
     })
 }
 
-/// The program of an image. The bytes are read once before memory is asked for.
+/// The program of an image. A fault is told where memory is short too.
 pub fn decode(alloc: Global, bytes: &[u8]) -> Result<Program, ImageError>
     ensures program { IfOk result (λ p. IsProgram p × (bytes.now ≡ image_of p)) }
     ensures refusal { IfErr result (RefusesImage bytes.now) }

@@ -77,6 +77,7 @@ fn lay_out(alloc: Global, insns: &[Insn], count: usize) -> Result<Vec<Option<Ins
     Ok(slots)
 }
 
+#[inline(always)]
 fn look_up(slots: &[Option<Insn>], slot: usize) -> Option<Insn>
     ensures { result ≡ inner (slice_get slots.now slot) }
 {
@@ -112,6 +113,7 @@ impl Program {
     ghost use Rattle.bpf_insn.specs.Programs.{insn_at, slots_of, IsProgram};
 
     /// The number of its slots: a wide instruction has two.
+    #[inline(always)]
     pub fn slot_count(&self) -> u32
         ensures count { result ≡ slots_of self.now }
         ensures program { IsProgram self.now }
@@ -121,6 +123,7 @@ impl Program {
     }
 
     /// The instruction that begins at a slot: none at the second slot of a wide one, and none past the end.
+    #[inline(always)]
     pub fn insn_at(&self, slot: u32) -> Option<Insn>
         ensures found { result ≡ insn_at self.now slot }
         ensures within { IfSome result (λ insn. slot + slots_taken insn ≤ slots_of self.now) }

@@ -3,8 +3,8 @@
 ghost use Rattle.std.specs.Prelude.{◌≡◌, ◌≤◌, ◌*◌, length};
 ghost use Rattle.bpf_insn.specs.Opcodes.{is_wide, opcode_slots};
 ghost use Rattle.bpf_insn.specs.Registers.{register_at};
-ghost use Rattle.bpf_insn.specs.Reading.{found, slot_at, high_at, op_at, operand_at, kind_at, move_at, alu_insn_at, swap_bits_at, swap_by, form_at, front_at};
-ghost use Rattle.bpf_insn.specs.Encoding.{slot_of, register_in, immediate_in, offset_of, extended_bits, swapped_bits};
+ghost use Rattle.bpf_insn.specs.Reading.{found, unless, slot_at, high_at, op_at, operand_at, kind_at, move_at, alu_insn_at, swap_bits_at, swap_by, form_at, front_at};
+ghost use Rattle.bpf_insn.specs.Encoding.{has_stray_field, slot_of, register_in, immediate_in, offset_of, extended_bits, swapped_bits};
 
 use crate::forms::{
     AluOp, Cond, Insn, MovsxKind, Operand, Order, Reg, Size, SwapBits, SxSize, Width,
@@ -32,7 +32,8 @@ pub enum SlotFault {
 }
 
 impl Slot {
-    ghost use Rattle.std.specs.Prelude.{◌≡◌};
+    ghost use Rattle.std.specs.Prelude.{◌≡◌, IfOk, IfErr, true, false};
+    ghost use Rattle.bpf_insn.specs.declared.slot.SlotFault.TheVariants as SlotFault;
     ghost use Rattle.bpf_insn.specs.Encoding.{slot_bytes, has_stray_field, slot_of};
 
     /// The slot as bytes.
@@ -55,6 +56,7 @@ impl Slot {
     }
 
     /// Whether some field holds what it may not.
+    #[inline(always)]
     pub fn has_stray_field(self) -> bool
         ensures { result ≡ has_stray_field self }
     {
@@ -63,6 +65,18 @@ impl Slot {
             || uses.src.is_stray(u32::from(self.src.number()))
             || uses.offset.is_stray(u32::from(self.offset.cast_unsigned()))
             || uses.imm.is_stray(self.imm.cast_unsigned())
+    }
+
+    /// Itself, where no field holds what it may not.
+    #[inline(always)]
+    fn clean(self) -> Result<Slot, SlotFault>
+        ensures same { IfOk result (λ slot. (slot ≡ self) × (has_stray_field self ≡ false)) }
+        ensures stray { IfErr result (λ fault. (has_stray_field self ≡ true) × (fault ≡ SlotFault.NonZeroField)) }
+    {
+        if self.has_stray_field() {
+            return Err(SlotFault::NonZeroField);
+        }
+        Ok(self)
     }
 
     /// The first slot of an instruction.
@@ -409,38 +423,44 @@ fn store_reg_insn(size: Size, slot: Slot) -> Insn
     }
 }
 
-/// The instruction of a slot whose unused fields are zero.
+/// The instruction of a slot. Each form asks for a clean slot by itself: a test before the match would be compiled to a second match.
 fn insn_of(slot: Slot, high: u32) -> Result<Insn, SlotFault>
-    ensures { result ≡ form_at slot.opcode slot high }
+    ensures { result ≡ unless (has_stray_field slot) SlotFault.NonZeroField (form_at slot.opcode slot high) }
 {
     match slot.opcode {
         Opcode::Alu {
             code,
             width,
             source,
-        } => alu_insn(code, width, source, slot),
+        } => alu_insn(code, width, source, slot.clean()?),
         Opcode::Neg { width } => Ok(Insn::Neg {
             width,
-            dst: slot.dst,
+            dst: slot.clean()?.dst,
         }),
-        Opcode::Swap { order } => swap_insn(order, slot),
-        Opcode::Ja => Ok(Insn::Ja { off: slot.offset }),
-        Opcode::JaLong => Ok(Insn::JaLong { off: slot.imm }),
+        Opcode::Swap { order } => swap_insn(order, slot.clean()?),
+        Opcode::Ja => Ok(Insn::Ja {
+            off: slot.clean()?.offset,
+        }),
+        Opcode::JaLong => Ok(Insn::JaLong {
+            off: slot.clean()?.imm,
+        }),
         Opcode::Branch {
             cond,
             width,
             source,
-        } => Ok(branch_insn(cond, width, source, slot)),
-        Opcode::Call => Ok(Insn::Call { id: slot.imm }),
-        Opcode::Exit => Ok(Insn::Exit),
+        } => Ok(branch_insn(cond, width, source, slot.clean()?)),
+        Opcode::Call => Ok(Insn::Call {
+            id: slot.clean()?.imm,
+        }),
+        Opcode::Exit => slot.clean().map(|_| Insn::Exit),
         Opcode::LoadImm64 => Ok(Insn::LoadImm64 {
-            dst: slot.dst,
+            dst: slot.clean()?.dst,
             value: (u64::from(high) << 32) + u64::from(slot.imm.cast_unsigned()),
         }),
-        Opcode::Load { size } => Ok(load_insn(size, slot)),
-        Opcode::LoadSx { size } => Ok(load_sx_insn(size, slot)),
-        Opcode::StoreImm { size } => Ok(store_imm_insn(size, slot)),
-        Opcode::StoreReg { size } => Ok(store_reg_insn(size, slot)),
+        Opcode::Load { size } => Ok(load_insn(size, slot.clean()?)),
+        Opcode::LoadSx { size } => Ok(load_sx_insn(size, slot.clean()?)),
+        Opcode::StoreImm { size } => Ok(store_imm_insn(size, slot.clean()?)),
+        Opcode::StoreReg { size } => Ok(store_reg_insn(size, slot.clean()?)),
     }
 }
 
@@ -458,8 +478,5 @@ pub fn front(bytes: &[u8]) -> Result<Insn, SlotFault>
     }
     let slot = slot_of_bytes(opcode, bytes)?;
     let high = high_half(opcode, bytes)?;
-    if slot.has_stray_field() {
-        return Err(SlotFault::NonZeroField);
-    }
     insn_of(slot, high)
 }

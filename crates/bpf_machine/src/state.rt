@@ -60,6 +60,7 @@ impl State {
 
     /// What a register holds.
     #[tactic(auto, using(node_env::proofs::Slots::slots))]
+    #[inline(always)]
     pub(crate) fn word(&self, register: Reg) -> Result<Word, TrapKind>
         ensures { result ≡ word_of self.now register }
     {
@@ -67,6 +68,7 @@ impl State {
     }
 
     /// What an operand is.
+    #[inline(always)]
     pub(crate) fn operand(&self, operand: Operand) -> Result<Word, TrapKind>
         ensures { result ≡ operand_of self.now operand }
     {
@@ -77,12 +79,14 @@ impl State {
     }
 
     #[tactic(auto, using(node_env::proofs::Slots::slots))]
+    #[inline(always)]
     pub(crate) fn set_register(&mut self, register: Reg, word: Word)
         ensures { self.new ≡ with_register self.old register word }
     {
         self.registers[register.number() as usize] = Some(word);
     }
 
+    #[inline(always)]
     pub(crate) fn go_to(&mut self, slot: u32)
         ensures { self.new ≡ record self.old { slot = slot } }
     {
@@ -143,6 +147,7 @@ impl State {
 }
 
 /// The number that a word is, or else the trap.
+#[inline(always)]
 pub(crate) fn number(word: Word, trap: TrapKind) -> Result<u64, TrapKind>
     ensures { result ≡ number_in trap word }
 {
@@ -153,6 +158,7 @@ pub(crate) fn number(word: Word, trap: TrapKind) -> Result<u64, TrapKind>
 }
 
 /// The register, where it may be written: all but R10.
+#[inline(always)]
 pub(crate) fn writable(register: Reg) -> Result<Reg, TrapKind>
     ensures { result ≡ writable register }
 {

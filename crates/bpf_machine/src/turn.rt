@@ -15,6 +15,7 @@ use bpf_insn::{Insn, Program, Reg, Way, holds, target};
 use node_env::{Env, Outbox};
 
 /// The way on.
+#[inline(always)]
 fn way_of(state: &State, insn: &Insn) -> Result<Way, TrapKind>
     ensures { result ≡ way_of state.now insn.now }
 {
@@ -51,6 +52,7 @@ fn way_of(state: &State, insn: &Insn) -> Result<Way, TrapKind>
     }
 }
 
+#[inline(always)]
 fn begins(program: &Program, slot: u64) -> Result<u32, TrapKind>
     ensures { result ≡ begins program.now slot }
 {
@@ -63,6 +65,7 @@ fn begins(program: &Program, slot: u64) -> Result<u32, TrapKind>
     }
 }
 
+#[inline(always)]
 fn next_slot(program: &Program, insn: &Insn, state: &State) -> Result<u32, TrapKind>
     ensures { result ≡ next_slot program.now insn.now state.now }
 {
@@ -72,6 +75,7 @@ fn next_slot(program: &Program, insn: &Insn, state: &State) -> Result<u32, TrapK
 }
 
 /// What an instruction does but for the slot.
+#[inline(always)]
 fn effect(
     env: &Env,
     insn: &Insn,
@@ -126,6 +130,7 @@ fn effect(
 }
 
 /// Runs an instruction that leads to another.
+#[inline(always)]
 fn advance(
     program: &Program,
     env: &Env,
@@ -152,6 +157,7 @@ fn result_of_exit(state: &State) -> Result<u64, TrapKind>
     number(word, TrapKind::ExitNotNumber)
 }
 
+#[inline(always)]
 fn turn(
     program: &Program,
     env: &Env,

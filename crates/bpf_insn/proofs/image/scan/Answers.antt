@@ -4,8 +4,8 @@ use Rattle.bpf_insn.proofs.ImageLaws.{IsRead, read_more, read_fault, read_whole,
 use Rattle.bpf_insn.proofs.LayoutLaws.{one_or_two}
 use Rattle.bpf_insn.proofs.image.scan.Goals as goal
 
-pub overflow_add-slot : goal.overflow_add-slot
-overflow_add-slot c =
+pub overflow_add-count : goal.overflow_add-count
+overflow_add-count c =
     let read = c.loop-rest.invariant in
     omega (arith, slots_below c.args.bytes.now read.0 c.loop-rest.rest.now read.1 c.requires.few, read.2, c.slots.ensures.count, one_or_two c.in-Ok.insn)
 
@@ -23,8 +23,8 @@ returns-in-Err-clause-fault c =
     let read = c.loop-rest.invariant in
     let left = some_left c.loop-rest.rest.now c.loop-rest-test.ensures in
     subst (RefusesImage c.args.bytes.now) (sym c.at.ensures)
-    (refuses_at c.args.bytes.now c.loop-rest.slot c.in-Err.fault
-    (c.requires.few, read_fault c.args.bytes.now read.0 c.loop-rest.rest.now c.in-Err.fault c.loop-rest.slot read.1 read.2 left c.in-Err.ensures.fault))
+    (refuses_at c.args.bytes.now c.loop-rest.count c.in-Err.fault
+    (c.requires.few, read_fault c.args.bytes.now read.0 c.loop-rest.rest.now c.in-Err.fault c.loop-rest.count read.1 read.2 left c.in-Err.ensures.fault))
 
 pub returns-clause-image : goal.returns-clause-image
 returns-clause-image c =

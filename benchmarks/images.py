@@ -1,0 +1,96 @@
+#!/usr/bin/env python3
+"""Writes an image for a benchmark: images.py NAME > IMAGE. The names are in README.md."""
+import struct
+import sys
+
+SLOTS = 1024
+ALU_CODES = (0x0, 0x1, 0x2, 0x3, 0x4, 0x5, 0x6, 0x7, 0x9, 0xA, 0xC)
+CONDITIONS = (0x1, 0x2, 0x3, 0x4, 0x5, 0x6, 0x7, 0xA, 0xB, 0xC, 0xD)
+MOV64_K, MOV64_X, EXIT = 0xB7, 0xBF, 0x95
+
+
+def slot(opcode, dst=0, src=0, off=0, imm=0):
+    return struct.pack("<BBhi", opcode, dst | src << 4, off, imm)
+
+
+def alu_forms():
+    """Each arithmetic form once, its registers and numbers varied from call to call."""
+    for code in ALU_CODES:
+        for width in (4, 7):
+            for off in (0, 1) if code in (3, 9) else (0,):
+                yield lambda k, o=code << 4 | width, off=off: slot(o, dst=k % 10, off=off, imm=k * 7919 % 100000 - 50000)
+                yield lambda k, o=code << 4 | 8 | width, off=off: slot(o, dst=k % 10, src=k // 3 % 11, off=off)
+    for width, sizes in ((4, (8, 16)), (7, (8, 16, 32))):
+        yield lambda k, o=0x80 | width: slot(o, dst=k % 10)
+        yield lambda k, o=0xB0 | width: slot(o, dst=k % 10, imm=-k)
+        for off in (0, *sizes):
+            yield lambda k, o=0xB8 | width, off=off: slot(o, dst=k % 10, src=k % 11, off=off)
+    for opcode in (0xD4, 0xDC, 0xD7):
+        for bits in (16, 32, 64):
+            yield lambda k, o=opcode, bits=bits: slot(o, dst=k % 10, imm=bits)
+
+
+def other_forms():
+    """Each other form once."""
+    yield lambda k: slot(0x05, off=k % 50)
+    yield lambda k: slot(0x06, imm=k % 50)
+    yield lambda k: slot(0x85, imm=1 + k % 4)
+    yield lambda k: slot(EXIT)
+    yield lambda k: slot(0x18, dst=k % 10, imm=k * 65537) + slot(0, imm=-k)
+    for code in CONDITIONS:
+        for width in (5, 6):
+            yield lambda k, o=code << 4 | width: slot(o, dst=k % 11, off=k % 9, imm=-k)
+            yield lambda k, o=code << 4 | 8 | width: slot(o, dst=k % 11, src=k % 10, off=k % 9)
+    for opcode in (0x61, 0x69, 0x71, 0x79, 0x81, 0x89, 0x91):
+        yield lambda k, o=opcode: slot(o, dst=k % 10, src=k % 11, off=-(k % 64))
+    for opcode in (0x62, 0x6A, 0x72, 0x7A):
+        yield lambda k, o=opcode: slot(o, dst=k % 11, off=k % 64, imm=k)
+    for opcode in (0x63, 0x6B, 0x73, 0x7B):
+        yield lambda k, o=opcode: slot(o, dst=k % 11, src=k % 10, off=k % 64)
+
+
+def decoding(forms):
+    """A whole image of the forms in a scattered order that is always the same; its first slot is `mov64 r0, 0`."""
+    image, state = slot(MOV64_K), 1
+    while len(image) < 8 * SLOTS:
+        state = (state * 1103515245 + 12345) % 2**31
+        piece = forms[(state >> 16) % len(forms)](len(image) // 8)
+        image += piece if len(image) + len(piece) <= 8 * SLOTS else slot(EXIT)
+    return image
+
+
+def machine_loop(body):
+    """`body` over and over, by a jump back that is always taken."""
+    head = slot(MOV64_K, 0, imm=1) + slot(MOV64_K, 3, imm=12345) + slot(MOV64_K, 4, imm=7)
+    return head + body + slot(0x05, off=-(len(body) // 8) - 1)
+
+
+def arithmetic_loop():
+    """Straight-line arithmetic of 64 and 32 bits, 40 instructions and the jump."""
+    piece = (slot(0x07, 3, imm=77) + slot(0x0F, 3, 4) + slot(0xAF, 4, 3) + slot(0x67, 4, imm=3) + slot(0x27, 3, imm=31)
+             + slot(0x1C, 4, 3) + slot(0x54, 4, imm=0xFFFFFF) + slot(0x77, 3, imm=5) + slot(0x4F, 3, 4) + slot(0xB7, 5, imm=9))
+    return machine_loop(4 * piece)
+
+
+def memory_loop():
+    """Stores and loads of all sizes in memory and on the stack, 20 instructions and the jump."""
+    piece = b"".join(
+        slot(store, 1, 3, off=8) + slot(load, 5, 1, off=8) + slot(store, 10, 4, off=-16) + slot(load, 6, 10, off=-16)
+        for store, load in ((0x73, 0x71), (0x6B, 0x69), (0x63, 0x61), (0x7B, 0x79))
+    )
+    rest = slot(0x7A, 10, off=-8, imm=-5) + slot(0x91, 7, 10, off=-8) + slot(0x81, 8, 10, off=-8) + slot(0x72, 1, off=15, imm=6)
+    return machine_loop(piece + rest)
+
+
+IMAGES = {
+    "alu": lambda: decoding(list(alu_forms())),
+    "all": lambda: decoding([*alu_forms(), *other_forms()]),
+    "jump": lambda: machine_loop(b""),
+    "arithmetic": arithmetic_loop,
+    "memory": memory_loop,
+}
+
+if __name__ == "__main__":
+    if len(sys.argv) != 2 or sys.argv[1] not in IMAGES:
+        sys.exit(f"usage: images.py {'|'.join(IMAGES)} > IMAGE")
+    sys.stdout.buffer.write(IMAGES[sys.argv[1]]())

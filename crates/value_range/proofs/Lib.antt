@@ -1,0 +1,4 @@
+pub mod InTable
+pub mod InBranch
+pub mod Growing
+pub mod GrowingPairs

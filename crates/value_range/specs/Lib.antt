@@ -1,0 +1,3 @@
+pub mod Span
+pub mod Results
+pub mod Conditions
