@@ -82,12 +82,48 @@ def memory_loop():
     return machine_loop(piece + rest)
 
 
+def filled(head, piece, slots):
+    """`head`, as many pieces as there is room for, and filling moves before `exit`: so many slots in all."""
+    room = slots - len(head) // 8 - 1
+    count, rest = divmod(room, len(piece) // 8)
+    return head + count * piece + rest * slot(MOV64_K, 9, imm=1) + slot(EXIT)
+
+
+def straight(slots):
+    """Arithmetic, stores and loads without a jump."""
+    piece = (slot(0x71, 3, 1, off=5) + slot(0x07, 3, imm=77) + slot(0x57, 3, imm=255) + slot(0xBF, 4, 3) + slot(0x27, 4, imm=3)
+             + slot(0x7B, 10, 4, off=-16) + slot(0x79, 5, 10, off=-16) + slot(0x77, 5, imm=9) + slot(0x4F, 5, 3) + slot(0xBF, 0, 5))
+    return filled(slot(MOV64_K, 0, imm=0), piece, slots)
+
+
+def branchy(slots):
+    """A condition in every four slots, each of which may hold, and what its two ways know meets behind it."""
+    piece = slot(0x71, 3, 1, off=5) + slot(0x25, 3, off=2, imm=100) + slot(0x0F, 0, 3) + slot(0x72, 10, off=-8, imm=1)
+    return filled(slot(MOV64_K, 0, imm=0), piece, slots)
+
+
+def clock(nodes):
+    """The clock program of so many nodes (27 + 7 * nodes slots), with all but one as its quorum."""
+    head = (slot(MOV64_X, 6, 1) + slot(0x61, 7, 6) + slot(0xA5, 7, off=1, imm=16) + slot(MOV64_K, 7) + slot(MOV64_K, 8))
+    hear = b"".join(slot(MOV64_K, 1, imm=j) + slot(0x85, imm=2) + slot(0x5D, 0, 7, off=1) + slot(0x07, 8, imm=1) for j in range(nodes))
+    decide = (slot(0x35, 8, off=3, imm=max(1, nodes - 1)) + slot(MOV64_K, 7) + slot(MOV64_K, 9) + slot(0x05, off=14)
+              + slot(0x55, 7, off=9) + slot(0x61, 9, 6, off=4) + slot(0x55, 9, off=4) + slot(0x85, imm=4) + slot(MOV64_X, 7, 0)
+              + slot(MOV64_X, 9, 0) + slot(0x05, off=7) + slot(MOV64_K, 7, imm=1) + slot(MOV64_K, 9, imm=1) + slot(0x05, off=4)
+              + slot(0x07, 7, imm=1) + slot(MOV64_K, 9, imm=1) + slot(0xA5, 7, off=1, imm=16) + slot(MOV64_K, 7)
+              + slot(0x63, 6, 7) + slot(0x63, 6, 9, off=4))
+    tell = b"".join(slot(MOV64_K, 1, imm=j) + slot(MOV64_X, 2, 7) + slot(0x85, imm=3) for j in range(nodes))
+    return head + hear + decide + tell + slot(MOV64_K, 0) + slot(EXIT)
+
+
 IMAGES = {
     "alu": lambda: decoding(list(alu_forms())),
     "all": lambda: decoding([*alu_forms(), *other_forms()]),
     "jump": lambda: machine_loop(b""),
     "arithmetic": arithmetic_loop,
     "memory": memory_loop,
+    **{f"straight-{slots}": lambda slots=slots: straight(slots) for slots in (64, 256, 1024)},
+    **{f"branchy-{slots}": lambda slots=slots: branchy(slots) for slots in (64, 256, 1024)},
+    **{f"clock-{27 + 7 * nodes}": lambda nodes=nodes: clock(nodes) for nodes in (4, 16, 32)},
 }
 
 if __name__ == "__main__":

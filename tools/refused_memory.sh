@@ -13,5 +13,5 @@ cc -shared -fPIC -O1 -o "$room/refused_memory.so" "$top/tools/refused_memory.c" 
 for request in $(seq 1 "${REQUESTS:-60}"); do
   status=0
   REFUSE=$request LD_PRELOAD=$room/refused_memory.so "$top/crates/clockbed/out/clockbed" "$@" < "$input" > "$room/out" 2> "$room/err" || status=$?
-  echo "status $status, output '$(head -n 1 "$room/out")', errors '$(head -n 1 "$room/err")'"
+  echo "status $status, output '$(head -n 1 "$room/out" | tr -d '\0')', errors '$(head -n 1 "$room/err")'"
 done | uniq -c

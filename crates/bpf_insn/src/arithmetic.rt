@@ -14,6 +14,7 @@ fn low32(value: u64) -> u32
     (value & 0xffff_ffff) as u32
 }
 
+#[inline(always)]
 fn alu32(op: AluOp, a: u32, b: u32) -> u32
     ensures { result ≡ plain_result op W32 a b % 2 ^ 32 }
 {
@@ -91,6 +92,7 @@ fn arsh64(a: u64, b: u64) -> u64
     (a.cast_signed() >> (b % 64)).cast_unsigned()
 }
 
+#[inline(always)]
 fn alu64(op: AluOp, a: u64, b: u64) -> u64
     ensures { result ≡ plain_result op W64 a b % 2 ^ 64 }
 {
@@ -114,6 +116,7 @@ fn alu64(op: AluOp, a: u64, b: u64) -> u64
 
 /// The result of an operation (RFC 9669, section 4.1). In 32 bits it looks at the low halves, and
 /// the upper half of the result is 0. Each division is defined, also by 0.
+#[inline(always)]
 pub fn alu(op: AluOp, width: Width, a: u64, b: u64) -> u64
     ensures { result ≡ alu_result op width a b }
 {

@@ -81,6 +81,43 @@ pub enum SxSize {
     W,
 }
 
+impl Size {
+    ghost use Rattle.std.specs.Prelude.{◌≡◌, ◌≤◌};
+    ghost use Rattle.bpf_insn.specs.Operands.{access_bytes};
+
+    /// The bytes that an access takes.
+    #[inline(always)]
+    pub fn bytes(self) -> u32
+        ensures count { result ≡ access_bytes self }
+        ensures few { result ≤ 8 }
+    {
+        match self {
+            Size::B => 1,
+            Size::H => 2,
+            Size::W => 4,
+            Size::Dw => 8,
+        }
+    }
+}
+
+impl SxSize {
+    ghost use Rattle.std.specs.Prelude.{◌≡◌, ◌≤◌};
+    ghost use Rattle.bpf_insn.specs.Operands.{sx_access_bytes};
+
+    /// The bytes that a load takes.
+    #[inline(always)]
+    pub fn bytes(self) -> u32
+        ensures count { result ≡ sx_access_bytes self }
+        ensures few { result ≤ 8 }
+    {
+        match self {
+            SxSize::B => 1,
+            SxSize::H => 2,
+            SxSize::W => 4,
+        }
+    }
+}
+
 /// The condition of a branch (RFC 9669, section 4.3): `Set` is that the operands have a bit in common, and `S` stands for signed.
 #[derive(Clone, Copy, Debug, PartialEq, Eq)]
 pub enum Cond {

@@ -1,6 +1,8 @@
 pub mod ByteSteps
+pub mod NumberWords
 pub mod LowestTrap
 pub mod StepCases
+pub mod StackCells
 pub mod TrapTable
 pub mod Stuck
 pub mod OneRun

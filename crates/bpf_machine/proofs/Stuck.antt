@@ -1,11 +1,10 @@
 -- A state is stuck exactly where a trap applies.
-use Rattle.std.proofs.Common.{◌≡◌, ℕ, ◌<◌, ◌≤◌, length, Bool, true, false, List, Option, Some, None, Result, Ok, Err, refl, sym, ap, subst, ◌∙◌, arith, inl, inr}
+use Rattle.std.proofs.Common.{◌≡◌, ◌<◌, length, Bool, true, false, List, Option, Some, None, Result, Ok, Err, refl, sym, ap, subst, ◌∙◌, arith}
 use Rattle.std.specs.Prelude.{find}
 use Rattle.std.specs.Result.{result_err}
 use Rattle.node_env.specs.Env.{Setting}
 use Rattle.bpf_insn.specs.declared.forms.Insn.{Insn}
-use Rattle.bpf_insn.specs.Programs.{insn_at, slots_of}
-use Rattle.bpf_insn.proofs.LayoutLaws.{insn_at_within, one_or_two}
+use Rattle.bpf_insn.specs.Programs.{insn_at}
 use Rattle.bpf_machine.specs.declared.word.TrapKind.{TrapKind}
 use Rattle.bpf_machine.specs.declared.word.TrapKind.TheVariants.{BadJump, BadHelper, Unset, FrameWrite, NotNumber, OutOfRegion, UnsetByte, BadArgument, NotPointer, ExitNotNumber}
 use Rattle.bpf_machine.specs.declared.word.Turn.{Turn}
@@ -99,15 +98,3 @@ pub turn_of : (program : List Insn) (env : Setting) (old new : MachineState) (an
 turn_of program env old new turn.Next whole comes = comes
 turn_of program env old new (turn.Ended r0) whole comes = comes
 turn_of program env old new (turn.Trap kind) whole comes = (stuck_by_trap program env old kind whole (step_err program env old kind whole comes.0), comes.1)
-
--- past its end a program has no instruction
-pub past_end : (program : List Insn) (slot : ℕ) → slots_of program ≤ slot → insn_at program slot ≡ None
-past_end program slot past = by (insn_at program slot) refl
-  where
-    by : (o : Option Insn) → insn_at program slot ≡ o → o ≡ None
-    by None e = refl
-    by (Some i) e =
-        elim (one_or_two i) [
-          | inl one ↦ absurd (omega (arith, insn_at_within program slot i e, one))
-          | inr two ↦ absurd (omega (arith, insn_at_within program slot i e, two))
-        ]

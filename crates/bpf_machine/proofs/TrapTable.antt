@@ -34,8 +34,9 @@ use Rattle.bpf_machine.specs.declared.word.Word.TheVariants.{Num, Ptr}
 use Rattle.bpf_machine.specs.declared.word.TrapKind.{TrapKind}
 use Rattle.bpf_machine.specs.declared.word.TrapKind.TheVariants.{NotNumber, OutOfRegion, UnsetByte, NotPointer}
 use Rattle.bpf_machine.specs.Machine.{Frame, MachineState}
-use Rattle.bpf_machine.specs.Step.{Bytes, access_bytes, sx_access_bytes, alu, alu_word, execute, loaded, of_numbers, operand_of, operate, store}
-use Rattle.bpf_machine.specs.Traps.{access_leaves, alu_reads, applies_to, is_number, is_pointer, is_unset, misuses_pointer, operand_reads, operand_word, sum_leaves, word_misses}
+use Rattle.bpf_insn.specs.Operands.{access_bytes, sx_access_bytes, alu_reads, operand_reads}
+use Rattle.bpf_machine.specs.Step.{Bytes, alu, alu_word, execute, loaded, of_numbers, operand_of, operate, store}
+use Rattle.bpf_machine.specs.Traps.{access_leaves, applies_to, is_number, is_pointer, is_unset, misuses_pointer, operand_word, sum_leaves, word_misses}
 use Rattle.bpf_machine.proofs.LowestTrap.{kinds}
 use Rattle.bpf_machine.proofs.StepCases.{unset, number, place, word_case, no_helper, some_helper, helper_case, yes, no, bool_case, is_pos, is_neg, int_case, no_slot, some_slot, slot_case, gives, fails, outcome, known, unknown, operand_case, written, unwritten, stack_case, memory_read}
 

@@ -1,4 +1,5 @@
 pub mod Machine
+pub mod Cells
 pub mod Codes
 pub mod Step
 pub mod Traps

@@ -1,12 +1,18 @@
 -- What the parts of the interpreter give.
-use Rattle.std.specs.Prelude.{◌≡◌, ◌≤◌, ℕ, Result, Ok, Err}
+use Rattle.std.specs.Prelude.{◌≡◌, ◌≤◌, ◌+◌, ℕ, ℤ, List, Result, Ok, Err}
 use Rattle.node_env.specs.declared.region.TheConstants.{STACK_BYTES}
+use Rattle.node_env.specs.Env.{Setting}
 use Rattle.node_env.specs.declared.region.Region.{Region}
 use Rattle.node_env.specs.declared.region.Region.TheVariants.{Mem, Stack}
+use Rattle.bpf_insn.specs.declared.forms.Insn.{Insn}
+use Rattle.bpf_insn.specs.Edges.{moved}
+use Rattle.bpf_machine.specs.declared.word.Word.{Word}
 use Rattle.bpf_machine.specs.declared.word.TrapKind.{TrapKind}
+use Rattle.bpf_machine.specs.declared.word.TrapKind.TheVariants.{BadJump}
 use Rattle.bpf_machine.specs.declared.word.Turn.{Turn}
 use Rattle.bpf_machine.specs.declared.word.Turn.TheVariants as turn
 use Rattle.bpf_machine.specs.Machine.{MachineState, Phase, Running, Ended}
+use Rattle.bpf_machine.specs.Step.{◌>>=◌, Bytes, begins, needed, place, stored}
 
 -- a part that goes on has made what is given, and one that traps has changed nothing
 abbrev pub Does : {S A : Type 0} → Result S TrapKind → S → S → Result A TrapKind → Type 0
@@ -23,3 +29,15 @@ Comes given old new (turn.Trap trap) = (given ≡ Err trap) × (new ≡ old)
 abbrev pub HasBytes : ℕ → Region → ℕ → Type 0
 HasBytes memory Mem count = count ≤ memory
 HasBytes memory Stack count = count ≤ STACK_BYTES
+
+-- where a jump from a slot leads
+abbrev pub jump : List Insn → ℕ → ℤ → Result ℕ TrapKind
+jump program slot off = do
+  to ← needed BadJump (moved (slot + 1) off)
+  begins program to
+
+-- a store of so many bytes
+abbrev pub store_bytes : Setting → ℕ → Word → ℤ → ℕ → Bytes → Result Bytes TrapKind
+store_bytes env count base off n b = do
+  at ← place env base off count
+  Ok (stored b at.0 at.1 count n)

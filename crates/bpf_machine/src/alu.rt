@@ -96,7 +96,9 @@ fn move_operand(state: &mut State, width: Width, dst: Reg, src: Operand) -> Resu
     Ok(())
 }
 
-fn operate(
+#[cold]
+#[inline(never)]
+fn operate_on_words(
     env: &Env,
     state: &mut State,
     op: AluOp,
@@ -111,6 +113,30 @@ fn operate(
     let register = writable(dst)?;
     let word = alu_word(env, op, width, a, b)?;
     state.set_register(register, word);
+    Ok(())
+}
+
+/// The words are numbers, nearly always: then regions don't matter.
+#[tactic(auto, using(crate::proofs::NumberWords::of_two_numbers))]
+#[inline(always)]
+fn operate(
+    env: &Env,
+    state: &mut State,
+    op: AluOp,
+    width: Width,
+    dst: Reg,
+    src: Operand,
+) -> Result<(), TrapKind>
+    ensures { Does (operate env.now op width dst src state.old) state.old state.new result }
+{
+    let Some(a) = state.number_of(dst) else {
+        return operate_on_words(env, state, op, width, dst, src);
+    };
+    let Some(b) = state.operand_number(src) else {
+        return operate_on_words(env, state, op, width, dst, src);
+    };
+    let register = writable(dst)?;
+    state.set_register(register, Word::Num(bpf_insn::alu(op, width, a, b)));
     Ok(())
 }
 

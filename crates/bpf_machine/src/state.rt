@@ -1,10 +1,13 @@
 //! The part of the machine's state that lives for one run.
 
-ghost use Rattle.std.specs.Prelude.{◌≡◌, ◌<◌, ◌≤◌, ◌+◌};
+ghost use Rattle.std.specs.Prelude.{◌≡◌, ◌<◌, ◌≤◌, ◌+◌, length, IfSome, Ok};
+ghost use Rattle.bpf_machine.specs.declared.word.Word.TheVariants.{Num};
+ghost use Rattle.bpf_machine.specs.Cells.{are_set, with_marks};
 ghost use Rattle.std.specs.FinMap as map;
 ghost use Rattle.bpf_machine.specs.Machine.{entry_frame};
-ghost use Rattle.bpf_machine.specs.Step.{after_call, number_in, operand_of, with_number, with_register, word_of, writable};
+ghost use Rattle.bpf_machine.specs.Step.{after_call, number_at, number_in, operand_of, with_number, with_register, word_of, writable};
 
+use crate::bytes::{number_in, put_number};
 use crate::word::{TrapKind, Word};
 use bpf_insn::{Operand, Reg};
 use node_env::{Env, Region, STACK_BYTES};
@@ -18,12 +21,15 @@ const REGISTERS: usize = 11;
 pub struct State {
     slot: u32,
     registers: [Option<Word>; REGISTERS],
-    stack: [Option<u8>; STACK_BYTES as usize],
+    stack: [u8; STACK_BYTES as usize],
+    /// Which bytes of the stack are written.
+    written: [bool; STACK_BYTES as usize],
 }
 
 impl Model for State {
     ghost use Rattle.node_env.specs.Slots.{map_of};
     ghost use Rattle.bpf_machine.specs.Machine.{Frame};
+    ghost use Rattle.bpf_machine.specs.Cells.{written_bytes};
     ghost use Rattle.bpf_machine.specs.Codes.{frame_code};
     ghost use Rattle.bpf_machine.specs.contracts.word.Word as word;
 
@@ -31,7 +37,7 @@ impl Model for State {
 
     ghost coded = { frame_code word.the_row.coded };
 
-    ghost view = { λ s. record { slot = s.slot; registers = map_of s.registers; stack = map_of s.stack } };
+    ghost view = { λ s. record { slot = s.slot; registers = map_of s.registers; stack = written_bytes s.stack s.written } };
 }
 
 impl State {
@@ -47,7 +53,8 @@ impl State {
         State {
             slot: 0,
             registers,
-            stack: [None; STACK_BYTES as usize],
+            stack: [0; STACK_BYTES as usize],
+            written: [false; STACK_BYTES as usize],
         }
     }
 
@@ -75,6 +82,30 @@ impl State {
         match operand {
             Operand::Imm(imm) => Ok(Word::Num(i64::from(imm).cast_unsigned())),
             Operand::Reg(register) => self.word(register),
+        }
+    }
+
+    /// The number that a register holds: `None` of a pointer too.
+    #[tactic(auto, using(node_env::proofs::Slots::slots))]
+    #[inline(always)]
+    pub(crate) fn number_of(&self, register: Reg) -> Option<u64>
+        ensures { IfSome result (λ number. word_of self.now register ≡ Ok (Num number)) }
+    {
+        let held = self.registers[register.number() as usize];
+        match held {
+            Some(Word::Num(number)) => Some(number),
+            Some(Word::Ptr(_, _)) | None => None,
+        }
+    }
+
+    /// The number that an operand is: `None` of a pointer too.
+    #[inline(always)]
+    pub(crate) fn operand_number(&self, operand: Operand) -> Option<u64>
+        ensures { IfSome result (λ number. operand_of self.now operand ≡ Ok (Num number)) }
+    {
+        match operand {
+            Operand::Imm(imm) => Some(i64::from(imm).cast_unsigned()),
+            Operand::Reg(register) => self.number_of(register),
         }
     }
 
@@ -113,36 +144,56 @@ impl State {
         self.set_register(Reg::R0, Word::Num(answer));
     }
 
-    /// The byte of the stack at an offset, where it is written.
-    #[tactic(auto, using(node_env::proofs::Slots::slots))]
-    pub(crate) fn stack_byte(&self, at: usize) -> Option<u8>
-        ensures { result ≡ map.get self.now.stack at }
+    /// The number that bytes of the stack spell, where all are written.
+    #[tactic(auto, using(crate::proofs::StackCells::stack_cells))]
+    #[inline(always)]
+    pub(crate) fn number_at(&self, first: usize, count: usize) -> Result<u64, TrapKind>
+        requires few { count ≤ 8 }
+        requires inside { first + count ≤ STACK_BYTES }
+        ensures { result ≡ number_at (map.get self.now.stack) first count }
     {
-        match self.stack.get(at) {
-            Some(&byte) => byte,
-            None => None,
+        if are_set(&self.written, first, count) {
+            Ok(number_in(&self.stack, first, count))
+        } else {
+            Err(TrapKind::UnsetByte)
         }
     }
 
-    #[tactic(auto, using(node_env::proofs::Slots::slots))]
-    fn set_stack_byte(&mut self, at: usize, byte: u8)
-        requires { at < STACK_BYTES }
-        ensures { self.new ≡ record self.old { stack = map.insert self.old.stack at byte } }
-    {
-        self.stack[at] = Some(byte);
-    }
-
     /// Puts a number's low bytes into the stack, the lowest first.
-    #[tactic(auto, using(crate::proofs::ByteSteps::stores))]
+    #[tactic(auto, using(crate::proofs::StackCells::stack_cells))]
+    #[inline(always)]
     pub(crate) fn store(&mut self, first: usize, count: usize, value: u64)
         requires { first + count ≤ STACK_BYTES }
         ensures { self.new ≡ record self.old { stack = with_number map.insert self.old.stack first count value } }
     {
-        let mut rest = value;
-        for i in 0..count {
-            self.set_stack_byte(first + i, (rest % 256) as u8);
-            rest /= 256;
-        }
+        put_number(&mut self.stack, first, count, value);
+        mark(&mut self.written, first, count);
+    }
+}
+
+/// Whether so many marks are set.
+#[tactic(auto, using(crate::proofs::StackCells::stack_marks))]
+#[inline(always)]
+fn are_set(marks: &[bool], first: usize, count: usize) -> bool
+    requires { first + count ≤ length marks.now }
+    ensures { result ≡ are_set marks.now first count }
+{
+    let mut all = true;
+    for i in (0..count).rev() {
+        all &= marks[first + i];
+    }
+    all
+}
+
+/// Sets so many marks.
+#[tactic(auto, using(crate::proofs::StackCells::stack_marks))]
+#[inline(always)]
+fn mark(marks: &mut [bool], first: usize, count: usize)
+    requires { first + count ≤ length marks.old }
+    ensures { marks.new ≡ with_marks marks.old first count }
+{
+    for i in 0..count {
+        marks[first + i] = true;
     }
 }
 

@@ -1,9 +1,12 @@
 //! One step of the machine, in parts that each give what their definition gives.
 
-ghost use Rattle.std.specs.Prelude.{◌≡◌, length};
+ghost use Rattle.std.specs.Prelude.{◌≡◌, ◌≤◌, ◌<◌, ◌+◌, length};
+ghost use Rattle.bpf_insn.specs.declared.listing.TheConstants.{MAX_SLOTS};
+ghost use Rattle.bpf_insn.specs.declared.forms.Insn.TheVariants.{Branch};
+ghost use Rattle.bpf_insn.specs.Encoding.{slots_taken};
 ghost use Rattle.bpf_machine.specs.Machine.{state_of};
-ghost use Rattle.bpf_machine.specs.Step.{advance, begins, effect, next_slot, result_of_exit, step, way_of};
-ghost use Rattle.bpf_machine.specs.Parts.{Comes, Does};
+ghost use Rattle.bpf_machine.specs.Step.{advance, begins, next_slot, result_of_exit, step};
+ghost use Rattle.bpf_machine.specs.Parts.{Comes, Does, jump};
 ghost use Rattle.bpf_machine.specs.Run.{Turns};
 
 use crate::alu::{alu, load_immediate, movsx, neg, swap};
@@ -11,122 +14,59 @@ use crate::bytes::{load, load_extended, store_immediate, store_register};
 use crate::calls::call;
 use crate::state::{State, number};
 use crate::word::{TrapKind, Turn};
-use bpf_insn::{Insn, Program, Reg, Way, holds, target};
+use bpf_insn::{Cond, Insn, Operand, Program, Reg, Width, holds};
 use node_env::{Env, Outbox};
 
-/// The way on.
 #[inline(always)]
-fn way_of(state: &State, insn: &Insn) -> Result<Way, TrapKind>
-    ensures { result ≡ way_of state.now insn.now }
-{
-    match *insn {
-        Insn::Branch {
-            cond,
-            width,
-            dst,
-            src,
-            ..
-        } => {
-            let a = state.word(dst)?;
-            let b = state.operand(src)?;
-            let a = number(a, TrapKind::NotNumber)?;
-            let b = number(b, TrapKind::NotNumber)?;
-            if holds(cond, width, a, b) {
-                Ok(Way::Jumping)
-            } else {
-                Ok(Way::Onward)
-            }
-        }
-        Insn::Ja { .. } | Insn::JaLong { .. } => Ok(Way::Jumping),
-        Insn::Alu { .. }
-        | Insn::Neg { .. }
-        | Insn::Movsx { .. }
-        | Insn::Swap { .. }
-        | Insn::Call { .. }
-        | Insn::Exit
-        | Insn::Load { .. }
-        | Insn::LoadSx { .. }
-        | Insn::StoreReg { .. }
-        | Insn::StoreImm { .. }
-        | Insn::LoadImm64 { .. } => Ok(Way::Onward),
-    }
-}
-
-#[inline(always)]
-fn begins(program: &Program, slot: u64) -> Result<u32, TrapKind>
+fn begins(program: &Program, slot: u32) -> Result<u32, TrapKind>
     ensures { result ≡ begins program.now slot }
 {
-    if slot >= u64::from(program.slot_count()) {
-        return Err(TrapKind::BadJump);
-    }
-    match program.insn_at(slot as u32) {
-        Some(_) => Ok(slot as u32),
+    match program.insn_at(slot) {
+        Some(_) => Ok(slot),
         None => Err(TrapKind::BadJump),
     }
 }
 
+/// Where a jump leads.
+#[tactic(auto, using(bpf_insn::proofs::LayoutLaws::past_end))]
 #[inline(always)]
-fn next_slot(program: &Program, insn: &Insn, state: &State) -> Result<u32, TrapKind>
-    ensures { result ≡ next_slot program.now insn.now state.now }
+fn jump(program: &Program, slot: u32, off: i32) -> Result<u32, TrapKind>
+    ensures { result ≡ jump program.now slot off }
 {
-    let way = way_of(state, insn)?;
-    let slot = target(insn, state.slot(), way).ok_or(TrapKind::BadJump)?;
-    begins(program, slot)
+    let count = program.slot_count();
+    let to = i64::from(slot) + 1 + i64::from(off);
+    if to < 0 {
+        return Err(TrapKind::BadJump);
+    }
+    if to >= i64::from(count) {
+        return Err(TrapKind::BadJump);
+    }
+    begins(program, to as u32)
 }
 
-/// What an instruction does but for the slot.
+/// Where a branch leads.
 #[inline(always)]
-fn effect(
-    env: &Env,
-    insn: &Insn,
-    state: &mut State,
-    memory: &mut [u8],
-    outbox: &mut Outbox,
-) -> Result<(), TrapKind>
-    requires memory { length memory.old ≡ env.now.shape.memory }
-    requires nodes { outbox.old.nodes ≡ env.now.shape.nodes }
-    ensures does { Does (effect env.now insn.now (state_of state.old memory.old outbox.old.sent)) (state_of state.old memory.old outbox.old.sent) (state_of state.new memory.new outbox.new.sent) result }
-    ensures nodes { outbox.new.nodes ≡ outbox.old.nodes }
+fn branch(
+    program: &Program,
+    state: &State,
+    cond: Cond,
+    width: Width,
+    dst: Reg,
+    src: Operand,
+    off: i16,
+) -> Result<u32, TrapKind>
+    requires { state.now.slot < MAX_SLOTS }
+    ensures { result ≡ next_slot program.now (Branch cond width dst src off) state.now }
 {
-    match *insn {
-        Insn::Alu {
-            op,
-            width,
-            dst,
-            src,
-        } => alu(env, state, op, width, dst, src)?,
-        Insn::Neg { width, dst } => neg(state, width, dst)?,
-        Insn::Movsx { kind, dst, src } => movsx(state, kind, dst, src)?,
-        Insn::Swap { order, bits, dst } => swap(state, order, bits, dst)?,
-        Insn::Call { id } => call(env, state, outbox, id)?,
-        Insn::Load {
-            size,
-            dst,
-            base,
-            off,
-        } => load(env, state, memory, size, dst, base, off)?,
-        Insn::LoadSx {
-            size,
-            dst,
-            base,
-            off,
-        } => load_extended(env, state, memory, size, dst, base, off)?,
-        Insn::StoreReg {
-            size,
-            base,
-            off,
-            src,
-        } => store_register(env, state, memory, size, base, off, src)?,
-        Insn::StoreImm {
-            size,
-            base,
-            off,
-            imm,
-        } => store_immediate(env, state, memory, size, base, off, imm)?,
-        Insn::LoadImm64 { dst, value } => load_immediate(state, dst, value)?,
-        Insn::Ja { .. } | Insn::JaLong { .. } | Insn::Branch { .. } | Insn::Exit => {}
+    let a = state.word(dst)?;
+    let b = state.operand(src)?;
+    let a = number(a, TrapKind::NotNumber)?;
+    let b = number(b, TrapKind::NotNumber)?;
+    if holds(cond, width, a, b) {
+        jump(program, state.slot(), i32::from(off))
+    } else {
+        begins(program, state.slot() + 1)
     }
-    Ok(())
 }
 
 /// Runs an instruction that leads to another.
@@ -139,14 +79,103 @@ fn advance(
     memory: &mut [u8],
     outbox: &mut Outbox,
 ) -> Result<(), TrapKind>
+    requires within { state.old.slot + slots_taken insn.now ≤ MAX_SLOTS }
     requires memory { length memory.old ≡ env.now.shape.memory }
     requires nodes { outbox.old.nodes ≡ env.now.shape.nodes }
     ensures does { Does (advance program.now env.now insn.now (state_of state.old memory.old outbox.old.sent)) (state_of state.old memory.old outbox.old.sent) (state_of state.new memory.new outbox.new.sent) result }
     ensures nodes { outbox.new.nodes ≡ outbox.old.nodes }
 {
-    let slot = next_slot(program, insn, state)?;
-    effect(env, insn, state, memory, outbox)?;
-    state.go_to(slot);
+    let slot = state.slot();
+    match *insn {
+        Insn::Alu {
+            op,
+            width,
+            dst,
+            src,
+        } => {
+            let next = begins(program, slot + 1)?;
+            alu(env, state, op, width, dst, src)?;
+            state.go_to(next);
+        }
+        Insn::Neg { width, dst } => {
+            let next = begins(program, slot + 1)?;
+            neg(state, width, dst)?;
+            state.go_to(next);
+        }
+        Insn::Movsx { kind, dst, src } => {
+            let next = begins(program, slot + 1)?;
+            movsx(state, kind, dst, src)?;
+            state.go_to(next);
+        }
+        Insn::Swap { order, bits, dst } => {
+            let next = begins(program, slot + 1)?;
+            swap(state, order, bits, dst)?;
+            state.go_to(next);
+        }
+        Insn::Ja { off } => state.go_to(jump(program, slot, i32::from(off))?),
+        Insn::JaLong { off } => state.go_to(jump(program, slot, off)?),
+        Insn::Branch {
+            cond,
+            width,
+            dst,
+            src,
+            off,
+        } => {
+            let next = branch(program, state, cond, width, dst, src, off)?;
+            state.go_to(next);
+        }
+        Insn::Call { id } => {
+            let next = begins(program, slot + 1)?;
+            call(env, state, outbox, id)?;
+            state.go_to(next);
+        }
+        Insn::Exit => return Err(TrapKind::BadJump),
+        Insn::Load {
+            size,
+            dst,
+            base,
+            off,
+        } => {
+            let next = begins(program, slot + 1)?;
+            load(env, state, memory, size, dst, base, off)?;
+            state.go_to(next);
+        }
+        Insn::LoadSx {
+            size,
+            dst,
+            base,
+            off,
+        } => {
+            let next = begins(program, slot + 1)?;
+            load_extended(env, state, memory, size, dst, base, off)?;
+            state.go_to(next);
+        }
+        Insn::StoreReg {
+            size,
+            base,
+            off,
+            src,
+        } => {
+            let next = begins(program, slot + 1)?;
+            store_register(env, state, memory, size, base, off, src)?;
+            state.go_to(next);
+        }
+        Insn::StoreImm {
+            size,
+            base,
+            off,
+            imm,
+        } => {
+            let next = begins(program, slot + 1)?;
+            store_immediate(env, state, memory, size, base, off, imm)?;
+            state.go_to(next);
+        }
+        Insn::LoadImm64 { dst, value } => {
+            let next = begins(program, slot + 2)?;
+            load_immediate(state, dst, value)?;
+            state.go_to(next);
+        }
+    }
     Ok(())
 }
 

@@ -1,5 +1,5 @@
--- Bytes have one answer under given options, where images have one reading and programs one run.
-use Rattle.std.proofs.Common.{◌≡◌, ◌≢◌, ℕ, List, ◌∙◌, refl, sym, ap, subst, replicate}
+-- Bytes have one answer under given options and one listing, where images have one reading and programs one run.
+use Rattle.std.proofs.Common.{◌≡◌, ◌≢◌, ℕ, List, Result, Ok, Err, ◌∙◌, refl, sym, ap, subst, replicate}
 use Rattle.std.specs.Ordering.{nat_cmp}
 use Rattle.std.specs.FinMap.{FinMap}
 use Rattle.node_env.specs.Env.{Extent, Setting}
@@ -12,17 +12,21 @@ use Rattle.bpf_machine.specs.declared.word.Outcome.{Outcome}
 use Rattle.bpf_machine.specs.Run.{RunAnswers}
 use Rattle.clockbed.specs.declared.request.ExecOptions.{ExecOptions}
 use Rattle.clockbed.specs.declared.answer.Answer.{Answer}
-use Rattle.clockbed.specs.declared.answer.Answer.TheVariants.{NoShape, Refused, Ran}
+use Rattle.clockbed.specs.declared.answer.Answer.TheVariants.{Refused, Ran}
+use Rattle.clockbed.specs.declared.image.Refusal.{Refusal}
+use Rattle.clockbed.specs.declared.image.Refusal.TheVariants.{Shape, Image}
+use Rattle.clockbed.specs.declared.request.ShapeOptions.{ShapeOptions}
 use Rattle.clockbed.specs.Answer.{Answers, BareRun, RunsImage, bare_setting}
+use Rattle.clockbed.specs.Image.{HasShape, IsRefused, ReadsImage, asked_extent}
 
 -- what the laws of the crates below say
-abbrev OneProgram : Type 0
+abbrev pub OneProgram : Type 0
 OneProgram = (p q : List Insn) → IsProgram p → IsProgram q → image_of p ≡ image_of q → p ≡ q
 
-abbrev OneRefusal : Type 0
+abbrev pub OneRefusal : Type 0
 OneRefusal = (bytes : List ℕ) (e d : ImageError) → RefusesImage bytes e → RefusesImage bytes d → e ≢ errors.Memory → d ≢ errors.Memory → e ≡ d
 
-abbrev Apart : Type 0
+abbrev pub Apart : Type 0
 Apart = (p : List Insn) (e : ImageError) → IsProgram p → RefusesImage (image_of p) e → e ≡ errors.Memory
 
 abbrev OneRun : Type 0
@@ -42,19 +46,27 @@ one_outcome one_program one_run shape bytes fuel o w first second =
     let moved : BareRun shape second.program fuel o = subst (λ (p : List Insn). BareRun shape p fuel o) same first.run in
     (one_run second.program _ _ fuel moved.left second.run.left moved.sent second.run.sent o w moved.run second.run.run).0
 
+-- options and bytes have one refusal
+pub one_refused : OneRefusal → (options : ShapeOptions) (bytes : List ℕ) (a b : Refusal) → IsRefused options bytes a → IsRefused options bytes b → a ≡ b
+one_refused one_refusal options bytes Shape Shape first second = refl
+one_refused one_refusal options bytes Shape (Image d) first second = absurd (first second.0)
+one_refused one_refusal options bytes (Image e) Shape first second = absurd (second first.0)
+one_refused one_refusal options bytes (Image e) (Image d) first second = ap Image (one_refusal bytes e d first.1.0 second.1.0 first.1.1 second.1.1)
+
+-- where they have one, no program runs
+refused_or_run : Apart → (options : ShapeOptions) (bytes : List ℕ) (fuel : ℕ) (refusal : Refusal) (outcome : Outcome)
+    → IsRefused options bytes refusal → HasShape options → RunsImage (asked_extent options) bytes fuel outcome → ⊥
+refused_or_run apart options bytes fuel Shape outcome refused shape ran = refused shape
+refused_or_run apart options bytes fuel (Image e) outcome refused shape ran = refused.1.1 (not_both apart _ bytes fuel e outcome refused.1.0 ran)
+
 pub one_answer : OneProgram → OneRefusal → Apart → OneRun
     → (options : ExecOptions) (bytes : List ℕ) (a b : Answer) → Answers options bytes a → Answers options bytes b → a ≡ b
-one_answer one_program one_refusal apart one_run options bytes NoShape NoShape first second = refl
-one_answer one_program one_refusal apart one_run options bytes NoShape (Refused d) first second = absurd (first second.0)
-one_answer one_program one_refusal apart one_run options bytes NoShape (Ran w other) first second = absurd (first second.0)
-one_answer one_program one_refusal apart one_run options bytes (Refused e) NoShape first second = absurd (second first.0)
-one_answer one_program one_refusal apart one_run options bytes (Refused e) (Refused d) first second =
-    ap Refused (one_refusal bytes e d first.1 second.1 first.2 second.2)
-one_answer one_program one_refusal apart one_run options bytes (Refused e) (Ran w given) first second =
-    absurd (first.2 (not_both apart _ bytes options.fuel e w first.1 second.1))
-one_answer one_program one_refusal apart one_run options bytes (Ran o given) NoShape first second = absurd (second first.0)
-one_answer one_program one_refusal apart one_run options bytes (Ran o given) (Refused d) first second =
-    absurd (second.2 (not_both apart _ bytes options.fuel d o second.1 first.1))
+one_answer one_program one_refusal apart one_run options bytes (Refused r) (Refused q) first second =
+    ap Refused (one_refused one_refusal options.shape bytes r q first second)
+one_answer one_program one_refusal apart one_run options bytes (Refused r) (Ran w given) first second =
+    absurd (refused_or_run apart options.shape bytes options.fuel r w first second.0 second.1)
+one_answer one_program one_refusal apart one_run options bytes (Ran o given) (Refused q) first second =
+    absurd (refused_or_run apart options.shape bytes options.fuel q o second first.0 first.1)
 one_answer one_program one_refusal apart one_run options bytes (Ran o given) (Ran w other) first second =
     let outcome = one_outcome one_program one_run _ bytes options.fuel o w first.1 second.1 in
     let fuels : given ≡ other = first.2 ∙ sym second.2 in
@@ -71,3 +83,12 @@ bare_run shape program fuel outcome env memory left sent run at zeros =
           subst (λ (l : List ℕ). RunAnswers program (bare_setting shape) l fuel left sent outcome) zeros
           (subst (λ (e : Setting). RunAnswers program e memory fuel left sent outcome) at run);
     }
+
+-- bytes are the image of one program or have one refusal
+pub one_listing : OneProgram → OneRefusal → Apart → (bytes : List ℕ) (a b : Result (List Insn) ImageError) → ReadsImage bytes a → ReadsImage bytes b → a ≡ b
+one_listing one_program one_refusal apart bytes (Ok p) (Ok q) first second = ap Ok (one_program p q first.0 second.0 (sym first.1 ∙ second.1))
+one_listing one_program one_refusal apart bytes (Ok p) (Err d) first second =
+    absurd (second.1 (apart p d first.0 (subst (λ (l : List ℕ). RefusesImage l d) first.1 second.0)))
+one_listing one_program one_refusal apart bytes (Err e) (Ok q) first second =
+    absurd (first.1 (apart q e second.0 (subst (λ (l : List ℕ). RefusesImage l e) second.1 first.0)))
+one_listing one_program one_refusal apart bytes (Err e) (Err d) first second = ap Err (one_refusal bytes e d first.0 second.0 first.1 second.1)

@@ -1,14 +1,11 @@
 -- What `exec` answers to the bytes that it read, and the line that says it.
-use Rattle.std.specs.Prelude.{◌≡◌, ◌≢◌, ℕ, List, ◌++◌, codes, replicate}
+use Rattle.std.specs.Prelude.{◌≡◌, ℕ, List, ◌++◌, codes, replicate}
 use Rattle.std.specs.Fmt.{decimal}
 use Rattle.std.specs.Ordering.{nat_cmp}
 use Rattle.std.specs.FinMap.{FinMap, empty}
-use Rattle.node_env.specs.Env.{Extent, IsExtent, Setting}
+use Rattle.node_env.specs.Env.{Extent, Setting}
 use Rattle.bpf_insn.specs.declared.forms.Insn.{Insn}
-use Rattle.bpf_insn.specs.declared.image.ImageError.{ImageError}
-use Rattle.bpf_insn.specs.declared.image.ImageError.TheVariants as errors
 use Rattle.bpf_insn.specs.Programs.{IsProgram, image_of}
-use Rattle.bpf_insn.specs.Images.{RefusesImage}
 use Rattle.bpf_machine.specs.declared.word.Outcome.{Outcome}
 use Rattle.bpf_machine.specs.declared.word.Outcome.TheVariants as outcomes
 use Rattle.bpf_machine.specs.declared.word.TrapKind.{TrapKind}
@@ -17,9 +14,10 @@ use Rattle.bpf_machine.specs.Run.{RunAnswers}
 use Rattle.bpf_machine.specs.Traps.{trap_number}
 use Rattle.clockbed.specs.declared.request.ExecOptions.{ExecOptions}
 use Rattle.clockbed.specs.declared.answer.Answer.{Answer}
-use Rattle.clockbed.specs.declared.answer.Answer.TheVariants.{NoShape, Refused, Ran}
+use Rattle.clockbed.specs.declared.answer.Answer.TheVariants.{Refused, Ran}
 use Rattle.clockbed.specs.declared.ending.Ending.{Ending}
 use Rattle.clockbed.specs.declared.ending.Ending.TheVariants as endings
+use Rattle.clockbed.specs.Image.{HasShape, IsRefused, asked_extent, refusal_line}
 
 -- what `exec` lets a program see: node 0 of the shape, with no mail and coin 0 (docs/COMMANDS.md, "What exec runs")
 abbrev pub bare_setting : Extent → Setting
@@ -38,30 +36,13 @@ pub record RunsImage (shape : Extent) (bytes : List ℕ) (fuel : ℕ) (outcome :
   pub image : bytes ≡ image_of program
   pub run : BareRun shape program fuel outcome
 
--- the nodes and the memory that are asked for, and whether they make a shape (docs/COMMANDS.md)
-abbrev pub asked_extent : ExecOptions → Extent
-asked_extent asked = record { nodes = asked.nodes; memory = asked.memory }
-
-abbrev pub HasShape : ExecOptions → Type 0
-HasShape asked = IsExtent asked.nodes asked.memory
-
 -- the answer to these bytes under these options. Want of memory is none
 abbrev pub Answers : ExecOptions → List ℕ → Answer → Type 0
-Answers asked bytes NoShape = HasShape asked → ⊥
-Answers asked bytes (Refused error) = HasShape asked × RefusesImage bytes error × (error ≢ errors.Memory)
-Answers asked bytes (Ran outcome given) = HasShape asked × RunsImage (asked_extent asked) bytes asked.fuel outcome × (given ≡ asked.fuel)
+Answers asked bytes (Refused refusal) = IsRefused asked.shape bytes refusal
+Answers asked bytes (Ran outcome given) =
+    HasShape asked.shape × RunsImage (asked_extent asked.shape) bytes asked.fuel outcome × (given ≡ asked.fuel)
 
 -- ---- the line of an answer, without its end (docs/COMMANDS.md, "What exec prints")
-
-abbrev pub refusal_line : ImageError → List ℕ
-refusal_line errors.Empty = codes "refused image Empty"
-refusal_line errors.TooLong = codes "refused image TooLong"
-refusal_line (errors.Truncated slot) = codes "refused image Truncated slot " ++ decimal slot
-refusal_line (errors.UnknownOpcode slot) = codes "refused image UnknownOpcode slot " ++ decimal slot
-refusal_line (errors.BadRegister slot) = codes "refused image BadRegister slot " ++ decimal slot
-refusal_line (errors.NonZeroField slot) = codes "refused image NonZeroField slot " ++ decimal slot
-refusal_line (errors.BadWidth slot) = codes "refused image BadWidth slot " ++ decimal slot
-refusal_line errors.Memory = codes "refused image Memory"
 
 abbrev pub trap_name : TrapKind → List ℕ
 trap_name traps.BadJump = codes "BadJump"
@@ -82,8 +63,7 @@ outcome_line (outcomes.Trap slot kind) fuel =
 outcome_line outcomes.OutOfFuel fuel = codes "out of fuel " ++ decimal fuel
 
 abbrev pub line_of : Answer → List ℕ
-line_of NoShape = codes "refused shape"
-line_of (Refused error) = refusal_line error
+line_of (Refused refusal) = refusal_line refusal
 line_of (Ran outcome fuel) = outcome_line outcome fuel
 
 -- the line with its end
@@ -92,6 +72,5 @@ text_of answer = line_of answer ++ codes "\n"
 
 -- how the command ends that wrote it
 abbrev pub ending_of : Answer → Ending
-ending_of NoShape = endings.Refused
-ending_of (Refused error) = endings.Refused
+ending_of (Refused refusal) = endings.Refused
 ending_of (Ran outcome fuel) = endings.Done

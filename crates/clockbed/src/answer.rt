@@ -3,16 +3,14 @@ ghost use Rattle.std.specs.Prelude.{◌≡◌, Some};
 ghost use Rattle.clockbed.specs.Answer.{line_of, trap_name};
 
 use crate::ending::Ending;
-use bpf_insn::ImageError;
+use crate::image::Refusal;
 use bpf_machine::{Outcome, TrapKind};
 use std::fmt;
 
-/// Why nothing is read, why the bytes are no image, or what the run of their program came to.
+/// Why there is no program, or what its run came to.
 #[derive(Clone, Copy, Debug, PartialEq, Eq)]
 pub enum Answer {
-    /// The nodes and the memory that are asked for make no shape.
-    NoShape,
-    Refused(ImageError),
+    Refused(Refusal),
     Ran { outcome: Outcome, fuel: u64 },
 }
 
@@ -25,7 +23,7 @@ impl Answer {
         ensures { result ≡ ending_of self.now }
     {
         match self {
-            Answer::NoShape | Answer::Refused(_) => Ending::Refused,
+            Answer::Refused(_) => Ending::Refused,
             Answer::Ran { .. } => Ending::Done,
         }
     }
@@ -36,23 +34,7 @@ impl fmt::Display for Answer {
 
     fn fmt<W: fmt::Write>(&self, f: &mut fmt::Formatter<W>) -> fmt::Result {
         match self {
-            Answer::NoShape => write!(f, "refused shape"),
-            Answer::Refused(error) => match error {
-                ImageError::Empty => write!(f, "refused image Empty"),
-                ImageError::TooLong => write!(f, "refused image TooLong"),
-                ImageError::Truncated(slot) => write!(f, "refused image Truncated slot {slot}"),
-                ImageError::UnknownOpcode(slot) => write!(
-                    f,
-                    "refused image UnknownOpcode slot {slot}"
-                ),
-                ImageError::BadRegister(slot) => write!(f, "refused image BadRegister slot {slot}"),
-                ImageError::NonZeroField(slot) => write!(
-                    f,
-                    "refused image NonZeroField slot {slot}"
-                ),
-                ImageError::BadWidth(slot) => write!(f, "refused image BadWidth slot {slot}"),
-                ImageError::Memory => write!(f, "refused image Memory"),
-            },
+            Answer::Refused(refusal) => write!(f, "{refusal}"),
             Answer::Ran { outcome, fuel } => match outcome {
                 Outcome::Ended { r0, steps } => write!(f, "r0 {r0} steps {steps}"),
                 Outcome::Trap { slot, kind } => {

@@ -2,15 +2,20 @@
 #![tactic(auto)]
 
 mod answer;
+pub mod asm;
 pub mod command;
+pub mod dis;
 mod ending;
 pub mod exec;
 mod fault;
+mod image;
 pub mod laws;
 mod output;
 mod request;
 #[cfg(test)]
 mod tests;
+mod verdict;
+pub mod verify;
 
 use crate::command::command;
 use crate::fault::Fault;

@@ -2,7 +2,9 @@
 ghost use Rattle.std.specs.Prelude.{◌≡◌, IfErr, OnOk};
 ghost use Rattle.std.specs.Io.KnownBytes.{Appends};
 ghost use Rattle.clockbed.specs.Faults.{IsCut};
+ghost use Rattle.clockbed.specs.Output.{Leaves};
 
+use crate::ending::Ending;
 use crate::fault::Fault;
 use std::io::Write;
 use stream_io::write_fully;
@@ -15,4 +17,12 @@ pub fn write_text<W: Write>(out: &mut W, text: &[u8]) -> Result<(), Fault>
     write_fully(out, text).map_err(|fault| Fault::Write {
         after: fault.written,
     })
+}
+
+/// Writes the whole text of an answer, with which the command ends so.
+pub fn write_whole<W: Write>(out: &mut W, text: &[u8], ending: Ending) -> Result<Ending, Fault>
+    ensures { Leaves (W.contents out.old) (W.contents out.new) text.now ending result }
+{
+    write_text(out, text)?;
+    Ok(ending)
 }

@@ -14,16 +14,25 @@ use std::fmt::InlineText;
 #[derive(Debug, Drop)]
 pub enum Request {
     Exec(ExecOptions),
+    Asm,
+    Dis,
+    Verify(ShapeOptions),
     /// A text whose last line ends.
     Help { text: String },
 }
 
-/// The options of `exec`. The nodes and the memory may make no shape.
+/// The nodes and the memory that are asked for. They may make no shape.
 #[derive(Clone, Copy, Debug, PartialEq, Eq)]
-pub struct ExecOptions {
+pub struct ShapeOptions {
     pub nodes: u32,
     /// The bytes of a node's memory.
     pub memory: u32,
+}
+
+/// The options of `exec`.
+#[derive(Clone, Copy, Debug, PartialEq, Eq)]
+pub struct ExecOptions {
+    pub shape: ShapeOptions,
     /// The most steps of the run.
     pub fuel: u64,
 }
@@ -58,6 +67,9 @@ fn parse<S: AsStr>(alloc: Global, words: &[S]) -> Result<Request, Error> {
     let matches = command.try_get_matches_from_mut(words)?;
     match matches.subcommand() {
         Some(("exec", options)) => Ok(Request::Exec(exec_options(options))),
+        Some(("asm", _)) => Ok(Request::Asm),
+        Some(("dis", _)) => Ok(Request::Dis),
+        Some(("verify", options)) => Ok(Request::Verify(shape_options(options))),
         _ => Err(command.error(ErrorKind::MissingSubcommand, "a command is needed")?),
     }
 }
@@ -85,6 +97,32 @@ impl Helps {
 }
 
 fn command_line<'a>(alloc: Global, helps: &'a Helps) -> Result<Command<'a>, AllocError> {
+    let fuel = Arg::new(alloc, "fuel")
+        .long("fuel")
+        .value_name("STEPS")
+        .help(helps.fuel.as_str())
+        .value_parser(value_parser!(u64).range(0..=MOST_FUEL));
+    let exec = Command::new(alloc, "exec").about("Runs the image on standard input");
+    let asm = Command::new(alloc, "asm").about("Prints the image of the text on standard input");
+    let dis = Command::new(alloc, "dis").about("Prints the image on standard input as text");
+    let verify = Command::new(alloc, "verify").about(
+        "Accepts or refuses the image on standard input",
+    );
+    Command::new(alloc, "clockbed")
+        .about("A testbed for Byzantine clock synchronisation")
+        .subcommand_required(true)
+        .subcommand(with_shape(alloc, exec, helps)?.arg(fuel)?)?
+        .subcommand(asm)?
+        .subcommand(dis)?
+        .subcommand(with_shape(alloc, verify, helps)?)
+}
+
+/// Adds the options that ask for a shape.
+fn with_shape<'a>(
+    alloc: Global,
+    command: Command<'a>,
+    helps: &'a Helps,
+) -> Result<Command<'a>, AllocError> {
     let nodes = Arg::new(alloc, "nodes")
         .long("nodes")
         .value_name("COUNT")
@@ -95,26 +133,19 @@ fn command_line<'a>(alloc: Global, helps: &'a Helps) -> Result<Command<'a>, Allo
         .value_name("BYTES")
         .help(helps.memory.as_str())
         .value_parser(value_parser!(u32).range(i64::from(MEMORY_UNIT)..=i64::from(MAX_MEMORY)));
-    let fuel = Arg::new(alloc, "fuel")
-        .long("fuel")
-        .value_name("STEPS")
-        .help(helps.fuel.as_str())
-        .value_parser(value_parser!(u64).range(0..=MOST_FUEL));
-    let exec = Command::new(alloc, "exec")
-        .about("Runs the image on standard input")
-        .arg(nodes)?
-        .arg(memory)?
-        .arg(fuel)?;
-    Command::new(alloc, "clockbed")
-        .about("A testbed for Byzantine clock synchronisation")
-        .subcommand_required(true)
-        .subcommand(exec)
+    command.arg(nodes)?.arg(memory)
+}
+
+fn shape_options(options: &ArgMatches<'_>) -> ShapeOptions {
+    ShapeOptions {
+        nodes: options.get_one::<u32>("nodes").unwrap_or(DEFAULT_NODES),
+        memory: options.get_one::<u32>("memory").unwrap_or(DEFAULT_MEMORY),
+    }
 }
 
 fn exec_options(options: &ArgMatches<'_>) -> ExecOptions {
     ExecOptions {
-        nodes: options.get_one::<u32>("nodes").unwrap_or(DEFAULT_NODES),
-        memory: options.get_one::<u32>("memory").unwrap_or(DEFAULT_MEMORY),
+        shape: shape_options(options),
         fuel: options.get_one::<u64>("fuel").unwrap_or(DEFAULT_FUEL),
     }
 }

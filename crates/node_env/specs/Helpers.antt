@@ -15,3 +15,18 @@ numbered n =
 abbrev pub helper_of : ℤ → Option Helper
 helper_of (pos n) = numbered n
 helper_of (negsuc n) = None
+
+-- how many of r1 to r5 a helper reads
+abbrev pub argument_count : Helper → ℕ
+argument_count Id = 0
+argument_count Recv = 1
+argument_count Send = 2
+argument_count Coin = 0
+
+abbrev pub counted : Option Helper → ℕ
+counted None = 0
+counted (Some helper) = argument_count helper
+
+-- how many a call reads, by its immediate: none where that names no helper
+abbrev pub arguments_of : ℤ → ℕ
+arguments_of id = counted (helper_of id)

@@ -1,6 +1,6 @@
 //! Streams that fail.
 use super::*;
-use crate::exec::{IMAGE_BYTES, IMAGE_CALLS};
+use crate::image::{IMAGE_BYTES, IMAGE_CALLS};
 
 #[test]
 fn tells_where_a_read_fails(rt: HostRuntime) {

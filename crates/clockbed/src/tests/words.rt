@@ -3,11 +3,20 @@ use super::*;
 
 #[test]
 fn refuses_a_command_line(rt: HostRuntime) {
-    let lines: [&[&str]; 14] = [
+    let lines: [&[&str]; 23] = [
         &[],
         &["clockbed"],
         &["clockbed", "fly"],
         &["clockbed", "exec", "more"],
+        &["clockbed", "asm", "more"],
+        &["clockbed", "dis", "more"],
+        &["clockbed", "dis", "--fuel", "1"],
+        &["clockbed", "verify", "more"],
+        &["clockbed", "verify", "--fuel", "1"],
+        &["clockbed", "verify", "--nodes", "0"],
+        &["clockbed", "verify", "--nodes", "33"],
+        &["clockbed", "verify", "--memory", "7"],
+        &["clockbed", "verify", "--memory", "257"],
         &["clockbed", "exec", "--fuel"],
         &["clockbed", "exec", "--fuel", "1000000001"],
         &["clockbed", "exec", "--fuel", "-1"],
@@ -29,10 +38,13 @@ fn refuses_a_command_line(rt: HostRuntime) {
 
 #[test]
 fn helps_on_standard_output(rt: HostRuntime) {
-    let lines: [&[&str]; 3] = [
+    let lines: [&[&str]; 6] = [
         &["clockbed", "--help"],
         &["clockbed", "help"],
         &["clockbed", "exec", "--help"],
+        &["clockbed", "asm", "--help"],
+        &["clockbed", "dis", "--help"],
+        &["clockbed", "verify", "--help"],
     ];
     for words in lines {
         let got = run_on(rt.alloc(), words, b"");

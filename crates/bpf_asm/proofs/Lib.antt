@@ -1,0 +1,11 @@
+pub mod Beginnings
+mod CanonicalLaws
+mod InsnLemmas
+mod LabelLemmas
+mod NumberLemmas
+mod OperandLemmas
+mod PieceLemmas
+mod PlainLemmas
+mod RunLemmas
+mod StatementLemmas
+pub mod WordLaws

@@ -1,0 +1,34 @@
+-- What is read of a line.
+use Rattle.std.proofs.Common.{◌≡◌, ℕ, true, false, cond, List, [], ◌∷◌, length, refl, ap, ◌∙◌}
+use Rattle.std.specs.Prelude.{Option, Some, None, ◌==◌, option_map}
+use Rattle.std.specs.Option.{option_and_then}
+use Rattle.bpf_asm.specs.declared.words.Form.{Form}
+use Rattle.bpf_asm.specs.Operands.{option_both, operands_of}
+use Rattle.bpf_asm.specs.Pieces.{is_blank, is_word_letter, front_of, rest_of, without_comment}
+use Rattle.bpf_asm.specs.Statements.{Source, Line, source_by, source_behind, source_of, ends_word, line_by, line_of}
+use Rattle.bpf_asm.specs.Words.{form_of}
+
+pub second_missing : {A B : Type 0} (a : Option A) (b : Option B) → b ≡ None → option_both a b ≡ None
+second_missing None b none = refl
+second_missing (Some a) None none = refl
+second_missing (Some a) (Some b) none = absurd (cc)
+
+-- a word with the operands of its form
+pub word_read : (word rest : List ℕ) (form : Form) (source : Option Source) → (length word == 0) ≡ false → form_of word ≡ Some form → ends_word rest ≡ true
+    → source_by form (operands_of rest) ≡ source → source_behind word rest ≡ option_map Some source
+word_read [] rest form source some named ends reads = absurd (cc)
+word_read (w ∷ ws) rest form source some named ends reads =
+    ap (λ b. cond b (option_map Some (option_and_then (λ f. source_by f (operands_of rest)) (form_of (w ∷ ws)))) None) ends
+    ∙ ap (λ o. option_map Some (option_and_then (λ f. source_by f (operands_of rest)) o)) named ∙ ap (option_map Some) reads
+
+pub source_read : (text front word rest : List ℕ) (source : Option (Option Source)) → front ≡ rest_of is_blank text
+    → word ≡ front_of is_word_letter front → rest ≡ rest_of is_word_letter front → source ≡ source_behind word rest → source ≡ source_of text
+source_read text front word rest source opened before behind reads =
+    reads ∙ ap (λ w. source_behind w rest) before ∙ ap (source_behind (front_of is_word_letter front)) behind
+    ∙ ap (λ f. source_behind (front_of is_word_letter f) (rest_of is_word_letter f)) opened
+
+pub line_read : (text code front word rest : List ℕ) (line : Line) → code ≡ without_comment text → front ≡ rest_of is_blank code
+    → word ≡ front_of is_word_letter front → rest ≡ rest_of is_word_letter front → line ≡ line_by word rest → line ≡ line_of text
+line_read text code front word rest line uncommented opened before behind reads =
+    reads ∙ ap (λ w. line_by w rest) before ∙ ap (line_by (front_of is_word_letter front)) behind
+    ∙ ap (λ f. line_by (front_of is_word_letter f) (rest_of is_word_letter f)) (opened ∙ ap (rest_of is_blank) uncommented)

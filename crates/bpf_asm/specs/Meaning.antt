@@ -1,0 +1,146 @@
+-- What a text means (docs/ASSEMBLER.md, "Meaning").
+use Rattle.std.specs.Borrow.{Bor}
+use Rattle.std.specs.BTreeMap.{get_by}
+use Rattle.std.specs.Cmp.Lexicographic.{slice_cmp}
+use Rattle.std.specs.Ordering.{nat_cmp}
+use Rattle.std.specs.Prelude.{◌≡◌, ◌<◌, ◌≤◌, ◌⊎◌, ◌≢◌, nat_le, is_none, Result, Ok, Err, ℕ, ℤ, pos, ◌-ℤ◌, ◌+◌, ◌∷◌, ◌++◌, ◌&&◌, not, Bool, true, List, [], map, Option, Some, None, option_map, if◌then◌else◌}
+use Rattle.std.specs.List.{list_any}
+use Rattle.std.specs.Str.{bytes_eq}
+use Rattle.bpf_insn.specs.declared.forms.Insn.{Insn}
+use Rattle.bpf_insn.specs.declared.forms.Insn.TheVariants.{Ja, JaLong, Branch}
+use Rattle.bpf_insn.specs.Encoding.{slots_taken}
+use Rattle.bpf_insn.specs.Programs.{IsProgram}
+use Rattle.bpf_insn.specs.declared.listing.TheConstants.{MAX_SLOTS}
+use Rattle.bpf_asm.specs.declared.labels.Labels.{Labels}
+use Rattle.bpf_asm.specs.declared.text_error.TextError.{TextError}
+use Rattle.bpf_asm.specs.declared.text_error.TextError.TheVariants as errors
+use Rattle.bpf_asm.specs.Pieces.{lines_of}
+use Rattle.bpf_asm.specs.Statements.{Source, Line, line_of}
+
+abbrev pub lines_in : List ℕ → List Line
+lines_in text = map line_of (lines_of text)
+
+-- ---- labels
+
+-- the slots that a line's instruction takes
+abbrev pub slots_in : Option (Option Source) → ℕ
+slots_in (Some (Some source)) = slots_taken source.insn
+slots_in _ = 0
+
+-- names with slots
+abbrev pub Places : Type 0
+Places = List (List ℕ × ℕ)
+
+abbrev pub place_at : Option (List ℕ) → ℕ → Places
+place_at None slot = []
+place_at (Some name) slot = (name, slot) ∷ []
+
+-- each label with the slot of the next instruction, or the slot after the last
+abbrev pub places_from : ℕ → List Line → Places
+places_from slot [] = []
+places_from slot (line ∷ lines) = place_at line.name slot ++ places_from (slot + slots_in line.source) lines
+
+-- the slot of a name
+abbrev pub slot_of : Places → List ℕ → Option ℕ
+slot_of [] name = None
+slot_of (p ∷ ps) name = if bytes_eq p.0 name then Some p.1 else slot_of ps name
+
+-- no name stands twice: a finite map
+abbrev pub is_map : Places → Bool
+is_map [] = true
+is_map (p ∷ ps) = not (list_any (λ q. bytes_eq p.0 q.0) ps) && is_map ps
+
+-- ---- instructions
+
+-- a jump with this distance; other instructions stay
+abbrev pub with_distance : ℤ → Insn → Insn
+with_distance off (Ja old) = Ja off
+with_distance off (JaLong old) = JaLong off
+with_distance off (Branch cond width dst src old) = Branch cond width dst src off
+with_distance off insn = insn
+
+-- the instruction at a slot, by the slots of the labels; a distance counts from the slot after it
+abbrev pub insn_to : (List ℕ → Option ℕ) → ℕ → Insn → Option (List ℕ) → Option Insn
+insn_to slots slot insn None = Some insn
+insn_to slots slot insn (Some name) = option_map (λ target. with_distance (pos target -ℤ pos (slot + 1)) insn) (slots name)
+
+abbrev pub insn_by : (List ℕ → Option ℕ) → ℕ → Source → Option Insn
+insn_by slots slot source = insn_to slots slot source.insn source.label
+
+abbrev pub before_all : Option Insn → Option (List Insn) → Option (List Insn)
+before_all (Some insn) (Some insns) = Some (insn ∷ insns)
+before_all _ _ = None
+
+-- a line's instruction, if it has one, before those of the later lines
+abbrev pub insns_before : (List ℕ → Option ℕ) → ℕ → Option (Option Source) → Option (List Insn) → Option (List Insn)
+insns_before slots slot None later = None
+insns_before slots slot (Some None) later = later
+insns_before slots slot (Some (Some source)) later = before_all (insn_by slots slot source) later
+
+-- the instructions of lines from a slot on
+abbrev pub insns_from : (List ℕ → Option ℕ) → ℕ → List Line → Option (List Insn)
+insns_from slots slot [] = Some []
+insns_from slots slot (line ∷ lines) = insns_before slots slot line.source (insns_from slots (slot + slots_in line.source) lines)
+
+-- the instructions of a text
+abbrev pub insns_of : List ℕ → Option (List Insn)
+insns_of text =
+    let places = places_from 0 (lines_in text) in
+    if is_map places then insns_from (slot_of places) 0 (lines_in text) else None
+
+-- a text means a program: its instructions are the program's, which has 1 to MAX_SLOTS slots
+pub record Means (text : List ℕ) (program : List Insn) : Type 0 where
+  pub reads : insns_of text ≡ Some program
+  pub is_program : IsProgram program
+
+-- ---- what the code has of these
+
+abbrev pub lines_left : Option (Bor (List ℕ)) → List Line
+lines_left None = []
+lines_left (Some text) = lines_in text.now
+
+-- the slots of all lines
+abbrev pub slots_of_lines : List Line → ℕ
+slots_of_lines [] = 0
+slots_of_lines (line ∷ lines) = slots_in line.source + slots_of_lines lines
+
+-- slots past the last that a program can have count as that one
+abbrev pub near : ℕ → ℕ
+near slot = if nat_le slot MAX_SLOTS then slot else MAX_SLOTS
+
+-- the places, of which no slot is past that one
+abbrev pub near_places : ℕ → List Line → Places
+near_places slot [] = []
+near_places slot (line ∷ lines) = place_at line.name slot ++ near_places (near (slot + slots_in line.source)) lines
+
+abbrev pub known : Labels → List ℕ → Option ℕ
+known labels name = get_by (λ k. slice_cmp nat_cmp name k.now) labels.slots
+
+-- the code's labels are these places
+pub record HasPlaces (labels : Labels) (places : Places) : Type 0 where
+  pub slots : (name : List ℕ) → known labels name ≡ slot_of places name
+  pub once : is_none labels.twice ≡ is_map places
+
+abbrev pub Near : (List ℕ → Option ℕ) → Type 0
+Near slots = (name : List ℕ) (slot : ℕ) → slots name ≡ Some slot → slot ≤ MAX_SLOTS
+
+-- what the code has of a line at a slot: its instruction, or why the lines mean no program
+abbrev pub Resolves : Labels → ℕ → Option (Option Source) → Result (Option Insn) TextError → Type 0
+Resolves labels slot source (Ok None) = ((later : Option (List Insn)) → insns_before (known labels) slot source later ≡ later) × (slots_in source ≡ 0)
+Resolves labels slot source (Ok (Some insn)) =
+    ((later : Option (List Insn)) → insns_before (known labels) slot source later ≡ before_all (Some insn) later)
+    × (slots_in source ≡ slots_taken insn) × (slot + slots_taken insn ≤ MAX_SLOTS)
+Resolves labels slot source (Err error) =
+    ((later : Option (List Insn)) → insns_before (known labels) slot source later ≡ None) ⊎ (MAX_SLOTS < slot + slots_in source)
+
+abbrev pub insns_found : Option Insn → List Insn
+insns_found None = []
+insns_found (Some insn) = insn ∷ []
+
+abbrev pub slots_found : Option Insn → ℕ
+slots_found None = 0
+slots_found (Some insn) = slots_taken insn
+
+-- a refusal, but for want of memory: the lines have no instructions, or too many
+abbrev pub Refuses : (List ℕ → Option ℕ) → List Line → TextError → Type 0
+Refuses slots lines error = error ≢ errors.Memory → (insns_from slots 0 lines ≡ None) ⊎ (MAX_SLOTS < slots_of_lines lines)

@@ -1,0 +1,72 @@
+-- Numbers of the text (docs/ASSEMBLER.md, "Numbers"): an optional "-", then decimal digits, or "0x" and hexadecimal digits.
+use Rattle.std.specs.Prelude.{◌≡◌, ◌≤◌, ◌^◌, ℕ, ℤ, pos, neg_ℤ, ◌+◌, ◌-◌, ◌%◌, ◌==◌, ◌&&◌, Bool, true, false, List, [], ◌∷◌, length, nat_lt, nat_le, Option, Some, None, option_map, if◌then◌else◌}
+use Rattle.std.specs.List.{list_all}
+use Rattle.std.specs.Char.{digit_value}
+use Rattle.std.specs.Str.Parse.{digits_value}
+use Rattle.bpf_asm.specs.declared.numbers.Magnitude.{Magnitude}
+use Rattle.bpf_asm.specs.declared.numbers.Magnitude.TheVariants.{Fits, TooGreat}
+use Rattle.bpf_asm.specs.declared.numbers.Number.{Number}
+
+-- one digit or more in the radix, and nothing else
+abbrev pub is_numeral : ℕ → List ℕ → Bool
+is_numeral radix digits = nat_lt 0 (length digits) && list_all (λ c. nat_lt (digit_value c) radix) digits
+
+-- the number that they write
+abbrev pub numeral_of : ℕ → List ℕ → Option ℕ
+numeral_of radix digits = if is_numeral radix digits then Some (digits_value radix digits) else None
+
+-- the number that a text writes without a sign: 48 is "0" and 120 is "x"
+abbrev pub magnitude_of : List ℕ → Option ℕ
+magnitude_of (c ∷ d ∷ digits) = if (c == 48) && (d == 120) then numeral_of 16 digits else numeral_of 10 (c ∷ d ∷ digits)
+magnitude_of text = numeral_of 10 text
+
+-- a number as it is written: whether "-" stands before it, and what stands behind that
+pub record Written : Type 0 where
+  pub below_zero : Bool
+  pub size : ℕ
+
+abbrev pub written : Bool → ℕ → Written
+written below_zero size = record { below_zero = below_zero; size = size }
+
+-- the number that a text writes: 45 is "-"
+abbrev pub number_of : List ℕ → Option Written
+number_of [] = None
+number_of (c ∷ cs) = if c == 45 then option_map (written true) (magnitude_of cs) else option_map (written false) (magnitude_of (c ∷ cs))
+
+-- the number that stands behind its sign, "+" (43) or "-"
+abbrev pub signed_number_of : (List ℕ → Option ℕ) → List ℕ → Option Written
+signed_number_of magnitude [] = None
+signed_number_of magnitude (c ∷ cs) =
+    if c == 43 then option_map (written false) (magnitude cs) else
+    if c == 45 then option_map (written true) (magnitude cs) else None
+
+-- the number, where a signed field holds it: most is its greatest, and below zero it goes one further
+abbrev pub in_field : ℕ → Written → Option ℤ
+in_field most w =
+    if w.below_zero then (if nat_le w.size (most + 1) then Some (neg_ℤ (pos w.size)) else None)
+    else (if nat_le w.size most then Some (pos w.size) else None)
+
+-- the number as 64 bits, those below zero modulo 2 ^ 64
+abbrev pub wide_of : Written → Option ℕ
+wide_of w =
+    if w.below_zero then (if nat_le w.size (2 ^ 63) then Some ((2 ^ 64 - w.size) % 2 ^ 64) else None)
+    else (if nat_lt w.size (2 ^ 64) then Some w.size else None)
+
+-- ---- what the code has of a number
+
+-- the code's number is this one, or this one doesn't fit 64 bits
+abbrev pub IsMagnitude : ℕ → Magnitude → Type 0
+IsMagnitude n (Fits m) = n ≡ m
+IsMagnitude n TooGreat = 2 ^ 64 ≤ n
+
+-- the code has a number exactly where there is one, and that one
+abbrev pub Counts : Option ℕ → Option Magnitude → Type 0
+Counts None None = Unit {0}
+Counts (Some n) (Some m) = IsMagnitude n m
+Counts _ _ = ⊥
+
+-- the same of a number with its sign
+abbrev pub CountsSigned : Option Written → Option Number → Type 0
+CountsSigned None None = Unit {0}
+CountsSigned (Some w) (Some n) = (w.below_zero ≡ n.below_zero) × IsMagnitude w.size n.magnitude
+CountsSigned _ _ = ⊥

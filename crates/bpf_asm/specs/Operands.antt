@@ -1,0 +1,132 @@
+-- The operands of instructions (docs/ASSEMBLER.md, "Operands").
+use Rattle.std.specs.Prelude.{ℕ, ℤ, pos, neg_ℤ, ◌+◌, ◌≤ℤ◌, ◌≡◌, ◌==◌, ◌||◌, ◌&&◌, Bool, false, List, [], ◌∷◌, length, nat_le, Option, Some, None, option_map, map, Result, Ok, Err, if◌then◌else◌}
+use Rattle.std.specs.Option.{option_and_then}
+use Rattle.std.specs.List.{list_all}
+use Rattle.bpf_insn.specs.declared.forms.Reg as registers
+use Rattle.bpf_insn.specs.declared.forms.Operand.{Operand}
+use Rattle.bpf_insn.specs.declared.forms.Operand.TheVariants.{Imm, Reg}
+use Rattle.bpf_asm.specs.declared.helpers.Helper.{Helper}
+use Rattle.bpf_asm.specs.declared.numbers.TheConstants.{GREATEST_IMMEDIATE, GREATEST_OFFSET}
+use Rattle.bpf_asm.specs.declared.operands.TheConstants.{NAME_LETTERS}
+use Rattle.bpf_asm.specs.declared.operands.Place.{Place}
+use Rattle.bpf_asm.specs.declared.operands.Target as code
+use Rattle.bpf_asm.specs.declared.operands.Parts.{Parts}
+use Rattle.bpf_asm.specs.declared.operands.Parts.TheVariants as code_parts
+use Rattle.bpf_asm.specs.Numbers.{numeral_of, magnitude_of, number_of, signed_number_of, in_field, wide_of}
+use Rattle.bpf_asm.specs.Pieces.{pieces_of, trimmed, begins_name, is_word_letter, front_of, rest_of}
+use Rattle.bpf_asm.specs.Words.{register_by_word, helper_by_word, helper_number}
+
+-- a value made of two, where both are there
+abbrev pub option_both : {A B : Type 0} → Option A → Option B → Option (A × B)
+option_both (Some a) (Some b) = Some (a, b)
+option_both _ _ = None
+
+-- ---- single operands
+
+abbrev pub immediate_of : List ℕ → Option ℤ
+immediate_of text = option_and_then (in_field GREATEST_IMMEDIATE) (number_of text)
+
+-- a register or else an immediate
+abbrev pub operand_by : Option registers.Reg → List ℕ → Option Operand
+operand_by (Some register) text = Some (Reg register)
+operand_by None text = option_map Imm (immediate_of text)
+
+abbrev pub operand_of : List ℕ → Option Operand
+operand_of text = operand_by (register_by_word text) text
+
+-- the number of a helper: its word or else an immediate
+abbrev pub id_by : Option Helper → List ℕ → Option ℤ
+id_by (Some helper) text = Some (helper_number helper)
+id_by None text = immediate_of text
+
+abbrev pub helper_of : List ℕ → Option ℤ
+helper_of text = id_by (helper_by_word text) text
+
+abbrev pub wide_number_of : List ℕ → Option ℕ
+wide_number_of text = option_and_then wide_of (number_of text)
+
+-- the bytes from the base of an address: 0 where nothing is written
+abbrev pub offset_of : List ℕ → Option ℤ
+offset_of [] = Some (pos 0)
+offset_of (c ∷ cs) = option_and_then (in_field GREATEST_OFFSET) (signed_number_of magnitude_of (c ∷ cs))
+
+abbrev pub place_by : registers.Reg × ℤ → Place
+place_by parts = record { base = parts.0; off = parts.1 }
+
+-- what stands between "[" (91) and "]" (93): a register and its offset, with no blank
+abbrev pub place_inside : List ℕ → Option Place
+place_inside inside = option_map place_by (option_both (register_by_word (front_of is_word_letter inside)) (offset_of (rest_of is_word_letter inside)))
+
+abbrev pub place_between : List (List ℕ) → Option Place
+place_between (inside ∷ [] ∷ []) = place_inside inside
+place_between _ = None
+
+abbrev pub place_of : List ℕ → Option Place
+place_of [] = None
+place_of (c ∷ cs) = if c == 91 then place_between (pieces_of (λ d. d == 93) cs) else None
+
+abbrev pub starts_name : List ℕ → Bool
+starts_name [] = false
+starts_name (c ∷ cs) = begins_name c
+
+-- a letter or "_", then letters, digits and "_", at most NAME_LETTERS in all
+abbrev pub is_name : List ℕ → Bool
+is_name text = starts_name text && (list_all is_word_letter text && nat_le (length text) NAME_LETTERS)
+
+-- where a jump goes: so many slots on from the next one, or to a label
+pub data Target : Type 0 where
+  distance : ℤ → Target
+  label : List ℕ → Target
+
+-- a sign and a decimal number, where a field of this greatest number holds it, or a label
+abbrev pub target_of : ℕ → List ℕ → Option Target
+target_of most [] = None
+target_of most (c ∷ cs) =
+    if (c == 43) || (c == 45) then option_map distance (option_and_then (in_field most) (signed_number_of (numeral_of 10) (c ∷ cs))) else
+    if is_name (c ∷ cs) then Some (label (c ∷ cs)) else None
+
+-- ---- the operands of an instruction, parted by commas (44), with blanks around each
+
+pub data Operands : Type 0 where
+  one : List ℕ → Operands
+  two : List ℕ → List ℕ → Operands
+  three : List ℕ → List ℕ → List ℕ → Operands
+  more : Operands
+
+abbrev pub operands_by : List (List ℕ) → Operands
+operands_by (a ∷ []) = one a
+operands_by (a ∷ b ∷ []) = two a b
+operands_by (a ∷ b ∷ c ∷ []) = three a b c
+operands_by _ = more
+
+abbrev pub parts_of : List ℕ → List (List ℕ)
+parts_of text = map trimmed (pieces_of (λ c. c == 44) text)
+
+abbrev pub operands_of : List ℕ → Operands
+operands_of text = operands_by (parts_of text)
+
+-- ---- what the code has of these
+
+-- the code has a value exactly where there is one, and that one
+abbrev pub Reads : {A E : Type 0} → Option A → Result A E → Type 0
+Reads wanted (Ok value) = wanted ≡ Some value
+Reads wanted (Err error) = wanted ≡ None
+
+abbrev pub target_in : code.Target → Target
+target_in (code.TheVariants.Distance off) = distance off
+target_in (code.TheVariants.Label name) = label name.now
+
+abbrev pub ReadsTarget : {E : Type 0} → Option Target → Result code.Target E → Type 0
+ReadsTarget wanted (Ok target) = wanted ≡ Some (target_in target)
+ReadsTarget wanted (Err error) = wanted ≡ None
+
+abbrev pub operands_in : Parts → Operands
+operands_in (code_parts.One a) = one a.now
+operands_in (code_parts.Two a b) = two a.now b.now
+operands_in (code_parts.Three a b c) = three a.now b.now c.now
+operands_in code_parts.More = more
+
+-- the distance is within a field of this greatest number
+abbrev pub IsWithin : ℕ → code.Target → Type 0
+IsWithin most (code.TheVariants.Distance off) = (neg_ℤ (pos (most + 1)) ≤ℤ off) × (off ≤ℤ pos most)
+IsWithin most (code.TheVariants.Label name) = Unit {0}

@@ -1,0 +1,151 @@
+//! The canonical line of an instruction (docs/ASSEMBLER.md, "Canonical text").
+
+ghost use Rattle.std.specs.Prelude.{◌≡◌, Some};
+ghost use Rattle.bpf_asm.specs.Canonical.{callee_text, form_in, line_of, place_text, source_text, with_sign};
+ghost use Rattle.bpf_asm.specs.Words.{helper_by_number};
+
+use crate::helpers::helper_by_number;
+use crate::registers::register_word;
+use crate::words::Form;
+use bpf_insn::{Insn, Operand, Reg};
+use std::fmt;
+
+/// A number that is written with its sign always.
+#[derive(Clone, Copy)]
+struct WithSign(i64);
+
+impl fmt::Display for WithSign {
+    ghost output = { λ number. Some (with_sign number.0) };
+
+    fn fmt<W: fmt::Write>(&self, f: &mut fmt::Formatter<W>) -> fmt::Result {
+        let number = self.0;
+        if number < 0 {
+            write!(f, "{number}")
+        } else {
+            write!(f, "+{number}")
+        }
+    }
+}
+
+/// A register or an immediate.
+#[derive(Clone, Copy)]
+struct Source(Operand);
+
+impl fmt::Display for Source {
+    ghost output = { λ source. Some (source_text source.0) };
+
+    fn fmt<W: fmt::Write>(&self, f: &mut fmt::Formatter<W>) -> fmt::Result {
+        match self.0 {
+            Operand::Reg(src) => write!(f, "{}", register_word(src)),
+            Operand::Imm(imm) => write!(f, "{imm}"),
+        }
+    }
+}
+
+/// The place that a load or a store names.
+#[derive(Clone, Copy)]
+struct Place {
+    base: Reg,
+    off: i16,
+}
+
+impl fmt::Display for Place {
+    ghost output = { λ place. Some (place_text place.base place.off) };
+
+    fn fmt<W: fmt::Write>(&self, f: &mut fmt::Formatter<W>) -> fmt::Result {
+        let base = register_word(self.base);
+        let off = WithSign(self.off as i64);
+        write!(f, "[{base}{off}]")
+    }
+}
+
+/// What a call names: a helper by its word, or by its number where it has none.
+#[derive(Clone, Copy)]
+struct Callee(i32);
+
+impl fmt::Display for Callee {
+    ghost output = { λ callee. Some (callee_text callee.0 (helper_by_number callee.0)) };
+
+    fn fmt<W: fmt::Write>(&self, f: &mut fmt::Formatter<W>) -> fmt::Result {
+        match helper_by_number(self.0) {
+            Some(helper) => write!(f, "{}", helper.word()),
+            None => {
+                let id = self.0;
+                write!(f, "{id}")
+            }
+        }
+    }
+}
+
+/// All of an instruction but its operands.
+fn form_in(insn: Insn) -> Form
+    ensures { result ≡ form_in insn }
+{
+    match insn {
+        Insn::Alu { op, width, .. } => Form::Alu(op, width),
+        Insn::Neg { width, .. } => Form::Neg(width),
+        Insn::Movsx { kind, .. } => Form::Movsx(kind),
+        Insn::Swap { order, bits, .. } => Form::Swap(order, bits),
+        Insn::Ja { .. } => Form::Ja,
+        Insn::JaLong { .. } => Form::JaLong,
+        Insn::Branch { cond, width, .. } => Form::Branch(cond, width),
+        Insn::Call { .. } => Form::Call,
+        Insn::Exit => Form::Exit,
+        Insn::Load { size, .. } => Form::Load(size),
+        Insn::LoadSx { size, .. } => Form::LoadSx(size),
+        Insn::StoreReg { size, .. } => Form::StoreReg(size),
+        Insn::StoreImm { size, .. } => Form::StoreImm(size),
+        Insn::LoadImm64 { .. } => Form::LoadImm64,
+    }
+}
+
+/// The line of an instruction, without its end.
+#[derive(Clone, Copy)]
+pub struct Line {
+    pub insn: Insn,
+}
+
+impl fmt::Display for Line {
+    ghost output = { λ line. Some (line_of line.insn) };
+
+    fn fmt<W: fmt::Write>(&self, f: &mut fmt::Formatter<W>) -> fmt::Result {
+        let word = form_in(self.insn).word();
+        match self.insn {
+            Insn::Alu { dst, src, .. } => {
+                write!(f, "{word} {}, {}", register_word(dst), Source(src))
+            }
+            Insn::Neg { dst, .. } | Insn::Swap { dst, .. } => {
+                write!(f, "{word} {}", register_word(dst))
+            }
+            Insn::Movsx { dst, src, .. } => {
+                write!(f, "{word} {}, {}", register_word(dst), register_word(src))
+            }
+            Insn::Ja { off } => write!(f, "{word} {}", WithSign(off as i64)),
+            Insn::JaLong { off } => write!(f, "{word} {}", WithSign(off as i64)),
+            Insn::Branch { dst, src, off, .. } => {
+                let target = WithSign(off as i64);
+                write!(
+                    f,
+                    "{word} {}, {}, {target}",
+                    register_word(dst),
+                    Source(src)
+                )
+            }
+            Insn::Call { id } => write!(f, "{word} {}", Callee(id)),
+            Insn::Exit => write!(f, "{word}"),
+            Insn::Load { dst, base, off, .. } => {
+                write!(f, "{word} {}, {}", register_word(dst), Place { base, off })
+            }
+            Insn::LoadSx { dst, base, off, .. } => {
+                write!(f, "{word} {}, {}", register_word(dst), Place { base, off })
+            }
+            Insn::StoreReg { base, off, src, .. } => {
+                write!(f, "{word} {}, {}", Place { base, off }, register_word(src))
+            }
+            Insn::StoreImm { base, off, imm, .. } => {
+                write!(f, "{word} {}, {imm}", Place { base, off })
+            }
+            Insn::LoadImm64 { dst, value } => write!(f, "{word} {}, {value}", register_word(dst)),
+        }
+    }
+}

@@ -1,0 +1,426 @@
+//! What one line says.
+
+ghost use Rattle.std.specs.Prelude.{◌≡◌, ◌≤◌, IfOk};
+ghost use Rattle.bpf_insn.specs.declared.forms.Insn.TheVariants as insn;
+ghost use Rattle.bpf_asm.specs.declared.words.Form.TheVariants as form;
+ghost use Rattle.bpf_asm.specs.declared.numbers.TheConstants.{GREATEST_IMMEDIATE, GREATEST_OFFSET};
+ghost use Rattle.bpf_asm.specs.Operands.{Reads, ReadsTarget, IsWithin, target_in, operands_in, operand_of, place_of, immediate_of, wide_number_of, helper_of, target_of};
+ghost use Rattle.bpf_asm.specs.Pieces.{without_comment};
+ghost use Rattle.bpf_asm.specs.Statements.{single_by, pair_by, nothing_of, condition_of, ReadsCondition, whole, jump_to, source_in, source_by, ReadsSource, ends_word, source_behind, source_of, written_in, named, line_by, line_of, line_in};
+ghost use Rattle.bpf_asm.specs.Words.{register_by_word};
+
+use crate::forms::form_of;
+use crate::numbers::{GREATEST_IMMEDIATE, GREATEST_OFFSET};
+use crate::operands::{
+    Fault, Parts, Place, Target, is_name, read_helper, read_immediate, read_operand, read_parts,
+    read_place, read_register, read_target, read_wide_number,
+};
+use crate::pieces::{Letters, first_piece, split_front};
+use crate::words::Form;
+use bpf_insn::{AluOp, Cond, Insn, Operand, Reg, Size, SxSize, Width};
+
+/// An instruction as it is written: a jump to a label still has the distance 0.
+#[derive(Clone, Copy, Debug)]
+pub struct Source<'a> {
+    pub insn: Insn,
+    pub label: Option<&'a [u8]>,
+}
+
+/// A line: its label, and its instruction or what is wrong with it.
+#[derive(Clone, Copy, Debug)]
+pub struct Line<'a> {
+    pub name: Option<&'a [u8]>,
+    pub source: Result<Option<Source<'a>>, Fault>,
+}
+
+fn nothing(parts: Parts) -> Result<(), Fault>
+    ensures { Reads (single_by nothing_of (operands_in parts.entry)) result }
+{
+    match parts {
+        Parts::One([]) => Ok(()),
+        _ => Err(Fault::BadOperand),
+    }
+}
+
+fn one_register(parts: Parts) -> Result<Reg, Fault>
+    ensures { Reads (single_by register_by_word (operands_in parts.entry)) result }
+{
+    match parts {
+        Parts::One(a) => read_register(a),
+        _ => Err(Fault::BadOperand),
+    }
+}
+
+fn one_helper(parts: Parts) -> Result<i32, Fault>
+    ensures { Reads (single_by helper_of (operands_in parts.entry)) result }
+{
+    match parts {
+        Parts::One(a) => read_helper(a),
+        _ => Err(Fault::BadOperand),
+    }
+}
+
+fn one_target(parts: Parts<'_>, most: u32) -> Result<Target<'_>, Fault>
+    requires { most ≤ GREATEST_IMMEDIATE }
+    ensures target { ReadsTarget (single_by (target_of most) (operands_in parts.entry)) result }
+    ensures within { IfOk result (IsWithin most) }
+{
+    match parts {
+        Parts::One(a) => read_target(a, most),
+        _ => Err(Fault::BadOperand),
+    }
+}
+
+fn two_registers(parts: Parts) -> Result<(Reg, Reg), Fault>
+    ensures { Reads (pair_by register_by_word register_by_word (operands_in parts.entry)) result }
+{
+    match parts {
+        Parts::Two(a, b) => {
+            let first = read_register(a)?;
+            let second = read_register(b)?;
+            Ok((first, second))
+        }
+        _ => Err(Fault::BadOperand),
+    }
+}
+
+fn register_and_operand(parts: Parts) -> Result<(Reg, Operand), Fault>
+    ensures { Reads (pair_by register_by_word operand_of (operands_in parts.entry)) result }
+{
+    match parts {
+        Parts::Two(a, b) => {
+            let dst = read_register(a)?;
+            let src = read_operand(b)?;
+            Ok((dst, src))
+        }
+        _ => Err(Fault::BadOperand),
+    }
+}
+
+fn register_and_place(parts: Parts) -> Result<(Reg, Place), Fault>
+    ensures { Reads (pair_by register_by_word place_of (operands_in parts.entry)) result }
+{
+    match parts {
+        Parts::Two(a, b) => {
+            let dst = read_register(a)?;
+            let place = read_place(b)?;
+            Ok((dst, place))
+        }
+        _ => Err(Fault::BadOperand),
+    }
+}
+
+fn register_and_wide_number(parts: Parts) -> Result<(Reg, u64), Fault>
+    ensures { Reads (pair_by register_by_word wide_number_of (operands_in parts.entry)) result }
+{
+    match parts {
+        Parts::Two(a, b) => {
+            let dst = read_register(a)?;
+            let value = read_wide_number(b)?;
+            Ok((dst, value))
+        }
+        _ => Err(Fault::BadOperand),
+    }
+}
+
+#[tactic(auto, using(crate::proofs::StatementLemmas::second_missing))]
+fn place_and_register(parts: Parts) -> Result<(Place, Reg), Fault>
+    ensures { Reads (pair_by place_of register_by_word (operands_in parts.entry)) result }
+{
+    match parts {
+        Parts::Two(a, b) => {
+            let src = read_register(b)?;
+            let place = read_place(a)?;
+            Ok((place, src))
+        }
+        _ => Err(Fault::BadOperand),
+    }
+}
+
+fn place_and_immediate(parts: Parts) -> Result<(Place, i32), Fault>
+    ensures { Reads (pair_by place_of immediate_of (operands_in parts.entry)) result }
+{
+    let Parts::Two(a, b) = parts else {
+        return Err(Fault::BadOperand);
+    };
+    match read_place(a) {
+        Ok(place) => {
+            let imm = read_immediate(b)?;
+            Ok((place, imm))
+        }
+        Err(fault) => Err(fault.or_lower(read_immediate(b).err())),
+    }
+}
+
+/// A register, what it is compared with, and where the jump goes.
+#[tactic(auto, using(crate::proofs::StatementLemmas::second_missing))]
+fn condition(parts: Parts<'_>) -> Result<(Reg, Operand, Target<'_>), Fault>
+    ensures condition { ReadsCondition (condition_of (operands_in parts.entry)) result }
+    ensures within { IfOk result (λ x. IsWithin GREATEST_OFFSET x.2) }
+{
+    let Parts::Three(a, b, c) = parts else {
+        return Err(Fault::BadOperand);
+    };
+    let dst = read_register(a)?;
+    match read_operand(b) {
+        Ok(src) => {
+            let target = read_target(c, GREATEST_OFFSET)?;
+            Ok((dst, src, target))
+        }
+        Err(fault) => Err(fault.or_lower(read_target(c, GREATEST_OFFSET).err())),
+    }
+}
+
+fn whole(insn: Insn) -> Source<'static>
+    ensures { source_in result ≡ whole insn }
+{
+    Source { insn, label: None }
+}
+
+fn jump(target: Target<'_>) -> Source<'_>
+    requires { IsWithin GREATEST_OFFSET target }
+    ensures { source_in result ≡ jump_to insn.Ja (target_in target.entry) }
+{
+    match target {
+        Target::Distance(off) => Source {
+            insn: Insn::Ja { off: off as i16 },
+            label: None,
+        },
+        Target::Label(name) => Source {
+            insn: Insn::Ja { off: 0 },
+            label: Some(name),
+        },
+    }
+}
+
+fn long_jump(target: Target<'_>) -> Source<'_>
+    ensures { source_in result ≡ jump_to insn.JaLong (target_in target.entry) }
+{
+    match target {
+        Target::Distance(off) => Source {
+            insn: Insn::JaLong { off },
+            label: None,
+        },
+        Target::Label(name) => Source {
+            insn: Insn::JaLong { off: 0 },
+            label: Some(name),
+        },
+    }
+}
+
+fn branch(cond: Cond, width: Width, dst: Reg, src: Operand, target: Target<'_>) -> Source<'_>
+    requires { IsWithin GREATEST_OFFSET target }
+    ensures { source_in result ≡ jump_to (insn.Branch cond width dst src) (target_in target.entry) }
+{
+    let (off, label) = match target {
+        Target::Distance(off) => (off as i16, None),
+        Target::Label(name) => (0, Some(name)),
+    };
+    Source {
+        insn: Insn::Branch {
+            cond,
+            width,
+            dst,
+            src,
+            off,
+        },
+        label,
+    }
+}
+
+fn alu(op: AluOp, width: Width, parts: Parts<'_>) -> Result<Source<'_>, Fault>
+    ensures { ReadsSource (source_by (form.Alu op width) (operands_in parts.entry)) result }
+{
+    let (dst, src) = register_and_operand(parts)?;
+    Ok(whole(Insn::Alu {
+        op,
+        width,
+        dst,
+        src,
+    }))
+}
+
+fn load(size: Size, parts: Parts<'_>) -> Result<Source<'_>, Fault>
+    ensures { ReadsSource (source_by (form.Load size) (operands_in parts.entry)) result }
+{
+    let (dst, place) = register_and_place(parts)?;
+    let Place { base, off } = place;
+    Ok(whole(Insn::Load {
+        size,
+        dst,
+        base,
+        off,
+    }))
+}
+
+fn load_sx(size: SxSize, parts: Parts<'_>) -> Result<Source<'_>, Fault>
+    ensures { ReadsSource (source_by (form.LoadSx size) (operands_in parts.entry)) result }
+{
+    let (dst, place) = register_and_place(parts)?;
+    let Place { base, off } = place;
+    Ok(whole(Insn::LoadSx {
+        size,
+        dst,
+        base,
+        off,
+    }))
+}
+
+fn store_reg(size: Size, parts: Parts<'_>) -> Result<Source<'_>, Fault>
+    ensures { ReadsSource (source_by (form.StoreReg size) (operands_in parts.entry)) result }
+{
+    let (place, src) = place_and_register(parts)?;
+    let Place { base, off } = place;
+    Ok(whole(Insn::StoreReg {
+        size,
+        base,
+        off,
+        src,
+    }))
+}
+
+fn store_imm(size: Size, parts: Parts<'_>) -> Result<Source<'_>, Fault>
+    ensures { ReadsSource (source_by (form.StoreImm size) (operands_in parts.entry)) result }
+{
+    let (place, imm) = place_and_immediate(parts)?;
+    let Place { base, off } = place;
+    Ok(whole(Insn::StoreImm {
+        size,
+        base,
+        off,
+        imm,
+    }))
+}
+
+/// The instruction of a form and its operands.
+fn read_source(form: Form, parts: Parts<'_>) -> Result<Source<'_>, Fault>
+    ensures { ReadsSource (source_by form (operands_in parts.entry)) result }
+{
+    match form {
+        Form::Alu(op, width) => alu(op, width, parts),
+        Form::Neg(width) => {
+            let dst = one_register(parts)?;
+            Ok(whole(Insn::Neg { width, dst }))
+        }
+        Form::Movsx(kind) => {
+            let (dst, src) = two_registers(parts)?;
+            Ok(whole(Insn::Movsx { kind, dst, src }))
+        }
+        Form::Swap(order, bits) => {
+            let dst = one_register(parts)?;
+            Ok(whole(Insn::Swap { order, bits, dst }))
+        }
+        Form::Ja => {
+            let target = one_target(parts, GREATEST_OFFSET)?;
+            Ok(jump(target))
+        }
+        Form::JaLong => {
+            let target = one_target(parts, GREATEST_IMMEDIATE)?;
+            Ok(long_jump(target))
+        }
+        Form::Branch(cond, width) => {
+            let (dst, src, target) = condition(parts)?;
+            Ok(branch(cond, width, dst, src, target))
+        }
+        Form::Call => {
+            let id = one_helper(parts)?;
+            Ok(whole(Insn::Call { id }))
+        }
+        Form::Exit => {
+            nothing(parts)?;
+            Ok(whole(Insn::Exit))
+        }
+        Form::Load(size) => load(size, parts),
+        Form::LoadSx(size) => load_sx(size, parts),
+        Form::StoreReg(size) => store_reg(size, parts),
+        Form::StoreImm(size) => store_imm(size, parts),
+        Form::LoadImm64 => {
+            let (dst, value) = register_and_wide_number(parts)?;
+            Ok(whole(Insn::LoadImm64 { dst, value }))
+        }
+    }
+}
+
+/// Whether a word ends here: before a blank, the end, or the `[` of an operand.
+fn ends_word(rest: &[u8]) -> bool
+    ensures { result ≡ ends_word rest.now }
+{
+    match rest {
+        [] => true,
+        [byte, ..] => Letters::Blank.has(*byte) || *byte == b'[',
+    }
+}
+
+/// The instruction of a word and of what stands behind it.
+fn source_behind<'a>(word: &'a [u8], rest: &'a [u8]) -> Result<Option<Source<'a>>, Fault>
+    ensures { written_in result ≡ source_behind word.now rest.now }
+{
+    if word.is_empty() {
+        return if rest.is_empty() {
+            Ok(None)
+        } else {
+            Err(Fault::UnknownWord)
+        };
+    }
+    let Some(form) = form_of(word) else {
+        return Err(Fault::UnknownWord);
+    };
+    if !ends_word(rest) {
+        return Err(Fault::BadOperand);
+    }
+    Ok(Some(read_source(form, read_parts(rest))?))
+}
+
+/// The instruction of a line without its label.
+fn source_of(text: &[u8]) -> Result<Option<Source<'_>>, Fault>
+    ensures { written_in result ≡ source_of text.now }
+{
+    let (_, front) = split_front(text, Letters::Blank);
+    let (word, rest) = split_front(front, Letters::Word);
+    source_behind(word, rest)
+}
+
+/// A label, and what stands behind its colon.
+fn named<'a>(name: &'a [u8], rest: &'a [u8]) -> Line<'a>
+    ensures { line_in result ≡ named name.now rest.now }
+{
+    if is_name(name) {
+        Line {
+            name: Some(name),
+            source: source_of(rest),
+        }
+    } else {
+        Line {
+            name: None,
+            source: Err(Fault::UnknownWord),
+        }
+    }
+}
+
+fn line_by<'a>(word: &'a [u8], rest: &'a [u8]) -> Line<'a>
+    ensures { line_in result ≡ line_by word.now rest.now }
+{
+    match rest {
+        [b':', behind @ ..] => named(word, behind),
+        _ => Line {
+            name: None,
+            source: source_behind(word, rest),
+        },
+    }
+}
+
+fn without_comment(line: &[u8]) -> &[u8]
+    ensures { result.now ≡ without_comment line.now }
+{
+    let (code, _) = first_piece(line, b'#');
+    code
+}
+
+/// What a line says.
+pub fn read_line(text: &[u8]) -> Line<'_>
+    ensures { line_in result ≡ line_of text.now }
+{
+    let (_, front) = split_front(without_comment(text), Letters::Blank);
+    let (word, rest) = split_front(front, Letters::Word);
+    line_by(word, rest)
+}

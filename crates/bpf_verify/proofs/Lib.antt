@@ -1,0 +1,9 @@
+pub mod MarkLaws
+pub mod KindLaws
+pub mod RuleLaws
+pub mod StateLaws
+pub mod Walking
+pub mod LengthLaws
+pub mod RulesGrow
+pub mod OutcomesGrow
+pub mod VerdictLaws

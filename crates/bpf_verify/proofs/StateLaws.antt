@@ -1,0 +1,93 @@
+-- Containment of abstract states, and what edges leave where they meet.
+use Rattle.std.proofs.Common.{◌≡◌, Bool, true, false, ◌&&◌, refl, subst, arith}
+use Rattle.value_range.specs.Span.{Span, IsInside, hull_of}
+use Rattle.node_env.specs.declared.region.Region.TheVariants.{Mem, Stack}
+use Rattle.bpf_verify.specs.declared.kind.Kind.{Kind}
+use Rattle.bpf_verify.specs.declared.kind.Kind.TheVariants.{Unset, Number, Pointer}
+use Rattle.bpf_verify.specs.States.{AbstractState, IsKindIn, IsContainedIn, joined_kind, joined_state}
+
+pub inside_itself : (a : Span) → IsInside a a
+inside_itself a = record { low = omega arith; high = omega arith }
+
+pub inside_further : (a b c : Span) → IsInside a b → IsInside b c → IsInside a c
+inside_further a b c p q = record { low = omega (arith, p.low, q.low); high = omega (arith, p.high, q.high) }
+
+pub hull_first : (a b : Span) → IsInside a (hull_of a b)
+hull_first a b = record { low = omega arith; high = omega arith }
+
+pub hull_second : (a b : Span) → IsInside b (hull_of a b)
+hull_second a b = record { low = omega arith; high = omega arith }
+
+pub kind_in_itself : (k : Kind) → IsKindIn k k
+kind_in_itself Unset = tt
+kind_in_itself (Number a) = (a, refl, inside_itself a)
+kind_in_itself (Pointer region a) = (a, refl, inside_itself a)
+
+pub kind_further : (k l m : Kind) → IsKindIn k l → IsKindIn l m → IsKindIn k m
+kind_further k l Unset p q = tt
+kind_further k l (Number c) p (b, e, g) =
+    let h = subst (IsKindIn k) e p in (h.0, h.1, inside_further h.0 b c h.2 g)
+kind_further k l (Pointer region c) p (b, e, g) =
+    let h = subst (IsKindIn k) e p in (h.0, h.1, inside_further h.0 b c h.2 g)
+
+joined_first_kind : (k l : Kind) → IsKindIn k (joined_kind k l)
+joined_first_kind Unset l = tt
+joined_first_kind (Number a) Unset = tt
+joined_first_kind (Number a) (Number b) = (a, refl, hull_first a b)
+joined_first_kind (Number a) (Pointer region b) = tt
+joined_first_kind (Pointer region a) Unset = tt
+joined_first_kind (Pointer region a) (Number b) = tt
+joined_first_kind (Pointer Mem a) (Pointer Mem b) = (a, refl, hull_first a b)
+joined_first_kind (Pointer Stack a) (Pointer Stack b) = (a, refl, hull_first a b)
+joined_first_kind (Pointer Mem a) (Pointer Stack b) = tt
+joined_first_kind (Pointer Stack a) (Pointer Mem b) = tt
+
+joined_second_kind : (k l : Kind) → IsKindIn l (joined_kind k l)
+joined_second_kind Unset l = tt
+joined_second_kind (Number a) Unset = tt
+joined_second_kind (Number a) (Number b) = (b, refl, hull_second a b)
+joined_second_kind (Number a) (Pointer region b) = tt
+joined_second_kind (Pointer region a) Unset = tt
+joined_second_kind (Pointer region a) (Number b) = tt
+joined_second_kind (Pointer Mem a) (Pointer Mem b) = (b, refl, hull_second a b)
+joined_second_kind (Pointer Stack a) (Pointer Stack b) = (b, refl, hull_second a b)
+joined_second_kind (Pointer Mem a) (Pointer Stack b) = tt
+joined_second_kind (Pointer Stack a) (Pointer Mem b) = tt
+
+and_true : (a b : Bool) → (a && b) ≡ true → (a ≡ true) × (b ≡ true)
+and_true true b e = (refl, e)
+and_true false b e = absurd cc
+
+pub contained_in_itself : (A : AbstractState) → IsContainedIn A A
+contained_in_itself A = record { kinds = λ n. kind_in_itself (A.kinds n); written = λ b e. e }
+
+pub contained_further : (A B C : AbstractState) → IsContainedIn A B → IsContainedIn B C → IsContainedIn A C
+contained_further A B C p q =
+    record {
+      kinds = λ n. kind_further (A.kinds n) (B.kinds n) (C.kinds n) (p.kinds n) (q.kinds n);
+      written = λ b e. p.written b (q.written b e);
+    }
+
+pub joined_first : (A C : AbstractState) → IsContainedIn A (joined_state A C)
+joined_first A C = record { kinds = λ n. joined_first_kind (A.kinds n) (C.kinds n); written = λ b e. (and_true (A.written b) (C.written b) e).0 }
+
+pub joined_second : (A C : AbstractState) → IsContainedIn C (joined_state A C)
+joined_second A C = record { kinds = λ n. joined_second_kind (A.kinds n) (C.kinds n); written = λ b e. (and_true (A.written b) (C.written b) e).1 }
+
+-- ---- the join is the least that contains both
+
+hull_within : (a b c : Span) → IsInside a c → IsInside b c → IsInside (hull_of a b) c
+hull_within a b c p q = record { low = omega (arith, p.low, q.low); high = omega (arith, p.high, q.high) }
+
+joined_kind_within : (k l m : Kind) → IsKindIn k m → IsKindIn l m → IsKindIn (joined_kind k l) m
+joined_kind_within k l Unset p q = tt
+joined_kind_within k l (Number c) (a, e, f) (b, g, h) = rw (e, g) (hull_of a b, refl, hull_within a b c f h)
+joined_kind_within k l (Pointer Mem c) (a, e, f) (b, g, h) = rw (e, g) (hull_of a b, refl, hull_within a b c f h)
+joined_kind_within k l (Pointer Stack c) (a, e, f) (b, g, h) = rw (e, g) (hull_of a b, refl, hull_within a b c f h)
+
+pub joined_within : (A B C : AbstractState) → IsContainedIn A C → IsContainedIn B C → IsContainedIn (joined_state A B) C
+joined_within A B C p q =
+    record {
+      kinds = λ n. joined_kind_within (A.kinds n) (B.kinds n) (C.kinds n) (p.kinds n) (q.kinds n);
+      written = λ b e. rw (p.written b e, q.written b e) refl;
+    }

@@ -1,0 +1,12 @@
+pub mod States
+pub mod Rules
+pub mod Outcomes
+pub mod Typable
+pub mod Paths
+pub mod Accepted
+pub mod Marks
+pub mod Rows
+pub mod Parts
+pub mod Walk
+pub mod Lengths
+pub mod VerifiedParts

@@ -1,0 +1,153 @@
+-- What is known after an instruction that keeps the rules (docs/VERIFIER.md, "Outcomes").
+use Rattle.std.specs.Prelude.{ℕ, ◌+◌, ◌-◌, ◌*◌, ◌==◌, Bool, true, false, ◌||◌, ◌&&◌, nat_le, nat_lt, Option, Some, None, if◌then◌else◌, ℤ}
+use Rattle.node_env.specs.Env.{Extent}
+use Rattle.node_env.specs.Helpers.{helper_of}
+use Rattle.node_env.specs.declared.region.Region.TheVariants.{Mem, Stack}
+use Rattle.node_env.specs.declared.helper.Helper.{Helper}
+use Rattle.node_env.specs.declared.helper.Helper.TheVariants.{Id, Recv, Send, Coin}
+use Rattle.bpf_insn.specs.declared.forms.Reg.{Reg}
+use Rattle.bpf_insn.specs.declared.forms.Width.{Width}
+use Rattle.bpf_insn.specs.declared.forms.Width.TheVariants.{W32, W64}
+use Rattle.bpf_insn.specs.declared.forms.AluOp.{AluOp}
+use Rattle.bpf_insn.specs.declared.forms.AluOp.TheVariants.{Add, Sub, Mov}
+use Rattle.bpf_insn.specs.declared.forms.Cond.{Cond}
+use Rattle.bpf_insn.specs.declared.forms.Operand.{Operand}
+use Rattle.bpf_insn.specs.declared.forms.Operand.TheVariants as operand
+use Rattle.bpf_insn.specs.declared.forms.Insn.{Insn}
+use Rattle.bpf_insn.specs.declared.forms.Insn.TheVariants as i
+use Rattle.bpf_insn.specs.declared.edges.Way.{Way}
+use Rattle.bpf_insn.specs.declared.edges.Way.TheVariants.{Onward, Jumping}
+use Rattle.bpf_insn.specs.Registers.{register_number}
+use Rattle.bpf_insn.specs.Edges.{moved}
+use Rattle.bpf_insn.specs.Operands.{access_bytes}
+use Rattle.value_range.specs.Span.{Span, span, just, full_of, is_single, meet_of}
+use Rattle.value_range.specs.Results.{alu_of, neg_of, movsx_of, swap_of}
+use Rattle.value_range.specs.Conditions.{branch_of}
+use Rattle.bpf_verify.specs.declared.kind.Kind.{Kind}
+use Rattle.bpf_verify.specs.declared.kind.Kind.TheVariants.{Unset, Number, Pointer}
+use Rattle.bpf_verify.specs.States.{AbstractState, kind_of}
+use Rattle.bpf_verify.specs.Rules.{operand_kind}
+
+-- ---- registers
+
+abbrev pub put_kind : (ℕ → Kind) → ℕ → Kind → ℕ → Kind
+put_kind kinds number kind other = if other == number then kind else kinds other
+
+abbrev pub with_kind : AbstractState → Reg → Kind → AbstractState
+with_kind A register kind = record A { kinds = put_kind A.kinds (register_number register) kind }
+
+-- ---- arithmetic
+
+abbrev pub sum_kind : Kind → Kind → Kind
+sum_kind Unset b = Unset
+sum_kind (Number a) Unset = Unset
+sum_kind (Number a) (Number b) = Number (alu_of Add W64 a b)
+sum_kind (Number a) (Pointer region b) = Pointer region (alu_of Add W64 a b)
+sum_kind (Pointer region a) Unset = Unset
+sum_kind (Pointer region a) (Number b) = Pointer region (alu_of Add W64 a b)
+sum_kind (Pointer region a) (Pointer other b) = Unset
+
+abbrev pub difference_kind : Kind → Kind → Kind
+difference_kind Unset b = Unset
+difference_kind (Number a) Unset = Unset
+difference_kind (Number a) (Number b) = Number (alu_of Sub W64 a b)
+difference_kind (Number a) (Pointer region b) = Unset
+difference_kind (Pointer region a) Unset = Unset
+difference_kind (Pointer region a) (Number b) = Pointer region (alu_of Sub W64 a b)
+difference_kind (Pointer region a) (Pointer other b) = Unset
+
+abbrev pub of_number : (Span → Span) → Kind → Kind
+of_number result Unset = Unset
+of_number result (Number a) = Number (result a)
+of_number result (Pointer region a) = Unset
+
+abbrev pub of_numbers : (Span → Span → Span) → Kind → Kind → Kind
+of_numbers result Unset b = Unset
+of_numbers result (Number a) b = of_number (result a) b
+of_numbers result (Pointer region a) b = Unset
+
+-- of a move the first operand is taken equal to the second; one of 64 bits copies a kind
+abbrev pub alu_kind : AluOp → Width → Kind → Kind → Kind
+alu_kind Mov W64 a b = b
+alu_kind Mov W32 a b = of_number (λ n. alu_of Mov W32 n n) b
+alu_kind Add W64 a b = sum_kind a b
+alu_kind Sub W64 a b = difference_kind a b
+alu_kind op width a b = of_numbers (alu_of op width) a b
+
+-- ---- loads and stores
+
+abbrev pub is_between : ℕ → ℕ → ℕ → Bool
+is_between first end byte = nat_le first byte && nat_lt byte end
+
+-- so many bytes from a place on are written too
+abbrev pub with_written : AbstractState → Option ℕ → ℕ → AbstractState
+with_written A None count = A
+with_written A (Some first) count = record A { written = λ byte. is_between first (first + count) byte || A.written byte }
+
+-- a store to one place of the stack writes its bytes; where the place isn't known, none is surely written
+abbrev pub stored_at : AbstractState → Kind → ℤ → ℕ → AbstractState
+stored_at A Unset off count = A
+stored_at A (Number a) off count = A
+stored_at A (Pointer Mem a) off count = A
+stored_at A (Pointer Stack a) off count = if is_single a then with_written A (moved a.lo off) count else A
+
+-- ---- branches
+
+abbrev pub is_taken : Way → Bool
+is_taken Onward = false
+is_taken Jumping = true
+
+abbrev pub with_meet : AbstractState → Reg → Option Span → Option AbstractState
+with_meet A register None = None
+with_meet A register (Some m) = Some (with_kind A register (Number m))
+
+-- both operands are what the condition leaves of them; one register on both sides has what both leave
+abbrev pub refined_by : AbstractState → Reg → Operand → Option (Span × Span) → Option AbstractState
+refined_by A dst src None = None
+refined_by A dst (operand.Imm imm) (Some pair) = Some (with_kind A dst (Number pair.0))
+refined_by A dst (operand.Reg register) (Some pair) =
+    if register_number register == register_number dst
+    then with_meet A dst (meet_of pair.0 pair.1)
+    else Some (with_kind (with_kind A dst (Number pair.0)) register (Number pair.1))
+
+abbrev pub branch_outcome : AbstractState → Cond → Width → Reg → Operand → Bool → Kind → Kind → Option AbstractState
+branch_outcome A cond width dst src taken Unset b = None
+branch_outcome A cond width dst src taken (Pointer region a) b = None
+branch_outcome A cond width dst src taken (Number a) Unset = None
+branch_outcome A cond width dst src taken (Number a) (Pointer region b) = None
+branch_outcome A cond width dst src taken (Number a) (Number b) = refined_by A dst src (branch_of cond width a b taken)
+
+-- ---- calls
+
+abbrev pub answer_kind : Extent → Option Helper → Kind
+answer_kind shape None = Unset
+answer_kind shape (Some Id) = Number (span 0 (shape.nodes - 1))
+answer_kind shape (Some Recv) = Number (full_of 32)
+answer_kind shape (Some Send) = Number (just 0)
+answer_kind shape (Some Coin) = Number (span 0 1)
+
+-- r0 has the answer, and r1 to r5 are unset
+abbrev pub called_kinds : Kind → (ℕ → Kind) → ℕ → Kind
+called_kinds answer kinds number = if nat_le number 5 then (if number == 0 then answer else Unset) else kinds number
+
+abbrev pub call_outcome : Extent → Option Helper → AbstractState → AbstractState
+call_outcome shape helper A = record A { kinds = called_kinds (answer_kind shape helper) A.kinds }
+
+-- ---- the outcome on a way: none where the way isn't taken
+
+abbrev pub outcome : Extent → Insn → AbstractState → Way → Option AbstractState
+outcome shape (i.Alu op width dst src) A way = Some (with_kind A dst (alu_kind op width (kind_of A dst) (operand_kind width src A)))
+outcome shape (i.Neg width dst) A way = Some (with_kind A dst (of_number (neg_of width) (kind_of A dst)))
+outcome shape (i.Movsx kind dst src) A way = Some (with_kind A dst (of_number (movsx_of kind) (kind_of A src)))
+outcome shape (i.Swap order bits dst) A way = Some (with_kind A dst (of_number (swap_of order bits) (kind_of A dst)))
+outcome shape (i.Ja off) A way = Some A
+outcome shape (i.JaLong off) A way = Some A
+outcome shape (i.Branch cond width dst src off) A way =
+    branch_outcome A cond width dst src (is_taken way) (kind_of A dst) (operand_kind width src A)
+outcome shape (i.Call id) A way = Some (call_outcome shape (helper_of id) A)
+outcome shape i.Exit A way = None
+outcome shape (i.Load size dst base off) A way = Some (with_kind A dst (Number (full_of (8 * access_bytes size))))
+outcome shape (i.LoadSx size dst base off) A way = Some (with_kind A dst (Number (full_of 64)))
+outcome shape (i.StoreReg size base off src) A way = Some (stored_at A (kind_of A base) off (access_bytes size))
+outcome shape (i.StoreImm size base off imm) A way = Some (stored_at A (kind_of A base) off (access_bytes size))
+outcome shape (i.LoadImm64 dst value) A way = Some (with_kind A dst (Number (just value)))

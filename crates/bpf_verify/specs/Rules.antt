@@ -1,0 +1,256 @@
+-- What the verifier asks of an instruction (docs/VERIFIER.md, "Rules"): which rules it breaks.
+use Rattle.std.specs.Prelude.{◌≡◌, ℕ, zero, suc, ◌+◌, ◌-◌, ◌%◌, ◌^◌, Bool, true, false, ◌||◌, ◌&&◌, not, List, [], ◌∷◌, Option, Some, None, is_none, nat_lt, ℤ, pos, negsuc}
+use Rattle.std.specs.Int.{w64, cast_unsigned}
+use Rattle.std.specs.List.{list_any, find}
+use Rattle.node_env.specs.Env.{Extent, region_size}
+use Rattle.node_env.specs.Helpers.{helper_of, arguments_of}
+use Rattle.node_env.specs.declared.region.Region.{Region}
+use Rattle.node_env.specs.declared.region.Region.TheVariants.{Mem, Stack}
+use Rattle.node_env.specs.declared.helper.Helper.{Helper}
+use Rattle.node_env.specs.declared.helper.Helper.TheVariants.{Id, Recv, Send, Coin}
+use Rattle.bpf_insn.specs.declared.forms.Reg.TheVariants.{R0, R1, R2}
+use Rattle.bpf_insn.specs.declared.forms.Width.{Width}
+use Rattle.bpf_insn.specs.declared.forms.Width.TheVariants.{W32, W64}
+use Rattle.bpf_insn.specs.declared.forms.AluOp.{AluOp}
+use Rattle.bpf_insn.specs.declared.forms.AluOp.TheVariants.{Add, Sub, Mov}
+use Rattle.bpf_insn.specs.declared.forms.Operand.{Operand}
+use Rattle.bpf_insn.specs.declared.forms.Operand.TheVariants as operand
+use Rattle.bpf_insn.specs.declared.forms.Insn.{Insn}
+use Rattle.bpf_insn.specs.declared.forms.Insn.TheVariants as i
+use Rattle.bpf_insn.specs.declared.edges.Way.TheVariants.{Onward, Jumping}
+use Rattle.bpf_insn.specs.Programs.{insn_at}
+use Rattle.bpf_insn.specs.Edges.{distance, moved, target}
+use Rattle.bpf_insn.specs.Arithmetic.{bits_of}
+use Rattle.bpf_insn.specs.Operands.{Access, reads, written_by, is_frame_pointer, load_of, store_of, call_of, is_exit}
+use Rattle.value_range.specs.Span.{Span, just}
+use Rattle.value_range.specs.Results.{alu_of}
+use Rattle.bpf_verify.specs.declared.kind.Kind.{Kind}
+use Rattle.bpf_verify.specs.declared.kind.Kind.TheVariants.{Unset, Number, Pointer}
+use Rattle.bpf_verify.specs.declared.rule.Rule.{Rule}
+use Rattle.bpf_verify.specs.declared.rule.Rule.TheVariants.{NotForward, BadTarget, UnknownHelper, UnsetRegister, FrameWrite, PointerMisuse, OutOfRegion, UnsetStackByte, BadArgument, ExitNotNumber, NotPointer}
+use Rattle.bpf_verify.specs.States.{AbstractState, kind_of}
+
+-- ---- kinds
+
+abbrev pub is_unset : Kind → Bool
+is_unset Unset = true
+is_unset (Number a) = false
+is_unset (Pointer region a) = false
+
+abbrev pub is_pointer : Kind → Bool
+is_pointer Unset = false
+is_pointer (Number a) = false
+is_pointer (Pointer region a) = true
+
+abbrev pub is_number : Kind → Bool
+is_number Unset = false
+is_number (Number a) = true
+is_number (Pointer region a) = false
+
+-- an immediate is one number of the width's bits, its sign extended
+abbrev pub operand_kind : Width → Operand → AbstractState → Kind
+operand_kind width (operand.Imm imm) A = Number (just (cast_unsigned w64 imm % 2 ^ bits_of width))
+operand_kind width (operand.Reg register) A = kind_of A register
+
+-- ---- 1, not forward: a jump with a negative distance
+
+abbrev pub is_negative : Option ℤ → Bool
+is_negative None = false
+is_negative (Some (pos n)) = false
+is_negative (Some (negsuc n)) = true
+
+abbrev pub goes_back : Insn → Bool
+goes_back insn = is_negative (distance insn)
+
+-- ---- 2, bad target: no instruction begins where one of the ways leads
+
+abbrev pub is_astray : List Insn → Option ℕ → Bool
+is_astray program None = false
+is_astray program (Some slot) = is_none (insn_at program slot)
+
+abbrev pub leads_astray : List Insn → ℕ → Insn → Bool
+leads_astray program slot insn = is_astray program (target insn slot Onward) || is_astray program (target insn slot Jumping)
+
+-- ---- 3, unknown helper
+
+abbrev pub names_none : Option ℤ → Bool
+names_none None = false
+names_none (Some id) = is_none (helper_of id)
+
+abbrev pub calls_unknown : Insn → Bool
+calls_unknown insn = names_none (call_of insn)
+
+-- ---- 4, unset register, and 5, frame write
+
+abbrev pub reads_unset : Insn → AbstractState → Bool
+reads_unset insn A = list_any (λ register. is_unset (kind_of A register)) (reads arguments_of insn)
+
+abbrev pub writes_frame : Insn → Bool
+writes_frame insn = is_frame_pointer (written_by insn)
+
+-- ---- 6, pointer misuse
+
+-- a pointer's place may be past the end of its region
+abbrev pub passes : Extent → Region → Span → Bool
+passes shape region a = nat_lt (region_size shape region) a.hi
+
+-- a number is added to a pointer, either way round, where the sum stays in the region
+abbrev pub misuses_sum : Extent → Kind → Kind → Bool
+misuses_sum shape Unset b = false
+misuses_sum shape (Number a) Unset = false
+misuses_sum shape (Number a) (Number b) = false
+misuses_sum shape (Number a) (Pointer region b) = passes shape region (alu_of Add W64 a b)
+misuses_sum shape (Pointer region a) Unset = false
+misuses_sum shape (Pointer region a) (Number b) = passes shape region (alu_of Add W64 a b)
+misuses_sum shape (Pointer region a) (Pointer other b) = true
+
+-- a number is subtracted from a pointer where the difference stays in the region
+abbrev pub misuses_difference : Extent → Kind → Kind → Bool
+misuses_difference shape a Unset = false
+misuses_difference shape Unset (Number b) = false
+misuses_difference shape (Number a) (Number b) = false
+misuses_difference shape (Pointer region a) (Number b) = passes shape region (alu_of Sub W64 a b)
+misuses_difference shape a (Pointer region b) = true
+
+-- a move of 64 bits copies a pointer; every other operation takes numbers
+abbrev pub misuses_operands : Extent → AluOp → Width → Kind → Kind → Bool
+misuses_operands shape Mov W64 a b = false
+misuses_operands shape Mov W32 a b = is_pointer b
+misuses_operands shape Add W64 a b = misuses_sum shape a b
+misuses_operands shape Sub W64 a b = misuses_difference shape a b
+misuses_operands shape op width a b = is_pointer a || is_pointer b
+
+abbrev pub misuses_pointer : Extent → Insn → AbstractState → Bool
+misuses_pointer shape (i.Alu op width dst src) A = misuses_operands shape op width (kind_of A dst) (operand_kind width src A)
+misuses_pointer shape (i.Neg width dst) A = is_pointer (kind_of A dst)
+misuses_pointer shape (i.Movsx kind dst src) A = is_pointer (kind_of A src)
+misuses_pointer shape (i.Swap order bits dst) A = is_pointer (kind_of A dst)
+misuses_pointer shape (i.Ja off) A = false
+misuses_pointer shape (i.JaLong off) A = false
+misuses_pointer shape (i.Branch cond width dst src off) A = is_pointer (kind_of A dst) || is_pointer (operand_kind width src A)
+misuses_pointer shape (i.Call id) A = false
+misuses_pointer shape i.Exit A = false
+misuses_pointer shape (i.Load size dst base off) A = false
+misuses_pointer shape (i.LoadSx size dst base off) A = false
+misuses_pointer shape (i.StoreReg size base off src) A = is_pointer (kind_of A src)
+misuses_pointer shape (i.StoreImm size base off imm) A = false
+misuses_pointer shape (i.LoadImm64 dst value) A = false
+
+-- ---- 7, out of region: an access may take a byte below the region or past its end
+
+-- accesses of so many bytes, the first of them from one place to another
+abbrev pub leaves : ℕ → Option ℕ → Option ℕ → ℕ → Bool
+leaves size (Some first) (Some last) count = nat_lt size (last + count)
+leaves size first last count = true
+
+abbrev pub leaves_region : Extent → Kind → ℤ → ℕ → Bool
+leaves_region shape Unset off count = false
+leaves_region shape (Number a) off count = false
+leaves_region shape (Pointer region a) off count = leaves (region_size shape region) (moved a.lo off) (moved a.hi off) count
+
+-- what is asked of an access' base
+abbrev pub on_base : (Kind → ℤ → ℕ → Bool) → AbstractState → Option Access → Bool
+on_base asked A None = false
+on_base asked A (Some access) = asked (kind_of A access.base) access.off access.count
+
+abbrev pub leaves_regions : Extent → Insn → AbstractState → Bool
+leaves_regions shape insn A = on_base (leaves_region shape) A (load_of insn) || on_base (leaves_region shape) A (store_of insn)
+
+-- ---- 8, unset stack byte: a load may take a byte that isn't surely written
+
+-- one of so many bytes from a place on isn't in the set
+abbrev pub lacks : (ℕ → Bool) → ℕ → ℕ → Bool
+lacks written place zero = false
+lacks written place (suc count) = not (written place) || lacks written (suc place) count
+
+abbrev pub lacks_between : (ℕ → Bool) → Option ℕ → Option ℕ → ℕ → Bool
+lacks_between written (Some first) (Some last) count = lacks written first (last + count - first)
+lacks_between written first last count = false
+
+abbrev pub lacks_byte : (ℕ → Bool) → Kind → ℤ → ℕ → Bool
+lacks_byte written Unset off count = false
+lacks_byte written (Number a) off count = false
+lacks_byte written (Pointer Mem a) off count = false
+lacks_byte written (Pointer Stack a) off count = lacks_between written (moved a.lo off) (moved a.hi off) count
+
+abbrev pub loads_unset : Insn → AbstractState → Bool
+loads_unset insn A = on_base (lacks_byte A.written) A (load_of insn)
+
+-- ---- 9, bad argument: r1 of recv and send, and r2 of send
+
+abbrev pub not_below : ℕ → Kind → Bool
+not_below limit Unset = false
+not_below limit (Number a) = not (nat_lt a.hi limit)
+not_below limit (Pointer region a) = true
+
+abbrev pub helper_refuses : Extent → Option Helper → AbstractState → Bool
+helper_refuses shape None A = false
+helper_refuses shape (Some Id) A = false
+helper_refuses shape (Some Recv) A = not_below shape.nodes (kind_of A R1)
+helper_refuses shape (Some Send) A = not_below shape.nodes (kind_of A R1) || not_below (2 ^ 32) (kind_of A R2)
+helper_refuses shape (Some Coin) A = false
+
+abbrev pub call_refuses : Extent → Option ℤ → AbstractState → Bool
+call_refuses shape None A = false
+call_refuses shape (Some id) A = helper_refuses shape (helper_of id) A
+
+abbrev pub misses_argument : Extent → Insn → AbstractState → Bool
+misses_argument shape insn A = call_refuses shape (call_of insn) A
+
+-- ---- 10, exit without a number, and 11, not a pointer
+
+abbrev pub exits_with_pointer : Insn → AbstractState → Bool
+exits_with_pointer insn A = is_exit insn && is_pointer (kind_of A R0)
+
+abbrev pub base_is_number : Kind → ℤ → ℕ → Bool
+base_is_number kind off count = is_number kind
+
+abbrev pub accesses_number : Insn → AbstractState → Bool
+accesses_number insn A = on_base base_is_number A (load_of insn) || on_base base_is_number A (store_of insn)
+
+-- ---- the rules
+
+abbrev pub rule_number : Rule → ℕ
+rule_number NotForward = 1
+rule_number BadTarget = 2
+rule_number UnknownHelper = 3
+rule_number UnsetRegister = 4
+rule_number FrameWrite = 5
+rule_number PointerMisuse = 6
+rule_number OutOfRegion = 7
+rule_number UnsetStackByte = 8
+rule_number BadArgument = 9
+rule_number ExitNotNumber = 10
+rule_number NotPointer = 11
+
+-- what is asked of the state at a slot, where there is one
+abbrev pub in_state : Option AbstractState → (AbstractState → Bool) → Bool
+in_state None asked = false
+in_state (Some A) asked = asked A
+
+-- whether an instruction at a slot, with what is known there, breaks a rule: 1, 2, 3 and 5 are asked also where no state is
+abbrev pub breaks : Rule → List Insn → Extent → ℕ → Insn → Option AbstractState → Bool
+breaks NotForward program shape slot insn state = goes_back insn
+breaks BadTarget program shape slot insn state = leads_astray program slot insn
+breaks UnknownHelper program shape slot insn state = calls_unknown insn
+breaks UnsetRegister program shape slot insn state = in_state state (reads_unset insn)
+breaks FrameWrite program shape slot insn state = writes_frame insn
+breaks PointerMisuse program shape slot insn state = in_state state (misuses_pointer shape insn)
+breaks OutOfRegion program shape slot insn state = in_state state (leaves_regions shape insn)
+breaks UnsetStackByte program shape slot insn state = in_state state (loads_unset insn)
+breaks BadArgument program shape slot insn state = in_state state (misses_argument shape insn)
+breaks ExitNotNumber program shape slot insn state = in_state state (exits_with_pointer insn)
+breaks NotPointer program shape slot insn state = in_state state (accesses_number insn)
+
+-- it breaks none
+abbrev pub KeepsRules : List Insn → Extent → ℕ → Insn → Option AbstractState → Type 0
+KeepsRules program shape slot insn state = (rule : Rule) → breaks rule program shape slot insn state ≡ false
+
+-- the rules in the order of their numbers
+abbrev pub rules_in_order : List Rule
+rules_in_order =
+    NotForward ∷ BadTarget ∷ UnknownHelper ∷ UnsetRegister ∷ FrameWrite ∷ PointerMisuse ∷ OutOfRegion ∷ UnsetStackByte ∷ BadArgument ∷ ExitNotNumber ∷ NotPointer ∷ []
+
+-- the rule of the lowest number that it breaks
+abbrev pub lowest_broken : List Insn → Extent → ℕ → Insn → Option AbstractState → Option Rule
+lowest_broken program shape slot insn state = find (λ rule. breaks rule program shape slot insn state) rules_in_order

@@ -1,0 +1,81 @@
+-- What the verifier knows of a machine's state at a slot (docs/VERIFIER.md, "Abstract states").
+use Rattle.std.specs.Prelude.{◌≡◌, ℕ, ◌-◌, ◌==◌, Bool, true, false, ◌&&◌, if◌then◌else◌}
+use Rattle.node_env.specs.Env.{Extent}
+use Rattle.node_env.specs.declared.region.TheConstants.{STACK_BYTES}
+use Rattle.node_env.specs.declared.region.Region.{Region}
+use Rattle.node_env.specs.declared.region.Region.TheVariants.{Mem, Stack}
+use Rattle.bpf_insn.specs.declared.forms.Reg.{Reg}
+use Rattle.bpf_insn.specs.Registers.{register_number}
+use Rattle.value_range.specs.Span.{Span, span, just, IsInside, HasMembers, hull_of}
+use Rattle.bpf_verify.specs.declared.kind.Kind.{Kind}
+use Rattle.bpf_verify.specs.declared.kind.Kind.TheVariants.{Unset, Number, Pointer}
+
+-- what is known of each register, by its number, and the stack bytes that are surely written
+pub record AbstractState : Type 0 where
+  pub kinds : ℕ → Kind
+  pub written : ℕ → Bool
+
+abbrev pub kind_of : AbstractState → Reg → Kind
+kind_of A register = A.kinds (register_number register)
+
+-- ---- containment
+
+-- a kind that says as much or more: Unset says nothing
+abbrev pub IsKindIn : Kind → Kind → Type 0
+IsKindIn k Unset = Unit {0}
+IsKindIn k (Number b) = (a : Span) × (k ≡ Number a) × IsInside a b
+IsKindIn k (Pointer region b) = (a : Span) × (k ≡ Pointer region a) × IsInside a b
+
+-- A says all that C says
+pub record IsContainedIn (A C : AbstractState) : Type 0 where
+  pub kinds : (number : ℕ) → IsKindIn (A.kinds number) (C.kinds number)
+  pub written : (byte : ℕ) → C.written byte ≡ true → A.written byte ≡ true
+
+-- each range has members
+abbrev pub IsProperKind : Kind → Type 0
+IsProperKind Unset = Unit {0}
+IsProperKind (Number a) = HasMembers a
+IsProperKind (Pointer region a) = HasMembers a
+
+pub record IsProper (A : AbstractState) : Type 0 where
+  pub kinds : (number : ℕ) → IsProperKind (A.kinds number)
+
+-- ---- where edges meet
+
+abbrev pub in_region : Region → Region → Span → Kind
+in_region Mem Mem a = Pointer Mem a
+in_region Stack Stack a = Pointer Stack a
+in_region Mem Stack a = Unset
+in_region Stack Mem a = Unset
+
+-- equal kinds take the hull, and others say nothing
+abbrev pub joined_kind : Kind → Kind → Kind
+joined_kind Unset b = Unset
+joined_kind (Number a) Unset = Unset
+joined_kind (Number a) (Number b) = Number (hull_of a b)
+joined_kind (Number a) (Pointer region b) = Unset
+joined_kind (Pointer region a) Unset = Unset
+joined_kind (Pointer region a) (Number b) = Unset
+joined_kind (Pointer region a) (Pointer other b) = in_region region other (hull_of a b)
+
+-- a byte is surely written where it is in both
+abbrev pub joined_state : AbstractState → AbstractState → AbstractState
+joined_state A C =
+    record {
+      kinds = λ number. joined_kind (A.kinds number) (C.kinds number);
+      written = λ byte. A.written byte && C.written byte;
+    }
+
+-- ---- entry
+
+-- r1 points at the node's memory, r2 is the node's number, r10 is the end of the stack
+abbrev pub entry_kinds : Extent → ℕ → Kind
+entry_kinds shape number =
+    if number == 1 then Pointer Mem (just 0)
+    else if number == 2 then Number (span 0 (shape.nodes - 1))
+    else if number == 10 then Pointer Stack (just STACK_BYTES)
+    else Unset
+
+-- nothing else is set, and no byte is written
+abbrev pub entry_state : Extent → AbstractState
+entry_state shape = record { kinds = entry_kinds shape; written = λ byte. false }

@@ -1,0 +1,13 @@
+//! What is known of a register.
+
+use node_env::Region;
+use value_range::Range;
+
+/// What is known of a register: nothing, that it holds a number of a range, or that it points into a
+/// region at an offset of a range (docs/VERIFIER.md, "Abstract states").
+#[derive(Clone, Copy, Debug)]
+pub enum Kind {
+    Unset,
+    Number(Range),
+    Pointer(Region, Range),
+}

@@ -1,0 +1,22 @@
+//! Accepts a program before it is loaded, and tells the longest path through it (docs/VERIFIER.md).
+#![tactic(auto)]
+
+mod kind;
+mod known;
+mod laws;
+mod longest;
+mod marks;
+mod outcomes;
+mod refusal;
+mod rule;
+mod rules;
+mod verified;
+mod walk;
+
+pub use laws::{more_keeps_rules, one_verdict};
+pub use refusal::VerifyError;
+pub use rule::Rule;
+pub use verified::{VerifiedProgram, verify};
+
+#[cfg(test)]
+mod tests;

@@ -1,0 +1,297 @@
+//! What is known after an instruction (docs/VERIFIER.md, "Outcomes").
+
+ghost use Rattle.std.specs.Prelude.{◌≡◌, ℕ, ◌+◌, ◌-◌, ◌*◌, ◌^◌, ◌<◌, ◌≤◌, Bool, false, true, Some, None, IsTrue, IfSome};
+ghost use Rattle.value_range.specs.Span.{full_of, just, meet_of};
+ghost use Rattle.bpf_insn.specs.Edges.{moved};
+ghost use Rattle.bpf_insn.specs.Operands.{access_bytes};
+ghost use Rattle.bpf_verify.specs.States.{kind_of};
+ghost use Rattle.bpf_verify.specs.Rows.{abstract_of};
+ghost use Rattle.bpf_verify.specs.Rules.{leaves_region, leaves_regions, operand_kind};
+ghost use Rattle.bpf_verify.specs.Outcomes as outcomes;
+ghost use Rattle.value_range.specs.Results.{alu_of, neg_of, movsx_of, swap_of};
+ghost use Rattle.bpf_verify.specs.Parts.{Becomes};
+ghost use Rattle.bpf_insn.specs.declared.forms.Operand.TheVariants as operand;
+
+use crate::kind::Kind;
+use crate::known::{Known, below, up_to};
+use crate::rules::{bytes_taken, operand_kind};
+use bpf_insn::{AluOp, Cond, Insn, MovsxKind, Operand, Order, Reg, Size, SwapBits, Way, Width};
+use node_env::{Helper, Region, Shape};
+use value_range::{Range, alu, branch, meet, movsx, neg, swap};
+
+fn sum(a: Kind, b: Kind) -> Kind
+    ensures { result ≡ outcomes.sum_kind a b }
+{
+    match a {
+        Kind::Unset => Kind::Unset,
+        Kind::Number(x) => match b {
+            Kind::Unset => Kind::Unset,
+            Kind::Number(y) => Kind::Number(alu(AluOp::Add, Width::W64, x, y)),
+            Kind::Pointer(region, y) => Kind::Pointer(region, alu(AluOp::Add, Width::W64, x, y)),
+        },
+        Kind::Pointer(region, x) => match b {
+            Kind::Unset | Kind::Pointer(..) => Kind::Unset,
+            Kind::Number(y) => Kind::Pointer(region, alu(AluOp::Add, Width::W64, x, y)),
+        },
+    }
+}
+
+fn difference(a: Kind, b: Kind) -> Kind
+    ensures { result ≡ outcomes.difference_kind a b }
+{
+    match b {
+        Kind::Unset | Kind::Pointer(..) => Kind::Unset,
+        Kind::Number(y) => match a {
+            Kind::Unset => Kind::Unset,
+            Kind::Number(x) => Kind::Number(alu(AluOp::Sub, Width::W64, x, y)),
+            Kind::Pointer(region, x) => Kind::Pointer(region, alu(AluOp::Sub, Width::W64, x, y)),
+        },
+    }
+}
+
+fn of_numbers(op: AluOp, width: Width, a: Kind, b: Kind) -> Kind
+    ensures { result ≡ outcomes.of_numbers (alu_of op width) a b }
+{
+    match a {
+        Kind::Unset | Kind::Pointer(..) => Kind::Unset,
+        Kind::Number(x) => match b {
+            Kind::Unset | Kind::Pointer(..) => Kind::Unset,
+            Kind::Number(y) => Kind::Number(alu(op, width, x, y)),
+        },
+    }
+}
+
+/// What a move copies.
+fn moved_kind(width: Width, b: Kind) -> Kind
+    ensures { (a : Kind) → result ≡ outcomes.alu_kind AluOp.Mov width a b }
+{
+    match width {
+        Width::W64 => b,
+        Width::W32 => match b {
+            Kind::Unset | Kind::Pointer(..) => Kind::Unset,
+            Kind::Number(y) => Kind::Number(alu(AluOp::Mov, Width::W32, y, y)),
+        },
+    }
+}
+
+fn alu_kind(op: AluOp, width: Width, a: Kind, b: Kind) -> Kind
+    ensures { result ≡ outcomes.alu_kind op width a b }
+{
+    match op {
+        AluOp::Mov => moved_kind(width, b),
+        AluOp::Add => match width {
+            Width::W64 => sum(a, b),
+            Width::W32 => of_numbers(op, width, a, b),
+        },
+        AluOp::Sub => match width {
+            Width::W64 => difference(a, b),
+            Width::W32 => of_numbers(op, width, a, b),
+        },
+        AluOp::Mul
+        | AluOp::Div
+        | AluOp::Sdiv
+        | AluOp::Or
+        | AluOp::And
+        | AluOp::Lsh
+        | AluOp::Rsh
+        | AluOp::Mod
+        | AluOp::Smod
+        | AluOp::Xor
+        | AluOp::Arsh => of_numbers(op, width, a, b),
+    }
+}
+
+/// The numbers that a load can give.
+fn loaded(size: Size) -> Range
+    ensures { result ≡ full_of (8 * access_bytes size) }
+{
+    match size {
+        Size::B => up_to(u64::from(u8::MAX)),
+        Size::H => up_to(u64::from(u16::MAX)),
+        Size::W => Range::full(Width::W32),
+        Size::Dw => Range::full(Width::W64),
+    }
+}
+
+fn answer(shape: Shape, helper: Option<Helper>) -> Kind
+    ensures { result ≡ outcomes.answer_kind shape helper }
+{
+    match helper {
+        None => Kind::Unset,
+        Some(called) => match called {
+            Helper::Id => Kind::Number(below(shape.nodes())),
+            Helper::Recv => Kind::Number(Range::full(Width::W32)),
+            Helper::Send => Kind::Number(Range::single(0)),
+            Helper::Coin => Kind::Number(up_to(1)),
+        },
+    }
+}
+
+fn call(shape: Shape, helper: Option<Helper>, known: &mut Known)
+    ensures { abstract_of known.new ≡ outcomes.call_outcome shape helper (abstract_of known.old) }
+{
+    let answer = answer(shape, helper);
+    known.set_kind(Reg::R0, answer);
+    known.set_kind(Reg::R1, Kind::Unset);
+    known.set_kind(Reg::R2, Kind::Unset);
+    known.set_kind(Reg::R3, Kind::Unset);
+    known.set_kind(Reg::R4, Kind::Unset);
+    known.set_kind(Reg::R5, Kind::Unset);
+}
+
+fn store(shape: Shape, kind: Kind, off: i16, count: u32, known: &mut Known)
+    requires few { count ≤ 8 }
+    requires inside { leaves_region shape kind off count ≡ false }
+    ensures { abstract_of known.new ≡ outcomes.stored_at (abstract_of known.old) kind off count }
+{
+    if let Kind::Pointer(region, a) = kind {
+        if region == Region::Stack && a.lo() == a.hi() {
+            if let Some((first, _end)) = bytes_taken(shape, region, a, off, count) {
+                known.write(first, count);
+            }
+        }
+    }
+}
+
+/// One register on both sides has what the condition leaves of both.
+fn set_meet(known: &mut Known, register: Reg, a: Range, b: Range) -> bool
+    ensures { Becomes (outcomes.with_meet (abstract_of known.old) register (meet_of a b)) (abstract_of known.new) result }
+{
+    match meet(a, b) {
+        None => false,
+        Some(common) => {
+            known.set_kind(register, Kind::Number(common));
+            true
+        }
+    }
+}
+
+fn refine(known: &mut Known, dst: Reg, src: Operand, pair: Option<(Range, Range)>) -> bool
+    ensures { Becomes (outcomes.refined_by (abstract_of known.old) dst src pair) (abstract_of known.new) result }
+{
+    match pair {
+        None => false,
+        Some((a, b)) => match src {
+            Operand::Imm(_imm) => {
+                known.set_kind(dst, Kind::Number(a));
+                true
+            }
+            Operand::Reg(register) => refine_both(known, dst, register, a, b),
+        },
+    }
+}
+
+fn refine_both(known: &mut Known, dst: Reg, src: Reg, a: Range, b: Range) -> bool
+    ensures { Becomes (outcomes.refined_by (abstract_of known.old) dst (operand.Reg src) (Some (a, b))) (abstract_of known.new) result }
+{
+    if src.number() == dst.number() {
+        return set_meet(known, dst, a, b);
+    }
+    known.set_kind(dst, Kind::Number(a));
+    known.set_kind(src, Kind::Number(b));
+    true
+}
+
+fn is_taken(way: Way) -> bool
+    ensures { result ≡ outcomes.is_taken way }
+{
+    match way {
+        Way::Onward => false,
+        Way::Jumping => true,
+    }
+}
+
+fn take(known: &mut Known, cond: Cond, width: Width, dst: Reg, src: Operand, taken: bool) -> bool
+    ensures { Becomes (outcomes.branch_outcome (abstract_of known.old) cond width dst src taken (kind_of (abstract_of known.old) dst) (operand_kind width src (abstract_of known.old))) (abstract_of known.new) result }
+{
+    match known.kind(dst) {
+        Kind::Unset | Kind::Pointer(..) => false,
+        Kind::Number(a) => match operand_kind(width, src, known) {
+            Kind::Unset | Kind::Pointer(..) => false,
+            Kind::Number(b) => {
+                let pair = branch(cond, width, a, b, taken);
+                refine(known, dst, src, pair)
+            }
+        },
+    }
+}
+
+fn apply_alu(known: &mut Known, op: AluOp, width: Width, dst: Reg, src: Operand)
+    ensures { abstract_of known.new ≡ outcomes.with_kind (abstract_of known.old) dst (outcomes.alu_kind op width (kind_of (abstract_of known.old) dst) (operand_kind width src (abstract_of known.old))) }
+{
+    let kind = alu_kind(op, width, known.kind(dst), operand_kind(width, src, known));
+    known.set_kind(dst, kind);
+}
+
+fn negated(width: Width, kind: Kind) -> Kind
+    ensures { result ≡ outcomes.of_number (neg_of width) kind }
+{
+    match kind {
+        Kind::Unset | Kind::Pointer(..) => Kind::Unset,
+        Kind::Number(a) => Kind::Number(neg(width, a)),
+    }
+}
+
+fn extended(kind: MovsxKind, value: Kind) -> Kind
+    ensures { result ≡ outcomes.of_number (movsx_of kind) value }
+{
+    match value {
+        Kind::Unset | Kind::Pointer(..) => Kind::Unset,
+        Kind::Number(a) => Kind::Number(movsx(kind, a)),
+    }
+}
+
+fn swapped(order: Order, bits: SwapBits, kind: Kind) -> Kind
+    ensures { result ≡ outcomes.of_number (swap_of order bits) kind }
+{
+    match kind {
+        Kind::Unset | Kind::Pointer(..) => Kind::Unset,
+        Kind::Number(a) => Kind::Number(swap(order, bits, a)),
+    }
+}
+
+/// Makes what is known before an instruction what is known after it on a way. `false` where the way isn't taken.
+pub(crate) fn apply(shape: Shape, insn: &Insn, known: &mut Known, way: Way) -> bool
+    requires { leaves_regions shape insn.now (abstract_of known.old) ≡ false }
+    ensures { Becomes (outcomes.outcome shape insn.now (abstract_of known.old) way) (abstract_of known.new) result }
+{
+    match *insn {
+        Insn::Branch {
+            cond,
+            width,
+            dst,
+            src,
+            ..
+        } => return take(known, cond, width, dst, src, is_taken(way)),
+        Insn::Exit => return false,
+        Insn::Ja { .. } | Insn::JaLong { .. } => {}
+        Insn::Alu {
+            op,
+            width,
+            dst,
+            src,
+        } => apply_alu(known, op, width, dst, src),
+        Insn::Neg { width, dst } => known.set_kind(dst, negated(width, known.kind(dst))),
+        Insn::Movsx { kind, dst, src } => known.set_kind(dst, extended(kind, known.kind(src))),
+        Insn::Swap { order, bits, dst } => {
+            known.set_kind(dst, swapped(order, bits, known.kind(dst)));
+        }
+        Insn::Call { id } => call(shape, Helper::of(id), known),
+        Insn::Load { size, dst, .. } => known.set_kind(dst, Kind::Number(loaded(size))),
+        Insn::LoadSx { dst, .. } => known.set_kind(dst, Kind::Number(Range::full(Width::W64))),
+        Insn::StoreReg {
+            size,
+            base,
+            off,
+            ..
+        } => store(shape, known.kind(base), off, size.bytes(), known),
+        Insn::StoreImm {
+            size,
+            base,
+            off,
+            ..
+        } => store(shape, known.kind(base), off, size.bytes(), known),
+        Insn::LoadImm64 { dst, value } => known.set_kind(dst, Kind::Number(Range::single(value))),
+    }
+    true
+}

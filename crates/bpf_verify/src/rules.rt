@@ -1,0 +1,646 @@
+//! The rules, asked of an instruction at a slot and of what is known there (docs/VERIFIER.md, "Rules").
+
+ghost use Rattle.std.specs.Prelude.{◌≡◌, ℕ, ◌+◌, ◌-◌, ◌%◌, ◌^◌, ◌<◌, ◌≤◌, Bool, false, true, Some, None, is_none, is_some, IsTrue, IsNone, IfSome, ◌↔◌};
+ghost use Rattle.std.specs.Int.{w64, cast_unsigned};
+ghost use Rattle.bpf_insn.specs.Programs.{insn_at, slots_of};
+ghost use Rattle.bpf_insn.specs.Edges.{moved};
+ghost use Rattle.bpf_insn.specs.Arithmetic.{bits_of};
+ghost use Rattle.bpf_verify.specs.Marks.{is_marked};
+ghost use Rattle.bpf_verify.specs.Rows.{abstract_of};
+ghost use Rattle.bpf_verify.specs.Rules as rules;
+ghost use Rattle.bpf_verify.specs.States.{kind_of};
+ghost use Rattle.std.specs.List.{list_any};
+ghost use Rattle.node_env.specs.Helpers.{arguments_of};
+ghost use Rattle.node_env.specs.Env.{region_size};
+ghost use Rattle.bpf_insn.specs.Operands.{operand_reads, alu_reads, argument_registers, is_frame_pointer};
+
+use crate::kind::Kind;
+use crate::known::Known;
+use crate::marks::Marks;
+use crate::rule::Rule;
+use bpf_insn::{AluOp, Insn, Operand, Program, Reg, Way, Width, distance, target};
+use node_env::{Helper, Region, STACK_BYTES, Shape};
+use value_range::{Range, alu};
+
+fn is_unset(kind: Kind) -> bool
+    ensures { result ≡ rules.is_unset kind }
+{
+    match kind {
+        Kind::Unset => true,
+        Kind::Number(_) | Kind::Pointer(..) => false,
+    }
+}
+
+fn is_pointer(kind: Kind) -> bool
+    ensures { result ≡ rules.is_pointer kind }
+{
+    match kind {
+        Kind::Pointer(..) => true,
+        Kind::Unset | Kind::Number(_) => false,
+    }
+}
+
+fn is_number(kind: Kind) -> bool
+    ensures { result ≡ rules.is_number kind }
+{
+    match kind {
+        Kind::Number(_) => true,
+        Kind::Unset | Kind::Pointer(..) => false,
+    }
+}
+
+fn immediate(width: Width, imm: i32) -> u64
+    ensures { result ≡ cast_unsigned w64 imm % 2 ^ bits_of width }
+{
+    let extended = i64::from(imm).cast_unsigned();
+    match width {
+        Width::W32 => extended & u64::from(u32::MAX),
+        Width::W64 => extended,
+    }
+}
+
+/// What is known of a second operand.
+pub(crate) fn operand_kind(width: Width, src: Operand, known: &Known) -> Kind
+    ensures { result ≡ rules.operand_kind width src (abstract_of known.now) }
+{
+    match src {
+        Operand::Imm(imm) => Kind::Number(Range::single(immediate(width, imm))),
+        Operand::Reg(register) => known.kind(register),
+    }
+}
+
+fn goes_back(insn: &Insn) -> bool
+    ensures { result ≡ rules.goes_back insn.now }
+{
+    match distance(insn) {
+        Some(off) => off < 0,
+        None => false,
+    }
+}
+
+fn is_astray(program: &Program, to: Option<u64>) -> bool
+    ensures { result ≡ rules.is_astray program.now to }
+{
+    match to {
+        None => false,
+        Some(slot) => {
+            if slot >= u64::from(program.slot_count()) {
+                return true;
+            }
+            program.insn_at(slot as u32).is_none()
+        }
+    }
+}
+
+fn leads_astray(program: &Program, slot: u32, insn: &Insn) -> bool
+    ensures { result ≡ rules.leads_astray program.now slot insn.now }
+{
+    is_astray(program, target(insn, slot, Way::Onward))
+        || is_astray(program, target(insn, slot, Way::Jumping))
+}
+
+fn calls_unknown(insn: &Insn) -> bool
+    ensures { result ≡ rules.calls_unknown insn.now }
+{
+    match *insn {
+        Insn::Call { id } => Helper::of(id).is_none(),
+        Insn::Alu { .. }
+        | Insn::Neg { .. }
+        | Insn::Movsx { .. }
+        | Insn::Swap { .. }
+        | Insn::Ja { .. }
+        | Insn::JaLong { .. }
+        | Insn::Branch { .. }
+        | Insn::Exit
+        | Insn::Load { .. }
+        | Insn::LoadSx { .. }
+        | Insn::StoreReg { .. }
+        | Insn::StoreImm { .. }
+        | Insn::LoadImm64 { .. } => false,
+    }
+}
+
+fn holds_nothing(known: &Known, register: Reg) -> bool
+    ensures { result ≡ rules.is_unset (kind_of (abstract_of known.now) register) }
+{
+    is_unset(known.kind(register))
+}
+
+fn operand_unset(known: &Known, src: Operand) -> bool
+    ensures { result ≡ list_any (λ register. rules.is_unset (kind_of (abstract_of known.now) register)) (operand_reads src) }
+{
+    match src {
+        Operand::Imm(_) => false,
+        Operand::Reg(register) => holds_nothing(known, register),
+    }
+}
+
+fn alu_reads_unset(known: &Known, op: AluOp, dst: Reg, src: Operand) -> bool
+    ensures { result ≡ list_any (λ register. rules.is_unset (kind_of (abstract_of known.now) register)) (alu_reads op dst src) }
+{
+    match op {
+        AluOp::Mov => operand_unset(known, src),
+        AluOp::Add
+        | AluOp::Sub
+        | AluOp::Mul
+        | AluOp::Div
+        | AluOp::Sdiv
+        | AluOp::Or
+        | AluOp::And
+        | AluOp::Lsh
+        | AluOp::Rsh
+        | AluOp::Mod
+        | AluOp::Smod
+        | AluOp::Xor
+        | AluOp::Arsh => holds_nothing(known, dst) || operand_unset(known, src),
+    }
+}
+
+fn call_reads_unset(known: &Known, id: i32) -> bool
+    ensures { result ≡ list_any (λ register. rules.is_unset (kind_of (abstract_of known.now) register)) (argument_registers (arguments_of id)) }
+{
+    match Helper::of(id) {
+        None => false,
+        Some(helper) => match helper {
+            Helper::Id | Helper::Coin => false,
+            Helper::Recv => holds_nothing(known, Reg::R1),
+            Helper::Send => holds_nothing(known, Reg::R1) || holds_nothing(known, Reg::R2),
+        },
+    }
+}
+
+fn reads_unset(insn: &Insn, known: &Known) -> bool
+    ensures { result ≡ rules.reads_unset insn.now (abstract_of known.now) }
+{
+    match *insn {
+        Insn::Alu { op, dst, src, .. } => alu_reads_unset(known, op, dst, src),
+        Insn::Neg { dst, .. } => holds_nothing(known, dst),
+        Insn::Swap { dst, .. } => holds_nothing(known, dst),
+        Insn::Movsx { src, .. } => holds_nothing(known, src),
+        Insn::Branch { dst, src, .. } => holds_nothing(known, dst) || operand_unset(known, src),
+        Insn::Call { id } => call_reads_unset(known, id),
+        Insn::Exit => holds_nothing(known, Reg::R0),
+        Insn::Load { base, .. } => holds_nothing(known, base),
+        Insn::LoadSx { base, .. } => holds_nothing(known, base),
+        Insn::StoreReg { base, src, .. } => holds_nothing(known, base) || holds_nothing(known, src),
+        Insn::StoreImm { base, .. } => holds_nothing(known, base),
+        Insn::Ja { .. } | Insn::JaLong { .. } | Insn::LoadImm64 { .. } => false,
+    }
+}
+
+fn is_frame_pointer(register: Reg) -> bool
+    ensures { result ≡ is_frame_pointer (Some register) }
+{
+    register.number() == 10
+}
+
+fn writes_frame(insn: &Insn) -> bool
+    ensures { result ≡ rules.writes_frame insn.now }
+{
+    match *insn {
+        Insn::Alu { dst, .. } => is_frame_pointer(dst),
+        Insn::Neg { dst, .. } => is_frame_pointer(dst),
+        Insn::Movsx { dst, .. } => is_frame_pointer(dst),
+        Insn::Swap { dst, .. } => is_frame_pointer(dst),
+        Insn::Load { dst, .. } => is_frame_pointer(dst),
+        Insn::LoadSx { dst, .. } => is_frame_pointer(dst),
+        Insn::LoadImm64 { dst, .. } => is_frame_pointer(dst),
+        Insn::Ja { .. }
+        | Insn::JaLong { .. }
+        | Insn::Branch { .. }
+        | Insn::Call { .. }
+        | Insn::Exit
+        | Insn::StoreReg { .. }
+        | Insn::StoreImm { .. } => false,
+    }
+}
+
+fn passes(shape: Shape, region: Region, a: Range) -> bool
+    ensures { result ≡ rules.passes shape region a }
+{
+    a.hi() > u64::from(shape.region_size(region))
+}
+
+fn misuses_sum(shape: Shape, a: Kind, b: Kind) -> bool
+    ensures { result ≡ rules.misuses_sum shape a b }
+{
+    match a {
+        Kind::Unset => false,
+        Kind::Number(x) => match b {
+            Kind::Unset | Kind::Number(_) => false,
+            Kind::Pointer(region, y) => passes(shape, region, alu(AluOp::Add, Width::W64, x, y)),
+        },
+        Kind::Pointer(region, x) => match b {
+            Kind::Unset => false,
+            Kind::Number(y) => passes(shape, region, alu(AluOp::Add, Width::W64, x, y)),
+            Kind::Pointer(..) => true,
+        },
+    }
+}
+
+fn misuses_difference(shape: Shape, a: Kind, b: Kind) -> bool
+    ensures { result ≡ rules.misuses_difference shape a b }
+{
+    match b {
+        Kind::Unset => false,
+        Kind::Pointer(..) => true,
+        Kind::Number(y) => match a {
+            Kind::Unset | Kind::Number(_) => false,
+            Kind::Pointer(region, x) => passes(shape, region, alu(AluOp::Sub, Width::W64, x, y)),
+        },
+    }
+}
+
+fn is_move(op: AluOp) -> bool
+    ensures { IsTrue result ↔ (op ≡ AluOp.Mov) }
+{
+    op == AluOp::Mov
+}
+
+fn misuses_operands(shape: Shape, op: AluOp, width: Width, a: Kind, b: Kind) -> bool
+    ensures { result ≡ rules.misuses_operands shape op width a b }
+{
+    match width {
+        Width::W64 => match op {
+            AluOp::Mov => false,
+            AluOp::Add => misuses_sum(shape, a, b),
+            AluOp::Sub => misuses_difference(shape, a, b),
+            AluOp::Mul
+            | AluOp::Div
+            | AluOp::Sdiv
+            | AluOp::Or
+            | AluOp::And
+            | AluOp::Lsh
+            | AluOp::Rsh
+            | AluOp::Mod
+            | AluOp::Smod
+            | AluOp::Xor
+            | AluOp::Arsh => is_pointer(a) || is_pointer(b),
+        },
+        Width::W32 => (!is_move(op) && is_pointer(a)) || is_pointer(b),
+    }
+}
+
+fn misuses_pointer(shape: Shape, insn: &Insn, known: &Known) -> bool
+    ensures { result ≡ rules.misuses_pointer shape insn.now (abstract_of known.now) }
+{
+    match *insn {
+        Insn::Alu {
+            op,
+            width,
+            dst,
+            src,
+        } => misuses_operands(
+            shape,
+            op,
+            width,
+            known.kind(dst),
+            operand_kind(width, src, known),
+        ),
+        Insn::Neg { dst, .. } => is_pointer(known.kind(dst)),
+        Insn::Movsx { src, .. } => is_pointer(known.kind(src)),
+        Insn::Swap { dst, .. } => is_pointer(known.kind(dst)),
+        Insn::Branch {
+            width,
+            dst,
+            src,
+            ..
+        } => { is_pointer(known.kind(dst)) || is_pointer(operand_kind(width, src, known)) }
+        Insn::StoreReg { src, .. } => is_pointer(known.kind(src)),
+        Insn::Ja { .. }
+        | Insn::JaLong { .. }
+        | Insn::Call { .. }
+        | Insn::Exit
+        | Insn::Load { .. }
+        | Insn::LoadSx { .. }
+        | Insn::StoreImm { .. }
+        | Insn::LoadImm64 { .. } => false,
+    }
+}
+
+/// An offset in a region moved by a signed one.
+fn moved(place: u64, off: i16) -> Option<u128>
+    ensures { result ≡ moved place off }
+{
+    let size = u128::from(off.unsigned_abs());
+    if off >= 0 {
+        Some(u128::from(place) + size)
+    } else {
+        u128::from(place).checked_sub(size)
+    }
+}
+
+fn leaves(size: u32, first: Option<u128>, last: Option<u128>, count: u32) -> bool
+    requires { IfSome last (λ place. place < 2 ^ 127) }
+    ensures { result ≡ rules.leaves size first last count }
+{
+    match first {
+        None => true,
+        Some(_first) => match last {
+            None => true,
+            Some(place) => place + u128::from(count) > u128::from(size),
+        },
+    }
+}
+
+fn leaves_region(shape: Shape, kind: Kind, off: i16, count: u32) -> bool
+    ensures { result ≡ rules.leaves_region shape kind off count }
+{
+    match kind {
+        Kind::Unset | Kind::Number(_) => false,
+        Kind::Pointer(region, a) => leaves(
+            shape.region_size(region),
+            moved(a.lo(), off),
+            moved(a.hi(), off),
+            count,
+        ),
+    }
+}
+
+fn leaves_regions(shape: Shape, insn: &Insn, known: &Known) -> bool
+    ensures { result ≡ rules.leaves_regions shape insn.now (abstract_of known.now) }
+{
+    match *insn {
+        Insn::Load {
+            size,
+            base,
+            off,
+            ..
+        } => leaves_region(shape, known.kind(base), off, size.bytes()),
+        Insn::LoadSx {
+            size,
+            base,
+            off,
+            ..
+        } => leaves_region(shape, known.kind(base), off, size.bytes()),
+        Insn::StoreReg {
+            size,
+            base,
+            off,
+            ..
+        } => leaves_region(shape, known.kind(base), off, size.bytes()),
+        Insn::StoreImm {
+            size,
+            base,
+            off,
+            ..
+        } => leaves_region(shape, known.kind(base), off, size.bytes()),
+        Insn::Alu { .. }
+        | Insn::Neg { .. }
+        | Insn::Movsx { .. }
+        | Insn::Swap { .. }
+        | Insn::Ja { .. }
+        | Insn::JaLong { .. }
+        | Insn::Branch { .. }
+        | Insn::Call { .. }
+        | Insn::Exit
+        | Insn::LoadImm64 { .. } => false,
+    }
+}
+
+/// Whether one of the bytes from `first` on, before `end`, isn't in the set.
+fn lacks(marks: &Marks, first: u32, end: u32) -> bool
+    requires { end ≤ STACK_BYTES }
+    ensures { result ≡ rules.lacks (is_marked marks.now.words) first (end - first) }
+{
+    for byte in first..end {
+        if !marks.has(byte) {
+            return true;
+        }
+    }
+    false
+}
+
+/// The first byte of the lowest access and the end of the highest, where all of them stay inside their region.
+pub(crate) fn bytes_taken(
+    shape: Shape,
+    region: Region,
+    a: Range,
+    off: i16,
+    count: u32,
+) -> Option<(u32, u32)>
+    requires { count ≤ 8 }
+    ensures none { IsNone result → rules.leaves_region shape (Kind.Pointer region a) off count ≡ true }
+    ensures some { IfSome result (λ p. (moved a.lo off ≡ Some p.0) × (moved a.hi off ≡ Some (p.1 - count))
+        × (count ≤ p.1) × (p.0 + count ≤ p.1) × (p.1 ≤ region_size shape region)) }
+{
+    match moved(a.lo(), off) {
+        None => None,
+        Some(first) => match moved(a.hi(), off) {
+            None => None,
+            Some(last) => {
+                if last + u128::from(count) > u128::from(shape.region_size(region)) {
+                    return None;
+                }
+                Some((first as u32, last as u32 + count))
+            }
+        },
+    }
+}
+
+fn lacks_byte(shape: Shape, known: &Known, kind: Kind, off: i16, count: u32) -> bool
+    requires few { count ≤ 8 }
+    requires inside { rules.leaves_region shape kind off count ≡ false }
+    ensures { result ≡ rules.lacks_byte (abstract_of known.now).written kind off count }
+{
+    match kind {
+        Kind::Unset | Kind::Number(_) => false,
+        Kind::Pointer(region, a) => match region {
+            Region::Mem => false,
+            Region::Stack => match bytes_taken(shape, region, a, off, count) {
+                Some((first, end)) => lacks(&known.marks, first, end),
+                None => unreachable!(),
+            },
+        },
+    }
+}
+
+fn loads_unset(shape: Shape, insn: &Insn, known: &Known) -> bool
+    requires { rules.leaves_regions shape insn.now (abstract_of known.now) ≡ false }
+    ensures { result ≡ rules.loads_unset insn.now (abstract_of known.now) }
+{
+    match *insn {
+        Insn::Load {
+            size,
+            base,
+            off,
+            ..
+        } => lacks_byte(shape, known, known.kind(base), off, size.bytes()),
+        Insn::LoadSx {
+            size,
+            base,
+            off,
+            ..
+        } => lacks_byte(shape, known, known.kind(base), off, size.bytes()),
+        Insn::Alu { .. }
+        | Insn::Neg { .. }
+        | Insn::Movsx { .. }
+        | Insn::Swap { .. }
+        | Insn::Ja { .. }
+        | Insn::JaLong { .. }
+        | Insn::Branch { .. }
+        | Insn::Call { .. }
+        | Insn::Exit
+        | Insn::StoreReg { .. }
+        | Insn::StoreImm { .. }
+        | Insn::LoadImm64 { .. } => false,
+    }
+}
+
+fn not_below(limit: u64, kind: Kind) -> bool
+    ensures { result ≡ rules.not_below limit kind }
+{
+    match kind {
+        Kind::Unset => false,
+        Kind::Number(a) => a.hi() >= limit,
+        Kind::Pointer(..) => true,
+    }
+}
+
+fn misses_argument(shape: Shape, insn: &Insn, known: &Known) -> bool
+    ensures { result ≡ rules.misses_argument shape insn.now (abstract_of known.now) }
+{
+    match *insn {
+        Insn::Call { id } => helper_refuses(shape, Helper::of(id), known),
+        Insn::Alu { .. }
+        | Insn::Neg { .. }
+        | Insn::Movsx { .. }
+        | Insn::Swap { .. }
+        | Insn::Ja { .. }
+        | Insn::JaLong { .. }
+        | Insn::Branch { .. }
+        | Insn::Exit
+        | Insn::Load { .. }
+        | Insn::LoadSx { .. }
+        | Insn::StoreReg { .. }
+        | Insn::StoreImm { .. }
+        | Insn::LoadImm64 { .. } => false,
+    }
+}
+
+fn helper_refuses(shape: Shape, helper: Option<Helper>, known: &Known) -> bool
+    ensures { result ≡ rules.helper_refuses shape helper (abstract_of known.now) }
+{
+    let nodes = u64::from(shape.nodes());
+    match helper {
+        None => false,
+        Some(called) => match called {
+            Helper::Id | Helper::Coin => false,
+            Helper::Recv => not_below(nodes, known.kind(Reg::R1)),
+            Helper::Send => not_below(nodes, known.kind(Reg::R1))
+                || not_below(1 << 32, known.kind(Reg::R2)),
+        },
+    }
+}
+
+fn exits_with_pointer(insn: &Insn, known: &Known) -> bool
+    ensures { result ≡ rules.exits_with_pointer insn.now (abstract_of known.now) }
+{
+    match *insn {
+        Insn::Exit => is_pointer(known.kind(Reg::R0)),
+        Insn::Alu { .. }
+        | Insn::Neg { .. }
+        | Insn::Movsx { .. }
+        | Insn::Swap { .. }
+        | Insn::Ja { .. }
+        | Insn::JaLong { .. }
+        | Insn::Branch { .. }
+        | Insn::Call { .. }
+        | Insn::Load { .. }
+        | Insn::LoadSx { .. }
+        | Insn::StoreReg { .. }
+        | Insn::StoreImm { .. }
+        | Insn::LoadImm64 { .. } => false,
+    }
+}
+
+fn accesses_number(insn: &Insn, known: &Known) -> bool
+    ensures { result ≡ rules.accesses_number insn.now (abstract_of known.now) }
+{
+    match *insn {
+        Insn::Load { base, .. } => is_number(known.kind(base)),
+        Insn::LoadSx { base, .. } => is_number(known.kind(base)),
+        Insn::StoreReg { base, .. } => is_number(known.kind(base)),
+        Insn::StoreImm { base, .. } => is_number(known.kind(base)),
+        Insn::Alu { .. }
+        | Insn::Neg { .. }
+        | Insn::Movsx { .. }
+        | Insn::Swap { .. }
+        | Insn::Ja { .. }
+        | Insn::JaLong { .. }
+        | Insn::Branch { .. }
+        | Insn::Call { .. }
+        | Insn::Exit
+        | Insn::LoadImm64 { .. } => false,
+    }
+}
+
+/// The lowest rule that an instruction breaks that is never reached.
+pub(crate) fn broken_unreached(
+    program: &Program,
+    shape: Shape,
+    slot: u32,
+    insn: &Insn,
+) -> Option<Rule>
+    ensures { result ≡ rules.lowest_broken program.now shape slot insn.now None }
+{
+    if goes_back(insn) {
+        return Some(Rule::NotForward);
+    }
+    if leads_astray(program, slot, insn) {
+        return Some(Rule::BadTarget);
+    }
+    if calls_unknown(insn) {
+        return Some(Rule::UnknownHelper);
+    }
+    if writes_frame(insn) {
+        return Some(Rule::FrameWrite);
+    }
+    None
+}
+
+/// The lowest rule that an instruction breaks where so much is known.
+pub(crate) fn broken_reached(
+    program: &Program,
+    shape: Shape,
+    slot: u32,
+    insn: &Insn,
+    known: &Known,
+) -> Option<Rule>
+    ensures { result ≡ rules.lowest_broken program.now shape slot insn.now (Some (abstract_of known.now)) }
+{
+    if goes_back(insn) {
+        return Some(Rule::NotForward);
+    }
+    if leads_astray(program, slot, insn) {
+        return Some(Rule::BadTarget);
+    }
+    if calls_unknown(insn) {
+        return Some(Rule::UnknownHelper);
+    }
+    if reads_unset(insn, known) {
+        return Some(Rule::UnsetRegister);
+    }
+    if writes_frame(insn) {
+        return Some(Rule::FrameWrite);
+    }
+    if misuses_pointer(shape, insn, known) {
+        return Some(Rule::PointerMisuse);
+    }
+    if leaves_regions(shape, insn, known) {
+        return Some(Rule::OutOfRegion);
+    }
+    if loads_unset(shape, insn, known) {
+        return Some(Rule::UnsetStackByte);
+    }
+    if misses_argument(shape, insn, known) {
+        return Some(Rule::BadArgument);
+    }
+    if exits_with_pointer(insn, known) {
+        return Some(Rule::ExitNotNumber);
+    }
+    if accesses_number(insn, known) {
+        return Some(Rule::NotPointer);
+    }
+    None
+}

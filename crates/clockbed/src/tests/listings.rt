@@ -1,0 +1,114 @@
+//! Images as text, by `dis`.
+use super::*;
+
+const DIS: &[&str] = &["clockbed", "dis"];
+
+/// `dis` of an image in hexadecimal.
+fn dis_of(alloc: Global, image: &str) -> Result<Ran, AllocError> {
+    image_on(alloc, "dis", "", image)
+}
+
+#[test]
+fn prints_the_canonical_text(rt: HostRuntime) -> Result<(), Fail> {
+    let rows = [
+        ("b700000007000000 9500000000000000", "mov64 r0, 7\nexit\n"),
+        (
+            "0500020000000000 18000000ffffffff 00000000ffffffff 9500000000000000",
+            "ja +2\nlddw r0, 18446744073709551615\nexit\n",
+        ),
+        (
+            "1800000001000000 00000000ffffffff 9500000000000000",
+            "lddw r0, 18446744069414584321\nexit\n",
+        ),
+        ("8500000007000000 9500000000000000", "call 7\nexit\n"),
+        (
+            "8500000002000000 7912080000000000 7b2af8ff00000000",
+            "call recv\nldxdw r2, [r1+8]\nstxdw [r10-8], r2\n",
+        ),
+    ];
+    for (image, text) in rows {
+        let got = dis_of(rt.alloc(), image)?;
+        assert_eq!(rt; got.out.as_slice(), text.as_bytes(), "at {image}");
+        assert_eq!(rt; got.err.len(), 0, "at {image}");
+        assert_eq!(rt; got.status, 0, "at {image}");
+    }
+    Ok(())
+}
+
+#[test]
+fn refuses_what_exec_refuses(rt: HostRuntime) -> Result<(), Fail> {
+    let rows = [
+        ("", "Empty"),
+        ("b7000000070000", "Truncated slot 0"),
+        ("b700000007000000 95000000000000", "Truncated slot 1"),
+        ("ff00000000000000", "UnknownOpcode slot 0"),
+        ("b70b000000000000 9500000000000000", "BadRegister slot 0"),
+        ("b700000007000000 9500000001000000", "NonZeroField slot 1"),
+        ("bf00090000000000", "BadWidth slot 0"),
+    ];
+    for (image, name) in rows {
+        let got = dis_of(rt.alloc(), image)?;
+        let line = format!(in rt.alloc(); "refused image {name}")?;
+        assert_eq!(rt; got.line(), line.as_str(), "at {image}");
+        assert_eq!(rt; got.err.len(), 0, "at {image}");
+        assert_eq!(rt; got.status, 2, "at {image}");
+    }
+    Ok(())
+}
+
+#[test]
+fn lists_the_longest_image(rt: HostRuntime) {
+    let jumps = [5u8, 0, 0, 0, 0, 0, 0, 0];
+    let mut image = [0u8; 8_192];
+    for (place, byte) in image.iter_mut().zip(jumps.iter().cycle()) {
+        *place = *byte;
+    }
+    let got = run_on(rt.alloc(), DIS, &image);
+    assert_eq!(rt; got.out.len(), 1_024 * 6);
+    assert!(rt; got.out.chunks(6).all(|line| line == b"ja +0\n".as_slice()));
+    assert_eq!(rt; got.status, 0);
+}
+
+#[test]
+fn reads_no_more_than_it_may(rt: HostRuntime) {
+    let mut reader = Endless { calls: 0 };
+    let mut out = Vec::new(rt.alloc());
+    let mut err = Vec::new(rt.alloc());
+    let status = command(rt.alloc(), DIS, &mut reader, &mut out, &mut err);
+    assert_eq!(rt; out.as_slice(), b"refused image TooLong\n".as_slice());
+    assert_eq!(rt; err.len(), 0);
+    assert_eq!(rt; status, 2);
+    assert_eq!(rt; reader.calls, 8_193);
+}
+
+#[test]
+fn tells_where_a_read_fails(rt: HostRuntime) {
+    for count in 0..=16usize {
+        let mut reader = Failing {
+            bytes: &SEVEN[..count],
+            kind: ErrorKind::Interrupted,
+        };
+        let mut out = Vec::new(rt.alloc());
+        let mut err = Vec::new(rt.alloc());
+        let status = command(rt.alloc(), DIS, &mut reader, &mut out, &mut err);
+        assert_eq!(rt; out.as_slice(), b"".as_slice());
+        assert_eq!(rt; err.as_slice(), b"fault read\n".as_slice());
+        assert_eq!(rt; status, 1);
+    }
+}
+
+#[test]
+fn tells_where_a_write_fails(rt: HostRuntime) -> Result<(), Fail> {
+    let whole = b"mov64 r0, 7\nexit\n";
+    for room in 0..17usize {
+        let mut input = SEVEN;
+        let mut out = Narrow::new(rt.alloc(), room);
+        let mut err = Vec::new(rt.alloc());
+        let status = command(rt.alloc(), DIS, &mut input, &mut out, &mut err);
+        assert_eq!(rt; out.taken.as_slice(), &whole[..room]);
+        let line = format!(in rt.alloc(); "fault write after {room}\n")?;
+        assert_eq!(rt; err.as_slice(), line.as_bytes());
+        assert_eq!(rt; status, 1);
+    }
+    Ok(())
+}

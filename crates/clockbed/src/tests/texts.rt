@@ -1,0 +1,143 @@
+//! Texts as images, by `asm`, and back, by `dis`.
+use super::*;
+use crate::asm::{TEXT_BYTES, TEXT_CALLS};
+
+const ASM: &[&str] = &["clockbed", "asm"];
+
+fn asm_of(alloc: Global, text: &[u8]) -> Ran {
+    run_on(alloc, ASM, text)
+}
+
+#[test]
+fn prints_the_image(rt: HostRuntime) -> Result<(), Fail> {
+    let rows = [
+        ("mov64 r0, 7\nexit\n", "b700000007000000 9500000000000000"),
+        ("mov64 r0, 7\nexit", "b700000007000000 9500000000000000"),
+        (
+            "ja e\nlddw r0, -1\ne: exit\n",
+            "0500020000000000 18000000ffffffff 00000000ffffffff 9500000000000000",
+        ),
+        ("call 7\nexit\n", "8500000007000000 9500000000000000"),
+        (
+            "lddw r0, 18446744069414584321\nexit\n",
+            "1800000001000000 00000000ffffffff 9500000000000000",
+        ),
+        (
+            "# a pointer kept\n\tstxdw [r10-8] , r1 # here\r\n a:exit\n",
+            "7b1af8ff00000000 9500000000000000",
+        ),
+    ];
+    for (text, image) in rows {
+        let got = asm_of(rt.alloc(), text.as_bytes());
+        let bytes = bytes_of(rt.alloc(), image)?;
+        assert_eq!(rt; got.out.as_slice(), bytes.as_slice(), "at {text}");
+        assert_eq!(rt; got.err.len(), 0, "at {text}");
+        assert_eq!(rt; got.status, 0, "at {text}");
+    }
+    Ok(())
+}
+
+#[test]
+fn names_the_refusal_and_the_line(rt: HostRuntime) -> Result<(), Fail> {
+    let rows = [
+        ("mov64 r11, 1\n", "BadOperand line 1"),
+        ("", "Empty line 0"),
+        ("# only\n", "Empty line 0"),
+        ("a:\na: exit\n", "LabelTwice line 2"),
+        ("ja b\n", "UnknownLabel line 1"),
+        ("mov64 r0, 2147483648\n", "OutOfRange line 1"),
+        ("exit\nmov65 r0, 1\n", "UnknownWord line 2"),
+    ];
+    for (text, name) in rows {
+        let got = asm_of(rt.alloc(), text.as_bytes());
+        let line = format!(in rt.alloc(); "refused text {name}")?;
+        assert_eq!(rt; got.line(), line.as_str(), "at {text}");
+        assert_eq!(rt; got.err.len(), 0, "at {text}");
+        assert_eq!(rt; got.status, 2, "at {text}");
+    }
+    Ok(())
+}
+
+#[test]
+fn gives_a_listing_back(rt: HostRuntime) {
+    let listing = b"mov64 r0, 7\nexit\n";
+    assert_eq!(rt; listing.len(), 17);
+    let image = asm_of(rt.alloc(), listing);
+    let back = run_on(rt.alloc(), &["clockbed", "dis"], image.out.as_slice());
+    assert_eq!(rt; back.out.as_slice(), listing.as_slice());
+    assert_eq!(rt; back.status, 0);
+}
+
+#[test]
+fn refuses_one_instruction_too_many(rt: HostRuntime) -> Result<(), Fail> {
+    let mut text = Vec::new(rt.alloc());
+    for _ in 0..bpf_insn::MAX_SLOTS {
+        text.extend_from_slice(b"exit\n")?;
+    }
+    let whole = asm_of(rt.alloc(), text.as_slice());
+    assert_eq!(rt; whole.out.len(), 8 * bpf_insn::MAX_SLOTS);
+    assert_eq!(rt; whole.status, 0);
+    text.extend_from_slice(b"exit\n")?;
+    let more = asm_of(rt.alloc(), text.as_slice());
+    assert_eq!(rt; more.line(), "refused text TooLong line 1025");
+    assert_eq!(rt; more.status, 2);
+    Ok(())
+}
+
+#[test]
+fn reads_a_mebibyte_and_no_more(rt: HostRuntime) -> Result<(), Fail> {
+    let mut text = vec![in rt.alloc(); b'#'; TEXT_BYTES]?;
+    let whole = asm_of(rt.alloc(), text.as_slice());
+    assert_eq!(rt; whole.line(), "refused text Empty line 0");
+    assert_eq!(rt; whole.status, 2);
+    text.push(b'#')?;
+    let more = asm_of(rt.alloc(), text.as_slice());
+    assert_eq!(rt; more.out.len(), 0);
+    assert_eq!(rt; more.err.as_slice(), b"fault read\n".as_slice());
+    assert_eq!(rt; more.status, 1);
+    Ok(())
+}
+
+#[test]
+fn stops_reading_a_text_without_end(rt: HostRuntime) {
+    let mut input = Endless { calls: 0 };
+    let mut out = Vec::new(rt.alloc());
+    let mut err = Vec::new(rt.alloc());
+    let status = command(rt.alloc(), ASM, &mut input, &mut out, &mut err);
+    assert_eq!(rt; status, 1);
+    assert_eq!(rt; err.as_slice(), b"fault read\n".as_slice());
+    assert!(rt; input.calls <= TEXT_CALLS);
+}
+
+#[test]
+fn tells_a_text_stream_that_fails(rt: HostRuntime) {
+    let mut input = Failing {
+        bytes: b"exit\n",
+        kind: ErrorKind::Interrupted,
+    };
+    let mut out = Vec::new(rt.alloc());
+    let mut err = Vec::new(rt.alloc());
+    let status = command(rt.alloc(), ASM, &mut input, &mut out, &mut err);
+    assert_eq!(rt; status, 1);
+    assert_eq!(rt; out.len(), 0);
+    assert_eq!(rt; err.as_slice(), b"fault read\n".as_slice());
+}
+
+#[test]
+fn tells_how_much_of_the_image_was_taken(rt: HostRuntime) -> Result<(), Fail> {
+    for room in 0..8 {
+        let mut input = b"exit\n".as_slice();
+        let mut out = Narrow::new(rt.alloc(), room);
+        let mut err = Vec::new(rt.alloc());
+        let status = command(rt.alloc(), ASM, &mut input, &mut out, &mut err);
+        let line = format!(in rt.alloc(); "fault write after {room}\n")?;
+        assert_eq!(rt; status, 1, "at {room}");
+        assert_eq!(rt;
+            out.taken.as_slice(),
+            &b"\x95\0\0\0\0\0\0\0"[..room],
+            "at {room}"
+        );
+        assert_eq!(rt; err.as_slice(), line.as_bytes(), "at {room}");
+    }
+    Ok(())
+}

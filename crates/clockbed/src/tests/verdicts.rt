@@ -1,0 +1,436 @@
+//! Programs that `verify` accepts, and those that it refuses.
+use super::*;
+use bpf_insn::{AluOp, Cond, Insn, Operand, Reg, Size, Width, encode, program_of};
+
+/// Options, a text, its image, and the line.
+type Row = (&'static str, &'static str, &'static str, &'static str);
+
+/// Steps between slots: rules 1 and 2.
+const STEPS: [Row; 6] = [
+    ("", "ja -1", "0500ffff00000000", "refused rule 1 slot 0"),
+    (
+        "",
+        "ja +1; lddw r0, 1; exit",
+        "0500010000000000 1800000001000000 0000000000000000 9500000000000000",
+        "refused rule 2 slot 0",
+    ),
+    (
+        "",
+        "mov64 r0, 7",
+        "b700000007000000",
+        "refused rule 2 slot 0",
+    ),
+    (
+        "",
+        "mov64 r0, 7; exit",
+        "b700000007000000 9500000000000000",
+        "accepted slots 2 announced 2",
+    ),
+    (
+        "",
+        "mov64 r0, 0; jeq r0, 0, +1; mov64 r0, r5; exit",
+        "b700000000000000 1500010000000000 bf50000000000000 9500000000000000",
+        "accepted slots 4 announced 4",
+    ),
+    (
+        "",
+        "mov64 r0, 0; exit; mov64 r0, r5; exit",
+        "b700000000000000 9500000000000000 bf50000000000000 9500000000000000",
+        "accepted slots 4 announced 2",
+    ),
+];
+
+/// Registers and helpers: rules 3, 4, 5, 9 and 10.
+const REGISTERS: [Row; 10] = [
+    (
+        "",
+        "call -1; exit",
+        "85000000ffffffff 9500000000000000",
+        "refused rule 3 slot 0",
+    ),
+    (
+        "",
+        "mov64 r0, 0; exit; call 9; exit",
+        "b700000000000000 9500000000000000 8500000009000000 9500000000000000",
+        "refused rule 3 slot 2",
+    ),
+    ("", "exit", "9500000000000000", "refused rule 4 slot 0"),
+    (
+        "",
+        "lddw r3, 1; exit",
+        "1803000001000000 0000000000000000 9500000000000000",
+        "refused rule 4 slot 2",
+    ),
+    (
+        "",
+        "mov32 r10, r1; exit",
+        "bc1a000000000000 9500000000000000",
+        "refused rule 5 slot 0",
+    ),
+    (
+        "",
+        "call recv; exit",
+        "8500000002000000 9500000000000000",
+        "refused rule 9 slot 0",
+    ),
+    (
+        "--nodes 4",
+        "mov64 r1, 4; call recv; exit",
+        "b701000004000000 8500000002000000 9500000000000000",
+        "refused rule 9 slot 1",
+    ),
+    (
+        "--nodes 5",
+        "mov64 r1, 4; call recv; exit",
+        "b701000004000000 8500000002000000 9500000000000000",
+        "accepted slots 3 announced 3",
+    ),
+    (
+        "",
+        "call id; mov64 r1, r0; call recv; exit",
+        "8500000001000000 bf01000000000000 8500000002000000 9500000000000000",
+        "accepted slots 4 announced 4",
+    ),
+    (
+        "",
+        "mov64 r0, r1; exit",
+        "bf10000000000000 9500000000000000",
+        "refused rule 10 slot 1",
+    ),
+];
+
+/// Pointers, regions and stack bytes: rules 6, 7, 8 and 11.
+const MEMORY: [Row; 13] = [
+    (
+        "",
+        "mov32 r0, r1; exit",
+        "bc10000000000000 9500000000000000",
+        "refused rule 6 slot 0",
+    ),
+    (
+        "",
+        "stxdw [r10-8], r1; mov64 r0, 0; exit",
+        "7b1af8ff00000000 b700000000000000 9500000000000000",
+        "refused rule 6 slot 0",
+    ),
+    (
+        "",
+        "ldxb r3, [r1+0]; add64 r1, r3; ldxb r0, [r1+0]; exit",
+        "7113000000000000 0f31000000000000 7110000000000000 9500000000000000",
+        "refused rule 6 slot 1",
+    ),
+    (
+        "--memory 16",
+        "mov64 r0, 0; ldxb r3, [r1+0]; jgt r3, 7, +2; add64 r1, r3; ldxb r0, [r1+0]; exit",
+        "b700000000000000 7113000000000000 2503020007000000 0f31000000000000 7110000000000000 9500000000000000",
+        "accepted slots 6 announced 6",
+    ),
+    (
+        "--memory 16",
+        "mov64 r3, 8; jlt r2, 4, +1; mov64 r3, 99; add64 r1, r3; ldxb r0, [r1+0]; exit",
+        "b703000008000000 a502010004000000 b703000063000000 0f31000000000000 7110000000000000 9500000000000000",
+        "accepted slots 6 announced 6",
+    ),
+    (
+        "--memory 16",
+        "mov64 r3, 8; jlt r2, 3, +1; mov64 r3, 99; add64 r1, r3; ldxb r0, [r1+0]; exit",
+        "b703000008000000 a502010003000000 b703000063000000 0f31000000000000 7110000000000000 9500000000000000",
+        "refused rule 6 slot 3",
+    ),
+    (
+        "--memory 16",
+        "ldxdw r0, [r1+8]; exit",
+        "7910080000000000 9500000000000000",
+        "accepted slots 2 announced 2",
+    ),
+    (
+        "--memory 8",
+        "ldxdw r0, [r1+8]; exit",
+        "7910080000000000 9500000000000000",
+        "refused rule 7 slot 0",
+    ),
+    (
+        "",
+        "ldxdw r0, [r1+8]; exit",
+        "7910080000000000 9500000000000000",
+        "accepted slots 2 announced 2",
+    ),
+    (
+        "--memory 256 --nodes 32",
+        "ldxdw r0, [r1+248]; exit",
+        "7910f80000000000 9500000000000000",
+        "accepted slots 2 announced 2",
+    ),
+    (
+        "",
+        "jgt r2, 0, +1; stb [r10-1], 5; ldxb r0, [r10-1]; exit",
+        "2502010000000000 720affff05000000 71a0ffff00000000 9500000000000000",
+        "refused rule 8 slot 2",
+    ),
+    (
+        "",
+        "jgt r2, 0, +2; stb [r10-1], 5; ja +1; stb [r10-1], 6; ldxb r0, [r10-1]; exit",
+        "2502020000000000 720affff05000000 0500010000000000 720affff06000000 71a0ffff00000000 9500000000000000",
+        "accepted slots 6 announced 5",
+    ),
+    (
+        "",
+        "ldxb r0, [r2+0]; exit",
+        "7120000000000000 9500000000000000",
+        "refused rule 11 slot 0",
+    ),
+];
+
+/// 0 for a program that is accepted, and 2 for one that is refused.
+fn status_of(line: &str) -> u8 {
+    if line.starts_with("accepted") { 0 } else { 2 }
+}
+
+#[test]
+fn tells_what_is_accepted(rt: HostRuntime) -> Result<(), Fail> {
+    let tables: [&[Row]; 3] = [&STEPS, &REGISTERS, &MEMORY];
+    for table in tables {
+        for (options, text, image, line) in table {
+            let got = image_on(rt.alloc(), "verify", options, image)?;
+            assert_eq!(rt; got.line(), *line, "at {text}");
+            assert_eq!(rt; got.err.len(), 0, "at {text}");
+            assert_eq!(rt; got.status, status_of(line), "at {text}");
+        }
+    }
+    Ok(())
+}
+
+#[test]
+fn refuses_what_exec_refuses(rt: HostRuntime) -> Result<(), Fail> {
+    let rows = [
+        ("", "", "image Empty"),
+        ("", "b7000000070000", "image Truncated slot 0"),
+        ("", "ff00000000000000 000000", "image UnknownOpcode slot 0"),
+        (
+            "",
+            "b70b000000000000 9500000000000000",
+            "image BadRegister slot 0",
+        ),
+        (
+            "",
+            "b700000007000000 9500000001000000",
+            "image NonZeroField slot 1",
+        ),
+        ("", "bf00090000000000", "image BadWidth slot 0"),
+        ("--memory 12", "b700000007000000 9500000000000000", "shape"),
+        ("--memory 255 --nodes 32", "", "shape"),
+    ];
+    for (options, image, name) in rows {
+        let got = image_on(rt.alloc(), "verify", options, image)?;
+        let line = format!(in rt.alloc(); "refused {name}")?;
+        assert_eq!(rt; got.line(), line.as_str(), "at {image}");
+        assert_eq!(rt; got.err.len(), 0, "at {image}");
+        assert_eq!(rt; got.status, 2, "at {image}");
+    }
+    Ok(())
+}
+
+// ---- the clock program (see its listing in `clock_program`)
+
+fn mov(dst: Reg, src: Operand) -> Insn {
+    alu(AluOp::Mov, dst, src)
+}
+
+fn alu(op: AluOp, dst: Reg, src: Operand) -> Insn {
+    Insn::Alu {
+        op,
+        width: Width::W64,
+        dst,
+        src,
+    }
+}
+
+fn branch(cond: Cond, dst: Reg, src: Operand, off: i16) -> Insn {
+    Insn::Branch {
+        cond,
+        width: Width::W64,
+        dst,
+        src,
+        off,
+    }
+}
+
+fn load(dst: Reg, off: i16) -> Insn {
+    Insn::Load {
+        size: Size::W,
+        dst,
+        base: Reg::R6,
+        off,
+    }
+}
+
+fn store(off: i16, src: Reg) -> Insn {
+    Insn::StoreReg {
+        size: Size::W,
+        base: Reg::R6,
+        off,
+        src,
+    }
+}
+
+/// Counts a node in r8 whose mail is the clock, r7.
+fn hear(node: i32) -> [Insn; 4] {
+    [
+        mov(Reg::R1, Operand::Imm(node)),
+        Insn::Call { id: 2 },
+        branch(Cond::Ne, Reg::R0, Operand::Reg(Reg::R7), 1),
+        alu(AluOp::Add, Reg::R8, Operand::Imm(1)),
+    ]
+}
+
+/// Makes the new clock, r7, and the new mark, r9, and stores both.
+fn decide(quorum: i32, modulus: i32) -> [Insn; 20] {
+    [
+        branch(Cond::Ge, Reg::R8, Operand::Imm(quorum), 3),
+        mov(Reg::R7, Operand::Imm(0)),
+        mov(Reg::R9, Operand::Imm(0)),
+        Insn::Ja { off: 14 },
+        branch(Cond::Ne, Reg::R7, Operand::Imm(0), 9),
+        load(Reg::R9, 4),
+        branch(Cond::Ne, Reg::R9, Operand::Imm(0), 4),
+        Insn::Call { id: 4 },
+        mov(Reg::R7, Operand::Reg(Reg::R0)),
+        mov(Reg::R9, Operand::Reg(Reg::R0)),
+        Insn::Ja { off: 7 },
+        mov(Reg::R7, Operand::Imm(1)),
+        mov(Reg::R9, Operand::Imm(1)),
+        Insn::Ja { off: 4 },
+        alu(AluOp::Add, Reg::R7, Operand::Imm(1)),
+        mov(Reg::R9, Operand::Imm(1)),
+        branch(Cond::Lt, Reg::R7, Operand::Imm(modulus), 1),
+        mov(Reg::R7, Operand::Imm(0)),
+        store(0, Reg::R7),
+        store(4, Reg::R9),
+    ]
+}
+
+/// Sends a node the new clock.
+fn tell(node: i32) -> [Insn; 3] {
+    [
+        mov(Reg::R1, Operand::Imm(node)),
+        mov(Reg::R2, Operand::Reg(Reg::R7)),
+        Insn::Call { id: 3 },
+    ]
+}
+
+/// The image of a clock program in the manner of Dolev and Welch: `27 + 7n` slots, of which the longest path takes `17 + 7n`.
+fn clock_program(alloc: Global, nodes: i32, quorum: i32, modulus: i32) -> Result<Vec<u8>, Fail> {
+    let mut insns = Vec::new(alloc);
+    insns.extend_from_slice(&[
+        mov(Reg::R6, Operand::Reg(Reg::R1)),
+        load(Reg::R7, 0),
+        branch(Cond::Lt, Reg::R7, Operand::Imm(modulus), 1),
+        mov(Reg::R7, Operand::Imm(0)),
+        mov(Reg::R8, Operand::Imm(0)),
+    ])?;
+    for node in 0..nodes {
+        insns.extend_from_slice(&hear(node))?;
+    }
+    insns.extend_from_slice(&decide(quorum, modulus))?;
+    for node in 0..nodes {
+        insns.extend_from_slice(&tell(node))?;
+    }
+    insns.extend_from_slice(&[mov(Reg::R0, Operand::Imm(0)), Insn::Exit])?;
+    match program_of(alloc, insns) {
+        Ok(program) => Ok(encode(alloc, &program)?),
+        Err(_) => Err("no program")?,
+    }
+}
+
+#[test]
+fn accepts_the_clock_program(rt: HostRuntime) -> Result<(), Fail> {
+    let rows = [
+        ("4", 4, 3, 16, "accepted slots 55 announced 45"),
+        ("32", 32, 22, 65_536, "accepted slots 251 announced 241"),
+        ("1", 1, 1, 2, "accepted slots 34 announced 24"),
+        // a shape of fewer nodes: the first node that isn't there is refused
+        ("3", 4, 3, 16, "refused rule 9 slot 18"),
+    ];
+    for (count, nodes, quorum, modulus, line) in rows {
+        let image = clock_program(rt.alloc(), nodes, quorum, modulus)?;
+        let words = ["clockbed", "verify", "--memory", "8", "--nodes", count];
+        let got = run_on(rt.alloc(), &words, image.as_slice());
+        assert_eq!(rt; got.line(), line, "at {nodes} nodes");
+        assert_eq!(rt; got.status, status_of(line), "at {nodes} nodes");
+    }
+    Ok(())
+}
+
+#[test]
+fn refuses_the_clock_program_cut_short(rt: HostRuntime) -> Result<(), Fail> {
+    let image = clock_program(rt.alloc(), 4, 3, 16)?;
+    let rows = [
+        (8, "refused rule 2 slot 0"),
+        (432, "refused rule 2 slot 53"),
+        (440, "accepted slots 55 announced 45"),
+    ];
+    for (count, line) in rows {
+        let cut = image.get(..count).ok_or("a shorter image")?;
+        let got = run_on(rt.alloc(), VERIFY, cut);
+        assert_eq!(rt; got.line(), line, "at {count} bytes");
+    }
+    Ok(())
+}
+
+// ---- streams
+
+const VERIFY: &[&str] = &["clockbed", "verify"];
+
+#[test]
+fn reads_no_more_than_it_may(rt: HostRuntime) {
+    let rows: [(&[&str], &str, usize); 2] = [
+        (VERIFY, "refused image TooLong\n", 8_193),
+        (
+            &["clockbed", "verify", "--memory", "12"],
+            "refused shape\n",
+            0,
+        ),
+    ];
+    for (words, line, calls) in rows {
+        let mut reader = Endless { calls: 0 };
+        let mut out = Vec::new(rt.alloc());
+        let mut err = Vec::new(rt.alloc());
+        let status = command(rt.alloc(), words, &mut reader, &mut out, &mut err);
+        assert_eq!(rt; out.as_slice(), line.as_bytes());
+        assert_eq!(rt; err.len(), 0);
+        assert_eq!(rt; status, 2);
+        assert_eq!(rt; reader.calls, calls);
+    }
+}
+
+#[test]
+fn tells_where_a_read_fails(rt: HostRuntime) {
+    for count in 0..=16usize {
+        let mut reader = Failing {
+            bytes: &SEVEN[..count],
+            kind: ErrorKind::Interrupted,
+        };
+        let mut out = Vec::new(rt.alloc());
+        let mut err = Vec::new(rt.alloc());
+        let status = command(rt.alloc(), VERIFY, &mut reader, &mut out, &mut err);
+        assert_eq!(rt; out.as_slice(), b"".as_slice());
+        assert_eq!(rt; err.as_slice(), b"fault read\n".as_slice());
+        assert_eq!(rt; status, 1);
+    }
+}
+
+#[test]
+fn tells_where_a_write_fails(rt: HostRuntime) -> Result<(), Fail> {
+    let whole = b"accepted slots 2 announced 2\n";
+    for room in 0..29usize {
+        let mut input = SEVEN;
+        let mut out = Narrow::new(rt.alloc(), room);
+        let mut err = Vec::new(rt.alloc());
+        let status = command(rt.alloc(), VERIFY, &mut input, &mut out, &mut err);
+        assert_eq!(rt; out.taken.as_slice(), &whole[..room]);
+        let line = format!(in rt.alloc(); "fault write after {room}\n")?;
+        assert_eq!(rt; err.as_slice(), line.as_bytes());
+        assert_eq!(rt; status, 1);
+    }
+    Ok(())
+}
