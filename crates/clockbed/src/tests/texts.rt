@@ -141,3 +141,54 @@ fn tells_how_much_of_the_image_was_taken(rt: HostRuntime) -> Result<(), Fail> {
     }
     Ok(())
 }
+
+/// The text of the clock program for so many nodes and faults, with modulus 8.
+fn clock_text(alloc: Global, nodes: u32, faults: u32) -> Result<String, AllocError> {
+    let mut text = String::new(alloc);
+    text.push_str("mov64 r6, r1\nldxw r7, [r6+0]\njlt r7, 8, +1\nmov64 r7, 0\nmov64 r8, 0\n")?;
+    for node in 0..nodes {
+        let one = format!(in alloc; "mov64 r1, {node}\ncall recv\njne r0, r7, +1\nadd64 r8, 1\n")?;
+        text.push_str(one.as_str())?;
+    }
+    let quorum = nodes.saturating_sub(faults);
+    let choice = format!(in alloc; "jge r8, {quorum}, ok\nmov64 r7, 0\nmov64 r9, 0\nja store\n")?;
+    text.push_str(choice.as_str())?;
+    text.push_str(
+        "ok: jne r7, 0, inc\nldxw r9, [r6+4]\njne r9, 0, one\ncall coin\nmov64 r7, r0\nmov64 r9, r0\nja store\n",
+    )?;
+    text.push_str("one: mov64 r7, 1\nmov64 r9, 1\nja store\n")?;
+    text.push_str("inc: add64 r7, 1\nmov64 r9, 1\njlt r7, 8, store\nmov64 r7, 0\n")?;
+    text.push_str("store: stxw [r6+0], r7\nstxw [r6+4], r9\n")?;
+    for node in 0..nodes {
+        let one = format!(in alloc; "mov64 r1, {node}\nmov64 r2, r7\ncall send\n")?;
+        text.push_str(one.as_str())?;
+    }
+    text.push_str("mov64 r0, 0\nexit\n")?;
+    Ok(text)
+}
+
+#[test]
+fn makes_the_clock_program(rt: HostRuntime) -> Result<(), Fail> {
+    let rows = [
+        (4, 1, "4", "accepted slots 55 announced 45", "r0 0 steps 36"),
+        (
+            32,
+            10,
+            "32",
+            "accepted slots 251 announced 241",
+            "r0 0 steps 204",
+        ),
+    ];
+    for (nodes, faults, named, verdict, run) in rows {
+        let text = clock_text(rt.alloc(), nodes, faults)?;
+        let image = asm_of(rt.alloc(), text.as_bytes());
+        assert_eq!(rt; image.status, 0, "at {named}");
+        let verify = ["clockbed", "verify", "--nodes", named];
+        let verified = run_on(rt.alloc(), &verify, image.out.as_slice());
+        assert_eq!(rt; verified.line(), verdict, "at {named}");
+        let exec = ["clockbed", "exec", "--nodes", named];
+        let ran = run_on(rt.alloc(), &exec, image.out.as_slice());
+        assert_eq!(rt; ran.line(), run, "at {named}");
+    }
+    Ok(())
+}
