@@ -12,7 +12,7 @@ use std::alloc::{AllocError, Global};
 use std::marker::Model;
 
 /// The most slots of a program. An image has 8 bytes for each.
-pub const MAX_SLOTS: usize = 1024;
+pub const MAX_SLOTS: usize = 2048;
 
 /// A program: one to [`MAX_SLOTS`] slots of whole instructions. Contracts see the list of its instructions.
 #[derive(Drop)]

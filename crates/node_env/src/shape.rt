@@ -6,7 +6,7 @@ use crate::region::{Region, STACK_BYTES};
 use std::marker::Model;
 
 /// The most nodes of a shape.
-pub const MAX_NODES: u32 = 32;
+pub const MAX_NODES: u32 = 64;
 
 /// The most bytes of memory of a node.
 pub const MAX_MEMORY: u32 = 256;
