@@ -1,12 +1,14 @@
 -- What is told of a program is told once.
-use Rattle.std.proofs.Common.{◌≡◌, ℕ, suc, ◌≤◌, List, inl, inr, arith}
+use Rattle.std.proofs.Common.{◌≡◌, ℕ, suc, ◌≤◌, List, inl, inr, arith, refl}
 use Rattle.std.proofs.lemmas.Bool.{cases_lt}
 use Rattle.node_env.specs.Env.{Extent}
 use Rattle.bpf_insn.specs.declared.forms.Insn.{Insn}
 use Rattle.bpf_insn.specs.Programs.{slots_of}
 use Rattle.bpf_verify.specs.Typable.{TypableBelow, Typable}
 use Rattle.bpf_verify.specs.Paths.{IsLongestPath}
-use Rattle.bpf_verify.specs.Accepted.{IsFirstBroken}
+use Rattle.bpf_verify.specs.Accepted.{IsFirstBroken, IsRefusal}
+use Rattle.bpf_verify.specs.declared.refusal.VerifyError.{VerifyError}
+use Rattle.bpf_verify.specs.declared.refusal.VerifyError.TheVariants as error
 
 -- what types more slots types fewer
 fewer_typed : (program : List Insn) (shape : Extent) (end more : ℕ) → end ≤ more → TypableBelow program shape more → TypableBelow program shape end
@@ -22,6 +24,11 @@ fewer_typed program shape end more few (table, types) = (
 
 pub broken_untypable : (program : List Insn) (shape : Extent) (slot : ℕ) → IsFirstBroken program shape slot → Typable program shape → ⊥
 broken_untypable program shape slot broken typable = broken.here (fewer_typed program shape (suc slot) (slots_of program) broken.within typable)
+
+-- a typable program is refused for want of memory alone
+pub typable_refusal : (program : List Insn) (shape : Extent) (e : VerifyError) → IsRefusal program shape e → Typable program shape → e ≡ error.Memory
+typable_refusal program shape (error.Refused slot rule) broken typable = absurd (broken_untypable program shape slot broken typable)
+typable_refusal program shape error.Memory broken typable = refl
 
 pub one_broken : (program : List Insn) (shape : Extent) (slot other : ℕ) → IsFirstBroken program shape slot → IsFirstBroken program shape other → slot ≡ other
 one_broken program shape slot other p q =

@@ -1,6 +1,7 @@
 //! Accepted programs.
 
 ghost use Rattle.std.specs.Prelude.{◌≡◌, IfOk, IfErr, OnOk};
+ghost use Rattle.bpf_verify.specs.declared.refusal.VerifyError.TheVariants.{Memory};
 ghost use Rattle.bpf_verify.specs.Accepted.{IsRefusal};
 ghost use Rattle.bpf_verify.specs.Typable.{Typable};
 ghost use Rattle.bpf_verify.specs.Paths.{IsLongestPath};
@@ -12,29 +13,32 @@ use bpf_insn::Program;
 use node_env::Shape;
 use std::alloc::{AllocError, Global};
 use std::marker::Model;
+use std::sync::Arc;
 
-/// A program that [`verify`] accepted, for nodes of one shape. It keeps every rule of docs/VERIFIER.md; only `verify` and `copy` make one.
+/// A program that [`verify`] accepted, for nodes of one shape. It keeps every rule of docs/VERIFIER.md; only `verify` and `copy`
+/// make one, and copies share their instructions.
 #[derive(Drop)]
 pub struct VerifiedProgram {
-    program: Program,
+    program: Arc<Program, Global>,
     shape: Shape,
     budget: u32,
 }
 
 impl Model for VerifiedProgram {
-    ghost use Rattle.bpf_verify.specs.Accepted.{Accepted};
+    ghost use Rattle.bpf_verify.specs.Accepted.{Accepted, IsVerified};
 
     ghost Value = { Accepted };
 
-    ghost use Rattle.bpf_verify.specs.VerifiedParts.{accepted_of, IsAccepted};
+    ghost use Rattle.bpf_verify.specs.VerifiedParts.{accepted_of};
 
     ghost view = { accepted_of };
 
-    ghost invariant = { IsAccepted };
+    ghost invariant = { λ v. IsVerified (accepted_of v) };
 }
 
 /// Accepts a program for nodes of a shape, or names the first slot whose instruction breaks a rule, and the lowest rule that it
 /// breaks there. `Memory` comes where memory was short, wherever that was.
+#[tactic(auto, using(crate::proofs::VerdictLaws::typable_refusal))]
 pub fn verify(
     alloc: Global,
     program: &Program,
@@ -44,6 +48,7 @@ pub fn verify(
     ensures typable { OnOk result (Typable program.now shape) }
     ensures longest { IfOk result (λ v. IsLongestPath program.now v.budget) }
     ensures refused { IfErr result (IsRefusal program.now shape) }
+    ensures exact { Typable program.now shape → IfErr result (λ e. e ≡ Memory) }
 {
     walk(alloc, program, shape)?;
     match accepted(alloc, program, shape) {
@@ -58,15 +63,21 @@ fn accepted(alloc: Global, program: &Program, shape: Shape) -> Result<VerifiedPr
     ensures longest { IfOk result (λ v. IsLongestPath program.now v.budget) }
 {
     let budget = longest(alloc, program, shape)?;
+    let copy = program.copy(alloc)?;
+    let _slots = copy.slot_count();
+    let Ok(program) = Arc::new(alloc, copy) else {
+        return Err(AllocError);
+    };
     Ok(VerifiedProgram {
-        program: program.copy(alloc)?,
+        program,
         shape,
         budget,
     })
 }
 
 impl VerifiedProgram {
-    ghost use Rattle.std.specs.Prelude.{◌≡◌, IfOk};
+    ghost use Rattle.std.specs.Prelude.{◌≡◌, ◌↔◌, IfOk, IsTrue};
+    ghost use Rattle.bpf_verify.specs.Accepted.{IsVerified};
     ghost use Rattle.bpf_verify.specs.Typable.{Typable};
     ghost use Rattle.bpf_verify.specs.Paths.{IsLongestPath};
 
@@ -87,18 +98,25 @@ impl VerifiedProgram {
 
     pub fn program(&self) -> &Program
         ensures value { result.now ≡ self.now.program }
-        ensures typable { Typable self.now.program self.now.shape }
-        ensures longest { IsLongestPath self.now.program self.now.budget }
+        ensures verified { IsVerified self.now }
     {
         &self.program
     }
 
-    /// An accepted program with the same instructions, shape and budget.
-    pub fn copy(&self, alloc: Global) -> Result<VerifiedProgram, AllocError>
+    /// Whether the other is the same program, accepted for the same shape. Their budgets are then equal (`one_verdict`).
+    pub fn same(&self, other: &VerifiedProgram) -> bool
+        ensures { IsTrue result ↔ ((self.now.program ≡ other.now.program) × (self.now.shape ≡ other.now.shape)) }
+    {
+        self.shape == other.shape && self.program.same(&other.program)
+    }
+
+    /// An accepted program with the same instructions, shape and budget. The instructions are shared: nothing is allocated, and
+    /// it fails only where no more owners can be counted.
+    pub fn copy(&self) -> Result<VerifiedProgram, AllocError>
         ensures { IfOk result (λ v. v ≡ self.now) }
     {
         Ok(VerifiedProgram {
-            program: self.program.copy(alloc)?,
+            program: Arc::try_clone(&self.program)?,
             shape: self.shape,
             budget: self.budget,
         })

@@ -1,8 +1,9 @@
 //! What a node's program sees in a pulse.
-ghost use Rattle.std.specs.Prelude.{◌≡◌, ◌<◌, ℕ, length, All};
-ghost use Rattle.node_env.specs.Env.{IsSetting, received};
+ghost use Rattle.std.specs.Prelude.{◌≡◌, ◌<◌, ◌↔◌, ℕ, length, All, IsTrue};
+ghost use Rattle.node_env.specs.Env.{IsSetting, inbox_of, received, setting_of};
 ghost use Rattle.node_env.specs.Slots.{map_of, IsSlot};
 
+use crate::mail::Mail;
 use crate::shape::Shape;
 use std::marker::Model;
 
@@ -101,4 +102,30 @@ impl Env {
     {
         self.coin
     }
+
+    /// Whether this is what a node sees in a pulse: its shape, its number, what came to it in the mail, and its coin. A mail of
+    /// `NO_MAIL` and none differ here.
+    pub fn sees(&self, shape: Shape, id: u32, mail: &Mail, coin: u32) -> bool
+        requires { length mail.now ≡ shape.nodes }
+        ensures { IsTrue result ↔ (self.now ≡ setting_of shape id mail.now coin) }
+    {
+        if self.shape != shape || self.id != id || self.coin != coin {
+            return false;
+        }
+        is_inbox(&self.inbox, mail, id)
+    }
+}
+
+/// Whether the list is what came to the receiver, by sender.
+fn is_inbox(inbox: &[Option<u32>], mail: &Mail, receiver: u32) -> bool
+    requires nodes { length inbox.now ≡ length mail.now }
+    requires receiver { receiver < length mail.now }
+    ensures { IsTrue result ↔ (map_of inbox.now ≡ inbox_of receiver mail.now) }
+{
+    for sender in 0..mail.nodes() {
+        if inbox[sender as usize] != mail.slot(sender, receiver) {
+            return false;
+        }
+    }
+    true
 }

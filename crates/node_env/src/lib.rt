@@ -7,6 +7,7 @@ mod mail;
 mod outbox;
 mod region;
 mod shape;
+mod word;
 
 pub use env::{Env, NO_MAIL};
 pub use helper::Helper;

@@ -1,32 +1,39 @@
 //! What all nodes sent.
-ghost use Rattle.std.specs.Prelude.{◌≡◌, ◌<◌, IfOk, length, replicate, slice_index_or, slice_set};
+ghost use Rattle.std.specs.Prelude.{◌≡◌, ◌<◌, ◌≤◌, ◌+◌, ◌*◌, IfOk, All, length, replicate, slice_index_or, slice_set};
 ghost use Rattle.std.specs.FinMap as map;
+ghost use Rattle.node_env.specs.Env.{AreNumbers, IsSquare, inbox_of};
+ghost use Rattle.node_env.specs.Slots.{map_of, numbers_of, rows_of};
 
 use crate::outbox::Outbox;
-use crate::shape::Shape;
+use crate::shape::{MAX_NODES, Shape};
+use crate::word::{EMPTY, slot_in};
 use std::alloc::{AllocError, Global};
 use std::marker::Model;
 
-/// What all nodes sent in the last closed pulse: for each sender and each receiver a number of 32 bits, or nothing.
+/// What all nodes sent in the last closed pulse: for each sender and each receiver a number of 32 bits, or nothing, as one
+/// list of words, row by row.
 #[derive(Drop)]
 pub struct Mail {
-    rows: Vec<Outbox>,
+    nodes: u32,
+    words: Vec<u64>,
 }
 
 impl Model for Mail {
-    ghost use Rattle.std.specs.Prelude.{ℕ, List, length, map, ◌≡◌, All};
+    ghost use Rattle.std.specs.Prelude.{ℕ, List};
     ghost use Rattle.std.specs.Ordering.{nat_cmp};
     ghost use Rattle.std.specs.FinMap as finite;
     ghost use Rattle.std.specs.Coded.{Coded, coded_list};
     ghost use Rattle.node_env.specs.Codes.{numbers_code};
+    ghost use Rattle.node_env.specs.Env.{IsSquare};
+    ghost use Rattle.node_env.specs.Slots.{rows_of};
 
     ghost Value = { List (finite.FinMap nat_cmp ℕ) };
 
     ghost coded = { coded_list numbers_code };
 
-    ghost view = { λ m. map (λ row. row.sent) m.rows.items };
+    ghost view = { λ m. rows_of m.nodes m.nodes m.words.items };
 
-    ghost invariant = { λ m. All (λ row. row.nodes ≡ length m.rows.items) m.rows.items };
+    ghost invariant = { λ m. IsSquare m.nodes m.words.items };
 }
 
 impl Mail {
@@ -35,11 +42,18 @@ impl Mail {
         ensures { IfOk result (λ mail. mail ≡ replicate shape.nodes map.empty) }
     {
         let nodes = shape.nodes();
-        let mut rows = Vec::new(alloc);
-        for i in 0..nodes {
-            rows.push(Outbox::new(alloc, shape)?)?;
-        }
-        Ok(Mail { rows })
+        let words = vec![in alloc; EMPTY; place_of(nodes, nodes, 0)]?;
+        Ok(Mail { nodes, words })
+    }
+
+    /// How many nodes there are: so many rows, with a place for each node.
+    pub fn nodes(&self) -> u32
+        ensures value { result ≡ length self.now }
+        ensures some { 1 ≤ result }
+        ensures few { result ≤ MAX_NODES }
+        ensures numbers { All (AreNumbers result) self.now }
+    {
+        self.nodes
     }
 
     /// What a node sent to another.
@@ -48,8 +62,21 @@ impl Mail {
         requires receiver { receiver < length self.now }
         ensures { result ≡ map.get (slice_index_or self.now sender map.empty) receiver }
     {
-        let row: &Outbox = &self.rows[sender as usize];
-        row.slot(receiver)
+        slot_in(self.words[place_of(self.nodes, sender, receiver)])
+    }
+
+    /// What came to a node, by sender: the list that `Env::new` takes.
+    pub fn inbox(&self, alloc: Global, receiver: u32) -> Result<Vec<Option<u32>>, AllocError>
+        requires { receiver < length self.now }
+        ensures nodes { IfOk result (λ inbox. length inbox.items ≡ length self.now) }
+        ensures inbox { IfOk result (λ inbox. map_of inbox.items ≡ inbox_of receiver self.now) }
+    {
+        let nodes = self.nodes();
+        let mut inbox = Vec::with_capacity(alloc, nodes as usize)?;
+        for sender in 0..nodes {
+            inbox.push(self.slot(sender, receiver))?;
+        }
+        Ok(inbox)
     }
 
     /// A node's slots become those of an outbox.
@@ -58,7 +85,38 @@ impl Mail {
         requires nodes { outbox.now.nodes ≡ length self.old }
         ensures { self.new ≡ slice_set self.old sender outbox.now.sent }
     {
-        let row: &mut Outbox = &mut self.rows[sender as usize];
-        row.copy(outbox);
+        write_row(&mut self.words, self.nodes, sender, outbox.words());
     }
+
+    /// A node's slots become empty.
+    pub fn clear(&mut self, sender: u32)
+        requires { sender < length self.old }
+        ensures { self.new ≡ slice_set self.old sender map.empty }
+    {
+        let empty = [EMPTY; MAX_NODES as usize];
+        let row = &empty[..self.nodes as usize];
+        write_row(&mut self.words, self.nodes, sender, row);
+    }
+}
+
+/// The place of a sender's slot for a receiver.
+fn place_of(nodes: u32, sender: u32, receiver: u32) -> usize
+    requires few { nodes ≤ MAX_NODES }
+    requires sender { sender ≤ nodes }
+    requires receiver { receiver < nodes }
+    ensures { result ≡ sender * nodes + receiver }
+{
+    sender as usize * nodes as usize + receiver as usize
+}
+
+/// Writes a sender's row.
+fn write_row(words: &mut [u64], nodes: u32, sender: u32, row: &[u64])
+    requires square { IsSquare nodes words.old }
+    requires sender { sender < nodes }
+    requires row { length row.now ≡ nodes }
+    ensures square { IsSquare nodes words.new }
+    ensures rows { rows_of nodes nodes words.new ≡ slice_set (rows_of nodes nodes words.old) sender (numbers_of row.now) }
+{
+    let start = place_of(nodes, sender, 0);
+    words[start..start + nodes as usize].copy_from_slice(row);
 }

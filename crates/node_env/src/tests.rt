@@ -5,10 +5,10 @@ use std::test::Fail;
 fn shapes_have_limits(rt: HostRuntime) {
     let table = [
         (1, 8, true),
-        (32, 256, true),
+        (MAX_NODES, 256, true),
         (4, 16, true),
         (0, 8, false),
-        (33, 8, false),
+        (MAX_NODES + 1, 8, false),
         (1, 0, false),
         (1, 7, false),
         (1, 12, false),
@@ -109,7 +109,13 @@ fn the_greatest_number_reads_like_no_mail(rt: HostRuntime) -> Result<(), Fail> {
     mail.fill(1, &outbox);
     assert_eq!(rt; mail.slot(0, 2), None);
     assert_eq!(rt; mail.slot(1, 2), Some(4294967295));
-    let inbox = vec![in rt.alloc(); mail.slot(0, 2), mail.slot(1, 2), Some(9)]?;
+    outbox.send(2, 9);
+    mail.fill(2, &outbox);
+    let inbox = mail.inbox(rt.alloc(), 2)?;
+    assert_eq!(rt;
+        inbox.as_slice(),
+        [None, Some(4294967295), Some(9)].as_slice()
+    );
     let env = Env::new(shape, 2, inbox, 1);
     assert_eq!(rt; env.recv(0), 4294967295);
     assert_eq!(rt; env.recv(1), 4294967295);
@@ -117,5 +123,55 @@ fn the_greatest_number_reads_like_no_mail(rt: HostRuntime) -> Result<(), Fail> {
     assert_eq!(rt; env.id(), 2);
     assert_eq!(rt; env.coin(), 1);
     assert_eq!(rt; env.shape(), shape);
+    Ok(())
+}
+
+#[test]
+fn a_node_sees_its_shape_number_mail_and_coin(rt: HostRuntime) -> Result<(), Fail> {
+    let (Some(shape), Some(wider)) = (Shape::of(3, 8), Shape::of(3, 16)) else {
+        return Err("no shape")?;
+    };
+    let mut outbox = Outbox::new(rt.alloc(), shape)?;
+    let mut mail = Mail::new(rt.alloc(), shape)?;
+    outbox.send(0, 5);
+    outbox.send(1, 6);
+    mail.fill(2, &outbox);
+    let env = Env::new(shape, 0, mail.inbox(rt.alloc(), 0)?, 1);
+    assert!(rt; env.sees(shape, 0, &mail, 1));
+    assert!(rt; !env.sees(wider, 0, &mail, 1));
+    assert!(rt; !env.sees(shape, 1, &mail, 1));
+    assert!(rt; !env.sees(shape, 0, &mail, 0));
+    outbox.send(1, 7);
+    mail.fill(2, &outbox);
+    assert!(rt; env.sees(shape, 0, &mail, 1), "mail for another node");
+    outbox.send(0, 4294967295);
+    mail.fill(2, &outbox);
+    let loud = Env::new(shape, 0, mail.inbox(rt.alloc(), 0)?, 1);
+    mail.clear(2);
+    assert!(rt; !env.sees(shape, 0, &mail, 1));
+    let silent = Env::new(shape, 0, mail.inbox(rt.alloc(), 0)?, 1);
+    assert_eq!(rt; loud.recv(2), silent.recv(2));
+    assert!(rt; silent.sees(shape, 0, &mail, 1));
+    assert!(rt; !loud.sees(shape, 0, &mail, 1));
+    Ok(())
+}
+
+#[test]
+fn a_row_of_mail_is_cleared_alone(rt: HostRuntime) -> Result<(), Fail> {
+    let Some(shape) = Shape::of(2, 8) else {
+        return Err("no shape")?;
+    };
+    let mut outbox = Outbox::new(rt.alloc(), shape)?;
+    let mut mail = Mail::new(rt.alloc(), shape)?;
+    assert_eq!(rt; mail.nodes(), 2);
+    outbox.send(0, 1);
+    outbox.send(1, 2);
+    mail.fill(0, &outbox);
+    mail.fill(1, &outbox);
+    mail.clear(0);
+    for receiver in 0..2 {
+        assert_eq!(rt; mail.slot(0, receiver), None);
+        assert_eq!(rt; mail.slot(1, receiver), Some(receiver + 1));
+    }
     Ok(())
 }

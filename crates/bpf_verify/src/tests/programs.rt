@@ -19,7 +19,7 @@ fn keeps_program_shape_and_count(rt: HostRuntime) -> Result<(), Fail> {
     let Ok(verified) = verify(rt.alloc(), &program, shape) else {
         return Err("refused")?;
     };
-    let copy = verified.copy(rt.alloc())?;
+    let copy = verified.copy()?;
     for each in [&verified, &copy] {
         assert_eq!(rt; each.budget(), 2);
         assert_eq!(rt; each.shape(), shape);
