@@ -9,3 +9,5 @@ pub mod OneRun
 pub mod RunSteps
 pub mod SoundParts
 pub mod SoundLaws
+pub mod Ends
+pub mod Composed

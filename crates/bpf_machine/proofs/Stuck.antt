@@ -1,6 +1,6 @@
 -- A state is stuck exactly where a trap applies.
 use Rattle.std.proofs.Common.{◌≡◌, ◌<◌, length, Bool, true, false, List, Option, Some, None, Result, Ok, Err, refl, sym, ap, subst, ◌∙◌, arith}
-use Rattle.std.specs.Prelude.{find}
+use Rattle.std.specs.Prelude.{find, ◌↔◌}
 use Rattle.std.specs.Result.{result_err}
 use Rattle.node_env.specs.Env.{Setting}
 use Rattle.bpf_insn.specs.declared.forms.Insn.{Insn}
@@ -13,7 +13,7 @@ use Rattle.bpf_machine.specs.Machine.{MachineState, Phase, Running}
 use Rattle.bpf_machine.specs.Step.{execute, step}
 use Rattle.bpf_machine.specs.Traps.{IsLowestTrap, applies, applies_to, trap_number}
 use Rattle.bpf_machine.specs.Parts.{Comes}
-use Rattle.bpf_machine.specs.Run.{IsStuck, Steps, Turns}
+use Rattle.bpf_machine.specs.Run.{HasNoSuccessor, HasTrap, IsStuck, Steps, Turns}
 use Rattle.bpf_machine.proofs.LowestTrap.{IsLowest, Told, kinds, told}
 use Rattle.bpf_machine.proofs.TrapTable.{insn_told}
 
@@ -98,3 +98,20 @@ pub turn_of : (program : List Insn) (env : Setting) (old new : MachineState) (an
 turn_of program env old new turn.Next whole comes = comes
 turn_of program env old new (turn.Ended r0) whole comes = comes
 turn_of program env old new (turn.Trap kind) whole comes = (stuck_by_trap program env old kind whole (step_err program env old kind whole comes.0), comes.1)
+
+-- nothing follows a state exactly where some trap applies
+pub stuck_exactly : (program : List Insn) (env : Setting) (s : MachineState) → length s.memory ≡ env.shape.memory → HasNoSuccessor program env s ↔ HasTrap program env s
+stuck_exactly program env s whole = by (find p kinds) (told p)
+  where
+    p : TrapKind → Bool
+    p k = applies k program env s
+
+    by : (found : Option TrapKind) → Told p found → HasNoSuccessor program env s ↔ HasTrap program env s
+    by None free = (
+      λ final. let on = goes_on program env s whole free in absurd (final on.0 on.1),
+      λ (kind, holds). let never : true ≡ false = sym holds ∙ free kind in cc,
+    )
+    by (Some kind) low = (
+      λ final. (kind, low.holds),
+      λ trap. (stuck_by_trap program env s kind whole (record { holds = low.holds; lowest = low.lowest })).none,
+    )

@@ -3,12 +3,20 @@
 
 ghost use Rattle.std.specs.Prelude.{◌≡◌, ◌<◌, ◌≤◌, IfOk, IfErr, IfSome, OnOk, length, take, vec_len};
 ghost use Rattle.std.specs.Io.KnownBytes.{Appends, Consumes, IsAtEnd};
+ghost use Rattle.stream_io.specs.Streams.{TakesAtMost};
+
+mod counted;
+mod steps;
+
+pub use counted::read_counted;
+use std::alloc::Global;
+use std::io::{Read, Write};
+use std::marker::Brand;
+use std::sync::ledger::{Blank, Ledger};
+pub use steps::Steps;
 
 #[cfg(test)]
 mod tests;
-
-use std::alloc::Global;
-use std::io::{Read, Write};
 
 /// Why a bounded read gave no bytes. What it took from the reader is lost.
 #[derive(Clone, Copy, Debug, PartialEq, Eq)]
@@ -25,10 +33,7 @@ pub struct WriteFault {
     pub written: usize,
 }
 
-/// The most bytes that one call of `read` is asked for.
-const PIECE: usize = 4096;
-
-/// The bytes up to the end, or the first `limit` of them, by at most `calls` calls of `read`.
+/// The bytes up to the end, or the first `limit` of them, by at most `calls` calls of `read` ([`read_counted`]).
 #[tactic(auto, using(crate::proofs::ReadLemmas::taken_front))]
 pub fn read_at_most<R: Read>(
     alloc: Global,
@@ -44,25 +49,32 @@ pub fn read_at_most<R: Read>(
         Consumes (R.remaining reader.old) (R.remaining reader.new) bytes.items) }
     ensures whole { IfOk result (λ bytes.
         vec_len bytes < limit → IsAtEnd (R.remaining reader.new)) }
+    ensures front { TakesAtMost limit (R.remaining reader.old) (R.remaining reader.new) }
 {
-    let mut bytes = Vec::new(alloc);
-    let mut piece = [0u8; PIECE];
-    for _ in 0..calls {
-        let room = PIECE.min(limit - bytes.len());
-        match reader.read(&mut piece[..room]) {
-            Ok(0) => return Ok(bytes),
-            Ok(count) => {
-                if bytes.extend_from_slice(&piece[..count]).is_err() {
-                    return Err(ReadFault::Memory);
-                }
-            }
-            Err(_) => return Err(ReadFault::Stream),
-        }
-        if bytes.len() >= limit {
-            return Ok(bytes);
-        }
-    }
-    Err(ReadFault::Stream)
+    let blank = Blank::new(1);
+    read_with::<R, Brand>(alloc, reader, limit, calls, blank)
+}
+
+fn read_with<R: Read, L: Ledger>(
+    alloc: Global,
+    reader: &mut R,
+    limit: usize,
+    calls: usize,
+    blank: Blank,
+) -> Result<Vec<u8>, ReadFault>
+    requires limit { 0 < limit }
+    requires name { blank.name ≡ L.name }
+    requires parts { blank.parts ≡ L.parts }
+    requires some { 0 < blank.parts }
+    ensures within { IfOk result (λ bytes. vec_len bytes ≤ limit) }
+    ensures taken { IfOk result (λ bytes.
+        Consumes (R.remaining reader.old) (R.remaining reader.new) bytes.items) }
+    ensures whole { IfOk result (λ bytes.
+        vec_len bytes < limit → IsAtEnd (R.remaining reader.new)) }
+    ensures front { TakesAtMost limit (R.remaining reader.old) (R.remaining reader.new) }
+{
+    let mut steps = Steps::<L>::new(blank);
+    read_counted(alloc, reader, limit, calls, &mut steps)
 }
 
 /// Writes all the bytes, and stops at the first call of `write` that fails or takes nothing.

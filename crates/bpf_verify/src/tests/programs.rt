@@ -25,6 +25,13 @@ fn keeps_program_shape_and_count(rt: HostRuntime) -> Result<(), Fail> {
         assert_eq!(rt; each.shape(), shape);
         assert!(rt; each.program().same(&program));
     }
+    assert!(rt; verified.same(&copy));
+    let wider = verify(rt.alloc(), &program, shape_of(NODES + 1, MEMORY)?).or(Err("refused"))?;
+    assert!(rt; !verified.same(&wider));
+    // mov64 r0, 0; exit
+    let other = program_in(rt.alloc(), "b700000000000000 9500000000000000")?;
+    let other = verify(rt.alloc(), &other, shape).or(Err("refused"))?;
+    assert!(rt; !verified.same(&other));
     Ok(())
 }
 
