@@ -1,24 +1,13 @@
 //! A testbed for Byzantine clock synchronisation: `clockbed COMMAND`, standard input to standard output.
 #![tactic(auto)]
 
-mod answer;
-pub mod asm;
 pub mod command;
-pub mod dis;
-mod ending;
-pub mod exec;
-mod fault;
-mod image;
-pub mod laws;
-mod output;
 mod request;
 #[cfg(test)]
 mod tests;
-mod verdict;
-pub mod verify;
 
 use crate::command::command;
-use crate::fault::Fault;
+use commands::Fault;
 use std::process::ExitCode;
 use std::{env, io};
 

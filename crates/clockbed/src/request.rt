@@ -1,41 +1,15 @@
 //! What a command line asks for, as `clap` reads it.
 ghost use Rattle.std.specs.Prelude.{IfErr};
-ghost use Rattle.clockbed.specs.Faults.{IsOfCommandLine};
+ghost use Rattle.commands.specs.Faults.{IsOfCommandLine};
 
-use crate::fault::Fault;
 use clap::error::ErrorKind;
 use clap::{Arg, ArgMatches, Command, Error, value_parser};
+use commands::Fault;
+use commands::request::{ExecOptions, Request, ShapeOptions};
 use node_env::{MAX_MEMORY, MAX_NODES, MEMORY_UNIT};
 use std::alloc::{AllocError, Global};
 use std::convert::AsStr;
 use std::fmt::InlineText;
-
-/// A command with its options, or the help that is asked for in its place.
-#[derive(Debug, Drop)]
-pub enum Request {
-    Exec(ExecOptions),
-    Asm,
-    Dis,
-    Verify(ShapeOptions),
-    /// A text whose last line ends.
-    Help { text: String },
-}
-
-/// The nodes and the memory that are asked for. They may make no shape.
-#[derive(Clone, Copy, Debug, PartialEq, Eq)]
-pub struct ShapeOptions {
-    pub nodes: u32,
-    /// The bytes of a node's memory.
-    pub memory: u32,
-}
-
-/// The options of `exec`.
-#[derive(Clone, Copy, Debug, PartialEq, Eq)]
-pub struct ExecOptions {
-    pub shape: ShapeOptions,
-    /// The most steps of the run.
-    pub fuel: u64,
-}
 
 /// The number of nodes where none is named.
 const DEFAULT_NODES: u32 = 4;

@@ -241,3 +241,11 @@ fn longest_programs(rt: HostRuntime) -> Result<(), Fail> {
     }
     Ok(())
 }
+
+#[test]
+fn gives_a_program_back(rt: HostRuntime) -> Result<(), Fail> {
+    let program = assemble(rt.alloc(), b"ja e\nlddw r0, -1\ne: exit\n")?;
+    let back = text_round_trip(rt.alloc(), &program)?;
+    assert!(rt; back.same(&program));
+    Ok(())
+}

@@ -95,20 +95,20 @@ fn rows_of_texts(rt: HostRuntime) -> Result<(), Fail> {
 #[test]
 fn slots_at_the_end(rt: HostRuntime) -> Result<(), Fail> {
     let alloc = rt.alloc();
-    let full = copies(alloc, "exit\n", 1024)?;
+    let full = copies(alloc, "exit\n", 2048)?;
     let program = assemble(alloc, full.as_bytes())?;
-    assert_eq!(rt; program.slot_count(), 1024);
-    let longer = copies(alloc, "exit\n", 1025)?;
-    assert!(rt; assemble(alloc, longer.as_bytes()).err() == Some(TextError::TooLong(1025)));
-    let mut wide = copies(alloc, "exit\n", 1022)?;
+    assert_eq!(rt; program.slot_count(), 2048);
+    let longer = copies(alloc, "exit\n", 2049)?;
+    assert!(rt; assemble(alloc, longer.as_bytes()).err() == Some(TextError::TooLong(2049)));
+    let mut wide = copies(alloc, "exit\n", 2046)?;
     wide.push_str("lddw r1, 1\n")?;
     let program = assemble(alloc, wide.as_bytes())?;
-    assert_eq!(rt; program.slot_count(), 1024);
+    assert_eq!(rt; program.slot_count(), 2048);
     wide.push_str("# more\nexit\n")?;
-    assert!(rt; assemble(alloc, wide.as_bytes()).err() == Some(TextError::TooLong(1025)));
-    let mut across = copies(alloc, "exit\n", 1023)?;
+    assert!(rt; assemble(alloc, wide.as_bytes()).err() == Some(TextError::TooLong(2049)));
+    let mut across = copies(alloc, "exit\n", 2047)?;
     across.push_str("lddw r1, 1\n")?;
-    assert!(rt; assemble(alloc, across.as_bytes()).err() == Some(TextError::TooLong(1024)));
+    assert!(rt; assemble(alloc, across.as_bytes()).err() == Some(TextError::TooLong(2048)));
     Ok(())
 }
 
@@ -116,12 +116,12 @@ fn slots_at_the_end(rt: HostRuntime) -> Result<(), Fail> {
 #[test]
 fn lines_past_the_end(rt: HostRuntime) -> Result<(), Fail> {
     let alloc = rt.alloc();
-    let full = copies(alloc, "exit\n", 1024)?;
+    let full = copies(alloc, "exit\n", 2048)?;
     for (line, want) in [
-        ("ja nowhere", TextError::UnknownLabel(1025)),
-        ("ja a:", TextError::BadOperand(1025)),
-        ("a: exit", TextError::TooLong(1025)),
-        ("a:\na: exit", TextError::LabelTwice(1026)),
+        ("ja nowhere", TextError::UnknownLabel(2049)),
+        ("ja a:", TextError::BadOperand(2049)),
+        ("a: exit", TextError::TooLong(2049)),
+        ("a:\na: exit", TextError::LabelTwice(2050)),
     ] {
         let text = format!(in alloc; "{full}{line}")?;
         assert!(rt;
@@ -131,7 +131,7 @@ fn lines_past_the_end(rt: HostRuntime) -> Result<(), Fail> {
     }
     let far = copies(alloc, "exit\n", 40000)?;
     let text = format!(in alloc; "ja end\n{far}end:")?;
-    assert!(rt; assemble(alloc, text.as_bytes()).err() == Some(TextError::TooLong(1025)));
+    assert!(rt; assemble(alloc, text.as_bytes()).err() == Some(TextError::TooLong(2049)));
     let text = format!(in alloc; "ja end\nnop\n{far}end:")?;
     assert!(rt; assemble(alloc, text.as_bytes()).err() == Some(TextError::UnknownWord(2)));
     Ok(())
@@ -162,6 +162,6 @@ fn many_labels(rt: HostRuntime) -> Result<(), Fail> {
     assert_eq!(rt; program.slot_count(), 2);
     let jumps = copies(alloc, "ja l7777\n", 20_000)?;
     let text = format!(in alloc; "{labels}{jumps}")?;
-    assert!(rt; assemble(alloc, text.as_bytes()).err() == Some(TextError::TooLong(21_025)));
+    assert!(rt; assemble(alloc, text.as_bytes()).err() == Some(TextError::TooLong(22_049)));
     Ok(())
 }

@@ -28,8 +28,8 @@ fn refuses_what_is_no_image(rt: HostRuntime) -> Result<(), Fail> {
 #[test]
 fn tells_the_longest_image_from_a_longer_one(rt: HostRuntime) {
     let rows: [(&[u8], &str); 2] = [
-        (&[0xb7; 8_192], "refused image BadRegister slot 0"),
-        (&[0; 8_200], "refused image TooLong"),
+        (&[0xb7; 16_384], "refused image BadRegister slot 0"),
+        (&[0; 16_392], "refused image TooLong"),
     ];
     for (image, line) in rows {
         let got = run_on(rt.alloc(), EXEC, image);

@@ -59,12 +59,12 @@ fn refuses_what_exec_refuses(rt: HostRuntime) -> Result<(), Fail> {
 #[test]
 fn lists_the_longest_image(rt: HostRuntime) {
     let jumps = [5u8, 0, 0, 0, 0, 0, 0, 0];
-    let mut image = [0u8; 8_192];
+    let mut image = [0u8; 16_384];
     for (place, byte) in image.iter_mut().zip(jumps.iter().cycle()) {
         *place = *byte;
     }
     let got = run_on(rt.alloc(), DIS, &image);
-    assert_eq!(rt; got.out.len(), 1_024 * 6);
+    assert_eq!(rt; got.out.len(), 2_048 * 6);
     assert!(rt; got.out.chunks(6).all(|line| line == b"ja +0\n".as_slice()));
     assert_eq!(rt; got.status, 0);
 }
@@ -78,7 +78,7 @@ fn reads_no_more_than_it_may(rt: HostRuntime) {
     assert_eq!(rt; out.as_slice(), b"refused image TooLong\n".as_slice());
     assert_eq!(rt; err.len(), 0);
     assert_eq!(rt; status, 2);
-    assert_eq!(rt; reader.calls, 8_193);
+    assert_eq!(rt; reader.calls, 16_385);
 }
 
 #[test]

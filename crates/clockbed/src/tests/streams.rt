@@ -1,6 +1,6 @@
 //! Streams that fail.
 use super::*;
-use crate::image::{IMAGE_BYTES, IMAGE_CALLS};
+use commands::image::{IMAGE_BYTES, IMAGE_CALLS};
 
 #[test]
 fn tells_where_a_read_fails(rt: HostRuntime) {
@@ -27,7 +27,7 @@ fn reads_no_more_than_it_may(rt: HostRuntime) {
     assert_eq!(rt; out.as_slice(), b"refused image TooLong\n".as_slice());
     assert_eq!(rt; status, 2);
     assert_eq!(rt; reader.calls, IMAGE_BYTES);
-    assert_eq!(rt; (IMAGE_BYTES, IMAGE_CALLS), (8_193, 16_386));
+    assert_eq!(rt; (IMAGE_BYTES, IMAGE_CALLS), (16_385, 32_770));
 }
 
 #[test]

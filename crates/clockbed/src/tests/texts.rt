@@ -1,6 +1,6 @@
 //! Texts as images, by `asm`, and back, by `dis`.
 use super::*;
-use crate::asm::{TEXT_BYTES, TEXT_CALLS};
+use commands::asm::{TEXT_BYTES, TEXT_CALLS};
 
 const ASM: &[&str] = &["clockbed", "asm"];
 
@@ -79,7 +79,7 @@ fn refuses_one_instruction_too_many(rt: HostRuntime) -> Result<(), Fail> {
     assert_eq!(rt; whole.status, 0);
     text.extend_from_slice(b"exit\n")?;
     let more = asm_of(rt.alloc(), text.as_slice());
-    assert_eq!(rt; more.line(), "refused text TooLong line 1025");
+    assert_eq!(rt; more.line(), "refused text TooLong line 2049");
     assert_eq!(rt; more.status, 2);
     Ok(())
 }
@@ -106,7 +106,8 @@ fn stops_reading_a_text_without_end(rt: HostRuntime) {
     let status = command(rt.alloc(), ASM, &mut input, &mut out, &mut err);
     assert_eq!(rt; status, 1);
     assert_eq!(rt; err.as_slice(), b"fault read\n".as_slice());
-    assert!(rt; input.calls <= TEXT_CALLS);
+    assert_eq!(rt; input.calls, TEXT_BYTES + 1);
+    assert_eq!(rt; (TEXT_BYTES, TEXT_CALLS), (1_048_576, 2_097_152));
 }
 
 #[test]

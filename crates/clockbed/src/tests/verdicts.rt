@@ -1,6 +1,6 @@
 //! Programs that `verify` accepts, and those that it refuses.
 use super::*;
-use bpf_insn::{AluOp, Cond, Insn, Operand, Reg, Size, Width, encode, program_of};
+use bpf_insn::{AluOp, Cond, Insn, MAX_SLOTS, Operand, Reg, Size, Width, encode, program_of};
 
 /// Options, a text, its image, and the line.
 type Row = (&'static str, &'static str, &'static str, &'static str);
@@ -156,7 +156,7 @@ const MEMORY: [Row; 13] = [
         "accepted slots 2 announced 2",
     ),
     (
-        "--memory 256 --nodes 32",
+        "--memory 256 --nodes 64",
         "ldxdw r0, [r1+248]; exit",
         "7910f80000000000 9500000000000000",
         "accepted slots 2 announced 2",
@@ -218,7 +218,7 @@ fn refuses_what_exec_refuses(rt: HostRuntime) -> Result<(), Fail> {
         ),
         ("", "bf00090000000000", "image BadWidth slot 0"),
         ("--memory 12", "b700000007000000 9500000000000000", "shape"),
-        ("--memory 255 --nodes 32", "", "shape"),
+        ("--memory 255 --nodes 64", "", "shape"),
     ];
     for (options, image, name) in rows {
         let got = image_on(rt.alloc(), "verify", options, image)?;
@@ -347,6 +347,7 @@ fn accepts_the_clock_program(rt: HostRuntime) -> Result<(), Fail> {
     let rows = [
         ("4", 4, 3, 16, "accepted slots 55 announced 45"),
         ("32", 32, 22, 65_536, "accepted slots 251 announced 241"),
+        ("64", 64, 43, 65_536, "accepted slots 475 announced 465"),
         ("1", 1, 1, 2, "accepted slots 34 announced 24"),
         // a shape of fewer nodes: the first node that isn't there is refused
         ("3", 4, 3, 16, "refused rule 9 slot 18"),
@@ -377,6 +378,24 @@ fn refuses_the_clock_program_cut_short(rt: HostRuntime) -> Result<(), Fail> {
     Ok(())
 }
 
+#[test]
+fn accepts_as_many_slots_as_a_program_may_have(rt: HostRuntime) -> Result<(), Fail> {
+    let mut image = Vec::new(rt.alloc());
+    for _ in 1..MAX_SLOTS {
+        image.extend_from_slice(b"\xb7\x00\x00\x00\x00\x00\x00\x00")?;
+    }
+    image.extend_from_slice(b"\x95\x00\x00\x00\x00\x00\x00\x00")?;
+    assert_eq!(rt; image.len(), 16_384);
+    let got = run_on(rt.alloc(), VERIFY, image.as_slice());
+    assert_eq!(rt; got.line(), "accepted slots 2048 announced 2048");
+    assert_eq!(rt; got.status, 0);
+    image.extend_from_slice(b"\x95\x00\x00\x00\x00\x00\x00\x00")?;
+    let got = run_on(rt.alloc(), VERIFY, image.as_slice());
+    assert_eq!(rt; got.line(), "refused image TooLong");
+    assert_eq!(rt; got.status, 2);
+    Ok(())
+}
+
 // ---- streams
 
 const VERIFY: &[&str] = &["clockbed", "verify"];
@@ -384,7 +403,7 @@ const VERIFY: &[&str] = &["clockbed", "verify"];
 #[test]
 fn reads_no_more_than_it_may(rt: HostRuntime) {
     let rows: [(&[&str], &str, usize); 2] = [
-        (VERIFY, "refused image TooLong\n", 8_193),
+        (VERIFY, "refused image TooLong\n", 16_385),
         (
             &["clockbed", "verify", "--memory", "12"],
             "refused shape\n",

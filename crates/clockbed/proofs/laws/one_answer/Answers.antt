@@ -1,5 +1,0 @@
-use Rattle.clockbed.proofs.AnswerLemmas.{one_answer}
-use Rattle.clockbed.proofs.laws.one_answer.Goals as goal
-
-pub returns : goal.returns
-returns c = one_answer c.one_reading.ensures.program c.one_reading.ensures.refusal c.one_reading.ensures.apart c.one_run.ensures.answer

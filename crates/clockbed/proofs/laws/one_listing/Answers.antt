@@ -1,5 +1,0 @@
-use Rattle.clockbed.proofs.AnswerLemmas as lemmas
-use Rattle.clockbed.proofs.laws.one_listing.Goals as goal
-
-pub returns : goal.returns
-returns c = lemmas.one_listing c.one_reading.ensures.program c.one_reading.ensures.refusal c.one_reading.ensures.apart

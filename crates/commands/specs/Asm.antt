@@ -1,0 +1,42 @@
+-- What `asm` leaves on its output.
+use Rattle.std.specs.Prelude.{◌≢◌, ◌≤◌, ℕ, List, ◌++◌, codes, length, Option, Result, Ok, Err}
+use Rattle.std.specs.Fmt.{decimal}
+use Rattle.bpf_insn.specs.declared.forms.Insn.{Insn}
+use Rattle.bpf_insn.specs.Programs.{image_of}
+use Rattle.bpf_asm.specs.declared.text_error.TextError.{TextError}
+use Rattle.bpf_asm.specs.declared.text_error.TextError.TheVariants as errors
+use Rattle.bpf_asm.specs.Meaning.{Means}
+use Rattle.commands.specs.declared.asm.TheConstants.{TEXT_BYTES}
+use Rattle.commands.specs.declared.ending.Ending.{Ending}
+use Rattle.commands.specs.declared.ending.Ending.TheVariants.{Done, Refused}
+use Rattle.commands.specs.declared.fault.Fault.{Fault}
+use Rattle.commands.specs.Output.{LeavesAny}
+
+-- the line that refuses a text (docs/COMMANDS.md, "What asm prints")
+abbrev pub text_refusal : TextError → List ℕ
+text_refusal (errors.UnknownWord line) = codes "refused text UnknownWord line " ++ decimal line
+text_refusal (errors.BadOperand line) = codes "refused text BadOperand line " ++ decimal line
+text_refusal (errors.OutOfRange line) = codes "refused text OutOfRange line " ++ decimal line
+text_refusal (errors.UnknownLabel line) = codes "refused text UnknownLabel line " ++ decimal line
+text_refusal (errors.LabelTwice line) = codes "refused text LabelTwice line " ++ decimal line
+text_refusal (errors.TooLong line) = codes "refused text TooLong line " ++ decimal line
+text_refusal errors.Empty = codes "refused text Empty line 0"
+text_refusal errors.Memory = codes "refused text Memory"
+
+-- a text that isn't too long to be read means this program, or it means none
+abbrev pub ReadsText : List ℕ → Result (List Insn) TextError → Type 0
+ReadsText text (Ok program) = (length text ≤ TEXT_BYTES) × Means text program
+ReadsText text (Err error) = (length text ≤ TEXT_BYTES) × (error ≢ errors.Memory) × ((program : List Insn) → Means text program → ⊥)
+
+-- what is printed: the image of the program, or the line of the refusal
+abbrev pub assembled : Result (List Insn) TextError → List ℕ
+assembled (Ok program) = image_of program
+assembled (Err error) = text_refusal error ++ codes "\n"
+
+abbrev pub assembled_ending : Result (List Insn) TextError → Ending
+assembled_ending (Ok program) = Done
+assembled_ending (Err error) = Refused
+
+-- the image of the program that the text means, or the line that refuses it
+abbrev pub LeavesImage : Option (List ℕ) → Option (List ℕ) → List ℕ → Result Ending Fault → Type 0
+LeavesImage old new text result = LeavesAny (ReadsText text) assembled assembled_ending old new result

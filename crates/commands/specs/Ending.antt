@@ -1,0 +1,8 @@
+-- The exit statuses of the program: 0 done, 1 fault, 2 refused.
+use Rattle.std.specs.Prelude.{ℕ}
+use Rattle.commands.specs.declared.ending.Ending.{Ending}
+use Rattle.commands.specs.declared.ending.Ending.TheVariants.{Done, Refused}
+
+abbrev pub status_of : Ending → ℕ
+status_of Done = 0
+status_of Refused = 2

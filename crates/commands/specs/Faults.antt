@@ -1,0 +1,30 @@
+-- Which faults come where.
+use Rattle.std.specs.Prelude.{ℕ, ◌<◌, List, length, take, Option}
+use Rattle.std.specs.Io.KnownBytes.{Appends}
+use Rattle.commands.specs.declared.fault.Fault.{Fault}
+use Rattle.commands.specs.declared.fault.Fault.TheVariants.{Read, Write, Memory, CommandLine}
+
+-- the exit status of every fault
+abbrev pub fault_status : ℕ
+fault_status = 1
+
+-- a fault of a command before anything is written
+abbrev pub IsBeforeWriting : Fault → Type 0
+IsBeforeWriting Read = Unit {0}
+IsBeforeWriting (Write after) = ⊥
+IsBeforeWriting Memory = Unit {0}
+IsBeforeWriting (CommandLine text) = ⊥
+
+-- a fault of the words, before a command begins
+abbrev pub IsOfCommandLine : Fault → Type 0
+IsOfCommandLine Read = ⊥
+IsOfCommandLine (Write after) = ⊥
+IsOfCommandLine Memory = Unit {0}
+IsOfCommandLine (CommandLine text) = Unit {0}
+
+-- a write took the first bytes of the text, as many as the fault says and not all
+abbrev pub IsCut : Option (List ℕ) → Option (List ℕ) → List ℕ → Fault → Type 0
+IsCut old new text Read = ⊥
+IsCut old new text (Write after) = (after < length text) × Appends old new (take after text)
+IsCut old new text Memory = ⊥
+IsCut old new text (CommandLine said) = ⊥

@@ -1,0 +1,46 @@
+-- What the bytes on standard input are (RFC 9669, section 3; docs/INSTRUCTIONS.md), and the shape that is asked for.
+use Rattle.std.specs.Prelude.{◌≡◌, ◌≢◌, ℕ, List, ◌++◌, codes, Result, Ok, Err}
+use Rattle.std.specs.Fmt.{decimal}
+use Rattle.node_env.specs.Env.{Extent, IsExtent}
+use Rattle.bpf_insn.specs.declared.forms.Insn.{Insn}
+use Rattle.bpf_insn.specs.declared.image.ImageError.{ImageError}
+use Rattle.bpf_insn.specs.declared.image.ImageError.TheVariants as errors
+use Rattle.bpf_insn.specs.Programs.{IsProgram, image_of}
+use Rattle.bpf_insn.specs.Images.{RefusesImage}
+use Rattle.commands.specs.declared.request.ShapeOptions.{ShapeOptions}
+use Rattle.commands.specs.declared.image.Refusal.{Refusal}
+use Rattle.commands.specs.declared.image.Refusal.TheVariants.{Shape, Image}
+
+-- the bytes are the image of this program, or of none, for this reason. Want of memory is none
+abbrev pub ReadsImage : List ℕ → Result (List Insn) ImageError → Type 0
+ReadsImage bytes (Ok program) = IsProgram program × (bytes ≡ image_of program)
+ReadsImage bytes (Err error) = RefusesImage bytes error × (error ≢ errors.Memory)
+
+-- the nodes and the memory that are asked for, and whether they make a shape (docs/COMMANDS.md, "Shape")
+abbrev pub asked_extent : ShapeOptions → Extent
+asked_extent asked = record { nodes = asked.nodes; memory = asked.memory }
+
+abbrev pub HasShape : ShapeOptions → Type 0
+HasShape asked = IsExtent asked.nodes asked.memory
+
+-- why these options and bytes have no program: the shape comes first
+abbrev pub IsRefused : ShapeOptions → List ℕ → Refusal → Type 0
+IsRefused asked bytes Shape = HasShape asked → ⊥
+IsRefused asked bytes (Image error) = HasShape asked × ReadsImage bytes (Err error)
+
+-- the shape that is asked for and the program of the bytes, or why there is none
+abbrev pub ReadsFor : ShapeOptions → List ℕ → Result (Extent × List Insn) Refusal → Type 0
+ReadsFor asked bytes (Ok pair) = HasShape asked × (pair.0 ≡ asked_extent asked) × ReadsImage bytes (Ok pair.1)
+ReadsFor asked bytes (Err refusal) = IsRefused asked bytes refusal
+
+-- the line of a refusal, without its end (docs/COMMANDS.md, "What exec prints")
+abbrev pub refusal_line : Refusal → List ℕ
+refusal_line Shape = codes "refused shape"
+refusal_line (Image errors.Empty) = codes "refused image Empty"
+refusal_line (Image errors.TooLong) = codes "refused image TooLong"
+refusal_line (Image (errors.Truncated slot)) = codes "refused image Truncated slot " ++ decimal slot
+refusal_line (Image (errors.UnknownOpcode slot)) = codes "refused image UnknownOpcode slot " ++ decimal slot
+refusal_line (Image (errors.BadRegister slot)) = codes "refused image BadRegister slot " ++ decimal slot
+refusal_line (Image (errors.NonZeroField slot)) = codes "refused image NonZeroField slot " ++ decimal slot
+refusal_line (Image (errors.BadWidth slot)) = codes "refused image BadWidth slot " ++ decimal slot
+refusal_line (Image errors.Memory) = codes "refused image Memory"

@@ -1,0 +1,10 @@
+pub mod Answer
+pub mod Asm
+pub mod Dis
+pub mod Ending
+pub mod Exec
+pub mod Faults
+pub mod Image
+pub mod Output
+pub mod Verdict
+pub mod Perform

@@ -1,0 +1,43 @@
+-- What the program does for a request: what it takes, what it leaves, and its exit status (docs/COMMANDS.md).
+use Rattle.std.specs.Prelude.{◌≡◌, ℕ, ◌+◌, List, Option, Result, Ok, Err, IfSome, string_bytes, take}
+use Rattle.std.specs.Io.KnownBytes.{Keeps}
+use Rattle.stream_io.specs.Streams.{TakesAtMost}
+use Rattle.commands.specs.declared.asm.TheConstants.{TEXT_BYTES}
+use Rattle.commands.specs.declared.ending.Ending.{Ending}
+use Rattle.commands.specs.declared.ending.Ending.TheVariants.{Done}
+use Rattle.commands.specs.declared.fault.Fault.{Fault}
+use Rattle.commands.specs.declared.image.TheConstants.{IMAGE_BYTES}
+use Rattle.commands.specs.declared.request.Request.{Request}
+use Rattle.commands.specs.declared.request.Request.TheVariants.{Exec, Asm, Dis, Verify, Help}
+use Rattle.commands.specs.Asm.{LeavesImage}
+use Rattle.commands.specs.Dis.{LeavesListing}
+use Rattle.commands.specs.Ending.{status_of}
+use Rattle.commands.specs.Exec.{LeavesAnswer}
+use Rattle.commands.specs.Faults.{fault_status}
+use Rattle.commands.specs.Output.{Leaves}
+use Rattle.commands.specs.Verdict.{LeavesVerdict}
+
+-- what each command leaves on its output, where the bytes of its input are known, and how it ends
+abbrev pub CarriesOut : Request → Option (List ℕ) → Option (List ℕ) → Option (List ℕ) → Result Ending Fault → Type 0
+CarriesOut (Exec asked) input old new ended = IfSome input (λ bytes. LeavesAnswer old new asked (take IMAGE_BYTES bytes) ended)
+CarriesOut Asm input old new ended = IfSome input (λ bytes. LeavesImage old new (take (TEXT_BYTES + 1) bytes) ended)
+CarriesOut Dis input old new ended = IfSome input (λ bytes. LeavesListing old new (take IMAGE_BYTES bytes) ended)
+CarriesOut (Verify asked) input old new ended = IfSome input (λ bytes. LeavesVerdict old new asked (take IMAGE_BYTES bytes) ended)
+CarriesOut (Help text) input old new ended = Leaves old new (string_bytes text) Done ended
+
+-- the status of an ending, or of a fault
+abbrev pub status_for : Result Ending Fault → ℕ
+status_for (Ok ending) = status_of ending
+status_for (Err fault) = fault_status
+
+-- the command is carried out, and the status is that of how it ended
+abbrev pub Performs : Request → Option (List ℕ) → Option (List ℕ) → Option (List ℕ) → ℕ → Type 0
+Performs request input old new status = (ended : Result Ending Fault) × CarriesOut request input old new ended × (status ≡ status_for ended)
+
+-- how much of its input a command takes at most, whatever comes of it
+abbrev pub TakesFor : Request → Option (List ℕ) → Option (List ℕ) → Type 0
+TakesFor (Exec asked) old new = TakesAtMost IMAGE_BYTES old new
+TakesFor Asm old new = TakesAtMost (TEXT_BYTES + 1) old new
+TakesFor Dis old new = TakesAtMost IMAGE_BYTES old new
+TakesFor (Verify asked) old new = TakesAtMost IMAGE_BYTES old new
+TakesFor (Help text) old new = new ≡ old

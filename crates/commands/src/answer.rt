@@ -1,0 +1,64 @@
+//! What `exec` answers to the bytes that it read, and the line that says it.
+ghost use Rattle.std.specs.Prelude.{◌≡◌, Some};
+ghost use Rattle.commands.specs.Answer.{line_of, trap_name};
+
+use crate::ending::Ending;
+use crate::image::Refusal;
+use bpf_machine::{Outcome, TrapKind};
+use std::fmt;
+
+/// Why there is no program, or what its run came to.
+#[derive(Clone, Copy, Debug, PartialEq, Eq)]
+pub enum Answer {
+    Refused(Refusal),
+    Ran { outcome: Outcome, fuel: u64 },
+}
+
+impl Answer {
+    ghost use Rattle.std.specs.Prelude.{◌≡◌};
+    ghost use Rattle.commands.specs.Answer.{ending_of};
+
+    /// How the command ends that wrote it. A trap and the end of fuel are results.
+    pub fn ending(&self) -> Ending
+        ensures { result ≡ ending_of self.now }
+    {
+        match self {
+            Answer::Refused(_) => Ending::Refused,
+            Answer::Ran { .. } => Ending::Done,
+        }
+    }
+}
+
+impl fmt::Display for Answer {
+    ghost output = { λ answer. Some (line_of answer) };
+
+    fn fmt<W: fmt::Write>(&self, f: &mut fmt::Formatter<W>) -> fmt::Result {
+        match self {
+            Answer::Refused(refusal) => write!(f, "{refusal}"),
+            Answer::Ran { outcome, fuel } => match outcome {
+                Outcome::Ended { r0, steps } => write!(f, "r0 {r0} steps {steps}"),
+                Outcome::Trap { slot, kind } => {
+                    write!(f, "trap {} {} slot {slot}", kind.number(), name_of(*kind))
+                }
+                Outcome::OutOfFuel => write!(f, "out of fuel {fuel}"),
+            },
+        }
+    }
+}
+
+fn name_of(kind: TrapKind) -> &'static str
+    ensures { result.now ≡ trap_name kind }
+{
+    match kind {
+        TrapKind::BadJump => "BadJump",
+        TrapKind::BadHelper => "BadHelper",
+        TrapKind::Unset => "Unset",
+        TrapKind::FrameWrite => "FrameWrite",
+        TrapKind::NotNumber => "NotNumber",
+        TrapKind::OutOfRegion => "OutOfRegion",
+        TrapKind::UnsetByte => "UnsetByte",
+        TrapKind::BadArgument => "BadArgument",
+        TrapKind::NotPointer => "NotPointer",
+        TrapKind::ExitNotNumber => "ExitNotNumber",
+    }
+}

@@ -1,0 +1,117 @@
+//! `asm`: the image of the text on standard input.
+ghost use Rattle.std.specs.Prelude.{◌≡◌, ◌≢◌, ◌≤◌, ◌+◌, List, Some, IfOk, IfErr, IfSome, length, take};
+ghost use Rattle.bpf_insn.specs.declared.forms.Insn.{Insn};
+ghost use Rattle.bpf_asm.specs.Meaning.{Means};
+ghost use Rattle.stream_io.specs.Streams.{TakesAtMost};
+ghost use Rattle.commands.specs.Asm.{LeavesImage, ReadsText, assembled, assembled_ending, text_refusal};
+ghost use Rattle.commands.specs.Faults.{IsBeforeWriting};
+ghost use Rattle.commands.specs.Output.{Leaves};
+
+use crate::ending::Ending;
+use crate::fault::Fault;
+use crate::output::write_whole;
+use bpf_asm::{TextError, assemble};
+use bpf_insn::{Program, encode};
+use std::alloc::Global;
+use std::fmt;
+use std::io::{Read, Write};
+use stream_io::{ReadFault, read_at_most};
+
+/// The most bytes of a text.
+pub const TEXT_BYTES: usize = 1 << 20;
+
+/// The most calls of `read`.
+pub const TEXT_CALLS: usize = 2 * TEXT_BYTES;
+
+/// Writes the image of the program that the text means that is read, or the line that refuses it. A text of more than
+/// [`TEXT_BYTES`] is a fault of reading.
+pub fn asm<R: Read, W: Write>(alloc: Global, reader: &mut R, out: &mut W) -> Result<Ending, Fault>
+    ensures image { IfSome (R.remaining reader.old) (λ input.
+        LeavesImage (W.contents out.old) (W.contents out.new) (take (TEXT_BYTES + 1) input) result) }
+    ensures front { TakesAtMost (TEXT_BYTES + 1) (R.remaining reader.old) (R.remaining reader.new) }
+{
+    let read = read_program(alloc, reader)?;
+    write_assembled(alloc, &read, out)
+}
+
+fn read_program<R: Read>(alloc: Global, reader: &mut R) -> Result<Result<Program, TextError>, Fault>
+    ensures read { IfOk result (λ read.
+        IfSome (R.remaining reader.old) (λ input. ReadsText (take (TEXT_BYTES + 1) input) read)) }
+    ensures fault { IfErr result IsBeforeWriting }
+    ensures front { TakesAtMost (TEXT_BYTES + 1) (R.remaining reader.old) (R.remaining reader.new) }
+{
+    let text = read_text(alloc, reader)?;
+    program_meant(alloc, text.as_slice())
+}
+
+/// The whole text, where it isn't too long.
+fn read_text<R: Read>(alloc: Global, reader: &mut R) -> Result<Vec<u8>, Fault>
+    ensures bytes { IfOk result (λ text.
+        IfSome (R.remaining reader.old) (λ input. text.items ≡ take (TEXT_BYTES + 1) input)) }
+    ensures few { IfOk result (λ text. length text.items ≤ TEXT_BYTES) }
+    ensures fault { IfErr result IsBeforeWriting }
+    ensures front { TakesAtMost (TEXT_BYTES + 1) (R.remaining reader.old) (R.remaining reader.new) }
+{
+    match read_at_most(alloc, reader, TEXT_BYTES + 1, TEXT_CALLS) {
+        Ok(text) => {
+            if text.len() > TEXT_BYTES {
+                return Err(Fault::Read);
+            }
+            Ok(text)
+        }
+        Err(ReadFault::Stream) => Err(Fault::Read),
+        Err(ReadFault::Memory) => Err(Fault::Memory),
+    }
+}
+
+fn program_meant(alloc: Global, text: &[u8]) -> Result<Result<Program, TextError>, Fault>
+    requires { length text.now ≤ TEXT_BYTES }
+    ensures read { IfOk result (ReadsText text.now) }
+    ensures fault { IfErr result IsBeforeWriting }
+{
+    match assemble(alloc, text) {
+        Ok(program) => Ok(Ok(program)),
+        Err(TextError::Memory) => Err(Fault::Memory),
+        Err(error) => Ok(Err(error)),
+    }
+}
+
+fn write_assembled<W: Write>(
+    alloc: Global,
+    read: &Result<Program, TextError>,
+    out: &mut W,
+) -> Result<Ending, Fault>
+    ensures { Leaves (W.contents out.old) (W.contents out.new) (assembled read.now) (assembled_ending read.now) result }
+{
+    match read {
+        Ok(program) => {
+            let image = encode(alloc, program).map_err(|_| Fault::Memory)?;
+            write_whole(out, image.as_slice(), Ending::Done)
+        }
+        Err(error) => {
+            let line = format!(in alloc; "{}\n", TextRefusal(*error)).map_err(|_| Fault::Memory)?;
+            write_whole(out, line.as_bytes(), Ending::Refused)
+        }
+    }
+}
+
+/// Why a text is refused. Its text is the line of the refusal, without its end.
+#[derive(Clone, Copy, Debug, PartialEq, Eq)]
+pub struct TextRefusal(pub TextError);
+
+impl fmt::Display for TextRefusal {
+    ghost output = { λ refusal. Some (text_refusal refusal.0) };
+
+    fn fmt<W: fmt::Write>(&self, f: &mut fmt::Formatter<W>) -> fmt::Result {
+        match self.0 {
+            TextError::UnknownWord(line) => write!(f, "refused text UnknownWord line {line}"),
+            TextError::BadOperand(line) => write!(f, "refused text BadOperand line {line}"),
+            TextError::OutOfRange(line) => write!(f, "refused text OutOfRange line {line}"),
+            TextError::UnknownLabel(line) => write!(f, "refused text UnknownLabel line {line}"),
+            TextError::LabelTwice(line) => write!(f, "refused text LabelTwice line {line}"),
+            TextError::TooLong(line) => write!(f, "refused text TooLong line {line}"),
+            TextError::Empty => write!(f, "refused text Empty line 0"),
+            TextError::Memory => write!(f, "refused text Memory"),
+        }
+    }
+}

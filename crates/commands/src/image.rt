@@ -1,0 +1,103 @@
+//! The image on standard input, as the commands read it.
+ghost use Rattle.std.specs.Prelude.{◌≡◌, Some, Ok, Err, IfOk, IfErr, IfSome, take};
+ghost use Rattle.commands.specs.declared.image.Refusal.TheVariants as refusals;
+ghost use Rattle.stream_io.specs.Streams.{TakesAtMost};
+ghost use Rattle.commands.specs.Faults.{IsBeforeWriting};
+ghost use Rattle.commands.specs.Image.{HasShape, ReadsFor, ReadsImage, asked_extent, refusal_line};
+
+use crate::fault::Fault;
+use crate::request::ShapeOptions;
+use bpf_insn::{ImageError, MAX_SLOTS, Program, decode};
+use node_env::Shape;
+use std::alloc::Global;
+use std::fmt;
+use std::io::Read;
+use stream_io::{ReadFault, read_at_most};
+
+/// The most bytes that are read: one more than the longest image has.
+pub const IMAGE_BYTES: usize = 8 * MAX_SLOTS + 1;
+
+/// The most calls of `read`.
+pub const IMAGE_CALLS: usize = 2 * IMAGE_BYTES;
+
+/// The first bytes of the input, at most so many.
+pub fn read_image<R: Read>(alloc: Global, reader: &mut R) -> Result<Vec<u8>, Fault>
+    ensures bytes { IfOk result (λ image.
+        IfSome (R.remaining reader.old) (λ input. image.items ≡ take IMAGE_BYTES input)) }
+    ensures fault { IfErr result IsBeforeWriting }
+    ensures front { TakesAtMost IMAGE_BYTES (R.remaining reader.old) (R.remaining reader.new) }
+{
+    match read_at_most(alloc, reader, IMAGE_BYTES, IMAGE_CALLS) {
+        Ok(image) => Ok(image),
+        Err(ReadFault::Stream) => Err(Fault::Read),
+        Err(ReadFault::Memory) => Err(Fault::Memory),
+    }
+}
+
+/// The program of an image, or why the bytes are none. Want of memory is a fault.
+pub fn program_in(alloc: Global, bytes: &[u8]) -> Result<Result<Program, ImageError>, Fault>
+    ensures read { IfOk result (ReadsImage bytes.now) }
+    ensures fault { IfErr result IsBeforeWriting }
+{
+    match decode(alloc, bytes) {
+        Ok(program) => Ok(Ok(program)),
+        Err(ImageError::Memory) => Err(Fault::Memory),
+        Err(error) => Ok(Err(error)),
+    }
+}
+
+/// Why there is no program to work on. Its text is the line of the refusal, without its end.
+#[derive(Clone, Copy, Debug, PartialEq, Eq)]
+pub enum Refusal {
+    /// The nodes and the memory that are asked for make no shape.
+    Shape,
+    /// The bytes are the image of no program.
+    Image(ImageError),
+}
+
+/// The program of the image that is read, with the shape that is asked for. Where the options have none, nothing is read.
+pub fn program_for<R: Read>(
+    alloc: Global,
+    options: ShapeOptions,
+    reader: &mut R,
+) -> Result<Result<(Shape, Program), Refusal>, Fault>
+    ensures read { IfOk result (λ read.
+        IfSome (R.remaining reader.old) (λ input. ReadsFor options (take IMAGE_BYTES input) read)) }
+    ensures fault { IfErr result IsBeforeWriting }
+    ensures no_shape { (HasShape options → ⊥) → result ≡ Ok (Err refusals.Shape) }
+    ensures unread { (HasShape options → ⊥) → R.remaining reader.new ≡ R.remaining reader.old }
+    ensures front { TakesAtMost IMAGE_BYTES (R.remaining reader.old) (R.remaining reader.new) }
+{
+    let Some(shape) = Shape::of(options.nodes, options.memory) else {
+        return Ok(Err(Refusal::Shape));
+    };
+    let image = read_image(alloc, reader)?;
+    match program_in(alloc, image.as_slice())? {
+        Ok(program) => Ok(Ok((shape, program))),
+        Err(error) => Ok(Err(Refusal::Image(error))),
+    }
+}
+
+impl fmt::Display for Refusal {
+    ghost output = { λ refusal. Some (refusal_line refusal) };
+
+    fn fmt<W: fmt::Write>(&self, f: &mut fmt::Formatter<W>) -> fmt::Result {
+        match self {
+            Refusal::Shape => write!(f, "refused shape"),
+            Refusal::Image(error) => match error {
+                ImageError::Empty => write!(f, "refused image Empty"),
+                ImageError::TooLong => write!(f, "refused image TooLong"),
+                ImageError::Truncated(slot) => write!(f, "refused image Truncated slot {slot}"),
+                ImageError::UnknownOpcode(slot) => {
+                    write!(f, "refused image UnknownOpcode slot {slot}")
+                }
+                ImageError::BadRegister(slot) => write!(f, "refused image BadRegister slot {slot}"),
+                ImageError::NonZeroField(slot) => {
+                    write!(f, "refused image NonZeroField slot {slot}")
+                }
+                ImageError::BadWidth(slot) => write!(f, "refused image BadWidth slot {slot}"),
+                ImageError::Memory => write!(f, "refused image Memory"),
+            },
+        }
+    }
+}

@@ -1,0 +1,37 @@
+//! Laws of answers, listings and verdicts.
+ghost use Rattle.std.specs.Prelude.{◌≡◌, List, Result, ℕ};
+ghost use Rattle.bpf_insn.specs.declared.forms.Insn.{Insn};
+ghost use Rattle.bpf_insn.specs.declared.image.ImageError.{ImageError};
+ghost use Rattle.commands.specs.declared.answer.Answer.{Answer};
+ghost use Rattle.commands.specs.declared.request.ExecOptions.{ExecOptions};
+ghost use Rattle.commands.specs.declared.request.ShapeOptions.{ShapeOptions};
+ghost use Rattle.commands.specs.declared.verdict.Verdict.{Verdict};
+ghost use Rattle.commands.specs.Answer.{Answers};
+ghost use Rattle.commands.specs.Image.{ReadsImage};
+ghost use Rattle.commands.specs.Verdict.{Judges, SameVerdict};
+
+use bpf_insn::one_reading;
+use bpf_machine::one_run;
+
+/// Bytes have at most one answer under given options.
+pub fn one_answer()
+    ensures { (options : ExecOptions) (bytes : List ℕ) (answer other : Answer) → Answers options bytes answer → Answers options bytes other → answer ≡ other }
+{
+    one_reading();
+    one_run();
+}
+
+/// Bytes are the image of one program, which `dis` prints, or have one refusal.
+pub fn one_listing()
+    ensures { (bytes : List ℕ) (read other : Result (List Insn) ImageError) → ReadsImage bytes read → ReadsImage bytes other → read ≡ other }
+{
+    one_reading();
+}
+
+/// Bytes have at most one verdict under given options, but for the rule that a refusal names.
+pub fn one_verdict()
+    ensures { (options : ShapeOptions) (bytes : List ℕ) (verdict other : Verdict) → Judges options bytes verdict → Judges options bytes other → SameVerdict verdict other }
+{
+    one_reading();
+    bpf_verify::one_verdict();
+}

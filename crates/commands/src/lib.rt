@@ -1,0 +1,19 @@
+//! What `clockbed COMMAND` does once its command line is read: each command over any streams.
+#![tactic(auto)]
+
+mod answer;
+pub mod asm;
+pub mod dis;
+mod ending;
+pub mod exec;
+mod fault;
+pub mod image;
+pub mod laws;
+mod output;
+pub mod perform;
+pub mod request;
+mod verdict;
+pub mod verify;
+
+pub use ending::Ending;
+pub use fault::Fault;

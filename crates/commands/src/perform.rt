@@ -1,0 +1,52 @@
+//! A request, from its command to the exit status.
+ghost use Rattle.std.specs.Prelude.{◌≡◌};
+ghost use Rattle.commands.specs.Perform.{CarriesOut, Performs, TakesFor};
+
+use crate::asm::asm;
+use crate::dis::dis;
+use crate::ending::Ending;
+use crate::exec::exec;
+use crate::fault::Fault;
+use crate::output::write_whole;
+use crate::request::Request;
+use crate::verify::verify;
+use std::alloc::Global;
+use std::io::{Read, Write};
+
+/// Runs the command, says its fault on `err`, and answers the exit status: 0 done, 1 fault, 2 refused. What `err` does not take
+/// is dropped.
+pub fn perform<R: Read, W: Write, E: Write>(
+    alloc: Global,
+    request: &Request,
+    reader: &mut R,
+    out: &mut W,
+    err: &mut E,
+) -> u8
+    ensures performed { Performs request.now (R.remaining reader.old) (W.contents out.old) (W.contents out.new) result }
+    ensures taken { TakesFor request.now (R.remaining reader.old) (R.remaining reader.new) }
+{
+    let ended = carry_out(alloc, request, reader, out);
+    match ended {
+        Ok(ending) => ending.status(),
+        Err(fault) => fault.tell(err),
+    }
+}
+
+/// Runs the command.
+fn carry_out<R: Read, W: Write>(
+    alloc: Global,
+    request: &Request,
+    reader: &mut R,
+    out: &mut W,
+) -> Result<Ending, Fault>
+    ensures carried_out { CarriesOut request.now (R.remaining reader.old) (W.contents out.old) (W.contents out.new) result }
+    ensures taken { TakesFor request.now (R.remaining reader.old) (R.remaining reader.new) }
+{
+    match request {
+        Request::Exec(options) => exec(alloc, *options, reader, out),
+        Request::Asm => asm(alloc, reader, out),
+        Request::Dis => dis(alloc, reader, out),
+        Request::Verify(options) => verify(alloc, *options, reader, out),
+        Request::Help { text } => write_whole(out, text.as_bytes(), Ending::Done),
+    }
+}

@@ -1,0 +1,28 @@
+//! What a command line asks for.
+
+/// A command with its options, or the help that is asked for in its place.
+#[derive(Debug, Drop)]
+pub enum Request {
+    Exec(ExecOptions),
+    Asm,
+    Dis,
+    Verify(ShapeOptions),
+    /// A text whose last line ends.
+    Help { text: String },
+}
+
+/// The nodes and the memory that are asked for. They may make no shape.
+#[derive(Clone, Copy, Debug, PartialEq, Eq)]
+pub struct ShapeOptions {
+    pub nodes: u32,
+    /// The bytes of a node's memory.
+    pub memory: u32,
+}
+
+/// The options of `exec`.
+#[derive(Clone, Copy, Debug, PartialEq, Eq)]
+pub struct ExecOptions {
+    pub shape: ShapeOptions,
+    /// The most steps of the run.
+    pub fuel: u64,
+}

@@ -1,0 +1,49 @@
+//! What `verify` answers to the bytes that it read, and the line that says it.
+ghost use Rattle.std.specs.Prelude.{◌≡◌, Some};
+ghost use Rattle.commands.specs.Verdict.{verdict_line};
+
+use crate::ending::Ending;
+use crate::image::Refusal;
+use bpf_verify::Rule;
+use std::fmt;
+
+/// Why there is no program, or what the verifier says of it.
+#[derive(Clone, Copy, Debug, PartialEq, Eq)]
+pub enum Verdict {
+    NoProgram(Refusal),
+    /// The slots of the program, and the instructions on its longest path.
+    Accepted { slots: u32, announced: u32 },
+    /// The first slot whose instruction breaks a rule, and the rule.
+    Refused { slot: u32, rule: Rule },
+}
+
+impl Verdict {
+    ghost use Rattle.std.specs.Prelude.{◌≡◌};
+    ghost use Rattle.commands.specs.Verdict.{verdict_ending};
+
+    /// How the command ends that wrote it.
+    pub fn ending(&self) -> Ending
+        ensures { result ≡ verdict_ending self.now }
+    {
+        match self {
+            Verdict::NoProgram(_) | Verdict::Refused { .. } => Ending::Refused,
+            Verdict::Accepted { .. } => Ending::Done,
+        }
+    }
+}
+
+impl fmt::Display for Verdict {
+    ghost output = { λ verdict. Some (verdict_line verdict) };
+
+    fn fmt<W: fmt::Write>(&self, f: &mut fmt::Formatter<W>) -> fmt::Result {
+        match self {
+            Verdict::NoProgram(refusal) => write!(f, "{refusal}"),
+            Verdict::Accepted { slots, announced } => {
+                write!(f, "accepted slots {slots} announced {announced}")
+            }
+            Verdict::Refused { slot, rule } => {
+                write!(f, "refused rule {} slot {slot}", rule.number())
+            }
+        }
+    }
+}
