@@ -1,0 +1,87 @@
+//! Programs that don't keep to the rule.
+ghost use Rattle.std.specs.Prelude.{◌≡◌, ◌≤◌, ◌<◌, ◌++◌, ℕ, List, IfOk, OnOk, All, length};
+ghost use Rattle.node_env.specs.declared.shape.TheConstants.{MAX_NODES};
+ghost use Rattle.node_env.specs.Slots.{IsSlot};
+ghost use Rattle.clock_nodes.specs.Listings.{say_block, say_blocks, say_listing, echo_block, echo_blocks, echo_listing};
+ghost use Rattle.clock_nodes.specs.Ends.{HasRuns, EndsBy, IsSayEnd, IsEchoEnd};
+
+use crate::insns::{RECV, SEND, copy, mov, program, tail};
+use bpf_insn::{AluOp, Insn, Operand, Program, Reg, Width};
+use node_env::Shape;
+use std::alloc::{AllocError, Global};
+
+/// The value to the node.
+fn say_block(node: u32, value: u32) -> [Insn; 3]
+    requires { node < MAX_NODES }
+    ensures { result ≡ say_block node value }
+{
+    let said = Insn::Alu {
+        op: AluOp::Mov,
+        width: Width::W32,
+        dst: Reg::R2,
+        src: Operand::Imm(value.cast_signed()),
+    };
+    [mov(Reg::R1, node as i32), said, Insn::Call { id: SEND }]
+}
+
+fn add_say_blocks(insns: &mut Vec<Insn>, values: &[Option<u32>]) -> Result<(), AllocError>
+    requires { length values.now ≤ MAX_NODES }
+    ensures { OnOk result (insns.new.items ≡ insns.old.items ++ say_blocks 0 values.now) }
+{
+    for (node, value) in values.iter().enumerate() {
+        if let Some(said) = *value {
+            insns.extend_from_slice(&say_block(node as u32, said))?;
+        }
+    }
+    Ok(())
+}
+
+/// A program that sends each node its value, where there is one, whatever mail, coin and memory say. It keeps its memory.
+pub fn say(alloc: Global, shape: Shape, values: &[Option<u32>]) -> Result<Program, AllocError>
+    requires values { length values.now ≡ shape.nodes }
+    ensures listing { IfOk result (λ p. p ≡ say_listing values.now) }
+    ensures runs { IfOk result (λ p. HasRuns p shape) }
+    ensures ends { IfOk result (λ p. EndsBy p shape (IsSayEnd values.now)) }
+{
+    let mut insns = Vec::new(alloc);
+    add_say_blocks(&mut insns, values)?;
+    insns.extend_from_slice(&tail())?;
+    program(alloc, insns)
+}
+
+/// The node's mail back to it.
+fn echo_block(node: u32) -> [Insn; 5]
+    requires { node < MAX_NODES }
+    ensures { result ≡ echo_block node }
+{
+    let to = node as i32;
+    [
+        mov(Reg::R1, to),
+        Insn::Call { id: RECV },
+        copy(Reg::R2, Reg::R0),
+        mov(Reg::R1, to),
+        Insn::Call { id: SEND },
+    ]
+}
+
+fn add_echo_blocks(insns: &mut Vec<Insn>, nodes: u32) -> Result<(), AllocError>
+    requires { nodes ≤ MAX_NODES }
+    ensures { OnOk result (insns.new.items ≡ insns.old.items ++ echo_blocks nodes 0) }
+{
+    for node in 0..nodes {
+        insns.extend_from_slice(&echo_block(node))?;
+    }
+    Ok(())
+}
+
+/// A program that sends each node what came from it, and 4294967295 where nothing came. It keeps its memory.
+pub fn echo(alloc: Global, shape: Shape) -> Result<Program, AllocError>
+    ensures listing { IfOk result (λ p. p ≡ echo_listing shape.nodes) }
+    ensures runs { IfOk result (λ p. HasRuns p shape) }
+    ensures ends { IfOk result (λ p. EndsBy p shape IsEchoEnd) }
+{
+    let mut insns = Vec::new(alloc);
+    add_echo_blocks(&mut insns, shape.nodes())?;
+    insns.extend_from_slice(&tail())?;
+    program(alloc, insns)
+}
