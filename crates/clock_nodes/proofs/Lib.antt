@@ -6,3 +6,5 @@ pub mod Counting
 pub mod Choosing
 pub mod Bytes
 pub mod ClockRuns
+pub mod Programs
+pub mod Adding
