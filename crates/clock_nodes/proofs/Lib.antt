@@ -8,3 +8,4 @@ pub mod Bytes
 pub mod ClockRuns
 pub mod Programs
 pub mod Adding
+pub mod Made

@@ -118,6 +118,20 @@ fn add_send_blocks(insns: &mut Vec<Insn>, nodes: u32) -> Result<(), AllocError>
     Ok(())
 }
 
+fn clock_insns(alloc: Global, rule: ClockRule) -> Result<Vec<Insn>, AllocError>
+    ensures { IfOk result (λ insns. insns.items ≡ clock_listing rule) }
+{
+    let nodes = rule.nodes();
+    let mut insns = Vec::new(alloc);
+    insns.extend_from_slice(&head(rule.modulus()))?;
+    add_count_blocks(&mut insns, nodes)?;
+    insns.extend_from_slice(&choice(rule.quorum(), rule.modulus()))?;
+    insns.extend_from_slice(&store())?;
+    add_send_blocks(&mut insns, nodes)?;
+    insns.extend_from_slice(&tail())?;
+    Ok(insns)
+}
+
 /// The clock of a rule, for the nodes of a shape: docs/CLOCK.md has its listing. It is named for the authors of the digital clock
 /// that the rule is written after.
 pub fn dolev_welch(alloc: Global, shape: Shape, rule: ClockRule) -> Result<Program, AllocError>
@@ -126,13 +140,7 @@ pub fn dolev_welch(alloc: Global, shape: Shape, rule: ClockRule) -> Result<Progr
     ensures runs { IfOk result (λ p. HasRuns p shape) }
     ensures ends { IfOk result (λ p. EndsBy p shape (IsClockEnd rule.faults rule.modulus)) }
 {
-    let nodes = shape.nodes();
-    let mut insns = Vec::new(alloc);
-    insns.extend_from_slice(&head(rule.modulus()))?;
-    add_count_blocks(&mut insns, nodes)?;
-    insns.extend_from_slice(&choice(rule.quorum(), rule.modulus()))?;
-    insns.extend_from_slice(&store())?;
-    add_send_blocks(&mut insns, nodes)?;
-    insns.extend_from_slice(&tail())?;
+    let _nodes = rule.nodes();
+    let insns = clock_insns(alloc, rule)?;
     program(alloc, insns)
 }

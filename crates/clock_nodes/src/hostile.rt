@@ -36,6 +36,16 @@ fn add_say_blocks(insns: &mut Vec<Insn>, values: &[Option<u32>]) -> Result<(), A
     Ok(())
 }
 
+fn say_insns(alloc: Global, values: &[Option<u32>]) -> Result<Vec<Insn>, AllocError>
+    requires { length values.now ≤ MAX_NODES }
+    ensures { IfOk result (λ insns. insns.items ≡ say_listing values.now) }
+{
+    let mut insns = Vec::new(alloc);
+    add_say_blocks(&mut insns, values)?;
+    insns.extend_from_slice(&tail())?;
+    Ok(insns)
+}
+
 /// A program that sends each node its value, where there is one, whatever mail, coin and memory say. It keeps its memory.
 pub fn say(alloc: Global, shape: Shape, values: &[Option<u32>]) -> Result<Program, AllocError>
     requires values { length values.now ≡ shape.nodes }
@@ -43,9 +53,8 @@ pub fn say(alloc: Global, shape: Shape, values: &[Option<u32>]) -> Result<Progra
     ensures runs { IfOk result (λ p. HasRuns p shape) }
     ensures ends { IfOk result (λ p. EndsBy p shape (IsSayEnd values.now)) }
 {
-    let mut insns = Vec::new(alloc);
-    add_say_blocks(&mut insns, values)?;
-    insns.extend_from_slice(&tail())?;
+    let _nodes = shape.nodes();
+    let insns = say_insns(alloc, values)?;
     program(alloc, insns)
 }
 
@@ -74,14 +83,22 @@ fn add_echo_blocks(insns: &mut Vec<Insn>, nodes: u32) -> Result<(), AllocError>
     Ok(())
 }
 
+fn echo_insns(alloc: Global, nodes: u32) -> Result<Vec<Insn>, AllocError>
+    requires { nodes ≤ MAX_NODES }
+    ensures { IfOk result (λ insns. insns.items ≡ echo_listing nodes) }
+{
+    let mut insns = Vec::new(alloc);
+    add_echo_blocks(&mut insns, nodes)?;
+    insns.extend_from_slice(&tail())?;
+    Ok(insns)
+}
+
 /// A program that sends each node what came from it, and 4294967295 where nothing came. It keeps its memory.
 pub fn echo(alloc: Global, shape: Shape) -> Result<Program, AllocError>
     ensures listing { IfOk result (λ p. p ≡ echo_listing shape.nodes) }
     ensures runs { IfOk result (λ p. HasRuns p shape) }
     ensures ends { IfOk result (λ p. EndsBy p shape IsEchoEnd) }
 {
-    let mut insns = Vec::new(alloc);
-    add_echo_blocks(&mut insns, shape.nodes())?;
-    insns.extend_from_slice(&tail())?;
+    let insns = echo_insns(alloc, shape.nodes())?;
     program(alloc, insns)
 }
