@@ -9,3 +9,4 @@ pub mod ClockRuns
 pub mod Programs
 pub mod Adding
 pub mod Made
+pub mod HostileRuns
