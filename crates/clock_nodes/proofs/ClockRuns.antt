@@ -62,12 +62,12 @@ finish_choice program env s quorum modulus v mark is stands q_small some few v_s
     let behind : Stands program to rest = stands_behind program s.frame.slot to (choice quorum modulus) rest refl stands in
     let small = pair_small quorum modulus sup v mark env.coin some is.coin in
     let d : Decided program env s s.frame.slot pair = subst (Decided program env s s.frame.slot) (sym is_pair)
-        (decided program rest env s s.frame.slot quorum modulus sup v mark stands (begins program to _ behind.0) refl is.extent.least q_small
-        (omega (arith, support_few env.inbox v n, is.extent.few)) few v_small mark_small live.r6 live.r7 live.r8 read) in
+    (decided program rest env s s.frame.slot quorum modulus sup v mark stands (begins program to _ behind.0) refl is.extent.least q_small
+    (omega (arith, support_few env.inbox v n, is.extent.few)) few v_small mark_small live.r6 live.r7 live.r8 read) in
     let there = subst (λ (k : ℕ). Stands program k rest) (sym d.slot) behind in
     let fits : pair.0 < 2 ^ 32 = subst (λ (x : ℕ × ℕ). x.0 < 2 ^ 32) (sym is_pair) (omega (arith, small.0, few)) in
     let end = finish_stores program env d.new pair there is.extent.least fits d.r6 d.r7 d.r9
-        (subst (IsSentTo 0 (λ k. Some pair.0)) (sym (d.sent ∙ none)) (nothing_sent (λ k. Some pair.0))) in
+    (subst (IsSentTo 0 (λ k. Some pair.0)) (sym (d.sent ∙ none)) (nothing_sent (λ k. Some pair.0))) in
     after program env d.count 8 (3 * n + 4) (3 * n + 12) s d.new _ _ d.leads d.few (omega arith)
     (subst (λ (x : List ℕ). Finishes program env d.new (3 * n + 4) (with_number slice_set (with_number slice_set x 0 4 pair.0) 4 4 pair.1) (λ k. Some pair.0)) d.memory end)
 
@@ -163,11 +163,11 @@ finish_all program env memory quorum modulus is stands q_small some few clock_fi
     let there = subst (λ (k : ℕ). Stands program k (count_blocks n 0 ++ rest)) (sym a.slot) counting in
     let left = with_number slice_set (with_number slice_set memory 0 4 pair.0) 4 4 pair.1 in
     let end = finish_blocks program rest env a.new v n 0 (3 * n + 12) left (λ k. Some pair.0) is (omega (arith, v_small, few)) (omega arith) refl there a.registers
-        (λ t at live kept sent.
-        let same : t.memory ≡ memory = kept ∙ a.memory_kept in
-        let read : number_at (slice_get t.memory) 4 4 ≡ Ok (mark_of memory) = ap (λ (x : List ℕ). number_at (slice_get x) 4 4) same ∙ has.mark in
-        subst (λ (x : List ℕ). Finishes program env t (3 * n + 12) (with_number slice_set (with_number slice_set x 0 4 pair.0) 4 4 pair.1) (λ k. Some pair.0)) same
-        (finish_choice program env t quorum modulus v (mark_of memory) is at q_small some (omega (arith, few)) v_small mark_fits live (sent ∙ a.sent) read pair is_pair)) in
+    (λ t at live kept sent.
+    let same : t.memory ≡ memory = kept ∙ a.memory_kept in
+    let read : number_at (slice_get t.memory) 4 4 ≡ Ok (mark_of memory) = ap (λ (x : List ℕ). number_at (slice_get x) 4 4) same ∙ has.mark in
+    subst (λ (x : List ℕ). Finishes program env t (3 * n + 12) (with_number slice_set (with_number slice_set x 0 4 pair.0) 4 4 pair.1) (λ k. Some pair.0)) same
+    (finish_choice program env t quorum modulus v (mark_of memory) is at q_small some (omega (arith, few)) v_small mark_fits live (sent ∙ a.sent) read pair is_pair)) in
     after program env a.count 5 (4 * n + (3 * n + 12)) (17 + 7 * n) (entry env memory) a.new _ _ a.leads a.few (omega arith) end
 
 ones_count : (n j : ℕ) → Ones (count_blocks n j)

@@ -165,5 +165,5 @@ finish_blocks program rest env s v (suc n) j limit left value_for is small all m
     let one = one_block program rest env s v n j is small (omega (arith, all)) more stands live in
     let there = subst (λ (k : ℕ). Stands program k (count_blocks n (suc j) ++ rest)) (sym one.slot) stands.1.1.1.1 in
     let end = finish_blocks program rest env one.new v n (suc j) limit left value_for is small (omega (arith, all)) more there one.registers
-        (λ t at live memory sent. behind t at live (memory ∙ one.memory) (sent ∙ one.sent)) in
+    (λ t at live memory sent. behind t at live (memory ∙ one.memory) (sent ∙ one.sent)) in
     after program env one.count 4 (4 * n + limit) (4 * suc n + limit) s one.new left value_for one.leads one.few (omega arith) end

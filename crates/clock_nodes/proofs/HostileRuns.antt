@@ -57,7 +57,7 @@ finish_says program env s [] j value_for stands all fit is sent =
 finish_says program env s (None ∷ values) j value_for stands all fit is sent =
     let here : j ≡ j + 0 = omega arith in
     let rest = finish_says program env s values (suc j) value_for stands (omega (arith, all)) (All-tail IsSlot None values fit)
-        (λ k. let there : suc j + k ≡ j + suc k = omega arith in ap value_for there ∙ is (suc k)) (sent_none j value_for s.sent (ap value_for here ∙ is 0) sent) in
+    (λ k. let there : suc j + k ≡ j + suc k = omega arith in ap value_for there ∙ is (suc k)) (sent_none j value_for s.sent (ap value_for here ∙ is 0) sent) in
     after program env 0 0 (3 * length values + 2) (3 * suc (length values) + 2) s s s.memory value_for refl (omega arith) (omega arith) rest
 finish_says program env s (Some value ∷ values) j value_for stands all fit is sent =
     let m = s.frame.registers in
@@ -73,7 +73,7 @@ finish_says program env s (Some value ∷ values) j value_for stands all fit is 
     let e3 : step program env s2 ≡ Ok (Running s3) =
     sends program env s2 _ j value stands.1.1.0 refl (first_begins program _ (say_blocks (suc j) values) tail refl stands.1.1.1) to1 (put_same m1 2 (Num value)) (omega (arith, all)) small in
     let rest = finish_says program env s3 values (suc j) value_for stands.1.1.1 (omega (arith, all)) (All-tail IsSlot (Some value) values fit)
-        (λ k. let there : suc j + k ≡ j + suc k = omega arith in ap value_for there ∙ is (suc k)) (sent_next j value value_for s.sent (ap value_for here ∙ is 0) sent) in
+    (λ k. let there : suc j + k ≡ j + suc k = omega arith in ap value_for there ∙ is (suc k)) (sent_next j value value_for s.sent (ap value_for here ∙ is 0) sent) in
     after program env 3 3 (3 * length values + 2) (3 * suc (length values) + 2) s s3 s.memory value_for (_, e1, (_, e2, (_, e3, refl))) (omega arith) (omega arith) rest
 
 ones_says : (values : List (Option ℕ)) (j : ℕ) → Ones (say_blocks j values)
@@ -91,7 +91,7 @@ say_has_end values shape env memory whole fit start =
     let value_for = λ (k : ℕ). slice_index_or values k None in
     let all : length values ≡ env.shape.nodes = whole ∙ sym (ap (λ (x : Extent). x.nodes) start.extent) in
     let run = finish_says p env (entry env memory) values 0 value_for (stands_whole p (ones_say values)) (omega (arith, all)) fit
-        (λ k. let e : 0 + k ≡ k = omega arith in ap value_for e) (nothing_sent value_for) in
+    (λ k. let e : 0 + k ≡ k = omega arith in ap value_for e) (nothing_sent value_for) in
     record {
       end = record { steps = run.count; memory = memory; sent = run.gone; r0 = 0 };
       run = run.leads;

@@ -66,8 +66,14 @@ pub clock_slots : (nodes quorum modulus : ℕ) → slots_of (listing nodes quoru
 clock_slots nodes quorum modulus =
     let sends = send_blocks nodes 0 in
     let counts = count_blocks nodes 0 in
-    omega (arith, count_of (listing nodes quorum modulus) (ones_clock nodes quorum modulus), length_counts nodes 0, length_sends nodes 0, length-append sends tail,
-    length-append counts (choice quorum modulus ++ (store ++ (sends ++ tail))))
+    omega (
+      arith,
+      count_of (listing nodes quorum modulus) (ones_clock nodes quorum modulus),
+      length_counts nodes 0,
+      length_sends nodes 0,
+      length-append sends tail,
+      length-append counts (choice quorum modulus ++ (store ++ (sends ++ tail))),
+    )
 
 program_of : (p : List Insn) → AreInRange p → 1 ≤ slots_of p → slots_of p ≤ 2048 → IsProgram p
 program_of p range some few = record { in_range = range; some_slots = some; few_slots = few }

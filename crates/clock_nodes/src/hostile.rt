@@ -10,6 +10,20 @@ use bpf_insn::{AluOp, Insn, Operand, Program, Reg, Width};
 use node_env::Shape;
 use std::alloc::{AllocError, Global};
 
+/// Contracts see a value as any number; this says that it has 32 bits.
+fn value_fits(value: Option<u32>)
+    ensures { IsSlot value }
+{}
+
+/// Says the same of each.
+fn values_fit(values: &[Option<u32>])
+    ensures { All IsSlot values.now }
+{
+    for value in values {
+        value_fits(*value);
+    }
+}
+
 /// The value to the node.
 fn say_block(node: u32, value: u32) -> [Insn; 3]
     requires { node < MAX_NODES }
@@ -54,6 +68,7 @@ pub fn say(alloc: Global, shape: Shape, values: &[Option<u32>]) -> Result<Progra
     ensures ends { IfOk result (λ p. EndsBy p shape (IsSayEnd values.now)) }
 {
     let _nodes = shape.nodes();
+    values_fit(values);
     let insns = say_insns(alloc, values)?;
     program(alloc, insns)
 }
