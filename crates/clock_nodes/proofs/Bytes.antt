@@ -1,6 +1,7 @@
--- The pair in the bytes of a memory, as the machine loads and stores it.
-use Rattle.std.proofs.Common.{◌≡◌, ℕ, ◌+◌, ◌*◌, ◌/◌, ◌^◌, ◌<◌, ◌≤◌, List, [], ◌∷◌, length, All, Ok, slice_get, slice_set, refl, sym, ap, arith}
-use Rattle.std.specs.Int.{w32, from_le_bytes}
+-- The pair in the bytes of a memory, as it is written and read back, and as the machine loads and stores it.
+use Rattle.std.proofs.Common.{◌≡◌, ℕ, ◌+◌, ◌*◌, ◌/◌, ◌^◌, ◌<◌, ◌≤◌, List, [], ◌∷◌, length, All, Ok, slice_get, slice_set, take, drop, refl, sym, ap, ◌∙◌, arith}
+use Rattle.std.specs.Int.{w32, from_le_bytes, to_le_bytes}
+use Rattle.std.proofs.lemmas.Nat.{from_le_bytes-to_le_bytes_4}
 use Rattle.std.proofs.lemmas.List.Elements.{All-head, All-tail}
 use Rattle.bpf_machine.specs.Step.{number_at, with_number}
 use Rattle.clock_nodes.specs.Rule.{clock_of, mark_of, with_pair}
@@ -48,3 +49,15 @@ has_pair (a ∷ b ∷ c ∷ d ∷ e ∷ f ∷ g ∷ h ∷ rest) l = record {
       let P = λ (byte : ℕ). byte < 256 in
       four_fit e f g h rest (All-tail P d (e ∷ f ∷ g ∷ h ∷ rest) (All-tail P c (d ∷ e ∷ f ∷ g ∷ h ∷ rest) (All-tail P b (c ∷ d ∷ e ∷ f ∷ g ∷ h ∷ rest) (All-tail P a (b ∷ c ∷ d ∷ e ∷ f ∷ g ∷ h ∷ rest) bytes))));
 }
+
+-- ---- a pair that is written
+
+pub clock_written : (pair : ℕ × ℕ) (memory : List ℕ) → pair.0 < 2 ^ 32 → clock_of (with_pair pair memory) ≡ pair.0
+clock_written pair memory fits =
+    let part : take 4 (with_pair pair memory) ≡ to_le_bytes w32 pair.0 = refl in
+    ap (from_le_bytes w32) part ∙ from_le_bytes-to_le_bytes_4 pair.0 fits
+
+pub mark_written : (pair : ℕ × ℕ) (memory : List ℕ) → pair.1 < 2 ^ 32 → mark_of (with_pair pair memory) ≡ pair.1
+mark_written pair memory fits =
+    let part : take 4 (drop 4 (with_pair pair memory)) ≡ to_le_bytes w32 pair.1 = refl in
+    ap (from_le_bytes w32) part ∙ from_le_bytes-to_le_bytes_4 pair.1 fits

@@ -27,24 +27,8 @@ use Rattle.clock_nodes.proofs.Runs.{Finishes, after, nothing_sent, HasEnd, one_e
 use Rattle.clock_nodes.proofs.Sending.{finish_stores}
 use Rattle.clock_nodes.proofs.Counting.{Counting, finish_blocks, support_few}
 use Rattle.clock_nodes.proofs.Choosing.{Decided, decided}
+use Rattle.clock_nodes.proofs.Pairs.{clock_small, pair_small}
 use Rattle.clock_nodes.proofs.Bytes.{HasPair, has_pair}
-
--- ---- the numbers
-
-clock_small : (modulus clock : ℕ) → 0 < modulus → clock_below modulus clock < modulus
-clock_small modulus clock some = grind (arith, nat_tests)
-
-pair_small : (quorum modulus sup v mark coin : ℕ) → 2 ≤ modulus → coin < 2
-    → ((pair_from quorum modulus sup v mark coin).0 < modulus) × ((pair_from quorum modulus sup v mark coin).1 < 2)
-pair_small quorum modulus sup v mark coin some bit =
-    by (nat_lt sup quorum) (not (v == 0)) (not (mark == 0)) (mod-lt (v + 1) (omega (arith, some)))
-  where
-    by : (a b c : Bool) → (v + 1) % modulus < modulus
-        → ((cond {A = ℕ × ℕ} a (0, 0) (cond b ((v + 1) % modulus, 1) (cond c (1, 1) (coin, coin)))).0 < modulus) × ((cond {A = ℕ × ℕ} a (0, 0) (cond b ((v + 1) % modulus, 1) (cond c (1, 1) (coin, coin)))).1 < 2)
-    by true b c lt = (omega (arith, some), omega arith)
-    by false true c lt = (lt, omega arith)
-    by false false true lt = (omega (arith, some), omega arith)
-    by false false false lt = (omega (arith, some, bit), bit)
 
 -- ---- from the choice on
 

@@ -10,3 +10,4 @@ pub mod Programs
 pub mod Adding
 pub mod Made
 pub mod HostileRuns
+pub mod Pairs

@@ -2,7 +2,7 @@
 ghost use Rattle.std.specs.Prelude.{◌≡◌, ◌≤◌, ◌<◌, ◌++◌, IfOk, OnOk};
 ghost use Rattle.node_env.specs.declared.shape.TheConstants.{MAX_NODES};
 ghost use Rattle.clock_nodes.specs.declared.rule.TheConstants.{MOST_MODULUS};
-ghost use Rattle.clock_nodes.specs.Listings.{head, count_block, count_blocks, choice, store, send_block, send_blocks, clock_listing};
+ghost use Rattle.clock_nodes.specs.Listings.{head, count_block, count_blocks, choice, store, send_block, send_blocks, listing, clock_listing};
 ghost use Rattle.clock_nodes.specs.Ends.{HasRuns, EndsBy, IsClockEnd};
 
 use crate::insns as i;
@@ -118,14 +118,21 @@ fn add_send_blocks(insns: &mut Vec<Insn>, nodes: u32) -> Result<(), AllocError>
     Ok(())
 }
 
-fn clock_insns(alloc: Global, rule: ClockRule) -> Result<Vec<Insn>, AllocError>
-    ensures { IfOk result (λ insns. insns.items ≡ clock_listing rule) }
+fn clock_insns(
+    alloc: Global,
+    nodes: u32,
+    quorum: u32,
+    modulus: u32,
+) -> Result<Vec<Insn>, AllocError>
+    requires nodes { nodes ≤ MAX_NODES }
+    requires quorum { quorum ≤ MAX_NODES }
+    requires modulus { modulus ≤ MOST_MODULUS }
+    ensures { IfOk result (λ insns. insns.items ≡ listing nodes quorum modulus) }
 {
-    let nodes = rule.nodes();
     let mut insns = Vec::new(alloc);
-    insns.extend_from_slice(&head(rule.modulus()))?;
+    insns.extend_from_slice(&head(modulus))?;
     add_count_blocks(&mut insns, nodes)?;
-    insns.extend_from_slice(&choice(rule.quorum(), rule.modulus()))?;
+    insns.extend_from_slice(&choice(quorum, modulus))?;
     insns.extend_from_slice(&store())?;
     add_send_blocks(&mut insns, nodes)?;
     insns.extend_from_slice(&tail())?;
@@ -140,7 +147,6 @@ pub fn dolev_welch(alloc: Global, shape: Shape, rule: ClockRule) -> Result<Progr
     ensures runs { IfOk result (λ p. HasRuns p shape) }
     ensures ends { IfOk result (λ p. EndsBy p shape (IsClockEnd rule.faults rule.modulus)) }
 {
-    let _nodes = rule.nodes();
-    let insns = clock_insns(alloc, rule)?;
+    let insns = clock_insns(alloc, shape.nodes(), rule.quorum(), rule.modulus())?;
     program(alloc, insns)
 }

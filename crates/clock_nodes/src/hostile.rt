@@ -38,24 +38,34 @@ fn say_block(node: u32, value: u32) -> [Insn; 3]
     [mov(Reg::R1, node as i32), said, Insn::Call { id: SEND }]
 }
 
-fn add_say_blocks(insns: &mut Vec<Insn>, values: &[Option<u32>]) -> Result<(), AllocError>
-    requires { length values.now ≤ MAX_NODES }
+fn add_say_blocks(
+    insns: &mut Vec<Insn>,
+    nodes: u32,
+    values: &[Option<u32>],
+) -> Result<(), AllocError>
+    requires nodes { nodes ≤ MAX_NODES }
+    requires values { length values.now ≡ nodes }
     ensures { OnOk result (insns.new.items ≡ insns.old.items ++ say_blocks 0 values.now) }
 {
-    for (node, value) in values.iter().enumerate() {
-        if let Some(said) = *value {
-            insns.extend_from_slice(&say_block(node as u32, said))?;
+    for node in 0..nodes {
+        if let Some(value) = values[node as usize] {
+            insns.extend_from_slice(&say_block(node, value))?;
         }
     }
     Ok(())
 }
 
-fn say_insns(alloc: Global, values: &[Option<u32>]) -> Result<Vec<Insn>, AllocError>
-    requires { length values.now ≤ MAX_NODES }
+fn say_insns(
+    alloc: Global,
+    nodes: u32,
+    values: &[Option<u32>],
+) -> Result<Vec<Insn>, AllocError>
+    requires nodes { nodes ≤ MAX_NODES }
+    requires values { length values.now ≡ nodes }
     ensures { IfOk result (λ insns. insns.items ≡ say_listing values.now) }
 {
     let mut insns = Vec::new(alloc);
-    add_say_blocks(&mut insns, values)?;
+    add_say_blocks(&mut insns, nodes, values)?;
     insns.extend_from_slice(&tail())?;
     Ok(insns)
 }
@@ -67,9 +77,8 @@ pub fn say(alloc: Global, shape: Shape, values: &[Option<u32>]) -> Result<Progra
     ensures runs { IfOk result (λ p. HasRuns p shape) }
     ensures ends { IfOk result (λ p. EndsBy p shape (IsSayEnd values.now)) }
 {
-    let _nodes = shape.nodes();
     values_fit(values);
-    let insns = say_insns(alloc, values)?;
+    let insns = say_insns(alloc, shape.nodes(), values)?;
     program(alloc, insns)
 }
 

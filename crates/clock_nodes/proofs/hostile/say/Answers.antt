@@ -10,7 +10,7 @@ use Rattle.clock_nodes.proofs.hostile.say.Goals as goal
 pub program-requires : goal.program-requires
 program-requires c =
     subst IsProgram (sym c.in_ok-insns.ensures)
-    (say_is_program c.args.values.now (omega (arith, c.requires.values, c.nodes-nodes.ensures.extent.few)) c.values_fit.ensures)
+    (say_is_program c.args.values.now (omega (arith, c.requires.values, c.nodes.ensures.extent.few)) c.values_fit.ensures)
 
 pub returns-clause-runs : goal.returns-clause-runs
 returns-clause-runs c =
