@@ -55,11 +55,7 @@ fn add_say_blocks(
     Ok(())
 }
 
-fn say_insns(
-    alloc: Global,
-    nodes: u32,
-    values: &[Option<u32>],
-) -> Result<Vec<Insn>, AllocError>
+fn say_insns(alloc: Global, nodes: u32, values: &[Option<u32>]) -> Result<Vec<Insn>, AllocError>
     requires nodes { nodes ≤ MAX_NODES }
     requires values { length values.now ≡ nodes }
     ensures { IfOk result (λ insns. insns.items ≡ say_listing values.now) }

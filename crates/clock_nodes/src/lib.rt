@@ -11,3 +11,6 @@ pub use clock::dolev_welch;
 pub use hostile::{echo, say};
 pub use laws::{clock_ends, echo_ends, pair_is_read_back, say_ends};
 pub use rule::{ClockRule, LEAST_MODULUS, MOST_MODULUS};
+
+#[cfg(test)]
+mod tests;
