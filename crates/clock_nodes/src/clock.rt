@@ -52,8 +52,9 @@ fn choice(quorum: u32, modulus: u32) -> [Insn; 18]
     ensures { result ≡ choice quorum modulus }
 {
     let enough = Operand::Imm(quorum as i32);
-    let limit = Operand::Imm(modulus as i32);
+    let top = Operand::Imm(modulus as i32);
     let zero = Operand::Imm(0);
+    let marked = mov(Reg::R9, 1);
     [
         branch(Cond::Ge, Reg::R8, enough, 3),
         mov(Reg::R7, 0),
@@ -67,11 +68,11 @@ fn choice(quorum: u32, modulus: u32) -> [Insn; 18]
         copy(Reg::R9, Reg::R0),
         Insn::Ja { off: 7 },
         mov(Reg::R7, 1),
-        mov(Reg::R9, 1),
+        marked,
         Insn::Ja { off: 4 },
         alu(AluOp::Add, Reg::R7, Operand::Imm(1)),
-        mov(Reg::R9, 1),
-        branch(Cond::Lt, Reg::R7, limit, 1),
+        marked,
+        branch(Cond::Lt, Reg::R7, top, 1),
         mov(Reg::R7, 0),
     ]
 }

@@ -83,12 +83,13 @@ fn echo_block(node: u32) -> [Insn; 5]
     requires { node < MAX_NODES }
     ensures { result ≡ echo_block node }
 {
-    let to = node as i32;
+    let from = mov(Reg::R1, node as i32);
+    let to = mov(Reg::R1, node as i32);
     [
-        mov(Reg::R1, to),
+        from,
         Insn::Call { id: RECV },
         copy(Reg::R2, Reg::R0),
-        mov(Reg::R1, to),
+        to,
         Insn::Call { id: SEND },
     ]
 }

@@ -32,8 +32,8 @@ impl Model for ClockRule {
 }
 
 impl ClockRule {
-    /// 1 to `MAX_NODES` nodes, fewer faults than nodes, and a modulus from `LEAST_MODULUS` to `MOST_MODULUS`. What clocks of
-    /// nodes that keep to the rule promise each other wants three times as many nodes as faults and one more; that isn't asked here.
+    /// 1 to `MAX_NODES` nodes, fewer faults than nodes, and a modulus from `LEAST_MODULUS` to `MOST_MODULUS`. Clocks are only known to
+    /// agree where there are more than three times as many nodes as faults (docs/CLOCK.md, "Why it holds"); that isn't asked here.
     pub fn of(nodes: u32, faults: u32, modulus: u32) -> Option<ClockRule>
         ensures value { IfSome result (λ r. r ≡ record { nodes = nodes; faults = faults; modulus = modulus }) }
         ensures some { IsSome result ↔ IsRule nodes faults modulus }
