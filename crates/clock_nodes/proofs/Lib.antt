@@ -1,0 +1,13 @@
+pub mod Places
+pub mod Forms
+pub mod Runs
+pub mod Sending
+pub mod Counting
+pub mod Choosing
+pub mod Bytes
+pub mod ClockRuns
+pub mod Programs
+pub mod Adding
+pub mod Made
+pub mod HostileRuns
+pub mod Pairs

@@ -1,0 +1,7 @@
+use Rattle.std.proofs.Common.{◌≡◌, ◌++◌, drop}
+use Rattle.clock_nodes.specs.Listings.{say_blocks}
+use Rattle.clock_nodes.proofs.hostile.add_say_blocks.Given as goal
+
+-- what is there and the blocks of the values that are left are the whole
+abbrev pub invariant-loop-node : goal.invariant-loop-node
+invariant-loop-node l = l.insns.items ++ say_blocks l.node (drop l.node l.values) ≡ l.fn.insns.items ++ say_blocks 0 l.values

@@ -1,0 +1,16 @@
+//! Programs of nodes: the clock, which keeps to a rule, and hostile ones (docs/CLOCK.md).
+#![tactic(auto)]
+
+mod clock;
+mod hostile;
+mod insns;
+mod laws;
+mod rule;
+
+pub use clock::dolev_welch;
+pub use hostile::{echo, say};
+pub use laws::{clock_ends, echo_ends, pair_is_read_back, say_ends};
+pub use rule::{ClockRule, LEAST_MODULUS, MOST_MODULUS};
+
+#[cfg(test)]
+mod tests;

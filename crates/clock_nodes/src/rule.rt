@@ -1,0 +1,82 @@
+//! The numbers of the clocks' rule.
+ghost use Rattle.std.specs.Prelude.{◌≡◌, IfSome, IsSome, ◌↔◌};
+ghost use Rattle.clock_nodes.specs.Rule.{IsRule, quorum_of};
+
+use node_env::MAX_NODES;
+use std::marker::Model;
+
+/// The least modulus of a rule: a clock needs two numbers.
+pub const LEAST_MODULUS: u32 = 2;
+
+/// The most.
+pub const MOST_MODULUS: u32 = 65_536;
+
+/// The rule of the clocks (docs/CLOCK.md, "The rule") for so many nodes, of which so many may be faulty, with clocks below the modulus.
+#[derive(Clone, Copy, Debug, PartialEq, Eq)]
+pub struct ClockRule {
+    nodes: u32,
+    faults: u32,
+    modulus: u32,
+}
+
+impl Model for ClockRule {
+    ghost use Rattle.clock_nodes.specs.Rule.{Rule, IsRule};
+
+    ghost Value = { Rule };
+
+    ghost view = { λ r. record { nodes = r.nodes; faults = r.faults; modulus = r.modulus } };
+
+    ghost invariant = { λ r. IsRule r.nodes r.faults r.modulus };
+
+    ghost inverse = { λ r. record { nodes = r.nodes; faults = r.faults; modulus = r.modulus } };
+}
+
+impl ClockRule {
+    /// 1 to `MAX_NODES` nodes, fewer faults than nodes, and a modulus from `LEAST_MODULUS` to `MOST_MODULUS`. Clocks are only known to
+    /// agree where there are more than three times as many nodes as faults (docs/CLOCK.md, "Why it holds"); that isn't asked here.
+    pub fn of(nodes: u32, faults: u32, modulus: u32) -> Option<ClockRule>
+        ensures value { IfSome result (λ r. r ≡ record { nodes = nodes; faults = faults; modulus = modulus }) }
+        ensures some { IsSome result ↔ IsRule nodes faults modulus }
+    {
+        if nodes < 1 || nodes > MAX_NODES || faults >= nodes {
+            return None;
+        }
+        if modulus < LEAST_MODULUS || modulus > MOST_MODULUS {
+            return None;
+        }
+        Some(ClockRule {
+            nodes,
+            faults,
+            modulus,
+        })
+    }
+
+    pub fn nodes(self) -> u32
+        ensures value { result ≡ self.nodes }
+        ensures rule { IsRule self.nodes self.faults self.modulus }
+    {
+        self.nodes
+    }
+
+    pub fn faults(self) -> u32
+        ensures value { result ≡ self.faults }
+        ensures rule { IsRule self.nodes self.faults self.modulus }
+    {
+        self.faults
+    }
+
+    pub fn modulus(self) -> u32
+        ensures value { result ≡ self.modulus }
+        ensures rule { IsRule self.nodes self.faults self.modulus }
+    {
+        self.modulus
+    }
+
+    /// How many mails make a clock go on: one from each node but the faulty ones.
+    pub fn quorum(self) -> u32
+        ensures value { result ≡ quorum_of self }
+        ensures rule { IsRule self.nodes self.faults self.modulus }
+    {
+        self.nodes - self.faults
+    }
+}
