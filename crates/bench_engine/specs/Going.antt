@@ -1,0 +1,37 @@
+-- One event of a run, as the engine's parts tell it.
+use Rattle.std.specs.Prelude.{◌≡◌, ℕ, ◌+◌, List, [], ◌∷◌, ◌++◌, length, None, ◌⊎◌}
+use Rattle.bench_core.specs.Setup.{Setup}
+use Rattle.bench_core.specs.Settled.{PulseTold}
+use Rattle.bench_core.specs.Replay.{BenchValue}
+use Rattle.bench_engine.specs.Events.{Event}
+use Rattle.bench_engine.specs.Runs.{Goes, IsRefusalOf, entries_after}
+use Rattle.bench_engine.specs.declared.event.RunRefusal.{RunRefusal}
+use Rattle.bench_engine.specs.declared.event.RunRefusal.TheVariants as refusals
+
+-- the event leads from the one bench to the other, with these records; no pulse is open after it
+pub record GoesOn (old : BenchValue) (event : Event) (records : List PulseTold) (new : BenchValue) : Type 0 where
+  pub setup : new.setup ≡ old.setup
+  pub count : length new.history ≡ length old.history + entries_after (event ∷ [])
+  pub closed : new.state.coins ≡ None
+  pub goes : Goes old.setup old.state (length old.history) (event ∷ []) records new.state
+
+-- the event is refused, or memory is short
+abbrev pub IsStopped : Setup → ℕ → Event → RunRefusal → Type 0
+IsStopped s n event refusal = (refusal ≡ refusals.Memory) ⊎ IsRefusalOf s n event refusal
+
+-- a refusal of those who run the tasks
+abbrev pub IsOfWorkers : RunRefusal → Type 0
+IsOfWorkers refusals.NoThread = Unit {0}
+IsOfWorkers refusals.GateShut = Unit {0}
+IsOfWorkers refusals.Memory = Unit {0}
+IsOfWorkers refusals.BadNode = ⊥
+IsOfWorkers refusals.OtherShape = ⊥
+IsOfWorkers refusals.BadImage = ⊥
+IsOfWorkers refusals.HistoryFull = ⊥
+IsOfWorkers refusals.BadCoins = ⊥
+
+-- the event is done, and its records are put behind those that were there
+pub record IsApplied (old : BenchValue) (before : List PulseTold) (event : Event) (new : BenchValue) (after : List PulseTold) : Type 0 where
+  pub told : List PulseTold
+  pub records : after ≡ before ++ told
+  pub goes : GoesOn old event told new

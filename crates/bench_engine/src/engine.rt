@@ -1,0 +1,154 @@
+//! The run of a list of events on a bench of its own.
+ghost use Rattle.std.specs.Prelude.{◌≡◌, ◌≢◌, ◌≤◌, ◌∷◌, [], true, None, IfOk, IfErr, OnOk, length, map};
+ghost use Rattle.bench_core.specs.declared.limits.TheConstants.{MOST_ENTRIES};
+ghost use Rattle.bench_core.specs.Views.{change_of, setup_of};
+ghost use Rattle.bench_engine.specs.declared.event.RunRefusal.TheVariants.{GateShut};
+ghost use Rattle.bench_engine.specs.declared.engine.TheConstants.{MOST_WORKERS};
+ghost use Rattle.bench_engine.specs.Events.{Stage, Pulse, event_of};
+ghost use Rattle.bench_engine.specs.Going.{GoesOn, IsApplied, IsStopped};
+ghost use Rattle.bench_engine.specs.Runs.{IsFault, IsRun};
+
+use crate::event::{Event, Run, RunFault, RunRefusal};
+use crate::gate::Gate;
+use crate::tasks::run_tasks;
+use bench_core::{Actor, Bench, Change, CloseError, OpenError, PulseRecord, StageError};
+use clock_nodes::ClockRule;
+use node_env::Shape;
+use std::alloc::{AllocError, Global};
+
+/// The most workers of a pulse.
+pub const MOST_WORKERS: u32 = 8;
+
+/// Who stages the changes of a list of events.
+const LOADER: Actor = Actor::Loader(0);
+
+/// Stages a change.
+fn stage(bench: &mut Bench, change: Change) -> Result<(), RunRefusal>
+    requires { bench.old.state.coins ≡ None }
+    ensures ok { OnOk result (GoesOn bench.old (Stage (change_of change)) [] bench.new) }
+    ensures refusal { IfErr result (IsStopped bench.old.setup (length bench.old.history) (Stage (change_of change))) }
+{
+    match bench.stage(LOADER, change) {
+        Ok(()) => Ok(()),
+        Err((_, StageError::BadNode)) => Err(RunRefusal::BadNode),
+        Err((_, StageError::OtherShape)) => Err(RunRefusal::OtherShape),
+        Err((_, StageError::BadImage)) => Err(RunRefusal::BadImage),
+        Err((_, StageError::HistoryFull)) => Err(RunRefusal::HistoryFull),
+        Err((_, StageError::Memory)) => Err(RunRefusal::Memory),
+    }
+}
+
+/// Opens a pulse, runs its tasks and closes it.
+fn pulse<G: Gate>(
+    alloc: Global,
+    gate: &G,
+    workers: u32,
+    bench: &mut Bench,
+    coins: &[u32],
+) -> Result<PulseRecord, RunRefusal>
+    requires { bench.old.state.coins ≡ None }
+    ensures ok { IfOk result (λ record. GoesOn bench.old (Pulse coins.now) (record ∷ []) bench.new) }
+    ensures refusal { IfErr result (IsStopped bench.old.setup (length bench.old.history) (Pulse coins.now)) }
+    ensures open { G.always gate.now ≡ true → IfErr result (λ e. e ≢ GateShut) }
+{
+    let tasks = match bench.open_pulse(alloc, coins) {
+        Ok(tasks) => tasks,
+        Err(OpenError::PulseOpen) => unreachable!(),
+        Err(OpenError::BadCoins) => return Err(RunRefusal::BadCoins),
+        Err(OpenError::HistoryFull) => return Err(RunRefusal::HistoryFull),
+        Err(OpenError::Memory) => return Err(RunRefusal::Memory),
+    };
+    let dones = run_tasks(alloc, gate, workers, tasks)?;
+    let _history = bench.history();
+    match bench.close_pulse(alloc, dones) {
+        Ok(record) => Ok(record),
+        Err((_, CloseError::Memory)) => Err(RunRefusal::Memory),
+        Err((_, _)) => unreachable!(),
+    }
+}
+
+/// Does one event, and keeps the record of a pulse.
+fn apply<G: Gate>(
+    alloc: Global,
+    gate: &G,
+    workers: u32,
+    bench: &mut Bench,
+    records: &mut Vec<PulseRecord>,
+    event: Event,
+) -> Result<(), RunRefusal>
+    requires { bench.old.state.coins ≡ None }
+    ensures ok { OnOk result (IsApplied bench.old records.old.items (event_of event) bench.new records.new.items) }
+    ensures few { OnOk result (length bench.new.history ≤ MOST_ENTRIES) }
+    ensures refusal { IfErr result (IsStopped bench.old.setup (length bench.old.history) (event_of event)) }
+    ensures open { G.always gate.now ≡ true → IfErr result (λ e. e ≢ GateShut) }
+{
+    match event {
+        Event::Stage(change) => stage(bench, change)?,
+        Event::Pulse(coins) => {
+            let record = pulse(alloc, gate, workers, bench, &coins)?;
+            if records.push(record).is_err() {
+                return Err(RunRefusal::Memory);
+            }
+        }
+    }
+    let _few = bench.history();
+    Ok(())
+}
+
+/// The memories of the nodes, in their order.
+fn memories_of(alloc: Global, bench: &Bench) -> Result<Vec<Vec<u8>>, AllocError>
+    ensures { IfOk result (λ memories. map (λ m. m.items) memories.items ≡ map (λ x. x.memory) bench.now.state.nodes) }
+{
+    let nodes = bench.shape().nodes();
+    let _history = bench.history();
+    let mut memories = Vec::new(alloc);
+    for node in 0..nodes {
+        memories.push(Vec::from_slice(alloc, bench.memory(node))?)?;
+    }
+    Ok(memories)
+}
+
+/// The run of the events on a new bench, whose pulses are run by 1 to [`MOST_WORKERS`] workers. The fault of an event that can't be
+/// done has its place, from 0 on; want of memory before the first has place 0, and after the last their number. The run is the
+/// same for every number of workers (docs/SCENARIOS.md, "Runs").
+pub fn run_events<G: Gate>(
+    alloc: Global,
+    gate: &G,
+    workers: u32,
+    shape: Shape,
+    rule: ClockRule,
+    events: Vec<Event>,
+) -> Result<Run, RunFault>
+    requires some { 1 ≤ workers }
+    requires few { workers ≤ MOST_WORKERS }
+    requires nodes { rule.nodes ≡ shape.nodes }
+    ensures run { IfOk result (λ run. IsRun (setup_of shape rule) (map event_of events.items) run.records.items
+        (map (λ memory. memory.items) run.memories.items)) }
+    ensures fault { IfErr result (λ f. IsFault (setup_of shape rule) (map event_of events.items) f.event f.fault) }
+    ensures open { G.always gate.now ≡ true → IfErr result (λ f. f.fault ≢ GateShut) }
+{
+    let fault = RunRefusal::Memory;
+    let Ok(mut bench) = Bench::new(alloc, shape, rule) else {
+        return Err(RunFault { event: 0, fault });
+    };
+    let mut records = Vec::new(alloc);
+    let mut place = 0;
+    for event in events {
+        match apply(alloc, gate, workers, &mut bench, &mut records, event) {
+            Ok(()) => place += 1,
+            Err(fault) => {
+                return Err(RunFault {
+                    event: place,
+                    fault,
+                });
+            }
+        }
+    }
+    match memories_of(alloc, &bench) {
+        Ok(memories) => Ok(Run { records, memories }),
+        Err(_) => Err(RunFault {
+            event: place,
+            fault,
+        }),
+    }
+}
