@@ -103,11 +103,14 @@ impl VerifiedProgram {
         &self.program
     }
 
-    /// Whether the other is the same program, accepted for the same shape. Their budgets are then equal (`one_verdict`).
+    /// Whether the other is the same program, accepted for the same shape: then its budget is the same too.
     pub fn same(&self, other: &VerifiedProgram) -> bool
-        ensures { IsTrue result ↔ ((self.now.program ≡ other.now.program) × (self.now.shape ≡ other.now.shape)) }
+        ensures parts { IsTrue result ↔ ((self.now.program ≡ other.now.program) × (self.now.shape ≡ other.now.shape)) }
+        ensures equal { IsTrue result ↔ (self.now ≡ other.now) }
     {
-        self.shape == other.shape && self.program.same(&other.program)
+        let (_mine, _theirs) = (self.program(), other.program());
+        let same = self.shape() == other.shape() && self.program().same(other.program());
+        same
     }
 
     /// An accepted program with the same instructions, shape and budget. The instructions are shared: nothing is allocated, and
