@@ -1,4 +1,4 @@
--- The programs of the nodes, as lists of instructions (docs/CLOCK.md, "The programs").
+-- The programs of the nodes, as lists of instructions (docs/CLOCK.md, "The programs"). Helper 2 receives, 3 sends, and 4 is the coin.
 use Rattle.std.specs.Prelude.{ℕ, zero, suc, pos, List, [], ◌∷◌, ◌++◌, Option, Some, None}
 use Rattle.std.specs.Int.{w32, cast_signed}
 use Rattle.bpf_insn.specs.declared.forms.Reg.TheVariants.{R0, R1, R2, R6, R7, R8, R9}

@@ -33,12 +33,12 @@ fn head(modulus: u32) -> [Insn; 5]
 }
 
 /// One more in r8 where the node sent the clock.
-fn count_block(node: u32) -> [Insn; 4]
-    requires { node < MAX_NODES }
-    ensures { result ≡ count_block node }
+fn count_block(sender: u32) -> [Insn; 4]
+    requires { sender < MAX_NODES }
+    ensures { result ≡ count_block sender }
 {
     [
-        mov(Reg::R1, node as i32),
+        mov(Reg::R1, sender as i32),
         Insn::Call { id: RECV },
         branch(Cond::Ne, Reg::R0, Operand::Reg(Reg::R7), 1),
         alu(AluOp::Add, Reg::R8, Operand::Imm(1)),
@@ -88,12 +88,12 @@ fn store() -> [Insn; 2]
 }
 
 /// The clock to the node.
-fn send_block(node: u32) -> [Insn; 3]
-    requires { node < MAX_NODES }
-    ensures { result ≡ send_block node }
+fn send_block(receiver: u32) -> [Insn; 3]
+    requires { receiver < MAX_NODES }
+    ensures { result ≡ send_block receiver }
 {
     [
-        mov(Reg::R1, node as i32),
+        mov(Reg::R1, receiver as i32),
         copy(Reg::R2, Reg::R7),
         Insn::Call { id: SEND },
     ]
@@ -103,8 +103,8 @@ fn add_count_blocks(insns: &mut Vec<Insn>, nodes: u32) -> Result<(), AllocError>
     requires { nodes ≤ MAX_NODES }
     ensures { OnOk result (insns.new.items ≡ insns.old.items ++ count_blocks nodes 0) }
 {
-    for node in 0..nodes {
-        insns.extend_from_slice(&count_block(node))?;
+    for sender in 0..nodes {
+        insns.extend_from_slice(&count_block(sender))?;
     }
     Ok(())
 }
@@ -113,8 +113,8 @@ fn add_send_blocks(insns: &mut Vec<Insn>, nodes: u32) -> Result<(), AllocError>
     requires { nodes ≤ MAX_NODES }
     ensures { OnOk result (insns.new.items ≡ insns.old.items ++ send_blocks nodes 0) }
 {
-    for node in 0..nodes {
-        insns.extend_from_slice(&send_block(node))?;
+    for receiver in 0..nodes {
+        insns.extend_from_slice(&send_block(receiver))?;
     }
     Ok(())
 }

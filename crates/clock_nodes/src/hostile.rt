@@ -25,9 +25,9 @@ fn values_fit(values: &[Option<u32>])
 }
 
 /// The value to the node.
-fn say_block(node: u32, value: u32) -> [Insn; 3]
-    requires { node < MAX_NODES }
-    ensures { result ≡ say_block node value }
+fn say_block(receiver: u32, value: u32) -> [Insn; 3]
+    requires { receiver < MAX_NODES }
+    ensures { result ≡ say_block receiver value }
 {
     let said = Insn::Alu {
         op: AluOp::Mov,
@@ -35,7 +35,7 @@ fn say_block(node: u32, value: u32) -> [Insn; 3]
         dst: Reg::R2,
         src: Operand::Imm(value.cast_signed()),
     };
-    [mov(Reg::R1, node as i32), said, Insn::Call { id: SEND }]
+    [mov(Reg::R1, receiver as i32), said, Insn::Call { id: SEND }]
 }
 
 fn add_say_blocks(
@@ -47,9 +47,9 @@ fn add_say_blocks(
     requires values { length values.now ≡ nodes }
     ensures { OnOk result (insns.new.items ≡ insns.old.items ++ say_blocks 0 values.now) }
 {
-    for node in 0..nodes {
-        if let Some(value) = values[node as usize] {
-            insns.extend_from_slice(&say_block(node, value))?;
+    for receiver in 0..nodes {
+        if let Some(value) = values[receiver as usize] {
+            insns.extend_from_slice(&say_block(receiver, value))?;
         }
     }
     Ok(())
