@@ -1,10 +1,7 @@
 -- The whole run of the clock program, from its end to its beginning.
-use Rattle.std.proofs.Common.{◌≡◌, ℕ, zero, suc, ◌+◌, ◌*◌, ◌-◌, ◌%◌, ◌^◌, ◌<◌, ◌≤◌, Bool, true, false, cond, List, [], ◌++◌, length, Option, Some, Ok, nat_lt, slice_get, slice_set, not, ◌==◌, pos, refl, sym, ap, ◌∙◌, arith, subst, inl, inr, All}
-use Rattle.std.specs.Ordering.{nat_cmp}
-use Rattle.std.specs.FinMap.{FinMap, empty, get, insert}
-use Rattle.std.proofs.Math.Nat.{mod-lt}
+use Rattle.std.proofs.Common.{◌≡◌, ℕ, zero, suc, ◌+◌, ◌*◌, ◌-◌, ◌^◌, ◌<◌, ◌≤◌, true, false, List, ◌++◌, length, Some, Ok, nat_lt, slice_get, slice_set, pos, refl, sym, ap, ◌∙◌, arith, subst, inl, inr, All}
+use Rattle.std.specs.FinMap.{empty, get, insert}
 use Rattle.std.proofs.lemmas.Bool.{cases_lt, le-leb, lt-ltb, le-ltb}
-use Rattle.std.proofs.lemmas.Bool.Decides.{nat_tests}
 use Rattle.node_env.specs.declared.region.Region.TheVariants.{Mem}
 use Rattle.node_env.specs.Env.{Extent, Setting, IsSetting}
 use Rattle.bpf_insn.specs.declared.forms.Reg.TheVariants.{R1, R6, R7, R8}
