@@ -2,7 +2,8 @@
 ghost use Rattle.std.specs.Prelude.{◌≡◌, ◌≤◌, ◌<◌, ◌++◌, IfOk, OnOk};
 ghost use Rattle.node_env.specs.declared.shape.TheConstants.{MAX_NODES};
 ghost use Rattle.clock_nodes.specs.declared.rule.TheConstants.{MOST_MODULUS};
-ghost use Rattle.clock_nodes.specs.Listings.{head, count_block, count_blocks, choice, store, send_block, send_blocks, listing, clock_listing};
+ghost use Rattle.clock_nodes.specs.Listings.{head, count_block, count_blocks, choice, store, send_block, send_blocks};
+ghost use Rattle.clock_nodes.specs.Listings.{listing, clock_listing};
 ghost use Rattle.clock_nodes.specs.Ends.{HasRuns, EndsBy, IsClockEnd};
 
 use crate::insns as i;
@@ -140,8 +141,8 @@ fn clock_insns(
     Ok(insns)
 }
 
-/// The clock of a rule, for the nodes of a shape: docs/CLOCK.md has its listing. It is named for the authors of the digital clock
-/// that the rule is written after.
+/// The clock of a rule, for the nodes of a shape: docs/CLOCK.md has its listing. It is named for the authors of the digital
+/// clock that the rule is written after.
 pub fn dolev_welch(alloc: Global, shape: Shape, rule: ClockRule) -> Result<Program, AllocError>
     requires nodes { rule.nodes ≡ shape.nodes }
     ensures listing { IfOk result (λ p. p ≡ clock_listing rule) }

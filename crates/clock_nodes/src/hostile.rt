@@ -66,7 +66,7 @@ fn say_insns(alloc: Global, nodes: u32, values: &[Option<u32>]) -> Result<Vec<In
     Ok(insns)
 }
 
-/// A program that sends each node its value, where there is one, whatever mail, coin and memory say. It keeps its memory.
+/// A program that sends each node its value, where there is one, whatever mail, coin and memory say. It keeps the memory.
 pub fn say(alloc: Global, shape: Shape, values: &[Option<u32>]) -> Result<Program, AllocError>
     requires values { length values.now ≡ shape.nodes }
     ensures listing { IfOk result (λ p. p ≡ say_listing values.now) }
@@ -114,7 +114,7 @@ fn echo_insns(alloc: Global, nodes: u32) -> Result<Vec<Insn>, AllocError>
     Ok(insns)
 }
 
-/// A program that sends each node what came from it, and 4294967295 where nothing came. It keeps its memory.
+/// A program that sends each node what came from it, and 4294967295 where nothing came. It keeps the memory.
 pub fn echo(alloc: Global, shape: Shape) -> Result<Program, AllocError>
     ensures listing { IfOk result (λ p. p ≡ echo_listing shape.nodes) }
     ensures runs { IfOk result (λ p. HasRuns p shape) }
