@@ -22,10 +22,10 @@ Goes s b n (PulseEvent coins ∷ es) (r ∷ rs) b' =
     × ((mid : State) × Pulse s (opened_state b coins) mid × IsRecord s (opened_state b coins) mid r × Goes s mid (n + 2) es rs b')
 
 -- the run from a new bench: the records, and the memories that it leaves
-pub record IsRun (s : Setup) (es : List Event) (rs : List PulseTold) (memories : List (List ℕ)) : Type 0 where
+pub record IsRun (s : Setup) (es : List Event) (rs : List PulseTold) (left : List (List ℕ)) : Type 0 where
   pub last : State
   pub goes : Goes s (new_state s) 0 es rs last
-  pub memories : memories ≡ map (λ x. x.memory) last.nodes
+  pub memories : left ≡ map (λ x. x.memory) last.nodes
 
 -- how many entries the events add
 abbrev pub entries_after : List Event → ℕ

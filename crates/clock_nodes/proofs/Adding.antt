@@ -1,5 +1,5 @@
 -- Blocks that are added one by one.
-use Rattle.std.proofs.Common.{◌≡◌, ℕ, zero, suc, ◌+◌, ◌-◌, ◌<◌, List, ◌++◌, sym, ap, ◌∙◌, append_assoc, arith}
+use Rattle.std.proofs.Common.{◌≡◌, ℕ, suc, ◌+◌, ◌-◌, ◌<◌, List, ◌++◌, sym, ap, ◌∙◌, append_assoc, arith}
 use Rattle.bpf_insn.specs.declared.forms.Insn.{Insn}
 
 split_first : (block : ℕ → List Insn) (blocks : ℕ → ℕ → List Insn) → ((n j : ℕ) → blocks (suc n) j ≡ block j ++ blocks n (suc j))

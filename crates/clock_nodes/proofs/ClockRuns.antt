@@ -1,10 +1,7 @@
 -- The whole run of the clock program, from its end to its beginning.
-use Rattle.std.proofs.Common.{◌≡◌, ℕ, zero, suc, ◌+◌, ◌*◌, ◌-◌, ◌%◌, ◌^◌, ◌<◌, ◌≤◌, Bool, true, false, cond, List, [], ◌++◌, length, Option, Some, Ok, nat_lt, slice_get, slice_set, not, ◌==◌, pos, refl, sym, ap, ◌∙◌, arith, subst, inl, inr, All}
-use Rattle.std.specs.Ordering.{nat_cmp}
-use Rattle.std.specs.FinMap.{FinMap, empty, get, insert}
-use Rattle.std.proofs.Math.Nat.{mod-lt}
+use Rattle.std.proofs.Common.{◌≡◌, ℕ, zero, suc, ◌+◌, ◌*◌, ◌-◌, ◌^◌, ◌<◌, ◌≤◌, true, false, List, ◌++◌, length, Some, Ok, nat_lt, slice_get, slice_set, pos, refl, sym, ap, ◌∙◌, arith, subst, inl, inr, All}
+use Rattle.std.specs.FinMap.{empty, get, insert}
 use Rattle.std.proofs.lemmas.Bool.{cases_lt, le-leb, lt-ltb, le-ltb}
-use Rattle.std.proofs.lemmas.Bool.Decides.{nat_tests}
 use Rattle.node_env.specs.declared.region.Region.TheVariants.{Mem}
 use Rattle.node_env.specs.Env.{Extent, Setting, IsSetting}
 use Rattle.bpf_insn.specs.declared.forms.Reg.TheVariants.{R1, R6, R7, R8}
@@ -133,7 +130,7 @@ begun program rest env memory modulus clock stands behind eight few small read =
 -- ---- the whole
 
 finish_all : (program : List Insn) (env : Setting) (memory : List ℕ) (quorum modulus : ℕ) → IsSetting env
-    → Stands program 0 (head modulus ++ (count_blocks env.shape.nodes 0 ++ (choice quorum modulus ++ (store ++ (send_blocks env.shape.nodes 0 ++ tail)))))
+    → Stands program 0 (listing env.shape.nodes quorum modulus)
     → quorum < 2 ^ 32 → 2 ≤ modulus → modulus < 2 ^ 32 - 1 → clock_of memory < 2 ^ 32 → mark_of memory < 2 ^ 32 → HasPair memory
     → (pair : ℕ × ℕ) → pair ≡ pair_from quorum modulus (support env.inbox (clock_below modulus (clock_of memory)) env.shape.nodes) (clock_below modulus (clock_of memory)) (mark_of memory) env.coin
     → Finishes program env (entry env memory) (17 + 7 * env.shape.nodes) (with_number slice_set (with_number slice_set memory 0 4 pair.0) 4 4 pair.1) (λ k. Some pair.0)

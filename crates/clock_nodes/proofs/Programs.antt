@@ -1,5 +1,5 @@
 -- The listings are programs: their numbers are of their types, and their slots are counted.
-use Rattle.std.proofs.Common.{◌≡◌, ℕ, zero, suc, ◌+◌, ◌*◌, ◌-◌, ◌<◌, ◌≤◌, ◌^◌, List, [], ◌∷◌, ◌++◌, length, Option, Some, None, All, ℤ, pos, refl, sym, ap, ◌∙◌, arith, rules}
+use Rattle.std.proofs.Common.{◌≡◌, ℕ, zero, suc, ◌+◌, ◌*◌, ◌<◌, ◌≤◌, ◌^◌, List, [], ◌∷◌, ◌++◌, length, Option, Some, None, All, pos, refl, ◌∙◌, arith, rules}
 use Rattle.std.specs.Prelude.{FitsSigned}
 use Rattle.std.specs.Int.{w16, w32, cast_signed}
 use Rattle.std.specs.List.{AllByRecursion}
@@ -9,6 +9,7 @@ use Rattle.std.proofs.lemmas.List.Elements.{All-head, All-tail}
 use Rattle.node_env.specs.declared.shape.TheConstants.{MAX_NODES}
 use Rattle.node_env.specs.Slots.{IsSlot}
 use Rattle.bpf_insn.specs.declared.forms.Insn.{Insn}
+use Rattle.bpf_insn.specs.declared.listing.TheConstants.{MAX_SLOTS}
 use Rattle.bpf_insn.specs.Encoding.{InRange}
 use Rattle.bpf_insn.specs.Programs.{IsProgram, slots_of}
 use Rattle.bpf_insn.proofs.LayoutLaws.{slots_of-cons}
@@ -27,23 +28,23 @@ in_append : (xs ys : List Insn) → AreInRange xs → AreInRange ys → AreInRan
 in_append [] ys h g = g
 in_append (x ∷ xs) ys h g = (h.0, in_append xs ys h.1 g)
 
-fit32 : (n : ℕ) → n ≤ 65536 → FitsSigned w32 (pos n)
+fit32 : (n : ℕ) → n < 2 ^ 31 → FitsSigned w32 (pos n)
 fit32 n h = omega (arith, h)
 
-fit16 : (n : ℕ) → n ≤ 20 → FitsSigned w16 (pos n)
+fit16 : (n : ℕ) → n < 2 ^ 15 → FitsSigned w16 (pos n)
 fit16 n h = omega (arith, h)
 
-in_choice : (q m : ℕ) → q ≤ 65536 → m ≤ 65536 → AreInRange (choice q m)
+in_choice : (q m : ℕ) → q < 2 ^ 31 → m < 2 ^ 31 → AreInRange (choice q m)
 in_choice q m g h = search (rules, fit32, fit16)
 
-in_head : (m : ℕ) → m ≤ 65536 → AreInRange (head m)
+in_head : (m : ℕ) → m < 2 ^ 31 → AreInRange (head m)
 in_head m h = search (rules, fit32, fit16)
 
-in_counts : (n j : ℕ) → n + j ≤ 65536 → AreInRange (count_blocks n j)
+in_counts : (n j : ℕ) → n + j < 2 ^ 31 → AreInRange (count_blocks n j)
 in_counts zero j h = tt
 in_counts (suc n) j h = let rest = in_counts n (suc j) (omega (arith, h)) in search (rules, fit32, fit16, rest)
 
-in_sends : (n j : ℕ) → n + j ≤ 65536 → AreInRange (send_blocks n j)
+in_sends : (n j : ℕ) → n + j < 2 ^ 31 → AreInRange (send_blocks n j)
 in_sends zero j h = tt
 in_sends (suc n) j h = let rest = in_sends n (suc j) (omega (arith, h)) in search (rules, fit32, fit16, rest)
 
@@ -75,7 +76,7 @@ clock_slots nodes quorum modulus =
       length-append counts (choice quorum modulus ++ (store ++ (sends ++ tail))),
     )
 
-program_of : (p : List Insn) → AreInRange p → 1 ≤ slots_of p → slots_of p ≤ 2048 → IsProgram p
+program_of : (p : List Insn) → AreInRange p → 1 ≤ slots_of p → slots_of p ≤ MAX_SLOTS → IsProgram p
 program_of p range some few = record { in_range = range; some_slots = some; few_slots = few }
 
 pub clock_is_program : (rule : Rule) → IsRule rule.nodes rule.faults rule.modulus → IsProgram (clock_listing rule)
@@ -84,14 +85,15 @@ clock_is_program rule ok =
     let q = quorum_of rule in
     let m = rule.modulus in
     let slots = clock_slots n q m in
-    let few : n + 0 ≤ 65536 = omega (arith, ok.few) in
-    let q_few : q ≤ 65536 = omega (arith, ok.few) in
+    let few : n + 0 < 2 ^ 31 = omega (arith, ok.few) in
+    let q_few : q < 2 ^ 31 = omega (arith, ok.few) in
+    let m_few : m < 2 ^ 31 = omega (arith, ok.most) in
     let sends = send_blocks n 0 ++ tail in
     let stores = store ++ sends in
     let choices = choice q m ++ stores in
     let in_stores : AreInRange stores = (fit16 0 (omega arith), (fit16 4 (omega arith), in_append (send_blocks n 0) tail (in_sends n 0 few) (fit32 0 (omega arith), (tt, tt)))) in
-    let in_counted : AreInRange (count_blocks n 0 ++ choices) = in_append (count_blocks n 0) choices (in_counts n 0 few) (in_append (choice q m) stores (in_choice q m q_few ok.most) in_stores) in
-    program_of (clock_listing rule) (in_append (head m) (count_blocks n 0 ++ choices) (in_head m ok.most) in_counted) (omega (arith, slots)) (omega (arith, slots, ok.few))
+    let in_counted : AreInRange (count_blocks n 0 ++ choices) = in_append (count_blocks n 0) choices (in_counts n 0 few) (in_append (choice q m) stores (in_choice q m q_few m_few) in_stores) in
+    program_of (clock_listing rule) (in_append (head m) (count_blocks n 0 ++ choices) (in_head m m_few) in_counted) (omega (arith, slots)) (omega (arith, slots, ok.few))
 
 -- ---- say
 
@@ -99,7 +101,7 @@ clock_is_program rule ok =
 fit_signed : (value : ℕ) → value < 2 ^ 32 → FitsSigned w32 (cast_signed w32 value)
 fit_signed value small = omega (arith, ints, small)
 
-in_says : (values : List (Option ℕ)) (j : ℕ) → length values + j ≤ 65536 → All IsSlot values → AreInRange (say_blocks j values)
+in_says : (values : List (Option ℕ)) (j : ℕ) → length values + j < 2 ^ 31 → All IsSlot values → AreInRange (say_blocks j values)
 in_says [] j few fit = tt
 in_says (None ∷ values) j few fit = in_says values (suc j) (omega (arith, few)) (All-tail IsSlot None values fit)
 in_says (Some value ∷ values) j few fit =
@@ -124,7 +126,7 @@ say_is_program values few fit =
 
 -- ---- echo
 
-in_echoes : (n j : ℕ) → n + j ≤ 65536 → AreInRange (echo_blocks n j)
+in_echoes : (n j : ℕ) → n + j < 2 ^ 31 → AreInRange (echo_blocks n j)
 in_echoes zero j h = tt
 in_echoes (suc n) j h = let rest = in_echoes n (suc j) (omega (arith, h)) in search (rules, fit32, fit16, rest)
 

@@ -1,7 +1,6 @@
 -- The clock program from its stores on.
-use Rattle.std.proofs.Common.{◌≡◌, ℕ, zero, suc, ◌+◌, ◌*◌, ◌^◌, ◌<◌, ◌≤◌, List, ◌++◌, Option, Some, Ok, slice_set, pos, refl, sym, ap, ◌∙◌, arith, subst}
-use Rattle.std.specs.Ordering.{nat_cmp}
-use Rattle.std.specs.FinMap.{FinMap, get, insert}
+use Rattle.std.proofs.Common.{◌≡◌, ℕ, zero, suc, ◌+◌, ◌*◌, ◌^◌, ◌<◌, ◌≤◌, List, ◌++◌, Some, Ok, slice_set, pos, refl, ◌∙◌, arith, subst}
+use Rattle.std.specs.FinMap.{get, insert}
 use Rattle.std.proofs.lemmas.Bool.{le-leb}
 use Rattle.node_env.specs.declared.region.Region.TheVariants.{Mem}
 use Rattle.node_env.specs.Env.{Setting}

@@ -16,11 +16,14 @@ pub record IsStart (shape : Extent) (env : Setting) (memory : List ℕ) : Type 0
 
 -- from every start the program has a complete run
 abbrev pub HasRuns : List Insn → Extent → Type 0
-HasRuns program shape = (env : Setting) (memory : List ℕ) → IsStart shape env memory → (end : End) × CompleteRun program env memory end
+HasRuns program shape =
+    (env : Setting) (memory : List ℕ) → IsStart shape env memory → (end : End) × CompleteRun program env memory end
 
 -- every complete run of the program ends so
 abbrev pub EndsBy : List Insn → Extent → (Setting → List ℕ → End → Type 0) → Type 0
-EndsBy program shape IsEnd = (env : Setting) (memory : List ℕ) (end : End) → IsStart shape env memory → CompleteRun program env memory end → IsEnd env memory end
+EndsBy program shape IsEnd =
+    (env : Setting) (memory : List ℕ) (end : End) → IsStart shape env memory → CompleteRun program env memory end
+    → IsEnd env memory end
 
 -- to each node what is given for it, and nothing to any other
 pub record IsSentTo (nodes : ℕ) (value_for : ℕ → Option ℕ) (sent : FinMap nat_cmp ℕ) : Type 0 where

@@ -1,4 +1,5 @@
 -- The programs of the nodes, as lists of instructions (docs/CLOCK.md, "The programs").
+-- Helper 2 receives, helper 3 sends, and helper 4 is the coin.
 use Rattle.std.specs.Prelude.{ℕ, zero, suc, pos, List, [], ◌∷◌, ◌++◌, Option, Some, None}
 use Rattle.std.specs.Int.{w32, cast_signed}
 use Rattle.bpf_insn.specs.declared.forms.Reg.TheVariants.{R0, R1, R2, R6, R7, R8, R9}
@@ -16,8 +17,8 @@ use Rattle.clock_nodes.specs.Rule.{Rule, quorum_of}
 -- the clock into r7, or 0 where it is the modulus or more
 abbrev pub head : ℕ → List Insn
 head modulus =
-    Alu Mov W64 R6 (Reg R1) ∷ Load size.W R7 R6 (pos 0) ∷ Branch Lt W64 R7 (Imm (pos modulus)) (pos 1) ∷ Alu Mov W64 R7 (Imm (pos 0))
-    ∷ Alu Mov W64 R8 (Imm (pos 0)) ∷ []
+    Alu Mov W64 R6 (Reg R1) ∷ Load size.W R7 R6 (pos 0)
+    ∷ Branch Lt W64 R7 (Imm (pos modulus)) (pos 1) ∷ Alu Mov W64 R7 (Imm (pos 0)) ∷ Alu Mov W64 R8 (Imm (pos 0)) ∷ []
 
 -- one more in r8 where node j sent the clock
 abbrev pub count_block : ℕ → List Insn
@@ -33,11 +34,13 @@ count_blocks (suc n) j = count_block j ++ count_blocks n (suc j)
 -- the new clock into r7 and the new mark into r9: each of the four cases jumps behind the last
 abbrev pub choice : ℕ → ℕ → List Insn
 choice quorum modulus =
-    Branch Ge W64 R8 (Imm (pos quorum)) (pos 3) ∷ Alu Mov W64 R7 (Imm (pos 0)) ∷ Alu Mov W64 R9 (Imm (pos 0)) ∷ Ja (pos 14)
+    Branch Ge W64 R8 (Imm (pos quorum)) (pos 3)
+    ∷ Alu Mov W64 R7 (Imm (pos 0)) ∷ Alu Mov W64 R9 (Imm (pos 0)) ∷ Ja (pos 14)
     ∷ Branch Ne W64 R7 (Imm (pos 0)) (pos 9) ∷ Load size.W R9 R6 (pos 4) ∷ Branch Ne W64 R9 (Imm (pos 0)) (pos 4)
     ∷ Call (pos 4) ∷ Alu Mov W64 R7 (Reg R0) ∷ Alu Mov W64 R9 (Reg R0) ∷ Ja (pos 7)
     ∷ Alu Mov W64 R7 (Imm (pos 1)) ∷ Alu Mov W64 R9 (Imm (pos 1)) ∷ Ja (pos 4)
-    ∷ Alu Add W64 R7 (Imm (pos 1)) ∷ Alu Mov W64 R9 (Imm (pos 1)) ∷ Branch Lt W64 R7 (Imm (pos modulus)) (pos 1) ∷ Alu Mov W64 R7 (Imm (pos 0)) ∷ []
+    ∷ Alu Add W64 R7 (Imm (pos 1)) ∷ Alu Mov W64 R9 (Imm (pos 1))
+    ∷ Branch Lt W64 R7 (Imm (pos modulus)) (pos 1) ∷ Alu Mov W64 R7 (Imm (pos 0)) ∷ []
 
 -- both into the memory
 abbrev pub store : List Insn
@@ -83,7 +86,8 @@ say_listing values = say_blocks 0 values ++ tail
 
 abbrev pub echo_block : ℕ → List Insn
 echo_block j =
-    Alu Mov W64 R1 (Imm (pos j)) ∷ Call (pos 2) ∷ Alu Mov W64 R2 (Reg R0) ∷ Alu Mov W64 R1 (Imm (pos j)) ∷ Call (pos 3) ∷ []
+    Alu Mov W64 R1 (Imm (pos j)) ∷ Call (pos 2) ∷ Alu Mov W64 R2 (Reg R0)
+    ∷ Alu Mov W64 R1 (Imm (pos j)) ∷ Call (pos 3) ∷ []
 
 abbrev pub echo_blocks : ℕ → ℕ → List Insn
 echo_blocks zero j = []

@@ -1,5 +1,5 @@
--- The rule of the clocks: what a node makes of its memory, its mail and its coin in a pulse (docs/CLOCK.md, "The rule").
-use Rattle.std.specs.Prelude.{◌≡◌, ℕ, zero, suc, ◌+◌, ◌-◌, ◌%◌, ◌<◌, ◌≤◌, ◌==◌, nat_lt, not, if◌then◌else◌, Bool, false, List, ◌++◌, take, drop, Option, Some, None}
+-- The rule of the clocks (docs/CLOCK.md, "The rule"): what a node makes of its memory, its mail and its coin in a pulse.
+use Rattle.std.specs.Prelude.{ℕ, zero, suc, ◌+◌, ◌-◌, ◌%◌, ◌<◌, ◌≤◌, ◌==◌, nat_lt, not, if◌then◌else◌, Bool, false, List, ◌++◌, take, drop, Option, Some, None}
 use Rattle.std.specs.Int.{w32, from_le_bytes, to_le_bytes}
 use Rattle.std.specs.Ordering.{nat_cmp}
 use Rattle.std.specs.FinMap.{FinMap, get}
@@ -55,10 +55,10 @@ support inbox v (suc n) = support inbox v n + (if is_mail v (get inbox n) then 1
 abbrev pub clock_below : ℕ → ℕ → ℕ
 clock_below modulus clock = if nat_lt clock modulus then clock else 0
 
--- the new clock and mark of a node with clock v, this support for it, this mark and this coin
+-- the new clock and mark of a node with clock v, so many supporters of it, this mark and this coin
 abbrev pub pair_from : ℕ → ℕ → ℕ → ℕ → ℕ → ℕ → ℕ × ℕ
-pair_from quorum modulus support v mark coin =
-    if nat_lt support quorum then (0, 0)
+pair_from quorum modulus supporters v mark coin =
+    if nat_lt supporters quorum then (0, 0)
     else if not (v == 0) then ((v + 1) % modulus, 1)
     else if not (mark == 0) then (1, 1)
     else (coin, coin)

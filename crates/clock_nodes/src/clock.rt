@@ -2,7 +2,8 @@
 ghost use Rattle.std.specs.Prelude.{◌≡◌, ◌≤◌, ◌<◌, ◌++◌, IfOk, OnOk};
 ghost use Rattle.node_env.specs.declared.shape.TheConstants.{MAX_NODES};
 ghost use Rattle.clock_nodes.specs.declared.rule.TheConstants.{MOST_MODULUS};
-ghost use Rattle.clock_nodes.specs.Listings.{head, count_block, count_blocks, choice, store, send_block, send_blocks, listing, clock_listing};
+ghost use Rattle.clock_nodes.specs.Listings.{head, count_block, count_blocks, choice, store, send_block, send_blocks};
+ghost use Rattle.clock_nodes.specs.Listings.{listing, clock_listing};
 ghost use Rattle.clock_nodes.specs.Ends.{HasRuns, EndsBy, IsClockEnd};
 
 use crate::insns as i;
@@ -33,12 +34,12 @@ fn head(modulus: u32) -> [Insn; 5]
 }
 
 /// One more in r8 where the node sent the clock.
-fn count_block(node: u32) -> [Insn; 4]
-    requires { node < MAX_NODES }
-    ensures { result ≡ count_block node }
+fn count_block(sender: u32) -> [Insn; 4]
+    requires { sender < MAX_NODES }
+    ensures { result ≡ count_block sender }
 {
     [
-        mov(Reg::R1, node as i32),
+        mov(Reg::R1, sender as i32),
         Insn::Call { id: RECV },
         branch(Cond::Ne, Reg::R0, Operand::Reg(Reg::R7), 1),
         alu(AluOp::Add, Reg::R8, Operand::Imm(1)),
@@ -88,12 +89,12 @@ fn store() -> [Insn; 2]
 }
 
 /// The clock to the node.
-fn send_block(node: u32) -> [Insn; 3]
-    requires { node < MAX_NODES }
-    ensures { result ≡ send_block node }
+fn send_block(receiver: u32) -> [Insn; 3]
+    requires { receiver < MAX_NODES }
+    ensures { result ≡ send_block receiver }
 {
     [
-        mov(Reg::R1, node as i32),
+        mov(Reg::R1, receiver as i32),
         copy(Reg::R2, Reg::R7),
         Insn::Call { id: SEND },
     ]
@@ -103,8 +104,8 @@ fn add_count_blocks(insns: &mut Vec<Insn>, nodes: u32) -> Result<(), AllocError>
     requires { nodes ≤ MAX_NODES }
     ensures { OnOk result (insns.new.items ≡ insns.old.items ++ count_blocks nodes 0) }
 {
-    for node in 0..nodes {
-        insns.extend_from_slice(&count_block(node))?;
+    for sender in 0..nodes {
+        insns.extend_from_slice(&count_block(sender))?;
     }
     Ok(())
 }
@@ -113,8 +114,8 @@ fn add_send_blocks(insns: &mut Vec<Insn>, nodes: u32) -> Result<(), AllocError>
     requires { nodes ≤ MAX_NODES }
     ensures { OnOk result (insns.new.items ≡ insns.old.items ++ send_blocks nodes 0) }
 {
-    for node in 0..nodes {
-        insns.extend_from_slice(&send_block(node))?;
+    for receiver in 0..nodes {
+        insns.extend_from_slice(&send_block(receiver))?;
     }
     Ok(())
 }
@@ -140,8 +141,8 @@ fn clock_insns(
     Ok(insns)
 }
 
-/// The clock of a rule, for the nodes of a shape: docs/CLOCK.md has its listing. It is named for the authors of the digital clock
-/// that the rule is written after.
+/// The clock of a rule, for the nodes of a shape: docs/CLOCK.md has its listing. It is named for the authors of the digital
+/// clock that the rule is written after.
 pub fn dolev_welch(alloc: Global, shape: Shape, rule: ClockRule) -> Result<Program, AllocError>
     requires nodes { rule.nodes ≡ shape.nodes }
     ensures listing { IfOk result (λ p. p ≡ clock_listing rule) }

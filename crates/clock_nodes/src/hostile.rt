@@ -25,9 +25,9 @@ fn values_fit(values: &[Option<u32>])
 }
 
 /// The value to the node.
-fn say_block(node: u32, value: u32) -> [Insn; 3]
-    requires { node < MAX_NODES }
-    ensures { result ≡ say_block node value }
+fn say_block(receiver: u32, value: u32) -> [Insn; 3]
+    requires { receiver < MAX_NODES }
+    ensures { result ≡ say_block receiver value }
 {
     let said = Insn::Alu {
         op: AluOp::Mov,
@@ -35,7 +35,7 @@ fn say_block(node: u32, value: u32) -> [Insn; 3]
         dst: Reg::R2,
         src: Operand::Imm(value.cast_signed()),
     };
-    [mov(Reg::R1, node as i32), said, Insn::Call { id: SEND }]
+    [mov(Reg::R1, receiver as i32), said, Insn::Call { id: SEND }]
 }
 
 fn add_say_blocks(
@@ -47,9 +47,9 @@ fn add_say_blocks(
     requires values { length values.now ≡ nodes }
     ensures { OnOk result (insns.new.items ≡ insns.old.items ++ say_blocks 0 values.now) }
 {
-    for node in 0..nodes {
-        if let Some(value) = values[node as usize] {
-            insns.extend_from_slice(&say_block(node, value))?;
+    for receiver in 0..nodes {
+        if let Some(value) = values[receiver as usize] {
+            insns.extend_from_slice(&say_block(receiver, value))?;
         }
     }
     Ok(())
@@ -66,7 +66,7 @@ fn say_insns(alloc: Global, nodes: u32, values: &[Option<u32>]) -> Result<Vec<In
     Ok(insns)
 }
 
-/// A program that sends each node its value, where there is one, whatever mail, coin and memory say. It keeps its memory.
+/// A program that sends each node its value, where there is one, whatever mail, coin and memory say. It keeps the memory.
 pub fn say(alloc: Global, shape: Shape, values: &[Option<u32>]) -> Result<Program, AllocError>
     requires values { length values.now ≡ shape.nodes }
     ensures listing { IfOk result (λ p. p ≡ say_listing values.now) }
@@ -114,7 +114,7 @@ fn echo_insns(alloc: Global, nodes: u32) -> Result<Vec<Insn>, AllocError>
     Ok(insns)
 }
 
-/// A program that sends each node what came from it, and 4294967295 where nothing came. It keeps its memory.
+/// A program that sends each node what came from it, and 4294967295 where nothing came. It keeps the memory.
 pub fn echo(alloc: Global, shape: Shape) -> Result<Program, AllocError>
     ensures listing { IfOk result (λ p. p ≡ echo_listing shape.nodes) }
     ensures runs { IfOk result (λ p. HasRuns p shape) }

@@ -8,15 +8,15 @@ ghost use Rattle.clock_nodes.specs.Rule.{Rule, IsRule, clock_of, mark_of, pair_a
 ghost use Rattle.clock_nodes.specs.Listings.{listing, clock_listing, say_listing, echo_listing};
 ghost use Rattle.clock_nodes.specs.Ends.{HasRuns, EndsBy, IsClockEnd, IsSayEnd, IsEchoEnd};
 
-/// The clock's instructions are a program, however they were made; it has a complete run from every memory, mail and coin, and every
-/// complete run ends as the rule says.
+/// The clock's instructions are a program, however they were made; it has a complete run from every memory, mail and coin, and
+/// every complete run ends as the rule says.
 pub fn clock_ends()
     ensures slots { (nodes quorum modulus : ℕ) → slots_of (listing nodes quorum modulus) ≡ 27 + 7 * nodes }
     ensures program { (rule : Rule) → IsRule rule.nodes rule.faults rule.modulus → IsProgram (clock_listing rule) }
-    ensures runs { (rule : Rule) (shape : Extent) → IsRule rule.nodes rule.faults rule.modulus → rule.nodes ≡ shape.nodes →
-        HasRuns (clock_listing rule) shape }
-    ensures ends { (rule : Rule) (shape : Extent) → IsRule rule.nodes rule.faults rule.modulus → rule.nodes ≡ shape.nodes →
-        EndsBy (clock_listing rule) shape (IsClockEnd rule.faults rule.modulus) }
+    ensures runs { (rule : Rule) (shape : Extent) → IsRule rule.nodes rule.faults rule.modulus →
+        rule.nodes ≡ shape.nodes → HasRuns (clock_listing rule) shape }
+    ensures ends { (rule : Rule) (shape : Extent) → IsRule rule.nodes rule.faults rule.modulus →
+        rule.nodes ≡ shape.nodes → EndsBy (clock_listing rule) shape (IsClockEnd rule.faults rule.modulus) }
 {}
 
 /// The same of `say`, for a value or none for each node.
@@ -42,6 +42,7 @@ pub fn echo_ends()
 pub fn pair_is_read_back()
     ensures clock { (pair : ℕ × ℕ) (memory : List ℕ) → pair.0 < 2 ^ 32 → clock_of (with_pair pair memory) ≡ pair.0 }
     ensures mark { (pair : ℕ × ℕ) (memory : List ℕ) → pair.1 < 2 ^ 32 → mark_of (with_pair pair memory) ≡ pair.1 }
-    ensures fits { (rule : Rule) (env : Setting) (memory : List ℕ) → IsRule rule.nodes rule.faults rule.modulus → IsSetting env →
-        ((pair_after rule.faults rule.modulus env memory).0 < rule.modulus) × ((pair_after rule.faults rule.modulus env memory).1 < 2) }
+    ensures fits { (rule : Rule) (env : Setting) (memory : List ℕ) → IsRule rule.nodes rule.faults rule.modulus →
+        IsSetting env → ((pair_after rule.faults rule.modulus env memory).0 < rule.modulus) ×
+        ((pair_after rule.faults rule.modulus env memory).1 < 2) }
 {}

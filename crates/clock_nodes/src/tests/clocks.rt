@@ -44,7 +44,7 @@ struct Pulse {
     coin: u32,
 }
 
-/// The pair that it leaves and how many instructions it took. What it sends, its other bytes and r0 are shown to be right.
+/// How many instructions it takes to leave the pair. What it sends, its other bytes and r0 are shown to be right.
 fn steps_to(rt: &impl Abort, alloc: Global, pulse: &Pulse, pair: (u32, u32)) -> Result<u32, Fail> {
     let shape = Shape::of(4, MEMORY).ok_or("no shape")?;
     let rule = ClockRule::of(4, 1, pulse.modulus).ok_or("no rule")?;
