@@ -1,0 +1,17 @@
+pub mod Replays
+pub mod Counting
+pub mod Rules
+pub mod Sound
+pub mod Agreement
+pub mod WholeRuns
+pub mod Results
+pub mod Rows
+pub mod Closes
+pub mod Kept
+pub mod Opening
+pub mod Known
+pub mod Finding
+pub mod Telling
+pub mod Tallies
+pub mod Closing
+pub mod Closed

@@ -1,0 +1,34 @@
+-- A bench's fields, as contracts see them, and what is true of them.
+use Rattle.std.specs.Prelude.{◌≡◌, ◌≤◌, map, drop, length, option_map, vec_capacity, IsSome}
+use Rattle.bench_core.specs.declared.limits.TheConstants.{MOST_ENTRIES}
+use Rattle.bench_core.specs.declared.bench.Bench.TheInside.{Inside}
+use Rattle.bench_core.specs.Setup.{IsSetup, clock_listing}
+use Rattle.bench_core.specs.Nodes.{KnowsClock}
+use Rattle.bench_core.specs.Replay.{Replays, BenchValue, openings, staged_of, places_of}
+use Rattle.bench_core.specs.Views.{setup_of, entry_of}
+
+abbrev pub view_of : Inside → BenchValue
+view_of b = record {
+  setup = setup_of b.shape b.rule;
+  state = record {
+    nodes = b.nodes.items;
+    mail = b.mail;
+    closed = b.closed;
+    staged = staged_of (drop b.staged_from (map entry_of b.history.items));
+    coins = option_map (λ v. v.items) b.coins;
+  };
+  history = map entry_of b.history.items;
+}
+
+pub record IsKept (b : Inside) : Type 0 where
+  pub replays : Replays (view_of b).setup (view_of b).history (view_of b).state
+  pub setup : IsSetup (view_of b).setup
+  pub same : b.rule.nodes ≡ b.shape.nodes
+  pub clock : b.clock ≡ clock_listing (view_of b).setup
+  pub flags : KnowsClock b.clock b.nodes.items b.flags.items
+  pub spare : length b.spare ≡ b.shape.nodes
+  pub opened : b.opened ≡ openings (view_of b).history
+  pub counted : IsSome b.coins → 1 ≤ b.opened
+  pub staged : b.staged_from ≤ length b.history.items
+  pub limit : places_of (view_of b) ≤ MOST_ENTRIES
+  pub room : places_of (view_of b) ≤ vec_capacity b.history

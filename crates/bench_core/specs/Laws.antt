@@ -1,0 +1,110 @@
+-- What holds of every run of the pulse machine.
+use Rattle.std.specs.Prelude.{◌≡◌, ◌≢◌, ◌↔◌, ℕ, ◌+◌, ◌*◌, ◌%◌, ◌<◌, ◌≤◌, Bool, ◌&&◌, ◌==◌, IsTrue, IsSome, Some, List, length, count_by, All, slice_get, unwrap_or, []}
+use Rattle.clock_nodes.specs.Rule.{clock_of, mark_of}
+use Rattle.bpf_machine.specs.declared.word.TrapKind.{TrapKind}
+use Rattle.bpf_machine.specs.Machine.{MachineState}
+use Rattle.bpf_machine.specs.Run.{CompleteRun, End, GetsStuck}
+use Rattle.bpf_verify.specs.Accepted.{Accepted}
+use Rattle.bpf_verify.specs.Paths.{IsLongestPath}
+use Rattle.bench_core.specs.declared.limits.TheConstants.{MOST_ENTRIES, CLOCKS_DIFFER}
+use Rattle.bench_core.specs.Setup.{Setup, IsSetup, quorum}
+use Rattle.bench_core.specs.State.{Node, State, new_state, node_at, row_at, setting_at}
+use Rattle.bench_core.specs.Pulse.{Pulse}
+use Rattle.bench_core.specs.Settled.{Row, IsRow, row_of, RanTo, faulty_count, Agree}
+use Rattle.bench_core.specs.Replay.{Entry, Staged, Closed, Run, Replays, BenchValue, Advances, rows_of}
+use Rattle.bench_core.specs.StepList.{Act, Locked, Ran, Performs, entries_of}
+use Rattle.bench_core.specs.Tasks.{Done, tasks_of, HandedOut, RanEach, IsExact}
+
+-- a history leads to at most one state
+abbrev pub OneReplay : Type 0
+OneReplay = (s : Setup) (history : List Entry) (b b' : State) → Replays s history b → Replays s history b' → b ≡ b'
+
+-- the rows of a history are those of its closed pulses, numbered from 1
+abbrev pub RowsCount : Type 0
+RowsCount = (s : Setup) (history : List Entry) (b : State) → Replays s history b → b.closed ≡ length (rows_of history)
+
+abbrev pub RowsInOrder : Type 0
+RowsInOrder = (s : Setup) (history : List Entry) (b : State) (k : ℕ) (row : Row) → Replays s history b → slice_get (rows_of history) k ≡ Some row → row.pulse ≡ k + 1
+
+-- a step's entry goes to the end of the history
+abbrev pub AdvancesReplay : Type 0
+AdvancesReplay = (old new : BenchValue) (entry : Entry) → Replays old.setup old.history old.state → Advances old entry new → Replays new.setup new.history new.state
+
+-- where the history has a place left for the close, the row is within its ranges
+abbrev pub RowsFit : Type 0
+RowsFit = (s : Setup) (history : List Entry) (b b' : State) → IsSetup s → Replays s history b → Pulse s b b' → length history < MOST_ENTRIES → IsRow (row_of b b')
+
+-- the row tells whether settled clocks agree
+abbrev pub RowsTell : Type 0
+RowsTell = (s : Setup) (history : List Entry) (b b' : State) → IsSetup s → Replays s history b → Pulse s b b' → Agree b b' ↔ ((row_of b b').common ≢ CLOCKS_DIFFER)
+
+abbrev pub ClocksAgree : Type 0
+ClocksAgree = (s : Setup) (history : List Entry) (b b' : State) → IsSetup s → Replays s history b → Pulse s b b'
+    → 2 * s.faults + faulty_count b b' < s.shape.nodes → Agree b b'
+
+-- the node ran the clock program in the last closed pulse, and has this pair
+abbrev pub ran_to : ℕ → ℕ → Node → Bool
+ran_to clock last x = x.mark && (clock_of x.memory == clock) && (mark_of x.memory == last)
+
+-- no pulse is closed
+abbrev pub IsQuiet : Entry → Type 0
+IsQuiet (Closed row) = ⊥
+IsQuiet _ = Unit {0}
+
+-- from the states round a closed pulse, b and b', other entries lead to c, and the next closed pulse to c'
+abbrev pub PairMovesOn : Type 0
+PairMovesOn = (s : Setup) (history between : List Entry) (b b' c c' : State) (clock i : ℕ) → IsSetup s
+    → Replays s history b → Pulse s b b' → quorum s ≤ count_by (ran_to clock 1) b'.nodes
+    → Run s b' between c → All IsQuiet between → Pulse s c c'
+    → i < s.shape.nodes → IsTrue (node_at c'.nodes i).mark → clock_of (node_at c.nodes i).memory ≡ clock → mark_of (node_at c.nodes i).memory ≡ 1
+    → (clock_of (node_at c'.nodes i).memory ≡ (clock + 1) % s.modulus) × (mark_of (node_at c'.nodes i).memory ≡ 1)
+
+-- a loaded node's run in a closed pulse: a complete run, never stuck, of at most the announced number of instructions, which leaves
+-- the node's memory and its outgoing mail
+pub record IsWhole (s : Setup) (b b' : State) (i : ℕ) (p : Accepted) (end : End) : Type 0 where
+  pub run : CompleteRun p.program (setting_at s b.mail (unwrap_or b.coins []) i) (node_at b.nodes i).memory end
+  pub unstuck : (count : ℕ) (state : MachineState) (kind : TrapKind)
+      → GetsStuck p.program (setting_at s b.mail (unwrap_or b.coins []) i) (node_at b.nodes i).memory count state kind → ⊥
+  pub within : end.steps ≤ p.budget
+  pub announced : IsLongestPath p.program p.budget
+  pub memory : (node_at b'.nodes i).memory ≡ end.memory
+  pub sends : row_at b'.mail i ≡ end.sent
+
+-- over every list of steps
+abbrev pub EveryRun : Type 0
+EveryRun = (s : Setup) (acts : List Act) (b b' : State) (i : ℕ) (p : Accepted) → IsSetup s → Performs s (new_state s) acts b → Pulse s b b'
+    → i < s.shape.nodes → (node_at b.nodes i).program ≡ Some p → (end : End) × IsWhole s b b' i p end
+
+-- in every open pulse each accepted program has a run: no pulse waits for one that doesn't end
+abbrev pub EachEnds : Type 0
+EachEnds = (s : Setup) (acts : List Act) (b : State) (coins : List ℕ) (i : ℕ) (p : Accepted) → IsSetup s → Performs s (new_state s) acts b → b.coins ≡ Some coins
+    → i < s.shape.nodes → (node_at b.nodes i).program ≡ Some p → (end : End) × RanTo s b coins i end × (end.steps ≤ p.budget)
+
+-- each open pulse can be closed, in one way
+abbrev pub EachCloses : Type 0
+EachCloses = (s : Setup) (history : List Entry) (b : State) → IsSetup s → Replays s history b → IsSome b.coins
+    → (b' : State) × Pulse s b b' × ((c : State) → Pulse s b c → c ≡ b')
+
+-- within an open pulse: runs of nodes, and changes that are staged
+abbrev pub IsWithinPulse : Act → Type 0
+IsWithinPulse (Ran i) = Unit {0}
+IsWithinPulse (Locked (Staged actor change)) = Unit {0}
+IsWithinPulse (Locked _) = ⊥
+
+-- what a node's run comes to is the same anywhere in an open pulse
+abbrev pub InputsStay : Type 0
+InputsStay = (s : Setup) (acts : List Act) (b b' : State) (coins : List ℕ) (i : ℕ) (end : End) → Performs s b acts b' → All IsWithinPulse acts
+    → (b'.coins ≡ b.coins) × (RanTo s b coins i end ↔ RanTo s b' coins i end)
+
+-- what any list of steps does is what its entries do
+abbrev pub StepsAreEntries : Type 0
+StepsAreEntries = (s : Setup) (b : State) (acts : List Act) (b' : State) → Performs s b acts b' → Run s b (entries_of acts) b'
+
+abbrev pub StepsAgree : Type 0
+StepsAgree = (s : Setup) (acts : List Act) (b b' : State) → IsSetup s → Performs s (new_state s) acts b → Pulse s b b'
+    → 2 * s.faults + faulty_count b b' < s.shape.nodes → Agree b b'
+
+-- where each task of the open pulse was run once, in any order and by anyone, its close takes the results
+abbrev pub ResultsFit : Type 0
+ResultsFit = (b : BenchValue) (dones : List Done) → IsSetup b.setup → Replays b.setup b.history b.state → IsSome b.state.coins
+    → RanEach (tasks_of b) dones → IsExact (HandedOut b) b.state.nodes dones

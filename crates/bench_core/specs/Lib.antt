@@ -1,0 +1,15 @@
+pub mod Setup
+pub mod State
+pub mod Pulse
+pub mod Settled
+pub mod Replay
+pub mod StepList
+pub mod Tasks
+pub mod Views
+pub mod Nodes
+pub mod OpenPulse
+pub mod Kept
+pub mod Refusals
+pub mod Found
+pub mod Told
+pub mod Laws

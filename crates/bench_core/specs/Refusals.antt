@@ -1,0 +1,66 @@
+-- When each refusal comes: this one applies, and none before it. Where a step is taken, none applies.
+use Rattle.std.specs.Prelude.{◌≡◌, ◌≢◌, ℕ, ◌+◌, ◌<◌, ◌≤◌, List, length, slice_get, Some, IsSome, IsNone}
+use Rattle.bench_core.specs.declared.limits.TheConstants.{MOST_ENTRIES}
+use Rattle.bench_core.specs.declared.refusal.StageError.{StageError}
+use Rattle.bench_core.specs.declared.refusal.StageError.TheVariants as stage
+use Rattle.bench_core.specs.declared.refusal.OpenError.{OpenError}
+use Rattle.bench_core.specs.declared.refusal.OpenError.TheVariants as opening
+use Rattle.bench_core.specs.declared.refusal.CloseError.{CloseError}
+use Rattle.bench_core.specs.declared.refusal.CloseError.TheVariants as closing
+use Rattle.bench_core.specs.Setup.{Setup}
+use Rattle.bench_core.specs.State.{Change, Load, Unload, Corrupt, node_of, IsChange, AreCoins}
+use Rattle.bench_core.specs.Replay.{BenchValue, places_of}
+use Rattle.bench_core.specs.Tasks.{Task, Done, IsMissing, IsTwice, IsExact, HandedOut}
+
+abbrev pub HasOtherShape : Setup → Change → Type 0
+HasOtherShape s (Load i p) = p.shape ≢ s.shape
+HasOtherShape s _ = ⊥
+
+abbrev pub HasBadImage : Setup → Change → Type 0
+HasBadImage s (Corrupt i image) = length image ≢ s.shape.memory
+HasBadImage s _ = ⊥
+
+-- why a change is not one of a bench of this setup
+abbrev pub IsMisfit : Setup → Change → StageError → Type 0
+IsMisfit s c stage.BadNode = s.shape.nodes ≤ node_of c
+IsMisfit s c stage.OtherShape = (node_of c < s.shape.nodes) × HasOtherShape s c
+IsMisfit s c stage.BadImage = (node_of c < s.shape.nodes) × HasBadImage s c
+IsMisfit s c stage.HistoryFull = ⊥
+IsMisfit s c stage.Memory = ⊥
+
+abbrev pub IsStageRefusal : BenchValue → Change → StageError → Type 0
+IsStageRefusal b c stage.HistoryFull = IsChange b.setup c × (MOST_ENTRIES ≤ places_of b)
+IsStageRefusal b c stage.Memory = IsChange b.setup c × (places_of b < MOST_ENTRIES)
+IsStageRefusal b c e = IsMisfit b.setup c e
+
+abbrev pub CanOpen : BenchValue → List ℕ → Type 0
+CanOpen b coins = IsNone b.state.coins × AreCoins b.setup coins
+
+-- an open pulse takes two places, one of them for its end
+abbrev pub IsOpenRefusal : BenchValue → List ℕ → OpenError → Type 0
+IsOpenRefusal b coins opening.PulseOpen = IsSome b.state.coins
+IsOpenRefusal b coins opening.BadCoins = IsNone b.state.coins × ¬ AreCoins b.setup coins
+IsOpenRefusal b coins opening.HistoryFull = CanOpen b coins × (MOST_ENTRIES < length b.history + 2)
+IsOpenRefusal b coins opening.Memory = CanOpen b coins × (length b.history + 2 ≤ MOST_ENTRIES)
+
+-- no lower number has the property
+abbrev pub IsLowest : (ℕ → Type 0) → ℕ → Type 0
+IsLowest P i = P i × ((j : ℕ) → j < i → P j → ⊥)
+
+-- the first in the list that was not handed out names node i
+pub record IsStranger (handed : Task → Type 0) (dones : List Done) (i : ℕ) : Type 0 where
+  pub place : ℕ
+  pub one : Done
+  pub at : slice_get dones place ≡ Some one
+  pub node : one.task.node ≡ i
+  pub stranger : handed one.task → ⊥
+  pub before : (k : ℕ) (d : Done) → k < place → slice_get dones k ≡ Some d → handed d.task
+
+abbrev pub IsCloseRefusal : BenchValue → List Done → CloseError → Type 0
+IsCloseRefusal b dones closing.NotOpen = IsNone b.state.coins
+IsCloseRefusal b dones (closing.Missing i) = IsSome b.state.coins × IsLowest (IsMissing (HandedOut b) b.state.nodes dones) i
+IsCloseRefusal b dones (closing.Twice i) =
+    IsSome b.state.coins × ((j : ℕ) → IsMissing (HandedOut b) b.state.nodes dones j → ⊥) × IsLowest (IsTwice (HandedOut b) dones) i
+IsCloseRefusal b dones (closing.Stranger i) =
+    IsSome b.state.coins × ((j : ℕ) → IsMissing (HandedOut b) b.state.nodes dones j → ⊥) × ((j : ℕ) → IsTwice (HandedOut b) dones j → ⊥) × IsStranger (HandedOut b) dones i
+IsCloseRefusal b dones closing.Memory = IsSome b.state.coins × IsExact (HandedOut b) b.state.nodes dones

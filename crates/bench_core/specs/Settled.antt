@@ -1,0 +1,96 @@
+-- Which nodes are settled after a closed pulse, and what is told of it.
+use Rattle.std.specs.Prelude.{◌≡◌, ℕ, ◌<◌, ◌≤◌, ◌⊎◌, Bool, not, ◌&&◌, ◌==◌, if◌then◌else◌, ◌↔◌, IsTrue, IsNone, Option, Some, None, List, [], ◌∷◌, map, filter, count_by, Contains, unwrap_or}
+use Rattle.std.specs.List.{list_all}
+use Rattle.clock_nodes.specs.Rule.{clock_of}
+use Rattle.bpf_machine.specs.Run.{CompleteRun, End}
+use Rattle.bpf_verify.specs.Accepted.{Accepted}
+use Rattle.clock_nodes.specs.declared.rule.TheConstants.{MOST_MODULUS}
+use Rattle.bench_core.specs.declared.limits.TheConstants.{MOST_PULSES, CLOCKS_DIFFER, MOST_COUNTED}
+use Rattle.bench_core.specs.Setup.{Setup}
+use Rattle.bench_core.specs.State.{Node, State, node_at, setting_at}
+
+-- node by node: it ran the clock program in this closed pulse and in the one before
+abbrev pub settled_flags : List Node → List Node → List Bool
+settled_flags [] after = []
+settled_flags (x ∷ before) [] = []
+settled_flags (x ∷ before) (y ∷ after) = (x.mark && y.mark) ∷ settled_flags before after
+
+-- the nodes that are not settled, empty ones too
+abbrev pub faulty_count : State → State → ℕ
+faulty_count b b' = count_by not (settled_flags b.nodes b'.nodes)
+
+-- the clocks of settled nodes, in node order
+abbrev pub clocks_where : List Bool → List Node → List ℕ
+clocks_where [] nodes = []
+clocks_where (x ∷ flags) [] = []
+clocks_where (x ∷ flags) (y ∷ nodes) = if x then clock_of y.memory ∷ clocks_where flags nodes else clocks_where flags nodes
+
+abbrev pub settled_clocks : State → State → List ℕ
+settled_clocks b b' = clocks_where (settled_flags b.nodes b'.nodes) b'.nodes
+
+abbrev pub moving_clocks : State → State → List ℕ
+moving_clocks b b' = filter (λ c. not (c == 0)) (settled_clocks b b')
+
+-- any two settled clocks that are not zero are equal
+abbrev pub Agree : State → State → Type 0
+Agree b b' = (c d : ℕ) → Contains (moving_clocks b b') c → Contains (moving_clocks b b') d → c ≡ d
+
+pub record Row : Type 0 where
+  pub pulse : ℕ
+  pub common : ℕ
+  pub zeros : ℕ
+  pub settled : ℕ
+
+pub record IsRow (r : Row) : Type 0 where
+  pub first : 1 ≤ r.pulse
+  pub last : r.pulse ≤ MOST_PULSES
+  pub common : (r.common < MOST_MODULUS) ⊎ (r.common ≡ CLOCKS_DIFFER)
+  pub zeros : r.zeros ≤ MOST_COUNTED
+  pub settled : r.settled ≤ MOST_COUNTED
+
+-- the one of these clocks, 0 where there is none, CLOCKS_DIFFER where two differ
+abbrev pub common_of : List ℕ → ℕ
+common_of [] = 0
+common_of (c ∷ cs) = if list_all (λ d. d == c) cs then c else CLOCKS_DIFFER
+
+-- the row of the closed pulse of this number, from the nodes before and after it
+abbrev pub row_from : ℕ → List Node → List Node → Row
+row_from pulse before after =
+    let clocks = clocks_where (settled_flags before after) after in
+    record {
+      pulse = pulse;
+      common = common_of (filter (λ c. not (c == 0)) clocks);
+      zeros = count_by (λ c. c == 0) clocks;
+      settled = count_by (λ x. x) (settled_flags before after);
+    }
+
+abbrev pub row_of : State → State → Row
+row_of b b' = row_from b'.closed b.nodes b'.nodes
+
+-- the complete run of the loaded node i
+pub record RanTo (s : Setup) (b : State) (coins : List ℕ) (i : ℕ) (end : End) : Type 0 where
+  pub program : Accepted
+  pub node : i < s.shape.nodes
+  pub loaded : (node_at b.nodes i).program ≡ Some program
+  pub run : CompleteRun program.program (setting_at s b.mail coins i) (node_at b.nodes i).memory end
+
+-- the greatest number of instructions that a node runs, 0 where none is loaded
+pub record IsSteps (s : Setup) (b : State) (coins : List ℕ) (k : ℕ) : Type 0 where
+  pub most : (i : ℕ) (end : End) → RanTo s b coins i end → end.steps ≤ k
+  pub reached : ((i : ℕ) × (end : End) × RanTo s b coins i end × (end.steps ≡ k))
+      ⊎ (((i : ℕ) → i < s.shape.nodes → IsNone (node_at b.nodes i).program) × (k ≡ 0))
+
+-- what is told of a closed pulse
+pub record PulseTold : Type 0 where
+  pub row : Row
+  pub clocks : List (Option ℕ)
+  pub settled : List Bool
+  pub steps : ℕ
+  pub agree : Bool
+
+pub record IsRecord (s : Setup) (b b' : State) (r : PulseTold) : Type 0 where
+  pub row : r.row ≡ row_of b b'
+  pub clocks : r.clocks ≡ map (λ x. if x.mark then Some (clock_of x.memory) else None) b'.nodes
+  pub settled : r.settled ≡ settled_flags b.nodes b'.nodes
+  pub steps : IsSteps s b (unwrap_or b.coins []) r.steps
+  pub agree : IsTrue r.agree ↔ Agree b b'

@@ -1,0 +1,106 @@
+-- The states of a bench, and its steps but for a closed pulse.
+use Rattle.std.specs.Prelude.{◌≡◌, ℕ, ◌<◌, Bool, false, Option, Some, None, List, [], ◌∷◌, ◌++◌, map, length, get_or, slice_set, slice_index, replicate, All}
+use Rattle.std.specs.Ordering.{nat_cmp}
+use Rattle.std.specs.FinMap.{FinMap, empty, get}
+use Rattle.node_env.specs.Env.{Setting, inbox_of}
+use Rattle.bpf_insn.specs.Programs.{IsProgram}
+use Rattle.bpf_verify.specs.Accepted.{Accepted}
+use Rattle.bpf_verify.specs.Typable.{Typable}
+use Rattle.bpf_verify.specs.Paths.{IsLongestPath}
+use Rattle.bench_core.specs.Setup.{Setup}
+
+-- a node: its program, its memory, and whether it ran the clock program of the bench's rule in the last closed pulse
+pub record Node : Type 0 where
+  pub program : Option Accepted
+  pub memory : List ℕ
+  pub mark : Bool
+
+pub data Change : Type 0 where
+  Load : (node : ℕ) (program : Accepted) → Change
+  Unload : (node : ℕ) → Change
+  Corrupt : (node : ℕ) (image : List ℕ) → Change
+
+-- the node that it changes
+abbrev pub node_of : Change → ℕ
+node_of (Load i p) = i
+node_of (Unload i) = i
+node_of (Corrupt i image) = i
+
+-- mail: what each sender sent in the last closed pulse, by receiver
+-- coins: of the open pulse, one for each node
+pub record State : Type 0 where
+  pub nodes : List Node
+  pub mail : List (FinMap nat_cmp ℕ)
+  pub closed : ℕ
+  pub staged : List Change
+  pub coins : Option (List ℕ)
+
+abbrev pub no_node : Node
+no_node = record { program = None; memory = []; mark = false }
+
+abbrev pub node_at : List Node → ℕ → Node
+node_at nodes i = get_or nodes i no_node
+
+-- what the sender sent
+abbrev pub row_at : List (FinMap nat_cmp ℕ) → ℕ → FinMap nat_cmp ℕ
+row_at mail i = get_or mail i empty
+
+-- what node i sees in a pulse with this mail and these coins
+abbrev pub setting_at : Setup → List (FinMap nat_cmp ℕ) → List ℕ → ℕ → Setting
+setting_at s mail coins i = record { shape = s.shape; id = i; inbox = inbox_of i mail; coin = slice_index coins i }
+
+-- no programs, memories zero, no mail
+abbrev pub new_node : Setup → Node
+new_node s = record { program = None; memory = replicate s.shape.memory 0; mark = false }
+
+abbrev pub new_state : Setup → State
+new_state s = record {
+  nodes = replicate s.shape.nodes (new_node s);
+  mail = replicate s.shape.nodes empty;
+  closed = 0;
+  staged = [];
+  coins = None;
+}
+
+-- a memory of this setup
+pub record IsMemory (s : Setup) (memory : List ℕ) : Type 0 where
+  pub length : length memory ≡ s.shape.memory
+  pub bytes : All (λ byte. byte < 256) memory
+
+-- a program that is accepted for this setup's shape
+pub record IsLoadable (s : Setup) (p : Accepted) : Type 0 where
+  pub shape : p.shape ≡ s.shape
+  pub program : IsProgram p.program
+  pub typable : Typable p.program p.shape
+  pub longest : IsLongestPath p.program p.budget
+
+-- a change of a bench of this setup
+abbrev pub IsChange : Setup → Change → Type 0
+IsChange s (Load i p) = (i < s.shape.nodes) × IsLoadable s p
+IsChange s (Unload i) = i < s.shape.nodes
+IsChange s (Corrupt i image) = (i < s.shape.nodes) × IsMemory s image
+
+-- a coin for each node
+abbrev pub AreCoins : Setup → List ℕ → Type 0
+AreCoins s coins = (length coins ≡ s.shape.nodes) × All (λ coin. coin < 2) coins
+
+-- a load keeps the node's memory and mark
+abbrev pub applied : List Node → Change → List Node
+applied nodes (Load i p) = slice_set nodes i (record { program = Some p; memory = (node_at nodes i).memory; mark = (node_at nodes i).mark })
+applied nodes (Unload i) = slice_set nodes i (record { program = None; memory = (node_at nodes i).memory; mark = (node_at nodes i).mark })
+applied nodes (Corrupt i image) = slice_set nodes i (record { program = (node_at nodes i).program; memory = image; mark = (node_at nodes i).mark })
+
+-- in order
+abbrev pub all_applied : List Node → List Change → List Node
+all_applied nodes [] = nodes
+all_applied nodes (c ∷ cs) = all_applied (applied nodes c) cs
+
+abbrev pub staged_state : State → Change → State
+staged_state b c = record b { staged = b.staged ++ c ∷ [] }
+
+-- it takes all staged changes, in order
+abbrev pub opened_state : State → List ℕ → State
+opened_state b coins = record b { nodes = all_applied b.nodes b.staged; staged = []; coins = Some coins }
+
+abbrev pub abandoned_state : State → State
+abandoned_state b = record b { coins = None }

@@ -1,0 +1,30 @@
+//! The pulse machine: definitions, and what holds of every run.
+#![tactic(auto)]
+
+mod actor;
+mod bench;
+mod change;
+mod close;
+mod entry;
+mod found;
+mod laws;
+mod limits;
+mod node;
+mod pulse;
+mod record;
+mod refusal;
+mod row;
+mod task;
+
+pub use actor::Actor;
+pub use bench::Bench;
+pub use change::Change;
+pub use entry::Entry;
+pub use laws::{
+    clocks_agree, every_run, one_replay, pair_moves_on, results_fit, rows_count, steps_are_entries,
+};
+pub use limits::{CLOCKS_DIFFER, MOST_COUNTED, MOST_ENTRIES, MOST_PULSES};
+pub use record::PulseRecord;
+pub use refusal::{CloseError, OpenError, StageError};
+pub use row::Row;
+pub use task::{NodeDone, NodeTask};

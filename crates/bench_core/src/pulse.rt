@@ -1,0 +1,99 @@
+//! An open pulse, and the tasks that it hands out.
+ghost use Rattle.std.specs.Prelude.{◌≡◌, ◌<◌, All, IfOk, length, map};
+ghost use Rattle.bench_core.specs.State.{all_applied, node_of, AreCoins};
+ghost use Rattle.bench_core.specs.Nodes.{KnowsClock, FitsShape};
+ghost use Rattle.bench_core.specs.Replay.{staged_of};
+ghost use Rattle.bench_core.specs.Views.{entry_of};
+ghost use Rattle.bench_core.specs.OpenPulse.{setup_in, IsWhole, tasks_by};
+
+use crate::entry::Entry;
+use crate::node::{NodeSlot, apply_all, copied};
+use crate::task::NodeTask;
+use bpf_insn::Program;
+use clock_nodes::ClockRule;
+use node_env::{Env, Mail, Shape};
+use std::alloc::{AllocError, Global};
+
+/// What an open pulse hands out: its nodes, mail and coins, and its number.
+#[derive(Clone, Copy)]
+pub(crate) struct OpenPulse<'a> {
+    pub(crate) shape: Shape,
+    pub(crate) rule: ClockRule,
+    pub(crate) nodes: &'a [NodeSlot],
+    pub(crate) mail: &'a Mail,
+    pub(crate) coins: &'a [u32],
+    pub(crate) opening: u32,
+}
+
+/// A task for each loaded node, in node order.
+fn tasks(alloc: Global, pulse: &OpenPulse) -> Result<Vec<NodeTask>, AllocError>
+    requires { IsWhole pulse.now }
+    ensures { IfOk result (λ tasks. tasks.items ≡ tasks_by pulse.now) }
+{
+    let mut tasks = Vec::new(alloc);
+    let count = pulse.shape.nodes();
+    for node in 0..count {
+        let slot = &pulse.nodes[node as usize];
+        if let Some(program) = &slot.program {
+            let inbox = pulse.mail.inbox(alloc, node)?;
+            let env = Env::new(pulse.shape, node, inbox, pulse.coins[node as usize]);
+            tasks.push(NodeTask::of(alloc, pulse.opening, node, program, env, &slot.memory)?)?;
+        }
+    }
+    Ok(tasks)
+}
+
+/// What opening a pulse comes to, before the bench is changed.
+#[derive(Drop)]
+pub(crate) struct Prepared {
+    pub(crate) nodes: Vec<NodeSlot>,
+    pub(crate) flags: Vec<bool>,
+    pub(crate) tasks: Vec<NodeTask>,
+    pub(crate) kept_coins: Vec<u32>,
+    pub(crate) entry_coins: Vec<u32>,
+}
+
+/// The nodes of a pulse after the staged changes of these entries, and their tasks.
+pub(crate) fn prepare(
+    alloc: Global,
+    pulse: &OpenPulse,
+    clock: &Program,
+    flags: &[bool],
+    staged: &[Entry],
+) -> Result<Prepared, AllocError>
+    requires count { length pulse.now.nodes.now ≡ pulse.now.shape.nodes }
+    requires within { All (λ c. node_of c < pulse.now.shape.nodes) (staged_of (map entry_of staged.now)) }
+    requires after { All (FitsShape pulse.now.shape) (all_applied pulse.now.nodes.now (staged_of (map entry_of staged.now))) }
+    requires mail { length pulse.now.mail.now ≡ pulse.now.shape.nodes }
+    requires coins { AreCoins (setup_in pulse.now) pulse.now.coins.now }
+    requires flags { KnowsClock clock.now pulse.now.nodes.now flags.now }
+    ensures nodes { IfOk result (λ p. p.nodes.items ≡ all_applied pulse.now.nodes.now (staged_of (map entry_of staged.now))) }
+    ensures flags { IfOk result (λ p. KnowsClock clock.now p.nodes.items p.flags.items) }
+    ensures tasks { IfOk result (λ p. p.tasks.items ≡ tasks_from (setup_in pulse.now) pulse.now.mail.now pulse.now.coins.now pulse.now.opening 0 p.nodes.items) }
+    ensures kept { IfOk result (λ p. p.kept_coins.items ≡ pulse.now.coins.now) }
+    ensures entry { IfOk result (λ p. p.entry_coins.items ≡ pulse.now.coins.now) }
+{
+    let mut nodes = copied(alloc, pulse.nodes)?;
+    let mut flags = Vec::from_slice(alloc, flags)?;
+    apply_all(alloc, clock, &mut nodes, &mut flags, staged)?;
+    let next = OpenPulse {
+        shape: pulse.shape,
+        rule: pulse.rule,
+        nodes: &nodes,
+        mail: pulse.mail,
+        coins: pulse.coins,
+        opening: pulse.opening,
+    };
+    let tasks = tasks(alloc, &next)?;
+    let kept_coins = Vec::from_slice(alloc, pulse.coins)?;
+    let entry_coins = Vec::from_slice(alloc, pulse.coins)?;
+    Ok(Prepared {
+        nodes,
+        flags,
+        tasks,
+        kept_coins,
+        entry_coins,
+    })
+}
+
+ghost use Rattle.bench_core.specs.Tasks.{tasks_from};

@@ -1,0 +1,175 @@
+//! What is told of a closed pulse.
+ghost use Rattle.std.specs.Prelude.{◌≡◌, ◌≢◌, ◌↔◌, ◌<◌, ◌≤◌, All, IfOk, IsTrue, length, map};
+ghost use Rattle.clock_nodes.specs.Rule.{clock_of};
+ghost use Rattle.clock_nodes.specs.declared.rule.TheConstants.{MOST_MODULUS};
+ghost use Rattle.bench_core.specs.declared.limits.TheConstants.{MOST_COUNTED, MOST_PULSES};
+ghost use Rattle.bench_core.specs.Settled.{clocks_where};
+ghost use Rattle.bench_core.specs.Told.{both_marked, joined_of, row_told, told_clock, IsMostSteps};
+
+use crate::limits::CLOCKS_DIFFER;
+use crate::node::NodeSlot;
+use crate::row::Row;
+use crate::task::NodeDone;
+use std::alloc::{AllocError, Global};
+use std::marker::Model;
+
+/// What is told of a closed pulse: its row; the clock of each node that ran the clock program of the bench's rule; which nodes are settled,
+/// since they ran it in the closed pulse before as well; the greatest number of instructions that a node ran; and whether any two settled
+/// clocks that are not 0 are equal.
+#[derive(Drop)]
+pub struct PulseRecord {
+    pub row: Row,
+    pub clocks: Vec<Option<u32>>,
+    pub settled: Vec<bool>,
+    pub steps: u32,
+    pub agree: bool,
+}
+
+impl Model for PulseRecord {
+    ghost use Rattle.bench_core.specs.Settled.{PulseTold};
+
+    ghost Value = { PulseTold };
+
+    ghost view = { λ r. record { row = r.row; clocks = r.clocks.items; settled = r.settled.items; steps = r.steps; agree = r.agree } };
+}
+
+/// Room for what will be told of a pulse: the marks before its close, and a place for each clock.
+#[derive(Drop)]
+pub(crate) struct Room {
+    settled: Vec<bool>,
+    clocks: Vec<Option<u32>>,
+}
+
+/// Room for what will be told of a pulse of these nodes.
+pub(crate) fn make_room(alloc: Global, nodes: &[NodeSlot]) -> Result<Room, AllocError>
+    ensures settled { IfOk result (λ r. r.settled.items ≡ map (λ x. x.mark) nodes.now) }
+    ensures clocks { IfOk result (λ r. length r.clocks.items ≡ length nodes.now) }
+{
+    Ok(Room {
+        settled: marks(alloc, nodes)?,
+        clocks: vec![in alloc; None; nodes.len()]?,
+    })
+}
+
+/// What is told of a pulse, the one of this number, that these results closed and that left these nodes.
+pub(crate) fn tell(room: Room, pulse: u32, nodes: &[NodeSlot], dones: &[NodeDone]) -> PulseRecord
+    requires first { 1 ≤ pulse }
+    requires last { pulse ≤ MOST_PULSES }
+    requires settled { length room.settled.items ≡ length nodes.now }
+    requires clocks { length room.clocks.items ≡ length nodes.now }
+    requires few { length nodes.now ≤ MOST_COUNTED }
+    requires memory { All (λ x. 4 ≤ length x.memory) nodes.now }
+    requires small { All (λ c. c < MOST_MODULUS) (clocks_where (both_marked room.settled.items nodes.now) nodes.now) }
+    ensures row { result.row ≡ row_told pulse (both_marked room.settled.items nodes.now) nodes.now }
+    ensures clocks { result.clocks ≡ map told_clock nodes.now }
+    ensures settled { result.settled ≡ both_marked room.settled.items nodes.now }
+    ensures steps { IsMostSteps dones.now result.steps }
+    ensures agree { IsTrue result.agree ↔ (result.row.common ≢ CLOCKS_DIFFER) }
+{
+    let Room {
+        mut settled,
+        mut clocks,
+    } = room;
+    settle(&mut settled, nodes);
+    tell_clocks(&mut clocks, nodes);
+    let row = row_told(pulse, &settled, nodes);
+    PulseRecord {
+        row,
+        clocks,
+        settled,
+        steps: most_steps(dones),
+        agree: row.common != CLOCKS_DIFFER,
+    }
+}
+
+/// The marks of nodes.
+fn marks(alloc: Global, nodes: &[NodeSlot]) -> Result<Vec<bool>, AllocError>
+    ensures { IfOk result (λ marks. marks.items ≡ map (λ x. x.mark) nodes.now) }
+{
+    let mut marks = Vec::with_capacity(alloc, nodes.len())?;
+    for node in nodes {
+        marks.push(node.mark)?;
+    }
+    Ok(marks)
+}
+
+/// Leaves those marks that the nodes have again.
+fn settle(marks: &mut [bool], nodes: &[NodeSlot])
+    requires { length marks.old ≡ length nodes.now }
+    ensures { marks.new ≡ both_marked marks.old nodes.now }
+{
+    for i in 0..nodes.len() {
+        let node = &nodes[i];
+        marks[i] = marks[i] && node.mark;
+    }
+}
+
+/// Tells the clocks of nodes that ran the clock program.
+fn tell_clocks(clocks: &mut [Option<u32>], nodes: &[NodeSlot])
+    requires count { length clocks.old ≡ length nodes.now }
+    requires room { All (λ x. 4 ≤ length x.memory) nodes.now }
+    ensures { clocks.new ≡ map told_clock nodes.now }
+{
+    for i in 0..nodes.len() {
+        let node = &nodes[i];
+        clocks[i] = node.told_clock();
+    }
+}
+
+/// The row of settled nodes.
+fn row_told(pulse: u32, settled: &[bool], nodes: &[NodeSlot]) -> Row
+    requires first { 1 ≤ pulse }
+    requires last { pulse ≤ MOST_PULSES }
+    requires count { length settled.now ≡ length nodes.now }
+    requires few { length settled.now ≤ MOST_COUNTED }
+    requires room { All (λ x. 4 ≤ length x.memory) nodes.now }
+    requires small { All (λ c. c < MOST_MODULUS) (clocks_where settled.now nodes.now) }
+    ensures { result ≡ row_told pulse settled.now nodes.now }
+{
+    let mut common = 0;
+    let mut zeros = 0;
+    let mut count = 0;
+    for i in 0..nodes.len() {
+        let node = &nodes[i];
+        if settled[i] {
+            count += 1;
+            let clock = node.clock();
+            if clock == 0 {
+                zeros += 1;
+            } else {
+                common = joined(common, clock);
+            }
+        }
+    }
+    Row {
+        pulse,
+        common,
+        zeros,
+        settled: count,
+    }
+}
+
+/// The common clock of all so far and of one more.
+fn joined(common: u32, clock: u32) -> u32
+    ensures { result ≡ joined_of common clock }
+{
+    if common == 0 || common == clock {
+        clock
+    } else {
+        CLOCKS_DIFFER
+    }
+}
+
+/// The greatest number of steps of these results.
+fn most_steps(dones: &[NodeDone]) -> u32
+    ensures { IsMostSteps dones.now result }
+{
+    let mut most = 0;
+    for done in dones {
+        let steps = done.steps();
+        if steps > most {
+            most = steps;
+        }
+    }
+    most
+}

@@ -1,0 +1,187 @@
+//! A node's part of a pulse.
+
+ghost use Rattle.std.specs.Prelude.{◌≡◌, ◌↔◌, ◌<◌, IfOk, IsTrue, length};
+
+use bpf_run::run;
+use bpf_verify::VerifiedProgram;
+use node_env::{Env, Mail, Outbox, Shape};
+use std::alloc::{AllocError, Global};
+use std::marker::Model;
+
+/// A node's run in an open pulse, with room for its result.
+#[derive(Drop)]
+pub struct NodeTask {
+    opening: u32,
+    node: u32,
+    program: VerifiedProgram,
+    env: Env,
+    before: Vec<u8>,
+    after: Vec<u8>,
+    outbox: Outbox,
+}
+
+impl Model for NodeTask {
+    ghost use Rattle.std.specs.Prelude.{◌≡◌, length};
+    ghost use Rattle.std.specs.Coded.{codes};
+    ghost use Rattle.node_env.specs.Codes.{numbers_code};
+    ghost use Rattle.bench_core.specs.Tasks.{Task};
+
+    ghost Value = { Task };
+
+    ghost coded = { Prim.hlevel (codes, numbers_code) };
+
+    ghost view = { λ t. record { opening = t.opening; node = t.node; program = t.program; setting = t.env; memory = t.before.items } };
+
+    ghost invariant = { λ t. (t.after.items ≡ t.before.items) × (t.program.shape ≡ t.env.shape) × (length t.before.items ≡ t.env.shape.memory) × (t.outbox.nodes ≡ t.env.shape.nodes) };
+}
+
+impl NodeTask {
+    /// The task of a node, with room for its result.
+    pub(crate) fn of(
+        alloc: Global,
+        opening: u32,
+        node: u32,
+        program: &VerifiedProgram,
+        env: Env,
+        memory: &[u8],
+    ) -> Result<NodeTask, AllocError>
+        requires shape { program.now.shape ≡ env.shape }
+        requires memory { length memory.now ≡ env.shape.memory }
+        ensures { IfOk result (λ t. t ≡ record { opening = opening; node = node; program = program.now; setting = env; memory = memory.now }) }
+    {
+        let program = program.copy()?;
+        let before = Vec::from_slice(alloc, memory)?;
+        let after = Vec::from_slice(alloc, memory)?;
+        let outbox = Outbox::new(alloc, env.shape())?;
+        Ok(NodeTask {
+            opening,
+            node,
+            program,
+            env,
+            before,
+            after,
+            outbox,
+        })
+    }
+
+    /// Runs the program on its input.
+    pub fn run(self) -> NodeDone
+        ensures { result.task ≡ self }
+    {
+        let NodeTask {
+            opening,
+            node,
+            program,
+            env,
+            before,
+            mut after,
+            mut outbox,
+        } = self;
+        let ended = run(&program, &env, &mut after, &mut outbox);
+        NodeDone {
+            opening,
+            node,
+            program,
+            env,
+            before,
+            after,
+            outbox,
+            r0: ended.r0,
+            steps: ended.steps,
+        }
+    }
+}
+
+/// A node's run, done. Its type keeps that the result is that input's.
+#[derive(Drop)]
+pub struct NodeDone {
+    opening: u32,
+    node: u32,
+    program: VerifiedProgram,
+    env: Env,
+    before: Vec<u8>,
+    after: Vec<u8>,
+    outbox: Outbox,
+    r0: u64,
+    steps: u32,
+}
+
+impl Model for NodeDone {
+    ghost use Rattle.std.specs.Prelude.{◌≡◌, length};
+    ghost use Rattle.std.specs.Coded.{codes};
+    ghost use Rattle.node_env.specs.Codes.{numbers_code};
+    ghost use Rattle.bpf_machine.specs.Run.{CompleteRun};
+    ghost use Rattle.bench_core.specs.Tasks.{Done};
+
+    ghost Value = { Done };
+
+    ghost coded = { Prim.hlevel (codes, numbers_code) };
+
+    ghost view = { λ d. record {
+      task = record { opening = d.opening; node = d.node; program = d.program; setting = d.env; memory = d.before.items };
+      end = record { steps = d.steps; memory = d.after.items; sent = d.outbox.sent; r0 = d.r0 };
+    } };
+
+    ghost invariant = { λ d. (length d.after.items ≡ length d.before.items) × (d.outbox.nodes ≡ d.env.shape.nodes) × CompleteRun d.program.program d.env d.before.items (record { steps = d.steps; memory = d.after.items; sent = d.outbox.sent; r0 = d.r0 }) };
+}
+
+impl NodeDone {
+    ghost use Rattle.node_env.specs.Env.{inbox_of};
+    ghost use Rattle.bench_core.specs.Tasks.{IsEnd};
+
+    pub(crate) fn node(&self) -> u32
+        ensures value { result ≡ self.now.task.node }
+        ensures end { IsEnd self.now }
+    {
+        self.node
+    }
+
+    /// The memory after the run.
+    pub(crate) fn memory(&self) -> &[u8]
+        ensures value { result.now ≡ self.now.end.memory }
+        ensures length { length result.now ≡ length self.now.task.memory }
+    {
+        &self.after
+    }
+
+    /// What the run sent.
+    pub(crate) fn outbox(&self) -> &Outbox
+        ensures sent { result.now.sent ≡ self.now.end.sent }
+        ensures nodes { result.now.nodes ≡ self.now.task.setting.shape.nodes }
+    {
+        &self.outbox
+    }
+
+    /// How many instructions the run took.
+    pub(crate) fn steps(&self) -> u32
+        ensures { result ≡ self.now.end.steps }
+    {
+        self.steps
+    }
+
+    /// Whether its input is that of its node in an opening of this number.
+    pub(crate) fn is_of(
+        &self,
+        opening: u32,
+        program: &VerifiedProgram,
+        shape: Shape,
+        mail: &Mail,
+        coin: u32,
+        memory: &[u8],
+    ) -> bool
+        requires node { self.now.task.node < length mail.now }
+        requires mail { length mail.now ≡ shape.nodes }
+        ensures { IsTrue result ↔ (self.now.task ≡ record {
+          opening = opening;
+          node = self.now.task.node;
+          program = program.now;
+          setting = record { shape = shape; id = self.now.task.node; inbox = inbox_of self.now.task.node mail.now; coin = coin };
+          memory = memory.now;
+        }) }
+    {
+        self.opening == opening
+            && self.program.same(program)
+            && self.env.sees(shape, self.node, mail, coin)
+            && self.before.as_slice() == memory
+    }
+}
