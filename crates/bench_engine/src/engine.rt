@@ -1,8 +1,9 @@
 //! The run of a list of events on a bench of its own.
 ghost use Rattle.std.specs.Prelude.{◌≡◌, ◌≢◌, ◌≤◌, ◌∷◌, [], true, None, IfOk, IfErr, OnOk, length, map};
 ghost use Rattle.bench_core.specs.declared.limits.TheConstants.{MOST_ENTRIES};
+ghost use Rattle.bench_core.specs.declared.refusal.CloseError.TheVariants as CloseError;
 ghost use Rattle.bench_core.specs.Views.{change_of, setup_of};
-ghost use Rattle.bench_engine.specs.declared.event.RunRefusal.TheVariants.{GateShut};
+ghost use Rattle.bench_engine.specs.declared.event.RunRefusal.TheVariants.{GateShut, Memory};
 ghost use Rattle.bench_engine.specs.declared.engine.TheConstants.{MOST_WORKERS};
 ghost use Rattle.bench_engine.specs.Events.{Stage, Pulse, event_of};
 ghost use Rattle.bench_engine.specs.Going.{GoesOn, IsApplied, IsStopped};
@@ -47,7 +48,7 @@ fn pulse<G: Gate>(
     coins: &[u32],
 ) -> Result<PulseRecord, RunRefusal>
     requires { bench.old.state.coins ≡ None }
-    ensures ok { IfOk result (λ record. GoesOn bench.old (Pulse coins.now) (record ∷ []) bench.new) }
+    ensures ok { IfOk result (λ told. GoesOn bench.old (Pulse coins.now) (told ∷ []) bench.new) }
     ensures refusal { IfErr result (IsStopped bench.old.setup (length bench.old.history) (Pulse coins.now)) }
     ensures open { G.always gate.now ≡ true → IfErr result (λ e. e ≢ GateShut) }
 {
@@ -61,9 +62,22 @@ fn pulse<G: Gate>(
     let dones = run_tasks(alloc, gate, workers, tasks)?;
     let _history = bench.history();
     match bench.close_pulse(alloc, dones) {
-        Ok(record) => Ok(record),
-        Err((_, CloseError::Memory)) => Err(RunRefusal::Memory),
-        Err((_, _)) => unreachable!(),
+        Ok(told) => Ok(told),
+        Err((_, error)) => Err(of_close(error)),
+    }
+}
+
+/// A close of results of all tasks fails only for want of memory.
+fn of_close(error: CloseError) -> RunRefusal
+    requires { error ≡ CloseError.Memory }
+    ensures { result ≡ Memory }
+{
+    match error {
+        CloseError::Memory => RunRefusal::Memory,
+        CloseError::NotOpen => unreachable!(),
+        CloseError::Missing(_) => unreachable!(),
+        CloseError::Twice(_) => unreachable!(),
+        CloseError::Stranger(_) => unreachable!(),
     }
 }
 
@@ -83,23 +97,27 @@ fn apply<G: Gate>(
     ensures open { G.always gate.now ≡ true → IfErr result (λ e. e ≢ GateShut) }
 {
     match event {
-        Event::Stage(change) => stage(bench, change)?,
+        Event::Stage(change) => {
+            stage(bench, change)?;
+            let _few = bench.history();
+            Ok(())
+        }
         Event::Pulse(coins) => {
-            let record = pulse(alloc, gate, workers, bench, &coins)?;
-            if records.push(record).is_err() {
-                return Err(RunRefusal::Memory);
+            let told = pulse(alloc, gate, workers, bench, &coins)?;
+            let _few = bench.history();
+            match records.push(told) {
+                Ok(()) => Ok(()),
+                Err(_) => Err(RunRefusal::Memory),
             }
         }
     }
-    let _few = bench.history();
-    Ok(())
 }
 
 /// The memories of the nodes, in their order.
-fn memories_of(alloc: Global, bench: &Bench) -> Result<Vec<Vec<u8>>, AllocError>
+fn memories_of(alloc: Global, bench: &Bench, nodes: u32) -> Result<Vec<Vec<u8>>, AllocError>
+    requires { nodes ≡ bench.now.setup.shape.nodes }
     ensures { IfOk result (λ memories. map (λ m. m.items) memories.items ≡ map (λ x. x.memory) bench.now.state.nodes) }
 {
-    let nodes = bench.shape().nodes();
     let _history = bench.history();
     let mut memories = Vec::new(alloc);
     for node in 0..nodes {
@@ -144,7 +162,8 @@ pub fn run_events<G: Gate>(
             }
         }
     }
-    match memories_of(alloc, &bench) {
+    let _history = bench.history();
+    match memories_of(alloc, &bench, shape.nodes()) {
         Ok(memories) => Ok(Run { records, memories }),
         Err(_) => Err(RunFault {
             event: place,

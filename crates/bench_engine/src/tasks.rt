@@ -1,5 +1,5 @@
 //! The tasks of a pulse, run on the caller's thread.
-ghost use Rattle.std.specs.Prelude.{◌≡◌, ◌≢◌, true, IfOk, IfErr, OnErr};
+ghost use Rattle.std.specs.Prelude.{◌≡◌, ◌≢◌, ◌≤◌, [], true, IfOk, IfErr, map, vec_len, vec_capacity};
 ghost use Rattle.bench_core.specs.Tasks.{RanEach};
 ghost use Rattle.bench_engine.specs.declared.event.RunRefusal.TheVariants.{GateShut};
 ghost use Rattle.bench_engine.specs.Going.{IsOfWorkers};
@@ -35,11 +35,22 @@ pub(crate) fn run_tasks<G: Gate>(
     if !enter_all(gate, workers) {
         return Err(RunRefusal::GateShut);
     }
-    let Ok(mut dones) = Vec::with_capacity(alloc, tasks.len()) else {
+    let Ok(room) = Vec::with_capacity(alloc, tasks.len()) else {
         return Err(RunRefusal::Memory);
     };
+    Ok(run_each(tasks, room))
+}
+
+/// Runs each task once, in order. There is room for the results.
+fn run_each(tasks: Vec<NodeTask>, room: Vec<NodeDone>) -> Vec<NodeDone>
+    requires empty { room.items ≡ [] }
+    requires enough { vec_len tasks ≤ vec_capacity room }
+    requires len { vec_len room ≡ 0 }
+    ensures { map (λ done. done.task) result.items ≡ tasks.items }
+{
+    let mut dones = room;
     for task in tasks {
         dones.push_reserved(task.run());
     }
-    Ok(dones)
+    dones
 }
