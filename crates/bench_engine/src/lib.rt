@@ -9,3 +9,6 @@ mod tasks;
 pub use engine::{MOST_WORKERS, run_events};
 pub use event::{Event, Run, RunFault, RunRefusal};
 pub use gate::{Gate, Open};
+
+#[cfg(test)]
+mod tests;
