@@ -1,4 +1,4 @@
-//! The pulse machine: definitions, and what holds of every run.
+//! Nodes that move in common pulses, and the history of what was done to them (docs/PULSE.md).
 #![tactic(auto)]
 
 mod actor;
