@@ -15,3 +15,4 @@ pub mod Telling
 pub mod Tallies
 pub mod Closing
 pub mod Closed
+pub mod OneRefusal

@@ -7,13 +7,17 @@ use Rattle.bpf_machine.specs.Run.{CompleteRun, End, GetsStuck}
 use Rattle.bpf_verify.specs.Accepted.{Accepted}
 use Rattle.bpf_verify.specs.Paths.{IsLongestPath}
 use Rattle.bench_core.specs.declared.limits.TheConstants.{MOST_ENTRIES, CLOCKS_DIFFER}
+use Rattle.bench_core.specs.declared.refusal.StageError.{StageError}
+use Rattle.bench_core.specs.declared.refusal.OpenError.{OpenError}
+use Rattle.bench_core.specs.declared.refusal.CloseError.{CloseError}
 use Rattle.bench_core.specs.Setup.{Setup, IsSetup, quorum}
-use Rattle.bench_core.specs.State.{Node, State, new_state, node_at, row_at, setting_at}
+use Rattle.bench_core.specs.State.{Change, Node, State, new_state, node_at, row_at, setting_at}
 use Rattle.bench_core.specs.Pulse.{Pulse}
 use Rattle.bench_core.specs.Settled.{Row, IsRow, row_of, RanTo, faulty_count, Agree}
 use Rattle.bench_core.specs.Replay.{Entry, Staged, Closed, Run, Replays, BenchValue, Advances, rows_of}
 use Rattle.bench_core.specs.StepList.{Act, Locked, Ran, Performs, entries_of}
 use Rattle.bench_core.specs.Tasks.{Done, tasks_of, HandedOut, RanEach, IsExact}
+use Rattle.bench_core.specs.Refusals.{IsStageRefusal, IsOpenRefusal, IsCloseRefusal}
 
 -- a history leads to at most one state
 abbrev pub OneReplay : Type 0
@@ -108,3 +112,13 @@ StepsAgree = (s : Setup) (acts : List Act) (b b' : State) → IsSetup s → Perf
 abbrev pub ResultsFit : Type 0
 ResultsFit = (b : BenchValue) (dones : List Done) → IsSetup b.setup → Replays b.setup b.history b.state → IsSome b.state.coins
     → RanEach (tasks_of b) dones → IsExact (HandedOut b) b.state.nodes dones
+
+-- at most one refusal of a call applies
+abbrev pub OneStageRefusal : Type 0
+OneStageRefusal = (b : BenchValue) (c : Change) (e e' : StageError) → IsStageRefusal b c e → IsStageRefusal b c e' → e ≡ e'
+
+abbrev pub OneOpenRefusal : Type 0
+OneOpenRefusal = (b : BenchValue) (coins : List ℕ) (e e' : OpenError) → IsOpenRefusal b coins e → IsOpenRefusal b coins e' → e ≡ e'
+
+abbrev pub OneCloseRefusal : Type 0
+OneCloseRefusal = (b : BenchValue) (dones : List Done) (e e' : CloseError) → IsCloseRefusal b dones e → IsCloseRefusal b dones e' → e ≡ e'

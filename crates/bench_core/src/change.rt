@@ -1,5 +1,5 @@
 //! What is staged.
-ghost use Rattle.std.specs.Prelude.{◌≡◌, IfOk};
+ghost use Rattle.std.specs.Prelude.{◌≡◌, ◌↔◌, IfOk, IsTrue};
 ghost use Rattle.bench_core.specs.Views.{change_of};
 
 use bpf_verify::VerifiedProgram;
@@ -31,6 +31,29 @@ impl Change {
                 let image = Vec::from_slice(alloc, image)?;
                 Ok(Change::Corrupt { node: *node, image })
             }
+        }
+    }
+    /// Whether the other is equal by all parts, a program by its instructions and shape.
+    pub(crate) fn is(&self, other: &Change) -> bool
+        ensures { IsTrue result ↔ (change_of self.now ≡ change_of other.now) }
+    {
+        match (self, other) {
+            (
+                Change::Load { node, program },
+                Change::Load {
+                    node: other_node,
+                    program: other_program,
+                },
+            ) => node == other_node && program.same(other_program),
+            (Change::Unload { node }, Change::Unload { node: other_node }) => node == other_node,
+            (
+                Change::Corrupt { node, image },
+                Change::Corrupt {
+                    node: other_node,
+                    image: other_image,
+                },
+            ) => node == other_node && image.as_slice() == other_image.as_slice(),
+            _ => false,
         }
     }
 }

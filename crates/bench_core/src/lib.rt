@@ -1,4 +1,4 @@
-//! The pulse machine: definitions, and what holds of every run.
+//! Nodes that move in common pulses, and the history of what was done to them (docs/PULSE.md).
 #![tactic(auto)]
 
 mod actor;
@@ -21,7 +21,8 @@ pub use bench::Bench;
 pub use change::Change;
 pub use entry::Entry;
 pub use laws::{
-    clocks_agree, every_run, one_replay, pair_moves_on, results_fit, rows_count, steps_are_entries,
+    clocks_agree, every_run, one_refusal, one_replay, pair_moves_on, results_fit, rows_count,
+    steps_are_entries,
 };
 pub use limits::{CLOCKS_DIFFER, MOST_COUNTED, MOST_ENTRIES, MOST_PULSES};
 pub use record::PulseRecord;
