@@ -1,0 +1,7 @@
+mod CoinLemmas
+mod CountLemmas
+mod EventLemmas
+mod FitLemmas
+mod ListLemmas
+pub mod RunLemmas
+mod StreamLemmas

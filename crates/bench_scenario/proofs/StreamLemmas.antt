@@ -1,0 +1,78 @@
+-- What holds of the bytes that were read holds of the whole text.
+use Rattle.std.proofs.Common.{◌≡◌, ℕ, ◌<◌, ◌≤◌, List, length, take, arith, subst, sym, ap, ◌∙◌, inl, inr}
+use Rattle.std.specs.Prelude.{◌⊎◌, Option, Some, None, IfSome, IsErrAnd, Result, Ok, Err}
+use Rattle.std.proofs.lemmas.Bool.{cases_lt}
+use Rattle.std.proofs.lemmas.List.{length-take-le, take_all}
+use Rattle.std.specs.Io.KnownBytes.{Appends, Keeps}
+use Rattle.scenario_text.specs.declared.limits.TheConstants.{MAX_TEXT}
+use Rattle.scenario_text.specs.declared.refusal.ScenarioError.{ScenarioError}
+use Rattle.scenario_text.specs.declared.refusal.ScenarioError.TheVariants as errors
+use Rattle.scenario_text.specs.Texts.{IsDue}
+use Rattle.bench_scenario.specs.declared.run.TheConstants.{MOST_BYTES}
+use Rattle.bench_scenario.specs.declared.run.ScenarioFault.{ScenarioFault}
+use Rattle.bench_scenario.specs.declared.run.ScenarioFault.TheVariants as faults
+use Rattle.bench_scenario.specs.Runs.{IsDueOf, LeavesReport, Reports}
+
+-- the whole text was read, or both are too long
+pub record IsFront (bytes text : List ℕ) : Type 0 where
+  pub front : (bytes ≡ text) ⊎ ((MAX_TEXT < length bytes) × (MAX_TEXT < length text))
+
+front_of : (bytes text : List ℕ) → bytes ≡ take MOST_BYTES text → IsFront bytes text
+front_of bytes text taken =
+    elim (cases_lt (length text) MOST_BYTES) [
+      | inl short ↦ record { front = inl (taken ∙ take_all MOST_BYTES text (omega arith)) }
+      | inr long ↦
+          let size : length bytes ≡ MOST_BYTES = ap length taken ∙ length-take-le MOST_BYTES text long in
+          record { front = inr (omega arith, omega arith) }
+    ]
+
+-- where the bytes are few enough for a text, they are the text
+whole_of : (bytes text : List ℕ) → IsFront bytes text → length bytes ≤ MAX_TEXT → bytes ≡ text
+whole_of bytes text is few = elim is.front [ inl same ↦ same | inr long ↦ let much = long.0 in absurd (omega arith) ]
+
+reports_whole : (bytes text line : List ℕ) → IsFront bytes text → Reports bytes line → Reports text line
+reports_whole bytes text line is told = subst (λ t. Reports t line) (whole_of bytes text is told.reads.1.0) told
+
+due_when : (bytes text : List ℕ) (error : ScenarioError) → IsFront bytes text → length bytes ≤ MAX_TEXT → IsDue bytes error → IsDue text error
+due_when bytes text error is few due = subst (λ t. IsDue t error) (whole_of bytes text is few) due
+
+due_whole : (bytes text : List ℕ) (error : ScenarioError) → IsFront bytes text → IsDue bytes error → IsDue text error
+due_whole bytes text errors.TooLong is due =
+    elim is.front [ inl same ↦ subst (λ t. MAX_TEXT < length t) same due | inr long ↦ long.1 ]
+due_whole bytes text errors.NotToml is due = due_when bytes text errors.NotToml is due.0 due
+due_whole bytes text (errors.UnknownKey place) is due = due_when bytes text (errors.UnknownKey place) is due.1.0 due
+due_whole bytes text (errors.MissingKey place key) is due = due_when bytes text (errors.MissingKey place key) is due.1.0 due
+due_whole bytes text (errors.WrongKind place key) is due = due_when bytes text (errors.WrongKind place key) is due.1.0 due
+due_whole bytes text (errors.OutOfRange place key) is due = due_when bytes text (errors.OutOfRange place key) is due.1.0 due
+due_whole bytes text (errors.UnknownProgram load) is due = due_when bytes text (errors.UnknownProgram load) is due.1.0 due
+due_whole bytes text (errors.BadText load error) is due = due_when bytes text (errors.BadText load error) is due.1.0 due
+due_whole bytes text (errors.NotAccepted load key slot rule) is due = due_when bytes text (errors.NotAccepted load key slot rule) is due.1.0 due
+due_whole bytes text (errors.Memory gone) is due = due
+
+fault_here : (old : Option (List ℕ)) (bytes text : List ℕ) (fault : ScenarioFault) → IsFront bytes text → Keeps old old → IsDueOf bytes fault
+    → LeavesReport old old text (Err fault)
+fault_here old bytes text faults.Read is kept due = absurd due
+fault_here old bytes text (faults.Refused error) is kept due = (due_whole bytes text error is due, kept)
+fault_here old bytes text (faults.Run fault) is kept due = (due, kept)
+fault_here old bytes text (faults.Write written) is kept due = absurd due
+fault_here old bytes text faults.Memory is kept due = kept
+
+-- where there is no report nothing is written
+pub fault_left : (known old : Option (List ℕ)) (bytes slice : List ℕ) (fault : ScenarioFault) (result : Result (Unit {0}) ScenarioFault)
+    → IfSome known (λ text. bytes ≡ take MOST_BYTES text) → slice ≡ bytes → Keeps old old → IsDueOf slice fault → IsErrAnd result (λ e. e ≡ fault)
+    → IfSome known (λ text. LeavesReport old old text result)
+fault_left None old bytes slice fault result taken same kept due is = tt
+fault_left (Some text) old bytes slice fault (Ok done) taken same kept due is = absurd is
+fault_left (Some text) old bytes slice fault (Err e) taken same kept due is =
+    subst (λ x. LeavesReport old old text (Err x)) (sym is)
+    (fault_here old bytes text fault (front_of bytes text taken) kept (subst (λ b. IsDueOf b fault) same due))
+
+pub report_left : (known old new : Option (List ℕ)) (bytes line : List ℕ) → IfSome known (λ text. bytes ≡ take MOST_BYTES text) → Reports bytes line
+    → Appends old new line → IfSome known (λ text. LeavesReport old new text (Ok tt))
+report_left None old new bytes line taken told left = tt
+report_left (Some text) old new bytes line taken told left = (line, reports_whole bytes text line (front_of bytes text taken) told, left)
+
+pub front_left : (known old new : Option (List ℕ)) (bytes line : List ℕ) (written : ℕ) → IfSome known (λ text. bytes ≡ take MOST_BYTES text) → Reports bytes line
+    → written < length line → Appends old new (take written line) → IfSome known (λ text. LeavesReport old new text (Err (faults.Write written)))
+front_left None old new bytes line written taken told part left = tt
+front_left (Some text) old new bytes line written taken told part left = (line, reports_whole bytes text line (front_of bytes text taken) told, part, left)

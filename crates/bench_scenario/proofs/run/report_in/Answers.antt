@@ -1,0 +1,20 @@
+use Rattle.std.proofs.Common.{refl}
+use Rattle.bench_scenario.proofs.RunLemmas.{fault_due, fault_met, run_met}
+use Rattle.bench_scenario.proofs.run.report_in.Goals as goal
+
+pub returns-in-Err-run_events : goal.returns-in-Err-run_events
+returns-in-Err-run_events c =
+    fault_due _ c.in-Ok.scenario c.in-Err-run_events.fault.event c.in-Err-run_events.fault.fault c.in-Ok.ensures.reads
+    (fault_met c.in-Ok.scenario _ _ _ c.in-Err-run_events.fault.event c.in-Err-run_events.fault.fault c.in-Some.ensures.value
+    c.in-Some-of.ensures.value c.in-Ok-events.ensures c.in-Err-run_events.ensures.fault)
+    (c.in-Err-run_events.ensures.open refl)
+
+pub returns : goal.returns
+returns c = record {
+  scenario = c.in-Ok.scenario;
+  records = _;
+  memories = _;
+  reads = c.in-Ok.ensures.reads;
+  run = run_met c.in-Ok.scenario _ _ _ _ _ c.in-Some.ensures.value c.in-Some-of.ensures.value c.in-Ok-events.ensures c.in-Ok-run_events.ensures.run;
+  whole = c.in-Ok-report.ensures;
+}

@@ -1,0 +1,4 @@
+pub mod Coins
+pub mod Events
+pub mod Reports
+pub mod Runs

@@ -1,0 +1,59 @@
+-- What the run of a scenario's text leaves on its writer (docs/SCENARIOS.md, "Runs").
+use Rattle.std.specs.Prelude.{◌≡◌, ◌<◌, List, ℕ, length, take, Option, Result, Ok, Err}
+use Rattle.std.specs.Io.KnownBytes.{Appends, Keeps}
+use Rattle.bench_core.specs.Setup.{Setup}
+use Rattle.bench_core.specs.Settled.{PulseTold}
+use Rattle.bench_core.specs.Views.{setup_of}
+use Rattle.bench_engine.specs.declared.event.RunRefusal.{RunRefusal}
+use Rattle.bench_engine.specs.declared.event.RunRefusal.TheVariants as refusals
+use Rattle.bench_engine.specs.Runs.{IsRun}
+use Rattle.scenario_text.specs.declared.scenario.Scenario.{Scenario}
+use Rattle.scenario_text.specs.Spelling.{rule_of}
+use Rattle.scenario_text.specs.Texts.{IsDue, ReadsText}
+use Rattle.scenario_text.specs.Views.{extent_of, frame_of}
+use Rattle.bench_scenario.specs.declared.run.ScenarioFault.{ScenarioFault}
+use Rattle.bench_scenario.specs.declared.run.ScenarioFault.TheVariants as faults
+use Rattle.bench_scenario.specs.Events.{events_of}
+use Rattle.bench_scenario.specs.Reports.{report_of}
+
+-- the bench that a scenario is run on
+abbrev pub bench_of : Scenario → Setup
+bench_of s = setup_of (extent_of (frame_of s)) (rule_of (frame_of s))
+
+-- the line is the report of the run of the scenario that the text says
+pub record Reports (text line : List ℕ) : Type 0 where
+  pub scenario : Scenario
+  pub records : List PulseTold
+  pub memories : List (List ℕ)
+  pub reads : ReadsText text scenario
+  pub run : IsRun (bench_of scenario) (events_of scenario) records memories
+  pub whole : line ≡ report_of (frame_of scenario) records
+
+-- no event of a scenario is refused for itself
+abbrev pub IsMemoryOrThread : RunRefusal → Type 0
+IsMemoryOrThread refusals.Memory = Unit {0}
+IsMemoryOrThread refusals.NoThread = Unit {0}
+IsMemoryOrThread refusals.BadNode = ⊥
+IsMemoryOrThread refusals.OtherShape = ⊥
+IsMemoryOrThread refusals.BadImage = ⊥
+IsMemoryOrThread refusals.HistoryFull = ⊥
+IsMemoryOrThread refusals.BadCoins = ⊥
+IsMemoryOrThread refusals.GateShut = ⊥
+
+-- why there is no report of the text. A text that can't be read whole has none, and no write comes before there is one
+abbrev pub IsDueOf : List ℕ → ScenarioFault → Type 0
+IsDueOf text faults.Read = ⊥
+IsDueOf text (faults.Refused error) = IsDue text error
+IsDueOf text (faults.Run fault) = IsMemoryOrThread fault.fault
+IsDueOf text (faults.Write written) = ⊥
+IsDueOf text faults.Memory = Unit {0}
+
+-- the whole report; its first bytes where a write failed, as many as the fault says; nothing at every other fault
+abbrev pub LeavesReport : Option (List ℕ) → Option (List ℕ) → List ℕ → Result (Unit {0}) ScenarioFault → Type 0
+LeavesReport old new text (Ok done) = (line : List ℕ) × Reports text line × Appends old new line
+LeavesReport old new text (Err (faults.Write written)) =
+    (line : List ℕ) × Reports text line × (written < length line) × Appends old new (take written line)
+LeavesReport old new text (Err (faults.Refused error)) = IsDue text error × Keeps old new
+LeavesReport old new text (Err (faults.Run fault)) = IsMemoryOrThread fault.fault × Keeps old new
+LeavesReport old new text (Err faults.Read) = Keeps old new
+LeavesReport old new text (Err faults.Memory) = Keeps old new

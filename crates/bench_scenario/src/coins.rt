@@ -1,0 +1,85 @@
+//! The coins of a scenario.
+ghost use Rattle.std.specs.Prelude.{◌≡◌, ℕ, ◌+◌, ◌-◌, ◌*◌, ◌<◌, ◌≤◌, ◌^◌, ◌%◌, ◌==◌, ◌&&◌, if◌then◌else◌, IfOk, map};
+ghost use Rattle.rand_chacha.specs.ChaCha.{key_of};
+ghost use Rattle.bench_scenario.specs.Coins.{coins_of, drawn, places_below, replaced, seed_of};
+
+use rand_chacha::ChaCha8Rng;
+use rand_core::SeedableRng;
+use rand_core::utils::NextWord;
+use scenario_text::{CoinEntry, Coins, Scenario};
+use std::alloc::{AllocError, Global};
+
+/// The words that a key gives, from a place on.
+fn generator_at(key: u64, place: u64) -> ChaCha8Rng
+    ensures { result ≡ record { key = key_of (seed_of key); stream = 0; word_pos = place } }
+{
+    let mut seed = [0u8; 32];
+    seed[..8].copy_from_slice(&key.to_le_bytes());
+    let mut generator = ChaCha8Rng::from_seed(seed);
+    generator.set_word_pos(place as u128);
+    generator
+}
+
+/// The coins from a place on. A word is drawn for each, also where it doesn't decide.
+fn drawn_coins(
+    alloc: Global,
+    coins: Coins,
+    key: u64,
+    place: u64,
+    count: u32,
+) -> Result<Vec<u32>, AllocError>
+    ensures { IfOk result (λ drawn_ones. drawn_ones.items ≡ map (λ node. drawn coins key (place + node)) (places_below count)) }
+{
+    let mut generator = generator_at(key, place);
+    let mut drawn = Vec::with_capacity(alloc, count as usize)?;
+    for _ in 0..count {
+        let word = generator.next_word();
+        let coin = match coins {
+            Coins::Zeros => 0,
+            Coins::Ones => 1,
+            Coins::Chacha => word & 1,
+        };
+        drawn.push(coin)?;
+    }
+    Ok(drawn)
+}
+
+/// Sets the coin of an entry of this pulse.
+fn replace_coin(coins: &mut [u32], entry: &CoinEntry, pulse: u32)
+    ensures { (f : ℕ → ℕ) (n : ℕ) → coins.old ≡ map f (places_below n)
+        → coins.new ≡ map (λ node. if (entry.now.pulse == pulse) && (entry.now.node == node) then entry.now.value else f node) (places_below n) }
+{
+    if entry.pulse != pulse {
+        return;
+    }
+    let node = entry.node as usize;
+    if node < coins.len() {
+        coins[node] = entry.value;
+    }
+}
+
+/// Replaces the coins of a pulse that have entries, each by its last.
+fn replace_coins(coins: &mut [u32], entries: &[CoinEntry], pulse: u32)
+    ensures { (f : ℕ → ℕ) (n : ℕ) → coins.old ≡ map f (places_below n)
+        → coins.new ≡ map (λ node. replaced entries.now pulse node (f node)) (places_below n) }
+{
+    for entry in entries {
+        replace_coin(coins, entry, pulse);
+    }
+}
+
+/// The coins of a pulse, by node.
+pub(crate) fn coins_of(
+    alloc: Global,
+    scenario: &Scenario,
+    pulse: u32,
+) -> Result<Vec<u32>, AllocError>
+    requires { 1 ≤ pulse }
+    ensures { IfOk result (λ coins. coins.items ≡ coins_of scenario.now pulse) }
+{
+    let key = scenario.key.unwrap_or(0);
+    let place = (pulse - 1) as u64 * scenario.nodes as u64;
+    let mut coins = drawn_coins(alloc, scenario.coins, key, place, scenario.nodes)?;
+    replace_coins(coins.as_mut_slice(), scenario.entries.as_slice(), pulse);
+    Ok(coins)
+}

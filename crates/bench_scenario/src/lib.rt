@@ -1,0 +1,12 @@
+//! Scenarios from their texts to their reports: docs/SCENARIOS.md.
+#![tactic(auto)]
+
+mod coins;
+mod printing;
+mod run;
+mod schedule;
+
+pub use printing::report;
+pub use run::{MOST_BYTES, MOST_CALLS, ScenarioFault, run_scenario};
+pub use scenario_text::{Scenario, ScenarioError, scenario_of};
+pub use schedule::events;

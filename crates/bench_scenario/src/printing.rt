@@ -1,0 +1,99 @@
+//! The report of a run.
+ghost use Rattle.std.specs.Prelude.{◌≡◌, ◌++◌, IfOk, OnOk, string_bytes, codes, count_by, length};
+ghost use Rattle.std.specs.Fmt.{decimal};
+ghost use Rattle.bench_scenario.specs.Reports.{report_of, clock_text, clocks_text, record_line, record_lines, shape_text, last_line, head_line, yes_or_no};
+ghost use Rattle.scenario_text.specs.Views.{frame_of};
+
+use bench_core::PulseRecord;
+use bench_engine::Run;
+use scenario_text::{FIRST_VERSION, Scenario};
+use std::alloc::{AllocError, Global};
+use std::fmt::Write;
+
+fn add(report: &mut String, part: &str) -> Result<(), AllocError>
+    ensures { OnOk result (string_bytes report.new ≡ string_bytes report.old ++ part.now) }
+{
+    report.push_str(part)
+}
+
+fn add_clock(alloc: Global, report: &mut String, clock: Option<u32>) -> Result<(), AllocError>
+    ensures { OnOk result (string_bytes report.new ≡ string_bytes report.old ++ clock_text clock) }
+{
+    match clock {
+        None => add(report, " -"),
+        Some(clock) => {
+            let text = format!(in alloc; " {clock}")?;
+            add(report, text.as_str())
+        }
+    }
+}
+
+fn add_clocks(alloc: Global, report: &mut String, clocks: &[Option<u32>]) -> Result<(), AllocError>
+    ensures { OnOk result (string_bytes report.new ≡ string_bytes report.old ++ clocks_text clocks.now) }
+{
+    for clock in clocks {
+        add_clock(alloc, report, *clock)?;
+    }
+    Ok(())
+}
+
+fn add_record(alloc: Global, report: &mut String, one: &PulseRecord) -> Result<(), AllocError>
+    ensures { OnOk result (string_bytes report.new ≡ string_bytes report.old ++ record_line one.now) }
+{
+    let pulse = one.row.pulse;
+    let front = format!(in alloc; "pulse {pulse} clocks")?;
+    add(report, front.as_str())?;
+    add_clocks(alloc, report, one.clocks.as_slice())?;
+    let settled = one.row.settled;
+    let steps = one.steps;
+    let agree = if one.agree { "yes" } else { "no" };
+    let rest = format!(in alloc; " settled {settled} steps {steps} agree {agree}\n")?;
+    add(report, rest.as_str())
+}
+
+fn add_records(
+    alloc: Global,
+    report: &mut String,
+    records: &[PulseRecord],
+) -> Result<(), AllocError>
+    ensures { OnOk result (string_bytes report.new ≡ string_bytes report.old ++ record_lines records.now) }
+{
+    for one in records {
+        add_record(alloc, report, one)?;
+    }
+    Ok(())
+}
+
+fn agreed(records: &[PulseRecord]) -> usize
+    ensures { result ≡ count_by (λ r. r.agree) records.now }
+{
+    records.iter().filter(|one| one.agree).count()
+}
+
+fn head(alloc: Global, scenario: &Scenario) -> Result<String, AllocError>
+    ensures { IfOk result (λ text. string_bytes text ≡ head_line (frame_of scenario.now)) }
+{
+    let version = scenario.version;
+    let nodes = scenario.nodes;
+    let faults = scenario.faults;
+    let modulus = scenario.modulus;
+    if version as u64 == FIRST_VERSION {
+        format!(in alloc; "nodes {nodes} faults {faults} modulus {modulus}\n")
+    } else {
+        format!(in alloc; "version {version} nodes {nodes} faults {faults} modulus {modulus}\n")
+    }
+}
+
+/// The report of a scenario's run: a line for the scenario, one for each closed pulse, and one for all.
+pub fn report(alloc: Global, scenario: &Scenario, run: &Run) -> Result<String, AllocError>
+    ensures { IfOk result (λ text. string_bytes text ≡ report_of (frame_of scenario.now) run.now.records.items) }
+{
+    let mut text = head(alloc, scenario)?;
+    let records = run.records.as_slice();
+    add_records(alloc, &mut text, records)?;
+    let agreed = agreed(records);
+    let count = records.len();
+    let last = format!(in alloc; "agreed {agreed} of {count}\n")?;
+    add(&mut text, last.as_str())?;
+    Ok(text)
+}

@@ -1,0 +1,97 @@
+//! A scenario from the first byte that is read to the last that is written.
+ghost use Rattle.std.specs.Prelude.{◌≡◌, ◌≤◌, ◌<◌, IfSome, MatchResult, string_bytes};
+ghost use Rattle.stream_io.specs.Streams.{TakesAtMost};
+ghost use Rattle.bench_scenario.specs.Runs.{IsDueOf, LeavesReport, Reports};
+
+use crate::printing::report;
+use crate::schedule::events;
+use bench_engine::{MOST_WORKERS, Open, RunFault, run_events};
+use clock_nodes::ClockRule;
+use node_env::Shape;
+use scenario_text::{MAX_TEXT, ScenarioError, scenario_in};
+use std::alloc::Global;
+use std::io::{Read, Write};
+use stream_io::{ReadFault, WriteFault, read_at_most, write_fully};
+use thiserror::Error;
+
+/// The most bytes that are read: one more than a text may have, by which a text that is too long is known.
+pub const MOST_BYTES: usize = MAX_TEXT + 1;
+
+/// The most calls of `read`.
+pub const MOST_CALLS: usize = 2_097_152;
+
+/// Why a scenario left no whole report.
+#[derive(Debug, Drop, Error)]
+pub enum ScenarioFault {
+    /// A call of `read` failed, or their bound was reached.
+    #[error("reading failed")]
+    Read,
+    #[error(transparent)]
+    Refused(ScenarioError),
+    #[error("the run stopped at event {}", .0.event)]
+    Run(RunFault),
+    /// A call of `write` failed or took nothing, when so many bytes of the report were taken.
+    #[error("writing failed after {written} bytes")]
+    Write { written: u64 },
+    #[error("out of memory")]
+    Memory,
+}
+
+/// The report of the run of the scenario that a text says.
+fn report_in(alloc: Global, bytes: &[u8], workers: u32) -> Result<String, ScenarioFault>
+    requires some { 1 ≤ workers }
+    requires few { workers ≤ MOST_WORKERS }
+    ensures { MatchResult result (λ line. Reports bytes.now (string_bytes line)) (IsDueOf bytes.now) }
+{
+    let scenario = match scenario_in(alloc, bytes) {
+        Ok(scenario) => scenario,
+        Err(ScenarioError::Memory(_)) => return Err(ScenarioFault::Memory),
+        Err(error) => return Err(ScenarioFault::Refused(error)),
+    };
+    let Some(shape) = Shape::of(scenario.nodes, scenario.memory) else {
+        unreachable!()
+    };
+    let Some(rule) = ClockRule::of(scenario.nodes, scenario.faults, scenario.modulus) else {
+        unreachable!()
+    };
+    let Ok(events) = events(alloc, &scenario) else {
+        return Err(ScenarioFault::Memory);
+    };
+    let run = match run_events(alloc, &Open, workers, shape, rule, events) {
+        Ok(run) => run,
+        Err(fault) => return Err(ScenarioFault::Run(fault)),
+    };
+    let Ok(line) = report(alloc, &scenario, &run) else {
+        return Err(ScenarioFault::Memory);
+    };
+    Ok(line)
+}
+
+/// Reads a scenario's text, runs it on so many workers, and writes the report. At most [`MOST_BYTES`] bytes are read, by at
+/// most [`MOST_CALLS`] calls of `read`. The report is whole before its first byte is written.
+#[tactic(auto, using(crate::proofs::StreamLemmas::fault_left, crate::proofs::StreamLemmas::report_left, crate::proofs::StreamLemmas::front_left))]
+pub fn run_scenario<R: Read, W: Write>(
+    alloc: Global,
+    reader: &mut R,
+    writer: &mut W,
+    workers: u32,
+) -> Result<(), ScenarioFault>
+    requires some { 1 ≤ workers }
+    requires few { workers ≤ MOST_WORKERS }
+    ensures taken { TakesAtMost MOST_BYTES (R.remaining reader.old) (R.remaining reader.new) }
+    ensures left { IfSome (R.remaining reader.old) (λ text.
+        LeavesReport (W.contents writer.old) (W.contents writer.new) text result) }
+{
+    let bytes = match read_at_most(alloc, reader, MOST_BYTES, MOST_CALLS) {
+        Ok(bytes) => bytes,
+        Err(ReadFault::Stream) => return Err(ScenarioFault::Read),
+        Err(ReadFault::Memory) => return Err(ScenarioFault::Memory),
+    };
+    let line = report_in(alloc, bytes.as_slice(), workers)?;
+    match write_fully(writer, line.as_bytes()) {
+        Ok(()) => Ok(()),
+        Err(WriteFault { written }) => Err(ScenarioFault::Write {
+            written: written as u64,
+        }),
+    }
+}

@@ -1,0 +1,138 @@
+-- A key holds one number at most.
+use Rattle.std.proofs.Common.{◌≡◌, ◌≤◌, ℕ, arith, ◌-◌, ◌%◌, List, ap, sym, subst, ◌∙◌, inl, inr}
+use Rattle.std.specs.Prelude.{true, false, ◌==◌, if◌then◌else◌, pos, Option, Some, None, codes, MatchOption, IfErr, Result, Ok, Err}
+use Rattle.toml.specs.Data.{Data, integer, Members, get_member}
+use Rattle.scenario_text.specs.declared.scenario.Frame.{Frame}
+use Rattle.scenario_text.specs.declared.refusal.ScenarioError.{ScenarioError}
+use Rattle.scenario_text.specs.declared.refusal.ScenarioError.TheVariants as errors
+use Rattle.scenario_text.specs.Faults.{IsOfSpelling, Excludes}
+use Rattle.scenario_text.specs.declared.scenario.Unload.{Unload}
+use Rattle.scenario_text.specs.declared.scenario.CoinEntry.{CoinEntry}
+use Rattle.scenario_text.specs.Drafts.{LoadDraft, CorruptDraft}
+use Rattle.scenario_text.specs.Tables.{HasNumber, MayBeArray, IsTable}
+use Rattle.scenario_text.specs.Spelling.{HasVersion, HasFrame, most_nodes, SpelledLoad, SpelledUnload, SpelledCorrupt, SpelledCoin, SpellsNothing}
+use Rattle.scenario_text.specs.declared.limits.TheConstants.{FIRST_VERSION, FIRST_MAX_NODES}
+use Rattle.clock_nodes.specs.Rule.{IsRule}
+use Rattle.node_env.specs.Env.{IsExtent}
+use Rattle.node_env.specs.declared.shape.TheConstants.{MAX_NODES, MAX_MEMORY, MEMORY_UNIT}
+
+abbrev number_held : Option Data → ℕ
+number_held (Some (integer (pos n))) = n
+number_held _ = 0
+
+pub one_number : (ms : Members) (key : List ℕ) (low high low' high' a b : ℕ) → HasNumber ms key low high a → HasNumber ms key low' high' b → a ≡ b
+one_number ms key low high low' high' a b first second = ap number_held (sym first.0 ∙ second.0)
+
+nothing : {A : Type 0} {a : A} → None ≡ Some a → ⊥
+nothing same = subst (λ o. MatchOption o (Unit {0}) (λ _. ⊥)) same tt
+
+pub one_version : (ms : Members) (v w : ℕ) → HasVersion ms v → HasVersion ms w → v ≡ w
+one_version ms v w (inl first) (inl second) = first.1 ∙ sym second.1
+one_version ms v w (inl first) (inr second) = absurd (nothing (sym first.0 ∙ second.0))
+one_version ms v w (inr first) (inl second) = absurd (nothing (sym second.0 ∙ first.0))
+one_version ms v w (inr first) (inr second) = one_number ms (codes "version") _ _ _ _ v w first second
+
+pub no_version : (ms : Members) → ((v : ℕ) → HasVersion ms v → ⊥) → (f : Frame) → HasFrame ms f → ⊥
+no_version ms none f has = none f.version has.version
+
+pub no_nodes : (ms : Members) (v : ℕ) → HasVersion ms v → ((n : ℕ) → HasNumber ms (codes "nodes") 1 (most_nodes v) n → ⊥)
+    → (f : Frame) → HasFrame ms f → ⊥
+no_nodes ms v version none f has =
+    none f.nodes (subst (λ w. HasNumber ms (codes "nodes") 1 (most_nodes w) f.nodes) (one_version ms f.version v has.version version) has.nodes)
+
+pub no_faults : (ms : Members) (n high : ℕ) → HasNumber ms (codes "nodes") 1 high n
+    → ((x : ℕ) → HasNumber ms (codes "faults") 0 (n - 1) x → ⊥) → (f : Frame) → HasFrame ms f → ⊥
+no_faults ms n high nodes none f has =
+    none f.faults (subst (λ k. HasNumber ms (codes "faults") 0 (k - 1) f.faults) (one_number ms (codes "nodes") _ _ _ _ f.nodes n has.nodes nodes) has.faults)
+
+pub no_units : (ms : Members) (memory : ℕ) → HasNumber ms (codes "memory") MEMORY_UNIT MAX_MEMORY memory → (memory % MEMORY_UNIT ≡ 0 → ⊥)
+    → (f : Frame) → HasFrame ms f → ⊥
+no_units ms memory held odd f has = odd (ap (λ m. m % MEMORY_UNIT) (one_number ms (codes "memory") _ _ _ _ memory f.memory held has.memory) ∙ has.units)
+
+-- a refusal for the spelling excludes what has no spelling
+pub excludes : (e : ScenarioError) (none : Type 0) → IsOfSpelling e → none → Excludes e none
+excludes errors.TooLong none is silent = is
+excludes errors.NotToml none is silent = is
+excludes (errors.UnknownKey place) none is silent = silent
+excludes (errors.MissingKey place key) none is silent = silent
+excludes (errors.WrongKind place key) none is silent = silent
+excludes (errors.OutOfRange place key) none is silent = silent
+excludes (errors.UnknownProgram load) none is silent = silent
+excludes (errors.BadText load error) none is silent = silent
+excludes (errors.NotAccepted load key slot rule) none is silent = tt
+excludes (errors.Memory _) none is silent = tt
+
+-- what excludes less excludes more
+pub excludes_more : (e : ScenarioError) (less more : Type 0) → (less → more) → Excludes e less → Excludes e more
+excludes_more errors.TooLong less more leads excluded = excluded
+excludes_more errors.NotToml less more leads excluded = excluded
+excludes_more (errors.UnknownKey place) less more leads excluded = leads excluded
+excludes_more (errors.MissingKey place key) less more leads excluded = leads excluded
+excludes_more (errors.WrongKind place key) less more leads excluded = leads excluded
+excludes_more (errors.OutOfRange place key) less more leads excluded = leads excluded
+excludes_more (errors.UnknownProgram load) less more leads excluded = leads excluded
+excludes_more (errors.BadText load error) less more leads excluded = leads excluded
+excludes_more (errors.NotAccepted load key slot rule) less more leads excluded = tt
+excludes_more (errors.Memory _) less more leads excluded = tt
+
+-- a table has one frame at most
+pub one_frame : (ms : Members) (f g : Frame) → HasFrame ms f → HasFrame ms g → f ≡ g
+one_frame ms f g a b = λ k. record {
+  version = one_version ms f.version g.version a.version b.version k;
+  nodes = one_number ms (codes "nodes") _ _ _ _ f.nodes g.nodes a.nodes b.nodes k;
+  faults = one_number ms (codes "faults") _ _ _ _ f.faults g.faults a.faults b.faults k;
+  modulus = one_number ms (codes "modulus") _ _ _ _ f.modulus g.modulus a.modulus b.modulus k;
+  memory = one_number ms (codes "memory") _ _ _ _ f.memory g.memory a.memory b.memory k;
+  pulses = one_number ms (codes "pulses") _ _ _ _ f.pulses g.pulses a.pulses b.pulses k;
+}
+
+-- what the frame that was read has no entries for has no spelling
+pub no_loads : (ms : Members) (f : Frame) → HasFrame ms f
+    → ((loads : List LoadDraft) → MayBeArray (IsTable (SpelledLoad f)) (get_member (codes "load") ms) loads → ⊥) → SpellsNothing ms
+no_loads ms f has none d spelled =
+    none d.loads (subst (λ g. MayBeArray (IsTable (SpelledLoad g)) (get_member (codes "load") ms) d.loads) (one_frame ms d.frame f spelled.frame has) spelled.loads)
+
+pub no_unloads : (ms : Members) (f : Frame) → HasFrame ms f
+    → ((us : List Unload) → MayBeArray (IsTable (SpelledUnload f)) (get_member (codes "unload") ms) us → ⊥) → SpellsNothing ms
+no_unloads ms f has none d spelled =
+    none d.unloads (subst (λ g. MayBeArray (IsTable (SpelledUnload g)) (get_member (codes "unload") ms) d.unloads) (one_frame ms d.frame f spelled.frame has) spelled.unloads)
+
+pub no_corruptions : (ms : Members) (f : Frame) → HasFrame ms f
+    → ((cs : List CorruptDraft) → MayBeArray (IsTable (SpelledCorrupt f)) (get_member (codes "corrupt") ms) cs → ⊥) → SpellsNothing ms
+no_corruptions ms f has none d spelled =
+    none d.corruptions (subst (λ g. MayBeArray (IsTable (SpelledCorrupt g)) (get_member (codes "corrupt") ms) d.corruptions) (one_frame ms d.frame f spelled.frame has) spelled.corruptions)
+
+pub no_entries : (ms : Members) (f : Frame) → HasFrame ms f
+    → ((es : List CoinEntry) → MayBeArray (IsTable (SpelledCoin f)) (get_member (codes "coin") ms) es → ⊥) → SpellsNothing ms
+no_entries ms f has none d spelled =
+    none d.entries (subst (λ g. MayBeArray (IsTable (SpelledCoin g)) (get_member (codes "coin") ms) d.entries) (one_frame ms d.frame f spelled.frame has) spelled.entries)
+
+pub refused_more : {A : Type 0} (r : Result A ScenarioError) (less more : Type 0) → (less → more) → IfErr r (λ e. Excludes e less) → IfErr r (λ e. Excludes e more)
+refused_more (Ok x) less more leads excluded = tt
+refused_more (Err e) less more leads excluded = excludes_more e less more leads excluded
+
+few_nodes : (version nodes : ℕ) → nodes ≤ most_nodes version → nodes ≤ MAX_NODES
+few_nodes version nodes =
+    elim (version == FIRST_VERSION) as (λ first. nodes ≤ (if first then FIRST_MAX_NODES else MAX_NODES) → nodes ≤ MAX_NODES) [ true ↦ λ few. omega arith | false ↦ λ few. few ]
+
+-- the numbers of a frame make a shape, and a rule
+pub frame_extent : (ms : Members) (f : Frame) → HasFrame ms f → IsExtent f.nodes f.memory
+frame_extent ms f has = record {
+  some = has.nodes.1;
+  few = few_nodes f.version f.nodes has.nodes.2;
+  least = has.memory.1;
+  most = has.memory.2;
+  units = has.units;
+}
+
+pub frame_rule : (ms : Members) (f : Frame) → HasFrame ms f → IsRule f.nodes f.faults f.modulus
+frame_rule ms f has =
+    let some = has.nodes.1 in
+    let below = has.faults.2 in
+    record {
+      some = some;
+      few = few_nodes f.version f.nodes has.nodes.2;
+      allowed = omega arith;
+      least = has.modulus.1;
+      most = has.modulus.2;
+    }

@@ -1,0 +1,6 @@
+pub mod EntryLemmas
+pub mod FrameLemmas
+mod ListLemmas
+mod NameLemmas
+pub mod TableLemmas
+mod WholeLemmas

@@ -1,0 +1,89 @@
+-- What is spelled, and its arrays.
+use Rattle.std.proofs.Common.{◌≡◌, true, arith, List, subst}
+use Rattle.std.specs.Prelude.{codes, Option}
+use Rattle.toml.specs.Data.{Data, Members, get_member}
+use Rattle.scenario_text.specs.declared.refusal.ScenarioError.{ScenarioError}
+use Rattle.scenario_text.specs.declared.scenario.Frame.{Frame}
+use Rattle.scenario_text.specs.declared.scenario.Unload.{Unload}
+use Rattle.scenario_text.specs.declared.scenario.CoinEntry.{CoinEntry}
+use Rattle.scenario_text.specs.Arrays.{HasArrays}
+use Rattle.scenario_text.specs.Drafts.{LoadDraft, CorruptDraft, Draft}
+use Rattle.scenario_text.specs.Faults.{Excludes}
+use Rattle.scenario_text.specs.Tables.{knows, IsTable, MayBeArray}
+use Rattle.scenario_text.specs.Spelling.{HasFrame, HasCoins, HasKey, Spelled, SpelledLoad, SpelledUnload, SpelledCorrupt, SpelledCoin, SpellsNothing, is_top_key}
+use Rattle.scenario_text.proofs.FrameLemmas.{excludes_more, no_loads, no_unloads, no_corruptions, no_entries}
+use Rattle.scenario_text.proofs.TableLemmas.{tables_read, entries_read, loads_read}
+
+-- a table that spells a scenario has its arrays
+pub spelled_arrays : (ms : Members) (d : Draft) → Spelled ms d → HasArrays ms
+spelled_arrays ms d spelled =
+    let loads = loads_read d.frame _ d.loads spelled.loads in
+    let unloads = entries_read _ _ d.unloads spelled.unloads in
+    let corruptions = entries_read _ _ d.corruptions spelled.corruptions in
+    let entries = entries_read _ _ d.entries spelled.entries in
+    let few = spelled.changes in
+    let few_coins = spelled.coin_entries in
+    record {
+      loads = tables_read _ _ d.loads spelled.loads;
+      unloads = tables_read _ _ d.unloads spelled.unloads;
+      corruptions = tables_read _ _ d.corruptions spelled.corruptions;
+      entries = tables_read _ _ d.entries spelled.entries;
+      changes = omega arith;
+      coins = omega arith;
+    }
+
+pub no_arrays : (ms : Members) → (HasArrays ms → ⊥) → SpellsNothing ms
+no_arrays ms none d spelled = none (spelled_arrays ms d spelled)
+
+-- what is read of all keys is spelled, where the arrays aren't too long
+pub spelled_whole : (ms : Members) (d : Draft) → knows is_top_key ms ≡ true → HasFrame ms d.frame → HasCoins ms d.coins → HasKey ms d.coins d.key
+    → MayBeArray (IsTable (SpelledLoad d.frame)) (get_member (codes "load") ms) d.loads
+    → MayBeArray (IsTable (SpelledUnload d.frame)) (get_member (codes "unload") ms) d.unloads
+    → MayBeArray (IsTable (SpelledCorrupt d.frame)) (get_member (codes "corrupt") ms) d.corruptions
+    → MayBeArray (IsTable (SpelledCoin d.frame)) (get_member (codes "coin") ms) d.entries
+    → HasArrays ms → Spelled ms d
+spelled_whole ms d known frame coins key loads unloads corruptions entries has =
+    let loads_are = loads_read d.frame _ d.loads loads in
+    let unloads_are = entries_read _ _ d.unloads unloads in
+    let corruptions_are = entries_read _ _ d.corruptions corruptions in
+    let entries_are = entries_read _ _ d.entries entries in
+    let few = has.changes in
+    let few_coins = has.coins in
+    record {
+      known = known;
+      frame = frame;
+      coins = coins;
+      key = key;
+      loads = loads;
+      unloads = unloads;
+      corruptions = corruptions;
+      entries = entries;
+      changes = omega arith;
+      coin_entries = omega arith;
+    }
+
+-- ---- where the array of the frame that was read has no reading, nothing is spelled
+
+pub loads_excluded : (ms : Members) (f g : Frame) (o : Option Data) (e : ScenarioError) → HasFrame ms f → g ≡ f → o ≡ get_member (codes "load") ms
+    → Excludes e ((ls : List LoadDraft) → MayBeArray (IsTable (SpelledLoad g)) o ls → ⊥) → Excludes e (SpellsNothing ms)
+loads_excluded ms f g o e has same held excluded =
+    let P : Frame → Option Data → Type 0 = λ h p. (ls : List LoadDraft) → MayBeArray (IsTable (SpelledLoad h)) p ls → ⊥ in
+    excludes_more e (P g o) (SpellsNothing ms) (λ none. no_loads ms f has (subst (λ h. P h (get_member (codes "load") ms)) same (subst (P g) held none))) excluded
+
+pub unloads_excluded : (ms : Members) (f : Frame) (o : Option Data) (e : ScenarioError) → HasFrame ms f → o ≡ get_member (codes "unload") ms
+    → Excludes e ((us : List Unload) → MayBeArray (IsTable (SpelledUnload f)) o us → ⊥) → Excludes e (SpellsNothing ms)
+unloads_excluded ms f o e has held excluded =
+    let P : Option Data → Type 0 = λ p. (us : List Unload) → MayBeArray (IsTable (SpelledUnload f)) p us → ⊥ in
+    excludes_more e (P o) (SpellsNothing ms) (λ none. no_unloads ms f has (subst P held none)) excluded
+
+pub corruptions_excluded : (ms : Members) (f : Frame) (o : Option Data) (e : ScenarioError) → HasFrame ms f → o ≡ get_member (codes "corrupt") ms
+    → Excludes e ((cs : List CorruptDraft) → MayBeArray (IsTable (SpelledCorrupt f)) o cs → ⊥) → Excludes e (SpellsNothing ms)
+corruptions_excluded ms f o e has held excluded =
+    let P : Option Data → Type 0 = λ p. (cs : List CorruptDraft) → MayBeArray (IsTable (SpelledCorrupt f)) p cs → ⊥ in
+    excludes_more e (P o) (SpellsNothing ms) (λ none. no_corruptions ms f has (subst P held none)) excluded
+
+pub entries_excluded : (ms : Members) (f : Frame) (o : Option Data) (e : ScenarioError) → HasFrame ms f → o ≡ get_member (codes "coin") ms
+    → Excludes e ((es : List CoinEntry) → MayBeArray (IsTable (SpelledCoin f)) o es → ⊥) → Excludes e (SpellsNothing ms)
+entries_excluded ms f o e has held excluded =
+    let P : Option Data → Type 0 = λ p. (es : List CoinEntry) → MayBeArray (IsTable (SpelledCoin f)) p es → ⊥ in
+    excludes_more e (P o) (SpellsNothing ms) (λ none. no_entries ms f has (subst P held none)) excluded

@@ -1,0 +1,11 @@
+use Rattle.std.proofs.Common.{◌≡◌, take}
+use Rattle.toml.specs.View.{items_view}
+use Rattle.scenario_text.specs.Tables.{ReadsEach}
+use Rattle.scenario_text.specs.Spelling.{IsSaid}
+use Rattle.scenario_text.proofs.numbers.said_of.Given as goal
+
+abbrev pub invariant-loop-value : goal.invariant-loop-value
+invariant-loop-value l = record {
+  same : l.value-items ≡ l.array.items;
+  read : ReadsEach IsSaid (items_view (take l.value-index l.value-items)) l.said.items;
+}

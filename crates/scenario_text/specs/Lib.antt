@@ -1,0 +1,10 @@
+pub mod Tables
+pub mod Drafts
+pub mod Spelling
+pub mod Names
+pub mod Views
+pub mod Setups
+pub mod Arrays
+pub mod Faults
+pub mod Texts
+pub mod Lines

@@ -1,0 +1,47 @@
+-- The line of a refusal, without its end (docs/SCENARIOS.md, "Refusals").
+use Rattle.std.specs.Prelude.{ℕ, List, ◌++◌, codes}
+use Rattle.std.specs.Fmt.{decimal}
+use Rattle.bpf_asm.specs.declared.text_error.TextError.{TextError}
+use Rattle.bpf_asm.specs.declared.text_error.TextError.TheVariants as text
+use Rattle.bpf_verify.specs.Rules.{rule_number}
+use Rattle.scenario_text.specs.declared.refusal.Place.{Place}
+use Rattle.scenario_text.specs.declared.refusal.Place.TheVariants as places
+use Rattle.scenario_text.specs.declared.refusal.ScenarioError.{ScenarioError}
+use Rattle.scenario_text.specs.declared.refusal.ScenarioError.TheVariants as errors
+
+-- an entry of an array, from 0 on
+abbrev pub place_text : Place → List ℕ
+place_text places.Top = codes "top"
+place_text (places.Load index) = codes "load[" ++ (decimal index ++ codes "]")
+place_text (places.Unload index) = codes "unload[" ++ (decimal index ++ codes "]")
+place_text (places.Corrupt index) = codes "corrupt[" ++ (decimal index ++ codes "]")
+place_text (places.Coin index) = codes "coin[" ++ (decimal index ++ codes "]")
+
+-- a top key is its own path
+abbrev pub path_text : Place → List ℕ → List ℕ
+path_text places.Top key = key
+path_text place key = place_text place ++ (codes "." ++ key)
+
+-- the line of a text at fault, from 1 on, and the fault
+abbrev pub text_fault : TextError → List ℕ
+text_fault (text.UnknownWord line) = codes "line " ++ (decimal line ++ codes " UnknownWord")
+text_fault (text.BadOperand line) = codes "line " ++ (decimal line ++ codes " BadOperand")
+text_fault (text.OutOfRange line) = codes "line " ++ (decimal line ++ codes " OutOfRange")
+text_fault (text.UnknownLabel line) = codes "line " ++ (decimal line ++ codes " UnknownLabel")
+text_fault (text.LabelTwice line) = codes "line " ++ (decimal line ++ codes " LabelTwice")
+text_fault (text.TooLong line) = codes "line " ++ (decimal line ++ codes " TooLong")
+text_fault text.Empty = codes "line 0 Empty"
+text_fault text.Memory = codes "line 0 Memory"
+
+abbrev pub refusal_line : ScenarioError → List ℕ
+refusal_line errors.TooLong = codes "refused scenario TooLong"
+refusal_line errors.NotToml = codes "refused scenario NotToml"
+refusal_line (errors.UnknownKey place) = codes "refused scenario UnknownKey " ++ place_text place
+refusal_line (errors.MissingKey place key) = codes "refused scenario MissingKey " ++ path_text place key.now
+refusal_line (errors.WrongKind place key) = codes "refused scenario WrongKind " ++ path_text place key.now
+refusal_line (errors.OutOfRange place key) = codes "refused scenario OutOfRange " ++ path_text place key.now
+refusal_line (errors.UnknownProgram load) = codes "refused scenario UnknownProgram " ++ path_text (places.Load load) (codes "program")
+refusal_line (errors.BadText load error) = codes "refused scenario BadText " ++ (path_text (places.Load load) (codes "text") ++ (codes " " ++ text_fault error))
+refusal_line (errors.NotAccepted load key slot rule) =
+    codes "refused scenario NotAccepted " ++ (path_text (places.Load load) key.now ++ (codes " rule " ++ (decimal (rule_number rule) ++ (codes " slot " ++ decimal slot))))
+refusal_line (errors.Memory _) = codes "refused scenario Memory"

@@ -1,0 +1,32 @@
+-- Which scenario a text reads as, and when a refusal of a text is due.
+use Rattle.std.specs.Prelude.{◌≡◌, ◌<◌, ◌≤◌, ℕ, List, length, Some, None}
+use Rattle.std.specs.Str.{IsUtf8}
+use Rattle.toml.specs.Data.{Members}
+use Rattle.toml.specs.Parse.{parse_document}
+use Rattle.scenario_text.specs.declared.limits.TheConstants.{MAX_TEXT}
+use Rattle.scenario_text.specs.declared.refusal.ScenarioError.{ScenarioError}
+use Rattle.scenario_text.specs.declared.refusal.ScenarioError.TheVariants as errors
+use Rattle.scenario_text.specs.declared.scenario.Scenario.{Scenario}
+use Rattle.scenario_text.specs.Spelling.{SpellsNothing}
+use Rattle.scenario_text.specs.Views.{Reads}
+
+-- the text is short enough, is UTF-8, and is this table as TOML
+abbrev pub IsDocument : List ℕ → Members → Type 0
+IsDocument text members = (length text ≤ MAX_TEXT) × IsUtf8 text × (parse_document text ≡ Some members)
+
+-- the text is a table that reads as this scenario
+abbrev pub ReadsText : List ℕ → Scenario → Type 0
+ReadsText text s = (members : Members) × IsDocument text members × Reads members s
+
+-- 1 and 2 are decided by the bytes, 3 to 8 by the spelling; 9 comes only of a document. Want of memory is no refusal
+abbrev pub IsDue : List ℕ → ScenarioError → Type 0
+IsDue text errors.TooLong = MAX_TEXT < length text
+IsDue text errors.NotToml = (length text ≤ MAX_TEXT) × (IsUtf8 text → parse_document text ≡ None)
+IsDue text (errors.Memory _) = ⊥
+IsDue text (errors.NotAccepted load key slot rule) = (members : Members) × IsDocument text members
+IsDue text _ = (members : Members) × IsDocument text members × SpellsNothing members
+
+-- a refusal that is due, or want of memory
+abbrev pub IsDueUnlessMemory : List ℕ → ScenarioError → Type 0
+IsDueUnlessMemory text (errors.Memory _) = Unit {0}
+IsDueUnlessMemory text error = IsDue text error

@@ -1,0 +1,28 @@
+//! Scenarios as TOML texts say them: docs/SCENARIOS.md has their keys and refusals.
+#![tactic(auto)]
+
+mod arrays;
+mod coin_entries;
+mod corruptions;
+mod limits;
+mod line;
+mod loads;
+mod numbers;
+mod refusal;
+mod scenario;
+mod setup;
+mod table;
+mod text;
+mod top;
+mod unloads;
+mod whole;
+
+pub use limits::{
+    FIRST_MAX_NODES, FIRST_VERSION, LAST_VERSION, MAX_CHANGES, MAX_COIN_ENTRIES, MAX_KEY,
+    MAX_PULSES, MAX_SAID, MAX_TEXT,
+};
+pub use line::RefusalLine;
+pub use refusal::{Place, ScenarioError};
+pub use scenario::{CoinEntry, Coins, Corrupt, Frame, Kind, Load, Scenario, Unload};
+pub use text::scenario_in;
+pub use whole::scenario_of;

@@ -1,0 +1,28 @@
+//! The limits of scenarios (docs/SCENARIOS.md, "Keys").
+
+/// The version of a scenario that tells none.
+pub const FIRST_VERSION: u64 = 1;
+
+/// The greatest version.
+pub const LAST_VERSION: u64 = 2;
+
+/// The most nodes of a scenario of the first version.
+pub const FIRST_MAX_NODES: u64 = 32;
+
+/// The most pulses.
+pub const MAX_PULSES: u64 = 1_000;
+
+/// The greatest key of coins.
+pub const MAX_KEY: u64 = 9_223_372_036_854_775_807;
+
+/// The greatest number that a node says.
+pub const MAX_SAID: u64 = 4_294_967_295;
+
+/// The most changes; a load counts once for each of its nodes.
+pub const MAX_CHANGES: usize = 4_096;
+
+/// The most entries that replace a coin.
+pub const MAX_COIN_ENTRIES: usize = 4_096;
+
+/// The most bytes of a text: 1 MiB.
+pub const MAX_TEXT: usize = 1_048_576;

@@ -1,0 +1,261 @@
+//! The entries `[[load]]`.
+ghost use Rattle.std.specs.Prelude.{◌≡◌, ◌≤◌, ◌<◌, ◌^◌, ◌-◌, ℕ, List, Option, IfOk, IfErr, OnOk, MatchResult, string_bytes, length, codes, map, option_map, All};
+ghost use Rattle.std.specs.BTreeMap.{keys};
+ghost use Rattle.std.specs.List.{list_all};
+ghost use Rattle.toml.specs.Data.{get_member, array as array_data};
+ghost use Rattle.toml.specs.View.{array_view, table_view, view};
+ghost use Rattle.bpf_verify.specs.Typable.{Typable};
+ghost use Rattle.bpf_insn.specs.declared.forms.Insn.{Insn};
+ghost use Rattle.scenario_text.specs.declared.scenario.Kind.{Kind as KindValue};
+ghost use Rattle.scenario_text.specs.Drafts.{LoadDraft};
+ghost use Rattle.scenario_text.specs.Faults.{IsOfSpelling, Excludes};
+ghost use Rattle.clock_nodes.specs.Listings.{clock_listing, say_listing, echo_listing};
+ghost use Rattle.scenario_text.specs.Setups.{IsSetup};
+ghost use Rattle.scenario_text.specs.Tables.{knows, HasText, IsArray, MayBeArray, ReadsEach, IsTable};
+ghost use Rattle.scenario_text.specs.Spelling.{is_plain_load_key, is_load_key, kind_name, IsSaid, MeansAt, IsProgramOf, SpelledLoad, rule_of};
+ghost use Rattle.scenario_text.specs.Views.{load_of, extent_of, FitsLoad};
+
+use crate::numbers::{integers_at, numbers_of, said_of};
+use crate::refusal::{Place, ScenarioError};
+use crate::scenario::{Kind, Load};
+use crate::setup::Setup;
+use crate::table::{number_at, value_at};
+use crate::top::kind_named;
+use bpf_asm::{TextError, assemble};
+use bpf_insn::Program;
+use bpf_verify::{VerifiedProgram, VerifyError, verify};
+use clock_nodes::{dolev_welch, echo, say};
+use node_env::Shape;
+use std::alloc::{AllocError, Global};
+use toml::value::Array;
+use toml::{Table, Value};
+
+fn is_plain_load_key(key: &str) -> bool
+    ensures { result ≡ is_plain_load_key key.now }
+{
+    key == "pulse" || key == "nodes" || key == "program"
+}
+
+fn is_load_key(kind: Kind, key: &str) -> bool
+    ensures { result ≡ is_load_key kind key.now }
+{
+    match kind {
+        Kind::Clock | Kind::Echo => is_plain_load_key(key),
+        Kind::Say => is_plain_load_key(key) || key == "values",
+        Kind::Asm => is_plain_load_key(key) || key == "text",
+    }
+}
+
+fn has_load_keys(kind: Kind, table: &Table) -> bool
+    ensures { result ≡ list_all (λ key. is_load_key kind (string_bytes key)) (keys table.now) }
+{
+    table.keys().all(|key| is_load_key(kind, key.as_str()))
+}
+
+#[tactic(auto, using(crate::proofs::TableLemmas::keys_known))]
+fn knows_load_keys(kind: Kind, table: &Table) -> bool
+    ensures { result ≡ knows (is_load_key kind) (table_view table.now) }
+{
+    has_load_keys(kind, table)
+}
+
+/// The kind that a load's table names.
+#[tactic(auto, using(crate::proofs::NameLemmas::kind_by_name, crate::proofs::NameLemmas::no_kind))]
+fn kind_at(table: &Table, index: usize) -> Result<Kind, ScenarioError>
+    ensures fault { IfErr result IsOfSpelling }
+    ensures kind { MatchResult result (λ kind. HasText (table_view table.now) (codes "program") (kind_name kind))
+        (λ _. (kind : KindValue) → HasText (table_view table.now) (codes "program") (kind_name kind) → ⊥) }
+{
+    let place = Place::Load(index);
+    let key = "program";
+    let Some(value) = value_at(table, "program") else {
+        return Err(ScenarioError::MissingKey { place, key });
+    };
+    let Some(name) = value.as_str() else {
+        return Err(ScenarioError::WrongKind { place, key });
+    };
+    match kind_named(name) {
+        Some(kind) => Ok(kind),
+        None => Err(ScenarioError::UnknownProgram { load: index }),
+    }
+}
+
+/// What `say` says.
+#[tactic(auto, using(crate::proofs::TableLemmas::reads_length))]
+fn said_at(
+    alloc: Global,
+    table: &Table,
+    index: usize,
+    nodes: u32,
+) -> Result<Vec<Option<u32>>, ScenarioError>
+    ensures said { IfOk result (λ vs. IsArray IsSaid (get_member (codes "values") (table_view table.now)) vs.items × (length vs.items ≡ nodes)) }
+    ensures refused { IfErr result (λ e. Excludes e ((vs : List (Option ℕ)) →
+        IsArray IsSaid (get_member (codes "values") (table_view table.now)) vs → length vs ≡ nodes → ⊥)) }
+{
+    let place = Place::Load(index);
+    let array = integers_at(table, place, "values")?;
+    if array.len() != nodes as usize {
+        return Err(ScenarioError::OutOfRange {
+            place,
+            key: "values",
+        });
+    }
+    said_of(alloc, array, place, "values")
+}
+
+/// The program that a text means.
+fn program_in(alloc: Global, table: &Table, index: usize) -> Result<Program, ScenarioError>
+    ensures program { IfOk result (MeansAt (get_member (codes "text") (table_view table.now))) }
+    ensures refused { IfErr result (λ e. Excludes e ((insns : List Insn) →
+        MeansAt (get_member (codes "text") (table_view table.now)) insns → ⊥)) }
+{
+    let place = Place::Load(index);
+    let key = "text";
+    let Some(value) = value_at(table, "text") else {
+        return Err(ScenarioError::MissingKey { place, key });
+    };
+    let Some(text) = value.as_str() else {
+        return Err(ScenarioError::WrongKind { place, key });
+    };
+    match assemble(alloc, text.as_bytes()) {
+        Ok(program) => Ok(program),
+        Err(TextError::Memory) => Err(ScenarioError::Memory(AllocError)),
+        Err(error) => Err(ScenarioError::BadText { load: index, error }),
+    }
+}
+
+fn clock_program(alloc: Global, setup: &Setup) -> Result<Program, ScenarioError>
+    requires { IsSetup setup.now }
+    ensures program { IfOk result (λ p. p ≡ clock_listing (rule_of setup.now.frame)) }
+    ensures refused { IfErr result (λ e. Excludes e ⊥) }
+{
+    dolev_welch(alloc, setup.shape, setup.rule).map_err(|_| ScenarioError::Memory(AllocError))
+}
+
+/// The program of a load, before it is accepted.
+fn program_of(
+    alloc: Global,
+    setup: &Setup,
+    kind: Kind,
+    table: &Table,
+    index: usize,
+) -> Result<Program, ScenarioError>
+    requires { IsSetup setup.now }
+    ensures program { IfOk result (IsProgramOf setup.now.frame kind (table_view table.now)) }
+    ensures refused { IfErr result (λ e. Excludes e ((insns : List Insn) →
+        IsProgramOf setup.now.frame kind (table_view table.now) insns → ⊥)) }
+{
+    match kind {
+        Kind::Clock => clock_program(alloc, setup),
+        Kind::Say => {
+            let said = said_at(alloc, table, index, setup.frame.nodes)?;
+            say(alloc, setup.shape, said.as_slice()).map_err(|_| ScenarioError::Memory(AllocError))
+        }
+        Kind::Echo => { echo(alloc, setup.shape).map_err(|_| ScenarioError::Memory(AllocError)) }
+        Kind::Asm => program_in(alloc, table, index),
+    }
+}
+
+/// The program, accepted.
+fn accepted(
+    alloc: Global,
+    program: &Program,
+    shape: Shape,
+    kind: Kind,
+    index: usize,
+) -> Result<VerifiedProgram, ScenarioError>
+    ensures program { IfOk result (λ v. (v.program ≡ program.now) × (v.shape ≡ shape)) }
+    ensures typable { OnOk result (Typable program.now shape) }
+    ensures refused { IfErr result (λ e. Excludes e ⊥) }
+{
+    match verify(alloc, program, shape) {
+        Ok(verified) => Ok(verified),
+        Err(VerifyError::Memory) => Err(ScenarioError::Memory(AllocError)),
+        Err(VerifyError::Refused { slot, rule }) => Err(ScenarioError::NotAccepted {
+            load: index,
+            key: if matches!(kind, Kind::Asm) {
+                "text"
+            } else {
+                "program"
+            },
+            slot,
+            rule,
+        }),
+    }
+}
+
+/// The load that a table spells.
+fn load_of(alloc: Global, setup: &Setup, index: usize, table: &Table) -> Result<Load, ScenarioError>
+    requires { IsSetup setup.now }
+    ensures load { IfOk result (λ load. SpelledLoad setup.now.frame (table_view table.now) (load_of load)) }
+    ensures fits { IfOk result (FitsLoad setup.now.frame) }
+    ensures refused { IfErr result (λ e. Excludes e ((load : LoadDraft) → SpelledLoad setup.now.frame (table_view table.now) load → ⊥)) }
+{
+    let place = Place::Load(index);
+    let frame = setup.frame;
+    let pulse = number_at(table, place, "pulse", 1, frame.pulses as u64)?;
+    let array = integers_at(table, place, "nodes")?;
+    let nodes = numbers_of(alloc, array, place, "nodes", frame.nodes - 1)?;
+    let kind = kind_at(table, index)?;
+    if !knows_load_keys(kind, table) {
+        return Err(ScenarioError::UnknownKey { place });
+    }
+    let program = program_of(alloc, setup, kind, table, index)?;
+    let verified = accepted(alloc, &program, setup.shape, kind, index)?;
+    Ok(Load {
+        pulse: pulse as u32,
+        nodes,
+        program: verified,
+    })
+}
+
+fn load_in(alloc: Global, setup: &Setup, index: usize, value: &Value) -> Result<Load, ScenarioError>
+    requires { IsSetup setup.now }
+    ensures load { IfOk result (λ load. IsTable (SpelledLoad setup.now.frame) (view value.now) (load_of load)) }
+    ensures fits { IfOk result (FitsLoad setup.now.frame) }
+    ensures refused { IfErr result (λ e. Excludes e ((load : LoadDraft) → IsTable (SpelledLoad setup.now.frame) (view value.now) load → ⊥)) }
+{
+    let Some(table) = value.as_table() else {
+        return Err(ScenarioError::WrongKind {
+            place: Place::Top,
+            key: "load",
+        });
+    };
+    load_of(alloc, setup, index, table)
+}
+
+fn loads_in(alloc: Global, setup: &Setup, array: &Array) -> Result<Vec<Load>, ScenarioError>
+    requires { IsSetup setup.now }
+    ensures loads { IfOk result (λ ls. ReadsEach (IsTable (SpelledLoad setup.now.frame)) (array_view array.now) (map load_of ls.items)) }
+    ensures fits { IfOk result (λ ls. All (FitsLoad setup.now.frame) ls.items) }
+    ensures refused { IfErr result (λ e. Excludes e ((ls : List LoadDraft) →
+        ReadsEach (IsTable (SpelledLoad setup.now.frame)) (array_view array.now) ls → ⊥)) }
+{
+    let mut loads = Vec::new(alloc);
+    for (index, value) in array.iter().enumerate() {
+        let load = load_in(alloc, setup, index, value)?;
+        loads
+            .push(load)
+            .map_err(|_| ScenarioError::Memory(AllocError))?;
+    }
+    Ok(loads)
+}
+
+/// The loads that an array spells; no array spells none.
+pub(crate) fn loads_of(
+    alloc: Global,
+    setup: &Setup,
+    array: Option<&Array>,
+) -> Result<Vec<Load>, ScenarioError>
+    requires { IsSetup setup.now }
+    ensures loads { IfOk result (λ ls. MayBeArray (IsTable (SpelledLoad setup.now.frame))
+        (option_map (λ a. array_data (array_view a.now)) array.entry) (map load_of ls.items)) }
+    ensures fits { IfOk result (λ ls. All (FitsLoad setup.now.frame) ls.items) }
+    ensures refused { IfErr result (λ e. Excludes e ((ls : List LoadDraft) → MayBeArray (IsTable (SpelledLoad setup.now.frame))
+        (option_map (λ a. array_data (array_view a.now)) array.entry) ls → ⊥)) }
+{
+    match array {
+        Some(array) => loads_in(alloc, setup, array),
+        None => Ok(Vec::new(alloc)),
+    }
+}

@@ -1,0 +1,78 @@
+//! A scenario.
+use bpf_verify::VerifiedProgram;
+
+/// What the coins are before entries replace some: all 0, all 1, or drawn by the key.
+#[derive(Clone, Copy, Debug, PartialEq, Eq)]
+pub enum Coins {
+    Zeros,
+    Ones,
+    Chacha,
+}
+
+/// What a load's program is made of: a listing (docs/CLOCK.md, "The programs"), or a text.
+#[derive(Clone, Copy, Debug, PartialEq, Eq)]
+pub enum Kind {
+    Clock,
+    Say,
+    Echo,
+    Asm,
+}
+
+/// The numbers of the top keys, on which the ranges of the entries rest.
+#[derive(Clone, Copy, Debug, PartialEq, Eq)]
+pub struct Frame {
+    pub version: u32,
+    pub nodes: u32,
+    pub faults: u32,
+    pub modulus: u32,
+    pub memory: u32,
+    pub pulses: u32,
+}
+
+/// One `[[load]]`: before this pulse the program comes into each of the nodes.
+#[derive(Drop)]
+pub struct Load {
+    pub pulse: u32,
+    pub nodes: Vec<u32>,
+    pub program: VerifiedProgram,
+}
+
+/// One `[[unload]]`: before this pulse the node's program goes.
+#[derive(Clone, Copy, Debug, PartialEq, Eq)]
+pub struct Unload {
+    pub pulse: u32,
+    pub node: u32,
+}
+
+/// One `[[corrupt]]`: before this pulse the node's memory becomes the image.
+#[derive(Debug, Drop)]
+pub struct Corrupt {
+    pub pulse: u32,
+    pub node: u32,
+    pub image: Vec<u8>,
+}
+
+/// One `[[coin]]`: in this pulse the node has this coin.
+#[derive(Clone, Copy, Debug, PartialEq, Eq)]
+pub struct CoinEntry {
+    pub pulse: u32,
+    pub node: u32,
+    pub value: u32,
+}
+
+/// A scenario: docs/SCENARIOS.md has each key. `corruptions` are those of `corrupt`, `entries` those of `coin`.
+#[derive(Drop)]
+pub struct Scenario {
+    pub version: u32,
+    pub nodes: u32,
+    pub faults: u32,
+    pub modulus: u32,
+    pub memory: u32,
+    pub pulses: u32,
+    pub coins: Coins,
+    pub key: Option<u64>,
+    pub loads: Vec<Load>,
+    pub unloads: Vec<Unload>,
+    pub corruptions: Vec<Corrupt>,
+    pub entries: Vec<CoinEntry>,
+}

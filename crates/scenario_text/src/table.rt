@@ -1,0 +1,79 @@
+//! What the keys of a table hold.
+ghost use Rattle.std.specs.Prelude.{◌≡◌, ◌≤◌, ◌^◌, ◌<◌, ℕ, List, Some, IfErr, MatchResult, IfOk, map, option_map, is_ok, is_some};
+ghost use Rattle.std.specs.List.{list_all};
+ghost use Rattle.toml.specs.Data.{get_member, array as array_data};
+ghost use Rattle.toml.specs.View.{view, table_view, array_view};
+ghost use Rattle.scenario_text.specs.Arrays.{are_tables, is_table, all_tables};
+ghost use Rattle.scenario_text.specs.Faults.{IsOfSpelling};
+ghost use Rattle.scenario_text.specs.Tables.{HasNumber};
+
+use crate::refusal::{Place, ScenarioError};
+use toml::value::Array;
+use toml::{Table, Value};
+
+/// The value under a key.
+pub(crate) fn value_at<'a>(table: &'a Table, key: &str) -> Option<&'a Value>
+    ensures { option_map (λ v. view v.now) result ≡ get_member key.now (table_view table.now) }
+{
+    table.get(key)
+}
+
+/// The number under a key that has to be there, in its range.
+pub(crate) fn number_at(
+    table: &Table,
+    place: Place,
+    key: &'static str,
+    low: u64,
+    high: u64,
+) -> Result<u64, ScenarioError>
+    ensures fault { IfErr result IsOfSpelling }
+    ensures number { MatchResult result (λ n. HasNumber (table_view table.now) key.entry.now low high n)
+        (λ _. (n : ℕ) → HasNumber (table_view table.now) key.entry.now low high n → ⊥) }
+{
+    let Some(value) = value_at(table, key) else {
+        return Err(ScenarioError::MissingKey { place, key });
+    };
+    let Some(signed) = value.as_integer() else {
+        return Err(ScenarioError::WrongKind { place, key });
+    };
+    match u64::try_from(signed) {
+        Ok(number) if low <= number && number <= high => Ok(number),
+        _ => Err(ScenarioError::OutOfRange { place, key }),
+    }
+}
+
+fn is_all_tables(array: &Array) -> bool
+    ensures { result ≡ list_all (λ v. is_table (view v)) array.now.items }
+{
+    array.iter().all(|value| value.is_table())
+}
+
+#[tactic(auto, using(crate::proofs::TableLemmas::tables_by_values))]
+fn has_all_tables(array: &Array) -> bool
+    ensures { result ≡ all_tables (array_view array.now) }
+{
+    is_all_tables(array)
+}
+
+/// The array of tables under a top key, where the key is there.
+pub(crate) fn tables_at<'a>(
+    table: &'a Table,
+    key: &'static str,
+) -> Result<Option<&'a Array>, ScenarioError>
+    ensures fault { IfErr result IsOfSpelling }
+    ensures tables { is_ok result ≡ are_tables (get_member key.entry.now (table_view table.now)) }
+    ensures array { IfOk result (λ found.
+        option_map (λ a. array_data (array_view a.now)) found ≡ get_member key.entry.now (table_view table.now)) }
+{
+    let place = Place::Top;
+    let Some(value) = value_at(table, key) else {
+        return Ok(None);
+    };
+    let Some(array) = value.as_array() else {
+        return Err(ScenarioError::WrongKind { place, key });
+    };
+    if !has_all_tables(array) {
+        return Err(ScenarioError::WrongKind { place, key });
+    }
+    Ok(Some(array))
+}

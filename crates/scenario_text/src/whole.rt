@@ -1,0 +1,91 @@
+//! A whole table.
+ghost use Rattle.std.specs.Prelude.{◌≡◌, IfOk, IfErr, string_bytes};
+ghost use Rattle.std.specs.BTreeMap.{keys};
+ghost use Rattle.std.specs.List.{list_all};
+ghost use Rattle.toml.specs.View.{table_view};
+ghost use Rattle.scenario_text.specs.Faults.{Excludes};
+ghost use Rattle.scenario_text.specs.Spelling.{SpellsNothing, is_array_key, is_frame_key, is_top_key};
+ghost use Rattle.scenario_text.specs.Tables.{knows};
+ghost use Rattle.scenario_text.specs.Views.{Reads};
+
+use crate::arrays::arrays_at;
+use crate::coin_entries::coin_entries_of;
+use crate::corruptions::corruptions_of;
+use crate::loads::loads_of;
+use crate::refusal::{Place, ScenarioError};
+use crate::scenario::Scenario;
+use crate::setup::setup_of;
+use crate::top::{coins_at, frame_at, key_at};
+use crate::unloads::unloads_of;
+use std::alloc::Global;
+use toml::Table;
+
+fn is_array_key(key: &str) -> bool
+    ensures { result ≡ is_array_key key.now }
+{
+    key == "load" || key == "unload" || key == "corrupt" || key == "coin"
+}
+
+fn is_frame_key(key: &str) -> bool
+    ensures { result ≡ is_frame_key key.now }
+{
+    key == "version"
+        || key == "nodes"
+        || key == "faults"
+        || key == "modulus"
+        || key == "memory"
+        || key == "pulses"
+}
+
+fn is_top_key(key: &str) -> bool
+    ensures { result ≡ is_top_key key.now }
+{
+    is_frame_key(key) || key == "coins" || key == "key" || is_array_key(key)
+}
+
+fn has_top_keys(table: &Table) -> bool
+    ensures { result ≡ list_all (λ key. is_top_key (string_bytes key)) (keys table.now) }
+{
+    table.keys().all(|key| is_top_key(key.as_str()))
+}
+
+#[tactic(auto, using(crate::proofs::TableLemmas::keys_known))]
+fn knows_top_keys(table: &Table) -> bool
+    ensures { result ≡ knows is_top_key (table_view table.now) }
+{
+    has_top_keys(table)
+}
+
+/// The scenario that a table spells, each of whose programs is accepted. The refusal is never `TooLong` or `NotToml`; `Memory`
+/// comes wherever memory is short.
+pub fn scenario_of(alloc: Global, table: &Table) -> Result<Scenario, ScenarioError>
+    ensures reads { IfOk result (Reads (table_view table.now)) }
+    ensures refused { IfErr result (λ e. Excludes e (SpellsNothing (table_view table.now))) }
+{
+    if !knows_top_keys(table) {
+        return Err(ScenarioError::UnknownKey { place: Place::Top });
+    }
+    let frame = frame_at(table)?;
+    let setup = setup_of(frame);
+    let coins = coins_at(table)?;
+    let key = key_at(table, coins)?;
+    let arrays = arrays_at(table)?;
+    let loads = loads_of(alloc, &setup, arrays.loads)?;
+    let unloads = unloads_of(alloc, frame, arrays.unloads)?;
+    let corruptions = corruptions_of(alloc, frame, arrays.corruptions)?;
+    let entries = coin_entries_of(alloc, frame, arrays.entries)?;
+    Ok(Scenario {
+        version: frame.version,
+        nodes: frame.nodes,
+        faults: frame.faults,
+        modulus: frame.modulus,
+        memory: frame.memory,
+        pulses: frame.pulses,
+        coins,
+        key,
+        loads,
+        unloads,
+        corruptions,
+        entries,
+    })
+}
