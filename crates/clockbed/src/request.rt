@@ -5,7 +5,7 @@ ghost use Rattle.commands.specs.Faults.{IsOfCommandLine};
 use clap::error::ErrorKind;
 use clap::{Arg, ArgMatches, Command, Error, value_parser};
 use commands::Fault;
-use commands::request::{ExecOptions, Request, ShapeOptions};
+use commands::request::{ExecOptions, Request, RunOptions, ShapeOptions};
 use node_env::{MAX_MEMORY, MAX_NODES, MEMORY_UNIT};
 use std::alloc::{AllocError, Global};
 use std::convert::AsStr;
@@ -22,6 +22,9 @@ const DEFAULT_FUEL: u64 = 1_000_000;
 
 /// The most fuel that can be named.
 const MOST_FUEL: i64 = 1_000_000_000;
+
+/// The workers of a run for which none are named, and the most that can be named: threads are to come.
+const DEFAULT_WORKERS: u32 = 1;
 
 const HELP_BYTES: usize = 64;
 
@@ -44,6 +47,7 @@ fn parse<S: AsStr>(alloc: Global, words: &[S]) -> Result<Request, Error> {
         Some(("asm", _)) => Ok(Request::Asm),
         Some(("dis", _)) => Ok(Request::Dis),
         Some(("verify", options)) => Ok(Request::Verify(shape_options(options))),
+        Some(("run", options)) => Ok(Request::Run(run_options(options))),
         _ => Err(command.error(ErrorKind::MissingSubcommand, "a command is needed")?),
     }
 }
@@ -54,6 +58,7 @@ struct Helps {
     nodes: InlineText<HELP_BYTES>,
     memory: InlineText<HELP_BYTES>,
     fuel: InlineText<HELP_BYTES>,
+    workers: InlineText<HELP_BYTES>,
 }
 
 impl Helps {
@@ -65,6 +70,9 @@ impl Helps {
             )),
             fuel: InlineText::of(format_args!(
                 "The most steps of the run [default: {DEFAULT_FUEL}]"
+            )),
+            workers: InlineText::of(format_args!(
+                "The workers of a pulse [default: {DEFAULT_WORKERS}]"
             )),
         }
     }
@@ -82,13 +90,22 @@ fn command_line<'a>(alloc: Global, helps: &'a Helps) -> Result<Command<'a>, Allo
     let verify = Command::new(alloc, "verify").about(
         "Accepts or refuses the image on standard input",
     );
+    let workers = Arg::new(alloc, "workers")
+        .long("workers")
+        .value_name("COUNT")
+        .help(helps.workers.as_str())
+        .value_parser(value_parser!(u32).range(1..=i64::from(DEFAULT_WORKERS)));
+    let run = Command::new(alloc, "run").about(
+        "Prints the report of the scenario on standard input",
+    );
     Command::new(alloc, "clockbed")
         .about("A testbed for Byzantine clock synchronisation")
         .subcommand_required(true)
         .subcommand(with_shape(alloc, exec, helps)?.arg(fuel)?)?
         .subcommand(asm)?
         .subcommand(dis)?
-        .subcommand(with_shape(alloc, verify, helps)?)
+        .subcommand(with_shape(alloc, verify, helps)?)?
+        .subcommand(run.arg(workers)?)
 }
 
 /// Adds the options that ask for a shape.
@@ -114,6 +131,12 @@ fn shape_options(options: &ArgMatches<'_>) -> ShapeOptions {
     ShapeOptions {
         nodes: options.get_one::<u32>("nodes").unwrap_or(DEFAULT_NODES),
         memory: options.get_one::<u32>("memory").unwrap_or(DEFAULT_MEMORY),
+    }
+}
+
+fn run_options(options: &ArgMatches<'_>) -> RunOptions {
+    RunOptions {
+        workers: options.get_one::<u32>("workers").unwrap_or(DEFAULT_WORKERS),
     }
 }
 

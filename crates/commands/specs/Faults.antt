@@ -2,7 +2,7 @@
 use Rattle.std.specs.Prelude.{ℕ, ◌<◌, List, length, take, Option}
 use Rattle.std.specs.Io.KnownBytes.{Appends}
 use Rattle.commands.specs.declared.fault.Fault.{Fault}
-use Rattle.commands.specs.declared.fault.Fault.TheVariants.{Read, Write, Memory, CommandLine}
+use Rattle.commands.specs.declared.fault.Fault.TheVariants.{Read, Write, Memory, Thread, CommandLine}
 
 -- the exit status of every fault
 abbrev pub fault_status : ℕ
@@ -13,13 +13,23 @@ abbrev pub IsBeforeWriting : Fault → Type 0
 IsBeforeWriting Read = Unit {0}
 IsBeforeWriting (Write after) = ⊥
 IsBeforeWriting Memory = Unit {0}
+IsBeforeWriting Thread = ⊥
 IsBeforeWriting (CommandLine text) = ⊥
+
+-- a fault of a run
+abbrev pub IsOfRun : Fault → Type 0
+IsOfRun Read = ⊥
+IsOfRun (Write after) = ⊥
+IsOfRun Memory = Unit {0}
+IsOfRun Thread = Unit {0}
+IsOfRun (CommandLine text) = ⊥
 
 -- a fault of the words, before a command begins
 abbrev pub IsOfCommandLine : Fault → Type 0
 IsOfCommandLine Read = ⊥
 IsOfCommandLine (Write after) = ⊥
 IsOfCommandLine Memory = Unit {0}
+IsOfCommandLine Thread = ⊥
 IsOfCommandLine (CommandLine text) = Unit {0}
 
 -- a write took the first bytes of the text, as many as the fault says and not all
@@ -27,4 +37,5 @@ abbrev pub IsCut : Option (List ℕ) → Option (List ℕ) → List ℕ → Faul
 IsCut old new text Read = ⊥
 IsCut old new text (Write after) = (after < length text) × Appends old new (take after text)
 IsCut old new text Memory = ⊥
+IsCut old new text Thread = ⊥
 IsCut old new text (CommandLine said) = ⊥

@@ -7,4 +7,5 @@ pub mod Faults
 pub mod Image
 pub mod Output
 pub mod Verdict
+pub mod Run
 pub mod Perform

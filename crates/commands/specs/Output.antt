@@ -12,6 +12,7 @@ Leaves old new text ending (Ok given) = (given ≡ ending) × Appends old new te
 Leaves old new text ending (Err (faults.Write after)) = (after < length text) × Appends old new (take after text)
 Leaves old new text ending (Err faults.Read) = ⊥
 Leaves old new text ending (Err faults.Memory) = Keeps old new
+Leaves old new text ending (Err faults.Thread) = ⊥
 Leaves old new text ending (Err (faults.CommandLine said)) = ⊥
 
 -- The whole text of what the command answers, with its ending; the first bytes of that text, as many as the fault says and not all, where a
@@ -22,4 +23,5 @@ LeavesAny {A} IsAnswer text ending old new (Err (faults.Write after)) =
     (answer : A) × IsAnswer answer × (after < length (text answer)) × Appends old new (take after (text answer))
 LeavesAny IsAnswer text ending old new (Err faults.Read) = Keeps old new
 LeavesAny IsAnswer text ending old new (Err faults.Memory) = Keeps old new
+LeavesAny IsAnswer text ending old new (Err faults.Thread) = Keeps old new
 LeavesAny IsAnswer text ending old new (Err (faults.CommandLine said)) = ⊥

@@ -8,13 +8,15 @@ use Rattle.commands.specs.declared.ending.Ending.TheVariants.{Done}
 use Rattle.commands.specs.declared.fault.Fault.{Fault}
 use Rattle.commands.specs.declared.image.TheConstants.{IMAGE_BYTES}
 use Rattle.commands.specs.declared.request.Request.{Request}
-use Rattle.commands.specs.declared.request.Request.TheVariants.{Exec, Asm, Dis, Verify, Help}
+use Rattle.commands.specs.declared.request.Request.TheVariants.{Exec, Asm, Dis, Verify, Run, Help}
 use Rattle.commands.specs.Asm.{LeavesImage}
 use Rattle.commands.specs.Dis.{LeavesListing}
 use Rattle.commands.specs.Ending.{status_of}
 use Rattle.commands.specs.Exec.{LeavesAnswer}
 use Rattle.commands.specs.Faults.{fault_status}
 use Rattle.commands.specs.Output.{Leaves}
+use Rattle.commands.specs.Run.{LeavesTold}
+use Rattle.bench_scenario.specs.declared.run.TheConstants.{MOST_BYTES}
 use Rattle.commands.specs.Verdict.{LeavesVerdict}
 
 -- what each command leaves on its output, where the bytes of its input are known, and how it ends
@@ -23,6 +25,7 @@ CarriesOut (Exec asked) input old new ended = IfSome input (λ bytes. LeavesAnsw
 CarriesOut Asm input old new ended = IfSome input (λ bytes. LeavesImage old new (take (TEXT_BYTES + 1) bytes) ended)
 CarriesOut Dis input old new ended = IfSome input (λ bytes. LeavesListing old new (take IMAGE_BYTES bytes) ended)
 CarriesOut (Verify asked) input old new ended = IfSome input (λ bytes. LeavesVerdict old new asked (take IMAGE_BYTES bytes) ended)
+CarriesOut (Run asked) input old new ended = IfSome input (λ bytes. LeavesTold old new bytes ended)
 CarriesOut (Help text) input old new ended = Leaves old new (string_bytes text) Done ended
 
 -- the status of an ending, or of a fault
@@ -40,4 +43,5 @@ TakesFor (Exec asked) old new = TakesAtMost IMAGE_BYTES old new
 TakesFor Asm old new = TakesAtMost (TEXT_BYTES + 1) old new
 TakesFor Dis old new = TakesAtMost IMAGE_BYTES old new
 TakesFor (Verify asked) old new = TakesAtMost IMAGE_BYTES old new
+TakesFor (Run asked) old new = TakesAtMost MOST_BYTES old new
 TakesFor (Help text) old new = new ≡ old

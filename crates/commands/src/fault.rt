@@ -17,6 +17,8 @@ pub enum Fault {
     Write { after: usize },
     /// Memory ran out.
     Memory,
+    /// A thread could not be started.
+    Thread,
     /// The words ask for no command. The text says why, and its last line ends.
     CommandLine { text: String },
 }
@@ -42,7 +44,7 @@ impl Fault {
     {
         let _ = match self {
             Fault::CommandLine { text } => write_fully(err, text.as_bytes()),
-            Fault::Read | Fault::Write { .. } | Fault::Memory => {
+            Fault::Read | Fault::Write { .. } | Fault::Memory | Fault::Thread => {
                 let line = InlineText::<LINE_BYTES>::of(format_args!("{self}\n"));
                 write_fully(err, line.as_str().as_bytes())
             }
@@ -54,7 +56,11 @@ impl Fault {
         ensures { result ≡ fault_status }
     {
         match self {
-            Fault::Read | Fault::Write { .. } | Fault::Memory | Fault::CommandLine { .. } => 1,
+            Fault::Read
+            | Fault::Write { .. }
+            | Fault::Memory
+            | Fault::Thread
+            | Fault::CommandLine { .. } => 1,
         }
     }
 }
@@ -65,6 +71,7 @@ impl fmt::Display for Fault {
             Fault::Read => write!(f, "fault read"),
             Fault::Write { after } => write!(f, "fault write after {after}"),
             Fault::Memory => write!(f, "fault memory"),
+            Fault::Thread => write!(f, "fault thread"),
             Fault::CommandLine { text } => write!(f, "{text}"),
         }
     }

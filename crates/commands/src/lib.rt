@@ -12,6 +12,7 @@ pub mod laws;
 mod output;
 pub mod perform;
 pub mod request;
+mod run;
 mod verdict;
 pub mod verify;
 

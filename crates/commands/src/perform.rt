@@ -9,6 +9,7 @@ use crate::exec::exec;
 use crate::fault::Fault;
 use crate::output::write_whole;
 use crate::request::Request;
+use crate::run::run;
 use crate::verify::verify;
 use std::alloc::Global;
 use std::io::{Read, Write};
@@ -47,6 +48,7 @@ fn carry_out<R: Read, W: Write>(
         Request::Asm => asm(alloc, reader, out),
         Request::Dis => dis(alloc, reader, out),
         Request::Verify(options) => verify(alloc, *options, reader, out),
+        Request::Run(options) => run(alloc, *options, reader, out),
         Request::Help { text } => write_whole(out, text.as_bytes(), Ending::Done),
     }
 }

@@ -7,6 +7,7 @@ pub enum Request {
     Asm,
     Dis,
     Verify(ShapeOptions),
+    Run(RunOptions),
     /// A text whose last line ends.
     Help { text: String },
 }
@@ -17,6 +18,13 @@ pub struct ShapeOptions {
     pub nodes: u32,
     /// The bytes of a node's memory.
     pub memory: u32,
+}
+
+/// The options of `run`.
+#[derive(Clone, Copy, Debug, PartialEq, Eq)]
+pub struct RunOptions {
+    /// On how many workers the tasks of a pulse are run. The report is the same for every number.
+    pub workers: u32,
 }
 
 /// The options of `exec`.

@@ -1,0 +1,32 @@
+-- What `run` leaves on its output (docs/COMMANDS.md, "What run prints").
+use Rattle.std.specs.Prelude.{ℕ, List, ◌++◌, codes, Option, Result}
+use Rattle.scenario_text.specs.declared.refusal.ScenarioError.{ScenarioError}
+use Rattle.scenario_text.specs.Lines.{refusal_line}
+use Rattle.scenario_text.specs.Texts.{IsDue}
+use Rattle.bench_scenario.specs.Runs.{Reports}
+use Rattle.commands.specs.declared.ending.Ending.{Ending}
+use Rattle.commands.specs.declared.ending.Ending.TheVariants.{Done, Refused}
+use Rattle.commands.specs.declared.fault.Fault.{Fault}
+use Rattle.commands.specs.Output.{LeavesAny}
+
+-- the report of a text, or why it has none
+pub data Told : Type 0 where
+  Report : (line : List ℕ) → Told
+  Refusal : (error : ScenarioError) → Told
+
+abbrev pub IsTold : List ℕ → Told → Type 0
+IsTold text (Report line) = Reports text line
+IsTold text (Refusal error) = IsDue text error
+
+-- what is printed: the report, or the line of the refusal
+abbrev pub told_text : Told → List ℕ
+told_text (Report line) = line
+told_text (Refusal error) = refusal_line error ++ codes "\n"
+
+abbrev pub told_ending : Told → Ending
+told_ending (Report line) = Done
+told_ending (Refusal error) = Refused
+
+-- the report of the run of the scenario that the text says, or the line that refuses it
+abbrev pub LeavesTold : Option (List ℕ) → Option (List ℕ) → List ℕ → Result Ending Fault → Type 0
+LeavesTold old new text result = LeavesAny (IsTold text) told_text told_ending old new result

@@ -1,0 +1,70 @@
+//! `run`: the report of the scenario on standard input.
+ghost use Rattle.std.specs.Prelude.{IfSome};
+ghost use Rattle.bench_scenario.specs.declared.run.TheConstants.{MOST_BYTES};
+ghost use Rattle.stream_io.specs.Streams.{TakesAtMost};
+ghost use Rattle.commands.specs.declared.ending.Ending.TheVariants.{Refused};
+ghost use Rattle.commands.specs.Faults.{IsOfRun};
+ghost use Rattle.commands.specs.Output.{Leaves};
+ghost use Rattle.commands.specs.Run.{LeavesTold, Refusal, told_text};
+
+use crate::ending::Ending;
+use crate::fault::Fault;
+use crate::output::write_whole;
+use crate::request::RunOptions;
+use bench_engine::{MOST_WORKERS, RunFault, RunRefusal};
+use bench_scenario::{ScenarioFault, run_scenario};
+use scenario_text::{RefusalLine, ScenarioError};
+use std::alloc::Global;
+use std::io::{Read, Write};
+
+/// Writes the report of the run of the scenario that is read, or the line that refuses it. A number of workers that is none is the
+/// nearest that is one.
+pub fn run<R: Read, W: Write>(
+    alloc: Global,
+    options: RunOptions,
+    reader: &mut R,
+    out: &mut W,
+) -> Result<Ending, Fault>
+    ensures told { IfSome (R.remaining reader.old) (λ input.
+        LeavesTold (W.contents out.old) (W.contents out.new) input result) }
+    ensures front { TakesAtMost MOST_BYTES (R.remaining reader.old) (R.remaining reader.new) }
+{
+    let workers = options.workers.clamp(1, MOST_WORKERS);
+    match run_scenario(alloc, reader, out, workers) {
+        Ok(()) => Ok(Ending::Done),
+        Err(ScenarioFault::Read) => Err(Fault::Read),
+        Err(ScenarioFault::Refused(error)) => write_refusal(alloc, &error, out),
+        Err(ScenarioFault::Run(fault)) => Err(fault_of(fault)),
+        Err(ScenarioFault::Write { written }) => Err(Fault::Write {
+            after: written as usize,
+        }),
+        Err(ScenarioFault::Memory) => Err(Fault::Memory),
+    }
+}
+
+/// A run of a scenario stops for want of memory or of a thread alone.
+fn fault_of(fault: RunFault) -> Fault
+    ensures { IsOfRun result }
+{
+    match fault.fault {
+        RunRefusal::NoThread => Fault::Thread,
+        RunRefusal::Memory
+        | RunRefusal::BadNode
+        | RunRefusal::OtherShape
+        | RunRefusal::BadImage
+        | RunRefusal::HistoryFull
+        | RunRefusal::BadCoins
+        | RunRefusal::GateShut => Fault::Memory,
+    }
+}
+
+fn write_refusal<W: Write>(
+    alloc: Global,
+    error: &ScenarioError,
+    out: &mut W,
+) -> Result<Ending, Fault>
+    ensures { Leaves (W.contents out.old) (W.contents out.new) (told_text (Refusal error.now)) Refused result }
+{
+    let line = format!(in alloc; "{}\n", RefusalLine(error)).map_err(|_| Fault::Memory)?;
+    write_whole(out, line.as_bytes(), Ending::Refused)
+}
