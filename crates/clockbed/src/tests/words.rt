@@ -3,7 +3,7 @@ use super::*;
 
 #[test]
 fn refuses_a_command_line(rt: HostRuntime) {
-    let lines: [&[&str]; 23] = [
+    let lines: [&[&str]; 26] = [
         &[],
         &["clockbed"],
         &["clockbed", "fly"],
@@ -27,6 +27,9 @@ fn refuses_a_command_line(rt: HostRuntime) {
         &["clockbed", "exec", "--memory", "7"],
         &["clockbed", "exec", "--memory", "257"],
         &["clockbed", "exec", "--memory", "4294967304"],
+        &["clockbed", "run", "more"],
+        &["clockbed", "run", "--workers", "0"],
+        &["clockbed", "run", "--workers", "2"],
     ];
     for words in lines {
         let got = run_on(rt.alloc(), words, SEVEN);
@@ -38,13 +41,14 @@ fn refuses_a_command_line(rt: HostRuntime) {
 
 #[test]
 fn helps_on_standard_output(rt: HostRuntime) {
-    let lines: [&[&str]; 6] = [
+    let lines: [&[&str]; 7] = [
         &["clockbed", "--help"],
         &["clockbed", "help"],
         &["clockbed", "exec", "--help"],
         &["clockbed", "asm", "--help"],
         &["clockbed", "dis", "--help"],
         &["clockbed", "verify", "--help"],
+        &["clockbed", "run", "--help"],
     ];
     for words in lines {
         let got = run_on(rt.alloc(), words, b"");
