@@ -4,6 +4,7 @@ use Rattle.std.specs.Prelude.{◌⊎◌, Option, Some, None, IfSome, IsErrAnd, R
 use Rattle.std.proofs.lemmas.Bool.{cases_lt}
 use Rattle.std.proofs.lemmas.List.{length-take-le, take_all}
 use Rattle.std.specs.Io.KnownBytes.{Appends, Keeps}
+use Rattle.bench_engine.specs.declared.event.RunRefusal.{RunRefusal}
 use Rattle.scenario_text.specs.declared.limits.TheConstants.{MAX_TEXT}
 use Rattle.scenario_text.specs.declared.refusal.ScenarioError.{ScenarioError}
 use Rattle.scenario_text.specs.declared.refusal.ScenarioError.TheVariants as errors
@@ -11,7 +12,7 @@ use Rattle.scenario_text.specs.Texts.{IsDue}
 use Rattle.bench_scenario.specs.declared.run.TheConstants.{MOST_BYTES}
 use Rattle.bench_scenario.specs.declared.run.ScenarioFault.{ScenarioFault}
 use Rattle.bench_scenario.specs.declared.run.ScenarioFault.TheVariants as faults
-use Rattle.bench_scenario.specs.Runs.{IsDueOf, LeavesReport, Reports}
+use Rattle.bench_scenario.specs.Runs.{IsDueOf, LeavesReport, Reports, StopsAt}
 
 -- the whole text was read, or both are too long
 pub record IsFront (bytes text : List ℕ) : Type 0 where
@@ -49,11 +50,14 @@ due_whole bytes text (errors.BadText load error) is due = due_when bytes text (e
 due_whole bytes text (errors.NotAccepted load key slot rule) is due = due_when bytes text (errors.NotAccepted load key slot rule) is due.1.0 due
 due_whole bytes text (errors.Memory gone) is due = due
 
+stops_whole : (bytes text : List ℕ) (event : ℕ) (refusal : RunRefusal) → IsFront bytes text → StopsAt bytes event refusal → StopsAt text event refusal
+stops_whole bytes text event refusal is stops = subst (λ t. StopsAt t event refusal) (whole_of bytes text is stops.reads.1.0) stops
+
 fault_here : (old : Option (List ℕ)) (bytes text : List ℕ) (fault : ScenarioFault) → IsFront bytes text → Keeps old old → IsDueOf bytes fault
     → LeavesReport old old text (Err fault)
 fault_here old bytes text faults.Read is kept due = absurd due
 fault_here old bytes text (faults.Refused error) is kept due = (due_whole bytes text error is due, kept)
-fault_here old bytes text (faults.Run fault) is kept due = (due, kept)
+fault_here old bytes text (faults.Run stop) is kept due = (stops_whole bytes text stop.event stop.fault is due, kept)
 fault_here old bytes text (faults.Write written) is kept due = absurd due
 fault_here old bytes text faults.Memory is kept due = kept
 

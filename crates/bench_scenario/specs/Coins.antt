@@ -29,7 +29,8 @@ drawn Chacha key place = coin_at key place
 -- the coin after the entries of this pulse and node: the last one wins
 abbrev pub replaced : List CoinEntry → ℕ → ℕ → ℕ → ℕ
 replaced [] pulse node coin = coin
-replaced (e ∷ es) pulse node coin = replaced es pulse node (if (e.pulse == pulse) && (e.node == node) then e.value else coin)
+replaced (e ∷ es) pulse node coin = replaced es pulse node (if (e.pulse == pulse) && (e.node == node)
+    then e.value else coin)
 
 abbrev pub coin_of : Scenario → ℕ → ℕ → ℕ
 coin_of s pulse node =

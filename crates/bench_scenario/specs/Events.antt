@@ -21,7 +21,8 @@ corrupt_events p c = if c.pulse == p then Stage (CorruptChange c.node c.image.it
 -- what is staged before a pulse: its loads, its unloads and its corruptions, each in order
 abbrev pub changes_at : Scenario → ℕ → List Event
 changes_at s p =
-    flat_map (load_events p) s.loads.items ++ (flat_map (unload_events p) s.unloads.items ++ flat_map (corrupt_events p) s.corruptions.items)
+    flat_map (load_events p) s.loads.items ++ (flat_map (unload_events p) s.unloads.items
+    ++ flat_map (corrupt_events p) s.corruptions.items)
 
 -- then the pulse itself
 abbrev pub events_at : Scenario → ℕ → List Event

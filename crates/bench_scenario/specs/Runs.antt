@@ -6,7 +6,7 @@ use Rattle.bench_core.specs.Settled.{PulseTold}
 use Rattle.bench_core.specs.Views.{setup_of}
 use Rattle.bench_engine.specs.declared.event.RunRefusal.{RunRefusal}
 use Rattle.bench_engine.specs.declared.event.RunRefusal.TheVariants as refusals
-use Rattle.bench_engine.specs.Runs.{IsRun}
+use Rattle.bench_engine.specs.Runs.{IsFault, IsRun}
 use Rattle.scenario_text.specs.declared.scenario.Scenario.{Scenario}
 use Rattle.scenario_text.specs.Spelling.{rule_of}
 use Rattle.scenario_text.specs.Texts.{IsDue, ReadsText}
@@ -40,11 +40,18 @@ IsMemoryOrThread refusals.HistoryFull = ⊥
 IsMemoryOrThread refusals.BadCoins = ⊥
 IsMemoryOrThread refusals.GateShut = ⊥
 
+-- the run of the scenario that the text says stopped at that event, and only for want of memory or of a thread
+pub record StopsAt (text : List ℕ) (event : ℕ) (refusal : RunRefusal) : Type 0 where
+  pub scenario : Scenario
+  pub reads : ReadsText text scenario
+  pub fault : IsFault (bench_of scenario) (events_of scenario) event refusal
+  pub want : IsMemoryOrThread refusal
+
 -- why there is no report of the text. A text that can't be read whole has none, and no write comes before there is one
 abbrev pub IsDueOf : List ℕ → ScenarioFault → Type 0
 IsDueOf text faults.Read = ⊥
 IsDueOf text (faults.Refused error) = IsDue text error
-IsDueOf text (faults.Run fault) = IsMemoryOrThread fault.fault
+IsDueOf text (faults.Run stop) = StopsAt text stop.event stop.fault
 IsDueOf text (faults.Write written) = ⊥
 IsDueOf text faults.Memory = Unit {0}
 
@@ -54,6 +61,6 @@ LeavesReport old new text (Ok done) = (line : List ℕ) × Reports text line × 
 LeavesReport old new text (Err (faults.Write written)) =
     (line : List ℕ) × Reports text line × (written < length line) × Appends old new (take written line)
 LeavesReport old new text (Err (faults.Refused error)) = IsDue text error × Keeps old new
-LeavesReport old new text (Err (faults.Run fault)) = IsMemoryOrThread fault.fault × Keeps old new
+LeavesReport old new text (Err (faults.Run stop)) = StopsAt text stop.event stop.fault × Keeps old new
 LeavesReport old new text (Err faults.Read) = Keeps old new
 LeavesReport old new text (Err faults.Memory) = Keeps old new

@@ -28,7 +28,8 @@ fn drawn_coins(
     place: u64,
     count: u32,
 ) -> Result<Vec<u32>, AllocError>
-    ensures { IfOk result (λ drawn_ones. drawn_ones.items ≡ map (λ node. drawn coins key (place + node)) (places_below count)) }
+    ensures { IfOk result (λ drawn_ones. drawn_ones.items ≡ map
+        (λ node. drawn coins key (place + node)) (places_below count)) }
 {
     let mut generator = generator_at(key, place);
     let mut drawn = Vec::with_capacity(alloc, count as usize)?;
@@ -47,7 +48,8 @@ fn drawn_coins(
 /// Sets the coin of an entry of this pulse.
 fn replace_coin(coins: &mut [u32], entry: &CoinEntry, pulse: u32)
     ensures { (f : ℕ → ℕ) (n : ℕ) → coins.old ≡ map f (places_below n)
-        → coins.new ≡ map (λ node. if (entry.now.pulse == pulse) && (entry.now.node == node) then entry.now.value else f node) (places_below n) }
+        → coins.new ≡ map (λ node. if (entry.now.pulse == pulse) && (entry.now.node == node)
+        then entry.now.value else f node) (places_below n) }
 {
     if entry.pulse != pulse {
         return;

@@ -8,5 +8,8 @@ mod schedule;
 
 pub use printing::report;
 pub use run::{MOST_BYTES, MOST_CALLS, ScenarioFault, run_scenario};
-pub use scenario_text::{Scenario, ScenarioError, scenario_of};
+pub use scenario_text::{RefusalLine, Scenario, ScenarioError, scenario_of};
 pub use schedule::events;
+
+#[cfg(test)]
+mod tests;

@@ -67,8 +67,8 @@ fn report_in(alloc: Global, bytes: &[u8], workers: u32) -> Result<String, Scenar
     Ok(line)
 }
 
-/// Reads a scenario's text, runs it on so many workers, and writes the report. At most [`MOST_BYTES`] bytes are read, by at
-/// most [`MOST_CALLS`] calls of `read`. The report is whole before its first byte is written.
+/// Reads a scenario's text, runs it on so many workers, and writes the report. At most [`MOST_BYTES`] bytes are read, by
+/// at most [`MOST_CALLS`] calls of `read`. The report is whole before its first byte is written.
 #[tactic(auto, using(crate::proofs::StreamLemmas::fault_left, crate::proofs::StreamLemmas::report_left, crate::proofs::StreamLemmas::front_left))]
 pub fn run_scenario<R: Read, W: Write>(
     alloc: Global,
@@ -88,7 +88,8 @@ pub fn run_scenario<R: Read, W: Write>(
         Err(ReadFault::Memory) => return Err(ScenarioFault::Memory),
     };
     let line = report_in(alloc, bytes.as_slice(), workers)?;
-    match write_fully(writer, line.as_bytes()) {
+    let told = line.as_bytes();
+    match write_fully(writer, told) {
         Ok(()) => Ok(()),
         Err(WriteFault { written }) => Err(ScenarioFault::Write {
             written: written as u64,

@@ -15,7 +15,8 @@ fn add_load(
     load: &Load,
     pulse: u32,
 ) -> Result<(), AllocError>
-    ensures { OnOk result (map event_of events.new.items ≡ map event_of events.old.items ++ load_events pulse load.now) }
+    ensures { OnOk result (map event_of events.new.items ≡ map event_of events.old.items
+        ++ load_events pulse load.now) }
 {
     if load.pulse != pulse {
         return Ok(());
@@ -36,7 +37,8 @@ fn add_loads(
     loads: &[Load],
     pulse: u32,
 ) -> Result<(), AllocError>
-    ensures { OnOk result (map event_of events.new.items ≡ map event_of events.old.items ++ flat_map (load_events pulse) loads.now) }
+    ensures { OnOk result (map event_of events.new.items ≡ map event_of events.old.items
+        ++ flat_map (load_events pulse) loads.now) }
 {
     for load in loads {
         add_load(alloc, events, load, pulse)?;
@@ -45,7 +47,8 @@ fn add_loads(
 }
 
 fn add_unloads(events: &mut Vec<Event>, unloads: &[Unload], pulse: u32) -> Result<(), AllocError>
-    ensures { OnOk result (map event_of events.new.items ≡ map event_of events.old.items ++ flat_map (unload_events pulse) unloads.now) }
+    ensures { OnOk result (map event_of events.new.items ≡ map event_of events.old.items
+        ++ flat_map (unload_events pulse) unloads.now) }
 {
     for unload in unloads {
         if unload.pulse == pulse {
@@ -61,7 +64,8 @@ fn add_corruptions(
     corruptions: &[Corrupt],
     pulse: u32,
 ) -> Result<(), AllocError>
-    ensures { OnOk result (map event_of events.new.items ≡ map event_of events.old.items ++ flat_map (corrupt_events pulse) corruptions.now) }
+    ensures { OnOk result (map event_of events.new.items ≡ map event_of events.old.items
+        ++ flat_map (corrupt_events pulse) corruptions.now) }
 {
     for corruption in corruptions {
         if corruption.pulse == pulse {
@@ -81,7 +85,8 @@ fn add_changes(
     scenario: &Scenario,
     pulse: u32,
 ) -> Result<(), AllocError>
-    ensures { OnOk result (map event_of events.new.items ≡ map event_of events.old.items ++ changes_at scenario.now pulse) }
+    ensures { OnOk result (map event_of events.new.items ≡ map event_of events.old.items
+        ++ changes_at scenario.now pulse) }
 {
     add_loads(alloc, events, scenario.loads.as_slice(), pulse)?;
     add_unloads(events, scenario.unloads.as_slice(), pulse)?;
@@ -95,7 +100,8 @@ fn add_events(
     pulse: u32,
 ) -> Result<(), AllocError>
     requires { 1 ≤ pulse }
-    ensures { OnOk result (map event_of events.new.items ≡ map event_of events.old.items ++ events_at scenario.now pulse) }
+    ensures { OnOk result (map event_of events.new.items ≡ map event_of events.old.items
+        ++ events_at scenario.now pulse) }
 {
     add_changes(alloc, events, scenario, pulse)?;
     let coins = coins_of(alloc, scenario, pulse)?;

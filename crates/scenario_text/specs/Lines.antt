@@ -40,8 +40,11 @@ refusal_line (errors.UnknownKey place) = codes "refused scenario UnknownKey " ++
 refusal_line (errors.MissingKey place key) = codes "refused scenario MissingKey " ++ path_text place key.now
 refusal_line (errors.WrongKind place key) = codes "refused scenario WrongKind " ++ path_text place key.now
 refusal_line (errors.OutOfRange place key) = codes "refused scenario OutOfRange " ++ path_text place key.now
-refusal_line (errors.UnknownProgram load) = codes "refused scenario UnknownProgram " ++ path_text (places.Load load) (codes "program")
-refusal_line (errors.BadText load error) = codes "refused scenario BadText " ++ (path_text (places.Load load) (codes "text") ++ (codes " " ++ text_fault error))
+refusal_line (errors.UnknownProgram load) = codes "refused scenario UnknownProgram "
+    ++ path_text (places.Load load) (codes "program")
+refusal_line (errors.BadText load error) = codes "refused scenario BadText "
+    ++ (path_text (places.Load load) (codes "text") ++ (codes " " ++ text_fault error))
 refusal_line (errors.NotAccepted load key slot rule) =
-    codes "refused scenario NotAccepted " ++ (path_text (places.Load load) key.now ++ (codes " rule " ++ (decimal (rule_number rule) ++ (codes " slot " ++ decimal slot))))
+    codes "refused scenario NotAccepted " ++ (path_text (places.Load load) key.now ++ (codes " rule "
+    ++ (decimal (rule_number rule) ++ (codes " slot " ++ decimal slot))))
 refusal_line (errors.Memory _) = codes "refused scenario Memory"

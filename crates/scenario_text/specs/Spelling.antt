@@ -23,12 +23,13 @@ use Rattle.scenario_text.specs.declared.scenario.Frame.{Frame}
 
 abbrev pub is_frame_key : List ℕ → Bool
 is_frame_key key =
-    bytes_eq key (codes "version") || (bytes_eq key (codes "nodes") || (bytes_eq key (codes "faults") || (bytes_eq key (codes "modulus")
-    || (bytes_eq key (codes "memory") || bytes_eq key (codes "pulses")))))
+    bytes_eq key (codes "version") || (bytes_eq key (codes "nodes") || (bytes_eq key (codes "faults")
+    || (bytes_eq key (codes "modulus") || (bytes_eq key (codes "memory") || bytes_eq key (codes "pulses")))))
 
 abbrev pub is_array_key : List ℕ → Bool
 is_array_key key =
-    bytes_eq key (codes "load") || (bytes_eq key (codes "unload") || (bytes_eq key (codes "corrupt") || bytes_eq key (codes "coin")))
+    bytes_eq key (codes "load") || (bytes_eq key (codes "unload") || (bytes_eq key (codes "corrupt")
+    || bytes_eq key (codes "coin")))
 
 abbrev pub is_top_key : List ℕ → Bool
 is_top_key key = is_frame_key key || (bytes_eq key (codes "coins") || (bytes_eq key (codes "key") || is_array_key key))
@@ -36,7 +37,8 @@ is_top_key key = is_frame_key key || (bytes_eq key (codes "coins") || (bytes_eq 
 -- the version is the first where it isn't told
 abbrev pub HasVersion : Members → ℕ → Type 0
 HasVersion members version =
-    ((get_member (codes "version") members ≡ None) × (version ≡ FIRST_VERSION)) ⊎ HasNumber members (codes "version") FIRST_VERSION LAST_VERSION version
+    ((get_member (codes "version") members ≡ None) × (version ≡ FIRST_VERSION))
+    ⊎ HasNumber members (codes "version") FIRST_VERSION LAST_VERSION version
 
 -- the first version has fewer nodes
 abbrev pub most_nodes : ℕ → ℕ

@@ -102,11 +102,16 @@ fn room_after(array: Option<&Array>, key: &'static str, room: usize) -> Result<u
 /// The arrays of a table, each of tables, and together not too long.
 pub(crate) fn arrays_at<'a>(table: &'a Table) -> Result<Arrays<'a>, ScenarioError>
     ensures fault { IfErr result IsOfSpelling }
-    ensures has { MatchResult result (λ _. HasArrays (table_view table.now)) (λ _. HasArrays (table_view table.now) → ⊥) }
-    ensures loads { IfOk result (λ a. option_map (λ v. array_data (array_view v.now)) a.loads ≡ get_member (codes "load") (table_view table.now)) }
-    ensures unloads { IfOk result (λ a. option_map (λ v. array_data (array_view v.now)) a.unloads ≡ get_member (codes "unload") (table_view table.now)) }
-    ensures corruptions { IfOk result (λ a. option_map (λ v. array_data (array_view v.now)) a.corruptions ≡ get_member (codes "corrupt") (table_view table.now)) }
-    ensures entries { IfOk result (λ a. option_map (λ v. array_data (array_view v.now)) a.entries ≡ get_member (codes "coin") (table_view table.now)) }
+    ensures has { MatchResult result (λ _. HasArrays (table_view table.now))
+        (λ _. HasArrays (table_view table.now) → ⊥) }
+    ensures loads { IfOk result (λ a. option_map (λ v. array_data (array_view v.now)) a.loads
+        ≡ get_member (codes "load") (table_view table.now)) }
+    ensures unloads { IfOk result (λ a. option_map (λ v. array_data (array_view v.now)) a.unloads
+        ≡ get_member (codes "unload") (table_view table.now)) }
+    ensures corruptions { IfOk result (λ a. option_map (λ v. array_data (array_view v.now)) a.corruptions
+        ≡ get_member (codes "corrupt") (table_view table.now)) }
+    ensures entries { IfOk result (λ a. option_map (λ v. array_data (array_view v.now)) a.entries
+        ≡ get_member (codes "coin") (table_view table.now)) }
 {
     let loads = tables_at(table, "load")?;
     let room = room_after_loads(loads, MAX_CHANGES)?;

@@ -101,7 +101,8 @@ pub(crate) fn coin_entries_of(
     requires { 1 ≤ frame.nodes }
     ensures entries { IfOk result (λ es. MayBeArray (IsTable (SpelledCoin frame))
         (option_map (λ a. array_data (array_view a.now)) array.entry) es.items) }
-    ensures refused { IfErr result (λ e. Excludes e ((es : List CoinEntryValue) → MayBeArray (IsTable (SpelledCoin frame))
+    ensures refused { IfErr result (λ e. Excludes e ((es : List CoinEntryValue)
+        → MayBeArray (IsTable (SpelledCoin frame))
         (option_map (λ a. array_data (array_view a.now)) array.entry) es → ⊥)) }
 {
     match array {

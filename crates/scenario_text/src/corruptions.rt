@@ -46,7 +46,9 @@ fn image_at(
     index: usize,
     memory: u32,
 ) -> Result<Vec<u8>, ScenarioError>
-    ensures image { IfOk result (λ bs. IsArray (IsNumber 0 255) (get_member (codes "image") (table_view table.now)) bs.items × (length bs.items ≡ memory)) }
+    ensures image { IfOk result
+        (λ bs. IsArray (IsNumber 0 255) (get_member (codes "image") (table_view table.now)) bs.items
+        × (length bs.items ≡ memory)) }
     ensures refused { IfErr result (λ e. Excludes e ((bs : List ℕ) →
         IsArray (IsNumber 0 255) (get_member (codes "image") (table_view table.now)) bs → length bs ≡ memory → ⊥)) }
 {
@@ -70,7 +72,8 @@ fn corruption_of(
 ) -> Result<Corrupt, ScenarioError>
     requires { 1 ≤ frame.nodes }
     ensures corrupt { IfOk result (λ c. SpelledCorrupt frame (table_view table.now) (corrupt_of c)) }
-    ensures refused { IfErr result (λ e. Excludes e ((c : CorruptDraft) → SpelledCorrupt frame (table_view table.now) c → ⊥)) }
+    ensures refused { IfErr result (λ e. Excludes e ((c : CorruptDraft)
+        → SpelledCorrupt frame (table_view table.now) c → ⊥)) }
 {
     let place = Place::Corrupt(index);
     if !knows_corrupt_keys(table) {
@@ -94,7 +97,8 @@ fn corruption_in(
 ) -> Result<Corrupt, ScenarioError>
     requires { 1 ≤ frame.nodes }
     ensures corrupt { IfOk result (λ c. IsTable (SpelledCorrupt frame) (view value.now) (corrupt_of c)) }
-    ensures refused { IfErr result (λ e. Excludes e ((c : CorruptDraft) → IsTable (SpelledCorrupt frame) (view value.now) c → ⊥)) }
+    ensures refused { IfErr result (λ e. Excludes e ((c : CorruptDraft)
+        → IsTable (SpelledCorrupt frame) (view value.now) c → ⊥)) }
 {
     let Some(table) = value.as_table() else {
         return Err(ScenarioError::WrongKind {
@@ -107,7 +111,8 @@ fn corruption_in(
 
 fn corruptions_in(alloc: Global, frame: Frame, array: &Array) -> Result<Vec<Corrupt>, ScenarioError>
     requires { 1 ≤ frame.nodes }
-    ensures corruptions { IfOk result (λ cs. ReadsEach (IsTable (SpelledCorrupt frame)) (array_view array.now) (map corrupt_of cs.items)) }
+    ensures corruptions { IfOk result (λ cs.
+        ReadsEach (IsTable (SpelledCorrupt frame)) (array_view array.now) (map corrupt_of cs.items)) }
     ensures refused { IfErr result (λ e. Excludes e ((cs : List CorruptDraft) →
         ReadsEach (IsTable (SpelledCorrupt frame)) (array_view array.now) cs → ⊥)) }
 {
@@ -130,7 +135,8 @@ pub(crate) fn corruptions_of(
     requires { 1 ≤ frame.nodes }
     ensures corruptions { IfOk result (λ cs. MayBeArray (IsTable (SpelledCorrupt frame))
         (option_map (λ a. array_data (array_view a.now)) array.entry) (map corrupt_of cs.items)) }
-    ensures refused { IfErr result (λ e. Excludes e ((cs : List CorruptDraft) → MayBeArray (IsTable (SpelledCorrupt frame))
+    ensures refused { IfErr result (λ e. Excludes e ((cs : List CorruptDraft)
+        → MayBeArray (IsTable (SpelledCorrupt frame))
         (option_map (λ a. array_data (array_view a.now)) array.entry) cs → ⊥)) }
 {
     match array {

@@ -88,7 +88,9 @@ fn said_at(
     index: usize,
     nodes: u32,
 ) -> Result<Vec<Option<u32>>, ScenarioError>
-    ensures said { IfOk result (λ vs. IsArray IsSaid (get_member (codes "values") (table_view table.now)) vs.items × (length vs.items ≡ nodes)) }
+    ensures said { IfOk result
+        (λ vs. IsArray IsSaid (get_member (codes "values") (table_view table.now)) vs.items
+        × (length vs.items ≡ nodes)) }
     ensures refused { IfErr result (λ e. Excludes e ((vs : List (Option ℕ)) →
         IsArray IsSaid (get_member (codes "values") (table_view table.now)) vs → length vs ≡ nodes → ⊥)) }
 {
@@ -189,7 +191,8 @@ fn load_of(alloc: Global, setup: &Setup, index: usize, table: &Table) -> Result<
     requires { IsSetup setup.now }
     ensures load { IfOk result (λ load. SpelledLoad setup.now.frame (table_view table.now) (load_of load)) }
     ensures fits { IfOk result (FitsLoad setup.now.frame) }
-    ensures refused { IfErr result (λ e. Excludes e ((load : LoadDraft) → SpelledLoad setup.now.frame (table_view table.now) load → ⊥)) }
+    ensures refused { IfErr result (λ e. Excludes e ((load : LoadDraft)
+        → SpelledLoad setup.now.frame (table_view table.now) load → ⊥)) }
 {
     let place = Place::Load(index);
     let frame = setup.frame;
@@ -213,7 +216,8 @@ fn load_in(alloc: Global, setup: &Setup, index: usize, value: &Value) -> Result<
     requires { IsSetup setup.now }
     ensures load { IfOk result (λ load. IsTable (SpelledLoad setup.now.frame) (view value.now) (load_of load)) }
     ensures fits { IfOk result (FitsLoad setup.now.frame) }
-    ensures refused { IfErr result (λ e. Excludes e ((load : LoadDraft) → IsTable (SpelledLoad setup.now.frame) (view value.now) load → ⊥)) }
+    ensures refused { IfErr result (λ e. Excludes e ((load : LoadDraft)
+        → IsTable (SpelledLoad setup.now.frame) (view value.now) load → ⊥)) }
 {
     let Some(table) = value.as_table() else {
         return Err(ScenarioError::WrongKind {
@@ -226,7 +230,8 @@ fn load_in(alloc: Global, setup: &Setup, index: usize, value: &Value) -> Result<
 
 fn loads_in(alloc: Global, setup: &Setup, array: &Array) -> Result<Vec<Load>, ScenarioError>
     requires { IsSetup setup.now }
-    ensures loads { IfOk result (λ ls. ReadsEach (IsTable (SpelledLoad setup.now.frame)) (array_view array.now) (map load_of ls.items)) }
+    ensures loads { IfOk result
+        (λ ls. ReadsEach (IsTable (SpelledLoad setup.now.frame)) (array_view array.now) (map load_of ls.items)) }
     ensures fits { IfOk result (λ ls. All (FitsLoad setup.now.frame) ls.items) }
     ensures refused { IfErr result (λ e. Excludes e ((ls : List LoadDraft) →
         ReadsEach (IsTable (SpelledLoad setup.now.frame)) (array_view array.now) ls → ⊥)) }
@@ -251,7 +256,8 @@ pub(crate) fn loads_of(
     ensures loads { IfOk result (λ ls. MayBeArray (IsTable (SpelledLoad setup.now.frame))
         (option_map (λ a. array_data (array_view a.now)) array.entry) (map load_of ls.items)) }
     ensures fits { IfOk result (λ ls. All (FitsLoad setup.now.frame) ls.items) }
-    ensures refused { IfErr result (λ e. Excludes e ((ls : List LoadDraft) → MayBeArray (IsTable (SpelledLoad setup.now.frame))
+    ensures refused { IfErr result (λ e. Excludes e ((ls : List LoadDraft)
+        → MayBeArray (IsTable (SpelledLoad setup.now.frame))
         (option_map (λ a. array_data (array_view a.now)) array.entry) ls → ⊥)) }
 {
     match array {

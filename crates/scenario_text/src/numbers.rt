@@ -27,7 +27,8 @@ pub(crate) fn integers_at<'a>(
     key: &'static str,
 ) -> Result<&'a Array, ScenarioError>
     ensures fault { IfErr result IsOfSpelling }
-    ensures array { IfOk result (λ a. get_member key.entry.now (table_view table.now) ≡ Some (array_data (array_view a.now))) }
+    ensures array { IfOk result (λ a. get_member key.entry.now (table_view table.now)
+        ≡ Some (array_data (array_view a.now))) }
     ensures no_numbers { IfErr result (λ _. (high : ℕ) (ns : List ℕ) →
         IsArray (IsNumber 0 high) (get_member key.entry.now (table_view table.now)) ns → ⊥) }
     ensures no_said { IfErr result (λ _. (vs : List (Option ℕ)) →
@@ -82,7 +83,8 @@ pub(crate) fn numbers_of(
     high: u32,
 ) -> Result<Vec<u32>, ScenarioError>
     ensures numbers { IfOk result (λ ns. ReadsEach (IsNumber 0 high) (array_view array.now) ns.items) }
-    ensures refused { IfErr result (λ e. Excludes e ((ns : List ℕ) → ReadsEach (IsNumber 0 high) (array_view array.now) ns → ⊥)) }
+    ensures refused { IfErr result (λ e. Excludes e ((ns : List ℕ)
+        → ReadsEach (IsNumber 0 high) (array_view array.now) ns → ⊥)) }
 {
     let mut numbers = Vec::new(alloc);
     for value in array.iter() {
@@ -116,7 +118,8 @@ pub(crate) fn bytes_of(
     key: &'static str,
 ) -> Result<Vec<u8>, ScenarioError>
     ensures bytes { IfOk result (λ bs. ReadsEach (IsNumber 0 255) (array_view array.now) bs.items) }
-    ensures refused { IfErr result (λ e. Excludes e ((bs : List ℕ) → ReadsEach (IsNumber 0 255) (array_view array.now) bs → ⊥)) }
+    ensures refused { IfErr result (λ e. Excludes e ((bs : List ℕ)
+        → ReadsEach (IsNumber 0 255) (array_view array.now) bs → ⊥)) }
 {
     let mut bytes = Vec::new(alloc);
     for value in array.iter() {
@@ -138,7 +141,8 @@ pub(crate) fn said_of(
     key: &'static str,
 ) -> Result<Vec<Option<u32>>, ScenarioError>
     ensures said { IfOk result (λ vs. ReadsEach IsSaid (array_view array.now) vs.items) }
-    ensures refused { IfErr result (λ e. Excludes e ((vs : List (Option ℕ)) → ReadsEach IsSaid (array_view array.now) vs → ⊥)) }
+    ensures refused { IfErr result (λ e. Excludes e ((vs : List (Option ℕ))
+        → ReadsEach IsSaid (array_view array.now) vs → ⊥)) }
 {
     let mut said = Vec::new(alloc);
     for value in array.iter() {

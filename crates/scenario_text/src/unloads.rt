@@ -95,7 +95,8 @@ pub(crate) fn unloads_of(
     requires { 1 ≤ frame.nodes }
     ensures unloads { IfOk result (λ us. MayBeArray (IsTable (SpelledUnload frame))
         (option_map (λ a. array_data (array_view a.now)) array.entry) us.items) }
-    ensures refused { IfErr result (λ e. Excludes e ((us : List UnloadValue) → MayBeArray (IsTable (SpelledUnload frame))
+    ensures refused { IfErr result (λ e. Excludes e ((us : List UnloadValue)
+        → MayBeArray (IsTable (SpelledUnload frame))
         (option_map (λ a. array_data (array_view a.now)) array.entry) us → ⊥)) }
 {
     match array {
