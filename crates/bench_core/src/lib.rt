@@ -29,3 +29,6 @@ pub use record::PulseRecord;
 pub use refusal::{CloseError, OpenError, StageError};
 pub use row::Row;
 pub use task::{NodeDone, NodeTask};
+
+#[cfg(test)]
+mod tests;

@@ -1,0 +1,6 @@
+mod benches;
+mod calls;
+mod plain;
+mod pulses;
+mod refusals;
+mod replays;

@@ -1,0 +1,201 @@
+//! Closed and abandoned pulses.
+use super::benches::{
+    Plan, abandoned_pulse, assert_clocks, assert_mail, assert_told, bench_of, clock, clocks_of,
+    close, open, pulse, refused_close, run_all, stage, stage_all,
+};
+use crate::{Bench, CLOCKS_DIFFER, CloseError, PulseRecord};
+use std::alloc::Global;
+use std::process::Abort;
+use std::test::Fail;
+
+/// The mail of four nodes, of which the first sent this to all.
+fn mail_of_first(number: u32) -> [Option<u32>; 16] {
+    let (sent, none) = (Some(number), None);
+    [
+        sent, sent, sent, sent, none, none, none, none, none, none, none, none, none, none, none,
+        none,
+    ]
+}
+
+#[test]
+fn a_load_waits_for_the_next_opening(rt: HostRuntime) -> Result<(), Fail> {
+    let alloc = rt.alloc();
+    let mut bench = bench_of(alloc, 4, 1, 8)?;
+    stage(alloc, &mut bench, Plan::Clock(0))?;
+    let tasks = open(alloc, &mut bench, &[0; 4])?;
+    stage(alloc, &mut bench, Plan::Say(0, 5))?;
+    let dones = run_all(alloc, tasks)?;
+    let record = close(alloc, &mut bench, dones)?;
+    assert_told(
+        &rt,
+        &record,
+        [1, 0, 0, 0],
+        &[Some(0), None, None, None],
+        &[false; 4],
+    );
+    assert_mail(&rt, alloc, &bench, &mail_of_first(0))?;
+    let record = pulse(alloc, &mut bench, &[0; 4])?;
+    assert_told(&rt, &record, [2, 0, 0, 0], &[None; 4], &[false; 4]);
+    assert_mail(&rt, alloc, &bench, &mail_of_first(5))?;
+    assert_eq!(rt; bench.history().len(), 6);
+    Ok(())
+}
+
+#[test]
+fn one_node_counts(rt: HostRuntime) -> Result<(), Fail> {
+    let alloc = rt.alloc();
+    let mut bench = clocks_of(alloc, 1, 0, 2)?;
+    let table = [
+        (0, 18, [1, 0, 0, 0], false),
+        (1, 23, [2, 1, 0, 1], true),
+        (0, 21, [3, 0, 1, 1], true),
+        (1, 22, [4, 1, 0, 1], true),
+    ];
+    for (clock, steps, row, settled) in table {
+        let record = pulse(alloc, &mut bench, &[1])?;
+        assert_told(&rt, &record, row, &[Some(clock)], &[settled]);
+        assert_eq!(rt; record.steps, steps);
+        assert!(rt; record.agree);
+        assert_clocks(&rt, &bench, &[clock]);
+    }
+    Ok(())
+}
+
+#[test]
+fn its_clock_has_34_slots(rt: HostRuntime) -> Result<(), Fail> {
+    let program = clock(rt.alloc(), &bench_of(rt.alloc(), 1, 0, 2)?)?;
+    assert_eq!(rt;
+        (program.program().slot_count(), program.budget()),
+        (34, 24)
+    );
+    Ok(())
+}
+
+#[test]
+fn an_abandoned_pulse_keeps_its_changes(rt: HostRuntime) -> Result<(), Fail> {
+    let alloc = rt.alloc();
+    let mut bench = bench_of(alloc, 4, 1, 8)?;
+    stage(alloc, &mut bench, Plan::Corrupt(0, 3, 0))?;
+    abandoned_pulse(alloc, &mut bench, &[0; 4])?;
+    assert_clocks(&rt, &bench, &[3, 0, 0, 0]);
+    assert_eq!(rt; bench.history().len(), 3);
+    assert_mail(&rt, alloc, &bench, &[None; 16])?;
+    let (_, refusal) = refused_close(alloc, &mut bench, Vec::new(alloc))?;
+    assert_eq!(rt; refusal, CloseError::NotOpen);
+    assert_eq!(rt; bench.abandon(), Err(CloseError::NotOpen));
+    Ok(())
+}
+
+/// Which places of the list of results change places, one pair after the other.
+type Order = [(usize, usize); 2];
+
+/// A pulse of three nodes whose results come in this order.
+fn pulse_in_order(
+    rt: &impl Abort,
+    alloc: Global,
+    bench: &mut Bench,
+    order: Order,
+) -> Result<PulseRecord, Fail> {
+    let tasks = open(alloc, bench, &[1; 3])?;
+    let mut dones = run_all(alloc, tasks)?;
+    for (i, k) in order {
+        assert!(rt; i < dones.len());
+        assert!(rt; k < dones.len());
+        dones.swap(i, k);
+    }
+    close(alloc, bench, dones)
+}
+
+/// Three pulses of a clock, a node that says 7 and an echo.
+fn assert_order(rt: &impl Abort, alloc: Global, order: Order) -> Result<(), Fail> {
+    let mut bench = bench_of(alloc, 3, 2, 8)?;
+    stage_all(
+        alloc,
+        &mut bench,
+        &[Plan::Clock(0), Plan::Say(1, 7), Plan::Echo(2)],
+    )?;
+    let (seven, none) = (Some(7), Some(u32::MAX));
+    let table = [
+        (0, 0, false, none, none),
+        (1, 1, true, Some(0), seven),
+        (2, 1, true, Some(1), seven),
+    ];
+    for (clock, settled, is_settled, first, second) in table {
+        let record = pulse_in_order(rt, alloc, &mut bench, order)?;
+        let (sent, number) = (Some(clock), clock + 1);
+        let row = [number, clock, 0, settled];
+        assert_told(
+            rt,
+            &record,
+            row,
+            &[sent, None, None],
+            &[is_settled, false, false],
+        );
+        let mail = [sent, sent, sent, seven, seven, seven, first, second, none];
+        assert_mail(rt, alloc, &bench, &mail)?;
+    }
+    Ok(())
+}
+
+#[test]
+fn results_come_in_any_order(rt: HostRuntime) -> Result<(), Fail> {
+    let orders = [
+        [(0, 0), (0, 0)],
+        [(0, 1), (0, 0)],
+        [(0, 2), (0, 0)],
+        [(1, 2), (0, 0)],
+        [(0, 1), (1, 2)],
+        [(1, 2), (0, 1)],
+    ];
+    for order in orders {
+        assert_order(&rt, rt.alloc(), order)?;
+    }
+    Ok(())
+}
+
+#[test]
+fn clocks_agree_after_a_corruption(rt: HostRuntime) -> Result<(), Fail> {
+    let alloc = rt.alloc();
+    let mut bench = clocks_of(alloc, 4, 1, 8)?;
+    for clock in 0..3 {
+        pulse(alloc, &mut bench, &[1; 4])?;
+        assert_clocks(&rt, &bench, &[clock; 4]);
+    }
+    stage(alloc, &mut bench, Plan::Corrupt(3, 5, 1))?;
+    let record = pulse(alloc, &mut bench, &[1; 4])?;
+    let clocks = [Some(3), Some(3), Some(3), Some(0)];
+    assert_told(&rt, &record, [4, 3, 1, 4], &clocks, &[true; 4]);
+    assert!(rt; record.agree);
+    Ok(())
+}
+
+#[test]
+fn an_unloaded_node_is_not_settled(rt: HostRuntime) -> Result<(), Fail> {
+    let alloc = rt.alloc();
+    let mut bench = clocks_of(alloc, 2, 1, 8)?;
+    for _ in 0..2 {
+        pulse(alloc, &mut bench, &[0; 2])?;
+    }
+    stage(alloc, &mut bench, Plan::Unload(1))?;
+    let record = pulse(alloc, &mut bench, &[1; 2])?;
+    assert_told(&rt, &record, [3, 1, 0, 1], &[Some(1), None], &[true, false]);
+    assert_mail(&rt, alloc, &bench, &[Some(1), Some(1), None, None])?;
+    Ok(())
+}
+
+#[test]
+fn clocks_differ_where_too_many_may_be_faulty(rt: HostRuntime) -> Result<(), Fail> {
+    let alloc = rt.alloc();
+    let mut bench = clocks_of(alloc, 2, 1, 8)?;
+    let table = [
+        ([0, 1], [1, 0, 0, 0], [0, 0], false, true),
+        ([0, 1], [2, 1, 1, 2], [0, 1], true, true),
+        ([1, 1], [3, CLOCKS_DIFFER, 0, 2], [1, 2], true, false),
+    ];
+    for (coins, row, clocks, settled, agree) in table {
+        let record = pulse(alloc, &mut bench, &coins)?;
+        assert_told(&rt, &record, row, &clocks.map(Some), &[settled; 2]);
+        assert_eq!(rt; record.agree, agree);
+    }
+    Ok(())
+}
