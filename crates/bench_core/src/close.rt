@@ -26,8 +26,8 @@ impl NodeSlot {
     }
 }
 
-/// Leaves of each of so many nodes what its result has, and of their mail what they sent. A node of which nothing was found rests.
-/// `flags` tells whose programs are the clock program.
+/// Leaves of each of so many nodes what its result has, and of their mail what they sent. A node of which nothing was
+/// found rests. `flags` tells whose programs are the clock program.
 pub(crate) fn close_nodes(
     count: u32,
     nodes: &mut [NodeSlot],
@@ -43,7 +43,8 @@ pub(crate) fn close_nodes(
     requires fits { (i : ℕ) → i < count → FitsNode count dones.now (node_at nodes.old i) (found_at found.now i) }
     ensures mail { length mail.new ≡ count }
     ensures left { (i : ℕ) → i < count →
-        IsLeft dones.now (get_or flags.now i false) (node_at nodes.old i) (node_at nodes.new i) (row_at mail.new i) (found_at found.now i) }
+        IsLeft dones.now (get_or flags.now i false) (node_at nodes.old i) (node_at nodes.new i) (row_at mail.new i)
+        (found_at found.now i) }
 {
     for node in 0..count {
         let place = node as usize;

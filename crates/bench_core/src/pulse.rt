@@ -5,6 +5,7 @@ ghost use Rattle.bench_core.specs.Nodes.{KnowsClock, FitsShape};
 ghost use Rattle.bench_core.specs.Replay.{staged_of};
 ghost use Rattle.bench_core.specs.Views.{entry_of};
 ghost use Rattle.bench_core.specs.OpenPulse.{setup_in, IsWhole, tasks_by};
+ghost use Rattle.bench_core.specs.Tasks.{tasks_from};
 
 use crate::entry::Entry;
 use crate::node::{NodeSlot, apply_all, copied};
@@ -63,13 +64,16 @@ pub(crate) fn prepare(
 ) -> Result<Prepared, AllocError>
     requires count { length pulse.now.nodes.now ≡ pulse.now.shape.nodes }
     requires within { All (λ c. node_of c < pulse.now.shape.nodes) (staged_of (map entry_of staged.now)) }
-    requires after { All (FitsShape pulse.now.shape) (all_applied pulse.now.nodes.now (staged_of (map entry_of staged.now))) }
+    requires after { All (FitsShape pulse.now.shape)
+        (all_applied pulse.now.nodes.now (staged_of (map entry_of staged.now))) }
     requires mail { length pulse.now.mail.now ≡ pulse.now.shape.nodes }
     requires coins { AreCoins (setup_in pulse.now) pulse.now.coins.now }
     requires flags { KnowsClock clock.now pulse.now.nodes.now flags.now }
-    ensures nodes { IfOk result (λ p. p.nodes.items ≡ all_applied pulse.now.nodes.now (staged_of (map entry_of staged.now))) }
+    ensures nodes { IfOk result (λ p.
+        p.nodes.items ≡ all_applied pulse.now.nodes.now (staged_of (map entry_of staged.now))) }
     ensures flags { IfOk result (λ p. KnowsClock clock.now p.nodes.items p.flags.items) }
-    ensures tasks { IfOk result (λ p. p.tasks.items ≡ tasks_from (setup_in pulse.now) pulse.now.mail.now pulse.now.coins.now pulse.now.opening 0 p.nodes.items) }
+    ensures tasks { IfOk result (λ p. p.tasks.items
+        ≡ tasks_from (setup_in pulse.now) pulse.now.mail.now pulse.now.coins.now pulse.now.opening 0 p.nodes.items) }
     ensures kept { IfOk result (λ p. p.kept_coins.items ≡ pulse.now.coins.now) }
     ensures entry { IfOk result (λ p. p.entry_coins.items ≡ pulse.now.coins.now) }
 {
@@ -95,5 +99,3 @@ pub(crate) fn prepare(
         entry_coins,
     })
 }
-
-ghost use Rattle.bench_core.specs.Tasks.{tasks_from};

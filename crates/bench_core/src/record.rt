@@ -13,15 +13,17 @@ use crate::task::NodeDone;
 use std::alloc::{AllocError, Global};
 use std::marker::Model;
 
-/// What is told of a closed pulse: its row; the clock of each node that ran the clock program of the bench's rule; which nodes are settled,
-/// since they ran it in the closed pulse before as well; the greatest number of instructions that a node ran; and whether any two settled
-/// clocks that are not 0 are equal.
+/// What is told of a closed pulse.
 #[derive(Drop)]
 pub struct PulseRecord {
     pub row: Row,
+    /// The clock of each node that ran the clock program of the bench's rule.
     pub clocks: Vec<Option<u32>>,
+    /// Which nodes ran it in the closed pulse before as well.
     pub settled: Vec<bool>,
+    /// The greatest number of instructions that a node ran, 0 where none is loaded.
     pub steps: u32,
+    /// Whether any two settled clocks that are not 0 are equal.
     pub agree: bool,
 }
 
@@ -30,7 +32,13 @@ impl Model for PulseRecord {
 
     ghost Value = { PulseTold };
 
-    ghost view = { λ r. record { row = r.row; clocks = r.clocks.items; settled = r.settled.items; steps = r.steps; agree = r.agree } };
+    ghost view = { λ r. record {
+      row = r.row;
+      clocks = r.clocks.items;
+      settled = r.settled.items;
+      steps = r.steps;
+      agree = r.agree;
+    } };
 }
 
 /// Room for what will be told of a pulse: the marks before its close, and a place for each clock.

@@ -1,13 +1,16 @@
 //! What is posted of a closed pulse.
 use std::marker::Model;
 
-/// The number of closed pulses; the one clock of settled nodes that is not 0, 0 where there is none, [`crate::CLOCKS_DIFFER`] where two
-/// differ; how many settled nodes have clock 0; and how many are settled.
+/// A closed pulse in four numbers.
 #[derive(Clone, Copy, PartialEq, Eq, Debug)]
 pub struct Row {
+    /// How many pulses are closed, this one included.
     pub pulse: u32,
+    /// The one clock of settled nodes that is not 0: 0 where there is none, [`crate::CLOCKS_DIFFER`] where two differ.
     pub common: u32,
+    /// How many settled nodes have clock 0.
     pub zeros: u32,
+    /// How many nodes are settled.
     pub settled: u32,
 }
 
@@ -18,7 +21,8 @@ impl Model for Row {
 
     ghost view = { λ r. record { pulse = r.pulse; common = r.common; zeros = r.zeros; settled = r.settled } };
 
-    ghost invariant = { λ r. IsRow (record { pulse = r.pulse; common = r.common; zeros = r.zeros; settled = r.settled }) };
+    ghost invariant = { λ r.
+        IsRow (record { pulse = r.pulse; common = r.common; zeros = r.zeros; settled = r.settled }) };
 
     ghost inverse = { λ v. record { pulse = v.pulse; common = v.common; zeros = v.zeros; settled = v.settled } };
 }

@@ -30,9 +30,16 @@ impl Model for NodeTask {
 
     ghost coded = { Prim.hlevel (codes, numbers_code) };
 
-    ghost view = { λ t. record { opening = t.opening; node = t.node; program = t.program; setting = t.env; memory = t.before.items } };
+    ghost view = { λ t. record {
+      opening = t.opening;
+      node = t.node;
+      program = t.program;
+      setting = t.env;
+      memory = t.before.items;
+    } };
 
-    ghost invariant = { λ t. (t.after.items ≡ t.before.items) × (t.program.shape ≡ t.env.shape) × (length t.before.items ≡ t.env.shape.memory) × (t.outbox.nodes ≡ t.env.shape.nodes) };
+    ghost invariant = { λ t. (t.after.items ≡ t.before.items) × (t.program.shape ≡ t.env.shape)
+        × (length t.before.items ≡ t.env.shape.memory) × (t.outbox.nodes ≡ t.env.shape.nodes) };
 }
 
 impl NodeTask {
@@ -47,7 +54,13 @@ impl NodeTask {
     ) -> Result<NodeTask, AllocError>
         requires shape { program.now.shape ≡ env.shape }
         requires memory { length memory.now ≡ env.shape.memory }
-        ensures { IfOk result (λ t. t ≡ record { opening = opening; node = node; program = program.now; setting = env; memory = memory.now }) }
+        ensures { IfOk result (λ t. t ≡ record {
+          opening = opening;
+          node = node;
+          program = program.now;
+          setting = env;
+          memory = memory.now;
+        }) }
     {
         let program = program.copy()?;
         let before = Vec::from_slice(alloc, memory)?;
@@ -118,11 +131,19 @@ impl Model for NodeDone {
     ghost coded = { Prim.hlevel (codes, numbers_code) };
 
     ghost view = { λ d. record {
-      task = record { opening = d.opening; node = d.node; program = d.program; setting = d.env; memory = d.before.items };
+      task = record {
+        opening = d.opening;
+        node = d.node;
+        program = d.program;
+        setting = d.env;
+        memory = d.before.items;
+      };
       end = record { steps = d.steps; memory = d.after.items; sent = d.outbox.sent; r0 = d.r0 };
     } };
 
-    ghost invariant = { λ d. (length d.after.items ≡ length d.before.items) × (d.outbox.nodes ≡ d.env.shape.nodes) × CompleteRun d.program.program d.env d.before.items (record { steps = d.steps; memory = d.after.items; sent = d.outbox.sent; r0 = d.r0 }) };
+    ghost invariant = { λ d. (length d.after.items ≡ length d.before.items) × (d.outbox.nodes ≡ d.env.shape.nodes)
+        × CompleteRun d.program.program d.env d.before.items
+        (record { steps = d.steps; memory = d.after.items; sent = d.outbox.sent; r0 = d.r0 }) };
 }
 
 impl NodeDone {
@@ -175,7 +196,12 @@ impl NodeDone {
           opening = opening;
           node = self.now.task.node;
           program = program.now;
-          setting = record { shape = shape; id = self.now.task.node; inbox = inbox_of self.now.task.node mail.now; coin = coin };
+          setting = record {
+            shape = shape;
+            id = self.now.task.node;
+            inbox = inbox_of self.now.task.node mail.now;
+            coin = coin;
+          };
           memory = memory.now;
         }) }
     {

@@ -17,7 +17,8 @@ struct Node {
     ran_clock: bool,
 }
 
-/// What it tells of a closed pulse. The row has the number of the pulse, the common clock, the zeros and how many are settled.
+/// What it tells of a closed pulse. The row has the number of the pulse, the common clock, the zeros and how many are
+/// settled.
 #[derive(Drop)]
 pub struct Told {
     pub row: [u32; 4],
