@@ -9,7 +9,7 @@ ghost use Rattle.bpf_verify.specs.Paths.{IsLongestPath};
 use crate::longest::longest;
 use crate::refusal::VerifyError;
 use crate::walk::walk;
-use bpf_insn::Program;
+use bpf_insn::{Program, encode};
 use node_env::Shape;
 use std::alloc::{AllocError, Global};
 use std::marker::Model;
@@ -19,9 +19,16 @@ use std::sync::Arc;
 /// make one, and copies share their instructions.
 #[derive(Drop)]
 pub struct VerifiedProgram {
-    program: Arc<Program, Global>,
+    shared: Arc<Imaged, Global>,
     shape: Shape,
     budget: u32,
+}
+
+/// A program with its image, by which it is compared.
+#[derive(Drop)]
+struct Imaged {
+    program: Program,
+    image: Vec<u8>,
 }
 
 impl Model for VerifiedProgram {
@@ -29,11 +36,11 @@ impl Model for VerifiedProgram {
 
     ghost Value = { Accepted };
 
-    ghost use Rattle.bpf_verify.specs.VerifiedParts.{accepted_of};
+    ghost use Rattle.bpf_verify.specs.VerifiedParts.{accepted_of, HasImage};
 
     ghost view = { accepted_of };
 
-    ghost invariant = { λ v. IsVerified (accepted_of v) };
+    ghost invariant = { λ v. IsVerified (accepted_of v) × HasImage v };
 }
 
 /// Accepts a program for nodes of a shape, or names the first slot whose instruction breaks a rule, and the lowest rule that it
@@ -63,13 +70,13 @@ fn accepted(alloc: Global, program: &Program, shape: Shape) -> Result<VerifiedPr
     ensures longest { IfOk result (λ v. IsLongestPath program.now v.budget) }
 {
     let budget = longest(alloc, program, shape)?;
-    let copy = program.copy(alloc)?;
-    let _slots = copy.slot_count();
-    let Ok(program) = Arc::new(alloc, copy) else {
+    let image = encode(alloc, program)?;
+    let program = program.copy(alloc)?;
+    let Ok(shared) = Arc::new(alloc, Imaged { program, image }) else {
         return Err(AllocError);
     };
     Ok(VerifiedProgram {
-        program,
+        shared,
         shape,
         budget,
     })
@@ -100,16 +107,29 @@ impl VerifiedProgram {
         ensures value { result.now ≡ self.now.program }
         ensures verified { IsVerified self.now }
     {
-        &self.program
+        let shared: &Imaged = &self.shared;
+        &shared.program
     }
 
-    /// Whether the other is the same program, accepted for the same shape: then its budget is the same too.
+    /// Whether the programs' images are equal.
+    #[tactic(auto, using(crate::proofs::VerdictLaws::told_by_images))]
+    fn same_image(&self, other: &VerifiedProgram) -> bool
+        ensures { IsTrue result ↔ (self.now.program ≡ other.now.program) }
+    {
+        let mine: &Imaged = &self.shared;
+        let theirs: &Imaged = &other.shared;
+        let same = mine.image.as_slice() == theirs.image.as_slice();
+        same
+    }
+
+    /// Whether the other is the same program, accepted for the same shape: then its budget is the same too. Images are compared.
+    #[tactic(auto, using(crate::proofs::VerdictLaws::one_longest))]
     pub fn same(&self, other: &VerifiedProgram) -> bool
         ensures parts { IsTrue result ↔ ((self.now.program ≡ other.now.program) × (self.now.shape ≡ other.now.shape)) }
         ensures equal { IsTrue result ↔ (self.now ≡ other.now) }
     {
         let (_mine, _theirs) = (self.program(), other.program());
-        let same = self.shape() == other.shape() && self.program().same(other.program());
+        let same = self.shape() == other.shape() && self.same_image(other);
         same
     }
 
@@ -119,7 +139,7 @@ impl VerifiedProgram {
         ensures { IfOk result (λ v. v ≡ self.now) }
     {
         Ok(VerifiedProgram {
-            program: Arc::try_clone(&self.program)?,
+            shared: Arc::try_clone(&self.shared)?,
             shape: self.shape,
             budget: self.budget,
         })
