@@ -1,10 +1,10 @@
 -- What a close does to a bench's fields, and what is told of it.
-use Rattle.std.proofs.Common.{◌≡◌, ◌≢◌, ◌⊎◌, ◌↔◌, ℕ, ◌+◌, ◌*◌, ◌<◌, ◌≤◌, Bool, true, false, IsTrue, IsSome, List, [], ◌∷◌, ◌++◌, length, map, drop, get_or, All, Contains, Option, Some, None, is_some, IfSome, ◌-◌, cond, vec_capacity, Vec, refl, sym, ap, ◌∙◌, subst, arith, inl, inr}
+use Rattle.std.proofs.Common.{◌≡◌, ◌≢◌, ◌↔◌, ℕ, ◌+◌, ◌<◌, ◌≤◌, Bool, false, IsTrue, IsSome, List, [], ◌∷◌, ◌++◌, length, map, drop, get_or, All, Option, Some, None, is_some, IfSome, ◌-◌, cond, Vec, refl, sym, ap, ◌∙◌, subst, arith, inl, inr}
 use Rattle.std.specs.Prelude.{option_map, unwrap_or, IsNone}
 use Rattle.std.specs.declared.alloc.Global.{Global}
 use Rattle.std.specs.Ordering.{nat_cmp}
 use Rattle.std.specs.FinMap.{FinMap}
-use Rattle.std.proofs.lemmas.List.{append-nil, length-map, get_or_past}
+use Rattle.std.proofs.lemmas.List.{append-nil, get_or_past}
 use Rattle.std.proofs.lemmas.List.Elements.{All-nil, All-from_get_or, All-contains}
 use Rattle.std.proofs.lemmas.Bool.{cases_lt}
 use Rattle.std.proofs.lemmas.Option.{same_Some, none-some, slice_get_within, get_or_from_slice_get}
@@ -13,10 +13,8 @@ use Rattle.bpf_machine.specs.Run.{CompleteRun, End}
 use Rattle.bpf_machine.proofs.OneRun.{one_complete_run}
 use Rattle.bpf_verify.specs.Accepted.{Accepted}
 use Rattle.clock_nodes.specs.declared.rule.TheConstants.{MOST_MODULUS}
-use Rattle.bench_core.specs.declared.limits.TheConstants.{MOST_ENTRIES, MOST_PULSES, MOST_COUNTED, CLOCKS_DIFFER}
+use Rattle.bench_core.specs.declared.limits.TheConstants.{MOST_ENTRIES, MOST_PULSES, CLOCKS_DIFFER}
 use Rattle.bench_core.specs.declared.bench.Bench.TheInside.{Inside}
-use Rattle.bench_core.specs.declared.node.NodeSlot.{NodeSlot}
-use Rattle.bench_core.specs.declared.entry.Entry.{Entry}
 use Rattle.bench_core.specs.declared.entry.Entry.TheVariants.{Closed}
 use Rattle.bench_core.specs.Setup.{Setup, IsSetup, clock_listing}
 use Rattle.bench_core.specs.declared.refusal.CloseError.{CloseError}
@@ -24,9 +22,9 @@ use Rattle.bench_core.specs.declared.refusal.CloseError.TheVariants as closing
 use Rattle.bench_core.specs.Refusals.{IsCloseRefusal}
 use Rattle.bench_core.specs.State.{State, Node, no_node, node_at, setting_at, AreCoins, IsLoadable}
 use Rattle.bench_core.specs.Pulse.{Pulse}
-use Rattle.bench_core.specs.Settled.{Row, IsRow, PulseTold, IsRecord, IsSteps, RanTo, row_of, row_from, settled_flags, clocks_where, Agree}
-use Rattle.bench_core.specs.Replay.{Entry as EntryValue, Closed as ClosedValue, Replays, BenchValue, Advances, rows_of, staged_of, places_of}
-use Rattle.bench_core.specs.Tasks.{Task, Done, IsEnd, IsHanded, IsResultOf, IsMissing, IsExact, HandedOut}
+use Rattle.bench_core.specs.Settled.{Row, PulseTold, IsRecord, IsSteps, RanTo, row_of, settled_flags, clocks_where}
+use Rattle.bench_core.specs.Replay.{Entry as EntryValue, Closed as ClosedValue, Replays, BenchValue, Advances, staged_of, places_of}
+use Rattle.bench_core.specs.Tasks.{Task, Done, IsEnd, IsHanded, IsResultOf, IsExact, HandedOut}
 use Rattle.bench_core.specs.Nodes.{KnowsClock}
 use Rattle.bench_core.specs.declared.found.Found.{Found}
 use Rattle.bench_core.specs.declared.found.Found.TheVariants.{Nothing, Once, Again}
@@ -34,8 +32,7 @@ use Rattle.bench_core.specs.Found.{found_at, IsFound, FitsNode, RefusesResults}
 use Rattle.bench_core.specs.Told.{both_marked, row_told, told_clock, IsMostSteps}
 use Rattle.bench_core.specs.Views.{entry_of}
 use Rattle.bench_core.specs.Kept.{view_of, IsKept}
-use Rattle.bench_core.proofs.Sound.{Sound, sound_replay, sound_pulse, is_setting}
-use Rattle.bench_core.proofs.Replays.{rows_count}
+use Rattle.bench_core.proofs.Sound.{Sound, is_setting}
 use Rattle.bench_core.proofs.Rows.{rows_fit, rows_tell, clocks_small}
 use Rattle.bench_core.proofs.Kept.{entries_push, staged_after}
 use Rattle.bpf_machine.proofs.Ends.{complete_run_leaves}

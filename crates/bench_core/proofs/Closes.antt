@@ -1,7 +1,5 @@
 -- Each open pulse can be closed, in one way.
-use Rattle.std.proofs.Common.{◌≡◌, ℕ, zero, suc, ◌+◌, ◌<◌, ◌≤◌, ◌==◌, ◌&&◌, ◌↔◌, Bool, true, false, IsTrue, List, [], ◌∷◌, ◌++◌, length, map, get_or, Option, Some, None, MatchOption, IfSome, IsSome, pos, refl, sym, ap, ◌∙◌, subst, arith}
-use Rattle.std.specs.Prelude.{FitsSigned}
-use Rattle.std.specs.Int.{w16, w32}
+use Rattle.std.proofs.Common.{◌≡◌, ℕ, zero, suc, ◌+◌, ◌<◌, ◌==◌, ◌&&◌, ◌↔◌, Bool, true, false, IsTrue, List, [], ◌∷◌, length, map, get_or, Option, Some, None, MatchOption, IfSome, IsSome, refl, sym, ap, ◌∙◌, subst, arith}
 use Rattle.std.specs.List.{AllByRecursion}
 use Rattle.std.specs.Ordering.{nat_cmp}
 use Rattle.std.specs.FinMap.{FinMap, empty}
@@ -17,7 +15,7 @@ use Rattle.bpf_verify.specs.Accepted.{Accepted}
 use Rattle.bpf_verify.specs.Typable.{Typable}
 use Rattle.bpf_run.proofs.Runs.{run_ends}
 use Rattle.clock_nodes.proofs.Programs.{clock_is_program}
-use Rattle.bench_core.specs.Setup.{Setup, IsSetup, quorum, clock_listing}
+use Rattle.bench_core.specs.Setup.{Setup, IsSetup, clock_listing}
 use Rattle.bench_core.specs.State.{Node, State, no_node, node_at, row_at, setting_at, IsLoadable}
 use Rattle.bench_core.specs.Pulse.{RunsClock, Runs, Rests, NodePulse, Pulse}
 use Rattle.bench_core.specs.Laws.{EachCloses}

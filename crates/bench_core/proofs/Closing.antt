@@ -1,5 +1,5 @@
 -- What a closed pulse leaves, one node after the other, and what it does to a bench's fields.
-use Rattle.std.proofs.Common.{◌≡◌, ◌≢◌, ◌⊎◌, ℕ, ◌+◌, ◌<◌, ◌≤◌, Bool, false, List, length, slice_set, slice_get, get_or, All, IsTrue, ◌↔◌, Option, Some, None, is_some, MatchOption, refl, sym, ap, ◌∙◌, subst, arith, inl, inr, get_or-set_same, get_or-set_other}
+use Rattle.std.proofs.Common.{◌≡◌, ◌⊎◌, ℕ, ◌+◌, ◌<◌, Bool, false, List, length, slice_set, slice_get, get_or, All, IsTrue, ◌↔◌, Option, Some, None, is_some, MatchOption, refl, sym, ap, ◌∙◌, subst, arith, inl, inr, get_or-set_same, get_or-set_other}
 use Rattle.std.specs.Ordering.{nat_cmp}
 use Rattle.std.specs.FinMap.{FinMap, empty}
 use Rattle.std.specs.Prelude.{option_map}

@@ -1,18 +1,15 @@
 -- At most one refusal of a call applies.
-use Rattle.std.proofs.Common.{◌≡◌, ℕ, ◌<◌, ◌≤◌, List, length, All, slice_get, get_or, Option, Some, None, IsSome, IsNone, refl, sym, ap, ◌∙◌, subst, arith, inl, inr}
+use Rattle.std.proofs.Common.{◌≡◌, ℕ, ◌<◌, List, All, slice_get, Option, Some, None, IsSome, IsNone, refl, sym, ap, ◌∙◌, subst, arith, inl, inr}
 use Rattle.std.proofs.lemmas.Bool.{cases_lt}
 use Rattle.std.proofs.lemmas.Option.{same_Some, slice_get_within, get_or_from_slice_get}
 use Rattle.bench_core.specs.declared.refusal.StageError.{StageError}
 use Rattle.bench_core.specs.declared.refusal.StageError.TheVariants as stage
-use Rattle.bench_core.specs.declared.refusal.OpenError.{OpenError}
 use Rattle.bench_core.specs.declared.refusal.OpenError.TheVariants as opening
-use Rattle.bench_core.specs.declared.refusal.CloseError.{CloseError}
 use Rattle.bench_core.specs.declared.refusal.CloseError.TheVariants as closing
 use Rattle.bench_core.specs.Setup.{Setup}
 use Rattle.bench_core.specs.State.{Change, Load, Unload, Corrupt, node_of, IsChange}
 use Rattle.bench_core.specs.Tasks.{Task, Done}
-use Rattle.bench_core.specs.Refusals.{IsMisfit, IsStageRefusal, IsOpenRefusal, IsLowest, IsStranger, IsCloseRefusal}
-use Rattle.bench_core.specs.Replay.{BenchValue}
+use Rattle.bench_core.specs.Refusals.{IsMisfit, IsLowest, IsStranger}
 use Rattle.bench_core.specs.Laws.{OneStageRefusal, OneOpenRefusal, OneCloseRefusal}
 
 -- ---- of a change

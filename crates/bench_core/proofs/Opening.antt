@@ -1,17 +1,15 @@
 -- What opening a pulse asks, and what it does to a bench's fields.
-use Rattle.std.proofs.Common.{◌≡◌, ℕ, ◌+◌, ◌-◌, ◌<◌, ◌≤◌, List, [], ◌∷◌, ◌++◌, length, drop, take, map, Option, Some, None, false, is_some, IsSome, IfSome, All, get_or, vec_capacity, Vec, refl, sym, ap, ◌∙◌, arith, subst, length-append}
+use Rattle.std.proofs.Common.{◌≡◌, ℕ, ◌-◌, ◌<◌, ◌≤◌, List, [], ◌∷◌, ◌++◌, length, drop, take, map, Option, Some, None, false, is_some, IfSome, All, Vec, refl, sym, ap, ◌∙◌, arith}
 use Rattle.std.specs.Prelude.{option_map, unwrap_or}
-use Rattle.std.proofs.lemmas.List.{append-nil, map_push, length-map, take_rest, drop-map, drop_all}
+use Rattle.std.proofs.lemmas.List.{length-map, take_rest, drop-map, drop_all}
 use Rattle.std.proofs.lemmas.List.Elements.{All-weaker, All-from_get_or}
 use Rattle.std.specs.declared.alloc.Global.{Global}
-use Rattle.node_env.specs.Env.{Extent}
 use Rattle.bpf_verify.specs.Accepted.{Accepted}
 use Rattle.bench_core.specs.declared.bench.Bench.TheInside.{Inside}
-use Rattle.bench_core.specs.declared.node.NodeSlot.{NodeSlot}
 use Rattle.bench_core.specs.declared.entry.Entry.{Entry}
 use Rattle.bench_core.specs.declared.entry.Entry.TheVariants.{Opened}
 use Rattle.bench_core.specs.Setup.{Setup}
-use Rattle.bench_core.specs.State.{State, Change, Load, Unload, Corrupt, Node, no_node, node_of, node_at, all_applied, opened_state, IsChange, IsLoadable, AreCoins}
+use Rattle.bench_core.specs.State.{State, Change, Load, Unload, Corrupt, no_node, node_of, node_at, all_applied, opened_state, IsChange, IsLoadable, AreCoins}
 use Rattle.bench_core.specs.Replay.{Entry as EntryValue, Staged, Opened as OpenedValue, Closed, Abandoned, BenchValue, Advances, staged_of, openings}
 use Rattle.bench_core.specs.Tasks.{tasks_of, tasks_from}
 use Rattle.bench_core.specs.Nodes.{FitsShape}

@@ -1,9 +1,9 @@
 -- Lists that are written one place after the other, and what is told of a closed pulse.
-use Rattle.std.proofs.Common.{◌≡◌, ℕ, zero, suc, ◌+◌, ◌<◌, ◌≤◌, ◌&&◌, Bool, false, All, Contains, List, [], ◌∷◌, ◌++◌, length, map, get_or, slice_set, refl, sym, ap, ◌∙◌, subst, arith, inl, inr, get_or-set_same, get_or-set_other}
+use Rattle.std.proofs.Common.{◌≡◌, ℕ, zero, suc, ◌+◌, ◌<◌, ◌≤◌, ◌&&◌, Bool, false, List, [], ◌∷◌, ◌++◌, length, map, get_or, slice_set, refl, sym, ap, ◌∙◌, arith, inl, inr, get_or-set_same, get_or-set_other}
 use Rattle.std.proofs.lemmas.Bool.{cases_eq}
 use Rattle.std.proofs.lemmas.List.Elements.{All-nil, All-push, All-weaker, Contains-push, Contains-append_left}
 use Rattle.std.proofs.lemmas.List.{length-map}
-use Rattle.bench_core.specs.State.{Node, no_node, node_at}
+use Rattle.bench_core.specs.State.{Node, node_at}
 use Rattle.bench_core.specs.Settled.{settled_flags}
 use Rattle.bench_core.specs.Told.{both_marked, IsMostSteps}
 use Rattle.bench_core.specs.Tasks.{Done}

@@ -1,5 +1,5 @@
 -- An open pulse, as the code holds it.
-use Rattle.std.specs.Prelude.{◌≡◌, ℕ, List, length, All}
+use Rattle.std.specs.Prelude.{◌≡◌, List, length, All}
 use Rattle.bench_core.specs.declared.pulse.OpenPulse.{OpenPulse}
 use Rattle.bench_core.specs.Setup.{Setup}
 use Rattle.bench_core.specs.State.{AreCoins}

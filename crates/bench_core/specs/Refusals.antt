@@ -8,7 +8,7 @@ use Rattle.bench_core.specs.declared.refusal.OpenError.TheVariants as opening
 use Rattle.bench_core.specs.declared.refusal.CloseError.{CloseError}
 use Rattle.bench_core.specs.declared.refusal.CloseError.TheVariants as closing
 use Rattle.bench_core.specs.Setup.{Setup}
-use Rattle.bench_core.specs.State.{Change, Load, Unload, Corrupt, node_of, IsChange, AreCoins}
+use Rattle.bench_core.specs.State.{Change, Load, Corrupt, node_of, IsChange, AreCoins}
 use Rattle.bench_core.specs.Replay.{BenchValue, places_of}
 use Rattle.bench_core.specs.Tasks.{Task, Done, IsMissing, IsTwice, IsExact, HandedOut}
 

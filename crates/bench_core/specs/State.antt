@@ -1,7 +1,7 @@
 -- The states of a bench, and its steps but for a closed pulse.
-use Rattle.std.specs.Prelude.{◌≡◌, ℕ, ◌<◌, Bool, false, Option, Some, None, List, [], ◌∷◌, ◌++◌, map, length, get_or, slice_set, slice_index, replicate, All}
+use Rattle.std.specs.Prelude.{◌≡◌, ℕ, ◌<◌, Bool, false, Option, Some, None, List, [], ◌∷◌, ◌++◌, length, get_or, slice_set, slice_index, replicate, All}
 use Rattle.std.specs.Ordering.{nat_cmp}
-use Rattle.std.specs.FinMap.{FinMap, empty, get}
+use Rattle.std.specs.FinMap.{FinMap, empty}
 use Rattle.node_env.specs.Env.{Setting, inbox_of}
 use Rattle.bpf_insn.specs.Programs.{IsProgram}
 use Rattle.bpf_verify.specs.Accepted.{Accepted}

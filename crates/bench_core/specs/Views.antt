@@ -1,6 +1,4 @@
 -- What contracts see of the code's types, and what the fields of a bench keep.
-use Rattle.std.specs.Prelude.{ℕ, ◌<◌, ◌≤◌}
-use Rattle.node_env.specs.declared.shape.TheConstants.{MAX_NODES}
 use Rattle.node_env.specs.Env.{Extent}
 use Rattle.clock_nodes.specs.Rule.{Rule}
 use Rattle.bench_core.specs.declared.change.Change.{Change}

@@ -1,11 +1,10 @@
-use Rattle.std.proofs.Common.{◌≡◌, ◌<◌, ◌≤◌, ◌+◌, ℕ, List, false, length, get_or, slice_set, refl, sym, ap, ◌∙◌, subst, arith, get_or-set_other, length-set}
-use Rattle.std.specs.Ordering.{nat_cmp}
-use Rattle.std.specs.FinMap.{FinMap, empty}
+use Rattle.std.proofs.Common.{◌≡◌, ◌<◌, List, false, length, get_or, slice_set, refl, ap, ◌∙◌, subst, arith, get_or-set_other, length-set}
+use Rattle.std.specs.FinMap.{empty}
 use Rattle.std.proofs.lemmas.List.{get_or_default}
 use Rattle.std.proofs.lemmas.Option.{slice_get_read, slice_get_within}
 use Rattle.bench_core.specs.State.{Node, no_node, node_at}
 use Rattle.bench_core.specs.Found.{found_at, FitsNode}
-use Rattle.bench_core.proofs.Closing.{AreLeft, left_more, once_left, rest_left}
+use Rattle.bench_core.proofs.Closing.{left_more, once_left, rest_left}
 use Rattle.bench_core.proofs.close.close_nodes.Goals as goal
 use Rattle.bench_core.proofs.close.close_nodes.Goals.{in-Once, in-Nothing}
 

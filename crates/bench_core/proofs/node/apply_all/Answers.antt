@@ -1,4 +1,4 @@
-use Rattle.std.proofs.Common.{◌≡◌, ◌<◌, ◌+◌, ◌∷◌, ℕ, List, drop, map, length, All, ap, sym, subst, ◌∙◌, arith, rules, refl}
+use Rattle.std.proofs.Common.{◌≡◌, ◌<◌, ◌+◌, ◌∷◌, ℕ, List, drop, map, length, All, ap, sym, subst, ◌∙◌, arith, refl}
 use Rattle.std.proofs.lemmas.List.{drop_more}
 use Rattle.std.proofs.lemmas.List.Elements.{All-head, All-tail}
 use Rattle.bench_core.specs.State.{all_applied, applied, Change, Node, node_of}

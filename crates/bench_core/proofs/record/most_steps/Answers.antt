@@ -1,6 +1,5 @@
-use Rattle.std.proofs.Common.{◌≡◌, ◌+◌, ◌≤◌, ◌∷◌, ◌++◌, [], take, sym, ap, ◌∙◌, arith}
+use Rattle.std.proofs.Common.{◌≡◌, ◌+◌, ◌∷◌, ◌++◌, [], take, sym, ap, ◌∙◌, arith}
 use Rattle.std.proofs.lemmas.List.{take_more}
-use Rattle.bench_core.specs.Told.{IsMostSteps}
 use Rattle.bench_core.proofs.Telling.{no_more, one_more}
 use Rattle.bench_core.proofs.record.most_steps.Goals as goal
 use Rattle.bench_core.proofs.record.most_steps.Goals.{then-steps-most, else-steps-most}

@@ -1,7 +1,7 @@
-use Rattle.std.proofs.Common.{◌≡◌, ◌<◌, ◌+◌, ◌∷◌, ◌==◌, ℕ, Bool, true, false, cond, List, length, drop, get_or, count_by, sym, ap, ◌∙◌, subst, arith, rules}
+use Rattle.std.proofs.Common.{◌≡◌, ◌<◌, ◌+◌, ◌∷◌, ◌==◌, ℕ, Bool, true, false, cond, List, length, drop, get_or, count_by, sym, ap, ◌∙◌, subst, arith}
 use Rattle.std.proofs.lemmas.Bool.{eq-eqb, ne_eqb}
 use Rattle.std.proofs.lemmas.List.Elements.{All-head}
-use Rattle.std.proofs.lemmas.List.{drop_more, drop_all, get_or_default}
+use Rattle.std.proofs.lemmas.List.{drop_more, drop_all}
 use Rattle.clock_nodes.specs.Rule.{clock_of}
 use Rattle.clock_nodes.specs.declared.rule.TheConstants.{MOST_MODULUS}
 use Rattle.bench_core.specs.State.{Node}

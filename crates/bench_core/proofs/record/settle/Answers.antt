@@ -1,4 +1,4 @@
-use Rattle.std.proofs.Common.{◌≡◌, ◌<◌, ◌&&◌, ℕ, Bool, false, get_or, length, sym, ap, ◌∙◌, arith, rules, get_or-set_other}
+use Rattle.std.proofs.Common.{◌≡◌, ◌<◌, ◌&&◌, Bool, false, get_or, length, sym, ap, ◌∙◌, arith, get_or-set_other}
 use Rattle.std.proofs.lemmas.List.{get_or_read}
 use Rattle.bench_core.specs.State.{Node, no_node, node_at}
 use Rattle.bench_core.proofs.Telling.{set_more, both_by_place}

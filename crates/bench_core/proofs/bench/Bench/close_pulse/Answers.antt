@@ -1,5 +1,5 @@
-use Rattle.std.proofs.Common.{◌≡◌, ◌≤◌, ◌+◌, ◌-◌, ℕ, List, [], ◌∷◌, ◌++◌, map, length, ◌*◌, IsTrue, Option, None, Some, Vec, ◌<◌, is_some, cond, refl, sym, ap, ◌∙◌, subst, arith, rules}
-use Rattle.std.proofs.lemmas.List.{with_items_is, length-map}
+use Rattle.std.proofs.Common.{◌≡◌, ◌+◌, ◌-◌, ℕ, [], ◌∷◌, ◌++◌, map, length, ◌*◌, IsTrue, Option, None, Some, Vec, ◌<◌, is_some, cond, refl, sym, ap, ◌∙◌, subst, arith}
+use Rattle.std.proofs.lemmas.List.{with_items_is}
 use Rattle.std.specs.Prelude.{option_map, unwrap_or}
 use Rattle.std.specs.Vec.{with_items}
 use Rattle.std.specs.declared.alloc.Global.{Global}
@@ -13,7 +13,6 @@ use Rattle.bpf_machine.specs.Run.{End}
 use Rattle.bpf_verify.specs.Accepted.{Accepted}
 use Rattle.bench_core.specs.Told.{row_told, both_marked, told_clock}
 use Rattle.bench_core.specs.Replay.{Closed as ClosedValue, BenchValue, rows_of}
-use Rattle.bench_core.specs.Views.{setup_of}
 use Rattle.bench_core.specs.Kept.{view_of}
 use Rattle.bench_core.proofs.Kept.{kept_step, as_seen, length_push, places_seen}
 use Rattle.bench_core.proofs.Sound.{sound_pulse}

@@ -1,4 +1,4 @@
-use Rattle.std.proofs.Common.{◌≡◌, ap, ◌∙◌, length}
+use Rattle.std.proofs.Common.{ap, ◌∙◌}
 use Rattle.bench_core.specs.Replay.{BenchValue}
 use Rattle.bench_core.specs.Kept.{view_of}
 use Rattle.bench_core.proofs.Sound.{sound_replay}

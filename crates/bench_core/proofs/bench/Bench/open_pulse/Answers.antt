@@ -1,9 +1,8 @@
-use Rattle.std.proofs.Common.{ℕ, Some, is_some, false, refl, ◌++◌, ◌∷◌, [], vec_len, vec_capacity, ◌≡◌, ◌≤◌, ◌+◌, length, ap, ◌∙◌, arith, rules}
+use Rattle.std.proofs.Common.{ℕ, Some, refl, ◌++◌, ◌∷◌, [], vec_len, vec_capacity, ◌≡◌, ◌≤◌, ◌+◌, length, ap, ◌∙◌, arith, rules}
 use Rattle.std.proofs.lemmas.List.{length-map}
-use Rattle.bench_core.specs.State.{all_applied, AreCoins}
 use Rattle.bench_core.specs.Replay.{Opened as OpenedValue}
 use Rattle.bench_core.specs.Tasks.{tasks_from}
-use Rattle.bench_core.specs.Views.{setup_of, entry_of}
+use Rattle.bench_core.specs.Views.{entry_of}
 use Rattle.bench_core.specs.Kept.{view_of}
 use Rattle.bench_core.specs.declared.entry.Entry.TheVariants.{Opened}
 use Rattle.bench_core.proofs.Opening.{sound_of, staged_slice, staged_within, nodes_after, openings_le, Opens, opened_advances, tasks_made}
