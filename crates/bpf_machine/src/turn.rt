@@ -214,7 +214,6 @@ fn turn(
 
 /// Runs the instruction at the state's slot. At the end of the run and at a trap nothing changes.
 /// `memory` is the node's, and `outbox` has a slot for each node.
-#[inline(always)]
 pub fn step(
     program: &Program,
     env: &Env,

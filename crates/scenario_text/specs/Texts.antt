@@ -18,7 +18,8 @@ IsDocument text members = (length text ≤ MAX_TEXT) × IsUtf8 text × (parse_do
 abbrev pub ReadsText : List ℕ → Scenario → Type 0
 ReadsText text s = (members : Members) × IsDocument text members × Reads members s
 
--- 1 and 2 are decided by the bytes, 3 to 8 by the spelling; 9 comes only of a document. Want of memory is no refusal
+-- `TooLong` and `NotToml` are decided by the bytes, `NotAccepted` comes only of a document, and the other six are decided by the spelling.
+-- Want of memory is no refusal
 abbrev pub IsDue : List ℕ → ScenarioError → Type 0
 IsDue text errors.TooLong = MAX_TEXT < length text
 IsDue text errors.NotToml = (length text ≤ MAX_TEXT) × (IsUtf8 text → parse_document text ≡ None)
