@@ -17,7 +17,7 @@ mod row;
 mod task;
 
 pub use actor::Actor;
-pub use bench::Bench;
+pub use bench::{Bench, are_coins, misfit};
 pub use change::Change;
 pub use entry::Entry;
 pub use laws::{

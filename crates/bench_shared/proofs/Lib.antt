@@ -1,0 +1,7 @@
+pub mod Rowing
+pub mod Moves
+pub mod Telling
+pub mod Counting
+pub mod Passing
+pub mod Newness
+pub mod Placing

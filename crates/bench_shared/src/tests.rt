@@ -1,0 +1,5 @@
+mod benches;
+mod boards;
+mod ends;
+mod refusals;
+mod threads;

@@ -1,0 +1,66 @@
+//! A row as one word of 64 bits. The word 0 is no row.
+ghost use Rattle.std.specs.Prelude.{◌≡◌, None, Some};
+ghost use Rattle.bench_core.specs.Settled.{Row as RowValue, IsRow};
+ghost use Rattle.bench_shared.specs.Rows.{short_of, word_of};
+
+use bench_core::{CLOCKS_DIFFER, MOST_COUNTED, MOST_PULSES, Row};
+use clock_nodes::MOST_MODULUS;
+
+/// What one node at zero, one of the common clock and one pulse add to a word. One settled node adds 1.
+pub(crate) const ZERO_UNIT: u64 = 128;
+
+pub(crate) const COMMON_UNIT: u64 = 16_384;
+
+pub(crate) const PULSE_UNIT: u64 = 2_147_483_648;
+
+/// The common clock in a word. For clocks that differ it is the least number that no clock is.
+fn short(common: u32) -> u64
+    ensures { result ≡ short_of common }
+{
+    if common < MOST_MODULUS {
+        u64::from(common)
+    } else {
+        u64::from(MOST_MODULUS)
+    }
+}
+
+/// The word of a row.
+pub(crate) fn word(row: Row) -> u64
+    ensures word { result ≡ word_of row }
+    ensures ranges { IsRow row }
+{
+    u64::from(row.pulse) * PULSE_UNIT
+        + short(row.common) * COMMON_UNIT
+        + u64::from(row.zeros) * ZERO_UNIT
+        + u64::from(row.settled)
+}
+
+/// The row of a word, or none of a word that isn't a row's.
+pub(crate) fn row(word: u64) -> Option<Row>
+    ensures none { word ≡ 0 → result ≡ None }
+    ensures some { (r : RowValue) → IsRow r → word ≡ word_of r → result ≡ Some r }
+{
+    let pulse = word / PULSE_UNIT;
+    let common = word % PULSE_UNIT / COMMON_UNIT;
+    let zeros = word % COMMON_UNIT / ZERO_UNIT;
+    let settled = word % ZERO_UNIT;
+    if pulse == 0
+        || pulse > u64::from(MOST_PULSES)
+        || common > u64::from(MOST_MODULUS)
+        || zeros > u64::from(MOST_COUNTED)
+        || settled > u64::from(MOST_COUNTED)
+    {
+        return None;
+    }
+    let common = if common == u64::from(MOST_MODULUS) {
+        CLOCKS_DIFFER
+    } else {
+        common as u32
+    };
+    Some(Row {
+        pulse: pulse as u32,
+        common,
+        zeros: zeros as u32,
+        settled: settled as u32,
+    })
+}
