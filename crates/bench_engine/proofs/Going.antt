@@ -1,4 +1,4 @@
--- Events done one after the other, their faults, and tasks that were run.
+-- Events done one after the other, and their faults.
 use Rattle.std.proofs.Common.{◌≡◌, ℕ, zero, suc, ◌+◌, ◌<◌, ◌≤◌, ◌^◌, ◌==◌, ◌⊎◌, Bool, cond, List, [], ◌∷◌, ◌++◌, length, map, take, get_or, Some, refl, sym, ap, ◌∙◌, subst, arith, append_assoc, append-nil, length-append, inl, inr}
 use Rattle.std.specs.Prelude.{slice_get, count_by, All, Contains, Option, IsSome, IsNone, None}
 use Rattle.std.proofs.lemmas.List.Sums.{sum_by-append}
@@ -23,24 +23,6 @@ use Rattle.bench_engine.specs.Going.{IsApplied, IsStopped}
 use Rattle.bench_engine.specs.Runs.{Goes, IsFault, IsFirstRefused, IsRefusalOf, entries_after}
 use Rattle.bench_engine.specs.declared.event.RunRefusal.{RunRefusal}
 use Rattle.bench_engine.specs.declared.event.RunRefusal.TheVariants as refusals
-
--- ---- tasks
-
-count_of : (i : ℕ) (dones : List Done) → count_by (λ d. d.task.node == i) dones ≡ count_by (λ t. t.node == i) (map (λ d. d.task) dones)
-count_of i [] = refl
-count_of i (d ∷ dones) =
-    sum_by-append (λ e. cond (e.task.node == i) 1 0) (d ∷ []) dones
-    ∙ ap (λ n. (0 + cond (d.task.node == i) 1 0) + n) (count_of i dones)
-    ∙ sym (sum_by-append (λ t. cond (t.node == i) 1 0) (d.task ∷ []) (map (λ e. e.task) dones))
-
-known : (dones : List Done) → All (λ d. Contains (map (λ e. e.task) dones) d.task) dones
-known dones i d low =
-    subst (Contains (map (λ (e : Done). e.task) dones)) (get_or-map (λ (e : Done). e.task) dones i d d.task low)
-    (Contains-get_or (map (λ (e : Done). e.task) dones) i d.task (omega (arith, low, length-map {A = Done} {B = Task})))
-
-pub ran_each : (tasks : List Task) (dones : List Done) → map (λ d. d.task) dones ≡ tasks → RanEach tasks dones
-ran_each tasks dones e =
-    subst (λ ts. RanEach ts dones) e (record { known = known dones; once = λ i. count_of i dones })
 
 -- ---- events
 

@@ -1,3 +1,5 @@
+pub mod Batches
 pub mod Events
-pub mod Runs
 pub mod Going
+pub mod Pulses
+pub mod Runs

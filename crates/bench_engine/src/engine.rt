@@ -4,21 +4,22 @@ ghost use Rattle.bench_core.specs.declared.limits.TheConstants.{MOST_ENTRIES};
 ghost use Rattle.bench_core.specs.declared.refusal.CloseError.TheVariants as CloseError;
 ghost use Rattle.bench_core.specs.Views.{change_of, setup_of};
 ghost use Rattle.bench_engine.specs.declared.event.RunRefusal.TheVariants.{GateShut, Memory};
-ghost use Rattle.bench_engine.specs.declared.engine.TheConstants.{MOST_WORKERS};
+ghost use Rattle.bench_engine.specs.declared.refusal.WorkError.TheVariants as work;
+ghost use Rattle.bench_engine.specs.declared.tasks.TheConstants.{MOST_WORKERS};
 ghost use Rattle.bench_engine.specs.Events.{Stage, Pulse, event_of};
-ghost use Rattle.bench_engine.specs.Going.{GoesOn, IsApplied, IsStopped};
+ghost use Rattle.bench_engine.specs.Going.{GoesOn, IsApplied, IsOfWorkers, IsStopped};
 ghost use Rattle.bench_engine.specs.Runs.{IsFault, IsRun};
 
 use crate::event::{Event, Run, RunFault, RunRefusal};
 use crate::gate::Gate;
+use crate::refusal::WorkError;
 use crate::tasks::run_tasks;
 use bench_core::{Actor, Bench, Change, CloseError, OpenError, PulseRecord, StageError};
 use clock_nodes::ClockRule;
 use node_env::Shape;
 use std::alloc::{AllocError, Global};
-
-/// The most workers of a pulse.
-pub const MOST_WORKERS: u32 = 8;
+use std::sync::Wait;
+use std::thread::Threads;
 
 /// Who stages the changes of a list of events.
 const LOADER: Actor = Actor::Loader(0);
@@ -40,14 +41,17 @@ fn stage(bench: &mut Bench, change: Change) -> Result<(), RunRefusal>
 }
 
 /// Opens a pulse, runs its tasks and closes it.
-fn pulse<G: Gate>(
+fn pulse<R: Threads + Wait + Sync, G: Gate + Sync>(
+    rt: &R,
     alloc: Global,
     gate: &G,
     workers: u32,
     bench: &mut Bench,
     coins: &[u32],
 ) -> Result<PulseRecord, RunRefusal>
-    requires { bench.old.state.coins ≡ None }
+    requires some { 1 ≤ workers }
+    requires few { workers ≤ MOST_WORKERS }
+    requires closed { bench.old.state.coins ≡ None }
     ensures ok { IfOk result (λ told. GoesOn bench.old (Pulse coins.now) (told ∷ []) bench.new) }
     ensures refusal { IfErr result (IsStopped bench.old.setup (length bench.old.history) (Pulse coins.now)) }
     ensures open { G.always gate.now ≡ true → IfErr result (λ e. e ≢ GateShut) }
@@ -59,11 +63,26 @@ fn pulse<G: Gate>(
         Err(OpenError::HistoryFull) => return Err(RunRefusal::HistoryFull),
         Err(OpenError::Memory) => return Err(RunRefusal::Memory),
     };
-    let dones = run_tasks(alloc, gate, workers, tasks)?;
+    let dones = match run_tasks(rt, alloc, gate, workers, tasks) {
+        Ok(dones) => dones,
+        Err(error) => return Err(of_work(error)),
+    };
     let _history = bench.history();
     match bench.close_pulse(alloc, dones) {
         Ok(told) => Ok(told),
         Err((_, error)) => Err(of_close(error)),
+    }
+}
+
+/// What the workers refuse, as a run tells it.
+fn of_work(error: WorkError) -> RunRefusal
+    ensures workers { IsOfWorkers result }
+    ensures shut { result ≡ GateShut → error ≡ work.GateShut }
+{
+    match error {
+        WorkError::NoThread => RunRefusal::NoThread,
+        WorkError::GateShut => RunRefusal::GateShut,
+        WorkError::Memory => RunRefusal::Memory,
     }
 }
 
@@ -82,7 +101,8 @@ fn of_close(error: CloseError) -> RunRefusal
 }
 
 /// Does one event, and keeps the record of a pulse.
-fn apply<G: Gate>(
+fn apply<R: Threads + Wait + Sync, G: Gate + Sync>(
+    rt: &R,
     alloc: Global,
     gate: &G,
     workers: u32,
@@ -90,7 +110,9 @@ fn apply<G: Gate>(
     records: &mut Vec<PulseRecord>,
     event: Event,
 ) -> Result<(), RunRefusal>
-    requires { bench.old.state.coins ≡ None }
+    requires some { 1 ≤ workers }
+    requires few { workers ≤ MOST_WORKERS }
+    requires closed { bench.old.state.coins ≡ None }
     ensures ok { OnOk result (IsApplied bench.old records.old.items (event_of event) bench.new records.new.items) }
     ensures few { OnOk result (length bench.new.history ≤ MOST_ENTRIES) }
     ensures refusal { IfErr result (IsStopped bench.old.setup (length bench.old.history) (event_of event)) }
@@ -103,7 +125,7 @@ fn apply<G: Gate>(
             Ok(())
         }
         Event::Pulse(coins) => {
-            let told = pulse(alloc, gate, workers, bench, &coins)?;
+            let told = pulse(rt, alloc, gate, workers, bench, &coins)?;
             let _few = bench.history();
             match records.push(told) {
                 Ok(()) => Ok(()),
@@ -129,7 +151,8 @@ fn memories_of(alloc: Global, bench: &Bench, nodes: u32) -> Result<Vec<Vec<u8>>,
 /// The run of the events on a new bench, whose pulses are run by 1 to [`MOST_WORKERS`] workers. The fault of an event that can't be
 /// done has its place, from 0 on; want of memory before the first has place 0, and after the last their number. The run is the
 /// same for every number of workers (docs/SCENARIOS.md, "Runs").
-pub fn run_events<G: Gate>(
+pub fn run_events<R: Threads + Wait + Sync, G: Gate + Sync>(
+    rt: &R,
     alloc: Global,
     gate: &G,
     workers: u32,
@@ -152,7 +175,7 @@ pub fn run_events<G: Gate>(
     let mut records = Vec::new(alloc);
     let mut place = 0;
     for event in events {
-        match apply(alloc, gate, workers, &mut bench, &mut records, event) {
+        match apply(rt, alloc, gate, workers, &mut bench, &mut records, event) {
             Ok(()) => place += 1,
             Err(fault) => {
                 return Err(RunFault {

@@ -1,14 +1,22 @@
 //! Runs of lists of events on a bench (docs/SCENARIOS.md, "Runs").
 #![tactic(auto)]
 
+mod batch;
+mod deal;
 mod engine;
 mod event;
 mod gate;
+mod refusal;
+mod shared_pulse;
 mod tasks;
+mod workers;
 
-pub use engine::{MOST_WORKERS, run_events};
+pub use engine::run_events;
 pub use event::{Event, Run, RunFault, RunRefusal};
 pub use gate::{Gate, Open};
+pub use refusal::{EngineError, WorkError};
+pub use shared_pulse::pulse;
+pub use tasks::MOST_WORKERS;
 
 #[cfg(test)]
 mod tests;

@@ -1,56 +1,91 @@
-//! The tasks of a pulse, run on the caller's thread.
-ghost use Rattle.std.specs.Prelude.{◌≡◌, ◌≢◌, ◌≤◌, [], true, IfOk, IfErr, map, vec_len, vec_capacity};
+//! The tasks of a pulse, run by its workers.
+ghost use Rattle.std.specs.Prelude.{◌≡◌, ◌≢◌, ◌≤◌, true, IfOk, IfErr};
 ghost use Rattle.bench_core.specs.Tasks.{RanEach};
-ghost use Rattle.bench_engine.specs.declared.event.RunRefusal.TheVariants.{GateShut};
-ghost use Rattle.bench_engine.specs.Going.{IsOfWorkers};
+ghost use Rattle.bench_engine.specs.declared.refusal.WorkError.TheVariants.{GateShut, NoThread};
+ghost use Rattle.bench_engine.specs.declared.tasks.TheConstants.{MOST_WORKERS};
 
-use crate::event::RunRefusal;
+use crate::batch::run_batch;
+use crate::deal::deal;
 use crate::gate::Gate;
+use crate::refusal::WorkError;
+use crate::workers::{join_all, start_all};
 use bench_core::{NodeDone, NodeTask};
 use std::alloc::Global;
+use std::sync::Wait;
+use std::thread;
+use std::thread::{Scope, Threads};
 
-/// Lets each worker into the gate, by its number from 0.
-fn enter_all<G: Gate>(gate: &G, workers: u32) -> bool
-    ensures { G.always gate.now ≡ true → result ≡ true }
-{
-    for worker in 0..workers {
-        if !gate.enter(worker) {
-            return false;
-        }
-    }
-    true
-}
+/// The most workers of a pulse.
+pub const MOST_WORKERS: u32 = 8;
 
-/// Runs each task once, after every worker was let in.
-pub(crate) fn run_tasks<G: Gate>(
+/// Runs each task once, by so many workers, each of which enters the gate once before its first task. One worker is
+/// the caller's thread; for more, that many threads are started, and all are joined before this answers.
+pub(crate) fn run_tasks<R: Threads + Wait + Sync, G: Gate + Sync>(
+    rt: &R,
     alloc: Global,
     gate: &G,
     workers: u32,
     tasks: Vec<NodeTask>,
-) -> Result<Vec<NodeDone>, RunRefusal>
+) -> Result<Vec<NodeDone>, WorkError>
+    requires some { 1 ≤ workers }
+    requires few { workers ≤ MOST_WORKERS }
     ensures ran { IfOk result (λ dones. RanEach tasks.items dones.items) }
-    ensures refusal { IfErr result IsOfWorkers }
     ensures open { G.always gate.now ≡ true → IfErr result (λ e. e ≢ GateShut) }
+    ensures alone { workers ≡ 1 → IfErr result (λ e. e ≢ NoThread) }
 {
-    if !enter_all(gate, workers) {
-        return Err(RunRefusal::GateShut);
+    if workers == 1 {
+        return run_alone(alloc, gate, tasks);
     }
-    let Ok(room) = Vec::with_capacity(alloc, tasks.len()) else {
-        return Err(RunRefusal::Memory);
-    };
-    Ok(run_each(tasks, room))
+    thread::scope(
+        thread::scope_env(),
+        rt,
+        |scope| -> Result<Vec<NodeDone>, WorkError>
+            requires some { 1 ≤ workers }
+            requires few { workers ≤ MOST_WORKERS }
+            ensures ran { IfOk result (λ dones. RanEach tasks.items dones.items) }
+            ensures open { G.always gate.entry.now ≡ true → IfErr result (λ e. e ≢ GateShut) }
+        { run_in(scope, rt, alloc, gate, workers, tasks) },
+    )
 }
 
-/// Runs each task once, in order. There is room for the results.
-fn run_each(tasks: Vec<NodeTask>, room: Vec<NodeDone>) -> Vec<NodeDone>
-    requires empty { room.items ≡ [] }
-    requires enough { vec_len tasks ≤ vec_capacity room }
-    requires len { vec_len room ≡ 0 }
-    ensures { map (λ done. done.task) result.items ≡ tasks.items }
+/// Runs each task once, on the caller's thread.
+fn run_alone<G: Gate>(
+    alloc: Global,
+    gate: &G,
+    tasks: Vec<NodeTask>,
+) -> Result<Vec<NodeDone>, WorkError>
+    ensures ran { IfOk result (λ dones. RanEach tasks.items dones.items) }
+    ensures open { G.always gate.now ≡ true → IfErr result (λ e. e ≢ GateShut) }
+    ensures alone { IfErr result (λ e. e ≢ NoThread) }
 {
-    let mut dones = room;
-    for task in tasks {
-        dones.push_reserved(task.run());
+    let Ok(room) = Vec::with_capacity(alloc, tasks.len()) else {
+        return Err(WorkError::Memory);
+    };
+    match run_batch(gate, 0, tasks, room) {
+        Some(dones) => Ok(dones),
+        None => Err(WorkError::GateShut),
     }
-    dones
+}
+
+/// Runs each task once, on threads of the scope, and joins all that were started.
+fn run_in<'s, E, R: Threads, G: Gate + Sync>(
+    scope: &Scope<'s, E>,
+    rt: &R,
+    alloc: Global,
+    gate: &'s G,
+    workers: u32,
+    tasks: Vec<NodeTask>,
+) -> Result<Vec<NodeDone>, WorkError>
+    requires some { 1 ≤ workers }
+    requires few { workers ≤ MOST_WORKERS }
+    ensures ran { IfOk result (λ dones. RanEach tasks.items dones.items) }
+    ensures open { G.always gate.now ≡ true → IfErr result (λ e. e ≢ GateShut) }
+{
+    let batches = deal(alloc, tasks, workers as usize)?;
+    let (started, refused) = start_all(scope, alloc, gate, batches);
+    let joined = join_all(rt, alloc, started);
+    match refused {
+        Some(error) => Err(error),
+        None => joined,
+    }
 }

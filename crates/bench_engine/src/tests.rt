@@ -7,41 +7,14 @@ use bpf_verify::{VerifiedProgram, verify};
 use clock_nodes::{ClockRule, dolev_welch, echo};
 use node_env::Shape;
 use std::alloc::Global;
-use std::sync::atomic::{AtomicU32, Ordering};
+use std::sync::Wait;
 use std::test::Fail;
+use std::thread::Threads;
 
-/// A gate that counts who enters, and lets so many in.
-#[derive(Drop)]
-struct Counting {
-    entered: AtomicU32,
-    by_last: AtomicU32,
-    last: u32,
-    most: u32,
-}
+mod gates;
+mod shared;
 
-impl Counting {
-    fn new(last: u32, most: u32) -> Counting {
-        Counting {
-            entered: AtomicU32::new(0),
-            by_last: AtomicU32::new(0),
-            last,
-            most,
-        }
-    }
-}
-
-impl Gate for Counting {
-    ghost use Rattle.std.specs.Prelude.{false};
-
-    ghost always = { λ _. false };
-
-    fn enter(&self, worker: u32) -> bool {
-        if worker == self.last {
-            let _ = self.by_last.fetch_add(1, Ordering::SeqCst);
-        }
-        self.entered.fetch_add(1, Ordering::SeqCst) < self.most
-    }
-}
+use gates::{Counting, Meeting, Shut};
 
 /// Four nodes of 8 bytes, one of which may be faulty, with clocks below 8.
 #[derive(Clone, Copy)]
@@ -85,9 +58,10 @@ fn clocks(alloc: Global, four: &Four, pulses: u32) -> Result<Vec<Event>, Fail>
     Ok(events)
 }
 
-fn run(
+fn run<R: Threads + Wait + Sync, G: Gate + Sync>(
+    rt: &R,
     alloc: Global,
-    gate: &Counting,
+    gate: &G,
     workers: u32,
     four: &Four,
     events: Vec<Event>,
@@ -96,16 +70,16 @@ fn run(
     requires few { workers ≤ MOST_WORKERS }
     requires nodes { four.now.rule.nodes ≡ four.now.shape.nodes }
 {
-    run_events(alloc, gate, workers, four.shape, four.rule, events)
+    run_events(rt, alloc, gate, workers, four.shape, four.rule, events)
 }
 
 #[test]
 fn four_clocks_for_each_number_of_workers(rt: HostRuntime) -> Result<(), Fail> {
     let four = four_nodes()?;
     for workers in 1..=MOST_WORKERS {
-        let gate = Counting::new(workers - 1, 100);
+        let gate = Counting::new(100);
         let events = clocks(rt.alloc(), &four, 3)?;
-        let Ok(run) = run(rt.alloc(), &gate, workers, &four, events) else {
+        let Ok(run) = run(&rt, rt.alloc(), &gate, workers, &four, events) else {
             return Err("a fault")?;
         };
         assert_eq!(rt; run.records.len(), 3);
@@ -121,8 +95,10 @@ fn four_clocks_for_each_number_of_workers(rt: HostRuntime) -> Result<(), Fail> {
         for memory in &run.memories {
             assert_eq!(rt; memory.as_slice(), [2, 0, 0, 0, 1, 0, 0, 0].as_slice());
         }
-        assert_eq!(rt; gate.entered.load(Ordering::SeqCst), 3 * workers);
-        assert_eq!(rt; gate.by_last.load(Ordering::SeqCst), 3);
+        for worker in 0..MOST_WORKERS {
+            let times = if worker < workers { 3 } else { 0 };
+            assert_eq!(rt; gate.entered_by(worker), times, "{worker} of {workers}");
+        }
     }
     Ok(())
 }
@@ -131,6 +107,7 @@ fn four_clocks_for_each_number_of_workers(rt: HostRuntime) -> Result<(), Fail> {
 fn no_events(rt: HostRuntime) -> Result<(), Fail> {
     let four = four_nodes()?;
     let Ok(run) = run_events(
+        &rt,
         rt.alloc(),
         &Open,
         1,
@@ -151,22 +128,53 @@ fn no_events(rt: HostRuntime) -> Result<(), Fail> {
 #[test]
 fn a_shut_gate_is_told_at_its_pulse(rt: HostRuntime) -> Result<(), Fail> {
     let four = four_nodes()?;
-    let gate = Counting::new(1, 3);
-    let events = clocks(rt.alloc(), &four, 3)?;
-    let got = run(rt.alloc(), &gate, 2, &four, events);
-    let fault = got.err().ok_or("no fault")?;
-    assert_eq!(rt; (fault.event, fault.fault), (5, RunRefusal::GateShut));
+    for workers in 1..=MOST_WORKERS {
+        let gate = Counting::new(2 * workers - 1);
+        let events = clocks(rt.alloc(), &four, 3)?;
+        let got = run(&rt, rt.alloc(), &gate, workers, &four, events);
+        let fault = got.err().ok_or("no fault")?;
+        assert_eq!(rt; (fault.event, fault.fault), (5, RunRefusal::GateShut));
+        assert_eq!(rt; gate.entered(), 2 * workers);
+    }
+    Ok(())
+}
+
+#[test]
+fn gate_shut(rt: HostRuntime) -> Result<(), Fail> {
+    let four = four_nodes()?;
+    let gate = Shut { worker: 1 };
+    let events = clocks(rt.alloc(), &four, 1)?;
+    let fault = run(&rt, rt.alloc(), &gate, 2, &four, events)
+        .err()
+        .ok_or("no fault")?;
+    assert_eq!(rt; (fault.event, fault.fault), (4, RunRefusal::GateShut));
+    let events = clocks(rt.alloc(), &four, 1)?;
+    assert!(rt; run(&rt, rt.alloc(), &gate, 1, &four, events).is_ok());
+    Ok(())
+}
+
+#[test]
+fn workers_meet(rt: HostRuntime) -> Result<(), Fail> {
+    let four = four_nodes()?;
+    let gate = Meeting::new();
+    let events = clocks(rt.alloc(), &four, 1)?;
+    assert!(rt; run(&rt, rt.alloc(), &gate, 2, &four, events).is_ok());
     Ok(())
 }
 
 /// The fault of four clocks, a pulse, this event and one more that is refused.
-fn fault_of(alloc: Global, four: &Four, event: Event) -> Result<(u32, RunRefusal), Fail>
+fn fault_of<R: Threads + Wait + Sync>(
+    rt: &R,
+    alloc: Global,
+    four: &Four,
+    event: Event,
+) -> Result<(u32, RunRefusal), Fail>
     requires { four.now.rule.nodes ≡ four.now.shape.nodes }
 {
     let mut events = clocks(alloc, four, 1)?;
     events.push(event)?;
     events.push(Event::Stage(Change::Unload { node: 9 }))?;
-    match run_events(alloc, &Open, 1, four.shape, four.rule, events) {
+    match run_events(rt, alloc, &Open, 1, four.shape, four.rule, events) {
         Ok(_) => Err("no fault")?,
         Err(RunFault { event, fault }) => Ok((event, fault)),
     }
@@ -184,12 +192,21 @@ fn changes_that_fit_no_bench(rt: HostRuntime) -> Result<(), Fail> {
         return Err("not accepted")?;
     };
     let unload = Event::Stage(Change::Unload { node: 4 });
-    assert_eq!(rt; fault_of(alloc, &four, unload)?, (5, RunRefusal::BadNode));
+    assert_eq!(rt;
+        fault_of(&rt, alloc, &four, unload)?,
+        (5, RunRefusal::BadNode)
+    );
     let load = Event::Stage(Change::Load { node: 0, program });
-    assert_eq!(rt; fault_of(alloc, &four, load)?, (5, RunRefusal::OtherShape));
+    assert_eq!(rt;
+        fault_of(&rt, alloc, &four, load)?,
+        (5, RunRefusal::OtherShape)
+    );
     let image = vec![in alloc; 0; 7]?;
     let corrupt = Event::Stage(Change::Corrupt { node: 0, image });
-    assert_eq!(rt; fault_of(alloc, &four, corrupt)?, (5, RunRefusal::BadImage));
+    assert_eq!(rt;
+        fault_of(&rt, alloc, &four, corrupt)?,
+        (5, RunRefusal::BadImage)
+    );
     Ok(())
 }
 
@@ -198,9 +215,15 @@ fn coins_that_are_none(rt: HostRuntime) -> Result<(), Fail> {
     let alloc = rt.alloc();
     let four = four_nodes()?;
     let two = Event::Pulse(vec![in alloc; 0, 1, 2, 0]?);
-    assert_eq!(rt; fault_of(alloc, &four, two)?, (5, RunRefusal::BadCoins));
+    assert_eq!(rt;
+        fault_of(&rt, alloc, &four, two)?,
+        (5, RunRefusal::BadCoins)
+    );
     let few = Event::Pulse(vec![in alloc; 0; 3]?);
-    assert_eq!(rt; fault_of(alloc, &four, few)?, (5, RunRefusal::BadCoins));
+    assert_eq!(rt;
+        fault_of(&rt, alloc, &four, few)?,
+        (5, RunRefusal::BadCoins)
+    );
     Ok(())
 }
 
@@ -211,7 +234,7 @@ fn a_full_history_is_told_at_its_event(rt: HostRuntime) -> Result<(), Fail> {
     for _ in 0..65_537u32 {
         events.push(Event::Stage(Change::Unload { node: 0 }))?;
     }
-    let got = run_events(rt.alloc(), &Open, 1, four.shape, four.rule, events);
+    let got = run_events(&rt, rt.alloc(), &Open, 1, four.shape, four.rule, events);
     let fault = got.err().ok_or("no fault")?;
     assert_eq!(rt;
         (fault.event, fault.fault),

@@ -11,6 +11,8 @@ use node_env::Shape;
 use scenario_text::{MAX_TEXT, ScenarioError, scenario_in};
 use std::alloc::Global;
 use std::io::{Read, Write};
+use std::sync::Wait;
+use std::thread::Threads;
 use stream_io::{ReadFault, WriteFault, read_at_most, write_fully};
 use thiserror::Error;
 
@@ -38,7 +40,12 @@ pub enum ScenarioFault {
 }
 
 /// The report of the run of the scenario that a text says.
-fn report_in(alloc: Global, bytes: &[u8], workers: u32) -> Result<String, ScenarioFault>
+fn report_in<T: Threads + Wait + Sync>(
+    rt: &T,
+    alloc: Global,
+    bytes: &[u8],
+    workers: u32,
+) -> Result<String, ScenarioFault>
     requires some { 1 ≤ workers }
     requires few { workers ≤ MOST_WORKERS }
     ensures { MatchResult result (λ line. Reports bytes.now (string_bytes line)) (IsDueOf bytes.now) }
@@ -57,7 +64,7 @@ fn report_in(alloc: Global, bytes: &[u8], workers: u32) -> Result<String, Scenar
     let Ok(events) = events(alloc, &scenario) else {
         return Err(ScenarioFault::Memory);
     };
-    let run = match run_events(alloc, &Open, workers, shape, rule, events) {
+    let run = match run_events(rt, alloc, &Open, workers, shape, rule, events) {
         Ok(run) => run,
         Err(fault) => return Err(ScenarioFault::Run(fault)),
     };
@@ -70,7 +77,8 @@ fn report_in(alloc: Global, bytes: &[u8], workers: u32) -> Result<String, Scenar
 /// Reads a scenario's text, runs it on so many workers, and writes the report. At most [`MOST_BYTES`] bytes are read, by
 /// at most [`MOST_CALLS`] calls of `read`. The report is whole before its first byte is written.
 #[tactic(auto, using(crate::proofs::StreamLemmas::fault_left, crate::proofs::StreamLemmas::report_left, crate::proofs::StreamLemmas::front_left))]
-pub fn run_scenario<R: Read, W: Write>(
+pub fn run_scenario<T: Threads + Wait + Sync, R: Read, W: Write>(
+    rt: &T,
     alloc: Global,
     reader: &mut R,
     writer: &mut W,
@@ -87,7 +95,7 @@ pub fn run_scenario<R: Read, W: Write>(
         Err(ReadFault::Stream) => return Err(ScenarioFault::Read),
         Err(ReadFault::Memory) => return Err(ScenarioFault::Memory),
     };
-    let line = report_in(alloc, bytes.as_slice(), workers)?;
+    let line = report_in(rt, alloc, bytes.as_slice(), workers)?;
     let told = line.as_bytes();
     match write_fully(writer, told) {
         Ok(()) => Ok(()),

@@ -3,7 +3,9 @@ use crate::{RefusalLine, ScenarioFault, run_scenario};
 use std::alloc::{AllocError, Global};
 use std::io;
 use std::io::{ErrorKind, Read, Write};
+use std::sync::Wait;
 use std::test::Fail;
+use std::thread::Threads;
 
 mod parts;
 mod reports;

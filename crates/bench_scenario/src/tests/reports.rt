@@ -117,13 +117,18 @@ agreed 4 of 4
 ";
 
 /// The report of a text, or what is told in its place.
-pub fn told_of(alloc: Global, text: &str, workers: u32) -> Result<String, AllocError>
+pub fn told_of<T: Threads + Wait + Sync>(
+    rt: &T,
+    alloc: Global,
+    text: &str,
+    workers: u32,
+) -> Result<String, AllocError>
     requires some { 1 ≤ workers }
     requires few { workers ≤ 8 }
 {
     let mut reader = text.as_bytes();
     let mut writer = Vec::new(alloc);
-    match run_scenario(alloc, &mut reader, &mut writer, workers) {
+    match run_scenario(rt, alloc, &mut reader, &mut writer, workers) {
         Ok(()) => match String::from_utf8(writer) {
             Ok(report) => Ok(report),
             Err(_) => String::from_str(alloc, "not UTF-8"),
@@ -142,7 +147,7 @@ fn whole_reports(rt: HostRuntime) -> Result<(), Fail> {
     ];
     for (text, report) in rows {
         for workers in 1u32..=8 {
-            let told = told_of(rt.alloc(), text, workers)?;
+            let told = told_of(&rt, rt.alloc(), text, workers)?;
             assert_eq!(rt; told.as_str(), report, "{workers} workers");
         }
     }
@@ -181,7 +186,7 @@ fn sixty_four_nodes(rt: HostRuntime) -> Result<(), Fail> {
         wanted.push_str(rest.as_str())?;
     }
     wanted.push_str("agreed 3 of 3\n")?;
-    let told = told_of(alloc, text.as_str(), 8)?;
+    let told = told_of(&rt, alloc, text.as_str(), 8)?;
     assert_eq!(rt; told.as_str(), wanted.as_str());
     Ok(())
 }
@@ -192,7 +197,7 @@ fn a_writer_that_fails_holds_the_front(rt: HostRuntime) -> Result<(), Fail> {
     for count in 0..report.len() {
         let mut reader = FOUR_CLOCKS.as_bytes();
         let mut writer = Narrow::new(rt.alloc(), count);
-        match run_scenario(rt.alloc(), &mut reader, &mut writer, 1) {
+        match run_scenario(&rt, rt.alloc(), &mut reader, &mut writer, 1) {
             Err(ScenarioFault::Write { written }) => assert_eq!(rt; written, count as u64),
             Err(other) => assert_eq!(rt; name_of(&other), "write"),
             Ok(()) => assert!(rt; false, "{count} bytes"),
@@ -209,7 +214,7 @@ fn one_byte_a_call(rt: HostRuntime) -> Result<(), Fail> {
         ends: true,
     };
     let mut writer = Narrow::new(rt.alloc(), 1_000);
-    let ran = run_scenario(rt.alloc(), &mut reader, &mut writer, 1);
+    let ran = run_scenario(&rt, rt.alloc(), &mut reader, &mut writer, 1);
     assert!(rt; ran.is_ok());
     assert_eq!(rt; writer.taken.as_slice(), FOUR_CLOCKS_REPORT.as_bytes());
     Ok(())

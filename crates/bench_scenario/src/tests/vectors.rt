@@ -2904,7 +2904,7 @@ fn accepted_vectors(rt: HostRuntime) -> Result<(), Fail> {
             Some(front) => front,
             None => text,
         };
-        let told = told_of(rt.alloc(), text, 1)?;
+        let told = told_of(&rt, rt.alloc(), text, 1)?;
         assert_eq!(rt; told.as_str(), wanted, "at {text}");
         rows = rows.wrapping_add(1);
     }

@@ -3,7 +3,7 @@ use Rattle.bench_scenario.proofs.RunLemmas.{fault_due, fault_met, run_met}
 use Rattle.bench_scenario.proofs.run.report_in.Goals as goal
 
 pub returns-in-Err-run_events : goal.returns-in-Err-run_events
-returns-in-Err-run_events c =
+returns-in-Err-run_events g c =
     let stopped = fault_met c.in-Ok.scenario _ _ _ c.in-Err-run_events.fault.event c.in-Err-run_events.fault.fault c.in-Some.ensures.value
     c.in-Some-of.ensures.value c.in-Ok-events.ensures c.in-Err-run_events.ensures.fault in
     record {
@@ -15,7 +15,7 @@ returns-in-Err-run_events c =
     }
 
 pub returns : goal.returns
-returns c = record {
+returns g c = record {
   scenario = c.in-Ok.scenario;
   records = _;
   memories = _;

@@ -1,0 +1,11 @@
+use Rattle.std.proofs.Common.{◌≡◌, ◌<◌, vec_len}
+use Rattle.std.specs.List.{flat_map}
+use Rattle.std.specs.List.Sorted.{IsPermutation}
+use Rattle.bench_engine.proofs.deal.deal.Given as goal
+
+abbrev pub invariant-loop-task : goal.invariant-loop-task
+invariant-loop-task l = record {
+  count : vec_len l.batches ≡ l.workers;
+  next : l.worker < l.workers;
+  dealt : IsPermutation l.yielded (flat_map (λ b. b.items) l.batches.items);
+}

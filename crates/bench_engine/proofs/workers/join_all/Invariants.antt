@@ -1,0 +1,13 @@
+use Rattle.std.proofs.Common.{◌≡◌, ◌≢◌, true}
+use Rattle.std.specs.Prelude.{All, IfOk, IfErr}
+use Rattle.std.specs.List.{flat_map}
+use Rattle.bench_engine.specs.Batches.{RanInOrder}
+use Rattle.bench_engine.specs.declared.refusal.WorkError.TheVariants.{GateShut, NoThread}
+use Rattle.bench_engine.proofs.workers.join_all.Given as goal
+
+abbrev pub invariant-loop-worker : goal.invariant-loop-worker
+invariant-loop-worker g l = record {
+  ran : IfOk l.gathered (λ dones. RanInOrder (flat_map (λ h. h.promise.tasks.value.items) l.yielded) dones.items);
+  shut : All (λ h. g.G.Gate.always h.promise.gate.value ≡ true) l.yielded → IfErr l.gathered (λ e. e ≢ GateShut);
+  started : IfErr l.gathered (λ e. e ≢ NoThread);
+}

@@ -1,0 +1,30 @@
+-- What a pulse of a shared bench leaves.
+use Rattle.std.specs.Prelude.{◌≡◌, ◌⊎◌, ℕ, List, [], ◌∷◌, ◌++◌, map}
+use Rattle.bench_core.specs.Replay.{Entry, Opened, Abandoned}
+use Rattle.bench_core.specs.State.{AreCoins}
+use Rattle.bench_shared.specs.Passes.{Placed, entry_in}
+use Rattle.bench_shared.specs.Plans.{Plan, IsPlanOpenRefusal}
+use Rattle.bench_engine.specs.declared.refusal.EngineError.{EngineError}
+use Rattle.bench_engine.specs.declared.refusal.EngineError.TheVariants.{Open, Work, Close}
+
+-- receipts more, for these entries
+abbrev pub Adds : List Placed → List Entry → List Placed → Type 0
+Adds old entries new = (more : List Placed) × (map entry_in more ≡ entries) × (new ≡ old ++ more)
+
+-- a refusal past the opening
+abbrev pub IsLater : EngineError → Type 0
+IsLater (Open e) = ⊥
+IsLater (Work e) = Unit {0}
+IsLater (Close e) = Unit {0}
+
+-- a refused opening adds no receipt; a later refusal leaves that of the opening, and at most that of an end without a row
+abbrev pub Stopped : EngineError → List Placed → List ℕ → List Placed → Type 0
+Stopped (Open e) old coins new = new ≡ old
+Stopped (Work e) old coins new = Adds old (Opened coins ∷ []) new ⊎ Adds old (Opened coins ∷ Abandoned ∷ []) new
+Stopped (Close e) old coins new = Adds old (Opened coins ∷ []) new ⊎ Adds old (Opened coins ∷ Abandoned ∷ []) new
+
+-- what the refusal says of the coins
+abbrev pub IsPulseRefusal : Plan → List ℕ → EngineError → Type 0
+IsPulseRefusal p coins (Open e) = IsPlanOpenRefusal p coins e
+IsPulseRefusal p coins (Work e) = AreCoins p.setup coins
+IsPulseRefusal p coins (Close e) = AreCoins p.setup coins
