@@ -6,10 +6,13 @@ use commands::perform::perform;
 use std::alloc::Global;
 use std::convert::AsStr;
 use std::io::{Read, Write};
+use std::sync::Wait;
+use std::thread::Threads;
 
 /// Does what the words ask for, of which the first is the program's name, and answers the exit status: 0 done, 1 fault, 2 refused.
 /// What `err` does not take is dropped.
-pub fn command<S: AsStr, R: Read, W: Write, E: Write>(
+pub fn command<T: Threads + Wait + Sync, S: AsStr, R: Read, W: Write, E: Write>(
+    rt: &T,
     alloc: Global,
     words: &[S],
     reader: &mut R,
@@ -19,7 +22,7 @@ pub fn command<S: AsStr, R: Read, W: Write, E: Write>(
     ensures { result ≤ 2 }
 {
     match request_of(alloc, words) {
-        Ok(request) => perform(alloc, &request, reader, out, err),
+        Ok(request) => perform(rt, alloc, &request, reader, out, err),
         Err(fault) => fault.tell(err),
     }
 }

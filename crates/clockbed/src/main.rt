@@ -14,7 +14,14 @@ use std::{env, io};
 fn main(rt: HostRuntime) -> ExitCode {
     let (mut input, mut out, mut err) = (rt.stdin(), rt.stdout(), rt.stderr());
     let status = match words_of(&rt) {
-        Ok(words) => command(rt.alloc(), words.as_slice(), &mut input, &mut out, &mut err),
+        Ok(words) => command(
+            &rt,
+            rt.alloc(),
+            words.as_slice(),
+            &mut input,
+            &mut out,
+            &mut err,
+        ),
         Err(fault) => fault.tell(&mut err),
     };
     ExitCode::from(status)

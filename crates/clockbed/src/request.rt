@@ -2,10 +2,12 @@
 ghost use Rattle.std.specs.Prelude.{IfErr};
 ghost use Rattle.commands.specs.Faults.{IsOfCommandLine};
 
+use bench_engine::MOST_WORKERS;
+use bench_shared::MOST_LOADERS;
 use clap::error::ErrorKind;
 use clap::{Arg, ArgMatches, Command, Error, value_parser};
 use commands::Fault;
-use commands::request::{ExecOptions, Request, RunOptions, ShapeOptions};
+use commands::request::{ExecOptions, Request, RunOptions, ShapeOptions, StressOptions};
 use node_env::{MAX_MEMORY, MAX_NODES, MEMORY_UNIT};
 use std::alloc::{AllocError, Global};
 use std::convert::AsStr;
@@ -23,8 +25,21 @@ const DEFAULT_FUEL: u64 = 1_000_000;
 /// The most fuel that can be named.
 const MOST_FUEL: i64 = 1_000_000_000;
 
-/// The workers of a run for which none are named, and the most that can be named: threads are to come.
-const DEFAULT_WORKERS: u32 = 1;
+/// The workers of a pulse for which none are named.
+const DEFAULT_WORKERS: u32 = 2;
+
+/// The loaders of a stressed bench for which none are named.
+const DEFAULT_LOADERS: u32 = 2;
+
+/// The loads of each loader where none are named, and the most that can be named.
+const DEFAULT_LOADS: u32 = 8;
+
+const MOST_LOADS: u32 = 100;
+
+/// The pulses of a stressed bench for which none are named, and the most that can be named.
+const DEFAULT_PULSES: u32 = 8;
+
+const MOST_PULSES: u32 = 1_000;
 
 const HELP_BYTES: usize = 64;
 
@@ -48,6 +63,7 @@ fn parse<S: AsStr>(alloc: Global, words: &[S]) -> Result<Request, Error> {
         Some(("dis", _)) => Ok(Request::Dis),
         Some(("verify", options)) => Ok(Request::Verify(shape_options(options))),
         Some(("run", options)) => Ok(Request::Run(run_options(options))),
+        Some(("stress", options)) => Ok(Request::Stress(stress_options(options))),
         _ => Err(command.error(ErrorKind::MissingSubcommand, "a command is needed")?),
     }
 }
@@ -59,6 +75,9 @@ struct Helps {
     memory: InlineText<HELP_BYTES>,
     fuel: InlineText<HELP_BYTES>,
     workers: InlineText<HELP_BYTES>,
+    loaders: InlineText<HELP_BYTES>,
+    loads: InlineText<HELP_BYTES>,
+    pulses: InlineText<HELP_BYTES>,
 }
 
 impl Helps {
@@ -73,6 +92,15 @@ impl Helps {
             )),
             workers: InlineText::of(format_args!(
                 "The workers of a pulse [default: {DEFAULT_WORKERS}]"
+            )),
+            loaders: InlineText::of(format_args!(
+                "The loaders, each in a thread [default: {DEFAULT_LOADERS}]"
+            )),
+            loads: InlineText::of(format_args!(
+                "The loads of each loader [default: {DEFAULT_LOADS}]"
+            )),
+            pulses: InlineText::of(format_args!(
+                "The pulses of the engine [default: {DEFAULT_PULSES}]"
             )),
         }
     }
@@ -90,11 +118,7 @@ fn command_line<'a>(alloc: Global, helps: &'a Helps) -> Result<Command<'a>, Allo
     let verify = Command::new(alloc, "verify").about(
         "Accepts or refuses the image on standard input",
     );
-    let workers = Arg::new(alloc, "workers")
-        .long("workers")
-        .value_name("COUNT")
-        .help(helps.workers.as_str())
-        .value_parser(value_parser!(u32).range(1..=i64::from(DEFAULT_WORKERS)));
+    let workers = count_option(alloc, "workers", helps.workers.as_str(), MOST_WORKERS);
     let run = Command::new(alloc, "run").about(
         "Prints the report of the scenario on standard input",
     );
@@ -105,7 +129,31 @@ fn command_line<'a>(alloc: Global, helps: &'a Helps) -> Result<Command<'a>, Allo
         .subcommand(asm)?
         .subcommand(dis)?
         .subcommand(with_shape(alloc, verify, helps)?)?
-        .subcommand(run.arg(workers)?)
+        .subcommand(run.arg(workers)?)?
+        .subcommand(stress(alloc, helps)?)
+}
+
+/// The command `stress` with its options.
+fn stress<'a>(alloc: Global, helps: &'a Helps) -> Result<Command<'a>, AllocError> {
+    let loaders = count_option(alloc, "loaders", helps.loaders.as_str(), MOST_LOADERS);
+    let loads = count_option(alloc, "loads", helps.loads.as_str(), MOST_LOADS);
+    let pulses = count_option(alloc, "pulses", helps.pulses.as_str(), MOST_PULSES);
+    let workers = count_option(alloc, "workers", helps.workers.as_str(), MOST_WORKERS);
+    Command::new(alloc, "stress")
+        .about("Lets many threads work on one bench, and checks its history")
+        .arg(loaders)?
+        .arg(loads)?
+        .arg(pulses)?
+        .arg(workers)
+}
+
+/// An option for a number from 1 on.
+fn count_option<'a>(alloc: Global, name: &'static str, help: &'a str, most: u32) -> Arg<'a> {
+    Arg::new(alloc, name)
+        .long(name)
+        .value_name("COUNT")
+        .help(help)
+        .value_parser(value_parser!(u32).range(1..=i64::from(most)))
 }
 
 /// Adds the options that ask for a shape.
@@ -136,6 +184,15 @@ fn shape_options(options: &ArgMatches<'_>) -> ShapeOptions {
 
 fn run_options(options: &ArgMatches<'_>) -> RunOptions {
     RunOptions {
+        workers: options.get_one::<u32>("workers").unwrap_or(DEFAULT_WORKERS),
+    }
+}
+
+fn stress_options(options: &ArgMatches<'_>) -> StressOptions {
+    StressOptions {
+        loaders: options.get_one::<u32>("loaders").unwrap_or(DEFAULT_LOADERS),
+        loads: options.get_one::<u32>("loads").unwrap_or(DEFAULT_LOADS),
+        pulses: options.get_one::<u32>("pulses").unwrap_or(DEFAULT_PULSES),
         workers: options.get_one::<u32>("workers").unwrap_or(DEFAULT_WORKERS),
     }
 }

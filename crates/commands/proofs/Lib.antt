@@ -1,3 +1,4 @@
 mod AnswerLemmas
 mod VerdictLemmas
 mod RunLemmas
+mod StressLemmas

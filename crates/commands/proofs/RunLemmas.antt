@@ -1,6 +1,6 @@
 -- What `run` leaves, from what the run of a scenario leaves.
-use Rattle.std.proofs.Common.{◌≡◌, ℕ, List, ◌++◌, take, refl, Option, Some, None, ap, ◌∙◌}
-use Rattle.std.specs.Prelude.{codes, Result, Ok, Err, IfSome}
+use Rattle.std.proofs.Common.{ℕ, List, ◌++◌, refl, Option, Some, None, ap, ◌∙◌}
+use Rattle.std.specs.Prelude.{Result, Ok, Err, IfSome}
 use Rattle.std.specs.Io.KnownBytes.{Appends, Keeps}
 use Rattle.scenario_text.specs.declared.refusal.ScenarioError.{ScenarioError}
 use Rattle.bench_scenario.specs.declared.run.ScenarioFault.TheVariants as scenario

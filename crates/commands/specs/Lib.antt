@@ -8,4 +8,5 @@ pub mod Image
 pub mod Output
 pub mod Verdict
 pub mod Run
+pub mod Stress
 pub mod Perform

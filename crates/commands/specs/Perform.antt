@@ -1,6 +1,5 @@
 -- What the program does for a request: what it takes, what it leaves, and its exit status (docs/COMMANDS.md).
 use Rattle.std.specs.Prelude.{◌≡◌, ℕ, ◌+◌, List, Option, Result, Ok, Err, IfSome, string_bytes, take}
-use Rattle.std.specs.Io.KnownBytes.{Keeps}
 use Rattle.stream_io.specs.Streams.{TakesAtMost}
 use Rattle.commands.specs.declared.asm.TheConstants.{TEXT_BYTES}
 use Rattle.commands.specs.declared.ending.Ending.{Ending}
@@ -8,7 +7,7 @@ use Rattle.commands.specs.declared.ending.Ending.TheVariants.{Done}
 use Rattle.commands.specs.declared.fault.Fault.{Fault}
 use Rattle.commands.specs.declared.image.TheConstants.{IMAGE_BYTES}
 use Rattle.commands.specs.declared.request.Request.{Request}
-use Rattle.commands.specs.declared.request.Request.TheVariants.{Exec, Asm, Dis, Verify, Run, Help}
+use Rattle.commands.specs.declared.request.Request.TheVariants.{Exec, Asm, Dis, Verify, Run, Stress, Help}
 use Rattle.commands.specs.Asm.{LeavesImage}
 use Rattle.commands.specs.Dis.{LeavesListing}
 use Rattle.commands.specs.Ending.{status_of}
@@ -17,6 +16,7 @@ use Rattle.commands.specs.Faults.{fault_status}
 use Rattle.commands.specs.Output.{Leaves}
 use Rattle.commands.specs.Run.{LeavesTold}
 use Rattle.bench_scenario.specs.declared.run.TheConstants.{MOST_BYTES}
+use Rattle.commands.specs.Stress.{LeavesStressed}
 use Rattle.commands.specs.Verdict.{LeavesVerdict}
 
 -- what each command leaves on its output, where the bytes of its input are known, and how it ends
@@ -26,6 +26,7 @@ CarriesOut Asm input old new ended = IfSome input (λ bytes. LeavesImage old new
 CarriesOut Dis input old new ended = IfSome input (λ bytes. LeavesListing old new (take IMAGE_BYTES bytes) ended)
 CarriesOut (Verify asked) input old new ended = IfSome input (λ bytes. LeavesVerdict old new asked (take IMAGE_BYTES bytes) ended)
 CarriesOut (Run asked) input old new ended = IfSome input (λ bytes. LeavesTold old new bytes ended)
+CarriesOut (Stress asked) input old new ended = LeavesStressed old new ended
 CarriesOut (Help text) input old new ended = Leaves old new (string_bytes text) Done ended
 
 -- the status of an ending, or of a fault
@@ -44,4 +45,5 @@ TakesFor Asm old new = TakesAtMost (TEXT_BYTES + 1) old new
 TakesFor Dis old new = TakesAtMost IMAGE_BYTES old new
 TakesFor (Verify asked) old new = TakesAtMost IMAGE_BYTES old new
 TakesFor (Run asked) old new = TakesAtMost MOST_BYTES old new
+TakesFor (Stress asked) old new = new ≡ old
 TakesFor (Help text) old new = new ≡ old

@@ -1,10 +1,11 @@
 //! How a command ends that wrote its whole answer.
 
-/// Whether the answer is a result or a refusal of what was read.
+/// Whether the answer is a result, a refusal of what was read, or that a bench's history isn't what its hands did.
 #[derive(Clone, Copy, Debug, PartialEq, Eq)]
 pub enum Ending {
     Done,
     Refused,
+    Mismatched,
 }
 
 impl Ending {
@@ -18,6 +19,7 @@ impl Ending {
         match self {
             Ending::Done => 0,
             Ending::Refused => 2,
+            Ending::Mismatched => 1,
         }
     }
 }

@@ -7,12 +7,14 @@ pub mod dis;
 mod ending;
 pub mod exec;
 mod fault;
+mod hands;
 pub mod image;
 pub mod laws;
 mod output;
 pub mod perform;
 pub mod request;
 mod run;
+mod stress;
 mod verdict;
 pub mod verify;
 

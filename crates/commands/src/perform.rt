@@ -10,13 +10,17 @@ use crate::fault::Fault;
 use crate::output::write_whole;
 use crate::request::Request;
 use crate::run::run;
+use crate::stress::stress;
 use crate::verify::verify;
 use std::alloc::Global;
 use std::io::{Read, Write};
+use std::sync::Wait;
+use std::thread::Threads;
 
 /// Runs the command, says its fault on `err`, and answers the exit status: 0 done, 1 fault, 2 refused. What `err` does not take
 /// is dropped.
-pub fn perform<R: Read, W: Write, E: Write>(
+pub fn perform<T: Threads + Wait + Sync, R: Read, W: Write, E: Write>(
+    rt: &T,
     alloc: Global,
     request: &Request,
     reader: &mut R,
@@ -26,7 +30,7 @@ pub fn perform<R: Read, W: Write, E: Write>(
     ensures performed { Performs request.now (R.remaining reader.old) (W.contents out.old) (W.contents out.new) result }
     ensures taken { TakesFor request.now (R.remaining reader.old) (R.remaining reader.new) }
 {
-    let ended = carry_out(alloc, request, reader, out);
+    let ended = carry_out(rt, alloc, request, reader, out);
     match ended {
         Ok(ending) => ending.status(),
         Err(fault) => fault.tell(err),
@@ -34,7 +38,8 @@ pub fn perform<R: Read, W: Write, E: Write>(
 }
 
 /// Runs the command.
-fn carry_out<R: Read, W: Write>(
+fn carry_out<T: Threads + Wait + Sync, R: Read, W: Write>(
+    rt: &T,
     alloc: Global,
     request: &Request,
     reader: &mut R,
@@ -48,7 +53,8 @@ fn carry_out<R: Read, W: Write>(
         Request::Asm => asm(alloc, reader, out),
         Request::Dis => dis(alloc, reader, out),
         Request::Verify(options) => verify(alloc, *options, reader, out),
-        Request::Run(options) => run(alloc, *options, reader, out),
+        Request::Run(options) => run(rt, alloc, *options, reader, out),
+        Request::Stress(options) => stress(rt, alloc, *options, out),
         Request::Help { text } => write_whole(out, text.as_bytes(), Ending::Done),
     }
 }

@@ -8,6 +8,7 @@ pub enum Request {
     Dis,
     Verify(ShapeOptions),
     Run(RunOptions),
+    Stress(StressOptions),
     /// A text whose last line ends.
     Help { text: String },
 }
@@ -24,6 +25,17 @@ pub struct ShapeOptions {
 #[derive(Clone, Copy, Debug, PartialEq, Eq)]
 pub struct RunOptions {
     /// On how many workers the tasks of a pulse are run. The report is the same for every number.
+    pub workers: u32,
+}
+
+/// The options of `stress`.
+#[derive(Clone, Copy, Debug, PartialEq, Eq)]
+pub struct StressOptions {
+    pub loaders: u32,
+    /// The programs that each loader loads.
+    pub loads: u32,
+    pub pulses: u32,
+    /// On how many workers the tasks of a pulse are run.
     pub workers: u32,
 }
 

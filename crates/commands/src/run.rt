@@ -16,10 +16,13 @@ use bench_scenario::{ScenarioFault, run_scenario};
 use scenario_text::{RefusalLine, ScenarioError};
 use std::alloc::Global;
 use std::io::{Read, Write};
+use std::sync::Wait;
+use std::thread::Threads;
 
 /// Writes the report of the run of the scenario that is read, or the line that refuses it. A number of workers that is none is the
 /// nearest that is one.
-pub fn run<R: Read, W: Write>(
+pub fn run<T: Threads + Wait + Sync, R: Read, W: Write>(
+    rt: &T,
     alloc: Global,
     options: RunOptions,
     reader: &mut R,
@@ -30,7 +33,7 @@ pub fn run<R: Read, W: Write>(
     ensures front { TakesAtMost MOST_BYTES (R.remaining reader.old) (R.remaining reader.new) }
 {
     let workers = options.workers.clamp(1, MOST_WORKERS);
-    match run_scenario(alloc, reader, out, workers) {
+    match run_scenario(rt, alloc, reader, out, workers) {
         Ok(()) => Ok(Ending::Done),
         Err(ScenarioFault::Read) => Err(Fault::Read),
         Err(ScenarioFault::Refused(error)) => write_refusal(alloc, &error, out),

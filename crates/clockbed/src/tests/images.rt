@@ -16,7 +16,7 @@ fn refuses_what_is_no_image(rt: HostRuntime) -> Result<(), Fail> {
         ("bf00090000000000", "BadWidth slot 0"),
     ];
     for (image, name) in rows {
-        let got = exec_on(rt.alloc(), "", image)?;
+        let got = exec_on(&rt, rt.alloc(), "", image)?;
         let line = format!(in rt.alloc(); "refused image {name}")?;
         assert_eq!(rt; got.line(), line.as_str(), "at {image}");
         assert_eq!(rt; got.err.len(), 0, "at {image}");
@@ -32,7 +32,7 @@ fn tells_the_longest_image_from_a_longer_one(rt: HostRuntime) {
         (&[0; 16_392], "refused image TooLong"),
     ];
     for (image, line) in rows {
-        let got = run_on(rt.alloc(), EXEC, image);
+        let got = run_on(&rt, rt.alloc(), EXEC, image);
         assert_eq!(rt; got.line(), line);
         assert_eq!(rt; got.status, 2);
     }

@@ -4,8 +4,8 @@ use super::*;
 const DIS: &[&str] = &["clockbed", "dis"];
 
 /// `dis` of an image in hexadecimal.
-fn dis_of(alloc: Global, image: &str) -> Result<Ran, AllocError> {
-    image_on(alloc, "dis", "", image)
+fn dis_of<T: Threads + Wait + Sync>(rt: &T, alloc: Global, image: &str) -> Result<Ran, AllocError> {
+    image_on(rt, alloc, "dis", "", image)
 }
 
 #[test]
@@ -27,7 +27,7 @@ fn prints_the_canonical_text(rt: HostRuntime) -> Result<(), Fail> {
         ),
     ];
     for (image, text) in rows {
-        let got = dis_of(rt.alloc(), image)?;
+        let got = dis_of(&rt, rt.alloc(), image)?;
         assert_eq!(rt; got.out.as_slice(), text.as_bytes(), "at {image}");
         assert_eq!(rt; got.err.len(), 0, "at {image}");
         assert_eq!(rt; got.status, 0, "at {image}");
@@ -47,7 +47,7 @@ fn refuses_what_exec_refuses(rt: HostRuntime) -> Result<(), Fail> {
         ("bf00090000000000", "BadWidth slot 0"),
     ];
     for (image, name) in rows {
-        let got = dis_of(rt.alloc(), image)?;
+        let got = dis_of(&rt, rt.alloc(), image)?;
         let line = format!(in rt.alloc(); "refused image {name}")?;
         assert_eq!(rt; got.line(), line.as_str(), "at {image}");
         assert_eq!(rt; got.err.len(), 0, "at {image}");
@@ -63,7 +63,7 @@ fn lists_the_longest_image(rt: HostRuntime) {
     for (place, byte) in image.iter_mut().zip(jumps.iter().cycle()) {
         *place = *byte;
     }
-    let got = run_on(rt.alloc(), DIS, &image);
+    let got = run_on(&rt, rt.alloc(), DIS, &image);
     assert_eq!(rt; got.out.len(), 2_048 * 6);
     assert!(rt; got.out.chunks(6).all(|line| line == b"ja +0\n".as_slice()));
     assert_eq!(rt; got.status, 0);
@@ -74,7 +74,7 @@ fn reads_no_more_than_it_may(rt: HostRuntime) {
     let mut reader = Endless { calls: 0 };
     let mut out = Vec::new(rt.alloc());
     let mut err = Vec::new(rt.alloc());
-    let status = command(rt.alloc(), DIS, &mut reader, &mut out, &mut err);
+    let status = command(&rt, rt.alloc(), DIS, &mut reader, &mut out, &mut err);
     assert_eq!(rt; out.as_slice(), b"refused image TooLong\n".as_slice());
     assert_eq!(rt; err.len(), 0);
     assert_eq!(rt; status, 2);
@@ -90,7 +90,7 @@ fn tells_where_a_read_fails(rt: HostRuntime) {
         };
         let mut out = Vec::new(rt.alloc());
         let mut err = Vec::new(rt.alloc());
-        let status = command(rt.alloc(), DIS, &mut reader, &mut out, &mut err);
+        let status = command(&rt, rt.alloc(), DIS, &mut reader, &mut out, &mut err);
         assert_eq!(rt; out.as_slice(), b"".as_slice());
         assert_eq!(rt; err.as_slice(), b"fault read\n".as_slice());
         assert_eq!(rt; status, 1);
@@ -104,7 +104,7 @@ fn tells_where_a_write_fails(rt: HostRuntime) -> Result<(), Fail> {
         let mut input = SEVEN;
         let mut out = Narrow::new(rt.alloc(), room);
         let mut err = Vec::new(rt.alloc());
-        let status = command(rt.alloc(), DIS, &mut input, &mut out, &mut err);
+        let status = command(&rt, rt.alloc(), DIS, &mut input, &mut out, &mut err);
         assert_eq!(rt; out.taken.as_slice(), &whole[..room]);
         let line = format!(in rt.alloc(); "fault write after {room}\n")?;
         assert_eq!(rt; err.as_slice(), line.as_bytes());

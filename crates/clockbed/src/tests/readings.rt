@@ -18,7 +18,7 @@ fn assembles_or_refuses_each_text(rt: HostRuntime) -> Result<(), Fail> {
             continue;
         };
         let text = lines_of(rt.alloc(), text)?;
-        let got = run_on(rt.alloc(), &["clockbed", "asm"], text.as_bytes());
+        let got = run_on(&rt, rt.alloc(), &["clockbed", "asm"], text.as_bytes());
         match expected.split_once(' ') {
             Some((name, line)) => {
                 let refusal = format!(in rt.alloc(); "refused text {name} line {line}")?;

@@ -241,7 +241,7 @@ fn tells_what_a_run_comes_to(rt: HostRuntime) -> Result<(), Fail> {
     let tables: [&[Row]; 4] = [&NUMBERS, &TRAPS, &CALLS, &FUEL];
     for table in tables {
         for (options, image, line) in table {
-            let got = exec_on(rt.alloc(), options, image)?;
+            let got = exec_on(&rt, rt.alloc(), options, image)?;
             assert_eq!(rt; got.line(), *line, "at {image}");
             assert_eq!(rt; got.err.len(), 0, "at {image}");
             assert_eq!(rt; got.status, 0, "at {image}");

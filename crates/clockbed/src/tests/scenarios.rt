@@ -33,12 +33,10 @@ agreed 10 of 10
 
 #[test]
 fn reports_four_clocks(rt: HostRuntime) {
-    for words in [RUN, &["clockbed", "run", "--workers", "1"]] {
-        let got = run_on(rt.alloc(), words, FOUR_CLOCKS.as_bytes());
-        assert_eq!(rt; got.out.as_slice(), FOUR_CLOCKS_REPORT.as_bytes());
-        assert_eq!(rt; got.err.len(), 0);
-        assert_eq!(rt; got.status, 0);
-    }
+    let got = run_on(&rt, rt.alloc(), RUN, FOUR_CLOCKS.as_bytes());
+    assert_eq!(rt; got.out.as_slice(), FOUR_CLOCKS_REPORT.as_bytes());
+    assert_eq!(rt; got.err.len(), 0);
+    assert_eq!(rt; got.status, 0);
 }
 
 /// Node 3 tells node 1 another number than nodes 0 and 2; then node 0's memory is spoiled.
@@ -125,7 +123,7 @@ fn reports_of_one_byte_a_call(rt: HostRuntime) {
     };
     let mut out = Vec::new(rt.alloc());
     let mut err = Vec::new(rt.alloc());
-    let status = command(rt.alloc(), RUN, &mut input, &mut out, &mut err);
+    let status = command(&rt, rt.alloc(), RUN, &mut input, &mut out, &mut err);
     assert_eq!(rt; out.as_slice(), FOUR_CLOCKS_REPORT.as_bytes());
     assert_eq!(rt; err.len(), 0);
     assert_eq!(rt; status, 0);
@@ -139,10 +137,28 @@ fn reports_of_clocks_and_liars(rt: HostRuntime) {
         (ONE_NODE, ONE_NODE_REPORT),
     ];
     for (text, report) in rows {
-        let got = run_on(rt.alloc(), RUN, text.as_bytes());
+        let got = run_on(&rt, rt.alloc(), RUN, text.as_bytes());
         assert_eq!(rt; got.out.as_slice(), report.as_bytes(), "at {text}");
         assert_eq!(rt; got.err.len(), 0, "at {text}");
         assert_eq!(rt; got.status, 0, "at {text}");
+    }
+}
+
+#[test]
+fn reports_are_the_same_for_each_number_of_workers(rt: HostRuntime) {
+    let rows = [
+        (FOUR_CLOCKS, FOUR_CLOCKS_REPORT),
+        (TWO_FACED, TWO_FACED_REPORT),
+        (THREE_PART, THREE_PART_REPORT),
+    ];
+    for (text, report) in rows {
+        for workers in ["1", "2", "3", "4", "5", "6", "7", "8"] {
+            let words = ["clockbed", "run", "--workers", workers];
+            let got = run_on(&rt, rt.alloc(), &words, text.as_bytes());
+            assert_eq!(rt; got.out.as_slice(), report.as_bytes(), "{workers} workers");
+            assert_eq!(rt; got.err.len(), 0, "{workers} workers");
+            assert_eq!(rt; got.status, 0, "{workers} workers");
+        }
     }
 }
 
@@ -161,7 +177,7 @@ fn refuses_a_program_of_a_scenario(rt: HostRuntime) -> Result<(), Fail> {
     ];
     for (program, name) in rows {
         let text = scenario_of_text(rt.alloc(), program)?;
-        let got = run_on(rt.alloc(), RUN, text.as_bytes());
+        let got = run_on(&rt, rt.alloc(), RUN, text.as_bytes());
         let line = format!(in rt.alloc(); "refused scenario {name}")?;
         assert_eq!(rt; got.line(), line.as_str(), "at {program}");
         assert_eq!(rt; got.err.len(), 0, "at {program}");
@@ -183,7 +199,7 @@ fn refuses_a_scenario_by_a_line(rt: HostRuntime) -> Result<(), Fail> {
         ("node = 1\nnodes = 4", "UnknownKey top"),
     ];
     for (text, name) in rows {
-        let got = run_on(rt.alloc(), RUN, text.as_bytes());
+        let got = run_on(&rt, rt.alloc(), RUN, text.as_bytes());
         let line = format!(in rt.alloc(); "refused scenario {name}")?;
         assert_eq!(rt; got.line(), line.as_str(), "at {text}");
         assert_eq!(rt; got.err.len(), 0, "at {text}");
@@ -195,11 +211,11 @@ fn refuses_a_scenario_by_a_line(rt: HostRuntime) -> Result<(), Fail> {
 #[test]
 fn runs_a_mebibyte_and_no_more(rt: HostRuntime) -> Result<(), Fail> {
     let mut text = vec![in rt.alloc(); b'#'; 1_048_576]?;
-    let whole = run_on(rt.alloc(), RUN, text.as_slice());
+    let whole = run_on(&rt, rt.alloc(), RUN, text.as_slice());
     assert_eq!(rt; whole.line(), "refused scenario MissingKey nodes");
     assert_eq!(rt; whole.status, 2);
     text.push(b'#')?;
-    let more = run_on(rt.alloc(), RUN, text.as_slice());
+    let more = run_on(&rt, rt.alloc(), RUN, text.as_slice());
     assert_eq!(rt; more.line(), "refused scenario TooLong");
     assert_eq!(rt; more.status, 2);
     Ok(())
@@ -210,7 +226,7 @@ fn asks_a_scenario_without_end_for_its_bound(rt: HostRuntime) {
     let mut input = Endless { calls: 0 };
     let mut out = Vec::new(rt.alloc());
     let mut err = Vec::new(rt.alloc());
-    let status = command(rt.alloc(), RUN, &mut input, &mut out, &mut err);
+    let status = command(&rt, rt.alloc(), RUN, &mut input, &mut out, &mut err);
     assert_eq!(rt; out.as_slice(), b"refused scenario TooLong\n".as_slice());
     assert_eq!(rt; status, 2);
     assert_eq!(rt; input.calls, 1_048_577);
@@ -224,7 +240,7 @@ fn tells_where_the_report_was_cut(rt: HostRuntime) -> Result<(), Fail> {
         let mut input = FOUR_CLOCKS.as_bytes();
         let mut out = Narrow::new(rt.alloc(), room);
         let mut err = Vec::new(rt.alloc());
-        let status = command(rt.alloc(), RUN, &mut input, &mut out, &mut err);
+        let status = command(&rt, rt.alloc(), RUN, &mut input, &mut out, &mut err);
         assert_eq!(rt; out.taken.as_slice(), &whole[..room]);
         let line = format!(in rt.alloc(); "fault write after {room}\n")?;
         assert_eq!(rt; err.as_slice(), line.as_bytes());
@@ -242,7 +258,7 @@ fn tells_where_the_scenario_was_cut(rt: HostRuntime) {
         };
         let mut out = Vec::new(rt.alloc());
         let mut err = Vec::new(rt.alloc());
-        let status = command(rt.alloc(), RUN, &mut reader, &mut out, &mut err);
+        let status = command(&rt, rt.alloc(), RUN, &mut reader, &mut out, &mut err);
         assert_eq!(rt; out.len(), 0);
         assert_eq!(rt; err.as_slice(), b"fault read\n".as_slice());
         assert_eq!(rt; status, 1);

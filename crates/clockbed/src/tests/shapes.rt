@@ -11,7 +11,7 @@ fn refuses_what_is_no_shape(rt: HostRuntime) -> Result<(), Fail> {
         ("--memory 12", "ff00000000000000"),
     ];
     for (options, image) in rows {
-        let got = exec_on(rt.alloc(), options, image)?;
+        let got = exec_on(&rt, rt.alloc(), options, image)?;
         assert_eq!(rt; got.line(), "refused shape", "at {options}");
         assert_eq!(rt; got.err.len(), 0, "at {options}");
         assert_eq!(rt; got.status, 2, "at {options}");
@@ -25,7 +25,7 @@ fn reads_nothing_without_a_shape(rt: HostRuntime) {
     let mut out = Vec::new(rt.alloc());
     let mut err = Vec::new(rt.alloc());
     let words = ["clockbed", "exec", "--memory", "12"];
-    let status = command(rt.alloc(), &words, &mut reader, &mut out, &mut err);
+    let status = command(&rt, rt.alloc(), &words, &mut reader, &mut out, &mut err);
     assert_eq!(rt; out.as_slice(), b"refused shape\n".as_slice());
     assert_eq!(rt; err.len(), 0);
     assert_eq!(rt; status, 2);

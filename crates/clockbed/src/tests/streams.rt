@@ -10,7 +10,7 @@ fn tells_where_a_read_fails(rt: HostRuntime) {
             let mut reader = Failing { bytes, kind };
             let mut out = Vec::new(rt.alloc());
             let mut err = Vec::new(rt.alloc());
-            let status = command(rt.alloc(), EXEC, &mut reader, &mut out, &mut err);
+            let status = command(&rt, rt.alloc(), EXEC, &mut reader, &mut out, &mut err);
             assert_eq!(rt; out.as_slice(), b"".as_slice());
             assert_eq!(rt; err.as_slice(), b"fault read\n".as_slice());
             assert_eq!(rt; status, 1);
@@ -23,7 +23,7 @@ fn reads_no_more_than_it_may(rt: HostRuntime) {
     let mut reader = Endless { calls: 0 };
     let mut out = Vec::new(rt.alloc());
     let mut err = Vec::new(rt.alloc());
-    let status = command(rt.alloc(), EXEC, &mut reader, &mut out, &mut err);
+    let status = command(&rt, rt.alloc(), EXEC, &mut reader, &mut out, &mut err);
     assert_eq!(rt; out.as_slice(), b"refused image TooLong\n".as_slice());
     assert_eq!(rt; status, 2);
     assert_eq!(rt; reader.calls, IMAGE_BYTES);
@@ -37,7 +37,7 @@ fn tells_where_a_write_fails(rt: HostRuntime) -> Result<(), Fail> {
         let mut input = SEVEN;
         let mut out = Narrow::new(rt.alloc(), room);
         let mut err = Vec::new(rt.alloc());
-        let status = command(rt.alloc(), EXEC, &mut input, &mut out, &mut err);
+        let status = command(&rt, rt.alloc(), EXEC, &mut input, &mut out, &mut err);
         assert_eq!(rt; out.taken.as_slice(), &whole[..room]);
         let line = format!(in rt.alloc(); "fault write after {room}\n")?;
         assert_eq!(rt; err.as_slice(), line.as_bytes());
@@ -52,14 +52,14 @@ fn drops_what_the_standard_error_refuses(rt: HostRuntime) {
         let mut input = SEVEN;
         let mut out = Narrow::new(rt.alloc(), 0);
         let mut err = Narrow::new(rt.alloc(), room);
-        let status = command(rt.alloc(), EXEC, &mut input, &mut out, &mut err);
+        let status = command(&rt, rt.alloc(), EXEC, &mut input, &mut out, &mut err);
         assert_eq!(rt; err.taken.as_slice(), &b"fault write after 0\n"[..room]);
         assert_eq!(rt; status, 1);
 
         let mut out = Vec::new(rt.alloc());
         let mut err = Narrow::new(rt.alloc(), room);
         let words = ["clockbed", "fly"];
-        let status = command(rt.alloc(), &words, &mut input, &mut out, &mut err);
+        let status = command(&rt, rt.alloc(), &words, &mut input, &mut out, &mut err);
         assert_eq!(rt; out.as_slice(), b"".as_slice());
         assert_eq!(rt; err.taken.len(), room);
         assert_eq!(rt; status, 1);

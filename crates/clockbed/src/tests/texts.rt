@@ -4,8 +4,8 @@ use commands::asm::{TEXT_BYTES, TEXT_CALLS};
 
 const ASM: &[&str] = &["clockbed", "asm"];
 
-fn asm_of(alloc: Global, text: &[u8]) -> Ran {
-    run_on(alloc, ASM, text)
+fn asm_of<T: Threads + Wait + Sync>(rt: &T, alloc: Global, text: &[u8]) -> Ran {
+    run_on(rt, alloc, ASM, text)
 }
 
 #[test]
@@ -28,7 +28,7 @@ fn prints_the_image(rt: HostRuntime) -> Result<(), Fail> {
         ),
     ];
     for (text, image) in rows {
-        let got = asm_of(rt.alloc(), text.as_bytes());
+        let got = asm_of(&rt, rt.alloc(), text.as_bytes());
         let bytes = bytes_of(rt.alloc(), image)?;
         assert_eq!(rt; got.out.as_slice(), bytes.as_slice(), "at {text}");
         assert_eq!(rt; got.err.len(), 0, "at {text}");
@@ -49,7 +49,7 @@ fn names_the_refusal_and_the_line(rt: HostRuntime) -> Result<(), Fail> {
         ("exit\nmov65 r0, 1\n", "UnknownWord line 2"),
     ];
     for (text, name) in rows {
-        let got = asm_of(rt.alloc(), text.as_bytes());
+        let got = asm_of(&rt, rt.alloc(), text.as_bytes());
         let line = format!(in rt.alloc(); "refused text {name}")?;
         assert_eq!(rt; got.line(), line.as_str(), "at {text}");
         assert_eq!(rt; got.err.len(), 0, "at {text}");
@@ -62,8 +62,8 @@ fn names_the_refusal_and_the_line(rt: HostRuntime) -> Result<(), Fail> {
 fn gives_a_listing_back(rt: HostRuntime) {
     let listing = b"mov64 r0, 7\nexit\n";
     assert_eq!(rt; listing.len(), 17);
-    let image = asm_of(rt.alloc(), listing);
-    let back = run_on(rt.alloc(), &["clockbed", "dis"], image.out.as_slice());
+    let image = asm_of(&rt, rt.alloc(), listing);
+    let back = run_on(&rt, rt.alloc(), &["clockbed", "dis"], image.out.as_slice());
     assert_eq!(rt; back.out.as_slice(), listing.as_slice());
     assert_eq!(rt; back.status, 0);
 }
@@ -74,11 +74,11 @@ fn refuses_one_instruction_too_many(rt: HostRuntime) -> Result<(), Fail> {
     for _ in 0..bpf_insn::MAX_SLOTS {
         text.extend_from_slice(b"exit\n")?;
     }
-    let whole = asm_of(rt.alloc(), text.as_slice());
+    let whole = asm_of(&rt, rt.alloc(), text.as_slice());
     assert_eq!(rt; whole.out.len(), 8 * bpf_insn::MAX_SLOTS);
     assert_eq!(rt; whole.status, 0);
     text.extend_from_slice(b"exit\n")?;
-    let more = asm_of(rt.alloc(), text.as_slice());
+    let more = asm_of(&rt, rt.alloc(), text.as_slice());
     assert_eq!(rt; more.line(), "refused text TooLong line 2049");
     assert_eq!(rt; more.status, 2);
     Ok(())
@@ -87,11 +87,11 @@ fn refuses_one_instruction_too_many(rt: HostRuntime) -> Result<(), Fail> {
 #[test]
 fn reads_a_mebibyte_and_no_more(rt: HostRuntime) -> Result<(), Fail> {
     let mut text = vec![in rt.alloc(); b'#'; TEXT_BYTES]?;
-    let whole = asm_of(rt.alloc(), text.as_slice());
+    let whole = asm_of(&rt, rt.alloc(), text.as_slice());
     assert_eq!(rt; whole.line(), "refused text Empty line 0");
     assert_eq!(rt; whole.status, 2);
     text.push(b'#')?;
-    let more = asm_of(rt.alloc(), text.as_slice());
+    let more = asm_of(&rt, rt.alloc(), text.as_slice());
     assert_eq!(rt; more.out.len(), 0);
     assert_eq!(rt; more.err.as_slice(), b"fault read\n".as_slice());
     assert_eq!(rt; more.status, 1);
@@ -103,7 +103,7 @@ fn stops_reading_a_text_without_end(rt: HostRuntime) {
     let mut input = Endless { calls: 0 };
     let mut out = Vec::new(rt.alloc());
     let mut err = Vec::new(rt.alloc());
-    let status = command(rt.alloc(), ASM, &mut input, &mut out, &mut err);
+    let status = command(&rt, rt.alloc(), ASM, &mut input, &mut out, &mut err);
     assert_eq!(rt; status, 1);
     assert_eq!(rt; err.as_slice(), b"fault read\n".as_slice());
     assert_eq!(rt; input.calls, TEXT_BYTES + 1);
@@ -118,7 +118,7 @@ fn tells_a_text_stream_that_fails(rt: HostRuntime) {
     };
     let mut out = Vec::new(rt.alloc());
     let mut err = Vec::new(rt.alloc());
-    let status = command(rt.alloc(), ASM, &mut input, &mut out, &mut err);
+    let status = command(&rt, rt.alloc(), ASM, &mut input, &mut out, &mut err);
     assert_eq!(rt; status, 1);
     assert_eq!(rt; out.len(), 0);
     assert_eq!(rt; err.as_slice(), b"fault read\n".as_slice());
@@ -130,7 +130,7 @@ fn tells_how_much_of_the_image_was_taken(rt: HostRuntime) -> Result<(), Fail> {
         let mut input = b"exit\n".as_slice();
         let mut out = Narrow::new(rt.alloc(), room);
         let mut err = Vec::new(rt.alloc());
-        let status = command(rt.alloc(), ASM, &mut input, &mut out, &mut err);
+        let status = command(&rt, rt.alloc(), ASM, &mut input, &mut out, &mut err);
         let line = format!(in rt.alloc(); "fault write after {room}\n")?;
         assert_eq!(rt; status, 1, "at {room}");
         assert_eq!(rt;
@@ -182,13 +182,13 @@ fn makes_the_clock_program(rt: HostRuntime) -> Result<(), Fail> {
     ];
     for (nodes, faults, named, verdict, run) in rows {
         let text = clock_text(rt.alloc(), nodes, faults)?;
-        let image = asm_of(rt.alloc(), text.as_bytes());
+        let image = asm_of(&rt, rt.alloc(), text.as_bytes());
         assert_eq!(rt; image.status, 0, "at {named}");
         let verify = ["clockbed", "verify", "--nodes", named];
-        let verified = run_on(rt.alloc(), &verify, image.out.as_slice());
+        let verified = run_on(&rt, rt.alloc(), &verify, image.out.as_slice());
         assert_eq!(rt; verified.line(), verdict, "at {named}");
         let exec = ["clockbed", "exec", "--nodes", named];
-        let ran = run_on(rt.alloc(), &exec, image.out.as_slice());
+        let ran = run_on(&rt, rt.alloc(), &exec, image.out.as_slice());
         assert_eq!(rt; ran.line(), run, "at {named}");
     }
     Ok(())

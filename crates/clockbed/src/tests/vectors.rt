@@ -492,7 +492,7 @@ fn outside_results(rt: HostRuntime) -> Result<(), Fail> {
         let Some((image, number)) = line.split_once('\t') else {
             continue;
         };
-        let got = exec_on(rt.alloc(), "", image)?;
+        let got = exec_on(&rt, rt.alloc(), "", image)?;
         let start = format!(in rt.alloc(); "r0 {number} steps ")?;
         assert!(rt; got.line().starts_with(start.as_str()), "at {image}");
         assert_eq!(rt; got.status, 0, "at {image}");

@@ -191,7 +191,7 @@ fn tells_what_is_accepted(rt: HostRuntime) -> Result<(), Fail> {
     let tables: [&[Row]; 3] = [&STEPS, &REGISTERS, &MEMORY];
     for table in tables {
         for (options, text, image, line) in table {
-            let got = image_on(rt.alloc(), "verify", options, image)?;
+            let got = image_on(&rt, rt.alloc(), "verify", options, image)?;
             assert_eq!(rt; got.line(), *line, "at {text}");
             assert_eq!(rt; got.err.len(), 0, "at {text}");
             assert_eq!(rt; got.status, status_of(line), "at {text}");
@@ -221,7 +221,7 @@ fn refuses_what_exec_refuses(rt: HostRuntime) -> Result<(), Fail> {
         ("--memory 255 --nodes 64", "", "shape"),
     ];
     for (options, image, name) in rows {
-        let got = image_on(rt.alloc(), "verify", options, image)?;
+        let got = image_on(&rt, rt.alloc(), "verify", options, image)?;
         let line = format!(in rt.alloc(); "refused {name}")?;
         assert_eq!(rt; got.line(), line.as_str(), "at {image}");
         assert_eq!(rt; got.err.len(), 0, "at {image}");
@@ -355,7 +355,7 @@ fn accepts_the_clock_program(rt: HostRuntime) -> Result<(), Fail> {
     for (count, nodes, quorum, modulus, line) in rows {
         let image = clock_program(rt.alloc(), nodes, quorum, modulus)?;
         let words = ["clockbed", "verify", "--memory", "8", "--nodes", count];
-        let got = run_on(rt.alloc(), &words, image.as_slice());
+        let got = run_on(&rt, rt.alloc(), &words, image.as_slice());
         assert_eq!(rt; got.line(), line, "at {nodes} nodes");
         assert_eq!(rt; got.status, status_of(line), "at {nodes} nodes");
     }
@@ -372,7 +372,7 @@ fn refuses_the_clock_program_cut_short(rt: HostRuntime) -> Result<(), Fail> {
     ];
     for (count, line) in rows {
         let cut = image.get(..count).ok_or("a shorter image")?;
-        let got = run_on(rt.alloc(), VERIFY, cut);
+        let got = run_on(&rt, rt.alloc(), VERIFY, cut);
         assert_eq!(rt; got.line(), line, "at {count} bytes");
     }
     Ok(())
@@ -386,11 +386,11 @@ fn accepts_as_many_slots_as_a_program_may_have(rt: HostRuntime) -> Result<(), Fa
     }
     image.extend_from_slice(b"\x95\x00\x00\x00\x00\x00\x00\x00")?;
     assert_eq!(rt; image.len(), 16_384);
-    let got = run_on(rt.alloc(), VERIFY, image.as_slice());
+    let got = run_on(&rt, rt.alloc(), VERIFY, image.as_slice());
     assert_eq!(rt; got.line(), "accepted slots 2048 announced 2048");
     assert_eq!(rt; got.status, 0);
     image.extend_from_slice(b"\x95\x00\x00\x00\x00\x00\x00\x00")?;
-    let got = run_on(rt.alloc(), VERIFY, image.as_slice());
+    let got = run_on(&rt, rt.alloc(), VERIFY, image.as_slice());
     assert_eq!(rt; got.line(), "refused image TooLong");
     assert_eq!(rt; got.status, 2);
     Ok(())
@@ -414,7 +414,7 @@ fn reads_no_more_than_it_may(rt: HostRuntime) {
         let mut reader = Endless { calls: 0 };
         let mut out = Vec::new(rt.alloc());
         let mut err = Vec::new(rt.alloc());
-        let status = command(rt.alloc(), words, &mut reader, &mut out, &mut err);
+        let status = command(&rt, rt.alloc(), words, &mut reader, &mut out, &mut err);
         assert_eq!(rt; out.as_slice(), line.as_bytes());
         assert_eq!(rt; err.len(), 0);
         assert_eq!(rt; status, 2);
@@ -431,7 +431,7 @@ fn tells_where_a_read_fails(rt: HostRuntime) {
         };
         let mut out = Vec::new(rt.alloc());
         let mut err = Vec::new(rt.alloc());
-        let status = command(rt.alloc(), VERIFY, &mut reader, &mut out, &mut err);
+        let status = command(&rt, rt.alloc(), VERIFY, &mut reader, &mut out, &mut err);
         assert_eq!(rt; out.as_slice(), b"".as_slice());
         assert_eq!(rt; err.as_slice(), b"fault read\n".as_slice());
         assert_eq!(rt; status, 1);
@@ -445,7 +445,7 @@ fn tells_where_a_write_fails(rt: HostRuntime) -> Result<(), Fail> {
         let mut input = SEVEN;
         let mut out = Narrow::new(rt.alloc(), room);
         let mut err = Vec::new(rt.alloc());
-        let status = command(rt.alloc(), VERIFY, &mut input, &mut out, &mut err);
+        let status = command(&rt, rt.alloc(), VERIFY, &mut input, &mut out, &mut err);
         assert_eq!(rt; out.taken.as_slice(), &whole[..room]);
         let line = format!(in rt.alloc(); "fault write after {room}\n")?;
         assert_eq!(rt; err.as_slice(), line.as_bytes());

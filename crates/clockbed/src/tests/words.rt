@@ -3,7 +3,7 @@ use super::*;
 
 #[test]
 fn refuses_a_command_line(rt: HostRuntime) {
-    let lines: [&[&str]; 26] = [
+    let lines: [&[&str]; 31] = [
         &[],
         &["clockbed"],
         &["clockbed", "fly"],
@@ -29,10 +29,15 @@ fn refuses_a_command_line(rt: HostRuntime) {
         &["clockbed", "exec", "--memory", "4294967304"],
         &["clockbed", "run", "more"],
         &["clockbed", "run", "--workers", "0"],
-        &["clockbed", "run", "--workers", "2"],
+        &["clockbed", "run", "--workers", "9"],
+        &["clockbed", "stress", "more"],
+        &["clockbed", "stress", "--loaders", "9"],
+        &["clockbed", "stress", "--loads", "101"],
+        &["clockbed", "stress", "--pulses", "1001"],
+        &["clockbed", "stress", "--workers", "9"],
     ];
     for words in lines {
-        let got = run_on(rt.alloc(), words, SEVEN);
+        let got = run_on(&rt, rt.alloc(), words, SEVEN);
         assert_eq!(rt; got.out.as_slice(), b"".as_slice());
         assert!(rt; 1 < got.err.len() && got.err.as_slice().ends_with(b"\n"));
         assert_eq!(rt; got.status, 1);
@@ -41,7 +46,7 @@ fn refuses_a_command_line(rt: HostRuntime) {
 
 #[test]
 fn helps_on_standard_output(rt: HostRuntime) {
-    let lines: [&[&str]; 7] = [
+    let lines: [&[&str]; 8] = [
         &["clockbed", "--help"],
         &["clockbed", "help"],
         &["clockbed", "exec", "--help"],
@@ -49,9 +54,10 @@ fn helps_on_standard_output(rt: HostRuntime) {
         &["clockbed", "dis", "--help"],
         &["clockbed", "verify", "--help"],
         &["clockbed", "run", "--help"],
+        &["clockbed", "stress", "--help"],
     ];
     for words in lines {
-        let got = run_on(rt.alloc(), words, b"");
+        let got = run_on(&rt, rt.alloc(), words, b"");
         assert!(rt; 1 < got.out.len() && got.out.as_slice().ends_with(b"\n"));
         assert_eq!(rt; got.err.as_slice(), b"".as_slice());
         assert_eq!(rt; got.status, 0);
@@ -59,7 +65,7 @@ fn helps_on_standard_output(rt: HostRuntime) {
     let mut input = b"".as_slice();
     let mut out = Narrow::new(rt.alloc(), 3);
     let mut err = Vec::new(rt.alloc());
-    let status = command(rt.alloc(), lines[0], &mut input, &mut out, &mut err);
+    let status = command(&rt, rt.alloc(), lines[0], &mut input, &mut out, &mut err);
     assert_eq!(rt; err.as_slice(), b"fault write after 3\n".as_slice());
     assert_eq!(rt; status, 1);
 }

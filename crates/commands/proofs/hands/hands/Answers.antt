@@ -1,0 +1,9 @@
+use Rattle.std.proofs.Common.{subst, ap, ◌∙◌}
+use Rattle.bench_core.specs.Setup.{Setup}
+use Rattle.bench_shared.specs.Ends.{HasReplay}
+use Rattle.bench_shared.specs.Plans.{Plan}
+use Rattle.commands.proofs.hands.hands.Goals as goal
+
+pub returns-in-Ok-finish : goal.returns-in-Ok-finish
+returns-in-Ok-finish g c =
+    subst (λ (s : Setup). HasReplay s c.in-Ok-finish.finished) (ap (λ (p : Plan). p.setup) c.in-Ok.ensures.plan ∙ c.setup-shape.ensures.setup) c.in-Ok-finish.ensures.replays

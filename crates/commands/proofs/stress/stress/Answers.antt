@@ -1,0 +1,6 @@
+use Rattle.commands.specs.Stress.{Replayed}
+use Rattle.commands.proofs.StressLemmas.{told}
+use Rattle.commands.proofs.stress.stress.Goals as goal
+
+pub returns-in-Ok : goal.returns-in-Ok
+returns-in-Ok g c = told _ _ _ (Replayed c.in-Ok.finished) c.in-Ok.ensures c.write_finished.ensures

@@ -1,0 +1,7 @@
+use Rattle.commands.proofs.stress.stress.Given as goal
+
+abbrev pub ghosts-hands-B-Ledger : goal.ghosts-hands-B-Ledger
+ghosts-hands-B-Ledger g a = record { name = a.entries.name; parts = a.entries.parts }
+
+abbrev pub ghosts-hands-C-Ledger : goal.ghosts-hands-C-Ledger
+ghosts-hands-C-Ledger g a = record { name = a.closes.name; parts = a.closes.parts }

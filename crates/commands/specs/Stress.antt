@@ -1,0 +1,44 @@
+-- What `stress` leaves on its output (docs/COMMANDS.md, "What stress prints").
+use Rattle.std.specs.Prelude.{ℕ, List, length, ◌++◌, codes, count_by, Option, Result}
+use Rattle.std.specs.Fmt.{decimal}
+use Rattle.bench_core.specs.Setup.{Setup}
+use Rattle.bench_core.specs.Replay.{Entry}
+use Rattle.bench_shared.specs.Ends.{HasReplay, is_load, is_close}
+use Rattle.commands.specs.declared.hands.TheConstants.{NODES, FAULTS, MODULUS, MEMORY}
+use Rattle.commands.specs.declared.ending.Ending.{Ending}
+use Rattle.commands.specs.declared.ending.Ending.TheVariants as endings
+use Rattle.commands.specs.declared.fault.Fault.{Fault}
+use Rattle.commands.specs.Output.{LeavesAny}
+
+-- the bench that is stressed
+abbrev pub stressed_setup : Setup
+stressed_setup = record { shape = record { nodes = NODES; memory = MEMORY }; faults = FAULTS; modulus = MODULUS }
+
+-- the history that the receipts of all hands are, or that there is none
+pub data Stressed : Type 0 where
+  Replayed : (history : List Entry) → Stressed
+  Mismatch : Stressed
+
+-- a history that is told leads a new bench to some state
+abbrev pub IsStressed : Stressed → Type 0
+IsStressed (Replayed history) = HasReplay stressed_setup history
+IsStressed Mismatch = Unit {0}
+
+-- the loads that were staged, the pulses that were closed, and the entries of the history
+abbrev pub finished_line : List Entry → List ℕ
+finished_line history =
+    codes "loads " ++ (decimal (count_by is_load history) ++ (codes " pulses " ++ (decimal (count_by is_close history)
+    ++ (codes " history " ++ (decimal (length history) ++ codes " replay ok")))))
+
+-- the line with its end
+abbrev pub stressed_text : Stressed → List ℕ
+stressed_text (Replayed history) = finished_line history ++ codes "\n"
+stressed_text Mismatch = codes "replay mismatch\n"
+
+abbrev pub stressed_ending : Stressed → Ending
+stressed_ending (Replayed history) = endings.Done
+stressed_ending Mismatch = endings.Mismatched
+
+-- the line, its first bytes where a write failed, or nothing at another fault
+abbrev pub LeavesStressed : Option (List ℕ) → Option (List ℕ) → Result Ending Fault → Type 0
+LeavesStressed old new result = LeavesAny IsStressed stressed_text stressed_ending old new result

@@ -1,0 +1,83 @@
+//! `stress`: many hands at one bench, and whether its history is what they did.
+ghost use Rattle.std.specs.Prelude.{◌≡◌, length};
+ghost use Rattle.commands.specs.Stress.{LeavesStressed, Replayed, stressed_text};
+ghost use Rattle.commands.specs.Output.{Leaves};
+ghost use Rattle.commands.specs.declared.ending.Ending.TheVariants.{Done};
+
+use crate::ending::Ending;
+use crate::fault::Fault;
+use crate::hands::{Stop, hands};
+use crate::output::write_whole;
+use crate::request::StressOptions;
+use bench_engine::MOST_WORKERS;
+use bench_shared::{Finished, MOST_LOADERS};
+use std::alloc::Global;
+use std::fmt;
+use std::io::Write;
+use std::marker::Brand;
+use std::sync::Wait;
+use std::sync::ledger::Blank;
+use std::thread::Threads;
+
+/// Lets loaders and an engine work on one bench at once, and writes how many entries they made, where its history is what their
+/// receipts say (docs/THREADS.md). A number of loaders or workers that is none is the nearest that is one.
+pub fn stress<R: Threads + Wait + Sync, W: Write>(
+    rt: &R,
+    alloc: Global,
+    options: StressOptions,
+    out: &mut W,
+) -> Result<Ending, Fault>
+    ensures { LeavesStressed (W.contents out.old) (W.contents out.new) result }
+{
+    let loaders = options.loaders.clamp(1, MOST_LOADERS);
+    let workers = options.workers.clamp(1, MOST_WORKERS);
+    let options = StressOptions {
+        loaders,
+        workers,
+        ..options
+    };
+    let (entries, closes) = (Blank::new(u64::from(loaders) + 1), Blank::new(1));
+    match hands::<Brand, Brand, R>(rt, alloc, options, entries, closes) {
+        Ok(finished) => write_finished(alloc, &finished, out),
+        Err(Stop::Memory) => Err(Fault::Memory),
+        Err(Stop::Thread) => Err(Fault::Thread),
+        Err(Stop::Mismatch) => write_whole(out, b"replay mismatch\n", Ending::Mismatched),
+    }
+}
+
+fn write_finished<W: Write>(
+    alloc: Global,
+    finished: &Finished,
+    out: &mut W,
+) -> Result<Ending, Fault>
+    ensures { Leaves (W.contents out.old) (W.contents out.new) (stressed_text (Replayed finished.now)) Done result }
+{
+    let line = format!(in alloc; "{}\n", FinishedLine(finished)).map_err(|_| Fault::Memory)?;
+    write_whole(out, line.as_bytes(), Ending::Done)
+}
+
+/// The line of a bench that has ended, without its end.
+#[derive(Drop)]
+struct FinishedLine<'a>(&'a Finished);
+
+impl fmt::Display for FinishedLine<'_> {
+    ghost use Rattle.std.specs.Prelude.{Some};
+    ghost use Rattle.commands.specs.Stress.{finished_line};
+
+    ghost output = { λ line. Some (finished_line line.0.now) };
+
+    fn fmt<W: fmt::Write>(&self, f: &mut fmt::Formatter<W>) -> fmt::Result {
+        let (loads, closes, entries) = (self.0.loads(), self.0.closes(), entries_of(self.0));
+        write!(
+            f,
+            "loads {loads} pulses {closes} history {entries} replay ok"
+        )
+    }
+}
+
+/// How many entries the history has.
+fn entries_of(finished: &Finished) -> usize
+    ensures { result ≡ length finished.now }
+{
+    finished.history().len()
+}
