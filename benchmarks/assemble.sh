@@ -7,7 +7,7 @@ here=$(cd "$(dirname "${BASH_SOURCE[0]}")" && pwd)
 clockbed=${1:-$here/../crates/clockbed/out/clockbed}
 runs=${RUNS:-9}
 if [ ! -x "$clockbed" ]; then
-  echo "assemble.sh: there is no $clockbed: build it by ./clockbed exec < examples/seven.bpf" >&2
+  echo "assemble.sh: there is no $clockbed: build it by ./clockbed --prove" >&2
   exit 1
 fi
 clockbed=$(cd "$(dirname "$clockbed")" && pwd)/$(basename "$clockbed")

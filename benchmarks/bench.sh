@@ -8,7 +8,7 @@ here=$(cd "$(dirname "${BASH_SOURCE[0]}")" && pwd)
 clockbed=${2:-$here/../crates/clockbed/out/clockbed}
 runs=${RUNS:-5}
 if [ ! -x "$clockbed" ]; then
-  echo "bench.sh: there is no $clockbed: build it by ./clockbed run < examples/four_clocks.toml" >&2
+  echo "bench.sh: there is no $clockbed: build it by ./clockbed --prove" >&2
   exit 1
 fi
 clockbed=$(cd "$(dirname "$clockbed")" && pwd)/$(basename "$clockbed")

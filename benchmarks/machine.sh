@@ -8,7 +8,7 @@ clockbed=${1:-$here/../crates/clockbed/out/clockbed}
 steps=${STEPS:-100000000}
 runs=${RUNS:-3}
 if [ ! -x "$clockbed" ]; then
-  echo "machine.sh: there is no $clockbed: build it by ./clockbed exec < examples/seven.bpf" >&2
+  echo "machine.sh: there is no $clockbed: build it by ./clockbed --prove" >&2
   exit 1
 fi
 clockbed=$(cd "$(dirname "$clockbed")" && pwd)/$(basename "$clockbed")

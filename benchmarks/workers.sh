@@ -7,7 +7,7 @@ here=$(cd "$(dirname "${BASH_SOURCE[0]}")" && pwd)
 clockbed=${1:-$here/../crates/clockbed/out/clockbed}
 runs=${RUNS:-5}
 if [ ! -x "$clockbed" ]; then
-  echo "workers.sh: there is no $clockbed: build it by ./clockbed run < examples/four_clocks.toml" >&2
+  echo "workers.sh: there is no $clockbed: build it by ./clockbed --prove" >&2
   exit 1
 fi
 room=$(mktemp -d)
