@@ -91,7 +91,7 @@ impl Helps {
                 "The most steps of the run [default: {DEFAULT_FUEL}]"
             )),
             workers: InlineText::of(format_args!(
-                "The workers of a pulse [default: {DEFAULT_WORKERS}]"
+                "The workers of a pulse; long programs gain [default: {DEFAULT_WORKERS}]"
             )),
             loaders: InlineText::of(format_args!(
                 "The loaders, each in a thread [default: {DEFAULT_LOADERS}]"
