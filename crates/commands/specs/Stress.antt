@@ -14,7 +14,7 @@ use Rattle.commands.specs.Output.{LeavesAny}
 abbrev pub stressed_setup : Setup
 stressed_setup = record { shape = record { nodes = NODES; memory = MEMORY }; faults = FAULTS; modulus = MODULUS }
 
--- the history that the receipts of all hands are, or that there is none
+-- a history that is told, or none
 pub data Stressed : Type 0 where
   Replayed : (history : List Entry) → Stressed
   Mismatch : Stressed
