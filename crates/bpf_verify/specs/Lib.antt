@@ -9,4 +9,5 @@ pub mod Rows
 pub mod Parts
 pub mod Walk
 pub mod Lengths
+pub mod Records
 pub mod VerifiedParts

@@ -1,19 +1,24 @@
 //! Accepts a program before it is loaded, and tells the longest path through it (docs/VERIFIER.md).
 #![tactic(auto)]
 
+mod code;
+mod codes;
 mod kind;
 mod known;
 mod laws;
 mod longest;
 mod marks;
 mod outcomes;
+mod records;
 mod refusal;
 mod rule;
 mod rules;
 mod verified;
 mod walk;
 
+pub use code::Code;
 pub use laws::{more_keeps_rules, one_verdict};
+pub use records::Record;
 pub use refusal::VerifyError;
 pub use rule::Rule;
 pub use verified::{VerifiedProgram, verify};

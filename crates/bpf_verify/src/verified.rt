@@ -7,6 +7,7 @@ ghost use Rattle.bpf_verify.specs.Typable.{Typable};
 ghost use Rattle.bpf_verify.specs.Paths.{IsLongestPath};
 
 use crate::longest::longest;
+use crate::records::{Record, records_of};
 use crate::refusal::VerifyError;
 use crate::walk::walk;
 use bpf_insn::{Program, encode};
@@ -16,7 +17,7 @@ use std::marker::Model;
 use std::sync::Arc;
 
 /// A program that [`verify`] accepted, for nodes of one shape. It keeps every rule of docs/VERIFIER.md; only `verify` and `copy`
-/// make one, and copies share their instructions.
+/// make one, and copies share their instructions and records.
 #[derive(Drop)]
 pub struct VerifiedProgram {
     shared: Arc<Imaged, Global>,
@@ -24,11 +25,12 @@ pub struct VerifiedProgram {
     budget: u32,
 }
 
-/// A program with its image, by which it is compared.
+/// A program with its image, by which it is compared, and its records, by which it is run.
 #[derive(Drop)]
 struct Imaged {
     program: Program,
     image: Vec<u8>,
+    records: Vec<Record>,
 }
 
 impl Model for VerifiedProgram {
@@ -36,11 +38,11 @@ impl Model for VerifiedProgram {
 
     ghost Value = { Accepted };
 
-    ghost use Rattle.bpf_verify.specs.VerifiedParts.{accepted_of, HasImage};
+    ghost use Rattle.bpf_verify.specs.VerifiedParts.{accepted_of, HasImage, HasRecords};
 
     ghost view = { accepted_of };
 
-    ghost invariant = { λ v. IsVerified (accepted_of v) × HasImage v };
+    ghost invariant = { λ v. IsVerified (accepted_of v) × HasImage v × HasRecords v };
 }
 
 /// Accepts a program for nodes of a shape, or names the first slot whose instruction breaks a rule, and the lowest rule that it
@@ -70,9 +72,12 @@ fn accepted(alloc: Global, program: &Program, shape: Shape) -> Result<VerifiedPr
     ensures longest { IfOk result (λ v. IsLongestPath program.now v.budget) }
 {
     let budget = longest(alloc, program, shape)?;
-    let image = encode(alloc, program)?;
-    let program = program.copy(alloc)?;
-    let Ok(shared) = Arc::new(alloc, Imaged { program, image }) else {
+    let imaged = Imaged {
+        image: encode(alloc, program)?,
+        records: records_of(alloc, program)?,
+        program: program.copy(alloc)?,
+    };
+    let Ok(shared) = Arc::new(alloc, imaged) else {
         return Err(AllocError);
     };
     Ok(VerifiedProgram {
@@ -87,6 +92,7 @@ impl VerifiedProgram {
     ghost use Rattle.bpf_verify.specs.Accepted.{IsVerified};
     ghost use Rattle.bpf_verify.specs.Typable.{Typable};
     ghost use Rattle.bpf_verify.specs.Paths.{IsLongestPath};
+    ghost use Rattle.bpf_verify.specs.Records.{AreRecords};
 
     /// The greatest number of instructions that a run can take: that of the longest path from slot 0.
     pub fn budget(&self) -> u32
@@ -109,6 +115,15 @@ impl VerifiedProgram {
     {
         let shared: &Imaged = &self.shared;
         &shared.program
+    }
+
+    /// The records of its slots (docs/VERIFIER.md, "Records"): at the slot of each instruction there is one that stands
+    /// for it.
+    pub fn records(&self) -> &[Record]
+        ensures { AreRecords self.now.program result.now }
+    {
+        let shared: &Imaged = &self.shared;
+        &shared.records
     }
 
     /// Whether the programs' images are equal.
