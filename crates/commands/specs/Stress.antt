@@ -1,18 +1,13 @@
 -- What `stress` leaves on its output (docs/COMMANDS.md, "What stress prints").
 use Rattle.std.specs.Prelude.{ℕ, List, length, ◌++◌, codes, count_by, Option, Result}
 use Rattle.std.specs.Fmt.{decimal}
-use Rattle.bench_core.specs.Setup.{Setup}
 use Rattle.bench_core.specs.Replay.{Entry}
 use Rattle.bench_shared.specs.Ends.{HasReplay, is_load, is_close}
-use Rattle.commands.specs.declared.hands.TheConstants.{NODES, FAULTS, MODULUS, MEMORY}
+use Rattle.bench_stress.specs.Stressed.{stressed_setup}
 use Rattle.commands.specs.declared.ending.Ending.{Ending}
 use Rattle.commands.specs.declared.ending.Ending.TheVariants as endings
 use Rattle.commands.specs.declared.fault.Fault.{Fault}
 use Rattle.commands.specs.Output.{LeavesAny}
-
--- the bench that is stressed
-abbrev pub stressed_setup : Setup
-stressed_setup = record { shape = record { nodes = NODES; memory = MEMORY }; faults = FAULTS; modulus = MODULUS }
 
 -- a history that is told, or none
 pub data Stressed : Type 0 where

@@ -7,7 +7,6 @@ pub mod dis;
 mod ending;
 pub mod exec;
 mod fault;
-mod hands;
 pub mod image;
 pub mod laws;
 mod output;

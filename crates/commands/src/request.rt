@@ -1,5 +1,7 @@
 //! What a command line asks for.
 
+pub use bench_stress::StressOptions;
+
 /// A command with its options, or the help that is asked for in its place.
 #[derive(Debug, Drop)]
 pub enum Request {
@@ -25,17 +27,6 @@ pub struct ShapeOptions {
 #[derive(Clone, Copy, Debug, PartialEq, Eq)]
 pub struct RunOptions {
     /// On how many workers the tasks of a pulse are run. The report is the same for every number.
-    pub workers: u32,
-}
-
-/// The options of `stress`.
-#[derive(Clone, Copy, Debug, PartialEq, Eq)]
-pub struct StressOptions {
-    pub loaders: u32,
-    /// The programs that each loader loads.
-    pub loads: u32,
-    pub pulses: u32,
-    /// On how many workers the tasks of a pulse are run.
     pub workers: u32,
 }
 

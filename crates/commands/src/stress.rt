@@ -6,17 +6,13 @@ ghost use Rattle.commands.specs.declared.ending.Ending.TheVariants.{Done};
 
 use crate::ending::Ending;
 use crate::fault::Fault;
-use crate::hands::{Stop, hands};
 use crate::output::write_whole;
-use crate::request::StressOptions;
-use bench_engine::MOST_WORKERS;
-use bench_shared::{Finished, MOST_LOADERS};
+use bench_shared::Finished;
+use bench_stress::{Stop, StressOptions, stress_bench};
 use std::alloc::Global;
 use std::fmt;
 use std::io::Write;
-use std::marker::Brand;
 use std::sync::Wait;
-use std::sync::ledger::Blank;
 use std::thread::Threads;
 
 /// Lets loaders and an engine work on one bench at once, and writes how many entries they made, where its history is what their
@@ -29,15 +25,7 @@ pub fn stress<R: Threads + Wait + Sync, W: Write>(
 ) -> Result<Ending, Fault>
     ensures { LeavesStressed (W.contents out.old) (W.contents out.new) result }
 {
-    let loaders = options.loaders.clamp(1, MOST_LOADERS);
-    let workers = options.workers.clamp(1, MOST_WORKERS);
-    let options = StressOptions {
-        loaders,
-        workers,
-        ..options
-    };
-    let (entries, closes) = (Blank::new(u64::from(loaders) + 1), Blank::new(1));
-    match hands::<Brand, Brand, R>(rt, alloc, options, entries, closes) {
+    match stress_bench(rt, alloc, options) {
         Ok(finished) => write_finished(alloc, &finished, out),
         Err(Stop::Memory) => Err(Fault::Memory),
         Err(Stop::Thread) => Err(Fault::Thread),

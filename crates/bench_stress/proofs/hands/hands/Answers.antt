@@ -2,7 +2,7 @@ use Rattle.std.proofs.Common.{subst, ap, ◌∙◌}
 use Rattle.bench_core.specs.Setup.{Setup}
 use Rattle.bench_shared.specs.Ends.{HasReplay}
 use Rattle.bench_shared.specs.Plans.{Plan}
-use Rattle.commands.proofs.hands.hands.Goals as goal
+use Rattle.bench_stress.proofs.hands.hands.Goals as goal
 
 pub returns-in-Ok-finish : goal.returns-in-Ok-finish
 returns-in-Ok-finish g c =

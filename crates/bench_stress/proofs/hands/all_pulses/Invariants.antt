@@ -1,5 +1,5 @@
 use Rattle.std.proofs.Common.{◌≡◌, None}
-use Rattle.commands.proofs.hands.all_pulses.Given as goal
+use Rattle.bench_stress.proofs.hands.all_pulses.Given as goal
 
 abbrev pub invariant-loop-pulse : goal.invariant-loop-pulse
 invariant-loop-pulse g l =

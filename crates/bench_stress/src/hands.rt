@@ -1,146 +1,37 @@
-//! The hands of `stress`: loaders in threads of their own beside the engine, on one bench (docs/THREADS.md).
+//! The engine beside the loaders, on one bench.
+
 ghost use Rattle.std.specs.Prelude.{◌≡◌, ◌+◌, ◌≤◌, None, IfOk, vec_len, Contains};
-ghost use Rattle.bench_core.specs.Views.{setup_of};
 ghost use Rattle.bench_shared.specs.Ends.{HasReplay};
 ghost use Rattle.bench_shared.specs.declared.shared.TheConstants.{MOST_LOADERS};
 ghost use Rattle.bench_engine.specs.declared.tasks.TheConstants.{MOST_WORKERS};
-ghost use Rattle.commands.specs.Stress.{stressed_setup};
+ghost use Rattle.bench_stress.specs.Stressed.{stressed_setup};
 
-use crate::request::StressOptions;
-use bench_core::{CloseError, OpenError, StageError};
+use crate::loaders::{Programs, accept_both, begin, join_all};
+use crate::setup::setup;
+use crate::stop::{Stop, first_of};
+use bench_core::{CloseError, OpenError};
 use bench_engine::{EngineError, MOST_WORKERS, Open, WorkError, pulse};
 use bench_shared::{Board, EnginePass, Finished, LoaderPass, MOST_LOADERS, SharedBench, WatchPass};
-use bpf_insn::Program;
-use bpf_verify::{VerifiedProgram, VerifyError, verify};
-use clock_nodes::{ClockRule, dolev_welch, echo};
-use node_env::Shape;
 use std::alloc::Global;
+use std::marker::Brand;
 use std::sync::Wait;
 use std::sync::ledger::{Blank, Ledger};
 use std::thread;
-use std::thread::{JoinHandle, Scope, Threads};
+use std::thread::{Scope, Threads};
 
-/// The nodes of the bench that is stressed.
-pub(crate) const NODES: u32 = 4;
-
-/// How many of them may be faulty.
-pub(crate) const FAULTS: u32 = 1;
-
-/// The modulus of their clocks.
-pub(crate) const MODULUS: u32 = 16;
-
-/// The bytes of a node's memory.
-pub(crate) const MEMORY: u32 = 8;
+/// How many hands there are, and what they do.
+#[derive(Clone, Copy, Debug, PartialEq, Eq)]
+pub struct StressOptions {
+    pub loaders: u32,
+    /// The programs that each loader loads.
+    pub loads: u32,
+    pub pulses: u32,
+    /// On how many workers the tasks of a pulse are run.
+    pub workers: u32,
+}
 
 /// The coins of each pulse.
 const COINS: [u32; 4] = [1, 1, 1, 1];
-
-/// The shape of the nodes, and the rule of their clocks.
-fn setup() -> (Shape, ClockRule)
-    ensures nodes { result.1.nodes ≡ result.0.nodes }
-    ensures setup { setup_of result.0 result.1 ≡ stressed_setup }
-{
-    match (
-        Shape::of(NODES, MEMORY),
-        ClockRule::of(NODES, FAULTS, MODULUS),
-    ) {
-        (Some(shape), Some(rule)) => (shape, rule),
-        _ => unreachable!(),
-    }
-}
-
-/// Why the hands didn't come to an end that is told by the history. Of several the first is told.
-#[derive(Clone, Copy, Debug, PartialEq, Eq)]
-pub(crate) enum Stop {
-    Memory,
-    /// A thread could not be started.
-    Thread,
-    /// The bench refused a call, or the receipts are not its history's.
-    Mismatch,
-}
-
-/// The one of two that is told.
-fn first_of(one: Option<Stop>, other: Option<Stop>) -> Option<Stop> {
-    match (one, other) {
-        (None, stop) | (stop, None) => stop,
-        (Some(Stop::Memory), _) | (_, Some(Stop::Memory)) => Some(Stop::Memory),
-        (Some(Stop::Thread), _) | (_, Some(Stop::Thread)) => Some(Stop::Thread),
-        (Some(Stop::Mismatch), Some(Stop::Mismatch)) => Some(Stop::Mismatch),
-    }
-}
-
-/// What loaders load: the clock and an echo in turn.
-#[derive(Drop)]
-struct Programs {
-    clock: VerifiedProgram,
-    echo: VerifiedProgram,
-}
-
-fn accepted(alloc: Global, program: &Program, shape: Shape) -> Result<VerifiedProgram, Stop> {
-    match verify(alloc, program, shape) {
-        Ok(program) => Ok(program),
-        Err(VerifyError::Memory) => Err(Stop::Memory),
-        Err(VerifyError::Refused { .. }) => Err(Stop::Mismatch),
-    }
-}
-
-fn accept_both(alloc: Global, shape: Shape, rule: ClockRule) -> Result<Programs, Stop>
-    requires { rule.nodes ≡ shape.nodes }
-{
-    let clock = dolev_welch(alloc, shape, rule).map_err(|_| Stop::Memory)?;
-    let echo = echo(alloc, shape).map_err(|_| Stop::Memory)?;
-    Ok(Programs {
-        clock: accepted(alloc, &clock, shape)?,
-        echo: accepted(alloc, &echo, shape)?,
-    })
-}
-
-/// Loads one program.
-fn load_one<B: Ledger, C: Ledger, R: Wait>(
-    rt: &R,
-    alloc: Global,
-    shared: &SharedBench<B, C>,
-    pass: &mut LoaderPass<B, C>,
-    node: u32,
-    program: &VerifiedProgram,
-) -> Result<(), Stop> {
-    let Ok(copy) = program.copy() else {
-        return Err(Stop::Memory);
-    };
-    match shared.load(rt, alloc, pass, node, copy) {
-        Ok(()) => Ok(()),
-        Err((_, StageError::Memory)) => Err(Stop::Memory),
-        Err((_, StageError::BadNode)) => Err(Stop::Mismatch),
-        Err((_, StageError::OtherShape)) => Err(Stop::Mismatch),
-        Err((_, StageError::BadImage)) => Err(Stop::Mismatch),
-        Err((_, StageError::HistoryFull)) => Err(Stop::Mismatch),
-    }
-}
-
-/// Loads so many programs, from the node of the loader's own number on, and gives the pass back.
-fn load_all<B: Ledger, C: Ledger, R: Wait>(
-    rt: &R,
-    alloc: Global,
-    shared: &SharedBench<B, C>,
-    programs: &Programs,
-    pass: LoaderPass<B, C>,
-    number: u32,
-    loads: u32,
-) -> (LoaderPass<B, C>, Option<Stop>) {
-    let mut pass = pass;
-    for turn in 0..loads {
-        let node = (number % NODES + turn % NODES) % NODES;
-        let program = if turn % 2 == 0 {
-            &programs.clock
-        } else {
-            &programs.echo
-        };
-        if let Err(stop) = load_one(rt, alloc, shared, &mut pass, node, program) {
-            return (pass, Some(stop));
-        }
-    }
-    (pass, None)
-}
 
 /// What is told of a pulse that is refused.
 fn of_pulse(error: EngineError) -> Stop {
@@ -190,52 +81,6 @@ fn all_pulses<B: Ledger, C: Ledger, R: Threads + Wait + Sync>(
         }
     }
     None
-}
-
-/// A loader's pass, and why it stopped, where it did.
-type Loaded<B, C> = (LoaderPass<B, C>, Option<Stop>);
-
-/// Starts a thread for each loader, up to the first that can't be started.
-fn begin<'s, E, B: Ledger + Send + Sync, C: Ledger + Send + Sync, R: Wait + Sync>(
-    scope: &Scope<'s, E>,
-    rt: &'s R,
-    alloc: Global,
-    shared: &'s SharedBench<B, C>,
-    programs: &'s Programs,
-    passes: Vec<LoaderPass<B, C>>,
-    loads: u32,
-) -> (Vec<JoinHandle<Loaded<B, C>>>, Option<Stop>) {
-    let Ok(mut begun) = Vec::with_capacity(alloc, passes.len()) else {
-        return (Vec::new(alloc), Some(Stop::Memory));
-    };
-    let mut number: u32 = 0;
-    for pass in passes {
-        let job = move || load_all(rt, alloc, shared, programs, pass, number, loads);
-        match scope.spawn(job) {
-            Ok(handle) => begun.push_reserved(handle),
-            Err(_) => return (begun, Some(Stop::Thread)),
-        }
-        number = number.wrapping_add(1);
-    }
-    (begun, None)
-}
-
-/// Waits for every loader, and takes the passes back.
-fn join_all<B: Ledger, C: Ledger, R: Threads>(
-    rt: &R,
-    alloc: Global,
-    begun: Vec<JoinHandle<Loaded<B, C>>>,
-) -> (Vec<LoaderPass<B, C>>, Option<Stop>) {
-    let mut passes = Vec::new(alloc);
-    let mut stopped = None;
-    for handle in begun {
-        let (pass, stop) = handle.join(rt);
-        stopped = first_of(stopped, stop);
-        if passes.push(pass).is_err() {
-            stopped = first_of(stopped, Some(Stop::Memory));
-        }
-    }
-    (passes, stopped)
 }
 
 /// Starts the loaders, runs the pulses beside them, and waits for the loaders. Where a loader can't be started no pulse is run.
@@ -328,7 +173,7 @@ fn only(watchers: Vec<WatchPass>) -> WatchPass
 }
 
 /// The history of the bench after all that its hands did.
-pub(crate) fn hands<B: Ledger + Send + Sync, C: Ledger + Send + Sync, R: Threads + Wait + Sync>(
+fn hands<B: Ledger + Send + Sync, C: Ledger + Send + Sync, R: Threads + Wait + Sync>(
     rt: &R,
     alloc: Global,
     options: StressOptions,
@@ -358,4 +203,24 @@ pub(crate) fn hands<B: Ledger + Send + Sync, C: Ledger + Send + Sync, R: Threads
         Ok(finished) => Ok(finished),
         Err(_) => Err(Stop::Mismatch),
     }
+}
+
+/// Lets loaders and an engine work on one bench at once, in threads of their own, and gives the bench's history where it is
+/// what their receipts say. A number of loaders or workers that is none is the nearest that is one.
+pub fn stress_bench<R: Threads + Wait + Sync>(
+    rt: &R,
+    alloc: Global,
+    options: StressOptions,
+) -> Result<Finished, Stop>
+    ensures { IfOk result (HasReplay stressed_setup) }
+{
+    let loaders = options.loaders.clamp(1, MOST_LOADERS);
+    let workers = options.workers.clamp(1, MOST_WORKERS);
+    let options = StressOptions {
+        loaders,
+        workers,
+        ..options
+    };
+    let (entries, closes) = (Blank::new(u64::from(loaders) + 1), Blank::new(1));
+    hands::<Brand, Brand, R>(rt, alloc, options, entries, closes)
 }

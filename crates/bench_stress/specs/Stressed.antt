@@ -1,0 +1,6 @@
+-- The bench that is stressed (docs/THREADS.md, "`stress`").
+use Rattle.bench_core.specs.Setup.{Setup}
+use Rattle.bench_stress.specs.declared.setup.TheConstants.{NODES, FAULTS, MODULUS, MEMORY}
+
+abbrev pub stressed_setup : Setup
+stressed_setup = record { shape = record { nodes = NODES; memory = MEMORY }; faults = FAULTS; modulus = MODULUS }

@@ -1,0 +1,135 @@
+//! The loaders, each in a thread of its own.
+
+ghost use Rattle.std.specs.Prelude.{◌≡◌};
+
+use crate::setup::NODES;
+use crate::stop::{Stop, first_of};
+use bench_core::StageError;
+use bench_shared::{LoaderPass, SharedBench};
+use bpf_insn::Program;
+use bpf_verify::{VerifiedProgram, VerifyError, verify};
+use clock_nodes::{ClockRule, dolev_welch, echo};
+use node_env::Shape;
+use std::alloc::Global;
+use std::sync::Wait;
+use std::sync::ledger::Ledger;
+use std::thread::{JoinHandle, Scope, Threads};
+
+/// What loaders load: the clock and an echo in turn.
+#[derive(Drop)]
+pub(crate) struct Programs {
+    clock: VerifiedProgram,
+    echo: VerifiedProgram,
+}
+
+fn accepted(alloc: Global, program: &Program, shape: Shape) -> Result<VerifiedProgram, Stop> {
+    match verify(alloc, program, shape) {
+        Ok(program) => Ok(program),
+        Err(VerifyError::Memory) => Err(Stop::Memory),
+        Err(VerifyError::Refused { .. }) => Err(Stop::Mismatch),
+    }
+}
+
+pub(crate) fn accept_both(alloc: Global, shape: Shape, rule: ClockRule) -> Result<Programs, Stop>
+    requires { rule.nodes ≡ shape.nodes }
+{
+    let clock = dolev_welch(alloc, shape, rule).map_err(|_| Stop::Memory)?;
+    let echo = echo(alloc, shape).map_err(|_| Stop::Memory)?;
+    Ok(Programs {
+        clock: accepted(alloc, &clock, shape)?,
+        echo: accepted(alloc, &echo, shape)?,
+    })
+}
+
+/// Loads one program.
+fn load_one<B: Ledger, C: Ledger, R: Wait>(
+    rt: &R,
+    alloc: Global,
+    shared: &SharedBench<B, C>,
+    pass: &mut LoaderPass<B, C>,
+    node: u32,
+    program: &VerifiedProgram,
+) -> Result<(), Stop> {
+    let Ok(copy) = program.copy() else {
+        return Err(Stop::Memory);
+    };
+    match shared.load(rt, alloc, pass, node, copy) {
+        Ok(()) => Ok(()),
+        Err((_, StageError::Memory)) => Err(Stop::Memory),
+        Err((_, StageError::BadNode)) => Err(Stop::Mismatch),
+        Err((_, StageError::OtherShape)) => Err(Stop::Mismatch),
+        Err((_, StageError::BadImage)) => Err(Stop::Mismatch),
+        Err((_, StageError::HistoryFull)) => Err(Stop::Mismatch),
+    }
+}
+
+/// Loads so many programs, from the node of the loader's own number on, and gives the pass back.
+fn load_all<B: Ledger, C: Ledger, R: Wait>(
+    rt: &R,
+    alloc: Global,
+    shared: &SharedBench<B, C>,
+    programs: &Programs,
+    pass: LoaderPass<B, C>,
+    number: u32,
+    loads: u32,
+) -> (LoaderPass<B, C>, Option<Stop>) {
+    let mut pass = pass;
+    for turn in 0..loads {
+        let node = (number % NODES + turn % NODES) % NODES;
+        let program = if turn % 2 == 0 {
+            &programs.clock
+        } else {
+            &programs.echo
+        };
+        if let Err(stop) = load_one(rt, alloc, shared, &mut pass, node, program) {
+            return (pass, Some(stop));
+        }
+    }
+    (pass, None)
+}
+
+/// A loader's pass, and why it stopped, where it did.
+pub(crate) type Loaded<B, C> = (LoaderPass<B, C>, Option<Stop>);
+
+/// Starts a thread for each loader, up to the first that can't be started.
+pub(crate) fn begin<'s, E, B: Ledger + Send + Sync, C: Ledger + Send + Sync, R: Wait + Sync>(
+    scope: &Scope<'s, E>,
+    rt: &'s R,
+    alloc: Global,
+    shared: &'s SharedBench<B, C>,
+    programs: &'s Programs,
+    passes: Vec<LoaderPass<B, C>>,
+    loads: u32,
+) -> (Vec<JoinHandle<Loaded<B, C>>>, Option<Stop>) {
+    let Ok(mut begun) = Vec::with_capacity(alloc, passes.len()) else {
+        return (Vec::new(alloc), Some(Stop::Memory));
+    };
+    let mut number: u32 = 0;
+    for pass in passes {
+        let job = move || load_all(rt, alloc, shared, programs, pass, number, loads);
+        match scope.spawn(job) {
+            Ok(handle) => begun.push_reserved(handle),
+            Err(_) => return (begun, Some(Stop::Thread)),
+        }
+        number = number.wrapping_add(1);
+    }
+    (begun, None)
+}
+
+/// Waits for every loader, and takes the passes back.
+pub(crate) fn join_all<B: Ledger, C: Ledger, R: Threads>(
+    rt: &R,
+    alloc: Global,
+    begun: Vec<JoinHandle<Loaded<B, C>>>,
+) -> (Vec<LoaderPass<B, C>>, Option<Stop>) {
+    let mut passes = Vec::new(alloc);
+    let mut stopped = None;
+    for handle in begun {
+        let (pass, stop) = handle.join(rt);
+        stopped = first_of(stopped, stop);
+        if passes.push(pass).is_err() {
+            stopped = first_of(stopped, Some(Stop::Memory));
+        }
+    }
+    (passes, stopped)
+}

@@ -1,0 +1,21 @@
+//! Why hands stop.
+
+/// Why the hands didn't come to an end that is told by the history. Of several the first is told.
+#[derive(Clone, Copy, Debug, PartialEq, Eq)]
+pub enum Stop {
+    Memory,
+    /// A thread could not be started.
+    Thread,
+    /// The bench refused a call, or the receipts are not its history's.
+    Mismatch,
+}
+
+/// The one of two that is told.
+pub(crate) fn first_of(one: Option<Stop>, other: Option<Stop>) -> Option<Stop> {
+    match (one, other) {
+        (None, stop) | (stop, None) => stop,
+        (Some(Stop::Memory), _) | (_, Some(Stop::Memory)) => Some(Stop::Memory),
+        (Some(Stop::Thread), _) | (_, Some(Stop::Thread)) => Some(Stop::Thread),
+        (Some(Stop::Mismatch), Some(Stop::Mismatch)) => Some(Stop::Mismatch),
+    }
+}
