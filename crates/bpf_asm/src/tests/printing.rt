@@ -5,7 +5,7 @@ use super::*;
 use crate::forms::FORMS;
 use bpf_insn::{
     AluOp, Cond, Insn, MAX_SLOTS, Operand, Program, ProgramError, Reg, Size, SxSize, Width, decode,
-    program_of,
+    encode, program_of,
 };
 
 /// The text of an image in hexadecimal.
@@ -27,8 +27,12 @@ fn outside_texts(rt: HostRuntime) -> Result<(), Fail> {
         let Some((hex, text)) = line.split_once('\t') else {
             continue;
         };
-        let got = text_of(rt.alloc(), hex)?;
+        let bytes = bytes_of(rt.alloc(), hex)?;
+        let program = decode(rt.alloc(), &bytes)?;
+        let got = disassemble(rt.alloc(), &program)?;
         assert_eq!(rt; got.strip_suffix("\n"), Some(text));
+        let image = encode(rt.alloc(), &program)?;
+        assert_eq!(rt; image.as_slice(), bytes.as_slice(), "at {text}");
         rows = rows.wrapping_add(1);
     }
     assert_eq!(rt; rows, 288);

@@ -5,16 +5,6 @@ use super::vectors::ENCODINGS;
 use super::*;
 use bpf_insn::encode;
 
-/// Bytes as hexadecimal digits.
-fn hex_of(alloc: Global, bytes: &[u8]) -> Result<String, AllocError> {
-    let mut text = String::new(alloc);
-    for byte in bytes {
-        let digits = format!(in alloc; "{byte:02x}")?;
-        text.push_str(digits.as_str())?;
-    }
-    Ok(text)
-}
-
 /// The name of a refusal, and its line.
 fn name_of(error: TextError) -> (&'static str, usize) {
     match error {
@@ -34,7 +24,7 @@ fn answer(alloc: Global, text: &[u8]) -> Result<String, AllocError> {
     match assemble(alloc, text) {
         Ok(program) => {
             let image = encode(alloc, &program)?;
-            hex_of(alloc, &image)
+            hex::encode(alloc, &image)
         }
         Err(error) => {
             let (name, line) = name_of(error);

@@ -1,10 +1,8 @@
 //! Images as text, by `dis`.
 use super::*;
 
-const DIS: &[&str] = &["clockbed", "dis"];
-
 /// `dis` of an image in hexadecimal.
-fn dis_of<T: Threads + Wait + Sync>(rt: &T, alloc: Global, image: &str) -> Result<Ran, AllocError> {
+fn dis_of<T: Threads + Wait + Sync>(rt: &T, alloc: Global, image: &str) -> Result<Ran, Fail> {
     image_on(rt, alloc, "dis", "", image)
 }
 
@@ -67,48 +65,4 @@ fn lists_the_longest_image(rt: HostRuntime) {
     assert_eq!(rt; got.out.len(), 2_048 * 6);
     assert!(rt; got.out.chunks(6).all(|line| line == b"ja +0\n".as_slice()));
     assert_eq!(rt; got.status, 0);
-}
-
-#[test]
-fn reads_no_more_than_it_may(rt: HostRuntime) {
-    let mut reader = Endless { calls: 0 };
-    let mut out = Vec::new(rt.alloc());
-    let mut err = Vec::new(rt.alloc());
-    let status = command(&rt, rt.alloc(), DIS, &mut reader, &mut out, &mut err);
-    assert_eq!(rt; out.as_slice(), b"refused image TooLong\n".as_slice());
-    assert_eq!(rt; err.len(), 0);
-    assert_eq!(rt; status, 2);
-    assert_eq!(rt; reader.calls, 16_385);
-}
-
-#[test]
-fn tells_where_a_read_fails(rt: HostRuntime) {
-    for count in 0..=16usize {
-        let mut reader = Failing {
-            bytes: &SEVEN[..count],
-            kind: ErrorKind::Interrupted,
-        };
-        let mut out = Vec::new(rt.alloc());
-        let mut err = Vec::new(rt.alloc());
-        let status = command(&rt, rt.alloc(), DIS, &mut reader, &mut out, &mut err);
-        assert_eq!(rt; out.as_slice(), b"".as_slice());
-        assert_eq!(rt; err.as_slice(), b"fault read\n".as_slice());
-        assert_eq!(rt; status, 1);
-    }
-}
-
-#[test]
-fn tells_where_a_write_fails(rt: HostRuntime) -> Result<(), Fail> {
-    let whole = b"mov64 r0, 7\nexit\n";
-    for room in 0..17usize {
-        let mut input = SEVEN;
-        let mut out = Narrow::new(rt.alloc(), room);
-        let mut err = Vec::new(rt.alloc());
-        let status = command(&rt, rt.alloc(), DIS, &mut input, &mut out, &mut err);
-        assert_eq!(rt; out.taken.as_slice(), &whole[..room]);
-        let line = format!(in rt.alloc(); "fault write after {room}\n")?;
-        assert_eq!(rt; err.as_slice(), line.as_bytes());
-        assert_eq!(rt; status, 1);
-    }
-    Ok(())
 }

@@ -1,9 +1,8 @@
 //! Reports of scenarios, by `run`.
 use super::*;
+use std::alloc::AllocError;
 
-const RUN: &[&str] = &["clockbed", "run"];
-
-const FOUR_CLOCKS: &str = "\
+pub const FOUR_CLOCKS: &str = "\
 nodes = 4
 faults = 1
 modulus = 8
@@ -16,7 +15,7 @@ nodes = [0, 1, 2, 3]
 program = \"clock\"
 ";
 
-const FOUR_CLOCKS_REPORT: &str = "\
+pub const FOUR_CLOCKS_REPORT: &str = "\
 nodes 4 faults 1 modulus 8
 pulse 1 clocks 0 0 0 0 settled 0 steps 36 agree yes
 pulse 2 clocks 1 1 1 1 settled 4 steps 44 agree yes
@@ -219,48 +218,4 @@ fn runs_a_mebibyte_and_no_more(rt: HostRuntime) -> Result<(), Fail> {
     assert_eq!(rt; more.line(), "refused scenario TooLong");
     assert_eq!(rt; more.status, 2);
     Ok(())
-}
-
-#[test]
-fn asks_a_scenario_without_end_for_its_bound(rt: HostRuntime) {
-    let mut input = Endless { calls: 0 };
-    let mut out = Vec::new(rt.alloc());
-    let mut err = Vec::new(rt.alloc());
-    let status = command(&rt, rt.alloc(), RUN, &mut input, &mut out, &mut err);
-    assert_eq!(rt; out.as_slice(), b"refused scenario TooLong\n".as_slice());
-    assert_eq!(rt; status, 2);
-    assert_eq!(rt; input.calls, 1_048_577);
-}
-
-#[test]
-fn tells_where_the_report_was_cut(rt: HostRuntime) -> Result<(), Fail> {
-    let whole = FOUR_CLOCKS_REPORT.as_bytes();
-    assert_eq!(rt; whole.len(), 564);
-    for room in 0..564usize {
-        let mut input = FOUR_CLOCKS.as_bytes();
-        let mut out = Narrow::new(rt.alloc(), room);
-        let mut err = Vec::new(rt.alloc());
-        let status = command(&rt, rt.alloc(), RUN, &mut input, &mut out, &mut err);
-        assert_eq!(rt; out.taken.as_slice(), &whole[..room]);
-        let line = format!(in rt.alloc(); "fault write after {room}\n")?;
-        assert_eq!(rt; err.as_slice(), line.as_bytes());
-        assert_eq!(rt; status, 1);
-    }
-    Ok(())
-}
-
-#[test]
-fn tells_where_the_scenario_was_cut(rt: HostRuntime) {
-    for count in 0..FOUR_CLOCKS.len() {
-        let mut reader = Failing {
-            bytes: &FOUR_CLOCKS.as_bytes()[..count],
-            kind: ErrorKind::Interrupted,
-        };
-        let mut out = Vec::new(rt.alloc());
-        let mut err = Vec::new(rt.alloc());
-        let status = command(&rt, rt.alloc(), RUN, &mut reader, &mut out, &mut err);
-        assert_eq!(rt; out.len(), 0);
-        assert_eq!(rt; err.as_slice(), b"fault read\n".as_slice());
-        assert_eq!(rt; status, 1);
-    }
 }

@@ -1,49 +1,81 @@
-//! Streams that fail.
+//! Streams that fail, and streams without end.
+use super::scenarios::{FOUR_CLOCKS, FOUR_CLOCKS_REPORT};
 use super::*;
+use commands::asm::{TEXT_BYTES, TEXT_CALLS};
 use commands::image::{IMAGE_BYTES, IMAGE_CALLS};
+
+/// An input of each command, and what it leaves on its output.
+fn rows() -> [(&'static [&'static str], &'static [u8], &'static [u8]); 5] {
+    [
+        (EXEC, SEVEN, b"r0 7 steps 2\n"),
+        (VERIFY, SEVEN, b"accepted slots 2 announced 2\n"),
+        (DIS, SEVEN, b"mov64 r0, 7\nexit\n"),
+        (ASM, b"exit\n", b"\x95\0\0\0\0\0\0\0"),
+        (RUN, FOUR_CLOCKS.as_bytes(), FOUR_CLOCKS_REPORT.as_bytes()),
+    ]
+}
 
 #[test]
 fn tells_where_a_read_fails(rt: HostRuntime) {
-    for kind in [ErrorKind::Interrupted, ErrorKind::BrokenPipe] {
-        for count in 0..=16usize {
-            let bytes = &SEVEN[..count];
-            let mut reader = Failing { bytes, kind };
-            let mut out = Vec::new(rt.alloc());
-            let mut err = Vec::new(rt.alloc());
-            let status = command(&rt, rt.alloc(), EXEC, &mut reader, &mut out, &mut err);
-            assert_eq!(rt; out.as_slice(), b"".as_slice());
-            assert_eq!(rt; err.as_slice(), b"fault read\n".as_slice());
-            assert_eq!(rt; status, 1);
+    for (words, whole, _) in rows() {
+        for kind in [ErrorKind::Interrupted, ErrorKind::BrokenPipe] {
+            for count in 0..=whole.len() {
+                let bytes = &whole[..count];
+                let mut reader = Failing { bytes, kind };
+                let mut out = Vec::new(rt.alloc());
+                let mut err = Vec::new(rt.alloc());
+                let status = command(&rt, rt.alloc(), words, &mut reader, &mut out, &mut err);
+                assert_eq!(rt; out.as_slice(), b"".as_slice());
+                assert_eq!(rt; err.as_slice(), b"fault read\n".as_slice());
+                assert_eq!(rt; status, 1);
+            }
         }
     }
 }
 
 #[test]
-fn reads_no_more_than_it_may(rt: HostRuntime) {
-    let mut reader = Endless { calls: 0 };
-    let mut out = Vec::new(rt.alloc());
-    let mut err = Vec::new(rt.alloc());
-    let status = command(&rt, rt.alloc(), EXEC, &mut reader, &mut out, &mut err);
-    assert_eq!(rt; out.as_slice(), b"refused image TooLong\n".as_slice());
-    assert_eq!(rt; status, 2);
-    assert_eq!(rt; reader.calls, IMAGE_BYTES);
-    assert_eq!(rt; (IMAGE_BYTES, IMAGE_CALLS), (16_385, 32_770));
+fn tells_where_a_write_fails(rt: HostRuntime) -> Result<(), Fail> {
+    for (words, input, whole) in rows() {
+        for room in 0..whole.len() {
+            let mut input = input;
+            let mut out = Narrow::new(rt.alloc(), room);
+            let mut err = Vec::new(rt.alloc());
+            let status = command(&rt, rt.alloc(), words, &mut input, &mut out, &mut err);
+            assert_eq!(rt; out.taken.as_slice(), &whole[..room]);
+            let line = format!(in rt.alloc(); "fault write after {room}\n")?;
+            assert_eq!(rt; err.as_slice(), line.as_bytes());
+            assert_eq!(rt; status, 1);
+        }
+    }
+    Ok(())
 }
 
 #[test]
-fn tells_where_a_write_fails(rt: HostRuntime) -> Result<(), Fail> {
-    let whole = b"r0 7 steps 2\n";
-    for room in 0..13usize {
-        let mut input = SEVEN;
-        let mut out = Narrow::new(rt.alloc(), room);
+fn asks_a_stream_without_end_for_its_bound(rt: HostRuntime) {
+    let rows: [(&[&str], &str, u8, usize); 6] = [
+        (EXEC, "refused image TooLong\n", 2, IMAGE_BYTES),
+        (VERIFY, "refused image TooLong\n", 2, IMAGE_BYTES),
+        (DIS, "refused image TooLong\n", 2, IMAGE_BYTES),
+        (
+            &["clockbed", "verify", "--memory", "12"],
+            "refused shape\n",
+            2,
+            0,
+        ),
+        (ASM, "", 1, TEXT_BYTES + 1),
+        (RUN, "refused scenario TooLong\n", 2, 1_048_577),
+    ];
+    for (words, line, ended, calls) in rows {
+        let mut reader = Endless { calls: 0 };
+        let mut out = Vec::new(rt.alloc());
         let mut err = Vec::new(rt.alloc());
-        let status = command(&rt, rt.alloc(), EXEC, &mut input, &mut out, &mut err);
-        assert_eq!(rt; out.taken.as_slice(), &whole[..room]);
-        let line = format!(in rt.alloc(); "fault write after {room}\n")?;
-        assert_eq!(rt; err.as_slice(), line.as_bytes());
-        assert_eq!(rt; status, 1);
+        let status = command(&rt, rt.alloc(), words, &mut reader, &mut out, &mut err);
+        assert_eq!(rt; out.as_slice(), line.as_bytes());
+        assert_eq!(rt; status, ended);
+        assert_eq!(rt; reader.calls, calls);
     }
-    Ok(())
+    assert_eq!(rt; (IMAGE_BYTES, IMAGE_CALLS), (16_385, 32_770));
+    assert_eq!(rt; (TEXT_BYTES, TEXT_CALLS), (1_048_576, 2_097_152));
 }
 
 #[test]

@@ -1,8 +1,7 @@
 //! Texts as images, by `asm`, and back, by `dis`.
 use super::*;
-use commands::asm::{TEXT_BYTES, TEXT_CALLS};
-
-const ASM: &[&str] = &["clockbed", "asm"];
+use commands::asm::TEXT_BYTES;
+use std::alloc::AllocError;
 
 fn asm_of<T: Threads + Wait + Sync>(rt: &T, alloc: Global, text: &[u8]) -> Ran {
     run_on(rt, alloc, ASM, text)
@@ -95,51 +94,6 @@ fn reads_a_mebibyte_and_no_more(rt: HostRuntime) -> Result<(), Fail> {
     assert_eq!(rt; more.out.len(), 0);
     assert_eq!(rt; more.err.as_slice(), b"fault read\n".as_slice());
     assert_eq!(rt; more.status, 1);
-    Ok(())
-}
-
-#[test]
-fn stops_reading_a_text_without_end(rt: HostRuntime) {
-    let mut input = Endless { calls: 0 };
-    let mut out = Vec::new(rt.alloc());
-    let mut err = Vec::new(rt.alloc());
-    let status = command(&rt, rt.alloc(), ASM, &mut input, &mut out, &mut err);
-    assert_eq!(rt; status, 1);
-    assert_eq!(rt; err.as_slice(), b"fault read\n".as_slice());
-    assert_eq!(rt; input.calls, TEXT_BYTES + 1);
-    assert_eq!(rt; (TEXT_BYTES, TEXT_CALLS), (1_048_576, 2_097_152));
-}
-
-#[test]
-fn tells_a_text_stream_that_fails(rt: HostRuntime) {
-    let mut input = Failing {
-        bytes: b"exit\n",
-        kind: ErrorKind::Interrupted,
-    };
-    let mut out = Vec::new(rt.alloc());
-    let mut err = Vec::new(rt.alloc());
-    let status = command(&rt, rt.alloc(), ASM, &mut input, &mut out, &mut err);
-    assert_eq!(rt; status, 1);
-    assert_eq!(rt; out.len(), 0);
-    assert_eq!(rt; err.as_slice(), b"fault read\n".as_slice());
-}
-
-#[test]
-fn tells_how_much_of_the_image_was_taken(rt: HostRuntime) -> Result<(), Fail> {
-    for room in 0..8 {
-        let mut input = b"exit\n".as_slice();
-        let mut out = Narrow::new(rt.alloc(), room);
-        let mut err = Vec::new(rt.alloc());
-        let status = command(&rt, rt.alloc(), ASM, &mut input, &mut out, &mut err);
-        let line = format!(in rt.alloc(); "fault write after {room}\n")?;
-        assert_eq!(rt; status, 1, "at {room}");
-        assert_eq!(rt;
-            out.taken.as_slice(),
-            &b"\x95\0\0\0\0\0\0\0"[..room],
-            "at {room}"
-        );
-        assert_eq!(rt; err.as_slice(), line.as_bytes(), "at {room}");
-    }
     Ok(())
 }
 
