@@ -59,27 +59,18 @@ def decoding(forms):
     return image
 
 
+ARITHMETIC = (slot(0x07, 3, imm=77) + slot(0x0F, 3, 4) + slot(0xAF, 4, 3) + slot(0x67, 4, imm=3) + slot(0x27, 3, imm=31)
+              + slot(0x1C, 4, 3) + slot(0x54, 4, imm=0xFFFFFF) + slot(0x77, 3, imm=5) + slot(0x4F, 3, 4) + slot(0xB7, 5, imm=9))
+ACCESSES = b"".join(
+    slot(store, 1, 3, off=8) + slot(load, 5, 1, off=8) + slot(store, 10, 4, off=-16) + slot(load, 6, 10, off=-16)
+    for store, load in ((0x73, 0x71), (0x6B, 0x69), (0x63, 0x61), (0x7B, 0x79))
+) + slot(0x7A, 10, off=-8, imm=-5) + slot(0x91, 7, 10, off=-8) + slot(0x81, 8, 10, off=-8) + slot(0x72, 1, off=15, imm=6)
+NUMBERS = slot(MOV64_K, 0, imm=1) + slot(MOV64_K, 3, imm=12345) + slot(MOV64_K, 4, imm=7)
+
+
 def machine_loop(body):
     """`body` over and over, by a jump back that is always taken."""
-    head = slot(MOV64_K, 0, imm=1) + slot(MOV64_K, 3, imm=12345) + slot(MOV64_K, 4, imm=7)
-    return head + body + slot(0x05, off=-(len(body) // 8) - 1)
-
-
-def arithmetic_loop():
-    """Straight-line arithmetic of 64 and 32 bits, 40 instructions and the jump."""
-    piece = (slot(0x07, 3, imm=77) + slot(0x0F, 3, 4) + slot(0xAF, 4, 3) + slot(0x67, 4, imm=3) + slot(0x27, 3, imm=31)
-             + slot(0x1C, 4, 3) + slot(0x54, 4, imm=0xFFFFFF) + slot(0x77, 3, imm=5) + slot(0x4F, 3, 4) + slot(0xB7, 5, imm=9))
-    return machine_loop(4 * piece)
-
-
-def memory_loop():
-    """Stores and loads of all sizes in memory and on the stack, 20 instructions and the jump."""
-    piece = b"".join(
-        slot(store, 1, 3, off=8) + slot(load, 5, 1, off=8) + slot(store, 10, 4, off=-16) + slot(load, 6, 10, off=-16)
-        for store, load in ((0x73, 0x71), (0x6B, 0x69), (0x63, 0x61), (0x7B, 0x79))
-    )
-    rest = slot(0x7A, 10, off=-8, imm=-5) + slot(0x91, 7, 10, off=-8) + slot(0x81, 8, 10, off=-8) + slot(0x72, 1, off=15, imm=6)
-    return machine_loop(piece + rest)
+    return NUMBERS + body + slot(0x05, off=-(len(body) // 8) - 1)
 
 
 def filled(head, piece, slots):
@@ -102,6 +93,12 @@ def branchy(slots):
     return filled(slot(MOV64_K, 0, imm=0), piece, slots)
 
 
+def branches(slots):
+    """A condition in every other slot, of 64 and of 32 bits."""
+    piece = slot(0x25, 3, off=1, imm=100) + slot(0x07, 3, imm=7) + slot(0x1E, 3, 4, off=1) + slot(0x57, 3, imm=127)
+    return filled(NUMBERS, piece, slots)
+
+
 def clock(nodes):
     """The clock program of so many nodes (27 + 7 * nodes slots), with all but one as its quorum."""
     head = (slot(MOV64_X, 6, 1) + slot(0x61, 7, 6) + slot(0xA5, 7, off=1, imm=16) + slot(MOV64_K, 7) + slot(MOV64_K, 8))
@@ -119,8 +116,11 @@ IMAGES = {
     "alu": lambda: decoding(list(alu_forms())),
     "all": lambda: decoding([*alu_forms(), *other_forms()]),
     "jump": lambda: machine_loop(b""),
-    "arithmetic": arithmetic_loop,
-    "memory": memory_loop,
+    "arithmetic": lambda: machine_loop(4 * ARITHMETIC),
+    "memory": lambda: machine_loop(ACCESSES),
+    "arithmetic-1000": lambda: filled(NUMBERS, ARITHMETIC, 1000),
+    "memory-1000": lambda: filled(NUMBERS, ACCESSES, 1000),
+    "branches-1000": lambda: branches(1000),
     **{f"straight-{slots}": lambda slots=slots: straight(slots) for slots in (64, 256, 1024)},
     **{f"branchy-{slots}": lambda slots=slots: branchy(slots) for slots in (64, 256, 1024)},
     **{f"clock-{27 + 7 * nodes}": lambda nodes=nodes: clock(nodes) for nodes in (4, 16, 32)},
