@@ -10,6 +10,7 @@ mod state;
 mod turn;
 mod word;
 
+pub use bytes::{number_in, put_number};
 pub use laws::{leaves_sound, one_run, runs_compose, stays_sound, stuck_by_traps};
 pub use node_env::Region;
 pub use run::run_checked;
