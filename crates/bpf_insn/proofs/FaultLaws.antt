@@ -1,6 +1,6 @@
 -- A fault that is read is the lowest one that holds, and no spelling begins there.
 use Rattle.std.proofs.Common.{◌≡◌, ◌≢◌, ℕ, ◌+◌, ◌*◌, ◌/◌, ◌%◌, ◌^◌, ◌<◌, ◌≤◌, Bool, true, false, cond, List, [], ◌∷◌, ◌++◌, length, take, drop, Option, Some, None, Result, Ok, Err, refl, sym, ap, ◌∙◌, arith, inl, inr, ◌⊎◌}
-use Rattle.std.specs.Prelude.{◌==◌, nat_lt, slice_index, if◌then◌else◌, bit_and, is_none, ℤ}
+use Rattle.std.specs.Prelude.{◌==◌, nat_lt, slice_index, if◌then◌else◌, bit_and, is_none, ℤ, IfOk, IfErr}
 use Rattle.std.specs.Int.{w16, w32, from_le_bytes, cast_unsigned}
 use Rattle.std.proofs.lemmas.Bool.{ltb-false, ltb-true, eqb-false, eq-eqb, ne_eqb, cases_eq, cases_Bool, agree_below_at}
 use Rattle.std.proofs.lemmas.Nat.{and_mask}
@@ -12,6 +12,7 @@ use Rattle.bpf_insn.specs.declared.forms.SwapBits.{SwapBits}
 use Rattle.bpf_insn.specs.declared.forms.SwapBits.TheVariants as swaps
 use Rattle.bpf_insn.specs.declared.forms.Order.{Order}
 use Rattle.bpf_insn.specs.declared.forms.Reg.{Reg}
+use Rattle.bpf_insn.specs.declared.forms.Insn.{Insn}
 use Rattle.bpf_insn.specs.declared.opcode.AluCode.TheVariants.{Mov}
 use Rattle.bpf_insn.specs.declared.opcode.Source.TheVariants as source
 use Rattle.bpf_insn.specs.declared.opcode.Opcode.{Opcode}
@@ -22,12 +23,12 @@ use Rattle.bpf_insn.specs.declared.slot.SlotFault.TheVariants.{Truncated, Unknow
 use Rattle.bpf_insn.specs.Registers.{register_number, register_at}
 use Rattle.bpf_insn.specs.Opcodes.{opcode_byte, is_wide, opcode_slots}
 use Rattle.bpf_insn.specs.Encoding.{has_stray_field}
-use Rattle.bpf_insn.specs.Reading.{◌>>=◌, found, unless, opcode_at, slot_at, fields_at, high_at, kind_at, extension_by, swap_bits_at, swap_by, form_at, front_at}
-use Rattle.bpf_insn.specs.Images.{StandsAt, FaultHolds, IsFaultAt, fault_number, has_bad_width}
-use Rattle.bpf_insn.proofs.OpcodeLaws.{opcode_takes, opcode_again, number_small}
+use Rattle.bpf_insn.specs.Reading.{◌>>=◌, found, unless, slot_at, fields_at, high_at, kind_at, extension_by, swap_bits_at, swap_by, form_at}
+use Rattle.bpf_insn.specs.Images.{IsFirst, StandsAt, FaultHolds, IsFaultAt, fault_number, has_bad_width}
+use Rattle.bpf_insn.proofs.OpcodeLaws.{opcode_at, opcode_takes, opcode_again, number_small}
 use Rattle.bpf_insn.proofs.SlotLaws.{IsBytes, Spells, ok_is, found_ok, slot_takes, slot_again}
 use Rattle.bpf_insn.proofs.FormLaws.{IsClean, clean_from, slot_with, high_bytes}
-use Rattle.bpf_insn.proofs.FrontLaws.{Second, second_takes, front_again}
+use Rattle.bpf_insn.proofs.FrontLaws.{front_at, front_takes, Second, second_takes, front_again}
 
 -- ---- where a step failed
 
@@ -340,3 +341,9 @@ front_fault bytes f fits some e =
       holds = low.0;
       lowest = low.1;
     }
+
+-- the answer of the reader: the instruction that is spelled at the front, or the fault there
+pub front_read : (bytes : List ℕ) (read : Result Insn SlotFault) → IsBytes bytes → 0 < length bytes → read ≡ front_at bytes
+    → IfOk read (IsFirst bytes) × IfErr read (λ f. IsFaultAt f bytes)
+front_read bytes (Ok i) fits some e = (front_takes bytes i fits (sym e), tt)
+front_read bytes (Err f) fits some e = (tt, front_fault bytes f fits some (sym e))

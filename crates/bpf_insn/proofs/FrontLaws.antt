@@ -13,10 +13,21 @@ use Rattle.bpf_insn.specs.declared.slot.SlotFault.{SlotFault}
 use Rattle.bpf_insn.specs.declared.slot.SlotFault.TheVariants.{Truncated, UnknownOpcode, NonZeroField}
 use Rattle.bpf_insn.specs.Opcodes.{is_wide, opcode_slots}
 use Rattle.bpf_insn.specs.Encoding.{slot_bytes, slot_of, high_of, second_slot, spelling, has_stray_field, InRange, slots_taken}
-use Rattle.bpf_insn.specs.Reading.{found, unless, opcode_at, slot_at, high_at, form_at, front_at}
-use Rattle.bpf_insn.proofs.OpcodeLaws.{opcode_takes, opcode_again}
+use Rattle.bpf_insn.specs.Images.{IsFirst}
+use Rattle.bpf_insn.specs.Reading.{found, unless, slot_at, high_at, form_at, ◌>>=◌}
+use Rattle.bpf_insn.proofs.OpcodeLaws.{opcode_at, opcode_takes, opcode_again}
 use Rattle.bpf_insn.proofs.SlotLaws.{IsBytes, IsLong, long, long_from, bind_ok, ok_is, done, found_ok, slot_takes, slot_again, four_bytes}
 use Rattle.bpf_insn.proofs.FormLaws.{high_bytes, form_takes, form_again, slot_fits, no_stray_field, second_is, size_is, high_fits}
+
+-- the instruction at the front
+unfoldable pub front_at : List ℕ → Result Insn SlotFault
+front_at bytes =
+    unless (nat_lt (length bytes) 8) Truncated do
+      opcode ← found UnknownOpcode (opcode_at (slice_index bytes 0))
+      unless (nat_lt (length bytes) (8 * opcode_slots opcode)) Truncated do
+        s ← slot_at opcode bytes
+        high ← high_at (is_wide opcode) bytes
+        unless (has_stray_field s) NonZeroField (form_at s.opcode s high)
 
 pub unless_ok : {A : Type 0} (b : Bool) (d : SlotFault) (next : Result A SlotFault) (y : A) → unless b d next ≡ Ok y → (b ≡ false) × (next ≡ Ok y)
 unless_ok true d next y e = absurd cc
@@ -58,11 +69,6 @@ second_takes true bytes high fits len e = by_long (long_from bytes (omega arith)
     by_long (long b0 b1 b2 b3 b4 b5 b6 b7 more) len fits e = by_more (long_from more (omega arith)) fits e
 
 -- ---- the instruction that is read is spelled at the front
-
-pub record IsFirst (bytes : List ℕ) (i : Insn) : Type 0 where
-  pub parts : bytes ≡ spelling i ++ drop (8 * slots_taken i) bytes
-  pub range : InRange i
-  pub whole : 8 * slots_taken i ≤ length bytes
 
 joined : (a a' b b' c c' bytes rest : List ℕ) → bytes ≡ a ++ rest → rest ≡ b ++ c → a' ≡ a → b' ≡ b → c' ≡ c → bytes ≡ (a' ++ b') ++ c'
 joined a a' b b' c c' bytes rest p q ea eb ec = rw (ea, eb, ec) (p ∙ (ap (λ (t : List ℕ). a ++ t) q ∙ sym (append_assoc a b c)))

@@ -1,5 +1,5 @@
 -- Images have one reading, or one fault.
-use Rattle.std.proofs.Common.{◌≡◌, ℕ, ◌+◌, ◌*◌, ◌<◌, ◌≤◌, true, false, List, [], ◌∷◌, ◌++◌, length, drop, Ok, Err, refl, sym, ap, ◌∙◌, append_assoc, arith, inl, inr}
+use Rattle.std.proofs.Common.{◌≡◌, ℕ, ◌+◌, ◌*◌, ◌<◌, ◌≤◌, true, false, List, [], ◌∷◌, ◌++◌, length, drop, refl, sym, ap, ◌∙◌, append_assoc, arith, inl, inr}
 use Rattle.std.specs.List.{AllByRecursion}
 use Rattle.std.proofs.lemmas.List.{length-append, drop_at, get_or-drop, append-nil}
 use Rattle.std.specs.Prelude.{◌==◌}
@@ -9,12 +9,10 @@ use Rattle.bpf_insn.specs.declared.slot.SlotFault.{SlotFault}
 use Rattle.bpf_insn.specs.declared.slot.SlotFault.TheVariants.{Truncated, UnknownOpcode, BadRegister, NonZeroField, BadWidth}
 use Rattle.bpf_insn.specs.declared.listing.TheConstants.{MAX_SLOTS}
 use Rattle.bpf_insn.specs.Encoding.{spelling, InRange, slots_taken}
-use Rattle.bpf_insn.specs.Reading.{front_at}
 use Rattle.bpf_insn.specs.Programs.{image_of, slots_of, IsProgram, layout, slots_by}
-use Rattle.bpf_insn.specs.Images.{IsFaultAt, IsFault, IsFirstFault, RefusesImage, fault_number, error_at}
+use Rattle.bpf_insn.specs.Images.{IsFirst, IsFaultAt, IsFault, IsFirstFault, RefusesImage, fault_number, error_at}
 use Rattle.bpf_insn.proofs.SlotLaws.{IsBytes, ok_is}
-use Rattle.bpf_insn.proofs.FrontLaws.{front_takes, front_again, length_spelling}
-use Rattle.bpf_insn.proofs.FaultLaws.{front_fault}
+use Rattle.bpf_insn.proofs.FrontLaws.{front_at, front_again, length_spelling}
 use Rattle.bpf_insn.proofs.LayoutLaws.{slots_of-cons}
 
 -- no spelling begins another
@@ -113,9 +111,8 @@ range-last : (p : List Insn) (i : Insn) → AllByRecursion InRange p → InRange
 range-last [] i rp ri = (ri, tt)
 range-last (j ∷ p) i rp ri = (rp.0, range-last p i rp.1 ri)
 
-pub read_more : (bytes : List ℕ) (before : List Insn) (rest : List ℕ) (i : Insn) → IsRead bytes before rest → front_at rest ≡ Ok i → IsRead bytes (before ++ i ∷ []) (drop (8 * slots_taken i) rest)
-read_more bytes before rest i read e =
-    let first = front_takes rest i read.fits e in
+pub read_more : (bytes : List ℕ) (before : List Insn) (rest : List ℕ) (i : Insn) → IsRead bytes before rest → IsFirst rest i → IsRead bytes (before ++ i ∷ []) (drop (8 * slots_taken i) rest)
+read_more bytes before rest i read first =
     record {
       in_range = range-last before i read.in_range first.range;
       parts = read.parts ∙ (ap (λ (t : List ℕ). image_of before ++ t) first.parts ∙ (sym (append_assoc (image_of before) (spelling i) (drop (8 * slots_taken i) rest)) ∙ ap (λ (t : List ℕ). t ++ drop (8 * slots_taken i) rest) (sym (image-last before i))));
@@ -130,9 +127,9 @@ pub layout-last : (p : List Insn) (i : Insn) → layout (p ++ i ∷ []) ≡ layo
 layout-last [] i = append-nil (slots_by i)
 layout-last (j ∷ p) i = ap (λ t. slots_by j ++ t) (layout-last p i) ∙ sym (append_assoc (slots_by j) (layout p) (slots_by i))
 
-pub read_fault : (bytes : List ℕ) (before : List Insn) (rest : List ℕ) (f : SlotFault) (slot : ℕ) → IsRead bytes before rest → slots_of before ≡ slot → 0 < length rest → front_at rest ≡ Err f → IsFault bytes slot f
-read_fault bytes before rest f slot read place left e =
-    record { before = before; rest = rest; in_range = read.in_range; parts = read.parts; place = place; at = front_fault rest f read.fits left e }
+pub read_fault : (bytes : List ℕ) (before : List Insn) (rest : List ℕ) (f : SlotFault) (slot : ℕ) → IsRead bytes before rest → slots_of before ≡ slot → IsFaultAt f rest → IsFault bytes slot f
+read_fault bytes before rest f slot read place at =
+    record { before = before; rest = rest; in_range = read.in_range; parts = read.parts; place = place; at = at }
 
 pub refuses_at : (bytes : List ℕ) (slot : ℕ) (f : SlotFault) → IsFirstFault bytes slot f → RefusesImage bytes (error_at f slot)
 refuses_at bytes slot Truncated h = h

@@ -1,6 +1,6 @@
 -- The opcode of a byte is the one that is spelled so.
 use Rattle.std.proofs.Common.{◌≡◌, ℕ, ◌<◌, ◌≤◌, Bool, true, Option, Some, None, refl, sym, ap, ◌∙◌, arith}
-use Rattle.std.specs.Prelude.{◌==◌, IfSome, IfNone}
+use Rattle.std.specs.Prelude.{◌==◌, ◌&&◌, ◌≢◌, ◌/◌, bit_and, if◌then◌else◌, IfSome, IfNone}
 use Rattle.std.proofs.lemmas.Bool.{agree_below_at, eqb-true, ne_eqb}
 use Rattle.bpf_insn.specs.declared.forms.Reg.{Reg}
 use Rattle.bpf_insn.specs.declared.forms.Reg.TheVariants.{R0, R1, R2, R3, R4, R5, R6, R7, R8, R9, R10}
@@ -15,7 +15,24 @@ use Rattle.bpf_insn.specs.declared.forms.SxSize.TheVariants as sx_sizes
 use Rattle.bpf_insn.specs.declared.forms.Order.TheVariants as orders
 use Rattle.bpf_insn.specs.Registers.{register_number, register_at}
 use Rattle.bpf_insn.specs.Opcodes.{opcode_byte}
-use Rattle.bpf_insn.specs.Reading.{opcode_at}
+use Rattle.bpf_insn.specs.Reading.{alu_at, jump_at, size_at, load_at}
+
+abbrev pub opcode_at : ℕ → Option Opcode
+opcode_at byte =
+    let source = if bit_and byte 8 == 0 then source.Imm else source.Reg in
+    let code = byte / 16 in
+    let mode = byte / 32 in
+    let size = bit_and (byte / 8) 3 in
+    let class = bit_and byte 7 in
+    if class == 0 && byte == 0x18 then Some LoadImm64
+    else if class == 1 then load_at mode size
+    else if class == 2 && mode == 3 then Some (StoreImm (size_at size))
+    else if class == 3 && mode == 3 then Some (StoreReg (size_at size))
+    else if class == 4 then alu_at W32 code source
+    else if class == 5 then jump_at W64 code source
+    else if class == 6 then jump_at W32 code source
+    else if class == 7 then alu_at W64 code source
+    else None
 
 abbrev is_of : ℕ → Option Opcode → Bool
 is_of byte None = true
@@ -146,6 +163,24 @@ opcode_again (StoreReg sizes.Dw) = refl
 opcode_again (LoadSx sx_sizes.B) = refl
 opcode_again (LoadSx sx_sizes.H) = refl
 opcode_again (LoadSx sx_sizes.W) = refl
+
+-- what is read of a byte: its opcode, and nothing where no opcode has it
+pub opcode_some : (byte : ℕ) (o : Option Opcode) → byte < 256 → o ≡ opcode_at byte → IfSome o (λ p. opcode_byte p ≡ byte)
+opcode_some byte (Some p) lt e = opcode_takes byte p lt (sym e)
+opcode_some byte None lt e = tt
+
+pub opcode_none : (byte : ℕ) (o : Option Opcode) → o ≡ opcode_at byte → IfNone o ((p : Opcode) → opcode_byte p ≢ byte)
+opcode_none byte (Some p) e = tt
+opcode_none byte None e = λ p same. let again : opcode_at byte ≡ Some p = ap opcode_at (sym same) ∙ opcode_again p in absurd cc
+
+pub opcode_is : (byte : ℕ) (o : Option Opcode) → byte < 256 → IfSome o (λ p. opcode_byte p ≡ byte) → IfNone o ((p : Opcode) → opcode_byte p ≢ byte)
+    → o ≡ opcode_at byte
+opcode_is byte (Some p) lt some none = sym (opcode_again p) ∙ ap opcode_at some
+opcode_is byte None lt some none = by_answer (opcode_at byte) refl
+  where
+    by_answer : (read : Option Opcode) → opcode_at byte ≡ read → None ≡ read
+    by_answer None e = refl
+    by_answer (Some p) e = absurd (none p (opcode_takes byte p lt e))
 
 -- ---- registers
 

@@ -1,5 +1,7 @@
--- Images of programs, and what is wrong with bytes that are none (RFC 9669, section 3 "Instruction Encoding"; docs/INSTRUCTIONS.md).
-use Rattle.std.specs.Prelude.{◌≡◌, ◌≢◌, ℕ, ◌*◌, ◌/◌, ◌%◌, ◌<◌, ◌≤◌, ◌==◌, ◌⊎◌, if◌then◌else◌, Bool, true, false, not, List, [], ◌∷◌, ◌++◌, length, take, drop, slice_index, FitsSigned}
+-- Images of programs, and what is wrong with bytes that are none (RFC 9669, section 3 "Instruction Encoding";
+-- docs/INSTRUCTIONS.md).
+use Rattle.std.specs.Prelude.{◌≡◌, ◌≢◌, ℕ, ◌*◌, ◌/◌, ◌%◌, ◌<◌, ◌≤◌, ◌==◌, ◌⊎◌, if◌then◌else◌, Bool, true, false, not}
+use Rattle.std.specs.Prelude.{List, [], ◌∷◌, ◌++◌, length, take, drop, slice_index, FitsSigned}
 use Rattle.std.specs.List.{AllByRecursion, list_any}
 use Rattle.std.specs.Int.{w16, w32, cast_unsigned}
 use Rattle.bpf_insn.specs.declared.forms.Insn.{Insn}
@@ -10,13 +12,20 @@ use Rattle.bpf_insn.specs.declared.opcode.Opcode.{Opcode}
 use Rattle.bpf_insn.specs.declared.opcode.Opcode.TheVariants as opcode
 use Rattle.bpf_insn.specs.declared.slot.Slot.{Slot}
 use Rattle.bpf_insn.specs.declared.slot.SlotFault.{SlotFault}
-use Rattle.bpf_insn.specs.declared.slot.SlotFault.TheVariants.{Truncated, UnknownOpcode, BadRegister, NonZeroField, BadWidth}
+use Rattle.bpf_insn.specs.declared.slot.SlotFault.TheVariants.{Truncated, UnknownOpcode, BadRegister, NonZeroField}
+use Rattle.bpf_insn.specs.declared.slot.SlotFault.TheVariants.{BadWidth}
 use Rattle.bpf_insn.specs.Opcodes.{opcode_byte}
-use Rattle.bpf_insn.specs.Encoding.{slot_bytes, spelling, has_stray_field, InRange}
+use Rattle.bpf_insn.specs.Encoding.{slot_bytes, spelling, has_stray_field, InRange, slots_taken}
 use Rattle.bpf_insn.specs.Programs.{image_of, slots_of, IsProgram}
 use Rattle.bpf_insn.specs.declared.listing.TheConstants.{MAX_SLOTS}
 use Rattle.bpf_insn.specs.declared.image.ImageError.{ImageError}
 use Rattle.bpf_insn.specs.declared.image.ImageError.TheVariants as errors
+
+-- the bytes begin with the spelling of this instruction
+pub record IsFirst (bytes : List ℕ) (insn : Insn) : Type 0 where
+  pub parts : bytes ≡ spelling insn ++ drop (8 * slots_taken insn) bytes
+  pub range : InRange insn
+  pub whole : 8 * slots_taken insn ≤ length bytes
 
 -- ---- what is wrong where an instruction is to begin
 

@@ -1,5 +1,7 @@
--- The first byte of an instruction (RFC 9669, 3.3 "Instruction Classes"): its class in the low three bits. In the classes of arithmetic and
--- jumps (section 4) bit 3 is the source of the second operand, and the high four bits are the code. In those of loads and stores (section 5)
+-- The first byte of an instruction (RFC 9669, 3.3 "Instruction Classes"): its class in the low three bits. In the
+-- classes of arithmetic and
+-- jumps (section 4) bit 3 is the source of the second operand, and the high four bits are the code. In those of loads
+-- and stores (section 5)
 -- bits 3 and 4 are the size, and the high three bits the mode.
 use Rattle.std.specs.Prelude.{ℕ, ◌+◌, ◌*◌, ◌==◌, nat_lt, not, Bool, true, false, if◌then◌else◌}
 use Rattle.bpf_insn.specs.declared.forms.Width.{Width}
@@ -13,7 +15,8 @@ use Rattle.bpf_insn.specs.declared.forms.SxSize.TheVariants as sx_sizes
 use Rattle.bpf_insn.specs.declared.forms.Order.{Order}
 use Rattle.bpf_insn.specs.declared.forms.Order.TheVariants as orders
 use Rattle.bpf_insn.specs.declared.opcode.AluCode.{AluCode}
-use Rattle.bpf_insn.specs.declared.opcode.AluCode.TheVariants.{Add, Sub, Mul, Div, Or, And, Lsh, Rsh, Mod, Xor, Mov, Arsh}
+use Rattle.bpf_insn.specs.declared.opcode.AluCode.TheVariants.{Add, Sub, Mul, Div, Or, And, Lsh, Rsh, Mod, Xor, Mov}
+use Rattle.bpf_insn.specs.declared.opcode.AluCode.TheVariants.{Arsh}
 use Rattle.bpf_insn.specs.declared.opcode.Source.{Source}
 use Rattle.bpf_insn.specs.declared.opcode.Source.TheVariants as source
 use Rattle.bpf_insn.specs.declared.opcode.FieldUse.{FieldUse}
@@ -105,7 +108,8 @@ opcode_byte (opcode.StoreReg size) = 0x63 + size_bits size
 
 -- ---- the fields that an opcode uses
 
--- what the offset of an arithmetic form may hold: DIV and MOD are signed with 1, and MOV from a register may extend the low bits (4.1)
+-- what the offset of an arithmetic form may hold: DIV and MOD are signed with 1, and MOV from a register may extend the
+-- low bits (4.1)
 abbrev pub offset_use : AluCode → Source → FieldUse
 offset_use Add source = Zero
 offset_use Sub source = Zero
@@ -123,8 +127,10 @@ offset_use Arsh source = Zero
 
 -- what each field may hold: an unused one is zero (3.1 "Basic Instruction Encoding")
 abbrev pub uses_of : Opcode → Uses
-uses_of (opcode.Alu code width source.Imm) = record { dst = Any; src = Zero; offset = offset_use code source.Imm; imm = Any }
-uses_of (opcode.Alu code width source.Reg) = record { dst = Any; src = Any; offset = offset_use code source.Reg; imm = Zero }
+uses_of (opcode.Alu code width source.Imm) =
+    record { dst = Any; src = Zero; offset = offset_use code source.Imm; imm = Any }
+uses_of (opcode.Alu code width source.Reg) =
+    record { dst = Any; src = Any; offset = offset_use code source.Reg; imm = Zero }
 uses_of (opcode.Neg width) = record { dst = Any; src = Zero; offset = Zero; imm = Zero }
 uses_of (opcode.Swap order) = record { dst = Any; src = Zero; offset = Zero; imm = Any }
 uses_of opcode.Ja = record { dst = Zero; src = Zero; offset = Any; imm = Zero }

@@ -1,5 +1,7 @@
--- What the parts of the decoder give.
-use Rattle.std.specs.Prelude.{ℕ, ◌+◌, ◌*◌, ◌^◌, ◌/◌, ◌==◌, ◌&&◌, nat_lt, if◌then◌else◌, Bool, true, false, bit_and, ℤ, Option, Some, None, Result, Ok, Err, List, [], ◌∷◌, length, slice_index}
+-- What the parts of the decoder give: each word here is in the contract of a private function alone. The reader of an
+-- instruction (`front`) and `decode` say what they do in the words of Images and Encoding.
+use Rattle.std.specs.Prelude.{ℕ, ◌+◌, ◌*◌, ◌^◌, ◌/◌, ◌==◌, if◌then◌else◌, Bool, true, false, bit_and, ℤ, Option, Some}
+use Rattle.std.specs.Prelude.{None, Result, Ok, Err, List, [], ◌∷◌, slice_index}
 use Rattle.std.specs.Int.{w16, w32, cast_signed, cast_unsigned, from_le_bytes}
 use Rattle.bpf_insn.specs.declared.forms.Reg.{Reg}
 use Rattle.bpf_insn.specs.declared.forms.Width.{Width}
@@ -23,17 +25,16 @@ use Rattle.bpf_insn.specs.declared.forms.SxSize.TheVariants as sx_sizes
 use Rattle.bpf_insn.specs.declared.forms.Order.{Order}
 use Rattle.bpf_insn.specs.declared.forms.Order.TheVariants as orders
 use Rattle.bpf_insn.specs.declared.opcode.AluCode.{AluCode}
-use Rattle.bpf_insn.specs.declared.opcode.AluCode.TheVariants.{Add, Sub, Mul, Div, Or, And, Lsh, Rsh, Mod, Xor, Mov, Arsh}
+use Rattle.bpf_insn.specs.declared.opcode.AluCode.TheVariants.{Add, Sub, Mul, Div, Or, And, Lsh, Rsh, Mod, Xor, Mov}
+use Rattle.bpf_insn.specs.declared.opcode.AluCode.TheVariants.{Arsh}
 use Rattle.bpf_insn.specs.declared.opcode.Source.{Source}
 use Rattle.bpf_insn.specs.declared.opcode.Source.TheVariants as source
 use Rattle.bpf_insn.specs.declared.opcode.Opcode.{Opcode}
 use Rattle.bpf_insn.specs.declared.opcode.Opcode.TheVariants as opcode
 use Rattle.bpf_insn.specs.declared.slot.Slot.{Slot}
 use Rattle.bpf_insn.specs.declared.slot.SlotFault.{SlotFault}
-use Rattle.bpf_insn.specs.declared.slot.SlotFault.TheVariants.{Truncated, UnknownOpcode, BadRegister, NonZeroField, BadWidth}
+use Rattle.bpf_insn.specs.declared.slot.SlotFault.TheVariants.{BadRegister, NonZeroField, BadWidth}
 use Rattle.bpf_insn.specs.Registers.{register_at}
-use Rattle.bpf_insn.specs.Opcodes.{is_wide, opcode_slots}
-use Rattle.bpf_insn.specs.Encoding.{has_stray_field}
 
 -- ---- opcodes
 
@@ -106,7 +107,8 @@ abbrev pub size_at : ℕ → Size
 size_at n = if n == 0 then sizes.W else if n == 1 then sizes.H else if n == 2 then sizes.B else sizes.Dw
 
 abbrev pub sx_size_at : ℕ → Option SxSize
-sx_size_at n = if n == 0 then Some sx_sizes.W else if n == 1 then Some sx_sizes.H else if n == 2 then Some sx_sizes.B else None
+sx_size_at n =
+    if n == 0 then Some sx_sizes.W else if n == 1 then Some sx_sizes.H else if n == 2 then Some sx_sizes.B else None
 
 abbrev pub load_sx_by : Option SxSize → Option Opcode
 load_sx_by (Some size) = Some (opcode.LoadSx size)
@@ -116,23 +118,6 @@ abbrev pub load_at : ℕ → ℕ → Option Opcode
 load_at mode size =
     if mode == 3 then Some (opcode.Load (size_at size))
     else if mode == 4 then load_sx_by (sx_size_at size)
-    else None
-
-abbrev pub opcode_at : ℕ → Option Opcode
-opcode_at byte =
-    let source = if bit_and byte 8 == 0 then source.Imm else source.Reg in
-    let code = byte / 16 in
-    let mode = byte / 32 in
-    let size = bit_and (byte / 8) 3 in
-    let class = bit_and byte 7 in
-    if class == 0 && byte == 0x18 then Some opcode.LoadImm64
-    else if class == 1 then load_at mode size
-    else if class == 2 && mode == 3 then Some (opcode.StoreImm (size_at size))
-    else if class == 3 && mode == 3 then Some (opcode.StoreReg (size_at size))
-    else if class == 4 then alu_at W32 code source
-    else if class == 5 then jump_at W64 code source
-    else if class == 6 then jump_at W32 code source
-    else if class == 7 then alu_at W64 code source
     else None
 
 -- ---- slots
@@ -147,6 +132,12 @@ abbrev pub found : {A : Type 0} → SlotFault → Option A → Result A SlotFaul
 found fault (Some x) = Ok x
 found fault None = Err fault
 
+-- the number of the four bytes from here on
+abbrev pub number_at : List ℕ → ℕ → ℕ
+number_at bytes i =
+    from_le_bytes w32
+    (slice_index bytes i ∷ slice_index bytes (i + 1) ∷ slice_index bytes (i + 2) ∷ slice_index bytes (i + 3) ∷ [])
+
 -- the slot with these registers
 abbrev pub fields_at : Opcode → Reg → Reg → List ℕ → Slot
 fields_at opcode dst src bytes =
@@ -155,7 +146,7 @@ fields_at opcode dst src bytes =
       dst = dst;
       src = src;
       offset = cast_signed w16 (from_le_bytes w16 (slice_index bytes 2 ∷ slice_index bytes 3 ∷ []));
-      imm = cast_signed w32 (from_le_bytes w32 (slice_index bytes 4 ∷ slice_index bytes 5 ∷ slice_index bytes 6 ∷ slice_index bytes 7 ∷ []));
+      imm = cast_signed w32 (number_at bytes 4);
     }
 
 -- the fields behind the opcode
@@ -169,8 +160,8 @@ slot_at opcode bytes = do
 abbrev pub high_at : Bool → List ℕ → Result ℕ SlotFault
 high_at false bytes = Ok 0
 high_at true bytes =
-    if from_le_bytes w32 (slice_index bytes 8 ∷ slice_index bytes 9 ∷ slice_index bytes 10 ∷ slice_index bytes 11 ∷ []) == 0
-    then Ok (from_le_bytes w32 (slice_index bytes 12 ∷ slice_index bytes 13 ∷ slice_index bytes 14 ∷ slice_index bytes 15 ∷ []))
+    if number_at bytes 8 == 0
+    then Ok (number_at bytes 12)
     else Err NonZeroField
 
 -- the operation of a code, and of an offset that is 0 or 1
@@ -209,7 +200,10 @@ extension_by s (Some kind) = Ok (insn.Movsx kind s.dst s.src)
 extension_by s None = Err BadWidth
 
 abbrev pub move_at : Width → Slot → Result Insn SlotFault
-move_at width s = if cast_unsigned w16 s.offset == 0 then Ok (insn.Alu ops.Mov width s.dst (operands.Reg s.src)) else extension_by s (kind_at width s.offset)
+move_at width s =
+    if cast_unsigned w16 s.offset == 0
+    then Ok (insn.Alu ops.Mov width s.dst (operands.Reg s.src))
+    else extension_by s (kind_at width s.offset)
 
 abbrev pub alu_insn_at : AluCode → Width → Source → Slot → Result Insn SlotFault
 alu_insn_at Mov width source.Reg s = move_at width s
@@ -245,13 +239,3 @@ form_at (opcode.StoreReg size) s high = Ok (insn.StoreReg size s.dst s.offset s.
 -- goes on unless the test says that there is a fault
 abbrev pub unless : {A : Type 0} → Bool → SlotFault → Result A SlotFault → Result A SlotFault
 unless test fault next = if test then Err fault else next
-
--- the instruction at the front
-unfoldable pub front_at : List ℕ → Result Insn SlotFault
-front_at bytes =
-    unless (nat_lt (length bytes) 8) Truncated do
-      opcode ← found UnknownOpcode (opcode_at (slice_index bytes 0))
-      unless (nat_lt (length bytes) (8 * opcode_slots opcode)) Truncated do
-        s ← slot_at opcode bytes
-        high ← high_at (is_wide opcode) bytes
-        unless (has_stray_field s) NonZeroField (form_at s.opcode s high)

@@ -11,10 +11,12 @@ ghost use Rattle.bpf_insn.specs.Edges.{target, BeginsAt};
 
 use crate::forms::Insn;
 
-/// The way on from an instruction: to the instruction after it, or by its jump.
+/// The way on from an instruction.
 #[derive(Clone, Copy, Debug, PartialEq, Eq)]
 pub enum Way {
+    /// To the instruction after it.
     Onward,
+    /// By its jump.
     Jumping,
 }
 

@@ -118,7 +118,8 @@ impl SxSize {
     }
 }
 
-/// The condition of a branch (RFC 9669, section 4.3): `Set` is that the operands have a bit in common, and `S` stands for signed.
+/// The condition of a branch (RFC 9669, section 4.3): `Set` is that the operands have a bit in common, and `S` stands
+/// for signed.
 #[derive(Clone, Copy, Debug, PartialEq, Eq)]
 pub enum Cond {
     Eq,
@@ -179,8 +180,8 @@ pub enum SwapBits {
     Bits64,
 }
 
-/// An instruction (RFC 9669, sections 4 and 5). Each value has one spelling (docs/INSTRUCTIONS.md); distances count slots from the slot
-/// after the jump, and offsets of memory count bytes from `base`.
+/// An instruction (RFC 9669, sections 4 and 5). Each value has one spelling (docs/INSTRUCTIONS.md); distances count
+/// slots from the slot after the jump, and offsets of memory count bytes from `base`.
 #[derive(Clone, Copy, Debug, PartialEq, Eq)]
 pub enum Insn {
     /// `dst` becomes the result of `dst` and `src`; of a move, `src`.

@@ -1,30 +1,39 @@
 //! Images of programs: their instructions as bytes (RFC 9669, section 3; docs/INSTRUCTIONS.md).
 
-ghost use Rattle.std.specs.Prelude.{◌≡◌, ◌≢◌, ◌<◌, ◌≤◌, ◌*◌, ◌++◌, ℕ, List, [], length, drop, IfOk, IfErr, OnOk, MatchResult};
+ghost use Rattle.std.specs.Prelude.{◌≡◌, ◌≢◌, ◌<◌, ◌≤◌, ◌*◌, ◌++◌, ℕ, List, [], length, drop, IfOk, IfErr, OnOk};
+ghost use Rattle.std.specs.Prelude.{MatchResult};
 ghost use Rattle.std.specs.List.{flat_map};
 ghost use Rattle.bpf_insn.specs.declared.forms.Insn.{Insn};
 ghost use Rattle.bpf_insn.specs.declared.listing.TheConstants.{MAX_SLOTS};
 ghost use Rattle.bpf_insn.specs.Encoding.{slots_taken, spelling};
-ghost use Rattle.bpf_insn.specs.Reading.{front_at};
 ghost use Rattle.bpf_insn.specs.Programs.{IsProgram, image_of, layout, slots_by, spelling_at};
-ghost use Rattle.bpf_insn.specs.Images.{IsImage, RefusesImage};
+ghost use Rattle.bpf_insn.specs.Images.{IsFaultAt, IsFirst, IsImage, RefusesImage};
 
 use crate::forms::Insn;
 use crate::listing::{MAX_SLOTS, Program, push_slots};
 use crate::slot::{Slot, SlotFault, front};
 use std::alloc::{AllocError, Global};
 
-/// Why bytes are not decoded. `Empty` and `TooLong` come first, then the lowest slot is named, and then the first of the other names in this
-/// order; the number is the slot where the instruction at fault begins. `Memory` comes only where the bytes are an image.
+/// Why bytes are not decoded. `Empty` and `TooLong` come first, then the lowest slot is named, and then the first
+/// of the other names in this order; the number is the slot where the instruction at fault begins. `Memory` comes
+/// only where the bytes are an image.
 #[derive(Clone, Copy, Debug, PartialEq, Eq)]
 pub enum ImageError {
+    /// There are no bytes.
     Empty,
+    /// There are more bytes than the slots of the longest program have.
     TooLong,
+    /// The bytes end within the instruction.
     Truncated(u32),
+    /// The first byte is no opcode.
     UnknownOpcode(u32),
+    /// A register's number is above 10.
     BadRegister(u32),
+    /// A field holds what it may not.
     NonZeroField(u32),
+    /// The width that a field names is none.
     BadWidth(u32),
+    /// Memory was short.
     Memory,
 }
 
@@ -58,10 +67,11 @@ impl From<AllocError> for ImageError {
 
 /// The instruction at the front, and what follows it.
 fn next(bytes: &[u8]) -> Result<(Insn, &[u8]), SlotFault>
-    ensures read { IfOk result (λ x. front_at bytes.now ≡ Ok x.0) }
+    requires { 0 < length bytes.now }
+    ensures first { IfOk result (λ x. IsFirst bytes.now x.0) }
     ensures rest { IfOk result (λ x. x.1.now ≡ drop (8 * slots_taken x.0) bytes.now) }
     ensures shorter { IfOk result (λ x. length x.1.now < length bytes.now) }
-    ensures fault { IfErr result (λ fault. front_at bytes.now ≡ Err fault) }
+    ensures fault { IfErr result (λ fault. IsFaultAt fault bytes.now) }
 {
     let insn = front(bytes)?;
     let (_, rest) = bytes.split_at(8 * insn.slots());
@@ -131,7 +141,8 @@ fn keep(slots: &mut Vec<Option<Insn>>, insn: Insn, bytes: &[u8]) -> Result<(), I
 fn slots_in(alloc: Global, bytes: &[u8]) -> Result<Vec<Option<Insn>>, ImageError>
     requires some { 0 < length bytes.now }
     requires few { length bytes.now ≤ 8 * MAX_SLOTS }
-    ensures program { IfOk result (λ slots. (program : List Insn) × IsProgram program × (bytes.now ≡ image_of program) × (slots.items ≡ layout program)) }
+    ensures program { IfOk result (λ slots. (program : List Insn) × IsProgram program ×
+        (bytes.now ≡ image_of program) × (slots.items ≡ layout program)) }
     ensures refusal { IfErr result (RefusesImage bytes.now) }
 {
     let mut slots = room_for(alloc, bytes)?;
@@ -171,7 +182,8 @@ pub fn decode(alloc: Global, bytes: &[u8]) -> Result<Program, ImageError>
     ensures refusal { IfErr result (RefusesImage bytes.now) }
 
     // Each image is decoded, and each refusal is the only one, memory aside.
-    ensures only_program { (p : List Insn) → IsProgram p → bytes.now ≡ image_of p → MatchResult result (λ q. q ≡ p) (λ e. e ≡ ImageError.Memory) }
+    ensures only_program { (p : List Insn) → IsProgram p → bytes.now ≡ image_of p →
+        MatchResult result (λ q. q ≡ p) (λ e. e ≡ ImageError.Memory) }
     ensures only_refusal { (e : ImageError) → RefusesImage bytes.now e → e ≢ ImageError.Memory → result ≡ Err e }
 {
     program_in(alloc, bytes)
@@ -222,7 +234,7 @@ fn spell_slots(alloc: Global, slots: &[Option<Insn>]) -> Result<Vec<u8>, AllocEr
     Ok(image)
 }
 
-/// The image of a program: the spellings of its instructions in order.
+/// The image of a program: the spellings of its instructions in order. Fails only for want of memory.
 pub fn encode(alloc: Global, program: &Program) -> Result<Vec<u8>, AllocError>
     ensures image { IfOk result (λ bytes. bytes.items ≡ image_of program.now) }
     ensures program { IsProgram program.now }

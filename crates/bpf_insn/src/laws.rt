@@ -12,7 +12,8 @@ use std::alloc::Global;
 
 /// No spelling begins another, so each instruction has one.
 pub fn one_spelling()
-    ensures { (i j : Insn) (x y : List ℕ) → InRange i → InRange j → spelling i ++ x ≡ spelling j ++ y → (i ≡ j) × (x ≡ y) }
+    ensures { (i j : Insn) (x y : List ℕ) → InRange i → InRange j → spelling i ++ x ≡ spelling j ++ y →
+        (i ≡ j) × (x ≡ y) }
 {}
 
 /// A slot is eight bytes.
@@ -24,11 +25,13 @@ pub fn spelling_length()
 /// Bytes are the image of one program or have one refusal, want of memory aside.
 pub fn one_reading()
     ensures program { (p q : List Insn) → IsProgram p → IsProgram q → image_of p ≡ image_of q → p ≡ q }
-    ensures refusal { (bytes : List ℕ) (e d : ImageError) → RefusesImage bytes e → RefusesImage bytes d → e ≢ ImageError.Memory → d ≢ ImageError.Memory → e ≡ d }
-    ensures apart { (p : List Insn) (e : ImageError) → IsProgram p → RefusesImage (image_of p) e → e ≡ ImageError.Memory }
+    ensures refusal { (bytes : List ℕ) (e d : ImageError) → RefusesImage bytes e → RefusesImage bytes d →
+        e ≢ ImageError.Memory → d ≢ ImageError.Memory → e ≡ d }
+    ensures apart { (p : List Insn) (e : ImageError) → IsProgram p → RefusesImage (image_of p) e →
+        e ≡ ImageError.Memory }
 {}
 
-/// Encodes a program, and decodes its image: that gives the program back.
+/// Encodes a program, and decodes its image: that gives the program back. Fails only for want of memory.
 pub fn round_trip(alloc: Global, program: &Program) -> Result<Program, ImageError>
     ensures { MatchResult result (λ p. p ≡ program.now) (λ e. e ≡ ImageError.Memory) }
 {

@@ -19,6 +19,8 @@ pub use forms::{AluOp, Cond, Insn, MovsxKind, Operand, Order, Reg, Size, SwapBit
 pub use image::{ImageError, decode, encode};
 pub use laws::{one_reading, one_spelling, round_trip, spelling_length};
 pub use listing::{MAX_SLOTS, Program, ProgramError, program_of};
+pub use opcode::{AluCode, FieldUse, Opcode, Source, Uses};
+pub use slot::{Slot, SlotFault};
 
 #[cfg(test)]
 mod arithmetic_tests;

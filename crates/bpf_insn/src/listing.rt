@@ -1,6 +1,7 @@
 //! Programs: whole instructions in their slots.
 
-ghost use Rattle.std.specs.Prelude.{◌≡◌, ◌∷◌, ◌++◌, [], ◌<◌, ◌≤◌, ◌+◌, length, IfOk, IfErr, OnOk, IfSome, IfNone, OnSome};
+ghost use Rattle.std.specs.Prelude.{◌≡◌, ◌∷◌, ◌++◌, [], ◌<◌, ◌≤◌, ◌+◌, length, IfOk, IfErr, OnOk, IfSome, IfNone};
+ghost use Rattle.std.specs.Prelude.{OnSome, option_map};
 ghost use Rattle.std.specs.Prelude.{All, slice_get};
 ghost use Rattle.bpf_insn.specs.declared.listing.TheConstants.{MAX_SLOTS};
 ghost use Rattle.bpf_insn.specs.Encoding.{InRange};
@@ -32,11 +33,14 @@ impl Model for Program {
     ghost invariant = { λ p. IsLaidOut p.slots.items };
 }
 
-/// Why instructions are no program: there are none, they take more than [`MAX_SLOTS`] slots, or memory was short.
+/// Why instructions are no program.
 #[derive(Clone, Copy, Debug, PartialEq, Eq)]
 pub enum ProgramError {
+    /// There are none.
     Empty,
+    /// They take more than [`MAX_SLOTS`] slots.
     TooLong,
+    /// Memory was short.
     Memory,
 }
 
@@ -88,6 +92,18 @@ fn look_up(slots: &[Option<Insn>], slot: usize) -> Option<Insn>
     }
 }
 
+/// The same, where it stands.
+#[inline(always)]
+fn find(slots: &[Option<Insn>], slot: usize) -> Option<&Insn>
+    ensures { option_map (λ insn. insn.now) result ≡ inner (slice_get slots.now slot) }
+{
+    if slot < slots.len() {
+        slots[slot].as_ref()
+    } else {
+        None
+    }
+}
+
 /// The program with these instructions. A refusal hands them back; `Memory` comes last.
 pub fn program_of(alloc: Global, insns: Vec<Insn>) -> Result<Program, (Vec<Insn>, ProgramError)>
     ensures program { IfOk result (λ p. (p ≡ insns.items) × IsProgram p) }
@@ -108,7 +124,7 @@ pub fn program_of(alloc: Global, insns: Vec<Insn>) -> Result<Program, (Vec<Insn>
 
 impl Program {
     ghost use Rattle.std.specs.Prelude.{◌≡◌};
-    ghost use Rattle.std.specs.Prelude.{IfOk, IfSome, IsSome, IsTrue, ◌↔◌, ◌+◌, ◌≤◌};
+    ghost use Rattle.std.specs.Prelude.{IfOk, IfSome, IsSome, IsTrue, ◌↔◌, ◌+◌, ◌≤◌, option_map};
     ghost use Rattle.bpf_insn.specs.Encoding.{slots_taken};
     ghost use Rattle.bpf_insn.specs.Programs.{insn_at, slots_of, IsProgram};
 
@@ -132,6 +148,16 @@ impl Program {
         look_up(&self.slots, slot as usize)
     }
 
+    /// The instruction that begins at a slot, where it stands: none where [`Program::insn_at`] finds none.
+    #[inline(always)]
+    pub fn at(&self, slot: u32) -> Option<&Insn>
+        ensures found { option_map (λ insn. insn.now) result ≡ insn_at self.now slot }
+        ensures within { IfSome result (λ insn. slot + slots_taken insn.now ≤ slots_of self.now) }
+        ensures program { IsProgram self.now }
+    {
+        find(&self.slots, slot as usize)
+    }
+
     /// Whether the other program has the same instructions.
     pub fn same(&self, other: &Program) -> bool
         ensures { IsTrue result ↔ (self.now ≡ other.now) }
@@ -139,7 +165,7 @@ impl Program {
         same_slots(&self.slots, &other.slots)
     }
 
-    /// A program with the same instructions.
+    /// A program with the same instructions. Fails only for want of memory.
     pub fn copy(&self, alloc: Global) -> Result<Program, AllocError>
         ensures { IfOk result (λ p. p ≡ self.now) }
     {

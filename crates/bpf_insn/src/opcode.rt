@@ -1,10 +1,12 @@
 //! Opcodes: what the first byte of an instruction says.
 
 ghost use Rattle.std.specs.Prelude.{◌≡◌, ◌<◌, ◌≤◌};
-ghost use Rattle.bpf_insn.specs.Opcodes.{alu_class, jump_class, alu_number, source_bit, cond_number, size_bits, sx_size_bits, order_byte, opcode_byte, offset_use, uses_of, is_stray, is_wide, opcode_slots};
+ghost use Rattle.bpf_insn.specs.Opcodes.{alu_class, jump_class, alu_number, source_bit, cond_number, size_bits};
+ghost use Rattle.bpf_insn.specs.Opcodes.{sx_size_bits, order_byte, opcode_byte, offset_use, uses_of, is_stray, is_wide};
+ghost use Rattle.bpf_insn.specs.Opcodes.{opcode_slots};
 ghost use Rattle.bpf_insn.specs.Arithmetic.{movsx_width};
 ghost use Rattle.bpf_insn.specs.Encoding.{code_of, source_of, slot_of};
-ghost use Rattle.bpf_insn.specs.Reading.{alu_code_at, alu_at, cond_at, jump_at, size_at, sx_size_at, load_at, opcode_at};
+ghost use Rattle.bpf_insn.specs.Reading.{alu_code_at, alu_at, cond_at, jump_at, size_at, sx_size_at, load_at};
 
 use crate::forms::{AluOp, Cond, Insn, MovsxKind, Operand, Order, Size, SxSize, Width};
 
@@ -89,7 +91,7 @@ pub struct Uses {
 
 impl FieldUse {
     /// Whether a field may not hold these bits.
-    pub fn is_stray(self, bits: u32) -> bool
+    pub(crate) fn is_stray(self, bits: u32) -> bool
         ensures { result ≡ is_stray self bits }
     {
         match self {
@@ -101,7 +103,8 @@ impl FieldUse {
 }
 
 impl AluCode {
-    pub fn of(op: AluOp) -> AluCode
+    /// The code of an operation: the signed division and modulo share those of the unsigned ones.
+    pub(crate) fn of(op: AluOp) -> AluCode
         ensures { result ≡ code_of op }
     {
         match op {
@@ -386,9 +389,16 @@ fn load_opcode(mode: u8, size: u8) -> Option<Opcode>
 }
 
 impl Opcode {
-    /// The opcode that a byte stands for.
-    pub fn of(byte: u8) -> Option<Opcode>
-        ensures { result ≡ opcode_at byte }
+    ghost use Rattle.std.specs.Prelude.{◌≡◌, ◌≢◌, IfSome, IfNone};
+    ghost use Rattle.bpf_insn.specs.declared.opcode.Opcode.{Opcode};
+    ghost use Rattle.bpf_insn.specs.Opcodes.{opcode_byte, uses_of, is_wide, opcode_slots};
+    ghost use Rattle.bpf_insn.specs.Encoding.{slot_of};
+
+    /// The opcode that a byte stands for, and none where no opcode has that byte.
+    #[tactic(auto, using(crate::proofs::OpcodeLaws::opcode_some, crate::proofs::OpcodeLaws::opcode_none))]
+    pub(crate) fn of(byte: u8) -> Option<Opcode>
+        ensures some { IfSome result (λ opcode. opcode_byte opcode ≡ byte) }
+        ensures none { IfNone result ((opcode : Opcode) → opcode_byte opcode ≢ byte) }
     {
         let source = if byte & 8 == 0 {
             Source::Imm
@@ -416,7 +426,7 @@ impl Opcode {
     }
 
     /// The opcode of an instruction.
-    pub fn of_insn(insn: Insn) -> Opcode
+    pub(crate) fn of_insn(insn: Insn) -> Opcode
         ensures { result ≡ (slot_of insn).opcode }
     {
         match insn {
@@ -455,7 +465,7 @@ impl Opcode {
     }
 
     /// What its fields may hold.
-    pub fn uses(self) -> Uses
+    pub(crate) fn uses(self) -> Uses
         ensures { result ≡ uses_of self }
     {
         use FieldUse::{Any, Zero};
@@ -488,7 +498,7 @@ impl Opcode {
     }
 
     /// Whether it takes two slots.
-    pub fn is_wide(self) -> bool
+    pub(crate) fn is_wide(self) -> bool
         ensures { result ≡ is_wide self }
     {
         match self {
@@ -509,14 +519,14 @@ impl Opcode {
     }
 
     /// The slots that it takes.
-    pub fn slots(self) -> usize
+    pub(crate) fn slots(self) -> usize
         ensures { result ≡ opcode_slots self }
     {
         if self.is_wide() { 2 } else { 1 }
     }
 
     /// The byte that stands for it.
-    pub fn byte(self) -> u8
+    pub(crate) fn byte(self) -> u8
         ensures { result ≡ opcode_byte self }
     {
         match self {

@@ -1,10 +1,13 @@
 //! Slots: the eight bytes at the front of an instruction.
 
-ghost use Rattle.std.specs.Prelude.{◌≡◌, ◌≤◌, ◌*◌, length};
+ghost use Rattle.std.specs.Prelude.{◌≡◌, ◌<◌, ◌≤◌, ◌*◌, length, IfOk, IfErr};
 ghost use Rattle.bpf_insn.specs.Opcodes.{is_wide, opcode_slots};
 ghost use Rattle.bpf_insn.specs.Registers.{register_at};
-ghost use Rattle.bpf_insn.specs.Reading.{found, unless, slot_at, high_at, op_at, operand_at, kind_at, move_at, alu_insn_at, swap_bits_at, swap_by, form_at, front_at};
-ghost use Rattle.bpf_insn.specs.Encoding.{has_stray_field, slot_of, register_in, immediate_in, offset_of, extended_bits, swapped_bits};
+ghost use Rattle.bpf_insn.specs.Reading.{found, unless, slot_at, high_at, op_at, operand_at, kind_at, move_at};
+ghost use Rattle.bpf_insn.specs.Reading.{alu_insn_at, swap_bits_at, swap_by, form_at};
+ghost use Rattle.bpf_insn.specs.Images.{IsFaultAt, IsFirst};
+ghost use Rattle.bpf_insn.specs.Encoding.{has_stray_field, slot_of, register_in, immediate_in, offset_of};
+ghost use Rattle.bpf_insn.specs.Encoding.{extended_bits, swapped_bits};
 
 use crate::forms::{
     AluOp, Cond, Insn, MovsxKind, Operand, Order, Reg, Size, SwapBits, SxSize, Width,
@@ -37,7 +40,7 @@ impl Slot {
     ghost use Rattle.bpf_insn.specs.Encoding.{slot_bytes, has_stray_field, slot_of};
 
     /// The slot as bytes.
-    pub fn bytes(self) -> [u8; 8]
+    pub(crate) fn bytes(self) -> [u8; 8]
         ensures { result ≡ slot_bytes self }
     {
         let [low_offset, high_offset] = self.offset.to_le_bytes();
@@ -57,7 +60,7 @@ impl Slot {
 
     /// Whether some field holds what it may not.
     #[inline(always)]
-    pub fn has_stray_field(self) -> bool
+    pub(crate) fn has_stray_field(self) -> bool
         ensures { result ≡ has_stray_field self }
     {
         let uses = self.opcode.uses();
@@ -80,7 +83,7 @@ impl Slot {
     }
 
     /// The first slot of an instruction.
-    pub fn of(insn: Insn) -> Slot
+    pub(crate) fn of(insn: Insn) -> Slot
         ensures { result ≡ slot_of insn }
     {
         Slot {
@@ -423,7 +426,8 @@ fn store_reg_insn(size: Size, slot: Slot) -> Insn
     }
 }
 
-/// The instruction of a slot. Each form asks for a clean slot by itself: a test before the match would be compiled to a second match.
+/// The instruction of a slot. Each form asks for a clean slot by itself: a test before the match would be compiled to a
+/// second match.
 fn insn_of(slot: Slot, high: u32) -> Result<Insn, SlotFault>
     ensures { result ≡ unless (has_stray_field slot) SlotFault.NonZeroField (form_at slot.opcode slot high) }
 {
@@ -464,10 +468,11 @@ fn insn_of(slot: Slot, high: u32) -> Result<Insn, SlotFault>
     }
 }
 
-/// The instruction at the front.
-#[tactic(auto, unfolding(crate::specs::Reading::front_at))]
-pub fn front(bytes: &[u8]) -> Result<Insn, SlotFault>
-    ensures { result ≡ front_at bytes.now }
+/// The instruction whose spelling begins the bytes, or the lowest fault that holds there.
+pub(crate) fn front(bytes: &[u8]) -> Result<Insn, SlotFault>
+    requires { 0 < length bytes.now }
+    ensures insn { IfOk result (λ insn. IsFirst bytes.now insn) }
+    ensures fault { IfErr result (λ fault. IsFaultAt fault bytes.now) }
 {
     if bytes.len() < 8 {
         return Err(SlotFault::Truncated);

@@ -1,4 +1,5 @@
-//! Tests of what no contract says: that the definitions are the table that others read, and that calls succeed where there is memory.
+//! Tests of what no contract says: that the definitions are the table that others read, and that calls succeed where
+//! there is memory.
 
 use super::*;
 use std::alloc::{AllocError, Global};
