@@ -21,7 +21,7 @@ use node_env::{Env, Outbox};
 fn begins(program: &Program, slot: u32) -> Result<u32, TrapKind>
     ensures { result ≡ begins program.now slot }
 {
-    match program.insn_at(slot) {
+    match program.at(slot) {
         Some(_) => Ok(slot),
         None => Err(TrapKind::BadJump),
     }
@@ -199,13 +199,13 @@ fn turn(
     ensures comes { Comes (step program.now env.now (state_of state.old memory.old outbox.old.sent)) (state_of state.old memory.old outbox.old.sent) (state_of state.new memory.new outbox.new.sent) result }
     ensures nodes { outbox.new.nodes ≡ outbox.old.nodes }
 {
-    match program.insn_at(state.slot()) {
+    match program.at(state.slot()) {
         None => Turn::Trap(TrapKind::BadJump),
         Some(Insn::Exit) => match result_of_exit(state) {
             Ok(r0) => Turn::Ended(r0),
             Err(kind) => Turn::Trap(kind),
         },
-        Some(insn) => match advance(program, env, &insn, state, memory, outbox) {
+        Some(insn) => match advance(program, env, insn, state, memory, outbox) {
             Ok(()) => Turn::Next,
             Err(kind) => Turn::Trap(kind),
         },

@@ -5,22 +5,34 @@ use node_env::Region;
 /// What a register holds: a number, or a pointer into a region, by its offset from the region's first byte.
 #[derive(Clone, Copy, Debug, PartialEq, Eq)]
 pub enum Word {
+    /// A number.
     Num(u64),
+    /// A pointer: a region and an offset.
     Ptr(Region, u32),
 }
 
 /// Why a state is stuck (docs/MACHINE.md, "Traps"). Of the traps that apply the one of the lowest number is told.
 #[derive(Clone, Copy, Debug, PartialEq, Eq)]
 pub enum TrapKind {
+    /// No instruction begins at the slot to go on to.
     BadJump,
+    /// A call of a number that is no helper's.
     BadHelper,
+    /// A register that the instruction reads isn't set.
     Unset,
+    /// The instruction writes r10.
     FrameWrite,
+    /// A pointer where a number is needed.
     NotNumber,
+    /// A pointer or an access leaves its region.
     OutOfRegion,
+    /// A load of a stack byte that isn't written in this run.
     UnsetByte,
+    /// An argument of a helper is a pointer or too great.
     BadArgument,
+    /// The base of an access is a number.
     NotPointer,
+    /// Exit with a pointer in r0.
     ExitNotNumber,
 }
 
@@ -50,8 +62,11 @@ impl TrapKind {
 /// What one step came to.
 #[derive(Clone, Copy, Debug, PartialEq, Eq)]
 pub enum Turn {
+    /// The run goes on.
     Next,
+    /// The run ended, with r0.
     Ended(u64),
+    /// The state is stuck.
     Trap(TrapKind),
 }
 
