@@ -7,7 +7,7 @@ use Rattle.bpf_insn.specs.declared.forms.Insn.{Insn}
 use Rattle.bpf_insn.specs.Encoding.{slots_taken}
 use Rattle.bpf_insn.specs.Programs.{slots_of, insn_at}
 use Rattle.bpf_insn.proofs.LayoutLaws.{one_or_two, slots_of-cons}
-use Rattle.bpf_asm.specs.Canonical.{canonical_text, found_insns, line_of}
+use Rattle.bpf_asm.specs.Canonical.{canonical_text, found_insns, canonical_line}
 
 abbrev pub insns_before : List Insn → ℕ → List Insn
 insns_before [] slot = []
@@ -57,5 +57,5 @@ pub text_more : (p : List Insn) (k : ℕ) (text more : List ℕ) → text ≡ ca
     → more ≡ canonical_text (insns_before p (k + 1))
 text_more p k text more before e =
     e ∙ ap (λ (t : List ℕ). t ++ canonical_text (found_insns (insn_at p k))) before
-    ∙ sym (flat_map-append (λ insn. line_of insn ++ codes "\n") (insns_before p k) (found_insns (insn_at p k)))
+    ∙ sym (flat_map-append (λ insn. canonical_line insn ++ codes "\n") (insns_before p k) (found_insns (insn_at p k)))
     ∙ ap canonical_text (sym (before_more p k)) ∙ ap (λ (j : ℕ). canonical_text (insns_before p j)) (sym (add-one k))

@@ -21,11 +21,10 @@ use Rattle.bpf_asm.specs.declared.words.Form.TheVariants as forms
 use Rattle.bpf_asm.specs.declared.forms.TheConstants.{FORMS}
 use Rattle.bpf_asm.specs.declared.helpers.Helper.{Helper}
 use Rattle.bpf_asm.specs.declared.helpers.Helper.TheVariants.{Id, Recv, Send, Coin}
-use Rattle.bpf_asm.specs.Canonical as canonical
-use Rattle.bpf_asm.specs.Canonical.{with_sign, source_text, place_text, callee_text, form_in, after_commas, after_word, canonical_text}
+use Rattle.bpf_asm.specs.Canonical.{with_sign, operand_text, address_text, callee_text, form_in, operand_texts, after_commas, after_word, canonical_line, canonical_text}
 use Rattle.bpf_asm.specs.Meaning.{lines_in, is_map, insns_from, places_from, slot_of, before_all, Means}
 use Rattle.bpf_asm.specs.Numbers.{numeral_of, magnitude_of, in_field, wide_of}
-use Rattle.bpf_asm.specs.Operands.{option_both, immediate_of, operand_of, operand_by, helper_of, id_by, wide_number_of, offset_of, place_between, place_of, place_by, target_of, distance, one, two, three, operands_of, operands_by}
+use Rattle.bpf_asm.specs.Operands.{option_both, immediate_of, operand_of, operand_by, helper_of, id_by, wide_number_of, offset_of, address_between, address_of, address_by, target_of, distance, one, two, three, operands_of, operands_by}
 use Rattle.bpf_asm.specs.Pieces.{pieces_of, is_blank, is_word_letter, front_of, rest_of, trimmed, first_of}
 use Rattle.bpf_asm.specs.Statements.{Line, whole, jump_to, source_by, source_behind, ends_word, line_by, line_of}
 use Rattle.bpf_asm.specs.Words.{word_of, register_word, register_by_word, helper_word, helper_by_word, helper_by_number}
@@ -139,11 +138,11 @@ abbrev SourceInRange : Operand → Type 0
 SourceInRange (operands.Imm value) = FitsSigned w32 value
 SourceInRange (operands.Reg src) = Unit {0}
 
-source_operand : (src : Operand) → SourceInRange src → IsOperand (source_text src)
+source_operand : (src : Operand) → SourceInRange src → IsOperand (operand_text src)
 source_operand (operands.Imm value) fits = signed_operand 2147483647 value (omega arith) (within32 value fits)
 source_operand (operands.Reg src) fits = (registers src).operand
 
-source_read : (src : Operand) → SourceInRange src → operand_of (source_text src) ≡ Some src
+source_read : (src : Operand) → SourceInRange src → operand_of (operand_text src) ≡ Some src
 source_read (operands.Imm value) fits =
     ap (λ o. operand_by o (signed_decimal value)) (no_register 2147483647 value (omega arith) (within32 value fits))
     ∙ ap (option_map operands.Imm) (immediate_read value fits)
@@ -181,8 +180,8 @@ sign_open : (z : ℤ) → Within 32767 z → IsPlain (λ c. c == 93) (with_sign 
 sign_open (pos n) within = plain-append (λ c. c == 93) (43 ∷ []) (decimal n) refl (decimal_plain (λ c. c == 93) (no_digit 93 (inr (omega arith))) n (omega arith))
 sign_open (negsuc n) within = plain-append (λ c. c == 93) (45 ∷ []) (decimal (suc n)) refl (decimal_plain (λ c. c == 93) (no_digit 93 (inr (omega arith))) (suc n) (omega arith))
 
-place_read : (base : Reg) (off : ℤ) → FitsSigned w16 off → place_of (place_text base off) ≡ Some (record { base = base; off = off })
-place_read base off fits =
+address_read : (base : Reg) (off : ℤ) → FitsSigned w16 off → address_of (address_text base off) ≡ Some (record { base = base; off = off })
+address_read base off fits =
     let within = within16 off fits in
     let r = registers base in
     let word = register_word base in
@@ -191,14 +190,14 @@ place_read base off fits =
     ap (pieces_of (λ c. c == 93)) (sym (append_assoc word sign (93 ∷ [])))
     ∙ piece-mark (λ c. c == 93) (word ++ sign) 93 [] (plain-append (λ c. c == 93) word sign r.closing (sign_open off within)) refl in
     let ends = sign_ends off in
-    ap place_between inside
-    ∙ ap (λ w. option_map place_by (option_both (register_by_word w) (offset_of (rest_of is_word_letter (word ++ sign))))) (front_before is_word_letter word sign r.letters ends.0)
-    ∙ ap (λ o. option_map place_by (option_both (register_by_word word) (offset_of o))) (rest_behind is_word_letter word sign r.letters ends.1)
-    ∙ ap (λ o. option_map place_by (option_both o (offset_of sign))) (register_named base)
-    ∙ ap (λ o. option_map place_by (option_both (Some base) o)) (offset_read off within)
+    ap address_between inside
+    ∙ ap (λ w. option_map address_by (option_both (register_by_word w) (offset_of (rest_of is_word_letter (word ++ sign))))) (front_before is_word_letter word sign r.letters ends.0)
+    ∙ ap (λ o. option_map address_by (option_both (register_by_word word) (offset_of o))) (rest_behind is_word_letter word sign r.letters ends.1)
+    ∙ ap (λ o. option_map address_by (option_both o (offset_of sign))) (register_named base)
+    ∙ ap (λ o. option_map address_by (option_both (Some base) o)) (offset_read off within)
 
-place_operand : (base : Reg) (off : ℤ) → FitsSigned w16 off → IsOperand (place_text base off)
-place_operand base off fits =
+address_operand : (base : Reg) (off : ℤ) → FitsSigned w16 off → IsOperand (address_text base off)
+address_operand base off fits =
     let r = (registers base).operand in
     let s = sign_operand 32767 off (omega arith) (within16 off fits) in
     behind_letter 91 (register_word base ++ (with_sign off ++ (93 ∷ []))) (record { comma = refl; blank = refl; line = refl; hash = refl }) (record {
@@ -238,20 +237,20 @@ both_read x y a b first second = ap (λ o. option_both o y) first ∙ ap (option
 -- ---- each form
 
 abbrev InsnReads : Insn → Type 0
-InsnReads i = source_by (form_in i) (operands_of (after_word (canonical.operands_of i))) ≡ Some (whole i)
+InsnReads i = source_by (form_in i) (operands_of (after_word (operand_texts i))) ≡ Some (whole i)
 
 branch_reads : (cond : _) (width : _) (dst : Reg) (src : Operand) (off : ℤ) → SourceInRange src → FitsSigned w16 off → InsnReads (insn.Branch cond width dst src off)
 branch_reads cond width dst src off in_range fits =
-    ap (source_by (forms.Branch cond width)) (operands_three (register_word dst) (source_text src) (with_sign off) (registers dst).operand (source_operand src in_range) (sign_operand 32767 off (omega arith) (within16 off fits)))
+    ap (source_by (forms.Branch cond width)) (operands_three (register_word dst) (operand_text src) (with_sign off) (registers dst).operand (source_operand src in_range) (sign_operand 32767 off (omega arith) (within16 off fits)))
     ∙ ap (option_map (λ x. jump_to (insn.Branch cond width x.0 x.1.0) x.1.1))
-    (both_read (register_by_word (register_word dst)) (option_both (operand_of (source_text src)) (target_of 32767 (with_sign off))) dst (src, distance off) (register_named dst)
-    (both_read (operand_of (source_text src)) (target_of 32767 (with_sign off)) src (distance off) (source_read src in_range) (target_read 32767 off (omega arith) (within16 off fits))))
+    (both_read (register_by_word (register_word dst)) (option_both (operand_of (operand_text src)) (target_of 32767 (with_sign off))) dst (src, distance off) (register_named dst)
+    (both_read (operand_of (operand_text src)) (target_of 32767 (with_sign off)) src (distance off) (source_read src in_range) (target_read 32767 off (omega arith) (within16 off fits))))
 
 alu_reads : (op : _) (width : _) (dst : Reg) (src : Operand) → SourceInRange src → InsnReads (insn.Alu op width dst src)
 alu_reads op width dst src in_range =
-    ap (source_by (forms.Alu op width)) (operands_two (register_word dst) (source_text src) (registers dst).operand (source_operand src in_range))
+    ap (source_by (forms.Alu op width)) (operands_two (register_word dst) (operand_text src) (registers dst).operand (source_operand src in_range))
     ∙ ap (option_map (λ x. whole (insn.Alu op width x.0 x.1)))
-    (both_read (register_by_word (register_word dst)) (operand_of (source_text src)) dst src (register_named dst) (source_read src in_range))
+    (both_read (register_by_word (register_word dst)) (operand_of (operand_text src)) dst src (register_named dst) (source_read src in_range))
 
 insn_reads : (i : Insn) → InRange i → InsnReads i
 insn_reads (insn.Alu op width dst (operands.Imm value)) fits = alu_reads op width dst (operands.Imm value) fits
@@ -277,21 +276,21 @@ insn_reads (insn.Call id) fits =
     ∙ ap (option_map (λ n. whole (insn.Call n))) (callee_read id fits (helper_by_number id) refl)
 insn_reads insn.Exit fits = refl
 insn_reads (insn.Load size dst base off) fits =
-    ap (source_by (forms.Load size)) (operands_two (register_word dst) (place_text base off) (registers dst).operand (place_operand base off fits))
+    ap (source_by (forms.Load size)) (operands_two (register_word dst) (address_text base off) (registers dst).operand (address_operand base off fits))
     ∙ ap (option_map (λ x. whole (insn.Load size x.0 x.1.base x.1.off)))
-    (both_read (register_by_word (register_word dst)) (place_of (place_text base off)) dst (record { base = base; off = off }) (register_named dst) (place_read base off fits))
+    (both_read (register_by_word (register_word dst)) (address_of (address_text base off)) dst (record { base = base; off = off }) (register_named dst) (address_read base off fits))
 insn_reads (insn.LoadSx size dst base off) fits =
-    ap (source_by (forms.LoadSx size)) (operands_two (register_word dst) (place_text base off) (registers dst).operand (place_operand base off fits))
+    ap (source_by (forms.LoadSx size)) (operands_two (register_word dst) (address_text base off) (registers dst).operand (address_operand base off fits))
     ∙ ap (option_map (λ x. whole (insn.LoadSx size x.0 x.1.base x.1.off)))
-    (both_read (register_by_word (register_word dst)) (place_of (place_text base off)) dst (record { base = base; off = off }) (register_named dst) (place_read base off fits))
+    (both_read (register_by_word (register_word dst)) (address_of (address_text base off)) dst (record { base = base; off = off }) (register_named dst) (address_read base off fits))
 insn_reads (insn.StoreReg size base off src) fits =
-    ap (source_by (forms.StoreReg size)) (operands_two (place_text base off) (register_word src) (place_operand base off fits) (registers src).operand)
+    ap (source_by (forms.StoreReg size)) (operands_two (address_text base off) (register_word src) (address_operand base off fits) (registers src).operand)
     ∙ ap (option_map (λ x. whole (insn.StoreReg size x.0.base x.0.off x.1)))
-    (both_read (place_of (place_text base off)) (register_by_word (register_word src)) (record { base = base; off = off }) src (place_read base off fits) (register_named src))
+    (both_read (address_of (address_text base off)) (register_by_word (register_word src)) (record { base = base; off = off }) src (address_read base off fits) (register_named src))
 insn_reads (insn.StoreImm size base off imm) fits =
-    ap (source_by (forms.StoreImm size)) (operands_two (place_text base off) (signed_decimal imm) (place_operand base off fits.0) (signed_operand 2147483647 imm (omega arith) (within32 imm fits.1)))
+    ap (source_by (forms.StoreImm size)) (operands_two (address_text base off) (signed_decimal imm) (address_operand base off fits.0) (signed_operand 2147483647 imm (omega arith) (within32 imm fits.1)))
     ∙ ap (option_map (λ x. whole (insn.StoreImm size x.0.base x.0.off x.1)))
-    (both_read (place_of (place_text base off)) (immediate_of (signed_decimal imm)) (record { base = base; off = off }) imm (place_read base off fits.0) (immediate_read imm fits.1))
+    (both_read (address_of (address_text base off)) (immediate_of (signed_decimal imm)) (record { base = base; off = off }) imm (address_read base off fits.0) (immediate_read imm fits.1))
 insn_reads (insn.LoadImm64 dst value) small =
     ap (source_by forms.LoadImm64) (operands_two (register_word dst) (decimal value) (registers dst).operand (decimal_operand value small))
     ∙ ap (option_map (λ x. whole (insn.LoadImm64 x.0 x.1)))
@@ -347,7 +346,7 @@ abbrev AllOperands : List (List ℕ) → Type 0
 AllOperands [] = Unit {0}
 AllOperands (o ∷ os) = IsOperand o × AllOperands os
 
-insn_operands : (i : Insn) → InRange i → AllOperands (canonical.operands_of i)
+insn_operands : (i : Insn) → InRange i → AllOperands (operand_texts i)
 insn_operands (insn.Alu op width dst (operands.Imm value)) fits = ((registers dst).operand, (source_operand (operands.Imm value) fits, tt))
 insn_operands (insn.Alu op width dst (operands.Reg src)) fits = ((registers dst).operand, ((registers src).operand, tt))
 insn_operands (insn.Neg width dst) fits = ((registers dst).operand, tt)
@@ -361,10 +360,10 @@ insn_operands (insn.Branch cond width dst (operands.Reg src) off) fits =
     ((registers dst).operand, ((registers src).operand, (sign_operand 32767 off (omega arith) (within16 off fits), tt)))
 insn_operands (insn.Call id) fits = (callee_operand id fits (helper_by_number id), tt)
 insn_operands insn.Exit fits = tt
-insn_operands (insn.Load size dst base off) fits = ((registers dst).operand, (place_operand base off fits, tt))
-insn_operands (insn.LoadSx size dst base off) fits = ((registers dst).operand, (place_operand base off fits, tt))
-insn_operands (insn.StoreReg size base off src) fits = (place_operand base off fits, ((registers src).operand, tt))
-insn_operands (insn.StoreImm size base off imm) fits = (place_operand base off fits.0, (signed_operand 2147483647 imm (omega arith) (within32 imm fits.1), tt))
+insn_operands (insn.Load size dst base off) fits = ((registers dst).operand, (address_operand base off fits, tt))
+insn_operands (insn.LoadSx size dst base off) fits = ((registers dst).operand, (address_operand base off fits, tt))
+insn_operands (insn.StoreReg size base off src) fits = (address_operand base off fits, ((registers src).operand, tt))
+insn_operands (insn.StoreImm size base off imm) fits = (address_operand base off fits.0, (signed_operand 2147483647 imm (omega arith) (within32 imm fits.1), tt))
 insn_operands (insn.LoadImm64 dst value) small = ((registers dst).operand, (decimal_operand value small, tt))
 
 plain_after_commas : (marks : ℕ → Bool) → IsPlain marks (codes ", ") → ((o : List ℕ) → IsOperand o → IsPlain marks o)
@@ -406,10 +405,10 @@ no_blank_first (c ∷ cs) rest some plain = by_test (is_blank c) (both_hold (not
 abbrev line_for : Insn → Line
 line_for i = record { name = None; source = Some (Some (whole i)) }
 
-line_means : (i : Insn) → InRange i → line_of (canonical.line_of i) ≡ line_for i
+line_means : (i : Insn) → InRange i → line_of (canonical_line i) ≡ line_for i
 line_means i in_range =
     let word = word_of (form_in i) in
-    let os = canonical.operands_of i in
+    let os = operand_texts i in
     let rest = after_word os in
     let w = words (form_in i) in
     let f = follows word os in
@@ -424,10 +423,10 @@ line_means i in_range =
     (sym (front_before is_word_letter word rest w.letters f.front))
     (sym (rest_behind is_word_letter word rest w.letters f.behind)) line)
 
-line_unbroken : (i : Insn) → InRange i → IsPlain (λ c. c == 10) (canonical.line_of i)
+line_unbroken : (i : Insn) → InRange i → IsPlain (λ c. c == 10) (canonical_line i)
 line_unbroken i in_range =
-    plain-append (λ c. c == 10) (word_of (form_in i)) (after_word (canonical.operands_of i)) (words (form_in i)).line
-    (plain_after_word (λ c. c == 10) refl refl (λ o operand. operand.line) (canonical.operands_of i) (insn_operands i in_range))
+    plain-append (λ c. c == 10) (word_of (form_in i)) (after_word (operand_texts i)) (words (form_in i)).line
+    (plain_after_word (λ c. c == 10) refl refl (λ o operand. operand.line) (operand_texts i) (insn_operands i in_range))
 
 -- ---- programs
 
@@ -438,7 +437,7 @@ lines_for (i ∷ is) = line_for i ∷ lines_for is
 lines_read : (is : List Insn) → AllByRecursion InRange is → lines_in (canonical_text is) ≡ lines_for is
 lines_read [] all = refl
 lines_read (i ∷ is) all =
-    let line = canonical.line_of i in
+    let line = canonical_line i in
     let rest = canonical_text is in
     ap lines_in (append_assoc line (10 ∷ []) rest) ∙ ap (map line_of) (piece-mark (λ c. c == 10) line 10 rest (line_unbroken i all.0) refl)
     ∙ ap (λ l. l ∷ lines_in rest) (line_means i all.0) ∙ ap (λ ls. line_for i ∷ ls) (lines_read is all.1)

@@ -6,7 +6,7 @@ use Rattle.std.specs.Option.{option_and_then}
 use Rattle.bpf_asm.specs.declared.numbers.Number.{Number}
 use Rattle.bpf_asm.specs.Numbers.{Written, CountsSigned, in_field, wide_of}
 use Rattle.bpf_asm.specs.Pieces.{pieces_of, pieces_left, prepend, trimmed}
-use Rattle.bpf_asm.specs.Operands.{operands_of, operands_by, parts_of, one, two, three, more, place_between, place_inside}
+use Rattle.bpf_asm.specs.Operands.{operands_of, operands_by, parts_of, one, two, three, more, address_between, address_inside}
 
 -- the number that the code has decides what is read of the text
 pub reads_by : {A : Type 0} (read : Written → Option A) (w : Option Written) (n : Number) (r : Option A)
@@ -60,40 +60,40 @@ more_parts a b text c rest pieces = ap (λ l. operands_by (a ∷ b ∷ map trimm
 
 -- ---- what stands between brackets
 
-pub place_closed : (text inside after : List ℕ) → pieces_of (λ d. d == 93) text ≡ inside ∷ pieces_of (λ d. d == 93) after → after ≡ []
-    → place_between (pieces_of (λ d. d == 93) text) ≡ place_inside inside
-place_closed text inside after pieces nothing = ap place_between pieces ∙ ap (λ l. place_between (inside ∷ pieces_of (λ d. d == 93) l)) nothing
+pub address_closed : (text inside after : List ℕ) → pieces_of (λ d. d == 93) text ≡ inside ∷ pieces_of (λ d. d == 93) after → after ≡ []
+    → address_between (pieces_of (λ d. d == 93) text) ≡ address_inside inside
+address_closed text inside after pieces nothing = ap address_between pieces ∙ ap (λ l. address_between (inside ∷ pieces_of (λ d. d == 93) l)) nothing
 
-pub place_open : (text inside : List ℕ) → pieces_of (λ d. d == 93) text ≡ inside ∷ [] → place_between (pieces_of (λ d. d == 93) text) ≡ None
-place_open text inside pieces = ap place_between pieces
+pub address_open : (text inside : List ℕ) → pieces_of (λ d. d == 93) text ≡ inside ∷ [] → address_between (pieces_of (λ d. d == 93) text) ≡ None
+address_open text inside pieces = ap address_between pieces
 
-third_piece : (parts : ℕ → Bool) (inside text : List ℕ) → place_between (inside ∷ [] ∷ pieces_of parts text) ≡ None
+third_piece : (parts : ℕ → Bool) (inside text : List ℕ) → address_between (inside ∷ [] ∷ pieces_of parts text) ≡ None
 third_piece parts inside [] = refl
 third_piece parts inside (d ∷ ds) = branch (parts d)
   where
-    filled : (ps : List (List ℕ)) → place_between (inside ∷ [] ∷ prepend (d ∷ []) ps) ≡ None
+    filled : (ps : List (List ℕ)) → address_between (inside ∷ [] ∷ prepend (d ∷ []) ps) ≡ None
     filled [] = refl
     filled (p ∷ ps) = refl
 
-    branch : (t : Bool) → place_between (inside ∷ [] ∷ cond t ([] ∷ pieces_of parts ds) (prepend (d ∷ []) (pieces_of parts ds))) ≡ None
+    branch : (t : Bool) → address_between (inside ∷ [] ∷ cond t ([] ∷ pieces_of parts ds) (prepend (d ∷ []) (pieces_of parts ds))) ≡ None
     branch true = refl
     branch false = filled (pieces_of parts ds)
 
-more_behind : (parts : ℕ → Bool) (inside after : List ℕ) → 0 < length after → place_between (inside ∷ pieces_of parts after) ≡ None
+more_behind : (parts : ℕ → Bool) (inside after : List ℕ) → 0 < length after → address_between (inside ∷ pieces_of parts after) ≡ None
 more_behind parts inside [] some = absurd (omega arith)
 more_behind parts inside (d ∷ ds) some = branch (parts d)
   where
-    filled : (ps : List (List ℕ)) → place_between (inside ∷ prepend (d ∷ []) ps) ≡ None
+    filled : (ps : List (List ℕ)) → address_between (inside ∷ prepend (d ∷ []) ps) ≡ None
     filled [] = refl
     filled (p ∷ ps) = refl
 
-    branch : (t : Bool) → place_between (inside ∷ cond t ([] ∷ pieces_of parts ds) (prepend (d ∷ []) (pieces_of parts ds))) ≡ None
+    branch : (t : Bool) → address_between (inside ∷ cond t ([] ∷ pieces_of parts ds) (prepend (d ∷ []) (pieces_of parts ds))) ≡ None
     branch true = third_piece parts inside ds
     branch false = filled (pieces_of parts ds)
 
-pub place_goes_on : (text inside after : List ℕ) → pieces_of (λ d. d == 93) text ≡ inside ∷ pieces_of (λ d. d == 93) after → 0 < length after
-    → place_between (pieces_of (λ d. d == 93) text) ≡ None
-place_goes_on text inside after pieces some = ap place_between pieces ∙ more_behind (λ d. d == 93) inside after some
+pub address_goes_on : (text inside after : List ℕ) → pieces_of (λ d. d == 93) text ≡ inside ∷ pieces_of (λ d. d == 93) after → 0 < length after
+    → address_between (pieces_of (λ d. d == 93) text) ≡ None
+address_goes_on text inside after pieces some = ap address_between pieces ∙ more_behind (λ d. d == 93) inside after some
 
 -- what a call says of the pieces where the mark is there
 pub behind_mark : (mark : ℕ) (text a : List ℕ) (left : Option (Bor (List ℕ))) (rest : Bor (List ℕ))

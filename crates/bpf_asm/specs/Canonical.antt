@@ -21,13 +21,13 @@ with_sign (pos n) = codes "+" ++ decimal n
 with_sign (negsuc n) = codes "-" ++ decimal (suc n)
 
 -- a register or an immediate
-abbrev pub source_text : Operand → List ℕ
-source_text (operands.Reg src) = register_word src
-source_text (operands.Imm imm) = signed_decimal imm
+abbrev pub operand_text : Operand → List ℕ
+operand_text (operands.Reg src) = register_word src
+operand_text (operands.Imm imm) = signed_decimal imm
 
--- the place that a load or a store names
-abbrev pub place_text : Reg → ℤ → List ℕ
-place_text base off = codes "[" ++ (register_word base ++ (with_sign off ++ codes "]"))
+-- the address of a load or a store
+abbrev pub address_text : Reg → ℤ → List ℕ
+address_text base off = codes "[" ++ (register_word base ++ (with_sign off ++ codes "]"))
 
 -- a helper's word, and the number of a call that has none
 abbrev pub callee_text : ℤ → Option Helper → List ℕ
@@ -54,21 +54,21 @@ form_in (insns.StoreImm size base off imm) = forms.StoreImm size
 form_in (insns.LoadImm64 dst value) = forms.LoadImm64
 
 -- its operands in order, as they are written
-abbrev pub operands_of : Insn → List (List ℕ)
-operands_of (insns.Alu op width dst src) = register_word dst ∷ source_text src ∷ []
-operands_of (insns.Neg width dst) = register_word dst ∷ []
-operands_of (insns.Movsx kind dst src) = register_word dst ∷ register_word src ∷ []
-operands_of (insns.Swap order bits dst) = register_word dst ∷ []
-operands_of (insns.Ja off) = with_sign off ∷ []
-operands_of (insns.JaLong off) = with_sign off ∷ []
-operands_of (insns.Branch cond width dst src off) = register_word dst ∷ source_text src ∷ with_sign off ∷ []
-operands_of (insns.Call id) = callee_text id (helper_by_number id) ∷ []
-operands_of insns.Exit = []
-operands_of (insns.Load size dst base off) = register_word dst ∷ place_text base off ∷ []
-operands_of (insns.LoadSx size dst base off) = register_word dst ∷ place_text base off ∷ []
-operands_of (insns.StoreReg size base off src) = place_text base off ∷ register_word src ∷ []
-operands_of (insns.StoreImm size base off imm) = place_text base off ∷ signed_decimal imm ∷ []
-operands_of (insns.LoadImm64 dst value) = register_word dst ∷ decimal value ∷ []
+abbrev pub operand_texts : Insn → List (List ℕ)
+operand_texts (insns.Alu op width dst src) = register_word dst ∷ operand_text src ∷ []
+operand_texts (insns.Neg width dst) = register_word dst ∷ []
+operand_texts (insns.Movsx kind dst src) = register_word dst ∷ register_word src ∷ []
+operand_texts (insns.Swap order bits dst) = register_word dst ∷ []
+operand_texts (insns.Ja off) = with_sign off ∷ []
+operand_texts (insns.JaLong off) = with_sign off ∷ []
+operand_texts (insns.Branch cond width dst src off) = register_word dst ∷ operand_text src ∷ with_sign off ∷ []
+operand_texts (insns.Call id) = callee_text id (helper_by_number id) ∷ []
+operand_texts insns.Exit = []
+operand_texts (insns.Load size dst base off) = register_word dst ∷ address_text base off ∷ []
+operand_texts (insns.LoadSx size dst base off) = register_word dst ∷ address_text base off ∷ []
+operand_texts (insns.StoreReg size base off src) = address_text base off ∷ register_word src ∷ []
+operand_texts (insns.StoreImm size base off imm) = address_text base off ∷ signed_decimal imm ∷ []
+operand_texts (insns.LoadImm64 dst value) = register_word dst ∷ decimal value ∷ []
 
 -- ---- lines
 
@@ -84,12 +84,12 @@ after_word [] = []
 after_word (operand ∷ []) = codes " " ++ operand
 after_word (operand ∷ rest) = codes " " ++ (operand ++ after_commas rest)
 
-abbrev pub line_of : Insn → List ℕ
-line_of insn = word_of (form_in insn) ++ after_word (operands_of insn)
+abbrev pub canonical_line : Insn → List ℕ
+canonical_line insn = word_of (form_in insn) ++ after_word (operand_texts insn)
 
 -- one instruction a line
 abbrev pub canonical_text : List Insn → List ℕ
-canonical_text program = flat_map (λ insn. line_of insn ++ codes "\n") program
+canonical_text program = flat_map (λ insn. canonical_line insn ++ codes "\n") program
 
 -- what is found at a slot, as a list: nothing at a second slot
 abbrev pub found_insns : Option Insn → List Insn

@@ -3,7 +3,8 @@ use Rattle.std.specs.Borrow.{Bor}
 use Rattle.std.specs.BTreeMap.{get_by}
 use Rattle.std.specs.Cmp.Lexicographic.{slice_cmp}
 use Rattle.std.specs.Ordering.{nat_cmp}
-use Rattle.std.specs.Prelude.{◌≡◌, ◌<◌, ◌≤◌, ◌⊎◌, ◌≢◌, nat_le, is_none, Result, Ok, Err, ℕ, ℤ, pos, ◌-ℤ◌, ◌+◌, ◌∷◌, ◌++◌, ◌&&◌, not, Bool, true, List, [], map, Option, Some, None, option_map, if◌then◌else◌}
+use Rattle.std.specs.Prelude.{◌≡◌, ◌<◌, ◌≤◌, ◌⊎◌, ◌≢◌, nat_le, is_none, Result, Ok, Err, ℕ, ℤ, pos, ◌-ℤ◌, ◌+◌, ◌∷◌}
+use Rattle.std.specs.Prelude.{◌++◌, ◌&&◌, not, Bool, true, List, [], map, Option, Some, None, option_map, if◌then◌else◌}
 use Rattle.std.specs.List.{list_any}
 use Rattle.std.specs.Str.{bytes_eq}
 use Rattle.bpf_insn.specs.declared.forms.Insn.{Insn}
@@ -62,7 +63,8 @@ with_distance off insn = insn
 -- the instruction at a slot, by the slots of the labels; a distance counts from the slot after it
 abbrev pub insn_to : (List ℕ → Option ℕ) → ℕ → Insn → Option (List ℕ) → Option Insn
 insn_to slots slot insn None = Some insn
-insn_to slots slot insn (Some name) = option_map (λ target. with_distance (pos target -ℤ pos (slot + 1)) insn) (slots name)
+insn_to slots slot insn (Some name) =
+    option_map (λ target. with_distance (pos target -ℤ pos (slot + 1)) insn) (slots name)
 
 abbrev pub insn_by : (List ℕ → Option ℕ) → ℕ → Source → Option Insn
 insn_by slots slot source = insn_to slots slot source.insn source.label
@@ -80,7 +82,8 @@ insns_before slots slot (Some (Some source)) later = before_all (insn_by slots s
 -- the instructions of lines from a slot on
 abbrev pub insns_from : (List ℕ → Option ℕ) → ℕ → List Line → Option (List Insn)
 insns_from slots slot [] = Some []
-insns_from slots slot (line ∷ lines) = insns_before slots slot line.source (insns_from slots (slot + slots_in line.source) lines)
+insns_from slots slot (line ∷ lines) =
+    insns_before slots slot line.source (insns_from slots (slot + slots_in line.source) lines)
 
 -- the instructions of a text
 abbrev pub insns_of : List ℕ → Option (List Insn)
@@ -126,12 +129,14 @@ Near slots = (name : List ℕ) (slot : ℕ) → slots name ≡ Some slot → slo
 
 -- what the code has of a line at a slot: its instruction, or why the lines mean no program
 abbrev pub Resolves : Labels → ℕ → Option (Option Source) → Result (Option Insn) TextError → Type 0
-Resolves labels slot source (Ok None) = ((later : Option (List Insn)) → insns_before (known labels) slot source later ≡ later) × (slots_in source ≡ 0)
+Resolves labels slot source (Ok None) =
+    ((later : Option (List Insn)) → insns_before (known labels) slot source later ≡ later) × (slots_in source ≡ 0)
 Resolves labels slot source (Ok (Some insn)) =
     ((later : Option (List Insn)) → insns_before (known labels) slot source later ≡ before_all (Some insn) later)
     × (slots_in source ≡ slots_taken insn) × (slot + slots_taken insn ≤ MAX_SLOTS)
 Resolves labels slot source (Err error) =
-    ((later : Option (List Insn)) → insns_before (known labels) slot source later ≡ None) ⊎ (MAX_SLOTS < slot + slots_in source)
+    ((later : Option (List Insn)) → insns_before (known labels) slot source later ≡ None)
+    ⊎ (MAX_SLOTS < slot + slots_in source)
 
 abbrev pub insns_found : Option Insn → List Insn
 insns_found None = []
@@ -143,4 +148,5 @@ slots_found (Some insn) = slots_taken insn
 
 -- a refusal, but for want of memory: the lines have no instructions, or too many
 abbrev pub Refuses : (List ℕ → Option ℕ) → List Line → TextError → Type 0
-Refuses slots lines error = error ≢ errors.Memory → (insns_from slots 0 lines ≡ None) ⊎ (MAX_SLOTS < slots_of_lines lines)
+Refuses slots lines error =
+    error ≢ errors.Memory → (insns_from slots 0 lines ≡ None) ⊎ (MAX_SLOTS < slots_of_lines lines)

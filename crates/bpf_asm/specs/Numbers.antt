@@ -1,5 +1,7 @@
--- Numbers of the text (docs/ASSEMBLER.md, "Numbers"): an optional "-", then decimal digits, or "0x" and hexadecimal digits.
-use Rattle.std.specs.Prelude.{◌≡◌, ◌≤◌, ◌^◌, ℕ, ℤ, pos, neg_ℤ, ◌+◌, ◌-◌, ◌%◌, ◌==◌, ◌&&◌, Bool, true, false, List, [], ◌∷◌, length, nat_lt, nat_le, Option, Some, None, option_map, if◌then◌else◌}
+-- Numbers of the text (docs/ASSEMBLER.md, "Numbers"): an optional "-", then decimal digits, or "0x" and hexadecimal
+-- digits.
+use Rattle.std.specs.Prelude.{◌≡◌, ◌≤◌, ◌^◌, ℕ, ℤ, pos, neg_ℤ, ◌+◌, ◌-◌, ◌%◌, ◌==◌, ◌&&◌, Bool, true, false, List, []}
+use Rattle.std.specs.Prelude.{◌∷◌, length, nat_lt, nat_le, Option, Some, None, option_map, if◌then◌else◌}
 use Rattle.std.specs.List.{list_all}
 use Rattle.std.specs.Char.{digit_value}
 use Rattle.std.specs.Str.Parse.{digits_value}
@@ -31,7 +33,8 @@ written below_zero size = record { below_zero = below_zero; size = size }
 -- the number that a text writes: 45 is "-"
 abbrev pub number_of : List ℕ → Option Written
 number_of [] = None
-number_of (c ∷ cs) = if c == 45 then option_map (written true) (magnitude_of cs) else option_map (written false) (magnitude_of (c ∷ cs))
+number_of (c ∷ cs) =
+    if c == 45 then option_map (written true) (magnitude_of cs) else option_map (written false) (magnitude_of (c ∷ cs))
 
 -- the number that stands behind its sign, "+" (43) or "-"
 abbrev pub signed_number_of : (List ℕ → Option ℕ) → List ℕ → Option Written

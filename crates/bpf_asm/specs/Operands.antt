@@ -1,5 +1,6 @@
 -- The operands of instructions (docs/ASSEMBLER.md, "Operands").
-use Rattle.std.specs.Prelude.{ℕ, ℤ, pos, neg_ℤ, ◌+◌, ◌≤ℤ◌, ◌≡◌, ◌==◌, ◌||◌, ◌&&◌, Bool, false, List, [], ◌∷◌, length, nat_le, Option, Some, None, option_map, map, Result, Ok, Err, if◌then◌else◌}
+use Rattle.std.specs.Prelude.{ℕ, ℤ, pos, neg_ℤ, ◌+◌, ◌≤ℤ◌, ◌≡◌, ◌==◌, ◌||◌, ◌&&◌, Bool, false, List, [], ◌∷◌, length}
+use Rattle.std.specs.Prelude.{nat_le, Option, Some, None, option_map, map, Result, Ok, Err, if◌then◌else◌}
 use Rattle.std.specs.Option.{option_and_then}
 use Rattle.std.specs.List.{list_all}
 use Rattle.bpf_insn.specs.declared.forms.Reg as registers
@@ -8,7 +9,7 @@ use Rattle.bpf_insn.specs.declared.forms.Operand.TheVariants.{Imm, Reg}
 use Rattle.bpf_asm.specs.declared.helpers.Helper.{Helper}
 use Rattle.bpf_asm.specs.declared.numbers.TheConstants.{GREATEST_IMMEDIATE, GREATEST_OFFSET}
 use Rattle.bpf_asm.specs.declared.operands.TheConstants.{NAME_LETTERS}
-use Rattle.bpf_asm.specs.declared.operands.Place.{Place}
+use Rattle.bpf_asm.specs.declared.operands.Address.{Address}
 use Rattle.bpf_asm.specs.declared.operands.Target as code
 use Rattle.bpf_asm.specs.declared.operands.Parts.{Parts}
 use Rattle.bpf_asm.specs.declared.operands.Parts.TheVariants as code_parts
@@ -50,20 +51,22 @@ abbrev pub offset_of : List ℕ → Option ℤ
 offset_of [] = Some (pos 0)
 offset_of (c ∷ cs) = option_and_then (in_field GREATEST_OFFSET) (signed_number_of magnitude_of (c ∷ cs))
 
-abbrev pub place_by : registers.Reg × ℤ → Place
-place_by parts = record { base = parts.0; off = parts.1 }
+abbrev pub address_by : registers.Reg × ℤ → Address
+address_by parts = record { base = parts.0; off = parts.1 }
 
 -- what stands between "[" (91) and "]" (93): a register and its offset, with no blank
-abbrev pub place_inside : List ℕ → Option Place
-place_inside inside = option_map place_by (option_both (register_by_word (front_of is_word_letter inside)) (offset_of (rest_of is_word_letter inside)))
+abbrev pub address_inside : List ℕ → Option Address
+address_inside inside =
+    option_map address_by
+    (option_both (register_by_word (front_of is_word_letter inside)) (offset_of (rest_of is_word_letter inside)))
 
-abbrev pub place_between : List (List ℕ) → Option Place
-place_between (inside ∷ [] ∷ []) = place_inside inside
-place_between _ = None
+abbrev pub address_between : List (List ℕ) → Option Address
+address_between (inside ∷ [] ∷ []) = address_inside inside
+address_between _ = None
 
-abbrev pub place_of : List ℕ → Option Place
-place_of [] = None
-place_of (c ∷ cs) = if c == 91 then place_between (pieces_of (λ d. d == 93) cs) else None
+abbrev pub address_of : List ℕ → Option Address
+address_of [] = None
+address_of (c ∷ cs) = if c == 91 then address_between (pieces_of (λ d. d == 93) cs) else None
 
 abbrev pub starts_name : List ℕ → Bool
 starts_name [] = false
@@ -82,7 +85,8 @@ pub data Target : Type 0 where
 abbrev pub target_of : ℕ → List ℕ → Option Target
 target_of most [] = None
 target_of most (c ∷ cs) =
-    if (c == 43) || (c == 45) then option_map distance (option_and_then (in_field most) (signed_number_of (numeral_of 10) (c ∷ cs))) else
+    if (c == 43) || (c == 45)
+    then option_map distance (option_and_then (in_field most) (signed_number_of (numeral_of 10) (c ∷ cs))) else
     if is_name (c ∷ cs) then Some (label (c ∷ cs)) else None
 
 -- ---- the operands of an instruction, parted by commas (44), with blanks around each

@@ -1,6 +1,7 @@
 -- What one line says (docs/ASSEMBLER.md, "Lines").
 use Rattle.std.specs.Borrow.{Bor}
-use Rattle.std.specs.Prelude.{◌≡◌, ℕ, ℤ, pos, ◌==◌, ◌||◌, Bool, true, List, [], ◌∷◌, Option, Some, None, option_map, Result, Ok, Err, if◌then◌else◌}
+use Rattle.std.specs.Prelude.{◌≡◌, ℕ, ℤ, pos, ◌==◌, ◌||◌, Bool, true, List, [], ◌∷◌, Option, Some, None, option_map}
+use Rattle.std.specs.Prelude.{Result, Ok, Err, if◌then◌else◌}
 use Rattle.std.specs.Option.{option_and_then}
 use Rattle.bpf_insn.specs.declared.forms.Reg.{Reg}
 use Rattle.bpf_insn.specs.declared.forms.Operand.{Operand}
@@ -11,8 +12,11 @@ use Rattle.bpf_asm.specs.declared.statements.Line as code_line
 use Rattle.bpf_asm.specs.declared.numbers.TheConstants.{GREATEST_IMMEDIATE, GREATEST_OFFSET}
 use Rattle.bpf_asm.specs.declared.operands.Target as code
 use Rattle.bpf_asm.specs.declared.words.Form.{Form}
-use Rattle.bpf_asm.specs.declared.words.Form.TheVariants.{Alu, Neg, Movsx, Swap, Ja, JaLong, Branch, Call, Exit, Load, LoadSx, StoreReg, StoreImm, LoadImm64}
-use Rattle.bpf_asm.specs.Operands.{Operands, one, two, three, operands_of, option_both, Target, distance, label, target_of, target_in, immediate_of, operand_of, helper_of, wide_number_of, place_of, is_name}
+use Rattle.bpf_asm.specs.declared.words.Form.TheVariants.{Alu, Neg, Movsx, Swap, Ja, JaLong, Branch, Call, Exit, Load}
+use Rattle.bpf_asm.specs.declared.words.Form.TheVariants.{LoadSx, StoreReg, StoreImm, LoadImm64}
+use Rattle.bpf_asm.specs.Operands.{Operands, one, two, three, operands_of, option_both, Target, distance, label}
+use Rattle.bpf_asm.specs.Operands.{target_of, target_in, immediate_of, operand_of, helper_of, wide_number_of}
+use Rattle.bpf_asm.specs.Operands.{address_of, is_name}
 use Rattle.bpf_asm.specs.Pieces.{is_blank, is_word_letter, front_of, rest_of, without_comment}
 use Rattle.bpf_asm.specs.Words.{form_of, register_by_word}
 
@@ -53,20 +57,29 @@ condition_of (three a b c) = option_both (register_by_word a) (option_both (oper
 condition_of _ = None
 
 abbrev pub source_by : Form → Operands → Option Source
-source_by (Alu op width) operands = option_map (λ x. whole (insn.Alu op width x.0 x.1)) (pair_by register_by_word operand_of operands)
+source_by (Alu op width) operands =
+    option_map (λ x. whole (insn.Alu op width x.0 x.1)) (pair_by register_by_word operand_of operands)
 source_by (Neg width) operands = option_map (λ dst. whole (insn.Neg width dst)) (single_by register_by_word operands)
-source_by (Movsx kind) operands = option_map (λ x. whole (insn.Movsx kind x.0 x.1)) (pair_by register_by_word register_by_word operands)
-source_by (Swap order bits) operands = option_map (λ dst. whole (insn.Swap order bits dst)) (single_by register_by_word operands)
+source_by (Movsx kind) operands =
+    option_map (λ x. whole (insn.Movsx kind x.0 x.1)) (pair_by register_by_word register_by_word operands)
+source_by (Swap order bits) operands =
+    option_map (λ dst. whole (insn.Swap order bits dst)) (single_by register_by_word operands)
 source_by Ja operands = option_map (jump_to insn.Ja) (single_by (target_of GREATEST_OFFSET) operands)
 source_by JaLong operands = option_map (jump_to insn.JaLong) (single_by (target_of GREATEST_IMMEDIATE) operands)
-source_by (Branch cond width) operands = option_map (λ x. jump_to (insn.Branch cond width x.0 x.1.0) x.1.1) (condition_of operands)
+source_by (Branch cond width) operands =
+    option_map (λ x. jump_to (insn.Branch cond width x.0 x.1.0) x.1.1) (condition_of operands)
 source_by Call operands = option_map (λ id. whole (insn.Call id)) (single_by helper_of operands)
 source_by Exit operands = option_map (λ x. whole insn.Exit) (single_by nothing_of operands)
-source_by (Load size) operands = option_map (λ x. whole (insn.Load size x.0 x.1.base x.1.off)) (pair_by register_by_word place_of operands)
-source_by (LoadSx size) operands = option_map (λ x. whole (insn.LoadSx size x.0 x.1.base x.1.off)) (pair_by register_by_word place_of operands)
-source_by (StoreReg size) operands = option_map (λ x. whole (insn.StoreReg size x.0.base x.0.off x.1)) (pair_by place_of register_by_word operands)
-source_by (StoreImm size) operands = option_map (λ x. whole (insn.StoreImm size x.0.base x.0.off x.1)) (pair_by place_of immediate_of operands)
-source_by LoadImm64 operands = option_map (λ x. whole (insn.LoadImm64 x.0 x.1)) (pair_by register_by_word wide_number_of operands)
+source_by (Load size) operands =
+    option_map (λ x. whole (insn.Load size x.0 x.1.base x.1.off)) (pair_by register_by_word address_of operands)
+source_by (LoadSx size) operands =
+    option_map (λ x. whole (insn.LoadSx size x.0 x.1.base x.1.off)) (pair_by register_by_word address_of operands)
+source_by (StoreReg size) operands =
+    option_map (λ x. whole (insn.StoreReg size x.0.base x.0.off x.1)) (pair_by address_of register_by_word operands)
+source_by (StoreImm size) operands =
+    option_map (λ x. whole (insn.StoreImm size x.0.base x.0.off x.1)) (pair_by address_of immediate_of operands)
+source_by LoadImm64 operands =
+    option_map (λ x. whole (insn.LoadImm64 x.0 x.1)) (pair_by register_by_word wide_number_of operands)
 
 -- ---- lines
 
@@ -80,14 +93,17 @@ abbrev pub source_behind : List ℕ → List ℕ → Option (Option Source)
 source_behind [] [] = Some None
 source_behind [] (c ∷ cs) = None
 source_behind (w ∷ ws) rest =
-    if ends_word rest then option_map Some (option_and_then (λ form. source_by form (operands_of rest)) (form_of (w ∷ ws))) else None
+    if ends_word rest
+    then option_map Some (option_and_then (λ form. source_by form (operands_of rest)) (form_of (w ∷ ws))) else None
 
 abbrev pub source_of : List ℕ → Option (Option Source)
-source_of text = let front = rest_of is_blank text in source_behind (front_of is_word_letter front) (rest_of is_word_letter front)
+source_of text =
+    let front = rest_of is_blank text in source_behind (front_of is_word_letter front) (rest_of is_word_letter front)
 
 -- a label, and what stands behind its colon
 abbrev pub named : List ℕ → List ℕ → Line
-named name rest = if is_name name then record { name = Some name; source = source_of rest } else record { name = None; source = None }
+named name rest =
+    if is_name name then record { name = Some name; source = source_of rest } else record { name = None; source = None }
 
 -- the letters at the front of a line are a label where a colon (58) follows at once
 abbrev pub line_by : List ℕ → List ℕ → Line
@@ -95,7 +111,9 @@ line_by word [] = record { name = None; source = source_behind word [] }
 line_by word (c ∷ cs) = if c == 58 then named word cs else record { name = None; source = source_behind word (c ∷ cs) }
 
 abbrev pub line_of : List ℕ → Line
-line_of text = let front = rest_of is_blank (without_comment text) in line_by (front_of is_word_letter front) (rest_of is_word_letter front)
+line_of text =
+    let front = rest_of is_blank (without_comment text) in
+    line_by (front_of is_word_letter front) (rest_of is_word_letter front)
 
 -- ---- what the code has of these
 
@@ -110,7 +128,8 @@ abbrev pub ReadsSource : {E : Type 0} → Option Source → Result code_source.S
 ReadsSource wanted (Ok source) = wanted ≡ Some (source_in source)
 ReadsSource wanted (Err error) = wanted ≡ None
 
-abbrev pub ReadsCondition : {E : Type 0} → Option (Reg × (Operand × Target)) → Result (Reg × Operand × code.Target) E → Type 0
+abbrev pub ReadsCondition : {E : Type 0} → Option (Reg × (Operand × Target)) → Result (Reg × Operand × code.Target) E
+    → Type 0
 ReadsCondition wanted (Ok x) = wanted ≡ Some (x.0, (x.1, target_in x.2))
 ReadsCondition wanted (Err error) = wanted ≡ None
 

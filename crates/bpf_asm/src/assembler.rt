@@ -1,9 +1,11 @@
 //! From text to program.
 
-ghost use Rattle.std.specs.Prelude.{◌≡◌, ◌≢◌, ◌≤◌, ◌<◌, ◌⊎◌, ◌∷◌, ◌++◌, [], ◌+◌, pos, ◌-ℤ◌, List, Some, None, OnOk, IfOk, IfErr, MatchResult};
+ghost use Rattle.std.specs.Prelude.{◌≡◌, ◌≢◌, ◌≤◌, ◌<◌, ◌⊎◌, ◌∷◌, ◌++◌, [], ◌+◌, pos, ◌-ℤ◌, List, Some, None, OnOk};
+ghost use Rattle.std.specs.Prelude.{IfOk, IfErr, MatchResult};
 ghost use Rattle.bpf_insn.specs.declared.forms.Insn.{Insn};
 ghost use Rattle.bpf_insn.specs.declared.listing.TheConstants.{MAX_SLOTS};
-ghost use Rattle.bpf_asm.specs.Meaning.{lines_in, Means, Resolves, Near, known, insn_by, insns_from, insns_found, slots_found, slots_of_lines, with_distance, Refuses, HasPlaces, insns_of};
+ghost use Rattle.bpf_asm.specs.Meaning.{lines_in, Means, Resolves, Near, known, insn_by, insns_from, insns_found};
+ghost use Rattle.bpf_asm.specs.Meaning.{slots_found, slots_of_lines, with_distance, Refuses, HasPlaces, insns_of};
 ghost use Rattle.bpf_insn.specs.Programs.{slots_of};
 ghost use Rattle.bpf_asm.specs.Statements.{source_in, written_in};
 
@@ -153,10 +155,11 @@ fn insns_of(alloc: Global, text: &[u8]) -> Result<Vec<Insn>, TextError>
     }
 }
 
-/// The program that a text means.
+/// The program that a text means, or why it means none.
 pub fn assemble(alloc: Global, text: &[u8]) -> Result<Program, TextError>
     ensures program { IfOk result (Means text.now) }
-    ensures only_program { (p : List Insn) → Means text.now p → MatchResult result (λ q. q ≡ p) (λ e. e ≡ TextError.Memory) }
+    ensures only_program { (p : List Insn) → Means text.now p →
+        MatchResult result (λ q. q ≡ p) (λ e. e ≡ TextError.Memory) }
 {
     let insns = insns_of(alloc, text)?;
     match program_of(alloc, insns) {

@@ -12,7 +12,8 @@ use bpf_insn::MAX_SLOTS;
 use std::alloc::{AllocError, Global};
 use std::collections::BTreeMap;
 
-/// The slots of the labels, [`MAX_SLOTS`] for all that are further on, and the line of the first label that stands a second time.
+/// The slots of the labels, [`MAX_SLOTS`] for all that are further on, and the line of the first label that stands
+/// a second time.
 #[derive(Drop)]
 pub struct Labels<'a> {
     pub slots: BTreeMap<&'a [u8], usize>,
@@ -55,7 +56,8 @@ fn add_label<'a>(
     slot: usize,
     line: usize,
 ) -> Result<(), AllocError>
-    ensures { (places : Places) → HasPlaces labels.old places → OnOk result (HasPlaces labels.new (places ++ (name.now, slot) ∷ [])) }
+    ensures { (places : Places) → HasPlaces labels.old places →
+        OnOk result (HasPlaces labels.new (places ++ (name.now, slot) ∷ [])) }
 {
     if labels.slots.contains_key(name) {
         labels.twice = labels.twice.or(Some(line));

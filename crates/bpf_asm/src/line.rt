@@ -1,7 +1,7 @@
 //! The canonical line of an instruction (docs/ASSEMBLER.md, "Canonical text").
 
 ghost use Rattle.std.specs.Prelude.{◌≡◌, Some};
-ghost use Rattle.bpf_asm.specs.Canonical.{callee_text, form_in, line_of, place_text, source_text, with_sign};
+ghost use Rattle.bpf_asm.specs.Canonical.{callee_text, form_in, canonical_line, address_text, operand_text, with_sign};
 ghost use Rattle.bpf_asm.specs.Words.{helper_by_number};
 
 use crate::helpers::helper_by_number;
@@ -29,10 +29,10 @@ impl fmt::Display for WithSign {
 
 /// A register or an immediate.
 #[derive(Clone, Copy)]
-struct Source(Operand);
+struct OperandText(Operand);
 
-impl fmt::Display for Source {
-    ghost output = { λ source. Some (source_text source.0) };
+impl fmt::Display for OperandText {
+    ghost output = { λ operand. Some (operand_text operand.0) };
 
     fn fmt<W: fmt::Write>(&self, f: &mut fmt::Formatter<W>) -> fmt::Result {
         match self.0 {
@@ -42,15 +42,15 @@ impl fmt::Display for Source {
     }
 }
 
-/// The place that a load or a store names.
+/// The address of a load or a store.
 #[derive(Clone, Copy)]
-struct Place {
+struct AddressText {
     base: Reg,
     off: i16,
 }
 
-impl fmt::Display for Place {
-    ghost output = { λ place. Some (place_text place.base place.off) };
+impl fmt::Display for AddressText {
+    ghost output = { λ address. Some (address_text address.base address.off) };
 
     fn fmt<W: fmt::Write>(&self, f: &mut fmt::Formatter<W>) -> fmt::Result {
         let base = register_word(self.base);
@@ -61,9 +61,9 @@ impl fmt::Display for Place {
 
 /// What a call names: a helper by its word, or by its number where it has none.
 #[derive(Clone, Copy)]
-struct Callee(i32);
+struct CalleeText(i32);
 
-impl fmt::Display for Callee {
+impl fmt::Display for CalleeText {
     ghost output = { λ callee. Some (callee_text callee.0 (helper_by_number callee.0)) };
 
     fn fmt<W: fmt::Write>(&self, f: &mut fmt::Formatter<W>) -> fmt::Result {
@@ -101,18 +101,18 @@ fn form_in(insn: Insn) -> Form
 
 /// The line of an instruction, without its end.
 #[derive(Clone, Copy)]
-pub struct Line {
+pub struct CanonicalLine {
     pub insn: Insn,
 }
 
-impl fmt::Display for Line {
-    ghost output = { λ line. Some (line_of line.insn) };
+impl fmt::Display for CanonicalLine {
+    ghost output = { λ line. Some (canonical_line line.insn) };
 
     fn fmt<W: fmt::Write>(&self, f: &mut fmt::Formatter<W>) -> fmt::Result {
         let word = form_in(self.insn).word();
         match self.insn {
             Insn::Alu { dst, src, .. } => {
-                write!(f, "{word} {}, {}", register_word(dst), Source(src))
+                write!(f, "{word} {}, {}", register_word(dst), OperandText(src))
             }
             Insn::Neg { dst, .. } | Insn::Swap { dst, .. } => {
                 write!(f, "{word} {}", register_word(dst))
@@ -128,22 +128,37 @@ impl fmt::Display for Line {
                     f,
                     "{word} {}, {}, {target}",
                     register_word(dst),
-                    Source(src)
+                    OperandText(src)
                 )
             }
-            Insn::Call { id } => write!(f, "{word} {}", Callee(id)),
+            Insn::Call { id } => write!(f, "{word} {}", CalleeText(id)),
             Insn::Exit => write!(f, "{word}"),
             Insn::Load { dst, base, off, .. } => {
-                write!(f, "{word} {}, {}", register_word(dst), Place { base, off })
+                write!(
+                    f,
+                    "{word} {}, {}",
+                    register_word(dst),
+                    AddressText { base, off }
+                )
             }
             Insn::LoadSx { dst, base, off, .. } => {
-                write!(f, "{word} {}, {}", register_word(dst), Place { base, off })
+                write!(
+                    f,
+                    "{word} {}, {}",
+                    register_word(dst),
+                    AddressText { base, off }
+                )
             }
             Insn::StoreReg { base, off, src, .. } => {
-                write!(f, "{word} {}, {}", Place { base, off }, register_word(src))
+                write!(
+                    f,
+                    "{word} {}, {}",
+                    AddressText { base, off },
+                    register_word(src)
+                )
             }
             Insn::StoreImm { base, off, imm, .. } => {
-                write!(f, "{word} {}, {imm}", Place { base, off })
+                write!(f, "{word} {}, {imm}", AddressText { base, off })
             }
             Insn::LoadImm64 { dst, value } => write!(f, "{word} {}, {value}", register_word(dst)),
         }

@@ -22,7 +22,7 @@ pub fn canonical_text_means_its_program()
     ensures { (p : List Insn) → IsProgram p → Means (canonical_text p) p }
 {}
 
-/// Disassembles a program, and assembles its text: that gives the program back.
+/// Disassembles a program, and assembles its text: that gives the program back. Fails only for want of memory.
 pub fn text_round_trip(alloc: Global, program: &Program) -> Result<Program, TextError>
     ensures { MatchResult result (λ p. p ≡ program.now) (λ e. e ≡ TextError.Memory) }
 {

@@ -1,6 +1,8 @@
 //! Numbers of the text: an optional `-`, then decimal digits, or `0x` and hexadecimal digits.
-ghost use Rattle.std.specs.Prelude.{◌≡◌, ◌≤◌, ◌<◌, ◌^◌, MatchOption, MatchResult, IsSomeAnd, IfSome, ⊤, ◌+◌, ◌*◌, ℤ, pos, neg_ℤ, ◌≤ℤ◌, ℕ, Option, Some, None, option_map};
-ghost use Rattle.bpf_asm.specs.Numbers.{magnitude_of, numeral_of, number_of, signed_number_of, in_field, wide_of, Written, written, Counts, CountsSigned};
+ghost use Rattle.std.specs.Prelude.{◌≡◌, ◌≤◌, ◌<◌, ◌^◌, MatchOption, MatchResult, IsSomeAnd, IfSome, ⊤, ◌+◌, ◌*◌, ℤ};
+ghost use Rattle.std.specs.Prelude.{pos, neg_ℤ, ◌≤ℤ◌, ℕ, Option, Some, None, option_map};
+ghost use Rattle.bpf_asm.specs.Numbers.{magnitude_of, numeral_of, number_of, signed_number_of, in_field, wide_of};
+ghost use Rattle.bpf_asm.specs.Numbers.{Written, written, Counts, CountsSigned};
 
 /// The greatest immediate and distance of 32 bits; below zero it goes one further.
 pub const GREATEST_IMMEDIATE: u32 = 0x7fff_ffff;

@@ -6,7 +6,10 @@ ghost use Rattle.std.specs.Option.{option_and_then};
 ghost use Rattle.bpf_asm.specs.declared.numbers.TheConstants.{GREATEST_IMMEDIATE};
 ghost use Rattle.bpf_asm.specs.Numbers.{Written, CountsSigned, in_field, wide_of};
 ghost use Rattle.bpf_asm.specs.Pieces.{is_word_letter, pieces_of};
-ghost use Rattle.bpf_asm.specs.Operands.{Reads, ReadsTarget, IsWithin, immediate_of, operand_of, helper_of, wide_number_of, offset_of, place_inside, place_of, place_between, starts_name, is_name, target_of, operands_of, operands_by, parts_of, operands_in};
+ghost use Rattle.bpf_asm.specs.Operands.{Reads, ReadsTarget, IsWithin, immediate_of, operand_of, helper_of};
+ghost use Rattle.bpf_asm.specs.Operands.{wide_number_of, offset_of, address_inside, address_of, address_between};
+ghost use Rattle.bpf_asm.specs.Operands.{starts_name, is_name, target_of, operands_of, operands_by, parts_of};
+ghost use Rattle.bpf_asm.specs.Operands.{operands_in};
 ghost use Rattle.bpf_asm.specs.Words.{register_by_word};
 
 use crate::helpers::helper_by_word;
@@ -21,16 +24,19 @@ use bpf_insn::{Operand, Reg};
 pub const NAME_LETTERS: usize = 32;
 
 /// What is wrong with one line, the lowest first.
-#[derive(Clone, Copy, Debug, PartialEq, Eq)]
+#[derive(Clone, Copy, Debug, PartialEq, Eq, PartialOrd, Ord)]
 pub enum Fault {
+    /// No form and no label is named so.
     UnknownWord,
+    /// The operands have another form.
     BadOperand,
+    /// A number of right form is outside its range.
     OutOfRange,
 }
 
 /// An address: a register and the bytes from there.
 #[derive(Clone, Copy, Debug, PartialEq, Eq)]
-pub struct Place {
+pub struct Address {
     pub base: Reg,
     pub off: i16,
 }
@@ -51,20 +57,6 @@ pub enum Parts<'a> {
     More,
 }
 
-impl Fault {
-    /// The lower of two faults, where there is another.
-    pub fn or_lower(self, other: Option<Fault>) -> Fault {
-        match other {
-            Some(Fault::UnknownWord) => Fault::UnknownWord,
-            Some(Fault::BadOperand) => match self {
-                Fault::UnknownWord => Fault::UnknownWord,
-                Fault::BadOperand | Fault::OutOfRange => Fault::BadOperand,
-            },
-            Some(Fault::OutOfRange) | None => self,
-        }
-    }
-}
-
 /// The number that a field of this greatest number holds.
 #[tactic(auto, using(crate::proofs::OperandLemmas::field_read))]
 fn field_of(number: Option<Number>, most: u32) -> Result<i64, Fault>
@@ -81,12 +73,14 @@ fn field_of(number: Option<Number>, most: u32) -> Result<i64, Fault>
     }
 }
 
+/// A register by its word.
 pub fn read_register(text: &[u8]) -> Result<Reg, Fault>
     ensures { Reads (register_by_word text.now) result }
 {
     register_by_word(text).ok_or(Fault::BadOperand)
 }
 
+/// A number that an immediate holds.
 pub fn read_immediate(text: &[u8]) -> Result<i32, Fault>
     ensures { Reads (immediate_of text.now) result }
 {
@@ -146,24 +140,24 @@ fn read_offset(text: &[u8]) -> Result<i16, Fault>
     Ok(off as i16)
 }
 
-fn read_place_inside(inside: &[u8]) -> Result<Place, Fault>
-    ensures { Reads (place_inside inside.now) result }
+fn read_address_inside(inside: &[u8]) -> Result<Address, Fault>
+    ensures { Reads (address_inside inside.now) result }
 {
     let (word, rest) = split_front(inside, Letters::Word);
     let base = read_register(word)?;
     let off = read_offset(rest)?;
-    Ok(Place { base, off })
+    Ok(Address { base, off })
 }
 
 /// What stands behind `[`, as far as the `]` at the end.
-#[tactic(auto, using(crate::proofs::OperandLemmas::place_closed, crate::proofs::OperandLemmas::place_open))]
-fn read_place_behind(text: &[u8]) -> Result<Place, Fault>
-    ensures { Reads (place_between (pieces_of (λ d. d == 93) text.now)) result }
+#[tactic(auto, using(crate::proofs::OperandLemmas::address_closed, crate::proofs::OperandLemmas::address_open))]
+fn read_address_behind(text: &[u8]) -> Result<Address, Fault>
+    ensures { Reads (address_between (pieces_of (λ d. d == 93) text.now)) result }
 {
     match first_piece(text, b']') {
         (inside, Some(after)) => {
             if after.is_empty() {
-                read_place_inside(inside)
+                read_address_inside(inside)
             } else {
                 Err(Fault::BadOperand)
             }
@@ -173,11 +167,11 @@ fn read_place_behind(text: &[u8]) -> Result<Place, Fault>
 }
 
 /// An address in brackets.
-pub fn read_place(text: &[u8]) -> Result<Place, Fault>
-    ensures { Reads (place_of text.now) result }
+pub fn read_address(text: &[u8]) -> Result<Address, Fault>
+    ensures { Reads (address_of text.now) result }
 {
     match text {
-        [b'[', rest @ ..] => read_place_behind(rest),
+        [b'[', rest @ ..] => read_address_behind(rest),
         _ => Err(Fault::BadOperand),
     }
 }

@@ -1,7 +1,8 @@
 //! A text in pieces.
 
 ghost use Rattle.std.specs.Prelude.{◌≡◌, ◌==◌, ◌∷◌, ◌≤◌, ◌<◌, length, IfSome};
-ghost use Rattle.bpf_asm.specs.Pieces.{pieces_of, pieces_left, is_among, front_of, rest_of, before_blanks, trimmed, begins_name, is_blank};
+ghost use Rattle.bpf_asm.specs.Pieces.{pieces_of, pieces_left, is_among, front_of, rest_of, before_blanks, trimmed};
+ghost use Rattle.bpf_asm.specs.Pieces.{begins_name, is_blank};
 
 /// Bytes that stand together: blanks, or the letters, digits and `_` of words.
 #[derive(Clone, Copy, Debug, PartialEq, Eq)]

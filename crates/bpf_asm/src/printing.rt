@@ -4,7 +4,7 @@ ghost use Rattle.std.specs.Prelude.{◌≡◌, ◌++◌, IfOk, OnOk, string_byte
 ghost use Rattle.bpf_insn.specs.Programs.{IsProgram};
 ghost use Rattle.bpf_asm.specs.Canonical.{canonical_text, found_insns};
 
-use crate::line::Line;
+use crate::line::CanonicalLine;
 use bpf_insn::{Insn, Program};
 use std::alloc::{AllocError, Global};
 
@@ -14,7 +14,7 @@ fn push_line(text: &mut String, found: Option<Insn>) -> Result<(), AllocError>
 {
     match found {
         Some(insn) => {
-            let line = Line { insn };
+            let line = CanonicalLine { insn };
             write!(text, "{line}\n")
         }
         None => Ok(()),
@@ -22,6 +22,7 @@ fn push_line(text: &mut String, found: Option<Insn>) -> Result<(), AllocError>
 }
 
 /// The canonical text of a program: a line for each instruction (docs/ASSEMBLER.md, "Canonical text").
+/// Fails only for want of memory.
 pub fn disassemble(alloc: Global, program: &Program) -> Result<String, AllocError>
     ensures text { IfOk result (λ text. string_bytes text ≡ canonical_text program.now) }
     ensures program { IsProgram program.now }

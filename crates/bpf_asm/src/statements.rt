@@ -1,19 +1,22 @@
 //! What one line says.
 
-ghost use Rattle.std.specs.Prelude.{◌≡◌, ◌≤◌, IfOk};
+ghost use Rattle.std.specs.Prelude.{◌≡◌, ◌≢◌, ◌≤◌, ◌⊎◌, List, ℕ, Ok, Err, IfOk, IfErr};
 ghost use Rattle.bpf_insn.specs.declared.forms.Insn.TheVariants as insn;
 ghost use Rattle.bpf_asm.specs.declared.words.Form.TheVariants as form;
 ghost use Rattle.bpf_asm.specs.declared.numbers.TheConstants.{GREATEST_IMMEDIATE, GREATEST_OFFSET};
-ghost use Rattle.bpf_asm.specs.Operands.{Reads, ReadsTarget, IsWithin, target_in, operands_in, operand_of, place_of, immediate_of, wide_number_of, helper_of, target_of};
+ghost use Rattle.bpf_asm.specs.Operands.{Reads, two, ReadsTarget, IsWithin, target_in, operands_in, operand_of};
+ghost use Rattle.bpf_asm.specs.Operands.{address_of, immediate_of, wide_number_of, helper_of, target_of};
 ghost use Rattle.bpf_asm.specs.Pieces.{without_comment};
-ghost use Rattle.bpf_asm.specs.Statements.{single_by, pair_by, nothing_of, condition_of, ReadsCondition, whole, jump_to, source_in, source_by, ReadsSource, ends_word, source_behind, source_of, written_in, named, line_by, line_of, line_in};
+ghost use Rattle.bpf_asm.specs.Statements.{single_by, pair_by, nothing_of, condition_of, ReadsCondition, whole};
+ghost use Rattle.bpf_asm.specs.Statements.{jump_to, source_in, source_by, ReadsSource, ends_word, source_behind};
+ghost use Rattle.bpf_asm.specs.Statements.{source_of, written_in, named, line_by, line_of, line_in};
 ghost use Rattle.bpf_asm.specs.Words.{register_by_word};
 
 use crate::forms::form_of;
 use crate::numbers::{GREATEST_IMMEDIATE, GREATEST_OFFSET};
 use crate::operands::{
-    Fault, Parts, Place, Target, is_name, read_helper, read_immediate, read_operand, read_parts,
-    read_place, read_register, read_target, read_wide_number,
+    Address, Fault, Parts, Target, is_name, read_address, read_helper, read_immediate,
+    read_operand, read_parts, read_register, read_target, read_wide_number,
 };
 use crate::pieces::{Letters, first_piece, split_front};
 use crate::words::Form;
@@ -71,89 +74,81 @@ fn one_target(parts: Parts<'_>, most: u32) -> Result<Target<'_>, Fault>
     }
 }
 
+/// Two operands.
+fn two(parts: Parts<'_>) -> Result<(&[u8], &[u8]), Fault>
+    ensures two { IfOk result (λ x. operands_in parts.entry ≡ two x.0.now x.1.now) }
+    ensures other { IfErr result (λ _. (a b : List ℕ) → operands_in parts.entry ≢ two a b) }
+{
+    match parts {
+        Parts::Two(a, b) => Ok((a, b)),
+        _ => Err(Fault::BadOperand),
+    }
+}
+
+/// Two values that are read, or the lower of what is wrong with them.
+fn both<A: Copy, B: Copy>(
+    first: Result<A, Fault>,
+    second: Result<B, Fault>,
+) -> Result<(A, B), Fault>
+    ensures values { IfOk result (λ x. (first ≡ Ok x.0) × (second ≡ Ok x.1)) }
+    ensures fault { IfErr result (λ e. (first ≡ Err e) ⊎ (second ≡ Err e)) }
+{
+    match (first, second) {
+        (Ok(a), Ok(b)) => Ok((a, b)),
+        (Err(fault), Err(other)) => Err(fault.min(other)),
+        (Err(fault), Ok(_)) | (Ok(_), Err(fault)) => Err(fault),
+    }
+}
+
+#[tactic(auto, using(crate::proofs::StatementLemmas::pair_read, crate::proofs::StatementLemmas::no_pair))]
 fn two_registers(parts: Parts) -> Result<(Reg, Reg), Fault>
     ensures { Reads (pair_by register_by_word register_by_word (operands_in parts.entry)) result }
 {
-    match parts {
-        Parts::Two(a, b) => {
-            let first = read_register(a)?;
-            let second = read_register(b)?;
-            Ok((first, second))
-        }
-        _ => Err(Fault::BadOperand),
-    }
+    let (a, b) = two(parts)?;
+    both(read_register(a), read_register(b))
 }
 
+#[tactic(auto, using(crate::proofs::StatementLemmas::pair_read, crate::proofs::StatementLemmas::no_pair))]
 fn register_and_operand(parts: Parts) -> Result<(Reg, Operand), Fault>
     ensures { Reads (pair_by register_by_word operand_of (operands_in parts.entry)) result }
 {
-    match parts {
-        Parts::Two(a, b) => {
-            let dst = read_register(a)?;
-            let src = read_operand(b)?;
-            Ok((dst, src))
-        }
-        _ => Err(Fault::BadOperand),
-    }
+    let (a, b) = two(parts)?;
+    both(read_register(a), read_operand(b))
 }
 
-fn register_and_place(parts: Parts) -> Result<(Reg, Place), Fault>
-    ensures { Reads (pair_by register_by_word place_of (operands_in parts.entry)) result }
+#[tactic(auto, using(crate::proofs::StatementLemmas::pair_read, crate::proofs::StatementLemmas::no_pair))]
+fn register_and_address(parts: Parts) -> Result<(Reg, Address), Fault>
+    ensures { Reads (pair_by register_by_word address_of (operands_in parts.entry)) result }
 {
-    match parts {
-        Parts::Two(a, b) => {
-            let dst = read_register(a)?;
-            let place = read_place(b)?;
-            Ok((dst, place))
-        }
-        _ => Err(Fault::BadOperand),
-    }
+    let (a, b) = two(parts)?;
+    both(read_register(a), read_address(b))
 }
 
+#[tactic(auto, using(crate::proofs::StatementLemmas::pair_read, crate::proofs::StatementLemmas::no_pair))]
 fn register_and_wide_number(parts: Parts) -> Result<(Reg, u64), Fault>
     ensures { Reads (pair_by register_by_word wide_number_of (operands_in parts.entry)) result }
 {
-    match parts {
-        Parts::Two(a, b) => {
-            let dst = read_register(a)?;
-            let value = read_wide_number(b)?;
-            Ok((dst, value))
-        }
-        _ => Err(Fault::BadOperand),
-    }
+    let (a, b) = two(parts)?;
+    both(read_register(a), read_wide_number(b))
 }
 
-#[tactic(auto, using(crate::proofs::StatementLemmas::second_missing))]
-fn place_and_register(parts: Parts) -> Result<(Place, Reg), Fault>
-    ensures { Reads (pair_by place_of register_by_word (operands_in parts.entry)) result }
+#[tactic(auto, using(crate::proofs::StatementLemmas::pair_read, crate::proofs::StatementLemmas::no_pair))]
+fn address_and_register(parts: Parts) -> Result<(Address, Reg), Fault>
+    ensures { Reads (pair_by address_of register_by_word (operands_in parts.entry)) result }
 {
-    match parts {
-        Parts::Two(a, b) => {
-            let src = read_register(b)?;
-            let place = read_place(a)?;
-            Ok((place, src))
-        }
-        _ => Err(Fault::BadOperand),
-    }
+    let (a, b) = two(parts)?;
+    both(read_address(a), read_register(b))
 }
 
-fn place_and_immediate(parts: Parts) -> Result<(Place, i32), Fault>
-    ensures { Reads (pair_by place_of immediate_of (operands_in parts.entry)) result }
+#[tactic(auto, using(crate::proofs::StatementLemmas::pair_read, crate::proofs::StatementLemmas::no_pair))]
+fn address_and_immediate(parts: Parts) -> Result<(Address, i32), Fault>
+    ensures { Reads (pair_by address_of immediate_of (operands_in parts.entry)) result }
 {
-    let Parts::Two(a, b) = parts else {
-        return Err(Fault::BadOperand);
-    };
-    match read_place(a) {
-        Ok(place) => {
-            let imm = read_immediate(b)?;
-            Ok((place, imm))
-        }
-        Err(fault) => Err(fault.or_lower(read_immediate(b).err())),
-    }
+    let (a, b) = two(parts)?;
+    both(read_address(a), read_immediate(b))
 }
 
 /// A register, what it is compared with, and where the jump goes.
-#[tactic(auto, using(crate::proofs::StatementLemmas::second_missing))]
 fn condition(parts: Parts<'_>) -> Result<(Reg, Operand, Target<'_>), Fault>
     ensures condition { ReadsCondition (condition_of (operands_in parts.entry)) result }
     ensures within { IfOk result (λ x. IsWithin GREATEST_OFFSET x.2) }
@@ -161,14 +156,9 @@ fn condition(parts: Parts<'_>) -> Result<(Reg, Operand, Target<'_>), Fault>
     let Parts::Three(a, b, c) = parts else {
         return Err(Fault::BadOperand);
     };
-    let dst = read_register(a)?;
-    match read_operand(b) {
-        Ok(src) => {
-            let target = read_target(c, GREATEST_OFFSET)?;
-            Ok((dst, src, target))
-        }
-        Err(fault) => Err(fault.or_lower(read_target(c, GREATEST_OFFSET).err())),
-    }
+    let compared = both(read_operand(b), read_target(c, GREATEST_OFFSET));
+    let (dst, (src, target)) = both(read_register(a), compared)?;
+    Ok((dst, src, target))
 }
 
 fn whole(insn: Insn) -> Source<'static>
@@ -243,8 +233,7 @@ fn alu(op: AluOp, width: Width, parts: Parts<'_>) -> Result<Source<'_>, Fault>
 fn load(size: Size, parts: Parts<'_>) -> Result<Source<'_>, Fault>
     ensures { ReadsSource (source_by (form.Load size) (operands_in parts.entry)) result }
 {
-    let (dst, place) = register_and_place(parts)?;
-    let Place { base, off } = place;
+    let (dst, Address { base, off }) = register_and_address(parts)?;
     Ok(whole(Insn::Load {
         size,
         dst,
@@ -256,8 +245,7 @@ fn load(size: Size, parts: Parts<'_>) -> Result<Source<'_>, Fault>
 fn load_sx(size: SxSize, parts: Parts<'_>) -> Result<Source<'_>, Fault>
     ensures { ReadsSource (source_by (form.LoadSx size) (operands_in parts.entry)) result }
 {
-    let (dst, place) = register_and_place(parts)?;
-    let Place { base, off } = place;
+    let (dst, Address { base, off }) = register_and_address(parts)?;
     Ok(whole(Insn::LoadSx {
         size,
         dst,
@@ -269,8 +257,7 @@ fn load_sx(size: SxSize, parts: Parts<'_>) -> Result<Source<'_>, Fault>
 fn store_reg(size: Size, parts: Parts<'_>) -> Result<Source<'_>, Fault>
     ensures { ReadsSource (source_by (form.StoreReg size) (operands_in parts.entry)) result }
 {
-    let (place, src) = place_and_register(parts)?;
-    let Place { base, off } = place;
+    let (Address { base, off }, src) = address_and_register(parts)?;
     Ok(whole(Insn::StoreReg {
         size,
         base,
@@ -282,8 +269,7 @@ fn store_reg(size: Size, parts: Parts<'_>) -> Result<Source<'_>, Fault>
 fn store_imm(size: Size, parts: Parts<'_>) -> Result<Source<'_>, Fault>
     ensures { ReadsSource (source_by (form.StoreImm size) (operands_in parts.entry)) result }
 {
-    let (place, imm) = place_and_immediate(parts)?;
-    let Place { base, off } = place;
+    let (Address { base, off }, imm) = address_and_immediate(parts)?;
     Ok(whole(Insn::StoreImm {
         size,
         base,
@@ -298,38 +284,22 @@ fn read_source(form: Form, parts: Parts<'_>) -> Result<Source<'_>, Fault>
 {
     match form {
         Form::Alu(op, width) => alu(op, width, parts),
-        Form::Neg(width) => {
-            let dst = one_register(parts)?;
-            Ok(whole(Insn::Neg { width, dst }))
-        }
+        Form::Neg(width) => one_register(parts).map(|dst| whole(Insn::Neg { width, dst })),
         Form::Movsx(kind) => {
             let (dst, src) = two_registers(parts)?;
             Ok(whole(Insn::Movsx { kind, dst, src }))
         }
         Form::Swap(order, bits) => {
-            let dst = one_register(parts)?;
-            Ok(whole(Insn::Swap { order, bits, dst }))
+            one_register(parts).map(|dst| whole(Insn::Swap { order, bits, dst }))
         }
-        Form::Ja => {
-            let target = one_target(parts, GREATEST_OFFSET)?;
-            Ok(jump(target))
-        }
-        Form::JaLong => {
-            let target = one_target(parts, GREATEST_IMMEDIATE)?;
-            Ok(long_jump(target))
-        }
+        Form::Ja => Ok(jump(one_target(parts, GREATEST_OFFSET)?)),
+        Form::JaLong => Ok(long_jump(one_target(parts, GREATEST_IMMEDIATE)?)),
         Form::Branch(cond, width) => {
             let (dst, src, target) = condition(parts)?;
             Ok(branch(cond, width, dst, src, target))
         }
-        Form::Call => {
-            let id = one_helper(parts)?;
-            Ok(whole(Insn::Call { id }))
-        }
-        Form::Exit => {
-            nothing(parts)?;
-            Ok(whole(Insn::Exit))
-        }
+        Form::Call => one_helper(parts).map(|id| whole(Insn::Call { id })),
+        Form::Exit => nothing(parts).map(|()| whole(Insn::Exit)),
         Form::Load(size) => load(size, parts),
         Form::LoadSx(size) => load_sx(size, parts),
         Form::StoreReg(size) => store_reg(size, parts),

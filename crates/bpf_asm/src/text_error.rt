@@ -3,18 +3,25 @@
 use crate::operands::Fault;
 use std::alloc::AllocError;
 
-/// Why a text is not assembled, with the line, from 1 on. Of all faults that of the lowest line is told, and of one line the first in this
-/// order. `TooLong` is at the first instruction that ends past the last slot, `LabelTwice` at the second label, and `Empty` comes
-/// where no line has an instruction.
+/// Why a text is not assembled, with the line, from 1 on. Of all faults that of the lowest line is told, and of one
+/// line the first in this order.
 #[derive(Clone, Copy, Debug, PartialEq, Eq)]
 pub enum TextError {
+    /// No form and no label is named so.
     UnknownWord(usize),
+    /// The operands have another form.
     BadOperand(usize),
+    /// A number of right form is outside its range.
     OutOfRange(usize),
+    /// No line has the label that a jump names.
     UnknownLabel(usize),
+    /// A label stands a second time, on this line.
     LabelTwice(usize),
+    /// The instruction is the first that ends past the last slot.
     TooLong(usize),
+    /// No line has an instruction.
     Empty,
+    /// Memory was short.
     Memory,
 }
 

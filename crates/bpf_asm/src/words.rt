@@ -1,7 +1,9 @@
-//! The words of the text and the forms that they name (docs/ASSEMBLER.md, "Words"). Each word stands once, in `Form::word`; reading looks it up there.
+//! The words of the text and the forms that they name (docs/ASSEMBLER.md, "Words"). Each word stands once, in
+//! `Form::word`; reading looks it up there.
 
 ghost use Rattle.std.specs.Prelude.{◌≡◌};
-ghost use Rattle.bpf_asm.specs.Words.{alu_word, branch_word, movsx_word, swap_word, load_word, load_sx_word, store_reg_word, store_imm_word, neg_word};
+ghost use Rattle.bpf_asm.specs.Words.{alu_word, branch_word, movsx_word, swap_word, load_word, load_sx_word};
+ghost use Rattle.bpf_asm.specs.Words.{store_reg_word, store_imm_word, neg_word};
 
 use bpf_insn::{AluOp, Cond, MovsxKind, Order, Size, SwapBits, SxSize, Width};
 
