@@ -31,8 +31,8 @@ use Rattle.bpf_verify.specs.declared.kind.Kind.{Kind}
 use Rattle.bpf_verify.specs.declared.kind.Kind.TheVariants.{Unset, Number, Pointer}
 use Rattle.bpf_verify.specs.declared.rule.Rule.TheVariants.{UnsetRegister, PointerMisuse}
 use Rattle.bpf_verify.specs.States.{AbstractState, kind_of, IsKindIn, IsContainedIn, IsProperKind, IsProper}
-use Rattle.bpf_verify.specs.Rules.{is_unset, is_pointer, operand_kind, KeepsRules}
-use Rattle.bpf_verify.specs.Outcomes.{with_kind, sum_kind, difference_kind, of_number, of_numbers, alu_kind, is_between, with_written, stored_at, is_taken, with_meet, refined_by, branch_outcome, answer_kind, call_outcome, outcome}
+use Rattle.bpf_verify.specs.Rules.{is_unset_kind, is_pointer_kind, operand_kind, KeepsRules}
+use Rattle.bpf_verify.specs.Outcomes.{with_kind, sum_kind, difference_kind, of_number_kind, of_number_kinds, alu_kind, is_between, loaded_kind, with_written, stored_at, is_taken, with_meet, refined_by, branch_outcome, answer_kind, call_outcome, outcome}
 use Rattle.bpf_verify.proofs.StateLaws.{kind_in_itself}
 use Rattle.bpf_verify.proofs.RulesGrow.{operand_in, operand_set, one_set, rest_set}
 
@@ -51,13 +51,13 @@ with_grows A C register k l p q =
 -- ---- arithmetic
 
 one_grows : (result : Span → Span) (k l : Kind) → ((a c : Span) → HasMembers a → IsInside a c → IsInside (result a) (result c)) → IsProperKind k → IsKindIn k l
-    → IsKindIn (of_number result k) (of_number result l)
+    → IsKindIn (of_number_kind result k) (of_number_kind result l)
 one_grows result k Unset h x p = tt
 one_grows result k (Number c) h x (a, is, p) = rw is (result a, refl, h a c (subst IsProperKind is x) p)
 one_grows result k (Pointer region c) h x p = tt
 
 numbers_grow : (op : AluOp) (width : Width) (k l m n : Kind) → IsProperKind k → IsProperKind l → IsKindIn k m → IsKindIn l n
-    → IsKindIn (of_numbers (alu_of op width) k l) (of_numbers (alu_of op width) m n)
+    → IsKindIn (of_number_kinds (alu_of op width) k l) (of_number_kinds (alu_of op width) m n)
 numbers_grow op width k l Unset n x y p q = tt
 numbers_grow op width k l (Number c) Unset x y p q = tt
 numbers_grow op width k l (Number c) (Number d) x y (a, is, p) (b, js, q) =
@@ -88,7 +88,7 @@ differences_grow k l (Pointer region c) (Number d) x y (a, is, p) (b, js, q) =
     rw (is, js) (alu_of Sub W64 a b, refl, alu_grows Sub W64 a b c d (subst IsProperKind is x) (subst IsProperKind js y) p q)
 differences_grow k l (Pointer region c) (Pointer other d) x y p q = tt
 
-moved_grows : (k l : Kind) → IsProperKind k → IsKindIn k l → IsKindIn (of_number (λ n. alu_of Mov W32 n n) k) (of_number (λ n. alu_of Mov W32 n n) l)
+moved_grows : (k l : Kind) → IsProperKind k → IsKindIn k l → IsKindIn (of_number_kind (λ n. alu_of Mov W32 n n) k) (of_number_kind (λ n. alu_of Mov W32 n n) l)
 moved_grows k l x p = one_grows (λ n. alu_of Mov W32 n n) k l (λ a c m q. alu_grows Mov W32 a a c c m m q q) x p
 
 alu_kinds_grow : (op : AluOp) (width : Width) (k l m n : Kind) → IsProperKind k → IsProperKind l → IsKindIn k m → IsKindIn l n → IsKindIn (alu_kind op width k l) (alu_kind op width m n)
@@ -110,7 +110,10 @@ alu_kinds_grow Smod width k l m n x y p q = numbers_grow Smod width k l m n x y 
 alu_kinds_grow Xor width k l m n x y p q = numbers_grow Xor width k l m n x y p q
 alu_kinds_grow Arsh width k l m n x y p q = numbers_grow Arsh width k l m n x y p q
 
--- ---- stores
+-- ---- loads and stores
+
+loaded_grows : (A C : AbstractState) (k l : Kind) (off : ℤ) (count : ℕ) → IsKindIn (loaded_kind A k off count) (loaded_kind C l off count)
+loaded_grows A C k l off count = kind_in_itself (Number (full_of (8 * count)))
 
 written_more : (A C : AbstractState) (first : Option ℕ) (count : ℕ) → IsContainedIn A C → IsContainedIn (with_written A first count) C
 written_more A C None count p = p
@@ -137,30 +140,31 @@ written_grows A C (Some first) count p =
     by false a c h e = h e
 
 -- a store where less is known of the place marks no byte that it doesn't mark where more is known
-stored_more : (A C : AbstractState) (k : Kind) (off : ℤ) (count : ℕ) → IsContainedIn A C → IsContainedIn (stored_at A k off count) C
-stored_more A C Unset off count p = p
-stored_more A C (Number a) off count p = p
-stored_more A C (Pointer Mem a) off count p = p
-stored_more A C (Pointer Stack a) off count p = by (is_single a)
+stored_more : (A C : AbstractState) (k : Kind) (off : ℤ) (count : ℕ) (v : Kind) → IsContainedIn A C → IsContainedIn (stored_at A k off count v) C
+stored_more A C Unset off count v p = p
+stored_more A C (Number a) off count v p = p
+stored_more A C (Pointer Mem a) off count v p = p
+stored_more A C (Pointer Stack a) off count v p = by (is_single a)
   where
     by : (b : Bool) → IsContainedIn (if b then with_written A (moved a.lo off) count else A) C
     by true = written_more A C (moved a.lo off) count p
     by false = p
 
-stored_grows : (A C : AbstractState) (k l : Kind) (off : ℤ) (count : ℕ) → IsContainedIn A C → IsProperKind k → IsKindIn k l → IsContainedIn (stored_at A k off count) (stored_at C l off count)
-stored_grows A C k Unset off count p x q = stored_more A C k off count p
-stored_grows A C k (Number b) off count p x q = stored_more A C k off count p
-stored_grows A C k (Pointer Mem b) off count p x q = stored_more A C k off count p
-stored_grows A C k (Pointer Stack b) off count p x (a, is, q) = rw is (by (is_single b) refl)
+stored_grows : (A C : AbstractState) (k l : Kind) (off : ℤ) (count : ℕ) (v w : Kind) → IsContainedIn A C → IsProperKind k → IsKindIn k l
+    → IsContainedIn (stored_at A k off count v) (stored_at C l off count w)
+stored_grows A C k Unset off count v w p x q = stored_more A C k off count v p
+stored_grows A C k (Number b) off count v w p x q = stored_more A C k off count v p
+stored_grows A C k (Pointer Mem b) off count v w p x q = stored_more A C k off count v p
+stored_grows A C k (Pointer Stack b) off count v w p x (a, is, q) = rw is (by (is_single b) refl)
   where
     members : HasMembers a
     members = subst IsProperKind is x
 
-    by : (t : Bool) → is_single b ≡ t → IsContainedIn (stored_at A (Pointer Stack a) off count) (if t then with_written C (moved b.lo off) count else C)
+    by : (t : Bool) → is_single b ≡ t → IsContainedIn (stored_at A (Pointer Stack a) off count v) (if t then with_written C (moved b.lo off) count else C)
     by true e =
         let same : a.lo ≡ b.lo = (single_inside a b members q e).0 in
         rw (single_below a b members q e, same) (written_grows A C (moved b.lo off) count p)
-    by false e = stored_more A C (Pointer Stack a) off count p
+    by false e = stored_more A C (Pointer Stack a) off count v p
 
 -- ---- branches
 
@@ -191,7 +195,7 @@ refined_grow A C D dst (operand.Reg register) (Some pair) (Some other) p q e = b
         (with_grows A C dst (Number pair.0) (Number other.0) p (pair.0, refl, q.0)) (pair.1, refl, q.1))
 
 branches_grow : (A C D : AbstractState) (test : Cond) (width : Width) (dst : Reg) (src : Operand) (taken : Bool) (k l m n : Kind) → IsContainedIn A C
-    → IsProperKind k → IsProperKind l → IsKindIn k m → IsKindIn l n → is_unset m ≡ false → is_unset n ≡ false → (is_pointer m || is_pointer n) ≡ false
+    → IsProperKind k → IsProperKind l → IsKindIn k m → IsKindIn l n → is_unset_kind m ≡ false → is_unset_kind n ≡ false → (is_pointer_kind m || is_pointer_kind n) ≡ false
     → branch_outcome A test width dst src taken k l ≡ Some D → Within (branch_outcome C test width dst src taken m n) D
 branches_grow A C D test width dst src taken k l Unset n p x y q r e f g h = absurd cc
 branches_grow A C D test width dst src taken k l (Pointer region c) n p x y q r e f g h = absurd cc
@@ -232,6 +236,12 @@ module _ (program : List Insn) (shape : Extent) (slot : ℕ) (way : Way) (A C D 
   put : (register : Reg) (k l : Kind) → IsKindIn k l → ◌≡◌ {A = Option AbstractState} (Some (with_kind A register k)) (Some D) → IsContainedIn D (with_kind C register l)
   put register k l q e = subst (λ E. IsContainedIn E (with_kind C register l)) (same_Some (with_kind A register k) D e) (with_grows A C register k l p q)
 
+  put_stored : (base : Reg) (off : ℤ) (count : ℕ) (v w : Kind) → ◌≡◌ {A = Option AbstractState} (Some (stored_at A (kind_of A base) off count v)) (Some D)
+      → IsContainedIn D (stored_at C (kind_of C base) off count w)
+  put_stored base off count v w e =
+      subst (λ E. IsContainedIn E (stored_at C (kind_of C base) off count w)) (same_Some (stored_at A (kind_of A base) off count v) D e)
+      (stored_grows A C (kind_of A base) (kind_of C base) off count v w p (proper_of base) (kind_in base))
+
   pub outcome_grows : (insn : Insn) → KeepsRules program shape slot insn (Some C) → outcome shape insn A way ≡ Some D → Within (outcome shape insn C way) D
   outcome_grows (i.Alu op width dst src) kept e =
       put dst _ _ (alu_kinds_grow op width (kind_of A dst) (operand_kind width src A) (kind_of C dst) (operand_kind width src C) (proper_of dst) (proper_operand width src) (kind_in dst) (operand_in width src A C p)) e
@@ -246,12 +256,9 @@ module _ (program : List Insn) (shape : Extent) (slot : ℕ) (way : Way) (A C D 
       (one_set C dst (operand_reads src) (kept UnsetRegister)) (operand_set width src C (rest_set C dst (operand_reads src) (kept UnsetRegister))) (kept PointerMisuse) e
   outcome_grows (i.Call id) kept e = subst (λ E. IsContainedIn E (call_outcome shape (helper_of id) C)) (same_Some (call_outcome shape (helper_of id) A) D e) (called_grows A C shape (helper_of id) p)
   outcome_grows i.Exit kept e = absurd cc
-  outcome_grows (i.Load size dst base off) kept e = put dst _ _ (kind_in_itself (Number (full_of (8 * access_bytes size)))) e
+  outcome_grows (i.Load size dst base off) kept e = put dst _ _ (loaded_grows A C (kind_of A base) (kind_of C base) off (access_bytes size)) e
   outcome_grows (i.LoadSx size dst base off) kept e = put dst _ _ (kind_in_itself (Number (full_of 64))) e
-  outcome_grows (i.StoreReg size base off src) kept e =
-      subst (λ E. IsContainedIn E (stored_at C (kind_of C base) off (access_bytes size))) (same_Some (stored_at A (kind_of A base) off (access_bytes size)) D e)
-      (stored_grows A C (kind_of A base) (kind_of C base) off (access_bytes size) p (proper_of base) (kind_in base))
+  outcome_grows (i.StoreReg size base off src) kept e = put_stored base off (access_bytes size) (kind_of A src) (kind_of C src) e
   outcome_grows (i.StoreImm size base off imm) kept e =
-      subst (λ E. IsContainedIn E (stored_at C (kind_of C base) off (access_bytes size))) (same_Some (stored_at A (kind_of A base) off (access_bytes size)) D e)
-      (stored_grows A C (kind_of A base) (kind_of C base) off (access_bytes size) p (proper_of base) (kind_in base))
+      put_stored base off (access_bytes size) (operand_kind W64 (operand.Imm imm) A) (operand_kind W64 (operand.Imm imm) C) e
   outcome_grows (i.LoadImm64 dst value) kept e = put dst _ _ (kind_in_itself (Number (just value))) e

@@ -18,12 +18,11 @@ use Rattle.bpf_verify.specs.declared.rule.Rule.TheVariants.{NotForward, BadTarge
 use Rattle.bpf_verify.specs.States.{AbstractState}
 use Rattle.bpf_verify.specs.Rules.{lacks, is_negative, goes_back, is_astray, leads_astray, breaks, KeepsRules, lowest_broken}
 
--- a byte that is in the set tells nothing of those after it
-pub lacks_past : (written : ℕ → Bool) (place end : ℕ) → place < end → written place ≡ true → lacks written place (end - place) ≡ lacks written (place + 1) (end - (place + 1))
-lacks_past written place end before in_set =
+-- a byte that is written tells nothing of those after it
+pub lacks_past : (A : AbstractState) (place end : ℕ) → place < end → A.written place ≡ true → lacks A place (end - place) ≡ lacks A (place + 1) (end - (place + 1))
+lacks_past A place end before written =
     let count : end - place ≡ suc (end - (place + 1)) = omega arith in
-    let next : suc place ≡ place + 1 = omega arith in
-    rw (count, in_set) (ap (λ k. lacks written k (end - (place + 1))) next)
+    rw (count, written) refl
 
 -- ---- the lowest rule that is broken
 

@@ -16,17 +16,17 @@ use Rattle.bpf_verify.specs.States.{AbstractState, IsContainedIn, IsProper, join
 use Rattle.bpf_verify.specs.Rules.{KeepsRules, lowest_broken}
 use Rattle.bpf_verify.specs.Outcomes.{outcome}
 use Rattle.bpf_verify.specs.Typable.{Table, IsCovered, Types, Typable}
-use Rattle.bpf_verify.specs.Walk.{Passed, come_of, RefusesInsn, met_state, with_come, sent_on, come_after, rows_after, front_after, IsLeast, IsStop, Walks}
+use Rattle.bpf_verify.specs.Walk.{Passed, IsProperRow, come_of, RefusesInsn, met_state, with_come, sent_on, come_after, rows_after, front_after, IsLeast, IsStop, Walks}
 use Rattle.bpf_verify.specs.declared.rule.Rule.{Rule}
 use Rattle.bpf_verify.specs.declared.rule.Rule.TheVariants.{NotForward}
 use Rattle.bpf_verify.specs.Accepted.{IsFirstBroken, IsRefusal}
 use Rattle.bpf_verify.specs.declared.refusal.VerifyError.{VerifyError}
 use Rattle.bpf_verify.specs.declared.refusal.VerifyError.TheVariants as error
 use Rattle.bpf_verify.specs.declared.walk.Front.{Front}
-use Rattle.bpf_verify.specs.Rows.{abstract_of}
 use Rattle.bpf_verify.proofs.RuleLaws.{jumps_forward, onward_next, none_broken, here_within}
 use Rattle.bpf_verify.proofs.RulesGrow.{rules_grow, rules_unreached}
 use Rattle.bpf_verify.proofs.OutcomesGrow.{outcome_grows}
+use Rattle.bpf_verify.proofs.ProperLaws.{joined_proper, outcome_proper, entry_proper}
 use Rattle.bpf_verify.proofs.StateLaws.{contained_in_itself, contained_further, joined_first, joined_second, joined_within}
 
 -- ---- what covers a state
@@ -63,6 +63,39 @@ rows_grow : (shape : Extent) (insn : Insn) (slot : ℕ) (state : Option Abstract
     → Covers (rows to) A → Covers (rows_after shape insn slot state rows to) A
 rows_grow shape insn slot None rows to A h = h
 rows_grow shape insn slot (Some B) rows to A h = sent_grows rows (target insn slot Jumping) (outcome shape insn B Jumping) to A h
+
+-- ---- ranges with members
+
+met_proper : (row come : Option AbstractState) → IsProperRow row → IsProperRow come → IsProperRow (met_state row come)
+met_proper None come p q = q
+met_proper (Some A) None p q = p
+met_proper (Some A) (Some C) p q = joined_proper A C p q
+
+come_proper : (rows : Table) (at to : ℕ) (D : AbstractState) → IsProperRow (rows to) → IsProper D → IsProperRow (with_come rows at D to)
+come_proper rows at to D p q =
+    elim (cases_eq to at) [
+      | inl e ↦ rw (eq-eqb to at e) (met_proper (rows at) (Some D) (subst (λ k. IsProperRow (rows k)) e p) q)
+      | inr n ↦ rw (ne_eqb to at n) p
+    ]
+
+sent_proper : (rows : Table) (goal : Option ℕ) (after : Option AbstractState) (to : ℕ) → IsProperRow (rows to) → IsProperRow after → IsProperRow (sent_on rows goal after to)
+sent_proper rows None after to p q = p
+sent_proper rows (Some at) None to p q = p
+sent_proper rows (Some at) (Some D) to p q = come_proper rows at to D p q
+
+rows_proper : (shape : Extent) (insn : Insn) (slot : ℕ) (state : Option AbstractState) (rows : Table) (to : ℕ)
+    → IsProperRow (rows to) → IsProperRow state → IsProperRow (rows_after shape insn slot state rows to)
+rows_proper shape insn slot None rows to p q = p
+rows_proper shape insn slot (Some A) rows to p q =
+    sent_proper rows (target insn slot Jumping) (outcome shape insn A Jumping) to p (outcome_proper shape Jumping A q insn)
+
+front_proper : (shape : Extent) (insn : Insn) (slot : ℕ) (state : Option AbstractState) → IsProperRow state → IsProperRow (front_after shape insn slot state)
+front_proper shape insn slot None p = tt
+front_proper shape insn slot (Some A) p = by (target insn slot Onward) (outcome shape insn A Onward) (outcome_proper shape Onward A p insn)
+  where
+    by : (goal : Option ℕ) (after : Option AbstractState) → IsProperRow after → IsProperRow (come_after goal after)
+    by None after q = tt
+    by (Some to) after q = q
 
 -- ---- what is within what another table says
 
@@ -108,10 +141,6 @@ later_covers table slot next come rows to A h covers =
     ]
 
 -- ---- one step of the walk
-
-abbrev pub IsProperRow : Option AbstractState → Type 0
-IsProperRow None = Unit {0}
-IsProperRow (Some A) = IsProper A
 
 module _ (program : List Insn) (shape : Extent) (slot : ℕ) (insn : Insn) (state : Option AbstractState) (table rows rows' : Table) (come' : Option AbstractState)
     (here : insn_at program slot ≡ Some insn) (kept : KeepsRules program shape slot insn state) (passed : Passed program shape slot table)
@@ -242,34 +271,40 @@ module _ (program : List Insn) (shape : Extent) (slot : ℕ) (insn : Insn) (stat
           within_met (rows' to) come' (other to) (subst (λ row. IsWithin row (other to)) (sym (sent to)) (jumped state refl proper later)) (come state refl proper later f) A
           (sym (ap after f ∙ table_next table slot next come' rows' beyond ∙ ap (λ n. met_state (rows' n) come') (sym f)) ∙ e)
 
-  members : IsProperRow state → (at : ℕ) (i : Insn) (A : AbstractState) → at < next → insn_at program at ≡ Some i → after at ≡ Some A → IsProper A
-  members proper at i A within e row =
-      elim (cases_lt at slot) [
-        | inl before ↦ passed.proper at i A before e (sym (table_before table slot next come' rows' at (omega arith)) ∙ row)
-        | inr from ↦
-            elim (cases_eq at slot) [
-              | inl same ↦ subst IsProperRow (sym is ∙ ap table (sym same) ∙ sym (table_before table slot next come' rows' at (omega arith)) ∙ row) proper
-              | inr other ↦ absurd (none (sym (none_inside program slot at insn here (omega arith) within) ∙ e))
+  proper_after : ((at : ℕ) → IsProperRow (table at)) → (to : ℕ) → IsProperRow (after to)
+  proper_after proper to =
+      elim (cases_lt slot to) [
+        | inr before ↦ subst IsProperRow (sym (table_before table slot next come' rows' to before)) (proper to)
+        | inl later ↦
+            elim (cases_eq to next) [
+              | inl e ↦ rw (lt-leb to slot later, eq-eqb to next e) (met_proper (rows' to) come' (ahead_proper later) comes_proper)
+              | inr n ↦ rw (lt-leb to slot later, ne_eqb to next n) (ahead_proper later)
             ]
       ]
     where
-      none : ◌≡◌ {A = Option Insn} None (Some i) → ⊥
-      none f = absurd cc
+      here_proper : IsProperRow state
+      here_proper = subst IsProperRow (is) (proper slot)
 
-  pub walk_on : IsProperRow state → IsLeast program shape table → Walks program shape (slot + slots_taken insn) come' rows'
+      comes_proper : IsProperRow come'
+      comes_proper = subst IsProperRow (sym goes) (front_proper shape insn slot state here_proper)
+
+      ahead_proper : slot < to → IsProperRow (rows' to)
+      ahead_proper later = subst IsProperRow (sym (sent to)) (rows_proper shape insn slot state rows to (subst IsProperRow (ahead to later) (proper to)) here_proper)
+
+  pub walk_on : ((at : ℕ) → IsProperRow (table at)) → IsLeast program shape table → Walks program shape (slot + slots_taken insn) come' rows'
   walk_on proper least = (
     after,
     record {
       passed = record {
         entry = still 0 (entry_state shape) passed.entry;
-        proper = members proper;
         rules = rules;
         edges = edges;
       };
       here = table_next table slot next come' rows' beyond;
       ahead = λ to h. table_later table slot next come' rows' to (omega (arith, beyond)) (λ e. absurd (omega (arith, e)));
+      proper = proper_after proper;
     },
-    still_least proper least,
+    still_least (subst IsProperRow (is) (proper slot)) least,
   )
 
 -- ---- the first step, the last, and a refusal
@@ -285,16 +320,20 @@ walk_begins program shape come rows comes empty = (
   record {
     passed = record {
       entry = contained_in_itself (entry_state shape);
-      proper = λ slot insn A before e f. absurd (omega (arith, before));
       rules = λ slot insn before e. absurd (omega (arith, before));
       edges = λ slot to insn way A C before e f g h. absurd (omega (arith, before));
     };
     here = sym (ap (λ row. met_state row come) (empty 0) ∙ comes);
     ahead = λ to later. rw (ne_eqb to 0 (λ e. absurd (omega (arith, e)))) (sym (empty to));
+    proper = λ at. begun (at == 0);
   },
   λ end other types slot A before e. first end other types slot A e (cases_eq slot 0),
 )
   where
+    begun : (b : Bool) → IsProperRow (if b then Some (entry_state shape) else None)
+    begun true = entry_proper shape
+    begun false = tt
+
     first : (end : ℕ) (other : Table) → Types program shape end other → (slot : ℕ) (A : AbstractState) → entry_table shape slot ≡ Some A
         → (slot ≡ 0) ⊎ (slot ≢ 0) → IsCovered other A slot
     first end other types slot A e (inl z) =
@@ -305,11 +344,12 @@ walk_begins program shape come rows comes empty = (
         none : ◌≡◌ {A = Option AbstractState} None (Some A) → ⊥
         none f = absurd cc
 
-types_passed : (program : List Insn) (shape : Extent) (end : ℕ) (table : Table) → Passed program shape end table → Types program shape end table
-types_passed program shape end table passed =
+types_passed : (program : List Insn) (shape : Extent) (end : ℕ) (table : Table) → Passed program shape end table → ((at : ℕ) → IsProperRow (table at))
+    → Types program shape end table
+types_passed program shape end table passed proper =
     record {
       entry = passed.entry;
-      proper = passed.proper;
+      proper = λ slot insn A before e row. subst IsProperRow row (proper slot);
       rules = passed.rules;
       edges = λ slot to insn way A C before within. passed.edges slot to insn way A C before;
     }
@@ -317,7 +357,7 @@ types_passed program shape end table passed =
 pub walk_ends : (program : List Insn) (shape : Extent) (slot : ℕ) (come : Option AbstractState) (rows : Table) → Walks program shape slot come rows → slot ≡ slots_of program
     → Typable program shape
 walk_ends program shape slot come rows (table, stands, least) e =
-    (table, subst (λ end. Types program shape end table) e (types_passed program shape slot table stands.passed))
+    (table, subst (λ end. Types program shape end table) e (types_passed program shape slot table stands.passed stands.proper))
 
 -- the walk is at the end where no instruction begins
 pub walk_done : (program : List Insn) (shape : Extent) (slot : ℕ) (come : Option AbstractState) (rows : Table) → Walks program shape slot come rows → IsStop program slot
@@ -331,13 +371,13 @@ walk_done program shape slot come rows walks (inr end) none = walk_ends program 
 
 -- a rule that is broken of what is known is broken of what any table says that types the slots before
 pub refused_here : (program : List Insn) (shape : Extent) (slot : ℕ) (insn : Insn) (state : Option AbstractState) (table : Table) (rule : Rule)
-    → insn_at program slot ≡ Some insn → Passed program shape slot table → IsLeast program shape table → table slot ≡ state → IsProperRow state
+    → insn_at program slot ≡ Some insn → Passed program shape slot table → IsLeast program shape table → table slot ≡ state → ((at : ℕ) → IsProperRow (table at))
     → lowest_broken program shape slot insn state ≡ Some rule → IsFirstBroken program shape slot
 refused_here program shape slot insn state table rule here passed least is proper broken =
     record {
       within = here_within program slot insn here;
-      before = (table, types_passed program shape slot table passed);
-      here = λ typed. kept_not state (is) proper broken typed.0 typed.1;
+      before = (table, types_passed program shape slot table passed proper);
+      here = λ typed. kept_not state (is) (subst IsProperRow (is) (proper slot)) broken typed.0 typed.1;
     }
   where
     some_none : (o : Option Rule) → o ≡ None → o ≡ Some rule → ⊥
@@ -360,28 +400,21 @@ refused_here program shape slot insn state table rule here passed least is prope
 
 -- ---- the same of the front and the rows as they are kept
 
-proper_come : (front : Front) → IsProper (abstract_of front.known) → IsProperRow (come_of front)
-proper_come front proper = by front.reached
-  where
-    by : (b : Bool) → IsProperRow (if b then Some (abstract_of front.known) else None)
-    by true = proper
-    by false = tt
-
 module _ (program : List Insn) (shape : Extent) (slot : ℕ) (insn : Insn) (front : Front) (come : Option AbstractState) (rows rows' : Table)
-    (here : insn_at program slot ≡ Some insn) (walks : Walks program shape slot come rows) (proper : IsProper (abstract_of front.known))
+    (here : insn_at program slot ≡ Some insn) (walks : Walks program shape slot come rows)
     (met : come_of front ≡ met_state (rows slot) come) (ahead : (to : ℕ) → slot < to → rows' to ≡ rows to) where
   pub walk_past : KeepsRules program shape slot insn (come_of front) → (sent : Table) (come' : Option AbstractState)
       → ((to : ℕ) → sent to ≡ rows_after shape insn slot (come_of front) rows' to) → come' ≡ front_after shape insn slot (come_of front)
       → Walks program shape (slot + slots_taken insn) come' sent
   walk_past kept sent come' goes on =
       walk_on program shape slot insn (come_of front) walks.0 rows' sent come' here kept walks.1.passed (walks.1.here ∙ sym met)
-      (λ to later. walks.1.ahead to later ∙ sym (ahead to later)) goes on (proper_come front proper) walks.2
+      (λ to later. walks.1.ahead to later ∙ sym (ahead to later)) goes on walks.1.proper walks.2
 
   pub walk_refused : (error : VerifyError) → RefusesInsn program shape slot insn (come_of front) error → IsRefusal program shape error
   walk_refused error.Memory told = tt
   walk_refused (error.Refused at rule) (same, broken) =
       subst (IsFirstBroken program shape) (sym same)
-      (refused_here program shape slot insn (come_of front) walks.0 rule here walks.1.passed walks.2 (walks.1.here ∙ sym met) (proper_come front proper) broken)
+      (refused_here program shape slot insn (come_of front) walks.0 rule here walks.1.passed walks.2 (walks.1.here ∙ sym met) walks.1.proper broken)
 
 -- ---- answers
 

@@ -33,8 +33,11 @@ use Rattle.bpf_verify.specs.Rules.{operand_kind}
 abbrev pub put_kind : (ℕ → Kind) → ℕ → Kind → ℕ → Kind
 put_kind kinds number kind other = if other == number then kind else kinds other
 
+abbrev pub with_kinds : AbstractState → (ℕ → Kind) → AbstractState
+with_kinds A kinds = record A { kinds = kinds }
+
 abbrev pub with_kind : AbstractState → Reg → Kind → AbstractState
-with_kind A register kind = record A { kinds = put_kind A.kinds (register_number register) kind }
+with_kind A register kind = with_kinds A (put_kind A.kinds (register_number register) kind)
 
 -- ---- arithmetic
 
@@ -56,40 +59,51 @@ difference_kind (Pointer region a) Unset = Unset
 difference_kind (Pointer region a) (Number b) = Pointer region (alu_of Sub W64 a b)
 difference_kind (Pointer region a) (Pointer other b) = Unset
 
-abbrev pub of_number : (Span → Span) → Kind → Kind
-of_number result Unset = Unset
-of_number result (Number a) = Number (result a)
-of_number result (Pointer region a) = Unset
+abbrev pub of_number_kind : (Span → Span) → Kind → Kind
+of_number_kind result Unset = Unset
+of_number_kind result (Number a) = Number (result a)
+of_number_kind result (Pointer region a) = Unset
 
-abbrev pub of_numbers : (Span → Span → Span) → Kind → Kind → Kind
-of_numbers result Unset b = Unset
-of_numbers result (Number a) b = of_number (result a) b
-of_numbers result (Pointer region a) b = Unset
+abbrev pub of_number_kinds : (Span → Span → Span) → Kind → Kind → Kind
+of_number_kinds result Unset b = Unset
+of_number_kinds result (Number a) b = of_number_kind (result a) b
+of_number_kinds result (Pointer region a) b = Unset
 
 -- of a move the first operand is taken equal to the second; one of 64 bits copies a kind
 abbrev pub alu_kind : AluOp → Width → Kind → Kind → Kind
 alu_kind Mov W64 a b = b
-alu_kind Mov W32 a b = of_number (λ n. alu_of Mov W32 n n) b
+alu_kind Mov W32 a b = of_number_kind (λ n. alu_of Mov W32 n n) b
 alu_kind Add W64 a b = sum_kind a b
 alu_kind Sub W64 a b = difference_kind a b
-alu_kind op width a b = of_numbers (alu_of op width) a b
+alu_kind op width a b = of_number_kinds (alu_of op width) a b
+
+abbrev pub alu_outcome : AbstractState → AluOp → Width → Reg → Operand → AbstractState
+alu_outcome A op width dst src = with_kind A dst (alu_kind op width (kind_of A dst) (operand_kind width src A))
 
 -- ---- loads and stores
+
+-- what a load of so many bytes gives, by a pointer of a kind: a number, whatever they are
+abbrev pub loaded_kind : AbstractState → Kind → ℤ → ℕ → Kind
+loaded_kind A base off count = Number (full_of (8 * count))
 
 abbrev pub is_between : ℕ → ℕ → ℕ → Bool
 is_between first end byte = nat_le first byte && nat_lt byte end
 
+abbrev pub put_written : (ℕ → Bool) → ℕ → ℕ → ℕ → Bool
+put_written written first count byte = is_between first (first + count) byte || written byte
+
 -- so many bytes from a place on are written too
 abbrev pub with_written : AbstractState → Option ℕ → ℕ → AbstractState
 with_written A None count = A
-with_written A (Some first) count = record A { written = λ byte. is_between first (first + count) byte || A.written byte }
+with_written A (Some first) count = record A { written = put_written A.written first count }
 
--- a store to one place of the stack writes its bytes; where the place isn't known, none is surely written
-abbrev pub stored_at : AbstractState → Kind → ℤ → ℕ → AbstractState
-stored_at A Unset off count = A
-stored_at A (Number a) off count = A
-stored_at A (Pointer Mem a) off count = A
-stored_at A (Pointer Stack a) off count = if is_single a then with_written A (moved a.lo off) count else A
+-- a store of a value, whatever it is, to one place of the stack writes its bytes; where the place isn't known, none is
+-- surely written
+abbrev pub stored_at : AbstractState → Kind → ℤ → ℕ → Kind → AbstractState
+stored_at A Unset off count value = A
+stored_at A (Number a) off count value = A
+stored_at A (Pointer Mem a) off count value = A
+stored_at A (Pointer Stack a) off count value = if is_single a then with_written A (moved a.lo off) count else A
 
 -- ---- branches
 
@@ -117,6 +131,11 @@ branch_outcome A cond width dst src taken (Number a) Unset = None
 branch_outcome A cond width dst src taken (Number a) (Pointer region b) = None
 branch_outcome A cond width dst src taken (Number a) (Number b) = refined_by A dst src (branch_of cond width a b taken)
 
+-- the same of the kinds that its operands have
+abbrev pub way_outcome : AbstractState → Cond → Width → Reg → Operand → Bool → Option AbstractState
+way_outcome A cond width dst src taken =
+    branch_outcome A cond width dst src taken (kind_of A dst) (operand_kind width src A)
+
 -- ---- calls
 
 abbrev pub answer_kind : Extent → Option Helper → Kind
@@ -131,23 +150,26 @@ abbrev pub called_kinds : Kind → (ℕ → Kind) → ℕ → Kind
 called_kinds answer kinds number = if nat_le number 5 then (if number == 0 then answer else Unset) else kinds number
 
 abbrev pub call_outcome : Extent → Option Helper → AbstractState → AbstractState
-call_outcome shape helper A = record A { kinds = called_kinds (answer_kind shape helper) A.kinds }
+call_outcome shape helper A = with_kinds A (called_kinds (answer_kind shape helper) A.kinds)
 
 -- ---- the outcome on a way: none where the way isn't taken
 
 abbrev pub outcome : Extent → Insn → AbstractState → Way → Option AbstractState
-outcome shape (i.Alu op width dst src) A way = Some (with_kind A dst (alu_kind op width (kind_of A dst) (operand_kind width src A)))
-outcome shape (i.Neg width dst) A way = Some (with_kind A dst (of_number (neg_of width) (kind_of A dst)))
-outcome shape (i.Movsx kind dst src) A way = Some (with_kind A dst (of_number (movsx_of kind) (kind_of A src)))
-outcome shape (i.Swap order bits dst) A way = Some (with_kind A dst (of_number (swap_of order bits) (kind_of A dst)))
+outcome shape (i.Alu op width dst src) A way = Some (alu_outcome A op width dst src)
+outcome shape (i.Neg width dst) A way = Some (with_kind A dst (of_number_kind (neg_of width) (kind_of A dst)))
+outcome shape (i.Movsx kind dst src) A way = Some (with_kind A dst (of_number_kind (movsx_of kind) (kind_of A src)))
+outcome shape (i.Swap order bits dst) A way =
+    Some (with_kind A dst (of_number_kind (swap_of order bits) (kind_of A dst)))
 outcome shape (i.Ja off) A way = Some A
 outcome shape (i.JaLong off) A way = Some A
-outcome shape (i.Branch cond width dst src off) A way =
-    branch_outcome A cond width dst src (is_taken way) (kind_of A dst) (operand_kind width src A)
+outcome shape (i.Branch cond width dst src off) A way = way_outcome A cond width dst src (is_taken way)
 outcome shape (i.Call id) A way = Some (call_outcome shape (helper_of id) A)
 outcome shape i.Exit A way = None
-outcome shape (i.Load size dst base off) A way = Some (with_kind A dst (Number (full_of (8 * access_bytes size))))
+outcome shape (i.Load size dst base off) A way =
+    Some (with_kind A dst (loaded_kind A (kind_of A base) off (access_bytes size)))
 outcome shape (i.LoadSx size dst base off) A way = Some (with_kind A dst (Number (full_of 64)))
-outcome shape (i.StoreReg size base off src) A way = Some (stored_at A (kind_of A base) off (access_bytes size))
-outcome shape (i.StoreImm size base off imm) A way = Some (stored_at A (kind_of A base) off (access_bytes size))
+outcome shape (i.StoreReg size base off src) A way =
+    Some (stored_at A (kind_of A base) off (access_bytes size) (kind_of A src))
+outcome shape (i.StoreImm size base off imm) A way =
+    Some (stored_at A (kind_of A base) off (access_bytes size) (operand_kind W64 (operand.Imm imm) A))
 outcome shape (i.LoadImm64 dst value) A way = Some (with_kind A dst (Number (just value)))

@@ -1,4 +1,5 @@
--- Paths through a program, by its edges alone: whether an edge can be taken plays no part (docs/VERIFIER.md, "The longest path").
+-- Paths through a program, by its edges alone: whether an edge can be taken plays no part (docs/VERIFIER.md,
+-- "The longest path").
 use Rattle.std.specs.Prelude.{◌≡◌, ℕ, zero, suc, ◌≤◌, List, Some}
 use Rattle.bpf_insn.specs.declared.forms.Insn.{Insn}
 use Rattle.bpf_insn.specs.declared.edges.Way.{Way}
@@ -7,7 +8,8 @@ use Rattle.bpf_insn.specs.Edges.{target, BeginsAt}
 
 -- an instruction at the one slot leads to the other
 abbrev pub HasEdge : List Insn → ℕ → ℕ → Type 0
-HasEdge program slot to = (insn : Insn) × (way : Way) × (insn_at program slot ≡ Some insn) × (target insn slot way ≡ Some to)
+HasEdge program slot to =
+    (insn : Insn) × (way : Way) × (insn_at program slot ≡ Some insn) × (target insn slot way ≡ Some to)
 
 -- a path of so many edges, one instruction more, from the one slot to the other
 abbrev pub Path : List Insn → ℕ → ℕ → ℕ → Type 0

@@ -1,13 +1,14 @@
 -- What the verifier asks of an instruction (docs/VERIFIER.md, "Rules"): which rules it breaks.
-use Rattle.std.specs.Prelude.{◌≡◌, ℕ, zero, suc, ◌+◌, ◌-◌, ◌%◌, ◌^◌, Bool, true, false, ◌||◌, ◌&&◌, not, List, [], ◌∷◌, Option, Some, None, is_none, nat_lt, ℤ, pos, negsuc}
+use Rattle.std.specs.Prelude.{◌≡◌, ℕ, ◌+◌, ◌-◌, ◌%◌, ◌^◌, Bool, true, false, ◌||◌, ◌&&◌, not, List, [], ◌∷◌, Option, Some, None, is_none, nat_lt, ℤ, pos, negsuc}
 use Rattle.std.specs.Int.{w64, cast_unsigned}
-use Rattle.std.specs.List.{list_any, find}
+use Rattle.std.specs.List.{list_any, find, range_with_len}
 use Rattle.node_env.specs.Env.{Extent, region_size}
 use Rattle.node_env.specs.Helpers.{helper_of, arguments_of}
 use Rattle.node_env.specs.declared.region.Region.{Region}
 use Rattle.node_env.specs.declared.region.Region.TheVariants.{Mem, Stack}
 use Rattle.node_env.specs.declared.helper.Helper.{Helper}
 use Rattle.node_env.specs.declared.helper.Helper.TheVariants.{Id, Recv, Send, Coin}
+use Rattle.bpf_insn.specs.declared.forms.Reg.{Reg}
 use Rattle.bpf_insn.specs.declared.forms.Reg.TheVariants.{R0, R1, R2}
 use Rattle.bpf_insn.specs.declared.forms.Width.{Width}
 use Rattle.bpf_insn.specs.declared.forms.Width.TheVariants.{W32, W64}
@@ -32,20 +33,20 @@ use Rattle.bpf_verify.specs.States.{AbstractState, kind_of}
 
 -- ---- kinds
 
-abbrev pub is_unset : Kind → Bool
-is_unset Unset = true
-is_unset (Number a) = false
-is_unset (Pointer region a) = false
+abbrev pub is_unset_kind : Kind → Bool
+is_unset_kind Unset = true
+is_unset_kind (Number a) = false
+is_unset_kind (Pointer region a) = false
 
-abbrev pub is_pointer : Kind → Bool
-is_pointer Unset = false
-is_pointer (Number a) = false
-is_pointer (Pointer region a) = true
+abbrev pub is_pointer_kind : Kind → Bool
+is_pointer_kind Unset = false
+is_pointer_kind (Number a) = false
+is_pointer_kind (Pointer region a) = true
 
-abbrev pub is_number : Kind → Bool
-is_number Unset = false
-is_number (Number a) = true
-is_number (Pointer region a) = false
+abbrev pub is_number_kind : Kind → Bool
+is_number_kind Unset = false
+is_number_kind (Number a) = true
+is_number_kind (Pointer region a) = false
 
 -- an immediate is one number of the width's bits, its sign extended
 abbrev pub operand_kind : Width → Operand → AbstractState → Kind
@@ -69,21 +70,25 @@ is_astray program None = false
 is_astray program (Some slot) = is_none (insn_at program slot)
 
 abbrev pub leads_astray : List Insn → ℕ → Insn → Bool
-leads_astray program slot insn = is_astray program (target insn slot Onward) || is_astray program (target insn slot Jumping)
+leads_astray program slot insn =
+    is_astray program (target insn slot Onward) || is_astray program (target insn slot Jumping)
 
 -- ---- 3, unknown helper
 
-abbrev pub names_none : Option ℤ → Bool
-names_none None = false
-names_none (Some id) = is_none (helper_of id)
+abbrev pub is_unknown_helper : Option ℤ → Bool
+is_unknown_helper None = false
+is_unknown_helper (Some id) = is_none (helper_of id)
 
 abbrev pub calls_unknown : Insn → Bool
-calls_unknown insn = names_none (call_of insn)
+calls_unknown insn = is_unknown_helper (call_of insn)
 
 -- ---- 4, unset register, and 5, frame write
 
+abbrev pub some_unset : AbstractState → List Reg → Bool
+some_unset A registers = list_any (λ register. is_unset_kind (kind_of A register)) registers
+
 abbrev pub reads_unset : Insn → AbstractState → Bool
-reads_unset insn A = list_any (λ register. is_unset (kind_of A register)) (reads arguments_of insn)
+reads_unset insn A = some_unset A (reads arguments_of insn)
 
 abbrev pub writes_frame : Insn → Bool
 writes_frame insn = is_frame_pointer (written_by insn)
@@ -115,98 +120,101 @@ misuses_difference shape a (Pointer region b) = true
 -- a move of 64 bits copies a pointer; every other operation takes numbers
 abbrev pub misuses_operands : Extent → AluOp → Width → Kind → Kind → Bool
 misuses_operands shape Mov W64 a b = false
-misuses_operands shape Mov W32 a b = is_pointer b
+misuses_operands shape Mov W32 a b = is_pointer_kind b
 misuses_operands shape Add W64 a b = misuses_sum shape a b
 misuses_operands shape Sub W64 a b = misuses_difference shape a b
-misuses_operands shape op width a b = is_pointer a || is_pointer b
+misuses_operands shape op width a b = is_pointer_kind a || is_pointer_kind b
 
-abbrev pub misuses_pointer : Extent → Insn → AbstractState → Bool
-misuses_pointer shape (i.Alu op width dst src) A = misuses_operands shape op width (kind_of A dst) (operand_kind width src A)
-misuses_pointer shape (i.Neg width dst) A = is_pointer (kind_of A dst)
-misuses_pointer shape (i.Movsx kind dst src) A = is_pointer (kind_of A src)
-misuses_pointer shape (i.Swap order bits dst) A = is_pointer (kind_of A dst)
-misuses_pointer shape (i.Ja off) A = false
-misuses_pointer shape (i.JaLong off) A = false
-misuses_pointer shape (i.Branch cond width dst src off) A = is_pointer (kind_of A dst) || is_pointer (operand_kind width src A)
-misuses_pointer shape (i.Call id) A = false
-misuses_pointer shape i.Exit A = false
-misuses_pointer shape (i.Load size dst base off) A = false
-misuses_pointer shape (i.LoadSx size dst base off) A = false
-misuses_pointer shape (i.StoreReg size base off src) A = is_pointer (kind_of A src)
-misuses_pointer shape (i.StoreImm size base off imm) A = false
-misuses_pointer shape (i.LoadImm64 dst value) A = false
+abbrev pub may_misuse_pointer : Extent → Insn → AbstractState → Bool
+may_misuse_pointer shape (i.Alu op width dst src) A =
+    misuses_operands shape op width (kind_of A dst) (operand_kind width src A)
+may_misuse_pointer shape (i.Neg width dst) A = is_pointer_kind (kind_of A dst)
+may_misuse_pointer shape (i.Movsx kind dst src) A = is_pointer_kind (kind_of A src)
+may_misuse_pointer shape (i.Swap order bits dst) A = is_pointer_kind (kind_of A dst)
+may_misuse_pointer shape (i.Ja off) A = false
+may_misuse_pointer shape (i.JaLong off) A = false
+may_misuse_pointer shape (i.Branch cond width dst src off) A =
+    is_pointer_kind (kind_of A dst) || is_pointer_kind (operand_kind width src A)
+may_misuse_pointer shape (i.Call id) A = false
+may_misuse_pointer shape i.Exit A = false
+may_misuse_pointer shape (i.Load size dst base off) A = false
+may_misuse_pointer shape (i.LoadSx size dst base off) A = false
+may_misuse_pointer shape (i.StoreReg size base off src) A = is_pointer_kind (kind_of A src)
+may_misuse_pointer shape (i.StoreImm size base off imm) A = false
+may_misuse_pointer shape (i.LoadImm64 dst value) A = false
 
 -- ---- 7, out of region: an access may take a byte below the region or past its end
 
 -- accesses of so many bytes, the first of them from one place to another
-abbrev pub leaves : ℕ → Option ℕ → Option ℕ → ℕ → Bool
-leaves size (Some first) (Some last) count = nat_lt size (last + count)
-leaves size first last count = true
+abbrev pub may_leave : ℕ → Option ℕ → Option ℕ → ℕ → Bool
+may_leave size (Some first) (Some last) count = nat_lt size (last + count)
+may_leave size first last count = true
 
-abbrev pub leaves_region : Extent → Kind → ℤ → ℕ → Bool
-leaves_region shape Unset off count = false
-leaves_region shape (Number a) off count = false
-leaves_region shape (Pointer region a) off count = leaves (region_size shape region) (moved a.lo off) (moved a.hi off) count
+abbrev pub may_leave_region : Extent → Kind → ℤ → ℕ → Bool
+may_leave_region shape Unset off count = false
+may_leave_region shape (Number a) off count = false
+may_leave_region shape (Pointer region a) off count =
+    may_leave (region_size shape region) (moved a.lo off) (moved a.hi off) count
 
 -- what is asked of an access' base
 abbrev pub on_base : (Kind → ℤ → ℕ → Bool) → AbstractState → Option Access → Bool
 on_base asked A None = false
 on_base asked A (Some access) = asked (kind_of A access.base) access.off access.count
 
-abbrev pub leaves_regions : Extent → Insn → AbstractState → Bool
-leaves_regions shape insn A = on_base (leaves_region shape) A (load_of insn) || on_base (leaves_region shape) A (store_of insn)
+abbrev pub may_leave_regions : Extent → Insn → AbstractState → Bool
+may_leave_regions shape insn A =
+    on_base (may_leave_region shape) A (load_of insn) || on_base (may_leave_region shape) A (store_of insn)
 
 -- ---- 8, unset stack byte: a load may take a byte that isn't surely written
 
--- one of so many bytes from a place on isn't in the set
-abbrev pub lacks : (ℕ → Bool) → ℕ → ℕ → Bool
-lacks written place zero = false
-lacks written place (suc count) = not (written place) || lacks written (suc place) count
+-- one of so many bytes from a place on isn't surely written
+abbrev pub lacks : AbstractState → ℕ → ℕ → Bool
+lacks A place count = list_any (λ byte. not (A.written byte)) (range_with_len place count)
 
-abbrev pub lacks_between : (ℕ → Bool) → Option ℕ → Option ℕ → ℕ → Bool
-lacks_between written (Some first) (Some last) count = lacks written first (last + count - first)
-lacks_between written first last count = false
+abbrev pub lacks_between : AbstractState → Option ℕ → Option ℕ → ℕ → Bool
+lacks_between A (Some first) (Some last) count = lacks A first (last + count - first)
+lacks_between A first last count = false
 
-abbrev pub lacks_byte : (ℕ → Bool) → Kind → ℤ → ℕ → Bool
-lacks_byte written Unset off count = false
-lacks_byte written (Number a) off count = false
-lacks_byte written (Pointer Mem a) off count = false
-lacks_byte written (Pointer Stack a) off count = lacks_between written (moved a.lo off) (moved a.hi off) count
+abbrev pub lacks_byte : AbstractState → Kind → ℤ → ℕ → Bool
+lacks_byte A Unset off count = false
+lacks_byte A (Number a) off count = false
+lacks_byte A (Pointer Mem a) off count = false
+lacks_byte A (Pointer Stack a) off count = lacks_between A (moved a.lo off) (moved a.hi off) count
 
 abbrev pub loads_unset : Insn → AbstractState → Bool
-loads_unset insn A = on_base (lacks_byte A.written) A (load_of insn)
+loads_unset insn A = on_base (lacks_byte A) A (load_of insn)
 
 -- ---- 9, bad argument: r1 of recv and send, and r2 of send
 
-abbrev pub not_below : ℕ → Kind → Bool
-not_below limit Unset = false
-not_below limit (Number a) = not (nat_lt a.hi limit)
-not_below limit (Pointer region a) = true
+abbrev pub may_reach : ℕ → Kind → Bool
+may_reach limit Unset = false
+may_reach limit (Number a) = not (nat_lt a.hi limit)
+may_reach limit (Pointer region a) = true
 
-abbrev pub helper_refuses : Extent → Option Helper → AbstractState → Bool
-helper_refuses shape None A = false
-helper_refuses shape (Some Id) A = false
-helper_refuses shape (Some Recv) A = not_below shape.nodes (kind_of A R1)
-helper_refuses shape (Some Send) A = not_below shape.nodes (kind_of A R1) || not_below (2 ^ 32) (kind_of A R2)
-helper_refuses shape (Some Coin) A = false
+abbrev pub helper_may_refuse : Extent → Option Helper → AbstractState → Bool
+helper_may_refuse shape None A = false
+helper_may_refuse shape (Some Id) A = false
+helper_may_refuse shape (Some Recv) A = may_reach shape.nodes (kind_of A R1)
+helper_may_refuse shape (Some Send) A = may_reach shape.nodes (kind_of A R1) || may_reach (2 ^ 32) (kind_of A R2)
+helper_may_refuse shape (Some Coin) A = false
 
-abbrev pub call_refuses : Extent → Option ℤ → AbstractState → Bool
-call_refuses shape None A = false
-call_refuses shape (Some id) A = helper_refuses shape (helper_of id) A
+abbrev pub call_may_refuse : Extent → Option ℤ → AbstractState → Bool
+call_may_refuse shape None A = false
+call_may_refuse shape (Some id) A = helper_may_refuse shape (helper_of id) A
 
 abbrev pub misses_argument : Extent → Insn → AbstractState → Bool
-misses_argument shape insn A = call_refuses shape (call_of insn) A
+misses_argument shape insn A = call_may_refuse shape (call_of insn) A
 
 -- ---- 10, exit without a number, and 11, not a pointer
 
-abbrev pub exits_with_pointer : Insn → AbstractState → Bool
-exits_with_pointer insn A = is_exit insn && is_pointer (kind_of A R0)
+abbrev pub may_exit_with_pointer : Insn → AbstractState → Bool
+may_exit_with_pointer insn A = is_exit insn && is_pointer_kind (kind_of A R0)
 
-abbrev pub base_is_number : Kind → ℤ → ℕ → Bool
-base_is_number kind off count = is_number kind
+abbrev pub is_number_base : Kind → ℤ → ℕ → Bool
+is_number_base kind off count = is_number_kind kind
 
 abbrev pub accesses_number : Insn → AbstractState → Bool
-accesses_number insn A = on_base base_is_number A (load_of insn) || on_base base_is_number A (store_of insn)
+accesses_number insn A = on_base is_number_base A (load_of insn) || on_base is_number_base A (store_of insn)
 
 -- ---- the rules
 
@@ -228,18 +236,19 @@ abbrev pub in_state : Option AbstractState → (AbstractState → Bool) → Bool
 in_state None asked = false
 in_state (Some A) asked = asked A
 
--- whether an instruction at a slot, with what is known there, breaks a rule: 1, 2, 3 and 5 are asked also where no state is
+-- whether an instruction at a slot, with what is known there, breaks a rule: 1, 2, 3 and 5 are asked also where
+-- no state is
 abbrev pub breaks : Rule → List Insn → Extent → ℕ → Insn → Option AbstractState → Bool
 breaks NotForward program shape slot insn state = goes_back insn
 breaks BadTarget program shape slot insn state = leads_astray program slot insn
 breaks UnknownHelper program shape slot insn state = calls_unknown insn
 breaks UnsetRegister program shape slot insn state = in_state state (reads_unset insn)
 breaks FrameWrite program shape slot insn state = writes_frame insn
-breaks PointerMisuse program shape slot insn state = in_state state (misuses_pointer shape insn)
-breaks OutOfRegion program shape slot insn state = in_state state (leaves_regions shape insn)
+breaks PointerMisuse program shape slot insn state = in_state state (may_misuse_pointer shape insn)
+breaks OutOfRegion program shape slot insn state = in_state state (may_leave_regions shape insn)
 breaks UnsetStackByte program shape slot insn state = in_state state (loads_unset insn)
 breaks BadArgument program shape slot insn state = in_state state (misses_argument shape insn)
-breaks ExitNotNumber program shape slot insn state = in_state state (exits_with_pointer insn)
+breaks ExitNotNumber program shape slot insn state = in_state state (may_exit_with_pointer insn)
 breaks NotPointer program shape slot insn state = in_state state (accesses_number insn)
 
 -- it breaks none
@@ -249,7 +258,8 @@ KeepsRules program shape slot insn state = (rule : Rule) → breaks rule program
 -- the rules in the order of their numbers
 abbrev pub rules_in_order : List Rule
 rules_in_order =
-    NotForward ∷ BadTarget ∷ UnknownHelper ∷ UnsetRegister ∷ FrameWrite ∷ PointerMisuse ∷ OutOfRegion ∷ UnsetStackByte ∷ BadArgument ∷ ExitNotNumber ∷ NotPointer ∷ []
+    NotForward ∷ BadTarget ∷ UnknownHelper ∷ UnsetRegister ∷ FrameWrite ∷ PointerMisuse ∷ OutOfRegion
+    ∷ UnsetStackByte ∷ BadArgument ∷ ExitNotNumber ∷ NotPointer ∷ []
 
 -- the rule of the lowest number that it breaks
 abbrev pub lowest_broken : List Insn → Extent → ℕ → Insn → Option AbstractState → Option Rule

@@ -18,6 +18,10 @@ pub record AbstractState : Type 0 where
 abbrev pub kind_of : AbstractState → Reg → Kind
 kind_of A register = A.kinds (register_number register)
 
+-- the state of which so much is known
+abbrev pub abstract_state : (ℕ → Kind) → (ℕ → Bool) → AbstractState
+abstract_state kinds written = record { kinds = kinds; written = written }
+
 -- ---- containment
 
 -- a kind that says as much or more: Unset says nothing
@@ -61,21 +65,22 @@ joined_kind (Pointer region a) (Pointer other b) = in_region region other (hull_
 -- a byte is surely written where it is in both
 abbrev pub joined_state : AbstractState → AbstractState → AbstractState
 joined_state A C =
-    record {
-      kinds = λ number. joined_kind (A.kinds number) (C.kinds number);
-      written = λ byte. A.written byte && C.written byte;
-    }
+    abstract_state (λ number. joined_kind (A.kinds number) (C.kinds number)) (λ byte. A.written byte && C.written byte)
 
 -- ---- entry
 
--- r1 points at the node's memory, r2 is the node's number, r10 is the end of the stack
+-- the stack grows down from its end
+abbrev pub stack_base : Kind
+stack_base = Pointer Stack (just STACK_BYTES)
+
+-- r1 points at the node's memory, r2 is the node's number, r10 is the stack's base
 abbrev pub entry_kinds : Extent → ℕ → Kind
 entry_kinds shape number =
     if number == 1 then Pointer Mem (just 0)
     else if number == 2 then Number (span 0 (shape.nodes - 1))
-    else if number == 10 then Pointer Stack (just STACK_BYTES)
+    else if number == 10 then stack_base
     else Unset
 
 -- nothing else is set, and no byte is written
 abbrev pub entry_state : Extent → AbstractState
-entry_state shape = record { kinds = entry_kinds shape; written = λ byte. false }
+entry_state shape = abstract_state (entry_kinds shape) (λ byte. false)

@@ -17,13 +17,16 @@ Table = ℕ → Option AbstractState
 abbrev pub IsCovered : Table → AbstractState → ℕ → Type 0
 IsCovered table A slot = IsSomeAnd (table slot) (λ C. IsContainedIn A C)
 
--- the table types the slots below end: it covers the entry, each range there has members, each instruction keeps the rules, and each
--- outcome is covered where its way leads
+-- the table types the slots below end: it covers the entry, each range there has members, each instruction keeps the
+-- rules, and each outcome is covered where its way leads
 pub record Types (program : List Insn) (shape : Extent) (end : ℕ) (table : Table) : Type 0 where
   pub entry : IsCovered table (entry_state shape) 0
-  pub proper : (slot : ℕ) (insn : Insn) (A : AbstractState) → slot < end → insn_at program slot ≡ Some insn → table slot ≡ Some A → IsProper A
-  pub rules : (slot : ℕ) (insn : Insn) → slot < end → insn_at program slot ≡ Some insn → KeepsRules program shape slot insn (table slot)
-  pub edges : (slot to : ℕ) (insn : Insn) (way : Way) (A C : AbstractState) → slot < end → to < end → insn_at program slot ≡ Some insn
+  pub proper : (slot : ℕ) (insn : Insn) (A : AbstractState) → slot < end → insn_at program slot ≡ Some insn
+      → table slot ≡ Some A → IsProper A
+  pub rules : (slot : ℕ) (insn : Insn) → slot < end → insn_at program slot ≡ Some insn
+      → KeepsRules program shape slot insn (table slot)
+  pub edges : (slot to : ℕ) (insn : Insn) (way : Way) (A C : AbstractState) → slot < end → to < end
+      → insn_at program slot ≡ Some insn
       → table slot ≡ Some A → target insn slot way ≡ Some to → outcome shape insn A way ≡ Some C → IsCovered table C to
 
 -- some table types the slots below end

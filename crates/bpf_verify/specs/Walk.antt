@@ -20,9 +20,10 @@ use Rattle.std.specs.declared.boxed.Box.{Box}
 -- the slots before end keep the rules, and their outcomes are covered wherever they lead
 pub record Passed (program : List Insn) (shape : Extent) (end : ℕ) (table : Table) : Type 0 where
   pub entry : IsCovered table (entry_state shape) 0
-  pub proper : (slot : ℕ) (insn : Insn) (A : AbstractState) → slot < end → insn_at program slot ≡ Some insn → table slot ≡ Some A → IsProper A
-  pub rules : (slot : ℕ) (insn : Insn) → slot < end → insn_at program slot ≡ Some insn → KeepsRules program shape slot insn (table slot)
-  pub edges : (slot to : ℕ) (insn : Insn) (way : Way) (A C : AbstractState) → slot < end → insn_at program slot ≡ Some insn
+  pub rules : (slot : ℕ) (insn : Insn) → slot < end → insn_at program slot ≡ Some insn
+      → KeepsRules program shape slot insn (table slot)
+  pub edges : (slot to : ℕ) (insn : Insn) (way : Way) (A C : AbstractState) → slot < end
+      → insn_at program slot ≡ Some insn
       → table slot ≡ Some A → target insn slot way ≡ Some to → outcome shape insn A way ≡ Some C → IsCovered table C to
 
 -- what two ways to a slot leave there
@@ -55,24 +56,34 @@ abbrev pub front_after : Extent → Insn → ℕ → Option AbstractState → Op
 front_after shape insn slot None = None
 front_after shape insn slot (Some A) = come_after (target insn slot Onward) (outcome shape insn A Onward)
 
--- the walk stands before a slot: some table types the slots before it, and holds there what has come by jumps and from the slot before,
--- and at each later slot what has come by jumps
-pub record Stands (program : List Insn) (shape : Extent) (slot : ℕ) (come : Option AbstractState) (rows table : Table) : Type 0 where
+-- each range of what has come has members
+abbrev pub IsProperRow : Option AbstractState → Type 0
+IsProperRow None = Unit {0}
+IsProperRow (Some A) = IsProper A
+
+-- the walk stands before a slot: some table types the slots before it, and holds there what has come by jumps and from
+-- the slot before, and at each later slot what has come by jumps
+pub record Stands
+    (program : List Insn) (shape : Extent) (slot : ℕ) (come : Option AbstractState) (rows table : Table) : Type 0 where
   pub passed : Passed program shape slot table
   pub here : table slot ≡ met_state (rows slot) come
   pub ahead : (to : ℕ) → slot < to → table to ≡ rows to
+  pub proper : (at : ℕ) → IsProperRow (table at)
 
 -- the table says at each slot all that any table says that types it
 abbrev pub IsLeast : List Insn → Extent → Table → Type 0
 IsLeast program shape table =
-    (end : ℕ) (other : Table) → Types program shape end other → (slot : ℕ) (A : AbstractState) → slot < end → table slot ≡ Some A → IsCovered other A slot
+    (end : ℕ) (other : Table) → Types program shape end other → (slot : ℕ) (A : AbstractState) → slot < end
+    → table slot ≡ Some A → IsCovered other A slot
 
 abbrev pub Walks : List Insn → Extent → ℕ → Option AbstractState → Table → Type 0
-Walks program shape slot come rows = (table : Table) × Stands program shape slot come rows table × IsLeast program shape table
+Walks program shape slot come rows =
+    (table : Table) × Stands program shape slot come rows table × IsLeast program shape table
 
 -- an instruction that is refused: its slot, and the lowest rule that it breaks
 abbrev pub RefusesInsn : List Insn → Extent → ℕ → Insn → Option AbstractState → VerifyError → Type 0
-RefusesInsn program shape slot insn state (error.Refused at rule) = (at ≡ slot) × (lowest_broken program shape slot insn state ≡ Some rule)
+RefusesInsn program shape slot insn state (error.Refused at rule) =
+    (at ≡ slot) × (lowest_broken program shape slot insn state ≡ Some rule)
 RefusesInsn program shape slot insn state error.Memory = Unit {0}
 
 -- an instruction begins at the slot, or it is the end
@@ -84,9 +95,9 @@ IsStop program slot = BeginsAt program slot ⊎ (slot ≡ slots_of program)
 abbrev pub come_of : Front → Option AbstractState
 come_of front = if front.reached then Some (abstract_of front.known) else None
 
-abbrev pub row_of : {A : Type 0} → Option (Box Known A) → Option AbstractState
-row_of None = None
-row_of (Some row) = Some (abstract_of row.value)
+abbrev pub row_state : {A : Type 0} → Option (Box Known A) → Option AbstractState
+row_state None = None
+row_state (Some row) = Some (abstract_of row.value)
 
-abbrev pub rows_of : {A : Type 0} → List (Option (Box Known A)) → Table
-rows_of rows slot = row_of (slice_index_or rows slot None)
+abbrev pub table_of : {A : Type 0} → List (Option (Box Known A)) → Table
+table_of rows slot = row_state (slice_index_or rows slot None)

@@ -7,7 +7,10 @@ use value_range::Range;
 /// region at an offset of a range (docs/VERIFIER.md, "Abstract states").
 #[derive(Clone, Copy, Debug)]
 pub enum Kind {
+    /// Nothing is known.
     Unset,
+    /// It holds a number of the range.
     Number(Range),
+    /// It points into the region, at an offset of the range.
     Pointer(Region, Range),
 }

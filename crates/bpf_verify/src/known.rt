@@ -2,9 +2,9 @@
 
 ghost use Rattle.std.specs.Prelude.{◌≡◌, ℕ, ◌+◌, ◌-◌, ◌<◌, ◌≤◌, Some};
 ghost use Rattle.value_range.specs.Span.{span};
-ghost use Rattle.bpf_verify.specs.States.{IsProper, IsProperKind, kind_of, joined_kind, joined_state, entry_state};
+ghost use Rattle.bpf_verify.specs.States.{kind_of, joined_kind, joined_state, entry_state};
 ghost use Rattle.bpf_verify.specs.Outcomes.{with_kind, with_written};
-ghost use Rattle.bpf_verify.specs.Rows.{kind_at, abstract_of};
+ghost use Rattle.bpf_verify.specs.Rows.{kind_numbered, abstract_of};
 
 use crate::kind::Kind;
 use crate::marks::Marks;
@@ -45,24 +45,9 @@ fn joined(a: Kind, b: Kind) -> Kind
     }
 }
 
-/// A range has members, by its type.
-#[inline(always)]
-fn show_kind_members(kind: Kind)
-    ensures { IsProperKind kind }
-{
-    match kind {
-        Kind::Unset => {}
-        Kind::Number(a) => {
-            let _lo = a.lo();
-        }
-        Kind::Pointer(_region, a) => {
-            let _lo = a.lo();
-        }
-    }
-}
-
 fn join_kinds(kinds: &mut [Kind; REGISTERS], others: &[Kind; REGISTERS])
-    ensures { (number : ℕ) → kind_at kinds.new number ≡ joined_kind (kind_at kinds.old number) (kind_at others.now number) }
+    ensures { (number : ℕ) → kind_numbered kinds.new number
+        ≡ joined_kind (kind_numbered kinds.old number) (kind_numbered others.now number) }
 {
     for number in 0..REGISTERS {
         kinds[number] = joined(kinds[number], others[number]);
@@ -93,6 +78,7 @@ impl Known {
         self.kinds[register.number() as usize]
     }
 
+    /// A register is of a kind from now on.
     #[inline(always)]
     pub(crate) fn set_kind(&mut self, register: Reg, kind: Kind)
         ensures { abstract_of self.new ≡ with_kind (abstract_of self.old) register kind }
@@ -120,17 +106,6 @@ impl Known {
         Known {
             kinds,
             marks: Marks::none(),
-        }
-    }
-
-    /// Shows that each of its ranges has members. It does nothing at run time.
-    #[inline(always)]
-    pub(crate) fn show_members(&self)
-        ensures { IsProper (abstract_of self.now) }
-    {
-        let kinds = self.kinds.as_slice();
-        for number in 0..kinds.len() {
-            show_kind_members(kinds[number]);
         }
     }
 

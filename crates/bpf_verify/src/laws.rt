@@ -11,7 +11,8 @@ ghost use Rattle.bpf_verify.specs.Typable.{Typable};
 ghost use Rattle.bpf_verify.specs.Paths.{IsLongestPath};
 ghost use Rattle.bpf_verify.specs.Accepted.{IsFirstBroken};
 
-/// A program that is refused at a slot isn't typable, and there is one such slot at most; it has one longest path at most.
+/// A program that is refused at a slot isn't typable, and there is one such slot at most; it has one longest path at
+/// most.
 pub fn one_verdict()
     ensures untypable { (program : List Insn) (shape : Extent) (slot : ℕ) →
         IsFirstBroken program shape slot → Typable program shape → ⊥ }
@@ -21,16 +22,18 @@ pub fn one_verdict()
         IsLongestPath program count → IsLongestPath program other → count ≡ other }
 {}
 
-/// Where more is known before an instruction, it keeps the rules that it kept, and more is known after it. What is known where
-/// edges meet is the least that is known of both.
+/// Where more is known before an instruction, it keeps the rules that it kept, and more is known after it. What is
+/// known where edges meet is the least that is known of both.
 pub fn more_keeps_rules()
     ensures rules { (program : List Insn) (shape : Extent) (slot : ℕ) (insn : Insn) (A C : AbstractState) →
         IsProper A → IsContainedIn A C → KeepsRules program shape slot insn (Some C) →
         KeepsRules program shape slot insn (Some A) }
-    ensures outcome { (program : List Insn) (shape : Extent) (slot : ℕ) (insn : Insn) (way : Way) (A C D : AbstractState) →
+    ensures outcome { (program : List Insn) (shape : Extent) (slot : ℕ) (insn : Insn) (way : Way)
+        (A C D : AbstractState) →
         IsProper A → IsContainedIn A C → KeepsRules program shape slot insn (Some C) →
         outcome shape insn A way ≡ Some D → IsSomeAnd (outcome shape insn C way) (λ E. IsContainedIn D E) }
     ensures first { (A C : AbstractState) → IsContainedIn A (joined_state A C) }
     ensures second { (A C : AbstractState) → IsContainedIn C (joined_state A C) }
-    ensures least { (A C E : AbstractState) → IsContainedIn A E → IsContainedIn C E → IsContainedIn (joined_state A C) E }
+    ensures least { (A C E : AbstractState) → IsContainedIn A E → IsContainedIn C E →
+        IsContainedIn (joined_state A C) E }
 {}

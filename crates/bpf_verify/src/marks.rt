@@ -46,7 +46,8 @@ impl Marks {
     #[inline(always)]
     pub(crate) fn add_all(&mut self, first: u32, count: u32)
         requires { first + count ≤ STACK_BYTES }
-        ensures { (byte : ℕ) → is_marked self.new.words byte ≡ (is_between first (first + count) byte || is_marked self.old.words byte) }
+        ensures { (byte : ℕ) → is_marked self.new.words byte
+            ≡ (is_between first (first + count) byte || is_marked self.old.words byte) }
     {
         for byte in first..first + count {
             self.add(byte);
@@ -56,7 +57,8 @@ impl Marks {
     /// Leaves the bytes that are in the other set too.
     #[inline(always)]
     pub(crate) fn keep_common(&mut self, other: &Marks)
-        ensures { (byte : ℕ) → is_marked self.new.words byte ≡ (is_marked self.old.words byte && is_marked other.now.words byte) }
+        ensures { (byte : ℕ) → is_marked self.new.words byte
+            ≡ (is_marked self.old.words byte && is_marked other.now.words byte) }
     {
         for place in 0..WORDS {
             self.words[place] &= other.words[place];

@@ -6,7 +6,7 @@ ghost use Rattle.bpf_insn.specs.Edges.{moved};
 ghost use Rattle.bpf_insn.specs.Operands.{access_bytes};
 ghost use Rattle.bpf_verify.specs.States.{kind_of};
 ghost use Rattle.bpf_verify.specs.Rows.{abstract_of};
-ghost use Rattle.bpf_verify.specs.Rules.{leaves_region, leaves_regions, operand_kind};
+ghost use Rattle.bpf_verify.specs.Rules.{may_leave_region, may_leave_regions, operand_kind};
 ghost use Rattle.bpf_verify.specs.Outcomes as outcomes;
 ghost use Rattle.value_range.specs.Results.{alu_of, neg_of, movsx_of, swap_of};
 ghost use Rattle.bpf_verify.specs.Parts.{Becomes};
@@ -50,7 +50,7 @@ fn difference(a: Kind, b: Kind) -> Kind
 }
 
 fn of_numbers(op: AluOp, width: Width, a: Kind, b: Kind) -> Kind
-    ensures { result ≡ outcomes.of_numbers (alu_of op width) a b }
+    ensures { result ≡ outcomes.of_number_kinds (alu_of op width) a b }
 {
     match a {
         Kind::Unset | Kind::Pointer(..) => Kind::Unset,
@@ -141,8 +141,8 @@ fn call(shape: Shape, helper: Option<Helper>, known: &mut Known)
 
 fn store(shape: Shape, kind: Kind, off: i16, count: u32, known: &mut Known)
     requires few { count ≤ 8 }
-    requires inside { leaves_region shape kind off count ≡ false }
-    ensures { abstract_of known.new ≡ outcomes.stored_at (abstract_of known.old) kind off count }
+    requires inside { may_leave_region shape kind off count ≡ false }
+    ensures { (value : Kind) → abstract_of known.new ≡ outcomes.stored_at (abstract_of known.old) kind off count value }
 {
     if let Kind::Pointer(region, a) = kind {
         if region == Region::Stack && a.lo() == a.hi() {
@@ -155,7 +155,8 @@ fn store(shape: Shape, kind: Kind, off: i16, count: u32, known: &mut Known)
 
 /// One register on both sides has what the condition leaves of both.
 fn set_meet(known: &mut Known, register: Reg, a: Range, b: Range) -> bool
-    ensures { Becomes (outcomes.with_meet (abstract_of known.old) register (meet_of a b)) (abstract_of known.new) result }
+    ensures { Becomes (outcomes.with_meet (abstract_of known.old) register (meet_of a b))
+        (abstract_of known.new) result }
 {
     match meet(a, b) {
         None => false,
@@ -182,7 +183,8 @@ fn refine(known: &mut Known, dst: Reg, src: Operand, pair: Option<(Range, Range)
 }
 
 fn refine_both(known: &mut Known, dst: Reg, src: Reg, a: Range, b: Range) -> bool
-    ensures { Becomes (outcomes.refined_by (abstract_of known.old) dst (operand.Reg src) (Some (a, b))) (abstract_of known.new) result }
+    ensures { Becomes (outcomes.refined_by (abstract_of known.old) dst (operand.Reg src) (Some (a, b)))
+        (abstract_of known.new) result }
 {
     if src.number() == dst.number() {
         return set_meet(known, dst, a, b);
@@ -202,7 +204,8 @@ fn is_taken(way: Way) -> bool
 }
 
 fn take(known: &mut Known, cond: Cond, width: Width, dst: Reg, src: Operand, taken: bool) -> bool
-    ensures { Becomes (outcomes.branch_outcome (abstract_of known.old) cond width dst src taken (kind_of (abstract_of known.old) dst) (operand_kind width src (abstract_of known.old))) (abstract_of known.new) result }
+    ensures { Becomes (outcomes.way_outcome (abstract_of known.old) cond width dst src taken)
+        (abstract_of known.new) result }
 {
     match known.kind(dst) {
         Kind::Unset | Kind::Pointer(..) => false,
@@ -217,14 +220,14 @@ fn take(known: &mut Known, cond: Cond, width: Width, dst: Reg, src: Operand, tak
 }
 
 fn apply_alu(known: &mut Known, op: AluOp, width: Width, dst: Reg, src: Operand)
-    ensures { abstract_of known.new ≡ outcomes.with_kind (abstract_of known.old) dst (outcomes.alu_kind op width (kind_of (abstract_of known.old) dst) (operand_kind width src (abstract_of known.old))) }
+    ensures { abstract_of known.new ≡ outcomes.alu_outcome (abstract_of known.old) op width dst src }
 {
     let kind = alu_kind(op, width, known.kind(dst), operand_kind(width, src, known));
     known.set_kind(dst, kind);
 }
 
 fn negated(width: Width, kind: Kind) -> Kind
-    ensures { result ≡ outcomes.of_number (neg_of width) kind }
+    ensures { result ≡ outcomes.of_number_kind (neg_of width) kind }
 {
     match kind {
         Kind::Unset | Kind::Pointer(..) => Kind::Unset,
@@ -233,7 +236,7 @@ fn negated(width: Width, kind: Kind) -> Kind
 }
 
 fn extended(kind: MovsxKind, value: Kind) -> Kind
-    ensures { result ≡ outcomes.of_number (movsx_of kind) value }
+    ensures { result ≡ outcomes.of_number_kind (movsx_of kind) value }
 {
     match value {
         Kind::Unset | Kind::Pointer(..) => Kind::Unset,
@@ -242,7 +245,7 @@ fn extended(kind: MovsxKind, value: Kind) -> Kind
 }
 
 fn swapped(order: Order, bits: SwapBits, kind: Kind) -> Kind
-    ensures { result ≡ outcomes.of_number (swap_of order bits) kind }
+    ensures { result ≡ outcomes.of_number_kind (swap_of order bits) kind }
 {
     match kind {
         Kind::Unset | Kind::Pointer(..) => Kind::Unset,
@@ -252,7 +255,7 @@ fn swapped(order: Order, bits: SwapBits, kind: Kind) -> Kind
 
 /// Makes what is known before an instruction what is known after it on a way. `false` where the way isn't taken.
 pub(crate) fn apply(shape: Shape, insn: &Insn, known: &mut Known, way: Way) -> bool
-    requires { leaves_regions shape insn.now (abstract_of known.old) ≡ false }
+    requires { may_leave_regions shape insn.now (abstract_of known.old) ≡ false }
     ensures { Becomes (outcomes.outcome shape insn.now (abstract_of known.old) way) (abstract_of known.new) result }
 {
     match *insn {

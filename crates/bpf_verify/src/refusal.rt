@@ -6,6 +6,8 @@ use crate::rule::Rule;
 /// memory was short.
 #[derive(Clone, Copy, Debug, PartialEq, Eq)]
 pub enum VerifyError {
+    /// The instruction at the slot breaks the rule.
     Refused { slot: u32, rule: Rule },
+    /// Memory was short.
     Memory,
 }

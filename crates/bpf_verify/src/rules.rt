@@ -5,25 +5,22 @@ ghost use Rattle.std.specs.Int.{w64, cast_unsigned};
 ghost use Rattle.bpf_insn.specs.Programs.{insn_at, slots_of};
 ghost use Rattle.bpf_insn.specs.Edges.{moved};
 ghost use Rattle.bpf_insn.specs.Arithmetic.{bits_of};
-ghost use Rattle.bpf_verify.specs.Marks.{is_marked};
 ghost use Rattle.bpf_verify.specs.Rows.{abstract_of};
 ghost use Rattle.bpf_verify.specs.Rules as rules;
 ghost use Rattle.bpf_verify.specs.States.{kind_of};
-ghost use Rattle.std.specs.List.{list_any};
 ghost use Rattle.node_env.specs.Helpers.{arguments_of};
 ghost use Rattle.node_env.specs.Env.{region_size};
 ghost use Rattle.bpf_insn.specs.Operands.{operand_reads, alu_reads, argument_registers, is_frame_pointer};
 
 use crate::kind::Kind;
 use crate::known::Known;
-use crate::marks::Marks;
 use crate::rule::Rule;
 use bpf_insn::{AluOp, Insn, Operand, Program, Reg, Way, Width, distance, target};
 use node_env::{Helper, Region, STACK_BYTES, Shape};
 use value_range::{Range, alu};
 
 fn is_unset(kind: Kind) -> bool
-    ensures { result ≡ rules.is_unset kind }
+    ensures { result ≡ rules.is_unset_kind kind }
 {
     match kind {
         Kind::Unset => true,
@@ -32,7 +29,7 @@ fn is_unset(kind: Kind) -> bool
 }
 
 fn is_pointer(kind: Kind) -> bool
-    ensures { result ≡ rules.is_pointer kind }
+    ensures { result ≡ rules.is_pointer_kind kind }
 {
     match kind {
         Kind::Pointer(..) => true,
@@ -41,7 +38,7 @@ fn is_pointer(kind: Kind) -> bool
 }
 
 fn is_number(kind: Kind) -> bool
-    ensures { result ≡ rules.is_number kind }
+    ensures { result ≡ rules.is_number_kind kind }
 {
     match kind {
         Kind::Number(_) => true,
@@ -121,13 +118,13 @@ fn calls_unknown(insn: &Insn) -> bool
 }
 
 fn holds_nothing(known: &Known, register: Reg) -> bool
-    ensures { result ≡ rules.is_unset (kind_of (abstract_of known.now) register) }
+    ensures { result ≡ rules.is_unset_kind (kind_of (abstract_of known.now) register) }
 {
     is_unset(known.kind(register))
 }
 
 fn operand_unset(known: &Known, src: Operand) -> bool
-    ensures { result ≡ list_any (λ register. rules.is_unset (kind_of (abstract_of known.now) register)) (operand_reads src) }
+    ensures { result ≡ rules.some_unset (abstract_of known.now) (operand_reads src) }
 {
     match src {
         Operand::Imm(_) => false,
@@ -136,7 +133,7 @@ fn operand_unset(known: &Known, src: Operand) -> bool
 }
 
 fn alu_reads_unset(known: &Known, op: AluOp, dst: Reg, src: Operand) -> bool
-    ensures { result ≡ list_any (λ register. rules.is_unset (kind_of (abstract_of known.now) register)) (alu_reads op dst src) }
+    ensures { result ≡ rules.some_unset (abstract_of known.now) (alu_reads op dst src) }
 {
     match op {
         AluOp::Mov => operand_unset(known, src),
@@ -157,7 +154,7 @@ fn alu_reads_unset(known: &Known, op: AluOp, dst: Reg, src: Operand) -> bool
 }
 
 fn call_reads_unset(known: &Known, id: i32) -> bool
-    ensures { result ≡ list_any (λ register. rules.is_unset (kind_of (abstract_of known.now) register)) (argument_registers (arguments_of id)) }
+    ensures { result ≡ rules.some_unset (abstract_of known.now) (argument_registers (arguments_of id)) }
 {
     match Helper::of(id) {
         None => false,
@@ -282,7 +279,7 @@ fn misuses_operands(shape: Shape, op: AluOp, width: Width, a: Kind, b: Kind) -> 
 }
 
 fn misuses_pointer(shape: Shape, insn: &Insn, known: &Known) -> bool
-    ensures { result ≡ rules.misuses_pointer shape insn.now (abstract_of known.now) }
+    ensures { result ≡ rules.may_misuse_pointer shape insn.now (abstract_of known.now) }
 {
     match *insn {
         Insn::Alu {
@@ -332,7 +329,7 @@ fn moved(place: u64, off: i16) -> Option<u128>
 
 fn leaves(size: u32, first: Option<u128>, last: Option<u128>, count: u32) -> bool
     requires { IfSome last (λ place. place < 2 ^ 127) }
-    ensures { result ≡ rules.leaves size first last count }
+    ensures { result ≡ rules.may_leave size first last count }
 {
     match first {
         None => true,
@@ -344,7 +341,7 @@ fn leaves(size: u32, first: Option<u128>, last: Option<u128>, count: u32) -> boo
 }
 
 fn leaves_region(shape: Shape, kind: Kind, off: i16, count: u32) -> bool
-    ensures { result ≡ rules.leaves_region shape kind off count }
+    ensures { result ≡ rules.may_leave_region shape kind off count }
 {
     match kind {
         Kind::Unset | Kind::Number(_) => false,
@@ -358,7 +355,7 @@ fn leaves_region(shape: Shape, kind: Kind, off: i16, count: u32) -> bool
 }
 
 fn leaves_regions(shape: Shape, insn: &Insn, known: &Known) -> bool
-    ensures { result ≡ rules.leaves_regions shape insn.now (abstract_of known.now) }
+    ensures { result ≡ rules.may_leave_regions shape insn.now (abstract_of known.now) }
 {
     match *insn {
         Insn::Load {
@@ -398,13 +395,13 @@ fn leaves_regions(shape: Shape, insn: &Insn, known: &Known) -> bool
     }
 }
 
-/// Whether one of the bytes from `first` on, before `end`, isn't in the set.
-fn lacks(marks: &Marks, first: u32, end: u32) -> bool
+/// Whether one of the stack's bytes from `first` on, before `end`, isn't surely written.
+fn lacks(known: &Known, first: u32, end: u32) -> bool
     requires { end ≤ STACK_BYTES }
-    ensures { result ≡ rules.lacks (is_marked marks.now.words) first (end - first) }
+    ensures { result ≡ rules.lacks (abstract_of known.now) first (end - first) }
 {
     for byte in first..end {
-        if !marks.has(byte) {
+        if !known.marks.has(byte) {
             return true;
         }
     }
@@ -420,7 +417,7 @@ pub(crate) fn bytes_taken(
     count: u32,
 ) -> Option<(u32, u32)>
     requires { count ≤ 8 }
-    ensures none { IsNone result → rules.leaves_region shape (Kind.Pointer region a) off count ≡ true }
+    ensures none { IsNone result → rules.may_leave_region shape (Kind.Pointer region a) off count ≡ true }
     ensures some { IfSome result (λ p. (moved a.lo off ≡ Some p.0) × (moved a.hi off ≡ Some (p.1 - count))
         × (count ≤ p.1) × (p.0 + count ≤ p.1) × (p.1 ≤ region_size shape region)) }
 {
@@ -440,15 +437,15 @@ pub(crate) fn bytes_taken(
 
 fn lacks_byte(shape: Shape, known: &Known, kind: Kind, off: i16, count: u32) -> bool
     requires few { count ≤ 8 }
-    requires inside { rules.leaves_region shape kind off count ≡ false }
-    ensures { result ≡ rules.lacks_byte (abstract_of known.now).written kind off count }
+    requires inside { rules.may_leave_region shape kind off count ≡ false }
+    ensures { result ≡ rules.lacks_byte (abstract_of known.now) kind off count }
 {
     match kind {
         Kind::Unset | Kind::Number(_) => false,
         Kind::Pointer(region, a) => match region {
             Region::Mem => false,
             Region::Stack => match bytes_taken(shape, region, a, off, count) {
-                Some((first, end)) => lacks(&known.marks, first, end),
+                Some((first, end)) => lacks(known, first, end),
                 None => unreachable!(),
             },
         },
@@ -456,7 +453,7 @@ fn lacks_byte(shape: Shape, known: &Known, kind: Kind, off: i16, count: u32) -> 
 }
 
 fn loads_unset(shape: Shape, insn: &Insn, known: &Known) -> bool
-    requires { rules.leaves_regions shape insn.now (abstract_of known.now) ≡ false }
+    requires { rules.may_leave_regions shape insn.now (abstract_of known.now) ≡ false }
     ensures { result ≡ rules.loads_unset insn.now (abstract_of known.now) }
 {
     match *insn {
@@ -488,7 +485,7 @@ fn loads_unset(shape: Shape, insn: &Insn, known: &Known) -> bool
 }
 
 fn not_below(limit: u64, kind: Kind) -> bool
-    ensures { result ≡ rules.not_below limit kind }
+    ensures { result ≡ rules.may_reach limit kind }
 {
     match kind {
         Kind::Unset => false,
@@ -519,7 +516,7 @@ fn misses_argument(shape: Shape, insn: &Insn, known: &Known) -> bool
 }
 
 fn helper_refuses(shape: Shape, helper: Option<Helper>, known: &Known) -> bool
-    ensures { result ≡ rules.helper_refuses shape helper (abstract_of known.now) }
+    ensures { result ≡ rules.helper_may_refuse shape helper (abstract_of known.now) }
 {
     let nodes = u64::from(shape.nodes());
     match helper {
@@ -534,7 +531,7 @@ fn helper_refuses(shape: Shape, helper: Option<Helper>, known: &Known) -> bool
 }
 
 fn exits_with_pointer(insn: &Insn, known: &Known) -> bool
-    ensures { result ≡ rules.exits_with_pointer insn.now (abstract_of known.now) }
+    ensures { result ≡ rules.may_exit_with_pointer insn.now (abstract_of known.now) }
 {
     match *insn {
         Insn::Exit => is_pointer(known.kind(Reg::R0)),

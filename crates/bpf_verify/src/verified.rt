@@ -16,8 +16,8 @@ use std::alloc::{AllocError, Global};
 use std::marker::Model;
 use std::sync::Arc;
 
-/// A program that [`verify`] accepted, for nodes of one shape. It keeps every rule of docs/VERIFIER.md; only `verify` and `copy`
-/// make one, and copies share their instructions and records.
+/// A program that [`verify`] accepted, for nodes of one shape. It keeps every rule of docs/VERIFIER.md; only `verify`
+/// and `copy` make one, and copies share their instructions and records.
 #[derive(Drop)]
 pub struct VerifiedProgram {
     shared: Arc<Imaged, Global>,
@@ -45,8 +45,8 @@ impl Model for VerifiedProgram {
     ghost invariant = { λ v. IsVerified (accepted_of v) × HasImage v × HasRecords v };
 }
 
-/// Accepts a program for nodes of a shape, or names the first slot whose instruction breaks a rule, and the lowest rule that it
-/// breaks there. `Memory` comes where memory was short, wherever that was.
+/// Accepts a program for nodes of a shape, or names the first slot whose instruction breaks a rule, and the lowest rule
+/// that it breaks there. `Memory` comes where memory was short, wherever that was.
 #[tactic(auto, using(crate::proofs::VerdictLaws::typable_refusal))]
 pub fn verify(
     alloc: Global,
@@ -109,6 +109,7 @@ impl VerifiedProgram {
         self.shape
     }
 
+    /// The program.
     pub fn program(&self) -> &Program
         ensures value { result.now ≡ self.now.program }
         ensures verified { IsVerified self.now }
@@ -120,7 +121,8 @@ impl VerifiedProgram {
     /// The records of its slots (docs/VERIFIER.md, "Records"): at the slot of each instruction there is one that stands
     /// for it.
     pub fn records(&self) -> &[Record]
-        ensures { AreRecords self.now.program result.now }
+        ensures records { AreRecords self.now.program result.now }
+        ensures verified { IsVerified self.now }
     {
         let shared: &Imaged = &self.shared;
         &shared.records
@@ -137,7 +139,8 @@ impl VerifiedProgram {
         same
     }
 
-    /// Whether the other is the same program, accepted for the same shape: then its budget is the same too. Images are compared.
+    /// Whether the other is the same program, accepted for the same shape: then its budget is the same too. Images are
+    /// compared.
     #[tactic(auto, using(crate::proofs::VerdictLaws::one_longest))]
     pub fn same(&self, other: &VerifiedProgram) -> bool
         ensures parts { IsTrue result ↔ ((self.now.program ≡ other.now.program) × (self.now.shape ≡ other.now.shape)) }
@@ -148,8 +151,8 @@ impl VerifiedProgram {
         same
     }
 
-    /// An accepted program with the same instructions, shape and budget. The instructions are shared: nothing is allocated, and
-    /// it fails only where no more owners can be counted.
+    /// An accepted program with the same instructions, shape and budget. The instructions are shared: nothing is
+    /// allocated, and it fails only where no more owners can be counted.
     pub fn copy(&self) -> Result<VerifiedProgram, AllocError>
         ensures { IfOk result (λ v. v ≡ self.now) }
     {

@@ -1,10 +1,11 @@
-//! One walk over the slots, from the first to the last: what is known comes to each slot before the walk does, since no jump goes back.
+//! One walk over the slots, from the first to the last: what is known comes to each slot before the walk does, since no
+//! jump goes back.
 
 ghost use Rattle.std.specs.Prelude.{◌≡◌, ℕ, ◌+◌, ◌<◌, ◌≤◌, ◌==◌, Some, None, false, IfSome, IfOk, IfErr, OnOk, vec_len, length, slice_get, if◌then◌else◌};
 ghost use Rattle.bpf_insn.specs.Programs.{insn_at, slots_of};
-ghost use Rattle.bpf_verify.specs.Walk.{come_of, row_of, rows_of, met_state, with_come, sent_on, rows_after, front_after, RefusesInsn, IsStop, Walks};
+ghost use Rattle.bpf_verify.specs.Walk.{come_of, row_state, table_of, met_state, with_come, sent_on, rows_after, front_after, RefusesInsn, IsStop, Walks};
 ghost use Rattle.bpf_verify.specs.Rows.{abstract_of};
-ghost use Rattle.bpf_verify.specs.Rules.{leaves_regions, KeepsRules};
+ghost use Rattle.bpf_verify.specs.Rules.{may_leave_regions, KeepsRules};
 ghost use Rattle.bpf_verify.specs.Outcomes.{outcome};
 ghost use Rattle.bpf_insn.specs.declared.edges.Way.TheVariants.{Jumping};
 ghost use Rattle.bpf_insn.specs.Edges.{target};
@@ -32,7 +33,7 @@ type Rows = Vec<Option<Box<Known>>>;
 
 fn no_rows(alloc: Global, count: usize) -> Result<Rows, AllocError>
     ensures long { IfOk result (λ rows. vec_len rows ≡ count) }
-    ensures empty { IfOk result (λ rows. (slot : ℕ) → rows_of rows.items slot ≡ None) }
+    ensures empty { IfOk result (λ rows. (slot : ℕ) → table_of rows.items slot ≡ None) }
 {
     let mut rows = Vec::with_capacity(alloc, count)?;
     for _slot in 0..count {
@@ -45,7 +46,8 @@ fn no_rows(alloc: Global, count: usize) -> Result<Rows, AllocError>
 fn lead(alloc: Global, rows: &mut Rows, to: usize, known: &Known) -> Result<(), AllocError>
     requires { to < vec_len rows.old }
     ensures long { vec_len rows.new ≡ vec_len rows.old }
-    ensures come { OnOk result ((slot : ℕ) → rows_of rows.new.items slot ≡ with_come (rows_of rows.old.items) to (abstract_of known.now) slot) }
+    ensures come { OnOk result ((slot : ℕ) → table_of rows.new.items slot
+        ≡ with_come (table_of rows.old.items) to (abstract_of known.now) slot) }
 {
     match &mut rows[to] {
         Some(row) => row.join(known),
@@ -58,19 +60,19 @@ fn lead(alloc: Global, rows: &mut Rows, to: usize, known: &Known) -> Result<(), 
 fn take_row(rows: &mut Rows, slot: usize) -> Option<Box<Known>>
     requires { slot < vec_len rows.old }
     ensures long { vec_len rows.new ≡ vec_len rows.old }
-    ensures row { row_of result ≡ rows_of rows.old.items slot }
-    ensures ahead { (other : ℕ) → slot < other → rows_of rows.new.items other ≡ rows_of rows.old.items other }
+    ensures row { row_state result ≡ table_of rows.old.items slot }
+    ensures ahead { (other : ℕ) → slot < other → table_of rows.new.items other ≡ table_of rows.old.items other }
 {
     rows[slot].take()
 }
 
 impl Front {
     ghost use Rattle.std.specs.Prelude.{◌≡◌};
-    ghost use Rattle.bpf_verify.specs.Walk.{come_of, row_of, met_state};
+    ghost use Rattle.bpf_verify.specs.Walk.{come_of, row_state, met_state};
 
     /// Joins what has come by jumps to what comes from the instruction before.
     fn meet(&mut self, row: Option<Box<Known>>)
-        ensures { come_of self.new ≡ met_state (row_of row) (come_of self.old) }
+        ensures { come_of self.new ≡ met_state (row_state row) (come_of self.old) }
     {
         if let Some(mut known) = row {
             if self.reached {
@@ -91,11 +93,12 @@ fn jump(
     insn: &Insn,
     known: &Known,
 ) -> Result<(), AllocError>
-    requires inside { leaves_regions shape insn.now (abstract_of known.now) ≡ false }
+    requires inside { may_leave_regions shape insn.now (abstract_of known.now) ≡ false }
     requires target { IfSome (target insn.now slot Jumping) (λ to. (slot < to) × (to < vec_len rows.old)) }
     ensures long { vec_len rows.new ≡ vec_len rows.old }
-    ensures sent { OnOk result ((other : ℕ) → rows_of rows.new.items other
-        ≡ sent_on (rows_of rows.old.items) (target insn.now slot Jumping) (outcome shape insn.now (abstract_of known.now) Jumping) other) }
+    ensures sent { OnOk result ((other : ℕ) → table_of rows.new.items other
+        ≡ sent_on (table_of rows.old.items) (target insn.now slot Jumping)
+        (outcome shape insn.now (abstract_of known.now) Jumping) other) }
 {
     let Some(to) = target(insn, slot, Way::Jumping) else {
         return Ok(());
@@ -112,14 +115,15 @@ impl Front {
     ghost use Rattle.bpf_insn.specs.declared.edges.Way.TheVariants.{Onward};
     ghost use Rattle.bpf_insn.specs.Edges.{target};
     ghost use Rattle.bpf_verify.specs.Rows.{abstract_of};
-    ghost use Rattle.bpf_verify.specs.Rules.{leaves_regions};
+    ghost use Rattle.bpf_verify.specs.Rules.{may_leave_regions};
     ghost use Rattle.bpf_verify.specs.Outcomes.{outcome};
     ghost use Rattle.bpf_verify.specs.Walk.{come_of, come_after};
 
     /// Goes on to the next instruction.
     fn go_on(&mut self, shape: Shape, slot: u32, insn: &Insn)
-        requires { leaves_regions shape insn.now (abstract_of self.old.known) ≡ false }
-        ensures { come_of self.new ≡ come_after (target insn.now slot Onward) (outcome shape insn.now (abstract_of self.old.known) Onward) }
+        requires { may_leave_regions shape insn.now (abstract_of self.old.known) ≡ false }
+        ensures { come_of self.new ≡ come_after (target insn.now slot Onward)
+            (outcome shape insn.now (abstract_of self.old.known) Onward) }
     {
         match target(insn, slot, Way::Onward) {
             None => self.reached = false,
@@ -176,7 +180,8 @@ fn pass(
     ensures long { vec_len rows.new ≡ vec_len rows.old }
     ensures kept { OnOk result (KeepsRules program.now shape slot insn.now (come_of front.old)) }
     ensures refused { IfErr result (RefusesInsn program.now shape slot insn.now (come_of front.old)) }
-    ensures rows { OnOk result ((other : ℕ) → rows_of rows.new.items other ≡ rows_after shape insn.now slot (come_of front.old) (rows_of rows.old.items) other) }
+    ensures rows { OnOk result ((other : ℕ) → table_of rows.new.items other
+        ≡ rows_after shape insn.now slot (come_of front.old) (table_of rows.old.items) other) }
     ensures front { OnOk result (come_of front.new ≡ front_after shape insn.now slot (come_of front.old)) }
 {
     if !front.reached {
@@ -202,14 +207,14 @@ fn walk_slot(
 ) -> Result<(), VerifyError>
     requires here { insn_at program.now slot ≡ Some insn.now }
     requires long { vec_len rows.old ≡ slots_of program.now }
-    requires walks { Walks program.now shape slot (come_of front.old) (rows_of rows.old.items) }
+    requires walks { Walks program.now shape slot (come_of front.old) (table_of rows.old.items) }
     ensures long { vec_len rows.new ≡ vec_len rows.old }
-    ensures walks { OnOk result (Walks program.now shape (slot + slots_taken insn.now) (come_of front.new) (rows_of rows.new.items)) }
+    ensures walks { OnOk result (Walks program.now shape (slot + slots_taken insn.now) (come_of front.new)
+        (table_of rows.new.items)) }
     ensures refused { IfErr result (IsRefusal program.now shape) }
 {
     let row = take_row(rows, slot as usize);
     front.meet(row);
-    front.known.show_members();
     pass(alloc, program, shape, rows, slot, insn, front)
 }
 

@@ -1,4 +1,5 @@
--- The ranges that arithmetic and byte swaps give (docs/VERIFIER.md, "Arithmetic on ranges"; RFC 9669, sections 4.1 and 4.2).
+-- The ranges that arithmetic and byte swaps give (docs/VERIFIER.md, "Arithmetic on ranges"; RFC 9669, sections 4.1 and
+-- 4.2).
 use Rattle.std.specs.Prelude.{ℕ, ◌+◌, ◌-◌, ◌*◌, ◌/◌, ◌%◌, ◌^◌, ◌&&◌, nat_lt, nat_le, min, max, if◌then◌else◌}
 use Rattle.std.specs.Int.{leading_zeros, w64}
 use Rattle.bpf_insn.specs.declared.forms.Width.{Width}
@@ -14,9 +15,13 @@ use Rattle.value_range.specs.Span.{Span, span, just, full_of, is_single}
 abbrev pub fitting : ℕ → ℕ → ℕ → Span
 fitting bits l h = if nat_lt h (2 ^ bits) then span l h else full_of bits
 
--- the all-ones number of n's length in bits, 0 for 0
+-- how many bits n has, 0 for 0
+abbrev pub bit_length : ℕ → ℕ
+bit_length n = 64 - leading_zeros w64 n
+
+-- the all-ones number of n's length in bits
 abbrev pub ones_of : ℕ → ℕ
-ones_of n = 2 ^ (64 - leading_zeros w64 n) - 1
+ones_of n = 2 ^ bit_length n - 1
 
 -- a shift to the right, by the low bits of the amount where that is one number
 abbrev pub shifted_right : ℕ → Span → Span → Span
@@ -32,7 +37,8 @@ table Mod bits a b = if nat_le 1 b.lo then span 0 (min a.hi (b.hi - 1)) else spa
 table And bits a b = span 0 (min a.hi b.hi)
 table Or bits a b = span (max a.lo b.lo) (ones_of (max a.hi b.hi))
 table Xor bits a b = span 0 (ones_of (max a.hi b.hi))
-table Lsh bits a b = if is_single b then fitting bits (a.lo * 2 ^ (b.lo % bits)) (a.hi * 2 ^ (b.lo % bits)) else full_of bits
+table Lsh bits a b =
+    if is_single b then fitting bits (a.lo * 2 ^ (b.lo % bits)) (a.hi * 2 ^ (b.lo % bits)) else full_of bits
 table Rsh bits a b = shifted_right bits a b
 table Arsh bits a b = if nat_lt a.hi (2 ^ (bits - 1)) then shifted_right bits a b else full_of bits
 table Mov bits a b = b

@@ -110,6 +110,7 @@ pub fn meet(a: Range, b: Range) -> Option<Range>
     common(a, b)
 }
 
+/// Whether one number alone is a member.
 pub(crate) fn is_single_range(a: Range) -> bool
     ensures { result ≡ is_single a }
 {
