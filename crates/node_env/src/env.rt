@@ -51,7 +51,7 @@ fn slots_fit(slots: &[Option<u32>])
 }
 
 impl Env {
-    /// The inbox has a slot for each node: its mail, or none. The coin is 0 or 1.
+    /// The inbox has a slot for each node: its mail, or none. The id is the number of a node, and the coin is 0 or 1.
     #[tactic(auto, using(crate::proofs::Slots::slots))]
     pub fn new(shape: Shape, id: u32, inbox: Vec<Option<u32>>, coin: u32) -> Env
         requires id { id < shape.nodes }
@@ -71,6 +71,7 @@ impl Env {
         }
     }
 
+    /// The shape: how many nodes there are, and how much memory each has.
     pub fn shape(&self) -> Shape
         ensures shape { result ≡ self.now.shape }
         ensures setting { IsSetting self.now }
@@ -86,7 +87,7 @@ impl Env {
         self.id
     }
 
-    /// The mail from a node, or `NO_MAIL` for none. A mail of `NO_MAIL` reads alike.
+    /// The mail from a node of the shape, or `NO_MAIL` for none. A mail of `NO_MAIL` reads alike.
     #[tactic(auto, using(crate::proofs::Slots::slots))]
     pub fn recv(&self, sender: u32) -> u32
         requires { sender < self.now.shape.nodes }

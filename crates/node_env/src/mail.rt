@@ -37,7 +37,7 @@ impl Model for Mail {
 }
 
 impl Mail {
-    /// Nobody sent anything yet.
+    /// Nobody sent anything yet. Fails only for want of memory.
     pub fn new(alloc: Global, shape: Shape) -> Result<Mail, AllocError>
         ensures { IfOk result (λ mail. mail ≡ replicate shape.nodes map.empty) }
     {
@@ -56,7 +56,7 @@ impl Mail {
         self.nodes
     }
 
-    /// What a node sent to another.
+    /// What a node sent to another: both are numbers of nodes.
     pub fn slot(&self, sender: u32, receiver: u32) -> Option<u32>
         requires sender { sender < length self.now }
         requires receiver { receiver < length self.now }
@@ -65,7 +65,7 @@ impl Mail {
         slot_in(self.words[place_of(self.nodes, sender, receiver)])
     }
 
-    /// What came to a node, by sender: the list that `Env::new` takes.
+    /// What came to a node, by sender: the list that `Env::new` takes. Fails only for want of memory.
     pub fn inbox(&self, alloc: Global, receiver: u32) -> Result<Vec<Option<u32>>, AllocError>
         requires { receiver < length self.now }
         ensures nodes { IfOk result (λ inbox. length inbox.items ≡ length self.now) }
@@ -79,7 +79,7 @@ impl Mail {
         Ok(inbox)
     }
 
-    /// A node's slots become those of an outbox.
+    /// A node's slots become those of an outbox, which has a slot for each node.
     pub fn fill(&mut self, sender: u32, outbox: &Outbox)
         requires sender { sender < length self.old }
         requires nodes { outbox.now.nodes ≡ length self.old }

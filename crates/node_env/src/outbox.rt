@@ -31,7 +31,7 @@ impl Model for Outbox {
 }
 
 impl Outbox {
-    /// Nothing is sent yet.
+    /// Nothing is sent yet. Fails only for want of memory.
     #[tactic(auto, using(crate::proofs::Rows::words))]
     pub fn new(alloc: Global, shape: Shape) -> Result<Outbox, AllocError>
         ensures nodes { IfOk result (λ outbox. outbox.nodes ≡ shape.nodes) }
@@ -50,7 +50,7 @@ impl Outbox {
         self.words.len() as u32
     }
 
-    /// What was sent to a node last.
+    /// What was sent to a node last. The receiver is the number of a node.
     #[tactic(auto, using(crate::proofs::Rows::words))]
     pub fn slot(&self, receiver: u32) -> Option<u32>
         requires { receiver < self.now.nodes }
@@ -60,7 +60,7 @@ impl Outbox {
         slot_in(self.words[receiver as usize])
     }
 
-    /// Sends a number to a node, in place of what was sent to it before.
+    /// Sends a number to a node, in place of what was sent to it before. The receiver is the number of a node.
     #[tactic(auto, using(crate::proofs::Rows::words))]
     pub fn send(&mut self, receiver: u32, value: u32)
         requires { receiver < self.old.nodes }

@@ -48,6 +48,7 @@ impl Shape {
         Some(Shape { nodes, memory })
     }
 
+    /// The number of nodes.
     pub fn nodes(self) -> u32
         ensures value { result ≡ self.nodes }
         ensures extent { IsExtent self.nodes self.memory }
