@@ -23,8 +23,4 @@ pub use opcode::{AluCode, FieldUse, Opcode, Source, Uses};
 pub use slot::{Slot, SlotFault};
 
 #[cfg(test)]
-mod arithmetic_tests;
-#[cfg(test)]
-mod edges_tests;
-#[cfg(test)]
 mod tests;

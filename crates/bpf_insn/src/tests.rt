@@ -5,6 +5,8 @@ use super::*;
 use std::alloc::{AllocError, Global};
 use std::test::Fail;
 
+mod arithmetic;
+mod edges;
 mod programs;
 mod vectors;
 

@@ -1,4 +1,6 @@
-use super::*;
+//! Rows of arithmetic.
+
+use crate::*;
 
 const LEAST_32: u64 = 0x8000_0000;
 

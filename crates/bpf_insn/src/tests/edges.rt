@@ -1,4 +1,6 @@
-use super::*;
+//! Rows of edges.
+
+use crate::*;
 
 const WIDE: Insn = Insn::LoadImm64 {
     dst: Reg::R1,
