@@ -23,15 +23,17 @@ use Rattle.bench_core.specs.Refusals.{IsCloseRefusal}
 use Rattle.bench_core.specs.State.{State, Node, no_node, node_at, setting_at, AreCoins, IsLoadable}
 use Rattle.bench_core.specs.Pulse.{Pulse}
 use Rattle.bench_core.specs.Settled.{Row, PulseTold, IsRecord, IsSteps, RanTo, row_of, settled_flags, clocks_where}
-use Rattle.bench_core.specs.Replay.{Entry as EntryValue, Closed as ClosedValue, Replays, BenchValue, Advances, staged_of, places_of}
-use Rattle.bench_core.specs.Tasks.{Task, Done, IsEnd, IsHanded, IsResultOf, IsExact, HandedOut}
-use Rattle.bench_core.specs.Nodes.{KnowsClock}
+use Rattle.bench_core.specs.Replay.{Entry as EntryValue, Closed as ClosedValue, Replays, BenchValue, Advances, places_of}
+use Rattle.bench_core.specs.inner.Replay.{staged_of}
+use Rattle.bench_core.specs.Tasks.{Task, Done, IsHanded, IsResultOf, IsExact, HandedOut}
+use Rattle.bench_core.specs.inner.Tasks.{IsEnd}
+use Rattle.bench_core.specs.inner.Nodes.{KnowsClock}
 use Rattle.bench_core.specs.declared.found.Found.{Found}
 use Rattle.bench_core.specs.declared.found.Found.TheVariants.{Nothing, Once, Again}
-use Rattle.bench_core.specs.Found.{found_at, IsFound, FitsNode, RefusesResults}
-use Rattle.bench_core.specs.Told.{both_marked, row_told, told_clock, IsMostSteps}
+use Rattle.bench_core.specs.inner.Found.{found_at, IsFound, FitsNode, RefusesResults}
+use Rattle.bench_core.specs.inner.Told.{both_marked, row_told, told_clock, IsMostSteps}
 use Rattle.bench_core.specs.Views.{entry_of}
-use Rattle.bench_core.specs.Kept.{view_of, IsKept}
+use Rattle.bench_core.specs.inner.Kept.{view_of, IsKept}
 use Rattle.bench_core.proofs.Sound.{Sound, is_setting}
 use Rattle.bench_core.proofs.Rows.{rows_fit, rows_tell, clocks_small}
 use Rattle.bench_core.proofs.Kept.{entries_push, staged_after}

@@ -12,9 +12,10 @@ use Rattle.bpf_verify.specs.Accepted.{Accepted}
 use Rattle.bench_core.specs.Setup.{Setup, clock_listing}
 use Rattle.bench_core.specs.State.{State, Node, no_node, node_at, row_at, setting_at}
 use Rattle.bench_core.specs.Pulse.{RunsClock, Runs, Rests, NodePulse, Pulse}
-use Rattle.bench_core.specs.Tasks.{Task, Done, IsEnd, task_at, IsHanded, IsResultOf, IsExact}
-use Rattle.bench_core.specs.Nodes.{KnowsClock}
-use Rattle.bench_core.specs.Found.{found_at, IsFound, IsLeft}
+use Rattle.bench_core.specs.Tasks.{Task, Done, task_at, IsHanded, IsResultOf, IsExact}
+use Rattle.bench_core.specs.inner.Tasks.{IsEnd}
+use Rattle.bench_core.specs.inner.Nodes.{KnowsClock}
+use Rattle.bench_core.specs.inner.Found.{found_at, IsFound, IsLeft}
 
 -- what the nodes before the next one are left
 abbrev pub AreLeft : List Done → List Bool → List Node → List Found → List Node → List (FinMap nat_cmp ℕ) → ℕ → Type 0

@@ -10,11 +10,12 @@ use Rattle.bench_core.specs.declared.change.Change.{Change}
 use Rattle.bench_core.specs.declared.entry.Entry.{Entry}
 use Rattle.bench_core.specs.declared.entry.Entry.TheVariants.{Staged, Abandoned}
 use Rattle.bench_core.specs.Setup.{IsSetup, clock_listing}
-use Rattle.bench_core.specs.Nodes.{KnowsClock}
+use Rattle.bench_core.specs.inner.Nodes.{KnowsClock}
 use Rattle.bench_core.specs.State.{IsChange}
-use Rattle.bench_core.specs.Replay.{Entry as EntryValue, Staged as StagedValue, Opened as OpenedValue, Closed as ClosedValue, Abandoned as AbandonedValue, BenchValue, Advances, openings, staged_of, places_of}
+use Rattle.bench_core.specs.Replay.{Entry as EntryValue, Staged as StagedValue, Opened as OpenedValue, Closed as ClosedValue, Abandoned as AbandonedValue, BenchValue, Advances, openings, places_of}
+use Rattle.bench_core.specs.inner.Replay.{staged_of}
 use Rattle.bench_core.specs.Views.{change_of, entry_of}
-use Rattle.bench_core.specs.Kept.{view_of, IsKept}
+use Rattle.bench_core.specs.inner.Kept.{view_of, IsKept}
 use Rattle.bench_core.proofs.Replays.{advances_replay}
 
 -- the staged changes of one more entry

@@ -6,7 +6,7 @@ use Rattle.bpf_insn.specs.declared.forms.Insn.{Insn}
 use Rattle.bpf_verify.specs.Accepted.{Accepted}
 use Rattle.bench_core.specs.Setup.{Setup}
 use Rattle.bench_core.specs.State.{Node, no_node, new_node, node_at}
-use Rattle.bench_core.specs.Nodes.{KnowsClock}
+use Rattle.bench_core.specs.inner.Nodes.{KnowsClock}
 
 nothing_loaded : (s : Setup) (n i : ℕ) (p : Accepted) → (node_at (replicate n (new_node s)) i).program ≡ Some p → ⊥
 nothing_loaded s n i p loaded =

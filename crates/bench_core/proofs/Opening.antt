@@ -10,11 +10,12 @@ use Rattle.bench_core.specs.declared.entry.Entry.{Entry}
 use Rattle.bench_core.specs.declared.entry.Entry.TheVariants.{Opened}
 use Rattle.bench_core.specs.Setup.{Setup}
 use Rattle.bench_core.specs.State.{State, Change, Load, Unload, Corrupt, no_node, node_of, node_at, all_applied, opened_state, IsChange, IsLoadable, AreCoins}
-use Rattle.bench_core.specs.Replay.{Entry as EntryValue, Staged, Opened as OpenedValue, Closed, Abandoned, BenchValue, Advances, staged_of, openings}
+use Rattle.bench_core.specs.Replay.{Entry as EntryValue, Staged, Opened as OpenedValue, Closed, Abandoned, BenchValue, Advances, openings}
+use Rattle.bench_core.specs.inner.Replay.{staged_of}
 use Rattle.bench_core.specs.Tasks.{tasks_of, tasks_from}
-use Rattle.bench_core.specs.Nodes.{FitsShape}
+use Rattle.bench_core.specs.inner.Nodes.{FitsShape}
 use Rattle.bench_core.specs.Views.{entry_of}
-use Rattle.bench_core.specs.Kept.{view_of, IsKept}
+use Rattle.bench_core.specs.inner.Kept.{view_of, IsKept}
 use Rattle.bench_core.proofs.Sound.{Sound, sound_replay, sound_opened}
 use Rattle.bench_core.proofs.Kept.{entries_push, openings_push}
 

@@ -8,7 +8,7 @@ use Rattle.std.proofs.lemmas.List.Elements.{All-head, All-tail, All-nil, All-con
 use Rattle.clock_nodes.specs.declared.rule.TheConstants.{MOST_MODULUS}
 use Rattle.bench_core.specs.declared.limits.TheConstants.{CLOCKS_DIFFER}
 use Rattle.bench_core.specs.Settled.{common_of}
-use Rattle.bench_core.specs.Told.{joined_of, joined_all}
+use Rattle.bench_core.specs.inner.Told.{joined_of, joined_all}
 
 abbrev pub moving : List ℕ → List ℕ
 moving cs = filter (λ c. not (c == 0)) cs

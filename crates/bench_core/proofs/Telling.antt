@@ -5,7 +5,7 @@ use Rattle.std.proofs.lemmas.List.Elements.{All-nil, All-push, All-weaker, Conta
 use Rattle.std.proofs.lemmas.List.{length-map}
 use Rattle.bench_core.specs.State.{Node, node_at}
 use Rattle.bench_core.specs.Settled.{settled_flags}
-use Rattle.bench_core.specs.Told.{both_marked, IsMostSteps}
+use Rattle.bench_core.specs.inner.Told.{both_marked, IsMostSteps}
 use Rattle.bench_core.specs.Tasks.{Done}
 use Rattle.bench_core.proofs.Replays.{same_lists}
 use Rattle.bench_core.proofs.Counting.{get_map}

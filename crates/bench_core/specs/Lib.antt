@@ -6,10 +6,6 @@ pub mod Replay
 pub mod StepList
 pub mod Tasks
 pub mod Views
-pub mod Nodes
-pub mod OpenPulse
-pub mod Kept
 pub mod Refusals
-pub mod Found
-pub mod Told
 pub mod Laws
+pub mod inner

@@ -40,14 +40,6 @@ rows_of (Opened coins ∷ es) = rows_of es
 rows_of (Closed row ∷ es) = row ∷ rows_of es
 rows_of (Abandoned ∷ es) = rows_of es
 
--- the staged changes of these entries, in order
-abbrev pub staged_of : List Entry → List Change
-staged_of [] = []
-staged_of (Staged actor change ∷ es) = change ∷ staged_of es
-staged_of (Opened coins ∷ es) = staged_of es
-staged_of (Closed row ∷ es) = staged_of es
-staged_of (Abandoned ∷ es) = staged_of es
-
 -- how many pulses these entries open
 abbrev pub openings : List Entry → ℕ
 openings [] = 0

@@ -1,7 +1,7 @@
 //! What a closed pulse leaves of the nodes and their mail.
 ghost use Rattle.std.specs.Prelude.{◌≡◌, ◌<◌, ◌≤◌, ℕ, false, length, get_or};
 ghost use Rattle.bench_core.specs.State.{node_at, row_at};
-ghost use Rattle.bench_core.specs.Found.{found_at, FitsNode, IsLeft};
+ghost use Rattle.bench_core.specs.inner.Found.{found_at, FitsNode, IsLeft};
 
 use crate::found::Found;
 use crate::node::NodeSlot;

@@ -1,10 +1,10 @@
 //! An open pulse, and the tasks that it hands out.
 ghost use Rattle.std.specs.Prelude.{◌≡◌, ◌<◌, All, IfOk, length, map};
 ghost use Rattle.bench_core.specs.State.{all_applied, node_of, AreCoins};
-ghost use Rattle.bench_core.specs.Nodes.{KnowsClock, FitsShape};
-ghost use Rattle.bench_core.specs.Replay.{staged_of};
+ghost use Rattle.bench_core.specs.inner.Nodes.{KnowsClock, FitsShape};
+ghost use Rattle.bench_core.specs.inner.Replay.{staged_of};
 ghost use Rattle.bench_core.specs.Views.{entry_of};
-ghost use Rattle.bench_core.specs.OpenPulse.{setup_in, IsWhole, tasks_by};
+ghost use Rattle.bench_core.specs.inner.OpenPulse.{setup_in, IsWhole, tasks_by};
 ghost use Rattle.bench_core.specs.Tasks.{tasks_from};
 
 use crate::entry::Entry;

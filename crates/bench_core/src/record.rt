@@ -4,7 +4,7 @@ ghost use Rattle.clock_nodes.specs.Rule.{clock_of};
 ghost use Rattle.clock_nodes.specs.declared.rule.TheConstants.{MOST_MODULUS};
 ghost use Rattle.bench_core.specs.declared.limits.TheConstants.{MOST_COUNTED, MOST_PULSES};
 ghost use Rattle.bench_core.specs.Settled.{clocks_where};
-ghost use Rattle.bench_core.specs.Told.{both_marked, joined_of, row_told, told_clock, IsMostSteps};
+ghost use Rattle.bench_core.specs.inner.Told.{both_marked, joined_of, row_told, told_clock, IsMostSteps};
 
 use crate::limits::CLOCKS_DIFFER;
 use crate::node::NodeSlot;

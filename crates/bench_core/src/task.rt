@@ -23,7 +23,7 @@ pub struct NodeTask {
 impl Model for NodeTask {
     ghost use Rattle.std.specs.Prelude.{◌≡◌, length};
     ghost use Rattle.std.specs.Coded.{codes};
-    ghost use Rattle.node_env.specs.Codes.{numbers_code};
+    ghost use Rattle.node_env.specs.inner.Codes.{numbers_code};
     ghost use Rattle.bench_core.specs.Tasks.{Task};
 
     ghost Value = { Task };
@@ -122,7 +122,7 @@ pub struct NodeDone {
 impl Model for NodeDone {
     ghost use Rattle.std.specs.Prelude.{◌≡◌, length};
     ghost use Rattle.std.specs.Coded.{codes};
-    ghost use Rattle.node_env.specs.Codes.{numbers_code};
+    ghost use Rattle.node_env.specs.inner.Codes.{numbers_code};
     ghost use Rattle.bpf_machine.specs.Run.{CompleteRun};
     ghost use Rattle.bench_core.specs.Tasks.{Done};
 
@@ -148,7 +148,7 @@ impl Model for NodeDone {
 
 impl NodeDone {
     ghost use Rattle.node_env.specs.Env.{inbox_of};
-    ghost use Rattle.bench_core.specs.Tasks.{IsEnd};
+    ghost use Rattle.bench_core.specs.inner.Tasks.{IsEnd};
 
     pub(crate) fn node(&self) -> u32
         ensures value { result ≡ self.now.task.node }

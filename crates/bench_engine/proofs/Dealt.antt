@@ -9,7 +9,7 @@ use Rattle.std.proofs.lemmas.List.Elements.{Contains-get_or}
 use Rattle.std.proofs.lemmas.List.{get_or-map, length-map, map-append}
 use Rattle.std.proofs.lemmas.List.Sorted.{IsPermutation-append_right, IsPermutation-append_comm, IsPermutation-sym, IsPermutation-refl, Contains-permutation, sum_by-IsPermutation}
 use Rattle.bench_core.specs.Tasks.{Task, Done, RanEach}
-use Rattle.bench_engine.specs.Batches.{RanInOrder}
+use Rattle.bench_engine.specs.inner.Batches.{RanInOrder}
 
 -- ---- one task more
 

@@ -19,7 +19,7 @@ use Rattle.bench_core.specs.declared.limits.TheConstants.{MOST_ENTRIES}
 use Rattle.bench_engine.specs.declared.event.Event.{Event as EventCode}
 use Rattle.bench_engine.specs.Events.{Event, Stage, event_of}
 use Rattle.bench_engine.specs.Events.{Pulse as PulseEvent}
-use Rattle.bench_engine.specs.Going.{IsApplied, IsStopped}
+use Rattle.bench_engine.specs.inner.Going.{IsApplied, IsStopped}
 use Rattle.bench_engine.specs.Runs.{Goes, IsFault, IsFirstRefused, IsRefusalOf, entries_after}
 use Rattle.bench_engine.specs.declared.event.RunRefusal.{RunRefusal}
 use Rattle.bench_engine.specs.declared.event.RunRefusal.TheVariants as refusals

@@ -1,5 +1,4 @@
-pub mod Batches
 pub mod Events
-pub mod Going
 pub mod Pulses
 pub mod Runs
+pub mod inner

@@ -11,12 +11,6 @@ use Rattle.bench_engine.specs.declared.refusal.EngineError.TheVariants.{Open, Wo
 abbrev pub Adds : List Placed → List Entry → List Placed → Type 0
 Adds old entries new = (more : List Placed) × (map entry_in more ≡ entries) × (new ≡ old ++ more)
 
--- a refusal past the opening
-abbrev pub IsLater : EngineError → Type 0
-IsLater (Open e) = ⊥
-IsLater (Work e) = Unit {0}
-IsLater (Close e) = Unit {0}
-
 -- a refused opening adds no receipt; a later refusal leaves that of the opening, and at most that of an end without a row
 abbrev pub Stopped : EngineError → List Placed → List ℕ → List Placed → Type 0
 Stopped (Open e) old coins new = new ≡ old

@@ -1,6 +1,6 @@
 //! A worker's part of a pulse.
 ghost use Rattle.std.specs.Prelude.{◌≡◌, ◌≤◌, [], true, IsSome, IfSome, vec_len, vec_capacity};
-ghost use Rattle.bench_engine.specs.Batches.{RanInOrder};
+ghost use Rattle.bench_engine.specs.inner.Batches.{RanInOrder};
 
 use crate::gate::Gate;
 use bench_core::{NodeDone, NodeTask};
@@ -22,7 +22,7 @@ impl<G> Drop for Batch<G> {
 /// What a worker gives is there where its gate always opens, and is of the tasks that it was given.
 impl<G: Gate> Promise<Option<Vec<NodeDone>>> for Batch<G> {
     ghost use Rattle.std.specs.Prelude.{◌≡◌, true, IsSome, IfSome};
-    ghost use Rattle.bench_engine.specs.Batches.{RanInOrder};
+    ghost use Rattle.bench_engine.specs.inner.Batches.{RanInOrder};
 
     ghost kept_by = { λ batch given. (G.always batch.gate.value ≡ true → IsSome given)
         × IfSome given (λ dones. RanInOrder batch.tasks.value.items dones.items) };

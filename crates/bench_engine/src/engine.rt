@@ -7,7 +7,7 @@ ghost use Rattle.bench_engine.specs.declared.event.RunRefusal.TheVariants.{GateS
 ghost use Rattle.bench_engine.specs.declared.refusal.WorkError.TheVariants as work;
 ghost use Rattle.bench_engine.specs.declared.tasks.TheConstants.{MOST_WORKERS};
 ghost use Rattle.bench_engine.specs.Events.{Stage, Pulse, event_of};
-ghost use Rattle.bench_engine.specs.Going.{GoesOn, IsApplied, IsOfWorkers, IsStopped};
+ghost use Rattle.bench_engine.specs.inner.Going.{GoesOn, IsApplied, IsOfWorkers, IsStopped};
 ghost use Rattle.bench_engine.specs.Runs.{IsFault, IsRun};
 
 use crate::event::{Event, Run, RunFault, RunRefusal};

@@ -7,7 +7,8 @@ ghost use Rattle.bench_shared.specs.Passes.{OneMore};
 ghost use Rattle.bench_engine.specs.declared.refusal.EngineError.TheVariants.{Work};
 ghost use Rattle.bench_engine.specs.declared.refusal.WorkError.TheVariants.{GateShut, NoThread};
 ghost use Rattle.bench_engine.specs.declared.tasks.TheConstants.{MOST_WORKERS};
-ghost use Rattle.bench_engine.specs.Pulses.{Adds, IsLater, IsPulseRefusal, Stopped};
+ghost use Rattle.bench_engine.specs.Pulses.{Adds, IsPulseRefusal, Stopped};
+ghost use Rattle.bench_engine.specs.inner.Pulses.{IsLater};
 
 use crate::gate::Gate;
 use crate::refusal::EngineError;

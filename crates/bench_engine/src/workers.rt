@@ -2,7 +2,7 @@
 ghost use Rattle.std.specs.Prelude.{◌≡◌, ◌≢◌, ◌≤◌, ◌++◌, [], true, All, vec_len, vec_capacity};
 ghost use Rattle.std.specs.Prelude.{IfOk, IfErr, IfSome, IfNone, IsSome, IsOk, OnOk};
 ghost use Rattle.std.specs.List.{flat_map};
-ghost use Rattle.bench_engine.specs.Batches.{RanInOrder};
+ghost use Rattle.bench_engine.specs.inner.Batches.{RanInOrder};
 ghost use Rattle.bench_engine.specs.declared.refusal.WorkError.TheVariants.{GateShut, NoThread};
 ghost use Rattle.bench_engine.specs.declared.tasks.TheConstants.{MOST_WORKERS};
 

@@ -12,7 +12,8 @@ use Rattle.scenario_text.specs.Texts.{IsDue}
 use Rattle.bench_scenario.specs.declared.run.TheConstants.{MOST_BYTES}
 use Rattle.bench_scenario.specs.declared.run.ScenarioFault.{ScenarioFault}
 use Rattle.bench_scenario.specs.declared.run.ScenarioFault.TheVariants as faults
-use Rattle.bench_scenario.specs.Runs.{IsDueOf, LeavesReport, Reports, StopsAt}
+use Rattle.bench_scenario.specs.Runs.{LeavesReport, Reports, StopsAt}
+use Rattle.bench_scenario.specs.inner.Runs.{IsDueOf}
 
 -- the whole text was read, or both are too long
 pub record IsFront (bytes text : List ℕ) : Type 0 where

@@ -47,14 +47,6 @@ pub record StopsAt (text : List ℕ) (event : ℕ) (refusal : RunRefusal) : Type
   pub fault : IsFault (bench_of scenario) (events_of scenario) event refusal
   pub want : IsMemoryOrThread refusal
 
--- why there is no report of the text. A text that can't be read whole has none, and no write comes before there is one
-abbrev pub IsDueOf : List ℕ → ScenarioFault → Type 0
-IsDueOf text faults.Read = ⊥
-IsDueOf text (faults.Refused error) = IsDue text error
-IsDueOf text (faults.Run stop) = StopsAt text stop.event stop.fault
-IsDueOf text (faults.Write written) = ⊥
-IsDueOf text faults.Memory = Unit {0}
-
 -- the whole report; its first bytes where a write failed, as many as the fault says; nothing at every other fault
 abbrev pub LeavesReport : Option (List ℕ) → Option (List ℕ) → List ℕ → Result (Unit {0}) ScenarioFault → Type 0
 LeavesReport old new text (Ok done) = (line : List ℕ) × Reports text line × Appends old new line

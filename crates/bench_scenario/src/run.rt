@@ -1,7 +1,8 @@
 //! A scenario from the first byte that is read to the last that is written.
 ghost use Rattle.std.specs.Prelude.{◌≡◌, ◌≤◌, ◌<◌, IfSome, MatchResult, string_bytes};
 ghost use Rattle.stream_io.specs.Streams.{TakesAtMost};
-ghost use Rattle.bench_scenario.specs.Runs.{IsDueOf, LeavesReport, Reports};
+ghost use Rattle.bench_scenario.specs.Runs.{LeavesReport, Reports};
+ghost use Rattle.bench_scenario.specs.inner.Runs.{IsDueOf};
 
 use crate::printing::report;
 use crate::schedule::events;

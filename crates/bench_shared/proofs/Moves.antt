@@ -6,8 +6,9 @@ use lib.ListN.{get_elem?}
 use Rattle.atomic_table.specs.Table.{Me, keeps, step, opening, Allows, Splits, Joins}
 use Rattle.atomic_table.proofs.Lists.{at_set, at_snoc, set_again}
 use Rattle.bench_core.specs.Settled.{Row, IsRow}
-use Rattle.bench_shared.specs.Rows.{word_of, word_at, word_of_last, InOrder, StartsWith}
-use Rattle.bench_shared.specs.Boards.{engine, watcher, hearing, Fits, Kept, Posts, Looks, Compares}
+use Rattle.bench_shared.specs.Rows.{InOrder, StartsWith}
+use Rattle.bench_shared.specs.inner.Rows.{word_of, word_at, word_of_last}
+use Rattle.bench_shared.specs.inner.Boards.{engine, watcher, hearing, Fits, Kept, Posts, Looks, Compares}
 use Rattle.bench_shared.specs.declared.rule.View.{View}
 use Rattle.bench_shared.proofs.Rowing.{starts-refl, starts-same, starts-more, starts-none, last_row-push, in_order-push}
 

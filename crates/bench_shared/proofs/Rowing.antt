@@ -5,7 +5,8 @@ use Rattle.bench_core.specs.Settled.{Row, IsRow}
 use Rattle.clock_nodes.specs.declared.rule.TheConstants.{MOST_MODULUS}
 use Rattle.bench_core.specs.declared.limits.TheConstants.{CLOCKS_DIFFER, MOST_COUNTED}
 use Rattle.bench_shared.specs.declared.word.TheConstants.{ZERO_UNIT, COMMON_UNIT, PULSE_UNIT}
-use Rattle.bench_shared.specs.Rows.{short_of, word_of, last_row, InOrderFrom, InOrder, StartsWith}
+use Rattle.bench_shared.specs.Rows.{last_row, InOrderFrom, InOrder, StartsWith}
+use Rattle.bench_shared.specs.inner.Rows.{short_of, word_of}
 
 pub starts-refl : (rows : List Row) → StartsWith rows rows
 starts-refl rows = ([], append-nil' rows)

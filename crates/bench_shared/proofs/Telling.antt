@@ -3,8 +3,9 @@ use Rattle.std.proofs.Common.{◌≡◌, ◌+◌, ℕ, List, [], ◌∷◌, ◌+
 use mathlib.Core.Option.{none}
 use Rattle.atomic_table.specs.Table.{Me, step}
 use Rattle.bench_core.specs.Settled.{Row, IsRow}
-use Rattle.bench_shared.specs.Rows.{word_of, word_at, word_of_last, pulse_of, last_row, InOrder, StartsWith}
-use Rattle.bench_shared.specs.Boards.{engine, watcher, Posts, Looks}
+use Rattle.bench_shared.specs.Rows.{last_row, InOrder, StartsWith}
+use Rattle.bench_shared.specs.inner.Rows.{word_of, word_at, word_of_last, pulse_of}
+use Rattle.bench_shared.specs.inner.Boards.{engine, watcher, Posts, Looks}
 use Rattle.bench_shared.specs.declared.rule.View.{View}
 use Rattle.bench_shared.proofs.Rowing.{word_of-injective, in_order-push, in_order-last, in_order-none}
 

@@ -1,7 +1,7 @@
 pub mod Rows
-pub mod Boards
 pub mod Seats
 pub mod Passes
 pub mod Receipts
 pub mod Plans
 pub mod Ends
+pub mod inner

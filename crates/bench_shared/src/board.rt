@@ -1,6 +1,7 @@
 //! The board that watchers read without waiting.
 ghost use Rattle.std.specs.Prelude.{◌≡◌, ◌+◌, [], ◌∷◌, ◌++◌, length, IfOk};
-ghost use Rattle.bench_shared.specs.Rows.{last_row, pulse_of, InOrder, StartsWith};
+ghost use Rattle.bench_shared.specs.Rows.{last_row, InOrder, StartsWith};
+ghost use Rattle.bench_shared.specs.inner.Rows.{pulse_of};
 
 use crate::rule::{Compare, Hear, Look, Newcomer, Post, Posting, Tell, View};
 use crate::word::{row, word};
@@ -38,7 +39,7 @@ pub(crate) struct EngineSeat {
 
 impl Model for EngineSeat {
     ghost use Rattle.std.specs.Prelude.{◌≡◌, [], length};
-    ghost use Rattle.bench_shared.specs.Boards.{engine};
+    ghost use Rattle.bench_shared.specs.inner.Boards.{engine};
     ghost use Rattle.bench_shared.specs.Rows.{InOrder};
     ghost use Rattle.bench_shared.specs.Seats.{SeatView};
 
@@ -62,7 +63,7 @@ pub struct WatchPass {
 
 impl Model for WatchPass {
     ghost use Rattle.std.specs.Prelude.{◌≡◌, [], length};
-    ghost use Rattle.bench_shared.specs.Boards.{watcher};
+    ghost use Rattle.bench_shared.specs.inner.Boards.{watcher};
     ghost use Rattle.bench_shared.specs.Rows.{InOrder};
     ghost use Rattle.bench_shared.specs.Seats.{SeatView};
 

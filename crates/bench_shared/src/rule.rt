@@ -18,7 +18,7 @@ pub(crate) struct Posting;
 
 impl TableRule<(), View, ()> for Posting {
     ghost use Rattle.std.specs.Prelude.{[]};
-    ghost use Rattle.bench_shared.specs.Boards.{Kept, engine};
+    ghost use Rattle.bench_shared.specs.inner.Boards.{Kept, engine};
 
     ghost holds = { λ _. Kept };
 
@@ -29,7 +29,7 @@ impl TableRule<(), View, ()> for Posting {
 pub(crate) struct Post;
 
 impl Play<(), View> for Post {
-    ghost use Rattle.bench_shared.specs.Boards.{Posts};
+    ghost use Rattle.bench_shared.specs.inner.Boards.{Posts};
 
     ghost then = { Posts };
 }
@@ -38,7 +38,7 @@ impl Play<(), View> for Post {
 pub(crate) struct Look;
 
 impl Play<(), View> for Look {
-    ghost use Rattle.bench_shared.specs.Boards.{Looks};
+    ghost use Rattle.bench_shared.specs.inner.Boards.{Looks};
 
     ghost then = { Looks };
 }
@@ -47,7 +47,7 @@ impl Play<(), View> for Look {
 pub(crate) struct Compare;
 
 impl Play<(), View> for Compare {
-    ghost use Rattle.bench_shared.specs.Boards.{Compares};
+    ghost use Rattle.bench_shared.specs.inner.Boards.{Compares};
 
     ghost then = { Compares };
 }
@@ -56,7 +56,7 @@ impl Play<(), View> for Compare {
 pub(crate) struct Tell;
 
 impl Split<View> for Tell {
-    ghost use Rattle.bench_shared.specs.Boards.{watcher};
+    ghost use Rattle.bench_shared.specs.inner.Boards.{watcher};
 
     ghost left = { λ v. v };
 
@@ -68,7 +68,7 @@ pub(crate) struct Newcomer;
 
 impl Split<View> for Newcomer {
     ghost use Rattle.std.specs.Prelude.{[]};
-    ghost use Rattle.bench_shared.specs.Boards.{watcher};
+    ghost use Rattle.bench_shared.specs.inner.Boards.{watcher};
 
     ghost left = { λ v. v };
 
@@ -80,7 +80,7 @@ pub(crate) struct Hear;
 
 impl Join<View> for Hear {
     ghost use Rattle.std.specs.Prelude.{[]};
-    ghost use Rattle.bench_shared.specs.Boards.{watcher, hearing};
+    ghost use Rattle.bench_shared.specs.inner.Boards.{watcher, hearing};
 
     ghost both = { hearing };
 

@@ -7,7 +7,8 @@ use Rattle.bpf_insn.specs.declared.forms.Insn.{Insn}
 use Rattle.bpf_insn.specs.Encoding.{slots_taken}
 use Rattle.bpf_insn.specs.Programs.{slots_of, insn_at}
 use Rattle.bpf_insn.proofs.LayoutLaws.{one_or_two, slots_of-cons}
-use Rattle.bpf_asm.specs.Canonical.{canonical_text, found_insns, canonical_line}
+use Rattle.bpf_asm.specs.Canonical.{canonical_text, canonical_line}
+use Rattle.bpf_asm.specs.inner.Canonical.{found_insns}
 
 abbrev pub insns_before : List Insn → ℕ → List Insn
 insns_before [] slot = []

@@ -13,7 +13,8 @@ use Rattle.bpf_asm.specs.declared.labels.Labels.{Labels}
 use Rattle.bpf_asm.specs.declared.text_error.TextError.{TextError}
 use Rattle.bpf_asm.specs.declared.text_error.TextError.TheVariants.{Memory}
 use Rattle.bpf_asm.specs.Statements.{Line, Source}
-use Rattle.bpf_asm.specs.Meaning.{slot_of, is_map, known, HasPlaces, near_places, places_from, slots_in, slots_of_lines, lines_in, lines_left, with_distance, insn_to, insn_by, before_all, insns_before, insns_from, insns_of, Means, Resolves, Refuses, insns_found, slots_found}
+use Rattle.bpf_asm.specs.Meaning.{slot_of, is_map, places_from, slots_in, lines_in, with_distance, insn_to, insn_by, before_all, insns_before, insns_from, insns_of, Means}
+use Rattle.bpf_asm.specs.inner.Meaning.{known, HasPlaces, near_places, slots_of_lines, lines_left, Resolves, Refuses, insns_found, slots_found}
 use Rattle.bpf_asm.proofs.LabelLemmas.{near_all}
 
 -- ---- one line

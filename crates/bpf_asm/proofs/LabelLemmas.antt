@@ -12,7 +12,8 @@ use Rattle.std.proofs.lemmas.Slice.Eq.{bytes_eq-Decides}
 use Rattle.bpf_insn.specs.declared.listing.TheConstants.{MAX_SLOTS}
 use Rattle.bpf_asm.specs.declared.labels.Labels.{Labels}
 use Rattle.bpf_asm.specs.Statements.{Line}
-use Rattle.bpf_asm.specs.Meaning.{Near, Places, place_at, slot_of, is_map, known, HasPlaces, near, near_places, slots_in, slots_of_lines, places_from, lines_in, lines_left}
+use Rattle.bpf_asm.specs.Meaning.{Places, place_at, slot_of, is_map, slots_in, places_from, lines_in}
+use Rattle.bpf_asm.specs.inner.Meaning.{Near, known, HasPlaces, near, near_places, slots_of_lines, lines_left}
 
 same_bytes : (a b : List ℕ) → bytes_eq a b ≡ true → a ≡ b
 same_bytes a b same = grind (arith, bytes_eq-Decides a b)

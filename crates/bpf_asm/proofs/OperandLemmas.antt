@@ -4,8 +4,10 @@ use Rattle.std.specs.Borrow.{Bor}
 use Rattle.std.specs.Prelude.{Option, Some, None, ◌==◌}
 use Rattle.std.specs.Option.{option_and_then}
 use Rattle.bpf_asm.specs.declared.numbers.Number.{Number}
-use Rattle.bpf_asm.specs.Numbers.{Written, CountsSigned, in_field, wide_of}
-use Rattle.bpf_asm.specs.Pieces.{pieces_of, pieces_left, prepend, trimmed}
+use Rattle.bpf_asm.specs.Numbers.{Written, in_field, wide_of}
+use Rattle.bpf_asm.specs.inner.Numbers.{CountsSigned}
+use Rattle.bpf_asm.specs.Pieces.{pieces_of, prepend, trimmed}
+use Rattle.bpf_asm.specs.inner.Pieces.{pieces_left}
 use Rattle.bpf_asm.specs.Operands.{operands_of, operands_by, parts_of, one, two, three, more, address_between, address_inside}
 
 -- the number that the code has decides what is read of the text

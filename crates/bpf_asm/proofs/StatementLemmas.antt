@@ -3,7 +3,8 @@ use Rattle.std.proofs.Common.{◌≡◌, ◌≢◌, ℕ, true, false, cond, List
 use Rattle.std.specs.Prelude.{Option, Some, None, ◌==◌, ◌⊎◌, option_map, Result, Ok, Err, IfOk, IfErr}
 use Rattle.std.specs.Option.{option_and_then}
 use Rattle.bpf_asm.specs.declared.words.Form.{Form}
-use Rattle.bpf_asm.specs.Operands.{Operands, one, two, three, more, Reads, option_both, operands_of}
+use Rattle.bpf_asm.specs.Operands.{Operands, one, two, three, more, option_both, operands_of}
+use Rattle.bpf_asm.specs.inner.Operands.{Reads}
 use Rattle.bpf_asm.specs.Pieces.{is_blank, is_word_letter, front_of, rest_of, without_comment}
 use Rattle.bpf_asm.specs.Statements.{Source, Line, pair_by, source_by, source_behind, source_of, ends_word, line_by, line_of}
 use Rattle.bpf_asm.specs.Words.{form_of}

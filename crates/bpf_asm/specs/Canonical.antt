@@ -1,4 +1,5 @@
 -- The canonical text of a program (docs/ASSEMBLER.md, "Canonical text").
+-- ---- operands
 use Rattle.std.specs.Prelude.{ℕ, ℤ, pos, negsuc, suc, List, [], ◌∷◌, ◌++◌, codes, Option, Some, None}
 use Rattle.std.specs.List.{flat_map}
 use Rattle.std.specs.Fmt.{decimal, signed_decimal}
@@ -12,8 +13,6 @@ use Rattle.bpf_asm.specs.declared.words.Form.{Form}
 use Rattle.bpf_asm.specs.declared.words.Form.TheVariants as forms
 use Rattle.bpf_asm.specs.declared.helpers.Helper.{Helper}
 use Rattle.bpf_asm.specs.Words.{word_of, register_word, helper_word, helper_by_number}
-
--- ---- operands
 
 -- a number with its sign always, as of distances and offsets
 abbrev pub with_sign : ℤ → List ℕ
@@ -90,8 +89,3 @@ canonical_line insn = word_of (form_in insn) ++ after_word (operand_texts insn)
 -- one instruction a line
 abbrev pub canonical_text : List Insn → List ℕ
 canonical_text program = flat_map (λ insn. canonical_line insn ++ codes "\n") program
-
--- what is found at a slot, as a list: nothing at a second slot
-abbrev pub found_insns : Option Insn → List Insn
-found_insns None = []
-found_insns (Some insn) = insn ∷ []

@@ -5,3 +5,4 @@ pub mod Operands
 pub mod Pieces
 pub mod Statements
 pub mod Words
+pub mod inner

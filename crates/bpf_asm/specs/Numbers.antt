@@ -1,13 +1,10 @@
 -- Numbers of the text (docs/ASSEMBLER.md, "Numbers"): an optional "-", then decimal digits, or "0x" and hexadecimal
 -- digits.
-use Rattle.std.specs.Prelude.{◌≡◌, ◌≤◌, ◌^◌, ℕ, ℤ, pos, neg_ℤ, ◌+◌, ◌-◌, ◌%◌, ◌==◌, ◌&&◌, Bool, true, false, List, []}
+use Rattle.std.specs.Prelude.{◌^◌, ℕ, ℤ, pos, neg_ℤ, ◌+◌, ◌-◌, ◌%◌, ◌==◌, ◌&&◌, Bool, true, false, List, []}
 use Rattle.std.specs.Prelude.{◌∷◌, length, nat_lt, nat_le, Option, Some, None, option_map, if◌then◌else◌}
 use Rattle.std.specs.List.{list_all}
 use Rattle.std.specs.Char.{digit_value}
 use Rattle.std.specs.Str.Parse.{digits_value}
-use Rattle.bpf_asm.specs.declared.numbers.Magnitude.{Magnitude}
-use Rattle.bpf_asm.specs.declared.numbers.Magnitude.TheVariants.{Fits, TooGreat}
-use Rattle.bpf_asm.specs.declared.numbers.Number.{Number}
 
 -- one digit or more in the radix, and nothing else
 abbrev pub is_numeral : ℕ → List ℕ → Bool
@@ -54,22 +51,3 @@ abbrev pub wide_of : Written → Option ℕ
 wide_of w =
     if w.below_zero then (if nat_le w.size (2 ^ 63) then Some ((2 ^ 64 - w.size) % 2 ^ 64) else None)
     else (if nat_lt w.size (2 ^ 64) then Some w.size else None)
-
--- ---- what the code has of a number
-
--- the code's number is this one, or this one doesn't fit 64 bits
-abbrev pub IsMagnitude : ℕ → Magnitude → Type 0
-IsMagnitude n (Fits m) = n ≡ m
-IsMagnitude n TooGreat = 2 ^ 64 ≤ n
-
--- the code has a number exactly where there is one, and that one
-abbrev pub Counts : Option ℕ → Option Magnitude → Type 0
-Counts None None = Unit {0}
-Counts (Some n) (Some m) = IsMagnitude n m
-Counts _ _ = ⊥
-
--- the same of a number with its sign
-abbrev pub CountsSigned : Option Written → Option Number → Type 0
-CountsSigned None None = Unit {0}
-CountsSigned (Some w) (Some n) = (w.below_zero ≡ n.below_zero) × IsMagnitude w.size n.magnitude
-CountsSigned _ _ = ⊥

@@ -1,6 +1,6 @@
 -- The operands of instructions (docs/ASSEMBLER.md, "Operands").
-use Rattle.std.specs.Prelude.{ℕ, ℤ, pos, neg_ℤ, ◌+◌, ◌≤ℤ◌, ◌≡◌, ◌==◌, ◌||◌, ◌&&◌, Bool, false, List, [], ◌∷◌, length}
-use Rattle.std.specs.Prelude.{nat_le, Option, Some, None, option_map, map, Result, Ok, Err, if◌then◌else◌}
+use Rattle.std.specs.Prelude.{ℕ, ℤ, pos, ◌==◌, ◌||◌, ◌&&◌, Bool, false, List, [], ◌∷◌, length}
+use Rattle.std.specs.Prelude.{nat_le, Option, Some, None, option_map, map, if◌then◌else◌}
 use Rattle.std.specs.Option.{option_and_then}
 use Rattle.std.specs.List.{list_all}
 use Rattle.bpf_insn.specs.declared.forms.Reg as registers
@@ -10,9 +10,6 @@ use Rattle.bpf_asm.specs.declared.helpers.Helper.{Helper}
 use Rattle.bpf_asm.specs.declared.numbers.TheConstants.{GREATEST_IMMEDIATE, GREATEST_OFFSET}
 use Rattle.bpf_asm.specs.declared.operands.TheConstants.{NAME_LETTERS}
 use Rattle.bpf_asm.specs.declared.operands.Address.{Address}
-use Rattle.bpf_asm.specs.declared.operands.Target as code
-use Rattle.bpf_asm.specs.declared.operands.Parts.{Parts}
-use Rattle.bpf_asm.specs.declared.operands.Parts.TheVariants as code_parts
 use Rattle.bpf_asm.specs.Numbers.{numeral_of, magnitude_of, number_of, signed_number_of, in_field, wide_of}
 use Rattle.bpf_asm.specs.Pieces.{pieces_of, trimmed, begins_name, is_word_letter, front_of, rest_of}
 use Rattle.bpf_asm.specs.Words.{register_by_word, helper_by_word, helper_number}
@@ -108,29 +105,3 @@ parts_of text = map trimmed (pieces_of (λ c. c == 44) text)
 
 abbrev pub operands_of : List ℕ → Operands
 operands_of text = operands_by (parts_of text)
-
--- ---- what the code has of these
-
--- the code has a value exactly where there is one, and that one
-abbrev pub Reads : {A E : Type 0} → Option A → Result A E → Type 0
-Reads wanted (Ok value) = wanted ≡ Some value
-Reads wanted (Err error) = wanted ≡ None
-
-abbrev pub target_in : code.Target → Target
-target_in (code.TheVariants.Distance off) = distance off
-target_in (code.TheVariants.Label name) = label name.now
-
-abbrev pub ReadsTarget : {E : Type 0} → Option Target → Result code.Target E → Type 0
-ReadsTarget wanted (Ok target) = wanted ≡ Some (target_in target)
-ReadsTarget wanted (Err error) = wanted ≡ None
-
-abbrev pub operands_in : Parts → Operands
-operands_in (code_parts.One a) = one a.now
-operands_in (code_parts.Two a b) = two a.now b.now
-operands_in (code_parts.Three a b c) = three a.now b.now c.now
-operands_in code_parts.More = more
-
--- the distance is within a field of this greatest number
-abbrev pub IsWithin : ℕ → code.Target → Type 0
-IsWithin most (code.TheVariants.Distance off) = (neg_ℤ (pos (most + 1)) ≤ℤ off) × (off ≤ℤ pos most)
-IsWithin most (code.TheVariants.Label name) = Unit {0}

@@ -1,8 +1,5 @@
 -- A text in pieces (docs/ASSEMBLER.md, "Lines").
-use Rattle.std.specs.Borrow.{Bor}
-use Rattle.std.specs.Prelude.{ℕ, Option, Some, None, ◌==◌, ◌||◌, ◌&&◌, nat_le, Bool, List, [], ◌∷◌, ◌++◌, if◌then◌else◌}
-use Rattle.bpf_asm.specs.declared.pieces.Letters.{Letters}
-use Rattle.bpf_asm.specs.declared.pieces.Letters.TheVariants.{Blank, Word}
+use Rattle.std.specs.Prelude.{ℕ, ◌==◌, ◌||◌, ◌&&◌, nat_le, Bool, List, [], ◌∷◌, ◌++◌, if◌then◌else◌}
 
 -- the first piece gets more in front
 abbrev pub prepend : List ℕ → List (List ℕ) → List (List ℕ)
@@ -13,11 +10,6 @@ prepend front (piece ∷ pieces) = (front ++ piece) ∷ pieces
 abbrev pub pieces_of : (ℕ → Bool) → List ℕ → List (List ℕ)
 pieces_of parts [] = [] ∷ []
 pieces_of parts (c ∷ cs) = if parts c then [] ∷ pieces_of parts cs else prepend (c ∷ []) (pieces_of parts cs)
-
--- the pieces of what comes behind a mark
-abbrev pub pieces_left : (ℕ → Bool) → Option (Bor (List ℕ)) → List (List ℕ)
-pieces_left parts None = []
-pieces_left parts (Some rest) = pieces_of parts rest.now
 
 abbrev pub first_of : List (List ℕ) → List ℕ
 first_of [] = []
@@ -45,10 +37,6 @@ begins_name c = between 97 122 c || (between 65 90 c || (c == 95))
 
 abbrev pub is_word_letter : ℕ → Bool
 is_word_letter c = begins_name c || between 48 57 c
-
-abbrev pub is_among : Letters → ℕ → Bool
-is_among Blank c = is_blank c
-is_among Word c = is_word_letter c
 
 -- the longest front of bytes that pass the test
 abbrev pub front_of : (ℕ → Bool) → List ℕ → List ℕ

@@ -1,21 +1,17 @@
 -- What one line says (docs/ASSEMBLER.md, "Lines").
-use Rattle.std.specs.Borrow.{Bor}
-use Rattle.std.specs.Prelude.{◌≡◌, ℕ, ℤ, pos, ◌==◌, ◌||◌, Bool, true, List, [], ◌∷◌, Option, Some, None, option_map}
-use Rattle.std.specs.Prelude.{Result, Ok, Err, if◌then◌else◌}
+use Rattle.std.specs.Prelude.{ℕ, ℤ, pos, ◌==◌, ◌||◌, Bool, true, List, [], ◌∷◌, Option, Some, None, option_map}
+use Rattle.std.specs.Prelude.{if◌then◌else◌}
 use Rattle.std.specs.Option.{option_and_then}
 use Rattle.bpf_insn.specs.declared.forms.Reg.{Reg}
 use Rattle.bpf_insn.specs.declared.forms.Operand.{Operand}
 use Rattle.bpf_insn.specs.declared.forms.Insn.{Insn}
 use Rattle.bpf_insn.specs.declared.forms.Insn.TheVariants as insn
-use Rattle.bpf_asm.specs.declared.statements.Source as code_source
-use Rattle.bpf_asm.specs.declared.statements.Line as code_line
 use Rattle.bpf_asm.specs.declared.numbers.TheConstants.{GREATEST_IMMEDIATE, GREATEST_OFFSET}
-use Rattle.bpf_asm.specs.declared.operands.Target as code
 use Rattle.bpf_asm.specs.declared.words.Form.{Form}
 use Rattle.bpf_asm.specs.declared.words.Form.TheVariants.{Alu, Neg, Movsx, Swap, Ja, JaLong, Branch, Call, Exit, Load}
 use Rattle.bpf_asm.specs.declared.words.Form.TheVariants.{LoadSx, StoreReg, StoreImm, LoadImm64}
 use Rattle.bpf_asm.specs.Operands.{Operands, one, two, three, operands_of, option_both, Target, distance, label}
-use Rattle.bpf_asm.specs.Operands.{target_of, target_in, immediate_of, operand_of, helper_of, wide_number_of}
+use Rattle.bpf_asm.specs.Operands.{target_of, immediate_of, operand_of, helper_of, wide_number_of}
 use Rattle.bpf_asm.specs.Operands.{address_of, is_name}
 use Rattle.bpf_asm.specs.Pieces.{is_blank, is_word_letter, front_of, rest_of, without_comment}
 use Rattle.bpf_asm.specs.Words.{form_of, register_by_word}
@@ -114,29 +110,3 @@ abbrev pub line_of : List ℕ → Line
 line_of text =
     let front = rest_of is_blank (without_comment text) in
     line_by (front_of is_word_letter front) (rest_of is_word_letter front)
-
--- ---- what the code has of these
-
-abbrev pub name_in : Option (Bor (List ℕ)) → Option (List ℕ)
-name_in None = None
-name_in (Some name) = Some name.now
-
-abbrev pub source_in : code_source.Source → Source
-source_in s = record { insn = s.insn; label = name_in s.label }
-
-abbrev pub ReadsSource : {E : Type 0} → Option Source → Result code_source.Source E → Type 0
-ReadsSource wanted (Ok source) = wanted ≡ Some (source_in source)
-ReadsSource wanted (Err error) = wanted ≡ None
-
-abbrev pub ReadsCondition : {E : Type 0} → Option (Reg × (Operand × Target)) → Result (Reg × Operand × code.Target) E
-    → Type 0
-ReadsCondition wanted (Ok x) = wanted ≡ Some (x.0, (x.1, target_in x.2))
-ReadsCondition wanted (Err error) = wanted ≡ None
-
-abbrev pub written_in : {E : Type 0} → Result (Option code_source.Source) E → Option (Option Source)
-written_in (Ok None) = Some None
-written_in (Ok (Some source)) = Some (Some (source_in source))
-written_in (Err error) = None
-
-abbrev pub line_in : code_line.Line → Line
-line_in l = record { name = name_in l.name; source = written_in l.source }

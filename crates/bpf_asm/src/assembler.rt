@@ -4,10 +4,12 @@ ghost use Rattle.std.specs.Prelude.{◌≡◌, ◌≢◌, ◌≤◌, ◌<◌, �
 ghost use Rattle.std.specs.Prelude.{IfOk, IfErr, MatchResult};
 ghost use Rattle.bpf_insn.specs.declared.forms.Insn.{Insn};
 ghost use Rattle.bpf_insn.specs.declared.listing.TheConstants.{MAX_SLOTS};
-ghost use Rattle.bpf_asm.specs.Meaning.{lines_in, Means, Resolves, Near, known, insn_by, insns_from, insns_found};
-ghost use Rattle.bpf_asm.specs.Meaning.{slots_found, slots_of_lines, with_distance, Refuses, HasPlaces, insns_of};
+ghost use Rattle.bpf_asm.specs.Meaning.{lines_in, Means, insn_by, insns_from};
+ghost use Rattle.bpf_asm.specs.inner.Meaning.{Resolves, Near, known, insns_found};
+ghost use Rattle.bpf_asm.specs.Meaning.{with_distance, insns_of};
+ghost use Rattle.bpf_asm.specs.inner.Meaning.{slots_found, slots_of_lines, Refuses, HasPlaces};
 ghost use Rattle.bpf_insn.specs.Programs.{slots_of};
-ghost use Rattle.bpf_asm.specs.Statements.{source_in, written_in};
+ghost use Rattle.bpf_asm.specs.inner.Statements.{source_in, written_in};
 
 use crate::labels::{Labels, next_line, read_labels};
 use crate::operands::Fault;

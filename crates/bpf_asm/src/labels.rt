@@ -2,8 +2,9 @@
 
 ghost use Rattle.std.specs.Prelude.{◌≡◌, ◌≤◌, ◌<◌, ◌+◌, ◌∷◌, ◌++◌, [], ℕ, Some, IfOk, IfSome, OnOk, length};
 ghost use Rattle.bpf_insn.specs.declared.listing.TheConstants.{MAX_SLOTS};
-ghost use Rattle.bpf_asm.specs.Meaning.{lines_in, lines_left, near_places, near, slots_in, HasPlaces, Places, place_at};
-ghost use Rattle.bpf_asm.specs.Statements.{line_in, name_in, written_in};
+ghost use Rattle.bpf_asm.specs.Meaning.{lines_in, slots_in, Places, place_at};
+ghost use Rattle.bpf_asm.specs.inner.Meaning.{lines_left, near_places, near, HasPlaces};
+ghost use Rattle.bpf_asm.specs.inner.Statements.{line_in, name_in, written_in};
 
 use crate::operands::Fault;
 use crate::pieces::first_piece;
@@ -107,7 +108,7 @@ pub fn read_labels(alloc: Global, text: &[u8]) -> Result<Labels<'_>, AllocError>
 impl Labels<'_> {
     ghost use Rattle.std.specs.Prelude.{◌≡◌, ◌≤◌, IfSome};
     ghost use Rattle.bpf_insn.specs.declared.listing.TheConstants.{MAX_SLOTS};
-    ghost use Rattle.bpf_asm.specs.Meaning.{known, Near};
+    ghost use Rattle.bpf_asm.specs.inner.Meaning.{known, Near};
 
     /// The slot of a label.
     pub fn slot_of(&self, name: &[u8]) -> Option<usize>

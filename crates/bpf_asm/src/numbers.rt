@@ -2,7 +2,8 @@
 ghost use Rattle.std.specs.Prelude.{◌≡◌, ◌≤◌, ◌<◌, ◌^◌, MatchOption, MatchResult, IsSomeAnd, IfSome, ⊤, ◌+◌, ◌*◌, ℤ};
 ghost use Rattle.std.specs.Prelude.{pos, neg_ℤ, ◌≤ℤ◌, ℕ, Option, Some, None, option_map};
 ghost use Rattle.bpf_asm.specs.Numbers.{magnitude_of, numeral_of, number_of, signed_number_of, in_field, wide_of};
-ghost use Rattle.bpf_asm.specs.Numbers.{Written, written, Counts, CountsSigned};
+ghost use Rattle.bpf_asm.specs.Numbers.{Written, written};
+ghost use Rattle.bpf_asm.specs.inner.Numbers.{Counts, CountsSigned};
 
 /// The greatest immediate and distance of 32 bits; below zero it goes one further.
 pub const GREATEST_IMMEDIATE: u32 = 0x7fff_ffff;
@@ -108,7 +109,8 @@ pub fn signed_decimal(text: &[u8]) -> Option<Number>
 
 impl Number {
     ghost use Rattle.std.specs.Prelude.{◌≡◌, ◌<◌, ◌^◌, ◌+◌, ◌≤ℤ◌, ℕ, pos, neg_ℤ, Some, IfSome};
-    ghost use Rattle.bpf_asm.specs.Numbers.{in_field, wide_of, Written, CountsSigned};
+    ghost use Rattle.bpf_asm.specs.Numbers.{in_field, wide_of, Written};
+    ghost use Rattle.bpf_asm.specs.inner.Numbers.{CountsSigned};
 
     /// The number, where a signed field holds it whose greatest number is `most`.
     pub fn in_field(self, most: u32) -> Option<i64>

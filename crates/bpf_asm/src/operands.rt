@@ -4,12 +4,14 @@ ghost use Rattle.std.specs.Prelude.{◌≡◌, ◌==◌, ◌∷◌, ◌≤◌, �
 ghost use Rattle.std.specs.List.{list_all};
 ghost use Rattle.std.specs.Option.{option_and_then};
 ghost use Rattle.bpf_asm.specs.declared.numbers.TheConstants.{GREATEST_IMMEDIATE};
-ghost use Rattle.bpf_asm.specs.Numbers.{Written, CountsSigned, in_field, wide_of};
+ghost use Rattle.bpf_asm.specs.Numbers.{Written, in_field, wide_of};
+ghost use Rattle.bpf_asm.specs.inner.Numbers.{CountsSigned};
 ghost use Rattle.bpf_asm.specs.Pieces.{is_word_letter, pieces_of};
-ghost use Rattle.bpf_asm.specs.Operands.{Reads, ReadsTarget, IsWithin, immediate_of, operand_of, helper_of};
+ghost use Rattle.bpf_asm.specs.Operands.{immediate_of, operand_of, helper_of};
+ghost use Rattle.bpf_asm.specs.inner.Operands.{Reads, ReadsTarget, IsWithin};
 ghost use Rattle.bpf_asm.specs.Operands.{wide_number_of, offset_of, address_inside, address_of, address_between};
 ghost use Rattle.bpf_asm.specs.Operands.{starts_name, is_name, target_of, operands_of, operands_by, parts_of};
-ghost use Rattle.bpf_asm.specs.Operands.{operands_in};
+ghost use Rattle.bpf_asm.specs.inner.Operands.{operands_in};
 ghost use Rattle.bpf_asm.specs.Words.{register_by_word};
 
 use crate::helpers::helper_by_word;

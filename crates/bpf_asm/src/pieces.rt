@@ -1,7 +1,8 @@
 //! A text in pieces.
 
 ghost use Rattle.std.specs.Prelude.{◌≡◌, ◌==◌, ◌∷◌, ◌≤◌, ◌<◌, length, IfSome};
-ghost use Rattle.bpf_asm.specs.Pieces.{pieces_of, pieces_left, is_among, front_of, rest_of, before_blanks, trimmed};
+ghost use Rattle.bpf_asm.specs.Pieces.{pieces_of, front_of, rest_of, before_blanks, trimmed};
+ghost use Rattle.bpf_asm.specs.inner.Pieces.{pieces_left, is_among};
 ghost use Rattle.bpf_asm.specs.Pieces.{begins_name, is_blank};
 
 /// Bytes that stand together: blanks, or the letters, digits and `_` of words.
@@ -20,7 +21,7 @@ pub fn begins_name(byte: u8) -> bool
 
 impl Letters {
     ghost use Rattle.std.specs.Prelude.{◌≡◌};
-    ghost use Rattle.bpf_asm.specs.Pieces.{is_among};
+    ghost use Rattle.bpf_asm.specs.inner.Pieces.{is_among};
 
     /// Whether a byte is among them.
     pub fn has(self, byte: u8) -> bool

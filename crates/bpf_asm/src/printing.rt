@@ -2,7 +2,8 @@
 
 ghost use Rattle.std.specs.Prelude.{◌≡◌, ◌++◌, IfOk, OnOk, string_bytes};
 ghost use Rattle.bpf_insn.specs.Programs.{IsProgram};
-ghost use Rattle.bpf_asm.specs.Canonical.{canonical_text, found_insns};
+ghost use Rattle.bpf_asm.specs.Canonical.{canonical_text};
+ghost use Rattle.bpf_asm.specs.inner.Canonical.{found_insns};
 
 use crate::line::CanonicalLine;
 use bpf_insn::{Insn, Program};

@@ -4,12 +4,16 @@ ghost use Rattle.std.specs.Prelude.{◌≡◌, ◌≢◌, ◌≤◌, ◌⊎◌, 
 ghost use Rattle.bpf_insn.specs.declared.forms.Insn.TheVariants as insn;
 ghost use Rattle.bpf_asm.specs.declared.words.Form.TheVariants as form;
 ghost use Rattle.bpf_asm.specs.declared.numbers.TheConstants.{GREATEST_IMMEDIATE, GREATEST_OFFSET};
-ghost use Rattle.bpf_asm.specs.Operands.{Reads, two, ReadsTarget, IsWithin, target_in, operands_in, operand_of};
+ghost use Rattle.bpf_asm.specs.Operands.{two, operand_of};
+ghost use Rattle.bpf_asm.specs.inner.Operands.{Reads, ReadsTarget, IsWithin, target_in, operands_in};
 ghost use Rattle.bpf_asm.specs.Operands.{address_of, immediate_of, wide_number_of, helper_of, target_of};
 ghost use Rattle.bpf_asm.specs.Pieces.{without_comment};
-ghost use Rattle.bpf_asm.specs.Statements.{single_by, pair_by, nothing_of, condition_of, ReadsCondition, whole};
-ghost use Rattle.bpf_asm.specs.Statements.{jump_to, source_in, source_by, ReadsSource, ends_word, source_behind};
-ghost use Rattle.bpf_asm.specs.Statements.{source_of, written_in, named, line_by, line_of, line_in};
+ghost use Rattle.bpf_asm.specs.Statements.{single_by, pair_by, nothing_of, condition_of, whole};
+ghost use Rattle.bpf_asm.specs.inner.Statements.{ReadsCondition};
+ghost use Rattle.bpf_asm.specs.Statements.{jump_to, source_by, ends_word, source_behind};
+ghost use Rattle.bpf_asm.specs.inner.Statements.{source_in, ReadsSource};
+ghost use Rattle.bpf_asm.specs.Statements.{source_of, named, line_by, line_of};
+ghost use Rattle.bpf_asm.specs.inner.Statements.{written_in, line_in};
 ghost use Rattle.bpf_asm.specs.Words.{register_by_word};
 
 use crate::forms::form_of;

@@ -9,7 +9,8 @@ use Rattle.bpf_insn.specs.declared.listing.TheConstants.{MAX_SLOTS}
 use Rattle.bpf_insn.specs.declared.image.ImageError.{ImageError}
 use Rattle.bpf_insn.specs.declared.image.ImageError.TheVariants as errors
 use Rattle.bpf_insn.specs.Programs.{image_of, slots_of, IsProgram}
-use Rattle.bpf_insn.specs.Images.{IsFirstFault, RefusesImage, IsImage, error_at}
+use Rattle.bpf_insn.specs.Images.{IsFirstFault, RefusesImage, IsImage}
+use Rattle.bpf_insn.specs.inner.Images.{error_at}
 use Rattle.bpf_insn.proofs.ImageLaws.{image_once, fault_apart, fault_once, same_fault, length-image}
 
 -- a refusal by its kind

@@ -20,11 +20,14 @@ use Rattle.bpf_insn.specs.declared.opcode.Opcode.TheVariants as opcode
 use Rattle.bpf_insn.specs.declared.slot.Slot.{Slot}
 use Rattle.bpf_insn.specs.declared.slot.SlotFault.{SlotFault}
 use Rattle.bpf_insn.specs.declared.slot.SlotFault.TheVariants.{Truncated, UnknownOpcode, BadRegister, NonZeroField, BadWidth}
-use Rattle.bpf_insn.specs.Registers.{register_number, register_at}
-use Rattle.bpf_insn.specs.Opcodes.{opcode_byte, is_wide, opcode_slots}
+use Rattle.bpf_insn.specs.Registers.{register_number}
+use Rattle.bpf_insn.specs.inner.Registers.{register_at}
+use Rattle.bpf_insn.specs.Opcodes.{opcode_byte}
+use Rattle.bpf_insn.specs.inner.Opcodes.{is_wide, opcode_slots}
 use Rattle.bpf_insn.specs.Encoding.{has_stray_field}
-use Rattle.bpf_insn.specs.Reading.{◌>>=◌, found, unless, slot_at, fields_at, high_at, kind_at, extension_by, swap_bits_at, swap_by, form_at}
-use Rattle.bpf_insn.specs.Images.{IsFirst, StandsAt, FaultHolds, IsFaultAt, fault_number, has_bad_width}
+use Rattle.bpf_insn.specs.inner.Reading.{◌>>=◌, found, unless, slot_at, fields_at, high_at, kind_at, extension_by, swap_bits_at, swap_by, form_at}
+use Rattle.bpf_insn.specs.Images.{StandsAt, FaultHolds, IsFaultAt, fault_number, has_bad_width}
+use Rattle.bpf_insn.specs.inner.Images.{IsFirst}
 use Rattle.bpf_insn.proofs.OpcodeLaws.{opcode_at, opcode_takes, opcode_again, number_small}
 use Rattle.bpf_insn.proofs.SlotLaws.{IsBytes, Spells, ok_is, found_ok, slot_takes, slot_again}
 use Rattle.bpf_insn.proofs.FormLaws.{IsClean, clean_from, slot_with, high_bytes}

@@ -30,10 +30,12 @@ use Rattle.bpf_insn.specs.declared.slot.SlotFault.{SlotFault}
 use Rattle.bpf_insn.specs.Registers.{register_number}
 use Rattle.bpf_insn.specs.declared.opcode.FieldUse.{FieldUse}
 use Rattle.bpf_insn.specs.declared.opcode.FieldUse.TheVariants.{Zero, ZeroOrOne, Any}
-use Rattle.bpf_insn.specs.Opcodes.{offset_use, uses_of, is_stray, is_wide, opcode_slots}
+use Rattle.bpf_insn.specs.Opcodes.{offset_use, uses_of, is_stray}
+use Rattle.bpf_insn.specs.inner.Opcodes.{is_wide, opcode_slots}
 use Rattle.bpf_insn.specs.Arithmetic.{movsx_width}
-use Rattle.bpf_insn.specs.Encoding.{code_of, offset_of, extended_bits, swapped_bits, slot_of, high_of, second_slot, has_stray_field, InRange, slots_taken}
-use Rattle.bpf_insn.specs.Reading.{op_at, operand_at, kind_at, extension_by, move_at, swap_bits_at, swap_by, form_at}
+use Rattle.bpf_insn.specs.Encoding.{code_of, offset_of, extended_bits, swapped_bits, slot_of, second_slot, has_stray_field, InRange, slots_taken}
+use Rattle.bpf_insn.specs.inner.Encoding.{high_of}
+use Rattle.bpf_insn.specs.inner.Reading.{op_at, operand_at, kind_at, extension_by, move_at, swap_bits_at, swap_by, form_at}
 use Rattle.bpf_insn.proofs.OpcodeLaws.{number_once}
 use Rattle.bpf_insn.proofs.SlotLaws.{SlotFits, done, ok_is}
 

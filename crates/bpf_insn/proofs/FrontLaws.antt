@@ -11,10 +11,11 @@ use Rattle.bpf_insn.specs.declared.opcode.Opcode.{Opcode}
 use Rattle.bpf_insn.specs.declared.slot.Slot.{Slot}
 use Rattle.bpf_insn.specs.declared.slot.SlotFault.{SlotFault}
 use Rattle.bpf_insn.specs.declared.slot.SlotFault.TheVariants.{Truncated, UnknownOpcode, NonZeroField}
-use Rattle.bpf_insn.specs.Opcodes.{is_wide, opcode_slots}
-use Rattle.bpf_insn.specs.Encoding.{slot_bytes, slot_of, high_of, second_slot, spelling, has_stray_field, InRange, slots_taken}
-use Rattle.bpf_insn.specs.Images.{IsFirst}
-use Rattle.bpf_insn.specs.Reading.{found, unless, slot_at, high_at, form_at, ◌>>=◌}
+use Rattle.bpf_insn.specs.inner.Opcodes.{is_wide, opcode_slots}
+use Rattle.bpf_insn.specs.Encoding.{slot_bytes, slot_of, second_slot, spelling, has_stray_field, InRange, slots_taken}
+use Rattle.bpf_insn.specs.inner.Encoding.{high_of}
+use Rattle.bpf_insn.specs.inner.Images.{IsFirst}
+use Rattle.bpf_insn.specs.inner.Reading.{found, unless, slot_at, high_at, form_at, ◌>>=◌}
 use Rattle.bpf_insn.proofs.OpcodeLaws.{opcode_at, opcode_takes, opcode_again}
 use Rattle.bpf_insn.proofs.SlotLaws.{IsBytes, IsLong, long, long_from, bind_ok, ok_is, done, found_ok, slot_takes, slot_again, four_bytes}
 use Rattle.bpf_insn.proofs.FormLaws.{high_bytes, form_takes, form_again, slot_fits, no_stray_field, second_is, size_is, high_fits}

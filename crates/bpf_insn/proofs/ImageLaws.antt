@@ -9,8 +9,10 @@ use Rattle.bpf_insn.specs.declared.slot.SlotFault.{SlotFault}
 use Rattle.bpf_insn.specs.declared.slot.SlotFault.TheVariants.{Truncated, UnknownOpcode, BadRegister, NonZeroField, BadWidth}
 use Rattle.bpf_insn.specs.declared.listing.TheConstants.{MAX_SLOTS}
 use Rattle.bpf_insn.specs.Encoding.{spelling, InRange, slots_taken}
-use Rattle.bpf_insn.specs.Programs.{image_of, slots_of, IsProgram, layout, slots_by}
-use Rattle.bpf_insn.specs.Images.{IsFirst, IsFaultAt, IsFault, IsFirstFault, RefusesImage, fault_number, error_at}
+use Rattle.bpf_insn.specs.Programs.{image_of, slots_of, IsProgram}
+use Rattle.bpf_insn.specs.inner.Programs.{layout, slots_by}
+use Rattle.bpf_insn.specs.Images.{IsFaultAt, IsFault, IsFirstFault, RefusesImage, fault_number}
+use Rattle.bpf_insn.specs.inner.Images.{IsFirst, error_at}
 use Rattle.bpf_insn.proofs.SlotLaws.{IsBytes, ok_is}
 use Rattle.bpf_insn.proofs.FrontLaws.{front_at, front_again, length_spelling}
 use Rattle.bpf_insn.proofs.LayoutLaws.{slots_of-cons}

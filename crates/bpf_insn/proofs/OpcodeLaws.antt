@@ -13,9 +13,10 @@ use Rattle.bpf_insn.specs.declared.forms.Cond.TheVariants as conds
 use Rattle.bpf_insn.specs.declared.forms.Size.TheVariants as sizes
 use Rattle.bpf_insn.specs.declared.forms.SxSize.TheVariants as sx_sizes
 use Rattle.bpf_insn.specs.declared.forms.Order.TheVariants as orders
-use Rattle.bpf_insn.specs.Registers.{register_number, register_at}
+use Rattle.bpf_insn.specs.Registers.{register_number}
+use Rattle.bpf_insn.specs.inner.Registers.{register_at}
 use Rattle.bpf_insn.specs.Opcodes.{opcode_byte}
-use Rattle.bpf_insn.specs.Reading.{alu_at, jump_at, size_at, load_at}
+use Rattle.bpf_insn.specs.inner.Reading.{alu_at, jump_at, size_at, load_at}
 
 abbrev pub opcode_at : ℕ → Option Opcode
 opcode_at byte =

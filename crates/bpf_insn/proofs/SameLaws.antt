@@ -5,8 +5,9 @@ use Rattle.bpf_insn.specs.declared.forms.Insn.{Insn}
 use Rattle.bpf_insn.specs.declared.opcode.Opcode.{Opcode}
 use Rattle.bpf_insn.specs.declared.slot.Slot.{Slot}
 use Rattle.bpf_insn.specs.Opcodes.{opcode_byte}
-use Rattle.bpf_insn.specs.Encoding.{slot_bytes, slot_of, high_of, InRange}
-use Rattle.bpf_insn.specs.Reading.{slot_at, form_at}
+use Rattle.bpf_insn.specs.Encoding.{slot_bytes, slot_of, InRange}
+use Rattle.bpf_insn.specs.inner.Encoding.{high_of}
+use Rattle.bpf_insn.specs.inner.Reading.{slot_at, form_at}
 use Rattle.bpf_insn.proofs.OpcodeLaws.{opcode_at, opcode_again}
 use Rattle.bpf_insn.proofs.SlotLaws.{SlotFits, ok_is, slot_again}
 use Rattle.bpf_insn.proofs.FormLaws.{form_again, slot_fits}

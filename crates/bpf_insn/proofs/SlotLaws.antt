@@ -10,10 +10,11 @@ use Rattle.bpf_insn.specs.declared.opcode.Opcode.{Opcode}
 use Rattle.bpf_insn.specs.declared.slot.Slot.{Slot}
 use Rattle.bpf_insn.specs.declared.slot.SlotFault.{SlotFault}
 use Rattle.bpf_insn.specs.declared.slot.SlotFault.TheVariants.{BadRegister}
-use Rattle.bpf_insn.specs.Registers.{register_number, register_at}
+use Rattle.bpf_insn.specs.Registers.{register_number}
+use Rattle.bpf_insn.specs.inner.Registers.{register_at}
 use Rattle.bpf_insn.specs.Opcodes.{opcode_byte}
 use Rattle.bpf_insn.specs.Encoding.{slot_bytes}
-use Rattle.bpf_insn.specs.Reading.{◌>>=◌, found, fields_at, slot_at}
+use Rattle.bpf_insn.specs.inner.Reading.{◌>>=◌, found, fields_at, slot_at}
 use Rattle.bpf_insn.proofs.OpcodeLaws.{register_takes, register_again, number_small}
 
 abbrev pub IsBytes : List ℕ → Type 0

@@ -15,17 +15,11 @@ use Rattle.bpf_insn.specs.declared.slot.SlotFault.{SlotFault}
 use Rattle.bpf_insn.specs.declared.slot.SlotFault.TheVariants.{Truncated, UnknownOpcode, BadRegister, NonZeroField}
 use Rattle.bpf_insn.specs.declared.slot.SlotFault.TheVariants.{BadWidth}
 use Rattle.bpf_insn.specs.Opcodes.{opcode_byte}
-use Rattle.bpf_insn.specs.Encoding.{slot_bytes, spelling, has_stray_field, InRange, slots_taken}
+use Rattle.bpf_insn.specs.Encoding.{slot_bytes, spelling, has_stray_field, InRange}
 use Rattle.bpf_insn.specs.Programs.{image_of, slots_of, IsProgram}
 use Rattle.bpf_insn.specs.declared.listing.TheConstants.{MAX_SLOTS}
 use Rattle.bpf_insn.specs.declared.image.ImageError.{ImageError}
 use Rattle.bpf_insn.specs.declared.image.ImageError.TheVariants as errors
-
--- the bytes begin with the spelling of this instruction
-pub record IsFirst (bytes : List ℕ) (insn : Insn) : Type 0 where
-  pub parts : bytes ≡ spelling insn ++ drop (8 * slots_taken insn) bytes
-  pub range : InRange insn
-  pub whole : 8 * slots_taken insn ≤ length bytes
 
 -- ---- what is wrong where an instruction is to begin
 
@@ -110,11 +104,3 @@ RefusesImage bytes (errors.BadRegister slot) = IsFirstFault bytes slot BadRegist
 RefusesImage bytes (errors.NonZeroField slot) = IsFirstFault bytes slot NonZeroField
 RefusesImage bytes (errors.BadWidth slot) = IsFirstFault bytes slot BadWidth
 RefusesImage bytes errors.Memory = IsImage bytes
-
--- the refusal of a fault at a slot
-abbrev pub error_at : SlotFault → ℕ → ImageError
-error_at Truncated slot = errors.Truncated slot
-error_at UnknownOpcode slot = errors.UnknownOpcode slot
-error_at BadRegister slot = errors.BadRegister slot
-error_at NonZeroField slot = errors.NonZeroField slot
-error_at BadWidth slot = errors.BadWidth slot

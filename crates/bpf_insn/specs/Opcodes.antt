@@ -3,7 +3,8 @@
 -- jumps (section 4) bit 3 is the source of the second operand, and the high four bits are the code. In those of loads
 -- and stores (section 5)
 -- bits 3 and 4 are the size, and the high three bits the mode.
-use Rattle.std.specs.Prelude.{ℕ, ◌+◌, ◌*◌, ◌==◌, nat_lt, not, Bool, true, false, if◌then◌else◌}
+-- ---- the parts of a byte
+use Rattle.std.specs.Prelude.{ℕ, ◌+◌, ◌*◌, ◌==◌, nat_lt, not, Bool, false}
 use Rattle.bpf_insn.specs.declared.forms.Width.{Width}
 use Rattle.bpf_insn.specs.declared.forms.Width.TheVariants.{W32, W64}
 use Rattle.bpf_insn.specs.declared.forms.Cond.{Cond}
@@ -24,8 +25,6 @@ use Rattle.bpf_insn.specs.declared.opcode.FieldUse.TheVariants.{Zero, ZeroOrOne,
 use Rattle.bpf_insn.specs.declared.opcode.Uses.{Uses}
 use Rattle.bpf_insn.specs.declared.opcode.Opcode.{Opcode}
 use Rattle.bpf_insn.specs.declared.opcode.Opcode.TheVariants as opcode
-
--- ---- the parts of a byte
 
 -- the classes of arithmetic, ALU and ALU64
 abbrev pub alu_class : Width → ℕ
@@ -150,23 +149,3 @@ abbrev pub is_stray : FieldUse → ℕ → Bool
 is_stray Zero bits = not (bits == 0)
 is_stray ZeroOrOne bits = nat_lt 1 bits
 is_stray Any bits = false
-
--- takes two slots (3.2 "Wide Instruction Encoding")
-abbrev pub is_wide : Opcode → Bool
-is_wide (opcode.Alu code width source) = false
-is_wide (opcode.Neg width) = false
-is_wide (opcode.Swap order) = false
-is_wide opcode.Ja = false
-is_wide opcode.JaLong = false
-is_wide (opcode.Branch cond width source) = false
-is_wide opcode.Call = false
-is_wide opcode.Exit = false
-is_wide opcode.LoadImm64 = true
-is_wide (opcode.Load size) = false
-is_wide (opcode.LoadSx size) = false
-is_wide (opcode.StoreImm size) = false
-is_wide (opcode.StoreReg size) = false
-
--- the slots that it takes
-abbrev pub opcode_slots : Opcode → ℕ
-opcode_slots opcode = if is_wide opcode then 2 else 1

@@ -6,8 +6,10 @@ ghost use Rattle.std.specs.List.{flat_map};
 ghost use Rattle.bpf_insn.specs.declared.forms.Insn.{Insn};
 ghost use Rattle.bpf_insn.specs.declared.listing.TheConstants.{MAX_SLOTS};
 ghost use Rattle.bpf_insn.specs.Encoding.{slots_taken, spelling};
-ghost use Rattle.bpf_insn.specs.Programs.{IsProgram, image_of, layout, slots_by, spelling_at};
-ghost use Rattle.bpf_insn.specs.Images.{IsFaultAt, IsFirst, IsImage, RefusesImage};
+ghost use Rattle.bpf_insn.specs.Programs.{IsProgram, image_of};
+ghost use Rattle.bpf_insn.specs.inner.Programs.{layout, slots_by, spelling_at};
+ghost use Rattle.bpf_insn.specs.Images.{IsFaultAt, IsImage, RefusesImage};
+ghost use Rattle.bpf_insn.specs.inner.Images.{IsFirst};
 
 use crate::forms::Insn;
 use crate::listing::{MAX_SLOTS, Program, push_slots};
@@ -39,7 +41,7 @@ pub enum ImageError {
 
 impl ImageError {
     ghost use Rattle.std.specs.Prelude.{◌≡◌};
-    ghost use Rattle.bpf_insn.specs.Images.{error_at};
+    ghost use Rattle.bpf_insn.specs.inner.Images.{error_at};
 
     fn at(fault: SlotFault, slot: u32) -> ImageError
         ensures { result ≡ error_at fault slot }

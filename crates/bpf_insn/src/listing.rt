@@ -5,7 +5,8 @@ ghost use Rattle.std.specs.Prelude.{OnSome, option_map};
 ghost use Rattle.std.specs.Prelude.{All, slice_get};
 ghost use Rattle.bpf_insn.specs.declared.listing.TheConstants.{MAX_SLOTS};
 ghost use Rattle.bpf_insn.specs.Encoding.{InRange};
-ghost use Rattle.bpf_insn.specs.Programs.{slots_of, slots_by, layout, inner, IsProgram, RefusesInsns};
+ghost use Rattle.bpf_insn.specs.Programs.{slots_of, IsProgram, RefusesInsns};
+ghost use Rattle.bpf_insn.specs.inner.Programs.{slots_by, layout, inner};
 
 use crate::forms::Insn;
 use crate::same::same_slots;
@@ -24,7 +25,7 @@ pub struct Program {
 impl Model for Program {
     ghost use Rattle.std.specs.Prelude.{List};
     ghost use Rattle.bpf_insn.specs.declared.forms.Insn.{Insn};
-    ghost use Rattle.bpf_insn.specs.Programs.{insns_in, IsLaidOut};
+    ghost use Rattle.bpf_insn.specs.inner.Programs.{insns_in, IsLaidOut};
 
     ghost Value = { List Insn };
 

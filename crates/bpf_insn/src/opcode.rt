@@ -2,11 +2,12 @@
 
 ghost use Rattle.std.specs.Prelude.{◌≡◌, ◌<◌, ◌≤◌};
 ghost use Rattle.bpf_insn.specs.Opcodes.{alu_class, jump_class, alu_number, source_bit, cond_number, size_bits};
-ghost use Rattle.bpf_insn.specs.Opcodes.{sx_size_bits, order_byte, opcode_byte, offset_use, uses_of, is_stray, is_wide};
-ghost use Rattle.bpf_insn.specs.Opcodes.{opcode_slots};
+ghost use Rattle.bpf_insn.specs.Opcodes.{sx_size_bits, order_byte, opcode_byte, offset_use, uses_of, is_stray};
+ghost use Rattle.bpf_insn.specs.inner.Opcodes.{is_wide};
+ghost use Rattle.bpf_insn.specs.inner.Opcodes.{opcode_slots};
 ghost use Rattle.bpf_insn.specs.Arithmetic.{movsx_width};
 ghost use Rattle.bpf_insn.specs.Encoding.{code_of, source_of, slot_of};
-ghost use Rattle.bpf_insn.specs.Reading.{alu_code_at, alu_at, cond_at, jump_at, size_at, sx_size_at, load_at};
+ghost use Rattle.bpf_insn.specs.inner.Reading.{alu_code_at, alu_at, cond_at, jump_at, size_at, sx_size_at, load_at};
 
 use crate::forms::{AluOp, Cond, Insn, MovsxKind, Operand, Order, Size, SxSize, Width};
 
@@ -391,7 +392,8 @@ fn load_opcode(mode: u8, size: u8) -> Option<Opcode>
 impl Opcode {
     ghost use Rattle.std.specs.Prelude.{◌≡◌, ◌≢◌, IfSome, IfNone};
     ghost use Rattle.bpf_insn.specs.declared.opcode.Opcode.{Opcode};
-    ghost use Rattle.bpf_insn.specs.Opcodes.{opcode_byte, uses_of, is_wide, opcode_slots};
+    ghost use Rattle.bpf_insn.specs.Opcodes.{opcode_byte, uses_of};
+    ghost use Rattle.bpf_insn.specs.inner.Opcodes.{is_wide, opcode_slots};
     ghost use Rattle.bpf_insn.specs.Encoding.{slot_of};
 
     /// The opcode that a byte stands for, and none where no opcode has that byte.

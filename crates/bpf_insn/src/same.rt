@@ -1,7 +1,8 @@
 //! Equality of programs: instructions are the same where their spellings are.
 
 ghost use Rattle.std.specs.Prelude.{◌≡◌, ◌↔◌, IsTrue};
-ghost use Rattle.bpf_insn.specs.Encoding.{high_of, InRange};
+ghost use Rattle.bpf_insn.specs.Encoding.{InRange};
+ghost use Rattle.bpf_insn.specs.inner.Encoding.{high_of};
 
 use crate::forms::Insn;
 use crate::slot::Slot;

@@ -1,11 +1,12 @@
 //! Slots: the eight bytes at the front of an instruction.
 
 ghost use Rattle.std.specs.Prelude.{◌≡◌, ◌<◌, ◌≤◌, ◌*◌, length, IfOk, IfErr};
-ghost use Rattle.bpf_insn.specs.Opcodes.{is_wide, opcode_slots};
-ghost use Rattle.bpf_insn.specs.Registers.{register_at};
-ghost use Rattle.bpf_insn.specs.Reading.{found, unless, slot_at, high_at, op_at, operand_at, kind_at, move_at};
-ghost use Rattle.bpf_insn.specs.Reading.{alu_insn_at, swap_bits_at, swap_by, form_at};
-ghost use Rattle.bpf_insn.specs.Images.{IsFaultAt, IsFirst};
+ghost use Rattle.bpf_insn.specs.inner.Opcodes.{is_wide, opcode_slots};
+ghost use Rattle.bpf_insn.specs.inner.Registers.{register_at};
+ghost use Rattle.bpf_insn.specs.inner.Reading.{found, unless, slot_at, high_at, op_at, operand_at, kind_at, move_at};
+ghost use Rattle.bpf_insn.specs.inner.Reading.{alu_insn_at, swap_bits_at, swap_by, form_at};
+ghost use Rattle.bpf_insn.specs.Images.{IsFaultAt};
+ghost use Rattle.bpf_insn.specs.inner.Images.{IsFirst};
 ghost use Rattle.bpf_insn.specs.Encoding.{has_stray_field, slot_of, register_in, immediate_in, offset_of};
 ghost use Rattle.bpf_insn.specs.Encoding.{extended_bits, swapped_bits};
 
@@ -237,7 +238,7 @@ fn register(number: u8) -> Result<Reg, SlotFault>
 }
 
 /// The fields behind the opcode.
-#[tactic(auto, unfolding(crate::specs::Reading::slot_at))]
+#[tactic(auto, unfolding(crate::specs::inner::Reading::slot_at))]
 fn slot_of_bytes(opcode: Opcode, bytes: &[u8]) -> Result<Slot, SlotFault>
     requires { 8 ≤ length bytes.now }
     ensures { result ≡ slot_at opcode bytes.now }

@@ -8,7 +8,7 @@ use Rattle.std.proofs.lemmas.Bool.{false≢true, true≢false}
 use Rattle.node_env.specs.Slots.{map_of}
 use Rattle.node_env.proofs.Slots.{get-map_of, map_of-replicate, map_of-set}
 use Rattle.bpf_machine.specs.declared.word.TrapKind.TheVariants.{UnsetByte}
-use Rattle.bpf_machine.specs.Cells.{cells, written_bytes, are_set, with_marks}
+use Rattle.bpf_machine.specs.inner.Cells.{cells, written_bytes, are_set, with_marks}
 use Rattle.bpf_machine.specs.Step.{number_at, with_number}
 use Rattle.bpf_machine.proofs.StepCases.{bool_case, yes, no}
 

@@ -12,7 +12,7 @@ use Rattle.bpf_machine.specs.declared.word.Turn.TheVariants as turn
 use Rattle.bpf_machine.specs.Machine.{MachineState, Phase, Running}
 use Rattle.bpf_machine.specs.Step.{execute, step}
 use Rattle.bpf_machine.specs.Traps.{IsLowestTrap, applies, applies_to, trap_number}
-use Rattle.bpf_machine.specs.Parts.{Comes}
+use Rattle.bpf_machine.specs.inner.Parts.{Comes}
 use Rattle.bpf_machine.specs.Run.{HasNoSuccessor, HasTrap, IsStuck, Steps, Turns}
 use Rattle.bpf_machine.proofs.LowestTrap.{IsLowest, Told, kinds, told}
 use Rattle.bpf_machine.proofs.TrapTable.{insn_told}

@@ -2,7 +2,7 @@
 
 ghost use Rattle.std.specs.Prelude.{◌≡◌, Ok, Err};
 ghost use Rattle.bpf_machine.specs.Step.{alu, alu_word, change, difference_of, load_immediate, move, moved_word, of_numbers, operate, pointer, sum_of};
-ghost use Rattle.bpf_machine.specs.Parts.{Does};
+ghost use Rattle.bpf_machine.specs.inner.Parts.{Does};
 ghost use Rattle.bpf_insn.specs.Arithmetic.{movsx_result, neg_result, swap_result};
 
 use crate::state::{State, number, writable};

@@ -2,7 +2,7 @@
 
 ghost use Rattle.std.specs.Prelude.{◌≡◌};
 ghost use Rattle.bpf_machine.specs.Step.{below, call, call_helper, calls_of};
-ghost use Rattle.bpf_machine.specs.Parts.{Does};
+ghost use Rattle.bpf_machine.specs.inner.Parts.{Does};
 
 use crate::state::State;
 use crate::word::{TrapKind, Word};

@@ -2,7 +2,7 @@
 
 ghost use Rattle.std.specs.Prelude.{◌≡◌, ◌<◌, ◌≤◌, ◌+◌, length, IfSome, Ok};
 ghost use Rattle.bpf_machine.specs.declared.word.Word.TheVariants.{Num};
-ghost use Rattle.bpf_machine.specs.Cells.{are_set, with_marks};
+ghost use Rattle.bpf_machine.specs.inner.Cells.{are_set, with_marks};
 ghost use Rattle.std.specs.FinMap as map;
 ghost use Rattle.bpf_machine.specs.Machine.{entry_frame};
 ghost use Rattle.bpf_machine.specs.Step.{after_call, number_at, number_in, operand_of, with_number, with_register, word_of, writable};
@@ -29,8 +29,8 @@ pub struct State {
 impl Model for State {
     ghost use Rattle.node_env.specs.Slots.{map_of};
     ghost use Rattle.bpf_machine.specs.Machine.{Frame};
-    ghost use Rattle.bpf_machine.specs.Cells.{written_bytes};
-    ghost use Rattle.bpf_machine.specs.Codes.{frame_code};
+    ghost use Rattle.bpf_machine.specs.inner.Cells.{written_bytes};
+    ghost use Rattle.bpf_machine.specs.inner.Codes.{frame_code};
     ghost use Rattle.bpf_machine.specs.contracts.word.Word as word;
 
     ghost Value = { Frame };

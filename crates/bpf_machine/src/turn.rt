@@ -6,7 +6,7 @@ ghost use Rattle.bpf_insn.specs.declared.forms.Insn.TheVariants.{Branch};
 ghost use Rattle.bpf_insn.specs.Encoding.{slots_taken};
 ghost use Rattle.bpf_machine.specs.Machine.{state_of};
 ghost use Rattle.bpf_machine.specs.Step.{advance, begins, next_slot, result_of_exit, step};
-ghost use Rattle.bpf_machine.specs.Parts.{Comes, Does, jump};
+ghost use Rattle.bpf_machine.specs.inner.Parts.{Comes, Does, jump};
 ghost use Rattle.bpf_machine.specs.Run.{Turns};
 
 use crate::alu::{alu, load_immediate, movsx, neg, swap};

@@ -12,7 +12,7 @@ use Rattle.node_env.specs.Env.{Extent}
 use Rattle.node_env.specs.declared.helper.Helper.{Helper}
 use Rattle.bpf_insn.specs.declared.forms.Reg.TheVariants.{R0, R1, R2, R3, R4, R5}
 use Rattle.bpf_verify.specs.Outcomes.{put_kind, with_kind, called_kinds, answer_kind, call_outcome}
-use Rattle.bpf_verify.specs.Rows.{kind_numbered}
+use Rattle.bpf_verify.specs.inner.Rows.{kind_numbered}
 
 -- two abstract states with the same entries are one
 pub same_state : (A C : AbstractState) → ((number : ℕ) → A.kinds number ≡ C.kinds number) → ((byte : ℕ) → A.written byte ≡ C.written byte) → A ≡ C

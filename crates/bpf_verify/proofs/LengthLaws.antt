@@ -14,7 +14,7 @@ use Rattle.bpf_insn.proofs.LayoutLaws.{one_or_two}
 use Rattle.bpf_verify.specs.declared.rule.Rule.TheVariants.{NotForward, BadTarget}
 use Rattle.bpf_verify.specs.Typable.{Typable}
 use Rattle.bpf_verify.specs.Paths.{Path, IsLongestFrom}
-use Rattle.bpf_verify.specs.Lengths.{IsLongestOn, HasLongest}
+use Rattle.bpf_verify.specs.inner.Lengths.{IsLongestOn, HasLongest}
 use Rattle.bpf_verify.proofs.RuleLaws.{jumps_forward, way_begins, begins_here, begins_within, onward_next}
 
 way_most : (program : List Insn) (goal : Option ℕ) (b edges end to : ℕ) → IsLongestOn program goal b → goal ≡ Some to → Path program edges to end → suc edges ≤ b

@@ -5,7 +5,7 @@ use Rattle.std.proofs.lemmas.Nat.Bits.{bit_at_and, bit_at_set_same, bit_at_set_o
 use Rattle.std.proofs.lemmas.List.{get_or-set_same, get_or-set_other, get_or_past}
 use Rattle.std.proofs.lemmas.Bool.{cases_eq, cases_lt}
 use borrow.Author.Tests.{ne_eqb, eq-eqb}
-use Rattle.bpf_verify.specs.Marks.{is_marked}
+use Rattle.bpf_verify.specs.inner.Marks.{is_marked}
 
 zero_at : (n place : ℕ) → slice_index_or (replicate n zero) place zero ≡ zero
 zero_at zero place = refl

@@ -29,7 +29,7 @@ use Rattle.bpf_verify.specs.declared.kind.Kind.TheVariants.{Unset, Number, Point
 use Rattle.bpf_verify.specs.States.{AbstractState, kind_of, IsProperKind, IsProper, joined_kind, joined_state, stack_base, entry_state}
 use Rattle.bpf_verify.specs.Rules.{operand_kind}
 use Rattle.bpf_verify.specs.Outcomes.{with_kind, sum_kind, difference_kind, of_number_kind, of_number_kinds, alu_kind, loaded_kind, with_written, stored_at, is_taken, with_meet, refined_by, branch_outcome, answer_kind, call_outcome, outcome}
-use Rattle.bpf_verify.specs.Walk.{IsProperRow}
+use Rattle.bpf_verify.specs.inner.Walk.{IsProperRow}
 
 -- ---- arithmetic
 

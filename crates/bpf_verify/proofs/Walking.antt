@@ -16,7 +16,7 @@ use Rattle.bpf_verify.specs.States.{AbstractState, IsContainedIn, IsProper, join
 use Rattle.bpf_verify.specs.Rules.{KeepsRules, lowest_broken}
 use Rattle.bpf_verify.specs.Outcomes.{outcome}
 use Rattle.bpf_verify.specs.Typable.{Table, IsCovered, Types, Typable}
-use Rattle.bpf_verify.specs.Walk.{Passed, IsProperRow, come_of, RefusesInsn, met_state, with_come, sent_on, come_after, rows_after, front_after, IsLeast, IsStop, Walks}
+use Rattle.bpf_verify.specs.inner.Walk.{Passed, IsProperRow, come_of, RefusesInsn, met_state, with_come, sent_on, come_after, rows_after, front_after, IsLeast, IsStop, Walks}
 use Rattle.bpf_verify.specs.declared.rule.Rule.{Rule}
 use Rattle.bpf_verify.specs.declared.rule.Rule.TheVariants.{NotForward}
 use Rattle.bpf_verify.specs.Accepted.{IsFirstBroken, IsRefusal}

@@ -4,10 +4,5 @@ pub mod Outcomes
 pub mod Typable
 pub mod Paths
 pub mod Accepted
-pub mod Marks
-pub mod Rows
-pub mod Parts
-pub mod Walk
-pub mod Lengths
 pub mod Records
-pub mod VerifiedParts
+pub mod inner

@@ -4,7 +4,7 @@ ghost use Rattle.std.specs.Prelude.{◌≡◌, ℕ, ◌+◌, ◌-◌, ◌<◌, �
 ghost use Rattle.value_range.specs.Span.{span};
 ghost use Rattle.bpf_verify.specs.States.{kind_of, joined_kind, joined_state, entry_state};
 ghost use Rattle.bpf_verify.specs.Outcomes.{with_kind, with_written};
-ghost use Rattle.bpf_verify.specs.Rows.{kind_numbered, abstract_of};
+ghost use Rattle.bpf_verify.specs.inner.Rows.{kind_numbered, abstract_of};
 
 use crate::kind::Kind;
 use crate::marks::Marks;

@@ -6,7 +6,7 @@ ghost use Rattle.bpf_insn.specs.declared.listing.TheConstants.{MAX_SLOTS};
 ghost use Rattle.bpf_insn.specs.Edges.{target};
 ghost use Rattle.bpf_verify.specs.Typable.{Typable};
 ghost use Rattle.bpf_verify.specs.Paths.{IsLongestFrom, IsLongestPath};
-ghost use Rattle.bpf_verify.specs.Lengths.{IsLongestOn, HasLongest};
+ghost use Rattle.bpf_verify.specs.inner.Lengths.{IsLongestOn, HasLongest};
 
 use bpf_insn::{Insn, Program, Way, target};
 use node_env::Shape;

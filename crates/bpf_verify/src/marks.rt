@@ -1,7 +1,7 @@
 //! Sets of stack bytes.
 
 ghost use Rattle.std.specs.Prelude.{◌≡◌, ℕ, ◌+◌, ◌<◌, ◌≤◌, ◌==◌, false, ◌||◌, ◌&&◌};
-ghost use Rattle.bpf_verify.specs.Marks.{is_marked};
+ghost use Rattle.bpf_verify.specs.inner.Marks.{is_marked};
 ghost use Rattle.bpf_verify.specs.Outcomes.{is_between};
 
 use node_env::STACK_BYTES;

@@ -5,11 +5,11 @@ ghost use Rattle.value_range.specs.Span.{full_of, just, meet_of};
 ghost use Rattle.bpf_insn.specs.Edges.{moved};
 ghost use Rattle.bpf_insn.specs.Operands.{access_bytes};
 ghost use Rattle.bpf_verify.specs.States.{kind_of};
-ghost use Rattle.bpf_verify.specs.Rows.{abstract_of};
+ghost use Rattle.bpf_verify.specs.inner.Rows.{abstract_of};
 ghost use Rattle.bpf_verify.specs.Rules.{may_leave_region, may_leave_regions, operand_kind};
 ghost use Rattle.bpf_verify.specs.Outcomes as outcomes;
 ghost use Rattle.value_range.specs.Results.{alu_of, neg_of, movsx_of, swap_of};
-ghost use Rattle.bpf_verify.specs.Parts.{Becomes};
+ghost use Rattle.bpf_verify.specs.inner.Parts.{Becomes};
 ghost use Rattle.bpf_insn.specs.declared.forms.Operand.TheVariants as operand;
 
 use crate::kind::Kind;

@@ -5,7 +5,7 @@ ghost use Rattle.std.specs.Int.{w64, cast_unsigned};
 ghost use Rattle.bpf_insn.specs.Programs.{insn_at, slots_of};
 ghost use Rattle.bpf_insn.specs.Edges.{moved};
 ghost use Rattle.bpf_insn.specs.Arithmetic.{bits_of};
-ghost use Rattle.bpf_verify.specs.Rows.{abstract_of};
+ghost use Rattle.bpf_verify.specs.inner.Rows.{abstract_of};
 ghost use Rattle.bpf_verify.specs.Rules as rules;
 ghost use Rattle.bpf_verify.specs.States.{kind_of};
 ghost use Rattle.node_env.specs.Helpers.{arguments_of};

@@ -38,7 +38,7 @@ impl Model for VerifiedProgram {
 
     ghost Value = { Accepted };
 
-    ghost use Rattle.bpf_verify.specs.VerifiedParts.{accepted_of, HasImage, HasRecords};
+    ghost use Rattle.bpf_verify.specs.inner.VerifiedParts.{accepted_of, HasImage, HasRecords};
 
     ghost view = { accepted_of };
 

@@ -3,8 +3,8 @@
 
 ghost use Rattle.std.specs.Prelude.{◌≡◌, ℕ, ◌+◌, ◌<◌, ◌≤◌, ◌==◌, Some, None, false, IfSome, IfOk, IfErr, OnOk, vec_len, length, slice_get, if◌then◌else◌};
 ghost use Rattle.bpf_insn.specs.Programs.{insn_at, slots_of};
-ghost use Rattle.bpf_verify.specs.Walk.{come_of, row_state, table_of, met_state, with_come, sent_on, rows_after, front_after, RefusesInsn, IsStop, Walks};
-ghost use Rattle.bpf_verify.specs.Rows.{abstract_of};
+ghost use Rattle.bpf_verify.specs.inner.Walk.{come_of, row_state, table_of, met_state, with_come, sent_on, rows_after, front_after, RefusesInsn, IsStop, Walks};
+ghost use Rattle.bpf_verify.specs.inner.Rows.{abstract_of};
 ghost use Rattle.bpf_verify.specs.Rules.{may_leave_regions, KeepsRules};
 ghost use Rattle.bpf_verify.specs.Outcomes.{outcome};
 ghost use Rattle.bpf_insn.specs.declared.edges.Way.TheVariants.{Jumping};
@@ -68,7 +68,7 @@ fn take_row(rows: &mut Rows, slot: usize) -> Option<Box<Known>>
 
 impl Front {
     ghost use Rattle.std.specs.Prelude.{◌≡◌};
-    ghost use Rattle.bpf_verify.specs.Walk.{come_of, row_state, met_state};
+    ghost use Rattle.bpf_verify.specs.inner.Walk.{come_of, row_state, met_state};
 
     /// Joins what has come by jumps to what comes from the instruction before.
     fn meet(&mut self, row: Option<Box<Known>>)
@@ -114,10 +114,10 @@ impl Front {
     ghost use Rattle.std.specs.Prelude.{◌≡◌, false};
     ghost use Rattle.bpf_insn.specs.declared.edges.Way.TheVariants.{Onward};
     ghost use Rattle.bpf_insn.specs.Edges.{target};
-    ghost use Rattle.bpf_verify.specs.Rows.{abstract_of};
+    ghost use Rattle.bpf_verify.specs.inner.Rows.{abstract_of};
     ghost use Rattle.bpf_verify.specs.Rules.{may_leave_regions};
     ghost use Rattle.bpf_verify.specs.Outcomes.{outcome};
-    ghost use Rattle.bpf_verify.specs.Walk.{come_of, come_after};
+    ghost use Rattle.bpf_verify.specs.inner.Walk.{come_of, come_after};
 
     /// Goes on to the next instruction.
     fn go_on(&mut self, shape: Shape, slot: u32, insn: &Insn)

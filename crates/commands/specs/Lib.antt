@@ -10,3 +10,4 @@ pub mod Verdict
 pub mod Run
 pub mod Stress
 pub mod Perform
+pub mod inner

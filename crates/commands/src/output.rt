@@ -1,7 +1,7 @@
 //! How the text of an answer is written.
 ghost use Rattle.std.specs.Prelude.{◌≡◌, IfErr, OnOk};
 ghost use Rattle.std.specs.Io.KnownBytes.{Appends};
-ghost use Rattle.commands.specs.Faults.{IsCut};
+ghost use Rattle.commands.specs.inner.Faults.{IsCut};
 ghost use Rattle.commands.specs.Output.{Leaves};
 
 use crate::ending::Ending;

@@ -3,7 +3,7 @@ ghost use Rattle.std.specs.Prelude.{IfSome};
 ghost use Rattle.bench_scenario.specs.declared.run.TheConstants.{MOST_BYTES};
 ghost use Rattle.stream_io.specs.Streams.{TakesAtMost};
 ghost use Rattle.commands.specs.declared.ending.Ending.TheVariants.{Refused};
-ghost use Rattle.commands.specs.Faults.{IsOfRun};
+ghost use Rattle.commands.specs.inner.Faults.{IsOfRun};
 ghost use Rattle.commands.specs.Output.{Leaves};
 ghost use Rattle.commands.specs.Run.{LeavesTold, Refusal, told_text};
 

@@ -6,7 +6,8 @@ use Rattle.std.specs.FinMap.{FinMap, empty, get, insert, get-empty, get-insert}
 use Rattle.std.proofs.Common.{sym, ◌∙◌, subst, arith, T}
 use Rattle.std.proofs.lemmas.Bool.Decides.{nat_tests}
 use Rattle.node_env.specs.Env.{AreNumbers, Sendings, IsSendings}
-use Rattle.node_env.specs.Slots.{IsSlot, numbers_of}
+use Rattle.node_env.specs.Slots.{IsSlot}
+use Rattle.node_env.specs.inner.Slots.{numbers_of}
 use Rattle.node_env.specs.declared.shape.TheConstants.{MAX_NODES}
 use Rattle.node_env.proofs.Rows.{numbers-words}
 

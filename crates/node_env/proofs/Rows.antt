@@ -11,7 +11,8 @@ use Rattle.std.proofs.Math.Nat.{mul-le-mul_right}
 use borrow.Rule.Slice.PartMut.{put_mid, mid_of, post_of, put_same}
 use Rattle.node_env.specs.declared.word.TheConstants.{EMPTY}
 use Rattle.node_env.specs.Env.{AreNumbers, inbox_of}
-use Rattle.node_env.specs.Slots.{map_of, slot_of, numbers_of, rows_of}
+use Rattle.node_env.specs.Slots.{map_of}
+use Rattle.node_env.specs.inner.Slots.{slot_of, numbers_of, rows_of}
 use Rattle.node_env.proofs.Slots.{get-map_of, map_of-replicate, map_of-set}
 
 -- the slot of a word at a place is what the map holds there

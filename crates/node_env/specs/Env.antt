@@ -1,5 +1,5 @@
 -- What a node's program gets, and what it leaves (docs/MACHINE.md, "Shape, mail and coin").
-use Rattle.std.specs.Prelude.{◌≡◌, ℕ, ◌*◌, ◌<◌, ◌≤◌, ◌%◌, ◌^◌, List, length, map, Some, unwrap_or}
+use Rattle.std.specs.Prelude.{◌≡◌, ℕ, ◌<◌, ◌≤◌, ◌%◌, ◌^◌, List, map, Some, unwrap_or}
 use Rattle.std.specs.Ordering.{nat_cmp}
 use Rattle.std.specs.FinMap.{FinMap, get}
 use Rattle.node_env.specs.Slots.{map_of}
@@ -64,9 +64,3 @@ inbox_of receiver rows = map_of (map (λ row. get row receiver) rows)
 -- what a node sees in a pulse with this mail and coin
 abbrev pub setting_of : Extent → ℕ → List (FinMap nat_cmp ℕ) → ℕ → Setting
 setting_of shape id rows coin = record { shape = shape; id = id; inbox = inbox_of id rows; coin = coin }
-
--- words in as many rows as columns
-pub record IsSquare (nodes : ℕ) (words : List ℕ) : Type 0 where
-  pub some : 1 ≤ nodes
-  pub few : nodes ≤ MAX_NODES
-  pub whole : length words ≡ nodes * nodes

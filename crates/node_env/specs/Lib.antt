@@ -1,4 +1,4 @@
 pub mod Slots
 pub mod Env
 pub mod Helpers
-pub mod Codes
+pub mod inner

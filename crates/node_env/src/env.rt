@@ -22,7 +22,7 @@ pub struct Env {
 impl Model for Env {
     ghost use Rattle.std.specs.Prelude.{◌≡◌, length};
     ghost use Rattle.std.specs.Coded.{Coded};
-    ghost use Rattle.node_env.specs.Codes.{setting_code};
+    ghost use Rattle.node_env.specs.inner.Codes.{setting_code};
     ghost use Rattle.node_env.specs.Env.{Setting, IsSetting};
     ghost use Rattle.node_env.specs.Slots.{map_of};
 

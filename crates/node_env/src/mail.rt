@@ -1,8 +1,10 @@
 //! What all nodes sent.
 ghost use Rattle.std.specs.Prelude.{◌≡◌, ◌<◌, ◌≤◌, ◌+◌, ◌*◌, IfOk, All, length, replicate, slice_index_or, slice_set};
 ghost use Rattle.std.specs.FinMap as map;
-ghost use Rattle.node_env.specs.Env.{AreNumbers, IsSquare, inbox_of};
-ghost use Rattle.node_env.specs.Slots.{map_of, numbers_of, rows_of};
+ghost use Rattle.node_env.specs.Env.{AreNumbers, inbox_of};
+ghost use Rattle.node_env.specs.inner.Env.{IsSquare};
+ghost use Rattle.node_env.specs.Slots.{map_of};
+ghost use Rattle.node_env.specs.inner.Slots.{numbers_of, rows_of};
 
 use crate::outbox::Outbox;
 use crate::shape::{MAX_NODES, Shape};
@@ -23,9 +25,9 @@ impl Model for Mail {
     ghost use Rattle.std.specs.Ordering.{nat_cmp};
     ghost use Rattle.std.specs.FinMap as finite;
     ghost use Rattle.std.specs.Coded.{Coded, coded_list};
-    ghost use Rattle.node_env.specs.Codes.{numbers_code};
-    ghost use Rattle.node_env.specs.Env.{IsSquare};
-    ghost use Rattle.node_env.specs.Slots.{rows_of};
+    ghost use Rattle.node_env.specs.inner.Codes.{numbers_code};
+    ghost use Rattle.node_env.specs.inner.Env.{IsSquare};
+    ghost use Rattle.node_env.specs.inner.Slots.{rows_of};
 
     ghost Value = { List (finite.FinMap nat_cmp ℕ) };
 

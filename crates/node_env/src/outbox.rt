@@ -2,7 +2,7 @@
 ghost use Rattle.std.specs.Prelude.{◌≡◌, ◌<◌, ◌≤◌, ℕ, IfOk, None, length};
 ghost use Rattle.std.specs.FinMap as map;
 ghost use Rattle.node_env.specs.Env.{IsSendings};
-ghost use Rattle.node_env.specs.Slots.{numbers_of};
+ghost use Rattle.node_env.specs.inner.Slots.{numbers_of};
 
 use crate::shape::Shape;
 use crate::word::{EMPTY, slot_in};
@@ -17,9 +17,9 @@ pub struct Outbox {
 
 impl Model for Outbox {
     ghost use Rattle.std.specs.Prelude.{length};
-    ghost use Rattle.node_env.specs.Codes.{sendings_code};
+    ghost use Rattle.node_env.specs.inner.Codes.{sendings_code};
     ghost use Rattle.node_env.specs.Env.{Sendings, IsSendings};
-    ghost use Rattle.node_env.specs.Slots.{numbers_of};
+    ghost use Rattle.node_env.specs.inner.Slots.{numbers_of};
 
     ghost Value = { Sendings };
 

@@ -1,6 +1,6 @@
 //! Words of 64 bits that stand for slots: a number of 32 bits, or empty.
 ghost use Rattle.std.specs.Prelude.{◌≡◌};
-ghost use Rattle.node_env.specs.Slots.{slot_of};
+ghost use Rattle.node_env.specs.inner.Slots.{slot_of};
 
 /// The word of an empty slot: the least number that doesn't have 32 bits.
 pub const EMPTY: u64 = 4294967296;

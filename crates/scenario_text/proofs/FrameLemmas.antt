@@ -5,7 +5,8 @@ use Rattle.toml.specs.Data.{Data, integer, Members, get_member}
 use Rattle.scenario_text.specs.declared.scenario.Frame.{Frame}
 use Rattle.scenario_text.specs.declared.refusal.ScenarioError.{ScenarioError}
 use Rattle.scenario_text.specs.declared.refusal.ScenarioError.TheVariants as errors
-use Rattle.scenario_text.specs.Faults.{IsOfSpelling, Excludes}
+use Rattle.scenario_text.specs.Faults.{Excludes}
+use Rattle.scenario_text.specs.inner.Faults.{IsOfSpelling}
 use Rattle.scenario_text.specs.declared.scenario.Unload.{Unload}
 use Rattle.scenario_text.specs.declared.scenario.CoinEntry.{CoinEntry}
 use Rattle.scenario_text.specs.Drafts.{LoadDraft, CorruptDraft}

@@ -7,7 +7,7 @@ use Rattle.scenario_text.specs.declared.scenario.Coins.{Coins}
 use Rattle.scenario_text.specs.declared.scenario.Coins.TheVariants.{Zeros, Ones, Chacha}
 use Rattle.scenario_text.specs.declared.scenario.Kind.{Kind}
 use Rattle.scenario_text.specs.declared.scenario.Kind.TheVariants.{Clock, Say, Echo, Asm}
-use Rattle.scenario_text.specs.Names.{coins_named, kind_named}
+use Rattle.scenario_text.specs.inner.Names.{coins_named, kind_named}
 use Rattle.scenario_text.specs.Spelling.{coins_name, kind_name}
 
 nothing : {A : Type 0} {a : A} → None ≡ Some a → ⊥

@@ -11,7 +11,7 @@ use Rattle.toml.specs.Data.{Data, as_integer, array, table, get_member, Items, n
 use Rattle.scenario_text.specs.Tables.{knows, ReadsEach, IsArray, MayBeArray, IsTable, IsNumber}
 use Rattle.scenario_text.specs.declared.scenario.Frame.{Frame}
 use Rattle.scenario_text.specs.Drafts.{LoadDraft}
-use Rattle.scenario_text.specs.Arrays.{is_table, all_tables, are_tables, items_length, entry_count, loads_counted, nodes_count, count_in, counted}
+use Rattle.scenario_text.specs.inner.Arrays.{is_table, all_tables, are_tables, items_length, entry_count, loads_counted, nodes_count, count_in, counted}
 use Rattle.scenario_text.specs.Spelling.{IsSaid, SpelledLoad, load_count}
 
 entries_known : (names : List ℕ → Bool) (es : List (String Global × Value)) → list_all (λ k. names (string_bytes k)) (map (λ e. e.0) es) ≡ knows names (members_view es)

@@ -6,7 +6,7 @@ use Rattle.scenario_text.specs.declared.refusal.ScenarioError.{ScenarioError}
 use Rattle.scenario_text.specs.declared.scenario.Frame.{Frame}
 use Rattle.scenario_text.specs.declared.scenario.Unload.{Unload}
 use Rattle.scenario_text.specs.declared.scenario.CoinEntry.{CoinEntry}
-use Rattle.scenario_text.specs.Arrays.{HasArrays}
+use Rattle.scenario_text.specs.inner.Arrays.{HasArrays}
 use Rattle.scenario_text.specs.Drafts.{LoadDraft, CorruptDraft, Draft}
 use Rattle.scenario_text.specs.Faults.{Excludes}
 use Rattle.scenario_text.specs.Tables.{knows, IsTable, MayBeArray}

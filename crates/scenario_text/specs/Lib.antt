@@ -1,10 +1,8 @@
 pub mod Tables
 pub mod Drafts
 pub mod Spelling
-pub mod Names
 pub mod Views
-pub mod Setups
-pub mod Arrays
 pub mod Faults
 pub mod Texts
 pub mod Lines
+pub mod inner

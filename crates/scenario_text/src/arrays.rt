@@ -2,8 +2,8 @@
 ghost use Rattle.std.specs.Prelude.{◌≡◌, ◌+◌, ◌≤◌, ◌<◌, IfOk, IfErr, MatchOption, MatchResult, option_map, codes};
 ghost use Rattle.toml.specs.Data.{get_member, array as array_data};
 ghost use Rattle.toml.specs.View.{view, array_view, table_view};
-ghost use Rattle.scenario_text.specs.Arrays.{HasArrays, count_in, counted, entry_count, items_length, loads_counted};
-ghost use Rattle.scenario_text.specs.Faults.{IsOfSpelling};
+ghost use Rattle.scenario_text.specs.inner.Arrays.{HasArrays, count_in, counted, entry_count, items_length, loads_counted};
+ghost use Rattle.scenario_text.specs.inner.Faults.{IsOfSpelling};
 
 use crate::limits::{MAX_CHANGES, MAX_COIN_ENTRIES};
 use crate::refusal::{Place, ScenarioError};

@@ -6,7 +6,8 @@ ghost use Rattle.toml.specs.Data.{get_member, array as array_data};
 ghost use Rattle.toml.specs.View.{array_view, table_view, view};
 ghost use Rattle.scenario_text.specs.Drafts.{CorruptDraft};
 ghost use Rattle.scenario_text.specs.Views.{corrupt_of};
-ghost use Rattle.scenario_text.specs.Faults.{IsOfSpelling, Excludes};
+ghost use Rattle.scenario_text.specs.Faults.{Excludes};
+ghost use Rattle.scenario_text.specs.inner.Faults.{IsOfSpelling};
 ghost use Rattle.scenario_text.specs.Tables.{knows, IsArray, IsNumber, MayBeArray, ReadsEach, IsTable};
 ghost use Rattle.scenario_text.specs.Spelling.{is_corrupt_key, SpelledCorrupt};
 

@@ -3,7 +3,8 @@ ghost use Rattle.std.specs.Prelude.{◌≡◌, ◌≤◌, ◌<◌, ◌^◌, ℕ,
 ghost use Rattle.std.specs.List.{list_all};
 ghost use Rattle.toml.specs.Data.{array as array_data, as_integer, get_member};
 ghost use Rattle.toml.specs.View.{view, table_view, array_view};
-ghost use Rattle.scenario_text.specs.Faults.{IsOfSpelling, Excludes};
+ghost use Rattle.scenario_text.specs.Faults.{Excludes};
+ghost use Rattle.scenario_text.specs.inner.Faults.{IsOfSpelling};
 ghost use Rattle.scenario_text.specs.Tables.{IsNumber, IsArray, ReadsEach};
 ghost use Rattle.scenario_text.specs.Spelling.{IsSaid};
 

@@ -2,7 +2,7 @@
 ghost use Rattle.std.specs.Prelude.{◌≡◌};
 ghost use Rattle.clock_nodes.specs.Rule.{IsRule};
 ghost use Rattle.node_env.specs.Env.{IsExtent};
-ghost use Rattle.scenario_text.specs.Setups.{IsSetup};
+ghost use Rattle.scenario_text.specs.inner.Setups.{IsSetup};
 
 use crate::scenario::Frame;
 use clock_nodes::ClockRule;

@@ -3,8 +3,8 @@ ghost use Rattle.std.specs.Prelude.{◌≡◌, ◌≤◌, ◌^◌, ◌<◌, ℕ,
 ghost use Rattle.std.specs.List.{list_all};
 ghost use Rattle.toml.specs.Data.{get_member, array as array_data};
 ghost use Rattle.toml.specs.View.{view, table_view, array_view};
-ghost use Rattle.scenario_text.specs.Arrays.{are_tables, is_table, all_tables};
-ghost use Rattle.scenario_text.specs.Faults.{IsOfSpelling};
+ghost use Rattle.scenario_text.specs.inner.Arrays.{are_tables, is_table, all_tables};
+ghost use Rattle.scenario_text.specs.inner.Faults.{IsOfSpelling};
 ghost use Rattle.scenario_text.specs.Tables.{HasNumber};
 
 use crate::refusal::{Place, ScenarioError};

@@ -5,8 +5,8 @@ ghost use Rattle.node_env.specs.Env.{IsExtent};
 ghost use Rattle.toml.specs.View.{table_view};
 ghost use Rattle.scenario_text.specs.declared.scenario.Coins.{Coins as CoinsValue};
 ghost use Rattle.scenario_text.specs.declared.scenario.Frame.{Frame as FrameValue};
-ghost use Rattle.scenario_text.specs.Faults.{IsOfSpelling};
-ghost use Rattle.scenario_text.specs.Names.{coins_named, kind_named};
+ghost use Rattle.scenario_text.specs.inner.Faults.{IsOfSpelling};
+ghost use Rattle.scenario_text.specs.inner.Names.{coins_named, kind_named};
 ghost use Rattle.scenario_text.specs.Spelling.{HasFrame, HasVersion, HasCoins, HasKey};
 
 use crate::limits::{FIRST_MAX_NODES, FIRST_VERSION, LAST_VERSION, MAX_KEY, MAX_PULSES};

@@ -5,7 +5,8 @@ ghost use Rattle.std.specs.List.{list_all};
 ghost use Rattle.toml.specs.Data.{array as array_data};
 ghost use Rattle.toml.specs.View.{array_view, table_view, view};
 ghost use Rattle.scenario_text.specs.declared.scenario.Unload.{Unload as UnloadValue};
-ghost use Rattle.scenario_text.specs.Faults.{IsOfSpelling, Excludes};
+ghost use Rattle.scenario_text.specs.Faults.{Excludes};
+ghost use Rattle.scenario_text.specs.inner.Faults.{IsOfSpelling};
 ghost use Rattle.scenario_text.specs.Tables.{knows, MayBeArray, ReadsEach, IsTable};
 ghost use Rattle.scenario_text.specs.Spelling.{is_unload_key, SpelledUnload};
 

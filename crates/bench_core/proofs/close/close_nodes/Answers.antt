@@ -3,7 +3,7 @@ use Rattle.std.specs.FinMap.{empty}
 use Rattle.std.proofs.lemmas.List.{get_or_default}
 use Rattle.std.proofs.lemmas.Option.{slice_get_read, slice_get_within}
 use Rattle.bench_core.specs.State.{Node, no_node, node_at}
-use Rattle.bench_core.specs.Found.{found_at, FitsNode}
+use Rattle.bench_core.specs.inner.Found.{found_at, FitsNode}
 use Rattle.bench_core.proofs.Closing.{left_more, once_left, rest_left}
 use Rattle.bench_core.proofs.close.close_nodes.Goals as goal
 use Rattle.bench_core.proofs.close.close_nodes.Goals.{in-Once, in-Nothing}

@@ -1,6 +1,6 @@
 use Rattle.std.proofs.Common.{◌≡◌, ◌<◌, ◌≤◌, ℕ, false, length, get_or}
 use Rattle.bench_core.specs.State.{node_at, row_at}
-use Rattle.bench_core.specs.Found.{found_at, IsLeft}
+use Rattle.bench_core.specs.inner.Found.{found_at, IsLeft}
 use Rattle.bench_core.proofs.close.close_nodes.Given as goal
 
 abbrev pub invariant-loop-node : goal.invariant-loop-node

@@ -2,7 +2,7 @@ use Rattle.std.proofs.Common.{◌≡◌, ◌<◌, ◌+◌, ◌∷◌, ℕ, List,
 use Rattle.std.proofs.lemmas.List.{drop_more}
 use Rattle.std.proofs.lemmas.List.Elements.{All-head, All-tail}
 use Rattle.bench_core.specs.State.{all_applied, applied, Change, Node, node_of}
-use Rattle.bench_core.specs.Replay.{staged_of}
+use Rattle.bench_core.specs.inner.Replay.{staged_of}
 use Rattle.bench_core.specs.Views.{entry_of, change_of}
 use Rattle.bench_core.specs.declared.entry.Entry.{Entry}
 use Rattle.bench_core.specs.declared.entry.Entry.TheVariants.{Staged, Opened, Closed, Abandoned}

@@ -1,7 +1,7 @@
 use Rattle.std.proofs.Common.{◌≡◌, ◌<◌, drop, map, length, All}
 use Rattle.bench_core.specs.State.{all_applied}
-use Rattle.bench_core.specs.Nodes.{KnowsClock}
-use Rattle.bench_core.specs.Replay.{staged_of}
+use Rattle.bench_core.specs.inner.Nodes.{KnowsClock}
+use Rattle.bench_core.specs.inner.Replay.{staged_of}
 use Rattle.bench_core.specs.State.{node_of}
 use Rattle.bench_core.specs.Views.{entry_of}
 use Rattle.bench_core.proofs.node.apply_all.Given as goal

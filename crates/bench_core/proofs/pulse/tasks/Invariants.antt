@@ -1,6 +1,6 @@
 use Rattle.std.proofs.Common.{◌≡◌, ◌++◌, drop}
 use Rattle.bench_core.specs.Tasks.{tasks_from}
-use Rattle.bench_core.specs.OpenPulse.{setup_in, tasks_by}
+use Rattle.bench_core.specs.inner.OpenPulse.{setup_in, tasks_by}
 use Rattle.bench_core.proofs.pulse.tasks.Given as goal
 
 abbrev pub invariant-loop-node : goal.invariant-loop-node

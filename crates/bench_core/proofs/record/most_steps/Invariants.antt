@@ -1,5 +1,5 @@
 use Rattle.std.proofs.Common.{take}
-use Rattle.bench_core.specs.Told.{IsMostSteps}
+use Rattle.bench_core.specs.inner.Told.{IsMostSteps}
 use Rattle.bench_core.proofs.record.most_steps.Given as goal
 
 abbrev pub invariant-loop-done : goal.invariant-loop-done

@@ -6,7 +6,7 @@ use Rattle.clock_nodes.specs.Rule.{clock_of}
 use Rattle.clock_nodes.specs.declared.rule.TheConstants.{MOST_MODULUS}
 use Rattle.bench_core.specs.State.{Node}
 use Rattle.bench_core.specs.Settled.{Row, clocks_where, common_of}
-use Rattle.bench_core.specs.Told.{joined_of, joined_all}
+use Rattle.bench_core.specs.inner.Told.{joined_of, joined_all}
 use Rattle.bench_core.proofs.Tallies.{Tally, moving, tally_no, tally_zero, tally_other, joined_range, joined_common, moving_small}
 use Rattle.bench_core.proofs.record.row_told.Goals as goal
 use Rattle.bench_core.proofs.record.row_told.Goals.{then-settled-i+then-clock-eq0, then-settled-i+else-clock-eq0, else-settled-i}

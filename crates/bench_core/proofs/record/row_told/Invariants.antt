@@ -2,7 +2,7 @@ use Rattle.std.proofs.Common.{◌≡◌, ◌≤◌, ◌<◌, ◌⊎◌, ◌==◌
 use Rattle.clock_nodes.specs.declared.rule.TheConstants.{MOST_MODULUS}
 use Rattle.bench_core.specs.declared.limits.TheConstants.{CLOCKS_DIFFER}
 use Rattle.bench_core.specs.Settled.{clocks_where}
-use Rattle.bench_core.specs.Told.{joined_all}
+use Rattle.bench_core.specs.inner.Told.{joined_all}
 use Rattle.bench_core.proofs.Tallies.{Tally, moving}
 use Rattle.bench_core.proofs.record.row_told.Given as goal
 

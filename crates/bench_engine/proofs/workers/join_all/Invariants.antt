@@ -1,7 +1,7 @@
 use Rattle.std.proofs.Common.{◌≡◌, ◌≢◌, true}
 use Rattle.std.specs.Prelude.{All, IfOk, IfErr}
 use Rattle.std.specs.List.{flat_map}
-use Rattle.bench_engine.specs.Batches.{RanInOrder}
+use Rattle.bench_engine.specs.inner.Batches.{RanInOrder}
 use Rattle.bench_engine.specs.declared.refusal.WorkError.TheVariants.{GateShut, NoThread}
 use Rattle.bench_engine.proofs.workers.join_all.Given as goal
 

@@ -1,7 +1,8 @@
 use Rattle.std.proofs.Common.{◌≡◌, ◌+◌, pos, ◌-ℤ◌, Some, sym, ap, ◌∙◌, arith}
 use Rattle.std.proofs.lemmas.Int.{ints, to_z-of_z}
-use Rattle.bpf_asm.specs.Meaning.{known, with_distance}
-use Rattle.bpf_asm.specs.Statements.{name_in}
+use Rattle.bpf_asm.specs.Meaning.{with_distance}
+use Rattle.bpf_asm.specs.inner.Meaning.{known}
+use Rattle.bpf_asm.specs.inner.Statements.{name_in}
 use Rattle.bpf_asm.proofs.InsnLemmas.{label_resolved}
 use Rattle.bpf_asm.proofs.assembler.insn_at.Goals as goal
 

@@ -1,5 +1,6 @@
 use Rattle.std.proofs.Common.{arith}
-use Rattle.bpf_asm.specs.Meaning.{known, lines_in}
+use Rattle.bpf_asm.specs.Meaning.{lines_in}
+use Rattle.bpf_asm.specs.inner.Meaning.{known}
 use Rattle.bpf_asm.proofs.LabelLemmas.{known_near}
 use Rattle.bpf_asm.proofs.InsnLemmas.{text_read, slots_of_insns, twice_means_nothing, refused_means_nothing}
 use Rattle.bpf_asm.proofs.assembler.insns_of.Goals as goal

@@ -1,6 +1,7 @@
 use Rattle.std.proofs.Common.{◌+◌, ◌++◌, sym, ap, ◌∙◌, arith}
-use Rattle.bpf_asm.specs.Meaning.{near, near_places, place_at, lines_in, lines_left}
-use Rattle.bpf_asm.specs.Statements.{line_in}
+use Rattle.bpf_asm.specs.Meaning.{place_at, lines_in}
+use Rattle.bpf_asm.specs.inner.Meaning.{near, near_places, lines_left}
+use Rattle.bpf_asm.specs.inner.Statements.{line_in}
 use Rattle.bpf_asm.proofs.LabelLemmas.{next_places, shorter_left, bytes_left}
 use Rattle.bpf_asm.proofs.labels.read_labels.Goals as goal
 

@@ -1,4 +1,4 @@
-use Rattle.bpf_asm.specs.Pieces.{is_among}
+use Rattle.bpf_asm.specs.inner.Pieces.{is_among}
 use Rattle.bpf_asm.proofs.RunLemmas.{Fronts}
 use Rattle.bpf_asm.proofs.pieces.split_front.Given as goal
 

@@ -2,7 +2,8 @@ use Rattle.std.proofs.Common.{◌≡◌, ◌∙◌, ◌++◌, ap, sym, arith, �
 use Rattle.std.specs.Prelude.{string_bytes}
 use Rattle.bpf_insn.specs.declared.forms.Insn.{Insn}
 use Rattle.bpf_insn.specs.Programs.{slots_of}
-use Rattle.bpf_asm.specs.Canonical.{canonical_text, found_insns}
+use Rattle.bpf_asm.specs.Canonical.{canonical_text}
+use Rattle.bpf_asm.specs.inner.Canonical.{found_insns}
 use Rattle.bpf_asm.proofs.Beginnings.{insns_before, before_none, before_all, text_more}
 use Rattle.bpf_asm.proofs.printing.disassemble.Goals as goal
 

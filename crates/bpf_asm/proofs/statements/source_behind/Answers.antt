@@ -1,5 +1,6 @@
 use Rattle.std.proofs.Common.{◌≡◌, true, false, Some, length, ◌==◌, sym, ap, ◌∙◌, rules}
-use Rattle.bpf_asm.specs.Statements.{ends_word, source_by, source_in}
+use Rattle.bpf_asm.specs.Statements.{ends_word, source_by}
+use Rattle.bpf_asm.specs.inner.Statements.{source_in}
 use Rattle.bpf_asm.specs.Words.{form_of}
 use Rattle.bpf_asm.proofs.StatementLemmas.{word_read}
 use Rattle.bpf_asm.proofs.statements.source_behind.Goals as goal

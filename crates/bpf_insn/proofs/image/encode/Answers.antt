@@ -2,7 +2,8 @@ use Rattle.std.proofs.Common.{◌≡◌, ◌∙◌, ap, subst, List, ℕ, Option
 use Rattle.std.specs.Prelude.{IfOk}
 use Rattle.std.specs.List.{flat_map}
 use Rattle.bpf_insn.specs.declared.forms.Insn.{Insn}
-use Rattle.bpf_insn.specs.Programs.{image_of, spelling_at}
+use Rattle.bpf_insn.specs.Programs.{image_of}
+use Rattle.bpf_insn.specs.inner.Programs.{spelling_at}
 use Rattle.bpf_insn.proofs.LayoutLaws.{image_by_slots}
 use Rattle.bpf_insn.proofs.image.encode.Goals as goal
 

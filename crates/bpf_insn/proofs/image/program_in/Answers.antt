@@ -1,5 +1,6 @@
 use Rattle.std.proofs.Common.{ap, ◌∙◌, sym}
-use Rattle.bpf_insn.specs.Programs.{insns_in, image_of}
+use Rattle.bpf_insn.specs.Programs.{image_of}
+use Rattle.bpf_insn.specs.inner.Programs.{insns_in}
 use Rattle.bpf_insn.proofs.LayoutLaws.{insns_in-layout, is_laid_out}
 use Rattle.bpf_insn.proofs.image.program_in.Goals as goal
 

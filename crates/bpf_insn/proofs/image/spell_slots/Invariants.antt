@@ -1,6 +1,6 @@
 use Rattle.std.proofs.Common.{◌≡◌, take}
 use Rattle.std.specs.List.{flat_map}
-use Rattle.bpf_insn.specs.Programs.{spelling_at}
+use Rattle.bpf_insn.specs.inner.Programs.{spelling_at}
 use Rattle.bpf_insn.proofs.image.spell_slots.Given as goal
 
 abbrev pub invariant-loop-found : goal.invariant-loop-found

@@ -5,7 +5,8 @@ use Rattle.std.specs.Prelude.{vec_len}
 use Rattle.std.proofs.lemmas.Bool.{eqb-false}
 use Rattle.bpf_insn.specs.declared.listing.TheConstants.{MAX_SLOTS}
 use Rattle.bpf_insn.specs.Encoding.{InRange}
-use Rattle.bpf_insn.specs.Programs.{IsProgram, slots_of, layout, insns_in}
+use Rattle.bpf_insn.specs.Programs.{IsProgram, slots_of}
+use Rattle.bpf_insn.specs.inner.Programs.{layout, insns_in}
 use Rattle.bpf_insn.proofs.LayoutLaws.{insns_in-layout, is_laid_out, is_program}
 use Rattle.bpf_insn.proofs.listing.program_of.Goals as goal
 use Rattle.bpf_insn.proofs.listing.program_of.Goals.{In-Some}

@@ -1,7 +1,8 @@
 use Rattle.std.proofs.Common.{◌≡◌, sym, ap, ◌∙◌}
 use Rattle.std.proofs.lemmas.Slice.Eq.{slice_eq-Decides}
 use Rattle.std.proofs.lemmas.Bool.Decides.{Decides-eqb}
-use Rattle.bpf_insn.specs.Encoding.{slot_bytes, slot_of, high_of}
+use Rattle.bpf_insn.specs.Encoding.{slot_bytes, slot_of}
+use Rattle.bpf_insn.specs.inner.Encoding.{high_of}
 use Rattle.bpf_insn.proofs.SameLaws.{insn_once}
 use Rattle.bpf_insn.proofs.same.same_insn.Goals as goal
 

@@ -2,7 +2,7 @@ use Rattle.std.proofs.Common.{◌≡◌, Option, Some, None, refl, ap, ◌∙◌
 use Rattle.std.specs.Option.{ok_or}
 use Rattle.bpf_insn.specs.declared.forms.Reg.{Reg}
 use Rattle.bpf_insn.specs.declared.slot.SlotFault.TheVariants.{BadRegister}
-use Rattle.bpf_insn.specs.Reading.{found}
+use Rattle.bpf_insn.specs.inner.Reading.{found}
 use Rattle.bpf_insn.proofs.OpcodeLaws.{register_is}
 use Rattle.bpf_insn.proofs.slot.register.Goals as goal
 

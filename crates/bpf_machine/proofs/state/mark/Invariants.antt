@@ -1,5 +1,5 @@
 use Rattle.std.proofs.Common.{◌≡◌, ◌+◌, ◌-◌}
-use Rattle.bpf_machine.specs.Cells.{with_marks}
+use Rattle.bpf_machine.specs.inner.Cells.{with_marks}
 use Rattle.bpf_machine.proofs.state.mark.Given as goal
 
 abbrev pub invariant-loop-i : goal.invariant-loop-i

@@ -1,6 +1,6 @@
 use Rattle.std.proofs.Common.{◌≡◌, ℕ, ◌<◌, ◌≤◌}
 use Rattle.bpf_verify.specs.States.{joined_kind}
-use Rattle.bpf_verify.specs.Rows.{kind_numbered}
+use Rattle.bpf_verify.specs.inner.Rows.{kind_numbered}
 use Rattle.bpf_verify.proofs.known.join_kinds.Given as goal
 
 abbrev pub invariant-loop-number : goal.invariant-loop-number

@@ -1,5 +1,5 @@
 use Rattle.std.proofs.Common.{◌-◌, ◌+◌, ◌≡◌, length, subst, sym, ap, ◌∙◌, arith}
-use Rattle.bpf_verify.specs.Lengths.{HasLongest}
+use Rattle.bpf_verify.specs.inner.Lengths.{HasLongest}
 use Rattle.bpf_verify.proofs.RuleLaws.{here_within}
 use Rattle.bpf_verify.proofs.LengthLaws.{none_counted, one_counted}
 use Rattle.bpf_verify.proofs.longest.longest.Goals as goal

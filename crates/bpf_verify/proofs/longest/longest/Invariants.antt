@@ -1,6 +1,6 @@
 use Rattle.std.proofs.Common.{◌≡◌, vec_len}
 use Rattle.bpf_insn.specs.Programs.{slots_of}
-use Rattle.bpf_verify.specs.Lengths.{HasLongest}
+use Rattle.bpf_verify.specs.inner.Lengths.{HasLongest}
 use Rattle.bpf_verify.proofs.longest.longest.Given as goal
 
 abbrev pub invariant-fill : goal.invariant-fill

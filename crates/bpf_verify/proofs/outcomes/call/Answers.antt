@@ -1,4 +1,4 @@
-use Rattle.bpf_verify.specs.Rows.{abstract_of}
+use Rattle.bpf_verify.specs.inner.Rows.{abstract_of}
 use Rattle.bpf_verify.proofs.KindLaws.{called_built}
 use Rattle.bpf_verify.proofs.outcomes.call.Goals as goal
 

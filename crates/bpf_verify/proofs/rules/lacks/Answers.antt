@@ -1,5 +1,5 @@
 use Rattle.std.proofs.Common.{sym, ◌∙◌}
-use Rattle.bpf_verify.specs.Rows.{abstract_of}
+use Rattle.bpf_verify.specs.inner.Rows.{abstract_of}
 use Rattle.bpf_verify.proofs.RuleLaws.{lacks_past}
 use Rattle.bpf_verify.proofs.rules.lacks.Goals as goal
 

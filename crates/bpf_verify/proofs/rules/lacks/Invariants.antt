@@ -1,5 +1,5 @@
 use Rattle.std.proofs.Common.{◌≡◌, ◌-◌}
-use Rattle.bpf_verify.specs.Rows.{abstract_of}
+use Rattle.bpf_verify.specs.inner.Rows.{abstract_of}
 use Rattle.bpf_verify.specs.Rules as rules
 use Rattle.bpf_verify.proofs.rules.lacks.Given as goal
 

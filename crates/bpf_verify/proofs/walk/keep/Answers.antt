@@ -1,5 +1,5 @@
 use Rattle.std.proofs.Common.{Some, ◌∙◌, sym}
-use Rattle.bpf_verify.specs.Rows.{abstract_of}
+use Rattle.bpf_verify.specs.inner.Rows.{abstract_of}
 use Rattle.bpf_verify.proofs.RuleLaws.{keeps_rules}
 use Rattle.bpf_verify.proofs.walk.keep.Goals as goal
 

@@ -1,6 +1,6 @@
 use Rattle.std.proofs.Common.{Some}
 use Rattle.bpf_verify.specs.declared.rule.Rule.TheVariants.{OutOfRegion}
-use Rattle.bpf_verify.specs.Rows.{abstract_of}
+use Rattle.bpf_verify.specs.inner.Rows.{abstract_of}
 use Rattle.bpf_verify.proofs.RuleLaws.{jump_within}
 use Rattle.bpf_verify.proofs.walk.pass.Goals as goal
 

@@ -1,6 +1,6 @@
 use Rattle.std.proofs.Common.{Some, inl, ap, sym, ◌∙◌}
 use Rattle.bpf_insn.specs.Encoding.{slots_taken}
-use Rattle.bpf_verify.specs.Walk.{come_of, table_of}
+use Rattle.bpf_verify.specs.inner.Walk.{come_of, table_of}
 use Rattle.bpf_verify.proofs.Walking.{walk_begins, walk_done, stop_next, walks_next}
 use Rattle.bpf_verify.proofs.walk.walk.Goals as goal
 

@@ -1,6 +1,6 @@
 use Rattle.std.proofs.Common.{◌≡◌, ◌-◌, vec_len}
 use Rattle.bpf_insn.specs.Programs.{slots_of}
-use Rattle.bpf_verify.specs.Walk.{come_of, table_of, IsStop, Walks}
+use Rattle.bpf_verify.specs.inner.Walk.{come_of, table_of, IsStop, Walks}
 use Rattle.bpf_verify.proofs.walk.walk.Given as goal
 
 abbrev pub invariant-loop-insn : goal.invariant-loop-insn

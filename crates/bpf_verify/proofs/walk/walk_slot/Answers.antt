@@ -1,5 +1,5 @@
 use Rattle.std.proofs.Common.{◌∙◌, ap, arith}
-use Rattle.bpf_verify.specs.Walk.{come_of, table_of, met_state}
+use Rattle.bpf_verify.specs.inner.Walk.{come_of, table_of, met_state}
 use Rattle.bpf_verify.proofs.RuleLaws.{here_within}
 use Rattle.bpf_verify.proofs.Walking.{walk_past, walk_refused, when_ok, when_err}
 use Rattle.bpf_verify.proofs.walk.walk_slot.Goals as goal

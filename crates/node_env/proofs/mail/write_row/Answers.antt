@@ -1,5 +1,5 @@
 use Rattle.std.proofs.Common.{arith, ◌∙◌, ap, slice_set}
-use Rattle.node_env.specs.Slots.{rows_of, numbers_of}
+use Rattle.node_env.specs.inner.Slots.{rows_of, numbers_of}
 use Rattle.node_env.proofs.Rows.{rows_of-put}
 use Rattle.node_env.proofs.mail.write_row.Goals as goal
 

@@ -1,6 +1,6 @@
 use Rattle.std.proofs.Common.{◌≡◌, ℕ, ◌+◌, ◌-◌, ◌<◌, ◌≤◌, take, get_or, arith, rules, ap, ap₂, sym, subst, ◌∙◌}
 use Rattle.toml.specs.View.{view, items_view}
-use Rattle.scenario_text.specs.Arrays.{count_in, counted}
+use Rattle.scenario_text.specs.inner.Arrays.{count_in, counted}
 use Rattle.scenario_text.proofs.TableLemmas.{counted_more, counted_take}
 use Rattle.scenario_text.proofs.arrays.counted_loads.Goals as goal
 

@@ -1,6 +1,6 @@
 use Rattle.std.proofs.Common.{◌≡◌, ◌≤◌, take}
 use Rattle.toml.specs.View.{items_view}
-use Rattle.scenario_text.specs.Arrays.{counted}
+use Rattle.scenario_text.specs.inner.Arrays.{counted}
 use Rattle.scenario_text.proofs.arrays.counted_loads.Given as goal
 
 abbrev pub invariant-loop-value : goal.invariant-loop-value

@@ -8,12 +8,12 @@ use Rattle.bench_core.specs.State.{Node, node_at}
 use Rattle.bench_core.specs.Pulse.{Pulse}
 use Rattle.bench_core.specs.Settled.{Row, PulseTold, IsRecord, settled_flags, faulty_count}
 use Rattle.bench_core.specs.Laws.{IsWhole}
-use Rattle.bench_core.specs.Nodes.{KnowsClock}
+use Rattle.bench_core.specs.inner.Nodes.{KnowsClock}
 use Rattle.bpf_machine.specs.Run.{End}
 use Rattle.bpf_verify.specs.Accepted.{Accepted}
-use Rattle.bench_core.specs.Told.{row_told, both_marked, told_clock}
+use Rattle.bench_core.specs.inner.Told.{row_told, both_marked, told_clock}
 use Rattle.bench_core.specs.Replay.{Closed as ClosedValue, BenchValue, rows_of}
-use Rattle.bench_core.specs.Kept.{view_of}
+use Rattle.bench_core.specs.inner.Kept.{view_of}
 use Rattle.bench_core.proofs.Kept.{kept_step, as_seen, length_push, places_seen}
 use Rattle.bench_core.proofs.Sound.{sound_pulse}
 use Rattle.bench_core.proofs.Telling.{both_settled}

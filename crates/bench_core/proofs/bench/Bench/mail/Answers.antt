@@ -1,6 +1,6 @@
 use Rattle.std.proofs.Common.{ap, ◌∙◌}
 use Rattle.bench_core.specs.Replay.{BenchValue}
-use Rattle.bench_core.specs.Kept.{view_of}
+use Rattle.bench_core.specs.inner.Kept.{view_of}
 use Rattle.bench_core.proofs.Sound.{sound_replay}
 use Rattle.bench_core.proofs.bench.Bench.mail.Goals as goal
 

@@ -3,7 +3,7 @@ use Rattle.std.proofs.lemmas.List.{length-map}
 use Rattle.bench_core.specs.Replay.{Opened as OpenedValue}
 use Rattle.bench_core.specs.Tasks.{tasks_from}
 use Rattle.bench_core.specs.Views.{entry_of}
-use Rattle.bench_core.specs.Kept.{view_of}
+use Rattle.bench_core.specs.inner.Kept.{view_of}
 use Rattle.bench_core.specs.declared.entry.Entry.TheVariants.{Opened}
 use Rattle.bench_core.proofs.Opening.{sound_of, staged_slice, staged_within, nodes_after, openings_le, Opens, opened_advances, tasks_made}
 use Rattle.bench_core.proofs.Kept.{kept_step, as_seen, length_push, places_seen}

@@ -1,5 +1,6 @@
 use Rattle.std.proofs.Common.{sym, ap, ◌∙◌, subst, arith}
-use Rattle.bench_shared.specs.Rows.{pulse_of, StartsWith}
+use Rattle.bench_shared.specs.Rows.{StartsWith}
+use Rattle.bench_shared.specs.inner.Rows.{pulse_of}
 use Rattle.bench_shared.specs.Seats.{SeatView}
 use Rattle.bench_shared.proofs.Moves.{looks}
 use Rattle.bench_shared.proofs.Telling.{looked, found, last_pulse}

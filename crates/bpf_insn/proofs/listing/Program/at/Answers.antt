@@ -1,7 +1,8 @@
 use Rattle.std.proofs.Common.{◌∙◌, ap, subst, List, Option}
 use Rattle.std.specs.Prelude.{slice_get}
 use Rattle.bpf_insn.specs.declared.forms.Insn.{Insn}
-use Rattle.bpf_insn.specs.Programs.{IsProgram, inner, insn_at}
+use Rattle.bpf_insn.specs.Programs.{IsProgram, insn_at}
+use Rattle.bpf_insn.specs.inner.Programs.{inner}
 use Rattle.bpf_insn.proofs.LayoutLaws.{slot_is, mapped_within}
 use Rattle.bpf_insn.proofs.listing.Program.at.Goals as goal
 

@@ -1,7 +1,8 @@
 use Rattle.std.proofs.Common.{arith, ◌∙◌, ap, subst, List}
 use Rattle.std.specs.Prelude.{IsSome}
 use Rattle.bpf_insn.specs.declared.forms.Insn.{Insn}
-use Rattle.bpf_insn.specs.Programs.{slots_of, insn_at, insns_in}
+use Rattle.bpf_insn.specs.Programs.{slots_of, insn_at}
+use Rattle.bpf_insn.specs.inner.Programs.{insns_in}
 use Rattle.bpf_insn.proofs.LayoutLaws.{slot_total, first_slot}
 use Rattle.bpf_insn.proofs.listing.Program.slot_count.Goals as goal
 

@@ -1,6 +1,6 @@
 use Rattle.std.proofs.Common.{arith, refl, ap, ◌∙◌}
 use Rattle.bpf_verify.specs.Outcomes.{put_kind}
-use Rattle.bpf_verify.specs.Rows.{kind_numbered}
+use Rattle.bpf_verify.specs.inner.Rows.{kind_numbered}
 use Rattle.bpf_verify.proofs.KindLaws.{same_state, kind_set}
 use Rattle.bpf_verify.proofs.known.Known.set_kind.Goals as goal
 

@@ -1,5 +1,5 @@
 use Rattle.std.proofs.Common.{◌≡◌, ℕ, ◌||◌}
-use Rattle.bpf_verify.specs.Marks.{is_marked}
+use Rattle.bpf_verify.specs.inner.Marks.{is_marked}
 use Rattle.bpf_verify.specs.Outcomes.{is_between}
 use Rattle.bpf_verify.proofs.marks.Marks.add_all.Given as goal
 

@@ -3,7 +3,7 @@ use Rattle.std.specs.FinMap.{empty}
 use Rattle.std.proofs.lemmas.List.{take-replicate}
 use Rattle.node_env.specs.declared.word.TheConstants.{EMPTY}
 use Rattle.node_env.specs.declared.shape.TheConstants.{MAX_NODES}
-use Rattle.node_env.specs.Slots.{numbers_of, rows_of}
+use Rattle.node_env.specs.inner.Slots.{numbers_of, rows_of}
 use Rattle.std.proofs.lemmas.List.{with_items_is}
 use Rattle.node_env.proofs.Rows.{length-square, numbers_of-empty}
 use Rattle.node_env.proofs.mail.Mail.clear.Goals as goal

@@ -1,5 +1,5 @@
 use Rattle.std.proofs.Common.{arith, rules, ◌∙◌, ap, slice_set}
-use Rattle.node_env.specs.Slots.{numbers_of, rows_of}
+use Rattle.node_env.specs.inner.Slots.{numbers_of, rows_of}
 use Rattle.std.proofs.lemmas.List.{with_items_is}
 use Rattle.node_env.proofs.Rows.{length-square}
 use Rattle.node_env.proofs.mail.Mail.fill.Goals as goal

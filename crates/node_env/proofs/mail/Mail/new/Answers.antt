@@ -1,6 +1,6 @@
 use Rattle.std.proofs.Common.{rules, ◌≡◌, ◌*◌, ◌∙◌, ap, replicate}
 use Rattle.std.specs.FinMap.{empty}
-use Rattle.node_env.specs.Slots.{rows_of}
+use Rattle.node_env.specs.inner.Slots.{rows_of}
 use Rattle.node_env.specs.declared.word.TheConstants.{EMPTY}
 use Rattle.node_env.proofs.Rows.{rows_of-empty}
 use Rattle.node_env.proofs.mail.Mail.new.Goals as goal

@@ -1,7 +1,7 @@
 use Rattle.std.proofs.Common.{arith, ◌*◌, ◌<◌, ◌≤◌, sym, ◌∙◌, ap, suc, get_or}
 use Rattle.std.proofs.Math.Nat.{mul-le-mul_right}
 use Rattle.std.specs.FinMap.{empty, get}
-use Rattle.node_env.specs.Slots.{slot_of}
+use Rattle.node_env.specs.inner.Slots.{slot_of}
 use Rattle.node_env.proofs.Rows.{length-square, get-rows_of}
 use Rattle.node_env.proofs.mail.Mail.slot.Goals as goal
 

@@ -1,7 +1,7 @@
 use Rattle.std.proofs.Common.{rules, ◌∙◌, ap, slice_set}
 use Rattle.std.specs.FinMap.{insert}
 use Rattle.node_env.specs.Env.{Sendings}
-use Rattle.node_env.specs.Slots.{numbers_of}
+use Rattle.node_env.specs.inner.Slots.{numbers_of}
 use Rattle.node_env.proofs.Numbers.{are_sendings}
 use Rattle.node_env.proofs.Rows.{numbers_of-set}
 use Rattle.node_env.proofs.outbox.Outbox.send.Goals as goal

@@ -4,7 +4,7 @@ use Rattle.bpf_verify.specs.declared.kind.Kind.{Kind}
 use Rattle.bpf_verify.specs.declared.kind.Kind.TheVariants.{Unset}
 use Rattle.bpf_verify.specs.declared.known.Known.{Known}
 use Rattle.bpf_verify.specs.States.{AbstractState, abstract_state}
-use Rattle.bpf_verify.specs.Marks.{is_marked}
+use Rattle.bpf_verify.specs.inner.Marks.{is_marked}
 
 abbrev pub kind_numbered : List Kind → ℕ → Kind
 kind_numbered kinds number = slice_index_or kinds number Unset

@@ -14,7 +14,7 @@ use Rattle.bpf_verify.specs.Outcomes.{outcome}
 use Rattle.bpf_verify.specs.Typable.{Table, IsCovered, Types}
 use Rattle.bpf_verify.specs.declared.refusal.VerifyError.{VerifyError}
 use Rattle.bpf_verify.specs.declared.refusal.VerifyError.TheVariants as error
-use Rattle.bpf_verify.specs.Rows.{abstract_of}
+use Rattle.bpf_verify.specs.inner.Rows.{abstract_of}
 use Rattle.std.specs.declared.boxed.Box.{Box}
 
 -- the slots before end keep the rules, and their outcomes are covered wherever they lead

@@ -3,7 +3,7 @@ use Rattle.std.specs.Prelude.{◌≡◌, List, length, All}
 use Rattle.bench_core.specs.declared.pulse.OpenPulse.{OpenPulse}
 use Rattle.bench_core.specs.Setup.{Setup}
 use Rattle.bench_core.specs.State.{AreCoins}
-use Rattle.bench_core.specs.Nodes.{FitsShape}
+use Rattle.bench_core.specs.inner.Nodes.{FitsShape}
 use Rattle.bench_core.specs.Tasks.{Task, tasks_from, IsHanded}
 use Rattle.bench_core.specs.Views.{setup_of}
 

@@ -3,8 +3,9 @@ use Rattle.std.specs.Prelude.{◌≡◌, ◌≤◌, map, drop, length, option_ma
 use Rattle.bench_core.specs.declared.limits.TheConstants.{MOST_ENTRIES}
 use Rattle.bench_core.specs.declared.bench.Bench.TheInside.{Inside}
 use Rattle.bench_core.specs.Setup.{IsSetup, clock_listing}
-use Rattle.bench_core.specs.Nodes.{KnowsClock}
-use Rattle.bench_core.specs.Replay.{Replays, BenchValue, openings, staged_of, places_of}
+use Rattle.bench_core.specs.inner.Nodes.{KnowsClock}
+use Rattle.bench_core.specs.Replay.{Replays, BenchValue, openings, places_of}
+use Rattle.bench_core.specs.inner.Replay.{staged_of}
 use Rattle.bench_core.specs.Views.{setup_of, entry_of}
 
 abbrev pub view_of : Inside → BenchValue

@@ -34,7 +34,7 @@ use Rattle.bpf_insn.specs.declared.opcode.Opcode.TheVariants as opcode
 use Rattle.bpf_insn.specs.declared.slot.Slot.{Slot}
 use Rattle.bpf_insn.specs.declared.slot.SlotFault.{SlotFault}
 use Rattle.bpf_insn.specs.declared.slot.SlotFault.TheVariants.{BadRegister, NonZeroField, BadWidth}
-use Rattle.bpf_insn.specs.Registers.{register_at}
+use Rattle.bpf_insn.specs.inner.Registers.{register_at}
 
 -- ---- opcodes
 

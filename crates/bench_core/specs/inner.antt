@@ -1,0 +1,8 @@
+-- What proofs and private contracts alone cite.
+pub mod Found
+pub mod Kept
+pub mod Nodes
+pub mod OpenPulse
+pub mod Replay
+pub mod Tasks
+pub mod Told

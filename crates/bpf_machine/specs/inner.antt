@@ -1,0 +1,4 @@
+-- What proofs and private contracts alone cite.
+pub mod Cells
+pub mod Codes
+pub mod Parts
