@@ -30,27 +30,45 @@ pub record At (xs ys : List Node) (c : ℕ) : Type 0 where
   pub clock : clock_of (node_at ys node).memory ≡ c
 
 at_later : (x y : Node) (xs ys : List Node) (c : ℕ) → At xs ys c → At (x ∷ xs) (y ∷ ys) c
-at_later x y xs ys c h = record { node = suc h.node; within = omega (arith, h.within); before = h.before; after = h.after; clock = h.clock }
+at_later x y xs ys c h = record {
+  node = suc h.node;
+  within = omega (arith, h.within);
+  before = h.before;
+  after = h.after;
+  clock = h.clock;
+}
 
 pub all_at : (xs ys : List Node) → All (At xs ys) (clocks_where (settled_flags xs ys) ys)
 all_at [] ys = All-nil (At [] ys)
 all_at (x ∷ xs) [] = All-nil (At (x ∷ xs) [])
 all_at (x ∷ xs) (y ∷ ys) =
-    let rest = All-weaker (At xs ys) (At (x ∷ xs) (y ∷ ys)) (at_later x y xs ys) (clocks_where (settled_flags xs ys) ys) (all_at xs ys) in
-    cond_both (x.mark && y.mark) (clock_of y.memory ∷ clocks_where (settled_flags xs ys) ys) (clocks_where (settled_flags xs ys) ys) (All (At (x ∷ xs) (y ∷ ys)))
+    let rest = All-weaker (At xs ys) (At (x ∷ xs) (y ∷ ys)) (at_later x y xs ys)
+    (clocks_where (settled_flags xs ys) ys) (all_at xs ys) in
+    cond_both (x.mark && y.mark) (clock_of y.memory ∷ clocks_where (settled_flags xs ys) ys)
+    (clocks_where (settled_flags xs ys) ys) (All (At (x ∷ xs) (y ∷ ys)))
     (λ e. All-cons (At (x ∷ xs) (y ∷ ys)) (clock_of y.memory) (clocks_where (settled_flags xs ys) ys) (first e) rest)
     (λ e. rest)
   where
     first : (x.mark && y.mark) ≡ true → At (x ∷ xs) (y ∷ ys) (clock_of y.memory)
-    first e = record { node = 0; within = omega arith; before = (and_parts x.mark y.mark e).0; after = (and_parts x.mark y.mark e).1; clock = refl }
+    first e = record {
+      node = 0;
+      within = omega arith;
+      before = (and_parts x.mark y.mark e).0;
+      after = (and_parts x.mark y.mark e).1;
+      clock = refl;
+    }
 
 -- a clock that settled nodes have and that is not 0
 found_at : (b b' : State) (c : ℕ) → Contains (moving_clocks b b') c → At b.nodes b'.nodes c × (c ≢ 0)
 found_at b b' c h =
     let clocks = settled_clocks b b' in
     let test = λ (n : ℕ). not (n == 0) in
-    let passes : not (c == 0) ≡ true = All-contains (λ n. test n ≡ true) (filter test clocks) c (filter_passes test clocks) h in
-    (All-contains (At b.nodes b'.nodes) (filter test clocks) c (All-filter test (At b.nodes b'.nodes) clocks (all_at b.nodes b'.nodes)) h, (λ e. grind (arith, nat_tests)))
+    let passes : not (c == 0) ≡ true = All-contains (λ n. test n ≡ true) (filter test clocks) c
+    (filter_passes test clocks) h in (
+      All-contains (At b.nodes b'.nodes) (filter test clocks) c
+          (All-filter test (At b.nodes b'.nodes) clocks (all_at b.nodes b'.nodes)) h,
+      (λ e. grind (arith, nat_tests)),
+    )
 
 pub length_flags : (xs ys : List Node) → length ys ≡ length xs → length (settled_flags xs ys) ≡ length xs
 length_flags [] ys e = refl
@@ -65,14 +83,17 @@ flag_before (x ∷ xs) (y ∷ ys) zero h = (and_parts x.mark y.mark h).0
 flag_before (x ∷ xs) (y ∷ ys) (suc k) h = flag_before xs ys k h
 
 -- a node that moved to a clock that is not 0 had enough mails of the clock before it
-supported : (s : Setup) (b b' : State) (c : ℕ) → IsSetup s → Sound s b → (p : Pulse s b b') → (h : At b.nodes b'.nodes c) → c ≢ 0
+supported : (s : Setup) (b b' : State) (c : ℕ) → IsSetup s → Sound s b → (p : Pulse s b b')
+    → (h : At b.nodes b'.nodes c) → c ≢ 0
     → quorum s ≤ came (c - 1) h.node b.mail
 supported s b b' c ok sound p h ne =
     let lt : h.node < s.shape.nodes = omega (arith, h.within, sound.nodes) in
     let ran = ran_pulse s b b' h.node ok sound p lt h.after in
-    let same : (pair_after s.faults s.modulus (setting_at s b.mail p.coins h.node) (node_at b.nodes h.node).memory).0 ≡ c = sym ran.clock ∙ h.clock in
+    let same : (pair_after s.faults s.modulus (setting_at s b.mail p.coins h.node) (node_at b.nodes h.node).memory).0
+    ≡ c = sym ran.clock ∙ h.clock in
     let many = ran.moved.enough (λ z. ne (sym same ∙ z)) in
-    let many_c : quorum s ≤ support (inbox_of h.node b.mail) (c - 1) s.shape.nodes = subst (λ (n : ℕ). quorum s ≤ support (inbox_of h.node b.mail) (n - 1) s.shape.nodes) same many in
+    let many_c : quorum s ≤ support (inbox_of h.node b.mail) (c - 1) s.shape.nodes = subst
+    (λ (n : ℕ). quorum s ≤ support (inbox_of h.node b.mail) (n - 1) s.shape.nodes) same many in
     subst (λ (n : ℕ). quorum s ≤ n) (support_came (c - 1) h.node s.shape.nodes b.mail sound.mail) many_c
 
 pub agreement : ClocksAgree
@@ -86,11 +107,13 @@ agreement s history b b' ok replay p few c d inc ind =
     elim (cases_eq c d) [
       | inl e ↦ e
       | inr ne ↦
-          let lengths : length flags ≡ length b.mail = length_flags b.nodes b'.nodes p.nodes ∙ (sound.nodes ∙ sym sound.mail) in
+          let lengths : length flags ≡ length b.mail = length_flags b.nodes b'.nodes p.nodes
+          ∙ (sound.nodes ∙ sym sound.mail) in
           let lt : at_c.0.node < s.shape.nodes = omega (arith, at_c.0.within, sound.nodes) in
           let lt' : at_d.0.node < s.shape.nodes = omega (arith, at_d.0.within, sound.nodes) in
           let apart : (c - 1) ≢ (d - 1) = λ e. ne (same_from_pred c d at_c.1 at_d.1 e) in
-          let together = two_values s.shape.nodes at_c.0.node at_d.0.node (c - 1) (d - 1) b.mail flags lengths lt lt' apart
+          let together = two_values s.shape.nodes at_c.0.node at_d.0.node (c - 1)
+          (d - 1) b.mail flags lengths lt lt' apart
           (λ k l h. sound.sent k (omega (arith, l, sound.mail)) (flag_before b.nodes b'.nodes k h)) in
           absurd (omega (arith, together, many_c, many_d, few, sound.mail, ok.faults))
     ]
@@ -99,17 +122,21 @@ agreement s history b b' ok replay p few c d inc ind =
     same_from_pred m n a b e = omega arith
 
 pub steps_agree : StepsAgree
-steps_agree s acts b b' ok h p few = agreement s (entries_of acts) b b' ok (steps_are_entries s (new_state s) acts b h) p few
+steps_agree s acts b b' ok h p few = agreement s (entries_of acts) b b' ok
+    (steps_are_entries s (new_state s) acts b h) p few
 
 -- ---- the pair moves on
 
 -- entries that close no pulse keep the mail
 quiet_mail : (s : Setup) (b : State) (es : List Entry) (c : State) → Run s b es c → All IsQuiet es → c.mail ≡ b.mail
 quiet_mail s b [] c h quiet = ap (λ (x : State). x.mail) h
-quiet_mail s b (Staged actor change ∷ es) c h quiet = quiet_mail s h.0 es c h.2 (All-tail IsQuiet _ es quiet) ∙ ap (λ (x : State). x.mail) h.1.1
-quiet_mail s b (Opened coins ∷ es) c h quiet = quiet_mail s h.0 es c h.2 (All-tail IsQuiet _ es quiet) ∙ ap (λ (x : State). x.mail) h.1.2
+quiet_mail s b (Staged actor change ∷ es) c h quiet = quiet_mail s h.0 es c h.2 (All-tail IsQuiet _ es quiet)
+    ∙ ap (λ (x : State). x.mail) h.1.1
+quiet_mail s b (Opened coins ∷ es) c h quiet = quiet_mail s h.0 es c h.2 (All-tail IsQuiet _ es quiet)
+    ∙ ap (λ (x : State). x.mail) h.1.2
 quiet_mail s b (Closed row ∷ es) c h quiet = absurd (All-head IsQuiet (Closed row) es quiet)
-quiet_mail s b (Abandoned ∷ es) c h quiet = quiet_mail s h.0 es c h.2 (All-tail IsQuiet _ es quiet) ∙ ap (λ (x : State). x.mail) h.1.1
+quiet_mail s b (Abandoned ∷ es) c h quiet = quiet_mail s h.0 es c h.2 (All-tail IsQuiet _ es quiet)
+    ∙ ap (λ (x : State). x.mail) h.1.1
 
 -- a node that passes ran to the pair
 ran_parts : (clock last : ℕ) (x : Node) → ran_to clock last x ≡ true → IsTrue x.mark × (clock_of x.memory ≡ clock)
@@ -124,20 +151,26 @@ pair_moves s history between b b' c c' clock i ok replay p many run quiet q lt m
     let sound' = sound_pulse s b b' ok sound p in
     let sound_c = sound_run s b' between c ok sound' run in
     let same_mail = quiet_mail s b' between c run quiet in
-    let came_i = enough_came (ran_to clock 1) i clock b'.nodes b'.mail (sound'.mail ∙ sym sound'.nodes) (λ k d l h. sent_clock sound sound' k d l h) in
+    let came_i = enough_came (ran_to clock 1) i clock b'.nodes b'.mail (sound'.mail ∙ sym sound'.nodes)
+    (λ k d l h. sent_clock sound sound' k d l h) in
     let came_c : quorum s ≤ came clock i b'.mail = omega (arith, came_i, many) in
     let came_same : quorum s ≤ came clock i c.mail = subst (λ m. quorum s ≤ came clock i m) (sym same_mail) came_c in
-    let support_c : quorum s ≤ support (inbox_of i c.mail) clock s.shape.nodes = subst (λ (n : ℕ). quorum s ≤ n) (sym (support_came clock i s.shape.nodes c.mail sound_c.mail)) came_same in
+    let support_c : quorum s ≤ support (inbox_of i c.mail) clock s.shape.nodes = subst (λ (n : ℕ). quorum s ≤ n)
+    (sym (support_came clock i s.shape.nodes c.mail sound_c.mail)) came_same in
     let small = clock_small sound sound' (omega (arith, many, ok.faults)) in
     let ran_c = ran_pulse s c c' i ok sound_c q lt marked in
-    let next = next_pair (quorum s) s.modulus clock (slice_index q.coins i) (λ v. support (inbox_of i c.mail) v s.shape.nodes) ok.least small support_c in
-    let from = λ (a l : ℕ). pair_from (quorum s) s.modulus (support (inbox_of i c.mail) (clock_below s.modulus a) s.shape.nodes) (clock_below s.modulus a) l (slice_index q.coins i) in
+    let next = next_pair (quorum s) s.modulus clock (slice_index q.coins i)
+    (λ v. support (inbox_of i c.mail) v s.shape.nodes) ok.least small support_c in
+    let from = λ (a l : ℕ). pair_from (quorum s) s.modulus
+    (support (inbox_of i c.mail) (clock_below s.modulus a) s.shape.nodes) (clock_below s.modulus a) l
+    (slice_index q.coins i) in
     let memory = (node_at c.nodes i).memory in
     let pair : pair_after s.faults s.modulus (setting_at s c.mail q.coins i) memory ≡ ((clock + 1) % s.modulus, 1) =
     ap (λ (a : ℕ). from a (mark_of memory)) clock_is ∙ (ap (λ (l : ℕ). from clock l) mark_is ∙ next) in
     (ran_c.clock ∙ ap (λ (n : ℕ × ℕ). n.0) pair, ran_c.last ∙ ap (λ (n : ℕ × ℕ). n.1) pair)
   where
-    sent_clock : Sound s b → Sound s b' → (k : ℕ) (d : Node) → k < length b'.nodes → ran_to clock 1 (get_or b'.nodes k d) ≡ true → is_mail clock (get (row_at b'.mail k) i) ≡ true
+    sent_clock : Sound s b → Sound s b' → (k : ℕ) (d : Node) → k < length b'.nodes
+        → ran_to clock 1 (get_or b'.nodes k d) ≡ true → is_mail clock (get (row_at b'.mail k) i) ≡ true
     sent_clock sound sound' k d l h =
         let within : k < s.shape.nodes = omega (arith, l, sound'.nodes) in
         let same_node : get_or b'.nodes k d ≡ node_at b'.nodes k = get_or_default b'.nodes k d no_node l in
@@ -150,7 +183,8 @@ pair_moves s history between b b' c c' clock i ok replay p many run quiet q lt m
         let found = some_passes (ran_to clock 1) b'.nodes (omega (arith, many, pos)) in
         let k = found.1.0 in
         let within : k < s.shape.nodes = omega (arith, found.1.1, sound'.nodes) in
-        let same_node : found.0 ≡ node_at b'.nodes k = sym found.1.2 ∙ get_or_default b'.nodes k found.0 no_node found.1.1 in
+        let same_node : found.0 ≡ node_at b'.nodes k = sym found.1.2
+        ∙ get_or_default b'.nodes k found.0 no_node found.1.1 in
         let parts = ran_parts clock 1 (node_at b'.nodes k) (ap (ran_to clock 1) (sym same_node) ∙ found.2) in
         let ran = ran_pulse s b b' k ok sound p within parts.0 in
         subst (λ (n : ℕ). n < s.modulus) (sym ran.clock ∙ parts.1) ran.moved.clock

@@ -43,25 +43,31 @@ use Rattle.bench_core.proofs.Telling.{both_settled}
 use Rattle.bench_core.proofs.Closing.{closed_state, AreSorted, AreLeft, none_handed, handed_task, pulse_closed}
 
 -- programs stay at a close
-pub knows_after : (s : Setup) (b b' : State) (listing : List Insn) (flags : List Bool) → Pulse s b b' → KnowsClock listing b.nodes flags → KnowsClock listing b'.nodes flags
+pub knows_after : (s : Setup) (b b' : State) (listing : List Insn) (flags : List Bool) → Pulse s b b'
+    → KnowsClock listing b.nodes flags → KnowsClock listing b'.nodes flags
 knows_after s b b' listing flags p h = record { count = h.count ∙ sym p.nodes; known = by }
   where
-    by : (i : ℕ) (q : Accepted) → (node_at b'.nodes i).program ≡ Some q → IsTrue (get_or flags i false) ↔ (q.program ≡ listing)
+    by : (i : ℕ) (q : Accepted) → (node_at b'.nodes i).program ≡ Some q → IsTrue (get_or flags i false)
+        ↔ (q.program ≡ listing)
     by i q loaded =
         elim (cases_lt i (length b.nodes)) [
           | inl lt ↦ h.known i q (sym (p.each i lt).0 ∙ loaded)
-          | inr past ↦ absurd (none-some q (sym (ap (λ (x : Node). x.program) (get_or_past b'.nodes i no_node (omega (arith, past, p.nodes)))) ∙ loaded))
+          | inr past ↦ absurd (none-some q (sym
+              (ap (λ (x : Node). x.program) (get_or_past b'.nodes i no_node (omega (arith, past, p.nodes)))) ∙ loaded))
         ]
 
 -- ---- the greatest number of steps
 
-no_task : (s : Setup) (xs : List Node) (mail : List (FinMap nat_cmp ℕ)) (coins : List ℕ) (opening i : ℕ) (t : Task) (o : Option Accepted) → (node_at xs i).program ≡ o
+no_task : (s : Setup) (xs : List Node) (mail : List (FinMap nat_cmp ℕ)) (coins : List ℕ) (opening i : ℕ) (t : Task)
+    (o : Option Accepted) → (node_at xs i).program ≡ o
     → IsHanded s xs mail coins opening t → t.node ≡ i → (p : Accepted) × ((node_at xs i).program ≡ Some p)
-no_task s xs mail coins opening i t None has handed at_i = absurd (none_handed s xs mail coins opening i t has handed at_i)
+no_task s xs mail coins opening i t None has handed at_i = absurd
+    (none_handed s xs mail coins opening i t has handed at_i)
 no_task s xs mail coins opening i t (Some p) has handed at_i = (p, has)
 
 -- a result of what was handed out is its node's run
-ran_of : (s : Setup) (b : State) (coins : List ℕ) (opening i : ℕ) (one : Done) → IsHanded s b.nodes b.mail coins opening one.task → one.task.node ≡ i → IsEnd one → RanTo s b coins i one.end
+ran_of : (s : Setup) (b : State) (coins : List ℕ) (opening i : ℕ) (one : Done)
+    → IsHanded s b.nodes b.mail coins opening one.task → one.task.node ≡ i → IsEnd one → RanTo s b coins i one.end
 ran_of s b coins opening i one handed at_i ends =
     let loaded = no_task s b.nodes b.mail coins opening i one.task (node_at b.nodes i).program refl handed at_i in
     let is = handed_task s b.nodes b.mail coins opening i loaded.0 one.task loaded.1 handed at_i in
@@ -72,47 +78,75 @@ ran_of s b coins opening i one handed at_i ends =
       run = subst (λ (t : Task). CompleteRun t.program.program t.setting t.memory one.end) is ends;
     }
 
-one_end : (s : Setup) (b : State) (coins : List ℕ) (i : ℕ) (end other : End) → RanTo s b coins i end → RanTo s b coins i other → end ≡ other
+one_end : (s : Setup) (b : State) (coins : List ℕ) (i : ℕ) (end other : End) → RanTo s b coins i end
+    → RanTo s b coins i other → end ≡ other
 one_end s b coins i end other h g =
     let same : g.program ≡ h.program = same_Some g.program h.program (sym g.loaded ∙ h.loaded) in
     one_complete_run h.program.program (setting_at s b.mail coins i) (node_at b.nodes i).memory end other h.run
-    (subst (λ (p : Accepted). CompleteRun p.program (setting_at s b.mail coins i) (node_at b.nodes i).memory other) same g.run)
+    (subst (λ (p : Accepted). CompleteRun p.program (setting_at s b.mail coins i) (node_at b.nodes i).memory other)
+    same g.run)
 
-few_steps : (s : Setup) (b : State) (coins : List ℕ) (opening i : ℕ) (dones : List Done) (found : List Found) (k : ℕ) (end : End) → length b.nodes ≡ s.shape.nodes
-    → AreSorted s b.nodes b.mail coins opening dones found → All (λ d. d.end.steps ≤ k) dones → RanTo s b coins i end → (f : Found) → found_at found i ≡ f → end.steps ≤ k
+few_steps : (s : Setup) (b : State) (coins : List ℕ) (opening i : ℕ) (dones : List Done) (found : List Found) (k : ℕ)
+    (end : End) → length b.nodes ≡ s.shape.nodes
+    → AreSorted s b.nodes b.mail coins opening dones found → All (λ d. d.end.steps ≤ k) dones → RanTo s b coins i end
+    → (f : Found) → found_at found i ≡ f → end.steps ≤ k
 few_steps s b coins opening i dones found k end whole sorted most ran Nothing e =
     let none = subst (IsFound (IsHanded s b.nodes b.mail coins opening) dones i) e (sorted.each i) in
-    absurd (sorted.exact.none_missing i (record { within = omega (arith, ran.node, whole); loaded = ap is_some ran.loaded; none = none }))
+    absurd (sorted.exact.none_missing i (record {
+      within = omega (arith, ran.node, whole);
+      loaded = ap is_some ran.loaded;
+      none = none;
+    }))
 few_steps s b coins opening i dones found k end whole sorted most ran (Once place) e =
     let at = (subst (IsFound (IsHanded s b.nodes b.mail coins opening) dones i) e (sorted.each i)).0 in
     let within = slice_get_within dones place at.one at.at in
     let is = get_or_from_slice_get dones place at.one at.one at.at in
     let ends : IsEnd at.one = subst IsEnd is (sorted.ends place at.one within) in
     let few : at.one.end.steps ≤ k = subst (λ (d : Done). d.end.steps ≤ k) is (most place at.one within) in
-    let same = one_end s b coins i end at.one.end ran (ran_of s b coins opening i at.one at.result.0 at.result.1 ends) in
+    let same = one_end s b coins i end at.one.end ran
+    (ran_of s b coins opening i at.one at.result.0 at.result.1 ends) in
     subst (λ (x : End). x.steps ≤ k) (sym same) few
 few_steps s b coins opening i dones found k end whole sorted most ran Again e =
-    absurd (sorted.exact.none_twice i (subst (IsFound (IsHanded s b.nodes b.mail coins opening) dones i) e (sorted.each i)))
+    absurd (sorted.exact.none_twice i (subst (IsFound (IsHanded s b.nodes b.mail coins opening) dones i) e
+    (sorted.each i)))
 
-none_loaded : (s : Setup) (b : State) (coins : List ℕ) (opening i : ℕ) → i < length b.nodes → IsExact (IsHanded s b.nodes b.mail coins opening) b.nodes []
+none_loaded : (s : Setup) (b : State) (coins : List ℕ) (opening i : ℕ) → i < length b.nodes
+    → IsExact (IsHanded s b.nodes b.mail coins opening) b.nodes []
     → (o : Option Accepted) → (node_at b.nodes i).program ≡ o → IsNone o
 none_loaded s b coins opening i lt exact None has = refl
 none_loaded s b coins opening i lt exact (Some p) has =
-    absurd (exact.none_missing i (record { within = lt; loaded = ap is_some has; none = All-nil (λ d. IsResultOf (IsHanded s b.nodes b.mail coins opening) i d → ⊥) }))
+    absurd (exact.none_missing i (record {
+      within = lt;
+      loaded = ap is_some has;
+      none = All-nil (λ d. IsResultOf (IsHanded s b.nodes b.mail coins opening) i d → ⊥);
+    }))
 
-pub steps_told : (s : Setup) (b : State) (coins : List ℕ) (opening : ℕ) (dones : List Done) (found : List Found) (k : ℕ) → length b.nodes ≡ s.shape.nodes
+pub steps_told : (s : Setup) (b : State) (coins : List ℕ) (opening : ℕ) (dones : List Done) (found : List Found)
+    (k : ℕ) → length b.nodes ≡ s.shape.nodes
     → AreSorted s b.nodes b.mail coins opening dones found → IsMostSteps dones k → IsSteps s b coins k
 steps_told s b coins opening dones found k whole sorted steps =
     record {
-      most = λ i end ran. few_steps s b coins opening i dones found k end whole sorted steps.most ran (found_at found i) refl;
+      most = λ i end ran. few_steps s b coins opening i dones found k end whole sorted steps.most ran
+          (found_at found i) refl;
       reached = elim steps.reached [
         | inl at ↦
             let one = at.0 in
-            let handed = All-contains (λ d. IsHanded s b.nodes b.mail coins opening d.task) dones one sorted.exact.no_stranger at.1 in
-            inl (one.task.node, one.end, ran_of s b coins opening one.task.node one handed refl (All-contains IsEnd dones one sorted.ends at.1), at.2)
+            let handed = All-contains (λ d. IsHanded s b.nodes b.mail coins opening d.task) dones one
+            sorted.exact.no_stranger at.1 in
+            inl (
+              one.task.node,
+              one.end,
+              ran_of s b coins opening one.task.node one handed refl
+                  (All-contains IsEnd dones one sorted.ends at.1),
+              at.2,
+            )
         | inr none ↦
             let exact = subst (IsExact (IsHanded s b.nodes b.mail coins opening) b.nodes) none.0 sorted.exact in
-            inr (λ i lt. none_loaded s b coins opening i (omega (arith, lt, whole)) exact (node_at b.nodes i).program refl, none.1)
+            inr (
+              λ i lt. none_loaded s b coins opening i (omega (arith, lt, whole)) exact
+                  (node_at b.nodes i).program refl,
+              none.1,
+            )
       ];
     }
 
@@ -120,13 +154,18 @@ steps_told s b coins opening dones found k whole sorted steps =
 
 pub enough_memory : (s : Setup) (b : State) → IsSetup s → Sound s b → All (λ x. 4 ≤ length x.memory) b.nodes
 enough_memory s b ok sound =
-    All-from_get_or (λ x. 4 ≤ length x.memory) b.nodes no_node (λ i lt. let m = (sound.memories i (omega (arith, lt, sound.nodes))).length in omega (arith, m, ok.extent.least))
+    All-from_get_or (λ x. 4 ≤ length x.memory) b.nodes no_node
+    (λ i lt. let m = (sound.memories i (omega (arith, lt, sound.nodes))).length in
+    omega (arith, m, ok.extent.least))
 
-pub small_clocks : (s : Setup) (b b' : State) (marks : List Bool) → IsSetup s → Sound s b → Pulse s b b' → marks ≡ map (λ x. x.mark) b.nodes
+pub small_clocks : (s : Setup) (b b' : State) (marks : List Bool) → IsSetup s → Sound s b → Pulse s b b'
+    → marks ≡ map (λ x. x.mark) b.nodes
     → All (λ c. c < MOST_MODULUS) (clocks_where (both_marked marks b'.nodes) b'.nodes)
 small_clocks s b b' marks ok sound p e =
-    let same : both_marked marks b'.nodes ≡ settled_flags b.nodes b'.nodes = ap (λ ms. both_marked ms b'.nodes) e ∙ both_settled b.nodes b'.nodes in
-    subst (λ flags. All (λ c. c < MOST_MODULUS) (clocks_where flags b'.nodes)) (sym same) (clocks_small s b b' ok sound p)
+    let same : both_marked marks b'.nodes ≡ settled_flags b.nodes b'.nodes = ap (λ ms. both_marked ms b'.nodes) e
+    ∙ both_settled b.nodes b'.nodes in
+    subst (λ flags. All (λ c. c < MOST_MODULUS) (clocks_where flags b'.nodes)) (sym same)
+    (clocks_small s b b' ok sound p)
 
 -- the history keeps a place for the end of an open pulse
 pub place_left : (b : BenchValue) → IsSome b.state.coins → places_of b ≤ MOST_ENTRIES → length b.history < MOST_ENTRIES
@@ -134,7 +173,8 @@ place_left b is_open h =
     let one : ◌≡◌ {A = ℕ} (cond (is_some b.state.coins) 1 0) 1 = ap (λ (o : Bool). cond o 1 0) is_open in
     omega (arith, h, one)
 
-pub few_pulses : (b : BenchValue) (b' : State) → IsSetup b.setup → Replays b.setup b.history b.state → places_of b ≤ MOST_ENTRIES → Pulse b.setup b.state b' → b.state.closed + 1 ≤ MOST_PULSES
+pub few_pulses : (b : BenchValue) (b' : State) → IsSetup b.setup → Replays b.setup b.history b.state
+    → places_of b ≤ MOST_ENTRIES → Pulse b.setup b.state b' → b.state.closed + 1 ≤ MOST_PULSES
 few_pulses b b' ok replays limit p =
     let row = rows_fit b.setup b.history b.state b' ok replays p (place_left b (ap is_some p.is_open) limit) in
     omega (arith, row.last, p.closed)
@@ -148,7 +188,8 @@ pub record Tells (s : Setup) (b b' : State) (r : PulseTold) : Type 0 where
   pub steps : IsSteps s b (unwrap_or b.coins []) r.steps
   pub agree : IsTrue r.agree ↔ (r.row.common ≢ CLOCKS_DIFFER)
 
-pub is_record : (s : Setup) (history : List EntryValue) (b b' : State) (r : PulseTold) → IsSetup s → Replays s history b → Pulse s b b' → Tells s b b' r → IsRecord s b b' r
+pub is_record : (s : Setup) (history : List EntryValue) (b b' : State) (r : PulseTold) → IsSetup s
+    → Replays s history b → Pulse s b b' → Tells s b b' r → IsRecord s b b' r
 is_record s history b b' r ok replays p h =
     let tell = rows_tell s history b b' ok replays p in
     let common : r.row.common ≡ (row_of b b').common = ap (λ (x : Row). x.common) h.row in
@@ -162,15 +203,19 @@ is_record s history b b' r ok replays p h =
 
 -- ---- the bench's fields
 
-pub closed_advances : (b b' : Inside) (row : Row) → IsKept b → Pulse (view_of b).setup (view_of b).state (closed_state (view_of b).state b'.nodes.items b'.mail)
+pub closed_advances : (b b' : Inside) (row : Row) → IsKept b
+    → Pulse (view_of b).setup (view_of b).state (closed_state (view_of b).state b'.nodes.items b'.mail)
     → row ≡ row_told (b.closed + 1) (settled_flags b.nodes.items b'.nodes.items) b'.nodes.items
     → b'.history.items ≡ b.history.items ++ Closed row ∷ []
-    → b'.shape ≡ b.shape → b'.rule ≡ b.rule → b'.closed ≡ b.closed + 1 → b'.staged_from ≡ b.staged_from → b'.coins ≡ None
+    → b'.shape ≡ b.shape → b'.rule ≡ b.rule → b'.closed ≡ b.closed + 1 → b'.staged_from ≡ b.staged_from
+    → b'.coins ≡ None
     → Advances (view_of b) (ClosedValue row) (view_of b')
 closed_advances b b' row kept pulse tells is shape rule closed from over =
     let stays : staged_of (drop b'.staged_from (map entry_of b'.history.items)) ≡ (view_of b).state.staged =
-    ap (λ n. staged_of (drop n (map entry_of b'.history.items))) from ∙ (staged_after b b'.history (Closed row) kept.staged is ∙ append-nil _) in
-    let shut : option_map (λ v. v.items) b'.coins ≡ None = ap (λ (o : Option (Vec ℕ Global)). option_map (λ v. v.items) o) over in
+    ap (λ n. staged_of (drop n (map entry_of b'.history.items))) from
+    ∙ (staged_after b b'.history (Closed row) kept.staged is ∙ append-nil _) in
+    let shut : option_map (λ v. v.items) b'.coins ≡ None = ap
+    (λ (o : Option (Vec ℕ Global)). option_map (λ v. v.items) o) over in
     record {
       setup = rw (shape, rule) refl;
       history = entries_push b.history.items b'.history.items (Closed row) is;
@@ -190,69 +235,97 @@ closed_advances b b' row kept pulse tells is shape rule closed from over =
     }
 
 -- what sorting the results said, of the bench's own lists
-pub sorted_at : (s : Setup) (xs ys : List Node) (mail : List (FinMap nat_cmp ℕ)) (cs coins : List ℕ) (opening : ℕ) (ds dones : List Done) (found : List Found) → xs ≡ ys → cs ≡ coins → ds ≡ dones
-    → ((i : ℕ) → IsFound (IsHanded s xs mail cs opening) ds i (found_at found i)) → All IsEnd ds → IsExact (IsHanded s xs mail cs opening) xs ds → AreSorted s ys mail coins opening dones found
+pub sorted_at : (s : Setup) (xs ys : List Node) (mail : List (FinMap nat_cmp ℕ)) (cs coins : List ℕ) (opening : ℕ)
+    (ds dones : List Done) (found : List Found) → xs ≡ ys → cs ≡ coins → ds ≡ dones
+    → ((i : ℕ) → IsFound (IsHanded s xs mail cs opening) ds i (found_at found i)) → All IsEnd ds
+    → IsExact (IsHanded s xs mail cs opening) xs ds → AreSorted s ys mail coins opening dones found
 sorted_at s xs ys mail cs coins opening ds dones found e f g each ends exact =
     subst (λ (ns : List Node). AreSorted s ns mail coins opening dones found) e
     (subst (λ (ns : List ℕ). AreSorted s xs mail ns opening dones found) f
-    (subst (λ (ns : List Done). AreSorted s xs mail cs opening ns found) g (record { each = each; ends = ends; exact = exact })))
+    (subst (λ (ns : List Done). AreSorted s xs mail cs opening ns found) g
+    (record { each = each; ends = ends; exact = exact })))
 
-pub coins_of : (s : Setup) (o : Option (Vec ℕ Global)) (coins : Vec ℕ Global) → o ≡ Some coins → IfSome (option_map (λ v. v.items) o) (AreCoins s) → AreCoins s coins.items
+pub coins_of : (s : Setup) (o : Option (Vec ℕ Global)) (coins : Vec ℕ Global) → o ≡ Some coins
+    → IfSome (option_map (λ v. v.items) o) (AreCoins s) → AreCoins s coins.items
 coins_of s o coins is h = subst (λ (o : Option (Vec ℕ Global)). IfSome (option_map (λ v. v.items) o) (AreCoins s)) is h
 
 -- each result that was found has the size of its node
-fits_node : (s : Setup) (b : State) (coins : List ℕ) (opening i : ℕ) (dones : List Done) (found : List Found) → IsSetup s → Sound s b → b.coins ≡ Some coins
-    → AreSorted s b.nodes b.mail coins opening dones found → i < s.shape.nodes → (f : Found) → found_at found i ≡ f → FitsNode s.shape.nodes dones (node_at b.nodes i) f
+fits_node : (s : Setup) (b : State) (coins : List ℕ) (opening i : ℕ) (dones : List Done) (found : List Found)
+    → IsSetup s → Sound s b → b.coins ≡ Some coins
+    → AreSorted s b.nodes b.mail coins opening dones found → i < s.shape.nodes → (f : Found) → found_at found i ≡ f
+    → FitsNode s.shape.nodes dones (node_at b.nodes i) f
 fits_node s b coins opening i dones found ok sound is_open sorted lt Nothing e = tt
 fits_node s b coins opening i dones found ok sound is_open sorted lt (Once place) e =
     let at = (subst (IsFound (IsHanded s b.nodes b.mail coins opening) dones i) e (sorted.each i)).0 in
     let is = get_or_from_slice_get dones place at.one at.one at.at in
     let ends : IsEnd at.one = subst IsEnd is (sorted.ends place at.one (slice_get_within dones place at.one at.at)) in
-    let loaded = no_task s b.nodes b.mail coins opening i at.one.task (node_at b.nodes i).program refl at.result.0 at.result.1 in
+    let loaded = no_task s b.nodes b.mail coins opening i at.one.task
+    (node_at b.nodes i).program refl at.result.0 at.result.1 in
     let task = handed_task s b.nodes b.mail coins opening i loaded.0 at.one.task loaded.1 at.result.0 at.result.1 in
     let ran = ran_of s b coins opening i at.one at.result.0 at.result.1 ends in
-    let fit : IsLoadable s ran.program = subst (λ (o : Option Accepted). IfSome o (IsLoadable s)) ran.loaded (sound.programs i lt) in
+    let fit : IsLoadable s ran.program = subst (λ (o : Option Accepted). IfSome o (IsLoadable s)) ran.loaded
+    (sound.programs i lt) in
     let whole = sound.memories i lt in
-    let left = complete_run_leaves ran.program.program (setting_at s b.mail coins i) (node_at b.nodes i).memory at.one.end fit.program (is_setting s b coins i ok sound is_open lt) whole.length whole.bytes ran.run in
+    let left = complete_run_leaves ran.program.program (setting_at s b.mail coins i)
+    (node_at b.nodes i).memory at.one.end fit.program
+    (is_setting s b coins i ok sound is_open lt) whole.length whole.bytes ran.run in
     (at.one, at.at, left.memory ∙ sym whole.length, ap (λ (t : Task). t.setting.shape.nodes) task)
 fits_node s b coins opening i dones found ok sound is_open sorted lt Again e = tt
 
-pub all_fit_nodes : (b : Inside) (coins : Vec ℕ Global) (dones : List Done) (found : List Found) → IsKept b → b.coins ≡ Some coins
+pub all_fit_nodes : (b : Inside) (coins : Vec ℕ Global) (dones : List Done) (found : List Found) → IsKept b
+    → b.coins ≡ Some coins
     → AreSorted (view_of b).setup b.nodes.items b.mail coins.items (b.opened - 1) dones found
     → (i : ℕ) → i < b.shape.nodes → FitsNode b.shape.nodes dones (node_at b.nodes.items i) (found_at found i)
 all_fit_nodes b coins dones found kept is sorted i lt =
-    fits_node (view_of b).setup (view_of b).state coins.items (b.opened - 1) i dones found kept.setup (sound_of b kept) (ap (λ (o : Option (Vec ℕ Global)). option_map (λ v. v.items) o) is) sorted lt (found_at found i) refl
+    fits_node (view_of b).setup (view_of b).state coins.items (b.opened - 1) i dones found kept.setup (sound_of b kept)
+    (ap (λ (o : Option (Vec ℕ Global)). option_map (λ v. v.items) o) is) sorted lt (found_at found i) refl
 
-pub pulse_at : (b : Inside) (coins : Vec ℕ Global) (dones : List Done) (found : List Found) (nodes : List Node) (mail : List (FinMap nat_cmp ℕ)) → IsKept b → b.coins ≡ Some coins
+pub pulse_at : (b : Inside) (coins : Vec ℕ Global) (dones : List Done) (found : List Found) (nodes : List Node)
+    (mail : List (FinMap nat_cmp ℕ)) → IsKept b → b.coins ≡ Some coins
     → AreSorted (view_of b).setup b.nodes.items b.mail coins.items (b.opened - 1) dones found
-    → length nodes ≡ b.shape.nodes → length mail ≡ b.shape.nodes → AreLeft dones b.flags.items b.nodes.items found nodes mail b.shape.nodes
+    → length nodes ≡ b.shape.nodes → length mail ≡ b.shape.nodes
+    → AreLeft dones b.flags.items b.nodes.items found nodes mail b.shape.nodes
     → Pulse (view_of b).setup (view_of b).state (closed_state (view_of b).state nodes mail)
 pulse_at b coins dones found nodes mail kept is sorted count rows left =
     let whole = (sound_of b kept).nodes in
-    let knows : KnowsClock (clock_listing (view_of b).setup) b.nodes.items b.flags.items = subst (λ (l : List Insn). KnowsClock l b.nodes.items b.flags.items) kept.clock kept.flags in
+    let knows : KnowsClock (clock_listing (view_of b).setup) b.nodes.items b.flags.items = subst
+    (λ (l : List Insn). KnowsClock l b.nodes.items b.flags.items) kept.clock kept.flags in
     pulse_closed (view_of b).setup (view_of b).state coins.items (b.opened - 1) dones b.flags.items found nodes mail
-    (ap (λ (o : Option (Vec ℕ Global)). option_map (λ v. v.items) o) is) sorted knows (count ∙ sym whole) (rows ∙ sym whole) (λ i lt. left i (omega (arith, lt, whole)))
+    (ap (λ (o : Option (Vec ℕ Global)). option_map (λ v. v.items) o) is) sorted knows (count ∙ sym whole)
+    (rows ∙ sym whole) (λ i lt. left i (omega (arith, lt, whole)))
 
-pub refuses : (b : BenchValue) (dones : List Done) (e : CloseError) → IsSome b.state.coins → RefusesResults (HandedOut b) b.state.nodes dones e → IsCloseRefusal b dones e
+pub refuses : (b : BenchValue) (dones : List Done) (e : CloseError) → IsSome b.state.coins
+    → RefusesResults (HandedOut b) b.state.nodes dones e → IsCloseRefusal b dones e
 refuses b dones closing.NotOpen is_open h = absurd h
 refuses b dones (closing.Missing i) is_open h = (is_open, h)
 refuses b dones (closing.Twice i) is_open h = (is_open, h.0, h.1)
 refuses b dones (closing.Stranger i) is_open h = (is_open, h.0, h.1, h.2)
 refuses b dones closing.Memory is_open h = absurd h
 
-pub refuses_at : (b : Inside) (v : BenchValue) (coins : Vec ℕ Global) (xs : List Node) (cs : List ℕ) (ds dones : List Done) (e : CloseError) → IsKept b → view_of b ≡ v → b.coins ≡ Some coins
-    → xs ≡ b.nodes.items → cs ≡ coins.items → ds ≡ dones → RefusesResults (IsHanded (view_of b).setup xs b.mail cs (b.opened - 1)) xs ds e → IsCloseRefusal v dones e
+pub refuses_at : (b : Inside) (v : BenchValue) (coins : Vec ℕ Global) (xs : List Node) (cs : List ℕ)
+    (ds dones : List Done) (e : CloseError) → IsKept b → view_of b ≡ v → b.coins ≡ Some coins
+    → xs ≡ b.nodes.items → cs ≡ coins.items → ds ≡ dones
+    → RefusesResults (IsHanded (view_of b).setup xs b.mail cs (b.opened - 1)) xs ds e → IsCloseRefusal v dones e
 refuses_at b v coins xs cs ds dones e kept view is nodes same given h =
-    let open_coins : (view_of b).state.coins ≡ Some coins.items = ap (λ (o : Option (Vec ℕ Global)). option_map (λ v. v.items) o) is in
-    let mine : unwrap_or (view_of b).state.coins [] ≡ coins.items = ap (λ (o : Option (List ℕ)). unwrap_or o []) open_coins in
-    let at = subst (λ (ns : List Node). RefusesResults (IsHanded (view_of b).setup ns b.mail cs (b.opened - 1)) ns ds e) nodes h in
-    let at' = subst (λ (ns : List ℕ). RefusesResults (IsHanded (view_of b).setup b.nodes.items b.mail ns (b.opened - 1)) b.nodes.items ds e) (same ∙ sym mine) at in
-    let at'' = subst (λ (ns : List Done). RefusesResults (IsHanded (view_of b).setup b.nodes.items b.mail (unwrap_or (view_of b).state.coins []) (b.opened - 1)) b.nodes.items ns e) given at' in
-    let last = subst (λ (n : ℕ). RefusesResults (IsHanded (view_of b).setup b.nodes.items b.mail (unwrap_or (view_of b).state.coins []) (n - 1)) b.nodes.items dones e) kept.opened at'' in
+    let open_coins : (view_of b).state.coins ≡ Some coins.items = ap
+    (λ (o : Option (Vec ℕ Global)). option_map (λ v. v.items) o) is in
+    let mine : unwrap_or (view_of b).state.coins [] ≡ coins.items = ap
+    (λ (o : Option (List ℕ)). unwrap_or o []) open_coins in
+    let at = subst (λ (ns : List Node). RefusesResults
+    (IsHanded (view_of b).setup ns b.mail cs (b.opened - 1)) ns ds e) nodes h in
+    let at' = subst (λ (ns : List ℕ). RefusesResults
+    (IsHanded (view_of b).setup b.nodes.items b.mail ns (b.opened - 1)) b.nodes.items ds e) (same ∙ sym mine) at in
+    let at'' = subst (λ (ns : List Done). RefusesResults
+    (IsHanded (view_of b).setup b.nodes.items b.mail (unwrap_or (view_of b).state.coins []) (b.opened - 1))
+    b.nodes.items ns e) given at' in
+    let last = subst (λ (n : ℕ). RefusesResults
+    (IsHanded (view_of b).setup b.nodes.items b.mail (unwrap_or (view_of b).state.coins []) (n - 1)) b.nodes.items
+    dones e) kept.opened at'' in
     subst (λ (w : BenchValue). IsCloseRefusal w dones e) view (refuses (view_of b) dones e (ap is_some open_coins) last)
 
 -- what closing the nodes said, of the bench's own lists
-pub left_at : (ds dones : List Done) (fs flags : List Bool) (xs old : List Node) (found : List Found) (nodes : List Node) (mail : List (FinMap nat_cmp ℕ)) (m n : ℕ) → ds ≡ dones → fs ≡ flags → xs ≡ old → m ≡ n
+pub left_at : (ds dones : List Done) (fs flags : List Bool) (xs old : List Node) (found : List Found)
+    (nodes : List Node) (mail : List (FinMap nat_cmp ℕ)) (m n : ℕ) → ds ≡ dones → fs ≡ flags → xs ≡ old → m ≡ n
     → AreLeft ds fs xs found nodes mail m → AreLeft dones flags old found nodes mail n
 left_at ds dones fs flags xs old found nodes mail m n e f g h left =
     subst (λ (k : ℕ). AreLeft dones flags old found nodes mail k) h

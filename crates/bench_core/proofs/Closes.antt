@@ -31,7 +31,13 @@ AreInRange is = AllByRecursion InRange is
 in_listing : (s : Setup) → IsSetup s → AreInRange (clock_listing s)
 in_listing s ok =
     (clock_is_program (record { nodes = s.shape.nodes; faults = s.faults; modulus = s.modulus })
-    (record { some = ok.extent.some; few = ok.extent.few; allowed = ok.faults; least = ok.least; most = ok.most })).in_range
+    (record {
+      some = ok.extent.some;
+      few = ok.extent.few;
+      allowed = ok.faults;
+      least = ok.least;
+      most = ok.most;
+    })).in_range
 
 -- ---- whether a program has the clock program's instructions
 
@@ -57,10 +63,13 @@ unfolding numbers_same
 numbers_itself [] = refl
 numbers_itself (x ∷ xs) = rw (eq-eqb x x refl) (numbers_itself xs)
 
-runs_clock : (s : Setup) (p : Accepted) → AreInRange p.program → AreInRange (clock_listing s) → IsTrue (numbers_same (image_of p.program) (image_of (clock_listing s))) ↔ RunsClock s p
+runs_clock : (s : Setup) (p : Accepted) → AreInRange p.program → AreInRange (clock_listing s)
+    → IsTrue (numbers_same (image_of p.program) (image_of (clock_listing s))) ↔ RunsClock s p
 runs_clock s p mine other = (
-  λ e. image_once p.program (clock_listing s) mine other (numbers_true (image_of p.program) (image_of (clock_listing s)) e),
-  λ e. subst (λ (l : List Insn). numbers_same (image_of p.program) (image_of l) ≡ true) e (numbers_itself (image_of p.program)),
+  λ e. image_once p.program (clock_listing s) mine other
+      (numbers_true (image_of p.program) (image_of (clock_listing s)) e),
+  λ e. subst (λ (l : List Insn). numbers_same (image_of p.program) (image_of l) ≡ true) e
+      (numbers_itself (image_of p.program)),
 )
 
 -- ---- the nodes after it
@@ -69,22 +78,46 @@ abbrev Part : Type 0
 Part = Node × FinMap nat_cmp ℕ
 
 node_goes : (s : Setup) (env : Setting) (x : Node) (o : Option Accepted) → x.program ≡ o → AreInRange (clock_listing s)
-    → IfSome o (λ p. AreInRange p.program × ((end : End) × CompleteRun p.program env x.memory end)) → (y : Part) × NodePulse s env x y.0 y.1
+    → IfSome o (λ p. AreInRange p.program × ((end : End) × CompleteRun p.program env x.memory end))
+    → (y : Part) × NodePulse s env x y.0 y.1
 node_goes s env x None e listed ran =
     let y : Node = record { program = None; memory = x.memory; mark = false } in
-    let rests : Rests x y empty = record { memory = refl; sends = refl; mark = refl } in
-    ((y, empty), (sym e, subst (λ (o : Option Accepted). MatchOption o (Rests x y empty) (λ p. Runs s p env x y empty)) (sym e) rests))
+    let rests : Rests x y empty = record { memory = refl; sends = refl; mark = refl } in (
+      (y, empty),
+      (
+        sym e,
+        subst (λ (o : Option Accepted). MatchOption o (Rests x y empty) (λ p. Runs s p env x y empty))
+            (sym e) rests,
+      ),
+    )
 node_goes s env x (Some p) e listed ran =
     let end = ran.1.0 in
-    let y : Node = record { program = Some p; memory = end.memory; mark = numbers_same (image_of p.program) (image_of (clock_listing s)) } in
-    let runs : Runs s p env x y end.sent = record { end = end; run = ran.1.1; memory = refl; sends = refl; mark = runs_clock s p ran.0 listed } in
-    ((y, end.sent), (sym e, subst (λ (o : Option Accepted). MatchOption o (Rests x y end.sent) (λ q. Runs s q env x y end.sent)) (sym e) runs))
+    let y : Node = record {
+      program = Some p;
+      memory = end.memory;
+      mark = numbers_same (image_of p.program) (image_of (clock_listing s));
+    } in
+    let runs : Runs s p env x y end.sent = record {
+      end = end;
+      run = ran.1.1;
+      memory = refl;
+      sends = refl;
+      mark = runs_clock s p ran.0 listed;
+    } in (
+      (y, end.sent),
+      (
+        sym e,
+        subst (λ (o : Option Accepted). MatchOption o (Rests x y end.sent)
+            (λ q. Runs s q env x y end.sent)) (sym e) runs,
+      ),
+    )
 
 if_mapped : {A : Type 0} (P Q : A → Type 0) (o : Option A) → ((x : A) → P x → Q x) → IfSome o P → IfSome o Q
 if_mapped P Q None f h = tt
 if_mapped P Q (Some x) f h = f x h
 
-node_runs : (s : Setup) (b : State) (coins : List ℕ) (i : ℕ) → IsSetup s → Sound s b → b.coins ≡ Some coins → i < s.shape.nodes
+node_runs : (s : Setup) (b : State) (coins : List ℕ) (i : ℕ) → IsSetup s → Sound s b → b.coins ≡ Some coins
+    → i < s.shape.nodes
     → (y : Part) × NodePulse s (setting_at s b.mail coins i) (node_at b.nodes i) y.0 y.1
 node_runs s b coins i ok sound is_open lt =
     let env = setting_at s b.mail coins i in
@@ -92,12 +125,18 @@ node_runs s b coins i ok sound is_open lt =
     let is = is_setting s b coins i ok sound is_open lt in
     let whole = sound.memories i lt in
     node_goes s env x x.program refl (in_listing s ok)
-    (if_mapped (IsLoadable s) (λ p. AreInRange p.program × ((end : End) × CompleteRun p.program env x.memory end)) x.program
-    (λ p fit. (fit.program.in_range, run_ends p.program env x.memory p.budget fit.program is (subst (Typable p.program) fit.shape fit.typable) fit.longest whole.length whole.bytes))
+    (if_mapped (IsLoadable s) (λ p. AreInRange p.program × ((end : End) × CompleteRun p.program env x.memory end))
+    x.program
+    (λ p fit. (
+      fit.program.in_range,
+      run_ends p.program env x.memory p.budget fit.program is
+          (subst (Typable p.program) fit.shape fit.typable) fit.longest whole.length whole.bytes,
+    ))
     (sound.programs i lt))
 
 -- one of each is a list
-at_cons : {X : Type 0} (P : ℕ → X → Type 0) (d x : X) (xs : List X) (n : ℕ) → P 0 x → ((i : ℕ) → i < n → P (suc i) (get_or xs i d)) → (i : ℕ) → i < suc n → P i (get_or (x ∷ xs) i d)
+at_cons : {X : Type 0} (P : ℕ → X → Type 0) (d x : X) (xs : List X) (n : ℕ) → P 0 x
+    → ((i : ℕ) → i < n → P (suc i) (get_or xs i d)) → (i : ℕ) → i < suc n → P i (get_or (x ∷ xs) i d)
 at_cons P d x xs n first rest zero lt = first
 at_cons P d x xs n first rest (suc i) lt = rest i (omega (arith, lt))
 
@@ -111,12 +150,18 @@ chosen P d zero f = record { items = []; count = refl; each = λ i lt. absurd (o
 chosen P d (suc n) f =
     let first = f 0 (omega arith) in
     let rest = chosen (λ i x. P (suc i) x) d n (λ i lt. f (suc i) (omega (arith, lt))) in
-    record { items = first.0 ∷ rest.items; count = ap suc rest.count; each = at_cons P d first.0 rest.items n first.1 rest.each }
+    record {
+      items = first.0 ∷ rest.items;
+      count = ap suc rest.count;
+      each = at_cons P d first.0 rest.items n first.1 rest.each;
+    }
 
-closed_pulse : (s : Setup) (b : State) (coins : List ℕ) → IsSetup s → Sound s b → b.coins ≡ Some coins → (b' : State) × Pulse s b b'
+closed_pulse : (s : Setup) (b : State) (coins : List ℕ) → IsSetup s → Sound s b → b.coins ≡ Some coins
+    → (b' : State) × Pulse s b b'
 closed_pulse s b coins ok sound is_open =
     let none : Part = (no_node, empty) in
-    let parts = chosen (λ i (y : Part). NodePulse s (setting_at s b.mail coins i) (node_at b.nodes i) y.0 y.1) none s.shape.nodes (λ i lt. node_runs s b coins i ok sound is_open lt) in
+    let parts = chosen (λ i (y : Part). NodePulse s (setting_at s b.mail coins i) (node_at b.nodes i) y.0 y.1) none
+    s.shape.nodes (λ i lt. node_runs s b coins i ok sound is_open lt) in
     let nodes = map (λ (y : Part). y.0) parts.items in
     let mail = map (λ (y : Part). y.1) parts.items in
     let b' : State = record { nodes = nodes; mail = mail; closed = b.closed + 1; staged = b.staged; coins = None } in (
@@ -128,10 +173,14 @@ closed_pulse s b coins ok sound is_open =
         mail = length-map parts.items (λ (y : Part). y.1) ∙ (parts.count ∙ sym sound.nodes);
         each = λ i lt.
             let inside : i < length parts.items = omega (arith, lt, parts.count, sound.nodes) in
-            let node : node_at nodes i ≡ (get_or parts.items i none).0 = get_map (λ (y : Part). y.0) parts.items i none no_node inside in
-            let row : row_at mail i ≡ (get_or parts.items i none).1 = get_map (λ (y : Part). y.1) parts.items i none empty inside in
-            subst (λ (y : Node). NodePulse s (setting_at s b.mail coins i) (node_at b.nodes i) y (row_at mail i)) (sym node)
-            (subst (λ (r : FinMap nat_cmp ℕ). NodePulse s (setting_at s b.mail coins i) (node_at b.nodes i) (get_or parts.items i none).0 r) (sym row)
+            let node : node_at nodes i ≡ (get_or parts.items i none).0 = get_map
+            (λ (y : Part). y.0) parts.items i none no_node inside in
+            let row : row_at mail i ≡ (get_or parts.items i none).1 = get_map
+            (λ (y : Part). y.1) parts.items i none empty inside in
+            subst (λ (y : Node). NodePulse s (setting_at s b.mail coins i) (node_at b.nodes i) y (row_at mail i))
+            (sym node)
+            (subst (λ (r : FinMap nat_cmp ℕ). NodePulse s (setting_at s b.mail coins i) (node_at b.nodes i)
+            (get_or parts.items i none).0 r) (sym row)
             (parts.each i (omega (arith, lt, sound.nodes))));
         closed = refl;
         staged = refl;

@@ -19,7 +19,8 @@ use Rattle.bench_core.specs.inner.Kept.{view_of, IsKept}
 use Rattle.bench_core.proofs.Replays.{advances_replay}
 
 -- the staged changes of one more entry
-staged_push : (es : List EntryValue) (n : ℕ) (e : EntryValue) → n ≤ length es → staged_of (drop n (es ++ e ∷ [])) ≡ staged_of (drop n es) ++ staged_of (e ∷ [])
+staged_push : (es : List EntryValue) (n : ℕ) (e : EntryValue) → n ≤ length es
+    → staged_of (drop n (es ++ e ∷ [])) ≡ staged_of (drop n es) ++ staged_of (e ∷ [])
 staged_push [] zero e h = refl
 staged_push [] (suc n) e h = absurd (omega arith)
 staged_push (x ∷ es) (suc n) e h = staged_push es n e (omega arith)
@@ -37,7 +38,9 @@ openings_push (AbandonedValue ∷ es) e = openings_push es e
 
 -- a step keeps what is true of a bench, where its numbers and its room do
 pub kept_step : (b b' : Inside) (e : EntryValue) → IsKept b → Advances (view_of b) e (view_of b')
-    → b'.rule.nodes ≡ b'.shape.nodes → b'.clock ≡ b.clock → KnowsClock b'.clock b'.nodes.items b'.flags.items → length b'.spare ≡ b'.shape.nodes → b'.opened ≡ b.opened + openings (e ∷ []) → (IsSome b'.coins → 1 ≤ b'.opened) → b'.staged_from ≤ length b'.history.items
+    → b'.rule.nodes ≡ b'.shape.nodes → b'.clock ≡ b.clock → KnowsClock b'.clock b'.nodes.items b'.flags.items
+    → length b'.spare ≡ b'.shape.nodes → b'.opened ≡ b.opened + openings (e ∷ []) → (IsSome b'.coins → 1 ≤ b'.opened)
+    → b'.staged_from ≤ length b'.history.items
     → places_of (view_of b') ≤ MOST_ENTRIES → places_of (view_of b') ≤ vec_capacity b'.history → IsKept b'
 kept_step b b' e kept step same clock flags spare opened counted staged limit room =
     record {
@@ -47,52 +50,73 @@ kept_step b b' e kept step same clock flags spare opened counted staged limit ro
       clock = clock ∙ (kept.clock ∙ ap clock_listing (sym step.setup));
       flags = flags;
       spare = spare;
-      opened = opened ∙ (ap (λ (n : ℕ). n + openings (e ∷ [])) kept.opened ∙ (sym (openings_push (view_of b).history e) ∙ ap openings (sym step.history)));
+      opened = opened ∙ (ap (λ (n : ℕ). n + openings (e ∷ [])) kept.opened
+          ∙ (sym (openings_push (view_of b).history e) ∙ ap openings (sym step.history)));
       counted = counted;
       staged = staged;
       limit = limit;
       room = room;
     }
 
-pub entries_push : (old new : List Entry) (e : Entry) → new ≡ old ++ e ∷ [] → map entry_of new ≡ map entry_of old ++ entry_of e ∷ []
+pub entries_push : (old new : List Entry) (e : Entry) → new ≡ old ++ e ∷ []
+    → map entry_of new ≡ map entry_of old ++ entry_of e ∷ []
 entries_push old new e is = ap (map entry_of) is ∙ map_push entry_of old e
 
-pub staged_after : (b : Inside) (history : Vec Entry Global) (e : Entry) → b.staged_from ≤ length b.history.items → history.items ≡ b.history.items ++ e ∷ []
-    → staged_of (drop b.staged_from (map entry_of history.items)) ≡ (view_of b).state.staged ++ staged_of (entry_of e ∷ [])
+pub staged_after : (b : Inside) (history : Vec Entry Global) (e : Entry) → b.staged_from ≤ length b.history.items
+    → history.items ≡ b.history.items ++ e ∷ []
+    → staged_of (drop b.staged_from (map entry_of history.items)) ≡ (view_of b).state.staged
+    ++ staged_of (entry_of e ∷ [])
 staged_after b history e within is =
-    let within' : b.staged_from ≤ length (map entry_of b.history.items) = rw (length-map b.history.items entry_of) within in
-    ap (λ es. staged_of (drop b.staged_from es)) (entries_push b.history.items history.items e is) ∙ staged_push (map entry_of b.history.items) b.staged_from (entry_of e) within'
+    let within' : b.staged_from ≤ length (map entry_of b.history.items) = rw
+    (length-map b.history.items entry_of) within in
+    ap (λ es. staged_of (drop b.staged_from es)) (entries_push b.history.items history.items e is)
+    ∙ staged_push (map entry_of b.history.items) b.staged_from (entry_of e) within'
 
-pub staged_advances : (b : Inside) (history : Vec Entry Global) (actor : Actor) (change : Change) → IsChange (view_of b).setup (change_of change) → b.staged_from ≤ length b.history.items
-    → history.items ≡ b.history.items ++ Staged actor change ∷ [] → Advances (view_of b) (StagedValue actor (change_of change)) (view_of (record b { history = history }))
+pub staged_advances : (b : Inside) (history : Vec Entry Global) (actor : Actor) (change : Change)
+    → IsChange (view_of b).setup (change_of change) → b.staged_from ≤ length b.history.items
+    → history.items ≡ b.history.items ++ Staged actor change ∷ []
+    → Advances (view_of b) (StagedValue actor (change_of change)) (view_of (record b { history = history }))
 staged_advances b history actor change fit within is =
     record {
       setup = refl;
       history = entries_push b.history.items history.items (Staged actor change) is;
-      step = (fit, ap (λ cs. record (view_of b).state { staged = cs }) (staged_after b history (Staged actor change) within is));
+      step = (
+        fit,
+        ap (λ cs. record (view_of b).state { staged = cs })
+            (staged_after b history (Staged actor change) within is),
+      );
     }
 
-pub abandoned_advances : (b : Inside) (history : Vec Entry Global) → IsSome (view_of b).state.coins → b.staged_from ≤ length b.history.items
-    → history.items ≡ b.history.items ++ Abandoned ∷ [] → Advances (view_of b) AbandonedValue (view_of (record b { coins = None; history = history }))
+pub abandoned_advances : (b : Inside) (history : Vec Entry Global) → IsSome (view_of b).state.coins
+    → b.staged_from ≤ length b.history.items
+    → history.items ≡ b.history.items ++ Abandoned ∷ []
+    → Advances (view_of b) AbandonedValue (view_of (record b { coins = None; history = history }))
 abandoned_advances b history is_open within is =
     record {
       setup = refl;
       history = entries_push b.history.items history.items Abandoned is;
-      step = (is_open, ap (λ cs. record (view_of b).state { staged = cs; coins = None }) (staged_after b history Abandoned within is ∙ append-nil _));
+      step = (
+        is_open,
+        ap (λ cs. record (view_of b).state { staged = cs; coins = None })
+            (staged_after b history Abandoned within is ∙ append-nil _),
+      );
     }
 
 -- as callers see the bench before
-pub as_seen : (v : BenchValue) (b b' : Inside) (e : EntryValue) → view_of b ≡ v → Advances (view_of b) e (view_of b') → Advances v e (view_of b')
+pub as_seen : (v : BenchValue) (b b' : Inside) (e : EntryValue) → view_of b ≡ v → Advances (view_of b) e (view_of b')
+    → Advances v e (view_of b')
 as_seen v b b' e is h = subst (λ (w : BenchValue). Advances w e (view_of b')) is h
 
-pub length_push : (history history' : List Entry) (e : Entry) → history' ≡ history ++ e ∷ [] → length history' ≡ length history + 1
+pub length_push : (history history' : List Entry) (e : Entry) → history' ≡ history ++ e ∷ []
+    → length history' ≡ length history + 1
 length_push history history' e is = ap length is ∙ length-append history (e ∷ [])
 
 -- places, by whether a pulse is open
 pub places_seen : (b : Inside) → places_of (view_of b) ≡ length b.history.items + cond (is_some b.coins) 1 0
 places_seen b = by b.coins
   where
-    by : (o : Option (Vec ℕ Global)) → length (map entry_of b.history.items) + cond (is_some (option_map (λ v. v.items) o)) 1 0 ≡ length b.history.items + cond (is_some o) 1 0
+    by : (o : Option (Vec ℕ Global)) → length (map entry_of b.history.items) + cond
+        (is_some (option_map (λ v. v.items) o)) 1 0 ≡ length b.history.items + cond (is_some o) 1 0
     by None = omega (arith, length-map b.history.items entry_of)
     by (Some v) = omega (arith, length-map b.history.items entry_of)
 

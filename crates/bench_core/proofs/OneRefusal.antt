@@ -95,7 +95,8 @@ one_lowest P i j h k =
       | inr past ↦ elim (cases_lt j i) [ inl lt ↦ absurd (h.1 j lt k.0) | inr other ↦ omega (arith, past, other) ]
     ]
 
-one_stranger : (handed : Task → Type 0) (dones : List Done) (i j : ℕ) → IsStranger handed dones i → IsStranger handed dones j → i ≡ j
+one_stranger : (handed : Task → Type 0) (dones : List Done) (i j : ℕ) → IsStranger handed dones i
+    → IsStranger handed dones j → i ≡ j
 one_stranger handed dones i j h k =
     elim (cases_lt h.place k.place) [
       | inl lt ↦ absurd (h.stranger (k.before h.place h.one lt h.at))
@@ -108,9 +109,11 @@ one_stranger handed dones i j h k =
       ]
     ]
 
-known_so : (handed : Task → Type 0) (dones : List Done) (i : ℕ) → IsStranger handed dones i → All (λ d. handed d.task) dones → ⊥
+known_so : (handed : Task → Type 0) (dones : List Done) (i : ℕ) → IsStranger handed dones i
+    → All (λ d. handed d.task) dones → ⊥
 known_so handed dones i h known =
-    h.stranger (subst (λ (d : Done). handed d.task) (get_or_from_slice_get dones h.place h.one h.one h.at) (known h.place h.one (slice_get_within dones h.place h.one h.at)))
+    h.stranger (subst (λ (d : Done). handed d.task) (get_or_from_slice_get dones h.place h.one h.one h.at)
+    (known h.place h.one (slice_get_within dones h.place h.one h.at)))
 
 pub one_close_refusal : OneCloseRefusal
 one_close_refusal b dones closing.NotOpen closing.NotOpen h k = refl
@@ -131,7 +134,8 @@ one_close_refusal b dones (closing.Twice i) closing.Memory h k = absurd (k.1.non
 one_close_refusal b dones (closing.Stranger i) closing.NotOpen h k = absurd (open_and_not b.state.coins h.0 k)
 one_close_refusal b dones (closing.Stranger i) (closing.Missing j) h k = absurd (h.1 j k.1.0)
 one_close_refusal b dones (closing.Stranger i) (closing.Twice j) h k = absurd (h.2 j k.2.0)
-one_close_refusal b dones (closing.Stranger i) (closing.Stranger j) h k = ap closing.Stranger (one_stranger _ dones i j h.3 k.3)
+one_close_refusal b dones (closing.Stranger i) (closing.Stranger j) h k = ap closing.Stranger
+    (one_stranger _ dones i j h.3 k.3)
 one_close_refusal b dones (closing.Stranger i) closing.Memory h k = absurd (known_so _ dones i h.3 k.1.no_stranger)
 one_close_refusal b dones closing.Memory closing.NotOpen h k = absurd (open_and_not b.state.coins h.0 k)
 one_close_refusal b dones closing.Memory (closing.Missing j) h k = absurd (h.1.none_missing j k.1.0)

@@ -23,8 +23,11 @@ pub sound_of : (b : Inside) → IsKept b → Sound (view_of b).setup (view_of b)
 sound_of b kept = sound_replay (view_of b).setup (view_of b).history (view_of b).state kept.setup kept.replays
 
 -- the staged changes stand in the entries from a place on
-pub staged_slice : (items : List Entry) (from : ℕ) → staged_of (map entry_of (take (length items - from) (drop from items))) ≡ staged_of (drop from (map entry_of items))
-staged_slice items from = ap (λ es. staged_of (map entry_of es)) (take_rest items from) ∙ ap staged_of (sym (drop-map entry_of from items))
+pub staged_slice : (items : List Entry) (from : ℕ)
+    → staged_of (map entry_of (take (length items - from) (drop from items))) ≡ staged_of
+    (drop from (map entry_of items))
+staged_slice items from = ap (λ es. staged_of (map entry_of es)) (take_rest items from)
+    ∙ ap staged_of (sym (drop-map entry_of from items))
 
 node_within : (s : Setup) (c : Change) → IsChange s c → node_of c < s.shape.nodes
 node_within s (Load i p) h = h.0
@@ -32,17 +35,22 @@ node_within s (Unload i) h = h
 node_within s (Corrupt i image) h = h.0
 
 pub staged_within : (b : Inside) → IsKept b → All (λ c. node_of c < b.shape.nodes) (view_of b).state.staged
-staged_within b kept = All-weaker (IsChange (view_of b).setup) (λ c. node_of c < b.shape.nodes) (node_within (view_of b).setup) (view_of b).state.staged (sound_of b kept).staged
+staged_within b kept = All-weaker (IsChange (view_of b).setup) (λ c. node_of c < b.shape.nodes)
+    (node_within (view_of b).setup) (view_of b).state.staged (sound_of b kept).staged
 
 shape_of : (s : Setup) (o : Option Accepted) → IfSome o (IsLoadable s) → IfSome o (λ p. p.shape ≡ s.shape)
 shape_of s None h = tt
 shape_of s (Some p) h = h.shape
 
 pub all_fit : (s : Setup) (b : State) → Sound s b → All (FitsShape s.shape) b.nodes
-all_fit s b sound = All-from_get_or (FitsShape s.shape) b.nodes no_node (λ i lt. let l : i < s.shape.nodes = omega (arith, lt, sound.nodes) in ((sound.memories i l).length, shape_of s (node_at b.nodes i).program (sound.programs i l)))
+all_fit s b sound = All-from_get_or (FitsShape s.shape) b.nodes no_node
+    (λ i lt. let l : i < s.shape.nodes = omega (arith, lt, sound.nodes) in
+    ((sound.memories i l).length, shape_of s (node_at b.nodes i).program (sound.programs i l)))
 
-pub nodes_after : (b : Inside) → IsKept b → (coins : List ℕ) → AreCoins (view_of b).setup coins → All (FitsShape b.shape) (all_applied b.nodes.items (view_of b).state.staged)
-nodes_after b kept coins fit = all_fit (view_of b).setup (opened_state (view_of b).state coins) (sound_opened (view_of b).setup (view_of b).state coins fit (sound_of b kept))
+pub nodes_after : (b : Inside) → IsKept b → (coins : List ℕ) → AreCoins (view_of b).setup coins
+    → All (FitsShape b.shape) (all_applied b.nodes.items (view_of b).state.staged)
+nodes_after b kept coins fit = all_fit (view_of b).setup (opened_state (view_of b).state coins)
+    (sound_opened (view_of b).setup (view_of b).state coins fit (sound_of b kept))
 
 pub openings_le : (es : List EntryValue) → openings es ≤ length es
 openings_le [] = omega arith
@@ -70,8 +78,11 @@ pub opened_advances : (b b' : Inside) (coins : List ℕ) (entry : Vec ℕ Global
     → Advances (view_of b) (OpenedValue coins) (view_of b')
 opened_advances b b' coins entry h shape rule mail closed =
     let entries : map entry_of b'.history.items ≡ map entry_of b.history.items ++ OpenedValue coins ∷ [] =
-    entries_push b.history.items b'.history.items (Opened entry) h.history ∙ ap (λ xs. map entry_of b.history.items ++ OpenedValue xs ∷ []) h.enters in
-    let none_left : staged_of (drop b'.staged_from (map entry_of b'.history.items)) ≡ [] = ap staged_of (drop_all b'.staged_from (map entry_of b'.history.items) (omega (arith, h.from, length-map b'.history.items entry_of))) in
+    entries_push b.history.items b'.history.items (Opened entry) h.history
+    ∙ ap (λ xs. map entry_of b.history.items ++ OpenedValue xs ∷ []) h.enters in
+    let none_left : staged_of (drop b'.staged_from (map entry_of b'.history.items)) ≡ [] = ap staged_of
+    (drop_all b'.staged_from (map entry_of b'.history.items)
+    (omega (arith, h.from, length-map b'.history.items entry_of))) in
     record {
       setup = rw (shape, rule) refl;
       history = entries;
@@ -84,5 +95,6 @@ pub tasks_made : (b b' : BenchValue) (coins : List ℕ) → Advances b (OpenedVa
 tasks_made b b' coins h =
     let mail : b'.state.mail ≡ b.state.mail = ap (λ (x : State). x.mail) h.step.2 in
     let is_open : unwrap_or b'.state.coins [] ≡ coins = ap (λ (x : State). unwrap_or x.coins []) h.step.2 in
-    let number : openings b'.history - 1 ≡ openings b.history = let e = ap openings h.history ∙ openings_push b.history (OpenedValue coins) in omega (arith, e) in
+    let number : openings b'.history - 1 ≡ openings b.history =
+    let e = ap openings h.history ∙ openings_push b.history (OpenedValue coins) in omega (arith, e) in
     rw (h.setup, mail, is_open, number) refl

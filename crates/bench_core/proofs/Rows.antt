@@ -54,8 +54,10 @@ run_weight s b (e ∷ es) b' h = omega (arith, step_weight s b e h.0 h.1, run_we
 
 -- ---- clocks
 
-pub clocks_small : (s : Setup) (b b' : State) → IsSetup s → Sound s b → Pulse s b b' → All (λ c. c < MOST_MODULUS) (settled_clocks b b')
-clocks_small s b b' ok sound p = All-weaker (At b.nodes b'.nodes) (λ c. c < MOST_MODULUS) small (settled_clocks b b') (all_at b.nodes b'.nodes)
+pub clocks_small : (s : Setup) (b b' : State) → IsSetup s → Sound s b → Pulse s b b'
+    → All (λ c. c < MOST_MODULUS) (settled_clocks b b')
+clocks_small s b b' ok sound p = All-weaker (At b.nodes b'.nodes) (λ c. c < MOST_MODULUS) small (settled_clocks b b')
+    (all_at b.nodes b'.nodes)
   where
     small : (c : ℕ) → At b.nodes b'.nodes c → c < MOST_MODULUS
     small c h =
@@ -64,7 +66,8 @@ clocks_small s b b' ok sound p = All-weaker (At b.nodes b'.nodes) (λ c. c < MOS
         let below : c < s.modulus = subst (λ (n : ℕ). n < s.modulus) (sym ran.clock ∙ h.clock) ran.moved.clock in
         omega (arith, below, ok.most)
 
-common_small : (cs : List ℕ) → All (λ c. c < MOST_MODULUS) cs → (common_of cs < MOST_MODULUS) ⊎ (common_of cs ≡ CLOCKS_DIFFER)
+common_small : (cs : List ℕ) → All (λ c. c < MOST_MODULUS) cs → (common_of cs < MOST_MODULUS)
+    ⊎ (common_of cs ≡ CLOCKS_DIFFER)
 common_small [] small = inl (omega arith)
 common_small (c ∷ cs) small =
     cond_both (list_all (λ d. d == c) cs) c CLOCKS_DIFFER (λ n. (n < MOST_MODULUS) ⊎ (n ≡ CLOCKS_DIFFER))
@@ -76,7 +79,8 @@ clocks_few [] nodes = omega arith
 clocks_few (f ∷ flags) [] = omega arith
 clocks_few (f ∷ flags) (y ∷ nodes) =
     let rest = clocks_few flags nodes in
-    cond_both f (clock_of y.memory ∷ clocks_where flags nodes) (clocks_where flags nodes) (λ cs. length cs ≤ suc (length flags)) (λ e. omega (arith, rest)) (λ e. omega (arith, rest))
+    cond_both f (clock_of y.memory ∷ clocks_where flags nodes) (clocks_where flags nodes)
+    (λ cs. length cs ≤ suc (length flags)) (λ e. omega (arith, rest)) (λ e. omega (arith, rest))
 
 pub rows_fit : RowsFit
 rows_fit s history b b' ok replay p room =
@@ -89,7 +93,8 @@ rows_fit s history b b' ok replay p room =
     record {
       first = omega (arith, p.closed);
       last = omega (arith, p.closed, weighs, is_open, room);
-      common = common_small (moving_clocks b b') (All-filter (λ c. not (c == 0)) (λ c. c < MOST_MODULUS) clocks (clocks_small s b b' ok sound p));
+      common = common_small (moving_clocks b b')
+          (All-filter (λ c. not (c == 0)) (λ c. c < MOST_MODULUS) clocks (clocks_small s b b' ok sound p));
       zeros = omega (arith, count_by-le-length (λ c. c == 0) clocks, clocks_few flags b'.nodes, few, ok.extent.few);
       settled = omega (arith, count_by-le-length (λ x. x) flags, few, ok.extent.few);
     }
@@ -102,7 +107,9 @@ AllAgree cs = (c d : ℕ) → Contains cs c → Contains cs d → c ≡ d
 agree_told : (cs : List ℕ) → All (λ c. c < MOST_MODULUS) cs → AllAgree cs → common_of cs ≢ CLOCKS_DIFFER
 agree_told [] small same e = omega (arith, e)
 agree_told (c ∷ cs) small same e =
-    let all : list_all (λ d. d == c) cs ≡ true = list_all-from_AllPass (λ d. d == c) cs (λ k d lt. eq-eqb (get_or cs k d) c (same (get_or cs k d) c (suc k, omega arith, get_or_default cs k (get_or cs k d) d lt) (0, omega arith, refl))) in
+    let all : list_all (λ d. d == c) cs ≡ true = list_all-from_AllPass (λ d. d == c) cs
+    (λ k d lt. eq-eqb (get_or cs k d) c (same (get_or cs k d) c
+    (suc k, omega arith, get_or_default cs k (get_or cs k d) d lt) (0, omega arith, refl))) in
     let is : common_of (c ∷ cs) ≡ c = cond-true (list_all (λ d. d == c) cs) c CLOCKS_DIFFER all in
     omega (arith, e, is, All-head (λ d. d < MOST_MODULUS) c cs small)
 
@@ -111,12 +118,14 @@ told_agree [] told c d at at' = absurd (omega (arith, at.1))
 told_agree (x ∷ xs) told c d at at' =
     elim (cases_Bool (list_all (λ y. y == x) xs)) [
       | inl e ↦
-          let all : All (λ y. y ≡ x) (x ∷ xs) = All-cons (λ y. y ≡ x) x xs refl (λ k y lt. eqb-true (get_or xs k y) x (AllPass-from_list_all (λ z. z == x) xs e k y lt)) in
+          let all : All (λ y. y ≡ x) (x ∷ xs) = All-cons (λ y. y ≡ x) x xs refl
+          (λ k y lt. eqb-true (get_or xs k y) x (AllPass-from_list_all (λ z. z == x) xs e k y lt)) in
           All-contains (λ y. y ≡ x) (x ∷ xs) c all at ∙ sym (All-contains (λ y. y ≡ x) (x ∷ xs) d all at')
       | inr e ↦ absurd (told (cond-false (list_all (λ y. y == x) xs) x CLOCKS_DIFFER e))
     ]
 
 pub rows_tell : RowsTell
 rows_tell s history b b' ok replay p =
-    let small = All-filter (λ c. not (c == 0)) (λ c. c < MOST_MODULUS) (settled_clocks b b') (clocks_small s b b' ok (sound_replay s history b ok replay) p) in
+    let small = All-filter (λ c. not (c == 0)) (λ c. c < MOST_MODULUS) (settled_clocks b b')
+    (clocks_small s b b' ok (sound_replay s history b ok replay) p) in
     (agree_told (moving_clocks b b') small, told_agree (moving_clocks b b'))

@@ -25,25 +25,38 @@ clock_below_modulus m c pos = grind (arith, nat_tests)
 clock_below_same : (m c : ℕ) → c < m → clock_below m c ≡ c
 clock_below_same m c lt = cond-true (nat_lt c m) c 0 (lt-ltb c m lt)
 
-moved_from : (q m v last coin : ℕ) (support : ℕ → ℕ) → 2 ≤ m → v < m → coin < 2 → IsMoved q m support (pair_from q m (support v) v last coin)
+moved_from : (q m v last coin : ℕ) (support : ℕ → ℕ) → 2 ≤ m → v < m → coin < 2
+    → IsMoved q m support (pair_from q m (support v) v last coin)
 moved_from q m v last coin support two lt small =
     cond_both (nat_lt (support v) q) (0, 0) _ (IsMoved q m support)
     (λ e. record { clock = omega arith; last = omega arith; enough = λ ne. absurd (ne refl) })
     (λ e. many (ltb-false (support v) q e))
   where
-    many : q ≤ support v → IsMoved q m support (if not (v == 0) then ((v + 1) % m, 1) else if not (last == 0) then (1, 1) else (coin, coin))
+    many : q ≤ support v → IsMoved q m support (if not (v == 0) then ((v + 1) % m, 1) else if not (last == 0) then
+        (1, 1) else (coin, coin))
     many h =
         cond_both (not (v == 0)) ((v + 1) % m, 1) _ (IsMoved q m support)
-        (λ e. record { clock = mod-lt (v + 1) (omega arith); last = omega arith; enough = λ ne. subst (λ (n : ℕ). q ≤ support n) (sym (before_next m v lt ne)) h })
+        (λ e. record {
+          clock = mod-lt (v + 1) (omega arith);
+          last = omega arith;
+          enough = λ ne. subst (λ (n : ℕ). q ≤ support n) (sym (before_next m v lt ne)) h;
+        })
         (λ e.
         let zero_v : v ≡ 0 = grind (arith, nat_tests) in
         let h0 : q ≤ support 0 = subst (λ (n : ℕ). q ≤ support n) zero_v h in
         cond_both (not (last == 0)) (1, 1) (coin, coin) (IsMoved q m support)
         (λ f. record { clock = omega arith; last = omega arith; enough = λ ne. h0 })
-        (λ f. record { clock = omega arith; last = omega arith; enough = λ ne. let one : 0 ≡ coin - 1 = omega arith in subst (λ (n : ℕ). q ≤ support n) one h0 }))
+        (λ f. record {
+          clock = omega arith;
+          last = omega arith;
+          enough = λ ne. let one : 0 ≡ coin - 1 = omega arith in
+              subst (λ (n : ℕ). q ≤ support n) one h0;
+        }))
 
-pub moved_after : (q m clock last coin : ℕ) (support : ℕ → ℕ) → 2 ≤ m → coin < 2 → IsMoved q m support (pair_from q m (support (clock_below m clock)) (clock_below m clock) last coin)
-moved_after q m clock last coin support two small = moved_from q m (clock_below m clock) last coin support two (clock_below_modulus m clock (omega arith)) small
+pub moved_after : (q m clock last coin : ℕ) (support : ℕ → ℕ) → 2 ≤ m → coin < 2
+    → IsMoved q m support (pair_from q m (support (clock_below m clock)) (clock_below m clock) last coin)
+moved_after q m clock last coin support two small = moved_from q m (clock_below m clock) last coin support two
+    (clock_below_modulus m clock (omega arith)) small
 
 -- enough mails of the clock of a pair (clock, 1)
 pub next_pair : (q m clock coin : ℕ) (support : ℕ → ℕ) → 2 ≤ m → clock < m → q ≤ support clock
@@ -53,6 +66,8 @@ next_pair q m clock coin support two lt many =
     ∙ (cond-false (nat_lt (support clock) q) (0, 0) _ (le-ltb (support clock) q many)
     ∙ by_zero (cases_eq clock 0))
   where
-    by_zero : (clock ≡ 0) ⊎ (clock ≢ 0) → ◌≡◌ {A = ℕ × ℕ} (if not (clock == 0) then ((clock + 1) % m, 1) else (1, 1)) ((clock + 1) % m, 1)
-    by_zero (inl e) = cond-false (not (clock == 0)) _ _ (grind (arith, nat_tests)) ∙ ap (λ (n : ℕ). (n, 1)) (sym (ap (λ (n : ℕ). (n + 1) % m) e ∙ mod-eq_of_lt (omega arith)))
+    by_zero : (clock ≡ 0) ⊎ (clock ≢ 0) → ◌≡◌ {A = ℕ × ℕ} (if not (clock == 0) then ((clock + 1) % m, 1) else (1, 1))
+        ((clock + 1) % m, 1)
+    by_zero (inl e) = cond-false (not (clock == 0)) _ _ (grind (arith, nat_tests))
+        ∙ ap (λ (n : ℕ). (n, 1)) (sym (ap (λ (n : ℕ). (n + 1) % m) e ∙ mod-eq_of_lt (omega arith)))
     by_zero (inr ne) = cond-true (not (clock == 0)) _ _ (grind (arith, nat_tests))

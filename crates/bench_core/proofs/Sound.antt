@@ -40,12 +40,15 @@ sound_new s =
     let zeros : IsMemory s (replicate s.shape.memory 0) =
     record {
       length = length-replicate s.shape.memory 0;
-      bytes = λ k d lt. let e = get_or-replicate s.shape.memory k 0 d (omega (arith, lt, length-replicate {A = ℕ} s.shape.memory 0)) in subst (λ (n : ℕ). n < 256) (sym e) (omega arith);
+      bytes = λ k d lt. let e = get_or-replicate s.shape.memory k 0 d
+          (omega (arith, lt, length-replicate {A = ℕ} s.shape.memory 0)) in
+          subst (λ (n : ℕ). n < 256) (sym e) (omega arith);
     } in
     record {
       nodes = length-replicate s.shape.nodes _;
       mail = length-replicate s.shape.nodes _;
-      rows = λ i lt. subst (AreNumbers s.shape.nodes) (sym (get_or-replicate s.shape.nodes i empty empty lt)) (no_numbers s.shape.nodes);
+      rows = λ i lt. subst (AreNumbers s.shape.nodes) (sym (get_or-replicate s.shape.nodes i empty empty lt))
+          (no_numbers s.shape.nodes);
       memories = λ i lt. subst (λ (x : Node). IsMemory s x.memory) (sym (one i lt)) zeros;
       programs = λ i lt. subst (λ (x : Node). IfSome x.program (IsLoadable s)) (sym (one i lt)) tt;
       sent = λ i lt marked. absurd (cc (ap (λ (x : Node). x.mark) (one i lt), marked));
@@ -63,19 +66,27 @@ keeps_self : (s : Setup) (x : Node) → Keeps s x x
 keeps_self s x = record { mark = refl; memory = λ h. h; program = λ h. h }
 
 -- a write at one place keeps the other nodes, and what it writes is to keep that one
-keeps_set : (s : Setup) (nodes : List Node) (k i : ℕ) (y : Node) → i < length nodes → Keeps s (node_at nodes k) y → Keeps s (node_at nodes i) (node_at (slice_set nodes k y) i)
+keeps_set : (s : Setup) (nodes : List Node) (k i : ℕ) (y : Node) → i < length nodes → Keeps s (node_at nodes k) y
+    → Keeps s (node_at nodes i) (node_at (slice_set nodes k y) i)
 keeps_set s nodes k i y lt kept =
     elim (cases_eq i k) [
       | inl e ↦
-          let at_k : node_at (slice_set nodes k y) i ≡ y = ap (node_at (slice_set nodes k y)) e ∙ get_or-set_same nodes k y no_node (subst (λ (n : ℕ). n < length nodes) e lt) in
-          subst (λ (z : Node). Keeps s z (node_at (slice_set nodes k y) i)) (ap (node_at nodes) (sym e)) (subst (λ (z : Node). Keeps s (node_at nodes k) z) (sym at_k) kept)
-      | inr ne ↦ subst (λ (z : Node). Keeps s (node_at nodes i) z) (sym (get_or-set_other nodes k i y no_node ne)) (keeps_self s (node_at nodes i))
+          let at_k : node_at (slice_set nodes k y) i ≡ y = ap (node_at (slice_set nodes k y)) e
+          ∙ get_or-set_same nodes k y no_node (subst (λ (n : ℕ). n < length nodes) e lt) in
+          subst (λ (z : Node). Keeps s z (node_at (slice_set nodes k y) i)) (ap (node_at nodes) (sym e))
+          (subst (λ (z : Node). Keeps s (node_at nodes k) z) (sym at_k) kept)
+      | inr ne ↦ subst (λ (z : Node). Keeps s (node_at nodes i) z) (sym (get_or-set_other nodes k i y no_node ne))
+          (keeps_self s (node_at nodes i))
     ]
 
-keeps_applied : (s : Setup) (c : Change) (nodes : List Node) (i : ℕ) → IsChange s c → i < length nodes → Keeps s (node_at nodes i) (node_at (applied nodes c) i)
-keeps_applied s (Load k p) nodes i fit lt = keeps_set s nodes k i _ lt (record { mark = refl; memory = λ h. h; program = λ h. fit.1 })
-keeps_applied s (Unload k) nodes i fit lt = keeps_set s nodes k i _ lt (record { mark = refl; memory = λ h. h; program = λ h. tt })
-keeps_applied s (Corrupt k image) nodes i fit lt = keeps_set s nodes k i _ lt (record { mark = refl; memory = λ h. fit.1; program = λ h. h })
+keeps_applied : (s : Setup) (c : Change) (nodes : List Node) (i : ℕ) → IsChange s c → i < length nodes
+    → Keeps s (node_at nodes i) (node_at (applied nodes c) i)
+keeps_applied s (Load k p) nodes i fit lt = keeps_set s nodes k i _ lt
+    (record { mark = refl; memory = λ h. h; program = λ h. fit.1 })
+keeps_applied s (Unload k) nodes i fit lt = keeps_set s nodes k i _ lt
+    (record { mark = refl; memory = λ h. h; program = λ h. tt })
+keeps_applied s (Corrupt k image) nodes i fit lt = keeps_set s nodes k i _ lt
+    (record { mark = refl; memory = λ h. fit.1; program = λ h. h })
 
 pub length-applied : (c : Change) (nodes : List Node) → length (applied nodes c) ≡ length nodes
 length-applied (Load k p) nodes = length-set nodes k _
@@ -86,7 +97,8 @@ pub length-all_applied : (cs : List Change) (nodes : List Node) → length (all_
 length-all_applied [] nodes = refl
 length-all_applied (c ∷ cs) nodes = length-all_applied cs (applied nodes c) ∙ length-applied c nodes
 
-pub keeps_all : (s : Setup) (cs : List Change) (nodes : List Node) (i : ℕ) → All (IsChange s) cs → i < length nodes → Keeps s (node_at nodes i) (node_at (all_applied nodes cs) i)
+pub keeps_all : (s : Setup) (cs : List Change) (nodes : List Node) (i : ℕ) → All (IsChange s) cs → i < length nodes
+    → Keeps s (node_at nodes i) (node_at (all_applied nodes cs) i)
 keeps_all s [] nodes i fit lt = keeps_self s (node_at nodes i)
 keeps_all s (c ∷ cs) nodes i fit lt =
     let first = keeps_applied s c nodes i (All-head (IsChange s) c cs fit) lt in
@@ -97,7 +109,8 @@ keeps_all s (c ∷ cs) nodes i fit lt =
       program = λ h. rest.program (first.program h);
     }
 
-pub sound_opened : (s : Setup) (b : State) (coins : List ℕ) → AreCoins s coins → Sound s b → Sound s (opened_state b coins)
+pub sound_opened : (s : Setup) (b : State) (coins : List ℕ) → AreCoins s coins → Sound s b
+    → Sound s (opened_state b coins)
 sound_opened s b coins fit h =
     let within = λ (i : ℕ) (lt : i < s.shape.nodes). let w : i < length b.nodes = rw h.nodes lt in w in
     record {
@@ -106,7 +119,8 @@ sound_opened s b coins fit h =
       rows = h.rows;
       memories = λ i lt. (keeps_all s b.staged b.nodes i h.staged (within i lt)).memory (h.memories i lt);
       programs = λ i lt. (keeps_all s b.staged b.nodes i h.staged (within i lt)).program (h.programs i lt);
-      sent = λ i lt marked. h.sent i lt (subst IsTrue (keeps_all s b.staged b.nodes i h.staged (within i lt)).mark marked);
+      sent = λ i lt marked. h.sent i lt (subst IsTrue
+          (keeps_all s b.staged b.nodes i h.staged (within i lt)).mark marked);
       staged = All-nil (IsChange s);
       coins = fit;
     }
@@ -137,12 +151,14 @@ sound_abandoned s b h = record {
 
 -- ---- a closed pulse
 
-pub coin_small : (s : Setup) (b : State) (coins : List ℕ) (i : ℕ) → Sound s b → b.coins ≡ Some coins → i < s.shape.nodes → slice_index coins i < 2
+pub coin_small : (s : Setup) (b : State) (coins : List ℕ) (i : ℕ) → Sound s b → b.coins ≡ Some coins
+    → i < s.shape.nodes → slice_index coins i < 2
 coin_small s b coins i sound is lt =
     let fit : AreCoins s coins = subst (λ (o : Option (List ℕ)). IfSome o (AreCoins s)) is sound.coins in
     fit.1 i 0 (rw fit.0 lt)
 
-pub is_setting : (s : Setup) (b : State) (coins : List ℕ) (i : ℕ) → IsSetup s → Sound s b → b.coins ≡ Some coins → i < s.shape.nodes → IsSetting (setting_at s b.mail coins i)
+pub is_setting : (s : Setup) (b : State) (coins : List ℕ) (i : ℕ) → IsSetup s → Sound s b → b.coins ≡ Some coins
+    → i < s.shape.nodes → IsSetting (setting_at s b.mail coins i)
 is_setting s b coins i ok sound is lt =
     record {
       extent = ok.extent;
@@ -155,27 +171,34 @@ is_setting s b coins i ok sound is lt =
 pub record RanClock (s : Setup) (env : Setting) (before after : Node) (row : FinMap nat_cmp ℕ) : Type 0 where
   pub clock : clock_of after.memory ≡ (pair_after s.faults s.modulus env before.memory).0
   pub last : mark_of after.memory ≡ (pair_after s.faults s.modulus env before.memory).1
-  pub moved : IsMoved (quorum s) s.modulus (λ v. support env.inbox v s.shape.nodes) (pair_after s.faults s.modulus env before.memory)
+  pub moved : IsMoved (quorum s) s.modulus (λ v. support env.inbox v s.shape.nodes)
+      (pair_after s.faults s.modulus env before.memory)
   pub sent : (j : ℕ) → j < s.shape.nodes → get row j ≡ Some (clock_of after.memory)
 
-node_ran : (s : Setup) (mail : List (FinMap nat_cmp ℕ)) (coins : List ℕ) (i : ℕ) (x y : Node) (row : FinMap nat_cmp ℕ) → IsSetup s → IsSetting (setting_at s mail coins i) → IsMemory s x.memory
-    → (o : Option Accepted) → MatchOption o (Rests x y row) (λ p. Runs s p (setting_at s mail coins i) x y row) → IsTrue y.mark → RanClock s (setting_at s mail coins i) x y row
+node_ran : (s : Setup) (mail : List (FinMap nat_cmp ℕ)) (coins : List ℕ) (i : ℕ) (x y : Node) (row : FinMap nat_cmp ℕ)
+    → IsSetup s → IsSetting (setting_at s mail coins i) → IsMemory s x.memory
+    → (o : Option Accepted) → MatchOption o (Rests x y row) (λ p. Runs s p (setting_at s mail coins i) x y row)
+    → IsTrue y.mark → RanClock s (setting_at s mail coins i) x y row
 node_ran s mail coins i x y row ok is whole None h marked = absurd (cc (h.mark, marked))
 node_ran s mail coins i x y row ok is whole (Some p) h marked =
     let env = setting_at s mail coins i in
     let pair = pair_after s.faults s.modulus env x.memory in
-    let run : CompleteRun (clock_listing s) env x.memory h.end = subst (λ (l : List Insn). CompleteRun l env x.memory h.end) (h.mark.0 marked) h.run in
+    let run : CompleteRun (clock_listing s) env x.memory h.end = subst
+    (λ (l : List Insn). CompleteRun l env x.memory h.end) (h.mark.0 marked) h.run in
     let ends = clock_ends_so (record { nodes = s.shape.nodes; faults = s.faults; modulus = s.modulus }) s.shape
     (record { some = ok.extent.some; few = ok.extent.few; allowed = ok.faults; least = ok.least; most = ok.most }) refl
     env x.memory h.end (record { extent = refl; setting = is; length = whole.length; bytes = whole.bytes }) run in
-    let moved = moved_after (quorum s) s.modulus (clock_of x.memory) (mark_of x.memory) (slice_index coins i) (λ v. support env.inbox v s.shape.nodes) ok.least is.coin in
+    let moved = moved_after (quorum s) s.modulus (clock_of x.memory) (mark_of x.memory) (slice_index coins i)
+    (λ v. support env.inbox v s.shape.nodes) ok.least is.coin in
     let left : y.memory ≡ with_pair pair x.memory = h.memory ∙ ends.memory in
-    let clock : clock_of y.memory ≡ pair.0 = ap clock_of left ∙ clock_written pair x.memory (small_clock pair.0 s.modulus moved.clock ok.most) in
+    let clock : clock_of y.memory ≡ pair.0 = ap clock_of left
+    ∙ clock_written pair x.memory (small_clock pair.0 s.modulus moved.clock ok.most) in
     record {
       clock = clock;
       last = ap mark_of left ∙ mark_written pair x.memory (small_mark pair.1 moved.last);
       moved = moved;
-      sent = λ j lt. ap (λ (m : FinMap nat_cmp ℕ). get m j) h.sends ∙ (ends.sent.each j lt ∙ ap (λ (n : ℕ). Some n) (sym clock));
+      sent = λ j lt. ap (λ (m : FinMap nat_cmp ℕ). get m j) h.sends
+          ∙ (ends.sent.each j lt ∙ ap (λ (n : ℕ). Some n) (sym clock));
     }
   where
     small_clock : (c m : ℕ) → c < m → m ≤ 65536 → c < 2 ^ 32
@@ -184,18 +207,26 @@ node_ran s mail coins i x y row ok is whole (Some p) h marked =
     small_mark : (c : ℕ) → c < 2 → c < 2 ^ 32
     small_mark c h = omega arith
 
-pub ran_pulse : (s : Setup) (b b' : State) (i : ℕ) → IsSetup s → Sound s b → (p : Pulse s b b') → i < s.shape.nodes → IsTrue (node_at b'.nodes i).mark
+pub ran_pulse : (s : Setup) (b b' : State) (i : ℕ) → IsSetup s → Sound s b → (p : Pulse s b b') → i < s.shape.nodes
+    → IsTrue (node_at b'.nodes i).mark
     → RanClock s (setting_at s b.mail p.coins i) (node_at b.nodes i) (node_at b'.nodes i) (row_at b'.mail i)
 ran_pulse s b b' i ok sound p lt marked =
     let within : i < length b.nodes = rw sound.nodes lt in
-    node_ran s b.mail p.coins i (node_at b.nodes i) (node_at b'.nodes i) (row_at b'.mail i) ok (is_setting s b p.coins i ok sound p.is_open lt) (sound.memories i lt) (node_at b.nodes i).program (p.each i within).1 marked
+    node_ran s b.mail p.coins i (node_at b.nodes i) (node_at b'.nodes i) (row_at b'.mail i) ok
+    (is_setting s b p.coins i ok sound p.is_open lt) (sound.memories i lt) (node_at b.nodes i).program
+    (p.each i within).1 marked
 
 -- what a node has and sent
-node_left : (s : Setup) (mail : List (FinMap nat_cmp ℕ)) (coins : List ℕ) (i : ℕ) (x y : Node) (row : FinMap nat_cmp ℕ) → IsSetting (setting_at s mail coins i) → IsMemory s x.memory
-    → (o : Option Accepted) → IfSome o (IsLoadable s) → MatchOption o (Rests x y row) (λ p. Runs s p (setting_at s mail coins i) x y row) → IsMemory s y.memory × AreNumbers s.shape.nodes row
-node_left s mail coins i x y row is whole None fit h = (subst (IsMemory s) (sym h.memory) whole, subst (AreNumbers s.shape.nodes) (sym h.sends) (no_numbers s.shape.nodes))
+node_left : (s : Setup) (mail : List (FinMap nat_cmp ℕ)) (coins : List ℕ) (i : ℕ) (x y : Node) (row : FinMap nat_cmp ℕ)
+    → IsSetting (setting_at s mail coins i) → IsMemory s x.memory
+    → (o : Option Accepted) → IfSome o (IsLoadable s)
+    → MatchOption o (Rests x y row) (λ p. Runs s p (setting_at s mail coins i) x y row)
+    → IsMemory s y.memory × AreNumbers s.shape.nodes row
+node_left s mail coins i x y row is whole None fit h =
+    (subst (IsMemory s) (sym h.memory) whole, subst (AreNumbers s.shape.nodes) (sym h.sends) (no_numbers s.shape.nodes))
 node_left s mail coins i x y row is whole (Some p) fit h =
-    let left = complete_run_leaves p.program (setting_at s mail coins i) x.memory h.end fit.program is whole.length whole.bytes h.run in
+    let left = complete_run_leaves p.program (setting_at s mail coins i) x.memory h.end fit.program is whole.length
+    whole.bytes h.run in
     let memory : IsMemory s h.end.memory = record { length = left.memory; bytes = left.memory_bytes } in
     (subst (IsMemory s) (sym h.memory) memory, subst (AreNumbers s.shape.nodes) (sym h.sends) left.sent)
 
@@ -203,14 +234,16 @@ pub sound_pulse : (s : Setup) (b b' : State) → IsSetup s → Sound s b → Pul
 sound_pulse s b b' ok sound p =
     let within = λ (i : ℕ) (lt : i < s.shape.nodes). let w : i < length b.nodes = rw sound.nodes lt in w in
     let left = λ (i : ℕ) (lt : i < s.shape.nodes).
-    node_left s b.mail p.coins i (node_at b.nodes i) (node_at b'.nodes i) (row_at b'.mail i) (is_setting s b p.coins i ok sound p.is_open lt) (sound.memories i lt) (node_at b.nodes i).program
+    node_left s b.mail p.coins i (node_at b.nodes i) (node_at b'.nodes i) (row_at b'.mail i)
+    (is_setting s b p.coins i ok sound p.is_open lt) (sound.memories i lt) (node_at b.nodes i).program
     (sound.programs i lt) (p.each i (within i lt)).1 in
     record {
       nodes = p.nodes ∙ sound.nodes;
       mail = p.mail ∙ sound.nodes;
       rows = λ i lt. (left i lt).1;
       memories = λ i lt. (left i lt).0;
-      programs = λ i lt. subst (λ (o : Option Accepted). IfSome o (IsLoadable s)) (sym (p.each i (within i lt)).0) (sound.programs i lt);
+      programs = λ i lt. subst (λ (o : Option Accepted). IfSome o (IsLoadable s)) (sym (p.each i (within i lt)).0)
+          (sound.programs i lt);
       sent = λ i lt marked. (clock_of (node_at b'.nodes i).memory, (ran_pulse s b b' i ok sound p lt marked).sent);
       staged = subst (λ cs. All (IsChange s) cs) (sym p.staged) sound.staged;
       coins = subst (λ (o : Option (List ℕ)). IfSome o (AreCoins s)) (sym p.over) tt;
@@ -222,9 +255,11 @@ sound_step s b (Opened coins) b' ok sound h = subst (Sound s) (sym h.2) (sound_o
 sound_step s b (Closed row) b' ok sound h = sound_pulse s b b' ok sound h.0
 sound_step s b Abandoned b' ok sound h = subst (Sound s) (sym h.1) (sound_abandoned s b sound)
 
-pub sound_run : (s : Setup) (b : State) (es : List Entry) (b' : State) → IsSetup s → Sound s b → Run s b es b' → Sound s b'
+pub sound_run : (s : Setup) (b : State) (es : List Entry) (b' : State) → IsSetup s → Sound s b → Run s b es b'
+    → Sound s b'
 sound_run s b [] b' ok sound h = subst (Sound s) (sym h) sound
 sound_run s b (e ∷ es) b' ok sound h = sound_run s h.0 es b' ok (sound_step s b e h.0 ok sound h.1) h.2
 
-pub sound_replay : (s : Setup) (history : List Entry) (b : State) → IsSetup s → Run s (new_state s) history b → Sound s b
+pub sound_replay : (s : Setup) (history : List Entry) (b : State) → IsSetup s → Run s (new_state s) history b
+    → Sound s b
 sound_replay s history b ok h = sound_run s (new_state s) history b ok (sound_new s) h

@@ -14,7 +14,8 @@ use Rattle.bench_core.proofs.Sound.{Sound, sound_replay, is_setting}
 use Rattle.bench_core.proofs.Replays.{steps_are_entries}
 
 -- from a state that a history leads to
-pub whole_run : (s : Setup) (b b' : State) (i : ℕ) (p : Accepted) → IsSetup s → Sound s b → Pulse s b b' → i < s.shape.nodes → (node_at b.nodes i).program ≡ Some p
+pub whole_run : (s : Setup) (b b' : State) (i : ℕ) (p : Accepted) → IsSetup s → Sound s b → Pulse s b b'
+    → i < s.shape.nodes → (node_at b.nodes i).program ≡ Some p
     → (end : End) × IsWhole s b b' i p end
 whole_run s b b' i p ok sound pulse lt loaded =
     let within : i < length b.nodes = rw sound.nodes lt in
@@ -22,18 +23,23 @@ whole_run s b b' i p ok sound pulse lt loaded =
     let memory = (node_at b.nodes i).memory in
     let fit : IsLoadable s p = subst (λ (o : Option Accepted). IfSome o (IsLoadable s)) loaded (sound.programs i lt) in
     let runs : Runs s p env (node_at b.nodes i) (node_at b'.nodes i) (row_at b'.mail i) =
-    subst (λ (o : Option Accepted). MatchOption o (Rests (node_at b.nodes i) (node_at b'.nodes i) (row_at b'.mail i)) (λ q. Runs s q env (node_at b.nodes i) (node_at b'.nodes i) (row_at b'.mail i))) loaded (pulse.each i within).1 in
+    subst (λ (o : Option Accepted). MatchOption o (Rests (node_at b.nodes i) (node_at b'.nodes i) (row_at b'.mail i))
+    (λ q. Runs s q env (node_at b.nodes i) (node_at b'.nodes i) (row_at b'.mail i))) loaded
+    (pulse.each i within).1 in
     let coins : unwrap_or b.coins [] ≡ pulse.coins = ap (λ (o : Option (List ℕ)). unwrap_or o []) pulse.is_open in
     let is = is_setting s b pulse.coins i ok sound pulse.is_open lt in
     let whole = sound.memories i lt in
     let typable : Typable p.program env.shape = subst (Typable p.program) fit.shape fit.typable in (
       runs.end,
       record {
-        run = subst (λ (cs : List ℕ). CompleteRun p.program (setting_at s b.mail cs i) memory runs.end) (sym coins) runs.run;
+        run = subst (λ (cs : List ℕ). CompleteRun p.program (setting_at s b.mail cs i) memory runs.end)
+            (sym coins) runs.run;
         unstuck = λ count state kind gets.
             run_unstuck p.program env memory count state kind fit.program is typable whole.length whole.bytes
-            (subst (λ (cs : List ℕ). GetsStuck p.program (setting_at s b.mail cs i) memory count state kind) coins gets);
-        within = within_longest p.program env memory runs.end p.budget fit.program is typable fit.longest whole.length whole.bytes runs.run;
+            (subst (λ (cs : List ℕ). GetsStuck p.program (setting_at s b.mail cs i) memory count state kind) coins
+            gets);
+        within = within_longest p.program env memory runs.end p.budget fit.program is typable fit.longest whole.length
+            whole.bytes runs.run;
         announced = fit.longest;
         memory = runs.memory;
         sends = runs.sends;
@@ -42,7 +48,8 @@ whole_run s b b' i p ok sound pulse lt loaded =
 
 pub every_run : EveryRun
 every_run s acts b b' i p ok h pulse lt loaded =
-    whole_run s b b' i p ok (sound_replay s (entries_of acts) b ok (steps_are_entries s (new_state s) acts b h)) pulse lt loaded
+    whole_run s b b' i p ok (sound_replay s (entries_of acts) b ok (steps_are_entries s (new_state s) acts b h)) pulse
+    lt loaded
 
 pub each_ends : EachEnds
 each_ends s acts b coins i p ok h is_open lt loaded =
@@ -56,5 +63,6 @@ each_ends s acts b coins i p ok h is_open lt loaded =
     let run = run_ends p.program env memory p.budget fit.program is typable fit.longest whole.length whole.bytes in (
       run.0,
       record { program = p; node = lt; loaded = loaded; run = run.1 },
-      within_longest p.program env memory run.0 p.budget fit.program is typable fit.longest whole.length whole.bytes run.1,
+      within_longest p.program env memory run.0 p.budget fit.program is typable fit.longest whole.length whole.bytes
+          run.1,
     )

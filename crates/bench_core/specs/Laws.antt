@@ -28,19 +28,23 @@ abbrev pub RowsCount : Type 0
 RowsCount = (s : Setup) (history : List Entry) (b : State) → Replays s history b → b.closed ≡ length (rows_of history)
 
 abbrev pub RowsInOrder : Type 0
-RowsInOrder = (s : Setup) (history : List Entry) (b : State) (k : ℕ) (row : Row) → Replays s history b → slice_get (rows_of history) k ≡ Some row → row.pulse ≡ k + 1
+RowsInOrder = (s : Setup) (history : List Entry) (b : State) (k : ℕ) (row : Row) → Replays s history b
+    → slice_get (rows_of history) k ≡ Some row → row.pulse ≡ k + 1
 
 -- a step's entry goes to the end of the history
 abbrev pub AdvancesReplay : Type 0
-AdvancesReplay = (old new : BenchValue) (entry : Entry) → Replays old.setup old.history old.state → Advances old entry new → Replays new.setup new.history new.state
+AdvancesReplay = (old new : BenchValue) (entry : Entry) → Replays old.setup old.history old.state
+    → Advances old entry new → Replays new.setup new.history new.state
 
 -- where the history has a place left for the close, the row is within its ranges
 abbrev pub RowsFit : Type 0
-RowsFit = (s : Setup) (history : List Entry) (b b' : State) → IsSetup s → Replays s history b → Pulse s b b' → length history < MOST_ENTRIES → IsRow (row_of b b')
+RowsFit = (s : Setup) (history : List Entry) (b b' : State) → IsSetup s → Replays s history b → Pulse s b b'
+    → length history < MOST_ENTRIES → IsRow (row_of b b')
 
 -- the row tells whether settled clocks agree
 abbrev pub RowsTell : Type 0
-RowsTell = (s : Setup) (history : List Entry) (b b' : State) → IsSetup s → Replays s history b → Pulse s b b' → Agree b b' ↔ ((row_of b b').common ≢ CLOCKS_DIFFER)
+RowsTell = (s : Setup) (history : List Entry) (b b' : State) → IsSetup s → Replays s history b → Pulse s b b'
+    → Agree b b' ↔ ((row_of b b').common ≢ CLOCKS_DIFFER)
 
 abbrev pub ClocksAgree : Type 0
 ClocksAgree = (s : Setup) (history : List Entry) (b b' : State) → IsSetup s → Replays s history b → Pulse s b b'
@@ -60,15 +64,18 @@ abbrev pub PairMovesOn : Type 0
 PairMovesOn = (s : Setup) (history between : List Entry) (b b' c c' : State) (clock i : ℕ) → IsSetup s
     → Replays s history b → Pulse s b b' → quorum s ≤ count_by (ran_to clock 1) b'.nodes
     → Run s b' between c → All IsQuiet between → Pulse s c c'
-    → i < s.shape.nodes → IsTrue (node_at c'.nodes i).mark → clock_of (node_at c.nodes i).memory ≡ clock → mark_of (node_at c.nodes i).memory ≡ 1
+    → i < s.shape.nodes → IsTrue (node_at c'.nodes i).mark → clock_of (node_at c.nodes i).memory ≡ clock
+    → mark_of (node_at c.nodes i).memory ≡ 1
     → (clock_of (node_at c'.nodes i).memory ≡ (clock + 1) % s.modulus) × (mark_of (node_at c'.nodes i).memory ≡ 1)
 
--- a loaded node's run in a closed pulse: a complete run, never stuck, of at most the announced number of instructions, which leaves
+-- a loaded node's run in a closed pulse: a complete run, never stuck, of at most the announced number of instructions,
+-- which leaves
 -- the node's memory and its outgoing mail
 pub record IsWhole (s : Setup) (b b' : State) (i : ℕ) (p : Accepted) (end : End) : Type 0 where
   pub run : CompleteRun p.program (setting_at s b.mail (unwrap_or b.coins []) i) (node_at b.nodes i).memory end
   pub unstuck : (count : ℕ) (state : MachineState) (kind : TrapKind)
-      → GetsStuck p.program (setting_at s b.mail (unwrap_or b.coins []) i) (node_at b.nodes i).memory count state kind → ⊥
+      → GetsStuck p.program (setting_at s b.mail (unwrap_or b.coins []) i) (node_at b.nodes i).memory count state kind
+      → ⊥
   pub within : end.steps ≤ p.budget
   pub announced : IsLongestPath p.program p.budget
   pub memory : (node_at b'.nodes i).memory ≡ end.memory
@@ -76,13 +83,16 @@ pub record IsWhole (s : Setup) (b b' : State) (i : ℕ) (p : Accepted) (end : En
 
 -- over every list of steps
 abbrev pub EveryRun : Type 0
-EveryRun = (s : Setup) (acts : List Act) (b b' : State) (i : ℕ) (p : Accepted) → IsSetup s → Performs s (new_state s) acts b → Pulse s b b'
+EveryRun = (s : Setup) (acts : List Act) (b b' : State) (i : ℕ) (p : Accepted) → IsSetup s
+    → Performs s (new_state s) acts b → Pulse s b b'
     → i < s.shape.nodes → (node_at b.nodes i).program ≡ Some p → (end : End) × IsWhole s b b' i p end
 
 -- in every open pulse each accepted program has a run: no pulse waits for one that doesn't end
 abbrev pub EachEnds : Type 0
-EachEnds = (s : Setup) (acts : List Act) (b : State) (coins : List ℕ) (i : ℕ) (p : Accepted) → IsSetup s → Performs s (new_state s) acts b → b.coins ≡ Some coins
-    → i < s.shape.nodes → (node_at b.nodes i).program ≡ Some p → (end : End) × RanTo s b coins i end × (end.steps ≤ p.budget)
+EachEnds = (s : Setup) (acts : List Act) (b : State) (coins : List ℕ) (i : ℕ) (p : Accepted) → IsSetup s
+    → Performs s (new_state s) acts b → b.coins ≡ Some coins
+    → i < s.shape.nodes → (node_at b.nodes i).program ≡ Some p
+    → (end : End) × RanTo s b coins i end × (end.steps ≤ p.budget)
 
 -- each open pulse can be closed, in one way
 abbrev pub EachCloses : Type 0
@@ -97,12 +107,14 @@ IsWithinPulse (Locked _) = ⊥
 
 -- what a node's run comes to is the same anywhere in an open pulse
 abbrev pub InputsStay : Type 0
-InputsStay = (s : Setup) (acts : List Act) (b b' : State) (coins : List ℕ) (i : ℕ) (end : End) → Performs s b acts b' → All IsWithinPulse acts
+InputsStay = (s : Setup) (acts : List Act) (b b' : State) (coins : List ℕ) (i : ℕ) (end : End) → Performs s b acts b'
+    → All IsWithinPulse acts
     → (b'.coins ≡ b.coins) × (RanTo s b coins i end ↔ RanTo s b' coins i end)
 
 -- what any list of steps does is what its entries do
 abbrev pub StepsAreEntries : Type 0
-StepsAreEntries = (s : Setup) (b : State) (acts : List Act) (b' : State) → Performs s b acts b' → Run s b (entries_of acts) b'
+StepsAreEntries = (s : Setup) (b : State) (acts : List Act) (b' : State) → Performs s b acts b'
+    → Run s b (entries_of acts) b'
 
 abbrev pub StepsAgree : Type 0
 StepsAgree = (s : Setup) (acts : List Act) (b b' : State) → IsSetup s → Performs s (new_state s) acts b → Pulse s b b'
@@ -110,15 +122,19 @@ StepsAgree = (s : Setup) (acts : List Act) (b b' : State) → IsSetup s → Perf
 
 -- where each task of the open pulse was run once, in any order and by anyone, its close takes the results
 abbrev pub ResultsFit : Type 0
-ResultsFit = (b : BenchValue) (dones : List Done) → IsSetup b.setup → Replays b.setup b.history b.state → IsSome b.state.coins
+ResultsFit = (b : BenchValue) (dones : List Done) → IsSetup b.setup → Replays b.setup b.history b.state
+    → IsSome b.state.coins
     → RanEach (tasks_of b) dones → IsExact (HandedOut b) b.state.nodes dones
 
 -- at most one refusal of a call applies
 abbrev pub OneStageRefusal : Type 0
-OneStageRefusal = (b : BenchValue) (c : Change) (e e' : StageError) → IsStageRefusal b c e → IsStageRefusal b c e' → e ≡ e'
+OneStageRefusal = (b : BenchValue) (c : Change) (e e' : StageError) → IsStageRefusal b c e → IsStageRefusal b c e'
+    → e ≡ e'
 
 abbrev pub OneOpenRefusal : Type 0
-OneOpenRefusal = (b : BenchValue) (coins : List ℕ) (e e' : OpenError) → IsOpenRefusal b coins e → IsOpenRefusal b coins e' → e ≡ e'
+OneOpenRefusal = (b : BenchValue) (coins : List ℕ) (e e' : OpenError) → IsOpenRefusal b coins e
+    → IsOpenRefusal b coins e' → e ≡ e'
 
 abbrev pub OneCloseRefusal : Type 0
-OneCloseRefusal = (b : BenchValue) (dones : List Done) (e e' : CloseError) → IsCloseRefusal b dones e → IsCloseRefusal b dones e' → e ≡ e'
+OneCloseRefusal = (b : BenchValue) (dones : List Done) (e e' : CloseError) → IsCloseRefusal b dones e
+    → IsCloseRefusal b dones e' → e ≡ e'

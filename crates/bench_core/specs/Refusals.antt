@@ -58,9 +58,12 @@ pub record IsStranger (handed : Task → Type 0) (dones : List Done) (i : ℕ) :
 
 abbrev pub IsCloseRefusal : BenchValue → List Done → CloseError → Type 0
 IsCloseRefusal b dones closing.NotOpen = IsNone b.state.coins
-IsCloseRefusal b dones (closing.Missing i) = IsSome b.state.coins × IsLowest (IsMissing (HandedOut b) b.state.nodes dones) i
+IsCloseRefusal b dones (closing.Missing i) = IsSome b.state.coins
+    × IsLowest (IsMissing (HandedOut b) b.state.nodes dones) i
 IsCloseRefusal b dones (closing.Twice i) =
-    IsSome b.state.coins × ((j : ℕ) → IsMissing (HandedOut b) b.state.nodes dones j → ⊥) × IsLowest (IsTwice (HandedOut b) dones) i
+    IsSome b.state.coins × ((j : ℕ) → IsMissing (HandedOut b) b.state.nodes dones j → ⊥)
+    × IsLowest (IsTwice (HandedOut b) dones) i
 IsCloseRefusal b dones (closing.Stranger i) =
-    IsSome b.state.coins × ((j : ℕ) → IsMissing (HandedOut b) b.state.nodes dones j → ⊥) × ((j : ℕ) → IsTwice (HandedOut b) dones j → ⊥) × IsStranger (HandedOut b) dones i
+    IsSome b.state.coins × ((j : ℕ) → IsMissing (HandedOut b) b.state.nodes dones j → ⊥)
+    × ((j : ℕ) → IsTwice (HandedOut b) dones j → ⊥) × IsStranger (HandedOut b) dones i
 IsCloseRefusal b dones closing.Memory = IsSome b.state.coins × IsExact (HandedOut b) b.state.nodes dones

@@ -23,7 +23,8 @@ faulty_count b b' = count_by not (settled_flags b.nodes b'.nodes)
 abbrev pub clocks_where : List Bool → List Node → List ℕ
 clocks_where [] nodes = []
 clocks_where (x ∷ flags) [] = []
-clocks_where (x ∷ flags) (y ∷ nodes) = if x then clock_of y.memory ∷ clocks_where flags nodes else clocks_where flags nodes
+clocks_where (x ∷ flags) (y ∷ nodes) = if x then clock_of y.memory
+    ∷ clocks_where flags nodes else clocks_where flags nodes
 
 abbrev pub settled_clocks : State → State → List ℕ
 settled_clocks b b' = clocks_where (settled_flags b.nodes b'.nodes) b'.nodes

@@ -86,9 +86,18 @@ AreCoins s coins = (length coins ≡ s.shape.nodes) × All (λ coin. coin < 2) c
 
 -- a load keeps the node's memory and mark
 abbrev pub applied : List Node → Change → List Node
-applied nodes (Load i p) = slice_set nodes i (record { program = Some p; memory = (node_at nodes i).memory; mark = (node_at nodes i).mark })
-applied nodes (Unload i) = slice_set nodes i (record { program = None; memory = (node_at nodes i).memory; mark = (node_at nodes i).mark })
-applied nodes (Corrupt i image) = slice_set nodes i (record { program = (node_at nodes i).program; memory = image; mark = (node_at nodes i).mark })
+applied nodes (Load i p) = slice_set nodes i (record {
+  program = Some p;
+  memory = (node_at nodes i).memory;
+  mark = (node_at nodes i).mark;
+})
+applied nodes (Unload i) = slice_set nodes i (record {
+  program = None;
+  memory = (node_at nodes i).memory;
+  mark = (node_at nodes i).mark;
+})
+applied nodes (Corrupt i image) = slice_set nodes i
+    (record { program = (node_at nodes i).program; memory = image; mark = (node_at nodes i).mark })
 
 -- in order
 abbrev pub all_applied : List Node → List Change → List Node

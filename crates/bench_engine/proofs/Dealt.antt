@@ -14,19 +14,23 @@ use Rattle.bench_engine.specs.inner.Batches.{RanInOrder}
 -- ---- one task more
 
 -- a piece that is one longer makes the whole one longer, in some order
-pub one_given : {X A : Type 0} (f : X → List A) (xs : List X) (i : ℕ) (old new : X) (a : A) → i < length xs → old ≡ get_or xs i old → f new ≡ f old ++ a ∷ []
+pub one_given : {X A : Type 0} (f : X → List A) (xs : List X) (i : ℕ) (old new : X) (a : A) → i < length xs
+    → old ≡ get_or xs i old → f new ≡ f old ++ a ∷ []
     → IsPermutation (flat_map f xs ++ a ∷ []) (flat_map f (set xs i new))
 one_given f [] i old new a low at is = absurd (omega (arith, low))
 one_given f (x ∷ xs) zero old new a low at is =
     let piece : f new ≡ f x ++ a ∷ [] = is ∙ ap (λ y. f y ++ a ∷ []) at in
     subst (λ l. IsPermutation ((f x ++ flat_map f xs) ++ a ∷ []) (l ++ flat_map f xs)) (sym piece)
-    (rw (append_assoc, append_assoc) (IsPermutation-append_right (f x) (flat_map f xs ++ a ∷ []) (a ∷ flat_map f xs) (IsPermutation-append_comm (flat_map f xs) (a ∷ []))))
+    (rw (append_assoc, append_assoc) (IsPermutation-append_right (f x) (flat_map f xs ++ a ∷ []) (a ∷ flat_map f xs)
+    (IsPermutation-append_comm (flat_map f xs) (a ∷ []))))
 one_given f (x ∷ xs) (suc i) old new a low at is =
-    rw append_assoc (IsPermutation-append_right (f x) (flat_map f xs ++ a ∷ []) (flat_map f (set xs i new)) (one_given f xs i old new a (omega arith) at is))
+    rw append_assoc (IsPermutation-append_right (f x) (flat_map f xs ++ a ∷ []) (flat_map f (set xs i new))
+    (one_given f xs i old new a (omega arith) at is))
 
 -- ---- results
 
-count_of : (i : ℕ) (dones : List Done) → count_by (λ d. d.task.node == i) dones ≡ count_by (λ t. t.node == i) (map (λ d. d.task) dones)
+count_of : (i : ℕ) (dones : List Done) → count_by (λ d. d.task.node == i) dones ≡ count_by (λ t. t.node == i)
+    (map (λ d. d.task) dones)
 count_of i [] = refl
 count_of i (d ∷ dones) =
     sum_by-append (λ e. cond (e.task.node == i) 1 0) (d ∷ []) dones
@@ -43,7 +47,8 @@ ran_each tasks dones e =
     subst (λ ts. RanEach ts dones) e (record { known = known dones; once = λ i. count_of i dones })
 
 -- results of the tasks in another order
-pub ran_dealt : (tasks dealt : List Task) (dones : List Done) → IsPermutation tasks dealt → RanInOrder dealt dones → RanEach tasks dones
+pub ran_dealt : (tasks dealt : List Task) (dones : List Done) → IsPermutation tasks dealt → RanInOrder dealt dones
+    → RanEach tasks dones
 ran_dealt tasks dealt dones moved ran =
     let each = ran_each dealt dones ran in
     let back = IsPermutation-sym tasks dealt moved in
@@ -54,20 +59,25 @@ ran_dealt tasks dealt dones moved ran =
 
 -- ---- what workers gave, joined in order
 
-pub one_joined : {H X E : Type 0} (tasks : H → List Task) (items : X → List Done) (before after : Result X E) (given : Option X) (joined : List H) (h : H)
-    → OnOk after (IsOk before × IsSome given) → IfOk after (λ all. IfOk before (λ first. IfSome given (λ more. items all ≡ items first ++ items more)))
-    → IfSome given (λ dones. RanInOrder (tasks h) (items dones)) → IfOk before (λ dones. RanInOrder (flat_map tasks joined) (items dones))
+pub one_joined : {H X E : Type 0} (tasks : H → List Task) (items : X → List Done) (before after : Result X E)
+    (given : Option X) (joined : List H) (h : H)
+    → OnOk after (IsOk before × IsSome given) → IfOk after
+    (λ all. IfOk before (λ first. IfSome given (λ more. items all ≡ items first ++ items more)))
+    → IfSome given (λ dones. RanInOrder (tasks h) (items dones))
+    → IfOk before (λ dones. RanInOrder (flat_map tasks joined) (items dones))
     → IfOk after (λ dones. RanInOrder (flat_map tasks (joined ++ h ∷ [])) (items dones))
 one_joined tasks items before (Err e) given joined h both is ran first = tt
 one_joined tasks items (Err e) (Ok all) given joined h both is ran first = absurd (cc both.0)
 one_joined tasks items (Ok some) (Ok all) None joined h both is ran first = absurd (cc both.1)
 one_joined tasks items (Ok some) (Ok all) (Some more) joined h both is ran first =
     ap (map (λ (d : Done). d.task)) is ∙ map-append (λ (d : Done). d.task) (items some) (items more)
-    ∙ ap (λ l. l ++ map (λ (d : Done). d.task) (items more)) first ∙ ap (λ l. flat_map tasks joined ++ l) (ran ∙ sym (append-nil (tasks h)))
+    ∙ ap (λ l. l ++ map (λ (d : Done). d.task) (items more)) first
+    ∙ ap (λ l. flat_map tasks joined ++ l) (ran ∙ sym (append-nil (tasks h)))
     ∙ sym (flat_map-append tasks joined (h ∷ []))
 
 -- all batches were run, and they had all tasks
-pub all_ran : {X E : Type 0} (items : X → List Done) (r : Result X E) (tasks dealt started : List Task) → IsPermutation tasks dealt → started ≡ dealt
+pub all_ran : {X E : Type 0} (items : X → List Done) (r : Result X E) (tasks dealt started : List Task)
+    → IsPermutation tasks dealt → started ≡ dealt
     → IfOk r (λ dones. RanInOrder started (items dones)) → IfOk r (λ dones. RanEach tasks (items dones))
 all_ran items (Err e) tasks dealt started moved same ran = tt
 all_ran items (Ok dones) tasks dealt started moved same ran = ran_dealt tasks dealt (items dones) moved (ran ∙ same)

@@ -26,7 +26,8 @@ use Rattle.bench_engine.specs.declared.event.RunRefusal.TheVariants as refusals
 
 -- ---- events
 
-pub entries-append : (es : List Event) (e : Event) → entries_after (es ++ e ∷ []) ≡ entries_after es + entries_after (e ∷ [])
+pub entries-append : (es : List Event) (e : Event)
+    → entries_after (es ++ e ∷ []) ≡ entries_after es + entries_after (e ∷ [])
 entries-append [] e = omega arith
 entries-append (Stage c ∷ es) e = omega (arith, entries-append es e)
 entries-append (PulseEvent coins ∷ es) e = omega (arith, entries-append es e)
@@ -37,12 +38,14 @@ entries-count (Stage c ∷ es) = omega (arith, entries-count es)
 entries-count (PulseEvent coins ∷ es) = omega (arith, entries-count es)
 
 -- a run, and then one event
-pub goes_on : (s : Setup) (b mid c : State) (n m : ℕ) (es : List Event) (rs told : List PulseTold) (e : Event) → m ≡ n + entries_after es
+pub goes_on : (s : Setup) (b mid c : State) (n m : ℕ) (es : List Event) (rs told : List PulseTold) (e : Event)
+    → m ≡ n + entries_after es
     → Goes s b n es rs mid → Goes s mid m (e ∷ []) told c → Goes s b n (es ++ e ∷ []) (rs ++ told) c
 goes_on s b mid c n m [] rs told e at before next =
     let same : m ≡ n = omega arith in
     subst (λ list. Goes s b n (e ∷ []) (list ++ told) c) (sym before.0)
-    (subst (λ (state : State). Goes s state n (e ∷ []) told c) before.1 (subst (λ (k : ℕ). Goes s mid k (e ∷ []) told c) same next))
+    (subst (λ (state : State). Goes s state n (e ∷ []) told c) before.1
+    (subst (λ (k : ℕ). Goes s mid k (e ∷ []) told c) same next))
 goes_on s b mid c n m (Stage change ∷ es) rs told e at before next =
     (before.0, before.1, goes_on s _ mid c (n + 1) m es rs told e (omega arith) before.2 next)
 goes_on s b mid c n m (PulseEvent coins ∷ es) [] told e at before next = absurd before
@@ -55,22 +58,30 @@ goes_on s b mid c n m (PulseEvent coins ∷ es) (r ∷ rs) told e at before next
 -- where an event stands, and what stands before it
 stands_behind : {B : Type 0} (before rest : List B) (x : B) → (take (length before) (before ++ (x ∷ rest)) ≡ before)
     × (slice_get (before ++ (x ∷ rest)) (length before) ≡ Some x) × (length before ≤ length (before ++ (x ∷ rest)))
-stands_behind {B} before rest x = (take-append_seam before (x ∷ rest), at before, omega (arith, length-append before (x ∷ rest)))
+stands_behind {B} before rest x = (
+  take-append_seam before (x ∷ rest),
+  at before,
+  omega
+      (arith, length-append before (x ∷ rest)),
+)
   where
     at : (before : List B) → slice_get (before ++ (x ∷ rest)) (length before) ≡ Some x
     at [] = refl
     at (y ∷ ys) = at ys
 
 pub stands_at : {A B : Type 0} (f : A → B) (all done rest : List A) (x : A) → all ≡ done ++ (x ∷ rest)
-    → (take (length done) (map f all) ≡ map f done) × (slice_get (map f all) (length done) ≡ Some (f x)) × (length done ≤ length (map f all))
+    → (take (length done) (map f all) ≡ map f done) × (slice_get (map f all) (length done) ≡ Some (f x))
+    × (length done ≤ length (map f all))
 stands_at {A} {B} f all done rest x e =
     let mapped : map f all ≡ map f done ++ (f x ∷ map f rest) = ap (map f) e ∙ map-append f done (x ∷ rest) in
     rw (mapped, ← length-map done f) (stands_behind (map f done) (map f rest) (f x))
 
 -- ---- faults
 
-first_refused : (s : Setup) (es before : List Event) (k : ℕ) (e : Event) (refusal : RunRefusal) (rs : List PulseTold) (b : State) → take k es ≡ before → slice_get es k ≡ Some e
-    → Goes s (new_state s) 0 before rs b → IsRefusalOf s (entries_after before) e refusal → IsFirstRefused s es k refusal
+first_refused : (s : Setup) (es before : List Event) (k : ℕ) (e : Event) (refusal : RunRefusal) (rs : List PulseTold)
+    (b : State) → take k es ≡ before → slice_get es k ≡ Some e
+    → Goes s (new_state s) 0 before rs b → IsRefusalOf s (entries_after before) e refusal
+    → IsFirstRefused s es k refusal
 first_refused s es before k e refusal rs b front here goes refused = record {
   records = rs;
   state = b;
@@ -81,26 +92,35 @@ first_refused s es before k e refusal rs b front here goes refused = record {
 }
 
 -- a refusal after the events before it is the fault
-pub is_fault : (s : Setup) (es before : List Event) (k : ℕ) (e : Event) (refusal : RunRefusal) (rs : List PulseTold) (b : State) → take k es ≡ before → slice_get es k ≡ Some e → k ≤ length es
+pub is_fault : (s : Setup) (es before : List Event) (k : ℕ) (e : Event) (refusal : RunRefusal) (rs : List PulseTold)
+    (b : State) → take k es ≡ before → slice_get es k ≡ Some e → k ≤ length es
     → Goes s (new_state s) 0 before rs b → IsStopped s (entries_after before) e refusal → IsFault s es k refusal
 is_fault s es before k e refusals.Memory rs b front here few goes stopped = few
 is_fault s es before k e refusals.BadNode rs b front here few goes (inl memory) = absurd cc
-is_fault s es before k e refusals.BadNode rs b front here few goes (inr refused) = first_refused s es before k e refusals.BadNode rs b front here goes refused
+is_fault s es before k e refusals.BadNode rs b front here few goes (inr refused) =
+    first_refused s es before k e refusals.BadNode rs b front here goes refused
 is_fault s es before k e refusals.OtherShape rs b front here few goes (inl memory) = absurd cc
-is_fault s es before k e refusals.OtherShape rs b front here few goes (inr refused) = first_refused s es before k e refusals.OtherShape rs b front here goes refused
+is_fault s es before k e refusals.OtherShape rs b front here few goes (inr refused) =
+    first_refused s es before k e refusals.OtherShape rs b front here goes refused
 is_fault s es before k e refusals.BadImage rs b front here few goes (inl memory) = absurd cc
-is_fault s es before k e refusals.BadImage rs b front here few goes (inr refused) = first_refused s es before k e refusals.BadImage rs b front here goes refused
+is_fault s es before k e refusals.BadImage rs b front here few goes (inr refused) =
+    first_refused s es before k e refusals.BadImage rs b front here goes refused
 is_fault s es before k e refusals.HistoryFull rs b front here few goes (inl memory) = absurd cc
-is_fault s es before k e refusals.HistoryFull rs b front here few goes (inr refused) = first_refused s es before k e refusals.HistoryFull rs b front here goes refused
+is_fault s es before k e refusals.HistoryFull rs b front here few goes (inr refused) =
+    first_refused s es before k e refusals.HistoryFull rs b front here goes refused
 is_fault s es before k e refusals.BadCoins rs b front here few goes (inl memory) = absurd cc
-is_fault s es before k e refusals.BadCoins rs b front here few goes (inr refused) = first_refused s es before k e refusals.BadCoins rs b front here goes refused
+is_fault s es before k e refusals.BadCoins rs b front here few goes (inr refused) =
+    first_refused s es before k e refusals.BadCoins rs b front here goes refused
 is_fault s es before k e refusals.NoThread rs b front here few goes (inl memory) = absurd cc
-is_fault s es before k e refusals.NoThread rs b front here few goes (inr refused) = first_refused s es before k e refusals.NoThread rs b front here goes refused
+is_fault s es before k e refusals.NoThread rs b front here few goes (inr refused) =
+    first_refused s es before k e refusals.NoThread rs b front here goes refused
 is_fault s es before k e refusals.GateShut rs b front here few goes (inl memory) = absurd cc
-is_fault s es before k e refusals.GateShut rs b front here few goes (inr refused) = first_refused s es before k e refusals.GateShut rs b front here goes refused
+is_fault s es before k e refusals.GateShut rs b front here few goes (inr refused) =
+    first_refused s es before k e refusals.GateShut rs b front here goes refused
 
 -- a close of results of all tasks fails only for want of memory
-pub only_memory : (b : BenchValue) (dones : List Done) (e : CloseError) → IsSome b.state.coins → IsExact (HandedOut b) b.state.nodes dones → IsCloseRefusal b dones e → e ≡ closing.Memory
+pub only_memory : (b : BenchValue) (dones : List Done) (e : CloseError) → IsSome b.state.coins
+    → IsExact (HandedOut b) b.state.nodes dones → IsCloseRefusal b dones e → e ≡ closing.Memory
 only_memory b dones closing.NotOpen now exact refusal = absurd (not_both b.state.coins now refusal)
   where
     not_both : (o : Option (List ℕ)) → IsSome o → IsNone o → ⊥
@@ -117,18 +137,22 @@ only_memory b dones closing.Memory now exact refusal = refl
 
 -- ---- memories
 
-pub memories_more : (nodes : List Node) (memories : List (List ℕ)) (i : ℕ) (memory : List ℕ) → i < length nodes → memories ≡ map (λ x. x.memory) (take i nodes)
+pub memories_more : (nodes : List Node) (memories : List (List ℕ)) (i : ℕ) (memory : List ℕ) → i < length nodes
+    → memories ≡ map (λ x. x.memory) (take i nodes)
     → memory ≡ (node_at nodes i).memory → memories ++ memory ∷ [] ≡ map (λ x. x.memory) (take (i + 1) nodes)
 memories_more nodes memories i memory low before here =
     rw (before, here) (sym (map_more (λ (x : Node). x.memory) nodes i no_node low))
 
 -- ---- what a close refuses of results of its opening
 
-pub closes_for_memory : (old new : BenchValue) (coins : List ℕ) (tasks : List Task) (dones : List Done) (e : CloseError) → Advances old (Opened coins) new → IsSetup new.setup
-    → Replays new.setup new.history new.state → tasks ≡ tasks_of new → RanEach tasks dones → IsCloseRefusal new dones e → e ≡ closing.Memory
+pub closes_for_memory : (old new : BenchValue) (coins : List ℕ) (tasks : List Task) (dones : List Done)
+    (e : CloseError) → Advances old (Opened coins) new → IsSetup new.setup
+    → Replays new.setup new.history new.state → tasks ≡ tasks_of new → RanEach tasks dones → IsCloseRefusal new dones e
+    → e ≡ closing.Memory
 closes_for_memory old new coins tasks dones e opens ok replays given ran refusal =
     let now : IsSome new.state.coins = subst IsSome (sym (ap (λ (b : State). b.coins) opens.step.2)) refl in
-    only_memory new dones e now (results_fit new dones ok replays now (subst (λ ts. RanEach ts dones) given ran)) refusal
+    only_memory new dones e now (results_fit new dones ok replays now (subst (λ ts. RanEach ts dones) given ran))
+    refusal
 
 -- ---- the loop over the events
 
@@ -138,32 +162,44 @@ pub record IsKeptOn (s : Setup) (done : List EventCode) (records : List PulseTol
   pub count : length b.history ≡ entries_after (map event_of done)
   pub goes : Goes s (new_state s) 0 (map event_of done) records b.state
 
-pub kept_on : (s : Setup) (old new : BenchValue) (done : List EventCode) (x : EventCode) (records more : List PulseTold) → old.setup ≡ s → length old.history ≡ entries_after (map event_of done)
-    → Goes s (new_state s) 0 (map event_of done) records old.state → IsApplied old records (event_of x) new more → IsKeptOn s (done ++ x ∷ []) more new
+pub kept_on : (s : Setup) (old new : BenchValue) (done : List EventCode) (x : EventCode)
+    (records more : List PulseTold) → old.setup ≡ s → length old.history ≡ entries_after (map event_of done)
+    → Goes s (new_state s) 0 (map event_of done) records old.state → IsApplied old records (event_of x) new more
+    → IsKeptOn s (done ++ x ∷ []) more new
 kept_on s old new done x records more same count goes applied =
-    let mapped : map event_of (done ++ x ∷ []) ≡ map event_of done ++ event_of x ∷ [] = map-append event_of done (x ∷ []) in
+    let mapped : map event_of (done ++ x ∷ []) ≡ map event_of done ++ event_of x
+    ∷ [] = map-append event_of done (x ∷ []) in
     let step : Goes s old.state (length old.history) (event_of x ∷ []) applied.told new.state =
-    subst (λ (t : Setup). Goes t old.state (length old.history) (event_of x ∷ []) applied.told new.state) same applied.goes.goes in
+    subst (λ (t : Setup). Goes t old.state (length old.history) (event_of x ∷ []) applied.told new.state) same
+    applied.goes.goes in
     let on : Goes s (new_state s) 0 (map event_of done ++ event_of x ∷ []) (records ++ applied.told) new.state =
-    goes_on s (new_state s) old.state new.state 0 (length old.history) (map event_of done) records applied.told (event_of x) (omega (arith, count)) goes step in
+    goes_on s (new_state s) old.state new.state 0 (length old.history) (map event_of done) records applied.told
+    (event_of x) (omega (arith, count)) goes step in
     record {
       setup = applied.goes.setup ∙ same;
       closed = applied.goes.closed;
-      count = applied.goes.count ∙ ap (λ n. n + entries_after (event_of x ∷ [])) count ∙ sym (ap entries_after mapped ∙ entries-append (map event_of done) (event_of x));
+      count = applied.goes.count ∙ ap (λ n. n + entries_after (event_of x ∷ [])) count
+          ∙ sym (ap entries_after mapped ∙ entries-append (map event_of done) (event_of x));
       goes = rw (mapped, applied.records) on;
     }
 
-pub place_fits : (old new : BenchValue) (done : List EventCode) (x : EventCode) (records more : List PulseTold) (place : ℕ) → length old.history ≡ entries_after (map event_of done)
-    → place ≡ length done → IsApplied old records (event_of x) new more → length new.history ≤ MOST_ENTRIES → place + 1 < 2 ^ 32
+pub place_fits : (old new : BenchValue) (done : List EventCode) (x : EventCode) (records more : List PulseTold)
+    (place : ℕ) → length old.history ≡ entries_after (map event_of done)
+    → place ≡ length done → IsApplied old records (event_of x) new more → length new.history ≤ MOST_ENTRIES
+    → place + 1 < 2 ^ 32
 place_fits old new done x records more place count at applied few =
     omega (arith, entries-count (map event_of done), length-map done event_of, applied.goes.count)
 
-pub fault_here : (s : Setup) (b : BenchValue) (all done rest : List EventCode) (x : EventCode) (place : ℕ) (refusal : RunRefusal) (records : List PulseTold) → all ≡ done ++ (x ∷ rest) → place ≡ length done
-    → b.setup ≡ s → length b.history ≡ entries_after (map event_of done) → Goes s (new_state s) 0 (map event_of done) records b.state
+pub fault_here : (s : Setup) (b : BenchValue) (all done rest : List EventCode) (x : EventCode) (place : ℕ)
+    (refusal : RunRefusal) (records : List PulseTold) → all ≡ done ++ (x ∷ rest) → place ≡ length done
+    → b.setup ≡ s → length b.history ≡ entries_after (map event_of done)
+    → Goes s (new_state s) 0 (map event_of done) records b.state
     → IsStopped b.setup (length b.history) (event_of x) refusal → IsFault s (map event_of all) place refusal
 fault_here s b all done rest x place refusal records stands at same count goes stopped =
     let there = stands_at event_of all done rest x stands in
     let here : IsFault s (map event_of all) (length done) refusal =
-    is_fault s (map event_of all) (map event_of done) (length done) (event_of x) refusal records b.state there.0 there.1 there.2 goes
-    (subst (λ (t : Setup). IsStopped t (entries_after (map event_of done)) (event_of x) refusal) same (subst (λ n. IsStopped b.setup n (event_of x) refusal) count stopped)) in
+    is_fault s (map event_of all) (map event_of done) (length done)
+    (event_of x) refusal records b.state there.0 there.1 there.2 goes
+    (subst (λ (t : Setup). IsStopped t (entries_after (map event_of done)) (event_of x) refusal) same
+    (subst (λ n. IsStopped b.setup n (event_of x) refusal) count stopped)) in
     subst (λ k. IsFault s (map event_of all) k refusal) (sym at) here

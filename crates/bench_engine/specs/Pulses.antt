@@ -11,7 +11,8 @@ use Rattle.bench_engine.specs.declared.refusal.EngineError.TheVariants.{Open, Wo
 abbrev pub Adds : List Placed → List Entry → List Placed → Type 0
 Adds old entries new = (more : List Placed) × (map entry_in more ≡ entries) × (new ≡ old ++ more)
 
--- a refused opening adds no receipt; a later refusal leaves that of the opening, and at most that of an end without a row
+-- a refused opening adds no receipt; a later refusal leaves that of the opening, and at most that of an end without a
+-- row
 abbrev pub Stopped : EngineError → List Placed → List ℕ → List Placed → Type 0
 Stopped (Open e) old coins new = new ≡ old
 Stopped (Work e) old coins new = Adds old (Opened coins ∷ []) new ⊎ Adds old (Opened coins ∷ Abandoned ∷ []) new

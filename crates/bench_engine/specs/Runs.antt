@@ -19,7 +19,8 @@ Goes s b n (Stage c ∷ es) rs b' = IsChange s c × (n < MOST_ENTRIES) × Goes s
 Goes s b n (PulseEvent coins ∷ es) [] b' = ⊥
 Goes s b n (PulseEvent coins ∷ es) (r ∷ rs) b' =
     AreCoins s coins × (n + 2 ≤ MOST_ENTRIES)
-    × ((mid : State) × Pulse s (opened_state b coins) mid × IsRecord s (opened_state b coins) mid r × Goes s mid (n + 2) es rs b')
+    × ((mid : State) × Pulse s (opened_state b coins) mid × IsRecord s (opened_state b coins) mid r
+    × Goes s mid (n + 2) es rs b')
 
 -- the run from a new bench: the records, and the memories that it leaves
 pub record IsRun (s : Setup) (es : List Event) (rs : List PulseTold) (left : List (List ℕ)) : Type 0 where

@@ -148,9 +148,9 @@ fn memories_of(alloc: Global, bench: &Bench, nodes: u32) -> Result<Vec<Vec<u8>>,
     Ok(memories)
 }
 
-/// The run of the events on a new bench, whose pulses are run by 1 to [`MOST_WORKERS`] workers. The fault of an event that can't be
-/// done has its place, from 0 on; want of memory before the first has place 0, and after the last their number. The run is the
-/// same for every number of workers (docs/SCENARIOS.md, "Runs").
+/// The run of the events on a new bench, whose pulses are run by 1 to [`MOST_WORKERS`] workers. The fault of an
+/// event that can't be done has its place, from 0 on; want of memory before the first has place 0, and after the
+/// last their number. The run is the same for every number of workers (docs/SCENARIOS.md, "Runs").
 pub fn run_events<R: Threads + Wait + Sync, G: Gate + Sync>(
     rt: &R,
     alloc: Global,

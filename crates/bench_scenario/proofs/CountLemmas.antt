@@ -64,7 +64,8 @@ first_apart : {A : Type 0} (pulse weight : A → ℕ) (x : A) (xs : List A) (n :
 first_apart pulse weight x xs zero = refl
 first_apart pulse weight x xs (suc n) = let before = first_apart pulse weight x xs n in omega arith
 
-each_once : {A : Type 0} (pulse weight : A → ℕ) (xs : List A) (n : ℕ) → weight_to pulse weight n xs ≤ weight_of weight xs
+each_once : {A : Type 0} (pulse weight : A → ℕ) (xs : List A) (n : ℕ)
+    → weight_to pulse weight n xs ≤ weight_of weight xs
 each_once pulse weight [] zero = omega arith
 each_once pulse weight [] (suc n) = let before = each_once pulse weight [] n in omega arith
 each_once pulse weight (x ∷ xs) n =
@@ -75,12 +76,14 @@ each_once pulse weight (x ∷ xs) n =
 
 -- ---- the entries of a pulse
 
-entries_of_nodes : (program : Accepted) (nodes : List ℕ) → entries_after (map (λ node. Stage (LoadChange node program)) nodes) ≡ length nodes
+entries_of_nodes : (program : Accepted) (nodes : List ℕ)
+    → entries_after (map (λ node. Stage (LoadChange node program)) nodes) ≡ length nodes
 entries_of_nodes program [] = refl
 entries_of_nodes program (node ∷ nodes) = let rest = entries_of_nodes program nodes in omega arith
 
 entries_of_load : (b : Bool) (program : Accepted) (nodes : List ℕ)
-    → entries_after (if b then map (λ node. Stage (LoadChange node program)) nodes else []) ≡ (if b then length nodes else 0)
+    → entries_after (if b then map (λ node. Stage (LoadChange node program)) nodes else []) ≡
+    (if b then length nodes else 0)
 entries_of_load true program nodes = entries_of_nodes program nodes
 entries_of_load false program nodes = refl
 
@@ -91,7 +94,8 @@ entries_of_one false c = refl
 abbrev load_weight : Load → ℕ
 load_weight l = length l.nodes.items
 
-entries_flat : {A : Type 0} (f : A → List Event) (pulse weight : A → ℕ) (p : ℕ) → ((x : A) → entries_after (f x) ≡ (if pulse x == p then weight x else 0))
+entries_flat : {A : Type 0} (f : A → List Event) (pulse weight : A → ℕ) (p : ℕ)
+    → ((x : A) → entries_after (f x) ≡ (if pulse x == p then weight x else 0))
     → (xs : List A) → entries_after (flat_map f xs) ≡ weight_at pulse weight p xs
 entries_flat f pulse weight p each [] = refl
 entries_flat f pulse weight p each (x ∷ xs) =
@@ -113,18 +117,25 @@ abbrev one : {A : Type 0} → A → ℕ
 one x = 1
 
 entries_at : (s : Scenario) (p : ℕ) → entries_after (events_at s p)
-    ≡ weight_at load_pulse load_weight p s.loads.items + weight_at unload_pulse one p s.unloads.items + weight_at corrupt_pulse one p s.corruptions.items + 2
+    ≡ weight_at load_pulse load_weight p s.loads.items + weight_at unload_pulse one p s.unloads.items + weight_at
+    corrupt_pulse one p s.corruptions.items + 2
 entries_at s p =
-    let loads = entries_flat (load_events p) load_pulse load_weight p (λ l. entries_of_load (l.pulse == p) l.program l.nodes.items) s.loads.items in
-    let unloads = entries_flat (unload_events p) unload_pulse one p (λ u. entries_of_one (u.pulse == p) _) s.unloads.items in
-    let corruptions = entries_flat (corrupt_events p) corrupt_pulse one p (λ c. entries_of_one (c.pulse == p) _) s.corruptions.items in
-    let changes = entries_append (flat_map (load_events p) s.loads.items) (flat_map (unload_events p) s.unloads.items ++ flat_map (corrupt_events p) s.corruptions.items) in
-    let later = entries_append (flat_map (unload_events p) s.unloads.items) (flat_map (corrupt_events p) s.corruptions.items) in
+    let loads = entries_flat (load_events p) load_pulse load_weight p
+    (λ l. entries_of_load (l.pulse == p) l.program l.nodes.items) s.loads.items in
+    let unloads = entries_flat (unload_events p) unload_pulse one p
+    (λ u. entries_of_one (u.pulse == p) _) s.unloads.items in
+    let corruptions = entries_flat (corrupt_events p) corrupt_pulse one p
+    (λ c. entries_of_one (c.pulse == p) _) s.corruptions.items in
+    let changes = entries_append (flat_map (load_events p) s.loads.items)
+    (flat_map (unload_events p) s.unloads.items ++ flat_map (corrupt_events p) s.corruptions.items) in
+    let later = entries_append (flat_map (unload_events p) s.unloads.items)
+    (flat_map (corrupt_events p) s.corruptions.items) in
     let all = entries_append (changes_at s p) (Pulse (coins_of s p) ∷ []) in
     omega arith
 
 entries_to : (s : Scenario) (n : ℕ) → entries_after (events_to s n)
-    ≡ weight_to load_pulse load_weight n s.loads.items + weight_to unload_pulse one n s.unloads.items + weight_to corrupt_pulse one n s.corruptions.items + 2 * n
+    ≡ weight_to load_pulse load_weight n s.loads.items + weight_to unload_pulse one n s.unloads.items + weight_to
+    corrupt_pulse one n s.corruptions.items + 2 * n
 entries_to s zero = refl
 entries_to s (suc n) =
     let before = entries_to s n in

@@ -34,14 +34,16 @@ chosen_below : (b : Bool) (m n : ℕ) → m < 2 → n < 2 → (if b then m else 
 chosen_below true m n first second = first
 chosen_below false m n first second = second
 
-replaced_below : (es : List CoinEntry) (pulse node coin : ℕ) → Each HasCoin es → coin < 2 → replaced es pulse node coin < 2
+replaced_below : (es : List CoinEntry) (pulse node coin : ℕ) → Each HasCoin es → coin < 2
+    → replaced es pulse node coin < 2
 replaced_below [] pulse node coin each below = below
 replaced_below (e ∷ es) pulse node coin each below =
     replaced_below es pulse node (if (e.pulse == pulse) && (e.node == node) then e.value else coin) each.1
     (chosen_below ((e.pulse == pulse) && (e.node == node)) e.value coin each.0 below)
 
 coin_below : (s : Scenario) (pulse node : ℕ) → Each HasCoin s.entries.items → coin_of s pulse node < 2
-coin_below s pulse node each = replaced_below s.entries.items pulse node _ each (drawn_below s.coins (unwrap_or s.key 0) ((pulse - 1) * s.nodes + node))
+coin_below s pulse node each = replaced_below s.entries.items pulse node _ each
+    (drawn_below s.coins (unwrap_or s.key 0) ((pulse - 1) * s.nodes + node))
 
 one_below : (coin : ℕ) → coin < 2 → All (λ c. c < 2) (coin ∷ [])
 one_below coin below zero d within = below
@@ -54,17 +56,23 @@ coins_below f (suc n) below =
     (All-append (λ c. c < 2) (map f (places_below n)) (f n ∷ []) (coins_below f n below) (one_below (f n) (below n)))
 
 pulse_fits : (s : Scenario) (pulse : ℕ) → Each HasCoin s.entries.items → AreCoins (bench_of s) (coins_of s pulse)
-pulse_fits s pulse each = (places_length (coin_of s pulse) s.nodes, coins_below (coin_of s pulse) s.nodes (λ node. coin_below s pulse node each))
+pulse_fits s pulse each = (
+  places_length (coin_of s pulse) s.nodes,
+  coins_below (coin_of s pulse) s.nodes
+      (λ node. coin_below s pulse node each),
+)
 
 -- ---- changes
 
-load_fits : (s : Setup) (program : Accepted) (node : ℕ) → program.shape ≡ s.shape → node < s.shape.nodes → Fits s (Stage (LoadChange node program))
+load_fits : (s : Setup) (program : Accepted) (node : ℕ) → program.shape ≡ s.shape → node < s.shape.nodes
+    → Fits s (Stage (LoadChange node program))
 load_fits s program node shape there = (λ bad. absurd (omega arith), λ other. other.1 shape, λ bad. bad.1)
 
 unload_fits : (s : Setup) (node : ℕ) → node < s.shape.nodes → Fits s (Stage (UnloadChange node))
 unload_fits s node there = (λ bad. absurd (omega arith), λ other. other.1, λ bad. bad.1)
 
-corrupt_fits : (s : Setup) (node : ℕ) (image : List ℕ) → node < s.shape.nodes → length image ≡ s.shape.memory → Fits s (Stage (CorruptChange node image))
+corrupt_fits : (s : Setup) (node : ℕ) (image : List ℕ) → node < s.shape.nodes → length image ≡ s.shape.memory
+    → Fits s (Stage (CorruptChange node image))
 corrupt_fits s node image there whole = (λ bad. absurd (omega arith), λ other. other.1, λ bad. bad.1 whole)
 
 each_if : (s : Setup) (b : Bool) (es : List Event) → Each (Fits s) es → Each (Fits s) (if b then es else [])
@@ -75,7 +83,8 @@ each_if s false es each = tt
 abbrev LoadThere : Scenario → Load → Type 0
 LoadThere s l = HasNodes (frame_of s) (load_of l) × FitsLoad (frame_of s) l
 
-both : (s : Scenario) (ls : List Load) → Each (λ (l : Load). HasNodes (frame_of s) (load_of l)) ls → Each (FitsLoad (frame_of s)) ls → Each (LoadThere s) ls
+both : (s : Scenario) (ls : List Load) → Each (λ (l : Load). HasNodes (frame_of s) (load_of l)) ls
+    → Each (FitsLoad (frame_of s)) ls → Each (LoadThere s) ls
 both s [] there fit = tt
 both s (l ∷ ls) there fit = ((there.0, fit.0), both s ls there.1 fit.1)
 
@@ -85,10 +94,13 @@ loads_fit_at s p l there =
     (each_map (Fits (bench_of s)) (λ n. n < s.nodes) (λ node. Stage (LoadChange node l.program)) l.nodes.items
     (λ node below. load_fits (bench_of s) l.program node there.1.0 below) there.0)
 
-unloads_fit_at : (s : Scenario) (p : ℕ) (u : Unload) → HasNode (frame_of s) u → Each (Fits (bench_of s)) (unload_events p u)
-unloads_fit_at s p u there = each_if (bench_of s) (u.pulse == p) (Stage (UnloadChange u.node) ∷ []) (unload_fits (bench_of s) u.node there, tt)
+unloads_fit_at : (s : Scenario) (p : ℕ) (u : Unload) → HasNode (frame_of s) u
+    → Each (Fits (bench_of s)) (unload_events p u)
+unloads_fit_at s p u there = each_if (bench_of s) (u.pulse == p) (Stage (UnloadChange u.node) ∷ [])
+    (unload_fits (bench_of s) u.node there, tt)
 
-corruptions_fit_at : (s : Scenario) (p : ℕ) (c : Corrupt) → HasImage (frame_of s) (corrupt_of c) → Each (Fits (bench_of s)) (corrupt_events p c)
+corruptions_fit_at : (s : Scenario) (p : ℕ) (c : Corrupt) → HasImage (frame_of s) (corrupt_of c)
+    → Each (Fits (bench_of s)) (corrupt_events p c)
 corruptions_fit_at s p c there =
     each_if (bench_of s) (c.pulse == p) (Stage (CorruptChange c.node c.image.items) ∷ [])
     (corrupt_fits (bench_of s) c.node c.image.items there.0 there.1, tt)
@@ -96,11 +108,15 @@ corruptions_fit_at s p c there =
 changes_fit : (text : List ℕ) (s : Scenario) (p : ℕ) → ReadsText text s → Each (Fits (bench_of s)) (changes_at s p)
 changes_fit text s p reads =
     let b = bench_of s in
-    each_append (Fits b) (flat_map (load_events p) s.loads.items) (flat_map (unload_events p) s.unloads.items ++ flat_map (corrupt_events p) s.corruptions.items)
-    (each_flat (Fits b) (LoadThere s) (load_events p) s.loads.items (loads_fit_at s p) (both s s.loads.items (loads_there text s reads) (loads_fit text s reads)))
+    each_append (Fits b) (flat_map (load_events p) s.loads.items)
+    (flat_map (unload_events p) s.unloads.items ++ flat_map (corrupt_events p) s.corruptions.items)
+    (each_flat (Fits b) (LoadThere s) (load_events p) s.loads.items (loads_fit_at s p)
+    (both s s.loads.items (loads_there text s reads) (loads_fit text s reads)))
     (each_append (Fits b) (flat_map (unload_events p) s.unloads.items) (flat_map (corrupt_events p) s.corruptions.items)
-    (each_flat (Fits b) (HasNode (frame_of s)) (unload_events p) s.unloads.items (unloads_fit_at s p) (unloads_there text s reads))
-    (each_flat (Fits b) (λ (c : Corrupt). HasImage (frame_of s) (corrupt_of c)) (corrupt_events p) s.corruptions.items (corruptions_fit_at s p) (corruptions_there text s reads)))
+    (each_flat (Fits b) (HasNode (frame_of s)) (unload_events p) s.unloads.items (unloads_fit_at s p)
+    (unloads_there text s reads))
+    (each_flat (Fits b) (λ (c : Corrupt). HasImage (frame_of s) (corrupt_of c)) (corrupt_events p) s.corruptions.items
+    (corruptions_fit_at s p) (corruptions_there text s reads)))
 
 events_fit_to : (text : List ℕ) (s : Scenario) (n : ℕ) → ReadsText text s → Each (Fits (bench_of s)) (events_to s n)
 events_fit_to text s zero reads = tt

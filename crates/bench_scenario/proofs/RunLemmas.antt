@@ -20,10 +20,12 @@ use Rattle.bench_scenario.proofs.FitLemmas.{none_refused}
 use Rattle.bench_scenario.proofs.CountLemmas.{entries_within}
 use Rattle.bench_scenario.proofs.EventLemmas.{events_fit}
 
-extent_is : (s : Scenario) (shape : Extent) → (shape.nodes ≡ s.nodes) × (shape.memory ≡ s.memory) → shape ≡ extent_of (frame_of s)
+extent_is : (s : Scenario) (shape : Extent) → (shape.nodes ≡ s.nodes) × (shape.memory ≡ s.memory)
+    → shape ≡ extent_of (frame_of s)
 extent_is s shape same = λ k. record { nodes = same.0 k; memory = same.1 k }
 
-pub run_met : (s : Scenario) (shape : Extent) (rule : Rule) (es : List Event) (records : List PulseTold) (left : List (List ℕ))
+pub run_met : (s : Scenario) (shape : Extent) (rule : Rule) (es : List Event) (records : List PulseTold)
+    (left : List (List ℕ))
     → (shape.nodes ≡ s.nodes) × (shape.memory ≡ s.memory) → rule ≡ rule_of (frame_of s) → es ≡ events_of s
     → IsRun (setup_of shape rule) es records left → IsRun (bench_of s) (events_of s) records left
 run_met s shape rule es records left same ruled listed run =

@@ -35,7 +35,8 @@ whole_of bytes text is few = elim is.front [ inl same ↦ same | inr long ↦ le
 reports_whole : (bytes text line : List ℕ) → IsFront bytes text → Reports bytes line → Reports text line
 reports_whole bytes text line is told = subst (λ t. Reports t line) (whole_of bytes text is told.reads.1.0) told
 
-due_when : (bytes text : List ℕ) (error : ScenarioError) → IsFront bytes text → length bytes ≤ MAX_TEXT → IsDue bytes error → IsDue text error
+due_when : (bytes text : List ℕ) (error : ScenarioError) → IsFront bytes text → length bytes ≤ MAX_TEXT
+    → IsDue bytes error → IsDue text error
 due_when bytes text error is few due = subst (λ t. IsDue t error) (whole_of bytes text is few) due
 
 due_whole : (bytes text : List ℕ) (error : ScenarioError) → IsFront bytes text → IsDue bytes error → IsDue text error
@@ -43,18 +44,26 @@ due_whole bytes text errors.TooLong is due =
     elim is.front [ inl same ↦ subst (λ t. MAX_TEXT < length t) same due | inr long ↦ long.1 ]
 due_whole bytes text errors.NotToml is due = due_when bytes text errors.NotToml is due.0 due
 due_whole bytes text (errors.UnknownKey place) is due = due_when bytes text (errors.UnknownKey place) is due.1.0 due
-due_whole bytes text (errors.MissingKey place key) is due = due_when bytes text (errors.MissingKey place key) is due.1.0 due
-due_whole bytes text (errors.WrongKind place key) is due = due_when bytes text (errors.WrongKind place key) is due.1.0 due
-due_whole bytes text (errors.OutOfRange place key) is due = due_when bytes text (errors.OutOfRange place key) is due.1.0 due
-due_whole bytes text (errors.UnknownProgram load) is due = due_when bytes text (errors.UnknownProgram load) is due.1.0 due
+due_whole bytes text (errors.MissingKey place key) is due = due_when bytes text
+    (errors.MissingKey place key) is due.1.0 due
+due_whole bytes text (errors.WrongKind place key) is due = due_when bytes text
+    (errors.WrongKind place key) is due.1.0 due
+due_whole bytes text (errors.OutOfRange place key) is due = due_when bytes text
+    (errors.OutOfRange place key) is due.1.0 due
+due_whole bytes text (errors.UnknownProgram load) is due = due_when bytes text
+    (errors.UnknownProgram load) is due.1.0 due
 due_whole bytes text (errors.BadText load error) is due = due_when bytes text (errors.BadText load error) is due.1.0 due
-due_whole bytes text (errors.NotAccepted load key slot rule) is due = due_when bytes text (errors.NotAccepted load key slot rule) is due.1.0 due
+due_whole bytes text (errors.NotAccepted load key slot rule) is due = due_when bytes text
+    (errors.NotAccepted load key slot rule) is due.1.0 due
 due_whole bytes text (errors.Memory gone) is due = due
 
-stops_whole : (bytes text : List ℕ) (event : ℕ) (refusal : RunRefusal) → IsFront bytes text → StopsAt bytes event refusal → StopsAt text event refusal
-stops_whole bytes text event refusal is stops = subst (λ t. StopsAt t event refusal) (whole_of bytes text is stops.reads.1.0) stops
+stops_whole : (bytes text : List ℕ) (event : ℕ) (refusal : RunRefusal) → IsFront bytes text
+    → StopsAt bytes event refusal → StopsAt text event refusal
+stops_whole bytes text event refusal is stops = subst (λ t. StopsAt t event refusal)
+    (whole_of bytes text is stops.reads.1.0) stops
 
-fault_here : (old : Option (List ℕ)) (bytes text : List ℕ) (fault : ScenarioFault) → IsFront bytes text → Keeps old old → IsDueOf bytes fault
+fault_here : (old : Option (List ℕ)) (bytes text : List ℕ) (fault : ScenarioFault) → IsFront bytes text → Keeps old old
+    → IsDueOf bytes fault
     → LeavesReport old old text (Err fault)
 fault_here old bytes text faults.Read is kept due = absurd due
 fault_here old bytes text (faults.Refused error) is kept due = (due_whole bytes text error is due, kept)
@@ -63,8 +72,10 @@ fault_here old bytes text (faults.Write written) is kept due = absurd due
 fault_here old bytes text faults.Memory is kept due = kept
 
 -- where there is no report nothing is written
-pub fault_left : (known old : Option (List ℕ)) (bytes slice : List ℕ) (fault : ScenarioFault) (result : Result (Unit {0}) ScenarioFault)
-    → IfSome known (λ text. bytes ≡ take MOST_BYTES text) → slice ≡ bytes → Keeps old old → IsDueOf slice fault → IsErrAnd result (λ e. e ≡ fault)
+pub fault_left : (known old : Option (List ℕ)) (bytes slice : List ℕ) (fault : ScenarioFault)
+    (result : Result (Unit {0}) ScenarioFault)
+    → IfSome known (λ text. bytes ≡ take MOST_BYTES text) → slice ≡ bytes → Keeps old old → IsDueOf slice fault
+    → IsErrAnd result (λ e. e ≡ fault)
     → IfSome known (λ text. LeavesReport old old text result)
 fault_left None old bytes slice fault result taken same kept due is = tt
 fault_left (Some text) old bytes slice fault (Ok done) taken same kept due is = absurd is
@@ -72,12 +83,17 @@ fault_left (Some text) old bytes slice fault (Err e) taken same kept due is =
     subst (λ x. LeavesReport old old text (Err x)) (sym is)
     (fault_here old bytes text fault (front_of bytes text taken) kept (subst (λ b. IsDueOf b fault) same due))
 
-pub report_left : (known old new : Option (List ℕ)) (bytes line : List ℕ) → IfSome known (λ text. bytes ≡ take MOST_BYTES text) → Reports bytes line
+pub report_left : (known old new : Option (List ℕ)) (bytes line : List ℕ)
+    → IfSome known (λ text. bytes ≡ take MOST_BYTES text) → Reports bytes line
     → Appends old new line → IfSome known (λ text. LeavesReport old new text (Ok tt))
 report_left None old new bytes line taken told left = tt
-report_left (Some text) old new bytes line taken told left = (line, reports_whole bytes text line (front_of bytes text taken) told, left)
+report_left (Some text) old new bytes line taken told left =
+    (line, reports_whole bytes text line (front_of bytes text taken) told, left)
 
-pub front_left : (known old new : Option (List ℕ)) (bytes line : List ℕ) (written : ℕ) → IfSome known (λ text. bytes ≡ take MOST_BYTES text) → Reports bytes line
-    → written < length line → Appends old new (take written line) → IfSome known (λ text. LeavesReport old new text (Err (faults.Write written)))
+pub front_left : (known old new : Option (List ℕ)) (bytes line : List ℕ) (written : ℕ)
+    → IfSome known (λ text. bytes ≡ take MOST_BYTES text) → Reports bytes line
+    → written < length line → Appends old new (take written line)
+    → IfSome known (λ text. LeavesReport old new text (Err (faults.Write written)))
 front_left None old new bytes line written taken told part left = tt
-front_left (Some text) old new bytes line written taken told part left = (line, reports_whole bytes text line (front_of bytes text taken) told, part, left)
+front_left (Some text) old new bytes line written taken told part left =
+    (line, reports_whole bytes text line (front_of bytes text taken) told, part, left)

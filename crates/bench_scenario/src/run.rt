@@ -75,8 +75,8 @@ fn report_in<T: Threads + Wait + Sync>(
     Ok(line)
 }
 
-/// Reads a scenario's text, runs it on so many workers, and writes the report. At most [`MOST_BYTES`] bytes are read, by
-/// at most [`MOST_CALLS`] calls of `read`. The report is whole before its first byte is written.
+/// Reads a scenario's text, runs it on so many workers, and writes the report. At most [`MOST_BYTES`] bytes are
+/// read, by at most [`MOST_CALLS`] calls of `read`. The report is whole before its first byte is written.
 #[tactic(auto, using(crate::proofs::StreamLemmas::fault_left, crate::proofs::StreamLemmas::report_left, crate::proofs::StreamLemmas::front_left))]
 pub fn run_scenario<T: Threads + Wait + Sync, R: Read, W: Write>(
     rt: &T,

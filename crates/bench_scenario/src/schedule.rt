@@ -109,7 +109,8 @@ fn add_events(
     Ok(())
 }
 
-/// What is done to the bench of a scenario, in order: for each pulse its loads, unloads and corruptions, and then the pulse.
+/// What is done to the bench of a scenario, in order: for each pulse its loads, unloads and corruptions, and then
+/// the pulse.
 pub fn events(alloc: Global, scenario: &Scenario) -> Result<Vec<Event>, AllocError>
     ensures { IfOk result (λ es. map event_of es.items ≡ events_of scenario.now) }
 {

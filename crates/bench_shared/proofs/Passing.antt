@@ -13,25 +13,34 @@ use Rattle.bench_shared.proofs.Counting.{rows_of-push}
 abbrev pub rows_among : List Receipt → List Row
 rows_among rs = rows_in (all_placed rs)
 
-entries-push : (rs : List Receipt) (r : Receipt) → map entry_in (all_placed (rs ++ r ∷ [])) ≡ map entry_in (all_placed rs) ++ entry_of r.entry ∷ []
+entries-push : (rs : List Receipt) (r : Receipt)
+    → map entry_in (all_placed (rs ++ r ∷ [])) ≡ map entry_in (all_placed rs) ++ entry_of r.entry ∷ []
 entries-push [] r = refl
 entries-push (x ∷ xs) r = ap (λ l. entry_of x.entry ∷ l) (entries-push xs r)
 
-pub rows_after : (rs : List Receipt) (r : Receipt) (now : List Receipt) → now ≡ rs ++ r ∷ [] → rows_among now ≡ rows_among rs ++ rows_of (entry_of r.entry ∷ [])
-rows_after rs r now is = ap rows_among is ∙ ap rows_of (entries-push rs r) ∙ rows_of-push (map entry_in (all_placed rs)) (entry_of r.entry)
+pub rows_after : (rs : List Receipt) (r : Receipt) (now : List Receipt) → now ≡ rs ++ r ∷ []
+    → rows_among now ≡ rows_among rs ++ rows_of (entry_of r.entry ∷ [])
+rows_after rs r now is = ap rows_among is ∙ ap rows_of (entries-push rs r)
+    ∙ rows_of-push (map entry_in (all_placed rs)) (entry_of r.entry)
 
 -- the rows stay, where the entry is no close
-pub rows_stay : (rs : List Receipt) (r : Receipt) (now : List Receipt) → now ≡ rs ++ r ∷ [] → rows_of (entry_of r.entry ∷ []) ≡ [] → rows_among now ≡ rows_among rs
+pub rows_stay : (rs : List Receipt) (r : Receipt) (now : List Receipt) → now ≡ rs ++ r ∷ []
+    → rows_of (entry_of r.entry ∷ []) ≡ [] → rows_among now ≡ rows_among rs
 rows_stay rs r now is none = rows_after rs r now is ∙ ap (λ l. rows_among rs ++ l) none ∙ append-nil (rows_among rs)
 
-pub count_after : (rs : List Receipt) (r : Receipt) (now : List Receipt) (n m : ℕ) → now ≡ rs ++ r ∷ [] → n ≡ length rs → m ≡ n + 1 → m ≡ length now
+pub count_after : (rs : List Receipt) (r : Receipt) (now : List Receipt) (n m : ℕ) → now ≡ rs ++ r ∷ [] → n ≡ length rs
+    → m ≡ n + 1 → m ≡ length now
 count_after rs r now n m is was more = omega (arith, ap length is, length-append rs (r ∷ []))
 
 -- the receipts as plain data, with one more
-pub placed_after : (rs : List Receipt) (r : Receipt) (now : List Receipt) (was : List Placed) (e : Entry) → now ≡ rs ++ r ∷ [] → all_placed rs ≡ was
+pub placed_after : (rs : List Receipt) (r : Receipt) (now : List Receipt) (was : List Placed) (e : Entry)
+    → now ≡ rs ++ r ∷ [] → all_placed rs ≡ was
     → entry_of r.entry ≡ e → OneMore was e (all_placed now)
-placed_after rs r now was e is before entry =
-    (r.place, ap all_placed is ∙ map-append placed_of rs (r ∷ []) ∙ ap (λ l. l ++ placed_of r ∷ []) before ∙ ap (λ x. was ++ (r.place, x) ∷ []) entry)
+placed_after rs r now was e is before entry = (
+  r.place,
+  ap all_placed is ∙ map-append placed_of rs (r ∷ []) ∙ ap (λ l. l ++ placed_of r ∷ []) before
+      ∙ ap (λ x. was ++ (r.place, x) ∷ []) entry,
+)
 
 pub not_open : {P : Type 0} → false ≡ true → P
 not_open e = absurd (true≢false (sym e))

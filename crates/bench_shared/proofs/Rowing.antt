@@ -29,13 +29,16 @@ last_row-push [] r = refl
 last_row-push (x ∷ []) r = refl
 last_row-push (x ∷ y ∷ ys) r = last_row-push (y ∷ ys) r
 
-pub in_order-push : (n : ℕ) (rows : List Row) (r : Row) → InOrderFrom n rows → IsRow r → r.pulse ≡ (n + length rows) + 1 → InOrderFrom n (rows ++ r ∷ [])
+pub in_order-push : (n : ℕ) (rows : List Row) (r : Row) → InOrderFrom n rows → IsRow r
+    → r.pulse ≡ (n + length rows) + 1 → InOrderFrom n (rows ++ r ∷ [])
 in_order-push n [] r o is p = (is, omega arith, tt)
 in_order-push n (x ∷ xs) r o is p = (o.0, o.1, in_order-push (n + 1) xs r o.2 is (omega arith))
 
-pub in_order-last : (n : ℕ) (rows : List Row) (r : Row) → InOrderFrom n rows → last_row rows ≡ Some r → IsRow r × (r.pulse ≡ n + length rows)
+pub in_order-last : (n : ℕ) (rows : List Row) (r : Row) → InOrderFrom n rows → last_row rows ≡ Some r
+    → IsRow r × (r.pulse ≡ n + length rows)
 in_order-last n [] r o e = absurd (cc)
-in_order-last n (x ∷ []) r o e = let same : x ≡ r = cc in subst (λ (y : Row). IsRow y × (y.pulse ≡ n + 1)) same (o.0, o.1)
+in_order-last n (x ∷ []) r o e = let same : x ≡ r = cc in
+    subst (λ (y : Row). IsRow y × (y.pulse ≡ n + 1)) same (o.0, o.1)
 in_order-last n (x ∷ y ∷ ys) r o e = let h = in_order-last (n + 1) (y ∷ ys) r o.2 e in (h.0, omega (arith, h.1))
 
 pub in_order-none : (n : ℕ) (rows : List Row) → last_row rows ≡ None → length rows ≡ 0
@@ -58,8 +61,10 @@ short_of-injective : (a b : ℕ) → IsCommon a → IsCommon b → short_of a �
 short_of-injective a b h k e = grind (arith, nat_tests)
 
 -- the parts of a word
-digits : (p q a b c d e f : ℕ) → a ≤ MOST_MODULUS → b ≤ MOST_MODULUS → c ≤ MOST_COUNTED → d ≤ MOST_COUNTED → e ≤ MOST_COUNTED → f ≤ MOST_COUNTED
-    → ((p * PULSE_UNIT + a * COMMON_UNIT) + c * ZERO_UNIT) + e ≡ ((q * PULSE_UNIT + b * COMMON_UNIT) + d * ZERO_UNIT) + f
+digits : (p q a b c d e f : ℕ) → a ≤ MOST_MODULUS → b ≤ MOST_MODULUS → c ≤ MOST_COUNTED → d ≤ MOST_COUNTED
+    → e ≤ MOST_COUNTED → f ≤ MOST_COUNTED
+    → ((p * PULSE_UNIT + a * COMMON_UNIT) + c * ZERO_UNIT) + e ≡
+    ((q * PULSE_UNIT + b * COMMON_UNIT) + d * ZERO_UNIT) + f
     → (p ≡ q) × (a ≡ b) × (c ≡ d) × (e ≡ f)
 digits p q a b c d e f ha hb hc hd he hf eq = (omega arith, omega arith, omega arith, omega arith)
 

@@ -22,7 +22,8 @@ looked old n me is l =
       subst (λ rows. StartsWith rows old.0.rows) (sym r) l.4,
     )
 
-pub found : (rows : List Row) (n : ℕ) (o : Option Row) → n ≡ word_at rows → InOrder rows → (n ≡ 0 → o ≡ None) → ((r : Row) → IsRow r → n ≡ word_of r → o ≡ Some r) → o ≡ last_row rows
+pub found : (rows : List Row) (n : ℕ) (o : Option Row) → n ≡ word_at rows → InOrder rows → (n ≡ 0 → o ≡ None)
+    → ((r : Row) → IsRow r → n ≡ word_of r → o ≡ Some r) → o ≡ last_row rows
 found rows n o is order none_is some_is = by_last (last_row rows) refl
   where
     by_last : (l : Option Row) → last_row rows ≡ l → o ≡ last_row rows
@@ -36,11 +37,13 @@ last_pulse rows order = by_last (last_row rows) refl
     by_last None e = ap pulse_of e ∙ sym (in_order-none 0 rows e)
     by_last (Some r) e = ap pulse_of e ∙ omega (arith, (in_order-last 0 rows r order e).1)
 
-pub posted : (old : SeatMe) (n : ℕ) (me : SeatMe) (r : Row) → old ≡ (engine old.0.rows, []) → InOrder old.0.rows → IsRow r → n ≡ word_of r → r.pulse ≡ length old.0.rows + 1 → Posts (step 0 0 0 0 none) old n me
+pub posted : (old : SeatMe) (n : ℕ) (me : SeatMe) (r : Row) → old ≡ (engine old.0.rows, []) → InOrder old.0.rows
+    → IsRow r → n ≡ word_of r → r.pulse ≡ length old.0.rows + 1 → Posts (step 0 0 0 0 none) old n me
     → (me ≡ (engine me.0.rows, [])) × (me.0.rows ≡ old.0.rows ++ r ∷ []) × InOrder me.0.rows
 posted old n me r is order ranges word next p =
     let same : p.0 ≡ r = word_of-injective p.0 r p.1 ranges (p.2 ∙ word) in
-    let rows : me.0.rows ≡ old.0.rows ++ r ∷ [] = ap (λ (m : SeatMe). m.0.rows) p.3 ∙ ap (λ x. old.0.rows ++ x ∷ []) same in (
+    let rows : me.0.rows ≡ old.0.rows ++ r ∷ [] = ap (λ (m : SeatMe). m.0.rows) p.3
+    ∙ ap (λ x. old.0.rows ++ x ∷ []) same in (
       p.3 ∙ (λ i. (engine (ap (λ (m : SeatMe). m.0.rows) (sym p.3) i), ap (λ (m : SeatMe). m.1) is i)),
       rows,
       subst (λ l. InOrder l) (sym rows) (in_order-push 0 old.0.rows r order ranges (omega (arith, next))),

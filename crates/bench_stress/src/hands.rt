@@ -83,7 +83,8 @@ fn all_pulses<B: Ledger, C: Ledger, R: Threads + Wait + Sync>(
     None
 }
 
-/// Starts the loaders, runs the pulses beside them, and waits for the loaders. Where a loader can't be started no pulse is run.
+/// Starts the loaders, runs the pulses beside them, and waits for the loaders. Where a loader can't be started no
+/// pulse is run.
 fn run_in<'s, E, B: Ledger + Send + Sync, C: Ledger + Send + Sync, R: Threads + Wait + Sync>(
     scope: &Scope<'s, E>,
     rt: &'s R,
@@ -205,8 +206,8 @@ fn hands<B: Ledger + Send + Sync, C: Ledger + Send + Sync, R: Threads + Wait + S
     }
 }
 
-/// Lets loaders and an engine work on one bench at once, in threads of their own, and gives the bench's history where it is
-/// what their receipts say. A number of loaders or workers that is none is the nearest that is one.
+/// Lets loaders and an engine work on one bench at once, in threads of their own, and gives the bench's history
+/// where it is what their receipts say. A number of loaders or workers that is none is the nearest that is one.
 pub fn stress_bench<R: Threads + Wait + Sync>(
     rt: &R,
     alloc: Global,

@@ -29,17 +29,35 @@ pub before_more : (p : List Insn) (k : ℕ) → insns_before p (suc k) ≡ insns
 before_more [] k = refl
 before_more (i ∷ p) k = step (slots_taken i) k (one_or_two i) (λ m. before_more p m)
   where
-    step : (n k : ℕ) → (n ≡ 1) ⊎ (n ≡ 2) → ((m : ℕ) → insns_before p (suc m) ≡ insns_before p m ++ found_insns (insn_at p m))
+    step : (n k : ℕ) → (n ≡ 1) ⊎ (n ≡ 2) → ((m : ℕ)
+        → insns_before p (suc m) ≡ insns_before p m ++ found_insns (insn_at p m))
         → cond (suc k == 0) [] (i ∷ insns_before p (suc k - n))
-        ≡ cond (k == 0) [] (i ∷ insns_before p (k - n)) ++ found_insns (cond (k == 0) (Some i) (cond (nat_lt k n) None (insn_at p (k - n))))
+        ≡ cond (k == 0) [] (i ∷ insns_before p (k - n))
+        ++ found_insns (cond (k == 0) (Some i) (cond (nat_lt k n) None (insn_at p (k - n))))
     step n zero (inl e) h = rw (e, before_none p) refl
     step n zero (inr e) h = rw (e, before_none p) refl
     step n (suc k) (inl e) h =
-        rw (e, ne_eqb (suc (suc k)) 0 (λ z. omega arith), ne_eqb (suc k) 0 (λ z. omega arith), le-ltb (suc k) 1 (omega arith), same_place (suc k), same_place k)
+        rw (
+          e,
+          ne_eqb (suc (suc k)) 0 (λ z. omega arith),
+          ne_eqb (suc k) 0 (λ z. omega arith),
+          le-ltb (suc k) 1
+              (omega arith),
+          same_place (suc k),
+          same_place k,
+        )
         (ap (λ (q : List Insn). i ∷ q) (h k))
     step n (suc zero) (inr e) h = rw (e, before_none p) refl
     step n (suc (suc k)) (inr e) h =
-        rw (e, ne_eqb (suc (suc (suc k))) 0 (λ z. omega arith), ne_eqb (suc (suc k)) 0 (λ z. omega arith), le-ltb (suc (suc k)) 2 (omega arith), second_place (suc k), second_place k)
+        rw (
+          e,
+          ne_eqb (suc (suc (suc k))) 0 (λ z. omega arith),
+          ne_eqb (suc (suc k)) 0 (λ z. omega arith),
+          le-ltb
+              (suc (suc k)) 2 (omega arith),
+          second_place (suc k),
+          second_place k,
+        )
         (ap (λ (q : List Insn). i ∷ q) (h k))
 
 -- all of them begin before the end
@@ -47,14 +65,16 @@ pub before_all : (p : List Insn) → insns_before p (slots_of p) ≡ p
 before_all [] = refl
 before_all (i ∷ p) = step (slots_taken i) (slots_of (i ∷ p)) (one_or_two i) (slots_of-cons i p) (before_all p)
   where
-    step : (n m : ℕ) → (n ≡ 1) ⊎ (n ≡ 2) → m ≡ n + slots_of p → insns_before p (slots_of p) ≡ p → cond (m == 0) [] (i ∷ insns_before p (m - n)) ≡ i ∷ p
+    step : (n m : ℕ) → (n ≡ 1) ⊎ (n ≡ 2) → m ≡ n + slots_of p → insns_before p (slots_of p) ≡ p
+        → cond (m == 0) [] (i ∷ insns_before p (m - n)) ≡ i ∷ p
     step n m some e h =
         let left : m - n ≡ slots_of p = omega arith in
         let filled : (m == 0) ≡ false = ne_eqb m 0 (λ z. elim some [ inl one ↦ omega arith | inr two ↦ omega arith ]) in
         rw (filled, left, h) refl
 
 -- the next slot adds the line of the instruction that begins there
-pub text_more : (p : List Insn) (k : ℕ) (text more : List ℕ) → text ≡ canonical_text (insns_before p k) → more ≡ text ++ canonical_text (found_insns (insn_at p k))
+pub text_more : (p : List Insn) (k : ℕ) (text more : List ℕ) → text ≡ canonical_text (insns_before p k)
+    → more ≡ text ++ canonical_text (found_insns (insn_at p k))
     → more ≡ canonical_text (insns_before p (k + 1))
 text_more p k text more before e =
     e ∙ ap (λ (t : List ℕ). t ++ canonical_text (found_insns (insn_at p k))) before

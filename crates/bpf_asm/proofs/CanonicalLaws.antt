@@ -59,13 +59,16 @@ behind_letter c text letter o = record {
 signed_operand : (most : ℕ) (z : ℤ) → most < 2 ^ 32 → Within most z → IsOperand (signed_decimal z)
 signed_operand most (pos n) small within = decimal_operand n (omega arith)
 signed_operand most (negsuc n) small within =
-    behind_letter 45 (decimal (suc n)) (record { comma = refl; blank = refl; line = refl; hash = refl }) (decimal_operand (suc n) (omega arith))
+    behind_letter 45 (decimal (suc n)) (record { comma = refl; blank = refl; line = refl; hash = refl })
+    (decimal_operand (suc n) (omega arith))
 
 sign_operand : (most : ℕ) (z : ℤ) → most < 2 ^ 32 → Within most z → IsOperand (with_sign z)
 sign_operand most (pos n) small within =
-    behind_letter 43 (decimal n) (record { comma = refl; blank = refl; line = refl; hash = refl }) (decimal_operand n (omega arith))
+    behind_letter 43 (decimal n) (record { comma = refl; blank = refl; line = refl; hash = refl })
+    (decimal_operand n (omega arith))
 sign_operand most (negsuc n) small within =
-    behind_letter 45 (decimal (suc n)) (record { comma = refl; blank = refl; line = refl; hash = refl }) (decimal_operand (suc n) (omega arith))
+    behind_letter 45 (decimal (suc n)) (record { comma = refl; blank = refl; line = refl; hash = refl })
+    (decimal_operand (suc n) (omega arith))
 
 -- what the reader needs of a register's word
 record IsRegister (r : Reg) : Type 0 where
@@ -76,17 +79,83 @@ record IsRegister (r : Reg) : Type 0 where
   begins : register_word r ≡ 114 ∷ rest
 
 registers : (r : Reg) → IsRegister r
-registers R0 = record { operand = record { comma = refl; blank = refl; line = refl; hash = refl }; closing = refl; letters = refl; rest = codes "0"; begins = refl }
-registers R1 = record { operand = record { comma = refl; blank = refl; line = refl; hash = refl }; closing = refl; letters = refl; rest = codes "1"; begins = refl }
-registers R2 = record { operand = record { comma = refl; blank = refl; line = refl; hash = refl }; closing = refl; letters = refl; rest = codes "2"; begins = refl }
-registers R3 = record { operand = record { comma = refl; blank = refl; line = refl; hash = refl }; closing = refl; letters = refl; rest = codes "3"; begins = refl }
-registers R4 = record { operand = record { comma = refl; blank = refl; line = refl; hash = refl }; closing = refl; letters = refl; rest = codes "4"; begins = refl }
-registers R5 = record { operand = record { comma = refl; blank = refl; line = refl; hash = refl }; closing = refl; letters = refl; rest = codes "5"; begins = refl }
-registers R6 = record { operand = record { comma = refl; blank = refl; line = refl; hash = refl }; closing = refl; letters = refl; rest = codes "6"; begins = refl }
-registers R7 = record { operand = record { comma = refl; blank = refl; line = refl; hash = refl }; closing = refl; letters = refl; rest = codes "7"; begins = refl }
-registers R8 = record { operand = record { comma = refl; blank = refl; line = refl; hash = refl }; closing = refl; letters = refl; rest = codes "8"; begins = refl }
-registers R9 = record { operand = record { comma = refl; blank = refl; line = refl; hash = refl }; closing = refl; letters = refl; rest = codes "9"; begins = refl }
-registers R10 = record { operand = record { comma = refl; blank = refl; line = refl; hash = refl }; closing = refl; letters = refl; rest = codes "10"; begins = refl }
+registers R0 = record {
+  operand = record { comma = refl; blank = refl; line = refl; hash = refl };
+  closing = refl;
+  letters = refl;
+  rest = codes "0";
+  begins = refl;
+}
+registers R1 = record {
+  operand = record { comma = refl; blank = refl; line = refl; hash = refl };
+  closing = refl;
+  letters = refl;
+  rest = codes "1";
+  begins = refl;
+}
+registers R2 = record {
+  operand = record { comma = refl; blank = refl; line = refl; hash = refl };
+  closing = refl;
+  letters = refl;
+  rest = codes "2";
+  begins = refl;
+}
+registers R3 = record {
+  operand = record { comma = refl; blank = refl; line = refl; hash = refl };
+  closing = refl;
+  letters = refl;
+  rest = codes "3";
+  begins = refl;
+}
+registers R4 = record {
+  operand = record { comma = refl; blank = refl; line = refl; hash = refl };
+  closing = refl;
+  letters = refl;
+  rest = codes "4";
+  begins = refl;
+}
+registers R5 = record {
+  operand = record { comma = refl; blank = refl; line = refl; hash = refl };
+  closing = refl;
+  letters = refl;
+  rest = codes "5";
+  begins = refl;
+}
+registers R6 = record {
+  operand = record { comma = refl; blank = refl; line = refl; hash = refl };
+  closing = refl;
+  letters = refl;
+  rest = codes "6";
+  begins = refl;
+}
+registers R7 = record {
+  operand = record { comma = refl; blank = refl; line = refl; hash = refl };
+  closing = refl;
+  letters = refl;
+  rest = codes "7";
+  begins = refl;
+}
+registers R8 = record {
+  operand = record { comma = refl; blank = refl; line = refl; hash = refl };
+  closing = refl;
+  letters = refl;
+  rest = codes "8";
+  begins = refl;
+}
+registers R9 = record {
+  operand = record { comma = refl; blank = refl; line = refl; hash = refl };
+  closing = refl;
+  letters = refl;
+  rest = codes "9";
+  begins = refl;
+}
+registers R10 = record {
+  operand = record { comma = refl; blank = refl; line = refl; hash = refl };
+  closing = refl;
+  letters = refl;
+  rest = codes "10";
+  begins = refl;
+}
 
 -- what it needs of a helper's word: it begins with a letter
 record IsHelper (h : Helper) : Type 0 where
@@ -97,14 +166,40 @@ record IsHelper (h : Helper) : Type 0 where
   letter : 57 < first
 
 helpers : (h : Helper) → IsHelper h
-helpers Id = record { operand = record { comma = refl; blank = refl; line = refl; hash = refl }; first = 105; rest = codes "d"; begins = refl; letter = omega arith }
-helpers Recv = record { operand = record { comma = refl; blank = refl; line = refl; hash = refl }; first = 114; rest = codes "ecv"; begins = refl; letter = omega arith }
-helpers Send = record { operand = record { comma = refl; blank = refl; line = refl; hash = refl }; first = 115; rest = codes "end"; begins = refl; letter = omega arith }
-helpers Coin = record { operand = record { comma = refl; blank = refl; line = refl; hash = refl }; first = 99; rest = codes "oin"; begins = refl; letter = omega arith }
+helpers Id = record {
+  operand = record { comma = refl; blank = refl; line = refl; hash = refl };
+  first = 105;
+  rest = codes "d";
+  begins = refl;
+  letter = omega arith;
+}
+helpers Recv = record {
+  operand = record { comma = refl; blank = refl; line = refl; hash = refl };
+  first = 114;
+  rest = codes "ecv";
+  begins = refl;
+  letter = omega arith;
+}
+helpers Send = record {
+  operand = record { comma = refl; blank = refl; line = refl; hash = refl };
+  first = 115;
+  rest = codes "end";
+  begins = refl;
+  letter = omega arith;
+}
+helpers Coin = record {
+  operand = record { comma = refl; blank = refl; line = refl; hash = refl };
+  first = 99;
+  rest = codes "oin";
+  begins = refl;
+  letter = omega arith;
+}
 
 -- a number begins with no letter
-no_letter : (most : ℕ) (z : ℤ) → most < 2 ^ 32 → Within most z → (c : ℕ) (cs : List ℕ) → signed_decimal z ≡ c ∷ cs → c ≤ 57
-no_letter most (pos n) small within c cs same = (first_digit (decimal n) (decimal_is_IsNumeral n (omega arith)).0 c cs same).1
+no_letter : (most : ℕ) (z : ℤ) → most < 2 ^ 32 → Within most z → (c : ℕ) (cs : List ℕ) → signed_decimal z ≡ c ∷ cs
+    → c ≤ 57
+no_letter most (pos n) small within c cs same =
+    (first_digit (decimal n) (decimal_is_IsNumeral n (omega arith)).0 c cs same).1
 no_letter most (negsuc n) small within c cs same = let e : 45 ≡ c = cc in omega arith
 
 no_register : (most : ℕ) (z : ℤ) → most < 2 ^ 32 → Within most z → register_by_word (signed_decimal z) ≡ None
@@ -114,7 +209,8 @@ no_register most z small within = by_found (register_by_word (signed_decimal z))
     by_found None found = refl
     by_found (Some r) found =
         let r_word = registers r in
-        let low = no_letter most z small within 114 r_word.rest (register_word_named (signed_decimal z) r found ∙ r_word.begins) in
+        let low = no_letter most z small within 114 r_word.rest
+        (register_word_named (signed_decimal z) r found ∙ r_word.begins) in
         absurd (omega (arith, low))
 
 no_helper : (most : ℕ) (z : ℤ) → most < 2 ^ 32 → Within most z → helper_by_word (signed_decimal z) ≡ None
@@ -124,14 +220,16 @@ no_helper most z small within = by_found (helper_by_word (signed_decimal z)) ref
     by_found None found = refl
     by_found (Some h) found =
         let h_word = helpers h in
-        let low = no_letter most z small within h_word.first h_word.rest (helper_word_named (signed_decimal z) h found ∙ h_word.begins) in
+        let low = no_letter most z small within h_word.first h_word.rest
+        (helper_word_named (signed_decimal z) h found ∙ h_word.begins) in
         absurd (omega (arith, low, h_word.letter))
 
 -- ---- operands are read back
 
 immediate_read : (z : ℤ) → FitsSigned w32 z → immediate_of (signed_decimal z) ≡ Some z
 immediate_read z fits =
-    ap (option_and_then (in_field 2147483647)) (number-signed 2147483647 z (omega arith) (within32 z fits)) ∙ in_field-written 2147483647 z (within32 z fits)
+    ap (option_and_then (in_field 2147483647)) (number-signed 2147483647 z (omega arith) (within32 z fits))
+    ∙ in_field-written 2147483647 z (within32 z fits)
 
 -- the operand of a source
 abbrev SourceInRange : Operand → Type 0
@@ -152,35 +250,46 @@ callee_operand : (id : ℤ) → FitsSigned w32 id → (found : Option Helper) �
 callee_operand id fits None = signed_operand 2147483647 id (omega arith) (within32 id fits)
 callee_operand id fits (Some h) = (helpers h).operand
 
-callee_read : (id : ℤ) → FitsSigned w32 id → (found : Option Helper) → helper_by_number id ≡ found → helper_of (callee_text id found) ≡ Some id
+callee_read : (id : ℤ) → FitsSigned w32 id → (found : Option Helper) → helper_by_number id ≡ found
+    → helper_of (callee_text id found) ≡ Some id
 callee_read id fits None found =
-    ap (λ o. id_by o (signed_decimal id)) (no_helper 2147483647 id (omega arith) (within32 id fits)) ∙ immediate_read id fits
-callee_read id fits (Some h) found = ap (λ o. id_by o (helper_word h)) (helper_named h) ∙ ap Some (sym (helper_number_named id h found))
+    ap (λ o. id_by o (signed_decimal id)) (no_helper 2147483647 id (omega arith) (within32 id fits))
+    ∙ immediate_read id fits
+callee_read id fits (Some h) found = ap (λ o. id_by o (helper_word h)) (helper_named h)
+    ∙ ap Some (sym (helper_number_named id h found))
 
 target_read : (most : ℕ) (z : ℤ) → most < 2 ^ 32 → Within most z → target_of most (with_sign z) ≡ Some (distance z)
 target_read most (pos n) small within =
-    ap (λ o. option_map distance (option_and_then (in_field most) o)) (signed_number-sign (numeral_of 10) numeral-decimal most (pos n) small within)
+    ap (λ o. option_map distance (option_and_then (in_field most) o))
+    (signed_number-sign (numeral_of 10) numeral-decimal most (pos n) small within)
     ∙ ap (option_map distance) (in_field-written most (pos n) within)
 target_read most (negsuc n) small within =
-    ap (λ o. option_map distance (option_and_then (in_field most) o)) (signed_number-sign (numeral_of 10) numeral-decimal most (negsuc n) small within)
+    ap (λ o. option_map distance (option_and_then (in_field most) o))
+    (signed_number-sign (numeral_of 10) numeral-decimal most (negsuc n) small within)
     ∙ ap (option_map distance) (in_field-written most (negsuc n) within)
 
 offset_read : (z : ℤ) → Within 32767 z → offset_of (with_sign z) ≡ Some z
 offset_read (pos n) within =
-    ap (option_and_then (in_field 32767)) (signed_number-sign magnitude_of magnitude-decimal 32767 (pos n) (omega arith) within) ∙ in_field-written 32767 (pos n) within
+    ap (option_and_then (in_field 32767)) (signed_number-sign magnitude_of magnitude-decimal 32767 (pos n)
+    (omega arith) within) ∙ in_field-written 32767 (pos n) within
 offset_read (negsuc n) within =
-    ap (option_and_then (in_field 32767)) (signed_number-sign magnitude_of magnitude-decimal 32767 (negsuc n) (omega arith) within) ∙ in_field-written 32767 (negsuc n) within
+    ap (option_and_then (in_field 32767)) (signed_number-sign magnitude_of magnitude-decimal 32767 (negsuc n)
+    (omega arith) within) ∙ in_field-written 32767 (negsuc n) within
 
 -- a sign is no letter of a word, and no bracket
-sign_ends : (z : ℤ) → (front_of is_word_letter (with_sign z) ≡ []) × (rest_of is_word_letter (with_sign z) ≡ with_sign z)
+sign_ends : (z : ℤ) → (front_of is_word_letter (with_sign z) ≡ [])
+    × (rest_of is_word_letter (with_sign z) ≡ with_sign z)
 sign_ends (pos n) = (refl, refl)
 sign_ends (negsuc n) = (refl, refl)
 
 sign_open : (z : ℤ) → Within 32767 z → IsPlain (λ c. c == 93) (with_sign z)
-sign_open (pos n) within = plain-append (λ c. c == 93) (43 ∷ []) (decimal n) refl (decimal_plain (λ c. c == 93) (no_digit 93 (inr (omega arith))) n (omega arith))
-sign_open (negsuc n) within = plain-append (λ c. c == 93) (45 ∷ []) (decimal (suc n)) refl (decimal_plain (λ c. c == 93) (no_digit 93 (inr (omega arith))) (suc n) (omega arith))
+sign_open (pos n) within = plain-append (λ c. c == 93) (43 ∷ []) (decimal n) refl
+    (decimal_plain (λ c. c == 93) (no_digit 93 (inr (omega arith))) n (omega arith))
+sign_open (negsuc n) within = plain-append (λ c. c == 93) (45 ∷ []) (decimal (suc n)) refl
+    (decimal_plain (λ c. c == 93) (no_digit 93 (inr (omega arith))) (suc n) (omega arith))
 
-address_read : (base : Reg) (off : ℤ) → FitsSigned w16 off → address_of (address_text base off) ≡ Some (record { base = base; off = off })
+address_read : (base : Reg) (off : ℤ) → FitsSigned w16 off
+    → address_of (address_text base off) ≡ Some (record { base = base; off = off })
 address_read base off fits =
     let within = within16 off fits in
     let r = registers base in
@@ -188,11 +297,14 @@ address_read base off fits =
     let sign = with_sign off in
     let inside : pieces_of (λ c. c == 93) (word ++ (sign ++ (93 ∷ []))) ≡ (word ++ sign) ∷ [] ∷ [] =
     ap (pieces_of (λ c. c == 93)) (sym (append_assoc word sign (93 ∷ [])))
-    ∙ piece-mark (λ c. c == 93) (word ++ sign) 93 [] (plain-append (λ c. c == 93) word sign r.closing (sign_open off within)) refl in
+    ∙ piece-mark (λ c. c == 93) (word ++ sign) 93 []
+    (plain-append (λ c. c == 93) word sign r.closing (sign_open off within)) refl in
     let ends = sign_ends off in
     ap address_between inside
-    ∙ ap (λ w. option_map address_by (option_both (register_by_word w) (offset_of (rest_of is_word_letter (word ++ sign))))) (front_before is_word_letter word sign r.letters ends.0)
-    ∙ ap (λ o. option_map address_by (option_both (register_by_word word) (offset_of o))) (rest_behind is_word_letter word sign r.letters ends.1)
+    ∙ ap (λ w. option_map address_by (option_both (register_by_word w)
+    (offset_of (rest_of is_word_letter (word ++ sign))))) (front_before is_word_letter word sign r.letters ends.0)
+    ∙ ap (λ o. option_map address_by (option_both (register_by_word word) (offset_of o)))
+    (rest_behind is_word_letter word sign r.letters ends.1)
     ∙ ap (λ o. option_map address_by (option_both o (offset_of sign))) (register_named base)
     ∙ ap (λ o. option_map address_by (option_both (Some base) o)) (offset_read off within)
 
@@ -200,11 +312,16 @@ address_operand : (base : Reg) (off : ℤ) → FitsSigned w16 off → IsOperand 
 address_operand base off fits =
     let r = (registers base).operand in
     let s = sign_operand 32767 off (omega arith) (within16 off fits) in
-    behind_letter 91 (register_word base ++ (with_sign off ++ (93 ∷ []))) (record { comma = refl; blank = refl; line = refl; hash = refl }) (record {
-      comma = plain-append (λ d. d == 44) (register_word base) (with_sign off ++ (93 ∷ [])) r.comma (plain-append (λ d. d == 44) (with_sign off) (93 ∷ []) s.comma refl);
-      blank = plain-append is_blank (register_word base) (with_sign off ++ (93 ∷ [])) r.blank (plain-append is_blank (with_sign off) (93 ∷ []) s.blank refl);
-      line = plain-append (λ d. d == 10) (register_word base) (with_sign off ++ (93 ∷ [])) r.line (plain-append (λ d. d == 10) (with_sign off) (93 ∷ []) s.line refl);
-      hash = plain-append (λ d. d == 35) (register_word base) (with_sign off ++ (93 ∷ [])) r.hash (plain-append (λ d. d == 35) (with_sign off) (93 ∷ []) s.hash refl);
+    behind_letter 91 (register_word base ++ (with_sign off ++ (93 ∷ [])))
+    (record { comma = refl; blank = refl; line = refl; hash = refl }) (record {
+      comma = plain-append (λ d. d == 44) (register_word base) (with_sign off ++ (93 ∷ [])) r.comma
+          (plain-append (λ d. d == 44) (with_sign off) (93 ∷ []) s.comma refl);
+      blank = plain-append is_blank (register_word base) (with_sign off ++ (93 ∷ [])) r.blank
+          (plain-append is_blank (with_sign off) (93 ∷ []) s.blank refl);
+      line = plain-append (λ d. d == 10) (register_word base) (with_sign off ++ (93 ∷ [])) r.line
+          (plain-append (λ d. d == 10) (with_sign off) (93 ∷ []) s.line refl);
+      hash = plain-append (λ d. d == 35) (register_word base) (with_sign off ++ (93 ∷ [])) r.hash
+          (plain-append (λ d. d == 35) (with_sign off) (93 ∷ []) s.hash refl);
     })
 
 wide_read : (n : ℕ) → n < 2 ^ 64 → wide_number_of (decimal n) ≡ Some n
@@ -215,7 +332,8 @@ wide_read n small =
 -- ---- operands between commas
 
 operands_one : (a : List ℕ) → IsOperand a → operands_of (32 ∷ a) ≡ one a
-operands_one a o = ap (λ ps. operands_by (map trimmed ps)) (piece-alone (λ c. c == 44) (32 ∷ a) o.comma) ∙ ap one (trimmed_behind a o.blank)
+operands_one a o = ap (λ ps. operands_by (map trimmed ps)) (piece-alone (λ c. c == 44) (32 ∷ a) o.comma)
+    ∙ ap one (trimmed_behind a o.blank)
 
 operands_two : (a b : List ℕ) → IsOperand a → IsOperand b → operands_of (32 ∷ (a ++ (44 ∷ 32 ∷ b))) ≡ two a b
 operands_two a b oa ob =
@@ -223,15 +341,20 @@ operands_two a b oa ob =
     ∙ ap (λ ps. operands_by (trimmed (32 ∷ a) ∷ map trimmed ps)) (piece-alone (λ c. c == 44) (32 ∷ b) ob.comma)
     ∙ ap (λ x. two x (trimmed (32 ∷ b))) (trimmed_behind a oa.blank) ∙ ap (two a) (trimmed_behind b ob.blank)
 
-operands_three : (a b c : List ℕ) → IsOperand a → IsOperand b → IsOperand c → operands_of (32 ∷ (a ++ (44 ∷ 32 ∷ (b ++ (44 ∷ 32 ∷ c))))) ≡ three a b c
+operands_three : (a b c : List ℕ) → IsOperand a → IsOperand b → IsOperand c
+    → operands_of (32 ∷ (a ++ (44 ∷ 32 ∷ (b ++ (44 ∷ 32 ∷ c))))) ≡ three a b c
 operands_three a b c oa ob oc =
-    ap (λ ps. operands_by (map trimmed ps)) (piece-mark (λ d. d == 44) (32 ∷ a) 44 (32 ∷ (b ++ (44 ∷ 32 ∷ c))) oa.comma refl)
-    ∙ ap (λ ps. operands_by (trimmed (32 ∷ a) ∷ map trimmed ps)) (piece-mark (λ d. d == 44) (32 ∷ b) 44 (32 ∷ c) ob.comma refl)
-    ∙ ap (λ ps. operands_by (trimmed (32 ∷ a) ∷ trimmed (32 ∷ b) ∷ map trimmed ps)) (piece-alone (λ d. d == 44) (32 ∷ c) oc.comma)
+    ap (λ ps. operands_by (map trimmed ps)) (piece-mark (λ d. d == 44) (32 ∷ a) 44
+    (32 ∷ (b ++ (44 ∷ 32 ∷ c))) oa.comma refl)
+    ∙ ap (λ ps. operands_by (trimmed (32 ∷ a) ∷ map trimmed ps))
+    (piece-mark (λ d. d == 44) (32 ∷ b) 44 (32 ∷ c) ob.comma refl)
+    ∙ ap (λ ps. operands_by (trimmed (32 ∷ a) ∷ trimmed (32 ∷ b) ∷ map trimmed ps))
+    (piece-alone (λ d. d == 44) (32 ∷ c) oc.comma)
     ∙ ap (λ x. three x (trimmed (32 ∷ b)) (trimmed (32 ∷ c))) (trimmed_behind a oa.blank)
     ∙ ap (λ x. three a x (trimmed (32 ∷ c))) (trimmed_behind b ob.blank) ∙ ap (three a b) (trimmed_behind c oc.blank)
 
-both_read : {A B : Type 0} (x : Option A) (y : Option B) (a : A) (b : B) → x ≡ Some a → y ≡ Some b → option_both x y ≡ Some (a, b)
+both_read : {A B : Type 0} (x : Option A) (y : Option B) (a : A) (b : B) → x ≡ Some a → y ≡ Some b
+    → option_both x y ≡ Some (a, b)
 both_read x y a b first second = ap (λ o. option_both o y) first ∙ ap (option_both (Some a)) second
 
 -- ---- each form
@@ -239,62 +362,88 @@ both_read x y a b first second = ap (λ o. option_both o y) first ∙ ap (option
 abbrev InsnReads : Insn → Type 0
 InsnReads i = source_by (form_in i) (operands_of (after_word (operand_texts i))) ≡ Some (whole i)
 
-branch_reads : (cond : _) (width : _) (dst : Reg) (src : Operand) (off : ℤ) → SourceInRange src → FitsSigned w16 off → InsnReads (insn.Branch cond width dst src off)
+branch_reads : (cond : _) (width : _) (dst : Reg) (src : Operand) (off : ℤ) → SourceInRange src → FitsSigned w16 off
+    → InsnReads (insn.Branch cond width dst src off)
 branch_reads cond width dst src off in_range fits =
-    ap (source_by (forms.Branch cond width)) (operands_three (register_word dst) (operand_text src) (with_sign off) (registers dst).operand (source_operand src in_range) (sign_operand 32767 off (omega arith) (within16 off fits)))
+    ap (source_by (forms.Branch cond width)) (operands_three (register_word dst) (operand_text src) (with_sign off)
+    (registers dst).operand (source_operand src in_range)
+    (sign_operand 32767 off (omega arith) (within16 off fits)))
     ∙ ap (option_map (λ x. jump_to (insn.Branch cond width x.0 x.1.0) x.1.1))
-    (both_read (register_by_word (register_word dst)) (option_both (operand_of (operand_text src)) (target_of 32767 (with_sign off))) dst (src, distance off) (register_named dst)
-    (both_read (operand_of (operand_text src)) (target_of 32767 (with_sign off)) src (distance off) (source_read src in_range) (target_read 32767 off (omega arith) (within16 off fits))))
+    (both_read (register_by_word (register_word dst))
+    (option_both (operand_of (operand_text src)) (target_of 32767 (with_sign off))) dst (src, distance off)
+    (register_named dst)
+    (both_read (operand_of (operand_text src)) (target_of 32767 (with_sign off)) src (distance off)
+    (source_read src in_range) (target_read 32767 off (omega arith) (within16 off fits))))
 
 alu_reads : (op : _) (width : _) (dst : Reg) (src : Operand) → SourceInRange src → InsnReads (insn.Alu op width dst src)
 alu_reads op width dst src in_range =
-    ap (source_by (forms.Alu op width)) (operands_two (register_word dst) (operand_text src) (registers dst).operand (source_operand src in_range))
+    ap (source_by (forms.Alu op width)) (operands_two (register_word dst) (operand_text src) (registers dst).operand
+    (source_operand src in_range))
     ∙ ap (option_map (λ x. whole (insn.Alu op width x.0 x.1)))
-    (both_read (register_by_word (register_word dst)) (operand_of (operand_text src)) dst src (register_named dst) (source_read src in_range))
+    (both_read (register_by_word (register_word dst)) (operand_of (operand_text src)) dst src (register_named dst)
+    (source_read src in_range))
 
 insn_reads : (i : Insn) → InRange i → InsnReads i
 insn_reads (insn.Alu op width dst (operands.Imm value)) fits = alu_reads op width dst (operands.Imm value) fits
 insn_reads (insn.Alu op width dst (operands.Reg src)) fits = alu_reads op width dst (operands.Reg src) tt
 insn_reads (insn.Neg width dst) fits =
-    ap (source_by (forms.Neg width)) (operands_one (register_word dst) (registers dst).operand) ∙ ap (option_map (λ r. whole (insn.Neg width r))) (register_named dst)
+    ap (source_by (forms.Neg width)) (operands_one (register_word dst) (registers dst).operand)
+    ∙ ap (option_map (λ r. whole (insn.Neg width r))) (register_named dst)
 insn_reads (insn.Movsx kind dst src) fits =
-    ap (source_by (forms.Movsx kind)) (operands_two (register_word dst) (register_word src) (registers dst).operand (registers src).operand)
+    ap (source_by (forms.Movsx kind)) (operands_two (register_word dst) (register_word src) (registers dst).operand
+    (registers src).operand)
     ∙ ap (option_map (λ x. whole (insn.Movsx kind x.0 x.1)))
-    (both_read (register_by_word (register_word dst)) (register_by_word (register_word src)) dst src (register_named dst) (register_named src))
+    (both_read (register_by_word (register_word dst)) (register_by_word (register_word src)) dst src
+    (register_named dst) (register_named src))
 insn_reads (insn.Swap order bits dst) fits =
-    ap (source_by (forms.Swap order bits)) (operands_one (register_word dst) (registers dst).operand) ∙ ap (option_map (λ r. whole (insn.Swap order bits r))) (register_named dst)
+    ap (source_by (forms.Swap order bits)) (operands_one (register_word dst) (registers dst).operand)
+    ∙ ap (option_map (λ r. whole (insn.Swap order bits r))) (register_named dst)
 insn_reads (insn.Ja off) fits =
     ap (source_by forms.Ja) (operands_one (with_sign off) (sign_operand 32767 off (omega arith) (within16 off fits)))
     ∙ ap (option_map (jump_to insn.Ja)) (target_read 32767 off (omega arith) (within16 off fits))
 insn_reads (insn.JaLong off) fits =
-    ap (source_by forms.JaLong) (operands_one (with_sign off) (sign_operand 2147483647 off (omega arith) (within32 off fits)))
+    ap (source_by forms.JaLong) (operands_one (with_sign off)
+    (sign_operand 2147483647 off (omega arith) (within32 off fits)))
     ∙ ap (option_map (jump_to insn.JaLong)) (target_read 2147483647 off (omega arith) (within32 off fits))
-insn_reads (insn.Branch cond width dst (operands.Imm value) off) fits = branch_reads cond width dst (operands.Imm value) off fits.0 fits.1
-insn_reads (insn.Branch cond width dst (operands.Reg src) off) fits = branch_reads cond width dst (operands.Reg src) off tt fits
+insn_reads (insn.Branch cond width dst (operands.Imm value) off) fits = branch_reads cond width dst
+    (operands.Imm value) off fits.0 fits.1
+insn_reads (insn.Branch cond width dst (operands.Reg src) off) fits = branch_reads cond width dst
+    (operands.Reg src) off tt fits
 insn_reads (insn.Call id) fits =
-    ap (source_by forms.Call) (operands_one (callee_text id (helper_by_number id)) (callee_operand id fits (helper_by_number id)))
+    ap (source_by forms.Call) (operands_one (callee_text id (helper_by_number id))
+    (callee_operand id fits (helper_by_number id)))
     ∙ ap (option_map (λ n. whole (insn.Call n))) (callee_read id fits (helper_by_number id) refl)
 insn_reads insn.Exit fits = refl
 insn_reads (insn.Load size dst base off) fits =
-    ap (source_by (forms.Load size)) (operands_two (register_word dst) (address_text base off) (registers dst).operand (address_operand base off fits))
+    ap (source_by (forms.Load size)) (operands_two (register_word dst) (address_text base off) (registers dst).operand
+    (address_operand base off fits))
     ∙ ap (option_map (λ x. whole (insn.Load size x.0 x.1.base x.1.off)))
-    (both_read (register_by_word (register_word dst)) (address_of (address_text base off)) dst (record { base = base; off = off }) (register_named dst) (address_read base off fits))
+    (both_read (register_by_word (register_word dst)) (address_of (address_text base off)) dst
+    (record { base = base; off = off }) (register_named dst) (address_read base off fits))
 insn_reads (insn.LoadSx size dst base off) fits =
-    ap (source_by (forms.LoadSx size)) (operands_two (register_word dst) (address_text base off) (registers dst).operand (address_operand base off fits))
+    ap (source_by (forms.LoadSx size)) (operands_two (register_word dst) (address_text base off)
+    (registers dst).operand (address_operand base off fits))
     ∙ ap (option_map (λ x. whole (insn.LoadSx size x.0 x.1.base x.1.off)))
-    (both_read (register_by_word (register_word dst)) (address_of (address_text base off)) dst (record { base = base; off = off }) (register_named dst) (address_read base off fits))
+    (both_read (register_by_word (register_word dst)) (address_of (address_text base off)) dst
+    (record { base = base; off = off }) (register_named dst) (address_read base off fits))
 insn_reads (insn.StoreReg size base off src) fits =
-    ap (source_by (forms.StoreReg size)) (operands_two (address_text base off) (register_word src) (address_operand base off fits) (registers src).operand)
+    ap (source_by (forms.StoreReg size)) (operands_two (address_text base off) (register_word src)
+    (address_operand base off fits) (registers src).operand)
     ∙ ap (option_map (λ x. whole (insn.StoreReg size x.0.base x.0.off x.1)))
-    (both_read (address_of (address_text base off)) (register_by_word (register_word src)) (record { base = base; off = off }) src (address_read base off fits) (register_named src))
+    (both_read (address_of (address_text base off)) (register_by_word (register_word src))
+    (record { base = base; off = off }) src (address_read base off fits) (register_named src))
 insn_reads (insn.StoreImm size base off imm) fits =
-    ap (source_by (forms.StoreImm size)) (operands_two (address_text base off) (signed_decimal imm) (address_operand base off fits.0) (signed_operand 2147483647 imm (omega arith) (within32 imm fits.1)))
+    ap (source_by (forms.StoreImm size)) (operands_two (address_text base off) (signed_decimal imm)
+    (address_operand base off fits.0) (signed_operand 2147483647 imm (omega arith) (within32 imm fits.1)))
     ∙ ap (option_map (λ x. whole (insn.StoreImm size x.0.base x.0.off x.1)))
-    (both_read (address_of (address_text base off)) (immediate_of (signed_decimal imm)) (record { base = base; off = off }) imm (address_read base off fits.0) (immediate_read imm fits.1))
+    (both_read (address_of (address_text base off)) (immediate_of (signed_decimal imm))
+    (record { base = base; off = off }) imm (address_read base off fits.0) (immediate_read imm fits.1))
 insn_reads (insn.LoadImm64 dst value) small =
-    ap (source_by forms.LoadImm64) (operands_two (register_word dst) (decimal value) (registers dst).operand (decimal_operand value small))
+    ap (source_by forms.LoadImm64) (operands_two (register_word dst) (decimal value) (registers dst).operand
+    (decimal_operand value small))
     ∙ ap (option_map (λ x. whole (insn.LoadImm64 x.0 x.1)))
-    (both_read (register_by_word (register_word dst)) (wide_number_of (decimal value)) dst value (register_named dst) (wide_read value small))
+    (both_read (register_by_word (register_word dst)) (wide_number_of (decimal value)) dst value (register_named dst)
+    (wide_read value small))
 
 -- ---- lines
 
@@ -302,7 +451,8 @@ insn_reads (insn.LoadImm64 dst value) small =
 abbrev is_good : List ℕ → Bool
 is_good word =
     list_all is_word_letter word
-    && (list_all (λ c. not (is_blank c)) word && (list_all (λ c. not (c == 10)) word && (list_all (λ c. not (c == 35)) word && not (length word == 0))))
+    && (list_all (λ c. not (is_blank c)) word &&
+    (list_all (λ c. not (c == 10)) word && (list_all (λ c. not (c == 35)) word && not (length word == 0))))
 
 goods : list_all (λ f. is_good (word_of f)) FORMS ≡ true
 goods = refl
@@ -332,8 +482,11 @@ words : (form : Form) → IsWord (word_of form)
 words form =
     let w = word_of form in
     let all = found_all (λ f. bytes_eq (word_of f) w) (λ f. is_good (word_of f)) FORMS form goods (form_named form) in
-    let a = both_hold (list_all is_word_letter w) (list_all (λ c. not (is_blank c)) w && (list_all (λ c. not (c == 10)) w && (list_all (λ c. not (c == 35)) w && not (length w == 0)))) all in
-    let b = both_hold (list_all (λ c. not (is_blank c)) w) (list_all (λ c. not (c == 10)) w && (list_all (λ c. not (c == 35)) w && not (length w == 0))) a.1 in
+    let a = both_hold (list_all is_word_letter w)
+    (list_all (λ c. not (is_blank c)) w && (list_all (λ c. not (c == 10)) w
+    && (list_all (λ c. not (c == 35)) w && not (length w == 0)))) all in
+    let b = both_hold (list_all (λ c. not (is_blank c)) w)
+    (list_all (λ c. not (c == 10)) w && (list_all (λ c. not (c == 35)) w && not (length w == 0))) a.1 in
     let d = both_hold (list_all (λ c. not (c == 10)) w) (list_all (λ c. not (c == 35)) w && not (length w == 0)) b.1 in
     let e = both_hold (list_all (λ c. not (c == 35)) w) (not (length w == 0)) d.1 in
     record { letters = a.0; blank = b.0; line = d.0; hash = e.0; some = not_true (length w == 0) e.1 }
@@ -347,15 +500,21 @@ AllOperands [] = Unit {0}
 AllOperands (o ∷ os) = IsOperand o × AllOperands os
 
 insn_operands : (i : Insn) → InRange i → AllOperands (operand_texts i)
-insn_operands (insn.Alu op width dst (operands.Imm value)) fits = ((registers dst).operand, (source_operand (operands.Imm value) fits, tt))
+insn_operands (insn.Alu op width dst (operands.Imm value)) fits =
+    ((registers dst).operand, (source_operand (operands.Imm value) fits, tt))
 insn_operands (insn.Alu op width dst (operands.Reg src)) fits = ((registers dst).operand, ((registers src).operand, tt))
 insn_operands (insn.Neg width dst) fits = ((registers dst).operand, tt)
 insn_operands (insn.Movsx kind dst src) fits = ((registers dst).operand, ((registers src).operand, tt))
 insn_operands (insn.Swap order bits dst) fits = ((registers dst).operand, tt)
 insn_operands (insn.Ja off) fits = (sign_operand 32767 off (omega arith) (within16 off fits), tt)
 insn_operands (insn.JaLong off) fits = (sign_operand 2147483647 off (omega arith) (within32 off fits), tt)
-insn_operands (insn.Branch cond width dst (operands.Imm value) off) fits =
-    ((registers dst).operand, (source_operand (operands.Imm value) fits.0, (sign_operand 32767 off (omega arith) (within16 off fits.1), tt)))
+insn_operands (insn.Branch cond width dst (operands.Imm value) off) fits = (
+  (registers dst).operand,
+  (
+    source_operand (operands.Imm value) fits.0,
+    (sign_operand 32767 off (omega arith) (within16 off fits.1), tt),
+  ),
+)
 insn_operands (insn.Branch cond width dst (operands.Reg src) off) fits =
     ((registers dst).operand, ((registers src).operand, (sign_operand 32767 off (omega arith) (within16 off fits), tt)))
 insn_operands (insn.Call id) fits = (callee_operand id fits (helper_by_number id), tt)
@@ -363,7 +522,8 @@ insn_operands insn.Exit fits = tt
 insn_operands (insn.Load size dst base off) fits = ((registers dst).operand, (address_operand base off fits, tt))
 insn_operands (insn.LoadSx size dst base off) fits = ((registers dst).operand, (address_operand base off fits, tt))
 insn_operands (insn.StoreReg size base off src) fits = (address_operand base off fits, ((registers src).operand, tt))
-insn_operands (insn.StoreImm size base off imm) fits = (address_operand base off fits.0, (signed_operand 2147483647 imm (omega arith) (within32 imm fits.1), tt))
+insn_operands (insn.StoreImm size base off imm) fits =
+    (address_operand base off fits.0, (signed_operand 2147483647 imm (omega arith) (within32 imm fits.1), tt))
 insn_operands (insn.LoadImm64 dst value) small = ((registers dst).operand, (decimal_operand value small, tt))
 
 plain_after_commas : (marks : ℕ → Bool) → IsPlain marks (codes ", ") → ((o : List ℕ) → IsOperand o → IsPlain marks o)
@@ -374,7 +534,8 @@ plain_after_commas marks comma plain (o ∷ p ∷ ps) all =
     plain-append marks (codes ", ") (o ++ after_commas (p ∷ ps)) comma
     (plain-append marks o (after_commas (p ∷ ps)) (plain o all.0) (plain_after_commas marks comma plain (p ∷ ps) all.1))
 
-plain_after_word : (marks : ℕ → Bool) → IsPlain marks (codes ", ") → IsPlain marks (codes " ") → ((o : List ℕ) → IsOperand o → IsPlain marks o)
+plain_after_word : (marks : ℕ → Bool) → IsPlain marks (codes ", ") → IsPlain marks (codes " ")
+    → ((o : List ℕ) → IsOperand o → IsPlain marks o)
     → (os : List (List ℕ)) → AllOperands os → IsPlain marks (after_word os)
 plain_after_word marks comma blank plain [] all = refl
 plain_after_word marks comma blank plain (o ∷ []) all = plain-append marks (codes " ") o blank (plain o all.0)
@@ -394,9 +555,11 @@ follows word [] = record { front = refl; behind = refl; ends = refl; line = refl
 follows word (o ∷ []) = record { front = refl; behind = refl; ends = refl; line = refl }
 follows word (o ∷ p ∷ ps) = record { front = refl; behind = refl; ends = refl; line = refl }
 
-no_blank_first : (word rest : List ℕ) → (length word == 0) ≡ false → IsPlain is_blank word → rest_of is_blank (word ++ rest) ≡ word ++ rest
+no_blank_first : (word rest : List ℕ) → (length word == 0) ≡ false → IsPlain is_blank word
+    → rest_of is_blank (word ++ rest) ≡ word ++ rest
 no_blank_first [] rest some plain = absurd (false≢true (sym some))
-no_blank_first (c ∷ cs) rest some plain = by_test (is_blank c) (both_hold (not (is_blank c)) (list_all (λ d. not (is_blank d)) cs) plain).0
+no_blank_first (c ∷ cs) rest some plain = by_test (is_blank c)
+    (both_hold (not (is_blank c)) (list_all (λ d. not (is_blank d)) cs) plain).0
   where
     by_test : (t : Bool) → not t ≡ true → cond t (rest_of is_blank (cs ++ rest)) (c ∷ (cs ++ rest)) ≡ c ∷ (cs ++ rest)
     by_test true h = absurd (false≢true h)
@@ -413,8 +576,10 @@ line_means i in_range =
     let w = words (form_in i) in
     let f = follows word os in
     let hash : IsPlain (λ c. c == 35) (word ++ rest) =
-    plain-append (λ c. c == 35) word rest w.hash (plain_after_word (λ c. c == 35) refl refl (λ o operand. operand.hash) os (insn_operands i in_range)) in
-    let source : source_behind word rest ≡ Some (Some (whole i)) = word_read word rest (form_in i) (Some (whole i)) w.some (form_named (form_in i)) f.ends (insn_reads i in_range) in
+    plain-append (λ c. c == 35) word rest w.hash
+    (plain_after_word (λ c. c == 35) refl refl (λ o operand. operand.hash) os (insn_operands i in_range)) in
+    let source : source_behind word rest ≡ Some (Some (whole i)) = word_read word rest (form_in i)
+    (Some (whole i)) w.some (form_named (form_in i)) f.ends (insn_reads i in_range) in
     let line : line_for i ≡ line_by word rest = sym (f.line ∙ ap (λ s. record { name = None; source = s }) source) in
     sym
     (line_read (word ++ rest) (word ++ rest) (word ++ rest) word rest (line_for i)
@@ -439,7 +604,8 @@ lines_read [] all = refl
 lines_read (i ∷ is) all =
     let line = canonical_line i in
     let rest = canonical_text is in
-    ap lines_in (append_assoc line (10 ∷ []) rest) ∙ ap (map line_of) (piece-mark (λ c. c == 10) line 10 rest (line_unbroken i all.0) refl)
+    ap lines_in (append_assoc line (10 ∷ []) rest)
+    ∙ ap (map line_of) (piece-mark (λ c. c == 10) line 10 rest (line_unbroken i all.0) refl)
     ∙ ap (λ l. l ∷ lines_in rest) (line_means i all.0) ∙ ap (λ ls. line_for i ∷ ls) (lines_read is all.1)
 
 no_places : (slot : ℕ) (is : List Insn) → places_from slot (lines_for is) ≡ []
@@ -452,8 +618,10 @@ insns_read slots slot (i ∷ is) = ap (before_all (Some i)) (insns_read slots (s
 
 pub canonical_means : (p : List Insn) → IsProgram p → Means (canonical_text p) p
 canonical_means p is_program = record {
-  reads = ap (λ ls. cond (is_map (places_from 0 ls)) (insns_from (slot_of (places_from 0 ls)) 0 ls) None) (lines_read p is_program.in_range)
-      ∙ ap (λ ps. cond (is_map ps) (insns_from (slot_of ps) 0 (lines_for p)) None) (no_places 0 p) ∙ insns_read (slot_of []) 0 p;
+  reads = ap (λ ls. cond (is_map (places_from 0 ls)) (insns_from (slot_of (places_from 0 ls)) 0 ls) None)
+      (lines_read p is_program.in_range)
+      ∙ ap (λ ps. cond (is_map ps) (insns_from (slot_of ps) 0 (lines_for p)) None) (no_places 0 p)
+      ∙ insns_read (slot_of []) 0 p;
   is_program = is_program;
 }
 

@@ -25,18 +25,21 @@ first_some (Some slot) other = Some slot
 first_some None other = other
 
 slot_of-snoc : (places : Places) (name : List ℕ) (slot : ℕ) (q : List ℕ)
-    → slot_of (places ++ ((name, slot) ∷ [])) q ≡ first_some (slot_of places q) (cond (bytes_eq name q) (Some slot) None)
+    → slot_of (places ++ ((name, slot) ∷ [])) q ≡ first_some (slot_of places q)
+    (cond (bytes_eq name q) (Some slot) None)
 slot_of-snoc [] name slot q = refl
 slot_of-snoc (p ∷ ps) name slot q = by_test (slot_of-snoc ps name slot q) (bytes_eq p.0 q)
   where
-    by_test : slot_of (ps ++ ((name, slot) ∷ [])) q ≡ first_some (slot_of ps q) (cond (bytes_eq name q) (Some slot) None)
+    by_test : slot_of (ps ++ ((name, slot) ∷ [])) q ≡ first_some (slot_of ps q)
+        (cond (bytes_eq name q) (Some slot) None)
         → (t : Bool) → cond t (Some p.1) (slot_of (ps ++ ((name, slot) ∷ [])) q)
         ≡ first_some (cond t (Some p.1) (slot_of ps q)) (cond (bytes_eq name q) (Some slot) None)
     by_test earlier true = refl
     by_test earlier false = earlier
 
 map_table : (among here rest : Bool) (found : Option ℕ) (slot : ℕ)
-    → not (among || (here || false)) && (rest && is_none found) ≡ (not among && rest) && is_none (cond here (Some slot) found)
+    → not (among || (here || false)) && (rest && is_none found) ≡ (not among && rest)
+    && is_none (cond here (Some slot) found)
 map_table true here true found slot = refl
 map_table true here false found slot = refl
 map_table false true true found slot = refl
@@ -44,18 +47,23 @@ map_table false true false found slot = refl
 map_table false false true found slot = refl
 map_table false false false found slot = refl
 
-is_map-snoc : (places : Places) (name : List ℕ) (slot : ℕ) → is_map (places ++ ((name, slot) ∷ [])) ≡ is_map places && is_none (slot_of places name)
+is_map-snoc : (places : Places) (name : List ℕ) (slot : ℕ)
+    → is_map (places ++ ((name, slot) ∷ [])) ≡ is_map places && is_none (slot_of places name)
 is_map-snoc [] name slot = refl
 is_map-snoc (p ∷ ps) name slot =
-    ap (λ b. not b && is_map (ps ++ ((name, slot) ∷ []))) (list_any-append (λ q. bytes_eq p.0 q.0) ps ((name, slot) ∷ []))
-    ∙ ap (λ b. not (list_any (λ q. bytes_eq p.0 q.0) ps || (bytes_eq p.0 name || false)) && b) (is_map-snoc ps name slot)
+    ap (λ b. not b && is_map (ps ++ ((name, slot) ∷ [])))
+    (list_any-append (λ q. bytes_eq p.0 q.0) ps ((name, slot) ∷ []))
+    ∙ ap (λ b. not (list_any (λ q. bytes_eq p.0 q.0) ps || (bytes_eq p.0 name || false)) && b)
+    (is_map-snoc ps name slot)
     ∙ map_table (list_any (λ q. bytes_eq p.0 q.0) ps) (bytes_eq p.0 name) (is_map ps) (slot_of ps name) p.1
 
 -- a label that is there already
-pub label_again : (labels new : Labels) (places : Places) (name : List ℕ) (slot : ℕ) → new.slots ≡ labels.slots → is_none new.twice ≡ false
+pub label_again : (labels new : Labels) (places : Places) (name : List ℕ) (slot : ℕ) → new.slots ≡ labels.slots
+    → is_none new.twice ≡ false
     → is_some (known labels name) ≡ true → HasPlaces labels places → HasPlaces new (places ++ ((name, slot) ∷ []))
 label_again labels new places name slot same twice there has = record {
-  slots = λ q. ap (λ s. known (record { slots = s; twice = new.twice }) q) same ∙ has.slots q ∙ stays q ∙ sym (slot_of-snoc places name slot q);
+  slots = λ q. ap (λ s. known (record { slots = s; twice = new.twice }) q) same ∙ has.slots q ∙ stays q
+      ∙ sym (slot_of-snoc places name slot q);
   once = twice ∙ sym (is_map-snoc places name slot ∙ no_map (is_map places) (slot_of places name) there_too);
 }
   where
@@ -67,21 +75,25 @@ label_again labels new places name slot same twice there has = record {
     no_map false (Some s) some = refl
     no_map b None some = absurd (false≢true some)
 
-    by_found : (q : List ℕ) (t : Bool) (found : Option ℕ) → (t ≡ true → is_some found ≡ true) → found ≡ first_some found (cond t (Some slot) None)
+    by_found : (q : List ℕ) (t : Bool) (found : Option ℕ) → (t ≡ true → is_some found ≡ true)
+        → found ≡ first_some found (cond t (Some slot) None)
     by_found q t (Some s) some = refl
     by_found q false None some = refl
     by_found q true None some = absurd (false≢true (some refl))
 
     stays : (q : List ℕ) → slot_of places q ≡ first_some (slot_of places q) (cond (bytes_eq name q) (Some slot) None)
-    stays q = by_found q (bytes_eq name q) (slot_of places q) (λ same. ap (λ n. is_some (slot_of places n)) (sym (same_bytes name q same)) ∙ there_too)
+    stays q = by_found q (bytes_eq name q) (slot_of places q)
+        (λ same. ap (λ n. is_some (slot_of places n)) (sym (same_bytes name q same)) ∙ there_too)
 
 -- a label that is new
 pub label_new : (labels new : Labels) (places : Places) (name : List ℕ) (slot : ℕ)
     → ((q : List ℕ) → known new q ≡ update bytes_eq (known labels) name (Some slot) q) → new.twice ≡ labels.twice
     → is_some (known labels name) ≡ false → HasPlaces labels places → HasPlaces new (places ++ ((name, slot) ∷ []))
 label_new labels new places name slot updated same absent has = record {
-  slots = λ q. updated q ∙ ap (cond (bytes_eq name q) (Some slot)) (has.slots q) ∙ joins q ∙ sym (slot_of-snoc places name slot q);
-  once = ap is_none same ∙ has.once ∙ sym (is_map-snoc places name slot ∙ still_map (is_map places) (slot_of places name) absent_too);
+  slots = λ q. updated q ∙ ap (cond (bytes_eq name q) (Some slot)) (has.slots q) ∙ joins q
+      ∙ sym (slot_of-snoc places name slot q);
+  once = ap is_none same ∙ has.once ∙ sym (is_map-snoc places name slot
+      ∙ still_map (is_map places) (slot_of places name) absent_too);
 }
   where
     absent_too : is_some (slot_of places name) ≡ false
@@ -92,14 +104,17 @@ label_new labels new places name slot updated same absent has = record {
     still_map false None none = refl
     still_map b (Some s) none = absurd (false≢true (sym none))
 
-    by_found : (t : Bool) (found : Option ℕ) → (t ≡ true → is_some found ≡ false) → cond t (Some slot) found ≡ first_some found (cond t (Some slot) None)
+    by_found : (t : Bool) (found : Option ℕ) → (t ≡ true → is_some found ≡ false)
+        → cond t (Some slot) found ≡ first_some found (cond t (Some slot) None)
     by_found true None none = refl
     by_found false None none = refl
     by_found false (Some s) none = refl
     by_found true (Some s) none = absurd (false≢true (sym (none refl)))
 
-    joins : (q : List ℕ) → cond (bytes_eq name q) (Some slot) (slot_of places q) ≡ first_some (slot_of places q) (cond (bytes_eq name q) (Some slot) None)
-    joins q = by_found (bytes_eq name q) (slot_of places q) (λ same. ap (λ n. is_some (slot_of places n)) (sym (same_bytes name q same)) ∙ absent_too)
+    joins : (q : List ℕ) → cond (bytes_eq name q) (Some slot) (slot_of places q) ≡ first_some (slot_of places q)
+        (cond (bytes_eq name q) (Some slot) None)
+    joins q = by_found (bytes_eq name q) (slot_of places q)
+        (λ same. ap (λ n. is_some (slot_of places n)) (sym (same_bytes name q same)) ∙ absent_too)
 
 -- ---- the loop
 
@@ -110,7 +125,8 @@ bytes_left (Some text) = suc (length text.now)
 
 -- the places so far, with those of the lines that are left, are all
 abbrev pub PlacesSoFar : Labels → List ℕ → ℕ → Option (Bor (List ℕ)) → Type 0
-PlacesSoFar labels text slot rest = (places : Places) × (near_places 0 (lines_in text) ≡ places ++ near_places slot (lines_left rest)) × HasPlaces labels places
+PlacesSoFar labels text slot rest = (places : Places)
+    × (near_places 0 (lines_in text) ≡ places ++ near_places slot (lines_left rest)) × HasPlaces labels places
 
 pub next_places : (all places : Places) (slot : ℕ) (front : List ℕ) (line : Line) (lines : List Line)
     → all ≡ places ++ near_places slot (lines_in front) → lines_in front ≡ line ∷ lines
@@ -119,13 +135,15 @@ next_places all places slot front line lines before first =
     before ∙ ap (λ ls. places ++ near_places slot ls) first
     ∙ sym (append_assoc places (place_at line.name slot) (near_places (near (slot + slots_in line.source)) lines))
 
-pub shorter_left : (front : List ℕ) (behind : Option (Bor (List ℕ))) → IfSome behind (λ rest. length rest.now < length front) → bytes_left behind < suc (length front)
+pub shorter_left : (front : List ℕ) (behind : Option (Bor (List ℕ)))
+    → IfSome behind (λ rest. length rest.now < length front) → bytes_left behind < suc (length front)
 shorter_left front None shorter = omega arith
 shorter_left front (Some rest) shorter = omega arith
 
 -- ---- places that are near
 
-pub slot_within : (labels : Labels) (name : List ℕ) (found : Option ℕ) → Near (known labels) → found ≡ known labels name → IfSome found (λ slot. slot ≤ MAX_SLOTS)
+pub slot_within : (labels : Labels) (name : List ℕ) (found : Option ℕ) → Near (known labels)
+    → found ≡ known labels name → IfSome found (λ slot. slot ≤ MAX_SLOTS)
 slot_within labels name None near same = tt
 slot_within labels name (Some slot) near same = near name slot (sym same)
 
@@ -137,24 +155,29 @@ near-same slot within = grind (arith, nat_tests)
 
 near_bounded : (slot : ℕ) (lines : List Line) → slot ≤ MAX_SLOTS → Near (slot_of (near_places slot lines))
 near_bounded slot [] within = λ q t found. absurd (cc)
-near_bounded slot (line ∷ lines) within = by_name line.name (near_bounded (near (slot + slots_in line.source)) lines (near-le (slot + slots_in line.source)))
+near_bounded slot (line ∷ lines) within = by_name line.name
+    (near_bounded (near (slot + slots_in line.source)) lines (near-le (slot + slots_in line.source)))
   where
-    by_test : (q : List ℕ) (t : ℕ) (b : Bool) (rest : Option ℕ) → (rest ≡ Some t → t ≤ MAX_SLOTS) → cond b (Some slot) rest ≡ Some t → t ≤ MAX_SLOTS
+    by_test : (q : List ℕ) (t : ℕ) (b : Bool) (rest : Option ℕ) → (rest ≡ Some t → t ≤ MAX_SLOTS)
+        → cond b (Some slot) rest ≡ Some t → t ≤ MAX_SLOTS
     by_test q t true rest later found = let e : slot ≡ t = cc in omega arith
     by_test q t false rest later found = later found
 
     by_name : (name : Option (List ℕ)) → Near (slot_of (near_places (near (slot + slots_in line.source)) lines))
         → Near (slot_of (place_at name slot ++ near_places (near (slot + slots_in line.source)) lines))
     by_name None later = later
-    by_name (Some name) later = λ q t. by_test q t (bytes_eq name q) (slot_of (near_places (near (slot + slots_in line.source)) lines) q) (later q t)
+    by_name (Some name) later = λ q t. by_test q t (bytes_eq name q)
+        (slot_of (near_places (near (slot + slots_in line.source)) lines) q) (later q t)
 
 -- labels with the near places of lines know near slots alone
 pub known_near : (labels : Labels) (lines : List Line) → HasPlaces labels (near_places 0 lines) → Near (known labels)
 known_near labels lines has = λ q t found. near_bounded 0 lines (omega arith) q t (sym (has.slots q) ∙ found)
 
-pub near_all : (slot : ℕ) (lines : List Line) → slot + slots_of_lines lines ≤ MAX_SLOTS → near_places slot lines ≡ places_from slot lines
+pub near_all : (slot : ℕ) (lines : List Line) → slot + slots_of_lines lines ≤ MAX_SLOTS
+    → near_places slot lines ≡ places_from slot lines
 near_all slot [] within = refl
 near_all slot (line ∷ lines) within =
-    let here : near (slot + slots_in line.source) ≡ slot + slots_in line.source = near-same (slot + slots_in line.source) (omega arith) in
+    let here : near (slot + slots_in line.source) ≡ slot + slots_in line.source = near-same
+    (slot + slots_in line.source) (omega arith) in
     ap (λ s. place_at line.name slot ++ near_places s lines) here
     ∙ ap (λ ps. place_at line.name slot ++ ps) (near_all (slot + slots_in line.source) lines (omega arith))

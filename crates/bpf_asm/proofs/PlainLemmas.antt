@@ -45,9 +45,11 @@ plain-append marks (c ∷ cs) b first second =
 -- ---- pieces
 
 -- a piece with no mark in it, and a mark behind it
-pub piece-mark : (marks : ℕ → Bool) (front : List ℕ) (mark : ℕ) (rest : List ℕ) → IsPlain marks front → marks mark ≡ true
+pub piece-mark : (marks : ℕ → Bool) (front : List ℕ) (mark : ℕ) (rest : List ℕ) → IsPlain marks front
+    → marks mark ≡ true
     → pieces_of marks (front ++ (mark ∷ rest)) ≡ front ∷ pieces_of marks rest
-piece-mark marks [] mark rest plain is_mark = ap (λ b. cond b ([] ∷ pieces_of marks rest) (prepend (mark ∷ []) (pieces_of marks rest))) is_mark
+piece-mark marks [] mark rest plain is_mark = ap
+    (λ b. cond b ([] ∷ pieces_of marks rest) (prepend (mark ∷ []) (pieces_of marks rest))) is_mark
 piece-mark marks (c ∷ cs) mark rest plain is_mark =
     let h = plain_first marks c cs plain in
     let behind = cs ++ (mark ∷ rest) in
@@ -59,18 +61,21 @@ pub piece-alone : (marks : ℕ → Bool) (text : List ℕ) → IsPlain marks tex
 piece-alone marks [] plain = refl
 piece-alone marks (c ∷ cs) plain =
     let h = plain_first marks c cs plain in
-    ap (λ b. cond b ([] ∷ pieces_of marks cs) (prepend (c ∷ []) (pieces_of marks cs))) h.0 ∙ ap (prepend (c ∷ [])) (piece-alone marks cs h.1)
+    ap (λ b. cond b ([] ∷ pieces_of marks cs) (prepend (c ∷ []) (pieces_of marks cs))) h.0
+    ∙ ap (prepend (c ∷ [])) (piece-alone marks cs h.1)
 
 -- ---- runs
 
 -- letters that all pass, before some rest where none does
-pub front_before : (p : ℕ → Bool) (front rest : List ℕ) → list_all p front ≡ true → front_of p rest ≡ [] → front_of p (front ++ rest) ≡ front
+pub front_before : (p : ℕ → Bool) (front rest : List ℕ) → list_all p front ≡ true → front_of p rest ≡ []
+    → front_of p (front ++ rest) ≡ front
 front_before p [] rest all none = none
 front_before p (c ∷ cs) rest all none =
     let h = all_first p c cs all in
     ap (λ b. cond b (c ∷ front_of p (cs ++ rest)) []) h.0 ∙ ap (λ l. c ∷ l) (front_before p cs rest h.1 none)
 
-pub rest_behind : (p : ℕ → Bool) (front rest : List ℕ) → list_all p front ≡ true → rest_of p rest ≡ rest → rest_of p (front ++ rest) ≡ rest
+pub rest_behind : (p : ℕ → Bool) (front rest : List ℕ) → list_all p front ≡ true → rest_of p rest ≡ rest
+    → rest_of p (front ++ rest) ≡ rest
 rest_behind p [] rest all none = none
 rest_behind p (c ∷ cs) rest all none =
     let h = all_first p c cs all in
@@ -100,14 +105,16 @@ trimmed_behind text plain = ap before_blanks (none_to_skip text plain) ∙ none_
 digit_range : (c : ℕ) → digit_value c < 10 → (48 ≤ c) × (c ≤ 57)
 digit_range c h = grind (arith, nat_tests)
 
-digits_plain : (marks : ℕ → Bool) → ((c : ℕ) → 48 ≤ c → c ≤ 57 → marks c ≡ false) → (digits : List ℕ) → AllDigits 10 digits → IsPlain marks digits
+digits_plain : (marks : ℕ → Bool) → ((c : ℕ) → 48 ≤ c → c ≤ 57 → marks c ≡ false) → (digits : List ℕ)
+    → AllDigits 10 digits → IsPlain marks digits
 digits_plain marks none [] all = refl
 digits_plain marks none (c ∷ cs) all =
     let range = digit_range c all.0 in
     ap (λ b. not b && list_all (λ d. not (marks d)) cs) (none c range.0 range.1) ∙ digits_plain marks none cs all.1
 
 -- no byte of a decimal number is anything but a digit
-pub decimal_plain : (marks : ℕ → Bool) → ((c : ℕ) → 48 ≤ c → c ≤ 57 → marks c ≡ false) → (n : ℕ) → n < 2 ^ 64 → IsPlain marks (decimal n)
+pub decimal_plain : (marks : ℕ → Bool) → ((c : ℕ) → 48 ≤ c → c ≤ 57 → marks c ≡ false) → (n : ℕ) → n < 2 ^ 64
+    → IsPlain marks (decimal n)
 decimal_plain marks none n small = digits_plain marks none (decimal n) (decimal_is_IsNumeral n small).0.1
 
 pub no_digit : (m : ℕ) → (m < 48) ⊎ (57 < m) → (c : ℕ) → 48 ≤ c → c ≤ 57 → (c == m) ≡ false
@@ -118,14 +125,16 @@ digit_no_blank c low high = grind (arith, nat_tests)
 
 digits_pass : (digits : List ℕ) → AllDigits 10 digits → list_all (λ c. nat_lt (digit_value c) 10) digits ≡ true
 digits_pass [] all = refl
-digits_pass (c ∷ cs) all = ap (λ b. b && list_all (λ d. nat_lt (digit_value d) 10) cs) (lt-ltb (digit_value c) 10 all.0) ∙ digits_pass cs all.1
+digits_pass (c ∷ cs) all = ap (λ b. b && list_all (λ d. nat_lt (digit_value d) 10) cs)
+    (lt-ltb (digit_value c) 10 all.0) ∙ digits_pass cs all.1
 
 -- the decimal text of a number is read as that number
 pub numeral-decimal : (n : ℕ) → n < 2 ^ 64 → numeral_of 10 (decimal n) ≡ Some n
 numeral-decimal n small =
     let known = decimal_is_IsNumeral n small in
     let filled : nat_lt 0 (length (decimal n)) ≡ true = lt-ltb 0 _ known.0.0 in
-    ap (λ b. cond (b && list_all (λ c. nat_lt (digit_value c) 10) (decimal n)) (Some (digits_value 10 (decimal n))) None) filled
+    ap (λ b. cond (b && list_all (λ c. nat_lt (digit_value c) 10) (decimal n))
+    (Some (digits_value 10 (decimal n))) None) filled
     ∙ ap (λ b. cond b (Some (digits_value 10 (decimal n))) None) (digits_pass (decimal n) known.0.1)
     ∙ ap Some known.1
 
@@ -146,20 +155,24 @@ magnitude-plain (c ∷ x ∷ cs) all =
 pub magnitude-decimal : (n : ℕ) → n < 2 ^ 64 → magnitude_of (decimal n) ≡ Some n
 magnitude-decimal n small = magnitude-plain (decimal n) (decimal_is_IsNumeral n small).0.1 ∙ numeral-decimal n small
 
-unsigned_read : (digits : List ℕ) (n : ℕ) → IsNumeral 10 digits → magnitude_of digits ≡ Some n → number_of digits ≡ Some (written false n)
+unsigned_read : (digits : List ℕ) (n : ℕ) → IsNumeral 10 digits → magnitude_of digits ≡ Some n
+    → number_of digits ≡ Some (written false n)
 unsigned_read [] n known read = absurd (omega (arith, known.0))
 unsigned_read (c ∷ cs) n known read =
     let range = digit_range c known.1.0 in
     let digit : (c == 45) ≡ false = no_digit 45 (inl (omega arith)) c range.0 range.1 in
-    ap (λ b. cond b (option_map (written true) (magnitude_of cs)) (option_map (written false) (magnitude_of (c ∷ cs)))) digit
+    ap (λ b. cond b (option_map (written true) (magnitude_of cs)) (option_map (written false) (magnitude_of (c ∷ cs))))
+    digit
     ∙ ap (option_map (written false)) read
 
 pub number-decimal : (n : ℕ) → n < 2 ^ 64 → number_of (decimal n) ≡ Some (written false n)
 number-decimal n small = unsigned_read (decimal n) n (decimal_is_IsNumeral n small).0 (magnitude-decimal n small)
 
-pub first_digit : (digits : List ℕ) → IsNumeral 10 digits → (c : ℕ) (cs : List ℕ) → digits ≡ c ∷ cs → (48 ≤ c) × (c ≤ 57)
+pub first_digit : (digits : List ℕ) → IsNumeral 10 digits → (c : ℕ) (cs : List ℕ) → digits ≡ c ∷ cs
+    → (48 ≤ c) × (c ≤ 57)
 first_digit [] known c cs same = absurd (omega (arith, known.0))
-first_digit (d ∷ ds) known c cs same = let e : d ≡ c = cc in let range = digit_range d known.1.0 in (omega arith, omega arith)
+first_digit (d ∷ ds) known c cs same = let e : d ≡ c = cc in let range = digit_range d known.1.0 in
+    (omega arith, omega arith)
 
 -- a number as it is written with its sign
 abbrev pub written_of : ℤ → Written
@@ -180,14 +193,19 @@ within32 (pos n) fits = omega (arith, ints)
 within32 (negsuc n) fits = omega (arith, ints)
 
 pub in_field-written : (most : ℕ) (z : ℤ) → Within most z → in_field most (written_of z) ≡ Some z
-in_field-written most (pos n) within = let h : nat_le n most ≡ true = grind (arith, nat_tests) in ap (λ b. cond b (Some (pos n)) None) h
-in_field-written most (negsuc n) within = let h : nat_le (suc n) (most + 1) ≡ true = grind (arith, nat_tests) in ap (λ b. cond b (Some (negsuc n)) None) h
+in_field-written most (pos n) within = let h : nat_le n most ≡ true = grind (arith, nat_tests) in
+    ap (λ b. cond b (Some (pos n)) None) h
+in_field-written most (negsuc n) within = let h : nat_le (suc n) (most + 1) ≡ true = grind (arith, nat_tests) in
+    ap (λ b. cond b (Some (negsuc n)) None) h
 
-pub number-signed : (most : ℕ) (z : ℤ) → most < 2 ^ 32 → Within most z → number_of (signed_decimal z) ≡ Some (written_of z)
+pub number-signed : (most : ℕ) (z : ℤ) → most < 2 ^ 32 → Within most z
+    → number_of (signed_decimal z) ≡ Some (written_of z)
 number-signed most (pos n) small within = number-decimal n (omega arith)
 number-signed most (negsuc n) small within = ap (option_map (written true)) (magnitude-decimal (suc n) (omega arith))
 
-pub signed_number-sign : (read : List ℕ → Option ℕ) → ((n : ℕ) → n < 2 ^ 64 → read (decimal n) ≡ Some n) → (most : ℕ) (z : ℤ) → most < 2 ^ 32 → Within most z
+pub signed_number-sign : (read : List ℕ → Option ℕ) → ((n : ℕ) → n < 2 ^ 64 → read (decimal n) ≡ Some n)
+    → (most : ℕ) (z : ℤ) → most < 2 ^ 32 → Within most z
     → signed_number_of read (with_sign z) ≡ Some (written_of z)
 signed_number-sign read reads most (pos n) small within = ap (option_map (written false)) (reads n (omega arith))
-signed_number-sign read reads most (negsuc n) small within = ap (option_map (written true)) (reads (suc n) (omega arith))
+signed_number-sign read reads most (negsuc n) small within = ap (option_map (written true))
+    (reads (suc n) (omega arith))

@@ -29,7 +29,8 @@ pub found_passes : {X : Type 0} (p : X → Bool) (xs : List X) (x : X) → find 
 found_passes p [] x none = cc
 found_passes p (y ∷ ys) x found = by_test (p y) refl found (found_passes p ys x)
   where
-    by_test : (t : Bool) → p y ≡ t → cond t (Some y) (find p ys) ≡ Some x → (find p ys ≡ Some x → p x ≡ true) → p x ≡ true
+    by_test : (t : Bool) → p y ≡ t → cond t (Some y) (find p ys) ≡ Some x → (find p ys ≡ Some x → p x ≡ true)
+        → p x ≡ true
     by_test true passes e others = cc
     by_test false fails e others = others e
 
@@ -37,7 +38,8 @@ same_bytes : (a b : List ℕ) → bytes_eq a b ≡ true → a ≡ b
 same_bytes a b same = grind (arith, bytes_eq-Decides a b)
 
 pub word_named : (word : List ℕ) (form : Form) → form_of word ≡ Some form → word ≡ word_of form
-word_named word form found = sym (same_bytes (word_of form) word (found_passes (λ f. bytes_eq (word_of f) word) FORMS form found))
+word_named word form found = sym (same_bytes (word_of form) word
+    (found_passes (λ f. bytes_eq (word_of f) word) FORMS form found))
 
 pub form_named : (form : Form) → form_of (word_of form) ≡ Some form
 form_named (forms.Alu ops.Add W32) = refl
@@ -127,8 +129,10 @@ form_named (forms.StoreImm sizes.W) = refl
 form_named (forms.StoreImm sizes.Dw) = refl
 form_named forms.LoadImm64 = refl
 
-pub helper_word_named : (word : List ℕ) (helper : Helper) → helper_by_word word ≡ Some helper → word ≡ helper_word helper
-helper_word_named word helper found = sym (same_bytes (helper_word helper) word (found_passes (λ h. bytes_eq (helper_word h) word) HELPERS helper found))
+pub helper_word_named : (word : List ℕ) (helper : Helper) → helper_by_word word ≡ Some helper
+    → word ≡ helper_word helper
+helper_word_named word helper found = sym (same_bytes (helper_word helper) word
+    (found_passes (λ h. bytes_eq (helper_word h) word) HELPERS helper found))
 
 pub helper_named : (helper : Helper) → helper_by_word (helper_word helper) ≡ Some helper
 helper_named Id = refl
@@ -145,11 +149,15 @@ helper_numbered Coin = refl
 same_numbers : (a b : ℤ) → int_eq a b ≡ true → a ≡ b
 same_numbers a b same = grind (arith, Decides-int_eq a b)
 
-pub helper_number_named : (number : ℤ) (helper : Helper) → helper_by_number number ≡ Some helper → number ≡ helper_number helper
-helper_number_named number helper found = sym (same_numbers (helper_number helper) number (found_passes (λ h. int_eq (helper_number h) number) HELPERS helper found))
+pub helper_number_named : (number : ℤ) (helper : Helper) → helper_by_number number ≡ Some helper
+    → number ≡ helper_number helper
+helper_number_named number helper found = sym (same_numbers (helper_number helper) number
+    (found_passes (λ h. int_eq (helper_number h) number) HELPERS helper found))
 
-pub register_word_named : (word : List ℕ) (register : Reg) → register_by_word word ≡ Some register → word ≡ register_word register
-register_word_named word register found = sym (same_bytes (register_word register) word (found_passes (λ r. bytes_eq (register_word r) word) REGISTERS register found))
+pub register_word_named : (word : List ℕ) (register : Reg) → register_by_word word ≡ Some register
+    → word ≡ register_word register
+register_word_named word register found = sym (same_bytes (register_word register) word
+    (found_passes (λ r. bytes_eq (register_word r) word) REGISTERS register found))
 
 pub register_named : (register : Reg) → register_by_word (register_word register) ≡ Some register
 register_named R0 = refl
@@ -166,7 +174,8 @@ register_named R10 = refl
 
 -- ---- a test that passes on each of a list passes on what is found there: so a fact of every word is one computation
 
-passes_found : {X : Type 0} (p test : X → Bool) (xs : List X) (x : X) → list_all test xs ≡ true → find p xs ≡ Some x → test x ≡ true
+passes_found : {X : Type 0} (p test : X → Bool) (xs : List X) (x : X) → list_all test xs ≡ true → find p xs ≡ Some x
+    → test x ≡ true
 passes_found p test [] x all none = cc
 passes_found p test (y ∷ ys) x all found = by_tests (p y) (test y) refl all found (passes_found p test ys x)
   where
@@ -181,7 +190,9 @@ pub every_form : (test : Form → Bool) → list_all test FORMS ≡ true → (fo
 every_form test all form = passes_found (λ f. bytes_eq (word_of f) (word_of form)) test FORMS form all (form_named form)
 
 pub every_helper : (test : Helper → Bool) → list_all test HELPERS ≡ true → (helper : Helper) → test helper ≡ true
-every_helper test all helper = passes_found (λ h. bytes_eq (helper_word h) (helper_word helper)) test HELPERS helper all (helper_named helper)
+every_helper test all helper = passes_found (λ h. bytes_eq (helper_word h) (helper_word helper)) test HELPERS helper
+    all (helper_named helper)
 
 pub every_register : (test : Reg → Bool) → list_all test REGISTERS ≡ true → (register : Reg) → test register ≡ true
-every_register test all register = passes_found (λ r. bytes_eq (register_word r) (register_word register)) test REGISTERS register all (register_named register)
+every_register test all register = passes_found
+    (λ r. bytes_eq (register_word r) (register_word register)) test REGISTERS register all (register_named register)

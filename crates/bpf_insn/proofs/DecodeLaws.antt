@@ -64,8 +64,10 @@ by_kind bytes errors.Memory h = h
 
 -- ---- an image has no refusal but memory
 
-no_refusal : (bytes : List ℕ) (p : List Insn) (k : Kind) → IsProgram p → bytes ≡ image_of p → RefusesBy bytes k → k ≡ Short
-no_refusal bytes p None program e h = absurd (omega (arith, ap length h, ap length e, length-image p, program.some_slots))
+no_refusal : (bytes : List ℕ) (p : List Insn) (k : Kind) → IsProgram p → bytes ≡ image_of p → RefusesBy bytes k
+    → k ≡ Short
+no_refusal bytes p None program e h = absurd (omega
+    (arith, ap length h, ap length e, length-image p, program.some_slots))
 no_refusal bytes p Many program e h = absurd (omega (arith, ap length e, length-image p, program.few_slots))
 no_refusal bytes p (At fault slot) program e h =
     absurd (fault_apart h.1.before p h.1.rest fault h.1.in_range program.in_range h.1.at (sym h.1.parts ∙ e))
@@ -97,7 +99,8 @@ refused_once_by bytes (At fault slot) Many h i m n = absurd (omega (arith, h.0))
 refused_once_by bytes (At fault slot) (At other place) h i m n =
     let a = h.1 in
     let b = i.1 in
-    let once = fault_once a.before b.before a.rest b.rest fault other a.in_range b.in_range a.at b.at (sym a.parts ∙ b.parts) in
+    let once = fault_once a.before b.before a.rest b.rest fault other a.in_range b.in_range a.at b.at
+    (sym a.parts ∙ b.parts) in
     let same = same_fault fault other b.rest (rw once.1 at a.at) b.at in
     let where_is : slot ≡ place = sym a.place ∙ (ap slots_of once.0 ∙ b.place) in
     cc
@@ -105,17 +108,22 @@ refused_once_by bytes (At fault slot) (At other place) h i m n =
 memory_kind : (e : ImageError) → kind_of e ≡ Short → e ≡ errors.Memory
 memory_kind e h = sym (back e) ∙ ap error_of h
 
-pub refused_once : (bytes : List ℕ) (e d : ImageError) → RefusesImage bytes e → RefusesImage bytes d → e ≢ errors.Memory → d ≢ errors.Memory → e ≡ d
+pub refused_once : (bytes : List ℕ) (e d : ImageError) → RefusesImage bytes e → RefusesImage bytes d
+    → e ≢ errors.Memory → d ≢ errors.Memory → e ≡ d
 refused_once bytes e d h i m n =
-    let same = refused_once_by bytes (kind_of e) (kind_of d) (by_kind bytes e h) (by_kind bytes d i) (λ s. m (memory_kind e s)) (λ s. n (memory_kind d s)) in
+    let same = refused_once_by bytes (kind_of e) (kind_of d) (by_kind bytes e h) (by_kind bytes d i)
+    (λ s. m (memory_kind e s)) (λ s. n (memory_kind d s)) in
     sym (back e) ∙ (ap error_of same ∙ back d)
 
-pub only_memory : (bytes : List ℕ) (p : List Insn) (e : ImageError) → IsProgram p → bytes ≡ image_of p → RefusesImage bytes e → e ≡ errors.Memory
-only_memory bytes p e program image refused = memory_kind e (no_refusal bytes p (kind_of e) program image (by_kind bytes e refused))
+pub only_memory : (bytes : List ℕ) (p : List Insn) (e : ImageError) → IsProgram p → bytes ≡ image_of p
+    → RefusesImage bytes e → e ≡ errors.Memory
+only_memory bytes p e program image refused = memory_kind e
+    (no_refusal bytes p (kind_of e) program image (by_kind bytes e refused))
 
 -- ---- the answer of a decoder
 
-pub only_program : (bytes : List ℕ) (p : List Insn) (r : Result (List Insn) ImageError) → IfOk r (λ q. IsProgram q × (bytes ≡ image_of q)) → IfErr r (RefusesImage bytes) → IsProgram p → bytes ≡ image_of p
+pub only_program : (bytes : List ℕ) (p : List Insn) (r : Result (List Insn) ImageError)
+    → IfOk r (λ q. IsProgram q × (bytes ≡ image_of q)) → IfErr r (RefusesImage bytes) → IsProgram p → bytes ≡ image_of p
     → MatchResult r (λ q. q ≡ p) (λ e. e ≡ errors.Memory)
 only_program bytes p (Ok q) ok err program e = image_once q p ok.0.in_range program.in_range (sym ok.1 ∙ e)
 only_program bytes p (Err d) ok err program e = only_memory bytes p d program e err
@@ -129,7 +137,9 @@ short_or_not Short = inl refl
 abbrev failed : ImageError → Result (List Insn) ImageError
 failed e = Err e
 
-pub only_refusal : (bytes : List ℕ) (d : ImageError) (r : Result (List Insn) ImageError) → IfOk r (λ q. IsProgram q × (bytes ≡ image_of q)) → IfErr r (RefusesImage bytes) → RefusesImage bytes d → d ≢ errors.Memory → r ≡ Err d
+pub only_refusal : (bytes : List ℕ) (d : ImageError) (r : Result (List Insn) ImageError)
+    → IfOk r (λ q. IsProgram q × (bytes ≡ image_of q)) → IfErr r (RefusesImage bytes) → RefusesImage bytes d
+    → d ≢ errors.Memory → r ≡ Err d
 only_refusal bytes d (Ok q) ok err h n = absurd (n (only_memory bytes q d ok.0 ok.1 h))
 only_refusal bytes d (Err e) ok err h n =
     elim (short_or_not (kind_of e)) [

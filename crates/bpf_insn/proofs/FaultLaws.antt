@@ -35,11 +35,13 @@ use Rattle.bpf_insn.proofs.FrontLaws.{front_at, front_takes, Second, second_take
 
 -- ---- where a step failed
 
-unless_err : {A : Type 0} (b : Bool) (d f : SlotFault) (next : Result A SlotFault) → unless b d next ≡ Err f → ((b ≡ true) × (f ≡ d)) ⊎ ((b ≡ false) × (next ≡ Err f))
+unless_err : {A : Type 0} (b : Bool) (d f : SlotFault) (next : Result A SlotFault) → unless b d next ≡ Err f
+    → ((b ≡ true) × (f ≡ d)) ⊎ ((b ≡ false) × (next ≡ Err f))
 unless_err true d f next e = inl (refl, cc)
 unless_err false d f next e = inr (refl, e)
 
-bind_err : {A B : Type 0} (r : Result A SlotFault) (g : A → Result B SlotFault) (f : SlotFault) → (r >>= g) ≡ Err f → (r ≡ Err f) ⊎ ((x : A) × (r ≡ Ok x) × (g x ≡ Err f))
+bind_err : {A B : Type 0} (r : Result A SlotFault) (g : A → Result B SlotFault) (f : SlotFault) → (r >>= g) ≡ Err f
+    → (r ≡ Err f) ⊎ ((x : A) × (r ≡ Ok x) × (g x ≡ Err f))
 bind_err (Ok x) g f e = inr (x, refl, e)
 bind_err (Err d) g f e = inl cc
 
@@ -64,7 +66,8 @@ wide_byte (opcode.LoadSx size) e = absurd cc
 wide_byte (opcode.StoreImm size) e = absurd cc
 wide_byte (opcode.StoreReg size) e = absurd cc
 
-not_truncated : (bytes : List ℕ) (o : Opcode) → 8 ≤ length bytes → opcode_at (slice_index bytes 0) ≡ Some o → 8 * opcode_slots o ≤ length bytes → FaultHolds Truncated bytes → ⊥
+not_truncated : (bytes : List ℕ) (o : Opcode) → 8 ≤ length bytes → opcode_at (slice_index bytes 0) ≡ Some o
+    → 8 * opcode_slots o ≤ length bytes → FaultHolds Truncated bytes → ⊥
 not_truncated bytes o eight first whole h =
     elim (cases_eq (slice_index bytes 0) 0x18) [
       | inl e ↦
@@ -75,35 +78,41 @@ not_truncated bytes o eight first whole h =
       | inr ne ↦ omega (arith, rw (ne_eqb (slice_index bytes 0) 0x18 ne) at h.1)
     ]
 
-is_cut_short : (bytes : List ℕ) (o : Opcode) → slice_index bytes 0 < 256 → 8 ≤ length bytes → opcode_at (slice_index bytes 0) ≡ Some o → length bytes < 8 * opcode_slots o → FaultHolds Truncated bytes
+is_cut_short : (bytes : List ℕ) (o : Opcode) → slice_index bytes 0 < 256 → 8 ≤ length bytes
+    → opcode_at (slice_index bytes 0) ≡ Some o → length bytes < 8 * opcode_slots o → FaultHolds Truncated bytes
 is_cut_short bytes o lt eight first short =
     elim (cases_Bool (is_wide o)) [
       | inl wide ↦
-          let byte : slice_index bytes 0 ≡ 0x18 = sym (opcode_takes (slice_index bytes 0) o lt first) ∙ wide_byte o wide in
+          let byte : slice_index bytes 0 ≡ 0x18 = sym (opcode_takes (slice_index bytes 0) o lt first)
+          ∙ wide_byte o wide in
           let short16 : length bytes < 16 = rw wide at short in
           (omega arith, rw (eq-eqb (slice_index bytes 0) 0x18 byte) short16)
       | inr narrow ↦ let short8 : length bytes < 8 = rw narrow at short in absurd (omega arith)
     ]
 
 unknown : (bytes : List ℕ) → opcode_at (slice_index bytes 0) ≡ None → FaultHolds UnknownOpcode bytes
-unknown bytes e = λ o same. let is : opcode_at (slice_index bytes 0) ≡ Some o = ap opcode_at (sym same) ∙ opcode_again o in cc
+unknown bytes e = λ o same. let is : opcode_at (slice_index bytes 0) ≡ Some o = ap opcode_at (sym same)
+    ∙ opcode_again o in cc
 
 no_register : (n : ℕ) → n < 16 → register_at n ≡ None → 10 < n
 no_register n lt e =
     let test = agree_below_at (λ k. if is_none (register_at k) then nat_lt 10 k else true) (λ k. true) 16 n refl lt in
     ltb-true 10 n (rw e at test)
 
-bad_register : (o : Opcode) (bytes : List ℕ) (f : SlotFault) → slice_index bytes 1 < 256 → slot_at o bytes ≡ Err f → (f ≡ BadRegister) × FaultHolds BadRegister bytes
+bad_register : (o : Opcode) (bytes : List ℕ) (f : SlotFault) → slice_index bytes 1 < 256 → slot_at o bytes ≡ Err f
+    → (f ≡ BadRegister) × FaultHolds BadRegister bytes
 unfolding slot_at
 bad_register o bytes f lt e =
     let low : bit_and (slice_index bytes 1) 15 ≡ slice_index bytes 1 % 2 ^ 4 = and_mask (slice_index bytes 1) 4 in
     elim (bind_err (found BadRegister (register_at (bit_and (slice_index bytes 1) 15))) _ f e) [
       | inl d ↦
           let none = found_err BadRegister f (register_at (bit_and (slice_index bytes 1) 15)) d in
-          let high : 10 < bit_and (slice_index bytes 1) 15 = no_register (bit_and (slice_index bytes 1) 15) (omega arith) none.0 in
+          let high : 10 < bit_and (slice_index bytes 1) 15 = no_register (bit_and (slice_index bytes 1) 15)
+          (omega arith) none.0 in
           (none.1, inl (omega arith))
       | inr d ↦
-          elim (bind_err (found BadRegister (register_at (slice_index bytes 1 / 16))) (λ src. Ok (fields_at o d.0 src bytes)) f d.2) [
+          elim (bind_err (found BadRegister (register_at (slice_index bytes 1 / 16)))
+          (λ src. Ok (fields_at o d.0 src bytes)) f d.2) [
             | inl s ↦
                 let none = found_err BadRegister f (register_at (slice_index bytes 1 / 16)) s in
                 (none.1, inr (no_register (slice_index bytes 1 / 16) (omega arith) none.0))
@@ -113,24 +122,29 @@ bad_register o bytes f lt e =
 
 not_bad_register : (o : Opcode) (bytes : List ℕ) (s : Slot) → Spells o bytes s → FaultHolds BadRegister bytes → ⊥
 not_bad_register o bytes s spelled h =
-    let at : slice_index bytes 1 ≡ register_number s.dst + 16 * register_number s.src = ap (λ (t : List ℕ). slice_index t 1) spelled.parts in
+    let at : slice_index bytes 1 ≡ register_number s.dst + 16 * register_number s.src = ap
+    (λ (t : List ℕ). slice_index t 1) spelled.parts in
     let dst = number_small s.dst in
     let src = number_small s.src in
     elim h [ inl low ↦ omega arith | inr high ↦ omega arith ]
 
 -- the slot that stands at the front is the one that was read
-slot_once : (bytes : List ℕ) (o : Opcode) (s t : Slot) → opcode_at (slice_index bytes 0) ≡ Some o → slot_at o bytes ≡ Ok s → StandsAt t bytes → t ≡ s
+slot_once : (bytes : List ℕ) (o : Opcode) (s t : Slot) → opcode_at (slice_index bytes 0) ≡ Some o
+    → slot_at o bytes ≡ Ok s → StandsAt t bytes → t ≡ s
 slot_once bytes o s t first read stands =
     let byte : slice_index bytes 0 ≡ opcode_byte t.opcode = ap (λ (u : List ℕ). slice_index u 0) stands.parts in
     let other : Some t.opcode ≡ Some o = sym (opcode_again t.opcode) ∙ (ap opcode_at (sym byte) ∙ first) in
     let same : t.opcode ≡ o = cc in
-    let again : slot_at t.opcode bytes ≡ Ok t = ap (slot_at t.opcode) stands.parts ∙ slot_again t (drop 8 bytes) (record { offset = stands.offset; imm = stands.imm }) in
+    let again : slot_at t.opcode bytes ≡ Ok t = ap (slot_at t.opcode) stands.parts
+    ∙ slot_again t (drop 8 bytes) (record { offset = stands.offset; imm = stands.imm }) in
     ok_is t s (sym again ∙ (ap (λ (p : Opcode). slot_at p bytes) same ∙ read))
 
 stands : (o : Opcode) (bytes : List ℕ) (s : Slot) → Spells o bytes s → StandsAt s bytes
 stands o bytes s spelled = record { offset = spelled.fits.offset; imm = spelled.fits.imm; parts = spelled.parts }
 
-not_stray : (bytes : List ℕ) (o : Opcode) (s : Slot) (high : ℕ) → opcode_at (slice_index bytes 0) ≡ Some o → slot_at o bytes ≡ Ok s → has_stray_field s ≡ false → Second (is_wide o) bytes high → FaultHolds NonZeroField bytes → ⊥
+not_stray : (bytes : List ℕ) (o : Opcode) (s : Slot) (high : ℕ) → opcode_at (slice_index bytes 0) ≡ Some o
+    → slot_at o bytes ≡ Ok s → has_stray_field s ≡ false → Second (is_wide o) bytes high
+    → FaultHolds NonZeroField bytes → ⊥
 not_stray bytes o s high first read clean second h =
     elim h [
       | inl t ↦
@@ -148,10 +162,13 @@ chosen_err : {A : Type 0} (b : Bool) (d f : SlotFault) (x : A) → cond b (Ok x)
 chosen_err true d f x e = absurd cc
 chosen_err false d f x e = (refl, cc)
 
-second_fault : (wide : Bool) (bytes : List ℕ) (f : SlotFault) → high_at wide bytes ≡ Err f → 8 * (if wide then 2 else 1) ≤ length bytes → (wide ≡ true) × (f ≡ NonZeroField) × (take 4 (drop 8 bytes) ≢ 0 ∷ 0 ∷ 0 ∷ 0 ∷ [])
+second_fault : (wide : Bool) (bytes : List ℕ) (f : SlotFault) → high_at wide bytes ≡ Err f
+    → 8 * (if wide then 2 else 1) ≤ length bytes
+    → (wide ≡ true) × (f ≡ NonZeroField) × (take 4 (drop 8 bytes) ≢ 0 ∷ 0 ∷ 0 ∷ 0 ∷ [])
 second_fault false bytes f e len = absurd cc
 second_fault true bytes f e len =
-    let d = chosen_err (from_le_bytes w32 (slice_index bytes 8 ∷ slice_index bytes 9 ∷ slice_index bytes 10 ∷ slice_index bytes 11 ∷ []) == 0) NonZeroField f _ e in (
+    let d = chosen_err (from_le_bytes w32 (slice_index bytes 8 ∷ slice_index bytes 9 ∷ slice_index bytes 10
+    ∷ slice_index bytes 11 ∷ []) == 0) NonZeroField f _ e in (
       refl,
       d.1,
       λ zero.
@@ -159,14 +176,23 @@ second_fault true bytes f e len =
           let z1 : slice_index (take 4 (drop 8 bytes)) 1 ≡ 0 = ap (λ (t : List ℕ). slice_index t 1) zero in
           let z2 : slice_index (take 4 (drop 8 bytes)) 2 ≡ 0 = ap (λ (t : List ℕ). slice_index t 2) zero in
           let z3 : slice_index (take 4 (drop 8 bytes)) 3 ≡ 0 = ap (λ (t : List ℕ). slice_index t 3) zero in
-          eqb-false (from_le_bytes w32 (slice_index bytes 8 ∷ slice_index bytes 9 ∷ slice_index bytes 10 ∷ slice_index bytes 11 ∷ [])) 0 d.0
-          (omega (arith, at_second bytes 0 (omega arith), at_second bytes 1 (omega arith), at_second bytes 2 (omega arith), at_second bytes 3 (omega arith))),
+          eqb-false (from_le_bytes w32 (slice_index bytes 8 ∷ slice_index bytes 9 ∷ slice_index bytes 10
+          ∷ slice_index bytes 11 ∷ [])) 0 d.0
+          (omega (
+            arith,
+            at_second bytes 0 (omega arith),
+            at_second bytes 1 (omega arith),
+            at_second bytes 2
+                (omega arith),
+            at_second bytes 3 (omega arith),
+          )),
     )
   where
     at_second : (bs : List ℕ) (k : ℕ) → k < 4 → slice_index (take 4 (drop 8 bs)) k ≡ slice_index bs (8 + k)
     at_second bs k lt = get_or-take 4 (drop 8 bs) k 0 lt ∙ get_or-drop 8 bs k 0
 
-either_err : {A : Type 0} (b : Bool) (x : A) (y : Result A SlotFault) (f : SlotFault) → cond b (Ok x) y ≡ Err f → (b ≡ false) × (y ≡ Err f)
+either_err : {A : Type 0} (b : Bool) (x : A) (y : Result A SlotFault) (f : SlotFault) → cond b (Ok x) y ≡ Err f
+    → (b ≡ false) × (y ≡ Err f)
 either_err true x y f e = absurd cc
 either_err false x y f e = (refl, e)
 
@@ -174,26 +200,32 @@ drop_to : {A : Type 0} (b : Bool) (x : A) (y : Option A) → cond b (Some x) y �
 drop_to true x y e = absurd cc
 drop_to false x y e = (refl, e)
 
-extension_err : (s : Slot) (o : Option MovsxKind) (f : SlotFault) → extension_by s o ≡ Err f → (o ≡ None) × (f ≡ BadWidth)
+extension_err : (s : Slot) (o : Option MovsxKind) (f : SlotFault) → extension_by s o ≡ Err f
+    → (o ≡ None) × (f ≡ BadWidth)
 extension_err s (Some kind) f e = absurd cc
 extension_err s None f e = (refl, cc)
 
-swap_err : (order : Order) (s : Slot) (o : Option SwapBits) (f : SlotFault) → swap_by order s o ≡ Err f → (o ≡ None) × (f ≡ BadWidth)
+swap_err : (order : Order) (s : Slot) (o : Option SwapBits) (f : SlotFault) → swap_by order s o ≡ Err f
+    → (o ≡ None) × (f ≡ BadWidth)
 swap_err order s (Some bits) f e = absurd cc
 swap_err order s None f e = (refl, cc)
 
-bad_width_at : (o : Opcode) (dst src : Reg) (offset imm : ℤ) (high : ℕ) (f : SlotFault) → IsClean (slot_with o dst src offset imm) → form_at o (slot_with o dst src offset imm) high ≡ Err f → (f ≡ BadWidth) × (has_bad_width (slot_with o dst src offset imm) ≡ true)
+bad_width_at : (o : Opcode) (dst src : Reg) (offset imm : ℤ) (high : ℕ) (f : SlotFault)
+    → IsClean (slot_with o dst src offset imm) → form_at o (slot_with o dst src offset imm) high ≡ Err f
+    → (f ≡ BadWidth) × (has_bad_width (slot_with o dst src offset imm) ≡ true)
 bad_width_at (opcode.Alu Mov W32 source.Reg) dst src offset imm high f clean e =
     let n = cast_unsigned w16 offset in
     let zero = either_err (n == 0) _ _ f e in
-    let none = extension_err (slot_with (opcode.Alu Mov W32 source.Reg) dst src offset imm) (kind_at W32 offset) f zero.1 in
+    let none = extension_err (slot_with (opcode.Alu Mov W32 source.Reg) dst src offset imm)
+    (kind_at W32 offset) f zero.1 in
     let a = drop_to (n == 8) kinds.From8To32 _ none.0 in
     let b = drop_to (n == 16) kinds.From16To32 None a.1 in
     (none.1, rw (zero.0, a.0, b.0) refl)
 bad_width_at (opcode.Alu Mov W64 source.Reg) dst src offset imm high f clean e =
     let n = cast_unsigned w16 offset in
     let zero = either_err (n == 0) _ _ f e in
-    let none = extension_err (slot_with (opcode.Alu Mov W64 source.Reg) dst src offset imm) (kind_at W64 offset) f zero.1 in
+    let none = extension_err (slot_with (opcode.Alu Mov W64 source.Reg) dst src offset imm)
+    (kind_at W64 offset) f zero.1 in
     let a = drop_to (n == 8) kinds.From8To64 _ none.0 in
     let b = drop_to (n == 16) kinds.From16To64 _ a.1 in
     let c = drop_to (n == 32) kinds.From32To64 None b.1 in
@@ -221,7 +253,8 @@ bad_width_at (opcode.StoreReg size) dst src offset imm high f clean e = absurd c
 -- ---- together
 
 abbrev IsLowest : SlotFault → List ℕ → Type 0
-IsLowest fault bytes = FaultHolds fault bytes × ((other : SlotFault) → fault_number other < fault_number fault → FaultHolds other bytes → ⊥)
+IsLowest fault bytes = FaultHolds fault bytes ×
+    ((other : SlotFault) → fault_number other < fault_number fault → FaultHolds other bytes → ⊥)
 
 lowest_truncated : (bytes : List ℕ) → FaultHolds Truncated bytes → IsLowest Truncated bytes
 lowest_truncated bytes h = (h, none)
@@ -233,7 +266,8 @@ lowest_truncated bytes h = (h, none)
     none NonZeroField lt h = omega arith
     none BadWidth lt h = omega arith
 
-lowest_unknown : (bytes : List ℕ) → FaultHolds UnknownOpcode bytes → (FaultHolds Truncated bytes → ⊥) → IsLowest UnknownOpcode bytes
+lowest_unknown : (bytes : List ℕ) → FaultHolds UnknownOpcode bytes → (FaultHolds Truncated bytes → ⊥)
+    → IsLowest UnknownOpcode bytes
 lowest_unknown bytes h a = (h, none)
   where
     none : (other : SlotFault) → fault_number other < 4 → FaultHolds other bytes → ⊥
@@ -243,7 +277,8 @@ lowest_unknown bytes h a = (h, none)
     none NonZeroField lt h = omega arith
     none BadWidth lt h = omega arith
 
-lowest_register : (bytes : List ℕ) → FaultHolds BadRegister bytes → (FaultHolds Truncated bytes → ⊥) → (FaultHolds UnknownOpcode bytes → ⊥) → IsLowest BadRegister bytes
+lowest_register : (bytes : List ℕ) → FaultHolds BadRegister bytes → (FaultHolds Truncated bytes → ⊥)
+    → (FaultHolds UnknownOpcode bytes → ⊥) → IsLowest BadRegister bytes
 lowest_register bytes h a b = (h, none)
   where
     none : (other : SlotFault) → fault_number other < 5 → FaultHolds other bytes → ⊥
@@ -253,7 +288,8 @@ lowest_register bytes h a b = (h, none)
     none NonZeroField lt h = omega arith
     none BadWidth lt h = omega arith
 
-lowest_field : (bytes : List ℕ) → FaultHolds NonZeroField bytes → (FaultHolds Truncated bytes → ⊥) → (FaultHolds UnknownOpcode bytes → ⊥) → (FaultHolds BadRegister bytes → ⊥) → IsLowest NonZeroField bytes
+lowest_field : (bytes : List ℕ) → FaultHolds NonZeroField bytes → (FaultHolds Truncated bytes → ⊥)
+    → (FaultHolds UnknownOpcode bytes → ⊥) → (FaultHolds BadRegister bytes → ⊥) → IsLowest NonZeroField bytes
 lowest_field bytes h a b c = (h, none)
   where
     none : (other : SlotFault) → fault_number other < 6 → FaultHolds other bytes → ⊥
@@ -263,7 +299,9 @@ lowest_field bytes h a b c = (h, none)
     none NonZeroField lt h = omega arith
     none BadWidth lt h = omega arith
 
-lowest_width : (bytes : List ℕ) → FaultHolds BadWidth bytes → (FaultHolds Truncated bytes → ⊥) → (FaultHolds UnknownOpcode bytes → ⊥) → (FaultHolds BadRegister bytes → ⊥) → (FaultHolds NonZeroField bytes → ⊥) → IsLowest BadWidth bytes
+lowest_width : (bytes : List ℕ) → FaultHolds BadWidth bytes → (FaultHolds Truncated bytes → ⊥)
+    → (FaultHolds UnknownOpcode bytes → ⊥) → (FaultHolds BadRegister bytes → ⊥) → (FaultHolds NonZeroField bytes → ⊥)
+    → IsLowest BadWidth bytes
 lowest_width bytes h a b c d = (h, none)
   where
     none : (other : SlotFault) → fault_number other < 7 → FaultHolds other bytes → ⊥
@@ -274,26 +312,32 @@ lowest_width bytes h a b c d = (h, none)
     none BadWidth lt h = omega arith
 
 -- with the opcode and the slot known
-after_slot : (bytes : List ℕ) (o : Opcode) (s : Slot) (f : SlotFault) → IsBytes bytes → 8 ≤ length bytes → opcode_at (slice_index bytes 0) ≡ Some o → 8 * opcode_slots o ≤ length bytes → slot_at o bytes ≡ Ok s
-    → (high_at (is_wide o) bytes >>= λ high. unless (has_stray_field s) NonZeroField (form_at s.opcode s high)) ≡ Err f → IsLowest f bytes
+after_slot : (bytes : List ℕ) (o : Opcode) (s : Slot) (f : SlotFault) → IsBytes bytes → 8 ≤ length bytes
+    → opcode_at (slice_index bytes 0) ≡ Some o → 8 * opcode_slots o ≤ length bytes → slot_at o bytes ≡ Ok s
+    → (high_at (is_wide o) bytes >>= λ high. unless (has_stray_field s) NonZeroField (form_at s.opcode s high)) ≡ Err f
+    → IsLowest f bytes
 after_slot bytes o s f fits eight first whole read e =
     let spelled = slot_takes o bytes s fits eight (opcode_takes (slice_index bytes 0) o (fits 0) first) read in
     let stand = stands o bytes s spelled in
     let truncated = not_truncated bytes o eight first whole in
     let known = λ (h : FaultHolds UnknownOpcode bytes). h o (opcode_takes (slice_index bytes 0) o (fits 0) first) in
     let registers = not_bad_register o bytes s spelled in
-    elim (bind_err (high_at (is_wide o) bytes) (λ high. unless (has_stray_field s) NonZeroField (form_at s.opcode s high)) f e) [
+    elim (bind_err (high_at (is_wide o) bytes) (λ high. unless (has_stray_field s) NonZeroField
+    (form_at s.opcode s high)) f e) [
       | inl d ↦
           let second = second_fault (is_wide o) bytes f d whole in
-          let byte : slice_index bytes 0 ≡ 0x18 = sym (opcode_takes (slice_index bytes 0) o (fits 0) first) ∙ wide_byte o second.0 in
+          let byte : slice_index bytes 0 ≡ 0x18 = sym (opcode_takes (slice_index bytes 0) o (fits 0) first)
+          ∙ wide_byte o second.0 in
           rw second.1 (lowest_field bytes (inr (byte, second.2)) truncated known registers)
       | inr d ↦
           elim (unless_err (has_stray_field s) NonZeroField f (form_at s.opcode s d.0) d.2) [
             | inl stray ↦ rw stray.1 (lowest_field bytes (inl (s, stand, stray.0)) truncated known registers)
             | inr clean ↦
                 let second = second_takes (is_wide o) bytes d.0 fits whole d.1 in
-                let bad = bad_width_at s.opcode s.dst s.src s.offset s.imm d.0 f (clean_from s spelled.fits clean.0) clean.1 in
-                rw bad.0 (lowest_width bytes (s, stand, bad.1) truncated known registers (not_stray bytes o s d.0 first read clean.0 second))
+                let bad = bad_width_at s.opcode s.dst s.src s.offset s.imm d.0 f
+                (clean_from s spelled.fits clean.0) clean.1 in
+                rw bad.0 (lowest_width bytes (s, stand, bad.1) truncated known registers
+                (not_stray bytes o s d.0 first read clean.0 second))
           ]
     ]
 
@@ -301,7 +345,8 @@ below_both : (b : Bool) (n : ℕ) → n < 8 → n < (if b then 16 else 8)
 below_both true n lt = omega arith
 below_both false n lt = lt
 
-not_cut_short : (bytes : List ℕ) → 8 ≤ length bytes → opcode_at (slice_index bytes 0) ≡ None → FaultHolds Truncated bytes → ⊥
+not_cut_short : (bytes : List ℕ) → 8 ≤ length bytes → opcode_at (slice_index bytes 0) ≡ None
+    → FaultHolds Truncated bytes → ⊥
 not_cut_short bytes eight none h =
     elim (cases_eq (slice_index bytes 0) 0x18) [
       | inl e ↦ let wide : Some opcode.LoadImm64 ≡ None = sym (ap opcode_at e) ∙ none in absurd cc
@@ -312,7 +357,8 @@ lowest : (bytes : List ℕ) (f : SlotFault) → IsBytes bytes → 0 < length byt
 unfolding front_at
 lowest bytes f fits some e =
     elim (unless_err (nat_lt (length bytes) 8) Truncated f _ e) [
-      | inl short ↦ rw short.1 (lowest_truncated bytes (some, below_both (slice_index bytes 0 == 0x18) (length bytes) (ltb-true (length bytes) 8 short.0)))
+      | inl short ↦ rw short.1 (lowest_truncated bytes
+          (some, below_both (slice_index bytes 0 == 0x18) (length bytes) (ltb-true (length bytes) 8 short.0)))
       | inr enough ↦
           let eight = ltb-false (length bytes) 8 enough.0 in
           elim (bind_err (found UnknownOpcode (opcode_at (slice_index bytes 0))) _ f enough.1) [
@@ -322,31 +368,37 @@ lowest bytes f fits some e =
             | inr d ↦
                 let first = found_ok UnknownOpcode (opcode_at (slice_index bytes 0)) d.0 d.1 in
                 elim (unless_err (nat_lt (length bytes) (8 * opcode_slots d.0)) Truncated f _ d.2) [
-                  | inl short ↦ rw short.1 (lowest_truncated bytes (is_cut_short bytes d.0 (fits 0) eight first (ltb-true (length bytes) (8 * opcode_slots d.0) short.0)))
+                  | inl short ↦ rw short.1 (lowest_truncated bytes
+                      (is_cut_short bytes d.0 (fits 0) eight first
+                      (ltb-true (length bytes) (8 * opcode_slots d.0) short.0)))
                   | inr whole ↦
                       let enough = ltb-false (length bytes) (8 * opcode_slots d.0) whole.0 in
                       elim (bind_err (slot_at d.0 bytes) _ f whole.1) [
                         | inl r ↦
                             let bad = bad_register d.0 bytes f (fits 1) r in
-                            rw bad.0 (lowest_register bytes bad.1 (not_truncated bytes d.0 eight first enough) (λ h. h d.0 (opcode_takes (slice_index bytes 0) d.0 (fits 0) first)))
+                            rw bad.0 (lowest_register bytes bad.1 (not_truncated bytes d.0 eight first enough)
+                            (λ h. h d.0 (opcode_takes (slice_index bytes 0) d.0 (fits 0) first)))
                         | inr r ↦ after_slot bytes d.0 r.0 f fits eight first enough r.1 r.2
                       ]
                 ]
           ]
     ]
 
-pub front_fault : (bytes : List ℕ) (f : SlotFault) → IsBytes bytes → 0 < length bytes → front_at bytes ≡ Err f → IsFaultAt f bytes
+pub front_fault : (bytes : List ℕ) (f : SlotFault) → IsBytes bytes → 0 < length bytes → front_at bytes ≡ Err f
+    → IsFaultAt f bytes
 front_fault bytes f fits some e =
     let low = lowest bytes f fits some e in
     record {
       left = some;
-      none = λ i more range same. let again : front_at bytes ≡ Ok i = ap front_at same ∙ front_again i more range in absurd cc;
+      none = λ i more range same. let again : front_at bytes ≡ Ok i = ap front_at same ∙ front_again i more range in
+          absurd cc;
       holds = low.0;
       lowest = low.1;
     }
 
 -- the answer of the reader: the instruction that is spelled at the front, or the fault there
-pub front_read : (bytes : List ℕ) (read : Result Insn SlotFault) → IsBytes bytes → 0 < length bytes → read ≡ front_at bytes
+pub front_read : (bytes : List ℕ) (read : Result Insn SlotFault) → IsBytes bytes → 0 < length bytes
+    → read ≡ front_at bytes
     → IfOk read (IsFirst bytes) × IfErr read (λ f. IsFaultAt f bytes)
 front_read bytes (Ok i) fits some e = (front_takes bytes i fits (sym e), tt)
 front_read bytes (Err f) fits some e = (tt, front_fault bytes f fits some (sym e))

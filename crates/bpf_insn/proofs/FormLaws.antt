@@ -45,7 +45,8 @@ stray_none ZeroOrOne n e u = absurd cc
 stray_none Any n e u = absurd cc
 
 -- the number of small bits is itself
-pub small_bits : (w : Width) (z : ℤ) (k : ℕ) → cast_signed w k ≡ pos k → FitsSigned w z → cast_unsigned w z ≡ k → z ≡ pos k
+pub small_bits : (w : Width) (z : ℤ) (k : ℕ) → cast_signed w k ≡ pos k → FitsSigned w z → cast_unsigned w z ≡ k
+    → z ≡ pos k
 small_bits w z k is fits e = sym (to_z-of_z w z fits) ∙ (ap (cast_signed w) e ∙ is)
 
 choice_from : (use_of : FieldUse) (n : ℕ) → is_stray use_of n ≡ false → use_of ≡ ZeroOrOne → (n ≡ 0) ⊎ (n ≡ 1)
@@ -60,7 +61,8 @@ pub record IsClean (s : Slot) : Type 0 where
   pub dst : (uses_of s.opcode).dst ≡ Zero → s.dst ≡ R0
   pub src : (uses_of s.opcode).src ≡ Zero → s.src ≡ R0
   pub offset : (uses_of s.opcode).offset ≡ Zero → s.offset ≡ pos 0
-  pub choice : (uses_of s.opcode).offset ≡ ZeroOrOne → (cast_unsigned w16 s.offset ≡ 0) ⊎ (cast_unsigned w16 s.offset ≡ 1)
+  pub choice : (uses_of s.opcode).offset ≡ ZeroOrOne → (cast_unsigned w16 s.offset ≡ 0)
+      ⊎ (cast_unsigned w16 s.offset ≡ 1)
   pub imm : (uses_of s.opcode).imm ≡ Zero → s.imm ≡ pos 0
 
 pub clean_from : (s : Slot) → SlotFits s → has_stray_field s ≡ false → IsClean s
@@ -76,7 +78,8 @@ clean_from s fits e =
     record {
       dst = λ h. number_once s.dst R0 (stray_none u.dst (register_number s.dst) first.0 h);
       src = λ h. number_once s.src R0 (stray_none u.src (register_number s.src) first.1 h);
-      offset = λ h. small_bits w16 s.offset 0 refl fits.offset (stray_none u.offset (cast_unsigned w16 s.offset) ab.1 h);
+      offset = λ h. small_bits w16 s.offset 0 refl fits.offset
+          (stray_none u.offset (cast_unsigned w16 s.offset) ab.1 h);
       choice = choice_from u.offset (cast_unsigned w16 s.offset) ab.1;
       imm = λ h. small_bits w32 s.imm 0 refl fits.imm (stray_none u.imm (cast_unsigned w32 s.imm) abc.1 h);
     }
@@ -96,7 +99,8 @@ pub record Makes (s : Slot) (high : ℕ) (i : Insn) : Type 0 where
 abbrev pub slot_with : Opcode → Reg → Reg → ℤ → ℤ → Slot
 slot_with opcode dst src offset imm = record { opcode = opcode; dst = dst; src = src; offset = offset; imm = imm }
 
-same_slot : {p p' : Opcode} {d d' s s' : Reg} {o o' i i' : ℤ} → p' ≡ p → d' ≡ d → s' ≡ s → o' ≡ o → i' ≡ i → slot_with p d s o i ≡ slot_with p' d' s' o' i'
+same_slot : {p p' : Opcode} {d d' s s' : Reg} {o o' i i' : ℤ} → p' ≡ p → d' ≡ d → s' ≡ s → o' ≡ o → i' ≡ i
+    → slot_with p d s o i ≡ slot_with p' d' s' o' i'
 same_slot h p q r t = rw (h, p, q, r, t) refl
 
 -- ---- arithmetic
@@ -106,8 +110,10 @@ pub record IsOp (code : AluCode) (offset : ℤ) : Type 0 where
   pub code_is : code ≡ code_of (op_at code offset)
   pub offset_is : offset ≡ offset_of (op_at code offset)
 
-op_back : (code : AluCode) (source : Source) (offset : ℤ) → FitsSigned w16 offset → (offset_use code source ≡ Any → ⊥) → (offset_use code source ≡ Zero → offset ≡ pos 0)
-    → (offset_use code source ≡ ZeroOrOne → (cast_unsigned w16 offset ≡ 0) ⊎ (cast_unsigned w16 offset ≡ 1)) → IsOp code offset
+op_back : (code : AluCode) (source : Source) (offset : ℤ) → FitsSigned w16 offset → (offset_use code source ≡ Any → ⊥)
+    → (offset_use code source ≡ Zero → offset ≡ pos 0)
+    → (offset_use code source ≡ ZeroOrOne → (cast_unsigned w16 offset ≡ 0) ⊎ (cast_unsigned w16 offset ≡ 1))
+    → IsOp code offset
 op_back Add source offset fits plain absent choice = record { code_is = refl; offset_is = absent refl }
 op_back Sub source offset fits plain absent choice = record { code_is = refl; offset_is = absent refl }
 op_back Mul source offset fits plain absent choice = record { code_is = refl; offset_is = absent refl }
@@ -138,21 +144,37 @@ op_back Mov source.Imm offset fits plain absent choice = record { code_is = refl
 op_back Mov source.Reg offset fits plain absent choice = absurd (plain refl)
 op_back Arsh source offset fits plain absent choice = record { code_is = refl; offset_is = absent refl }
 
-alu_takes : (code : AluCode) (width : forms.Width) (source : Source) (dst src : Reg) (offset imm : ℤ) (high : ℕ) (i : Insn) → (offset_use code source ≡ Any → ⊥) → SlotFits (slot_with (Alu code width source) dst src offset imm)
-    → IsClean (slot_with (Alu code width source) dst src offset imm) → done (insn.Alu (op_at code offset) width dst (operand_at source (slot_with (Alu code width source) dst src offset imm))) ≡ Ok i
+alu_takes : (code : AluCode) (width : forms.Width) (source : Source) (dst src : Reg) (offset imm : ℤ) (high : ℕ)
+    (i : Insn) → (offset_use code source ≡ Any → ⊥) → SlotFits (slot_with (Alu code width source) dst src offset imm)
+    → IsClean (slot_with (Alu code width source) dst src offset imm)
+    → done (insn.Alu (op_at code offset) width dst
+    (operand_at source (slot_with (Alu code width source) dst src offset imm))) ≡ Ok i
     → Makes (slot_with (Alu code width source) dst src offset imm) high i
 alu_takes code width source.Imm dst src offset imm high i plain fits clean e =
     let op = op_back code source.Imm offset fits.offset plain clean.offset clean.choice in
-    subst (λ (j : Insn). Makes (slot_with (Alu code width source.Imm) dst src offset imm) high j) (ok_is (insn.Alu (op_at code offset) width dst (operands.Imm imm)) i e)
-    (record { slot = same_slot (ap (λ c. Alu c width source.Imm) op.code_is) refl (clean.src refl) op.offset_is refl; second = refl; range = fits.imm; size = refl })
+    subst (λ (j : Insn). Makes (slot_with (Alu code width source.Imm) dst src offset imm) high j)
+    (ok_is (insn.Alu (op_at code offset) width dst (operands.Imm imm)) i e)
+    (record {
+      slot = same_slot (ap (λ c. Alu c width source.Imm) op.code_is) refl (clean.src refl) op.offset_is refl;
+      second = refl;
+      range = fits.imm;
+      size = refl;
+    })
 alu_takes code width source.Reg dst src offset imm high i plain fits clean e =
     let op = op_back code source.Reg offset fits.offset plain clean.offset clean.choice in
-    subst (λ (j : Insn). Makes (slot_with (Alu code width source.Reg) dst src offset imm) high j) (ok_is (insn.Alu (op_at code offset) width dst (operands.Reg src)) i e)
-    (record { slot = same_slot (ap (λ c. Alu c width source.Reg) op.code_is) refl refl op.offset_is (clean.imm refl); second = refl; range = tt; size = refl })
+    subst (λ (j : Insn). Makes (slot_with (Alu code width source.Reg) dst src offset imm) high j)
+    (ok_is (insn.Alu (op_at code offset) width dst (operands.Reg src)) i e)
+    (record {
+      slot = same_slot (ap (λ c. Alu c width source.Reg) op.code_is) refl refl op.offset_is (clean.imm refl);
+      second = refl;
+      range = tt;
+      size = refl;
+    })
 
 -- ---- moves
 
-pub pick : {A : Type 0} (b : Bool) (x k : A) (y : Option A) → cond b (Some x) y ≡ Some k → ((b ≡ true) × (x ≡ k)) ⊎ ((b ≡ false) × (y ≡ Some k))
+pub pick : {A : Type 0} (b : Bool) (x k : A) (y : Option A) → cond b (Some x) y ≡ Some k → ((b ≡ true) × (x ≡ k))
+    ⊎ ((b ≡ false) × (y ≡ Some k))
 pick true x k y e = inl (refl, cc)
 pick false x k y e = inr (refl, e)
 
@@ -160,58 +182,84 @@ pub record IsKind (width : forms.Width) (offset : ℤ) (kind : MovsxKind) : Type
   pub width_is : width ≡ movsx_width kind
   pub offset_is : offset ≡ extended_bits kind
 
-kind_takes : (width : forms.Width) (offset : ℤ) (kind : MovsxKind) → FitsSigned w16 offset → kind_at width offset ≡ Some kind → IsKind width offset kind
+kind_takes : (width : forms.Width) (offset : ℤ) (kind : MovsxKind) → FitsSigned w16 offset
+    → kind_at width offset ≡ Some kind → IsKind width offset kind
 kind_takes W32 offset kind fits e =
     let n = cast_unsigned w16 offset in
     elim (pick (n == 8) kinds.From8To32 kind _ e) [
-      | inl a ↦ subst (λ k. IsKind W32 offset k) a.1 (record { width_is = refl; offset_is = small_bits w16 offset 8 refl fits (eqb-true n 8 a.0) })
+      | inl a ↦ subst (λ k. IsKind W32 offset k) a.1
+          (record { width_is = refl; offset_is = small_bits w16 offset 8 refl fits (eqb-true n 8 a.0) })
       | inr a ↦
           elim (pick (n == 16) kinds.From16To32 kind None a.1) [
-            | inl b ↦ subst (λ k. IsKind W32 offset k) b.1 (record { width_is = refl; offset_is = small_bits w16 offset 16 refl fits (eqb-true n 16 b.0) })
+            | inl b ↦ subst (λ k. IsKind W32 offset k) b.1
+                (record { width_is = refl; offset_is = small_bits w16 offset 16 refl fits (eqb-true n 16 b.0) })
             | inr b ↦ let none = b.1 in absurd cc
           ]
     ]
 kind_takes W64 offset kind fits e =
     let n = cast_unsigned w16 offset in
     elim (pick (n == 8) kinds.From8To64 kind _ e) [
-      | inl a ↦ subst (λ k. IsKind W64 offset k) a.1 (record { width_is = refl; offset_is = small_bits w16 offset 8 refl fits (eqb-true n 8 a.0) })
+      | inl a ↦ subst (λ k. IsKind W64 offset k) a.1
+          (record { width_is = refl; offset_is = small_bits w16 offset 8 refl fits (eqb-true n 8 a.0) })
       | inr a ↦
           elim (pick (n == 16) kinds.From16To64 kind _ a.1) [
-            | inl b ↦ subst (λ k. IsKind W64 offset k) b.1 (record { width_is = refl; offset_is = small_bits w16 offset 16 refl fits (eqb-true n 16 b.0) })
+            | inl b ↦ subst (λ k. IsKind W64 offset k) b.1
+                (record { width_is = refl; offset_is = small_bits w16 offset 16 refl fits (eqb-true n 16 b.0) })
             | inr b ↦
                 elim (pick (n == 32) kinds.From32To64 kind None b.1) [
-                  | inl c ↦ subst (λ k. IsKind W64 offset k) c.1 (record { width_is = refl; offset_is = small_bits w16 offset 32 refl fits (eqb-true n 32 c.0) })
+                  | inl c ↦ subst (λ k. IsKind W64 offset k) c.1
+                      (record { width_is = refl; offset_is = small_bits w16 offset 32 refl fits (eqb-true n 32 c.0) })
                   | inr c ↦ let none = c.1 in absurd cc
                 ]
           ]
     ]
 
-extension_ok : (s : Slot) (o : Option MovsxKind) (i : Insn) → extension_by s o ≡ Ok i → (kind : MovsxKind) × (o ≡ Some kind) × (insn.Movsx kind s.dst s.src ≡ i)
+extension_ok : (s : Slot) (o : Option MovsxKind) (i : Insn) → extension_by s o ≡ Ok i
+    → (kind : MovsxKind) × (o ≡ Some kind) × (insn.Movsx kind s.dst s.src ≡ i)
 extension_ok s (Some kind) i e = (kind, refl, ok_is (insn.Movsx kind s.dst s.src) i e)
 extension_ok s None i e = absurd cc
 
-pub either_ok : {A : Type 0} (b : Bool) (x : A) (y : Result A SlotFault) (z : A) → cond b (Ok x) y ≡ Ok z → ((b ≡ true) × (x ≡ z)) ⊎ ((b ≡ false) × (y ≡ Ok z))
+pub either_ok : {A : Type 0} (b : Bool) (x : A) (y : Result A SlotFault) (z : A) → cond b (Ok x) y ≡ Ok z
+    → ((b ≡ true) × (x ≡ z)) ⊎ ((b ≡ false) × (y ≡ Ok z))
 either_ok true x y z e = inl (refl, cc)
 either_ok false x y z e = inr (refl, e)
 
-move_takes : (width : forms.Width) (dst src : Reg) (offset imm : ℤ) (high : ℕ) (i : Insn) → SlotFits (slot_with (Alu Mov width source.Reg) dst src offset imm) → IsClean (slot_with (Alu Mov width source.Reg) dst src offset imm)
-    → move_at width (slot_with (Alu Mov width source.Reg) dst src offset imm) ≡ Ok i → Makes (slot_with (Alu Mov width source.Reg) dst src offset imm) high i
+move_takes : (width : forms.Width) (dst src : Reg) (offset imm : ℤ) (high : ℕ) (i : Insn)
+    → SlotFits (slot_with (Alu Mov width source.Reg) dst src offset imm)
+    → IsClean (slot_with (Alu Mov width source.Reg) dst src offset imm)
+    → move_at width (slot_with (Alu Mov width source.Reg) dst src offset imm) ≡ Ok i
+    → Makes (slot_with (Alu Mov width source.Reg) dst src offset imm) high i
 move_takes width dst src offset imm high i fits clean e =
     let s = slot_with (Alu Mov width source.Reg) dst src offset imm in
-    elim (either_ok (cast_unsigned w16 offset == 0) (insn.Alu ops.Mov width dst (operands.Reg src)) (extension_by s (kind_at width offset)) i e) [
+    elim (either_ok (cast_unsigned w16 offset == 0) (insn.Alu ops.Mov width dst (operands.Reg src))
+    (extension_by s (kind_at width offset)) i e) [
       | inl all ↦
           subst (λ (j : Insn). Makes s high j) all.1
-          (record { slot = same_slot refl refl refl (small_bits w16 offset 0 refl fits.offset (eqb-true (cast_unsigned w16 offset) 0 all.0)) (clean.imm refl); second = refl; range = tt; size = refl })
+          (record {
+            slot = same_slot refl refl refl
+                (small_bits w16 offset 0 refl fits.offset (eqb-true (cast_unsigned w16 offset) 0 all.0))
+                (clean.imm refl);
+            second = refl;
+            range = tt;
+            size = refl;
+          })
       | inr more ↦
           let k = extension_ok s (kind_at width offset) i more.1 in
           let is = kind_takes width offset k.0 fits.offset k.1 in
           subst (λ (j : Insn). Makes s high j) k.2
-          (record { slot = same_slot (ap (λ w. Alu Mov w source.Reg) is.width_is) refl refl is.offset_is (clean.imm refl); second = refl; range = tt; size = refl })
+          (record {
+            slot = same_slot (ap (λ w. Alu Mov w source.Reg) is.width_is) refl refl is.offset_is
+                (clean.imm refl);
+            second = refl;
+            range = tt;
+            size = refl;
+          })
     ]
 
 -- ---- byte orders
 
-swap_bits_take : (imm : ℤ) (bits : SwapBits) → FitsSigned w32 imm → swap_bits_at imm ≡ Some bits → imm ≡ swapped_bits bits
+swap_bits_take : (imm : ℤ) (bits : SwapBits) → FitsSigned w32 imm → swap_bits_at imm ≡ Some bits
+    → imm ≡ swapped_bits bits
 swap_bits_take imm bits fits e =
     let n = cast_unsigned w32 imm in
     elim (pick (n == 16) swaps.Bits16 bits _ e) [
@@ -227,65 +275,124 @@ swap_bits_take imm bits fits e =
           ]
     ]
 
-swap_ok : (order : Order) (s : Slot) (o : Option SwapBits) (i : Insn) → swap_by order s o ≡ Ok i → (bits : SwapBits) × (o ≡ Some bits) × (insn.Swap order bits s.dst ≡ i)
+swap_ok : (order : Order) (s : Slot) (o : Option SwapBits) (i : Insn) → swap_by order s o ≡ Ok i
+    → (bits : SwapBits) × (o ≡ Some bits) × (insn.Swap order bits s.dst ≡ i)
 swap_ok order s (Some bits) i e = (bits, refl, ok_is (insn.Swap order bits s.dst) i e)
 swap_ok order s None i e = absurd cc
 
 -- ---- each form
 
-form_takes_at : (opcode : Opcode) (dst src : Reg) (offset imm : ℤ) (high : ℕ) (i : Insn) → SlotFits (slot_with opcode dst src offset imm) → high < 2 ^ 32 → IsClean (slot_with opcode dst src offset imm)
-    → form_at opcode (slot_with opcode dst src offset imm) high ≡ Ok i → Makes (slot_with opcode dst src offset imm) high i
-form_takes_at (Alu Mov width source.Reg) dst src offset imm high i fits lt clean e = move_takes width dst src offset imm high i fits clean e
-form_takes_at (Alu code width source) dst src offset imm high i fits lt clean e = alu_takes code width source dst src offset imm high i (λ any. cc) fits clean e
+form_takes_at : (opcode : Opcode) (dst src : Reg) (offset imm : ℤ) (high : ℕ) (i : Insn)
+    → SlotFits (slot_with opcode dst src offset imm) → high < 2 ^ 32 → IsClean (slot_with opcode dst src offset imm)
+    → form_at opcode (slot_with opcode dst src offset imm) high ≡ Ok i
+    → Makes (slot_with opcode dst src offset imm) high i
+form_takes_at (Alu Mov width source.Reg) dst src offset imm high i fits lt clean e =
+    move_takes width dst src offset imm high i fits clean e
+form_takes_at (Alu code width source) dst src offset imm high i fits lt clean e =
+    alu_takes code width source dst src offset imm high i (λ any. cc) fits clean e
 form_takes_at (Swap order) dst src offset imm high i fits lt clean e =
     let s = slot_with (Swap order) dst src offset imm in
     let b = swap_ok order s (swap_bits_at imm) i e in
     subst (λ (j : Insn). Makes s high j) b.2
-    (record { slot = same_slot refl refl (clean.src refl) (clean.offset refl) (swap_bits_take imm b.0 fits.imm b.1); second = refl; range = tt; size = refl })
+    (record {
+      slot = same_slot refl refl (clean.src refl) (clean.offset refl) (swap_bits_take imm b.0 fits.imm b.1);
+      second = refl;
+      range = tt;
+      size = refl;
+    })
 form_takes_at LoadImm64 dst src offset imm high i fits lt clean e =
     let value : ℕ = high * 2 ^ 32 + cast_unsigned w32 imm in
     let bound = Fits-of_z fits.imm in
     let low : value % 2 ^ 32 ≡ cast_unsigned w32 imm = omega (arith, bound) in
     let top : value / 2 ^ 32 ≡ high = omega (arith, bound) in
-    let back : imm ≡ cast_signed w32 (value % 2 ^ 32) = sym (to_z-of_z w32 imm fits.imm) ∙ ap (cast_signed w32) (sym low) in
+    let back : imm ≡ cast_signed w32 (value % 2 ^ 32) = sym (to_z-of_z w32 imm fits.imm)
+    ∙ ap (cast_signed w32) (sym low) in
     subst (λ (j : Insn). Makes (slot_with LoadImm64 dst src offset imm) high j) (ok_is (insn.LoadImm64 dst value) i e)
-    (record { slot = same_slot refl refl (clean.src refl) (clean.offset refl) back; second = ap (λ (n : ℕ). 0 ∷ 0 ∷ 0 ∷ 0 ∷ to_le_bytes w32 n) top; range = omega (arith, bound); size = refl })
+    (record {
+      slot = same_slot refl refl (clean.src refl) (clean.offset refl) back;
+      second = ap (λ (n : ℕ). 0 ∷ 0 ∷ 0 ∷ 0 ∷ to_le_bytes w32 n) top;
+      range = omega (arith, bound);
+      size = refl;
+    })
 form_takes_at (Neg width) dst src offset imm high i fits lt clean e =
     subst (λ (j : Insn). Makes (slot_with (Neg width) dst src offset imm) high j) (ok_is (insn.Neg width dst) i e)
-    (record { slot = same_slot refl refl (clean.src refl) (clean.offset refl) (clean.imm refl); second = refl; range = tt; size = refl })
+    (record {
+      slot = same_slot refl refl (clean.src refl) (clean.offset refl) (clean.imm refl);
+      second = refl;
+      range = tt;
+      size = refl;
+    })
 form_takes_at Ja dst src offset imm high i fits lt clean e =
     subst (λ (j : Insn). Makes (slot_with Ja dst src offset imm) high j) (ok_is (insn.Ja offset) i e)
-    (record { slot = same_slot refl (clean.dst refl) (clean.src refl) refl (clean.imm refl); second = refl; range = fits.offset; size = refl })
+    (record {
+      slot = same_slot refl (clean.dst refl) (clean.src refl) refl (clean.imm refl);
+      second = refl;
+      range = fits.offset;
+      size = refl;
+    })
 form_takes_at JaLong dst src offset imm high i fits lt clean e =
     subst (λ (j : Insn). Makes (slot_with JaLong dst src offset imm) high j) (ok_is (insn.JaLong imm) i e)
-    (record { slot = same_slot refl (clean.dst refl) (clean.src refl) (clean.offset refl) refl; second = refl; range = fits.imm; size = refl })
+    (record {
+      slot = same_slot refl (clean.dst refl) (clean.src refl) (clean.offset refl) refl;
+      second = refl;
+      range = fits.imm;
+      size = refl;
+    })
 form_takes_at (Branch cond width source.Imm) dst src offset imm high i fits lt clean e =
-    subst (λ (j : Insn). Makes (slot_with (Branch cond width source.Imm) dst src offset imm) high j) (ok_is (insn.Branch cond width dst (operands.Imm imm) offset) i e)
-    (record { slot = same_slot refl refl (clean.src refl) refl refl; second = refl; range = (fits.imm, fits.offset); size = refl })
+    subst (λ (j : Insn). Makes (slot_with (Branch cond width source.Imm) dst src offset imm) high j)
+    (ok_is (insn.Branch cond width dst (operands.Imm imm) offset) i e)
+    (record {
+      slot = same_slot refl refl (clean.src refl) refl refl;
+      second = refl;
+      range = (fits.imm, fits.offset);
+      size = refl;
+    })
 form_takes_at (Branch cond width source.Reg) dst src offset imm high i fits lt clean e =
-    subst (λ (j : Insn). Makes (slot_with (Branch cond width source.Reg) dst src offset imm) high j) (ok_is (insn.Branch cond width dst (operands.Reg src) offset) i e)
+    subst (λ (j : Insn). Makes (slot_with (Branch cond width source.Reg) dst src offset imm) high j)
+    (ok_is (insn.Branch cond width dst (operands.Reg src) offset) i e)
     (record { slot = same_slot refl refl refl refl (clean.imm refl); second = refl; range = fits.offset; size = refl })
 form_takes_at Call dst src offset imm high i fits lt clean e =
     subst (λ (j : Insn). Makes (slot_with Call dst src offset imm) high j) (ok_is (insn.Call imm) i e)
-    (record { slot = same_slot refl (clean.dst refl) (clean.src refl) (clean.offset refl) refl; second = refl; range = fits.imm; size = refl })
+    (record {
+      slot = same_slot refl (clean.dst refl) (clean.src refl) (clean.offset refl) refl;
+      second = refl;
+      range = fits.imm;
+      size = refl;
+    })
 form_takes_at Exit dst src offset imm high i fits lt clean e =
     subst (λ (j : Insn). Makes (slot_with Exit dst src offset imm) high j) (ok_is insn.Exit i e)
-    (record { slot = same_slot refl (clean.dst refl) (clean.src refl) (clean.offset refl) (clean.imm refl); second = refl; range = tt; size = refl })
+    (record {
+      slot = same_slot refl (clean.dst refl) (clean.src refl) (clean.offset refl) (clean.imm refl);
+      second = refl;
+      range = tt;
+      size = refl;
+    })
 form_takes_at (Load size) dst src offset imm high i fits lt clean e =
-    subst (λ (j : Insn). Makes (slot_with (Load size) dst src offset imm) high j) (ok_is (insn.Load size dst src offset) i e)
+    subst (λ (j : Insn). Makes (slot_with (Load size) dst src offset imm) high j)
+    (ok_is (insn.Load size dst src offset) i e)
     (record { slot = same_slot refl refl refl refl (clean.imm refl); second = refl; range = fits.offset; size = refl })
 form_takes_at (LoadSx size) dst src offset imm high i fits lt clean e =
-    subst (λ (j : Insn). Makes (slot_with (LoadSx size) dst src offset imm) high j) (ok_is (insn.LoadSx size dst src offset) i e)
+    subst (λ (j : Insn). Makes (slot_with (LoadSx size) dst src offset imm) high j)
+    (ok_is (insn.LoadSx size dst src offset) i e)
     (record { slot = same_slot refl refl refl refl (clean.imm refl); second = refl; range = fits.offset; size = refl })
 form_takes_at (StoreImm size) dst src offset imm high i fits lt clean e =
-    subst (λ (j : Insn). Makes (slot_with (StoreImm size) dst src offset imm) high j) (ok_is (insn.StoreImm size dst offset imm) i e)
-    (record { slot = same_slot refl refl (clean.src refl) refl refl; second = refl; range = (fits.offset, fits.imm); size = refl })
+    subst (λ (j : Insn). Makes (slot_with (StoreImm size) dst src offset imm) high j)
+    (ok_is (insn.StoreImm size dst offset imm) i e)
+    (record {
+      slot = same_slot refl refl (clean.src refl) refl refl;
+      second = refl;
+      range = (fits.offset, fits.imm);
+      size = refl;
+    })
 form_takes_at (StoreReg size) dst src offset imm high i fits lt clean e =
-    subst (λ (j : Insn). Makes (slot_with (StoreReg size) dst src offset imm) high j) (ok_is (insn.StoreReg size dst offset src) i e)
+    subst (λ (j : Insn). Makes (slot_with (StoreReg size) dst src offset imm) high j)
+    (ok_is (insn.StoreReg size dst offset src) i e)
     (record { slot = same_slot refl refl refl refl (clean.imm refl); second = refl; range = fits.offset; size = refl })
 
-pub form_takes : (s : Slot) (high : ℕ) (i : Insn) → SlotFits s → high < 2 ^ 32 → has_stray_field s ≡ false → form_at s.opcode s high ≡ Ok i → Makes s high i
-form_takes s high i fits lt clean e = form_takes_at s.opcode s.dst s.src s.offset s.imm high i fits lt (clean_from s fits clean) e
+pub form_takes : (s : Slot) (high : ℕ) (i : Insn) → SlotFits s → high < 2 ^ 32 → has_stray_field s ≡ false
+    → form_at s.opcode s high ≡ Ok i → Makes s high i
+form_takes s high i fits lt clean e = form_takes_at s.opcode s.dst s.src s.offset s.imm high i fits lt
+    (clean_from s fits clean) e
 
 -- ---- again
 
@@ -434,7 +541,8 @@ form_again (insn.LoadSx size dst base off) range = refl
 form_again (insn.StoreReg size base off src) range = refl
 form_again (insn.StoreImm size base off imm) range = refl
 form_again (insn.LoadImm64 dst value) range =
-    let low : cast_unsigned w32 (cast_signed w32 (value % 2 ^ 32)) ≡ value % 2 ^ 32 = of_z-to_z w32 (value % 2 ^ 32) (omega arith) in
+    let low : cast_unsigned w32 (cast_signed w32 (value % 2 ^ 32)) ≡ value % 2 ^ 32 = of_z-to_z w32 (value % 2 ^ 32)
+    (omega arith) in
     let whole : value / 2 ^ 32 * 2 ^ 32 + cast_unsigned w32 (cast_signed w32 (value % 2 ^ 32)) ≡ value = omega arith in
     ap (λ (n : ℕ). done (insn.LoadImm64 dst n)) whole
 

@@ -30,7 +30,8 @@ front_at bytes =
         high ← high_at (is_wide opcode) bytes
         unless (has_stray_field s) NonZeroField (form_at s.opcode s high)
 
-pub unless_ok : {A : Type 0} (b : Bool) (d : SlotFault) (next : Result A SlotFault) (y : A) → unless b d next ≡ Ok y → (b ≡ false) × (next ≡ Ok y)
+pub unless_ok : {A : Type 0} (b : Bool) (d : SlotFault) (next : Result A SlotFault) (y : A) → unless b d next ≡ Ok y
+    → (b ≡ false) × (next ≡ Ok y)
 unless_ok true d next y e = absurd cc
 unless_ok false d next y e = (refl, e)
 
@@ -44,12 +45,14 @@ chosen : {A : Type 0} (b : Bool) (d : SlotFault) (x y : A) → cond b (Ok x) (Er
 chosen true d x y e = (refl, cc)
 chosen false d x y e = absurd cc
 
-second_16 : (b0 b1 b2 b3 b4 b5 b6 b7 c0 c1 c2 c3 c4 c5 c6 c7 : ℕ) (more : List ℕ) (high : ℕ) → c4 < 256 → c5 < 256 → c6 < 256 → c7 < 256
+second_16 : (b0 b1 b2 b3 b4 b5 b6 b7 c0 c1 c2 c3 c4 c5 c6 c7 : ℕ) (more : List ℕ) (high : ℕ) → c4 < 256 → c5 < 256
+    → c6 < 256 → c7 < 256
     → high_at true (b0 ∷ b1 ∷ b2 ∷ b3 ∷ b4 ∷ b5 ∷ b6 ∷ b7 ∷ c0 ∷ c1 ∷ c2 ∷ c3 ∷ c4 ∷ c5 ∷ c6 ∷ c7 ∷ more) ≡ Ok high
     → Second true (b0 ∷ b1 ∷ b2 ∷ b3 ∷ b4 ∷ b5 ∷ b6 ∷ b7 ∷ c0 ∷ c1 ∷ c2 ∷ c3 ∷ c4 ∷ c5 ∷ c6 ∷ c7 ∷ more) high
 second_16 b0 b1 b2 b3 b4 b5 b6 b7 c0 c1 c2 c3 c4 c5 c6 c7 more high f4 f5 f6 f7 e =
     let bytes : List ℕ = b0 ∷ b1 ∷ b2 ∷ b3 ∷ b4 ∷ b5 ∷ b6 ∷ b7 ∷ c0 ∷ c1 ∷ c2 ∷ c3 ∷ c4 ∷ c5 ∷ c6 ∷ c7 ∷ more in
-    let t = chosen (from_le_bytes w32 (c0 ∷ c1 ∷ c2 ∷ c3 ∷ []) == 0) NonZeroField (from_le_bytes w32 (c4 ∷ c5 ∷ c6 ∷ c7 ∷ [])) high e in
+    let t = chosen (from_le_bytes w32 (c0 ∷ c1 ∷ c2 ∷ c3 ∷ []) == 0) NonZeroField
+    (from_le_bytes w32 (c4 ∷ c5 ∷ c6 ∷ c7 ∷ [])) high e in
     let none = eqb-true (from_le_bytes w32 (c0 ∷ c1 ∷ c2 ∷ c3 ∷ [])) 0 t.0 in
     let z0 : c0 ≡ 0 = omega arith in
     let z1 : c1 ≡ 0 = omega arith in
@@ -58,11 +61,15 @@ second_16 b0 b1 b2 b3 b4 b5 b6 b7 c0 c1 c2 c3 c4 c5 c6 c7 more high f4 f5 f6 f7 
     let last = four_bytes c4 c5 c6 c7 f4 f5 f6 f7 in
     subst (λ h. Second true bytes h) t.1 (record { parts = cc; fits = omega arith })
 
-pub second_takes : (wide : Bool) (bytes : List ℕ) (high : ℕ) → IsBytes bytes → 8 * (if wide then 2 else 1) ≤ length bytes → high_at wide bytes ≡ Ok high → Second wide bytes high
+pub second_takes : (wide : Bool) (bytes : List ℕ) (high : ℕ) → IsBytes bytes
+    → 8 * (if wide then 2 else 1) ≤ length bytes → high_at wide bytes ≡ Ok high → Second wide bytes high
 second_takes false bytes high fits len e = record { parts = refl; fits = omega (arith, ok_is 0 high e) }
 second_takes true bytes high fits len e = by_long (long_from bytes (omega arith)) len fits e
   where
-    by_more : {b0 b1 b2 b3 b4 b5 b6 b7 : ℕ} {more : List ℕ} → IsLong more → IsBytes (b0 ∷ b1 ∷ b2 ∷ b3 ∷ b4 ∷ b5 ∷ b6 ∷ b7 ∷ more) → high_at true (b0 ∷ b1 ∷ b2 ∷ b3 ∷ b4 ∷ b5 ∷ b6 ∷ b7 ∷ more) ≡ Ok high → Second true (b0 ∷ b1 ∷ b2 ∷ b3 ∷ b4 ∷ b5 ∷ b6 ∷ b7 ∷ more) high
+    by_more : {b0 b1 b2 b3 b4 b5 b6 b7 : ℕ} {more : List ℕ} → IsLong more
+        → IsBytes (b0 ∷ b1 ∷ b2 ∷ b3 ∷ b4 ∷ b5 ∷ b6 ∷ b7 ∷ more)
+        → high_at true (b0 ∷ b1 ∷ b2 ∷ b3 ∷ b4 ∷ b5 ∷ b6 ∷ b7 ∷ more) ≡ Ok high
+        → Second true (b0 ∷ b1 ∷ b2 ∷ b3 ∷ b4 ∷ b5 ∷ b6 ∷ b7 ∷ more) high
     by_more {b0} {b1} {b2} {b3} {b4} {b5} {b6} {b7} (long c0 c1 c2 c3 c4 c5 c6 c7 more) fits e =
         second_16 b0 b1 b2 b3 b4 b5 b6 b7 c0 c1 c2 c3 c4 c5 c6 c7 more high (fits 12) (fits 13) (fits 14) (fits 15) e
 
@@ -71,26 +78,32 @@ second_takes true bytes high fits len e = by_long (long_from bytes (omega arith)
 
 -- ---- the instruction that is read is spelled at the front
 
-joined : (a a' b b' c c' bytes rest : List ℕ) → bytes ≡ a ++ rest → rest ≡ b ++ c → a' ≡ a → b' ≡ b → c' ≡ c → bytes ≡ (a' ++ b') ++ c'
-joined a a' b b' c c' bytes rest p q ea eb ec = rw (ea, eb, ec) (p ∙ (ap (λ (t : List ℕ). a ++ t) q ∙ sym (append_assoc a b c)))
+joined : (a a' b b' c c' bytes rest : List ℕ) → bytes ≡ a ++ rest → rest ≡ b ++ c → a' ≡ a → b' ≡ b → c' ≡ c
+    → bytes ≡ (a' ++ b') ++ c'
+joined a a' b b' c c' bytes rest p q ea eb ec = rw (ea, eb, ec)
+    (p ∙ (ap (λ (t : List ℕ). a ++ t) q ∙ sym (append_assoc a b c)))
 
 pub front_takes : (bytes : List ℕ) (i : Insn) → IsBytes bytes → front_at bytes ≡ Ok i → IsFirst bytes i
 unfolding front_at
 front_takes bytes i fits e =
     let long = unless_ok (nat_lt (length bytes) 8) Truncated _ i e in
     let o = bind_ok (found UnknownOpcode (opcode_at (slice_index bytes 0))) _ i long.1 in
-    let first = opcode_takes (slice_index bytes 0) o.0 (fits 0) (found_ok UnknownOpcode (opcode_at (slice_index bytes 0)) o.0 o.1) in
+    let first = opcode_takes (slice_index bytes 0) o.0 (fits 0)
+    (found_ok UnknownOpcode (opcode_at (slice_index bytes 0)) o.0 o.1) in
     let whole = unless_ok (nat_lt (length bytes) (8 * opcode_slots o.0)) Truncated _ i o.2 in
     let s = bind_ok (slot_at o.0 bytes) _ i whole.1 in
     let h = bind_ok (high_at (is_wide o.0) bytes) _ i s.2 in
     let clean = unless_ok (has_stray_field s.0) NonZeroField (form_at s.0.opcode s.0 h.0) i h.2 in
     let slot = slot_takes o.0 bytes s.0 fits (ltb-false (length bytes) 8 long.0) first s.1 in
-    let second = second_takes (is_wide o.0) bytes h.0 fits (ltb-false (length bytes) (8 * opcode_slots o.0) whole.0) h.1 in
+    let second = second_takes (is_wide o.0) bytes h.0 fits
+    (ltb-false (length bytes) (8 * opcode_slots o.0) whole.0) h.1 in
     let made = form_takes s.0 h.0 i slot.fits second.fits clean.0 clean.1 in
     let size : slots_taken i ≡ opcode_slots o.0 = made.size ∙ ap opcode_slots slot.same in
-    let last : second_slot i ≡ high_bytes (is_wide o.0) h.0 = made.second ∙ ap (λ (p : Opcode). high_bytes (is_wide p) h.0) slot.same in
+    let last : second_slot i ≡ high_bytes (is_wide o.0) h.0 = made.second
+    ∙ ap (λ (p : Opcode). high_bytes (is_wide p) h.0) slot.same in
     record {
-      parts = joined (slot_bytes s.0) (slot_bytes (slot_of i)) (high_bytes (is_wide o.0) h.0) (second_slot i) (drop (8 * opcode_slots o.0) bytes) (drop (8 * slots_taken i) bytes) bytes (drop 8 bytes)
+      parts = joined (slot_bytes s.0) (slot_bytes (slot_of i)) (high_bytes (is_wide o.0) h.0) (second_slot i)
+          (drop (8 * opcode_slots o.0) bytes) (drop (8 * slots_taken i) bytes) bytes (drop 8 bytes)
           slot.parts second.parts (ap slot_bytes made.slot) last (ap (λ (n : ℕ). drop (8 * n) bytes) size);
       range = made.range;
       whole = rw size (ltb-false (length bytes) (8 * opcode_slots o.0) whole.0);
@@ -98,7 +111,8 @@ front_takes bytes i fits e =
 
 -- ---- what is spelled at the front is read
 
-high_again : (wide : Bool) (s : Slot) (high : ℕ) (more : List ℕ) → high < 2 ^ 32 → (wide ≡ false → high ≡ 0) → high_at wide (slot_bytes s ++ (high_bytes wide high ++ more)) ≡ Ok high
+high_again : (wide : Bool) (s : Slot) (high : ℕ) (more : List ℕ) → high < 2 ^ 32 → (wide ≡ false → high ≡ 0)
+    → high_at wide (slot_bytes s ++ (high_bytes wide high ++ more)) ≡ Ok high
 high_again false s high more lt zero_is = ap done (sym (zero_is refl))
 high_again true s high more lt zero_is = ap done (from_le_bytes-to_le_bytes_4 high lt)
 
@@ -127,22 +141,29 @@ length_spelling i =
     length-append (slot_bytes (slot_of i)) (second_slot i) ∙ ap (λ (t : List ℕ). 8 + length t) (second_is i)
     ∙ length_second (is_wide (slot_of i).opcode) (high_of i) ∙ ap (λ (n : ℕ). 8 * n) (sym (size_is i))
 
-read_all : (bytes : List ℕ) (o : Opcode) (s : Slot) (high : ℕ) (read : Result Insn SlotFault) → nat_lt (length bytes) 8 ≡ false → opcode_at (slice_index bytes 0) ≡ Some o → nat_lt (length bytes) (8 * opcode_slots o) ≡ false
-    → slot_at o bytes ≡ Ok s → high_at (is_wide o) bytes ≡ Ok high → has_stray_field s ≡ false → form_at s.opcode s high ≡ read → front_at bytes ≡ read
+read_all : (bytes : List ℕ) (o : Opcode) (s : Slot) (high : ℕ) (read : Result Insn SlotFault)
+    → nat_lt (length bytes) 8 ≡ false → opcode_at (slice_index bytes 0) ≡ Some o
+    → nat_lt (length bytes) (8 * opcode_slots o) ≡ false
+    → slot_at o bytes ≡ Ok s → high_at (is_wide o) bytes ≡ Ok high → has_stray_field s ≡ false
+    → form_at s.opcode s high ≡ read → front_at bytes ≡ read
 unfolding front_at
-read_all bytes o s high read eight first whole slot second clean made = rw (eight, first, whole, slot, second, clean) made
+read_all bytes o s high read eight first whole slot second clean made = rw
+    (eight, first, whole, slot, second, clean) made
 
 pub front_again : (i : Insn) (more : List ℕ) → InRange i → front_at (spelling i ++ more) ≡ Ok i
 front_again i more range =
     let s = slot_of i in
     let wide = is_wide s.opcode in
     let regroup : spelling i ++ more ≡ slot_bytes s ++ (high_bytes wide (high_of i) ++ more) =
-    ap (λ (t : List ℕ). (slot_bytes s ++ t) ++ more) (second_is i) ∙ append_assoc (slot_bytes s) (high_bytes wide (high_of i)) more in
+    ap (λ (t : List ℕ). (slot_bytes s ++ t) ++ more) (second_is i)
+    ∙ append_assoc (slot_bytes s) (high_bytes wide (high_of i)) more in
     let len : length (slot_bytes s ++ (high_bytes wide (high_of i) ++ more)) ≡ 8 * opcode_slots s.opcode + length more =
-    length-append (slot_bytes s) (high_bytes wide (high_of i) ++ more) ∙ omega (arith, length-append (high_bytes wide (high_of i)) more, length_second wide (high_of i)) in
+    length-append (slot_bytes s) (high_bytes wide (high_of i) ++ more)
+    ∙ omega (arith, length-append (high_bytes wide (high_of i)) more, length_second wide (high_of i)) in
     ap front_at regroup
     ∙ read_all (slot_bytes s ++ (high_bytes wide (high_of i) ++ more)) s.opcode s (high_of i) (Ok i)
-    (le-ltb (length (slot_bytes s ++ (high_bytes wide (high_of i) ++ more))) 8 (omega (arith, length-append (slot_bytes s) (high_bytes wide (high_of i) ++ more))))
+    (le-ltb (length (slot_bytes s ++ (high_bytes wide (high_of i) ++ more))) 8
+    (omega (arith, length-append (slot_bytes s) (high_bytes wide (high_of i) ++ more))))
     (opcode_again s.opcode)
     (le-ltb (length (slot_bytes s ++ (high_bytes wide (high_of i) ++ more))) (8 * opcode_slots s.opcode) (omega arith))
     (slot_again s (high_bytes wide (high_of i) ++ more) (slot_fits i range))

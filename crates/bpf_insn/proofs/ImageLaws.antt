@@ -18,16 +18,22 @@ use Rattle.bpf_insn.proofs.FrontLaws.{front_at, front_again, length_spelling}
 use Rattle.bpf_insn.proofs.LayoutLaws.{slots_of-cons}
 
 -- no spelling begins another
-pub one_spelling : (i j : Insn) (x y : List ℕ) → InRange i → InRange j → spelling i ++ x ≡ spelling j ++ y → (i ≡ j) × (x ≡ y)
+pub one_spelling : (i j : Insn) (x y : List ℕ) → InRange i → InRange j → spelling i ++ x ≡ spelling j ++ y
+    → (i ≡ j) × (x ≡ y)
 one_spelling i j x y ri rj e =
     let same : i ≡ j = ok_is i j (sym (front_again i x ri) ∙ (ap front_at e ∙ front_again j y rj)) in
-    let len : length (spelling j) ≡ 8 * slots_taken i = length_spelling j ∙ ap (λ (k : Insn). 8 * slots_taken k) (sym same) in
-    (same, sym (drop_at (spelling i) x (8 * slots_taken i) (length_spelling i)) ∙ (ap (drop (8 * slots_taken i)) e ∙ drop_at (spelling j) y (8 * slots_taken i) len))
+    let len : length (spelling j) ≡ 8 * slots_taken i = length_spelling j
+    ∙ ap (λ (k : Insn). 8 * slots_taken k) (sym same) in (
+      same,
+      sym (drop_at (spelling i) x (8 * slots_taken i) (length_spelling i))
+          ∙ (ap (drop (8 * slots_taken i)) e ∙ drop_at (spelling j) y (8 * slots_taken i) len),
+    )
 
 not_empty : (i : Insn) (x : List ℕ) → [] ≡ spelling i ++ x → ⊥
 not_empty i x e = absurd cc
 
-pub image_once : (p q : List Insn) → AllByRecursion InRange p → AllByRecursion InRange q → image_of p ≡ image_of q → p ≡ q
+pub image_once : (p q : List Insn) → AllByRecursion InRange p → AllByRecursion InRange q → image_of p ≡ image_of q
+    → p ≡ q
 image_once [] [] rp rq e = refl
 image_once [] (j ∷ q) rp rq e = absurd (not_empty j (image_of q) e)
 image_once (i ∷ p) [] rp rq e = absurd (not_empty i (image_of p) (sym e))
@@ -38,21 +44,28 @@ image_once (i ∷ p) (j ∷ q) rp rq e =
     cc
 
 -- bytes with a fault are no image
-pub fault_apart : (before p : List Insn) (rest : List ℕ) (f : SlotFault) → AllByRecursion InRange before → AllByRecursion InRange p → IsFaultAt f rest → image_of before ++ rest ≡ image_of p → ⊥
+pub fault_apart : (before p : List Insn) (rest : List ℕ) (f : SlotFault) → AllByRecursion InRange before
+    → AllByRecursion InRange p → IsFaultAt f rest → image_of before ++ rest ≡ image_of p → ⊥
 fault_apart [] [] rest f rb rp at e = let none : length rest ≡ 0 = ap length e in let left = at.left in omega arith
 fault_apart [] (j ∷ p) rest f rb rp at e = at.none j (image_of p) rp.0 e
-fault_apart (i ∷ before) [] rest f rb rp at e = not_empty i (image_of before ++ rest) (sym e ∙ append_assoc (spelling i) (image_of before) rest)
+fault_apart (i ∷ before) [] rest f rb rp at e = not_empty i (image_of before ++ rest)
+    (sym e ∙ append_assoc (spelling i) (image_of before) rest)
 fault_apart (i ∷ before) (j ∷ p) rest f rb rp at e =
-    let first = one_spelling i j (image_of before ++ rest) (image_of p) rb.0 rp.0 (sym (append_assoc (spelling i) (image_of before) rest) ∙ e) in
+    let first = one_spelling i j (image_of before ++ rest) (image_of p) rb.0 rp.0
+    (sym (append_assoc (spelling i) (image_of before) rest) ∙ e) in
     fault_apart before p rest f rb.1 rp.1 at first.1
 
 -- bytes have one fault
-pub fault_once : (b c : List Insn) (r s : List ℕ) (f g : SlotFault) → AllByRecursion InRange b → AllByRecursion InRange c → IsFaultAt f r → IsFaultAt g s → image_of b ++ r ≡ image_of c ++ s → (b ≡ c) × (r ≡ s)
+pub fault_once : (b c : List Insn) (r s : List ℕ) (f g : SlotFault) → AllByRecursion InRange b
+    → AllByRecursion InRange c → IsFaultAt f r → IsFaultAt g s → image_of b ++ r ≡ image_of c ++ s → (b ≡ c) × (r ≡ s)
 fault_once [] [] r s f g rb rc at ag e = (refl, e)
-fault_once [] (j ∷ c) r s f g rb rc at ag e = absurd (at.none j (image_of c ++ s) rc.0 (e ∙ append_assoc (spelling j) (image_of c) s))
-fault_once (i ∷ b) [] r s f g rb rc at ag e = absurd (ag.none i (image_of b ++ r) rb.0 (sym e ∙ append_assoc (spelling i) (image_of b) r))
+fault_once [] (j ∷ c) r s f g rb rc at ag e = absurd
+    (at.none j (image_of c ++ s) rc.0 (e ∙ append_assoc (spelling j) (image_of c) s))
+fault_once (i ∷ b) [] r s f g rb rc at ag e = absurd
+    (ag.none i (image_of b ++ r) rb.0 (sym e ∙ append_assoc (spelling i) (image_of b) r))
 fault_once (i ∷ b) (j ∷ c) r s f g rb rc at ag e =
-    let first = one_spelling i j (image_of b ++ r) (image_of c ++ s) rb.0 rc.0 (sym (append_assoc (spelling i) (image_of b) r) ∙ (e ∙ append_assoc (spelling j) (image_of c) s)) in
+    let first = one_spelling i j (image_of b ++ r) (image_of c ++ s) rb.0 rc.0
+    (sym (append_assoc (spelling i) (image_of b) r) ∙ (e ∙ append_assoc (spelling j) (image_of c) s)) in
     let others = fault_once b c r s f g rb.1 rc.1 at ag first.1 in
     let head = first.0 in
     let tail = others.0 in
@@ -95,7 +108,8 @@ same_fault f g bytes at ag =
 
 pub length-image : (p : List Insn) → length (image_of p) ≡ 8 * slots_of p
 length-image [] = refl
-length-image (i ∷ p) = length-append (spelling i) (image_of p) ∙ omega (arith, length_spelling i, length-image p, slots_of-cons i p)
+length-image (i ∷ p) = length-append (spelling i) (image_of p)
+    ∙ omega (arith, length_spelling i, length-image p, slots_of-cons i p)
 
 -- ---- a loop over the bytes
 
@@ -107,17 +121,21 @@ pub record IsRead (bytes : List ℕ) (before : List Insn) (rest : List ℕ) : Ty
 
 image-last : (p : List Insn) (i : Insn) → image_of (p ++ i ∷ []) ≡ image_of p ++ spelling i
 image-last [] i = append-nil (spelling i)
-image-last (j ∷ p) i = ap (λ (t : List ℕ). spelling j ++ t) (image-last p i) ∙ sym (append_assoc (spelling j) (image_of p) (spelling i))
+image-last (j ∷ p) i = ap (λ (t : List ℕ). spelling j ++ t) (image-last p i)
+    ∙ sym (append_assoc (spelling j) (image_of p) (spelling i))
 
 range-last : (p : List Insn) (i : Insn) → AllByRecursion InRange p → InRange i → AllByRecursion InRange (p ++ i ∷ [])
 range-last [] i rp ri = (ri, tt)
 range-last (j ∷ p) i rp ri = (rp.0, range-last p i rp.1 ri)
 
-pub read_more : (bytes : List ℕ) (before : List Insn) (rest : List ℕ) (i : Insn) → IsRead bytes before rest → IsFirst rest i → IsRead bytes (before ++ i ∷ []) (drop (8 * slots_taken i) rest)
+pub read_more : (bytes : List ℕ) (before : List Insn) (rest : List ℕ) (i : Insn) → IsRead bytes before rest
+    → IsFirst rest i → IsRead bytes (before ++ i ∷ []) (drop (8 * slots_taken i) rest)
 read_more bytes before rest i read first =
     record {
       in_range = range-last before i read.in_range first.range;
-      parts = read.parts ∙ (ap (λ (t : List ℕ). image_of before ++ t) first.parts ∙ (sym (append_assoc (image_of before) (spelling i) (drop (8 * slots_taken i) rest)) ∙ ap (λ (t : List ℕ). t ++ drop (8 * slots_taken i) rest) (sym (image-last before i))));
+      parts = read.parts ∙ (ap (λ (t : List ℕ). image_of before ++ t) first.parts
+          ∙ (sym (append_assoc (image_of before) (spelling i) (drop (8 * slots_taken i) rest))
+          ∙ ap (λ (t : List ℕ). t ++ drop (8 * slots_taken i) rest) (sym (image-last before i))));
       fits = λ k. rw get_or-drop (read.fits (8 * slots_taken i + k));
     }
 
@@ -127,20 +145,24 @@ slots_of-last (j ∷ p) i = slots_of-cons j (p ++ i ∷ []) ∙ omega (arith, sl
 
 pub layout-last : (p : List Insn) (i : Insn) → layout (p ++ i ∷ []) ≡ layout p ++ slots_by i
 layout-last [] i = append-nil (slots_by i)
-layout-last (j ∷ p) i = ap (λ t. slots_by j ++ t) (layout-last p i) ∙ sym (append_assoc (slots_by j) (layout p) (slots_by i))
+layout-last (j ∷ p) i = ap (λ t. slots_by j ++ t) (layout-last p i)
+    ∙ sym (append_assoc (slots_by j) (layout p) (slots_by i))
 
-pub read_fault : (bytes : List ℕ) (before : List Insn) (rest : List ℕ) (f : SlotFault) (slot : ℕ) → IsRead bytes before rest → slots_of before ≡ slot → IsFaultAt f rest → IsFault bytes slot f
+pub read_fault : (bytes : List ℕ) (before : List Insn) (rest : List ℕ) (f : SlotFault) (slot : ℕ)
+    → IsRead bytes before rest → slots_of before ≡ slot → IsFaultAt f rest → IsFault bytes slot f
 read_fault bytes before rest f slot read place at =
     record { before = before; rest = rest; in_range = read.in_range; parts = read.parts; place = place; at = at }
 
-pub refuses_at : (bytes : List ℕ) (slot : ℕ) (f : SlotFault) → IsFirstFault bytes slot f → RefusesImage bytes (error_at f slot)
+pub refuses_at : (bytes : List ℕ) (slot : ℕ) (f : SlotFault) → IsFirstFault bytes slot f
+    → RefusesImage bytes (error_at f slot)
 refuses_at bytes slot Truncated h = h
 refuses_at bytes slot UnknownOpcode h = h
 refuses_at bytes slot BadRegister h = h
 refuses_at bytes slot NonZeroField h = h
 refuses_at bytes slot BadWidth h = h
 
-pub read_whole : (bytes : List ℕ) (before : List Insn) (rest : List ℕ) → IsRead bytes before rest → length rest ≡ 0 → 0 < length bytes → length bytes ≤ 8 * MAX_SLOTS → IsProgram before × (bytes ≡ image_of before)
+pub read_whole : (bytes : List ℕ) (before : List Insn) (rest : List ℕ) → IsRead bytes before rest → length rest ≡ 0
+    → 0 < length bytes → length bytes ≤ 8 * MAX_SLOTS → IsProgram before × (bytes ≡ image_of before)
 read_whole bytes before [] read none some few =
     let whole : bytes ≡ image_of before = read.parts ∙ append-nil (image_of before) in
     let len : length bytes ≡ 8 * slots_of before = ap length whole ∙ length-image before in
@@ -154,5 +176,12 @@ some_left rest e = let none = eqb-false (length rest) 0 (sym e) in omega arith
 pub none_left : (rest : List ℕ) → true ≡ (length rest == 0) → length rest ≡ 0
 none_left rest e = eqb-true (length rest) 0 (sym e)
 
-pub slots_below : (bytes : List ℕ) (before : List Insn) (rest : List ℕ) → IsRead bytes before rest → length bytes ≤ 8 * MAX_SLOTS → slots_of before ≤ MAX_SLOTS
-slots_below bytes before rest read few = omega (arith, ap length read.parts, length-append (image_of before) rest, length-image before)
+pub slots_below : (bytes : List ℕ) (before : List Insn) (rest : List ℕ) → IsRead bytes before rest
+    → length bytes ≤ 8 * MAX_SLOTS → slots_of before ≤ MAX_SLOTS
+slots_below bytes before rest read few = omega (
+  arith,
+  ap length read.parts,
+  length-append
+      (image_of before) rest,
+  length-image before,
+)

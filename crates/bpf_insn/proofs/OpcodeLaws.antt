@@ -42,7 +42,8 @@ is_of byte (Some o) = opcode_byte o == byte
 -- an opcode that is read is spelled so
 pub opcode_takes : (byte : ℕ) (o : Opcode) → byte < 256 → opcode_at byte ≡ Some o → opcode_byte o ≡ byte
 opcode_takes byte o lt e =
-    let test : is_of byte (opcode_at byte) ≡ true = agree_below_at (λ b. is_of b (opcode_at b)) (λ b. true) 256 byte refl lt in
+    let test : is_of byte (opcode_at byte) ≡ true = agree_below_at (λ b. is_of b (opcode_at b))
+    (λ b. true) 256 byte refl lt in
     eqb-true (opcode_byte o) byte (rw e at test)
 
 -- an opcode is read again
@@ -166,15 +167,18 @@ opcode_again (LoadSx sx_sizes.H) = refl
 opcode_again (LoadSx sx_sizes.W) = refl
 
 -- what is read of a byte: its opcode, and nothing where no opcode has it
-pub opcode_some : (byte : ℕ) (o : Option Opcode) → byte < 256 → o ≡ opcode_at byte → IfSome o (λ p. opcode_byte p ≡ byte)
+pub opcode_some : (byte : ℕ) (o : Option Opcode) → byte < 256 → o ≡ opcode_at byte
+    → IfSome o (λ p. opcode_byte p ≡ byte)
 opcode_some byte (Some p) lt e = opcode_takes byte p lt (sym e)
 opcode_some byte None lt e = tt
 
 pub opcode_none : (byte : ℕ) (o : Option Opcode) → o ≡ opcode_at byte → IfNone o ((p : Opcode) → opcode_byte p ≢ byte)
 opcode_none byte (Some p) e = tt
-opcode_none byte None e = λ p same. let again : opcode_at byte ≡ Some p = ap opcode_at (sym same) ∙ opcode_again p in absurd cc
+opcode_none byte None e = λ p same. let again : opcode_at byte ≡ Some p = ap opcode_at (sym same) ∙ opcode_again p in
+    absurd cc
 
-pub opcode_is : (byte : ℕ) (o : Option Opcode) → byte < 256 → IfSome o (λ p. opcode_byte p ≡ byte) → IfNone o ((p : Opcode) → opcode_byte p ≢ byte)
+pub opcode_is : (byte : ℕ) (o : Option Opcode) → byte < 256 → IfSome o (λ p. opcode_byte p ≡ byte)
+    → IfNone o ((p : Opcode) → opcode_byte p ≢ byte)
     → o ≡ opcode_at byte
 opcode_is byte (Some p) lt some none = sym (opcode_again p) ∙ ap opcode_at some
 opcode_is byte None lt some none = by_answer (opcode_at byte) refl
@@ -191,7 +195,8 @@ is_numbered n (Some r) = register_number r == n
 
 pub register_takes : (n : ℕ) (r : Reg) → n < 16 → register_at n ≡ Some r → register_number r ≡ n
 register_takes n r lt e =
-    let test : is_numbered n (register_at n) ≡ true = agree_below_at (λ b. is_numbered b (register_at b)) (λ b. true) 16 n refl lt in
+    let test : is_numbered n (register_at n) ≡ true = agree_below_at (λ b. is_numbered b (register_at b))
+    (λ b. true) 16 n refl lt in
     eqb-true (register_number r) n (rw e at test)
 
 pub register_again : (r : Reg) → register_at (register_number r) ≡ Some r
@@ -228,7 +233,22 @@ number_once r q e =
     cc
 
 -- a register of the number, and none above 10: that is the register that is read
-pub register_is : (r : Option Reg) (n : ℕ) → IfSome r (λ q. register_number q ≡ n) → IfNone r (10 < n) → r ≡ register_at n
+pub register_is : (r : Option Reg) (n : ℕ) → IfSome r (λ q. register_number q ≡ n) → IfNone r (10 < n)
+    → r ≡ register_at n
 register_is (Some q) n some none = sym (register_again q) ∙ ap register_at some
 register_is None n some none =
-    sym (rw (ne_eqb n 0 (omega arith), ne_eqb n 1 (omega arith), ne_eqb n 2 (omega arith), ne_eqb n 3 (omega arith), ne_eqb n 4 (omega arith), ne_eqb n 5 (omega arith), ne_eqb n 6 (omega arith), ne_eqb n 7 (omega arith), ne_eqb n 8 (omega arith), ne_eqb n 9 (omega arith), ne_eqb n 10 (omega arith)) refl)
+    sym (rw (
+      ne_eqb n 0 (omega arith),
+      ne_eqb n 1 (omega arith),
+      ne_eqb n 2 (omega arith),
+      ne_eqb n 3
+          (omega arith),
+      ne_eqb n 4 (omega arith),
+      ne_eqb n 5 (omega arith),
+      ne_eqb n 6 (omega arith),
+      ne_eqb n 7
+          (omega arith),
+      ne_eqb n 8 (omega arith),
+      ne_eqb n 9 (omega arith),
+      ne_eqb n 10 (omega arith),
+    ) refl)

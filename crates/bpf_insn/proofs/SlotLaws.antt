@@ -21,7 +21,8 @@ abbrev pub IsBytes : List ℕ → Type 0
 IsBytes bytes = (i : ℕ) → get_or bytes i 0 < 256
 
 -- the value of a step that did not fail
-pub bind_ok : {A B : Type 0} (r : Result A SlotFault) (f : A → Result B SlotFault) (y : B) → (r >>= f) ≡ Ok y → (x : A) × (r ≡ Ok x) × (f x ≡ Ok y)
+pub bind_ok : {A B : Type 0} (r : Result A SlotFault) (f : A → Result B SlotFault) (y : B) → (r >>= f) ≡ Ok y
+    → (x : A) × (r ≡ Ok x) × (f x ≡ Ok y)
 bind_ok (Ok x) f y e = (x, refl, e)
 bind_ok (Err d) f y e = absurd cc
 
@@ -41,22 +42,30 @@ pub IsBytes-cons : (a : ℕ) (bytes : List ℕ) → a < 256 → IsBytes bytes �
 IsBytes-cons a bytes p h zero = p
 IsBytes-cons a bytes p h (suc i) = h i
 
-offset_takes : (a b : ℕ) → a < 256 → b < 256 → to_le_bytes w16 (cast_unsigned w16 (cast_signed w16 (from_le_bytes w16 (a ∷ b ∷ [])))) ≡ a ∷ b ∷ []
+offset_takes : (a b : ℕ) → a < 256 → b < 256 → to_le_bytes w16
+    (cast_unsigned w16 (cast_signed w16 (from_le_bytes w16 (a ∷ b ∷ [])))) ≡ a ∷ b ∷ []
 offset_takes a b p q =
     let bytes : List ℕ = a ∷ b ∷ [] in
     ap (to_le_bytes w16) (of_z-to_z w16 (from_le_bytes w16 bytes) (omega arith))
     ∙ le_bytes_2 bytes (from_le_bytes w16 bytes) refl (IsBytes-cons a (b ∷ []) p (IsBytes-cons b [] q IsBytes-nil)) refl
 
-pub four_bytes : (a b c d : ℕ) → a < 256 → b < 256 → c < 256 → d < 256 → to_le_bytes w32 (from_le_bytes w32 (a ∷ b ∷ c ∷ d ∷ [])) ≡ a ∷ b ∷ c ∷ d ∷ []
+pub four_bytes : (a b c d : ℕ) → a < 256 → b < 256 → c < 256 → d < 256
+    → to_le_bytes w32 (from_le_bytes w32 (a ∷ b ∷ c ∷ d ∷ [])) ≡ a ∷ b ∷ c ∷ d ∷ []
 four_bytes a b c d p q r s =
     let bytes : List ℕ = a ∷ b ∷ c ∷ d ∷ [] in
-    le_bytes_4 bytes (from_le_bytes w32 bytes) refl (IsBytes-cons a (b ∷ c ∷ d ∷ []) p (IsBytes-cons b (c ∷ d ∷ []) q (IsBytes-cons c (d ∷ []) r (IsBytes-cons d [] s IsBytes-nil)))) refl
+    le_bytes_4 bytes (from_le_bytes w32 bytes) refl
+    (IsBytes-cons a (b ∷ c ∷ d ∷ []) p (IsBytes-cons b (c ∷ d ∷ []) q
+    (IsBytes-cons c (d ∷ []) r (IsBytes-cons d [] s IsBytes-nil)))) refl
 
-imm_takes : (a b c d : ℕ) → a < 256 → b < 256 → c < 256 → d < 256 → to_le_bytes w32 (cast_unsigned w32 (cast_signed w32 (from_le_bytes w32 (a ∷ b ∷ c ∷ d ∷ [])))) ≡ a ∷ b ∷ c ∷ d ∷ []
+imm_takes : (a b c d : ℕ) → a < 256 → b < 256 → c < 256 → d < 256
+    → to_le_bytes w32 (cast_unsigned w32 (cast_signed w32 (from_le_bytes w32 (a ∷ b ∷ c ∷ d ∷ [])))) ≡ a ∷ b ∷ c ∷ d
+    ∷ []
 imm_takes a b c d p q r s =
-    ap (to_le_bytes w32) (of_z-to_z w32 (from_le_bytes w32 (a ∷ b ∷ c ∷ d ∷ [])) (omega arith)) ∙ four_bytes a b c d p q r s
+    ap (to_le_bytes w32) (of_z-to_z w32 (from_le_bytes w32 (a ∷ b ∷ c ∷ d ∷ [])) (omega arith))
+    ∙ four_bytes a b c d p q r s
 
-registers_take : (b : ℕ) (dst src : Reg) → b < 256 → register_at (bit_and b 15) ≡ Some dst → register_at (b / 16) ≡ Some src → register_number dst + 16 * register_number src ≡ b
+registers_take : (b : ℕ) (dst src : Reg) → b < 256 → register_at (bit_and b 15) ≡ Some dst
+    → register_at (b / 16) ≡ Some src → register_number dst + 16 * register_number src ≡ b
 registers_take b dst src lt d s =
     let low : bit_and b 15 ≡ b % 2 ^ 4 = and_mask b 4 in
     let dst-is : register_number dst ≡ bit_and b 15 = register_takes (bit_and b 15) dst (omega arith) d in
@@ -90,14 +99,19 @@ pub record Spells (opcode : Opcode) (bytes : List ℕ) (s : Slot) : Type 0 where
   pub fits : SlotFits s
   pub parts : bytes ≡ slot_bytes s ++ drop 8 bytes
 
-slot_takes_8 : (opcode : Opcode) (s : Slot) (b0 b1 b2 b3 b4 b5 b6 b7 : ℕ) (more : List ℕ) → b1 < 256 → b2 < 256 → b3 < 256 → b4 < 256 → b5 < 256 → b6 < 256 → b7 < 256
-    → opcode_byte opcode ≡ b0 → slot_at opcode (b0 ∷ b1 ∷ b2 ∷ b3 ∷ b4 ∷ b5 ∷ b6 ∷ b7 ∷ more) ≡ Ok s → Spells opcode (b0 ∷ b1 ∷ b2 ∷ b3 ∷ b4 ∷ b5 ∷ b6 ∷ b7 ∷ more) s
+slot_takes_8 : (opcode : Opcode) (s : Slot) (b0 b1 b2 b3 b4 b5 b6 b7 : ℕ) (more : List ℕ) → b1 < 256 → b2 < 256
+    → b3 < 256 → b4 < 256 → b5 < 256 → b6 < 256 → b7 < 256
+    → opcode_byte opcode ≡ b0 → slot_at opcode (b0 ∷ b1 ∷ b2 ∷ b3 ∷ b4 ∷ b5 ∷ b6 ∷ b7 ∷ more) ≡ Ok s
+    → Spells opcode (b0 ∷ b1 ∷ b2 ∷ b3 ∷ b4 ∷ b5 ∷ b6 ∷ b7 ∷ more) s
 unfolding slot_at
 slot_takes_8 opcode s b0 b1 b2 b3 b4 b5 b6 b7 more f1 f2 f3 f4 f5 f6 f7 first e =
     let bytes : List ℕ = b0 ∷ b1 ∷ b2 ∷ b3 ∷ b4 ∷ b5 ∷ b6 ∷ b7 ∷ more in
-    let d = bind_ok (found BadRegister (register_at (bit_and b1 15))) (λ dst. found BadRegister (register_at (b1 / 16)) >>= λ src. Ok (fields_at opcode dst src bytes)) s e in
+    let d = bind_ok (found BadRegister (register_at (bit_and b1 15)))
+    (λ dst. found BadRegister (register_at (b1 / 16)) >>= λ src. Ok (fields_at opcode dst src bytes)) s e in
     let q = bind_ok (found BadRegister (register_at (b1 / 16))) (λ src. Ok (fields_at opcode d.0 src bytes)) s d.2 in
-    let registers : register_number d.0 + 16 * register_number q.0 ≡ b1 = registers_take b1 d.0 q.0 f1 (found_ok BadRegister (register_at (bit_and b1 15)) d.0 d.1) (found_ok BadRegister (register_at (b1 / 16)) q.0 q.1) in
+    let registers : register_number d.0 + 16 * register_number q.0 ≡ b1 = registers_take b1 d.0 q.0 f1
+    (found_ok BadRegister (register_at (bit_and b1 15)) d.0 d.1)
+    (found_ok BadRegister (register_at (b1 / 16)) q.0 q.1) in
     let offset = offset_takes b2 b3 f2 f3 in
     let imm = imm_takes b4 b5 b6 b7 f4 f5 f6 f7 in
     subst (λ (t : Slot). Spells opcode bytes t) (ok_is (fields_at opcode d.0 q.0 bytes) s q.2)
@@ -107,12 +121,15 @@ slot_takes_8 opcode s b0 b1 b2 b3 b4 b5 b6 b7 more f1 f2 f3 f4 f5 f6 f7 first e 
       parts = cc;
     })
 
-pub slot_takes : (opcode : Opcode) (bytes : List ℕ) (s : Slot) → IsBytes bytes → 8 ≤ length bytes → opcode_byte opcode ≡ slice_index bytes 0 → slot_at opcode bytes ≡ Ok s → Spells opcode bytes s
+pub slot_takes : (opcode : Opcode) (bytes : List ℕ) (s : Slot) → IsBytes bytes → 8 ≤ length bytes
+    → opcode_byte opcode ≡ slice_index bytes 0 → slot_at opcode bytes ≡ Ok s → Spells opcode bytes s
 slot_takes opcode bytes s fits len first e = by_long (long_from bytes len) fits first e
   where
-    by_long : {bs : List ℕ} → IsLong bs → IsBytes bs → opcode_byte opcode ≡ slice_index bs 0 → slot_at opcode bs ≡ Ok s → Spells opcode bs s
+    by_long : {bs : List ℕ} → IsLong bs → IsBytes bs → opcode_byte opcode ≡ slice_index bs 0 → slot_at opcode bs ≡ Ok s
+        → Spells opcode bs s
     by_long (long b0 b1 b2 b3 b4 b5 b6 b7 more) fits first e =
-        slot_takes_8 opcode s b0 b1 b2 b3 b4 b5 b6 b7 more (fits 1) (fits 2) (fits 3) (fits 4) (fits 5) (fits 6) (fits 7) first e
+        slot_takes_8 opcode s b0 b1 b2 b3 b4 b5 b6 b7 more (fits 1) (fits 2) (fits 3) (fits 4) (fits 5) (fits 6)
+        (fits 7) first e
 
 -- a slot is read again
 pub slot_again : (s : Slot) (more : List ℕ) → SlotFits s → slot_at s.opcode (slot_bytes s ++ more) ≡ Ok s
@@ -120,10 +137,13 @@ unfolding slot_at
 slot_again s more fits =
     let dst = number_small s.dst in
     let src = number_small s.src in
-    let low : bit_and (register_number s.dst + 16 * register_number s.src) 15 ≡ register_number s.dst = and_mask (register_number s.dst + 16 * register_number s.src) 4 ∙ omega arith in
+    let low : bit_and (register_number s.dst + 16 * register_number s.src) 15 ≡ register_number s.dst = and_mask
+    (register_number s.dst + 16 * register_number s.src) 4 ∙ omega arith in
     let high : (register_number s.dst + 16 * register_number s.src) / 16 ≡ register_number s.src = omega arith in
     let offset : cast_signed w16 (from_le_bytes w16 (to_le_bytes w16 (cast_unsigned w16 s.offset))) ≡ s.offset =
-    ap (cast_signed w16) (from_le_bytes-to_le_bytes_2 (cast_unsigned w16 s.offset) (omega (arith, Fits-of_z fits.offset))) ∙ to_z-of_z w16 s.offset fits.offset in
+    ap (cast_signed w16) (from_le_bytes-to_le_bytes_2 (cast_unsigned w16 s.offset)
+    (omega (arith, Fits-of_z fits.offset))) ∙ to_z-of_z w16 s.offset fits.offset in
     let imm : cast_signed w32 (from_le_bytes w32 (to_le_bytes w32 (cast_unsigned w32 s.imm))) ≡ s.imm =
-    ap (cast_signed w32) (from_le_bytes-to_le_bytes_4 (cast_unsigned w32 s.imm) (omega (arith, Fits-of_z fits.imm))) ∙ to_z-of_z w32 s.imm fits.imm in
+    ap (cast_signed w32) (from_le_bytes-to_le_bytes_4 (cast_unsigned w32 s.imm) (omega (arith, Fits-of_z fits.imm)))
+    ∙ to_z-of_z w32 s.imm fits.imm in
     rw (low, high, register_again s.dst, register_again s.src, offset, imm) refl

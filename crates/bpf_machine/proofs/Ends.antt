@@ -19,42 +19,61 @@ abbrev Leaves : MachineState → Phase → Type 0
 Leaves s (Running t) = Unit {0}
 Leaves s (Ended memory sent r0) = (memory ≡ s.memory) × (sent ≡ s.sent)
 
-leaves : (program : List Insn) (env : Setting) (insn : Insn) (s : MachineState) → IfOk (execute program env insn s) (Leaves s)
-leaves program env (i.Alu op width dst src) s = after_any (advance program env (i.Alu op width dst src) s) _ (Leaves s) (λ t. tt)
+leaves : (program : List Insn) (env : Setting) (insn : Insn) (s : MachineState)
+    → IfOk (execute program env insn s) (Leaves s)
+leaves program env (i.Alu op width dst src) s = after_any (advance program env (i.Alu op width dst src) s) _ (Leaves s)
+    (λ t. tt)
 leaves program env (i.Neg width dst) s = after_any (advance program env (i.Neg width dst) s) _ (Leaves s) (λ t. tt)
-leaves program env (i.Movsx kind dst src) s = after_any (advance program env (i.Movsx kind dst src) s) _ (Leaves s) (λ t. tt)
-leaves program env (i.Swap order bits dst) s = after_any (advance program env (i.Swap order bits dst) s) _ (Leaves s) (λ t. tt)
+leaves program env (i.Movsx kind dst src) s = after_any (advance program env (i.Movsx kind dst src) s) _ (Leaves s)
+    (λ t. tt)
+leaves program env (i.Swap order bits dst) s = after_any (advance program env (i.Swap order bits dst) s) _ (Leaves s)
+    (λ t. tt)
 leaves program env (i.Ja off) s = after_any (advance program env (i.Ja off) s) _ (Leaves s) (λ t. tt)
 leaves program env (i.JaLong off) s = after_any (advance program env (i.JaLong off) s) _ (Leaves s) (λ t. tt)
-leaves program env (i.Branch cond width dst src off) s = after_any (advance program env (i.Branch cond width dst src off) s) _ (Leaves s) (λ t. tt)
+leaves program env (i.Branch cond width dst src off) s = after_any
+    (advance program env (i.Branch cond width dst src off) s) _ (Leaves s) (λ t. tt)
 leaves program env (i.Call id) s = after_any (advance program env (i.Call id) s) _ (Leaves s) (λ t. tt)
 leaves program env i.Exit s = after_any (result_of_exit s.frame) _ (Leaves s) (λ n. (refl, refl))
-leaves program env (i.Load size dst base off) s = after_any (advance program env (i.Load size dst base off) s) _ (Leaves s) (λ t. tt)
-leaves program env (i.LoadSx size dst base off) s = after_any (advance program env (i.LoadSx size dst base off) s) _ (Leaves s) (λ t. tt)
-leaves program env (i.StoreReg size base off src) s = after_any (advance program env (i.StoreReg size base off src) s) _ (Leaves s) (λ t. tt)
-leaves program env (i.StoreImm size base off imm) s = after_any (advance program env (i.StoreImm size base off imm) s) _ (Leaves s) (λ t. tt)
-leaves program env (i.LoadImm64 dst value) s = after_any (advance program env (i.LoadImm64 dst value) s) _ (Leaves s) (λ t. tt)
+leaves program env (i.Load size dst base off) s = after_any (advance program env (i.Load size dst base off) s) _
+    (Leaves s) (λ t. tt)
+leaves program env (i.LoadSx size dst base off) s = after_any (advance program env (i.LoadSx size dst base off) s) _
+    (Leaves s) (λ t. tt)
+leaves program env (i.StoreReg size base off src) s = after_any
+    (advance program env (i.StoreReg size base off src) s) _ (Leaves s) (λ t. tt)
+leaves program env (i.StoreImm size base off imm) s = after_any
+    (advance program env (i.StoreImm size base off imm) s) _ (Leaves s) (λ t. tt)
+leaves program env (i.LoadImm64 dst value) s = after_any (advance program env (i.LoadImm64 dst value) s) _ (Leaves s)
+    (λ t. tt)
 
-leaves_at : (program : List Insn) (env : Setting) (found : Option Insn) (s : MachineState) → IfOk (execute_at program env found s) (Leaves s)
+leaves_at : (program : List Insn) (env : Setting) (found : Option Insn) (s : MachineState)
+    → IfOk (execute_at program env found s) (Leaves s)
 leaves_at program env None s = tt
 leaves_at program env (Some insn) s = leaves program env insn s
 
-step_leaves : (program : List Insn) (env : Setting) (s : MachineState) (memory : List ℕ) (sent : FinMap nat_cmp ℕ) (r0 : ℕ) → step program env s ≡ Ok (Ended memory sent r0)
+step_leaves : (program : List Insn) (env : Setting) (s : MachineState) (memory : List ℕ) (sent : FinMap nat_cmp ℕ)
+    (r0 : ℕ) → step program env s ≡ Ok (Ended memory sent r0)
     → (memory ≡ s.memory) × (sent ≡ s.sent)
-step_leaves program env s memory sent r0 e = IfOk-at_ok (Leaves s) e (leaves_at program env (insn_at program s.frame.slot) s)
+step_leaves program env s memory sent r0 e = IfOk-at_ok (Leaves s) e
+    (leaves_at program env (insn_at program s.frame.slot) s)
 
-ended_stays : (program : List Insn) (env : Setting) (count : ℕ) (m left : List ℕ) (out gone : FinMap nat_cmp ℕ) (q0 r0 : ℕ) → Leads program env count (Ended m out q0) (Ended left gone r0)
+ended_stays : (program : List Insn) (env : Setting) (count : ℕ) (m left : List ℕ) (out gone : FinMap nat_cmp ℕ)
+    (q0 r0 : ℕ) → Leads program env count (Ended m out q0) (Ended left gone r0)
     → (left ≡ m) × (gone ≡ out)
 ended_stays program env zero m left out gone q0 r0 h = let e : Ended left gone r0 ≡ Ended m out q0 = h in (cc, cc)
 ended_stays program env (suc count) m left out gone q0 r0 h = absurd h.1
 
-run_leaves : (program : List Insn) (env : Setting) (count : ℕ) (s : MachineState) (end : End) → IsProgram program → IsSetting env → IsSound env s
+run_leaves : (program : List Insn) (env : Setting) (count : ℕ) (s : MachineState) (end : End) → IsProgram program
+    → IsSetting env → IsSound env s
     → Leads program env count (Running s) (Ended end.memory end.sent end.r0) → IsSoundEnd env end
-run_leaves program env zero s end proper is sound h = absurd (let e : Ended end.memory end.sent end.r0 ≡ Running s = h in cc)
-run_leaves program env (suc count) s end proper is sound h = by h.0 h.1 h.2 (λ t known rest. run_leaves program env count t end proper is known rest)
+run_leaves program env zero s end proper is sound h = absurd
+    (let e : Ended end.memory end.sent end.r0 ≡ Running s = h in cc)
+run_leaves program env (suc count) s end proper is sound h = by h.0 h.1 h.2
+    (λ t known rest. run_leaves program env count t end proper is known rest)
   where
-    by : (mid : Phase) → Steps program env (Running s) mid → Leads program env count mid (Ended end.memory end.sent end.r0)
-        → ((t : MachineState) → IsSound env t → Leads program env count (Running t) (Ended end.memory end.sent end.r0) → IsSoundEnd env end) → IsSoundEnd env end
+    by : (mid : Phase) → Steps program env (Running s) mid
+        → Leads program env count mid (Ended end.memory end.sent end.r0)
+        → ((t : MachineState) → IsSound env t → Leads program env count (Running t) (Ended end.memory end.sent end.r0)
+        → IsSoundEnd env end) → IsSoundEnd env end
     by (Running t) goes rest later = later t (step_sound program env s t proper is sound goes) rest
     by (Ended m out q0) goes rest later =
         let kept = step_leaves program env s m out q0 goes in
@@ -67,7 +86,8 @@ run_leaves program env (suc count) s end proper is sound h = by h.0 h.1 h.2 (λ 
           sent = subst (AreNumbers env.shape.nodes) (sym sent) sound.sent;
         }
 
-pub complete_run_leaves : (program : List Insn) (env : Setting) (memory : List ℕ) (end : End) → IsProgram program → IsSetting env → length memory ≡ env.shape.memory
+pub complete_run_leaves : (program : List Insn) (env : Setting) (memory : List ℕ) (end : End) → IsProgram program
+    → IsSetting env → length memory ≡ env.shape.memory
     → All (λ byte. byte < 256) memory → CompleteRun program env memory end → IsSoundEnd env end
 complete_run_leaves program env memory end proper is whole bytes run =
     run_leaves program env end.steps (entry env memory) end proper is (entry_sound env memory is whole bytes) run

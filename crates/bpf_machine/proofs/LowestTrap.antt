@@ -6,7 +6,8 @@ use Rattle.bpf_machine.specs.declared.word.TrapKind.TheVariants.{BadJump, BadHel
 use Rattle.bpf_machine.specs.Traps.{trap_number}
 
 abbrev pub kinds : List TrapKind
-kinds = BadJump ∷ BadHelper ∷ Unset ∷ FrameWrite ∷ NotNumber ∷ OutOfRegion ∷ UnsetByte ∷ BadArgument ∷ NotPointer ∷ ExitNotNumber ∷ []
+kinds = BadJump ∷ BadHelper ∷ Unset ∷ FrameWrite ∷ NotNumber ∷ OutOfRegion ∷ UnsetByte ∷ BadArgument ∷ NotPointer
+    ∷ ExitNotNumber ∷ []
 
 -- ---- numbers
 
@@ -74,14 +75,16 @@ none_below_first p other lt = absurd (omega (arith, (number_range other).0))
 below_or_same : (n m : ℕ) → n < m + 1 → (n < m) ⊎ (n ≡ m)
 below_or_same n m lt = grind arith
 
-none_below_next : (p : TrapKind → Bool) (kind : TrapKind) → NoneBelow p (trap_number kind) → p kind ≡ false → NoneBelow p (trap_number kind + 1)
+none_below_next : (p : TrapKind → Bool) (kind : TrapKind) → NoneBelow p (trap_number kind) → p kind ≡ false
+    → NoneBelow p (trap_number kind + 1)
 none_below_next p kind below e other lt =
     elim (below_or_same (trap_number other) (trap_number kind) lt) [
       | inl lower ↦ below other lower
       | inr same ↦ ap p (kind_by_number other kind same) ∙ e
     ]
 
-look : (p : TrapKind → Bool) (kind : TrapKind) (rest : Option TrapKind) → NoneBelow p (trap_number kind) → (NoneBelow p (trap_number kind + 1) → Told p rest) → Told p (cond (p kind) (Some kind) rest)
+look : (p : TrapKind → Bool) (kind : TrapKind) (rest : Option TrapKind) → NoneBelow p (trap_number kind)
+    → (NoneBelow p (trap_number kind + 1) → Told p rest) → Told p (cond (p kind) (Some kind) rest)
 look p kind rest below later = by (p kind) refl
   where
     by : (b : Bool) → p kind ≡ b → Told p (cond b (Some kind) rest)
@@ -94,4 +97,8 @@ none p below kind = below kind (number_range kind).1
 -- what is found first is the lowest
 pub told : (p : TrapKind → Bool) → Told p (find p kinds)
 told p =
-    look p BadJump _ (none_below_first p) (λ b1. look p BadHelper _ b1 (λ b2. look p Unset _ b2 (λ b3. look p FrameWrite _ b3 (λ b4. look p NotNumber _ b4 (λ b5. look p OutOfRegion _ b5 (λ b6. look p UnsetByte _ b6 (λ b7. look p BadArgument _ b7 (λ b8. look p NotPointer _ b8 (λ b9. look p ExitNotNumber _ b9 (λ b10. none p b10))))))))))
+    look p BadJump _ (none_below_first p) (λ b1. look p BadHelper _ b1
+    (λ b2. look p Unset _ b2 (λ b3. look p FrameWrite _ b3
+    (λ b4. look p NotNumber _ b4 (λ b5. look p OutOfRegion _ b5
+    (λ b6. look p UnsetByte _ b6 (λ b7. look p BadArgument _ b7
+    (λ b8. look p NotPointer _ b8 (λ b9. look p ExitNotNumber _ b9 (λ b10. none p b10))))))))))

@@ -9,7 +9,8 @@ use Rattle.bpf_insn.specs.Arithmetic.{alu_result}
 use Rattle.bpf_machine.specs.declared.word.Word.TheVariants.{Num}
 use Rattle.bpf_machine.specs.Step.{alu_word}
 
-pub of_two_numbers : (env : Setting) (op : AluOp) (width : Width) (a b : ℕ) → alu_word env op width (Num a) (Num b) ≡ Ok (Num (alu_result op width a b))
+pub of_two_numbers : (env : Setting) (op : AluOp) (width : Width) (a b : ℕ)
+    → alu_word env op width (Num a) (Num b) ≡ Ok (Num (alu_result op width a b))
 of_two_numbers env Add W32 a b = refl
 of_two_numbers env Add W64 a b = refl
 of_two_numbers env Sub W32 a b = refl

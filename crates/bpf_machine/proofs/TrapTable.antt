@@ -41,7 +41,8 @@ use Rattle.bpf_machine.proofs.LowestTrap.{kinds}
 use Rattle.bpf_machine.proofs.StepCases.{unset, number, place, word_case, no_helper, some_helper, helper_case, yes, no, bool_case, is_pos, is_neg, int_case, no_slot, some_slot, slot_case, gives, fails, outcome, known, unknown, operand_case, written, unwritten, stack_case, memory_read}
 
 abbrev pub IsTold : List Insn → Setting → Insn → MachineState → Type 0
-IsTold program env insn s = result_err (execute program env insn s) ≡ find (λ kind. applies_to kind program env insn s.frame) kinds
+IsTold program env insn s = result_err (execute program env insn s) ≡ find
+    (λ kind. applies_to kind program env insn s.frame) kinds
 
 -- an instruction begins at the slot after the state's
 abbrev Next : List Insn → MachineState → Bool
@@ -61,31 +62,38 @@ ja_told : (program : List Insn) (env : Setting) (off : ℤ) (s : MachineState) �
 ja_told program env off s =
     elim (slot_case (moved (s.frame.slot + 1) off)) [
       | no_slot e ↦ rw e refl
-      | some_slot n e ↦ elim (bool_case (is_some (insn_at program n))) [ yes f ↦ rw (e, f) refl | no f ↦ rw (e, f) refl ]
+      | some_slot n e ↦ elim (bool_case (is_some (insn_at program n)))
+          [ yes f ↦ rw (e, f) refl | no f ↦ rw (e, f) refl ]
     ]
 
 jal_told : (program : List Insn) (env : Setting) (off : ℤ) (s : MachineState) → IsTold program env (i.JaLong off) s
 jal_told program env off s =
     elim (slot_case (moved (s.frame.slot + 1) off)) [
       | no_slot e ↦ rw e refl
-      | some_slot n e ↦ elim (bool_case (is_some (insn_at program n))) [ yes f ↦ rw (e, f) refl | no f ↦ rw (e, f) refl ]
+      | some_slot n e ↦ elim (bool_case (is_some (insn_at program n)))
+          [ yes f ↦ rw (e, f) refl | no f ↦ rw (e, f) refl ]
     ]
 
 -- a branch, once its operands are known
-branch_on : (program : List Insn) (env : Setting) (test : Cond) (width : Width) (dst : Reg) (src : Operand) (off : ℤ) (s : MachineState) (a b : ℕ)
-    → get s.frame.registers (register_number dst) ≡ Some (Num a) → operand_of s.frame src ≡ Ok (Num b) → operand_word s.frame src ≡ Some (Num b)
+branch_on : (program : List Insn) (env : Setting) (test : Cond) (width : Width) (dst : Reg) (src : Operand) (off : ℤ)
+    (s : MachineState) (a b : ℕ)
+    → get s.frame.registers (register_number dst) ≡ Some (Num a) → operand_of s.frame src ≡ Ok (Num b)
+    → operand_word s.frame src ≡ Some (Num b)
     → list_any (is_unset s.frame) (operand_reads src) ≡ false → IsTold program env (i.Branch test width dst src off) s
 branch_on program env test width dst src off s a b e v w u =
     elim (bool_case (holds test width a b)) [
-      | no h ↦ elim (bool_case (Next program s)) [ yes f ↦ rw (e, v, w, u, h, f) refl | no f ↦ rw (e, v, w, u, h, f) refl ]
+      | no h ↦ elim (bool_case (Next program s))
+          [ yes f ↦ rw (e, v, w, u, h, f) refl | no f ↦ rw (e, v, w, u, h, f) refl ]
       | yes h ↦
           elim (slot_case (moved (s.frame.slot + 1) off)) [
             | no_slot z ↦ rw (e, v, w, u, h, z) refl
-            | some_slot n z ↦ elim (bool_case (is_some (insn_at program n))) [ yes f ↦ rw (e, v, w, u, h, z, f) refl | no f ↦ rw (e, v, w, u, h, z, f) refl ]
+            | some_slot n z ↦ elim (bool_case (is_some (insn_at program n)))
+                [ yes f ↦ rw (e, v, w, u, h, z, f) refl | no f ↦ rw (e, v, w, u, h, z, f) refl ]
           ]
     ]
 
-branch_told : (program : List Insn) (env : Setting) (test : Cond) (width : Width) (dst : Reg) (src : Operand) (off : ℤ) (s : MachineState) → IsTold program env (i.Branch test width dst src off) s
+branch_told : (program : List Insn) (env : Setting) (test : Cond) (width : Width) (dst : Reg) (src : Operand) (off : ℤ)
+    (s : MachineState) → IsTold program env (i.Branch test width dst src off) s
 branch_told program env test width dst src off s =
     elim (word_case (get s.frame.registers (register_number dst))) [
       | unset e ↦ rw e refl
@@ -124,23 +132,30 @@ sum_told : (env : Setting) (a b : Word) → result_err (alu_word env Add W64 a b
 sum_told env (Num m) (Num n) = refl
 sum_told env (Ptr q p) (Ptr region offset) = refl
 sum_told env (Num n) (Ptr region offset) =
-    elim (bool_case (nat_le (alu_result Add W64 n offset) (region_size env.shape region))) [ yes f ↦ rw f refl | no f ↦ rw f refl ]
+    elim (bool_case (nat_le (alu_result Add W64 n offset) (region_size env.shape region)))
+    [ yes f ↦ rw f refl | no f ↦ rw f refl ]
 sum_told env (Ptr region offset) (Num n) =
-    elim (bool_case (nat_le (alu_result Add W64 offset n) (region_size env.shape region))) [ yes f ↦ rw f refl | no f ↦ rw f refl ]
+    elim (bool_case (nat_le (alu_result Add W64 offset n) (region_size env.shape region)))
+    [ yes f ↦ rw f refl | no f ↦ rw f refl ]
 
 difference_told : (env : Setting) (a b : Word) → result_err (alu_word env Sub W64 a b) ≡ word_trap env Sub W64 a b
 difference_told env (Num m) (Num n) = refl
 difference_told env (Num m) (Ptr region offset) = refl
 difference_told env (Ptr q p) (Ptr region offset) = refl
 difference_told env (Ptr region offset) (Num n) =
-    elim (bool_case (nat_le (alu_result Sub W64 offset n) (region_size env.shape region))) [ yes f ↦ rw f refl | no f ↦ rw f refl ]
+    elim (bool_case (nat_le (alu_result Sub W64 offset n) (region_size env.shape region)))
+    [ yes f ↦ rw f refl | no f ↦ rw f refl ]
 
 -- an operation whose operands are read
-operate_on : (program : List Insn) (env : Setting) (op : AluOp) (width : Width) (dst : Reg) (src : Operand) (s : MachineState) (a b : Word)
-    → alu env op width dst src s.frame ≡ operate env op width dst src s.frame → alu_reads op dst src ≡ dst ∷ operand_reads src
+operate_on : (program : List Insn) (env : Setting) (op : AluOp) (width : Width) (dst : Reg) (src : Operand)
+    (s : MachineState) (a b : Word)
+    → alu env op width dst src s.frame ≡ operate env op width dst src s.frame
+    → alu_reads op dst src ≡ dst ∷ operand_reads src
     → result_err (alu_word env op width a b) ≡ word_trap env op width a b
-    → get s.frame.registers (register_number dst) ≡ Some a → operand_of s.frame src ≡ Ok b → operand_word s.frame src ≡ Some b
-    → list_any (is_unset s.frame) (operand_reads src) ≡ false → Next program s ≡ true → IsTold program env (i.Alu op width dst src) s
+    → get s.frame.registers (register_number dst) ≡ Some a → operand_of s.frame src ≡ Ok b
+    → operand_word s.frame src ≡ Some b
+    → list_any (is_unset s.frame) (operand_reads src) ≡ false → Next program s ≡ true
+    → IsTold program env (i.Alu op width dst src) s
 operate_on program env op width dst src s a b is all told first second word set next =
     elim (bool_case (register_number dst == 10)) [
       | yes f ↦ rw (is, all, next, first, second, set, f) refl
@@ -151,8 +166,10 @@ operate_on program env op width dst src s a b is all told first second word set 
           ]
     ]
 
-operate_told : (program : List Insn) (env : Setting) (op : AluOp) (width : Width) (dst : Reg) (src : Operand) (s : MachineState)
-    → alu env op width dst src s.frame ≡ operate env op width dst src s.frame → alu_reads op dst src ≡ dst ∷ operand_reads src
+operate_told : (program : List Insn) (env : Setting) (op : AluOp) (width : Width) (dst : Reg) (src : Operand)
+    (s : MachineState)
+    → alu env op width dst src s.frame ≡ operate env op width dst src s.frame
+    → alu_reads op dst src ≡ dst ∷ operand_reads src
     → ((a b : Word) → result_err (alu_word env op width a b) ≡ word_trap env op width a b)
     → Next program s ≡ true → IsTold program env (i.Alu op width dst src) s
 operate_told program env op width dst src s is all told next =
@@ -165,86 +182,117 @@ operate_told program env op width dst src s is all told next =
           ]
       | place q n e ↦
           elim (operand_case s.frame src) [
-            | known w o p u ↦ operate_on program env op width dst src s (Ptr q n) w is all (told (Ptr q n) w) e o p u next
+            | known w o p u ↦ operate_on program env op width dst src s (Ptr q n) w is all
+                (told (Ptr q n) w) e o p u next
             | unknown o p u ↦ rw (is, all, next, e, o, u) refl
           ]
     ]
 
-move_told : (program : List Insn) (env : Setting) (width : Width) (dst : Reg) (src : Operand) (s : MachineState) → Next program s ≡ true → IsTold program env (i.Alu Mov width dst src) s
+move_told : (program : List Insn) (env : Setting) (width : Width) (dst : Reg) (src : Operand) (s : MachineState)
+    → Next program s ≡ true → IsTold program env (i.Alu Mov width dst src) s
 move_told program env W64 dst src s next =
     elim (operand_case s.frame src) [
       | unknown o p u ↦ rw (next, o, u) refl
-      | known w o p u ↦ elim (bool_case (register_number dst == 10)) [ yes f ↦ rw (next, o, u, f) refl | no f ↦ rw (next, o, u, f) refl ]
+      | known w o p u ↦ elim (bool_case (register_number dst == 10))
+          [ yes f ↦ rw (next, o, u, f) refl | no f ↦ rw (next, o, u, f) refl ]
     ]
 move_told program env W32 dst src s next =
     elim (operand_case s.frame src) [
       | unknown o p u ↦ rw (next, o, u) refl
-      | known (Num n) o p u ↦ elim (bool_case (register_number dst == 10)) [ yes f ↦ rw (next, o, p, u, f) refl | no f ↦ rw (next, o, p, u, f) refl ]
-      | known (Ptr r n) o p u ↦ elim (bool_case (register_number dst == 10)) [ yes f ↦ rw (next, o, p, u, f) refl | no f ↦ rw (next, o, p, u, f) refl ]
+      | known (Num n) o p u ↦ elim (bool_case (register_number dst == 10))
+          [ yes f ↦ rw (next, o, p, u, f) refl | no f ↦ rw (next, o, p, u, f) refl ]
+      | known (Ptr r n) o p u ↦ elim (bool_case (register_number dst == 10))
+          [ yes f ↦ rw (next, o, p, u, f) refl | no f ↦ rw (next, o, p, u, f) refl ]
     ]
 
-op_told : (program : List Insn) (env : Setting) (op : AluOp) (width : Width) (dst : Reg) (src : Operand) (s : MachineState) → Next program s ≡ true → IsTold program env (i.Alu op width dst src) s
+op_told : (program : List Insn) (env : Setting) (op : AluOp) (width : Width) (dst : Reg) (src : Operand)
+    (s : MachineState) → Next program s ≡ true → IsTold program env (i.Alu op width dst src) s
 op_told program env Mov width dst src s next = move_told program env width dst src s next
 op_told program env Add W64 dst src s next = operate_told program env Add W64 dst src s refl refl (sum_told env) next
-op_told program env Add W32 dst src s next = operate_told program env Add W32 dst src s refl refl (plain_told Add W32) next
-op_told program env Sub W64 dst src s next = operate_told program env Sub W64 dst src s refl refl (difference_told env) next
-op_told program env Sub W32 dst src s next = operate_told program env Sub W32 dst src s refl refl (plain_told Sub W32) next
-op_told program env Mul width dst src s next = operate_told program env Mul width dst src s refl refl (plain_told Mul width) next
-op_told program env Div width dst src s next = operate_told program env Div width dst src s refl refl (plain_told Div width) next
-op_told program env Sdiv width dst src s next = operate_told program env Sdiv width dst src s refl refl (plain_told Sdiv width) next
-op_told program env Or width dst src s next = operate_told program env Or width dst src s refl refl (plain_told Or width) next
-op_told program env And width dst src s next = operate_told program env And width dst src s refl refl (plain_told And width) next
-op_told program env Lsh width dst src s next = operate_told program env Lsh width dst src s refl refl (plain_told Lsh width) next
-op_told program env Rsh width dst src s next = operate_told program env Rsh width dst src s refl refl (plain_told Rsh width) next
-op_told program env Mod width dst src s next = operate_told program env Mod width dst src s refl refl (plain_told Mod width) next
-op_told program env Smod width dst src s next = operate_told program env Smod width dst src s refl refl (plain_told Smod width) next
-op_told program env Xor width dst src s next = operate_told program env Xor width dst src s refl refl (plain_told Xor width) next
-op_told program env Arsh width dst src s next = operate_told program env Arsh width dst src s refl refl (plain_told Arsh width) next
+op_told program env Add W32 dst src s next = operate_told program env Add W32 dst src s refl refl
+    (plain_told Add W32) next
+op_told program env Sub W64 dst src s next = operate_told program env Sub W64 dst src s refl refl
+    (difference_told env) next
+op_told program env Sub W32 dst src s next = operate_told program env Sub W32 dst src s refl refl
+    (plain_told Sub W32) next
+op_told program env Mul width dst src s next = operate_told program env Mul width dst src s refl refl
+    (plain_told Mul width) next
+op_told program env Div width dst src s next = operate_told program env Div width dst src s refl refl
+    (plain_told Div width) next
+op_told program env Sdiv width dst src s next = operate_told program env Sdiv width dst src s refl refl
+    (plain_told Sdiv width) next
+op_told program env Or width dst src s next = operate_told program env Or width dst src s refl refl
+    (plain_told Or width) next
+op_told program env And width dst src s next = operate_told program env And width dst src s refl refl
+    (plain_told And width) next
+op_told program env Lsh width dst src s next = operate_told program env Lsh width dst src s refl refl
+    (plain_told Lsh width) next
+op_told program env Rsh width dst src s next = operate_told program env Rsh width dst src s refl refl
+    (plain_told Rsh width) next
+op_told program env Mod width dst src s next = operate_told program env Mod width dst src s refl refl
+    (plain_told Mod width) next
+op_told program env Smod width dst src s next = operate_told program env Smod width dst src s refl refl
+    (plain_told Smod width) next
+op_told program env Xor width dst src s next = operate_told program env Xor width dst src s refl refl
+    (plain_told Xor width) next
+op_told program env Arsh width dst src s next = operate_told program env Arsh width dst src s refl refl
+    (plain_told Arsh width) next
 
-alu_told : (program : List Insn) (env : Setting) (op : AluOp) (width : Width) (dst : Reg) (src : Operand) (s : MachineState) → IsTold program env (i.Alu op width dst src) s
+alu_told : (program : List Insn) (env : Setting) (op : AluOp) (width : Width) (dst : Reg) (src : Operand)
+    (s : MachineState) → IsTold program env (i.Alu op width dst src) s
 alu_told program env op width dst src s =
     elim (bool_case (Next program s)) [
       | no next ↦ rw next refl
       | yes next ↦ op_told program env op width dst src s next
     ]
 
-neg_told : (program : List Insn) (env : Setting) (width : Width) (dst : Reg) (s : MachineState) → IsTold program env (i.Neg width dst) s
+neg_told : (program : List Insn) (env : Setting) (width : Width) (dst : Reg) (s : MachineState)
+    → IsTold program env (i.Neg width dst) s
 neg_told program env width dst s =
     elim (bool_case (Next program s)) [
       | no next ↦ rw next refl
       | yes next ↦
           elim (word_case (get s.frame.registers (register_number dst))) [
             | unset e ↦ rw (next, e) refl
-            | number n e ↦ elim (bool_case (register_number dst == 10)) [ yes f ↦ rw (next, e, f) refl | no f ↦ rw (next, e, f) refl ]
-            | place q n e ↦ elim (bool_case (register_number dst == 10)) [ yes f ↦ rw (next, e, f) refl | no f ↦ rw (next, e, f) refl ]
+            | number n e ↦ elim (bool_case (register_number dst == 10))
+                [ yes f ↦ rw (next, e, f) refl | no f ↦ rw (next, e, f) refl ]
+            | place q n e ↦ elim (bool_case (register_number dst == 10))
+                [ yes f ↦ rw (next, e, f) refl | no f ↦ rw (next, e, f) refl ]
           ]
     ]
 
-movsx_told : (program : List Insn) (env : Setting) (kind : MovsxKind) (dst src : Reg) (s : MachineState) → IsTold program env (i.Movsx kind dst src) s
+movsx_told : (program : List Insn) (env : Setting) (kind : MovsxKind) (dst src : Reg) (s : MachineState)
+    → IsTold program env (i.Movsx kind dst src) s
 movsx_told program env kind dst src s =
     elim (bool_case (Next program s)) [
       | no next ↦ rw next refl
       | yes next ↦
           elim (word_case (get s.frame.registers (register_number src))) [
             | unset e ↦ rw (next, e) refl
-            | number n e ↦ elim (bool_case (register_number dst == 10)) [ yes f ↦ rw (next, e, f) refl | no f ↦ rw (next, e, f) refl ]
-            | place q n e ↦ elim (bool_case (register_number dst == 10)) [ yes f ↦ rw (next, e, f) refl | no f ↦ rw (next, e, f) refl ]
+            | number n e ↦ elim (bool_case (register_number dst == 10))
+                [ yes f ↦ rw (next, e, f) refl | no f ↦ rw (next, e, f) refl ]
+            | place q n e ↦ elim (bool_case (register_number dst == 10))
+                [ yes f ↦ rw (next, e, f) refl | no f ↦ rw (next, e, f) refl ]
           ]
     ]
 
-swap_told : (program : List Insn) (env : Setting) (order : Order) (bits : SwapBits) (dst : Reg) (s : MachineState) → IsTold program env (i.Swap order bits dst) s
+swap_told : (program : List Insn) (env : Setting) (order : Order) (bits : SwapBits) (dst : Reg) (s : MachineState)
+    → IsTold program env (i.Swap order bits dst) s
 swap_told program env order bits dst s =
     elim (bool_case (Next program s)) [
       | no next ↦ rw next refl
       | yes next ↦
           elim (word_case (get s.frame.registers (register_number dst))) [
             | unset e ↦ rw (next, e) refl
-            | number n e ↦ elim (bool_case (register_number dst == 10)) [ yes f ↦ rw (next, e, f) refl | no f ↦ rw (next, e, f) refl ]
-            | place q n e ↦ elim (bool_case (register_number dst == 10)) [ yes f ↦ rw (next, e, f) refl | no f ↦ rw (next, e, f) refl ]
+            | number n e ↦ elim (bool_case (register_number dst == 10))
+                [ yes f ↦ rw (next, e, f) refl | no f ↦ rw (next, e, f) refl ]
+            | place q n e ↦ elim (bool_case (register_number dst == 10))
+                [ yes f ↦ rw (next, e, f) refl | no f ↦ rw (next, e, f) refl ]
           ]
     ]
 
-load_immediate_told : (program : List Insn) (env : Setting) (dst : Reg) (value : ℕ) (s : MachineState) → IsTold program env (i.LoadImm64 dst value) s
+load_immediate_told : (program : List Insn) (env : Setting) (dst : Reg) (value : ℕ) (s : MachineState)
+    → IsTold program env (i.LoadImm64 dst value) s
 load_immediate_told program env dst value s =
     elim (bool_case (is_some (insn_at program (s.frame.slot + 2)))) [
       | no next ↦ rw next refl
@@ -257,9 +305,11 @@ load_immediate_told program env dst value s =
 abbrev load_trap : Setting → Frame → Word → ℤ → ℕ → Option TrapKind
 load_trap env s base off count =
     cond (access_leaves env (Some base) off count || false) (Some OutOfRegion)
-    (cond (word_misses s (Some base) off count) (Some UnsetByte) (cond (is_number (Some base) || false) (Some NotPointer) None))
+    (cond (word_misses s (Some base) off count) (Some UnsetByte)
+    (cond (is_number (Some base) || false) (Some NotPointer) None))
 
-loaded_told : (env : Setting) (base : Word) (off : ℤ) (count : ℕ) (memory : List ℕ) (s : Frame) → length memory ≡ env.shape.memory
+loaded_told : (env : Setting) (base : Word) (off : ℤ) (count : ℕ) (memory : List ℕ) (s : Frame)
+    → length memory ≡ env.shape.memory
     → result_err (loaded env base off count memory s) ≡ load_trap env s base off count
 loaded_told env (Num n) off count memory s whole = refl
 loaded_told env (Ptr region offset) off count memory s whole =
@@ -272,7 +322,8 @@ loaded_told env (Ptr region offset) off count memory s whole =
           ]
     ]
   where
-    inside : (region : Region) (n : ℕ) → pos offset +ℤ off ≡ pos n → nat_le (n + count) (region_size env.shape region) ≡ true
+    inside : (region : Region) (n : ℕ) → pos offset +ℤ off ≡ pos n
+        → nat_le (n + count) (region_size env.shape region) ≡ true
         → result_err (loaded env (Ptr region offset) off count memory s) ≡ load_trap env s (Ptr region offset) off count
     inside Mem n z g =
         let fits : n + count ≤ length memory = grind (arith, nat_tests) in
@@ -284,19 +335,24 @@ loaded_told env (Ptr region offset) off count memory s whole =
           | unwritten h m ↦ rw (z, g, h, m) refl
         ]
 
-load_on : (program : List Insn) (env : Setting) (size : Size) (dst base : Reg) (off : ℤ) (s : MachineState) (a : Word) → length s.memory ≡ env.shape.memory
-    → get s.frame.registers (register_number base) ≡ Some a → Next program s ≡ true → IsTold program env (i.Load size dst base off) s
+load_on : (program : List Insn) (env : Setting) (size : Size) (dst base : Reg) (off : ℤ) (s : MachineState) (a : Word)
+    → length s.memory ≡ env.shape.memory
+    → get s.frame.registers (register_number base) ≡ Some a → Next program s ≡ true
+    → IsTold program env (i.Load size dst base off) s
 load_on program env size dst base off s a whole e next =
     elim (bool_case (register_number dst == 10)) [
       | yes f ↦ rw (next, e, f) refl
       | no f ↦
           elim (outcome (loaded env a off (access_bytes size) s.memory s.frame)) [
-            | gives n l ↦ rw (next, e, f, l) (ap result_err (sym l) ∙ loaded_told env a off (access_bytes size) s.memory s.frame whole)
-            | fails k l ↦ rw (next, e, f, l) (ap result_err (sym l) ∙ loaded_told env a off (access_bytes size) s.memory s.frame whole)
+            | gives n l ↦ rw (next, e, f, l) (ap result_err (sym l)
+                ∙ loaded_told env a off (access_bytes size) s.memory s.frame whole)
+            | fails k l ↦ rw (next, e, f, l) (ap result_err (sym l)
+                ∙ loaded_told env a off (access_bytes size) s.memory s.frame whole)
           ]
     ]
 
-load_told : (program : List Insn) (env : Setting) (size : Size) (dst base : Reg) (off : ℤ) (s : MachineState) → length s.memory ≡ env.shape.memory → IsTold program env (i.Load size dst base off) s
+load_told : (program : List Insn) (env : Setting) (size : Size) (dst base : Reg) (off : ℤ) (s : MachineState)
+    → length s.memory ≡ env.shape.memory → IsTold program env (i.Load size dst base off) s
 load_told program env size dst base off s whole =
     elim (bool_case (Next program s)) [
       | no next ↦ rw next refl
@@ -308,19 +364,24 @@ load_told program env size dst base off s whole =
           ]
     ]
 
-load_extended_on : (program : List Insn) (env : Setting) (size : SxSize) (dst base : Reg) (off : ℤ) (s : MachineState) (a : Word) → length s.memory ≡ env.shape.memory
-    → get s.frame.registers (register_number base) ≡ Some a → Next program s ≡ true → IsTold program env (i.LoadSx size dst base off) s
+load_extended_on : (program : List Insn) (env : Setting) (size : SxSize) (dst base : Reg) (off : ℤ) (s : MachineState)
+    (a : Word) → length s.memory ≡ env.shape.memory
+    → get s.frame.registers (register_number base) ≡ Some a → Next program s ≡ true
+    → IsTold program env (i.LoadSx size dst base off) s
 load_extended_on program env size dst base off s a whole e next =
     elim (bool_case (register_number dst == 10)) [
       | yes f ↦ rw (next, e, f) refl
       | no f ↦
           elim (outcome (loaded env a off (sx_access_bytes size) s.memory s.frame)) [
-            | gives n l ↦ rw (next, e, f, l) (ap result_err (sym l) ∙ loaded_told env a off (sx_access_bytes size) s.memory s.frame whole)
-            | fails k l ↦ rw (next, e, f, l) (ap result_err (sym l) ∙ loaded_told env a off (sx_access_bytes size) s.memory s.frame whole)
+            | gives n l ↦ rw (next, e, f, l) (ap result_err (sym l)
+                ∙ loaded_told env a off (sx_access_bytes size) s.memory s.frame whole)
+            | fails k l ↦ rw (next, e, f, l) (ap result_err (sym l)
+                ∙ loaded_told env a off (sx_access_bytes size) s.memory s.frame whole)
           ]
     ]
 
-load_extended_told : (program : List Insn) (env : Setting) (size : SxSize) (dst base : Reg) (off : ℤ) (s : MachineState) → length s.memory ≡ env.shape.memory → IsTold program env (i.LoadSx size dst base off) s
+load_extended_told : (program : List Insn) (env : Setting) (size : SxSize) (dst base : Reg) (off : ℤ)
+    (s : MachineState) → length s.memory ≡ env.shape.memory → IsTold program env (i.LoadSx size dst base off) s
 load_extended_told program env size dst base off s whole =
     elim (bool_case (Next program s)) [
       | no next ↦ rw next refl
@@ -336,17 +397,21 @@ load_extended_told program env size dst base off s whole =
 
 -- which trap a store tells of the word in its base
 abbrev store_trap : Setting → Word → ℤ → ℕ → Option TrapKind
-store_trap env base off count = cond (access_leaves env (Some base) off count) (Some OutOfRegion) (cond (is_number (Some base)) (Some NotPointer) None)
+store_trap env base off count = cond (access_leaves env (Some base) off count) (Some OutOfRegion)
+    (cond (is_number (Some base)) (Some NotPointer) None)
 
-store_word_told : (env : Setting) (size : Size) (base : Word) (off : ℤ) (n : ℕ) (b : Bytes) → result_err (store env size base off n b) ≡ store_trap env base off (access_bytes size)
+store_word_told : (env : Setting) (size : Size) (base : Word) (off : ℤ) (n : ℕ) (b : Bytes)
+    → result_err (store env size base off n b) ≡ store_trap env base off (access_bytes size)
 store_word_told env size (Num m) off n b = refl
 store_word_told env size (Ptr region offset) off n b =
     elim (int_case (pos offset +ℤ off)) [
       | is_neg m z ↦ rw z refl
-      | is_pos m z ↦ elim (bool_case (nat_le (m + access_bytes size) (region_size env.shape region))) [ yes g ↦ rw (z, g) refl | no g ↦ rw (z, g) refl ]
+      | is_pos m z ↦ elim (bool_case (nat_le (m + access_bytes size) (region_size env.shape region)))
+          [ yes g ↦ rw (z, g) refl | no g ↦ rw (z, g) refl ]
     ]
 
-store_register_told : (program : List Insn) (env : Setting) (size : Size) (base : Reg) (off : ℤ) (src : Reg) (s : MachineState) → IsTold program env (i.StoreReg size base off src) s
+store_register_told : (program : List Insn) (env : Setting) (size : Size) (base : Reg) (off : ℤ) (src : Reg)
+    (s : MachineState) → IsTold program env (i.StoreReg size base off src) s
 store_register_told program env size base off src s =
     elim (bool_case (Next program s)) [
       | no next ↦ rw next refl
@@ -358,19 +423,25 @@ store_register_told program env size base off src s =
           ]
     ]
   where
-    by_value : Next program s ≡ true → (a : Word) → get s.frame.registers (register_number base) ≡ Some a → IsTold program env (i.StoreReg size base off src) s
+    by_value : Next program s ≡ true → (a : Word) → get s.frame.registers (register_number base) ≡ Some a
+        → IsTold program env (i.StoreReg size base off src) s
     by_value next a e =
         elim (word_case (get s.frame.registers (register_number src))) [
           | unset v ↦ rw (next, e, v) refl
           | place r m v ↦ rw (next, e, v) refl
           | number m v ↦
               elim (outcome (store env size a off m (record { frame = s.frame; memory = s.memory }))) [
-                | gives b l ↦ rw (next, e, v, l) (ap result_err (sym l) ∙ store_word_told env size a off m (record { frame = s.frame; memory = s.memory }))
-                | fails k l ↦ rw (next, e, v, l) (ap result_err (sym l) ∙ store_word_told env size a off m (record { frame = s.frame; memory = s.memory }))
+                | gives b l ↦ rw (next, e, v, l)
+                    (ap result_err (sym l) ∙ store_word_told env size a off m
+                    (record { frame = s.frame; memory = s.memory }))
+                | fails k l ↦ rw (next, e, v, l)
+                    (ap result_err (sym l) ∙ store_word_told env size a off m
+                    (record { frame = s.frame; memory = s.memory }))
               ]
         ]
 
-store_immediate_told : (program : List Insn) (env : Setting) (size : Size) (base : Reg) (off imm : ℤ) (s : MachineState) → IsTold program env (i.StoreImm size base off imm) s
+store_immediate_told : (program : List Insn) (env : Setting) (size : Size) (base : Reg) (off imm : ℤ)
+    (s : MachineState) → IsTold program env (i.StoreImm size base off imm) s
 store_immediate_told program env size base off imm s =
     elim (bool_case (Next program s)) [
       | no next ↦ rw next refl
@@ -382,21 +453,24 @@ store_immediate_told program env size base off imm s =
                 elim (int_case (pos offset +ℤ off)) [
                   | is_neg n z ↦ rw (next, e, z) refl
                   | is_pos n z ↦
-                      elim (bool_case (nat_le (n + access_bytes size) (region_size env.shape region))) [ yes f ↦ rw (next, e, z, f) refl | no f ↦ rw (next, e, z, f) refl ]
+                      elim (bool_case (nat_le (n + access_bytes size) (region_size env.shape region)))
+                      [ yes f ↦ rw (next, e, z, f) refl | no f ↦ rw (next, e, z, f) refl ]
                 ]
           ]
     ]
 
 -- ---- calls
 
-helper_told : (program : List Insn) (env : Setting) (id : ℤ) (helper : Helper) (s : MachineState) → Next program s ≡ true → helper_of id ≡ Some helper → IsTold program env (i.Call id) s
+helper_told : (program : List Insn) (env : Setting) (id : ℤ) (helper : Helper) (s : MachineState)
+    → Next program s ≡ true → helper_of id ≡ Some helper → IsTold program env (i.Call id) s
 helper_told program env id Id s next h = rw (next, h) refl
 helper_told program env id Coin s next h = rw (next, h) refl
 helper_told program env id Recv s next h =
     elim (word_case (get s.frame.registers 1)) [
       | unset e ↦ rw (next, h, e) refl
       | place q n e ↦ rw (next, h, e) refl
-      | number n e ↦ elim (bool_case (nat_lt n env.shape.nodes)) [ yes f ↦ rw (next, h, e, f) refl | no f ↦ rw (next, h, e, f) refl ]
+      | number n e ↦ elim (bool_case (nat_lt n env.shape.nodes))
+          [ yes f ↦ rw (next, h, e, f) refl | no f ↦ rw (next, h, e, f) refl ]
     ]
 helper_told program env id Send s next h =
     elim (word_case (get s.frame.registers 1)) [
@@ -410,11 +484,13 @@ helper_told program env id Send s next h =
       | number n e ↦
           elim (word_case (get s.frame.registers 2)) [
             | unset v ↦ rw (next, h, e, v) refl
-            | place r m v ↦ elim (bool_case (nat_lt n env.shape.nodes)) [ yes f ↦ rw (next, h, e, v, f) refl | no f ↦ rw (next, h, e, v, f) refl ]
+            | place r m v ↦ elim (bool_case (nat_lt n env.shape.nodes))
+                [ yes f ↦ rw (next, h, e, v, f) refl | no f ↦ rw (next, h, e, v, f) refl ]
             | number m v ↦
                 elim (bool_case (nat_lt n env.shape.nodes)) [
                   | no f ↦ rw (next, h, e, v, f) refl
-                  | yes f ↦ elim (bool_case (nat_lt m (2 ^ 32))) [ yes g ↦ rw (next, h, e, v, f, g) refl | no g ↦ rw (next, h, e, v, f, g) refl ]
+                  | yes f ↦ elim (bool_case (nat_lt m (2 ^ 32)))
+                      [ yes g ↦ rw (next, h, e, v, f, g) refl | no g ↦ rw (next, h, e, v, f, g) refl ]
                 ]
           ]
     ]
@@ -432,7 +508,8 @@ call_told program env id s =
 
 -- ---- every form
 
-pub insn_told : (program : List Insn) (env : Setting) (insn : Insn) (s : MachineState) → length s.memory ≡ env.shape.memory → IsTold program env insn s
+pub insn_told : (program : List Insn) (env : Setting) (insn : Insn) (s : MachineState)
+    → length s.memory ≡ env.shape.memory → IsTold program env insn s
 insn_told program env (i.Alu op width dst src) s whole = alu_told program env op width dst src s
 insn_told program env (i.Neg width dst) s whole = neg_told program env width dst s
 insn_told program env (i.Movsx kind dst src) s whole = movsx_told program env kind dst src s

@@ -28,7 +28,8 @@ fn call_helper(
     helper: Helper,
 ) -> Result<(), TrapKind>
     requires { outbox.old.nodes ≡ env.now.shape.nodes }
-    ensures does { Does (call_helper env.now helper (calls_of state.old outbox.old.sent)) (calls_of state.old outbox.old.sent) (calls_of state.new outbox.new.sent) result }
+    ensures does { Does (call_helper env.now helper (calls_of state.old outbox.old.sent))
+        (calls_of state.old outbox.old.sent) (calls_of state.new outbox.new.sent) result }
     ensures nodes { outbox.new.nodes ≡ outbox.old.nodes }
 {
     let nodes = u64::from(env.shape().nodes());
@@ -55,7 +56,8 @@ fn call_helper(
 /// Calls the helper of a number.
 pub fn call(env: &Env, state: &mut State, outbox: &mut Outbox, id: i32) -> Result<(), TrapKind>
     requires { outbox.old.nodes ≡ env.now.shape.nodes }
-    ensures does { Does (call env.now id (calls_of state.old outbox.old.sent)) (calls_of state.old outbox.old.sent) (calls_of state.new outbox.new.sent) result }
+    ensures does { Does (call env.now id (calls_of state.old outbox.old.sent)) (calls_of state.old outbox.old.sent)
+        (calls_of state.new outbox.new.sent) result }
     ensures nodes { outbox.new.nodes ≡ outbox.old.nodes }
 {
     let helper = Helper::of(id).ok_or(TrapKind::BadHelper)?;

@@ -16,25 +16,34 @@ ghost use Rattle.bpf_machine.specs.Sound.{IsSound, IsSoundEnd};
 
 /// A state has at most one successor, and a program at most one complete run and, with given fuel, one answer.
 pub fn one_run()
-    ensures successor { (program : List Insn) (env : Setting) (s t u : Phase) → Steps program env s t → Steps program env s u → t ≡ u }
-    ensures complete { (program : List Insn) (env : Setting) (memory : List ℕ) (first second : End) → CompleteRun program env memory first → CompleteRun program env memory second → first ≡ second }
-    ensures answer { (program : List Insn) (env : Setting) (memory : List ℕ) (fuel : ℕ) (left right : List ℕ) (sent gone : FinMap nat_cmp ℕ) (first second : Outcome) → RunAnswers program env memory fuel left sent first → RunAnswers program env memory fuel right gone second → (first ≡ second) × (left ≡ right) × (sent ≡ gone) }
+    ensures successor { (program : List Insn) (env : Setting) (s t u : Phase) → Steps program env s t
+        → Steps program env s u → t ≡ u }
+    ensures complete { (program : List Insn) (env : Setting) (memory : List ℕ) (first second : End)
+        → CompleteRun program env memory first → CompleteRun program env memory second → first ≡ second }
+    ensures answer { (program : List Insn) (env : Setting) (memory : List ℕ) (fuel : ℕ) (left right : List ℕ)
+        (sent gone : FinMap nat_cmp ℕ) (first second : Outcome) → RunAnswers program env memory fuel left sent first
+        → RunAnswers program env memory fuel right gone second → (first ≡ second) × (left ≡ right) × (sent ≡ gone) }
 {}
 
 /// A state has no successor exactly where a trap applies, and the lowest is told.
 pub fn stuck_by_traps()
     ensures exactly { (program : List Insn) (env : Setting) (s : MachineState) → length s.memory ≡ env.shape.memory →
         (HasNoSuccessor program env s ↔ HasTrap program env s) }
-    ensures stuck { (program : List Insn) (env : Setting) (s : MachineState) (kind : TrapKind) → length s.memory ≡ env.shape.memory → IsLowestTrap program env s kind → IsStuck program env s kind }
-    ensures free { (program : List Insn) (env : Setting) (s : MachineState) → length s.memory ≡ env.shape.memory → ((kind : TrapKind) → applies kind program env s ≡ false) → (t : Phase) × Steps program env (Running s) t }
+    ensures stuck { (program : List Insn) (env : Setting) (s : MachineState) (kind : TrapKind)
+        → length s.memory ≡ env.shape.memory → IsLowestTrap program env s kind → IsStuck program env s kind }
+    ensures free { (program : List Insn) (env : Setting) (s : MachineState) → length s.memory ≡ env.shape.memory
+        → ((kind : TrapKind) → applies kind program env s ≡ false) → (t : Phase) × Steps program env (Running s) t }
 {}
 
-/// What every state of a run is: memory of the shape's length, bytes, words and numbers sent in their ranges, and a slot where an
-/// instruction begins.
+/// What every state of a run is: memory of the shape's length, bytes, words and numbers sent in their ranges, and a
+/// slot where an instruction begins.
 pub fn stays_sound()
-    ensures entry { (env : Setting) (memory : List ℕ) → IsSetting env → length memory ≡ env.shape.memory → All (λ byte. byte < 256) memory → IsSound env (entry env memory) }
-    ensures step { (program : List Insn) (env : Setting) (s t : MachineState) → IsProgram program → IsSetting env → IsSound env s → Steps program env (Running s) (Running t) → IsSound env t }
-    ensures begins { (program : List Insn) (env : Setting) (s t : MachineState) → Steps program env (Running s) (Running t) → BeginsAt program t.frame.slot }
+    ensures entry { (env : Setting) (memory : List ℕ) → IsSetting env → length memory ≡ env.shape.memory
+        → All (λ byte. byte < 256) memory → IsSound env (entry env memory) }
+    ensures step { (program : List Insn) (env : Setting) (s t : MachineState) → IsProgram program → IsSetting env
+        → IsSound env s → Steps program env (Running s) (Running t) → IsSound env t }
+    ensures begins { (program : List Insn) (env : Setting) (s t : MachineState)
+        → Steps program env (Running s) (Running t) → BeginsAt program t.frame.slot }
 {}
 
 /// So many steps and then so many are as many as both together.

@@ -40,8 +40,9 @@ fn run(program: &Program, env: &Env, memory: &mut [u8], outbox: &mut Outbox, fue
     Outcome::OutOfFuel
 }
 
-/// Runs a program from its entry for at most `fuel` steps (docs/MACHINE.md). The outbox is emptied first. After a trap and where
-/// the fuel runs out, memory and outbox hold what the steps before wrote. `memory` is the node's, and `outbox` has a slot for each node.
+/// Runs a program from its entry for at most `fuel` steps (docs/MACHINE.md). The outbox is emptied first. After a
+/// trap and where the fuel runs out, memory and outbox hold what the steps before wrote. `memory` is the node's,
+/// and `outbox` has a slot for each node.
 pub fn run_checked(
     program: &Program,
     env: &Env,
@@ -52,7 +53,9 @@ pub fn run_checked(
     requires memory { length memory.old ≡ env.now.shape.memory }
     requires nodes { outbox.old.nodes ≡ env.now.shape.nodes }
     ensures run { RunAnswers program.now env.now memory.old fuel memory.new outbox.new.sent result }
-    ensures only { (left : List ℕ) (sent : FinMap nat_cmp ℕ) (answer : Outcome) → RunAnswers program.now env.now memory.old fuel left sent answer → (result ≡ answer) × (memory.new ≡ left) × (outbox.new.sent ≡ sent) }
+    ensures only { (left : List ℕ) (sent : FinMap nat_cmp ℕ) (answer : Outcome)
+        → RunAnswers program.now env.now memory.old fuel left sent answer
+        → (result ≡ answer) × (memory.new ≡ left) × (outbox.new.sent ≡ sent) }
     ensures nodes { outbox.new.nodes ≡ outbox.old.nodes }
 {
     run(program, env, memory, outbox, fuel)

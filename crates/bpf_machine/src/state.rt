@@ -37,7 +37,11 @@ impl Model for State {
 
     ghost coded = { frame_code word.the_row.coded };
 
-    ghost view = { λ s. record { slot = s.slot; registers = map_of s.registers; stack = written_bytes s.stack s.written } };
+    ghost view = { λ s. record {
+      slot = s.slot;
+      registers = map_of s.registers;
+      stack = written_bytes s.stack s.written;
+    } };
 }
 
 impl State {

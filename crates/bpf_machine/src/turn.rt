@@ -82,7 +82,8 @@ fn advance(
     requires within { state.old.slot + slots_taken insn.now ≤ MAX_SLOTS }
     requires memory { length memory.old ≡ env.now.shape.memory }
     requires nodes { outbox.old.nodes ≡ env.now.shape.nodes }
-    ensures does { Does (advance program.now env.now insn.now (state_of state.old memory.old outbox.old.sent)) (state_of state.old memory.old outbox.old.sent) (state_of state.new memory.new outbox.new.sent) result }
+    ensures does { Does (advance program.now env.now insn.now (state_of state.old memory.old outbox.old.sent))
+        (state_of state.old memory.old outbox.old.sent) (state_of state.new memory.new outbox.new.sent) result }
     ensures nodes { outbox.new.nodes ≡ outbox.old.nodes }
 {
     let slot = state.slot();
@@ -196,7 +197,8 @@ fn turn(
 ) -> Turn
     requires memory { length memory.old ≡ env.now.shape.memory }
     requires nodes { outbox.old.nodes ≡ env.now.shape.nodes }
-    ensures comes { Comes (step program.now env.now (state_of state.old memory.old outbox.old.sent)) (state_of state.old memory.old outbox.old.sent) (state_of state.new memory.new outbox.new.sent) result }
+    ensures comes { Comes (step program.now env.now (state_of state.old memory.old outbox.old.sent))
+        (state_of state.old memory.old outbox.old.sent) (state_of state.new memory.new outbox.new.sent) result }
     ensures nodes { outbox.new.nodes ≡ outbox.old.nodes }
 {
     match program.at(state.slot()) {
@@ -223,7 +225,8 @@ pub fn step(
 ) -> Turn
     requires memory { length memory.old ≡ env.now.shape.memory }
     requires nodes { outbox.old.nodes ≡ env.now.shape.nodes }
-    ensures turns { Turns program.now env.now (state_of state.old memory.old outbox.old.sent) (state_of state.new memory.new outbox.new.sent) result }
+    ensures turns { Turns program.now env.now (state_of state.old memory.old outbox.old.sent)
+        (state_of state.new memory.new outbox.new.sent) result }
     ensures nodes { outbox.new.nodes ≡ outbox.old.nodes }
 {
     turn(program, env, state, memory, outbox)

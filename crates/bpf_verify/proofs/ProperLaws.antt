@@ -217,7 +217,8 @@ entry_proper shape = record { kinds = λ number. by (number == 1) (number == 2) 
   where
     by : (a b c : Bool)
         → IsProperKind
-        (if a then Pointer Mem (span 0 0) else if b then Number (span 0 (shape.nodes - 1)) else if c then stack_base else Unset)
+        (if a then Pointer Mem (span 0 0) else if b then Number
+        (span 0 (shape.nodes - 1)) else if c then stack_base else Unset)
     by true b c = record { ordered = omega arith }
     by false true c = record { ordered = omega arith }
     by false false true = record { ordered = omega arith }

@@ -19,14 +19,16 @@ use Rattle.bpf_verify.specs.States.{AbstractState}
 use Rattle.bpf_verify.specs.Rules.{lacks, is_negative, goes_back, is_astray, leads_astray, breaks, KeepsRules, lowest_broken}
 
 -- a byte that is written tells nothing of those after it
-pub lacks_past : (A : AbstractState) (place end : ℕ) → place < end → A.written place ≡ true → lacks A place (end - place) ≡ lacks A (place + 1) (end - (place + 1))
+pub lacks_past : (A : AbstractState) (place end : ℕ) → place < end → A.written place ≡ true
+    → lacks A place (end - place) ≡ lacks A (place + 1) (end - (place + 1))
 lacks_past A place end before written =
     let count : end - place ≡ suc (end - (place + 1)) = omega arith in
     rw (count, written) refl
 
 -- ---- the lowest rule that is broken
 
-first_none : (b : Bool) (rule : Rule) (rest : Option Rule) → cond b (Some rule) rest ≡ None → (b ≡ false) × (rest ≡ None)
+first_none : (b : Bool) (rule : Rule) (rest : Option Rule) → cond b (Some rule) rest ≡ None
+    → (b ≡ false) × (rest ≡ None)
 first_none true rule rest e = absurd cc
 first_none false rule rest e = (refl, e)
 
@@ -50,7 +52,8 @@ keeps_rules program shape slot insn state e =
     test : Rule → Bool
     test rule = breaks rule program shape slot insn state
 
-    by : test NotForward ≡ false → test BadTarget ≡ false → test UnknownHelper ≡ false → test UnsetRegister ≡ false → test FrameWrite ≡ false
+    by : test NotForward ≡ false → test BadTarget ≡ false → test UnknownHelper ≡ false → test UnsetRegister ≡ false
+        → test FrameWrite ≡ false
         → test PointerMisuse ≡ false → test OutOfRegion ≡ false → test UnsetStackByte ≡ false → test BadArgument ≡ false
         → test ExitNotNumber ≡ false → test NotPointer ≡ false → (rule : Rule) → test rule ≡ false
     by a b c d f g h j k l m NotForward = a
@@ -68,7 +71,19 @@ keeps_rules program shape slot insn state e =
 pub none_broken : (program : List Insn) (shape : Extent) (slot : ℕ) (insn : Insn) (state : Option AbstractState)
     → KeepsRules program shape slot insn state → lowest_broken program shape slot insn state ≡ None
 none_broken program shape slot insn state kept =
-    rw (kept NotForward, kept BadTarget, kept UnknownHelper, kept UnsetRegister, kept FrameWrite, kept PointerMisuse, kept OutOfRegion, kept UnsetStackByte, kept BadArgument, kept ExitNotNumber, kept NotPointer) refl
+    rw (
+      kept NotForward,
+      kept BadTarget,
+      kept UnknownHelper,
+      kept UnsetRegister,
+      kept FrameWrite,
+      kept PointerMisuse,
+      kept OutOfRegion,
+      kept UnsetStackByte,
+      kept BadArgument,
+      kept ExitNotNumber,
+      kept NotPointer,
+    ) refl
 
 -- ---- where the ways lead
 
@@ -84,11 +99,16 @@ astray_begins program to e = by (insn_at program to) e
     by (Some insn) e = refl
 
 -- each way leads to an instruction
-pub way_begins : (program : List Insn) (slot to : ℕ) (insn : Insn) (way : Way) → leads_astray program slot insn ≡ false → target insn slot way ≡ Some to → BeginsAt program to
+pub way_begins : (program : List Insn) (slot to : ℕ) (insn : Insn) (way : Way) → leads_astray program slot insn ≡ false
+    → target insn slot way ≡ Some to → BeginsAt program to
 way_begins program slot to insn Onward kept goes =
-    astray_begins program to (ap (is_astray program) (sym goes) ∙ (or_false (is_astray program (target insn slot Onward)) (is_astray program (target insn slot Jumping)) kept).0)
+    astray_begins program to (ap (is_astray program) (sym goes)
+    ∙ (or_false (is_astray program (target insn slot Onward))
+    (is_astray program (target insn slot Jumping)) kept).0)
 way_begins program slot to insn Jumping kept goes =
-    astray_begins program to (ap (is_astray program) (sym goes) ∙ (or_false (is_astray program (target insn slot Onward)) (is_astray program (target insn slot Jumping)) kept).1)
+    astray_begins program to (ap (is_astray program) (sym goes)
+    ∙ (or_false (is_astray program (target insn slot Onward))
+    (is_astray program (target insn slot Jumping)) kept).1)
 
 pub begins_within : (program : List Insn) (slot : ℕ) → BeginsAt program slot → slot < slots_of program
 begins_within program slot begins =
@@ -109,7 +129,8 @@ pub here_within : (program : List Insn) (slot : ℕ) (i : Insn) → insn_at prog
 here_within program slot i e = begins_within program slot (begins_here program slot i e)
 
 -- a jump that isn't negative leads forward
-pub jumps_forward : (insn : Insn) (slot to : ℕ) → goes_back insn ≡ false → target insn slot Jumping ≡ Some to → slot < to
+pub jumps_forward : (insn : Insn) (slot to : ℕ) → goes_back insn ≡ false → target insn slot Jumping ≡ Some to
+    → slot < to
 jumps_forward insn slot to kept goes = by (distance insn) refl
   where
     by : (o : Option ℤ) → distance insn ≡ o → slot < to
@@ -118,21 +139,29 @@ jumps_forward insn slot to kept goes = by (distance insn) refl
         none : (o : Option ℕ) → o ≡ None → o ≡ Some to → ⊥
         none None e f = absurd cc
         none (Some n) e f = absurd cc
-    by (Some (pos n)) e = omega (arith, same_Some (slot + 1 + n) to (sym (jumps_by_distance insn slot (pos n) e) ∙ goes))
+    by (Some (pos n)) e = omega (
+      arith,
+      same_Some (slot + 1 + n) to
+          (sym (jumps_by_distance insn slot (pos n) e) ∙ goes),
+    )
     by (Some (negsuc n)) e = absurd (told (is_negative (distance insn)) (ap is_negative e) kept)
       where
         told : (b : Bool) → b ≡ true → b ≡ false → ⊥
         told true e f = absurd cc
         told false e f = absurd cc
 
-pub jump_within : (program : List Insn) (shape : Extent) (slot count : ℕ) (insn : Insn) (state : Option AbstractState) → KeepsRules program shape slot insn state
+pub jump_within : (program : List Insn) (shape : Extent) (slot count : ℕ) (insn : Insn) (state : Option AbstractState)
+    → KeepsRules program shape slot insn state
     → count ≡ slots_of program → IfSome (target insn slot Jumping) (λ to. (slot < to) × (to < count))
 jump_within program shape slot count insn state kept long = by (target insn slot Jumping) refl
   where
     by : (goal : Option ℕ) → target insn slot Jumping ≡ goal → IfSome goal (λ to. (slot < to) × (to < count))
     by None e = tt
-    by (Some to) e =
-        (jumps_forward insn slot to (kept NotForward) e, omega (arith, long, begins_within program to (way_begins program slot to insn Jumping (kept BadTarget) e)))
+    by (Some to) e = (
+      jumps_forward insn slot to (kept NotForward) e,
+      omega
+          (arith, long, begins_within program to (way_begins program slot to insn Jumping (kept BadTarget) e)),
+    )
 
 -- the way onward leads past all slots of the instruction
 pub onward_next : (insn : Insn) (slot to : ℕ) → target insn slot Onward ≡ Some to → to ≡ slot + slots_taken insn

@@ -45,12 +45,14 @@ unset_grows k Unset p e = absurd cc
 unset_grows k (Number b) (a, is, inside) e = rw is refl
 unset_grows k (Pointer region b) (a, is, inside) e = rw is refl
 
-pointer_grows : (k l : Kind) → IsKindIn k l → is_unset_kind l ≡ false → is_pointer_kind l ≡ false → is_pointer_kind k ≡ false
+pointer_grows : (k l : Kind) → IsKindIn k l → is_unset_kind l ≡ false → is_pointer_kind l ≡ false
+    → is_pointer_kind k ≡ false
 pointer_grows k Unset p e f = absurd cc
 pointer_grows k (Number b) (a, is, inside) e f = rw is refl
 pointer_grows k (Pointer region b) p e f = absurd cc
 
-number_grows : (k l : Kind) → IsKindIn k l → is_unset_kind l ≡ false → is_number_kind l ≡ false → is_number_kind k ≡ false
+number_grows : (k l : Kind) → IsKindIn k l → is_unset_kind l ≡ false → is_number_kind l ≡ false
+    → is_number_kind k ≡ false
 number_grows k Unset p e f = absurd cc
 number_grows k (Number b) p e f = absurd cc
 number_grows k (Pointer region b) (a, is, inside) e f = rw is refl
@@ -66,25 +68,29 @@ lt_of a b e = elim (cases_lt a b) [ inl h ↦ h | inr h ↦ absurd (apart (nat_l
     apart true f g = absurd cc
     apart false f g = absurd cc
 
-below_grows : (limit : ℕ) (k l : Kind) → IsKindIn k l → is_unset_kind l ≡ false → may_reach limit l ≡ false → may_reach limit k ≡ false
+below_grows : (limit : ℕ) (k l : Kind) → IsKindIn k l → is_unset_kind l ≡ false → may_reach limit l ≡ false
+    → may_reach limit k ≡ false
 below_grows limit k Unset p e f = absurd cc
 below_grows limit k (Number b) (a, is, inside) e f =
     let h = lt_of b.hi limit (not_false (nat_lt b.hi limit) f) in
     rw (is, lt-ltb a.hi limit (omega (arith, inside.high))) refl
 below_grows limit k (Pointer region b) p e f = absurd cc
 
-pub operand_in : (width : Width) (src : Operand) (A C : AbstractState) → IsContainedIn A C → IsKindIn (operand_kind width src A) (operand_kind width src C)
+pub operand_in : (width : Width) (src : Operand) (A C : AbstractState) → IsContainedIn A C
+    → IsKindIn (operand_kind width src A) (operand_kind width src C)
 operand_in width (operand.Imm imm) A C p = kind_in_itself (operand_kind width (operand.Imm imm) A)
 operand_in width (operand.Reg register) A C p = p.kinds (register_number register)
 
 abbrev pub Unread : AbstractState → List Reg → Type 0
 Unread C registers = some_unset C registers ≡ false
 
-pub operand_set : (width : Width) (src : Operand) (C : AbstractState) → Unread C (operand_reads src) → is_unset_kind (operand_kind width src C) ≡ false
+pub operand_set : (width : Width) (src : Operand) (C : AbstractState) → Unread C (operand_reads src)
+    → is_unset_kind (operand_kind width src C) ≡ false
 operand_set width (operand.Imm imm) C e = refl
 operand_set width (operand.Reg register) C e = (or_false (is_unset_kind (kind_of C register)) false e).0
 
-pub one_set : (C : AbstractState) (register : Reg) (rest : List Reg) → Unread C (register ∷ rest) → is_unset_kind (kind_of C register) ≡ false
+pub one_set : (C : AbstractState) (register : Reg) (rest : List Reg) → Unread C (register ∷ rest)
+    → is_unset_kind (kind_of C register) ≡ false
 one_set C register rest e = (or_false (is_unset_kind (kind_of C register)) _ e).0
 
 pub rest_set : (C : AbstractState) (register : Reg) (rest : List Reg) → Unread C (register ∷ rest) → Unread C rest
@@ -94,19 +100,22 @@ all_set : (A C : AbstractState) (registers : List Reg) → IsContainedIn A C →
 all_set A C [] p e = refl
 all_set A C (register ∷ rest) p e =
     both_false (is_unset_kind (kind_of A register)) (some_unset A rest)
-    (unset_grows (kind_of A register) (kind_of C register) (p.kinds (register_number register)) (one_set C register rest e))
+    (unset_grows (kind_of A register) (kind_of C register) (p.kinds (register_number register))
+    (one_set C register rest e))
     (all_set A C rest p (rest_set C register rest e))
 
 -- ---- pointers
 
-passes_grows : (shape : Extent) (op : AluOp) (region : _) (a b c d : Span) → HasMembers a → HasMembers b → IsInside a c → IsInside b d
+passes_grows : (shape : Extent) (op : AluOp) (region : _) (a b c d : Span) → HasMembers a → HasMembers b → IsInside a c
+    → IsInside b d
     → passes shape region (alu_of op W64 c d) ≡ false → passes shape region (alu_of op W64 a b) ≡ false
 passes_grows shape op region a b c d m n p q e =
     let less = alu_grows op W64 a b c d m n p q in
     let within = ltb-false (region_size shape region) (alu_of op W64 c d).hi e in
     le-ltb (region_size shape region) (alu_of op W64 a b).hi (omega (arith, less.high))
 
-sum_grows : (shape : Extent) (k l m n : Kind) → IsProperKind k → IsProperKind l → IsKindIn k m → IsKindIn l n → is_unset_kind m ≡ false → is_unset_kind n ≡ false
+sum_grows : (shape : Extent) (k l m n : Kind) → IsProperKind k → IsProperKind l → IsKindIn k m → IsKindIn l n
+    → is_unset_kind m ≡ false → is_unset_kind n ≡ false
     → misuses_sum shape m n ≡ false → misuses_sum shape k l ≡ false
 sum_grows shape k l Unset n x y p q e f g = absurd cc
 sum_grows shape k l (Number c) Unset x y p q e f g = absurd cc
@@ -118,7 +127,8 @@ sum_grows shape k l (Pointer region c) (Number d) x y (a, is, p) (b, js, q) e f 
     rw (is, js) (passes_grows shape Add region a b c d (subst IsProperKind is x) (subst IsProperKind js y) p q g)
 sum_grows shape k l (Pointer region c) (Pointer other d) x y p q e f g = absurd cc
 
-difference_grows : (shape : Extent) (k l m n : Kind) → IsProperKind k → IsProperKind l → IsKindIn k m → IsKindIn l n → is_unset_kind m ≡ false → is_unset_kind n ≡ false
+difference_grows : (shape : Extent) (k l m n : Kind) → IsProperKind k → IsProperKind l → IsKindIn k m → IsKindIn l n
+    → is_unset_kind m ≡ false → is_unset_kind n ≡ false
     → misuses_difference shape m n ≡ false → misuses_difference shape k l ≡ false
 difference_grows shape k l Unset n x y p q e f g = absurd cc
 difference_grows shape k l (Number c) Unset x y p q e f g = absurd cc
@@ -147,20 +157,26 @@ module _ (shape : Extent) (A C : AbstractState) (proper : IsProper A) (p : IsCon
   proper_operand width (operand.Reg register) = proper_of register
 
   plain : (width : Width) (dst : Reg) (src : Operand) → Unread C (dst ∷ operand_reads src)
-      → (is_pointer_kind (kind_of C dst) || is_pointer_kind (operand_kind width src C)) ≡ false → (is_pointer_kind (kind_of A dst) || is_pointer_kind (operand_kind width src A)) ≡ false
+      → (is_pointer_kind (kind_of C dst) || is_pointer_kind (operand_kind width src C)) ≡ false
+      → (is_pointer_kind (kind_of A dst) || is_pointer_kind (operand_kind width src A)) ≡ false
   plain width dst src e g =
-      plain_grows (kind_of A dst) (operand_kind width src A) (kind_of C dst) (operand_kind width src C) (kind_in dst) (operand_in width src A C p)
+      plain_grows (kind_of A dst) (operand_kind width src A) (kind_of C dst) (operand_kind width src C) (kind_in dst)
+      (operand_in width src A C p)
       (one_set C dst (operand_reads src) e) (operand_set width src C (rest_set C dst (operand_reads src) e)) g
 
   alu_misuse : (op : AluOp) (width : Width) (dst : Reg) (src : Operand) → Unread C (alu_reads op dst src)
-      → misuses_operands shape op width (kind_of C dst) (operand_kind width src C) ≡ false → misuses_operands shape op width (kind_of A dst) (operand_kind width src A) ≡ false
+      → misuses_operands shape op width (kind_of C dst) (operand_kind width src C) ≡ false
+      → misuses_operands shape op width (kind_of A dst) (operand_kind width src A) ≡ false
   alu_misuse Mov W64 dst src e g = refl
-  alu_misuse Mov W32 dst src e g = pointer_grows (operand_kind W32 src A) (operand_kind W32 src C) (operand_in W32 src A C p) (operand_set W32 src C e) g
+  alu_misuse Mov W32 dst src e g = pointer_grows (operand_kind W32 src A) (operand_kind W32 src C)
+      (operand_in W32 src A C p) (operand_set W32 src C e) g
   alu_misuse Add W64 dst src e g =
-      sum_grows shape (kind_of A dst) (operand_kind W64 src A) (kind_of C dst) (operand_kind W64 src C) (proper_of dst) (proper_operand W64 src) (kind_in dst) (operand_in W64 src A C p)
+      sum_grows shape (kind_of A dst) (operand_kind W64 src A) (kind_of C dst) (operand_kind W64 src C) (proper_of dst)
+      (proper_operand W64 src) (kind_in dst) (operand_in W64 src A C p)
       (one_set C dst (operand_reads src) e) (operand_set W64 src C (rest_set C dst (operand_reads src) e)) g
   alu_misuse Sub W64 dst src e g =
-      difference_grows shape (kind_of A dst) (operand_kind W64 src A) (kind_of C dst) (operand_kind W64 src C) (proper_of dst) (proper_operand W64 src) (kind_in dst) (operand_in W64 src A C p)
+      difference_grows shape (kind_of A dst) (operand_kind W64 src A) (kind_of C dst) (operand_kind W64 src C)
+      (proper_of dst) (proper_operand W64 src) (kind_in dst) (operand_in W64 src A C p)
       (one_set C dst (operand_reads src) e) (operand_set W64 src C (rest_set C dst (operand_reads src) e)) g
   alu_misuse Add W32 dst src e g = plain W32 dst src e g
   alu_misuse Sub W32 dst src e g = plain W32 dst src e g
@@ -176,10 +192,13 @@ module _ (shape : Extent) (A C : AbstractState) (proper : IsProper A) (p : IsCon
   alu_misuse Xor width dst src e g = plain width dst src e g
   alu_misuse Arsh width dst src e g = plain width dst src e g
 
-  one_pointer : (register : Reg) (rest : List Reg) → Unread C (register ∷ rest) → is_pointer_kind (kind_of C register) ≡ false → is_pointer_kind (kind_of A register) ≡ false
-  one_pointer register rest e g = pointer_grows (kind_of A register) (kind_of C register) (kind_in register) (one_set C register rest e) g
+  one_pointer : (register : Reg) (rest : List Reg) → Unread C (register ∷ rest)
+      → is_pointer_kind (kind_of C register) ≡ false → is_pointer_kind (kind_of A register) ≡ false
+  one_pointer register rest e g = pointer_grows (kind_of A register) (kind_of C register) (kind_in register)
+      (one_set C register rest e) g
 
-  misuse : (insn : Insn) → reads_unset insn C ≡ false → may_misuse_pointer shape insn C ≡ false → may_misuse_pointer shape insn A ≡ false
+  misuse : (insn : Insn) → reads_unset insn C ≡ false → may_misuse_pointer shape insn C ≡ false
+      → may_misuse_pointer shape insn A ≡ false
   misuse (i.Alu op width dst src) e g = alu_misuse op width dst src e g
   misuse (i.Neg width dst) e g = one_pointer dst [] e g
   misuse (i.Movsx kind dst src) e g = one_pointer src [] e g
@@ -204,7 +223,8 @@ moved_up a b (negsuc n) m h e = by (cases_lt n a)
   where
     by : (n < a) ⊎ (a ≤ n) → (k : ℕ) × (moved b (negsuc n) ≡ Some k) × (m ≤ k)
     by (inl low) =
-        let found : ◌≡◌ {A = Option ℕ} (Some (a - suc n)) (Some m) = sym (ap (λ t. if t then Some (a - suc n) else None) (lt-ltb n a low)) ∙ e in
+        let found : ◌≡◌ {A = Option ℕ} (Some (a - suc n)) (Some m) = sym
+        (ap (λ t. if t then Some (a - suc n) else None) (lt-ltb n a low)) ∙ e in
         (b - suc n, rw (lt-ltb n b (omega arith)) refl, omega (arith, same_Some (a - suc n) m found))
     by (inr high) = absurd (none (sym (ap (λ t. if t then Some (a - suc n) else None) (le-ltb n a high)) ∙ e))
       where
@@ -232,7 +252,8 @@ record Places (a b : Span) (off : ℤ) (count size : ℕ) : Type 0 where
   below : high' ≤ high
   inside : high + count ≤ size
 
-places : (a b : Span) (off : ℤ) (count size : ℕ) → HasMembers a → IsInside a b → may_leave size (moved b.lo off) (moved b.hi off) count ≡ false → Places a b off count size
+places : (a b : Span) (off : ℤ) (count size : ℕ) → HasMembers a → IsInside a b
+    → may_leave size (moved b.lo off) (moved b.hi off) count ≡ false → Places a b off count size
 places a b off count size members p e =
     let s = stays size (moved b.lo off) (moved b.hi off) count e in
     let x = moved_up b.lo a.lo off s.0 p.low s.2 in
@@ -253,13 +274,15 @@ places a b off count size members p e =
       inside = s.4;
     }
 
-region_grows : (shape : Extent) (k l : Kind) (off : ℤ) (count : ℕ) → IsProperKind k → IsKindIn k l → is_unset_kind l ≡ false
+region_grows : (shape : Extent) (k l : Kind) (off : ℤ) (count : ℕ) → IsProperKind k → IsKindIn k l
+    → is_unset_kind l ≡ false
     → may_leave_region shape l off count ≡ false → may_leave_region shape k off count ≡ false
 region_grows shape k Unset off count x p e f = absurd cc
 region_grows shape k (Number b) off count x (a, is, p) e f = rw is refl
 region_grows shape k (Pointer region b) off count x (a, is, p) e f =
     let at = places a b off count (region_size shape region) (subst IsProperKind is x) p f in
-    rw (is, at.first', at.last') (le-ltb (region_size shape region) (at.high' + count) (omega (arith, at.below, at.inside)))
+    rw (is, at.first', at.last') (le-ltb (region_size shape region) (at.high' + count)
+    (omega (arith, at.below, at.inside)))
 
 -- ---- written bytes
 
@@ -267,21 +290,26 @@ true_of : (b : Bool) → not b ≡ false → b ≡ true
 true_of true e = refl
 true_of false e = absurd cc
 
-all_there : (A : AbstractState) (first count : ℕ) → lacks A first count ≡ false → (byte : ℕ) → first ≤ byte → byte < first + count → A.written byte ≡ true
+all_there : (A : AbstractState) (first count : ℕ) → lacks A first count ≡ false → (byte : ℕ) → first ≤ byte
+    → byte < first + count → A.written byte ≡ true
 all_there A first zero e byte p q = absurd (omega arith)
 all_there A first (suc count) e byte p q =
     let h = or_false (not (A.written first)) (lacks A (first + 1) count) e in
     elim (cases_lt first byte) [
       | inl later ↦ all_there A (first + 1) count h.1 byte (omega arith) (omega arith)
-      | inr here ↦ let same : first ≡ byte = omega arith in subst (λ n. A.written n ≡ true) same (true_of (A.written first) h.0)
+      | inr here ↦ let same : first ≡ byte = omega arith in
+          subst (λ n. A.written n ≡ true) same (true_of (A.written first) h.0)
     ]
 
-none_lacks : (A : AbstractState) (first count : ℕ) → ((byte : ℕ) → first ≤ byte → byte < first + count → A.written byte ≡ true) → lacks A first count ≡ false
+none_lacks : (A : AbstractState) (first count : ℕ)
+    → ((byte : ℕ) → first ≤ byte → byte < first + count → A.written byte ≡ true) → lacks A first count ≡ false
 none_lacks A first zero h = refl
 none_lacks A first (suc count) h =
-    rw (h first (omega arith) (omega arith)) (none_lacks A (first + 1) count (λ byte p q. h byte (omega arith) (omega arith)))
+    rw (h first (omega arith) (omega arith)) (none_lacks A (first + 1) count
+    (λ byte p q. h byte (omega arith) (omega arith)))
 
-bytes_grow : (shape : Extent) (A C : AbstractState) (k l : Kind) (off : ℤ) (count : ℕ) → IsContainedIn A C → IsProperKind k → IsKindIn k l → is_unset_kind l ≡ false
+bytes_grow : (shape : Extent) (A C : AbstractState) (k l : Kind) (off : ℤ) (count : ℕ) → IsContainedIn A C
+    → IsProperKind k → IsKindIn k l → is_unset_kind l ≡ false
     → may_leave_region shape l off count ≡ false → lacks_byte C l off count ≡ false → lacks_byte A k off count ≡ false
 bytes_grow shape A C k Unset off count c x p e f g = absurd cc
 bytes_grow shape A C k (Number b) off count c x (a, is, p) e f g = rw is refl
@@ -289,9 +317,11 @@ bytes_grow shape A C k (Pointer Mem b) off count c x (a, is, p) e f g = rw is re
 bytes_grow shape A C k (Pointer Stack b) off count c x (a, is, p) e f g =
     let at = places a b off count (region_size shape Stack) (subst IsProperKind is x) p f in
     let whole : lacks C at.low (at.high + count - at.low) ≡ false =
-    sym (ap (λ o. lacks_between C o (moved b.hi off) count) at.first ∙ ap (λ o. lacks_between C (Some at.low) o count) at.last) ∙ g in
+    sym (ap (λ o. lacks_between C o (moved b.hi off) count) at.first
+    ∙ ap (λ o. lacks_between C (Some at.low) o count) at.last) ∙ g in
     rw (is, at.first', at.last') (none_lacks A at.low' (at.high' + count - at.low') (λ byte q r.
-    c.written byte (all_there C at.low (at.high + count - at.low) whole byte (omega (arith, at.above)) (omega (arith, at.above, at.below)))))
+    c.written byte (all_there C at.low (at.high + count - at.low) whole byte (omega (arith, at.above))
+    (omega (arith, at.above, at.below)))))
 
 -- ---- the rules
 
@@ -311,14 +341,18 @@ called_registers (Some Send) = refl
 called_registers (Some Coin) = refl
 
 module _ (shape : Extent) (A C : AbstractState) (proper : IsProper A) (p : IsContainedIn A C) where
-  on_load : (base : Reg) (off : ℤ) (count : ℕ) → is_unset_kind (kind_of C base) ≡ false → may_leave_region shape (kind_of C base) off count ≡ false → may_leave_region shape (kind_of A base) off count ≡ false
+  on_load : (base : Reg) (off : ℤ) (count : ℕ) → is_unset_kind (kind_of C base) ≡ false
+      → may_leave_region shape (kind_of C base) off count ≡ false
+      → may_leave_region shape (kind_of A base) off count ≡ false
   on_load base off count e f =
-      region_grows shape (kind_of A base) (kind_of C base) off count (proper.kinds (register_number base)) (p.kinds (register_number base)) e f
+      region_grows shape (kind_of A base) (kind_of C base) off count (proper.kinds (register_number base))
+      (p.kinds (register_number base)) e f
 
   left_false : (a : Bool) → a ≡ false → (a || false) ≡ false
   left_false a e = rw e refl
 
-  regions : (insn : Insn) → reads_unset insn C ≡ false → may_leave_regions shape insn C ≡ false → may_leave_regions shape insn A ≡ false
+  regions : (insn : Insn) → reads_unset insn C ≡ false → may_leave_regions shape insn C ≡ false
+      → may_leave_regions shape insn A ≡ false
   regions (i.Alu op width dst src) e f = refl
   regions (i.Neg width dst) e f = refl
   regions (i.Movsx kind dst src) e f = refl
@@ -329,14 +363,17 @@ module _ (shape : Extent) (A C : AbstractState) (proper : IsProper A) (p : IsCon
   regions (i.Call id) e f = refl
   regions i.Exit e f = refl
   regions (i.Load size dst base off) e f =
-      left_false _ (on_load base off (access_bytes size) (one_set C base [] e) (or_false (may_leave_region shape (kind_of C base) off (access_bytes size)) false f).0)
+      left_false _ (on_load base off (access_bytes size) (one_set C base [] e)
+      (or_false (may_leave_region shape (kind_of C base) off (access_bytes size)) false f).0)
   regions (i.LoadSx size dst base off) e f =
-      left_false _ (on_load base off (sx_access_bytes size) (one_set C base [] e) (or_false (may_leave_region shape (kind_of C base) off (sx_access_bytes size)) false f).0)
+      left_false _ (on_load base off (sx_access_bytes size) (one_set C base [] e)
+      (or_false (may_leave_region shape (kind_of C base) off (sx_access_bytes size)) false f).0)
   regions (i.StoreReg size base off src) e f = on_load base off (access_bytes size) (one_set C base (src ∷ []) e) f
   regions (i.StoreImm size base off imm) e f = on_load base off (access_bytes size) (one_set C base [] e) f
   regions (i.LoadImm64 dst value) e f = refl
 
-  bytes : (insn : Insn) → reads_unset insn C ≡ false → may_leave_regions shape insn C ≡ false → loads_unset insn C ≡ false → loads_unset insn A ≡ false
+  bytes : (insn : Insn) → reads_unset insn C ≡ false → may_leave_regions shape insn C ≡ false
+      → loads_unset insn C ≡ false → loads_unset insn A ≡ false
   bytes (i.Alu op width dst src) e f g = refl
   bytes (i.Neg width dst) e f g = refl
   bytes (i.Movsx kind dst src) e f g = refl
@@ -347,20 +384,25 @@ module _ (shape : Extent) (A C : AbstractState) (proper : IsProper A) (p : IsCon
   bytes (i.Call id) e f g = refl
   bytes i.Exit e f g = refl
   bytes (i.Load size dst base off) e f g =
-      bytes_grow shape A C (kind_of A base) (kind_of C base) off (access_bytes size) p (proper.kinds (register_number base)) (p.kinds (register_number base)) (one_set C base [] e)
+      bytes_grow shape A C (kind_of A base) (kind_of C base) off (access_bytes size) p
+      (proper.kinds (register_number base)) (p.kinds (register_number base)) (one_set C base [] e)
       (or_false (may_leave_region shape (kind_of C base) off (access_bytes size)) false f).0 g
   bytes (i.LoadSx size dst base off) e f g =
-      bytes_grow shape A C (kind_of A base) (kind_of C base) off (sx_access_bytes size) p (proper.kinds (register_number base)) (p.kinds (register_number base)) (one_set C base [] e)
+      bytes_grow shape A C (kind_of A base) (kind_of C base) off (sx_access_bytes size) p
+      (proper.kinds (register_number base)) (p.kinds (register_number base)) (one_set C base [] e)
       (or_false (may_leave_region shape (kind_of C base) off (sx_access_bytes size)) false f).0 g
   bytes (i.StoreReg size base off src) e f g = refl
   bytes (i.StoreImm size base off imm) e f g = refl
   bytes (i.LoadImm64 dst value) e f g = refl
 
-  argument : (limit : ℕ) (register : Reg) (rest : List Reg) → Unread C (register ∷ rest) → may_reach limit (kind_of C register) ≡ false → may_reach limit (kind_of A register) ≡ false
+  argument : (limit : ℕ) (register : Reg) (rest : List Reg) → Unread C (register ∷ rest)
+      → may_reach limit (kind_of C register) ≡ false → may_reach limit (kind_of A register) ≡ false
   argument limit register rest e f =
-      below_grows limit (kind_of A register) (kind_of C register) (p.kinds (register_number register)) (one_set C register rest e) f
+      below_grows limit (kind_of A register) (kind_of C register) (p.kinds (register_number register))
+      (one_set C register rest e) f
 
-  helper : (given : Option Helper) → (registers : List Reg) → Unread C registers → registers ≡ helper_registers given → helper_may_refuse shape given C ≡ false → helper_may_refuse shape given A ≡ false
+  helper : (given : Option Helper) → (registers : List Reg) → Unread C registers → registers ≡ helper_registers given
+      → helper_may_refuse shape given C ≡ false → helper_may_refuse shape given A ≡ false
   helper None registers e r f = refl
   helper (Some Id) registers e r f = refl
   helper (Some Coin) registers e r f = refl
@@ -368,9 +410,11 @@ module _ (shape : Extent) (A C : AbstractState) (proper : IsProper A) (p : IsCon
   helper (Some Send) registers e r f =
       let h = or_false (may_reach shape.nodes (kind_of C R1)) (may_reach (2 ^ 32) (kind_of C R2)) f in
       let set = subst (Unread C) r e in
-      both_false (may_reach shape.nodes (kind_of A R1)) (may_reach (2 ^ 32) (kind_of A R2)) (argument shape.nodes R1 (R2 ∷ []) set h.0) (argument (2 ^ 32) R2 [] (rest_set C R1 (R2 ∷ []) set) h.1)
+      both_false (may_reach shape.nodes (kind_of A R1)) (may_reach (2 ^ 32) (kind_of A R2))
+      (argument shape.nodes R1 (R2 ∷ []) set h.0) (argument (2 ^ 32) R2 [] (rest_set C R1 (R2 ∷ []) set) h.1)
 
-  arguments : (insn : Insn) → reads_unset insn C ≡ false → misses_argument shape insn C ≡ false → misses_argument shape insn A ≡ false
+  arguments : (insn : Insn) → reads_unset insn C ≡ false → misses_argument shape insn C ≡ false
+      → misses_argument shape insn A ≡ false
   arguments (i.Alu op width dst src) e f = refl
   arguments (i.Neg width dst) e f = refl
   arguments (i.Movsx kind dst src) e f = refl
@@ -378,7 +422,8 @@ module _ (shape : Extent) (A C : AbstractState) (proper : IsProper A) (p : IsCon
   arguments (i.Ja off) e f = refl
   arguments (i.JaLong off) e f = refl
   arguments (i.Branch test width dst src off) e f = refl
-  arguments (i.Call id) e f = helper (helper_of id) (argument_registers (arguments_of id)) e (called_registers (helper_of id)) f
+  arguments (i.Call id) e f = helper (helper_of id) (argument_registers (arguments_of id)) e
+      (called_registers (helper_of id)) f
   arguments i.Exit e f = refl
   arguments (i.Load size dst base off) e f = refl
   arguments (i.LoadSx size dst base off) e f = refl
@@ -386,7 +431,8 @@ module _ (shape : Extent) (A C : AbstractState) (proper : IsProper A) (p : IsCon
   arguments (i.StoreImm size base off imm) e f = refl
   arguments (i.LoadImm64 dst value) e f = refl
 
-  exits : (insn : Insn) → reads_unset insn C ≡ false → may_exit_with_pointer insn C ≡ false → may_exit_with_pointer insn A ≡ false
+  exits : (insn : Insn) → reads_unset insn C ≡ false → may_exit_with_pointer insn C ≡ false
+      → may_exit_with_pointer insn A ≡ false
   exits (i.Alu op width dst src) e f = refl
   exits (i.Neg width dst) e f = refl
   exits (i.Movsx kind dst src) e f = refl
@@ -402,10 +448,13 @@ module _ (shape : Extent) (A C : AbstractState) (proper : IsProper A) (p : IsCon
   exits (i.StoreImm size base off imm) e f = refl
   exits (i.LoadImm64 dst value) e f = refl
 
-  based : (base : Reg) (rest : List Reg) → Unread C (base ∷ rest) → is_number_kind (kind_of C base) ≡ false → is_number_kind (kind_of A base) ≡ false
-  based base rest e f = number_grows (kind_of A base) (kind_of C base) (p.kinds (register_number base)) (one_set C base rest e) f
+  based : (base : Reg) (rest : List Reg) → Unread C (base ∷ rest) → is_number_kind (kind_of C base) ≡ false
+      → is_number_kind (kind_of A base) ≡ false
+  based base rest e f = number_grows (kind_of A base) (kind_of C base) (p.kinds (register_number base))
+      (one_set C base rest e) f
 
-  accesses : (insn : Insn) → reads_unset insn C ≡ false → accesses_number insn C ≡ false → accesses_number insn A ≡ false
+  accesses : (insn : Insn) → reads_unset insn C ≡ false → accesses_number insn C ≡ false
+      → accesses_number insn A ≡ false
   accesses (i.Alu op width dst src) e f = refl
   accesses (i.Neg width dst) e f = refl
   accesses (i.Movsx kind dst src) e f = refl
@@ -415,26 +464,36 @@ module _ (shape : Extent) (A C : AbstractState) (proper : IsProper A) (p : IsCon
   accesses (i.Branch test width dst src off) e f = refl
   accesses (i.Call id) e f = refl
   accesses i.Exit e f = refl
-  accesses (i.Load size dst base off) e f = left_false _ (based base [] e (or_false (is_number_kind (kind_of C base)) false f).0)
-  accesses (i.LoadSx size dst base off) e f = left_false _ (based base [] e (or_false (is_number_kind (kind_of C base)) false f).0)
+  accesses (i.Load size dst base off) e f = left_false _
+      (based base [] e (or_false (is_number_kind (kind_of C base)) false f).0)
+  accesses (i.LoadSx size dst base off) e f = left_false _
+      (based base [] e (or_false (is_number_kind (kind_of C base)) false f).0)
   accesses (i.StoreReg size base off src) e f = based base (src ∷ []) e f
   accesses (i.StoreImm size base off imm) e f = based base [] e f
   accesses (i.LoadImm64 dst value) e f = refl
 
 -- an instruction that keeps the rules keeps them where more is known
-pub rules_grow : (program : List Insn) (shape : Extent) (slot : ℕ) (insn : Insn) (A C : AbstractState) → IsProper A → IsContainedIn A C
+pub rules_grow : (program : List Insn) (shape : Extent) (slot : ℕ) (insn : Insn) (A C : AbstractState) → IsProper A
+    → IsContainedIn A C
     → KeepsRules program shape slot insn (Some C) → KeepsRules program shape slot insn (Some A)
 rules_grow program shape slot insn A C proper p kept NotForward = kept NotForward
 rules_grow program shape slot insn A C proper p kept BadTarget = kept BadTarget
 rules_grow program shape slot insn A C proper p kept UnknownHelper = kept UnknownHelper
-rules_grow program shape slot insn A C proper p kept UnsetRegister = all_set A C (reads arguments_of insn) p (kept UnsetRegister)
+rules_grow program shape slot insn A C proper p kept UnsetRegister = all_set A C (reads arguments_of insn) p
+    (kept UnsetRegister)
 rules_grow program shape slot insn A C proper p kept FrameWrite = kept FrameWrite
-rules_grow program shape slot insn A C proper p kept PointerMisuse = misuse shape A C proper p insn (kept UnsetRegister) (kept PointerMisuse)
-rules_grow program shape slot insn A C proper p kept OutOfRegion = regions shape A C proper p insn (kept UnsetRegister) (kept OutOfRegion)
-rules_grow program shape slot insn A C proper p kept UnsetStackByte = bytes shape A C proper p insn (kept UnsetRegister) (kept OutOfRegion) (kept UnsetStackByte)
-rules_grow program shape slot insn A C proper p kept BadArgument = arguments shape A C proper p insn (kept UnsetRegister) (kept BadArgument)
-rules_grow program shape slot insn A C proper p kept ExitNotNumber = exits shape A C proper p insn (kept UnsetRegister) (kept ExitNotNumber)
-rules_grow program shape slot insn A C proper p kept NotPointer = accesses shape A C proper p insn (kept UnsetRegister) (kept NotPointer)
+rules_grow program shape slot insn A C proper p kept PointerMisuse = misuse shape A C proper p insn
+    (kept UnsetRegister) (kept PointerMisuse)
+rules_grow program shape slot insn A C proper p kept OutOfRegion = regions shape A C proper p insn (kept UnsetRegister)
+    (kept OutOfRegion)
+rules_grow program shape slot insn A C proper p kept UnsetStackByte = bytes shape A C proper p insn
+    (kept UnsetRegister) (kept OutOfRegion) (kept UnsetStackByte)
+rules_grow program shape slot insn A C proper p kept BadArgument = arguments shape A C proper p insn
+    (kept UnsetRegister) (kept BadArgument)
+rules_grow program shape slot insn A C proper p kept ExitNotNumber = exits shape A C proper p insn (kept UnsetRegister)
+    (kept ExitNotNumber)
+rules_grow program shape slot insn A C proper p kept NotPointer = accesses shape A C proper p insn (kept UnsetRegister)
+    (kept NotPointer)
 
 -- the rules that are asked where nothing is known are asked anywhere
 pub rules_unreached : (program : List Insn) (shape : Extent) (slot : ℕ) (insn : Insn) (state : Option AbstractState)

@@ -69,10 +69,16 @@ contained_further A B C p q =
     }
 
 pub joined_first : (A C : AbstractState) → IsContainedIn A (joined_state A C)
-joined_first A C = record { kinds = λ n. joined_first_kind (A.kinds n) (C.kinds n); written = λ b e. (and_true (A.written b) (C.written b) e).0 }
+joined_first A C = record {
+  kinds = λ n. joined_first_kind (A.kinds n) (C.kinds n);
+  written = λ b e. (and_true (A.written b) (C.written b) e).0;
+}
 
 pub joined_second : (A C : AbstractState) → IsContainedIn C (joined_state A C)
-joined_second A C = record { kinds = λ n. joined_second_kind (A.kinds n) (C.kinds n); written = λ b e. (and_true (A.written b) (C.written b) e).1 }
+joined_second A C = record {
+  kinds = λ n. joined_second_kind (A.kinds n) (C.kinds n);
+  written = λ b e. (and_true (A.written b) (C.written b) e).1;
+}
 
 -- ---- the join is the least that contains both
 

@@ -15,26 +15,33 @@ use Rattle.bpf_verify.specs.declared.refusal.VerifyError.{VerifyError}
 use Rattle.bpf_verify.specs.declared.refusal.VerifyError.TheVariants as error
 
 -- what types more slots types fewer
-fewer_typed : (program : List Insn) (shape : Extent) (end more : ℕ) → end ≤ more → TypableBelow program shape more → TypableBelow program shape end
+fewer_typed : (program : List Insn) (shape : Extent) (end more : ℕ) → end ≤ more → TypableBelow program shape more
+    → TypableBelow program shape end
 fewer_typed program shape end more few (table, types) = (
   table,
   record {
     entry = types.entry;
     proper = λ slot insn A before. types.proper slot insn A (omega (arith, few, before));
     rules = λ slot insn before. types.rules slot insn (omega (arith, few, before));
-    edges = λ slot to insn way A C before within. types.edges slot to insn way A C (omega (arith, few, before)) (omega (arith, few, within));
+    edges = λ slot to insn way A C before within. types.edges slot to insn way A C (omega (arith, few, before))
+        (omega (arith, few, within));
   },
 )
 
-pub broken_untypable : (program : List Insn) (shape : Extent) (slot : ℕ) → IsFirstBroken program shape slot → Typable program shape → ⊥
-broken_untypable program shape slot broken typable = broken.here (fewer_typed program shape (suc slot) (slots_of program) broken.within typable)
+pub broken_untypable : (program : List Insn) (shape : Extent) (slot : ℕ) → IsFirstBroken program shape slot
+    → Typable program shape → ⊥
+broken_untypable program shape slot broken typable = broken.here
+    (fewer_typed program shape (suc slot) (slots_of program) broken.within typable)
 
 -- a typable program is refused for want of memory alone
-pub typable_refusal : (program : List Insn) (shape : Extent) (e : VerifyError) → IsRefusal program shape e → Typable program shape → e ≡ error.Memory
-typable_refusal program shape (error.Refused slot rule) broken typable = absurd (broken_untypable program shape slot broken typable)
+pub typable_refusal : (program : List Insn) (shape : Extent) (e : VerifyError) → IsRefusal program shape e
+    → Typable program shape → e ≡ error.Memory
+typable_refusal program shape (error.Refused slot rule) broken typable = absurd
+    (broken_untypable program shape slot broken typable)
 typable_refusal program shape error.Memory broken typable = refl
 
-pub one_broken : (program : List Insn) (shape : Extent) (slot other : ℕ) → IsFirstBroken program shape slot → IsFirstBroken program shape other → slot ≡ other
+pub one_broken : (program : List Insn) (shape : Extent) (slot other : ℕ) → IsFirstBroken program shape slot
+    → IsFirstBroken program shape other → slot ≡ other
 one_broken program shape slot other p q =
     elim (cases_lt slot other) [
       | inl less ↦ absurd (p.here (fewer_typed program shape (suc slot) other less q.before))
@@ -44,7 +51,8 @@ one_broken program shape slot other p q =
       ]
     ]
 
-pub one_longest : (program : List Insn) (count other : ℕ) → IsLongestPath program count → IsLongestPath program other → count ≡ other
+pub one_longest : (program : List Insn) (count other : ℕ) → IsLongestPath program count → IsLongestPath program other
+    → count ≡ other
 one_longest program count other p q =
     let a = q.most p.reached.0 p.reached.1 p.reached.3 in
     let b = p.most q.reached.0 q.reached.1 q.reached.3 in
@@ -55,7 +63,10 @@ same_image : (left right : List Insn) → IsProgram left → IsProgram right →
 same_image left right p q e = image_once left right p.in_range q.in_range e
 
 -- what a comparison of two images tells of their programs
-pub told_by_images : (r : Bool) (xs ys : List ℕ) (left right : List Insn) → Decides r (xs ≡ ys) → xs ≡ image_of left → ys ≡ image_of right
+pub told_by_images : (r : Bool) (xs ys : List ℕ) (left right : List Insn) → Decides r (xs ≡ ys) → xs ≡ image_of left
+    → ys ≡ image_of right
     → IsProgram left → IsProgram right → IsTrue r ↔ (left ≡ right)
-told_by_images true xs ys left right d m t p q = ((λ told. same_image left right p q (sym m ∙ d.0 refl ∙ t)), (λ same. grind arith))
-told_by_images false xs ys left right d m t p q = ((λ told. grind (arith, told)), (λ same. grind (arith, d.1 (m ∙ ap image_of same ∙ sym t))))
+told_by_images true xs ys left right d m t p q =
+    ((λ told. same_image left right p q (sym m ∙ d.0 refl ∙ t)), (λ same. grind arith))
+told_by_images false xs ys left right d m t p q =
+    ((λ told. grind (arith, told)), (λ same. grind (arith, d.1 (m ∙ ap image_of same ∙ sym t))))

@@ -54,15 +54,18 @@ come_grows rows at to D A h =
 come_covers : (rows : Table) (to : ℕ) (D : AbstractState) → Covers (with_come rows to D to) D
 come_covers rows to D = rw (eq-eqb to to refl) (covers_second (rows to) (Some D) D (contained_in_itself D))
 
-sent_grows : (rows : Table) (goal : Option ℕ) (after : Option AbstractState) (to : ℕ) (A : AbstractState) → Covers (rows to) A → Covers (sent_on rows goal after to) A
+sent_grows : (rows : Table) (goal : Option ℕ) (after : Option AbstractState) (to : ℕ) (A : AbstractState)
+    → Covers (rows to) A → Covers (sent_on rows goal after to) A
 sent_grows rows None after to A h = h
 sent_grows rows (Some at) None to A h = h
 sent_grows rows (Some at) (Some D) to A h = come_grows rows at to D A h
 
-rows_grow : (shape : Extent) (insn : Insn) (slot : ℕ) (state : Option AbstractState) (rows : Table) (to : ℕ) (A : AbstractState)
+rows_grow : (shape : Extent) (insn : Insn) (slot : ℕ) (state : Option AbstractState) (rows : Table) (to : ℕ)
+    (A : AbstractState)
     → Covers (rows to) A → Covers (rows_after shape insn slot state rows to) A
 rows_grow shape insn slot None rows to A h = h
-rows_grow shape insn slot (Some B) rows to A h = sent_grows rows (target insn slot Jumping) (outcome shape insn B Jumping) to A h
+rows_grow shape insn slot (Some B) rows to A h = sent_grows rows (target insn slot Jumping)
+    (outcome shape insn B Jumping) to A h
 
 -- ---- ranges with members
 
@@ -71,14 +74,16 @@ met_proper None come p q = q
 met_proper (Some A) None p q = p
 met_proper (Some A) (Some C) p q = joined_proper A C p q
 
-come_proper : (rows : Table) (at to : ℕ) (D : AbstractState) → IsProperRow (rows to) → IsProper D → IsProperRow (with_come rows at D to)
+come_proper : (rows : Table) (at to : ℕ) (D : AbstractState) → IsProperRow (rows to) → IsProper D
+    → IsProperRow (with_come rows at D to)
 come_proper rows at to D p q =
     elim (cases_eq to at) [
       | inl e ↦ rw (eq-eqb to at e) (met_proper (rows at) (Some D) (subst (λ k. IsProperRow (rows k)) e p) q)
       | inr n ↦ rw (ne_eqb to at n) p
     ]
 
-sent_proper : (rows : Table) (goal : Option ℕ) (after : Option AbstractState) (to : ℕ) → IsProperRow (rows to) → IsProperRow after → IsProperRow (sent_on rows goal after to)
+sent_proper : (rows : Table) (goal : Option ℕ) (after : Option AbstractState) (to : ℕ) → IsProperRow (rows to)
+    → IsProperRow after → IsProperRow (sent_on rows goal after to)
 sent_proper rows None after to p q = p
 sent_proper rows (Some at) None to p q = p
 sent_proper rows (Some at) (Some D) to p q = come_proper rows at to D p q
@@ -87,11 +92,14 @@ rows_proper : (shape : Extent) (insn : Insn) (slot : ℕ) (state : Option Abstra
     → IsProperRow (rows to) → IsProperRow state → IsProperRow (rows_after shape insn slot state rows to)
 rows_proper shape insn slot None rows to p q = p
 rows_proper shape insn slot (Some A) rows to p q =
-    sent_proper rows (target insn slot Jumping) (outcome shape insn A Jumping) to p (outcome_proper shape Jumping A q insn)
+    sent_proper rows (target insn slot Jumping) (outcome shape insn A Jumping) to p
+    (outcome_proper shape Jumping A q insn)
 
-front_proper : (shape : Extent) (insn : Insn) (slot : ℕ) (state : Option AbstractState) → IsProperRow state → IsProperRow (front_after shape insn slot state)
+front_proper : (shape : Extent) (insn : Insn) (slot : ℕ) (state : Option AbstractState) → IsProperRow state
+    → IsProperRow (front_after shape insn slot state)
 front_proper shape insn slot None p = tt
-front_proper shape insn slot (Some A) p = by (target insn slot Onward) (outcome shape insn A Onward) (outcome_proper shape Onward A p insn)
+front_proper shape insn slot (Some A) p = by (target insn slot Onward) (outcome shape insn A Onward)
+    (outcome_proper shape Onward A p insn)
   where
     by : (goal : Option ℕ) (after : Option AbstractState) → IsProperRow after → IsProperRow (come_after goal after)
     by None after q = tt
@@ -99,7 +107,8 @@ front_proper shape insn slot (Some A) p = by (target insn slot Onward) (outcome 
 
 -- ---- what is within what another table says
 
-covers_joined : (row : Option AbstractState) (B C : AbstractState) → Covers row B → Covers row C → Covers row (joined_state B C)
+covers_joined : (row : Option AbstractState) (B C : AbstractState) → Covers row B → Covers row C
+    → Covers row (joined_state B C)
 covers_joined None B C p q = absurd p
 covers_joined (Some E) B C p q = joined_within B C E p q
 
@@ -111,7 +120,8 @@ covers_further (Some E) B C p q = contained_further B C E p q
 abbrev IsWithin : Option AbstractState → Option AbstractState → Type 0
 IsWithin row bound = (A : AbstractState) → row ≡ Some A → Covers bound A
 
-within_met : (row come bound : Option AbstractState) → IsWithin row bound → IsWithin come bound → IsWithin (met_state row come) bound
+within_met : (row come bound : Option AbstractState) → IsWithin row bound → IsWithin come bound
+    → IsWithin (met_state row come) bound
 within_met None come bound p q A e = q A e
 within_met (Some B) None bound p q A e = p A e
 within_met (Some B) (Some C) bound p q A e =
@@ -121,19 +131,24 @@ within_met (Some B) (Some C) bound p q A e =
 
 -- what it was up to the slot, and after it what comes by jumps and, at the next instruction, from this one
 abbrev next_table : Table → ℕ → ℕ → Option AbstractState → Table → Table
-next_table table slot next come rows to = if nat_le to slot then table to else (if to == next then met_state (rows to) come else rows to)
+next_table table slot next come rows to = if nat_le to slot then table to else
+    (if to == next then met_state (rows to) come else rows to)
 
-table_before : (table : Table) (slot next : ℕ) (come : Option AbstractState) (rows : Table) (to : ℕ) → to ≤ slot → next_table table slot next come rows to ≡ table to
+table_before : (table : Table) (slot next : ℕ) (come : Option AbstractState) (rows : Table) (to : ℕ) → to ≤ slot
+    → next_table table slot next come rows to ≡ table to
 table_before table slot next come rows to h = rw (le-leb to slot h) refl
 
-table_later : (table : Table) (slot next : ℕ) (come : Option AbstractState) (rows : Table) (to : ℕ) → slot < to → to ≢ next → next_table table slot next come rows to ≡ rows to
+table_later : (table : Table) (slot next : ℕ) (come : Option AbstractState) (rows : Table) (to : ℕ) → slot < to
+    → to ≢ next → next_table table slot next come rows to ≡ rows to
 table_later table slot next come rows to h n = rw (lt-leb to slot h, ne_eqb to next n) refl
 
-table_next : (table : Table) (slot next : ℕ) (come : Option AbstractState) (rows : Table) → slot < next → next_table table slot next come rows next ≡ met_state (rows next) come
+table_next : (table : Table) (slot next : ℕ) (come : Option AbstractState) (rows : Table) → slot < next
+    → next_table table slot next come rows next ≡ met_state (rows next) come
 table_next table slot next come rows h = rw (lt-leb next slot h, eq-eqb next next refl) refl
 
 -- what a later row covers, the table covers
-later_covers : (table : Table) (slot next : ℕ) (come : Option AbstractState) (rows : Table) (to : ℕ) (A : AbstractState) → slot < to → Covers (rows to) A → Covers (next_table table slot next come rows to) A
+later_covers : (table : Table) (slot next : ℕ) (come : Option AbstractState) (rows : Table) (to : ℕ)
+    (A : AbstractState) → slot < to → Covers (rows to) A → Covers (next_table table slot next come rows to) A
 later_covers table slot next come rows to A h covers =
     elim (cases_eq to next) [
       | inl e ↦ rw (lt-leb to slot h, eq-eqb to next e) (covers_first (rows to) come A covers)
@@ -142,10 +157,13 @@ later_covers table slot next come rows to A h covers =
 
 -- ---- one step of the walk
 
-module _ (program : List Insn) (shape : Extent) (slot : ℕ) (insn : Insn) (state : Option AbstractState) (table rows rows' : Table) (come' : Option AbstractState)
-    (here : insn_at program slot ≡ Some insn) (kept : KeepsRules program shape slot insn state) (passed : Passed program shape slot table)
+module _ (program : List Insn) (shape : Extent) (slot : ℕ) (insn : Insn) (state : Option AbstractState)
+    (table rows rows' : Table) (come' : Option AbstractState)
+    (here : insn_at program slot ≡ Some insn) (kept : KeepsRules program shape slot insn state)
+    (passed : Passed program shape slot table)
     (is : table slot ≡ state) (ahead : (to : ℕ) → slot < to → table to ≡ rows to)
-    (sent : (to : ℕ) → rows' to ≡ rows_after shape insn slot state rows to) (goes : come' ≡ front_after shape insn slot state) where
+    (sent : (to : ℕ) → rows' to ≡ rows_after shape insn slot state rows to)
+    (goes : come' ≡ front_after shape insn slot state) where
   abbrev next : ℕ
   next = slot + slots_taken insn
 
@@ -161,14 +179,16 @@ module _ (program : List Insn) (shape : Extent) (slot : ℕ) (insn : Insn) (stat
       elim (cases_lt slot to) [
         | inl later ↦
             later_covers table slot next come' rows' to A later
-            (subst (λ row. Covers row A) (sym (sent to)) (rows_grow shape insn slot state rows to A (subst (λ row. Covers row A) (ahead to later) covered)))
+            (subst (λ row. Covers row A) (sym (sent to))
+            (rows_grow shape insn slot state rows to A (subst (λ row. Covers row A) (ahead to later) covered)))
         | inr before ↦ subst (λ row. Covers row A) (sym (table_before table slot next come' rows' to before)) covered
       ]
 
   rules : (at : ℕ) (i : Insn) → at < next → insn_at program at ≡ Some i → KeepsRules program shape at i (after at)
   rules at i within e =
       elim (cases_lt at slot) [
-        | inl before ↦ subst (KeepsRules program shape at i) (sym (table_before table slot next come' rows' at (omega arith))) (passed.rules at i before e)
+        | inl before ↦ subst (KeepsRules program shape at i)
+            (sym (table_before table slot next come' rows' at (omega arith))) (passed.rules at i before e)
         | inr from ↦
             elim (cases_eq at slot) [
               | inl same ↦ same_slot same
@@ -190,13 +210,16 @@ module _ (program : List Insn) (shape : Extent) (slot : ℕ) (insn : Insn) (stat
   edges at to i way A C within e row leads becomes =
       elim (cases_lt at slot) [
         | inl before ↦
-            still to C (passed.edges at to i way A C before e (sym (table_before table slot next come' rows' at (omega arith)) ∙ row) leads becomes)
+            still to C (passed.edges at to i way A C before e
+            (sym (table_before table slot next come' rows' at (omega arith)) ∙ row) leads becomes)
         | inr from ↦
             elim (cases_eq at slot) [
               | inl same ↦
                   let found : i ≡ insn = same_Some i insn (sym e ∙ ap (insn_at program) same ∙ here) in
-                  let known : state ≡ Some A = sym is ∙ ap table (sym same) ∙ sym (table_before table slot next come' rows' at (omega arith)) ∙ row in
-                  this way (ap (λ n. target insn n way) (sym same) ∙ ap (λ n. target n at way) (sym found) ∙ leads) (ap (λ n. outcome shape n A way) (sym found) ∙ becomes) known
+                  let known : state ≡ Some A = sym is ∙ ap table (sym same)
+                  ∙ sym (table_before table slot next come' rows' at (omega arith)) ∙ row in
+                  this way (ap (λ n. target insn n way) (sym same) ∙ ap (λ n. target n at way) (sym found) ∙ leads)
+                  (ap (λ n. outcome shape n A way) (sym found) ∙ becomes) known
               | inr other ↦ absurd (none (sym (none_inside program slot at insn here (omega arith) within) ∙ e))
             ]
       ]
@@ -204,27 +227,38 @@ module _ (program : List Insn) (shape : Extent) (slot : ℕ) (insn : Insn) (stat
       none : ◌≡◌ {A = Option Insn} None (Some i) → ⊥
       none f = absurd cc
 
-      this : (w : Way) → target insn slot w ≡ Some to → outcome shape insn A w ≡ Some C → state ≡ Some A → IsCovered after C to
+      this : (w : Way) → target insn slot w ≡ Some to → outcome shape insn A w ≡ Some C → state ≡ Some A
+          → IsCovered after C to
       this Jumping t o k =
           later_covers table slot next come' rows' to C (jumps_forward insn slot to (kept NotForward) t)
-          (subst (λ row. Covers row C) (sym (sent to ∙ ap (λ s. rows_after shape insn slot s rows to) k ∙ ap (λ g. sent_on rows g (outcome shape insn A Jumping) to) t ∙ ap (λ a. sent_on rows (Some to) a to) o)) (come_covers rows to C))
+          (subst (λ row. Covers row C) (sym (sent to ∙ ap (λ s. rows_after shape insn slot s rows to) k
+          ∙ ap (λ g. sent_on rows g (outcome shape insn A Jumping) to) t
+          ∙ ap (λ a. sent_on rows (Some to) a to) o)) (come_covers rows to C))
       this Onward t o k =
           let to_next : to ≡ next = onward_next insn slot to t in
-          let comes : come' ≡ Some C = goes ∙ ap (front_after shape insn slot) k ∙ ap (λ g. come_after g (outcome shape insn A Onward)) t ∙ o in
-          rw (to_next, table_next table slot next come' rows' beyond, comes) (covers_second (rows' next) (Some C) C (contained_in_itself C))
+          let comes : come' ≡ Some C = goes ∙ ap (front_after shape insn slot) k
+          ∙ ap (λ g. come_after g (outcome shape insn A Onward)) t ∙ o in
+          rw (to_next, table_next table slot next come' rows' beyond, comes)
+          (covers_second (rows' next) (Some C) C (contained_in_itself C))
 
   -- what goes a way is within what any table says that types the slot and where the way leads
-  way_within : (end : ℕ) (other : Table) → Types program shape end other → slot < end → (B D : AbstractState) → state ≡ Some B → IsProper B → IsLeast program shape table
-      → (way : Way) (to : ℕ) → to < end → target insn slot way ≡ Some to → outcome shape insn B way ≡ Some D → IsCovered other D to
-  way_within end other types low B D known proper least way to within t o = by (other slot) refl (least end other types slot B low (is ∙ known))
+  way_within : (end : ℕ) (other : Table) → Types program shape end other → slot < end → (B D : AbstractState)
+      → state ≡ Some B → IsProper B → IsLeast program shape table
+      → (way : Way) (to : ℕ) → to < end → target insn slot way ≡ Some to → outcome shape insn B way ≡ Some D
+      → IsCovered other D to
+  way_within end other types low B D known proper least way to within t o = by (other slot) refl
+      (least end other types slot B low (is ∙ known))
     where
       by : (row : Option AbstractState) → other slot ≡ row → Covers row B → IsCovered other D to
       by None e covered = absurd covered
       by (Some C) e covered =
-          let kept_there : KeepsRules program shape slot insn (Some C) = subst (KeepsRules program shape slot insn) e (types.rules slot insn low here) in
-          on (outcome shape insn C way) refl (outcome_grows program shape slot way B C D proper covered insn kept_there o)
+          let kept_there : KeepsRules program shape slot insn (Some C) = subst (KeepsRules program shape slot insn) e
+          (types.rules slot insn low here) in
+          on (outcome shape insn C way) refl (outcome_grows program shape slot way B C D proper covered insn kept_there
+          o)
         where
-          on : (result : Option AbstractState) → outcome shape insn C way ≡ result → Covers result D → IsCovered other D to
+          on : (result : Option AbstractState) → outcome shape insn C way ≡ result → Covers result D
+              → IsCovered other D to
           on None f c = absurd c
           on (Some E) f c = covers_further (other to) D E c (types.edges slot to insn way C E low within here e t f)
 
@@ -238,11 +272,13 @@ module _ (program : List Insn) (shape : Extent) (slot : ℕ) (insn : Insn) (stat
       waiting : slot < to → IsWithin (rows to) (other to)
       waiting later B f = least end other types to B within (ahead to later ∙ f)
 
-      jumped : (known : Option AbstractState) → state ≡ known → IsProperRow known → slot < to → IsWithin (rows_after shape insn slot known rows to) (other to)
+      jumped : (known : Option AbstractState) → state ≡ known → IsProperRow known → slot < to
+          → IsWithin (rows_after shape insn slot known rows to) (other to)
       jumped None k p later = waiting later
       jumped (Some B) k p later = sent_there (target insn slot Jumping) (outcome shape insn B Jumping) refl refl
         where
-          sent_there : (goal : Option ℕ) (result : Option AbstractState) → target insn slot Jumping ≡ goal → outcome shape insn B Jumping ≡ result → IsWithin (sent_on rows goal result to) (other to)
+          sent_there : (goal : Option ℕ) (result : Option AbstractState) → target insn slot Jumping ≡ goal
+              → outcome shape insn B Jumping ≡ result → IsWithin (sent_on rows goal result to) (other to)
           sent_there None result t o = waiting later
           sent_there (Some at) None t o = waiting later
           sent_there (Some at) (Some D) t o = come_there (cases_eq to at)
@@ -250,26 +286,37 @@ module _ (program : List Insn) (shape : Extent) (slot : ℕ) (insn : Insn) (stat
               come_there : (to ≡ at) ⊎ (to ≢ at) → IsWithin (with_come rows at D to) (other to)
               come_there (inr n) = rw (ne_eqb to at n) (waiting later)
               come_there (inl f) =
-                  rw (eq-eqb to at f) (within_met (rows at) (Some D) (other to) (subst (λ n. IsWithin (rows n) (other to)) f (waiting later))
-                  (λ E g. subst (Covers (other to)) (same_Some D E g) (way_within end other types (omega arith) B D k p least Jumping to within (t ∙ ap (λ n. Some n) (sym f)) o)))
+                  rw (eq-eqb to at f) (within_met (rows at) (Some D) (other to)
+                  (subst (λ n. IsWithin (rows n) (other to)) f (waiting later))
+                  (λ E g. subst (Covers (other to)) (same_Some D E g)
+                  (way_within end other types (omega arith) B D k p least Jumping to within
+                  (t ∙ ap (λ n. Some n) (sym f)) o)))
 
-      come : (known : Option AbstractState) → state ≡ known → IsProperRow known → slot < to → to ≡ next → IsWithin come' (other to)
+      come : (known : Option AbstractState) → state ≡ known → IsProperRow known → slot < to → to ≡ next
+          → IsWithin come' (other to)
       come None k p later ends D g = absurd (none (sym (goes ∙ ap (front_after shape insn slot) k) ∙ g))
         where
           none : ◌≡◌ {A = Option AbstractState} None (Some D) → ⊥
           none f = absurd cc
-      come (Some B) k p later ends D g = gone (target insn slot Onward) refl (sym (goes ∙ ap (front_after shape insn slot) k) ∙ g)
+      come (Some B) k p later ends D g = gone (target insn slot Onward) refl
+          (sym (goes ∙ ap (front_after shape insn slot) k) ∙ g)
         where
-          gone : (goal : Option ℕ) → target insn slot Onward ≡ goal → come_after goal (outcome shape insn B Onward) ≡ Some D → IsCovered other D to
+          gone : (goal : Option ℕ) → target insn slot Onward ≡ goal
+              → come_after goal (outcome shape insn B Onward) ≡ Some D → IsCovered other D to
           gone None t f = absurd cc
           gone (Some at) t f =
-              way_within end other types (omega arith) B D k p least Onward to within (t ∙ ap (λ n. Some n) (onward_next insn slot at t ∙ sym ends)) f
+              way_within end other types (omega arith) B D k p least Onward to within
+              (t ∙ ap (λ n. Some n) (onward_next insn slot at t ∙ sym ends)) f
 
       after_row : (to ≡ next) ⊎ (to ≢ next) → slot < to → IsCovered other A to
-      after_row (inr n) later = subst (λ row. IsWithin row (other to)) (sym (sent to)) (jumped state refl proper later) A (sym (table_later table slot next come' rows' to later n) ∙ e)
+      after_row (inr n) later = subst (λ row. IsWithin row (other to)) (sym (sent to))
+          (jumped state refl proper later) A (sym (table_later table slot next come' rows' to later n) ∙ e)
       after_row (inl f) later =
-          within_met (rows' to) come' (other to) (subst (λ row. IsWithin row (other to)) (sym (sent to)) (jumped state refl proper later)) (come state refl proper later f) A
-          (sym (ap after f ∙ table_next table slot next come' rows' beyond ∙ ap (λ n. met_state (rows' n) come') (sym f)) ∙ e)
+          within_met (rows' to) come' (other to)
+          (subst (λ row. IsWithin row (other to)) (sym (sent to)) (jumped state refl proper later))
+          (come state refl proper later f) A
+          (sym (ap after f ∙ table_next table slot next come' rows' beyond
+          ∙ ap (λ n. met_state (rows' n) come') (sym f)) ∙ e)
 
   proper_after : ((at : ℕ) → IsProperRow (table at)) → (to : ℕ) → IsProperRow (after to)
   proper_after proper to =
@@ -277,7 +324,8 @@ module _ (program : List Insn) (shape : Extent) (slot : ℕ) (insn : Insn) (stat
         | inr before ↦ subst IsProperRow (sym (table_before table slot next come' rows' to before)) (proper to)
         | inl later ↦
             elim (cases_eq to next) [
-              | inl e ↦ rw (lt-leb to slot later, eq-eqb to next e) (met_proper (rows' to) come' (ahead_proper later) comes_proper)
+              | inl e ↦ rw (lt-leb to slot later, eq-eqb to next e)
+                  (met_proper (rows' to) come' (ahead_proper later) comes_proper)
               | inr n ↦ rw (lt-leb to slot later, ne_eqb to next n) (ahead_proper later)
             ]
       ]
@@ -289,9 +337,11 @@ module _ (program : List Insn) (shape : Extent) (slot : ℕ) (insn : Insn) (stat
       comes_proper = subst IsProperRow (sym goes) (front_proper shape insn slot state here_proper)
 
       ahead_proper : slot < to → IsProperRow (rows' to)
-      ahead_proper later = subst IsProperRow (sym (sent to)) (rows_proper shape insn slot state rows to (subst IsProperRow (ahead to later) (proper to)) here_proper)
+      ahead_proper later = subst IsProperRow (sym (sent to))
+          (rows_proper shape insn slot state rows to (subst IsProperRow (ahead to later) (proper to)) here_proper)
 
-  pub walk_on : ((at : ℕ) → IsProperRow (table at)) → IsLeast program shape table → Walks program shape (slot + slots_taken insn) come' rows'
+  pub walk_on : ((at : ℕ) → IsProperRow (table at)) → IsLeast program shape table
+      → Walks program shape (slot + slots_taken insn) come' rows'
   walk_on proper least = (
     after,
     record {
@@ -301,7 +351,8 @@ module _ (program : List Insn) (shape : Extent) (slot : ℕ) (insn : Insn) (stat
         edges = edges;
       };
       here = table_next table slot next come' rows' beyond;
-      ahead = λ to h. table_later table slot next come' rows' to (omega (arith, beyond)) (λ e. absurd (omega (arith, e)));
+      ahead = λ to h. table_later table slot next come' rows' to (omega (arith, beyond))
+          (λ e. absurd (omega (arith, e)));
       proper = proper_after proper;
     },
     still_least (subst IsProperRow (is) (proper slot)) least,
@@ -312,7 +363,8 @@ module _ (program : List Insn) (shape : Extent) (slot : ℕ) (insn : Insn) (stat
 entry_table : Extent → Table
 entry_table shape slot = if slot == 0 then Some (entry_state shape) else None
 
-pub walk_begins : (program : List Insn) (shape : Extent) (come : Option AbstractState) (rows : Table) → come ≡ Some (entry_state shape)
+pub walk_begins : (program : List Insn) (shape : Extent) (come : Option AbstractState) (rows : Table)
+    → come ≡ Some (entry_state shape)
     → ((slot : ℕ) → rows slot ≡ None) → Walks program shape 0 come rows
 unfolding entry_table
 walk_begins program shape come rows comes empty = (
@@ -334,7 +386,8 @@ walk_begins program shape come rows comes empty = (
     begun true = entry_proper shape
     begun false = tt
 
-    first : (end : ℕ) (other : Table) → Types program shape end other → (slot : ℕ) (A : AbstractState) → entry_table shape slot ≡ Some A
+    first : (end : ℕ) (other : Table) → Types program shape end other → (slot : ℕ) (A : AbstractState)
+        → entry_table shape slot ≡ Some A
         → (slot ≡ 0) ⊎ (slot ≢ 0) → IsCovered other A slot
     first end other types slot A e (inl z) =
         let same : entry_state shape ≡ A = same_Some (entry_state shape) A (sym (rw (eq-eqb slot 0 z) refl) ∙ e) in
@@ -344,7 +397,8 @@ walk_begins program shape come rows comes empty = (
         none : ◌≡◌ {A = Option AbstractState} None (Some A) → ⊥
         none f = absurd cc
 
-types_passed : (program : List Insn) (shape : Extent) (end : ℕ) (table : Table) → Passed program shape end table → ((at : ℕ) → IsProperRow (table at))
+types_passed : (program : List Insn) (shape : Extent) (end : ℕ) (table : Table) → Passed program shape end table
+    → ((at : ℕ) → IsProperRow (table at))
     → Types program shape end table
 types_passed program shape end table passed proper =
     record {
@@ -354,13 +408,18 @@ types_passed program shape end table passed proper =
       edges = λ slot to insn way A C before within. passed.edges slot to insn way A C before;
     }
 
-pub walk_ends : (program : List Insn) (shape : Extent) (slot : ℕ) (come : Option AbstractState) (rows : Table) → Walks program shape slot come rows → slot ≡ slots_of program
+pub walk_ends : (program : List Insn) (shape : Extent) (slot : ℕ) (come : Option AbstractState) (rows : Table)
+    → Walks program shape slot come rows → slot ≡ slots_of program
     → Typable program shape
-walk_ends program shape slot come rows (table, stands, least) e =
-    (table, subst (λ end. Types program shape end table) e (types_passed program shape slot table stands.passed stands.proper))
+walk_ends program shape slot come rows (table, stands, least) e = (
+  table,
+  subst (λ end. Types program shape end table) e
+      (types_passed program shape slot table stands.passed stands.proper),
+)
 
 -- the walk is at the end where no instruction begins
-pub walk_done : (program : List Insn) (shape : Extent) (slot : ℕ) (come : Option AbstractState) (rows : Table) → Walks program shape slot come rows → IsStop program slot
+pub walk_done : (program : List Insn) (shape : Extent) (slot : ℕ) (come : Option AbstractState) (rows : Table)
+    → Walks program shape slot come rows → IsStop program slot
     → insn_at program slot ≡ None → Typable program shape
 walk_done program shape slot come rows walks (inl begins) none = absurd (apart (insn_at program slot) none begins)
   where
@@ -370,8 +429,10 @@ walk_done program shape slot come rows walks (inl begins) none = absurd (apart (
 walk_done program shape slot come rows walks (inr end) none = walk_ends program shape slot come rows walks end
 
 -- a rule that is broken of what is known is broken of what any table says that types the slots before
-pub refused_here : (program : List Insn) (shape : Extent) (slot : ℕ) (insn : Insn) (state : Option AbstractState) (table : Table) (rule : Rule)
-    → insn_at program slot ≡ Some insn → Passed program shape slot table → IsLeast program shape table → table slot ≡ state → ((at : ℕ) → IsProperRow (table at))
+pub refused_here : (program : List Insn) (shape : Extent) (slot : ℕ) (insn : Insn) (state : Option AbstractState)
+    (table : Table) (rule : Rule)
+    → insn_at program slot ≡ Some insn → Passed program shape slot table → IsLeast program shape table
+    → table slot ≡ state → ((at : ℕ) → IsProperRow (table at))
     → lowest_broken program shape slot insn state ≡ Some rule → IsFirstBroken program shape slot
 refused_here program shape slot insn state table rule here passed least is proper broken =
     record {
@@ -384,11 +445,13 @@ refused_here program shape slot insn state table rule here passed least is prope
     some_none None e f = absurd cc
     some_none (Some r) e f = absurd cc
 
-    kept_not : (known : Option AbstractState) → table slot ≡ known → IsProperRow known → lowest_broken program shape slot insn known ≡ Some rule
+    kept_not : (known : Option AbstractState) → table slot ≡ known → IsProperRow known
+        → lowest_broken program shape slot insn known ≡ Some rule
         → (other : Table) → Types program shape (suc slot) other → ⊥
     kept_not None e p told other types =
         some_none (lowest_broken program shape slot insn None)
-        (none_broken program shape slot insn None (rules_unreached program shape slot insn (other slot) (types.rules slot insn (omega arith) here))) told
+        (none_broken program shape slot insn None
+        (rules_unreached program shape slot insn (other slot) (types.rules slot insn (omega arith) here))) told
     kept_not (Some A) e p told other types = by (other slot) refl (least (suc slot) other types slot A (omega arith) e)
       where
         by : (row : Option AbstractState) → other slot ≡ row → Covers row A → ⊥
@@ -396,40 +459,50 @@ refused_here program shape slot insn state table rule here passed least is prope
         by (Some C) f covered =
             some_none (lowest_broken program shape slot insn (Some A))
             (none_broken program shape slot insn (Some A)
-            (rules_grow program shape slot insn A C p covered (subst (KeepsRules program shape slot insn) f (types.rules slot insn (omega arith) here)))) told
+            (rules_grow program shape slot insn A C p covered
+            (subst (KeepsRules program shape slot insn) f (types.rules slot insn (omega arith) here)))) told
 
 -- ---- the same of the front and the rows as they are kept
 
-module _ (program : List Insn) (shape : Extent) (slot : ℕ) (insn : Insn) (front : Front) (come : Option AbstractState) (rows rows' : Table)
+module _ (program : List Insn) (shape : Extent) (slot : ℕ) (insn : Insn) (front : Front) (come : Option AbstractState)
+    (rows rows' : Table)
     (here : insn_at program slot ≡ Some insn) (walks : Walks program shape slot come rows)
     (met : come_of front ≡ met_state (rows slot) come) (ahead : (to : ℕ) → slot < to → rows' to ≡ rows to) where
   pub walk_past : KeepsRules program shape slot insn (come_of front) → (sent : Table) (come' : Option AbstractState)
-      → ((to : ℕ) → sent to ≡ rows_after shape insn slot (come_of front) rows' to) → come' ≡ front_after shape insn slot (come_of front)
+      → ((to : ℕ) → sent to ≡ rows_after shape insn slot (come_of front) rows' to)
+      → come' ≡ front_after shape insn slot (come_of front)
       → Walks program shape (slot + slots_taken insn) come' sent
   walk_past kept sent come' goes on =
-      walk_on program shape slot insn (come_of front) walks.0 rows' sent come' here kept walks.1.passed (walks.1.here ∙ sym met)
+      walk_on program shape slot insn (come_of front) walks.0 rows' sent come' here kept walks.1.passed
+      (walks.1.here ∙ sym met)
       (λ to later. walks.1.ahead to later ∙ sym (ahead to later)) goes on walks.1.proper walks.2
 
-  pub walk_refused : (error : VerifyError) → RefusesInsn program shape slot insn (come_of front) error → IsRefusal program shape error
+  pub walk_refused : (error : VerifyError) → RefusesInsn program shape slot insn (come_of front) error
+      → IsRefusal program shape error
   walk_refused error.Memory told = tt
   walk_refused (error.Refused at rule) (same, broken) =
       subst (IsFirstBroken program shape) (sym same)
-      (refused_here program shape slot insn (come_of front) walks.0 rule here walks.1.passed walks.2 (walks.1.here ∙ sym met) walks.1.proper broken)
+      (refused_here program shape slot insn (come_of front) walks.0 rule here walks.1.passed walks.2
+      (walks.1.here ∙ sym met) walks.1.proper broken)
 
 -- ---- answers
 
-pub when_ok : {P Q R S : Type 0} (r : Result (Unit {0}) VerifyError) → (P → Q → R → S) → OnOk r P → OnOk r Q → OnOk r R → OnOk r S
+pub when_ok : {P Q R S : Type 0} (r : Result (Unit {0}) VerifyError) → (P → Q → R → S) → OnOk r P → OnOk r Q → OnOk r R
+    → OnOk r S
 when_ok (Ok done) f p q r = f p q r
 when_ok (Err error) f p q r = tt
 
-pub when_err : {P Q : VerifyError → Type 0} (r : Result (Unit {0}) VerifyError) → ((error : VerifyError) → P error → Q error) → IfErr r P → IfErr r Q
+pub when_err : {P Q : VerifyError → Type 0} (r : Result (Unit {0}) VerifyError)
+    → ((error : VerifyError) → P error → Q error) → IfErr r P → IfErr r Q
 when_err (Ok done) f p = tt
 when_err (Err error) f p = f error p
 
 -- the walk goes on to where the next instruction begins, or to the end
-pub stop_next : (program : List Insn) (slot count : ℕ) (insn : Insn) → insn_at program slot ≡ Some insn → count ≡ slots_taken insn → IsStop program (slot + count)
+pub stop_next : (program : List Insn) (slot count : ℕ) (insn : Insn) → insn_at program slot ≡ Some insn
+    → count ≡ slots_taken insn → IsStop program (slot + count)
 stop_next program slot count insn here e = rw e (next_stop program slot insn here)
 
-pub walks_next : (program : List Insn) (shape : Extent) (slot taken count : ℕ) (come : Option AbstractState) (rows : Table) → count ≡ taken
+pub walks_next : (program : List Insn) (shape : Extent) (slot taken count : ℕ) (come : Option AbstractState)
+    (rows : Table) → count ≡ taken
     → Walks program shape (slot + taken) come rows → Walks program shape (slot + count) come rows
 walks_next program shape slot taken count come rows e walks = rw e walks

@@ -15,13 +15,21 @@ by_two n = omega arith
 by_three : (n : ℕ) → n / 65536 / 256 ≡ n / 16777216
 by_three n = omega arith
 
-four_fit : (a b c d : ℕ) (rest : List ℕ) → All (λ byte. byte < 256) (a ∷ b ∷ c ∷ d ∷ rest) → from_le_bytes w32 (a ∷ b ∷ c ∷ d ∷ []) < 2 ^ 32
+four_fit : (a b c d : ℕ) (rest : List ℕ) → All (λ byte. byte < 256) (a ∷ b ∷ c ∷ d ∷ rest)
+    → from_le_bytes w32 (a ∷ b ∷ c ∷ d ∷ []) < 2 ^ 32
 four_fit a b c d rest h =
     let P = λ (byte : ℕ). byte < 256 in
     let tb = All-tail P a (b ∷ c ∷ d ∷ rest) h in
     let tc = All-tail P b (c ∷ d ∷ rest) tb in
     let td = All-tail P c (d ∷ rest) tc in
-    omega (arith, All-head P a (b ∷ c ∷ d ∷ rest) h, All-head P b (c ∷ d ∷ rest) tb, All-head P c (d ∷ rest) tc, All-head P d rest td)
+    omega (
+      arith,
+      All-head P a (b ∷ c ∷ d ∷ rest) h,
+      All-head P b (c ∷ d ∷ rest) tb,
+      All-head P c
+          (d ∷ rest) tc,
+      All-head P d rest td,
+    )
 
 -- of a memory that has a pair
 pub record HasPair (m : List ℕ) : Type 0 where
@@ -47,7 +55,9 @@ has_pair (a ∷ b ∷ c ∷ d ∷ e ∷ f ∷ g ∷ h ∷ rest) l = record {
   clock_fits = λ bytes. four_fit a b c d (e ∷ f ∷ g ∷ h ∷ rest) bytes;
   mark_fits = λ bytes.
       let P = λ (byte : ℕ). byte < 256 in
-      four_fit e f g h rest (All-tail P d (e ∷ f ∷ g ∷ h ∷ rest) (All-tail P c (d ∷ e ∷ f ∷ g ∷ h ∷ rest) (All-tail P b (c ∷ d ∷ e ∷ f ∷ g ∷ h ∷ rest) (All-tail P a (b ∷ c ∷ d ∷ e ∷ f ∷ g ∷ h ∷ rest) bytes))));
+      four_fit e f g h rest (All-tail P d (e ∷ f ∷ g ∷ h ∷ rest)
+      (All-tail P c (d ∷ e ∷ f ∷ g ∷ h ∷ rest)
+      (All-tail P b (c ∷ d ∷ e ∷ f ∷ g ∷ h ∷ rest) (All-tail P a (b ∷ c ∷ d ∷ e ∷ f ∷ g ∷ h ∷ rest) bytes))));
 }
 
 -- ---- a pair that is written

@@ -91,9 +91,18 @@ clock_is_program rule ok =
     let sends = send_blocks n 0 ++ tail in
     let stores = store ++ sends in
     let choices = choice q m ++ stores in
-    let in_stores : AreInRange stores = (fit16 0 (omega arith), (fit16 4 (omega arith), in_append (send_blocks n 0) tail (in_sends n 0 few) (fit32 0 (omega arith), (tt, tt)))) in
-    let in_counted : AreInRange (count_blocks n 0 ++ choices) = in_append (count_blocks n 0) choices (in_counts n 0 few) (in_append (choice q m) stores (in_choice q m q_few m_few) in_stores) in
-    program_of (clock_listing rule) (in_append (head m) (count_blocks n 0 ++ choices) (in_head m m_few) in_counted) (omega (arith, slots)) (omega (arith, slots, ok.few))
+    let in_stores : AreInRange stores = (
+      fit16 0 (omega arith),
+      (
+        fit16 4 (omega arith),
+        in_append (send_blocks n 0) tail (in_sends n 0 few)
+            (fit32 0 (omega arith), (tt, tt)),
+      ),
+    ) in
+    let in_counted : AreInRange (count_blocks n 0 ++ choices) = in_append (count_blocks n 0) choices
+    (in_counts n 0 few) (in_append (choice q m) stores (in_choice q m q_few m_few) in_stores) in
+    program_of (clock_listing rule) (in_append (head m) (count_blocks n 0 ++ choices) (in_head m m_few) in_counted)
+    (omega (arith, slots)) (omega (arith, slots, ok.few))
 
 -- ---- say
 
@@ -101,12 +110,18 @@ clock_is_program rule ok =
 fit_signed : (value : ℕ) → value < 2 ^ 32 → FitsSigned w32 (cast_signed w32 value)
 fit_signed value small = omega (arith, ints, small)
 
-in_says : (values : List (Option ℕ)) (j : ℕ) → length values + j < 2 ^ 31 → All IsSlot values → AreInRange (say_blocks j values)
+in_says : (values : List (Option ℕ)) (j : ℕ) → length values + j < 2 ^ 31 → All IsSlot values
+    → AreInRange (say_blocks j values)
 in_says [] j few fit = tt
 in_says (None ∷ values) j few fit = in_says values (suc j) (omega (arith, few)) (All-tail IsSlot None values fit)
 in_says (Some value ∷ values) j few fit =
-    let rest = in_says values (suc j) (omega (arith, few)) (All-tail IsSlot (Some value) values fit) in
-    (fit32 j (omega (arith, few)), (fit_signed value (All-head IsSlot (Some value) values fit), (fit32 3 (omega arith), rest)))
+    let rest = in_says values (suc j) (omega (arith, few)) (All-tail IsSlot (Some value) values fit) in (
+      fit32 j (omega (arith, few)),
+      (
+        fit_signed value (All-head IsSlot (Some value) values fit),
+        (fit32 3 (omega arith), rest),
+      ),
+    )
 
 length_says : (values : List (Option ℕ)) (j : ℕ) → length (say_blocks j values) ≤ 3 * length values
 length_says [] j = omega arith
@@ -119,9 +134,11 @@ say_count values = count_of (say_listing values) (ones_say values) ∙ length-ap
 pub say_slots : (values : List (Option ℕ)) → slots_of (say_listing values) ≤ 2 + 3 * length values
 say_slots values = omega (arith, say_count values, length_says values 0)
 
-pub say_is_program : (values : List (Option ℕ)) → length values ≤ MAX_NODES → All IsSlot values → IsProgram (say_listing values)
+pub say_is_program : (values : List (Option ℕ)) → length values ≤ MAX_NODES → All IsSlot values
+    → IsProgram (say_listing values)
 say_is_program values few fit =
-    program_of (say_listing values) (in_append (say_blocks 0 values) tail (in_says values 0 (omega (arith, few)) fit) (fit32 0 (omega arith), (tt, tt)))
+    program_of (say_listing values) (in_append (say_blocks 0 values) tail (in_says values 0 (omega (arith, few)) fit)
+    (fit32 0 (omega arith), (tt, tt)))
     (omega (arith, say_count values)) (omega (arith, say_slots values, few))
 
 -- ---- echo
@@ -135,9 +152,16 @@ length_echoes zero j = refl
 length_echoes (suc n) j = omega (arith, length_echoes n (suc j))
 
 pub echo_slots : (nodes : ℕ) → slots_of (echo_listing nodes) ≡ 2 + 5 * nodes
-echo_slots nodes = omega (arith, count_of (echo_listing nodes) (ones_echo nodes), length-append (echo_blocks nodes 0) tail, length_echoes nodes 0)
+echo_slots nodes = omega (
+  arith,
+  count_of (echo_listing nodes) (ones_echo nodes),
+  length-append
+      (echo_blocks nodes 0) tail,
+  length_echoes nodes 0,
+)
 
 pub echo_is_program : (nodes : ℕ) → nodes ≤ MAX_NODES → IsProgram (echo_listing nodes)
 echo_is_program nodes few =
-    program_of (echo_listing nodes) (in_append (echo_blocks nodes 0) tail (in_echoes nodes 0 (omega (arith, few))) (fit32 0 (omega arith), (tt, tt)))
+    program_of (echo_listing nodes) (in_append (echo_blocks nodes 0) tail (in_echoes nodes 0 (omega (arith, few)))
+    (fit32 0 (omega arith), (tt, tt)))
     (omega (arith, echo_slots nodes)) (omega (arith, echo_slots nodes, few))

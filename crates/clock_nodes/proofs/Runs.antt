@@ -17,7 +17,8 @@ use Rattle.clock_nodes.specs.Ends.{IsSentTo}
 use Rattle.clock_nodes.proofs.Places.{Stands, begins}
 use Rattle.clock_nodes.proofs.Forms.{put_same, put_other, put, moves, exits}
 
-leads_add : (program : List Insn) (env : Setting) (k l : ℕ) (s t u : Phase) → Leads program env k s t → Leads program env l t u → Leads program env (k + l) s u
+leads_add : (program : List Insn) (env : Setting) (k l : ℕ) (s t u : Phase) → Leads program env k s t
+    → Leads program env l t u → Leads program env (k + l) s u
 leads_add program env zero l s t u h g =
     let same : l ≡ 0 + l = omega arith in
     subst (λ (n : ℕ). Leads program env n s u) same (subst (λ (p : Phase). Leads program env l p u) h g)
@@ -26,15 +27,18 @@ leads_add program env (suc k) l s t u h g =
     let same : suc (k + l) ≡ suc k + l = omega arith in
     subst (λ (n : ℕ). Leads program env n s u) same rest
 
--- the state runs, in at most so many steps, to an end with this memory, with 0 in r0 and what is given sent to each node
-pub record Finishes (program : List Insn) (env : Setting) (s : MachineState) (limit : ℕ) (left : List ℕ) (value_for : ℕ → Option ℕ) : Type 0 where
+-- the state runs, in at most so many steps, to an end with this memory, with 0 in r0 and what is given sent to each
+-- node
+pub record Finishes (program : List Insn) (env : Setting) (s : MachineState) (limit : ℕ) (left : List ℕ)
+    (value_for : ℕ → Option ℕ) : Type 0 where
   pub count : ℕ
   pub gone : FinMap nat_cmp ℕ
   pub leads : Leads program env count (Running s) (Ended left gone 0)
   pub few : count ≤ limit
   pub sent : IsSentTo env.shape.nodes value_for gone
 
-pub after : (program : List Insn) (env : Setting) (k l limit total : ℕ) (s t : MachineState) (left : List ℕ) (value_for : ℕ → Option ℕ) → Leads program env k (Running s) (Running t) → k ≤ l
+pub after : (program : List Insn) (env : Setting) (k l limit total : ℕ) (s t : MachineState) (left : List ℕ)
+    (value_for : ℕ → Option ℕ) → Leads program env k (Running s) (Running t) → k ≤ l
     → l + limit ≤ total → Finishes program env t limit left value_for → Finishes program env s total left value_for
 after program env k l limit total s t left value_for h few sum rest = record {
   count = k + rest.count;
@@ -45,12 +49,15 @@ after program env k l limit total s t left value_for h few sum rest = record {
 }
 
 -- from the tail
-pub finish_tail : (program : List Insn) (env : Setting) (s : MachineState) (value_for : ℕ → Option ℕ) → Stands program s.frame.slot tail → IsSentTo env.shape.nodes value_for s.sent
+pub finish_tail : (program : List Insn) (env : Setting) (s : MachineState) (value_for : ℕ → Option ℕ)
+    → Stands program s.frame.slot tail → IsSentTo env.shape.nodes value_for s.sent
     → Finishes program env s 2 s.memory value_for
 finish_tail program env s value_for stands sent =
     let t = put s (s.frame.slot + 1) R0 (Num 0) in
-    let e1 : step program env s ≡ Ok (Running t) = moves program env s (s.frame.slot + 1) R0 (Imm (pos 0)) (Num 0) stands.0 refl (begins program _ _ stands.1.0) refl refl in
-    let e2 : step program env t ≡ Ok (Ended s.memory s.sent 0) = exits program env t 0 stands.1.0 (put_same s.frame.registers 0 (Num 0)) in
+    let e1 : step program env s ≡ Ok (Running t) = moves program env s (s.frame.slot + 1) R0 (Imm (pos 0))
+    (Num 0) stands.0 refl (begins program _ _ stands.1.0) refl refl in
+    let e2 : step program env t ≡ Ok (Ended s.memory s.sent 0) = exits program env t 0 stands.1.0
+    (put_same s.frame.registers 0 (Num 0)) in
     record { count = 2; gone = s.sent; leads = (_, e1, (_, e2, refl)); few = omega arith; sent = sent }
 
 -- ---- what is sent
@@ -59,7 +66,8 @@ pub nothing_sent : (value_for : ℕ → Option ℕ) → IsSentTo 0 value_for emp
 nothing_sent value_for = record { each = λ j lt. absurd (omega arith); no_other = λ j le. get-empty nat_cmp j }
 
 -- to the next node there is a value
-pub sent_next : (j v : ℕ) (value_for : ℕ → Option ℕ) (sent : FinMap nat_cmp ℕ) → value_for j ≡ Some v → IsSentTo j value_for sent → IsSentTo (suc j) value_for (insert sent j v)
+pub sent_next : (j v : ℕ) (value_for : ℕ → Option ℕ) (sent : FinMap nat_cmp ℕ) → value_for j ≡ Some v
+    → IsSentTo j value_for sent → IsSentTo (suc j) value_for (insert sent j v)
 sent_next j v value_for sent e h = record {
   each = λ k lt. elim (cases_eq k j) [
     | inl same ↦ ap (get (insert sent j v)) same ∙ put_same sent j v ∙ sym e ∙ ap value_for (sym same)
@@ -69,7 +77,8 @@ sent_next j v value_for sent e h = record {
 }
 
 -- there is none
-pub sent_none : (j : ℕ) (value_for : ℕ → Option ℕ) (sent : FinMap nat_cmp ℕ) → value_for j ≡ None → IsSentTo j value_for sent → IsSentTo (suc j) value_for sent
+pub sent_none : (j : ℕ) (value_for : ℕ → Option ℕ) (sent : FinMap nat_cmp ℕ) → value_for j ≡ None
+    → IsSentTo j value_for sent → IsSentTo (suc j) value_for sent
 sent_none j value_for sent e h = record {
   each = λ k lt. elim (cases_eq k j) [
     | inl same ↦ ap (get sent) same ∙ h.no_other j (omega arith) ∙ sym e ∙ ap value_for (sym same)
@@ -85,5 +94,7 @@ pub record HasEnd (program : List Insn) (env : Setting) (memory : List ℕ) (IsE
   pub run : CompleteRun program env memory end
   pub is : IsEnd end
 
-pub one_end : (program : List Insn) (env : Setting) (memory : List ℕ) (IsEnd : End → Type 0) → HasEnd program env memory IsEnd → (end : End) → CompleteRun program env memory end → IsEnd end
-one_end program env memory IsEnd has end run = subst IsEnd (one_complete_run program env memory has.end end has.run run) has.is
+pub one_end : (program : List Insn) (env : Setting) (memory : List ℕ) (IsEnd : End → Type 0)
+    → HasEnd program env memory IsEnd → (end : End) → CompleteRun program env memory end → IsEnd end
+one_end program env memory IsEnd has end run = subst IsEnd
+    (one_complete_run program env memory has.end end has.run run) has.is

@@ -141,8 +141,8 @@ fn clock_insns(
     Ok(insns)
 }
 
-/// The clock of a rule, for the nodes of a shape: docs/CLOCK.md has its listing. It is named for the authors of the digital
-/// clock that the rule is written after.
+/// The clock of a rule, for the nodes of a shape: docs/CLOCK.md has its listing. It is named for the authors of the
+/// digital clock that the rule is written after.
 pub fn dolev_welch(alloc: Global, shape: Shape, rule: ClockRule) -> Result<Program, AllocError>
     requires nodes { rule.nodes ≡ shape.nodes }
     ensures listing { IfOk result (λ p. p ≡ clock_listing rule) }

@@ -66,7 +66,8 @@ fn say_insns(alloc: Global, nodes: u32, values: &[Option<u32>]) -> Result<Vec<In
     Ok(insns)
 }
 
-/// A program that sends each node its value, where there is one, whatever mail, coin and memory say. It keeps the memory.
+/// A program that sends each node its value, where there is one, whatever mail, coin and memory say. It keeps the
+/// memory.
 pub fn say(alloc: Global, shape: Shape, values: &[Option<u32>]) -> Result<Program, AllocError>
     requires values { length values.now ≡ shape.nodes }
     ensures listing { IfOk result (λ p. p ≡ say_listing values.now) }

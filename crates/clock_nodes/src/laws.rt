@@ -8,8 +8,8 @@ ghost use Rattle.clock_nodes.specs.Rule.{Rule, IsRule, clock_of, mark_of, pair_a
 ghost use Rattle.clock_nodes.specs.Listings.{listing, clock_listing, say_listing, echo_listing};
 ghost use Rattle.clock_nodes.specs.Ends.{HasRuns, EndsBy, IsClockEnd, IsSayEnd, IsEchoEnd};
 
-/// The clock's instructions are a program, however they were made; it has a complete run from every memory, mail and coin, and
-/// every complete run ends as the rule says.
+/// The clock's instructions are a program, however they were made; it has a complete run from every memory, mail
+/// and coin, and every complete run ends as the rule says.
 pub fn clock_ends()
     ensures slots { (nodes quorum modulus : ℕ) → slots_of (listing nodes quorum modulus) ≡ 27 + 7 * nodes }
     ensures program { (rule : Rule) → IsRule rule.nodes rule.faults rule.modulus → IsProgram (clock_listing rule) }

@@ -11,8 +11,8 @@ pub const LEAST_MODULUS: u32 = 2;
 /// The most.
 pub const MOST_MODULUS: u32 = 65_536;
 
-/// The rule of the clocks (docs/CLOCK.md, "The rule") for so many nodes, of which so many may be faulty, with clocks below
-/// the modulus.
+/// The rule of the clocks (docs/CLOCK.md, "The rule") for so many nodes, of which so many may be faulty, with
+/// clocks below the modulus.
 #[derive(Clone, Copy, Debug, PartialEq, Eq)]
 pub struct ClockRule {
     nodes: u32,
@@ -33,9 +33,9 @@ impl Model for ClockRule {
 }
 
 impl ClockRule {
-    /// 1 to `MAX_NODES` nodes, fewer faults than nodes, and a modulus from `LEAST_MODULUS` to `MOST_MODULUS`. Clocks are only
-    /// known to agree where there are more than three times as many nodes as faults (docs/CLOCK.md, "Why it holds"); that
-    /// isn't asked here.
+    /// 1 to `MAX_NODES` nodes, fewer faults than nodes, and a modulus from `LEAST_MODULUS` to `MOST_MODULUS`.
+    /// Clocks are only known to agree where there are more than three times as many nodes as faults (docs/CLOCK.md,
+    /// "Why it holds"); that isn't asked here.
     pub fn of(nodes: u32, faults: u32, modulus: u32) -> Option<ClockRule>
         ensures value { IfSome result (λ r. r ≡ record { nodes = nodes; faults = faults; modulus = modulus }) }
         ensures some { IsSome result ↔ IsRule nodes faults modulus }

@@ -12,11 +12,13 @@ use Rattle.commands.specs.declared.fault.Fault.TheVariants as faults
 use Rattle.commands.specs.Output.{Leaves}
 use Rattle.commands.specs.Run.{LeavesTold, Report, Refusal, told_text}
 
-pub whole_report : (input old new : Option (List ℕ)) → IfSome input (λ text. LeavesReport old new text (Ok tt)) → IfSome input (λ text. LeavesTold old new text (Ok Done))
+pub whole_report : (input old new : Option (List ℕ)) → IfSome input (λ text. LeavesReport old new text (Ok tt))
+    → IfSome input (λ text. LeavesTold old new text (Ok Done))
 whole_report None old new left = tt
 whole_report (Some text) old new left = (Report left.0, left.1, refl, left.2)
 
-pub cut_report : (input old new : Option (List ℕ)) (written : ℕ) → IfSome input (λ text. LeavesReport old new text (Err (scenario.Write written)))
+pub cut_report : (input old new : Option (List ℕ)) (written : ℕ)
+    → IfSome input (λ text. LeavesReport old new text (Err (scenario.Write written)))
     → IfSome input (λ text. LeavesTold old new text (Err (faults.Write written)))
 cut_report None old new written left = tt
 cut_report (Some text) old new written left = (Report left.0, left.1, left.2, left.3)
@@ -33,11 +35,14 @@ kept_twice (Some x) None c p q = absurd p
 kept_twice (Some x) (Some y) None p q = absurd q
 kept_twice (Some x) (Some y) (Some z) p q = q ∙ p
 
-pub refused_scenario : (input old mid new : Option (List ℕ)) (error : ScenarioError) (result : Result Ending Fault) → IfSome input (λ text. LeavesReport old mid text (Err (scenario.Refused error)))
+pub refused_scenario : (input old mid new : Option (List ℕ)) (error : ScenarioError) (result : Result Ending Fault)
+    → IfSome input (λ text. LeavesReport old mid text (Err (scenario.Refused error)))
     → Leaves mid new (told_text (Refusal error)) Refused result → IfSome input (λ text. LeavesTold old new text result)
 refused_scenario None old mid new error result left wrote = tt
-refused_scenario (Some text) old mid new error (Ok given) left wrote = (Refusal error, left.0, wrote.0, kept_appends old mid new _ left.1 wrote.1)
-refused_scenario (Some text) old mid new error (Err (faults.Write after)) left wrote = (Refusal error, left.0, wrote.0, kept_appends old mid new _ left.1 wrote.1)
+refused_scenario (Some text) old mid new error (Ok given) left wrote =
+    (Refusal error, left.0, wrote.0, kept_appends old mid new _ left.1 wrote.1)
+refused_scenario (Some text) old mid new error (Err (faults.Write after)) left wrote =
+    (Refusal error, left.0, wrote.0, kept_appends old mid new _ left.1 wrote.1)
 refused_scenario (Some text) old mid new error (Err faults.Read) left wrote = absurd wrote
 refused_scenario (Some text) old mid new error (Err faults.Memory) left wrote = kept_twice old mid new left.1 wrote
 refused_scenario (Some text) old mid new error (Err faults.Thread) left wrote = absurd wrote

@@ -26,7 +26,8 @@ text_refusal errors.Memory = codes "refused text Memory"
 -- a text that isn't too long to be read means this program, or it means none
 abbrev pub ReadsText : List ℕ → Result (List Insn) TextError → Type 0
 ReadsText text (Ok program) = (length text ≤ TEXT_BYTES) × Means text program
-ReadsText text (Err error) = (length text ≤ TEXT_BYTES) × (error ≢ errors.Memory) × ((program : List Insn) → Means text program → ⊥)
+ReadsText text (Err error) = (length text ≤ TEXT_BYTES) × (error ≢ errors.Memory)
+    × ((program : List Insn) → Means text program → ⊥)
 
 -- what is printed: the image of the program, or the line of the refusal
 abbrev pub assembled : Result (List Insn) TextError → List ℕ

@@ -7,7 +7,8 @@ use Rattle.commands.specs.declared.fault.Fault.{Fault}
 use Rattle.commands.specs.Answer.{Answers, ending_of, text_of}
 use Rattle.commands.specs.Output.{Leaves, LeavesAny}
 
--- The whole line of an answer, or its first bytes where a write failed; and nothing where memory ran out. No other fault comes.
+-- The whole line of an answer, or its first bytes where a write failed; and nothing where memory ran out. No other
+-- fault comes.
 abbrev pub LeavesLine : Option (List ℕ) → Option (List ℕ) → Answer → Result Ending Fault → Type 0
 LeavesLine old new answer result = Leaves old new (text_of answer) (ending_of answer) result
 

@@ -21,10 +21,12 @@ use Rattle.commands.specs.Verdict.{LeavesVerdict}
 
 -- what each command leaves on its output, where the bytes of its input are known, and how it ends
 abbrev pub CarriesOut : Request → Option (List ℕ) → Option (List ℕ) → Option (List ℕ) → Result Ending Fault → Type 0
-CarriesOut (Exec asked) input old new ended = IfSome input (λ bytes. LeavesAnswer old new asked (take IMAGE_BYTES bytes) ended)
+CarriesOut (Exec asked) input old new ended = IfSome input
+    (λ bytes. LeavesAnswer old new asked (take IMAGE_BYTES bytes) ended)
 CarriesOut Asm input old new ended = IfSome input (λ bytes. LeavesImage old new (take (TEXT_BYTES + 1) bytes) ended)
 CarriesOut Dis input old new ended = IfSome input (λ bytes. LeavesListing old new (take IMAGE_BYTES bytes) ended)
-CarriesOut (Verify asked) input old new ended = IfSome input (λ bytes. LeavesVerdict old new asked (take IMAGE_BYTES bytes) ended)
+CarriesOut (Verify asked) input old new ended = IfSome input
+    (λ bytes. LeavesVerdict old new asked (take IMAGE_BYTES bytes) ended)
 CarriesOut (Run asked) input old new ended = IfSome input (λ bytes. LeavesTold old new bytes ended)
 CarriesOut (Stress asked) input old new ended = LeavesStressed old new ended
 CarriesOut (Help text) input old new ended = Leaves old new (string_bytes text) Done ended
@@ -36,7 +38,8 @@ status_for (Err fault) = fault_status
 
 -- the command is carried out, and the status is that of how it ended
 abbrev pub Performs : Request → Option (List ℕ) → Option (List ℕ) → Option (List ℕ) → ℕ → Type 0
-Performs request input old new status = (ended : Result Ending Fault) × CarriesOut request input old new ended × (status ≡ status_for ended)
+Performs request input old new status = (ended : Result Ending Fault) × CarriesOut request input old new ended
+    × (status ≡ status_for ended)
 
 -- how much of its input a command takes at most, whatever comes of it
 abbrev pub TakesFor : Request → Option (List ℕ) → Option (List ℕ) → Type 0

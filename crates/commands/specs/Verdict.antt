@@ -1,4 +1,5 @@
--- What `verify` answers to the bytes that it read, the line that says it, and what it leaves on its output (docs/COMMANDS.md, "What verify prints").
+-- What `verify` answers to the bytes that it read, the line that says it, and what it leaves on its output
+-- (docs/COMMANDS.md, "What verify prints").
 use Rattle.std.specs.Prelude.{◌≡◌, ℕ, List, ◌++◌, codes, Option, Result}
 use Rattle.std.specs.Fmt.{decimal}
 use Rattle.node_env.specs.Env.{Extent}
@@ -17,11 +18,13 @@ use Rattle.commands.specs.declared.fault.Fault.{Fault}
 use Rattle.commands.specs.Image.{HasShape, IsRefused, asked_extent, refusal_line}
 use Rattle.commands.specs.Output.{Leaves, LeavesAny}
 
--- the program keeps the rules, and these are its slots and the instructions on its longest path; or this slot is the first that can't be typed
+-- the program keeps the rules, and these are its slots and the instructions on its longest path; or this slot is the
+-- first that can't be typed
 -- (docs/VERIFIER.md, "What is accepted", "The longest path")
 abbrev pub JudgesProgram : List Insn → Extent → Verdict → Type 0
 JudgesProgram program shape (NoProgram refusal) = ⊥
-JudgesProgram program shape (Accepted slots announced) = Typable program shape × (slots ≡ slots_of program) × IsLongestPath program announced
+JudgesProgram program shape (Accepted slots announced) = Typable program shape × (slots ≡ slots_of program)
+    × IsLongestPath program announced
 JudgesProgram program shape (Refused slot rule) = IsFirstBroken program shape slot
 
 -- the bytes are the image of a program (RFC 9669, section 3) of which this is said
@@ -34,7 +37,8 @@ pub record JudgesImage (shape : Extent) (bytes : List ℕ) (verdict : Verdict) :
 -- the verdict on these bytes under these options. Want of memory is none
 abbrev pub Judges : ShapeOptions → List ℕ → Verdict → Type 0
 Judges asked bytes (NoProgram refusal) = IsRefused asked bytes refusal
-Judges asked bytes (Accepted slots announced) = HasShape asked × JudgesImage (asked_extent asked) bytes (Accepted slots announced)
+Judges asked bytes (Accepted slots announced) = HasShape asked
+    × JudgesImage (asked_extent asked) bytes (Accepted slots announced)
 Judges asked bytes (Refused slot rule) = HasShape asked × JudgesImage (asked_extent asked) bytes (Refused slot rule)
 
 -- the two say the same, but for the rule that a refusal names
@@ -48,8 +52,10 @@ SameVerdict verdict other = ⊥
 
 abbrev pub verdict_line : Verdict → List ℕ
 verdict_line (NoProgram refusal) = refusal_line refusal
-verdict_line (Accepted slots announced) = codes "accepted slots " ++ (decimal slots ++ (codes " announced " ++ decimal announced))
-verdict_line (Refused slot rule) = codes "refused rule " ++ (decimal (rule_number rule) ++ (codes " slot " ++ decimal slot))
+verdict_line (Accepted slots announced) = codes "accepted slots "
+    ++ (decimal slots ++ (codes " announced " ++ decimal announced))
+verdict_line (Refused slot rule) = codes "refused rule "
+    ++ (decimal (rule_number rule) ++ (codes " slot " ++ decimal slot))
 
 -- the line with its end
 abbrev pub verdict_text : Verdict → List ℕ
@@ -63,7 +69,8 @@ verdict_ending (Refused slot rule) = endings.Refused
 
 -- ---- what is left on the output
 
--- the whole line of a verdict, or its first bytes where a write failed; and nothing where memory ran out. No other fault comes
+-- the whole line of a verdict, or its first bytes where a write failed; and nothing where memory ran out. No other
+-- fault comes
 abbrev pub LeavesVerdictLine : Option (List ℕ) → Option (List ℕ) → Verdict → Result Ending Fault → Type 0
 LeavesVerdictLine old new verdict result = Leaves old new (verdict_text verdict) (verdict_ending verdict) result
 

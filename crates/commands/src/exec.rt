@@ -30,7 +30,8 @@ pub fn exec<R: Read, W: Write>(
 ) -> Result<Ending, Fault>
     ensures answer { IfSome (R.remaining reader.old) (λ input.
         LeavesAnswer (W.contents out.old) (W.contents out.new) options (take IMAGE_BYTES input) result) }
-    ensures no_shape { (HasShape options.shape → ⊥) → LeavesLine (W.contents out.old) (W.contents out.new) (Refused NoShape) result }
+    ensures no_shape { (HasShape options.shape → ⊥)
+        → LeavesLine (W.contents out.old) (W.contents out.new) (Refused NoShape) result }
     ensures unread { (HasShape options.shape → ⊥) → R.remaining reader.new ≡ R.remaining reader.old }
     ensures front { TakesAtMost IMAGE_BYTES (R.remaining reader.old) (R.remaining reader.new) }
 {

@@ -55,7 +55,8 @@ pub enum Refusal {
     Image(ImageError),
 }
 
-/// The program of the image that is read, with the shape that is asked for. Where the options have none, nothing is read.
+/// The program of the image that is read, with the shape that is asked for. Where the options have none, nothing is
+/// read.
 pub fn program_for<R: Read>(
     alloc: Global,
     options: ShapeOptions,

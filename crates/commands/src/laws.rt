@@ -15,7 +15,8 @@ use bpf_machine::one_run;
 
 /// Bytes have at most one answer under given options.
 pub fn one_answer()
-    ensures { (options : ExecOptions) (bytes : List ℕ) (answer other : Answer) → Answers options bytes answer → Answers options bytes other → answer ≡ other }
+    ensures { (options : ExecOptions) (bytes : List ℕ) (answer other : Answer) → Answers options bytes answer
+        → Answers options bytes other → answer ≡ other }
 {
     one_reading();
     one_run();
@@ -23,14 +24,16 @@ pub fn one_answer()
 
 /// Bytes are the image of one program, which `dis` prints, or have one refusal.
 pub fn one_listing()
-    ensures { (bytes : List ℕ) (read other : Result (List Insn) ImageError) → ReadsImage bytes read → ReadsImage bytes other → read ≡ other }
+    ensures { (bytes : List ℕ) (read other : Result (List Insn) ImageError) → ReadsImage bytes read
+        → ReadsImage bytes other → read ≡ other }
 {
     one_reading();
 }
 
 /// Bytes have at most one verdict under given options, but for the rule that a refusal names.
 pub fn one_verdict()
-    ensures { (options : ShapeOptions) (bytes : List ℕ) (verdict other : Verdict) → Judges options bytes verdict → Judges options bytes other → SameVerdict verdict other }
+    ensures { (options : ShapeOptions) (bytes : List ℕ) (verdict other : Verdict) → Judges options bytes verdict
+        → Judges options bytes other → SameVerdict verdict other }
 {
     one_reading();
     bpf_verify::one_verdict();

@@ -45,7 +45,8 @@ fn carry_out<T: Threads + Wait + Sync, R: Read, W: Write>(
     reader: &mut R,
     out: &mut W,
 ) -> Result<Ending, Fault>
-    ensures carried_out { CarriesOut request.now (R.remaining reader.old) (W.contents out.old) (W.contents out.new) result }
+    ensures carried_out { CarriesOut request.now (R.remaining reader.old) (W.contents out.old)
+        (W.contents out.new) result }
     ensures taken { TakesFor request.now (R.remaining reader.old) (R.remaining reader.new) }
 {
     match request {

@@ -19,8 +19,8 @@ use std::io::{Read, Write};
 use std::sync::Wait;
 use std::thread::Threads;
 
-/// Writes the report of the run of the scenario that is read, or the line that refuses it. A number of workers that is none is the
-/// nearest that is one.
+/// Writes the report of the run of the scenario that is read, or the line that refuses it. A number of workers that
+/// is none is the nearest that is one.
 pub fn run<T: Threads + Wait + Sync, R: Read, W: Write>(
     rt: &T,
     alloc: Global,

@@ -15,8 +15,9 @@ use std::io::Write;
 use std::sync::Wait;
 use std::thread::Threads;
 
-/// Lets loaders and an engine work on one bench at once, and writes how many entries they made, where its history is what their
-/// receipts say (docs/THREADS.md). A number of loaders or workers that is none is the nearest that is one.
+/// Lets loaders and an engine work on one bench at once, and writes how many entries they made, where its history
+/// is what their receipts say (docs/THREADS.md). A number of loaders or workers that is none is the nearest that is
+/// one.
 pub fn stress<R: Threads + Wait + Sync, W: Write>(
     rt: &R,
     alloc: Global,

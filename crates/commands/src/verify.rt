@@ -29,7 +29,8 @@ pub fn verify<R: Read, W: Write>(
 ) -> Result<Ending, Fault>
     ensures verdict { IfSome (R.remaining reader.old) (λ input.
         LeavesVerdict (W.contents out.old) (W.contents out.new) options (take IMAGE_BYTES input) result) }
-    ensures no_shape { (HasShape options → ⊥) → LeavesVerdictLine (W.contents out.old) (W.contents out.new) (NoProgram NoShape) result }
+    ensures no_shape { (HasShape options → ⊥) → LeavesVerdictLine (W.contents out.old) (W.contents out.new)
+        (NoProgram NoShape) result }
     ensures unread { (HasShape options → ⊥) → R.remaining reader.new ≡ R.remaining reader.old }
     ensures front { TakesAtMost IMAGE_BYTES (R.remaining reader.old) (R.remaining reader.new) }
 {

@@ -17,15 +17,19 @@ none_or_some e = absurd (subst (λ o. T (is_some o)) (sym e) tt)
 pub numbers-empty : (nodes : ℕ) → AreNumbers nodes empty
 numbers-empty nodes j v e = none_or_some (sym (get-empty nat_cmp j) ∙ e)
 
-after_insert : (nodes : ℕ) (m : FinMap nat_cmp ℕ) (i x j v : ℕ) (b : Bool) → (j == i) ≡ b → i < nodes → x < 2 ^ 32 → AreNumbers nodes m → cond b (Some x) (get m j) ≡ Some v → (j < nodes) × (v < 2 ^ 32)
+after_insert : (nodes : ℕ) (m : FinMap nat_cmp ℕ) (i x j v : ℕ) (b : Bool) → (j == i) ≡ b → i < nodes → x < 2 ^ 32
+    → AreNumbers nodes m → cond b (Some x) (get m j) ≡ Some v → (j < nodes) × (v < 2 ^ 32)
 after_insert nodes m i x j v true t low small old e = (grind (arith, nat_tests), subst IsSlot e small)
 after_insert nodes m i x j v false t low small old e = old j v e
 
-pub numbers-insert : (nodes : ℕ) (m : FinMap nat_cmp ℕ) (i x : ℕ) → i < nodes → x < 2 ^ 32 → AreNumbers nodes m → AreNumbers nodes (insert m i x)
+pub numbers-insert : (nodes : ℕ) (m : FinMap nat_cmp ℕ) (i x : ℕ) → i < nodes → x < 2 ^ 32 → AreNumbers nodes m
+    → AreNumbers nodes (insert m i x)
 numbers-insert nodes m i x low small old j v e =
-    after_insert nodes m i x j v (eq_by_cmp nat_cmp j i) (sym (unsigned_tied j i)) low small old (sym (get-insert nat_cmp_total m i x j) ∙ e)
+    after_insert nodes m i x j v (eq_by_cmp nat_cmp j i) (sym (unsigned_tied j i)) low small old
+    (sym (get-insert nat_cmp_total m i x j) ∙ e)
 
-pub are_sendings : (words : List ℕ) → 1 ≤ length words → length words ≤ MAX_NODES → IsSendings (record { nodes = length words; sent = numbers_of words })
+pub are_sendings : (words : List ℕ) → 1 ≤ length words → length words ≤ MAX_NODES
+    → IsSendings (record { nodes = length words; sent = numbers_of words })
 are_sendings words some few = record {
   some = some;
   few = few;

@@ -16,7 +16,8 @@ use Rattle.node_env.specs.inner.Slots.{slot_of, numbers_of, rows_of}
 use Rattle.node_env.proofs.Slots.{get-map_of, map_of-replicate, map_of-set}
 
 -- the slot of a word at a place is what the map holds there
-pub get-numbers_of : (words : List ℕ) (q d : ℕ) → q < length words → get (numbers_of words) q ≡ slot_of (get_or words q d)
+pub get-numbers_of : (words : List ℕ) (q d : ℕ) → q < length words
+    → get (numbers_of words) q ≡ slot_of (get_or words q d)
 get-numbers_of words q d h = get-map_of (map slot_of words) q ∙ at words q h
   where
     at : (words : List ℕ) (q : ℕ) → q < length words → get_or (map slot_of words) q None ≡ slot_of (get_or words q d)
@@ -25,7 +26,8 @@ get-numbers_of words q d h = get-map_of (map slot_of words) q ∙ at words q h
     at (w ∷ ws) (suc q) h = at ws q (omega arith)
 
 pub get-numbers_of_past : (words : List ℕ) (q : ℕ) → length words ≤ q → get (numbers_of words) q ≡ None
-get-numbers_of_past words q h = get-map_of (map slot_of words) q ∙ get_or_past (map slot_of words) q None (rw length-map h)
+get-numbers_of_past words q h = get-map_of (map slot_of words) q
+    ∙ get_or_past (map slot_of words) q None (rw length-map h)
 
 -- an empty row
 map-replicate : (n : ℕ) → map slot_of (replicate n EMPTY) ≡ replicate n None
@@ -42,13 +44,16 @@ length-rows_of n (suc k) words = ap suc (length-rows_of n k (drop n words))
 pub rows_of-empty : (n k : ℕ) → rows_of n k (replicate (k * n) EMPTY) ≡ replicate k empty
 rows_of-empty n zero = refl
 rows_of-empty n (suc k) =
-    let first : take n (replicate (suc k * n) EMPTY) ≡ replicate n EMPTY = take-replicate n (suc k * n) EMPTY (omega arith) in
+    let first : take n (replicate (suc k * n) EMPTY) ≡ replicate n EMPTY = take-replicate n (suc k * n) EMPTY
+    (omega arith) in
     let size : suc k * n - n ≡ k * n = omega arith in
-    let rest : drop n (replicate (suc k * n) EMPTY) ≡ replicate (k * n) EMPTY = drop-replicate n (suc k * n) EMPTY ∙ ap (λ m. replicate m EMPTY) size in
+    let rest : drop n (replicate (suc k * n) EMPTY) ≡ replicate (k * n) EMPTY = drop-replicate n (suc k * n) EMPTY
+    ∙ ap (λ m. replicate m EMPTY) size in
     rw (first, rest, numbers_of-empty n, rows_of-empty n k) refl
 
 -- the row at a place
-pub get-rows_of : (n k s r d : ℕ) (words : List ℕ) → s < k → r < n → k * n ≤ length words → get (get_or (rows_of n k words) s empty) r ≡ slot_of (get_or words (s * n + r) d)
+pub get-rows_of : (n k s r d : ℕ) (words : List ℕ) → s < k → r < n → k * n ≤ length words
+    → get (get_or (rows_of n k words) s empty) r ≡ slot_of (get_or words (s * n + r) d)
 get-rows_of n zero s r d words low inner long = absurd (omega arith)
 get-rows_of n (suc k) zero r d words low inner long =
     get-numbers_of (take n words) r d (omega (arith, length-take-le n words (omega arith)))
@@ -62,7 +67,8 @@ nothing [] s n at none = refl
 nothing (w ∷ ws) s n at none = absurd (omega (arith, (rw none at at)))
 
 -- a row that is written over another, wherever it stands
-pub rows_of-write : (n k s : ℕ) (before old new after : List ℕ) → s < k → length before ≡ s * n → length old ≡ n → length new ≡ n
+pub rows_of-write : (n k s : ℕ) (before old new after : List ℕ) → s < k → length before ≡ s * n → length old ≡ n
+    → length new ≡ n
     → rows_of n k (before ++ (new ++ after)) ≡ slice_set (rows_of n k (before ++ (old ++ after))) s (numbers_of new)
 rows_of-write n zero s before old new after low at was is = absurd (omega arith)
 rows_of-write n (suc k) zero before old new after low at was is =
@@ -70,8 +76,15 @@ rows_of-write n (suc k) zero before old new after low at was is =
     (rw (is, ← was, drop-append_seam old after) refl)
 rows_of-write n (suc k) (suc s) before old new after low at was is =
     let long : n ≤ length before = omega arith in
-    rw (take-append-le n before (new ++ after) long, drop-append-le n before (new ++ after) long, take-append-le n before (old ++ after) long, drop-append-le n before (old ++ after) long)
-    (ap (λ rows. numbers_of (take n before) ∷ rows) (rows_of-write n k s (drop n before) old new after (omega arith) (omega (arith, length-drop n before)) was is))
+    rw (
+      take-append-le n before (new ++ after) long,
+      drop-append-le n before
+          (new ++ after) long,
+      take-append-le n before (old ++ after) long,
+      drop-append-le n before (old ++ after) long,
+    )
+    (ap (λ rows. numbers_of (take n before) ∷ rows)
+    (rows_of-write n k s (drop n before) old new after (omega arith) (omega (arith, length-drop n before)) was is))
 
 -- the numbers of a row
 pub numbers-words : (n : ℕ) (words : List ℕ) → length words ≤ n → AreNumbers n (numbers_of words)
@@ -95,7 +108,8 @@ rows-numbers n (suc k) words long =
     (rows-numbers n k (drop n words) (omega (arith, length-drop n words)))
 
 -- a number that is written
-pub numbers_of-set : (words : List ℕ) (i v : ℕ) → i < length words → v < 2 ^ 32 → numbers_of (slice_set words i v) ≡ insert (numbers_of words) i v
+pub numbers_of-set : (words : List ℕ) (i v : ℕ) → i < length words → v < 2 ^ 32
+    → numbers_of (slice_set words i v) ≡ insert (numbers_of words) i v
 numbers_of-set words i v low small =
     let number : slot_of v ≡ Some v = some_number v (nat_lt v EMPTY) refl small in
     rw (map-set slot_of words i v, number) (map_of-set {A = ℕ} (map slot_of words) i v (rw length-map low))
@@ -111,16 +125,19 @@ rows_of-put n s a k words new low square at wide is =
     let within : suc s * n ≤ n * n = mul-le-mul_right n (omega arith) in
     let within : a + k ≤ length words = omega arith in
     rows_of-write n n s (take a words) (mid_of a k words) new (post_of a k words) low
-    (length-take-le a words (omega arith) ∙ at) (length-take-le k (drop a words) (omega (arith, length-drop a words)) ∙ wide) is
+    (length-take-le a words (omega arith) ∙ at)
+    (length-take-le k (drop a words) (omega (arith, length-drop a words)) ∙ wide) is
     ∙ ap (λ ws. slice_set (rows_of n n ws) s (numbers_of new)) (put_same a k words)
 
-pub length-square : (n : ℕ) (words : List ℕ) (rows : List (FinMap nat_cmp ℕ)) → rows_of n n words ≡ rows → length rows ≡ n
+pub length-square : (n : ℕ) (words : List ℕ) (rows : List (FinMap nat_cmp ℕ)) → rows_of n n words ≡ rows
+    → length rows ≡ n
 length-square n words rows e = subst (λ rows. length rows ≡ n) e (length-rows_of n n words)
 
 pub ruleset words = (get-numbers_of, get-numbers_of_past, numbers_of-empty)
 
 -- an inbox has at each place what that sender sent
-pub inbox_slot : (inbox : List (Option ℕ)) (rows : List (FinMap nat_cmp ℕ)) (sender receiver : ℕ) → sender < length rows → map_of inbox ≡ inbox_of receiver rows
+pub inbox_slot : (inbox : List (Option ℕ)) (rows : List (FinMap nat_cmp ℕ)) (sender receiver : ℕ)
+    → sender < length rows → map_of inbox ≡ inbox_of receiver rows
     → get_or inbox sender None ≡ get (get_or rows sender empty) receiver
 inbox_slot inbox rows sender receiver low e =
     sym (get-map_of inbox sender) ∙ ap (λ m. get m sender) e ∙ get-map_of (map (λ row. get row receiver) rows) sender

@@ -10,7 +10,8 @@ use std::marker::Model;
 /// What `recv` answers for no mail.
 pub const NO_MAIL: u32 = 4294967295;
 
-/// What one node sees in a pulse: the shape, its own number, the mail from each node in the last closed pulse, and the coin.
+/// What one node sees in a pulse: the shape, its own number, the mail from each node in the last closed pulse, and
+/// the coin.
 #[derive(Drop)]
 pub struct Env {
     shape: Shape,
@@ -104,7 +105,8 @@ impl Env {
         self.coin
     }
 
-    /// Whether this is what a node sees in a pulse: its shape, its number, what came to it in the mail, and its coin. A mail of
+    /// Whether this is what a node sees in a pulse: its shape, its number, what came to it in the mail, and its
+    /// coin. A mail of
     /// `NO_MAIL` and none differ here.
     pub fn sees(&self, shape: Shape, id: u32, mail: &Mail, coin: u32) -> bool
         requires { length mail.now ≡ shape.nodes }

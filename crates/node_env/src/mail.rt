@@ -12,8 +12,8 @@ use crate::word::{EMPTY, slot_in};
 use std::alloc::{AllocError, Global};
 use std::marker::Model;
 
-/// What all nodes sent in the last closed pulse: for each sender and each receiver a number of 32 bits, or nothing, as one
-/// list of words, row by row.
+/// What all nodes sent in the last closed pulse: for each sender and each receiver a number of 32 bits, or nothing,
+/// as one list of words, row by row.
 #[derive(Drop)]
 pub struct Mail {
     nodes: u32,
@@ -117,7 +117,8 @@ fn write_row(words: &mut [u64], nodes: u32, sender: u32, row: &[u64])
     requires sender { sender < nodes }
     requires row { length row.now ≡ nodes }
     ensures square { IsSquare nodes words.new }
-    ensures rows { rows_of nodes nodes words.new ≡ slice_set (rows_of nodes nodes words.old) sender (numbers_of row.now) }
+    ensures rows { rows_of nodes nodes words.new ≡ slice_set (rows_of nodes nodes words.old) sender
+        (numbers_of row.now) }
 {
     let start = place_of(nodes, sender, 0);
     words[start..start + nodes as usize].copy_from_slice(row);

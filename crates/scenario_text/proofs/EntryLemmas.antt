@@ -25,18 +25,21 @@ each_of_all P (x ∷ xs) all = (all 0 x (omega arith), each_of_all P xs (λ k d 
 
 -- ---- what the arrays of a table say of the entries
 
-each_read : {A B : Type 0} (reads : Data → A → Type 0) (P : A → Type 0) (view : B → A) → ((value : Data) (x : A) → reads value x → P x)
+each_read : {A B : Type 0} (reads : Data → A → Type 0) (P : A → Type 0) (view : B → A)
+    → ((value : Data) (x : A) → reads value x → P x)
     → (values : Items) (xs : List B) → ReadsEach reads values (map view xs) → Each (λ x. P (view x)) xs
 each_read reads P view leads no_items [] read = tt
 each_read reads P view leads no_items (x ∷ xs) read = absurd read
 each_read reads P view leads (item value values) [] read = tt
-each_read reads P view leads (item value values) (x ∷ xs) read = (leads value (view x) read.0, each_read reads P view leads values xs read.1)
+each_read reads P view leads (item value values) (x ∷ xs) read =
+    (leads value (view x) read.0, each_read reads P view leads values xs read.1)
 
 each_of_none : {A B : Type 0} (P : B → Type 0) (view : B → A) (xs : List B) → map view xs ≡ [] → Each P xs
 each_of_none P view [] none = tt
 each_of_none P view (x ∷ xs) none = absurd (cc)
 
-each_entry : {A B : Type 0} (reads : Data → A → Type 0) (P : A → Type 0) (view : B → A) → ((value : Data) (x : A) → reads value x → P x)
+each_entry : {A B : Type 0} (reads : Data → A → Type 0) (P : A → Type 0) (view : B → A)
+    → ((value : Data) (x : A) → reads value x → P x)
     → (o : Option Data) (xs : List B) → MayBeArray reads o (map view xs) → Each (λ x. P (view x)) xs
 each_entry reads P view leads None xs read = each_of_none (λ x. P (view x)) view xs read
 each_entry reads P view leads (Some (array values)) xs read = each_read reads P view leads values xs read
@@ -53,7 +56,8 @@ each_plain : {A : Type 0} (reads : Data → A → Type 0) (P : A → Type 0) →
 each_plain reads P leads no_items [] read = tt
 each_plain reads P leads no_items (x ∷ xs) read = absurd read
 each_plain reads P leads (item value values) [] read = tt
-each_plain reads P leads (item value values) (x ∷ xs) read = (leads value x read.0, each_plain reads P leads values xs read.1)
+each_plain reads P leads (item value values) (x ∷ xs) read =
+    (leads value x read.0, each_plain reads P leads values xs read.1)
 
 each_listed : {A : Type 0} (reads : Data → A → Type 0) (P : A → Type 0) → ((value : Data) (x : A) → reads value x → P x)
     → (o : Option Data) (xs : List A) → MayBeArray reads o xs → Each P xs
@@ -69,7 +73,8 @@ each_listed reads P leads (Some (table ms)) xs read = absurd read
 
 each_number : (high : ℕ) (o : Option Data) (xs : List ℕ) → IsArray (IsNumber 0 high) o xs → Each (λ n. n ≤ high) xs
 each_number high None xs read = absurd read
-each_number high (Some (array values)) xs read = each_plain (IsNumber 0 high) (λ n. n ≤ high) (λ value n is. is.2) values xs read
+each_number high (Some (array values)) xs read = each_plain (IsNumber 0 high) (λ n. n ≤ high)
+    (λ value n is. is.2) values xs read
 each_number high (Some (string t)) xs read = absurd read
 each_number high (Some (integer n)) xs read = absurd read
 each_number high (Some (float x)) xs read = absurd read
@@ -78,7 +83,8 @@ each_number high (Some (datetime d)) xs read = absurd read
 each_number high (Some (table ms)) xs read = absurd read
 
 -- what a table's reading says of its entry
-in_table : {A : Type 0} (P : A → Type 0) (reads : Members → A → Type 0) → ((ms : Members) (x : A) → reads ms x → P x) → (value : Data) (x : A) → IsTable reads value x → P x
+in_table : {A : Type 0} (P : A → Type 0) (reads : Members → A → Type 0) → ((ms : Members) (x : A) → reads ms x → P x)
+    → (value : Data) (x : A) → IsTable reads value x → P x
 in_table P reads leads (table ms) x read = leads ms x read
 in_table P reads leads (array values) x read = absurd read
 in_table P reads leads (string t) x read = absurd read
@@ -106,12 +112,15 @@ abbrev pub HasCoin : CoinEntry → Type 0
 HasCoin e = e.value < 2
 
 load_nodes : (f : Frame) → 1 ≤ f.nodes → (ms : Members) (l : LoadDraft) → SpelledLoad f ms l → HasNodes f l
-load_nodes f some ms l spelled = below_nodes f l.nodes some (each_number (f.nodes - 1) (get_member (codes "nodes") ms) l.nodes spelled.nodes)
+load_nodes f some ms l spelled = below_nodes f l.nodes some
+    (each_number (f.nodes - 1) (get_member (codes "nodes") ms) l.nodes spelled.nodes)
 
-pub loads_there : (text : List ℕ) (s : Scenario) → ReadsText text s → Each (λ (l : Load). HasNodes (frame_of s) (load_of l)) s.loads.items
+pub loads_there : (text : List ℕ) (s : Scenario) → ReadsText text s
+    → Each (λ (l : Load). HasNodes (frame_of s) (load_of l)) s.loads.items
 loads_there text s reads =
     let f = frame_of s in
-    each_entry (IsTable (SpelledLoad f)) (HasNodes f) load_of (in_table (HasNodes f) (SpelledLoad f) (load_nodes f reads.2.spelled.frame.nodes.1))
+    each_entry (IsTable (SpelledLoad f)) (HasNodes f) load_of
+    (in_table (HasNodes f) (SpelledLoad f) (load_nodes f reads.2.spelled.frame.nodes.1))
     (get_member (codes "load") reads.0) s.loads.items reads.2.spelled.loads
 
 pub loads_fit : (text : List ℕ) (s : Scenario) → ReadsText text s → Each (FitsLoad (frame_of s)) s.loads.items
@@ -125,12 +134,14 @@ unloads_there text s reads =
     (in_table (HasNode f) (SpelledUnload f) (λ ms u spelled. let most = spelled.node.2 in omega arith))
     (get_member (codes "unload") reads.0) s.unloads.items reads.2.spelled.unloads
 
-pub corruptions_there : (text : List ℕ) (s : Scenario) → ReadsText text s → Each (λ (c : Corrupt). HasImage (frame_of s) (corrupt_of c)) s.corruptions.items
+pub corruptions_there : (text : List ℕ) (s : Scenario) → ReadsText text s
+    → Each (λ (c : Corrupt). HasImage (frame_of s) (corrupt_of c)) s.corruptions.items
 corruptions_there text s reads =
     let f = frame_of s in
     let some = reads.2.spelled.frame.nodes.1 in
     each_entry (IsTable (SpelledCorrupt f)) (HasImage f) corrupt_of
-    (in_table (HasImage f) (SpelledCorrupt f) (λ ms c spelled. (let most = spelled.node.2 in omega arith, spelled.whole)))
+    (in_table (HasImage f) (SpelledCorrupt f) (λ ms c spelled.
+    (let most = spelled.node.2 in omega arith, spelled.whole)))
     (get_member (codes "corrupt") reads.0) s.corruptions.items reads.2.spelled.corruptions
 
 pub coins_there : (text : List ℕ) (s : Scenario) → ReadsText text s → Each HasCoin s.entries.items

@@ -21,7 +21,8 @@ abbrev number_held : Option Data → ℕ
 number_held (Some (integer (pos n))) = n
 number_held _ = 0
 
-pub one_number : (ms : Members) (key : List ℕ) (low high low' high' a b : ℕ) → HasNumber ms key low high a → HasNumber ms key low' high' b → a ≡ b
+pub one_number : (ms : Members) (key : List ℕ) (low high low' high' a b : ℕ) → HasNumber ms key low high a
+    → HasNumber ms key low' high' b → a ≡ b
 one_number ms key low high low' high' a b first second = ap number_held (sym first.0 ∙ second.0)
 
 nothing : {A : Type 0} {a : A} → None ≡ Some a → ⊥
@@ -36,19 +37,24 @@ one_version ms v w (inr first) (inr second) = one_number ms (codes "version") _ 
 pub no_version : (ms : Members) → ((v : ℕ) → HasVersion ms v → ⊥) → (f : Frame) → HasFrame ms f → ⊥
 no_version ms none f has = none f.version has.version
 
-pub no_nodes : (ms : Members) (v : ℕ) → HasVersion ms v → ((n : ℕ) → HasNumber ms (codes "nodes") 1 (most_nodes v) n → ⊥)
+pub no_nodes : (ms : Members) (v : ℕ) → HasVersion ms v
+    → ((n : ℕ) → HasNumber ms (codes "nodes") 1 (most_nodes v) n → ⊥)
     → (f : Frame) → HasFrame ms f → ⊥
 no_nodes ms v version none f has =
-    none f.nodes (subst (λ w. HasNumber ms (codes "nodes") 1 (most_nodes w) f.nodes) (one_version ms f.version v has.version version) has.nodes)
+    none f.nodes (subst (λ w. HasNumber ms (codes "nodes") 1 (most_nodes w) f.nodes)
+    (one_version ms f.version v has.version version) has.nodes)
 
 pub no_faults : (ms : Members) (n high : ℕ) → HasNumber ms (codes "nodes") 1 high n
     → ((x : ℕ) → HasNumber ms (codes "faults") 0 (n - 1) x → ⊥) → (f : Frame) → HasFrame ms f → ⊥
 no_faults ms n high nodes none f has =
-    none f.faults (subst (λ k. HasNumber ms (codes "faults") 0 (k - 1) f.faults) (one_number ms (codes "nodes") _ _ _ _ f.nodes n has.nodes nodes) has.faults)
+    none f.faults (subst (λ k. HasNumber ms (codes "faults") 0 (k - 1) f.faults)
+    (one_number ms (codes "nodes") _ _ _ _ f.nodes n has.nodes nodes) has.faults)
 
-pub no_units : (ms : Members) (memory : ℕ) → HasNumber ms (codes "memory") MEMORY_UNIT MAX_MEMORY memory → (memory % MEMORY_UNIT ≡ 0 → ⊥)
+pub no_units : (ms : Members) (memory : ℕ) → HasNumber ms (codes "memory") MEMORY_UNIT MAX_MEMORY memory
+    → (memory % MEMORY_UNIT ≡ 0 → ⊥)
     → (f : Frame) → HasFrame ms f → ⊥
-no_units ms memory held odd f has = odd (ap (λ m. m % MEMORY_UNIT) (one_number ms (codes "memory") _ _ _ _ memory f.memory held has.memory) ∙ has.units)
+no_units ms memory held odd f has = odd (ap (λ m. m % MEMORY_UNIT)
+    (one_number ms (codes "memory") _ _ _ _ memory f.memory held has.memory) ∙ has.units)
 
 -- a refusal for the spelling excludes what has no spelling
 pub excludes : (e : ScenarioError) (none : Type 0) → IsOfSpelling e → none → Excludes e none
@@ -89,32 +95,42 @@ one_frame ms f g a b = λ k. record {
 
 -- what the frame that was read has no entries for has no spelling
 pub no_loads : (ms : Members) (f : Frame) → HasFrame ms f
-    → ((loads : List LoadDraft) → MayBeArray (IsTable (SpelledLoad f)) (get_member (codes "load") ms) loads → ⊥) → SpellsNothing ms
+    → ((loads : List LoadDraft) → MayBeArray (IsTable (SpelledLoad f)) (get_member (codes "load") ms) loads → ⊥)
+    → SpellsNothing ms
 no_loads ms f has none d spelled =
-    none d.loads (subst (λ g. MayBeArray (IsTable (SpelledLoad g)) (get_member (codes "load") ms) d.loads) (one_frame ms d.frame f spelled.frame has) spelled.loads)
+    none d.loads (subst (λ g. MayBeArray (IsTable (SpelledLoad g)) (get_member (codes "load") ms) d.loads)
+    (one_frame ms d.frame f spelled.frame has) spelled.loads)
 
 pub no_unloads : (ms : Members) (f : Frame) → HasFrame ms f
-    → ((us : List Unload) → MayBeArray (IsTable (SpelledUnload f)) (get_member (codes "unload") ms) us → ⊥) → SpellsNothing ms
+    → ((us : List Unload) → MayBeArray (IsTable (SpelledUnload f)) (get_member (codes "unload") ms) us → ⊥)
+    → SpellsNothing ms
 no_unloads ms f has none d spelled =
-    none d.unloads (subst (λ g. MayBeArray (IsTable (SpelledUnload g)) (get_member (codes "unload") ms) d.unloads) (one_frame ms d.frame f spelled.frame has) spelled.unloads)
+    none d.unloads (subst (λ g. MayBeArray (IsTable (SpelledUnload g)) (get_member (codes "unload") ms) d.unloads)
+    (one_frame ms d.frame f spelled.frame has) spelled.unloads)
 
 pub no_corruptions : (ms : Members) (f : Frame) → HasFrame ms f
-    → ((cs : List CorruptDraft) → MayBeArray (IsTable (SpelledCorrupt f)) (get_member (codes "corrupt") ms) cs → ⊥) → SpellsNothing ms
+    → ((cs : List CorruptDraft) → MayBeArray (IsTable (SpelledCorrupt f)) (get_member (codes "corrupt") ms) cs → ⊥)
+    → SpellsNothing ms
 no_corruptions ms f has none d spelled =
-    none d.corruptions (subst (λ g. MayBeArray (IsTable (SpelledCorrupt g)) (get_member (codes "corrupt") ms) d.corruptions) (one_frame ms d.frame f spelled.frame has) spelled.corruptions)
+    none d.corruptions (subst (λ g. MayBeArray (IsTable (SpelledCorrupt g))
+    (get_member (codes "corrupt") ms) d.corruptions) (one_frame ms d.frame f spelled.frame has) spelled.corruptions)
 
 pub no_entries : (ms : Members) (f : Frame) → HasFrame ms f
-    → ((es : List CoinEntry) → MayBeArray (IsTable (SpelledCoin f)) (get_member (codes "coin") ms) es → ⊥) → SpellsNothing ms
+    → ((es : List CoinEntry) → MayBeArray (IsTable (SpelledCoin f)) (get_member (codes "coin") ms) es → ⊥)
+    → SpellsNothing ms
 no_entries ms f has none d spelled =
-    none d.entries (subst (λ g. MayBeArray (IsTable (SpelledCoin g)) (get_member (codes "coin") ms) d.entries) (one_frame ms d.frame f spelled.frame has) spelled.entries)
+    none d.entries (subst (λ g. MayBeArray (IsTable (SpelledCoin g)) (get_member (codes "coin") ms) d.entries)
+    (one_frame ms d.frame f spelled.frame has) spelled.entries)
 
-pub refused_more : {A : Type 0} (r : Result A ScenarioError) (less more : Type 0) → (less → more) → IfErr r (λ e. Excludes e less) → IfErr r (λ e. Excludes e more)
+pub refused_more : {A : Type 0} (r : Result A ScenarioError) (less more : Type 0) → (less → more)
+    → IfErr r (λ e. Excludes e less) → IfErr r (λ e. Excludes e more)
 refused_more (Ok x) less more leads excluded = tt
 refused_more (Err e) less more leads excluded = excludes_more e less more leads excluded
 
 few_nodes : (version nodes : ℕ) → nodes ≤ most_nodes version → nodes ≤ MAX_NODES
 few_nodes version nodes =
-    elim (version == FIRST_VERSION) as (λ first. nodes ≤ (if first then FIRST_MAX_NODES else MAX_NODES) → nodes ≤ MAX_NODES) [ true ↦ λ few. omega arith | false ↦ λ few. few ]
+    elim (version == FIRST_VERSION) as (λ first. nodes ≤ (if first then FIRST_MAX_NODES else MAX_NODES)
+    → nodes ≤ MAX_NODES) [ true ↦ λ few. omega arith | false ↦ λ few. few ]
 
 -- the numbers of a frame make a shape, and a rule
 pub frame_extent : (ms : Members) (f : Frame) → HasFrame ms f → IsExtent f.nodes f.memory

@@ -34,7 +34,8 @@ same_bytes : (a b : List ℕ) → bytes_eq a b ≡ true → a ≡ b
 same_bytes a b same = grind (arith, bytes_eq-Decides a b)
 
 -- what is chosen by a test has what the test gives
-chosen : {A : Type 0} (P : A → Type 0) (test : Bool) (a : A) (rest : Option A) (c : A) → (test ≡ true → P a) → (rest ≡ Some c → P c)
+chosen : {A : Type 0} (P : A → Type 0) (test : Bool) (a : A) (rest : Option A) (c : A) → (test ≡ true → P a)
+    → (rest ≡ Some c → P c)
     → cond test (Some a) rest ≡ Some c → P c
 chosen P true a rest c here later found = subst P (ap (λ o. unwrap_or o a) found) (here refl)
 chosen P false a rest c here later found = later found
@@ -44,7 +45,8 @@ coins_by_name name c =
     let Named : Coins → Type 0 = λ x. name ≡ coins_name x in
     chosen Named (bytes_eq name (codes "zeros")) Zeros _ c (same_bytes name (codes "zeros"))
     (chosen Named (bytes_eq name (codes "ones")) Ones _ c (same_bytes name (codes "ones"))
-    (chosen Named (bytes_eq name (codes "chacha")) Chacha None c (same_bytes name (codes "chacha")) (λ found. absurd (nothing found))))
+    (chosen Named (bytes_eq name (codes "chacha")) Chacha None c (same_bytes name (codes "chacha"))
+    (λ found. absurd (nothing found))))
 
 pub kind_by_name : (name : List ℕ) (k : Kind) → kind_named name ≡ Some k → name ≡ kind_name k
 kind_by_name name k =
@@ -52,4 +54,5 @@ kind_by_name name k =
     chosen Named (bytes_eq name (codes "clock")) Clock _ k (same_bytes name (codes "clock"))
     (chosen Named (bytes_eq name (codes "say")) Say _ k (same_bytes name (codes "say"))
     (chosen Named (bytes_eq name (codes "echo")) Echo _ k (same_bytes name (codes "echo"))
-    (chosen Named (bytes_eq name (codes "asm")) Asm None k (same_bytes name (codes "asm")) (λ found. absurd (nothing found)))))
+    (chosen Named (bytes_eq name (codes "asm")) Asm None k (same_bytes name (codes "asm"))
+    (λ found. absurd (nothing found)))))

@@ -14,12 +14,14 @@ use Rattle.scenario_text.specs.Drafts.{LoadDraft}
 use Rattle.scenario_text.specs.inner.Arrays.{is_table, all_tables, are_tables, items_length, entry_count, loads_counted, nodes_count, count_in, counted}
 use Rattle.scenario_text.specs.Spelling.{IsSaid, SpelledLoad, load_count}
 
-entries_known : (names : List ℕ → Bool) (es : List (String Global × Value)) → list_all (λ k. names (string_bytes k)) (map (λ e. e.0) es) ≡ knows names (members_view es)
+entries_known : (names : List ℕ → Bool) (es : List (String Global × Value))
+    → list_all (λ k. names (string_bytes k)) (map (λ e. e.0) es) ≡ knows names (members_view es)
 entries_known names [] = refl
 entries_known names (e ∷ es) = ap (λ b. names (string_bytes e.0) && b) (entries_known names es)
 
 -- the map's keys pass a test exactly where its data's do
-pub keys_known : (names : List ℕ → Bool) (t : BTreeMap (String Global) Value) → list_all (λ k. names (string_bytes k)) (keys t) ≡ knows names (table_view t)
+pub keys_known : (names : List ℕ → Bool) (t : BTreeMap (String Global) Value)
+    → list_all (λ k. names (string_bytes k)) (keys t) ≡ knows names (table_view t)
 keys_known names t = entries_known names t.entries
 
 -- one more value and what it says
@@ -31,7 +33,8 @@ reads_more reads (w ∷ vs) [] v x before here = absurd before
 reads_more reads (w ∷ vs) (y ∷ ys) v x before here = (before.0, reads_more reads vs ys v x before.1 here)
 
 -- where an item says nothing, the items say nothing
-pub reads_none : {A : Type 0} (reads : Data → A → Type 0) (vs : List Value) (i : ℕ) (d : Value) (xs : List A) → i < length vs
+pub reads_none : {A : Type 0} (reads : Data → A → Type 0) (vs : List Value) (i : ℕ) (d : Value) (xs : List A)
+    → i < length vs
     → ((x : A) → reads (view (get_or vs i d)) x → ⊥) → ReadsEach reads (items_view vs) xs → ⊥
 reads_none reads [] i d xs within silent read = omega arith
 reads_none reads (v ∷ vs) i d [] within silent read = read
@@ -39,32 +42,40 @@ reads_none reads (v ∷ vs) zero d (x ∷ xs) within silent read = silent x read
 reads_none reads (v ∷ vs) (suc i) d (x ∷ xs) within silent read = reads_none reads vs i d xs (omega arith) silent read.1
 
 -- the next item of an array, and what it says
-pub next_read : {A : Type 0} (reads : Data → A → Type 0) (vs : List Value) (i : ℕ) (v : Value) (xs ys : List A) (x : A) → i < length vs → get_or vs i v ≡ v
-    → ReadsEach reads (items_view (take i vs)) xs → reads (view v) x → ys ≡ xs ++ x ∷ [] → ReadsEach reads (items_view (take (i + 1) vs)) ys
+pub next_read : {A : Type 0} (reads : Data → A → Type 0) (vs : List Value) (i : ℕ) (v : Value) (xs ys : List A) (x : A)
+    → i < length vs → get_or vs i v ≡ v
+    → ReadsEach reads (items_view (take i vs)) xs → reads (view v) x → ys ≡ xs ++ x ∷ []
+    → ReadsEach reads (items_view (take (i + 1) vs)) ys
 next_read reads vs i v xs ys x within found before here grown =
     let more = reads_more reads (take i vs) xs v x before here in
-    let taken : take (i + 1) vs ≡ take i vs ++ v ∷ [] = rw (add-one, take-suc vs i v within) (ap (λ w. take i vs ++ w ∷ []) found) in
+    let taken : take (i + 1) vs ≡ take i vs ++ v
+    ∷ [] = rw (add-one, take-suc vs i v within) (ap (λ w. take i vs ++ w ∷ []) found) in
     rw (taken, grown) more
 
 -- where the next item of an array says nothing, the array says nothing
-pub next_unread : {A : Type 0} (reads : Data → A → Type 0) (vs whole : List Value) (i : ℕ) (v : Value) → i < length vs → get_or vs i v ≡ v → vs ≡ whole
+pub next_unread : {A : Type 0} (reads : Data → A → Type 0) (vs whole : List Value) (i : ℕ) (v : Value) → i < length vs
+    → get_or vs i v ≡ v → vs ≡ whole
     → ((x : A) → reads (view v) x → ⊥) → (xs : List A) → ReadsEach reads (items_view whole) xs → ⊥
 next_unread reads vs whole i v within found same silent xs read =
-    reads_none reads vs i v xs within (λ x is. silent x (subst (λ w. reads (view w) x) found is)) (subst (λ ws. ReadsEach reads (items_view ws) xs) (sym same) read)
+    reads_none reads vs i v xs within (λ x is. silent x (subst (λ w. reads (view w) x) found is))
+    (subst (λ ws. ReadsEach reads (items_view ws) xs) (sym same) read)
 
 -- as many as there are items
-pub reads_length : {A : Type 0} (reads : Data → A → Type 0) (vs : List Value) (xs : List A) → ReadsEach reads (items_view vs) xs → length xs ≡ length vs
+pub reads_length : {A : Type 0} (reads : Data → A → Type 0) (vs : List Value) (xs : List A)
+    → ReadsEach reads (items_view vs) xs → length xs ≡ length vs
 reads_length reads [] [] read = refl
 reads_length reads [] (x ∷ xs) read = absurd read
 reads_length reads (v ∷ vs) [] read = absurd read
 reads_length reads (v ∷ vs) (x ∷ xs) read = ap suc (reads_length reads vs xs read.1)
 
 -- each item that says something has a kind
-each_is : {A : Type 0} (reads : Data → A → Type 0) (test : Data → Bool) → ((d : Data) (x : A) → reads d x → test d ≡ true) → (vs : List Value) (xs : List A)
+each_is : {A : Type 0} (reads : Data → A → Type 0) (test : Data → Bool)
+    → ((d : Data) (x : A) → reads d x → test d ≡ true) → (vs : List Value) (xs : List A)
     → ReadsEach reads (items_view vs) xs → list_all (λ v. test (view v)) vs ≡ true
 each_is reads test has [] xs read = refl
 each_is reads test has (v ∷ vs) [] read = absurd read
-each_is reads test has (v ∷ vs) (x ∷ xs) read = ap₂ (λ a b. a && b) (has (view v) x read.0) (each_is reads test has vs xs read.1)
+each_is reads test has (v ∷ vs) (x ∷ xs) read = ap₂ (λ a b. a && b) (has (view v) x read.0)
+    (each_is reads test has vs xs read.1)
 
 number_is_integer : (high : ℕ) (d : Data) (n : ℕ) → IsNumber 0 high d n → is_some (as_integer d) ≡ true
 number_is_integer high d n is = ap (λ e. is_some (as_integer e)) is.0
@@ -73,14 +84,18 @@ said_is_integer : (d : Data) (v : Option ℕ) → IsSaid d v → is_some (as_int
 said_is_integer d (Some v) is = ap (λ e. is_some (as_integer e)) is.0
 said_is_integer d None is = ap (λ e. is_some (as_integer e)) is
 
-pub numbers_are_integers : (high : ℕ) (vs : List Value) (ns : List ℕ) → ReadsEach (IsNumber 0 high) (items_view vs) ns → list_all (λ v. is_some (as_integer (view v))) vs ≡ true
-numbers_are_integers high vs ns read = each_is (IsNumber 0 high) (λ d. is_some (as_integer d)) (number_is_integer high) vs ns read
+pub numbers_are_integers : (high : ℕ) (vs : List Value) (ns : List ℕ) → ReadsEach (IsNumber 0 high) (items_view vs) ns
+    → list_all (λ v. is_some (as_integer (view v))) vs ≡ true
+numbers_are_integers high vs ns read = each_is (IsNumber 0 high) (λ d. is_some (as_integer d))
+    (number_is_integer high) vs ns read
 
-pub said_are_integers : (vs : List Value) (xs : List (Option ℕ)) → ReadsEach IsSaid (items_view vs) xs → list_all (λ v. is_some (as_integer (view v))) vs ≡ true
+pub said_are_integers : (vs : List Value) (xs : List (Option ℕ)) → ReadsEach IsSaid (items_view vs) xs
+    → list_all (λ v. is_some (as_integer (view v))) vs ≡ true
 said_are_integers vs xs read = each_is IsSaid (λ d. is_some (as_integer d)) said_is_integer vs xs read
 
 -- an array of another length says nothing of the wanted length
-pub no_length : {A : Type 0} (reads : Data → A → Type 0) (o : Option Data) (vs : List Value) (n : ℕ) (xs : List A) → o ≡ Some (array (items_view vs))
+pub no_length : {A : Type 0} (reads : Data → A → Type 0) (o : Option Data) (vs : List Value) (n : ℕ) (xs : List A)
+    → o ≡ Some (array (items_view vs))
     → (length vs ≡ n → ⊥) → IsArray reads o xs → length xs ≡ n → ⊥
 no_length reads o vs n xs is other read long =
     other (sym (reads_length reads vs xs (subst (λ p. IsArray reads p xs) is read)) ∙ long)
@@ -98,7 +113,8 @@ counted_more (v ∷ vs) zero d within = omega arith
 counted_more (v ∷ vs) (suc i) d within =
     let on : suc i + 1 ≡ suc (i + 1) = omega arith in
     let more = counted_more vs i d (omega arith) in
-    let whole : count_in (view v) + counted (items_view (take (i + 1) vs)) ≡ (count_in (view v) + counted (items_view (take i vs))) + count_in (view (get_or vs i d)) = omega arith in
+    let whole : count_in (view v) + counted (items_view (take (i + 1) vs)) ≡
+    (count_in (view v) + counted (items_view (take i vs))) + count_in (view (get_or vs i d)) = omega arith in
     ap (λ k. counted (items_view (take k (v ∷ vs)))) on ∙ whole
 
 pub counted_take : (vs : List Value) (i : ℕ) → counted (items_view (take i vs)) ≤ counted (items_view vs)
@@ -107,26 +123,31 @@ counted_take [] (suc i) = omega arith
 counted_take (v ∷ vs) zero = omega arith
 counted_take (v ∷ vs) (suc i) = let less = counted_take vs i in omega arith
 
-each_length : {A : Type 0} (reads : Data → A → Type 0) (items : Items) (xs : List A) → ReadsEach reads items xs → items_length items ≡ length xs
+each_length : {A : Type 0} (reads : Data → A → Type 0) (items : Items) (xs : List A) → ReadsEach reads items xs
+    → items_length items ≡ length xs
 each_length reads no_items [] read = refl
 each_length reads no_items (x ∷ xs) read = absurd read
 each_length reads (item v vs) [] read = absurd read
 each_length reads (item v vs) (x ∷ xs) read = ap suc (each_length reads vs xs read.1)
 
-array_length : {A : Type 0} (reads : Data → A → Type 0) (o : Option Data) (xs : List A) → IsArray reads o xs → nodes_count o ≡ length xs
+array_length : {A : Type 0} (reads : Data → A → Type 0) (o : Option Data) (xs : List A) → IsArray reads o xs
+    → nodes_count o ≡ length xs
 array_length reads (Some (array items)) xs read = each_length reads items xs read
 array_length reads _ xs read = absurd read
 
-load_counted : (f : Frame) (d : Data) (load : LoadDraft) → IsTable (SpelledLoad f) d load → count_in d ≡ length load.nodes
+load_counted : (f : Frame) (d : Data) (load : LoadDraft) → IsTable (SpelledLoad f) d load
+    → count_in d ≡ length load.nodes
 load_counted f (table ms) load read = array_length _ (get_member (codes "nodes") ms) load.nodes read.nodes
 load_counted f _ load read = absurd read
 
 -- the loads that are spelled are as many as were counted
-pub each_load_counted : (f : Frame) (items : Items) (loads : List LoadDraft) → ReadsEach (IsTable (SpelledLoad f)) items loads → counted items ≡ load_count loads
+pub each_load_counted : (f : Frame) (items : Items) (loads : List LoadDraft)
+    → ReadsEach (IsTable (SpelledLoad f)) items loads → counted items ≡ load_count loads
 each_load_counted f no_items [] read = refl
 each_load_counted f no_items (l ∷ ls) read = absurd read
 each_load_counted f (item v vs) [] read = absurd read
-each_load_counted f (item v vs) (l ∷ ls) read = ap₂ (λ a b. a + b) (load_counted f v l read.0) (each_load_counted f vs ls read.1)
+each_load_counted f (item v vs) (l ∷ ls) read = ap₂ (λ a b. a + b) (load_counted f v l read.0)
+    (each_load_counted f vs ls read.1)
 
 -- ---- kinds
 
@@ -138,25 +159,30 @@ table_read : {A : Type 0} (reads : Members → A → Type 0) (d : Data) (x : A) 
 table_read reads (table ms) x read = refl
 table_read reads _ x read = absurd read
 
-all_tables_read : {A : Type 0} (reads : Members → A → Type 0) (items : Items) (xs : List A) → ReadsEach (IsTable reads) items xs → all_tables items ≡ true
+all_tables_read : {A : Type 0} (reads : Members → A → Type 0) (items : Items) (xs : List A)
+    → ReadsEach (IsTable reads) items xs → all_tables items ≡ true
 all_tables_read reads no_items [] read = refl
 all_tables_read reads no_items (x ∷ xs) read = absurd read
 all_tables_read reads (item d ds) [] read = absurd read
-all_tables_read reads (item d ds) (x ∷ xs) read = ap₂ (λ a b. a && b) (table_read reads d x read.0) (all_tables_read reads ds xs read.1)
+all_tables_read reads (item d ds) (x ∷ xs) read = ap₂ (λ a b. a && b) (table_read reads d x read.0)
+    (all_tables_read reads ds xs read.1)
 
 -- what is read is an array of tables, or none
-pub tables_read : {A : Type 0} (reads : Members → A → Type 0) (o : Option Data) (xs : List A) → MayBeArray (IsTable reads) o xs → are_tables o ≡ true
+pub tables_read : {A : Type 0} (reads : Members → A → Type 0) (o : Option Data) (xs : List A)
+    → MayBeArray (IsTable reads) o xs → are_tables o ≡ true
 tables_read reads None xs read = refl
 tables_read reads (Some (array items)) xs read = all_tables_read reads items xs read
 tables_read reads (Some _) xs read = absurd read
 
 -- as many as are read
-pub entries_read : {A : Type 0} (reads : Data → A → Type 0) (o : Option Data) (xs : List A) → MayBeArray reads o xs → entry_count o ≡ length xs
+pub entries_read : {A : Type 0} (reads : Data → A → Type 0) (o : Option Data) (xs : List A) → MayBeArray reads o xs
+    → entry_count o ≡ length xs
 entries_read reads None xs read = sym (ap length read)
 entries_read reads (Some (array items)) xs read = each_length reads items xs read
 entries_read reads (Some _) xs read = absurd read
 
-pub loads_read : (f : Frame) (o : Option Data) (loads : List LoadDraft) → MayBeArray (IsTable (SpelledLoad f)) o loads → loads_counted o ≡ load_count loads
+pub loads_read : (f : Frame) (o : Option Data) (loads : List LoadDraft) → MayBeArray (IsTable (SpelledLoad f)) o loads
+    → loads_counted o ≡ load_count loads
 loads_read f None loads read = sym (ap load_count read)
 loads_read f (Some (array items)) loads read = each_load_counted f items loads read
 loads_read f (Some _) loads read = absurd read

@@ -36,7 +36,8 @@ pub no_arrays : (ms : Members) → (HasArrays ms → ⊥) → SpellsNothing ms
 no_arrays ms none d spelled = none (spelled_arrays ms d spelled)
 
 -- what is read of all keys is spelled, where the arrays aren't too long
-pub spelled_whole : (ms : Members) (d : Draft) → knows is_top_key ms ≡ true → HasFrame ms d.frame → HasCoins ms d.coins → HasKey ms d.coins d.key
+pub spelled_whole : (ms : Members) (d : Draft) → knows is_top_key ms ≡ true → HasFrame ms d.frame → HasCoins ms d.coins
+    → HasKey ms d.coins d.key
     → MayBeArray (IsTable (SpelledLoad d.frame)) (get_member (codes "load") ms) d.loads
     → MayBeArray (IsTable (SpelledUnload d.frame)) (get_member (codes "unload") ms) d.unloads
     → MayBeArray (IsTable (SpelledCorrupt d.frame)) (get_member (codes "corrupt") ms) d.corruptions
@@ -64,25 +65,32 @@ spelled_whole ms d known frame coins key loads unloads corruptions entries has =
 
 -- ---- where the array of the frame that was read has no reading, nothing is spelled
 
-pub loads_excluded : (ms : Members) (f g : Frame) (o : Option Data) (e : ScenarioError) → HasFrame ms f → g ≡ f → o ≡ get_member (codes "load") ms
+pub loads_excluded : (ms : Members) (f g : Frame) (o : Option Data) (e : ScenarioError) → HasFrame ms f → g ≡ f
+    → o ≡ get_member (codes "load") ms
     → Excludes e ((ls : List LoadDraft) → MayBeArray (IsTable (SpelledLoad g)) o ls → ⊥) → Excludes e (SpellsNothing ms)
 loads_excluded ms f g o e has same held excluded =
-    let P : Frame → Option Data → Type 0 = λ h p. (ls : List LoadDraft) → MayBeArray (IsTable (SpelledLoad h)) p ls → ⊥ in
-    excludes_more e (P g o) (SpellsNothing ms) (λ none. no_loads ms f has (subst (λ h. P h (get_member (codes "load") ms)) same (subst (P g) held none))) excluded
+    let P : Frame → Option Data → Type 0 = λ h p. (ls : List LoadDraft) → MayBeArray (IsTable (SpelledLoad h)) p ls
+    → ⊥ in
+    excludes_more e (P g o) (SpellsNothing ms) (λ none. no_loads ms f has
+    (subst (λ h. P h (get_member (codes "load") ms)) same (subst (P g) held none))) excluded
 
-pub unloads_excluded : (ms : Members) (f : Frame) (o : Option Data) (e : ScenarioError) → HasFrame ms f → o ≡ get_member (codes "unload") ms
+pub unloads_excluded : (ms : Members) (f : Frame) (o : Option Data) (e : ScenarioError) → HasFrame ms f
+    → o ≡ get_member (codes "unload") ms
     → Excludes e ((us : List Unload) → MayBeArray (IsTable (SpelledUnload f)) o us → ⊥) → Excludes e (SpellsNothing ms)
 unloads_excluded ms f o e has held excluded =
     let P : Option Data → Type 0 = λ p. (us : List Unload) → MayBeArray (IsTable (SpelledUnload f)) p us → ⊥ in
     excludes_more e (P o) (SpellsNothing ms) (λ none. no_unloads ms f has (subst P held none)) excluded
 
-pub corruptions_excluded : (ms : Members) (f : Frame) (o : Option Data) (e : ScenarioError) → HasFrame ms f → o ≡ get_member (codes "corrupt") ms
-    → Excludes e ((cs : List CorruptDraft) → MayBeArray (IsTable (SpelledCorrupt f)) o cs → ⊥) → Excludes e (SpellsNothing ms)
+pub corruptions_excluded : (ms : Members) (f : Frame) (o : Option Data) (e : ScenarioError) → HasFrame ms f
+    → o ≡ get_member (codes "corrupt") ms
+    → Excludes e ((cs : List CorruptDraft) → MayBeArray (IsTable (SpelledCorrupt f)) o cs → ⊥)
+    → Excludes e (SpellsNothing ms)
 corruptions_excluded ms f o e has held excluded =
     let P : Option Data → Type 0 = λ p. (cs : List CorruptDraft) → MayBeArray (IsTable (SpelledCorrupt f)) p cs → ⊥ in
     excludes_more e (P o) (SpellsNothing ms) (λ none. no_corruptions ms f has (subst P held none)) excluded
 
-pub entries_excluded : (ms : Members) (f : Frame) (o : Option Data) (e : ScenarioError) → HasFrame ms f → o ≡ get_member (codes "coin") ms
+pub entries_excluded : (ms : Members) (f : Frame) (o : Option Data) (e : ScenarioError) → HasFrame ms f
+    → o ≡ get_member (codes "coin") ms
     → Excludes e ((es : List CoinEntry) → MayBeArray (IsTable (SpelledCoin f)) o es → ⊥) → Excludes e (SpellsNothing ms)
 entries_excluded ms f o e has held excluded =
     let P : Option Data → Type 0 = λ p. (es : List CoinEntry) → MayBeArray (IsTable (SpelledCoin f)) p es → ⊥ in

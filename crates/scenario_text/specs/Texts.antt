@@ -18,7 +18,8 @@ IsDocument text members = (length text ≤ MAX_TEXT) × IsUtf8 text × (parse_do
 abbrev pub ReadsText : List ℕ → Scenario → Type 0
 ReadsText text s = (members : Members) × IsDocument text members × Reads members s
 
--- `TooLong` and `NotToml` are decided by the bytes, `NotAccepted` comes only of a document, and the other six are decided by the spelling.
+-- `TooLong` and `NotToml` are decided by the bytes, `NotAccepted` comes only of a document, and the other six are
+-- decided by the spelling.
 -- Want of memory is no refusal
 abbrev pub IsDue : List ℕ → ScenarioError → Type 0
 IsDue text errors.TooLong = MAX_TEXT < length text

@@ -51,9 +51,11 @@ in_without x y a b p q h =
     by_test P (is_single b)
     (λ t. let e : y ≡ b.lo = the_member b y t q in
     by_test P (eqb a.lo b.lo)
-    (λ u. let f : a.lo ≡ b.lo = eqb-true a.lo b.lo u in let g : x ≢ y = h in record { low = omega arith; high = omega arith })
+    (λ u. let f : a.lo ≡ b.lo = eqb-true a.lo b.lo u in let g : x ≢ y = h in
+    record { low = omega arith; high = omega arith })
     (λ _. by_test P (eqb a.hi b.lo)
-    (λ u. let f : a.hi ≡ b.lo = eqb-true a.hi b.lo u in let g : x ≢ y = h in record { low = omega arith; high = omega arith })
+    (λ u. let f : a.hi ≡ b.lo = eqb-true a.hi b.lo u in let g : x ≢ y = h in
+    record { low = omega arith; high = omega arith })
     (λ _. p)))
     (λ _. p)
 
@@ -70,20 +72,27 @@ in_signed bits x y a b pair p q h =
     (λ _. (p, q))
 
 -- the pair where the condition holds
-in_refined : (cond : Cond) (bits x y : ℕ) (a b : Span) → Contains a x → Contains b y → compares cond bits x y ≡ true → Keeps x y (refined cond bits a b)
-in_refined Eq bits x y a b p q h = let e : x ≡ y = eqb-true x y h in rw (← e) (in_both x (meet_of a b) (in_meet x a b p (rw e q)))
-in_refined Ne bits x y a b p q h = let n : x ≡ y → ⊥ = eqb-false x y (not-true (eqb x y) h) in (in_without x y a b p q n, in_without y x b a q p (λ e. n (sym e)))
+in_refined : (cond : Cond) (bits x y : ℕ) (a b : Span) → Contains a x → Contains b y → compares cond bits x y ≡ true
+    → Keeps x y (refined cond bits a b)
+in_refined Eq bits x y a b p q h = let e : x ≡ y = eqb-true x y h in
+    rw (← e) (in_both x (meet_of a b) (in_meet x a b p (rw e q)))
+in_refined Ne bits x y a b p q h = let n : x ≡ y → ⊥ = eqb-false x y (not-true (eqb x y) h) in
+    (in_without x y a b p q n, in_without y x b a q p (λ e. n (sym e)))
 in_refined Set bits x y a b p q h = (p, q)
 in_refined Lt bits x y a b p q h = in_less x y a b p q (ltb-true x y h)
 in_refined Le bits x y a b p q h = in_at_most x y a b p q (leb-true x y h)
 in_refined Gt bits x y a b p q h = in_turned y x (less b a) (in_less y x b a q p (ltb-true y x h))
 in_refined Ge bits x y a b p q h = in_turned y x (at_most b a) (in_at_most y x b a q p (leb-true y x h))
-in_refined Slt bits x y a b p q h = in_signed bits x y a b (less a b) p q (λ e f. in_less x y a b p q (ltb-true x y (rw (e, f) at h)))
-in_refined Sle bits x y a b p q h = in_signed bits x y a b (at_most a b) p q (λ e f. in_at_most x y a b p q (leb-true x y (rw (e, f) at h)))
+in_refined Slt bits x y a b p q h = in_signed bits x y a b (less a b) p q
+    (λ e f. in_less x y a b p q (ltb-true x y (rw (e, f) at h)))
+in_refined Sle bits x y a b p q h = in_signed bits x y a b (at_most a b) p q
+    (λ e f. in_at_most x y a b p q (leb-true x y (rw (e, f) at h)))
 in_refined Sgt bits x y a b p q h =
-    in_signed bits x y a b (turned (less b a)) p q (λ e f. in_turned y x (less b a) (in_less y x b a q p (ltb-true y x (rw (e, f) at h))))
+    in_signed bits x y a b (turned (less b a)) p q
+    (λ e f. in_turned y x (less b a) (in_less y x b a q p (ltb-true y x (rw (e, f) at h))))
 in_refined Sge bits x y a b p q h =
-    in_signed bits x y a b (turned (at_most b a)) p q (λ e f. in_turned y x (at_most b a) (in_at_most y x b a q p (leb-true y x (rw (e, f) at h))))
+    in_signed bits x y a b (turned (at_most b a)) p q
+    (λ e f. in_turned y x (at_most b a) (in_at_most y x b a q p (leb-true y x (rw (e, f) at h))))
 
 not_less : (a b : ℤ) → int_lt a b ≡ false → int_le b a ≡ true
 not_less (pos a) (pos b) h = le-leb b a (ltb-false a b h)
@@ -98,7 +107,8 @@ not_at_most (negsuc a) (pos b) h = cc
 not_at_most (negsuc a) (negsuc b) h = lt-ltb a b (leb-false b a h)
 
 -- the pair on a way
-in_way : (taken : Bool) (cond : Cond) (bits x y : ℕ) (a b : Span) → Contains a x → Contains b y → compares cond bits x y ≡ taken
+in_way : (taken : Bool) (cond : Cond) (bits x y : ℕ) (a b : Span) → Contains a x → Contains b y
+    → compares cond bits x y ≡ taken
     → Keeps x y (refined (on_way taken cond) bits a b)
 in_way true cond bits x y a b p q h = in_refined cond bits x y a b p q h
 in_way false Eq bits x y a b p q h = in_refined Ne bits x y a b p q (rw h refl)
@@ -108,18 +118,24 @@ in_way false Lt bits x y a b p q h = in_refined Ge bits x y a b p q (le-leb y x 
 in_way false Le bits x y a b p q h = in_refined Gt bits x y a b p q (lt-ltb y x (leb-false x y h))
 in_way false Gt bits x y a b p q h = in_refined Le bits x y a b p q (le-leb x y (ltb-false y x h))
 in_way false Ge bits x y a b p q h = in_refined Lt bits x y a b p q (lt-ltb x y (leb-false y x h))
-in_way false Slt bits x y a b p q h = in_refined Sge bits x y a b p q (not_less (signed_value bits x) (signed_value bits y) h)
-in_way false Sle bits x y a b p q h = in_refined Sgt bits x y a b p q (not_at_most (signed_value bits x) (signed_value bits y) h)
-in_way false Sgt bits x y a b p q h = in_refined Sle bits x y a b p q (not_less (signed_value bits y) (signed_value bits x) h)
-in_way false Sge bits x y a b p q h = in_refined Slt bits x y a b p q (not_at_most (signed_value bits y) (signed_value bits x) h)
+in_way false Slt bits x y a b p q h = in_refined Sge bits x y a b p q
+    (not_less (signed_value bits x) (signed_value bits y) h)
+in_way false Sle bits x y a b p q h = in_refined Sgt bits x y a b p q
+    (not_at_most (signed_value bits x) (signed_value bits y) h)
+in_way false Sgt bits x y a b p q h = in_refined Sle bits x y a b p q
+    (not_less (signed_value bits y) (signed_value bits x) h)
+in_way false Sge bits x y a b p q h = in_refined Slt bits x y a b p q
+    (not_at_most (signed_value bits y) (signed_value bits x) h)
 
-in_decided : (cond : Cond) (width : Width) (a b : Span) (taken : Bool) (x y : ℕ) → Contains a x → Contains b y → holds cond width a.lo b.lo ≡ taken
+in_decided : (cond : Cond) (width : Width) (a b : Span) (taken : Bool) (x y : ℕ) → Contains a x → Contains b y
+    → holds cond width a.lo b.lo ≡ taken
     → Keeps x y (decided cond width a b taken)
 in_decided cond width a b true x y p q h = rw h (p, q)
 in_decided cond width a b false x y p q h = rw h (p, q)
 
 -- of all members that the condition falls so for
-pub in_branch : (cond : Cond) (width : Width) (a b : Span) (taken : Bool) (x y : ℕ) → Contains a x → Contains b y → holds cond width x y ≡ taken
+pub in_branch : (cond : Cond) (width : Width) (a b : Span) (taken : Bool) (x y : ℕ) → Contains a x → Contains b y
+    → holds cond width x y ≡ taken
     → Keeps x y (branch_of cond width a b taken)
 in_branch cond width a b taken x y p q h =
     by_test (Keeps x y) (is_single a && is_single b)

@@ -39,14 +39,17 @@ low_kept bits n a small h = rw (mod-eq_of_lt small) h
 in_fitting : (bits l h n : ℕ) → l ≤ n → n ≤ h → Contains (fitting bits l h) (n % 2 ^ bits)
 in_fitting bits l h n p q =
     by_test (λ (a : Span). Contains a (n % 2 ^ bits)) (ltb h (2 ^ bits))
-    (λ t. let lt : h < 2 ^ bits = ltb-true h (2 ^ bits) t in low_kept bits n (span l h) (omega arith) (record { low = p; high = q }))
+    (λ t. let lt : h < 2 ^ bits = ltb-true h (2 ^ bits) t in
+    low_kept bits n (span l h) (omega arith) (record { low = p; high = q }))
     (λ _. low_in_full bits n)
 
 -- the low bits of a member
-low_in_narrowed : (width : Width) (x : ℕ) (a : Span) → Contains a x → Contains (narrowed width a) (x % 2 ^ bits_of width)
+low_in_narrowed : (width : Width) (x : ℕ) (a : Span) → Contains a x
+    → Contains (narrowed width a) (x % 2 ^ bits_of width)
 low_in_narrowed width x a h =
     by_test (λ (s : Span). Contains s (x % 2 ^ bits_of width)) (ltb a.hi (2 ^ bits_of width))
-    (λ t. let lt : a.hi < 2 ^ bits_of width = ltb-true a.hi (2 ^ bits_of width) t in let le : x ≤ a.hi = h.high in low_kept (bits_of width) x a (omega arith) h)
+    (λ t. let lt : a.hi < 2 ^ bits_of width = ltb-true a.hi (2 ^ bits_of width) t in let le : x ≤ a.hi = h.high in
+    low_kept (bits_of width) x a (omega arith) h)
     (λ _. low_in_full (bits_of width) x)
 
 pub narrowed_below : (width : Width) (a : Span) → (narrowed width a).hi < 2 ^ bits_of width
@@ -65,10 +68,12 @@ abbrev remainder : ℕ → ℕ → ℕ
 remainder x y = cond (eqb y 0) x (x % y)
 
 quotient_up : (x y : ℕ) → 0 < y → quotient x y ≡ x / y
-quotient_up x y h = by_test (λ n. n ≡ x / y) (eqb y 0) (λ t. let e : y ≡ 0 = eqb-true y 0 t in absurd (omega arith)) (λ _. refl)
+quotient_up x y h = by_test (λ n. n ≡ x / y) (eqb y 0) (λ t. let e : y ≡ 0 = eqb-true y 0 t in absurd (omega arith))
+    (λ _. refl)
 
 remainder_up : (x y : ℕ) → 0 < y → remainder x y ≡ x % y
-remainder_up x y h = by_test (λ n. n ≡ x % y) (eqb y 0) (λ t. let e : y ≡ 0 = eqb-true y 0 t in absurd (omega arith)) (λ _. refl)
+remainder_up x y h = by_test (λ n. n ≡ x % y) (eqb y 0) (λ t. let e : y ≡ 0 = eqb-true y 0 t in absurd (omega arith))
+    (λ _. refl)
 
 quotient_le : (x y : ℕ) → quotient x y ≤ x
 quotient_le x y = by_test (λ n. n ≤ x) (eqb y 0) (λ _. omega arith) (λ _. div-le_self x y)
@@ -87,25 +92,32 @@ div_mono x u y z h p k =
 
 -- the length of n
 pub ones_length : (n : ℕ) → n < 2 ^ 64 → (m : ℕ) × (ones_of n ≡ 2 ^ m - 1) × (n < 2 ^ m) × (2 ^ m ≤ 2 * n + 1)
-ones_length n h = let r = leading_length 64 n h in (r.0, (let e : 64 - leading_zeros w64 n ≡ r.0 = omega arith in rw e refl), r.2, r.3)
+ones_length n h = let r = leading_length 64 n h in
+    (r.0, (let e : 64 - leading_zeros w64 n ≡ r.0 = omega arith in rw e refl), r.2, r.3)
 
 pub below_64 : (width : Width) (n : ℕ) → n < 2 ^ bits_of width → n < 2 ^ 64
 below_64 W32 n h = omega arith
 below_64 W64 n h = h
 
 or_bound : (x y n : ℕ) → n < 2 ^ 64 → x ≤ n → y ≤ n → bit_or x y ≤ ones_of n
-or_bound x y n h p q = let r = ones_length n h in let b : bit_or x y < 2 ^ r.0 = or_lt r.0 x y (omega arith) (omega arith) in rw (r.1) (omega arith)
+or_bound x y n h p q = let r = ones_length n h in
+    let b : bit_or x y < 2 ^ r.0 = or_lt r.0 x y (omega arith) (omega arith) in rw (r.1) (omega arith)
 
 xor_bound : (x y n : ℕ) → n < 2 ^ 64 → x ≤ n → y ≤ n → bit_xor x y ≤ ones_of n
-xor_bound x y n h p q = let r = ones_length n h in let b : bit_xor x y < 2 ^ r.0 = xor_lt r.0 x y (omega arith) (omega arith) in rw (r.1) (omega arith)
+xor_bound x y n h p q = let r = ones_length n h in
+    let b : bit_xor x y < 2 ^ r.0 = xor_lt r.0 x y (omega arith) (omega arith) in rw (r.1) (omega arith)
 
 -- ---- shifts to the right
 
-in_shifted : (bits x y : ℕ) (a b : Span) → Contains a x → Contains b y → Contains (shifted_right bits a b) (x / 2 ^ (y % bits))
+in_shifted : (bits x y : ℕ) (a b : Span) → Contains a x → Contains b y
+    → Contains (shifted_right bits a b) (x / 2 ^ (y % bits))
 in_shifted bits x y a b p q =
     by_test (λ (s : Span). Contains s (x / 2 ^ (y % bits))) (is_single b)
     (λ t. let d = 2 ^ (b.lo % bits) in let some : 0 < d = pow_pos (b.lo % bits) in
-    rw (the_member b y t q) (record { low = div_mono a.lo x d d p.low some (omega arith); high = div_mono x a.hi d d p.high some (omega arith) }))
+    rw (the_member b y t q) (record {
+      low = div_mono a.lo x d d p.low some (omega arith);
+      high = div_mono x a.hi d d p.high some (omega arith);
+    }))
     (λ _. let h = p.high in let le = shr_le x (y % bits) in record { low = omega arith; high = omega arith })
 
 -- a number without the sign bit
@@ -115,31 +127,40 @@ signed_small bits n h =
     (λ _. refl)
     (λ t. let le : 2 ^ (bits - 1) ≤ n = ltb-false n (2 ^ (bits - 1)) t in absurd (omega arith))
 
-arsh_small : (width : Width) (x y : ℕ) → x < 2 ^ (bits_of width - 1) → plain_result Arsh width x y ≡ x / 2 ^ (y % bits_of width) % 2 ^ bits_of width
-arsh_small width x y h = ap (λ z. unsigned_value (bits_of width) (int_div_euclid z (pos (2 ^ (y % bits_of width))))) (signed_small (bits_of width) x h)
+arsh_small : (width : Width) (x y : ℕ) → x < 2 ^ (bits_of width - 1)
+    → plain_result Arsh width x y ≡ x / 2 ^ (y % bits_of width) % 2 ^ bits_of width
+arsh_small width x y h = ap (λ z. unsigned_value (bits_of width) (int_div_euclid z (pos (2 ^ (y % bits_of width)))))
+    (signed_small (bits_of width) x h)
 
 -- ---- the table
 
 -- of numbers that fit the width
 in_table : (op : AluOp) (width : Width) (x y : ℕ) (a b : Span) → a.hi < 2 ^ bits_of width → b.hi < 2 ^ bits_of width
-    → Contains a x → Contains b y → Contains (table op (bits_of width) a b) (plain_result op width x y % 2 ^ bits_of width)
+    → Contains a x → Contains b y → Contains (table op (bits_of width) a b)
+    (plain_result op width x y % 2 ^ bits_of width)
 in_table Add width x y a b u v p q =
     let pl = p.low in let ph = p.high in let ql = q.low in let qh = q.high in
     in_fitting (bits_of width) (a.lo + b.lo) (a.hi + b.hi) (x + y) (omega arith) (omega arith)
 in_table Sub width x y a b u v p q =
     let pl = p.low in let ph = p.high in let ql = q.low in let qh = q.high in
     by_test (λ (s : Span). Contains s ((x + (2 ^ bits_of width - y)) % 2 ^ bits_of width)) (leb b.hi a.lo)
-    (λ t. let le : b.hi ≤ a.lo = leb-true b.hi a.lo t in let e : x + (2 ^ bits_of width - y) ≡ (x - y) + 2 ^ bits_of width = omega arith in
-    rw (e, add-mod_right) (low_kept (bits_of width) (x - y) (span (a.lo - b.hi) (a.hi - b.lo)) (omega arith) (record { low = omega arith; high = omega arith })))
+    (λ t. let le : b.hi ≤ a.lo = leb-true b.hi a.lo t in
+    let e : x + (2 ^ bits_of width - y) ≡ (x - y) + 2 ^ bits_of width = omega arith in
+    rw (e, add-mod_right) (low_kept (bits_of width) (x - y) (span (a.lo - b.hi) (a.hi - b.lo)) (omega arith)
+    (record { low = omega arith; high = omega arith })))
     (λ _. low_in_full (bits_of width) (x + (2 ^ bits_of width - y)))
 in_table Mul width x y a b u v p q =
-    in_fitting (bits_of width) (a.lo * b.lo) (a.hi * b.hi) (x * y) (mul-le a.lo b.lo x y p.low q.low) (mul-le x y a.hi b.hi p.high q.high)
+    in_fitting (bits_of width) (a.lo * b.lo) (a.hi * b.hi) (x * y) (mul-le a.lo b.lo x y p.low q.low)
+    (mul-le x y a.hi b.hi p.high q.high)
 in_table Div width x y a b u v p q =
     let pl = p.low in let ph = p.high in let ql = q.low in let qh = q.high in let le = quotient_le x y in
     low_kept (bits_of width) (quotient x y) (table Div (bits_of width) a b) (omega arith)
     (by_test (λ (s : Span). Contains s (quotient x y)) (leb 1 b.lo)
     (λ t. let one : 1 ≤ b.lo = leb-true 1 b.lo t in
-    rw (quotient_up x y (omega arith)) (record { low = div_mono a.lo x y b.hi pl (omega arith) qh; high = div_mono x a.hi b.lo y ph (omega arith) ql }))
+    rw (quotient_up x y (omega arith)) (record {
+      low = div_mono a.lo x y b.hi pl (omega arith) qh;
+      high = div_mono x a.hi b.lo y ph (omega arith) ql;
+    }))
     (λ _. record { low = omega arith; high = omega arith }))
 in_table Mod width x y a b u v p q =
     let pl = p.low in let ph = p.high in let ql = q.low in let qh = q.high in let le = remainder_le x y in
@@ -151,39 +172,57 @@ in_table Mod width x y a b u v p q =
     (λ _. record { low = omega arith; high = omega arith }))
 in_table And width x y a b u v p q =
     let ph = p.high in let qh = q.high in let l = and_le_l x y in let r = and_le_r x y in
-    low_kept (bits_of width) (bit_and x y) (span 0 (min a.hi b.hi)) (omega arith) (record { low = omega arith; high = omega arith })
+    low_kept (bits_of width) (bit_and x y) (span 0 (min a.hi b.hi)) (omega arith)
+    (record { low = omega arith; high = omega arith })
 in_table Or width x y a b u v p q =
-    let pl = p.low in let ph = p.high in let ql = q.low in let qh = q.high in let l = le_or_l x y in let r = le_or_r x y in
+    let pl = p.low in let ph = p.high in let ql = q.low in let qh = q.high in let l = le_or_l x y in
+    let r = le_or_r x y in
     let m : max a.hi b.hi < 2 ^ bits_of width = omega arith in
-    low_kept (bits_of width) (bit_or x y) (span (max a.lo b.lo) (ones_of (max a.hi b.hi))) (or_lt (bits_of width) x y (omega arith) (omega arith))
-    (record { low = omega arith; high = or_bound x y (max a.hi b.hi) (below_64 width (max a.hi b.hi) m) (omega arith) (omega arith) })
+    low_kept (bits_of width) (bit_or x y) (span (max a.lo b.lo) (ones_of (max a.hi b.hi)))
+    (or_lt (bits_of width) x y (omega arith) (omega arith))
+    (record {
+      low = omega arith;
+      high = or_bound x y (max a.hi b.hi) (below_64 width (max a.hi b.hi) m) (omega arith)
+          (omega arith);
+    })
 in_table Xor width x y a b u v p q =
     let ph = p.high in let qh = q.high in
     let m : max a.hi b.hi < 2 ^ bits_of width = omega arith in
-    low_kept (bits_of width) (bit_xor x y) (span 0 (ones_of (max a.hi b.hi))) (xor_lt (bits_of width) x y (omega arith) (omega arith))
-    (record { low = omega arith; high = xor_bound x y (max a.hi b.hi) (below_64 width (max a.hi b.hi) m) (omega arith) (omega arith) })
+    low_kept (bits_of width) (bit_xor x y) (span 0 (ones_of (max a.hi b.hi)))
+    (xor_lt (bits_of width) x y (omega arith) (omega arith))
+    (record {
+      low = omega arith;
+      high = xor_bound x y (max a.hi b.hi) (below_64 width (max a.hi b.hi) m) (omega arith)
+          (omega arith);
+    })
 in_table Lsh width x y a b u v p q =
     by_test (λ (s : Span). Contains s ((x * 2 ^ (y % bits_of width)) % 2 ^ bits_of width)) (is_single b)
     (λ t. let d = 2 ^ (b.lo % bits_of width) in
-    rw (the_member b y t q) (in_fitting (bits_of width) (a.lo * d) (a.hi * d) (x * d) (mul-le a.lo d x d p.low (omega arith)) (mul-le x d a.hi d p.high (omega arith))))
+    rw (the_member b y t q) (in_fitting (bits_of width) (a.lo * d) (a.hi * d) (x * d)
+    (mul-le a.lo d x d p.low (omega arith)) (mul-le x d a.hi d p.high (omega arith))))
     (λ _. low_in_full (bits_of width) (x * 2 ^ (y % bits_of width)))
 in_table Rsh width x y a b u v p q =
     let h = p.high in let le = shr_le x (y % bits_of width) in
-    low_kept (bits_of width) (x / 2 ^ (y % bits_of width)) (shifted_right (bits_of width) a b) (omega arith) (in_shifted (bits_of width) x y a b p q)
+    low_kept (bits_of width) (x / 2 ^ (y % bits_of width)) (shifted_right (bits_of width) a b) (omega arith)
+    (in_shifted (bits_of width) x y a b p q)
 in_table Arsh width x y a b u v p q =
-    by_test (λ (s : Span). Contains s (plain_result Arsh width x y % 2 ^ bits_of width)) (ltb a.hi (2 ^ (bits_of width - 1)))
+    by_test (λ (s : Span). Contains s (plain_result Arsh width x y % 2 ^ bits_of width))
+    (ltb a.hi (2 ^ (bits_of width - 1)))
     (λ t. let lt : a.hi < 2 ^ (bits_of width - 1) = ltb-true a.hi (2 ^ (bits_of width - 1)) t in
     let h = p.high in let le = shr_le x (y % bits_of width) in let shifted = x / 2 ^ (y % bits_of width) in
     rw (arsh_small width x y (omega arith))
-    (low_kept (bits_of width) (shifted % 2 ^ bits_of width) (shifted_right (bits_of width) a b) (mod-lt shifted (pow_pos (bits_of width)))
-    (low_kept (bits_of width) shifted (shifted_right (bits_of width) a b) (omega arith) (in_shifted (bits_of width) x y a b p q))))
+    (low_kept (bits_of width) (shifted % 2 ^ bits_of width) (shifted_right (bits_of width) a b)
+    (mod-lt shifted (pow_pos (bits_of width)))
+    (low_kept (bits_of width) shifted (shifted_right (bits_of width) a b) (omega arith)
+    (in_shifted (bits_of width) x y a b p q))))
     (λ _. low_in_full (bits_of width) (plain_result Arsh width x y))
 in_table Mov width x y a b u v p q = let h = q.high in low_kept (bits_of width) y b (omega arith) q
 in_table Sdiv width x y a b u v p q = low_in_full (bits_of width) (plain_result Sdiv width x y)
 in_table Smod width x y a b u v p q = low_in_full (bits_of width) (plain_result Smod width x y)
 
 -- of all members
-pub in_alu : (op : AluOp) (width : Width) (a b : Span) (x y : ℕ) → Contains a x → Contains b y → Contains (alu_of op width a b) (alu_result op width x y)
+pub in_alu : (op : AluOp) (width : Width) (a b : Span) (x y : ℕ) → Contains a x → Contains b y
+    → Contains (alu_of op width a b) (alu_result op width x y)
 in_alu op width a b x y p q =
     by_test (λ (s : Span). Contains s (alu_result op width x y)) (is_single a && is_single b)
     (λ t. let s = and_true (is_single a) (is_single b) t in

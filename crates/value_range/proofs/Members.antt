@@ -72,14 +72,16 @@ less_members : (a b : Span) → HasMembers a → HasMembers b → HaveMembers (l
 less_members a b p q =
     let x = p.ordered in let y = q.ordered in
     by_test HaveMembers (ltb a.lo b.hi)
-    (λ f. let k : a.lo < b.hi = ltb-true a.lo b.hi f in (record { ordered = omega arith }, record { ordered = omega arith }))
+    (λ f. let k : a.lo < b.hi = ltb-true a.lo b.hi f in
+    (record { ordered = omega arith }, record { ordered = omega arith }))
     (λ _. tt)
 
 at_most_members : (a b : Span) → HasMembers a → HasMembers b → HaveMembers (at_most a b)
 at_most_members a b p q =
     let x = p.ordered in let y = q.ordered in
     by_test HaveMembers (leb a.lo b.hi)
-    (λ f. let k : a.lo ≤ b.hi = leb-true a.lo b.hi f in (record { ordered = omega arith }, record { ordered = omega arith }))
+    (λ f. let k : a.lo ≤ b.hi = leb-true a.lo b.hi f in
+    (record { ordered = omega arith }, record { ordered = omega arith }))
     (λ _. tt)
 
 -- a range of more than one number keeps one where another is taken out
@@ -132,5 +134,6 @@ branch_members test width a b taken p q =
     (λ _. decided_members test width a b taken p q)
     (λ s. let n : (is_single a && is_single b) ≡ true → ⊥ = λ e. both_ways (is_single a && is_single b) s e in
     by_test HaveMembers (ltb a.hi (2 ^ bits_of width) && ltb b.hi (2 ^ bits_of width))
-    (λ _. refined_members (on_way taken test) (bits_of width) a b p q n (λ e. n (swapped (is_single b) (is_single a) e)))
+    (λ _. refined_members (on_way taken test) (bits_of width) a b p q n
+    (λ e. n (swapped (is_single b) (is_single a) e)))
     (λ _. (p, q)))

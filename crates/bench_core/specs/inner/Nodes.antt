@@ -8,7 +8,8 @@ use Rattle.bench_core.specs.State.{Node, node_at}
 -- for each node, whether its program has these instructions
 pub record KnowsClock (listing : List Insn) (nodes : List Node) (flags : List Bool) : Type 0 where
   pub count : length flags ≡ length nodes
-  pub known : (i : ℕ) (p : Accepted) → (node_at nodes i).program ≡ Some p → IsTrue (get_or flags i false) ↔ (p.program ≡ listing)
+  pub known : (i : ℕ) (p : Accepted) → (node_at nodes i).program ≡ Some p → IsTrue (get_or flags i false)
+      ↔ (p.program ≡ listing)
 
 -- a node whose memory has the shape's length, and whose program is accepted for the shape
 abbrev pub FitsShape : Extent → Node → Type 0

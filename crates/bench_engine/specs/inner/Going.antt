@@ -31,7 +31,8 @@ IsOfWorkers refusals.HistoryFull = ⊥
 IsOfWorkers refusals.BadCoins = ⊥
 
 -- the event is done, and its records are put behind those that were there
-pub record IsApplied (old : BenchValue) (before : List PulseTold) (event : Event) (new : BenchValue) (after : List PulseTold) : Type 0 where
+pub record IsApplied (old : BenchValue) (before : List PulseTold) (event : Event) (new : BenchValue)
+    (after : List PulseTold) : Type 0 where
   pub told : List PulseTold
   pub records : after ≡ before ++ told
   pub goes : GoesOn old event told new

@@ -10,9 +10,12 @@ loop-done-preserved c =
     let i = c.loop-done.done-index in
     let d = c.done-item.result in
     let most = c.loop-done.most in
-    let more : take (i + 1) dones ≡ take i dones ++ d ∷ [] = take_more dones i d c.loop-done-test.true ∙ ap (λ x. take i dones ++ x ∷ []) (sym c.done-item.is) in
+    let more : take (i + 1) dones ≡ take i dones ++ d ∷ [] = take_more dones i d c.loop-done-test.true
+    ∙ ap (λ x. take i dones ++ x ∷ []) (sym c.done-item.is) in
     let e = c.steps-steps.ensures in
     elim c.if-steps-most.branch [
-      | then-steps-most w ↦ rw (more, w.most-is, e) (one_more (take i dones) d most c.loop-done.invariant (omega (arith, w.if-steps-most.true, e)))
-      | else-steps-most w ↦ rw (more, w.most-is) (no_more (take i dones) d most c.loop-done.invariant (omega (arith, w.if-steps-most.false, e)))
+      | then-steps-most w ↦ rw (more, w.most-is, e)
+          (one_more (take i dones) d most c.loop-done.invariant (omega (arith, w.if-steps-most.true, e)))
+      | else-steps-most w ↦ rw (more, w.most-is)
+          (no_more (take i dones) d most c.loop-done.invariant (omega (arith, w.if-steps-most.false, e)))
     ]

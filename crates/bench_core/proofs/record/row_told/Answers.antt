@@ -31,14 +31,18 @@ loop-i-preserved c =
     let lt : i < length settled = omega (arith, c.loop-i-test.true, c.requires.count) in
     let f = get_or settled i false in
     let front : drop i settled ≡ f ∷ flags = drop_more settled i false lt in
-    let front' : drop i nodes ≡ Y ∷ rest = drop_more nodes i Y c.loop-i-test.true ∙ ap (λ (n : Node). n ∷ rest) (sym c.index-nodes-i.is) in
+    let front' : drop i nodes ≡ Y ∷ rest = drop_more nodes i Y c.loop-i-test.true
+    ∙ ap (λ (n : Node). n ∷ rest) (sym c.index-nodes-i.is) in
     let t1 = subst (λ (xs : List Bool). Tally xs (clocks_where xs (drop i nodes)) m z s C Z S) front inv.tally in
-    let t2 : Tally (f ∷ flags) (cond f (clock_of Y.memory ∷ cl) cl) m z s C Z S = subst (λ (ys : List Node). Tally (f ∷ flags) (clocks_where (f ∷ flags) ys) m z s C Z S) front' t1 in
-    let at = λ (b : Bool) (e : f ≡ b). subst (λ (b : Bool). Tally (b ∷ flags) (cond b (clock_of Y.memory ∷ cl) cl) m z s C Z S) e t2 in
+    let t2 : Tally (f ∷ flags) (cond f (clock_of Y.memory ∷ cl) cl) m z s C Z S = subst
+    (λ (ys : List Node). Tally (f ∷ flags) (clocks_where (f ∷ flags) ys) m z s C Z S) front' t1 in
+    let at = λ (b : Bool) (e : f ≡ b). subst (λ (b : Bool). Tally (b ∷ flags)
+    (cond b (clock_of Y.memory ∷ cl) cl) m z s C Z S) e t2 in
     elim c.if-settled-i.branch [
       | then-settled-i+then-clock-eq0 w ↦
           let clk : w.clock-clock.result ≡ clock_of Y.memory = w.clock-clock.ensures in
-          let t = tally_zero (clock_of Y.memory) flags cl m z s C Z S (eq-eqb (clock_of Y.memory) 0 (sym clk ∙ w.if-clock-eq0.true)) (at true w.if-settled-i.true) in
+          let t = tally_zero (clock_of Y.memory) flags cl m z s C Z S
+          (eq-eqb (clock_of Y.memory) 0 (sym clk ∙ w.if-clock-eq0.true)) (at true w.if-settled-i.true) in
           record {
             tally = rw (w.common-is, w.zeros-is, w.count-is) t;
             few = omega (arith, w.count-is, inv.few);
@@ -48,13 +52,16 @@ loop-i-preserved c =
       | then-settled-i+else-clock-eq0 w ↦
           let clk : w.clock-clock.result ≡ clock_of Y.memory = w.clock-clock.ensures in
           let here = at true w.if-settled-i.true in
-          let t = tally_other (clock_of Y.memory) flags cl m z s C Z S (ne_eqb (clock_of Y.memory) 0 (λ e. w.if-clock-eq0.false (clk ∙ e))) here in
-          let is : c.if-settled-i.common ≡ joined_of m (clock_of Y.memory) = w.common-is ∙ (w.joined-common.ensures ∙ ap (joined_of m) clk) in
+          let t = tally_other (clock_of Y.memory) flags cl m z s C Z S
+          (ne_eqb (clock_of Y.memory) 0 (λ e. w.if-clock-eq0.false (clk ∙ e))) here in
+          let is : c.if-settled-i.common ≡ joined_of m (clock_of Y.memory) = w.common-is
+          ∙ (w.joined-common.ensures ∙ ap (joined_of m) clk) in
           record {
             tally = rw (is, w.zeros-is, w.count-is) t;
             few = omega (arith, w.count-is, inv.few);
             few_zeros = omega (arith, w.zeros-is, inv.few_zeros);
-            range = rw is (joined_range m (clock_of Y.memory) (All-head (λ (x : ℕ). x < MOST_MODULUS) (clock_of Y.memory) cl here.small));
+            range = rw is (joined_range m (clock_of Y.memory)
+                (All-head (λ (x : ℕ). x < MOST_MODULUS) (clock_of Y.memory) cl here.small));
           }
       | else-settled-i w ↦
           let t = tally_no flags cl m z s C Z S (at false w.if-settled-i.false) in
@@ -79,9 +86,12 @@ returns c =
     let m = c.loop-i.common in
     let z = c.loop-i.zeros in
     let s = c.loop-i.count in
-    let t = subst (λ (xs : List Bool). Tally xs (clocks_where xs (drop i nodes)) m z s C Z S) (drop_all i settled (omega (arith, c.requires.count))) inv.tally in
-    let common : m ≡ common_of (moving all) = t.of_common ∙ joined_common (moving all) (moving_small all c.requires.small) in
+    let t = subst (λ (xs : List Bool). Tally xs (clocks_where xs (drop i nodes)) m z s C Z S)
+    (drop_all i settled (omega (arith, c.requires.count))) inv.tally in
+    let common : m ≡ common_of (moving all) = t.of_common
+    ∙ joined_common (moving all) (moving_small all c.requires.small) in
     let zeros : z ≡ Z = let e = t.of_zeros in omega (arith, e) in
     let count : s ≡ S = let e = t.of_settled in omega (arith, e) in
     let row = λ (a b d : ℕ). let r : Row = record { pulse = c.args.pulse; common = a; zeros = b; settled = d } in r in
-    ap (λ (n : ℕ). row n z s) common ∙ (ap (λ (n : ℕ). row (common_of (moving all)) n s) zeros ∙ ap (λ (n : ℕ). row (common_of (moving all)) Z n) count)
+    ap (λ (n : ℕ). row n z s) common ∙ (ap (λ (n : ℕ). row (common_of (moving all)) n s) zeros
+    ∙ ap (λ (n : ℕ). row (common_of (moving all)) Z n) count)

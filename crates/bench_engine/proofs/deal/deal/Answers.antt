@@ -11,6 +11,7 @@ loop-task-preserved c =
     record {
       count = omega (arith, i.count, c.in_ok-give.ensures.count);
       next = omega arith;
-      dealt = IsPermutation-trans (c.loop-task.yielded ++ last) (before ++ last) (flat_map (λ b. b.items) c.give.new.batches.items)
+      dealt = IsPermutation-trans (c.loop-task.yielded ++ last) (before ++ last)
+          (flat_map (λ b. b.items) c.give.new.batches.items)
           (IsPermutation-append_left last c.loop-task.yielded before i.dealt) c.in_ok-give.ensures.given;
     }

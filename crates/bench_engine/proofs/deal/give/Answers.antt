@@ -4,5 +4,6 @@ use Rattle.bench_engine.proofs.deal.give.Goals as goal
 
 pub returns-clause-given : goal.returns-clause-given
 returns-clause-given c =
-    one_given (λ b. b.items) c.args.batches.now.items c.args.worker c.index_mut-batch.result.now c.push.new.self c.args.task
+    one_given (λ b. b.items) c.args.batches.now.items c.args.worker c.index_mut-batch.result.now c.push.new.self
+    c.args.task
     (omega (arith, c.args.batches.now.ok.0)) c.index_mut-batch.ensures.value c.in-Ok.ensures.items

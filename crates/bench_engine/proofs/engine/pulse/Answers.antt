@@ -3,5 +3,7 @@ use Rattle.bench_engine.proofs.engine.pulse.Goals as goal
 
 pub of_close-requires : goal.of_close-requires
 of_close-requires g c =
-    closes_for_memory c.args.bench.now c.open_pulse.new.self c.args.coins.now c.in-Ok.tasks.items c.in-Ok-run_tasks.dones.items c.in-Err-close_pulse.error c.in-Ok.ensures.ok
-    c.history-history.ensures.setup c.history-history.ensures.replays c.in-Ok.ensures.tasks c.in-Ok-run_tasks.ensures.ran c.in-Err-close_pulse.ensures.refusal
+    closes_for_memory c.args.bench.now c.open_pulse.new.self c.args.coins.now c.in-Ok.tasks.items
+    c.in-Ok-run_tasks.dones.items c.in-Err-close_pulse.error c.in-Ok.ensures.ok
+    c.history-history.ensures.setup c.history-history.ensures.replays c.in-Ok.ensures.tasks
+    c.in-Ok-run_tasks.ensures.ran c.in-Err-close_pulse.ensures.refusal

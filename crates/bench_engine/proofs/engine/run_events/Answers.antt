@@ -9,14 +9,16 @@ overflow_add-place g c =
     let i = c.loop-event.invariant in
     omega (
       arith,
-      place_fits c.loop-event.bench c.apply.new.bench c.loop-event.yielded c.in-Some.event c.loop-event.records.items c.apply.new.records.items c.loop-event.place i.count i.place
+      place_fits c.loop-event.bench c.apply.new.bench c.loop-event.yielded c.in-Some.event c.loop-event.records.items
+          c.apply.new.records.items c.loop-event.place i.count i.place
           c.in-Ok-apply.ensures.ok c.in-Ok-apply.ensures.few,
     )
 
 pub loop-event-preserved : goal.loop-event-preserved
 loop-event-preserved g c =
     let i = c.loop-event.invariant in
-    let kept = kept_on (setup_of c.args.shape c.args.rule) c.loop-event.bench c.apply.new.bench c.loop-event.yielded c.in-Some.event c.loop-event.records.items c.apply.new.records.items
+    let kept = kept_on (setup_of c.args.shape c.args.rule) c.loop-event.bench c.apply.new.bench c.loop-event.yielded
+    c.in-Some.event c.loop-event.records.items c.apply.new.records.items
     i.setup i.count i.goes c.in-Ok-apply.ensures.ok in
     record {
       setup = kept.setup;
@@ -31,5 +33,7 @@ loop-event-preserved g c =
 pub returns-in-Err-clause-fault : goal.returns-in-Err-clause-fault
 returns-in-Err-clause-fault g c =
     let i = c.loop-event.invariant in
-    fault_here (setup_of c.args.shape c.args.rule) c.loop-event.bench c.args.events.items c.loop-event.yielded (into_iter_items c.next.new.self) c.in-Some.event c.loop-event.place c.in-Err.fault
-    c.loop-event.records.items (i.rest ∙ ap (λ later. c.loop-event.yielded ++ later) c.in-Some.ensures.steps.0) i.place i.setup i.count i.goes c.in-Err.ensures.refusal
+    fault_here (setup_of c.args.shape c.args.rule) c.loop-event.bench c.args.events.items c.loop-event.yielded
+    (into_iter_items c.next.new.self) c.in-Some.event c.loop-event.place c.in-Err.fault
+    c.loop-event.records.items (i.rest ∙ ap (λ later. c.loop-event.yielded ++ later) c.in-Some.ensures.steps.0) i.place
+    i.setup i.count i.goes c.in-Err.ensures.refusal

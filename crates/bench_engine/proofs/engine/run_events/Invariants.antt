@@ -13,5 +13,6 @@ invariant-loop-event g l = record {
   count : length l.bench.history ≡ entries_after (map event_of l.yielded);
   place : l.place ≡ length l.yielded;
   rest : l.fn.events.items ≡ l.yielded ++ into_iter_items l.event-iterator;
-  goes : Goes (setup_of l.fn.shape l.fn.rule) (new_state (setup_of l.fn.shape l.fn.rule)) 0 (map event_of l.yielded) l.records.items l.bench.state;
+  goes : Goes (setup_of l.fn.shape l.fn.rule) (new_state (setup_of l.fn.shape l.fn.rule)) 0
+      (map event_of l.yielded) l.records.items l.bench.state;
 }

@@ -9,10 +9,13 @@ loop-worker-preserved g c =
     let i = c.loop-worker.invariant in
     let gathered = c.gather-gathered in
     record {
-      ran = one_joined (λ h. h.promise.tasks.value.items) (λ v. v.items) c.loop-worker.gathered gathered.result c.join-given.result c.loop-worker.yielded c.in-Some.worker
+      ran = one_joined (λ h. h.promise.tasks.value.items)
+          (λ v. v.items) c.loop-worker.gathered gathered.result c.join-given.result c.loop-worker.yielded
+          c.in-Some.worker
           gathered.ensures.both gathered.ensures.items c.join-given.ensures.1 i.ran;
       shut = λ all.
-          let each = All-pop (λ h. g.G.Gate.always h.promise.gate.value ≡ true) (c.loop-worker.yielded ++ c.in-Some.worker ∷ []) c.loop-worker.yielded (Some c.in-Some.worker) refl all in
+          let each = All-pop (λ h. g.G.Gate.always h.promise.gate.value ≡ true)
+          (c.loop-worker.yielded ++ c.in-Some.worker ∷ []) c.loop-worker.yielded (Some c.in-Some.worker) refl all in
           gathered.ensures.open (i.shut each.0) (c.join-given.ensures.0 each.1);
       started = gathered.ensures.started i.started;
     }

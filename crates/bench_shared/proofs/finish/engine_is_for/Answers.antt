@@ -7,4 +7,5 @@ use Rattle.bench_shared.proofs.finish.engine_is_for.Goals as goal
 pub returns-clause-rows : goal.returns-clause-rows
 returns-clause-rows g c = λ yes.
     let r = c.receipts.ensures in
-    rows_from_placed (map entry_of c.args.history.now) c.args.engine.now.receipts _ (c.are_for.ensures yes ∙ r.receipts) r.rows
+    rows_from_placed (map entry_of c.args.history.now) c.args.engine.now.receipts _
+    (c.are_for.ensures yes ∙ r.receipts) r.rows

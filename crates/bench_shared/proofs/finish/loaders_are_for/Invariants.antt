@@ -6,4 +6,6 @@ use Rattle.bench_shared.specs.Ends.{placed_by}
 use Rattle.bench_shared.proofs.finish.loaders_are_for.Given as goal
 
 abbrev pub invariant-loop-pass : goal.invariant-loop-pass
-invariant-loop-pass g l = (k : ℕ) (d : _) → k < l.pass-index → placed_by (Loader (slice_index_or l.loaders k d).number) (map entry_of l.history) ≡ (slice_index_or l.loaders k d).receipts
+invariant-loop-pass g l = (k : ℕ) (d : _) → k < l.pass-index
+    → placed_by (Loader (slice_index_or l.loaders k d).number) (map entry_of l.history) ≡
+    (slice_index_or l.loaders k d).receipts

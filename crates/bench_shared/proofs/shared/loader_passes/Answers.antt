@@ -20,5 +20,6 @@ loop-number-preserved g c =
       parts = omega (arith, i.parts, c.split_off.ensures.parts_left);
       amount = omega (arith, i.amount, c.split_off.ensures.amount_left);
       len = omega (arith, p.len, i.len);
-      new = are_new-push c.loop-number.passes.items _ _ p.items i.new (omega (arith, i.len, c.loop-number.passes.ok.0)) (ap all_placed c.new.ensures.items);
+      new = are_new-push c.loop-number.passes.items _ _ p.items i.new (omega (arith, i.len, c.loop-number.passes.ok.0))
+          (ap all_placed c.new.ensures.items);
     }

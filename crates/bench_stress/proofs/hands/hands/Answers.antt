@@ -6,4 +6,5 @@ use Rattle.bench_stress.proofs.hands.hands.Goals as goal
 
 pub returns-in-Ok-finish : goal.returns-in-Ok-finish
 returns-in-Ok-finish g c =
-    subst (λ (s : Setup). HasReplay s c.in-Ok-finish.finished) (ap (λ (p : Plan). p.setup) c.in-Ok.ensures.plan ∙ c.setup-shape.ensures.setup) c.in-Ok-finish.ensures.replays
+    subst (λ (s : Setup). HasReplay s c.in-Ok-finish.finished)
+    (ap (λ (p : Plan). p.setup) c.in-Ok.ensures.plan ∙ c.setup-shape.ensures.setup) c.in-Ok-finish.ensures.replays

@@ -10,5 +10,6 @@ returns-then-contains_key c = λ places has.
 pub returns-in_ok-insert : goal.returns-in_ok-insert
 returns-in_ok-insert c = λ places has.
     label_new c.args.labels.now _ places c.args.name.now c.args.slot
-    (λ q. btree_map_updates_str c.args.name.now c.args.labels.now.slots c.insert.new.self _ c.in_ok-insert.ensures.updates q)
+    (λ q. btree_map_updates_str c.args.name.now c.args.labels.now.slots c.insert.new.self _
+    c.in_ok-insert.ensures.updates q)
     refl (search rules) has

@@ -7,4 +7,5 @@ pub returns : goal.returns
 returns c =
     let p = c.args.program.now in
     c.assemble.ensures.only_program p
-    (subst (λ text. Means text p) (sym (c.as_bytes.ensures.value ∙ c.in_ok-text.ensures.text)) (canonical_means p c.in_ok-text.ensures.program))
+    (subst (λ text. Means text p) (sym (c.as_bytes.ensures.value ∙ c.in_ok-text.ensures.text))
+    (canonical_means p c.in_ok-text.ensures.program))

@@ -6,7 +6,8 @@ use Rattle.bpf_asm.proofs.operands.read_parts.Goals as goal
 pub returns-in_default-Some : goal.returns-in_default-Some
 returns-in_default-Some c =
     parts_from_first c.args.text.now c.first_piece.result.0.now c.in_default-Some.rest.now
-    (behind_mark 44 c.args.text.now c.first_piece.result.0.now c.first_piece.result.1 c.in_default-Some.rest c.first_piece.ensures.pieces c.in_default-Some.is-1)
+    (behind_mark 44 c.args.text.now c.first_piece.result.0.now c.first_piece.result.1 c.in_default-Some.rest
+    c.first_piece.ensures.pieces c.in_default-Some.is-1)
     ∙ ap (λ l. operands_by (l ∷ parts_of c.in_default-Some.rest.now)) (sym c.trimmed-in_default-Some.ensures)
     ∙ ap (λ r. operands_by (c.trimmed-in_default-Some.result.now ∷ parts_of r.now)) (sym c.in_default-Some.rest-is)
     ∙ c.parts_behind.ensures

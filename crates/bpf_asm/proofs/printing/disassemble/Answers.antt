@@ -13,9 +13,12 @@ loop-slot-init c = c.new-text.ensures.bytes ∙ ap canonical_text (sym (before_n
 pub loop-slot-preserved : goal.loop-slot-preserved
 loop-slot-preserved c =
     text_more c.args.program.now c.loop-slot.slot _ _ c.loop-slot.invariant
-    (c.in_ok-push_line.ensures ∙ ap (λ (found : Option Insn). string_bytes c.loop-slot.text ++ canonical_text (found_insns found)) c.insn_at.ensures.found)
+    (c.in_ok-push_line.ensures ∙ ap (λ (found : Option Insn). string_bytes c.loop-slot.text
+    ++ canonical_text (found_insns found)) c.insn_at.ensures.found)
 
 pub returns-clause-text : goal.returns-clause-text
 returns-clause-text c =
-    let end : c.loop-slot.slot ≡ slots_of c.args.program.now = omega (arith, c.loop-slot-test.false, c.loop-slot.auto.slot-end, c.slot_count-slot-end.ensures.count) in
-    c.loop-slot.invariant ∙ ap (λ (k : ℕ). canonical_text (insns_before c.args.program.now k)) end ∙ ap canonical_text (before_all c.args.program.now)
+    let end : c.loop-slot.slot ≡ slots_of c.args.program.now = omega
+    (arith, c.loop-slot-test.false, c.loop-slot.auto.slot-end, c.slot_count-slot-end.ensures.count) in
+    c.loop-slot.invariant ∙ ap (λ (k : ℕ). canonical_text (insns_before c.args.program.now k)) end
+    ∙ ap canonical_text (before_all c.args.program.now)

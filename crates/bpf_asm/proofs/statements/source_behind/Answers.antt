@@ -10,4 +10,6 @@ returns c =
     let some : (length c.args.word.now == 0) ≡ false = search rules in
     let named : form_of c.args.word.now ≡ Some c.in-Some.form = search rules in
     let ends : ends_word c.args.rest.now ≡ true = search rules in
-    sym (word_read c.args.word.now c.args.rest.now c.in-Some.form (Some (source_in c.in_ok-read_source.field-0)) some named ends (ap (source_by c.in-Some.form) c.read_parts.ensures ∙ c.in_ok-read_source.ensures))
+    sym (word_read c.args.word.now c.args.rest.now c.in-Some.form
+    (Some (source_in c.in_ok-read_source.field-0)) some named ends
+    (ap (source_by c.in-Some.form) c.read_parts.ensures ∙ c.in_ok-read_source.ensures))

@@ -9,5 +9,6 @@ use Rattle.bpf_insn.proofs.image.encode.Goals as goal
 
 pub returns-clause-image : goal.returns-clause-image
 returns-clause-image c =
-    let same = ap (λ (s : List (Option Insn)). flat_map spelling_at s) c.deref.ensures.value ∙ (image_by_slots c.program.inside.slots.items ∙ ap image_of c.program.view_is) in
+    let same = ap (λ (s : List (Option Insn)). flat_map spelling_at s) c.deref.ensures.value
+    ∙ (image_by_slots c.program.inside.slots.items ∙ ap image_of c.program.view_is) in
     subst (λ (t : List ℕ). IfOk c.spell_slots.result (λ bytes. bytes.items ≡ t)) same c.spell_slots.ensures

@@ -15,11 +15,14 @@ is_one : (c : In-Some) → IsProgram c.args.insns.items
 is_one c =
     let items = c.args.insns.items in
     let value = c.deref.ensures.value in
-    is_program items (subst (λ (p : List Insn). All InRange p) value c.in-Some.ensures.in_range) (λ none. eqb-false (vec_len c.args.insns) 0 (sym c.if-is_empty.ensures) (c.args.insns.ok.0 ∙ ap length none)) (subst (λ (p : List Insn). slots_of p ≤ MAX_SLOTS) value (omega (arith, c.in-Some.ensures.some)))
+    is_program items (subst (λ (p : List Insn). All InRange p) value c.in-Some.ensures.in_range)
+    (λ none. eqb-false (vec_len c.args.insns) 0 (sym c.if-is_empty.ensures) (c.args.insns.ok.0 ∙ ap length none))
+    (subst (λ (p : List Insn). slots_of p ≤ MAX_SLOTS) value (omega (arith, c.in-Some.ensures.some)))
 
 pub invariant_of-result : goal.invariant_of-result
 invariant_of-result c =
-    is_laid_out c.args.insns.items c.in-Ok.slots.items (is_one (goal.at.invariant_of-result c).In-Some) (c.in-Ok.ensures ∙ ap layout c.deref-2.ensures.value)
+    is_laid_out c.args.insns.items c.in-Ok.slots.items (is_one (goal.at.invariant_of-result c).In-Some)
+    (c.in-Ok.ensures ∙ ap layout c.deref-2.ensures.value)
 
 pub returns-in-Ok-clause-program : goal.returns-in-Ok-clause-program
 returns-in-Ok-clause-program c =

@@ -10,8 +10,10 @@ pub returns-then-eq : goal.returns-then-eq
 returns-then-eq c =
     let same = slice_eq-Decides Decides-eqb c.bytes.result c.bytes-2.result c.eq.result c.eq.ensures in
     let bytes : slot_bytes (slot_of c.args.left) ≡ slot_bytes (slot_of c.args.right) =
-    sym (c.bytes.ensures ∙ ap slot_bytes c.of.ensures) ∙ (same.0 c.if-eq.true ∙ (c.bytes-2.ensures ∙ ap slot_bytes c.of-2.ensures)) in
+    sym (c.bytes.ensures ∙ ap slot_bytes c.of.ensures)
+    ∙ (same.0 c.if-eq.true ∙ (c.bytes-2.ensures ∙ ap slot_bytes c.of-2.ensures)) in
     let high = Decides-eqb c.high_word.result c.high_word-then-eq.result in (
-      λ e. insn_once c.args.left c.args.right c.in_range.ensures c.in_range-2.ensures bytes (sym c.high_word.ensures ∙ (high.0 e ∙ c.high_word-then-eq.ensures)),
+      λ e. insn_once c.args.left c.args.right c.in_range.ensures c.in_range-2.ensures bytes
+          (sym c.high_word.ensures ∙ (high.0 e ∙ c.high_word-then-eq.ensures)),
       λ e. high.1 (c.high_word.ensures ∙ (ap high_of e ∙ sym c.high_word-then-eq.ensures)),
     )

@@ -11,4 +11,5 @@ or_found None = refl
 or_found (Some register) = refl
 
 pub returns : goal.returns
-returns c = c.ok_or.ensures.value ∙ (or_found c.of.result ∙ ap (found BadRegister) (register_is c.of.result c.args.number c.of.ensures.some c.of.ensures.none))
+returns c = c.ok_or.ensures.value ∙ (or_found c.of.result
+    ∙ ap (found BadRegister) (register_is c.of.result c.args.number c.of.ensures.some c.of.ensures.none))

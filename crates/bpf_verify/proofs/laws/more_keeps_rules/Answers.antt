@@ -6,7 +6,8 @@ use Rattle.bpf_verify.proofs.laws.more_keeps_rules.Goals as goal
 pub returns : goal.returns
 returns c = record {
   rules = rules_grow;
-  outcome = λ program shape slot insn way A C D proper contained. outcome_grows program shape slot way A C D proper contained insn;
+  outcome = λ program shape slot insn way A C D proper contained. outcome_grows program shape slot way A C D proper
+      contained insn;
   first = joined_first;
   second = joined_second;
   least = joined_within;

@@ -7,7 +7,8 @@ use Rattle.bpf_verify.proofs.longest.longest.Goals as goal
 pub down-init : goal.down-init
 down-init c = record {
   long = omega (arith, c.fill.invariant, c.fill-test.false, c.slot_count-count.ensures.count);
-  known = none_counted c.args.program.now c.slot_count-count.result c.fill.counts.items c.slot_count-count.ensures.count;
+  known = none_counted c.args.program.now c.slot_count-count.result c.fill.counts.items
+      c.slot_count-count.ensures.count;
 }
 
 pub down-preserved-in-Some : goal.down-preserved-in-Some
@@ -16,6 +17,15 @@ down-preserved-in-Some c =
     record {
       long = c.down.invariant.long;
       known = one_counted c.args.program.now (c.down.slot - 1) c.count_from.result c.down.counts.items
-          (omega (arith, here_within c.args.program.now (c.down.slot - 1) c.in-Some.insn (sym c.insn_at.ensures.found ∙ c.in-Some.is), c.down.invariant.long, c.deref.ensures.len, ap length c.deref.ensures.value))
-          (subst (λ n. HasLongest c.args.program.now n c.down.counts.items) (sym next) c.down.invariant.known) c.count_from.ensures.value c.count_from.ensures.few;
+          (omega (
+            arith,
+            here_within c.args.program.now (c.down.slot - 1) c.in-Some.insn
+                (sym c.insn_at.ensures.found ∙ c.in-Some.is),
+            c.down.invariant.long,
+            c.deref.ensures.len,
+            ap length
+                c.deref.ensures.value,
+          ))
+          (subst (λ n. HasLongest c.args.program.now n c.down.counts.items) (sym next) c.down.invariant.known)
+          c.count_from.ensures.value c.count_from.ensures.few;
     }

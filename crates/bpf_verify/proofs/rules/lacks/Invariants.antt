@@ -4,4 +4,5 @@ use Rattle.bpf_verify.specs.Rules as rules
 use Rattle.bpf_verify.proofs.rules.lacks.Given as goal
 
 abbrev pub invariant-loop-byte : goal.invariant-loop-byte
-invariant-loop-byte l = rules.lacks (abstract_of l.known) l.first (l.end - l.first) ≡ rules.lacks (abstract_of l.known) l.byte (l.end - l.byte)
+invariant-loop-byte l = rules.lacks (abstract_of l.known) l.first (l.end - l.first) ≡ rules.lacks
+    (abstract_of l.known) l.byte (l.end - l.byte)

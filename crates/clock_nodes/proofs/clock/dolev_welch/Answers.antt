@@ -14,10 +14,12 @@ program-requires c =
 
 pub returns-clause-runs : goal.returns-clause-runs
 returns-clause-runs c =
-    made (λ p. HasRuns p c.args.shape) (clock_listing c.args.rule) c.program.result (clock_has_runs c.args.rule c.args.shape c.quorum.ensures.rule c.requires.nodes)
+    made (λ p. HasRuns p c.args.shape) (clock_listing c.args.rule) c.program.result
+    (clock_has_runs c.args.rule c.args.shape c.quorum.ensures.rule c.requires.nodes)
     (search rules)
 
 pub returns-clause-ends : goal.returns-clause-ends
 returns-clause-ends c =
-    made (λ p. EndsBy p c.args.shape (IsClockEnd c.args.rule.faults c.args.rule.modulus)) (clock_listing c.args.rule) c.program.result
+    made (λ p. EndsBy p c.args.shape (IsClockEnd c.args.rule.faults c.args.rule.modulus))
+    (clock_listing c.args.rule) c.program.result
     (clock_ends_so c.args.rule c.args.shape c.quorum.ensures.rule c.requires.nodes) (search rules)

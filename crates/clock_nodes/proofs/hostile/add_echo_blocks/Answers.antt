@@ -5,4 +5,5 @@ use Rattle.clock_nodes.proofs.hostile.add_echo_blocks.Goals as goal
 
 pub loop-node-preserved : goal.loop-node-preserved
 loop-node-preserved c =
-    one_more echo_block echo_blocks (λ n j. refl) c.loop-node.insns.items _ _ c.args.nodes c.loop-node.node (omega arith) (search rules) c.loop-node.invariant
+    one_more echo_block echo_blocks (λ n j. refl) c.loop-node.insns.items _ _ c.args.nodes c.loop-node.node
+    (omega arith) (search rules) c.loop-node.invariant

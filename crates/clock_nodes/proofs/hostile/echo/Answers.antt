@@ -8,10 +8,13 @@ use Rattle.clock_nodes.proofs.Made.{made}
 use Rattle.clock_nodes.proofs.hostile.echo.Goals as goal
 
 pub program-requires : goal.program-requires
-program-requires c = subst IsProgram (sym (c.in_ok-insns.ensures ∙ ap echo_listing c.nodes.ensures.value)) (echo_is_program c.args.shape.nodes c.nodes.ensures.extent.few)
+program-requires c = subst IsProgram (sym (c.in_ok-insns.ensures ∙ ap echo_listing c.nodes.ensures.value))
+    (echo_is_program c.args.shape.nodes c.nodes.ensures.extent.few)
 
 pub returns-clause-runs : goal.returns-clause-runs
-returns-clause-runs c = made (λ p. HasRuns p c.args.shape) (echo_listing c.args.shape.nodes) c.program.result (echo_has_runs c.args.shape) (search rules)
+returns-clause-runs c = made (λ p. HasRuns p c.args.shape) (echo_listing c.args.shape.nodes) c.program.result
+    (echo_has_runs c.args.shape) (search rules)
 
 pub returns-clause-ends : goal.returns-clause-ends
-returns-clause-ends c = made (λ p. EndsBy p c.args.shape IsEchoEnd) (echo_listing c.args.shape.nodes) c.program.result (echo_ends_so c.args.shape) (search rules)
+returns-clause-ends c = made (λ p. EndsBy p c.args.shape IsEchoEnd) (echo_listing c.args.shape.nodes) c.program.result
+    (echo_ends_so c.args.shape) (search rules)

@@ -15,6 +15,7 @@ returns-then-ne c = (
       let read : get_or c.args.inbox.now c.loop-sender.sender None ≡ c.slot.result =
       inbox_slot c.args.inbox.now c.args.mail.now c.loop-sender.sender c.args.receiver low e ∙ sym c.slot.ensures in
       let equal : option_eq eqb (get_or c.args.inbox.now c.loop-sender.sender None) c.slot.result ≡ true =
-      subst (λ slot. option_eq eqb (get_or c.args.inbox.now c.loop-sender.sender None) slot ≡ true) read (equal_to_itself (get_or c.args.inbox.now c.loop-sender.sender None)) in
+      subst (λ slot. option_eq eqb (get_or c.args.inbox.now c.loop-sender.sender None) slot ≡ true) read
+      (equal_to_itself (get_or c.args.inbox.now c.loop-sender.sender None)) in
       sym (c.if-ne.ensures ∙ ap not equal),
 )

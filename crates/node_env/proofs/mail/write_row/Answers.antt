@@ -7,4 +7,5 @@ pub returns-clause-rows : goal.returns-clause-rows
 returns-clause-rows c =
     rows_of-put c.args.nodes c.args.sender c.place_of-start.result _ c.args.words.now c.copy_from_slice.new.self
     c.requires.sender c.requires.square.whole (omega arith) (omega arith) (omega arith)
-    ∙ ap (λ row. slice_set (rows_of c.args.nodes c.args.nodes c.args.words.now) c.args.sender (numbers_of row)) c.copy_from_slice.ensures.after
+    ∙ ap (λ row. slice_set (rows_of c.args.nodes c.args.nodes c.args.words.now) c.args.sender (numbers_of row))
+    c.copy_from_slice.ensures.after

@@ -13,8 +13,10 @@ returns-in_err-entry-clause-refused c =
     let items = c.deref-value-items.result.now in
     let i = c.loop-index.index in
     let within : i < length items = omega arith in
-    let none : (xs : List CoinEntry) → ReadsEach (IsTable (SpelledCoin c.args.frame)) (array_view c.args.array.now) xs → ⊥ =
-    next_unread (IsTable (SpelledCoin c.args.frame)) items _ i c.value-item.result within (search rules) c.loop-index.invariant.same c.in_err-entry.ensures.entry in
+    let none : (xs : List CoinEntry) → ReadsEach (IsTable (SpelledCoin c.args.frame)) (array_view c.args.array.now) xs
+    → ⊥ =
+    next_unread (IsTable (SpelledCoin c.args.frame)) items _ i c.value-item.result within
+    (search rules) c.loop-index.invariant.same c.in_err-entry.ensures.entry in
     let all = excludes c.in_err-entry.field-0.0 _ c.in_err-entry.ensures.fault none in
     search (rules, all)
 
@@ -25,5 +27,7 @@ loop-index-preserved c =
     let within : i < length items = omega arith in
     record {
       same = c.loop-index.invariant.same;
-      read = next_read (IsTable (SpelledCoin c.args.frame)) items i c.value-item.result c.loop-index.entries.items _ c.in_ok-entry.entry within (search rules) c.loop-index.invariant.read c.in_ok-entry.ensures.entry (search rules);
+      read = next_read (IsTable (SpelledCoin c.args.frame)) items i c.value-item.result c.loop-index.entries.items _
+          c.in_ok-entry.entry within (search rules) c.loop-index.invariant.read c.in_ok-entry.ensures.entry
+          (search rules);
     }

@@ -18,7 +18,8 @@ returns-in_err-corruption-clause-refused c =
     let within : i < length items = omega arith in
     let One : Type 0 = (x : CorruptDraft) → reads (view c.value-item.result) x → ⊥ in
     let None : Type 0 = (xs : List CorruptDraft) → ReadsEach reads (array_view c.args.array.now) xs → ⊥ in
-    let leads : One → None = (λ one. next_unread reads items _ i c.value-item.result within (search rules) c.loop-index.invariant.same one) in
+    let leads : One → None = (λ one. next_unread reads items _ i c.value-item.result within
+    (search rules) c.loop-index.invariant.same one) in
     let all = excludes_more c.in_err-corruption.field-0.0 One None leads c.in_err-corruption.ensures.refused in
     search (rules, all)
 
@@ -29,8 +30,12 @@ loop-index-preserved c =
     let within : i < length items = omega arith in
     let before = c.loop-index.corruptions.items in
     let pushed : c.push.new.self.items ≡ before ++ c.in_ok-corruption.corruption ∷ [] = search rules in
-    let mapped : map corrupt_of c.push.new.self.items ≡ map corrupt_of before ++ corrupt_of c.in_ok-corruption.corruption ∷ [] = ap (map corrupt_of) pushed ∙ map_more corrupt_of before c.in_ok-corruption.corruption in
+    let mapped : map corrupt_of c.push.new.self.items ≡ map corrupt_of before
+    ++ corrupt_of c.in_ok-corruption.corruption ∷ [] = ap (map corrupt_of) pushed
+    ∙ map_more corrupt_of before c.in_ok-corruption.corruption in
     record {
       same = c.loop-index.invariant.same;
-      read = next_read (IsTable (SpelledCorrupt c.args.frame)) items i c.value-item.result (map corrupt_of before) _ (corrupt_of c.in_ok-corruption.corruption) within (search rules) c.loop-index.invariant.read c.in_ok-corruption.ensures.corrupt mapped;
+      read = next_read (IsTable (SpelledCorrupt c.args.frame)) items i c.value-item.result (map corrupt_of before) _
+          (corrupt_of c.in_ok-corruption.corruption) within
+          (search rules) c.loop-index.invariant.read c.in_ok-corruption.ensures.corrupt mapped;
     }

@@ -8,5 +8,6 @@ use Rattle.scenario_text.proofs.corruptions.corruptions_in.Given as goal
 abbrev pub invariant-loop-index : goal.invariant-loop-index
 invariant-loop-index l = record {
   same : l.value-items ≡ l.array.items;
-  read : ReadsEach (IsTable (SpelledCorrupt l.frame)) (items_view (take l.index l.value-items)) (map corrupt_of l.corruptions.items);
+  read : ReadsEach (IsTable (SpelledCorrupt l.frame)) (items_view (take l.index l.value-items))
+      (map corrupt_of l.corruptions.items);
 }

@@ -6,5 +6,6 @@ use Rattle.scenario_text.proofs.loads.clock_program.Goals as goal
 
 pub returns-clause-program : goal.returns-clause-program
 returns-clause-program c =
-    let same : clock_listing c.args.setup.now.rule ≡ clock_listing (rule_of c.args.setup.now.frame) = ap clock_listing c.requires.rule in
+    let same : clock_listing c.args.setup.now.rule ≡ clock_listing (rule_of c.args.setup.now.frame) =
+    ap clock_listing c.requires.rule in
     subst (λ insns. IfOk c.map_err.result (λ p. p ≡ insns)) same (search rules)

@@ -19,7 +19,8 @@ returns-in_err-load-clause-refused c =
     let within : i < length items = omega arith in
     let One : Type 0 = (x : LoadDraft) → reads (view c.value-item.result) x → ⊥ in
     let None : Type 0 = (xs : List LoadDraft) → ReadsEach reads (array_view c.args.array.now) xs → ⊥ in
-    let leads : One → None = (λ one. next_unread reads items _ i c.value-item.result within (search rules) c.loop-index.invariant.same one) in
+    let leads : One → None = (λ one. next_unread reads items _ i c.value-item.result within
+    (search rules) c.loop-index.invariant.same one) in
     let all = excludes_more c.in_err-load.field-0.0 One None leads c.in_err-load.ensures.refused in
     search (rules, all)
 
@@ -30,9 +31,13 @@ loop-index-preserved c =
     let within : i < length items = omega arith in
     let before = c.loop-index.loads.items in
     let pushed : c.push.new.self.items ≡ before ++ c.in_ok-load.load ∷ [] = search rules in
-    let mapped : map load_of c.push.new.self.items ≡ map load_of before ++ load_of c.in_ok-load.load ∷ [] = ap (map load_of) pushed ∙ map_more load_of before c.in_ok-load.load in
+    let mapped : map load_of c.push.new.self.items ≡ map load_of before ++ load_of c.in_ok-load.load
+    ∷ [] = ap (map load_of) pushed ∙ map_more load_of before c.in_ok-load.load in
     record {
       same = c.loop-index.invariant.same;
-      read = next_read (IsTable (SpelledLoad c.args.setup.now.frame)) items i c.value-item.result (map load_of before) _ (load_of c.in_ok-load.load) within (search rules) c.loop-index.invariant.read c.in_ok-load.ensures.load mapped;
-      fits = rw pushed (All-push (FitsLoad c.args.setup.now.frame) before c.in_ok-load.load c.loop-index.invariant.fits c.in_ok-load.ensures.fits);
+      read = next_read (IsTable (SpelledLoad c.args.setup.now.frame)) items i c.value-item.result
+          (map load_of before) _ (load_of c.in_ok-load.load) within
+          (search rules) c.loop-index.invariant.read c.in_ok-load.ensures.load mapped;
+      fits = rw pushed (All-push (FitsLoad c.args.setup.now.frame) before c.in_ok-load.load c.loop-index.invariant.fits
+          c.in_ok-load.ensures.fits);
     }

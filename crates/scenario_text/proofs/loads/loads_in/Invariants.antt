@@ -8,6 +8,7 @@ use Rattle.scenario_text.proofs.loads.loads_in.Given as goal
 abbrev pub invariant-loop-index : goal.invariant-loop-index
 invariant-loop-index l = record {
   same : l.value-items ≡ l.array.items;
-  read : ReadsEach (IsTable (SpelledLoad l.setup.frame)) (items_view (take l.index l.value-items)) (map load_of l.loads.items);
+  read : ReadsEach (IsTable (SpelledLoad l.setup.frame)) (items_view (take l.index l.value-items))
+      (map load_of l.loads.items);
   fits : All (FitsLoad l.setup.frame) l.loads.items;
 }

@@ -9,7 +9,8 @@ returns-in_default-clause-refused c =
     let items = c.deref-value-items.result.now in
     let i = c.loop-value.value-index in
     let within : i < length items = omega arith in
-    next_unread (IsSaid) items _ i c.value-item.result within (search rules) c.loop-value.invariant.same c.in_default.ensures
+    next_unread (IsSaid) items _ i c.value-item.result within
+    (search rules) c.loop-value.invariant.same c.in_default.ensures
 
 pub loop-value-preserved : goal.loop-value-preserved
 loop-value-preserved c =
@@ -18,5 +19,6 @@ loop-value-preserved c =
     let within : i < length items = omega arith in
     record {
       same = c.loop-value.invariant.same;
-      read = next_read (IsSaid) items i c.value-item.result c.loop-value.said.items _ c.in-Some.number within (search rules) c.loop-value.invariant.read c.in-Some.ensures (search rules);
+      read = next_read (IsSaid) items i c.value-item.result c.loop-value.said.items _ c.in-Some.number within
+          (search rules) c.loop-value.invariant.read c.in-Some.ensures (search rules);
     }

@@ -13,8 +13,10 @@ returns-in_err-unload-clause-refused c =
     let items = c.deref-value-items.result.now in
     let i = c.loop-index.index in
     let within : i < length items = omega arith in
-    let none : (xs : List Unload) → ReadsEach (IsTable (SpelledUnload c.args.frame)) (array_view c.args.array.now) xs → ⊥ =
-    next_unread (IsTable (SpelledUnload c.args.frame)) items _ i c.value-item.result within (search rules) c.loop-index.invariant.same c.in_err-unload.ensures.unload in
+    let none : (xs : List Unload) → ReadsEach (IsTable (SpelledUnload c.args.frame)) (array_view c.args.array.now) xs
+    → ⊥ =
+    next_unread (IsTable (SpelledUnload c.args.frame)) items _ i c.value-item.result within
+    (search rules) c.loop-index.invariant.same c.in_err-unload.ensures.unload in
     let all = excludes c.in_err-unload.field-0.0 _ c.in_err-unload.ensures.fault none in
     search (rules, all)
 
@@ -25,5 +27,7 @@ loop-index-preserved c =
     let within : i < length items = omega arith in
     record {
       same = c.loop-index.invariant.same;
-      read = next_read (IsTable (SpelledUnload c.args.frame)) items i c.value-item.result c.loop-index.unloads.items _ c.in_ok-unload.unload within (search rules) c.loop-index.invariant.read c.in_ok-unload.ensures.unload (search rules);
+      read = next_read (IsTable (SpelledUnload c.args.frame)) items i c.value-item.result c.loop-index.unloads.items _
+          c.in_ok-unload.unload within (search rules) c.loop-index.invariant.read c.in_ok-unload.ensures.unload
+          (search rules);
     }

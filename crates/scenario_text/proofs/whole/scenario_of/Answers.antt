@@ -12,27 +12,32 @@ use Rattle.scenario_text.proofs.whole.scenario_of.Goals as goal
 pub returns-in_err-arrays-clause-refused : goal.returns-in_err-arrays-clause-refused
 returns-in_err-arrays-clause-refused c =
     let ms = table_view c.args.table.now in
-    let all = excludes c.in_err-arrays.field-0.0 (SpellsNothing ms) c.in_err-arrays.ensures.fault (no_arrays ms c.in_err-arrays.ensures.has) in
+    let all = excludes c.in_err-arrays.field-0.0 (SpellsNothing ms) c.in_err-arrays.ensures.fault
+    (no_arrays ms c.in_err-arrays.ensures.has) in
     search (rules, all)
 
 pub returns-in_err-loads-clause-refused : goal.returns-in_err-loads-clause-refused
 returns-in_err-loads-clause-refused c =
-    let all = loads_excluded _ c.in_ok-frame.frame _ _ c.in_err-loads.field-0.0 c.in_ok-frame.ensures.frame c.setup_of-setup.ensures.frame c.in_ok-arrays.ensures.loads c.in_err-loads.ensures.refused in
+    let all = loads_excluded _ c.in_ok-frame.frame _ _ c.in_err-loads.field-0.0 c.in_ok-frame.ensures.frame
+    c.setup_of-setup.ensures.frame c.in_ok-arrays.ensures.loads c.in_err-loads.ensures.refused in
     search (rules, all)
 
 pub returns-in_err-unloads-clause-refused : goal.returns-in_err-unloads-clause-refused
 returns-in_err-unloads-clause-refused c =
-    let all = unloads_excluded _ c.in_ok-frame.frame _ c.in_err-unloads.field-0.0 c.in_ok-frame.ensures.frame c.in_ok-arrays.ensures.unloads c.in_err-unloads.ensures.refused in
+    let all = unloads_excluded _ c.in_ok-frame.frame _ c.in_err-unloads.field-0.0 c.in_ok-frame.ensures.frame
+    c.in_ok-arrays.ensures.unloads c.in_err-unloads.ensures.refused in
     search (rules, all)
 
 pub returns-in_err-corruptions-clause-refused : goal.returns-in_err-corruptions-clause-refused
 returns-in_err-corruptions-clause-refused c =
-    let all = corruptions_excluded _ c.in_ok-frame.frame _ c.in_err-corruptions.field-0.0 c.in_ok-frame.ensures.frame c.in_ok-arrays.ensures.corruptions c.in_err-corruptions.ensures.refused in
+    let all = corruptions_excluded _ c.in_ok-frame.frame _ c.in_err-corruptions.field-0.0 c.in_ok-frame.ensures.frame
+    c.in_ok-arrays.ensures.corruptions c.in_err-corruptions.ensures.refused in
     search (rules, all)
 
 pub returns-in_err-entries-clause-refused : goal.returns-in_err-entries-clause-refused
 returns-in_err-entries-clause-refused c =
-    let all = entries_excluded _ c.in_ok-frame.frame _ c.in_err-entries.field-0.0 c.in_ok-frame.ensures.frame c.in_ok-arrays.ensures.entries c.in_err-entries.ensures.refused in
+    let all = entries_excluded _ c.in_ok-frame.frame _ c.in_err-entries.field-0.0 c.in_ok-frame.ensures.frame
+    c.in_ok-arrays.ensures.entries c.in_err-entries.ensures.refused in
     search (rules, all)
 
 pub returns-clause-reads : goal.returns-clause-reads
@@ -43,12 +48,18 @@ returns-clause-reads c =
     let there = get_member (codes "load") (table_view c.args.table.now) in
     let loads = map load_of c.in_ok-loads.loads.items in
     record {
-      spelled = spelled_whole _ _ (search rules) c.in_ok-frame.ensures.frame c.in_ok-coins.ensures.coins c.in_ok-key.ensures.key
+      spelled = spelled_whole _ _ (search rules) c.in_ok-frame.ensures.frame c.in_ok-coins.ensures.coins
+          c.in_ok-key.ensures.key
           (subst (λ f. MayBeArray (IsTable (SpelledLoad f)) there loads) same
-          (subst (λ o. MayBeArray (IsTable (SpelledLoad c.setup_of-setup.result.frame)) o loads) held.loads c.in_ok-loads.ensures.loads))
-          (subst (λ o. MayBeArray (IsTable (SpelledUnload frame)) o c.in_ok-unloads.unloads.items) held.unloads c.in_ok-unloads.ensures.unloads)
-          (subst (λ o. MayBeArray (IsTable (SpelledCorrupt frame)) o (map corrupt_of c.in_ok-corruptions.corruptions.items)) held.corruptions c.in_ok-corruptions.ensures.corruptions)
-          (subst (λ o. MayBeArray (IsTable (SpelledCoin frame)) o c.in_ok-entries.entries.items) held.entries c.in_ok-entries.ensures.entries)
+          (subst (λ o. MayBeArray (IsTable (SpelledLoad c.setup_of-setup.result.frame)) o loads) held.loads
+          c.in_ok-loads.ensures.loads))
+          (subst (λ o. MayBeArray (IsTable (SpelledUnload frame)) o c.in_ok-unloads.unloads.items) held.unloads
+          c.in_ok-unloads.ensures.unloads)
+          (subst (λ o. MayBeArray (IsTable (SpelledCorrupt frame)) o
+          (map corrupt_of c.in_ok-corruptions.corruptions.items)) held.corruptions
+          c.in_ok-corruptions.ensures.corruptions)
+          (subst (λ o. MayBeArray (IsTable (SpelledCoin frame)) o c.in_ok-entries.entries.items) held.entries
+          c.in_ok-entries.ensures.entries)
           held.has;
       typable = subst (λ f. All (FitsLoad f) c.in_ok-loads.loads.items) same c.in_ok-loads.ensures.fits;
     }

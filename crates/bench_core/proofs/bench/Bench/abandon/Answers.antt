@@ -8,16 +8,20 @@ pub invariant_of-self : goal.invariant_of-self
 invariant_of-self c =
     let b = c.self.inside in
     let kept = c.self.invariant in
-    let advances = abandoned_advances b c.add.new.history (is_open_from b.coins c.if-is_none.ensures) kept.staged c.add.ensures.items in
+    let advances = abandoned_advances b c.add.new.history
+    (is_open_from b.coins c.if-is_none.ensures) kept.staged c.add.ensures.items in
     let longer = length_push b.history.items c.add.new.history.items Abandoned c.add.ensures.items in
     let before = places_seen b in
     let one : ◌≡◌ {A = ℕ} (cond (is_some b.coins) 1 0) 1 = ap (λ (o : Bool). cond o 1 0) c.if-is_none.ensures in
     let after = places_seen (record b { coins = None; history = c.add.new.history }) in
-    kept_step b _ AbandonedValue kept advances kept.same refl kept.flags kept.spare (omega arith) (λ h. absurd cc) (omega (arith, longer, kept.staged))
+    kept_step b _ AbandonedValue kept advances kept.same refl kept.flags kept.spare (omega arith) (λ h. absurd cc)
+    (omega (arith, longer, kept.staged))
     (omega (arith, longer, before, one, after, kept.limit))
     (omega (arith, longer, before, one, after, kept.room, c.add.ensures.capacity))
 
 pub returns-clause-ok : goal.returns-clause-ok
 returns-clause-ok c =
     let b = c.self.inside in
-    as_seen c.args.self.now b (record b { coins = None; history = c.add.new.history }) AbandonedValue c.self.view_is (abandoned_advances b c.add.new.history (is_open_from b.coins c.if-is_none.ensures) c.self.invariant.staged c.add.ensures.items)
+    as_seen c.args.self.now b (record b { coins = None; history = c.add.new.history }) AbandonedValue c.self.view_is
+    (abandoned_advances b c.add.new.history
+    (is_open_from b.coins c.if-is_none.ensures) c.self.invariant.staged c.add.ensures.items)

@@ -39,21 +39,28 @@ sort_results-requires c =
 pub returns-in-Err-clause-refusal : goal.returns-in-Err-clause-refusal
 returns-in-Err-clause-refusal c =
     let b = c.self.inside in
-    refuses_at b c.args.self.now c.in-Some.coins c.deref.result.now c.deref-2.result.now c.deref-3.result.now c.args.dones.items c.in-Err.refusal c.self.invariant c.self.view_is c.in-Some.is
+    refuses_at b c.args.self.now c.in-Some.coins c.deref.result.now c.deref-2.result.now c.deref-3.result.now
+    c.args.dones.items c.in-Err.refusal c.self.invariant c.self.view_is c.in-Some.is
     c.deref.ensures.value c.deref-2.ensures.value c.deref-3.ensures.value c.in-Err.ensures.refusal
 
 pub close_nodes-requires-clause-nodes : goal.close_nodes-requires-clause-nodes
-close_nodes-requires-clause-nodes c = ap length c.deref_mut.ensures.value ∙ ((sound_of c.self.inside c.self.invariant).nodes ∙ sym c.nodes-count.ensures.value)
+close_nodes-requires-clause-nodes c = ap length c.deref_mut.ensures.value
+    ∙ ((sound_of c.self.inside c.self.invariant).nodes ∙ sym c.nodes-count.ensures.value)
 
 pub close_nodes-requires-clause-flags : goal.close_nodes-requires-clause-flags
-close_nodes-requires-clause-flags c = ap length c.deref-5.ensures.value ∙ (c.self.invariant.flags.count ∙ ((sound_of c.self.inside c.self.invariant).nodes ∙ sym c.nodes-count.ensures.value))
+close_nodes-requires-clause-flags c = ap length c.deref-5.ensures.value
+    ∙ (c.self.invariant.flags.count ∙ ((sound_of c.self.inside c.self.invariant).nodes
+    ∙ sym c.nodes-count.ensures.value))
 
 pub close_nodes-requires-clause-fits : goal.close_nodes-requires-clause-fits
 close_nodes-requires-clause-fits c =
     let b = c.self.inside in
-    let sorted = sorted_at (view_of b).setup c.deref.result.now b.nodes.items b.mail c.deref-2.result.now c.in-Some.coins.items (b.opened - 1) c.deref-3.result.now c.args.dones.items c.in-Ok.found
-    c.deref.ensures.value c.deref-2.ensures.value c.deref-3.ensures.value c.in-Ok.ensures.found c.in-Ok.ensures.ends c.in-Ok.ensures.exact in
-    rw (c.deref_mut.ensures.value, c.deref-6.ensures.value, c.nodes-count.ensures.value) (all_fit_nodes b c.in-Some.coins c.args.dones.items c.in-Ok.found c.self.invariant c.in-Some.is sorted)
+    let sorted = sorted_at (view_of b).setup c.deref.result.now b.nodes.items b.mail c.deref-2.result.now
+    c.in-Some.coins.items (b.opened - 1) c.deref-3.result.now c.args.dones.items c.in-Ok.found
+    c.deref.ensures.value c.deref-2.ensures.value c.deref-3.ensures.value c.in-Ok.ensures.found c.in-Ok.ensures.ends
+    c.in-Ok.ensures.exact in
+    rw (c.deref_mut.ensures.value, c.deref-6.ensures.value, c.nodes-count.ensures.value)
+    (all_fit_nodes b c.in-Some.coins c.args.dones.items c.in-Ok.found c.self.invariant c.in-Some.is sorted)
 
 pub overflow_add-number : goal.overflow_add-number
 overflow_add-number c =
@@ -65,12 +72,17 @@ overflow_add-number c =
     let nodes = c.close_nodes.new.nodes in
     let mail = c.close_nodes.new.mail in
     let n = c.nodes-count.ensures.value in
-    let sorted = sorted_at (view_of b).setup c.deref.result.now b.nodes.items b.mail c.deref-2.result.now coins.items (b.opened - 1) c.deref-3.result.now dones found
-    c.deref.ensures.value c.deref-2.ensures.value c.deref-3.ensures.value c.in-Ok.ensures.found c.in-Ok.ensures.ends c.in-Ok.ensures.exact in
-    let count : length nodes ≡ b.shape.nodes = c.close_nodes.auto.nodes ∙ (ap length c.deref_mut.ensures.value ∙ (sound_of b kept).nodes) in
-    let left = left_at c.deref-6.result.now dones c.deref-5.result.now b.flags.items c.deref_mut.result.now b.nodes.items found nodes mail c.nodes-count.result b.shape.nodes
+    let sorted = sorted_at (view_of b).setup c.deref.result.now b.nodes.items b.mail c.deref-2.result.now coins.items
+    (b.opened - 1) c.deref-3.result.now dones found
+    c.deref.ensures.value c.deref-2.ensures.value c.deref-3.ensures.value c.in-Ok.ensures.found c.in-Ok.ensures.ends
+    c.in-Ok.ensures.exact in
+    let count : length nodes ≡ b.shape.nodes = c.close_nodes.auto.nodes
+    ∙ (ap length c.deref_mut.ensures.value ∙ (sound_of b kept).nodes) in
+    let left = left_at c.deref-6.result.now dones c.deref-5.result.now b.flags.items c.deref_mut.result.now
+    b.nodes.items found nodes mail c.nodes-count.result b.shape.nodes
     c.deref-6.ensures.value c.deref-5.ensures.value c.deref_mut.ensures.value n c.close_nodes.ensures.left in
-    let pulse = pulse_at b coins dones found nodes mail kept c.in-Some.is sorted count (c.close_nodes.ensures.mail ∙ n) left in
+    let pulse = pulse_at b coins dones found nodes mail kept c.in-Some.is sorted count
+    (c.close_nodes.ensures.mail ∙ n) left in
     let few = few_pulses (view_of b) _ kept.setup kept.replays kept.limit pulse in
     omega (arith, few)
 
@@ -84,12 +96,17 @@ tell-told-requires-clause-last c =
     let nodes = c.close_nodes.new.nodes in
     let mail = c.close_nodes.new.mail in
     let n = c.nodes-count.ensures.value in
-    let sorted = sorted_at (view_of b).setup c.deref.result.now b.nodes.items b.mail c.deref-2.result.now coins.items (b.opened - 1) c.deref-3.result.now dones found
-    c.deref.ensures.value c.deref-2.ensures.value c.deref-3.ensures.value c.in-Ok.ensures.found c.in-Ok.ensures.ends c.in-Ok.ensures.exact in
-    let count : length nodes ≡ b.shape.nodes = c.close_nodes.auto.nodes ∙ (ap length c.deref_mut.ensures.value ∙ (sound_of b kept).nodes) in
-    let left = left_at c.deref-6.result.now dones c.deref-5.result.now b.flags.items c.deref_mut.result.now b.nodes.items found nodes mail c.nodes-count.result b.shape.nodes
+    let sorted = sorted_at (view_of b).setup c.deref.result.now b.nodes.items b.mail c.deref-2.result.now coins.items
+    (b.opened - 1) c.deref-3.result.now dones found
+    c.deref.ensures.value c.deref-2.ensures.value c.deref-3.ensures.value c.in-Ok.ensures.found c.in-Ok.ensures.ends
+    c.in-Ok.ensures.exact in
+    let count : length nodes ≡ b.shape.nodes = c.close_nodes.auto.nodes
+    ∙ (ap length c.deref_mut.ensures.value ∙ (sound_of b kept).nodes) in
+    let left = left_at c.deref-6.result.now dones c.deref-5.result.now b.flags.items c.deref_mut.result.now
+    b.nodes.items found nodes mail c.nodes-count.result b.shape.nodes
     c.deref-6.ensures.value c.deref-5.ensures.value c.deref_mut.ensures.value n c.close_nodes.ensures.left in
-    let pulse = pulse_at b coins dones found nodes mail kept c.in-Some.is sorted count (c.close_nodes.ensures.mail ∙ n) left in
+    let pulse = pulse_at b coins dones found nodes mail kept c.in-Some.is sorted count
+    (c.close_nodes.ensures.mail ∙ n) left in
     few_pulses (view_of b) _ kept.setup kept.replays kept.limit pulse
 
 pub tell-told-requires-clause-few : goal.tell-told-requires-clause-few
@@ -102,16 +119,23 @@ tell-told-requires-clause-few c =
     let nodes = c.close_nodes.new.nodes in
     let mail = c.close_nodes.new.mail in
     let n = c.nodes-count.ensures.value in
-    let sorted = sorted_at (view_of b).setup c.deref.result.now b.nodes.items b.mail c.deref-2.result.now coins.items (b.opened - 1) c.deref-3.result.now dones found
-    c.deref.ensures.value c.deref-2.ensures.value c.deref-3.ensures.value c.in-Ok.ensures.found c.in-Ok.ensures.ends c.in-Ok.ensures.exact in
-    let count : length nodes ≡ b.shape.nodes = c.close_nodes.auto.nodes ∙ (ap length c.deref_mut.ensures.value ∙ (sound_of b kept).nodes) in
-    let left = left_at c.deref-6.result.now dones c.deref-5.result.now b.flags.items c.deref_mut.result.now b.nodes.items found nodes mail c.nodes-count.result b.shape.nodes
+    let sorted = sorted_at (view_of b).setup c.deref.result.now b.nodes.items b.mail c.deref-2.result.now coins.items
+    (b.opened - 1) c.deref-3.result.now dones found
+    c.deref.ensures.value c.deref-2.ensures.value c.deref-3.ensures.value c.in-Ok.ensures.found c.in-Ok.ensures.ends
+    c.in-Ok.ensures.exact in
+    let count : length nodes ≡ b.shape.nodes = c.close_nodes.auto.nodes
+    ∙ (ap length c.deref_mut.ensures.value ∙ (sound_of b kept).nodes) in
+    let left = left_at c.deref-6.result.now dones c.deref-5.result.now b.flags.items c.deref_mut.result.now
+    b.nodes.items found nodes mail c.nodes-count.result b.shape.nodes
     c.deref-6.ensures.value c.deref-5.ensures.value c.deref_mut.ensures.value n c.close_nodes.ensures.left in
-    let pulse = pulse_at b coins dones found nodes mail kept c.in-Some.is sorted count (c.close_nodes.ensures.mail ∙ n) left in
+    let pulse = pulse_at b coins dones found nodes mail kept c.in-Some.is sorted count
+    (c.close_nodes.ensures.mail ∙ n) left in
     let whole = (sound_of b kept).nodes in
-    let items : (with_items b.nodes nodes).items ≡ nodes = with_items_is b.nodes nodes (count ∙ (sym whole ∙ sym b.nodes.ok.0)) in
+    let items : (with_items b.nodes nodes).items ≡ nodes = with_items_is b.nodes nodes
+    (count ∙ (sym whole ∙ sym b.nodes.ok.0)) in
     let after : c.deref-7.result.now ≡ nodes = c.deref-7.ensures.value ∙ items in
-    let marks : c.in-Ok-make_room.room.settled.items ≡ map (λ x. x.mark) b.nodes.items = c.in-Ok-make_room.ensures.settled ∙ ap (map (λ (x : Node). x.mark)) c.deref-4.ensures.value in
+    let marks : c.in-Ok-make_room.room.settled.items ≡ map (λ x. x.mark) b.nodes.items =
+    c.in-Ok-make_room.ensures.settled ∙ ap (map (λ (x : Node). x.mark)) c.deref-4.ensures.value in
     rw after (omega (arith, count, kept.setup.extent.few))
 
 pub tell-told-requires-clause-memory : goal.tell-told-requires-clause-memory
@@ -124,17 +148,26 @@ tell-told-requires-clause-memory c =
     let nodes = c.close_nodes.new.nodes in
     let mail = c.close_nodes.new.mail in
     let n = c.nodes-count.ensures.value in
-    let sorted = sorted_at (view_of b).setup c.deref.result.now b.nodes.items b.mail c.deref-2.result.now coins.items (b.opened - 1) c.deref-3.result.now dones found
-    c.deref.ensures.value c.deref-2.ensures.value c.deref-3.ensures.value c.in-Ok.ensures.found c.in-Ok.ensures.ends c.in-Ok.ensures.exact in
-    let count : length nodes ≡ b.shape.nodes = c.close_nodes.auto.nodes ∙ (ap length c.deref_mut.ensures.value ∙ (sound_of b kept).nodes) in
-    let left = left_at c.deref-6.result.now dones c.deref-5.result.now b.flags.items c.deref_mut.result.now b.nodes.items found nodes mail c.nodes-count.result b.shape.nodes
+    let sorted = sorted_at (view_of b).setup c.deref.result.now b.nodes.items b.mail c.deref-2.result.now coins.items
+    (b.opened - 1) c.deref-3.result.now dones found
+    c.deref.ensures.value c.deref-2.ensures.value c.deref-3.ensures.value c.in-Ok.ensures.found c.in-Ok.ensures.ends
+    c.in-Ok.ensures.exact in
+    let count : length nodes ≡ b.shape.nodes = c.close_nodes.auto.nodes
+    ∙ (ap length c.deref_mut.ensures.value ∙ (sound_of b kept).nodes) in
+    let left = left_at c.deref-6.result.now dones c.deref-5.result.now b.flags.items c.deref_mut.result.now
+    b.nodes.items found nodes mail c.nodes-count.result b.shape.nodes
     c.deref-6.ensures.value c.deref-5.ensures.value c.deref_mut.ensures.value n c.close_nodes.ensures.left in
-    let pulse = pulse_at b coins dones found nodes mail kept c.in-Some.is sorted count (c.close_nodes.ensures.mail ∙ n) left in
+    let pulse = pulse_at b coins dones found nodes mail kept c.in-Some.is sorted count
+    (c.close_nodes.ensures.mail ∙ n) left in
     let whole = (sound_of b kept).nodes in
-    let items : (with_items b.nodes nodes).items ≡ nodes = with_items_is b.nodes nodes (count ∙ (sym whole ∙ sym b.nodes.ok.0)) in
+    let items : (with_items b.nodes nodes).items ≡ nodes = with_items_is b.nodes nodes
+    (count ∙ (sym whole ∙ sym b.nodes.ok.0)) in
     let after : c.deref-7.result.now ≡ nodes = c.deref-7.ensures.value ∙ items in
-    let marks : c.in-Ok-make_room.room.settled.items ≡ map (λ x. x.mark) b.nodes.items = c.in-Ok-make_room.ensures.settled ∙ ap (map (λ (x : Node). x.mark)) c.deref-4.ensures.value in
-    rw after (enough_memory (view_of b).setup (closed_state (view_of b).state nodes mail) kept.setup (sound_pulse (view_of b).setup (view_of b).state (closed_state (view_of b).state nodes mail) kept.setup (sound_of b kept) pulse))
+    let marks : c.in-Ok-make_room.room.settled.items ≡ map (λ x. x.mark) b.nodes.items =
+    c.in-Ok-make_room.ensures.settled ∙ ap (map (λ (x : Node). x.mark)) c.deref-4.ensures.value in
+    rw after (enough_memory (view_of b).setup (closed_state (view_of b).state nodes mail) kept.setup
+    (sound_pulse (view_of b).setup (view_of b).state (closed_state (view_of b).state nodes mail) kept.setup
+    (sound_of b kept) pulse))
 
 pub tell-told-requires-clause-small : goal.tell-told-requires-clause-small
 tell-told-requires-clause-small c =
@@ -146,17 +179,26 @@ tell-told-requires-clause-small c =
     let nodes = c.close_nodes.new.nodes in
     let mail = c.close_nodes.new.mail in
     let n = c.nodes-count.ensures.value in
-    let sorted = sorted_at (view_of b).setup c.deref.result.now b.nodes.items b.mail c.deref-2.result.now coins.items (b.opened - 1) c.deref-3.result.now dones found
-    c.deref.ensures.value c.deref-2.ensures.value c.deref-3.ensures.value c.in-Ok.ensures.found c.in-Ok.ensures.ends c.in-Ok.ensures.exact in
-    let count : length nodes ≡ b.shape.nodes = c.close_nodes.auto.nodes ∙ (ap length c.deref_mut.ensures.value ∙ (sound_of b kept).nodes) in
-    let left = left_at c.deref-6.result.now dones c.deref-5.result.now b.flags.items c.deref_mut.result.now b.nodes.items found nodes mail c.nodes-count.result b.shape.nodes
+    let sorted = sorted_at (view_of b).setup c.deref.result.now b.nodes.items b.mail c.deref-2.result.now coins.items
+    (b.opened - 1) c.deref-3.result.now dones found
+    c.deref.ensures.value c.deref-2.ensures.value c.deref-3.ensures.value c.in-Ok.ensures.found c.in-Ok.ensures.ends
+    c.in-Ok.ensures.exact in
+    let count : length nodes ≡ b.shape.nodes = c.close_nodes.auto.nodes
+    ∙ (ap length c.deref_mut.ensures.value ∙ (sound_of b kept).nodes) in
+    let left = left_at c.deref-6.result.now dones c.deref-5.result.now b.flags.items c.deref_mut.result.now
+    b.nodes.items found nodes mail c.nodes-count.result b.shape.nodes
     c.deref-6.ensures.value c.deref-5.ensures.value c.deref_mut.ensures.value n c.close_nodes.ensures.left in
-    let pulse = pulse_at b coins dones found nodes mail kept c.in-Some.is sorted count (c.close_nodes.ensures.mail ∙ n) left in
+    let pulse = pulse_at b coins dones found nodes mail kept c.in-Some.is sorted count
+    (c.close_nodes.ensures.mail ∙ n) left in
     let whole = (sound_of b kept).nodes in
-    let items : (with_items b.nodes nodes).items ≡ nodes = with_items_is b.nodes nodes (count ∙ (sym whole ∙ sym b.nodes.ok.0)) in
+    let items : (with_items b.nodes nodes).items ≡ nodes = with_items_is b.nodes nodes
+    (count ∙ (sym whole ∙ sym b.nodes.ok.0)) in
     let after : c.deref-7.result.now ≡ nodes = c.deref-7.ensures.value ∙ items in
-    let marks : c.in-Ok-make_room.room.settled.items ≡ map (λ x. x.mark) b.nodes.items = c.in-Ok-make_room.ensures.settled ∙ ap (map (λ (x : Node). x.mark)) c.deref-4.ensures.value in
-    rw after (small_clocks (view_of b).setup (view_of b).state (closed_state (view_of b).state nodes mail) c.in-Ok-make_room.room.settled.items kept.setup (sound_of b kept) pulse marks)
+    let marks : c.in-Ok-make_room.room.settled.items ≡ map (λ x. x.mark) b.nodes.items =
+    c.in-Ok-make_room.ensures.settled ∙ ap (map (λ (x : Node). x.mark)) c.deref-4.ensures.value in
+    rw after (small_clocks (view_of b).setup (view_of b).state
+    (closed_state (view_of b).state nodes mail) c.in-Ok-make_room.room.settled.items kept.setup
+    (sound_of b kept) pulse marks)
 
 pub invariant_of-self : goal.invariant_of-self
 invariant_of-self c =
@@ -168,28 +210,50 @@ invariant_of-self c =
     let nodes = c.close_nodes.new.nodes in
     let mail = c.close_nodes.new.mail in
     let n = c.nodes-count.ensures.value in
-    let sorted = sorted_at (view_of b).setup c.deref.result.now b.nodes.items b.mail c.deref-2.result.now coins.items (b.opened - 1) c.deref-3.result.now dones found
-    c.deref.ensures.value c.deref-2.ensures.value c.deref-3.ensures.value c.in-Ok.ensures.found c.in-Ok.ensures.ends c.in-Ok.ensures.exact in
-    let count : length nodes ≡ b.shape.nodes = c.close_nodes.auto.nodes ∙ (ap length c.deref_mut.ensures.value ∙ (sound_of b kept).nodes) in
-    let left = left_at c.deref-6.result.now dones c.deref-5.result.now b.flags.items c.deref_mut.result.now b.nodes.items found nodes mail c.nodes-count.result b.shape.nodes
+    let sorted = sorted_at (view_of b).setup c.deref.result.now b.nodes.items b.mail c.deref-2.result.now coins.items
+    (b.opened - 1) c.deref-3.result.now dones found
+    c.deref.ensures.value c.deref-2.ensures.value c.deref-3.ensures.value c.in-Ok.ensures.found c.in-Ok.ensures.ends
+    c.in-Ok.ensures.exact in
+    let count : length nodes ≡ b.shape.nodes = c.close_nodes.auto.nodes
+    ∙ (ap length c.deref_mut.ensures.value ∙ (sound_of b kept).nodes) in
+    let left = left_at c.deref-6.result.now dones c.deref-5.result.now b.flags.items c.deref_mut.result.now
+    b.nodes.items found nodes mail c.nodes-count.result b.shape.nodes
     c.deref-6.ensures.value c.deref-5.ensures.value c.deref_mut.ensures.value n c.close_nodes.ensures.left in
-    let pulse = pulse_at b coins dones found nodes mail kept c.in-Some.is sorted count (c.close_nodes.ensures.mail ∙ n) left in
+    let pulse = pulse_at b coins dones found nodes mail kept c.in-Some.is sorted count
+    (c.close_nodes.ensures.mail ∙ n) left in
     let whole = (sound_of b kept).nodes in
-    let items : (with_items b.nodes nodes).items ≡ nodes = with_items_is b.nodes nodes (count ∙ (sym whole ∙ sym b.nodes.ok.0)) in
+    let items : (with_items b.nodes nodes).items ≡ nodes = with_items_is b.nodes nodes
+    (count ∙ (sym whole ∙ sym b.nodes.ok.0)) in
     let after : c.deref-7.result.now ≡ nodes = c.deref-7.ensures.value ∙ items in
-    let marks : c.in-Ok-make_room.room.settled.items ≡ map (λ x. x.mark) b.nodes.items = c.in-Ok-make_room.ensures.settled ∙ ap (map (λ (x : Node). x.mark)) c.deref-4.ensures.value in
-    let b' = record b { nodes = with_items b.nodes nodes; mail = c.swap.new.x; spare = c.swap.new.y; closed = b.closed + 1; coins = None; history = c.add.new.history } in
-    let row : c.tell-told.result.row ≡ row_told (b.closed + 1) (settled_flags b.nodes.items (with_items b.nodes nodes).items) (with_items b.nodes nodes).items =
+    let marks : c.in-Ok-make_room.room.settled.items ≡ map (λ x. x.mark) b.nodes.items =
+    c.in-Ok-make_room.ensures.settled ∙ ap (map (λ (x : Node). x.mark)) c.deref-4.ensures.value in
+    let b' = record b {
+      nodes = with_items b.nodes nodes;
+      mail = c.swap.new.x;
+      spare = c.swap.new.y;
+      closed = b.closed + 1;
+      coins = None;
+      history = c.add.new.history;
+    } in
+    let row : c.tell-told.result.row ≡ row_told (b.closed + 1)
+    (settled_flags b.nodes.items (with_items b.nodes nodes).items) (with_items b.nodes nodes).items =
     c.tell-told.ensures.row ∙ rw (items, after, marks, both_settled b.nodes.items nodes) refl in
-    let pulse' : Pulse (view_of b).setup (view_of b).state (closed_state (view_of b).state b'.nodes.items b'.mail) = rw (items, c.swap.ensures.x_after) pulse in
-    let entered : c.add.new.history.items ≡ b.history.items ++ Closed c.tell-told.result.row ∷ [] = c.add.ensures.items ∙ ap (λ (t : PulseTold). b.history.items ++ Closed t.row ∷ []) c.told.view_is in
+    let pulse' : Pulse (view_of b).setup (view_of b).state (closed_state (view_of b).state b'.nodes.items b'.mail) = rw
+    (items, c.swap.ensures.x_after) pulse in
+    let entered : c.add.new.history.items ≡ b.history.items ++ Closed c.tell-told.result.row ∷ [] = c.add.ensures.items
+    ∙ ap (λ (t : PulseTold). b.history.items ++ Closed t.row ∷ []) c.told.view_is in
     let advances = closed_advances b b' c.tell-told.result.row kept pulse' row entered refl refl refl refl refl in
-    let flags : KnowsClock b.clock (with_items b.nodes nodes).items b.flags.items = rw items (knows_after (view_of b).setup (view_of b).state (closed_state (view_of b).state nodes mail) b.clock b.flags.items pulse kept.flags) in
+    let flags : KnowsClock b.clock (with_items b.nodes nodes).items b.flags.items = rw items
+    (knows_after (view_of b).setup (view_of b).state
+    (closed_state (view_of b).state nodes mail) b.clock b.flags.items pulse kept.flags) in
     let longer = length_push b.history.items c.add.new.history.items (Closed c.tell-told.result.row) entered in
-    let is_open : ◌≡◌ {A = ℕ} (cond (is_some b.coins) 1 0) 1 = ap (λ (o : Option (Vec ℕ Global)). cond (is_some o) 1 0) c.in-Some.is in
+    let is_open : ◌≡◌ {A = ℕ} (cond (is_some b.coins) 1 0) 1 = ap
+    (λ (o : Option (Vec ℕ Global)). cond (is_some o) 1 0) c.in-Some.is in
     let before = places_seen b in
     let places = places_seen b' in
-    kept_step b b' (ClosedValue c.tell-told.result.row) kept advances kept.same refl flags (ap length c.swap.ensures.y_after ∙ (sound_of b kept).mail) (omega arith) (λ h. absurd cc) (omega (arith, longer, kept.staged))
+    kept_step b b' (ClosedValue c.tell-told.result.row) kept advances kept.same refl flags
+    (ap length c.swap.ensures.y_after ∙ (sound_of b kept).mail) (omega arith) (λ h. absurd cc)
+    (omega (arith, longer, kept.staged))
     (omega (arith, longer, before, is_open, places, kept.limit))
     (omega (arith, longer, before, is_open, places, kept.room, c.add.ensures.capacity))
 
@@ -203,21 +267,38 @@ returns-clause-ok c =
     let nodes = c.close_nodes.new.nodes in
     let mail = c.close_nodes.new.mail in
     let n = c.nodes-count.ensures.value in
-    let sorted = sorted_at (view_of b).setup c.deref.result.now b.nodes.items b.mail c.deref-2.result.now coins.items (b.opened - 1) c.deref-3.result.now dones found
-    c.deref.ensures.value c.deref-2.ensures.value c.deref-3.ensures.value c.in-Ok.ensures.found c.in-Ok.ensures.ends c.in-Ok.ensures.exact in
-    let count : length nodes ≡ b.shape.nodes = c.close_nodes.auto.nodes ∙ (ap length c.deref_mut.ensures.value ∙ (sound_of b kept).nodes) in
-    let left = left_at c.deref-6.result.now dones c.deref-5.result.now b.flags.items c.deref_mut.result.now b.nodes.items found nodes mail c.nodes-count.result b.shape.nodes
+    let sorted = sorted_at (view_of b).setup c.deref.result.now b.nodes.items b.mail c.deref-2.result.now coins.items
+    (b.opened - 1) c.deref-3.result.now dones found
+    c.deref.ensures.value c.deref-2.ensures.value c.deref-3.ensures.value c.in-Ok.ensures.found c.in-Ok.ensures.ends
+    c.in-Ok.ensures.exact in
+    let count : length nodes ≡ b.shape.nodes = c.close_nodes.auto.nodes
+    ∙ (ap length c.deref_mut.ensures.value ∙ (sound_of b kept).nodes) in
+    let left = left_at c.deref-6.result.now dones c.deref-5.result.now b.flags.items c.deref_mut.result.now
+    b.nodes.items found nodes mail c.nodes-count.result b.shape.nodes
     c.deref-6.ensures.value c.deref-5.ensures.value c.deref_mut.ensures.value n c.close_nodes.ensures.left in
-    let pulse = pulse_at b coins dones found nodes mail kept c.in-Some.is sorted count (c.close_nodes.ensures.mail ∙ n) left in
+    let pulse = pulse_at b coins dones found nodes mail kept c.in-Some.is sorted count
+    (c.close_nodes.ensures.mail ∙ n) left in
     let whole = (sound_of b kept).nodes in
-    let items : (with_items b.nodes nodes).items ≡ nodes = with_items_is b.nodes nodes (count ∙ (sym whole ∙ sym b.nodes.ok.0)) in
+    let items : (with_items b.nodes nodes).items ≡ nodes = with_items_is b.nodes nodes
+    (count ∙ (sym whole ∙ sym b.nodes.ok.0)) in
     let after : c.deref-7.result.now ≡ nodes = c.deref-7.ensures.value ∙ items in
-    let marks : c.in-Ok-make_room.room.settled.items ≡ map (λ x. x.mark) b.nodes.items = c.in-Ok-make_room.ensures.settled ∙ ap (map (λ (x : Node). x.mark)) c.deref-4.ensures.value in
-    let b' = record b { nodes = with_items b.nodes nodes; mail = c.swap.new.x; spare = c.swap.new.y; closed = b.closed + 1; coins = None; history = c.add.new.history } in
-    let row : c.tell-told.result.row ≡ row_told (b.closed + 1) (settled_flags b.nodes.items (with_items b.nodes nodes).items) (with_items b.nodes nodes).items =
+    let marks : c.in-Ok-make_room.room.settled.items ≡ map (λ x. x.mark) b.nodes.items =
+    c.in-Ok-make_room.ensures.settled ∙ ap (map (λ (x : Node). x.mark)) c.deref-4.ensures.value in
+    let b' = record b {
+      nodes = with_items b.nodes nodes;
+      mail = c.swap.new.x;
+      spare = c.swap.new.y;
+      closed = b.closed + 1;
+      coins = None;
+      history = c.add.new.history;
+    } in
+    let row : c.tell-told.result.row ≡ row_told (b.closed + 1)
+    (settled_flags b.nodes.items (with_items b.nodes nodes).items) (with_items b.nodes nodes).items =
     c.tell-told.ensures.row ∙ rw (items, after, marks, both_settled b.nodes.items nodes) refl in
-    let pulse' : Pulse (view_of b).setup (view_of b).state (closed_state (view_of b).state b'.nodes.items b'.mail) = rw (items, c.swap.ensures.x_after) pulse in
-    let entered : c.add.new.history.items ≡ b.history.items ++ Closed c.tell-told.result.row ∷ [] = c.add.ensures.items ∙ ap (λ (t : PulseTold). b.history.items ++ Closed t.row ∷ []) c.told.view_is in
+    let pulse' : Pulse (view_of b).setup (view_of b).state (closed_state (view_of b).state b'.nodes.items b'.mail) = rw
+    (items, c.swap.ensures.x_after) pulse in
+    let entered : c.add.new.history.items ≡ b.history.items ++ Closed c.tell-told.result.row ∷ [] = c.add.ensures.items
+    ∙ ap (λ (t : PulseTold). b.history.items ++ Closed t.row ∷ []) c.told.view_is in
     let advances = closed_advances b b' c.tell-told.result.row kept pulse' row entered refl refl refl refl refl in
     as_seen c.args.self.now b b' (ClosedValue c.tell-told.result.row) c.self.view_is advances
 
@@ -231,24 +312,44 @@ returns-clause-headline c =
     let nodes = c.close_nodes.new.nodes in
     let mail = c.close_nodes.new.mail in
     let n = c.nodes-count.ensures.value in
-    let sorted = sorted_at (view_of b).setup c.deref.result.now b.nodes.items b.mail c.deref-2.result.now coins.items (b.opened - 1) c.deref-3.result.now dones found
-    c.deref.ensures.value c.deref-2.ensures.value c.deref-3.ensures.value c.in-Ok.ensures.found c.in-Ok.ensures.ends c.in-Ok.ensures.exact in
-    let count : length nodes ≡ b.shape.nodes = c.close_nodes.auto.nodes ∙ (ap length c.deref_mut.ensures.value ∙ (sound_of b kept).nodes) in
-    let left = left_at c.deref-6.result.now dones c.deref-5.result.now b.flags.items c.deref_mut.result.now b.nodes.items found nodes mail c.nodes-count.result b.shape.nodes
+    let sorted = sorted_at (view_of b).setup c.deref.result.now b.nodes.items b.mail c.deref-2.result.now coins.items
+    (b.opened - 1) c.deref-3.result.now dones found
+    c.deref.ensures.value c.deref-2.ensures.value c.deref-3.ensures.value c.in-Ok.ensures.found c.in-Ok.ensures.ends
+    c.in-Ok.ensures.exact in
+    let count : length nodes ≡ b.shape.nodes = c.close_nodes.auto.nodes
+    ∙ (ap length c.deref_mut.ensures.value ∙ (sound_of b kept).nodes) in
+    let left = left_at c.deref-6.result.now dones c.deref-5.result.now b.flags.items c.deref_mut.result.now
+    b.nodes.items found nodes mail c.nodes-count.result b.shape.nodes
     c.deref-6.ensures.value c.deref-5.ensures.value c.deref_mut.ensures.value n c.close_nodes.ensures.left in
-    let pulse = pulse_at b coins dones found nodes mail kept c.in-Some.is sorted count (c.close_nodes.ensures.mail ∙ n) left in
+    let pulse = pulse_at b coins dones found nodes mail kept c.in-Some.is sorted count
+    (c.close_nodes.ensures.mail ∙ n) left in
     let whole = (sound_of b kept).nodes in
-    let items : (with_items b.nodes nodes).items ≡ nodes = with_items_is b.nodes nodes (count ∙ (sym whole ∙ sym b.nodes.ok.0)) in
+    let items : (with_items b.nodes nodes).items ≡ nodes = with_items_is b.nodes nodes
+    (count ∙ (sym whole ∙ sym b.nodes.ok.0)) in
     let after : c.deref-7.result.now ≡ nodes = c.deref-7.ensures.value ∙ items in
-    let marks : c.in-Ok-make_room.room.settled.items ≡ map (λ x. x.mark) b.nodes.items = c.in-Ok-make_room.ensures.settled ∙ ap (map (λ (x : Node). x.mark)) c.deref-4.ensures.value in
-    let b' = record b { nodes = with_items b.nodes nodes; mail = c.swap.new.x; spare = c.swap.new.y; closed = b.closed + 1; coins = None; history = c.add.new.history } in
-    let row : c.tell-told.result.row ≡ row_told (b.closed + 1) (settled_flags b.nodes.items (with_items b.nodes nodes).items) (with_items b.nodes nodes).items =
+    let marks : c.in-Ok-make_room.room.settled.items ≡ map (λ x. x.mark) b.nodes.items =
+    c.in-Ok-make_room.ensures.settled ∙ ap (map (λ (x : Node). x.mark)) c.deref-4.ensures.value in
+    let b' = record b {
+      nodes = with_items b.nodes nodes;
+      mail = c.swap.new.x;
+      spare = c.swap.new.y;
+      closed = b.closed + 1;
+      coins = None;
+      history = c.add.new.history;
+    } in
+    let row : c.tell-told.result.row ≡ row_told (b.closed + 1)
+    (settled_flags b.nodes.items (with_items b.nodes nodes).items) (with_items b.nodes nodes).items =
     c.tell-told.ensures.row ∙ rw (items, after, marks, both_settled b.nodes.items nodes) refl in
-    let pulse' : Pulse (view_of b).setup (view_of b).state (closed_state (view_of b).state b'.nodes.items b'.mail) = rw (items, c.swap.ensures.x_after) pulse in
-    let entered : c.add.new.history.items ≡ b.history.items ++ Closed c.tell-told.result.row ∷ [] = c.add.ensures.items ∙ ap (λ (t : PulseTold). b.history.items ++ Closed t.row ∷ []) c.told.view_is in
+    let pulse' : Pulse (view_of b).setup (view_of b).state (closed_state (view_of b).state b'.nodes.items b'.mail) = rw
+    (items, c.swap.ensures.x_after) pulse in
+    let entered : c.add.new.history.items ≡ b.history.items ++ Closed c.tell-told.result.row ∷ [] = c.add.ensures.items
+    ∙ ap (λ (t : PulseTold). b.history.items ++ Closed t.row ∷ []) c.told.view_is in
     let advances = closed_advances b b' c.tell-told.result.row kept pulse' row entered refl refl refl refl refl in
-    subst (λ (v : BenchValue). (i : ℕ) (p : Accepted) → i < v.setup.shape.nodes → (node_at v.state.nodes i).program ≡ Some p → (end : End) × IsWhole v.setup v.state (view_of b').state i p end) c.self.view_is
-    (λ i p lt loaded. whole_run (view_of b).setup (view_of b).state (view_of b').state i p kept.setup (sound_of b kept) advances.step.0 lt loaded)
+    subst (λ (v : BenchValue). (i : ℕ) (p : Accepted) → i < v.setup.shape.nodes
+    → (node_at v.state.nodes i).program ≡ Some p
+    → (end : End) × IsWhole v.setup v.state (view_of b').state i p end) c.self.view_is
+    (λ i p lt loaded. whole_run (view_of b).setup (view_of b).state (view_of b').state i p kept.setup
+    (sound_of b kept) advances.step.0 lt loaded)
 
 pub returns-clause-record : goal.returns-clause-record
 returns-clause-record c =
@@ -260,33 +361,55 @@ returns-clause-record c =
     let nodes = c.close_nodes.new.nodes in
     let mail = c.close_nodes.new.mail in
     let n = c.nodes-count.ensures.value in
-    let sorted = sorted_at (view_of b).setup c.deref.result.now b.nodes.items b.mail c.deref-2.result.now coins.items (b.opened - 1) c.deref-3.result.now dones found
-    c.deref.ensures.value c.deref-2.ensures.value c.deref-3.ensures.value c.in-Ok.ensures.found c.in-Ok.ensures.ends c.in-Ok.ensures.exact in
-    let count : length nodes ≡ b.shape.nodes = c.close_nodes.auto.nodes ∙ (ap length c.deref_mut.ensures.value ∙ (sound_of b kept).nodes) in
-    let left = left_at c.deref-6.result.now dones c.deref-5.result.now b.flags.items c.deref_mut.result.now b.nodes.items found nodes mail c.nodes-count.result b.shape.nodes
+    let sorted = sorted_at (view_of b).setup c.deref.result.now b.nodes.items b.mail c.deref-2.result.now coins.items
+    (b.opened - 1) c.deref-3.result.now dones found
+    c.deref.ensures.value c.deref-2.ensures.value c.deref-3.ensures.value c.in-Ok.ensures.found c.in-Ok.ensures.ends
+    c.in-Ok.ensures.exact in
+    let count : length nodes ≡ b.shape.nodes = c.close_nodes.auto.nodes
+    ∙ (ap length c.deref_mut.ensures.value ∙ (sound_of b kept).nodes) in
+    let left = left_at c.deref-6.result.now dones c.deref-5.result.now b.flags.items c.deref_mut.result.now
+    b.nodes.items found nodes mail c.nodes-count.result b.shape.nodes
     c.deref-6.ensures.value c.deref-5.ensures.value c.deref_mut.ensures.value n c.close_nodes.ensures.left in
-    let pulse = pulse_at b coins dones found nodes mail kept c.in-Some.is sorted count (c.close_nodes.ensures.mail ∙ n) left in
+    let pulse = pulse_at b coins dones found nodes mail kept c.in-Some.is sorted count
+    (c.close_nodes.ensures.mail ∙ n) left in
     let whole = (sound_of b kept).nodes in
-    let items : (with_items b.nodes nodes).items ≡ nodes = with_items_is b.nodes nodes (count ∙ (sym whole ∙ sym b.nodes.ok.0)) in
+    let items : (with_items b.nodes nodes).items ≡ nodes = with_items_is b.nodes nodes
+    (count ∙ (sym whole ∙ sym b.nodes.ok.0)) in
     let after : c.deref-7.result.now ≡ nodes = c.deref-7.ensures.value ∙ items in
-    let marks : c.in-Ok-make_room.room.settled.items ≡ map (λ x. x.mark) b.nodes.items = c.in-Ok-make_room.ensures.settled ∙ ap (map (λ (x : Node). x.mark)) c.deref-4.ensures.value in
-    let b' = record b { nodes = with_items b.nodes nodes; mail = c.swap.new.x; spare = c.swap.new.y; closed = b.closed + 1; coins = None; history = c.add.new.history } in
-    let row : c.tell-told.result.row ≡ row_told (b.closed + 1) (settled_flags b.nodes.items (with_items b.nodes nodes).items) (with_items b.nodes nodes).items =
+    let marks : c.in-Ok-make_room.room.settled.items ≡ map (λ x. x.mark) b.nodes.items =
+    c.in-Ok-make_room.ensures.settled ∙ ap (map (λ (x : Node). x.mark)) c.deref-4.ensures.value in
+    let b' = record b {
+      nodes = with_items b.nodes nodes;
+      mail = c.swap.new.x;
+      spare = c.swap.new.y;
+      closed = b.closed + 1;
+      coins = None;
+      history = c.add.new.history;
+    } in
+    let row : c.tell-told.result.row ≡ row_told (b.closed + 1)
+    (settled_flags b.nodes.items (with_items b.nodes nodes).items) (with_items b.nodes nodes).items =
     c.tell-told.ensures.row ∙ rw (items, after, marks, both_settled b.nodes.items nodes) refl in
-    let pulse' : Pulse (view_of b).setup (view_of b).state (closed_state (view_of b).state b'.nodes.items b'.mail) = rw (items, c.swap.ensures.x_after) pulse in
-    let entered : c.add.new.history.items ≡ b.history.items ++ Closed c.tell-told.result.row ∷ [] = c.add.ensures.items ∙ ap (λ (t : PulseTold). b.history.items ++ Closed t.row ∷ []) c.told.view_is in
+    let pulse' : Pulse (view_of b).setup (view_of b).state (closed_state (view_of b).state b'.nodes.items b'.mail) = rw
+    (items, c.swap.ensures.x_after) pulse in
+    let entered : c.add.new.history.items ≡ b.history.items ++ Closed c.tell-told.result.row ∷ [] = c.add.ensures.items
+    ∙ ap (λ (t : PulseTold). b.history.items ++ Closed t.row ∷ []) c.told.view_is in
     let advances = closed_advances b b' c.tell-told.result.row kept pulse' row entered refl refl refl refl refl in
-    let settled : both_marked c.in-Ok-make_room.room.settled.items c.deref-7.result.now ≡ settled_flags b.nodes.items b'.nodes.items = rw (items, after, marks, both_settled b.nodes.items nodes) refl in
+    let settled : both_marked c.in-Ok-make_room.room.settled.items c.deref-7.result.now
+    ≡ settled_flags b.nodes.items b'.nodes.items = rw
+    (items, after, marks, both_settled b.nodes.items nodes) refl in
     let steps = rw c.deref-8.ensures.value at c.tell-told.ensures.steps in
-    let open_coins : unwrap_or (view_of b).state.coins [] ≡ coins.items = ap (λ (o : Option (Vec ℕ Global)). unwrap_or (option_map (λ v. v.items) o) []) c.in-Some.is in
+    let open_coins : unwrap_or (view_of b).state.coins [] ≡ coins.items = ap
+    (λ (o : Option (Vec ℕ Global)). unwrap_or (option_map (λ v. v.items) o) []) c.in-Some.is in
     let tells : Tells (view_of b).setup (view_of b).state (view_of b').state c.tell-told.result = record {
       row = row;
       clocks = c.tell-told.ensures.clocks ∙ ap (map told_clock) c.deref-7.ensures.value;
       settled = c.tell-told.ensures.settled ∙ settled;
-      steps = rw open_coins (steps_told (view_of b).setup (view_of b).state coins.items (b.opened - 1) dones found c.tell-told.result.steps whole sorted steps);
+      steps = rw open_coins (steps_told (view_of b).setup (view_of b).state coins.items
+          (b.opened - 1) dones found c.tell-told.result.steps whole sorted steps);
       agree = c.tell-told.ensures.agree;
     } in
-    let is = is_record (view_of b).setup (view_of b).history (view_of b).state (view_of b').state c.tell-told.result kept.setup kept.replays advances.step.0 tells in
+    let is = is_record (view_of b).setup (view_of b).history (view_of b).state
+    (view_of b').state c.tell-told.result kept.setup kept.replays advances.step.0 tells in
     subst (λ (v : BenchValue). IsRecord v.setup v.state (view_of b').state c.tell-told.result) c.self.view_is is
 
 pub returns-clause-agrees : goal.returns-clause-agrees
@@ -299,35 +422,59 @@ returns-clause-agrees c =
     let nodes = c.close_nodes.new.nodes in
     let mail = c.close_nodes.new.mail in
     let n = c.nodes-count.ensures.value in
-    let sorted = sorted_at (view_of b).setup c.deref.result.now b.nodes.items b.mail c.deref-2.result.now coins.items (b.opened - 1) c.deref-3.result.now dones found
-    c.deref.ensures.value c.deref-2.ensures.value c.deref-3.ensures.value c.in-Ok.ensures.found c.in-Ok.ensures.ends c.in-Ok.ensures.exact in
-    let count : length nodes ≡ b.shape.nodes = c.close_nodes.auto.nodes ∙ (ap length c.deref_mut.ensures.value ∙ (sound_of b kept).nodes) in
-    let left = left_at c.deref-6.result.now dones c.deref-5.result.now b.flags.items c.deref_mut.result.now b.nodes.items found nodes mail c.nodes-count.result b.shape.nodes
+    let sorted = sorted_at (view_of b).setup c.deref.result.now b.nodes.items b.mail c.deref-2.result.now coins.items
+    (b.opened - 1) c.deref-3.result.now dones found
+    c.deref.ensures.value c.deref-2.ensures.value c.deref-3.ensures.value c.in-Ok.ensures.found c.in-Ok.ensures.ends
+    c.in-Ok.ensures.exact in
+    let count : length nodes ≡ b.shape.nodes = c.close_nodes.auto.nodes
+    ∙ (ap length c.deref_mut.ensures.value ∙ (sound_of b kept).nodes) in
+    let left = left_at c.deref-6.result.now dones c.deref-5.result.now b.flags.items c.deref_mut.result.now
+    b.nodes.items found nodes mail c.nodes-count.result b.shape.nodes
     c.deref-6.ensures.value c.deref-5.ensures.value c.deref_mut.ensures.value n c.close_nodes.ensures.left in
-    let pulse = pulse_at b coins dones found nodes mail kept c.in-Some.is sorted count (c.close_nodes.ensures.mail ∙ n) left in
+    let pulse = pulse_at b coins dones found nodes mail kept c.in-Some.is sorted count
+    (c.close_nodes.ensures.mail ∙ n) left in
     let whole = (sound_of b kept).nodes in
-    let items : (with_items b.nodes nodes).items ≡ nodes = with_items_is b.nodes nodes (count ∙ (sym whole ∙ sym b.nodes.ok.0)) in
+    let items : (with_items b.nodes nodes).items ≡ nodes = with_items_is b.nodes nodes
+    (count ∙ (sym whole ∙ sym b.nodes.ok.0)) in
     let after : c.deref-7.result.now ≡ nodes = c.deref-7.ensures.value ∙ items in
-    let marks : c.in-Ok-make_room.room.settled.items ≡ map (λ x. x.mark) b.nodes.items = c.in-Ok-make_room.ensures.settled ∙ ap (map (λ (x : Node). x.mark)) c.deref-4.ensures.value in
-    let b' = record b { nodes = with_items b.nodes nodes; mail = c.swap.new.x; spare = c.swap.new.y; closed = b.closed + 1; coins = None; history = c.add.new.history } in
-    let row : c.tell-told.result.row ≡ row_told (b.closed + 1) (settled_flags b.nodes.items (with_items b.nodes nodes).items) (with_items b.nodes nodes).items =
+    let marks : c.in-Ok-make_room.room.settled.items ≡ map (λ x. x.mark) b.nodes.items =
+    c.in-Ok-make_room.ensures.settled ∙ ap (map (λ (x : Node). x.mark)) c.deref-4.ensures.value in
+    let b' = record b {
+      nodes = with_items b.nodes nodes;
+      mail = c.swap.new.x;
+      spare = c.swap.new.y;
+      closed = b.closed + 1;
+      coins = None;
+      history = c.add.new.history;
+    } in
+    let row : c.tell-told.result.row ≡ row_told (b.closed + 1)
+    (settled_flags b.nodes.items (with_items b.nodes nodes).items) (with_items b.nodes nodes).items =
     c.tell-told.ensures.row ∙ rw (items, after, marks, both_settled b.nodes.items nodes) refl in
-    let pulse' : Pulse (view_of b).setup (view_of b).state (closed_state (view_of b).state b'.nodes.items b'.mail) = rw (items, c.swap.ensures.x_after) pulse in
-    let entered : c.add.new.history.items ≡ b.history.items ++ Closed c.tell-told.result.row ∷ [] = c.add.ensures.items ∙ ap (λ (t : PulseTold). b.history.items ++ Closed t.row ∷ []) c.told.view_is in
+    let pulse' : Pulse (view_of b).setup (view_of b).state (closed_state (view_of b).state b'.nodes.items b'.mail) = rw
+    (items, c.swap.ensures.x_after) pulse in
+    let entered : c.add.new.history.items ≡ b.history.items ++ Closed c.tell-told.result.row ∷ [] = c.add.ensures.items
+    ∙ ap (λ (t : PulseTold). b.history.items ++ Closed t.row ∷ []) c.told.view_is in
     let advances = closed_advances b b' c.tell-told.result.row kept pulse' row entered refl refl refl refl refl in
-    let settled : both_marked c.in-Ok-make_room.room.settled.items c.deref-7.result.now ≡ settled_flags b.nodes.items b'.nodes.items = rw (items, after, marks, both_settled b.nodes.items nodes) refl in
+    let settled : both_marked c.in-Ok-make_room.room.settled.items c.deref-7.result.now
+    ≡ settled_flags b.nodes.items b'.nodes.items = rw
+    (items, after, marks, both_settled b.nodes.items nodes) refl in
     let steps = rw c.deref-8.ensures.value at c.tell-told.ensures.steps in
-    let open_coins : unwrap_or (view_of b).state.coins [] ≡ coins.items = ap (λ (o : Option (Vec ℕ Global)). unwrap_or (option_map (λ v. v.items) o) []) c.in-Some.is in
+    let open_coins : unwrap_or (view_of b).state.coins [] ≡ coins.items = ap
+    (λ (o : Option (Vec ℕ Global)). unwrap_or (option_map (λ v. v.items) o) []) c.in-Some.is in
     let tells : Tells (view_of b).setup (view_of b).state (view_of b').state c.tell-told.result = record {
       row = row;
       clocks = c.tell-told.ensures.clocks ∙ ap (map told_clock) c.deref-7.ensures.value;
       settled = c.tell-told.ensures.settled ∙ settled;
-      steps = rw open_coins (steps_told (view_of b).setup (view_of b).state coins.items (b.opened - 1) dones found c.tell-told.result.steps whole sorted steps);
+      steps = rw open_coins (steps_told (view_of b).setup (view_of b).state coins.items
+          (b.opened - 1) dones found c.tell-told.result.steps whole sorted steps);
       agree = c.tell-told.ensures.agree;
     } in
-    let is = is_record (view_of b).setup (view_of b).history (view_of b).state (view_of b').state c.tell-told.result kept.setup kept.replays advances.step.0 tells in
-    subst (λ (v : BenchValue). 2 * v.setup.faults + faulty_count v.state (view_of b').state < v.setup.shape.nodes → IsTrue c.tell-told.result.agree) c.self.view_is
-    (λ few. is.agree.1 (agreement (view_of b).setup (view_of b).history (view_of b).state (view_of b').state kept.setup kept.replays advances.step.0 few))
+    let is = is_record (view_of b).setup (view_of b).history (view_of b).state
+    (view_of b').state c.tell-told.result kept.setup kept.replays advances.step.0 tells in
+    subst (λ (v : BenchValue). 2 * v.setup.faults + faulty_count v.state (view_of b').state < v.setup.shape.nodes
+    → IsTrue c.tell-told.result.agree) c.self.view_is
+    (λ few. is.agree.1 (agreement (view_of b).setup (view_of b).history (view_of b).state
+    (view_of b').state kept.setup kept.replays advances.step.0 few))
 
 pub returns-clause-pulse : goal.returns-clause-pulse
 returns-clause-pulse c =
@@ -339,22 +486,40 @@ returns-clause-pulse c =
     let nodes = c.close_nodes.new.nodes in
     let mail = c.close_nodes.new.mail in
     let n = c.nodes-count.ensures.value in
-    let sorted = sorted_at (view_of b).setup c.deref.result.now b.nodes.items b.mail c.deref-2.result.now coins.items (b.opened - 1) c.deref-3.result.now dones found
-    c.deref.ensures.value c.deref-2.ensures.value c.deref-3.ensures.value c.in-Ok.ensures.found c.in-Ok.ensures.ends c.in-Ok.ensures.exact in
-    let count : length nodes ≡ b.shape.nodes = c.close_nodes.auto.nodes ∙ (ap length c.deref_mut.ensures.value ∙ (sound_of b kept).nodes) in
-    let left = left_at c.deref-6.result.now dones c.deref-5.result.now b.flags.items c.deref_mut.result.now b.nodes.items found nodes mail c.nodes-count.result b.shape.nodes
+    let sorted = sorted_at (view_of b).setup c.deref.result.now b.nodes.items b.mail c.deref-2.result.now coins.items
+    (b.opened - 1) c.deref-3.result.now dones found
+    c.deref.ensures.value c.deref-2.ensures.value c.deref-3.ensures.value c.in-Ok.ensures.found c.in-Ok.ensures.ends
+    c.in-Ok.ensures.exact in
+    let count : length nodes ≡ b.shape.nodes = c.close_nodes.auto.nodes
+    ∙ (ap length c.deref_mut.ensures.value ∙ (sound_of b kept).nodes) in
+    let left = left_at c.deref-6.result.now dones c.deref-5.result.now b.flags.items c.deref_mut.result.now
+    b.nodes.items found nodes mail c.nodes-count.result b.shape.nodes
     c.deref-6.ensures.value c.deref-5.ensures.value c.deref_mut.ensures.value n c.close_nodes.ensures.left in
-    let pulse = pulse_at b coins dones found nodes mail kept c.in-Some.is sorted count (c.close_nodes.ensures.mail ∙ n) left in
+    let pulse = pulse_at b coins dones found nodes mail kept c.in-Some.is sorted count
+    (c.close_nodes.ensures.mail ∙ n) left in
     let whole = (sound_of b kept).nodes in
-    let items : (with_items b.nodes nodes).items ≡ nodes = with_items_is b.nodes nodes (count ∙ (sym whole ∙ sym b.nodes.ok.0)) in
+    let items : (with_items b.nodes nodes).items ≡ nodes = with_items_is b.nodes nodes
+    (count ∙ (sym whole ∙ sym b.nodes.ok.0)) in
     let after : c.deref-7.result.now ≡ nodes = c.deref-7.ensures.value ∙ items in
-    let marks : c.in-Ok-make_room.room.settled.items ≡ map (λ x. x.mark) b.nodes.items = c.in-Ok-make_room.ensures.settled ∙ ap (map (λ (x : Node). x.mark)) c.deref-4.ensures.value in
-    let b' = record b { nodes = with_items b.nodes nodes; mail = c.swap.new.x; spare = c.swap.new.y; closed = b.closed + 1; coins = None; history = c.add.new.history } in
-    let row : c.tell-told.result.row ≡ row_told (b.closed + 1) (settled_flags b.nodes.items (with_items b.nodes nodes).items) (with_items b.nodes nodes).items =
+    let marks : c.in-Ok-make_room.room.settled.items ≡ map (λ x. x.mark) b.nodes.items =
+    c.in-Ok-make_room.ensures.settled ∙ ap (map (λ (x : Node). x.mark)) c.deref-4.ensures.value in
+    let b' = record b {
+      nodes = with_items b.nodes nodes;
+      mail = c.swap.new.x;
+      spare = c.swap.new.y;
+      closed = b.closed + 1;
+      coins = None;
+      history = c.add.new.history;
+    } in
+    let row : c.tell-told.result.row ≡ row_told (b.closed + 1)
+    (settled_flags b.nodes.items (with_items b.nodes nodes).items) (with_items b.nodes nodes).items =
     c.tell-told.ensures.row ∙ rw (items, after, marks, both_settled b.nodes.items nodes) refl in
-    let pulse' : Pulse (view_of b).setup (view_of b).state (closed_state (view_of b).state b'.nodes.items b'.mail) = rw (items, c.swap.ensures.x_after) pulse in
-    let entered : c.add.new.history.items ≡ b.history.items ++ Closed c.tell-told.result.row ∷ [] = c.add.ensures.items ∙ ap (λ (t : PulseTold). b.history.items ++ Closed t.row ∷ []) c.told.view_is in
+    let pulse' : Pulse (view_of b).setup (view_of b).state (closed_state (view_of b).state b'.nodes.items b'.mail) = rw
+    (items, c.swap.ensures.x_after) pulse in
+    let entered : c.add.new.history.items ≡ b.history.items ++ Closed c.tell-told.result.row ∷ [] = c.add.ensures.items
+    ∙ ap (λ (t : PulseTold). b.history.items ++ Closed t.row ∷ []) c.told.view_is in
     let advances = closed_advances b b' c.tell-told.result.row kept pulse' row entered refl refl refl refl refl in
     let count = rows_count (view_of b).setup (view_of b).history (view_of b).state kept.replays in
     let number : c.tell-told.result.row.pulse ≡ b.closed + 1 = ap (λ (r : Row). r.pulse) row in
-    subst (λ (v : BenchValue). c.tell-told.result.row.pulse ≡ length (rows_of v.history) + 1) c.self.view_is (omega (arith, number, count))
+    subst (λ (v : BenchValue). c.tell-told.result.row.pulse ≡ length (rows_of v.history) + 1) c.self.view_is
+    (omega (arith, number, count))

@@ -13,10 +13,20 @@ pub prepare-prepared-requires-clause-count : goal.prepare-prepared-requires-clau
 prepare-prepared-requires-clause-count c = rw c.deref.ensures.value (sound_of c.self.inside c.self.invariant).nodes
 
 pub prepare-prepared-requires-clause-within : goal.prepare-prepared-requires-clause-within
-prepare-prepared-requires-clause-within c = rw (c.deref-2.ensures.value, staged_slice c.self.inside.history.items c.self.inside.staged_from) (staged_within c.self.inside c.self.invariant)
+prepare-prepared-requires-clause-within c = rw (
+  c.deref-2.ensures.value,
+  staged_slice c.self.inside.history.items
+      c.self.inside.staged_from,
+) (staged_within c.self.inside c.self.invariant)
 
 pub prepare-prepared-requires-clause-after : goal.prepare-prepared-requires-clause-after
-prepare-prepared-requires-clause-after c = rw (c.deref.ensures.value, c.deref-2.ensures.value, staged_slice c.self.inside.history.items c.self.inside.staged_from) (nodes_after c.self.inside c.self.invariant c.args.coins.now (search rules))
+prepare-prepared-requires-clause-after c = rw (
+  c.deref.ensures.value,
+  c.deref-2.ensures.value,
+  staged_slice
+      c.self.inside.history.items c.self.inside.staged_from,
+)
+    (nodes_after c.self.inside c.self.invariant c.args.coins.now (search rules))
 
 pub prepare-prepared-requires-clause-mail : goal.prepare-prepared-requires-clause-mail
 prepare-prepared-requires-clause-mail c = (sound_of c.self.inside c.self.invariant).mail
@@ -24,19 +34,39 @@ prepare-prepared-requires-clause-mail c = (sound_of c.self.inside c.self.invaria
 pub overflow_add-self : goal.overflow_add-self
 overflow_add-self c =
     let b = c.self.inside in
-    omega (arith, c.self.invariant.opened, openings_le (view_of b).history, length-map b.history.items entry_of, c.self.invariant.limit)
+    omega (
+      arith,
+      c.self.invariant.opened,
+      openings_le
+          (view_of b).history,
+      length-map b.history.items entry_of,
+      c.self.invariant.limit,
+    )
 
 pub invariant_of-self-in-Ok : goal.invariant_of-self-in-Ok
 invariant_of-self-in-Ok c =
     let b = c.self.inside in
     let next = c.in-Ok.prepared in
-    let is : c.add.new.history.items ≡ b.history.items ++ Opened next.entry_coins ∷ [] = c.add.ensures.items ∙ ap (λ es. es ++ Opened next.entry_coins ∷ []) c.reserve.ensures.items in
+    let is : c.add.new.history.items ≡ b.history.items ++ Opened next.entry_coins ∷ [] = c.add.ensures.items
+    ∙ ap (λ es. es ++ Opened next.entry_coins ∷ []) c.reserve.ensures.items in
     let at_end : c.len-entries.result ≡ length c.add.new.history.items = omega arith in
-    let b' = record b { nodes = next.nodes; flags = next.flags; coins = Some next.kept_coins; opened = b.opened + 1; staged_from = c.len-entries.result; history = c.add.new.history } in
+    let b' = record b {
+      nodes = next.nodes;
+      flags = next.flags;
+      coins = Some next.kept_coins;
+      opened = b.opened + 1;
+      staged_from = c.len-entries.result;
+      history = c.add.new.history;
+    } in
     let opens : Opens b b' c.args.coins.now next.entry_coins = record {
       fit = search rules;
       shut = search rules;
-      nodes = c.in-Ok.ensures.nodes ∙ rw (c.deref.ensures.value, c.deref-2.ensures.value, staged_slice b.history.items b.staged_from) refl;
+      nodes = c.in-Ok.ensures.nodes ∙ rw (
+        c.deref.ensures.value,
+        c.deref-2.ensures.value,
+        staged_slice b.history.items
+            b.staged_from,
+      ) refl;
       kept = ap Some c.in-Ok.ensures.kept;
       enters = c.in-Ok.ensures.entry;
       history = is;
@@ -47,7 +77,8 @@ invariant_of-self-in-Ok c =
     let longer = length_push b.history.items c.add.new.history.items (Opened next.entry_coins) is in
     let ok : vec_len c.reserve.new.self + 2 ≤ vec_capacity c.reserve.new.self = search rules in
     let places = places_seen b' in
-    kept_step b b' (OpenedValue c.args.coins.now) kept advances kept.same refl c.in-Ok.ensures.flags kept.spare (omega arith) (λ h. omega arith) (omega (arith, at_end))
+    kept_step b b' (OpenedValue c.args.coins.now) kept advances kept.same refl c.in-Ok.ensures.flags kept.spare
+    (omega arith) (λ h. omega arith) (omega (arith, at_end))
     (omega (arith, longer, places))
     (omega (arith, longer, places, c.add.ensures.capacity, c.reserve.ensures.len, ok))
 
@@ -55,13 +86,26 @@ pub returns-else-is_err-clause-ok : goal.returns-else-is_err-clause-ok
 returns-else-is_err-clause-ok c =
     let b = c.self.inside in
     let next = c.in-Ok.prepared in
-    let is : c.add.new.history.items ≡ b.history.items ++ Opened next.entry_coins ∷ [] = c.add.ensures.items ∙ ap (λ es. es ++ Opened next.entry_coins ∷ []) c.reserve.ensures.items in
+    let is : c.add.new.history.items ≡ b.history.items ++ Opened next.entry_coins ∷ [] = c.add.ensures.items
+    ∙ ap (λ es. es ++ Opened next.entry_coins ∷ []) c.reserve.ensures.items in
     let at_end : c.len-entries.result ≡ length c.add.new.history.items = omega arith in
-    let b' = record b { nodes = next.nodes; flags = next.flags; coins = Some next.kept_coins; opened = b.opened + 1; staged_from = c.len-entries.result; history = c.add.new.history } in
+    let b' = record b {
+      nodes = next.nodes;
+      flags = next.flags;
+      coins = Some next.kept_coins;
+      opened = b.opened + 1;
+      staged_from = c.len-entries.result;
+      history = c.add.new.history;
+    } in
     let opens : Opens b b' c.args.coins.now next.entry_coins = record {
       fit = search rules;
       shut = search rules;
-      nodes = c.in-Ok.ensures.nodes ∙ rw (c.deref.ensures.value, c.deref-2.ensures.value, staged_slice b.history.items b.staged_from) refl;
+      nodes = c.in-Ok.ensures.nodes ∙ rw (
+        c.deref.ensures.value,
+        c.deref-2.ensures.value,
+        staged_slice b.history.items
+            b.staged_from,
+      ) refl;
       kept = ap Some c.in-Ok.ensures.kept;
       enters = c.in-Ok.ensures.entry;
       history = is;
@@ -74,17 +118,31 @@ pub returns-else-is_err-clause-tasks : goal.returns-else-is_err-clause-tasks
 returns-else-is_err-clause-tasks c =
     let b = c.self.inside in
     let next = c.in-Ok.prepared in
-    let is : c.add.new.history.items ≡ b.history.items ++ Opened next.entry_coins ∷ [] = c.add.ensures.items ∙ ap (λ es. es ++ Opened next.entry_coins ∷ []) c.reserve.ensures.items in
+    let is : c.add.new.history.items ≡ b.history.items ++ Opened next.entry_coins ∷ [] = c.add.ensures.items
+    ∙ ap (λ es. es ++ Opened next.entry_coins ∷ []) c.reserve.ensures.items in
     let at_end : c.len-entries.result ≡ length c.add.new.history.items = omega arith in
-    let b' = record b { nodes = next.nodes; flags = next.flags; coins = Some next.kept_coins; opened = b.opened + 1; staged_from = c.len-entries.result; history = c.add.new.history } in
+    let b' = record b {
+      nodes = next.nodes;
+      flags = next.flags;
+      coins = Some next.kept_coins;
+      opened = b.opened + 1;
+      staged_from = c.len-entries.result;
+      history = c.add.new.history;
+    } in
     let opens : Opens b b' c.args.coins.now next.entry_coins = record {
       fit = search rules;
       shut = search rules;
-      nodes = c.in-Ok.ensures.nodes ∙ rw (c.deref.ensures.value, c.deref-2.ensures.value, staged_slice b.history.items b.staged_from) refl;
+      nodes = c.in-Ok.ensures.nodes ∙ rw (
+        c.deref.ensures.value,
+        c.deref-2.ensures.value,
+        staged_slice b.history.items
+            b.staged_from,
+      ) refl;
       kept = ap Some c.in-Ok.ensures.kept;
       enters = c.in-Ok.ensures.entry;
       history = is;
       from = at_end;
     } in
     let advances = opened_advances b b' c.args.coins.now next.entry_coins opens refl refl refl refl in
-    c.in-Ok.ensures.tasks ∙ (ap (λ (n : ℕ). tasks_from (view_of b).setup b.mail c.args.coins.now n 0 next.nodes.items) c.self.invariant.opened ∙ tasks_made (view_of b) (view_of b') c.args.coins.now advances)
+    c.in-Ok.ensures.tasks ∙ (ap (λ (n : ℕ). tasks_from (view_of b).setup b.mail c.args.coins.now n 0 next.nodes.items)
+    c.self.invariant.opened ∙ tasks_made (view_of b) (view_of b') c.args.coins.now advances)

@@ -10,17 +10,34 @@ invariant_of-self-2 c =
     let b = c.self.inside in
     let kept = c.self.invariant in
     let entry = Staged c.args.actor c.args.change in
-    let is : c.add.new.history.items ≡ b.history.items ++ entry ∷ [] = c.add.ensures.items ∙ ap (λ es. es ++ entry ∷ []) c.reserve.ensures.items in
-    let advances = staged_advances b c.add.new.history c.args.actor c.args.change c.in-None.ensures.none kept.staged is in
+    let is : c.add.new.history.items ≡ b.history.items ++ entry ∷ [] = c.add.ensures.items
+    ∙ ap (λ es. es ++ entry ∷ []) c.reserve.ensures.items in
+    let advances = staged_advances b c.add.new.history c.args.actor c.args.change c.in-None.ensures.none kept.staged
+    is in
     let longer = length_push b.history.items c.add.new.history.items entry is in
     let places = places_seen (record b { history = c.add.new.history }) in
-    kept_step b (record b { history = c.add.new.history }) (StagedValue c.args.actor (change_of c.args.change)) kept advances kept.same refl kept.flags kept.spare (omega arith) kept.counted (omega (arith, longer, kept.staged))
+    kept_step b (record b { history = c.add.new.history })
+    (StagedValue c.args.actor (change_of c.args.change)) kept advances kept.same refl kept.flags kept.spare
+    (omega arith) kept.counted (omega (arith, longer, kept.staged))
     (omega (arith, longer, places, c.places_kept-kept.ensures))
-    (let ok : vec_len c.reserve.new.self + (1 + c.places_kept-kept.result) ≤ vec_capacity c.reserve.new.self = search rules in omega (arith, longer, places, c.places_kept-kept.ensures, c.add.ensures.capacity, c.reserve.ensures.len, ok))
+    (let ok : vec_len c.reserve.new.self + (1 + c.places_kept-kept.result) ≤ vec_capacity c.reserve.new.self =
+    search rules in omega (
+      arith,
+      longer,
+      places,
+      c.places_kept-kept.ensures,
+      c.add.ensures.capacity,
+      c.reserve.ensures.len,
+      ok,
+    ))
 
 pub returns-clause-ok : goal.returns-clause-ok
 returns-clause-ok c =
     let b = c.self.inside in
     let entry = Staged c.args.actor c.args.change in
-    let is : c.add.new.history.items ≡ b.history.items ++ entry ∷ [] = c.add.ensures.items ∙ ap (λ es. es ++ entry ∷ []) c.reserve.ensures.items in
-    as_seen c.args.self.now b (record b { history = c.add.new.history }) (StagedValue c.args.actor (change_of c.args.change)) c.self.view_is (staged_advances b c.add.new.history c.args.actor c.args.change c.in-None.ensures.none c.self.invariant.staged is)
+    let is : c.add.new.history.items ≡ b.history.items ++ entry ∷ [] = c.add.ensures.items
+    ∙ ap (λ es. es ++ entry ∷ []) c.reserve.ensures.items in
+    as_seen c.args.self.now b (record b { history = c.add.new.history })
+    (StagedValue c.args.actor (change_of c.args.change)) c.self.view_is
+    (staged_advances b c.add.new.history c.args.actor c.args.change c.in-None.ensures.none c.self.invariant.staged
+    is)

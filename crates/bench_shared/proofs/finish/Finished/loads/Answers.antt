@@ -5,4 +5,5 @@ use Rattle.bench_shared.proofs.Counting.{count_entries}
 use Rattle.bench_shared.proofs.finish.Finished.loads.Goals as goal
 
 pub returns : goal.returns
-returns c = c.count_loads.ensures ∙ ap (count_by (λ e. is_load (entry_of e))) c.deref.ensures.value ∙ count_entries is_load c.self.inside.history.items ∙ ap (count_by is_load) c.self.view_is
+returns c = c.count_loads.ensures ∙ ap (count_by (λ e. is_load (entry_of e))) c.deref.ensures.value
+    ∙ count_entries is_load c.self.inside.history.items ∙ ap (count_by is_load) c.self.view_is

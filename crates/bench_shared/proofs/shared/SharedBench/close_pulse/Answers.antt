@@ -23,13 +23,22 @@ invariant_of-pass-2 g c =
       counted = count_after rs _ _ _ _ c.push_reserved.ensures.items i.counted e.counted;
       close_part = e.close_parts ∙ i.close_part;
       close_whole = e.close_parts ∙ i.close_whole;
-      closes_counted = omega (arith, e.closes_counted, i.closes_counted, ap length more, length-append (rows_among rs) (row ∷ []));
+      closes_counted = omega (
+        arith,
+        e.closes_counted,
+        i.closes_counted,
+        ap length more,
+        length-append (rows_among rs)
+            (row ∷ []),
+      );
       rows = more ∙ ap (λ l. l ++ row ∷ []) were ∙ ap (λ (r : Row). c.pass.inside.seat.rows ++ r ∷ []) (sym same);
-      order = subst (λ l. InOrder l) (sym more) (in_order-push 0 (rows_among rs) row i.order e.ranges (omega (arith, e.pulse, i.closes_counted)));
+      order = subst (λ l. InOrder l) (sym more)
+          (in_order-push 0 (rows_among rs) row i.order e.ranges (omega (arith, e.pulse, i.closes_counted)));
       room = not_open;
     }
 
 pub returns-clause-receipt : goal.returns-clause-receipt
 returns-clause-receipt g c =
-    placed_after c.pass.inside.receipts.items _ _ _ _ c.push_reserved.ensures.items (ap (λ (v : EngineView). v.receipts) c.pass.view_is)
+    placed_after c.pass.inside.receipts.items _ _ _ _ c.push_reserved.ensures.items
+    (ap (λ (v : EngineView). v.receipts) c.pass.view_is)
     (ap (λ (told : PulseTold). Closed told.row) c.told.view_is)

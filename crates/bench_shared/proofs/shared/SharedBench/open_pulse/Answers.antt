@@ -18,5 +18,11 @@ invariant_of-pass-2 g c =
       closes_counted = i.closes_counted ∙ ap length (sym stay);
       rows = stay ∙ i.rows;
       order = subst (λ l. InOrder l) (sym stay) i.order;
-      room = λ _. omega (arith, c.push_reserved.ensures.len, c.push_reserved.ensures.capacity, c.in-Ok.ensures.ok, c.in-Ok.ensures.len);
+      room = λ _. omega (
+        arith,
+        c.push_reserved.ensures.len,
+        c.push_reserved.ensures.capacity,
+        c.in-Ok.ensures.ok,
+        c.in-Ok.ensures.len,
+      );
     }

@@ -8,11 +8,18 @@ use Rattle.bpf_insn.proofs.listing.Program.slot_count.Goals as goal
 
 pub overflow_cast-result : goal.overflow_cast-result
 overflow_cast-result c =
-    omega (arith, slot_total c.self.inside.slots.items c.self.invariant, c.self.invariant.program.few_slots, c.self.inside.slots.ok.0)
+    omega (
+      arith,
+      slot_total c.self.inside.slots.items c.self.invariant,
+      c.self.invariant.program.few_slots,
+      c.self.inside.slots.ok.0,
+    )
 
 pub returns-clause-count : goal.returns-clause-count
 returns-clause-count c =
-    c.len.ensures ∙ c.self.inside.slots.ok.0 ∙ slot_total c.self.inside.slots.items c.self.invariant ∙ ap slots_of c.self.view_is
+    c.len.ensures ∙ c.self.inside.slots.ok.0 ∙ slot_total c.self.inside.slots.items c.self.invariant
+    ∙ ap slots_of c.self.view_is
 
 pub returns-clause-first : goal.returns-clause-first
-returns-clause-first c = subst (λ (p : List Insn). IsSome (insn_at p 0)) c.self.view_is (first_slot (insns_in c.self.inside.slots.items) c.self.invariant.program)
+returns-clause-first c = subst (λ (p : List Insn). IsSome (insn_at p 0)) c.self.view_is
+    (first_slot (insns_in c.self.inside.slots.items) c.self.invariant.program)

@@ -10,10 +10,12 @@ pub returns-in-1-clause-none : goal.returns-in-1-clause-none
 returns-in-1-clause-none c = opcode_none c.args.byte c.load_opcode.result (search rules)
 
 pub returns-in-2-clause-some : goal.returns-in-2-clause-some
-returns-in-2-clause-some c = opcode_some c.args.byte (Some (StoreImm c.size_of_bits.result)) c.ranges.byte.fits (search rules)
+returns-in-2-clause-some c = opcode_some c.args.byte (Some (StoreImm c.size_of_bits.result)) c.ranges.byte.fits
+    (search rules)
 
 pub returns-in-3-clause-some : goal.returns-in-3-clause-some
-returns-in-3-clause-some c = opcode_some c.args.byte (Some (StoreReg c.size_of_bits-in-3.result)) c.ranges.byte.fits (search rules)
+returns-in-3-clause-some c = opcode_some c.args.byte (Some (StoreReg c.size_of_bits-in-3.result)) c.ranges.byte.fits
+    (search rules)
 
 pub returns-in-4-clause-some : goal.returns-in-4-clause-some
 returns-in-4-clause-some c = opcode_some c.args.byte c.alu_opcode.result c.ranges.byte.fits (search rules)
