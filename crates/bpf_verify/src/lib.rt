@@ -21,7 +21,7 @@ pub use laws::{more_keeps_rules, one_verdict};
 pub use records::Record;
 pub use refusal::VerifyError;
 pub use rule::Rule;
-pub use verified::{VerifiedProgram, verify};
+pub use verified::{VerifiedProgram, judge, verify};
 
 #[cfg(test)]
 mod tests;

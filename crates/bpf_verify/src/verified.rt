@@ -45,6 +45,22 @@ impl Model for VerifiedProgram {
     ghost invariant = { λ v. IsVerified (accepted_of v) × HasImage v × HasRecords v };
 }
 
+/// The announced count of a program that would be accepted, with no accepted program made: the verdict alone. It refuses
+/// what [`verify`] refuses, and tells the same.
+#[tactic(auto, using(crate::proofs::VerdictLaws::typable_refusal))]
+pub fn judge(alloc: Global, program: &Program, shape: Shape) -> Result<u32, VerifyError>
+    ensures typable { OnOk result (Typable program.now shape) }
+    ensures longest { IfOk result (IsLongestPath program.now) }
+    ensures refused { IfErr result (IsRefusal program.now shape) }
+    ensures exact { Typable program.now shape → IfErr result (λ e. e ≡ Memory) }
+{
+    walk(alloc, program, shape)?;
+    match longest(alloc, program, shape) {
+        Ok(count) => Ok(count),
+        Err(_) => Err(VerifyError::Memory),
+    }
+}
+
 /// Accepts a program for nodes of a shape, or names the first slot whose instruction breaks a rule, and the lowest rule
 /// that it breaks there. `Memory` comes where memory was short, wherever that was.
 #[tactic(auto, using(crate::proofs::VerdictLaws::typable_refusal))]
@@ -59,19 +75,24 @@ pub fn verify(
     ensures refused { IfErr result (IsRefusal program.now shape) }
     ensures exact { Typable program.now shape → IfErr result (λ e. e ≡ Memory) }
 {
-    walk(alloc, program, shape)?;
-    match accepted(alloc, program, shape) {
+    let budget = judge(alloc, program, shape)?;
+    match accepted(alloc, program, shape, budget) {
         Ok(verified) => Ok(verified),
         Err(_) => Err(VerifyError::Memory),
     }
 }
 
-fn accepted(alloc: Global, program: &Program, shape: Shape) -> Result<VerifiedProgram, AllocError>
-    requires { Typable program.now shape }
+fn accepted(
+    alloc: Global,
+    program: &Program,
+    shape: Shape,
+    budget: u32,
+) -> Result<VerifiedProgram, AllocError>
+    requires typable { Typable program.now shape }
+    requires longest { IsLongestPath program.now budget }
     ensures accepted { IfOk result (λ v. (v.program ≡ program.now) × (v.shape ≡ shape)) }
     ensures longest { IfOk result (λ v. IsLongestPath program.now v.budget) }
 {
-    let budget = longest(alloc, program, shape)?;
     let imaged = Imaged {
         image: encode(alloc, program)?,
         records: records_of(alloc, program)?,

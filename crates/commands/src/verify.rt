@@ -15,7 +15,7 @@ use crate::output::write_whole;
 use crate::request::ShapeOptions;
 use crate::verdict::Verdict;
 use bpf_insn::Program;
-use bpf_verify::VerifyError;
+use bpf_verify::{VerifyError, judge};
 use node_env::Shape;
 use std::alloc::Global;
 use std::io::{Read, Write};
@@ -61,10 +61,10 @@ fn verdict_on(alloc: Global, program: &Program, shape: Shape) -> Result<Verdict,
     ensures verdict { IfOk result (JudgesProgram program.now shape) }
     ensures fault { IfErr result IsBeforeWriting }
 {
-    match bpf_verify::verify(alloc, program, shape) {
-        Ok(verified) => Ok(Verdict::Accepted {
-            slots: verified.program().slot_count(),
-            announced: verified.budget(),
+    match judge(alloc, program, shape) {
+        Ok(announced) => Ok(Verdict::Accepted {
+            slots: program.slot_count(),
+            announced,
         }),
         Err(VerifyError::Refused { slot, rule }) => Ok(Verdict::Refused { slot, rule }),
         Err(VerifyError::Memory) => Err(Fault::Memory),
