@@ -138,6 +138,8 @@ fn makes_the_clock_program(rt: HostRuntime) -> Result<(), Fail> {
         let text = clock_text(rt.alloc(), nodes, faults)?;
         let image = asm_of(&rt, rt.alloc(), text.as_bytes());
         assert_eq!(rt; image.status, 0, "at {named}");
+        let made = clock_image(rt.alloc(), nodes, faults, 8)?;
+        assert_eq!(rt; image.out.as_slice(), made.as_slice(), "at {named}");
         let verify = ["clockbed", "verify", "--nodes", named];
         let verified = run_on(&rt, rt.alloc(), &verify, image.out.as_slice());
         assert_eq!(rt; verified.line(), verdict, "at {named}");
