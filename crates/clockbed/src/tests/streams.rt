@@ -4,6 +4,9 @@ use super::*;
 use commands::asm::{TEXT_BYTES, TEXT_CALLS};
 use commands::image::{IMAGE_BYTES, IMAGE_CALLS};
 
+/// No input of [`rows`] has more bytes.
+const MOST_BYTES: usize = 1_000;
+
 /// An input of each command, and what it leaves on its output.
 fn rows() -> [(&'static [&'static str], &'static [u8], &'static [u8]); 5] {
     [
@@ -19,8 +22,10 @@ fn rows() -> [(&'static [&'static str], &'static [u8], &'static [u8]); 5] {
 fn tells_where_a_read_fails(rt: HostRuntime) {
     for (words, whole, _) in rows() {
         for kind in [ErrorKind::Interrupted, ErrorKind::BrokenPipe] {
-            for count in 0..=whole.len() {
-                let bytes = &whole[..count];
+            for count in 0..=MOST_BYTES {
+                let Some(bytes) = whole.get(..count) else {
+                    break;
+                };
                 let mut reader = Failing { bytes, kind };
                 let mut out = Vec::new(rt.alloc());
                 let mut err = Vec::new(rt.alloc());
