@@ -3,6 +3,8 @@ pub mod NumberWords
 pub mod LowestTrap
 pub mod StepCases
 pub mod StackCells
+pub mod KeptWords
+pub mod KeptLaws
 pub mod TrapTable
 pub mod Stuck
 pub mod OneRun

@@ -1,15 +1,15 @@
 -- The stack's bytes and marks, and the map of the bytes that are written.
 use Rattle.std.proofs.Common.{◌≡◌, ℕ, zero, suc, ◌+◌, ◌-◌, ◌%◌, ◌/◌, ◌<◌, ◌≤◌, Bool, true, false, List, [], ◌∷◌, length, get_or, set, replicate, Some, None, Ok, Err, refl, sym, ap, ◌∙◌, arith}
 use Rattle.std.specs.Prelude.{slice_get, slice_set, if◌then◌else◌}
-use Rattle.std.specs.FinMap.{empty, get, insert}
+use Rattle.std.specs.FinMap.{empty, get, insert, remove}
 use Rattle.std.proofs.lemmas.Option.{slice_get-get_or}
 use Rattle.std.proofs.lemmas.List.{length-set}
 use Rattle.std.proofs.lemmas.Bool.{false≢true, true≢false}
 use Rattle.node_env.specs.Slots.{map_of}
-use Rattle.node_env.proofs.Slots.{get-map_of, map_of-replicate, map_of-set}
+use Rattle.node_env.proofs.Slots.{get-map_of, map_of-replicate, map_of-set, map_of-clear}
 use Rattle.bpf_machine.specs.declared.word.TrapKind.TheVariants.{UnsetByte}
-use Rattle.bpf_machine.specs.inner.Cells.{cells, written_bytes, are_set, with_marks}
-use Rattle.bpf_machine.specs.Step.{number_at, with_number}
+use Rattle.bpf_machine.specs.inner.Cells.{cells, written_bytes, are_set, with_marks, without_marks}
+use Rattle.bpf_machine.specs.Step.{number_at, with_number, without_bytes}
 use Rattle.bpf_machine.proofs.StepCases.{bool_case, yes, no}
 
 cell_at : (bytes : List ℕ) (marks : List Bool) (q : ℕ) → length bytes ≡ length marks
@@ -93,6 +93,31 @@ put_cells bytes marks k (suc count) n e inside =
     (rw (length-set bytes k (n % 256)) (omega arith))
     ∙ ap (λ m. with_number insert m (suc k) count (n / 256)) (write_one bytes marks k (n % 256) e (omega arith))
 
+cells_cleared : (bytes : List ℕ) (marks : List Bool) (k : ℕ)
+    → cells bytes (set marks k false) ≡ set (cells bytes marks) k None
+cells_cleared [] marks k = refl
+cells_cleared (b ∷ bytes) [] zero = refl
+cells_cleared (b ∷ bytes) [] (suc k) = refl
+cells_cleared (b ∷ bytes) (true ∷ marks) zero = refl
+cells_cleared (b ∷ bytes) (false ∷ marks) zero = refl
+cells_cleared (b ∷ bytes) (true ∷ marks) (suc k) = ap (λ rest. Some b ∷ rest) (cells_cleared bytes marks k)
+cells_cleared (b ∷ bytes) (false ∷ marks) (suc k) = ap (λ rest. None ∷ rest) (cells_cleared bytes marks k)
+
+unwrite_one : (bytes : List ℕ) (marks : List Bool) (k : ℕ) → length bytes ≡ length marks → k < length bytes
+    → written_bytes bytes (set marks k false) ≡ remove (written_bytes bytes marks) k
+unfolding written_bytes
+unwrite_one bytes marks k e inside = ap map_of (cells_cleared bytes marks k)
+    ∙ map_of-clear (cells bytes marks) k (rw (cells_length bytes marks e) inside)
+
+-- marks are taken away
+pub unwrite_cells : (bytes : List ℕ) (marks : List Bool) (k count : ℕ) → length bytes ≡ length marks
+    → k + count ≤ length bytes
+    → written_bytes bytes (without_marks marks k count) ≡ without_bytes (written_bytes bytes marks) k count
+unwrite_cells bytes marks k zero e inside = refl
+unwrite_cells bytes marks k (suc count) e inside =
+    unwrite_cells bytes (set marks k false) (suc k) count (e ∙ sym (length-set marks k false)) (omega arith)
+    ∙ ap (λ m. without_bytes m (suc k) count) (unwrite_one bytes marks k e (omega arith))
+
 no_cells : (n : ℕ) → cells (replicate n 0) (replicate n false) ≡ replicate n None
 no_cells zero = refl
 no_cells (suc n) = ap (λ rest. None ∷ rest) (no_cells n)
@@ -119,9 +144,21 @@ mark_more marks first count i h =
     let next : first + (i + 1) ≡ suc (first + i) = omega arith in
     rw (one, next) refl
 
+-- one mark is taken away, and the rest after it
+pub unmark_more : (marks : List Bool) (first count i : ℕ) → i < count
+    → without_marks (set marks (first + i) false) (first + (i + 1)) (count - (i + 1))
+    ≡ without_marks marks (first + i) (count - i)
+unmark_more marks first count i h =
+    let one : count - i ≡ suc (count - (i + 1)) = omega arith in
+    let next : first + (i + 1) ≡ suc (first + i) = omega arith in
+    rw (one, next) refl
+
+pub unmark_none : (marks : List Bool) (k : ℕ) → without_marks marks k 0 ≡ marks
+unmark_none marks k = refl
+
 pub mark_none : (marks : List Bool) (k : ℕ) → with_marks marks k 0 ≡ marks
 mark_none marks k = refl
 
-pub ruleset stack_marks = (one_below, mark_more, mark_none)
+pub ruleset stack_marks = (one_below, mark_more, mark_none, unmark_more, unmark_none)
 
-pub ruleset stack_cells = (written_number, unwritten_number, put_cells)
+pub ruleset stack_cells = (written_number, unwritten_number, put_cells, unwrite_cells)

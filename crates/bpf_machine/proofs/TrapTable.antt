@@ -1,16 +1,18 @@
 -- A step fails with the first trap that is found in the table, form by form.
-use Rattle.std.proofs.Common.{◌≡◌, ℕ, ◌+◌, ◌≤◌, length, Bool, true, false, List, Option, Some, None, Ok, refl, sym, ap, ◌∙◌, arith, cond, ℤ, pos}
-use Rattle.std.specs.Prelude.{is_some, nat_le, nat_lt, ◌+ℤ◌, ◌==◌, ◌^◌, ◌∷◌, ◌||◌, find}
+use Rattle.std.proofs.Common.{◌≡◌, ℕ, ◌+◌, ◌≤◌, length, Bool, true, false, List, Option, Some, None, Result, Ok, Err, ◌<◌, refl, sym, ap, ◌∙◌, arith, cond, ℤ, pos}
+use Rattle.std.specs.Prelude.{is_some, nat_le, nat_lt, ◌+ℤ◌, ◌==◌, ◌^◌, ◌∷◌, ◌||◌, ◌&&◌, not, find}
 use Rattle.std.specs.List.{list_any}
 use Rattle.std.specs.Result.{result_err}
 use Rattle.std.specs.FinMap.{get}
 use Rattle.std.proofs.lemmas.Bool.Decides.{nat_tests}
+use Rattle.node_env.specs.declared.region.TheConstants.{STACK_BYTES}
 use Rattle.node_env.specs.declared.region.Region.{Region}
 use Rattle.node_env.specs.declared.region.Region.TheVariants.{Mem, Stack}
 use Rattle.node_env.specs.declared.helper.Helper.{Helper}
 use Rattle.node_env.specs.declared.helper.Helper.TheVariants.{Id, Recv, Send, Coin}
 use Rattle.node_env.specs.Env.{Setting, region_size}
 use Rattle.node_env.specs.Helpers.{helper_of}
+use Rattle.node_env.specs.Dwords.{is_aligned}
 use Rattle.bpf_insn.specs.declared.forms.Reg.{Reg}
 use Rattle.bpf_insn.specs.declared.forms.Width.{Width}
 use Rattle.bpf_insn.specs.declared.forms.Width.TheVariants.{W32, W64}
@@ -20,7 +22,9 @@ use Rattle.bpf_insn.specs.declared.forms.MovsxKind.{MovsxKind}
 use Rattle.bpf_insn.specs.declared.forms.Order.{Order}
 use Rattle.bpf_insn.specs.declared.forms.SwapBits.{SwapBits}
 use Rattle.bpf_insn.specs.declared.forms.Size.{Size}
+use Rattle.bpf_insn.specs.declared.forms.Size.TheVariants as bytes
 use Rattle.bpf_insn.specs.declared.forms.SxSize.{SxSize}
+use Rattle.bpf_insn.specs.declared.forms.SxSize.TheVariants as sx
 use Rattle.bpf_insn.specs.declared.forms.Cond.{Cond}
 use Rattle.bpf_insn.specs.declared.forms.Operand.{Operand}
 use Rattle.bpf_insn.specs.declared.forms.Insn.{Insn}
@@ -35,8 +39,10 @@ use Rattle.bpf_machine.specs.declared.word.TrapKind.{TrapKind}
 use Rattle.bpf_machine.specs.declared.word.TrapKind.TheVariants.{NotNumber, OutOfRegion, UnsetByte, NotPointer}
 use Rattle.bpf_machine.specs.Machine.{Frame, MachineState}
 use Rattle.bpf_insn.specs.Operands.{access_bytes, sx_access_bytes, alu_reads, operand_reads}
-use Rattle.bpf_machine.specs.Step.{Bytes, alu, alu_word, execute, loaded, of_numbers, operand_of, operate, store}
-use Rattle.bpf_machine.specs.Traps.{access_leaves, applies_to, is_number, is_pointer, is_unset, misuses_pointer, operand_word, sum_leaves, word_misses}
+use Rattle.bpf_machine.specs.Step.{◌>>=◌, Bytes, alu, alu_word, execute, kept_at, loaded, loaded_word, of_numbers, operand_of, operate, store, touches_kept}
+use Rattle.bpf_machine.proofs.KeptLaws.{touches_ends}
+use Rattle.bpf_machine.specs.Traps.{access_leaves, applies_to, is_number, is_pointer, is_unset, misses, misuses_pointer, operand_word, sum_leaves, takes_back, word_misses, word_touches}
+use Rattle.bpf_machine.proofs.KeptWords.{narrow_word}
 use Rattle.bpf_machine.proofs.LowestTrap.{kinds}
 use Rattle.bpf_machine.proofs.StepCases.{unset, number, place, word_case, no_helper, some_helper, helper_case, yes, no, bool_case, is_pos, is_neg, int_case, no_slot, some_slot, slot_case, gives, fails, outcome, known, unknown, operand_case, written, unwritten, stack_case, memory_read}
 
@@ -115,12 +121,12 @@ branch_told program env test width dst src off s =
 -- which trap an operation tells of two words that are read
 abbrev word_trap : Setting → AluOp → Width → Word → Word → Option TrapKind
 word_trap env op width a b =
-    cond (misuses_pointer op width (Some a) (Some b)) (Some NotNumber)
+    cond (misuses_pointer op width (Some a) (Some b) || false) (Some NotNumber)
     (cond ((sum_leaves env op width (Some a) (Some b) || false) || false) (Some OutOfRegion) None)
 
 -- of numbers alone
 abbrev plain_trap : Word → Word → Option TrapKind
-plain_trap a b = cond (is_pointer (Some a) || is_pointer (Some b)) (Some NotNumber) None
+plain_trap a b = cond ((is_pointer (Some a) || is_pointer (Some b)) || false) (Some NotNumber) None
 
 plain_told : (op : AluOp) (width : Width) (a b : Word) → result_err (of_numbers op width a b) ≡ plain_trap a b
 plain_told op width (Num m) (Num n) = refl
@@ -304,36 +310,78 @@ load_immediate_told program env dst value s =
 -- which trap a load tells of the word in its base
 abbrev load_trap : Setting → Frame → Word → ℤ → ℕ → Option TrapKind
 load_trap env s base off count =
-    cond (access_leaves env (Some base) off count || false) (Some OutOfRegion)
-    (cond (word_misses s (Some base) off count) (Some UnsetByte)
-    (cond (is_number (Some base) || false) (Some NotPointer) None))
+    cond (word_touches s (Some base) off count && not (takes_back s (Some base) off count)) (Some NotNumber)
+    (cond (access_leaves env (Some base) off count || false) (Some OutOfRegion)
+    (cond (word_misses s (Some base) off count && not (takes_back s (Some base) off count)) (Some UnsetByte)
+    (cond (is_number (Some base) || false) (Some NotPointer) None)))
 
-loaded_told : (env : Setting) (base : Word) (off : ℤ) (count : ℕ) (memory : List ℕ) (s : Frame)
-    → length memory ≡ env.shape.memory
-    → result_err (loaded env base off count memory s) ≡ load_trap env s base off count
-loaded_told env (Num n) off count memory s whole = refl
-loaded_told env (Ptr region offset) off count memory s whole =
+word_told : (env : Setting) (base : Word) (off : ℤ) (count : ℕ) (memory : List ℕ) (s : Frame)
+    → length memory ≡ env.shape.memory → (1 ≤ count) × (count ≤ 8)
+    → result_err (loaded_word env base off count memory s) ≡ load_trap env s base off count
+word_told env (Num n) off count memory s whole few = refl
+word_told env (Ptr Mem offset) off count memory s whole few =
     elim (int_case (pos offset +ℤ off)) [
       | is_neg n z ↦ rw z refl
       | is_pos n z ↦
-          elim (bool_case (nat_le (n + count) (region_size env.shape region))) [
+          elim (bool_case (nat_le (n + count) env.shape.memory)) [
             | no g ↦ rw (z, g) refl
-            | yes g ↦ inside region n z g
+            | yes g ↦
+                let fits : n + count ≤ length memory = grind (arith, nat_tests) in
+                let read = memory_read s memory n count fits in
+                rw (z, g, read.1) refl
+          ]
+    ]
+word_told env (Ptr Stack offset) off count memory s whole few =
+    elim (int_case (pos offset +ℤ off)) [
+      | is_neg n z ↦ rw z refl
+      | is_pos n z ↦
+          elim (bool_case (nat_le (n + count) STACK_BYTES)) [
+            | no g ↦ rw (z, g) refl
+            | yes g ↦
+                let ends = touches_ends s n count few.0 few.1 in
+                elim (word_case (kept_at s Stack n count)) [
+                  | number m k ↦ rw (z, g, ends, k) (taken (touches_kept s n count) (misses s n count))
+                  | place q m k ↦ rw (z, g, ends, k) (taken (touches_kept s n count) (misses s n count))
+                  | unset k ↦
+                      elim (bool_case (touches_kept s n count)) [
+                        | yes t ↦ rw (z, g, ends, k, t) refl
+                        | no t ↦
+                            elim (stack_case s memory n count) [
+                              | written v h m ↦ rw (z, g, ends, k, t, h, m) refl
+                              | unwritten h m ↦ rw (z, g, ends, k, t, h, m) refl
+                            ]
+                      ]
+                ]
           ]
     ]
   where
-    inside : (region : Region) (n : ℕ) → pos offset +ℤ off ≡ pos n
-        → nat_le (n + count) (region_size env.shape region) ≡ true
-        → result_err (loaded env (Ptr region offset) off count memory s) ≡ load_trap env s (Ptr region offset) off count
-    inside Mem n z g =
-        let fits : n + count ≤ length memory = grind (arith, nat_tests) in
-        let read = memory_read s memory n count fits in
-        rw (z, g, read.1) refl
-    inside Stack n z g =
-        elim (stack_case s memory n count) [
-          | written v h m ↦ rw (z, g, h, m) refl
-          | unwritten h m ↦ rw (z, g, h, m) refl
-        ]
+    taken : (a b : Bool) → None ≡ cond (a && false) (Some NotNumber) (cond (b && false) (Some UnsetByte) None)
+    taken true true = refl
+    taken true false = refl
+    taken false true = refl
+    taken false false = refl
+
+loaded_told : (env : Setting) (base : Word) (off : ℤ) (count : ℕ) (memory : List ℕ) (s : Frame)
+    → length memory ≡ env.shape.memory → (1 ≤ count) × (count < 8)
+    → result_err (loaded env base off count memory s) ≡ load_trap env s base off count
+loaded_told env base off count memory s whole few =
+    same (loaded env base off count memory s) ∙ ap result_err (sym (narrow_word env base off count memory s few.1))
+    ∙ word_told env base off count memory s whole (few.0, omega (arith, few.1))
+  where
+    same : (r : Result ℕ TrapKind) → result_err r ≡ result_err (r >>= λ n. Ok (Num n))
+    same (Ok n) = refl
+    same (Err k) = refl
+
+sx_few : (size : SxSize) → (1 ≤ sx_access_bytes size) × (sx_access_bytes size < 8)
+sx_few sx.B = (omega arith, omega arith)
+sx_few sx.H = (omega arith, omega arith)
+sx_few sx.W = (omega arith, omega arith)
+
+few_bytes : (size : Size) → (1 ≤ access_bytes size) × (access_bytes size ≤ 8)
+few_bytes bytes.B = (omega arith, omega arith)
+few_bytes bytes.H = (omega arith, omega arith)
+few_bytes bytes.W = (omega arith, omega arith)
+few_bytes bytes.Dw = (omega arith, omega arith)
 
 load_on : (program : List Insn) (env : Setting) (size : Size) (dst base : Reg) (off : ℤ) (s : MachineState) (a : Word)
     → length s.memory ≡ env.shape.memory
@@ -343,11 +391,11 @@ load_on program env size dst base off s a whole e next =
     elim (bool_case (register_number dst == 10)) [
       | yes f ↦ rw (next, e, f) refl
       | no f ↦
-          elim (outcome (loaded env a off (access_bytes size) s.memory s.frame)) [
+          elim (outcome (loaded_word env a off (access_bytes size) s.memory s.frame)) [
             | gives n l ↦ rw (next, e, f, l) (ap result_err (sym l)
-                ∙ loaded_told env a off (access_bytes size) s.memory s.frame whole)
+                ∙ word_told env a off (access_bytes size) s.memory s.frame whole (few_bytes size))
             | fails k l ↦ rw (next, e, f, l) (ap result_err (sym l)
-                ∙ loaded_told env a off (access_bytes size) s.memory s.frame whole)
+                ∙ word_told env a off (access_bytes size) s.memory s.frame whole (few_bytes size))
           ]
     ]
 
@@ -374,9 +422,9 @@ load_extended_on program env size dst base off s a whole e next =
       | no f ↦
           elim (outcome (loaded env a off (sx_access_bytes size) s.memory s.frame)) [
             | gives n l ↦ rw (next, e, f, l) (ap result_err (sym l)
-                ∙ loaded_told env a off (sx_access_bytes size) s.memory s.frame whole)
+                ∙ loaded_told env a off (sx_access_bytes size) s.memory s.frame whole (sx_few size))
             | fails k l ↦ rw (next, e, f, l) (ap result_err (sym l)
-                ∙ loaded_told env a off (sx_access_bytes size) s.memory s.frame whole)
+                ∙ loaded_told env a off (sx_access_bytes size) s.memory s.frame whole (sx_few size))
           ]
     ]
 
@@ -423,12 +471,32 @@ store_register_told program env size base off src s =
           ]
     ]
   where
+    kept : Next program s ≡ true → (a : Word) → get s.frame.registers (register_number base) ≡ Some a → (r : Region)
+        (m : ℕ) → get s.frame.registers (register_number src) ≡ Some (Ptr r m)
+        → IsTold program env (i.StoreReg size base off src) s
+    kept next (Num n) e r m v = rw (next, e, v) refl
+    kept next (Ptr Mem offset) e r m v = rw (next, e, v) refl
+    kept next (Ptr Stack offset) e r m v =
+        elim (bool_case (access_bytes size == 8 && is_aligned (pos offset +ℤ off))) [
+          | no c ↦ rw (next, e, v, c) refl
+          | yes c ↦
+              elim (int_case (pos offset +ℤ off)) [
+                | is_neg n z ↦ let d = rw z at c in rw (next, e, v, z, d) refl
+                | is_pos n z ↦
+                    let d = rw z at c in
+                    elim (bool_case (nat_le (n + access_bytes size) STACK_BYTES)) [
+                      | yes g ↦ rw (next, e, v, z, d, g) refl
+                      | no g ↦ rw (next, e, v, z, d, g) refl
+                    ]
+              ]
+        ]
+
     by_value : Next program s ≡ true → (a : Word) → get s.frame.registers (register_number base) ≡ Some a
         → IsTold program env (i.StoreReg size base off src) s
     by_value next a e =
         elim (word_case (get s.frame.registers (register_number src))) [
           | unset v ↦ rw (next, e, v) refl
-          | place r m v ↦ rw (next, e, v) refl
+          | place r m v ↦ kept next a e r m v
           | number m v ↦
               elim (outcome (store env size a off m (record { frame = s.frame; memory = s.memory }))) [
                 | gives b l ↦ rw (next, e, v, l)

@@ -1,16 +1,18 @@
 //! The part of the machine's state that lives for one run.
 
-ghost use Rattle.std.specs.Prelude.{◌≡◌, ◌<◌, ◌≤◌, ◌+◌, length, IfSome, Ok};
+ghost use Rattle.std.specs.Prelude.{◌≡◌, ◌<◌, ◌≤◌, ◌+◌, length, IfSome, Ok, Err, if◌then◌else◌};
+ghost use Rattle.bpf_machine.specs.declared.word.TrapKind.TheVariants.{NotNumber};
 ghost use Rattle.bpf_machine.specs.declared.word.Word.TheVariants.{Num};
-ghost use Rattle.bpf_machine.specs.inner.Cells.{are_set, with_marks};
+ghost use Rattle.bpf_machine.specs.inner.Cells.{are_set, with_marks, without_marks};
 ghost use Rattle.std.specs.FinMap as map;
 ghost use Rattle.bpf_machine.specs.Machine.{entry_frame};
-ghost use Rattle.bpf_machine.specs.Step.{after_call, number_at, number_in, operand_of, with_number, with_register, word_of, writable};
+ghost use Rattle.node_env.specs.declared.region.Region.TheVariants.{Stack};
+ghost use Rattle.bpf_machine.specs.Step.{after_call, kept_at, kept_frame, number_at, number_in, operand_of, touches_kept, with_number, with_register, without_bytes, word_of, writable, written_frame};
 
 use crate::bytes::{number_in, put_number};
 use crate::word::{TrapKind, Word};
 use bpf_insn::{Operand, Reg};
-use node_env::{Env, Region, STACK_BYTES};
+use node_env::{Env, Region, STACK_BYTES, STACK_DWORDS};
 use std::marker::Model;
 
 /// How many registers there are.
@@ -24,6 +26,8 @@ pub struct State {
     stack: [u8; STACK_BYTES as usize],
     /// Which bytes of the stack are written.
     written: [bool; STACK_BYTES as usize],
+    /// The pointer that each double word of the stack keeps.
+    kept: [Option<Word>; STACK_DWORDS],
 }
 
 impl Model for State {
@@ -41,6 +45,7 @@ impl Model for State {
       slot = s.slot;
       registers = map_of s.registers;
       stack = written_bytes s.stack s.written;
+      kept = map_of s.kept;
     } };
 }
 
@@ -59,6 +64,7 @@ impl State {
             registers,
             stack: [0; STACK_BYTES as usize],
             written: [false; STACK_BYTES as usize],
+            kept: [None; STACK_DWORDS],
         }
     }
 
@@ -148,10 +154,33 @@ impl State {
         self.set_register(Reg::R0, Word::Num(answer));
     }
 
-    /// The number that bytes of the stack spell, where all are written.
+    #[tactic(auto, using(node_env::proofs::Slots::slots))]
+    #[inline(always)]
+    fn touches_kept(&self, first: usize, count: usize) -> bool
+        requires some { 1 ≤ count }
+        requires inside { first + count ≤ STACK_BYTES }
+        ensures { result ≡ touches_kept self.now first count }
+    {
+        self.kept[first / 8].is_some() || self.kept[(first + count - 1) / 8].is_some()
+    }
+
+    /// The pointer that is kept in the eight bytes from a place on.
+    #[tactic(auto, using(node_env::proofs::Slots::slots))]
+    #[inline(always)]
+    pub(crate) fn kept_at(&self, first: usize) -> Option<Word>
+        requires { first + 8 ≤ STACK_BYTES }
+        ensures { result ≡ kept_at self.now Stack first 8 }
+    {
+        if first % 8 == 0 {
+            self.kept[first / 8]
+        } else {
+            None
+        }
+    }
+
     #[tactic(auto, using(crate::proofs::StackCells::stack_cells))]
     #[inline(always)]
-    pub(crate) fn number_at(&self, first: usize, count: usize) -> Result<u64, TrapKind>
+    fn written_number(&self, first: usize, count: usize) -> Result<u64, TrapKind>
         requires few { count ≤ 8 }
         requires inside { first + count ≤ STACK_BYTES }
         ensures { result ≡ number_at (map.get self.now.stack) first count }
@@ -163,15 +192,78 @@ impl State {
         }
     }
 
-    /// Puts a number's low bytes into the stack, the lowest first.
+    /// The number that bytes of the stack spell, where none is of a kept pointer and all are written.
+    #[inline(always)]
+    pub(crate) fn number_at(&self, first: usize, count: usize) -> Result<u64, TrapKind>
+        requires some { 1 ≤ count }
+        requires few { count ≤ 8 }
+        requires inside { first + count ≤ STACK_BYTES }
+        ensures { result ≡ (if touches_kept self.now first count then Err NotNumber
+            else number_at (map.get self.now.stack) first count) }
+    {
+        if self.touches_kept(first, count) {
+            return Err(TrapKind::NotNumber);
+        }
+        self.written_number(first, count)
+    }
+
     #[tactic(auto, using(crate::proofs::StackCells::stack_cells))]
     #[inline(always)]
-    pub(crate) fn store(&mut self, first: usize, count: usize, value: u64)
+    fn put(&mut self, first: usize, count: usize, value: u64)
         requires { first + count ≤ STACK_BYTES }
         ensures { self.new ≡ record self.old { stack = with_number map.insert self.old.stack first count value } }
     {
         put_number(&mut self.stack, first, count, value);
         mark(&mut self.written, first, count);
+    }
+
+    #[tactic(auto, using(node_env::proofs::Slots::slots))]
+    #[inline(always)]
+    fn let_go(&mut self, dword: usize)
+        requires { dword < STACK_DWORDS }
+        ensures { self.new ≡ record self.old { kept = map.remove self.old.kept dword } }
+    {
+        self.kept[dword] = None;
+    }
+
+    /// Puts a number's low bytes into the stack, the lowest first. Each kept pointer that they touch goes.
+    #[inline(always)]
+    pub(crate) fn store(&mut self, first: usize, count: usize, value: u64)
+        requires some { 1 ≤ count }
+        requires inside { first + count ≤ STACK_BYTES }
+        ensures { self.new ≡ written_frame self.old first count value }
+    {
+        self.put(first, count, value);
+        self.let_go(first / 8);
+        self.let_go((first + count - 1) / 8);
+    }
+
+    #[tactic(auto, using(crate::proofs::StackCells::stack_cells))]
+    #[inline(always)]
+    fn unwrite(&mut self, first: usize, count: usize)
+        requires { first + count ≤ STACK_BYTES }
+        ensures { self.new ≡ record self.old { stack = without_bytes self.old.stack first count } }
+    {
+        unmark(&mut self.written, first, count);
+    }
+
+    #[tactic(auto, using(node_env::proofs::Slots::slots))]
+    #[inline(always)]
+    fn take_in(&mut self, dword: usize, pointer: Word)
+        requires { dword < STACK_DWORDS }
+        ensures { self.new ≡ record self.old { kept = map.insert self.old.kept dword pointer } }
+    {
+        self.kept[dword] = Some(pointer);
+    }
+
+    /// Keeps a pointer in the eight bytes from a place on.
+    #[inline(always)]
+    pub(crate) fn keep(&mut self, first: usize, pointer: Word)
+        requires { first + 8 ≤ STACK_BYTES }
+        ensures { self.new ≡ kept_frame self.old first pointer }
+    {
+        self.unwrite(first, 8);
+        self.take_in(first / 8, pointer);
     }
 }
 
@@ -198,6 +290,18 @@ fn mark(marks: &mut [bool], first: usize, count: usize)
 {
     for i in 0..count {
         marks[first + i] = true;
+    }
+}
+
+/// Takes so many marks away.
+#[tactic(auto, using(crate::proofs::StackCells::stack_marks))]
+#[inline(always)]
+fn unmark(marks: &mut [bool], first: usize, count: usize)
+    requires { first + count ≤ length marks.old }
+    ensures { marks.new ≡ without_marks marks.old first count }
+{
+    for i in 0..count {
+        marks[first + i] = false;
     }
 }
 

@@ -1,7 +1,7 @@
 -- Sets of stack bytes, through each change of their words.
-use Rattle.std.proofs.Common.{◌≡◌, ◌≢◌, ℕ, zero, suc, ◌/◌, ◌%◌, ◌*◌, ◌^◌, ◌<◌, ◌≤◌, min, true, false, ◌&&◌, ◌||◌, ◌==◌, List, [], ◌∷◌, length, slice_index_or, slice_set, replicate, bit_and, bit_or, refl, sym, ap, ◌∙◌, subst, inl, inr, arith, w64}
-use Rattle.std.specs.Int.{bit_at}
-use Rattle.std.proofs.lemmas.Nat.Bits.{bit_at_and, bit_at_set_same, bit_at_set_other, bit_at-zero, bit_at-lt, shr_and_one}
+use Rattle.std.proofs.Common.{◌≡◌, ◌≢◌, ℕ, zero, suc, ◌/◌, ◌%◌, ◌*◌, ◌^◌, ◌<◌, ◌≤◌, min, true, false, not, ◌&&◌, ◌||◌, ◌==◌, List, [], ◌∷◌, length, slice_index_or, slice_set, replicate, bit_and, bit_or, refl, sym, ap, ◌∙◌, subst, inl, inr, arith, w64}
+use Rattle.std.specs.Int.{bit_at, bit_not}
+use Rattle.std.proofs.lemmas.Nat.Bits.{bit_at_and, bit_at_clear_same, bit_at_clear_other, bit_at_set_same, bit_at_set_other, bit_at-zero, bit_at-lt, shr_and_one}
 use Rattle.std.proofs.lemmas.List.{get_or-set_same, get_or-set_other, get_or_past}
 use Rattle.std.proofs.lemmas.Bool.{cases_eq, cases_lt}
 use borrow.Author.Tests.{ne_eqb, eq-eqb}
@@ -61,6 +61,47 @@ added_marked words byte other h =
       | inl e ↦ rw (eq-eqb other byte e) (subst (λ k. is_marked (with_byte words byte) k ≡ true) (sym e)
           (added_same words byte h))
       | inr n ↦ rw (ne_eqb other byte n) (added_other words byte other h n)
+    ]
+
+-- the words after a byte is taken out
+abbrev pub without_byte : List ℕ → ℕ → List ℕ
+without_byte words byte = slice_set words (byte / 64)
+    (bit_and (slice_index_or words (byte / 64) 0) (bit_not w64 (1 * 2 ^ (byte % 64) % 2 ^ 64)))
+
+taken_same : (words : List ℕ) (byte : ℕ) → byte / 64 < length words → is_marked (without_byte words byte) byte ≡ false
+unfolding is_marked
+taken_same words byte h =
+    rw (
+      get_or-set_same words (byte / 64)
+          (bit_and (slice_index_or words (byte / 64) 0) (bit_not w64 (1 * 2 ^ (byte % 64) % 2 ^ 64))) 0 h,
+      bit_at_clear_same w64 (slice_index_or words (byte / 64) 0) (byte % 64) (omega arith),
+    ) refl
+
+taken_other : (words : List ℕ) (byte other : ℕ) → byte / 64 < length words → other ≢ byte
+    → is_marked (without_byte words byte) other ≡ is_marked words other
+unfolding is_marked
+taken_other words byte other h apart =
+    let word = bit_and (slice_index_or words (byte / 64) 0) (bit_not w64 (1 * 2 ^ (byte % 64) % 2 ^ 64)) in
+    elim (cases_eq (other / 64) (byte / 64)) [
+      | inl e ↦
+          let same : slice_index_or (slice_set words (byte / 64) word) (other / 64) 0 ≡ word = ap
+          (λ k. slice_index_or (slice_set words (byte / 64) word) k 0) e
+          ∙ get_or-set_same words (byte / 64) word 0 h in
+          let bits : bit_at word (other % 64) ≡ bit_at (slice_index_or words (byte / 64) 0) (other % 64) =
+          bit_at_clear_other w64 (slice_index_or words (byte / 64) 0) (byte % 64) (omega arith) (other % 64)
+          (omega arith) (λ f. apart (omega arith)) in
+          ap (λ n. bit_at n (other % 64) == 1) same ∙ ap (λ n. n == 1) bits
+          ∙ ap (λ k. bit_at (slice_index_or words k 0) (other % 64) == 1) (sym e)
+      | inr n ↦ ap (λ n. bit_at n (other % 64) == 1) (get_or-set_other words (byte / 64) (other / 64) word 0 n)
+    ]
+
+pub taken_marked : (words : List ℕ) (byte other : ℕ) → byte / 64 < length words
+    → is_marked (without_byte words byte) other ≡ (not (other == byte) && is_marked words other)
+taken_marked words byte other h =
+    elim (cases_eq other byte) [
+      | inl e ↦ rw (eq-eqb other byte e) (subst (λ k. is_marked (without_byte words byte) k ≡ false) (sym e)
+          (taken_same words byte h))
+      | inr n ↦ rw (ne_eqb other byte n) (taken_other words byte other h n)
     ]
 
 -- two bits, each 0 or 1

@@ -1,9 +1,10 @@
 -- Rules, as the verifier asks them.
-use Rattle.std.proofs.Common.{◌≡◌, ℕ, suc, ◌+◌, ◌-◌, ◌<◌, Bool, true, false, cond, ◌||◌, List, Option, Some, None, refl, sym, ap, subst, ◌∙◌, inl, inr, arith}
-use Rattle.std.specs.Prelude.{ℤ, pos, negsuc, IsSome, IfSome, is_none}
-use Rattle.std.proofs.lemmas.Bool.{cases_lt}
+use Rattle.std.proofs.Common.{◌≡◌, ℕ, suc, ◌+◌, ◌-◌, ◌*◌, ◌<◌, Bool, true, false, cond, ◌||◌, List, Option, Some, None, refl, sym, ap, subst, ◌∙◌, inl, inr, arith}
+use Rattle.std.specs.Prelude.{ℤ, pos, negsuc, IsSome, IfSome, is_none, nat_le, if◌then◌else◌}
+use Rattle.std.proofs.lemmas.Bool.{cases_lt, le-leb, lt-leb}
 use Rattle.std.proofs.lemmas.Option.{same_Some}
 use Rattle.node_env.specs.Env.{Extent}
+use Rattle.node_env.specs.Dwords.{dword_of}
 use Rattle.bpf_insn.specs.declared.forms.Insn.{Insn}
 use Rattle.bpf_insn.specs.declared.forms.Insn.TheVariants.{Alu, Neg, Movsx, Swap, Ja, JaLong, Branch, Call, Exit, Load, LoadSx, StoreReg, StoreImm, LoadImm64}
 use Rattle.bpf_insn.specs.Encoding.{slots_taken}
@@ -12,11 +13,15 @@ use Rattle.bpf_insn.specs.declared.edges.Way.TheVariants.{Onward, Jumping}
 use Rattle.bpf_insn.specs.Programs.{insn_at, slots_of}
 use Rattle.bpf_insn.specs.Edges.{distance, target, BeginsAt}
 use Rattle.bpf_insn.proofs.EdgeLaws.{jumps_by_distance, no_distance_no_jump}
-use Rattle.bpf_insn.proofs.LayoutLaws.{past_end}
+use Rattle.bpf_insn.proofs.LayoutLaws.{next_stop, past_end}
 use Rattle.bpf_verify.specs.declared.rule.Rule.{Rule}
 use Rattle.bpf_verify.specs.declared.rule.Rule.TheVariants.{NotForward, BadTarget, UnknownHelper, UnsetRegister, FrameWrite, PointerMisuse, OutOfRegion, UnsetStackByte, BadArgument, ExitNotNumber, NotPointer}
-use Rattle.bpf_verify.specs.States.{AbstractState}
-use Rattle.bpf_verify.specs.Rules.{lacks, is_negative, goes_back, is_astray, leads_astray, breaks, KeepsRules, lowest_broken}
+use Rattle.value_range.specs.Span.{full_of}
+use Rattle.bpf_verify.specs.declared.kind.Kind.{Kind}
+use Rattle.bpf_verify.specs.declared.kind.Kind.TheVariants.{Unset, Number}
+use Rattle.bpf_verify.specs.States.{AbstractState, is_pointer_kind}
+use Rattle.bpf_verify.specs.Outcomes.{or_full, entry_at, lowest_place, loaded_kind}
+use Rattle.bpf_verify.specs.Rules.{takes_dword, lacks, touches, is_negative, goes_back, is_astray, leads_astray, breaks, KeepsRules, lowest_broken}
 
 -- a byte that is written tells nothing of those after it
 pub lacks_past : (A : AbstractState) (place end : ℕ) → place < end → A.written place ≡ true
@@ -24,6 +29,14 @@ pub lacks_past : (A : AbstractState) (place end : ℕ) → place < end → A.wri
 lacks_past A place end before written =
     let count : end - place ≡ suc (end - (place + 1)) = omega arith in
     rw (count, written) refl
+
+-- a byte that is of no kept pointer tells nothing of those after it
+pub touches_past : (A : AbstractState) (place end : ℕ) → place < end
+    → is_pointer_kind (A.entries (dword_of place)) ≡ false
+    → touches A place (end - place) ≡ touches A (place + 1) (end - (place + 1))
+touches_past A place end before none =
+    let count : end - place ≡ suc (end - (place + 1)) = omega arith in
+    rw (count, none) refl
 
 -- ---- the lowest rule that is broken
 
@@ -179,3 +192,36 @@ onward_next (LoadSx size dst base off) slot to e = sym cc
 onward_next (StoreReg size base off src) slot to e = sym cc
 onward_next (StoreImm size base off imm) slot to e = sym cc
 onward_next (LoadImm64 dst value) slot to e = sym cc
+
+-- where nothing is known of any double word, a load gives any number
+pub nothing_held : (A : AbstractState) (k : Kind) (off : ℤ) (count : ℕ) → ((dword : ℕ) → A.entries dword ≡ Unset)
+    → loaded_kind A k off count ≡ Number (full_of (8 * count))
+nothing_held A k off count none = by (takes_dword k off count)
+  where
+    there : (first : Option ℕ) → entry_at A first count ≡ Number (full_of (8 * count))
+    there None = refl
+    there (Some first) = ap (λ kind. or_full kind count) (none (dword_of first))
+
+    by : (whole : Bool) → (if whole then entry_at A (lowest_place k off) count else Number (full_of (8 * count)))
+        ≡ Number (full_of (8 * count))
+    by true = there (lowest_place k off)
+    by false = refl
+
+-- the way onward leads to an instruction, or past the program's end
+pub onward_astray : (program : List Insn) (slot next : ℕ) (insn : Insn) → insn_at program slot ≡ Some insn
+    → target insn slot Onward ≡ Some next → nat_le (slots_of program) next ≡ is_none (insn_at program next)
+onward_astray program slot next insn here goes =
+    let onward = onward_next insn slot next goes in
+    rw onward (elim (next_stop program slot insn here) [
+      | inl starts ↦ rw (lt-leb (slots_of program) (slot + slots_taken insn)
+          (begins_within program (slot + slots_taken insn) starts))
+          (sym (there (insn_at program (slot + slots_taken insn)) starts))
+      | inr ends ↦ rw (
+        past_end program (slot + slots_taken insn) (omega (arith, ends)),
+        le-leb (slots_of program) (slot + slots_taken insn) (omega (arith, ends)),
+      ) refl
+    ])
+  where
+    there : (found : Option Insn) → IsSome found → is_none found ≡ false
+    there (Some i) e = refl
+    there None e = absurd cc

@@ -1,10 +1,11 @@
 -- Containment of abstract states, and what edges leave where they meet.
-use Rattle.std.proofs.Common.{◌≡◌, Bool, true, false, ◌&&◌, refl, subst, arith}
+use Rattle.std.proofs.Common.{◌≡◌, Bool, true, false, ◌&&◌, min, max, refl, ap, subst, arith}
 use Rattle.value_range.specs.Span.{Span, IsInside, hull_of}
 use Rattle.node_env.specs.declared.region.Region.TheVariants.{Mem, Stack}
 use Rattle.bpf_verify.specs.declared.kind.Kind.{Kind}
 use Rattle.bpf_verify.specs.declared.kind.Kind.TheVariants.{Unset, Number, Pointer}
 use Rattle.bpf_verify.specs.States.{AbstractState, IsKindIn, IsContainedIn, joined_kind, joined_state}
+use Rattle.bpf_verify.proofs.KindLaws.{same_state}
 
 pub inside_itself : (a : Span) → IsInside a a
 inside_itself a = record { low = omega arith; high = omega arith }
@@ -59,25 +60,32 @@ and_true true b e = (refl, e)
 and_true false b e = absurd cc
 
 pub contained_in_itself : (A : AbstractState) → IsContainedIn A A
-contained_in_itself A = record { kinds = λ n. kind_in_itself (A.kinds n); written = λ b e. e }
+contained_in_itself A = record {
+  kinds = λ n. kind_in_itself (A.kinds n);
+  written = λ b e. e;
+  entries = λ n. kind_in_itself (A.entries n);
+}
 
 pub contained_further : (A B C : AbstractState) → IsContainedIn A B → IsContainedIn B C → IsContainedIn A C
 contained_further A B C p q =
     record {
       kinds = λ n. kind_further (A.kinds n) (B.kinds n) (C.kinds n) (p.kinds n) (q.kinds n);
       written = λ b e. p.written b (q.written b e);
+      entries = λ n. kind_further (A.entries n) (B.entries n) (C.entries n) (p.entries n) (q.entries n);
     }
 
 pub joined_first : (A C : AbstractState) → IsContainedIn A (joined_state A C)
 joined_first A C = record {
   kinds = λ n. joined_first_kind (A.kinds n) (C.kinds n);
   written = λ b e. (and_true (A.written b) (C.written b) e).0;
+  entries = λ n. joined_first_kind (A.entries n) (C.entries n);
 }
 
 pub joined_second : (A C : AbstractState) → IsContainedIn C (joined_state A C)
 joined_second A C = record {
   kinds = λ n. joined_second_kind (A.kinds n) (C.kinds n);
   written = λ b e. (and_true (A.written b) (C.written b) e).1;
+  entries = λ n. joined_second_kind (A.entries n) (C.entries n);
 }
 
 -- ---- the join is the least that contains both
@@ -96,4 +104,40 @@ joined_within A B C p q =
     record {
       kinds = λ n. joined_kind_within (A.kinds n) (B.kinds n) (C.kinds n) (p.kinds n) (q.kinds n);
       written = λ b e. rw (p.written b e, q.written b e) refl;
+      entries = λ n. joined_kind_within (A.entries n) (B.entries n) (C.entries n) (p.entries n) (q.entries n);
     }
+
+-- ---- the join is the same either way round
+
+hull_either_way : (a b : Span) → hull_of a b ≡ hull_of b a
+hull_either_way a b =
+    let low : min a.lo b.lo ≡ min b.lo a.lo = omega arith in
+    let high : max a.hi b.hi ≡ max b.hi a.hi = omega arith in
+    rw (low, high) refl
+
+joined_kinds_either_way : (k l : Kind) → joined_kind k l ≡ joined_kind l k
+joined_kinds_either_way Unset Unset = refl
+joined_kinds_either_way Unset (Number b) = refl
+joined_kinds_either_way Unset (Pointer region b) = refl
+joined_kinds_either_way (Number a) Unset = refl
+joined_kinds_either_way (Number a) (Number b) = ap Number (hull_either_way a b)
+joined_kinds_either_way (Number a) (Pointer region b) = refl
+joined_kinds_either_way (Pointer region a) Unset = refl
+joined_kinds_either_way (Pointer region a) (Number b) = refl
+joined_kinds_either_way (Pointer Mem a) (Pointer Mem b) = ap (Pointer Mem) (hull_either_way a b)
+joined_kinds_either_way (Pointer Stack a) (Pointer Stack b) = ap (Pointer Stack) (hull_either_way a b)
+joined_kinds_either_way (Pointer Mem a) (Pointer Stack b) = refl
+joined_kinds_either_way (Pointer Stack a) (Pointer Mem b) = refl
+
+both_either_way : (a b : Bool) → (a && b) ≡ (b && a)
+both_either_way true true = refl
+both_either_way true false = refl
+both_either_way false true = refl
+both_either_way false false = refl
+
+pub joined_either_way : (A C : AbstractState) → joined_state A C ≡ joined_state C A
+joined_either_way A C =
+    same_state (joined_state A C) (joined_state C A)
+        (λ number. joined_kinds_either_way (A.kinds number) (C.kinds number))
+    (λ byte. both_either_way (A.written byte) (C.written byte))
+    (λ dword. joined_kinds_either_way (A.entries dword) (C.entries dword))

@@ -1,10 +1,11 @@
 -- What is known after an instruction that keeps the rules (docs/VERIFIER.md, "Outcomes").
-use Rattle.std.specs.Prelude.{ℕ, ◌+◌, ◌-◌, ◌*◌, ◌==◌, Bool, true, false, ◌||◌, ◌&&◌, nat_le, nat_lt, Option, Some, None, if◌then◌else◌, ℤ}
+use Rattle.std.specs.Prelude.{ℕ, ◌+◌, ◌-◌, ◌*◌, ◌^◌, min, ◌==◌, Bool, true, false, ◌||◌, ◌&&◌, not, nat_le, nat_lt, Option, Some, None, if◌then◌else◌, ℤ}
 use Rattle.node_env.specs.Env.{Extent}
 use Rattle.node_env.specs.Helpers.{helper_of}
 use Rattle.node_env.specs.declared.region.Region.TheVariants.{Mem, Stack}
 use Rattle.node_env.specs.declared.helper.Helper.{Helper}
 use Rattle.node_env.specs.declared.helper.Helper.TheVariants.{Id, Recv, Send, Coin}
+use Rattle.node_env.specs.Dwords.{dword_of}
 use Rattle.bpf_insn.specs.declared.forms.Reg.{Reg}
 use Rattle.bpf_insn.specs.declared.forms.Width.{Width}
 use Rattle.bpf_insn.specs.declared.forms.Width.TheVariants.{W32, W64}
@@ -26,7 +27,7 @@ use Rattle.value_range.specs.Conditions.{branch_of}
 use Rattle.bpf_verify.specs.declared.kind.Kind.{Kind}
 use Rattle.bpf_verify.specs.declared.kind.Kind.TheVariants.{Unset, Number, Pointer}
 use Rattle.bpf_verify.specs.States.{AbstractState, kind_of}
-use Rattle.bpf_verify.specs.Rules.{operand_kind}
+use Rattle.bpf_verify.specs.Rules.{operand_kind, is_whole, takes_dword}
 
 -- ---- registers
 
@@ -82,9 +83,30 @@ alu_outcome A op width dst src = with_kind A dst (alu_kind op width (kind_of A d
 
 -- ---- loads and stores
 
--- what a load of so many bytes gives, by a pointer of a kind: a number, whatever they are
+-- the numbers of so many bytes in a range: all of them, where the range has no greater ones
+abbrev pub of_bytes : ℕ → Span → Span
+of_bytes count a = span (min a.lo (2 ^ (8 * count) - 1)) (min a.hi (2 ^ (8 * count) - 1))
+
+-- what so many bytes hold, by what is known of their double word
+abbrev pub or_full : Kind → ℕ → Kind
+or_full Unset count = Number (full_of (8 * count))
+or_full (Number a) count = Number (of_bytes count a)
+or_full (Pointer region a) count = Pointer region a
+
+abbrev pub entry_at : AbstractState → Option ℕ → ℕ → Kind
+entry_at A None count = Number (full_of (8 * count))
+entry_at A (Some first) count = or_full (A.entries (dword_of first)) count
+
+abbrev pub lowest_place : Kind → ℤ → Option ℕ
+lowest_place Unset off = None
+lowest_place (Number a) off = None
+lowest_place (Pointer region a) off = moved a.lo off
+
+-- what a load of so many bytes gives, by a pointer of a kind: what is known of the double word that it takes whole, or
+-- any number
 abbrev pub loaded_kind : AbstractState → Kind → ℤ → ℕ → Kind
-loaded_kind A base off count = Number (full_of (8 * count))
+loaded_kind A base off count = if takes_dword base off count then entry_at A (lowest_place base off) count
+    else Number (full_of (8 * count))
 
 abbrev pub is_between : ℕ → ℕ → ℕ → Bool
 is_between first end byte = nat_le first byte && nat_lt byte end
@@ -97,13 +119,43 @@ abbrev pub with_written : AbstractState → Option ℕ → ℕ → AbstractState
 with_written A None count = A
 with_written A (Some first) count = record A { written = put_written A.written first count }
 
--- a store of a value, whatever it is, to one place of the stack writes its bytes; where the place isn't known, none is
--- surely written
+-- the bytes that are surely written once the double word of the first holds a value
+abbrev pub entry_written : Kind → (ℕ → Bool) → ℕ → ℕ → Bool
+entry_written Unset written first byte = not (is_between first (first + 8) byte) && written byte
+entry_written (Number a) written first byte = is_between first (first + 8) byte || written byte
+entry_written (Pointer region a) written first byte = not (is_between first (first + 8) byte) && written byte
+
+-- a double word holds a value
+abbrev pub with_entry : AbstractState → Option ℕ → Kind → AbstractState
+with_entry A None value = A
+with_entry A (Some first) value = record A {
+  written = entry_written value A.written first;
+  entries = put_kind A.entries (dword_of first) value;
+}
+
+-- nothing is known any more of the double words of the bytes from first on, before end
+abbrev pub cleared : (ℕ → Kind) → ℕ → ℕ → ℕ → Kind
+cleared entries first end dword =
+    if is_between (dword_of first) (dword_of (end + 7)) dword then Unset else entries dword
+
+abbrev pub with_entries : AbstractState → (ℕ → Kind) → AbstractState
+with_entries A entries = record A { entries = entries }
+
+abbrev pub with_cleared : AbstractState → Option ℕ → Option ℕ → ℕ → AbstractState
+with_cleared A (Some first) (Some last) count = with_entries A (cleared A.entries first (last + count))
+with_cleared A first last count = A
+
+-- a store of a value to a double word of the stack says what it holds; every other store takes away what was known of
+-- the double words that it may touch, and writes its bytes where its place is known
 abbrev pub stored_at : AbstractState → Kind → ℤ → ℕ → Kind → AbstractState
 stored_at A Unset off count value = A
 stored_at A (Number a) off count value = A
 stored_at A (Pointer Mem a) off count value = A
-stored_at A (Pointer Stack a) off count value = if is_single a then with_written A (moved a.lo off) count else A
+stored_at A (Pointer Stack a) off count value =
+    if is_whole a off count then with_entry A (moved a.lo off) value
+    else if is_single a
+    then with_written (with_cleared A (moved a.lo off) (moved a.hi off) count) (moved a.lo off) count
+    else with_cleared A (moved a.lo off) (moved a.hi off) count
 
 -- ---- branches
 

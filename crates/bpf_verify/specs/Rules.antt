@@ -1,5 +1,5 @@
 -- What the verifier asks of an instruction (docs/VERIFIER.md, "Rules"): which rules it breaks.
-use Rattle.std.specs.Prelude.{◌≡◌, ℕ, ◌+◌, ◌-◌, ◌%◌, ◌^◌, Bool, true, false, ◌||◌, ◌&&◌, not, List, [], ◌∷◌, Option, Some, None, is_none, nat_lt, ℤ, pos, negsuc}
+use Rattle.std.specs.Prelude.{◌≡◌, ℕ, ◌+◌, ◌-◌, ◌%◌, ◌^◌, ◌==◌, Bool, true, false, ◌||◌, ◌&&◌, not, List, [], ◌∷◌, Option, Some, None, is_none, nat_lt, ℤ, pos, negsuc, ◌+ℤ◌, unsigned_abs}
 use Rattle.std.specs.Int.{w64, cast_unsigned}
 use Rattle.std.specs.List.{list_any, find, range_with_len}
 use Rattle.node_env.specs.Env.{Extent, region_size}
@@ -8,6 +8,7 @@ use Rattle.node_env.specs.declared.region.Region.{Region}
 use Rattle.node_env.specs.declared.region.Region.TheVariants.{Mem, Stack}
 use Rattle.node_env.specs.declared.helper.Helper.{Helper}
 use Rattle.node_env.specs.declared.helper.Helper.TheVariants.{Id, Recv, Send, Coin}
+use Rattle.node_env.specs.Dwords.{dword_of, is_aligned}
 use Rattle.bpf_insn.specs.declared.forms.Reg.{Reg}
 use Rattle.bpf_insn.specs.declared.forms.Reg.TheVariants.{R0, R1, R2}
 use Rattle.bpf_insn.specs.declared.forms.Width.{Width}
@@ -22,31 +23,17 @@ use Rattle.bpf_insn.specs.declared.edges.Way.TheVariants.{Onward, Jumping}
 use Rattle.bpf_insn.specs.Programs.{insn_at}
 use Rattle.bpf_insn.specs.Edges.{distance, moved, target}
 use Rattle.bpf_insn.specs.Arithmetic.{bits_of}
-use Rattle.bpf_insn.specs.Operands.{Access, reads, written_by, is_frame_pointer, load_of, store_of, call_of, is_exit}
-use Rattle.value_range.specs.Span.{Span, just}
+use Rattle.bpf_insn.specs.Operands.{Access, access_bytes, sx_access_bytes, reads, written_by, is_frame_pointer, load_of, store_of, call_of, is_exit}
+use Rattle.value_range.specs.Span.{Span, just, is_single}
 use Rattle.value_range.specs.Results.{alu_of}
 use Rattle.bpf_verify.specs.declared.kind.Kind.{Kind}
 use Rattle.bpf_verify.specs.declared.kind.Kind.TheVariants.{Unset, Number, Pointer}
 use Rattle.bpf_verify.specs.declared.rule.Rule.{Rule}
 use Rattle.bpf_verify.specs.declared.rule.Rule.TheVariants.{NotForward, BadTarget, UnknownHelper, UnsetRegister, FrameWrite, PointerMisuse, OutOfRegion, UnsetStackByte, BadArgument, ExitNotNumber, NotPointer}
 use Rattle.bpf_verify.specs.States.{AbstractState, kind_of}
+pub use Rattle.bpf_verify.specs.States.{is_unset_kind, is_pointer_kind, is_number_kind}
 
 -- ---- kinds
-
-abbrev pub is_unset_kind : Kind → Bool
-is_unset_kind Unset = true
-is_unset_kind (Number a) = false
-is_unset_kind (Pointer region a) = false
-
-abbrev pub is_pointer_kind : Kind → Bool
-is_pointer_kind Unset = false
-is_pointer_kind (Number a) = false
-is_pointer_kind (Pointer region a) = true
-
-abbrev pub is_number_kind : Kind → Bool
-is_number_kind Unset = false
-is_number_kind (Number a) = true
-is_number_kind (Pointer region a) = false
 
 -- an immediate is one number of the width's bits, its sign extended
 abbrev pub operand_kind : Width → Operand → AbstractState → Kind
@@ -125,25 +112,30 @@ misuses_operands shape Add W64 a b = misuses_sum shape a b
 misuses_operands shape Sub W64 a b = misuses_difference shape a b
 misuses_operands shape op width a b = is_pointer_kind a || is_pointer_kind b
 
-abbrev pub may_misuse_pointer : Extent → Insn → AbstractState → Bool
-may_misuse_pointer shape (i.Alu op width dst src) A =
-    misuses_operands shape op width (kind_of A dst) (operand_kind width src A)
-may_misuse_pointer shape (i.Neg width dst) A = is_pointer_kind (kind_of A dst)
-may_misuse_pointer shape (i.Movsx kind dst src) A = is_pointer_kind (kind_of A src)
-may_misuse_pointer shape (i.Swap order bits dst) A = is_pointer_kind (kind_of A dst)
-may_misuse_pointer shape (i.Ja off) A = false
-may_misuse_pointer shape (i.JaLong off) A = false
-may_misuse_pointer shape (i.Branch cond width dst src off) A =
-    is_pointer_kind (kind_of A dst) || is_pointer_kind (operand_kind width src A)
-may_misuse_pointer shape (i.Call id) A = false
-may_misuse_pointer shape i.Exit A = false
-may_misuse_pointer shape (i.Load size dst base off) A = false
-may_misuse_pointer shape (i.LoadSx size dst base off) A = false
-may_misuse_pointer shape (i.StoreReg size base off src) A = is_pointer_kind (kind_of A src)
-may_misuse_pointer shape (i.StoreImm size base off imm) A = false
-may_misuse_pointer shape (i.LoadImm64 dst value) A = false
+-- an access that takes one double word whole, whichever pointer of the kind it goes by
+abbrev pub is_whole : Span → ℤ → ℕ → Bool
+is_whole a off count = is_single a && (count == 8 && is_aligned (pos a.lo +ℤ off))
 
--- ---- 7, out of region: an access may take a byte below the region or past its end
+-- a pointer is kept in a double word of the stack
+abbrev pub takes_dword : Kind → ℤ → ℕ → Bool
+takes_dword Unset off count = false
+takes_dword (Number a) off count = false
+takes_dword (Pointer Mem a) off count = false
+takes_dword (Pointer Stack a) off count = is_whole a off count
+
+-- one of so many bytes from a place on is of a kept pointer
+abbrev pub touches : AbstractState → ℕ → ℕ → Bool
+touches A place count = list_any (λ byte. is_pointer_kind (A.entries (dword_of byte))) (range_with_len place count)
+
+abbrev pub touches_between : AbstractState → Option ℕ → Option ℕ → ℕ → Bool
+touches_between A (Some first) (Some last) count = touches A first (last + count - first)
+touches_between A first last count = false
+
+abbrev pub touches_byte : AbstractState → Kind → ℤ → ℕ → Bool
+touches_byte A Unset off count = false
+touches_byte A (Number a) off count = false
+touches_byte A (Pointer Mem a) off count = false
+touches_byte A (Pointer Stack a) off count = touches_between A (moved a.lo off) (moved a.hi off) count
 
 -- accesses of so many bytes, the first of them from one place to another
 abbrev pub may_leave : ℕ → Option ℕ → Option ℕ → ℕ → Bool
@@ -156,6 +148,33 @@ may_leave_region shape (Number a) off count = false
 may_leave_region shape (Pointer region a) off count =
     may_leave (region_size shape region) (moved a.lo off) (moved a.hi off) count
 
+-- a load inside the stack may take a byte of a kept pointer, and doesn't take it back
+abbrev pub may_take_part : Extent → AbstractState → Kind → ℤ → ℕ → Bool
+may_take_part shape A kind off count =
+    not (may_leave_region shape kind off count) && (touches_byte A kind off count && not (takes_dword kind off count))
+
+abbrev pub may_misuse_pointer : Extent → Insn → AbstractState → Bool
+may_misuse_pointer shape (i.Alu op width dst src) A =
+    misuses_operands shape op width (kind_of A dst) (operand_kind width src A)
+may_misuse_pointer shape (i.Neg width dst) A = is_pointer_kind (kind_of A dst)
+may_misuse_pointer shape (i.Movsx kind dst src) A = is_pointer_kind (kind_of A src)
+may_misuse_pointer shape (i.Swap order bits dst) A = is_pointer_kind (kind_of A dst)
+may_misuse_pointer shape (i.Ja off) A = false
+may_misuse_pointer shape (i.JaLong off) A = false
+may_misuse_pointer shape (i.Branch cond width dst src off) A =
+    is_pointer_kind (kind_of A dst) || is_pointer_kind (operand_kind width src A)
+may_misuse_pointer shape (i.Call id) A = false
+may_misuse_pointer shape i.Exit A = false
+may_misuse_pointer shape (i.Load size dst base off) A = may_take_part shape A (kind_of A base) off (access_bytes size)
+may_misuse_pointer shape (i.LoadSx size dst base off) A =
+    may_take_part shape A (kind_of A base) off (sx_access_bytes size)
+may_misuse_pointer shape (i.StoreReg size base off src) A =
+    is_pointer_kind (kind_of A src) && not (takes_dword (kind_of A base) off (access_bytes size))
+may_misuse_pointer shape (i.StoreImm size base off imm) A = false
+may_misuse_pointer shape (i.LoadImm64 dst value) A = false
+
+-- ---- 7, out of region: an access may take a byte below the region or past its end
+
 -- what is asked of an access' base
 abbrev pub on_base : (Kind → ℤ → ℕ → Bool) → AbstractState → Option Access → Bool
 on_base asked A None = false
@@ -165,7 +184,7 @@ abbrev pub may_leave_regions : Extent → Insn → AbstractState → Bool
 may_leave_regions shape insn A =
     on_base (may_leave_region shape) A (load_of insn) || on_base (may_leave_region shape) A (store_of insn)
 
--- ---- 8, unset stack byte: a load may take a byte that isn't surely written
+-- ---- 8, unset stack byte: a load may take a byte that isn't surely written, and takes none of a kept pointer
 
 -- one of so many bytes from a place on isn't surely written
 abbrev pub lacks : AbstractState → ℕ → ℕ → Bool
@@ -181,8 +200,11 @@ lacks_byte A (Number a) off count = false
 lacks_byte A (Pointer Mem a) off count = false
 lacks_byte A (Pointer Stack a) off count = lacks_between A (moved a.lo off) (moved a.hi off) count
 
+abbrev pub misses_byte : AbstractState → Kind → ℤ → ℕ → Bool
+misses_byte A kind off count = lacks_byte A kind off count && not (touches_byte A kind off count)
+
 abbrev pub loads_unset : Insn → AbstractState → Bool
-loads_unset insn A = on_base (lacks_byte A) A (load_of insn)
+loads_unset insn A = on_base (misses_byte A) A (load_of insn)
 
 -- ---- 9, bad argument: r1 of recv and send, and r2 of send
 

@@ -1,26 +1,44 @@
 -- What the verifier knows of a machine's state at a slot (docs/VERIFIER.md, "Abstract states").
-use Rattle.std.specs.Prelude.{◌≡◌, ℕ, ◌-◌, ◌==◌, Bool, true, false, ◌&&◌, if◌then◌else◌}
+use Rattle.std.specs.Prelude.{◌≡◌, ℕ, ◌-◌, ◌/◌, ◌==◌, Bool, true, false, ◌&&◌, if◌then◌else◌}
 use Rattle.node_env.specs.Env.{Extent}
 use Rattle.node_env.specs.declared.region.TheConstants.{STACK_BYTES}
 use Rattle.node_env.specs.declared.region.Region.{Region}
 use Rattle.node_env.specs.declared.region.Region.TheVariants.{Mem, Stack}
+use Rattle.node_env.specs.Dwords.{dword_of}
 use Rattle.bpf_insn.specs.declared.forms.Reg.{Reg}
 use Rattle.bpf_insn.specs.Registers.{register_number}
 use Rattle.value_range.specs.Span.{Span, span, just, IsInside, HasMembers, hull_of}
 use Rattle.bpf_verify.specs.declared.kind.Kind.{Kind}
 use Rattle.bpf_verify.specs.declared.kind.Kind.TheVariants.{Unset, Number, Pointer}
 
--- what is known of each register, by its number, and the stack bytes that are surely written
+-- what is known of each register, by its number, the stack bytes that are surely written, and what is known of each
+-- double word of the stack, by its number: that its bytes spell a number of the range, or that it keeps a pointer
 pub record AbstractState : Type 0 where
   pub kinds : ℕ → Kind
   pub written : ℕ → Bool
+  pub entries : ℕ → Kind
 
 abbrev pub kind_of : AbstractState → Reg → Kind
 kind_of A register = A.kinds (register_number register)
 
 -- the state of which so much is known
-abbrev pub abstract_state : (ℕ → Kind) → (ℕ → Bool) → AbstractState
-abstract_state kinds written = record { kinds = kinds; written = written }
+abbrev pub abstract_state : (ℕ → Kind) → (ℕ → Bool) → (ℕ → Kind) → AbstractState
+abstract_state kinds written entries = record { kinds = kinds; written = written; entries = entries }
+
+abbrev pub is_unset_kind : Kind → Bool
+is_unset_kind Unset = true
+is_unset_kind (Number a) = false
+is_unset_kind (Pointer region a) = false
+
+abbrev pub is_pointer_kind : Kind → Bool
+is_pointer_kind Unset = false
+is_pointer_kind (Number a) = false
+is_pointer_kind (Pointer region a) = true
+
+abbrev pub is_number_kind : Kind → Bool
+is_number_kind Unset = false
+is_number_kind (Number a) = true
+is_number_kind (Pointer region a) = false
 
 -- ---- containment
 
@@ -34,6 +52,7 @@ IsKindIn k (Pointer region b) = (a : Span) × (k ≡ Pointer region a) × IsInsi
 pub record IsContainedIn (A C : AbstractState) : Type 0 where
   pub kinds : (number : ℕ) → IsKindIn (A.kinds number) (C.kinds number)
   pub written : (byte : ℕ) → C.written byte ≡ true → A.written byte ≡ true
+  pub entries : (dword : ℕ) → IsKindIn (A.entries dword) (C.entries dword)
 
 -- each range has members
 abbrev pub IsProperKind : Kind → Type 0
@@ -41,8 +60,12 @@ IsProperKind Unset = Unit {0}
 IsProperKind (Number a) = HasMembers a
 IsProperKind (Pointer region a) = HasMembers a
 
+-- the bytes of a double word that spells a number are surely written, and none of one that keeps a pointer is
 pub record IsProper (A : AbstractState) : Type 0 where
   pub kinds : (number : ℕ) → IsProperKind (A.kinds number)
+  pub entries : (dword : ℕ) → IsProperKind (A.entries dword)
+  pub spelled : (byte : ℕ) → is_number_kind (A.entries (dword_of byte)) ≡ true → A.written byte ≡ true
+  pub apart : (byte : ℕ) → is_pointer_kind (A.entries (dword_of byte)) ≡ true → A.written byte ≡ false
 
 -- ---- where edges meet
 
@@ -66,6 +89,7 @@ joined_kind (Pointer region a) (Pointer other b) = in_region region other (hull_
 abbrev pub joined_state : AbstractState → AbstractState → AbstractState
 joined_state A C =
     abstract_state (λ number. joined_kind (A.kinds number) (C.kinds number)) (λ byte. A.written byte && C.written byte)
+    (λ dword. joined_kind (A.entries dword) (C.entries dword))
 
 -- ---- entry
 
@@ -81,6 +105,6 @@ entry_kinds shape number =
     else if number == 10 then stack_base
     else Unset
 
--- nothing else is set, and no byte is written
+-- nothing else is set, and nothing is known of the stack
 abbrev pub entry_state : Extent → AbstractState
-entry_state shape = abstract_state (entry_kinds shape) (λ byte. false)
+entry_state shape = abstract_state (entry_kinds shape) (λ byte. false) (λ dword. Unset)

@@ -1,25 +1,31 @@
 //! What is known of a machine's state at a slot.
 
-ghost use Rattle.std.specs.Prelude.{◌≡◌, ℕ, ◌+◌, ◌-◌, ◌<◌, ◌≤◌, Some};
+ghost use Rattle.std.specs.Prelude.{◌≡◌, ℕ, ◌+◌, ◌-◌, ◌<◌, ◌≤◌, ◌*◌, Some, true, IfOk, OnOk, length, slice_set};
+ghost use Rattle.node_env.specs.Dwords.{dword_of};
 ghost use Rattle.value_range.specs.Span.{span};
+ghost use Rattle.bpf_verify.specs.declared.kind.Kind.TheVariants as kinds;
 ghost use Rattle.bpf_verify.specs.States.{kind_of, joined_kind, joined_state, entry_state};
-ghost use Rattle.bpf_verify.specs.Outcomes.{with_kind, with_written};
-ghost use Rattle.bpf_verify.specs.inner.Rows.{kind_numbered, abstract_of};
+ghost use Rattle.bpf_verify.specs.Outcomes.{cleared, put_kind, with_entries, with_entry, with_kind, with_written};
+ghost use Rattle.bpf_verify.specs.inner.Rows.{kind_numbered, entry_in, abstract_of};
 
 use crate::kind::Kind;
 use crate::marks::Marks;
 use bpf_insn::Reg;
-use node_env::{Region, STACK_BYTES, Shape};
+use node_env::{Region, STACK_BYTES, STACK_DWORDS, Shape};
+use std::alloc::{AllocError, Global};
 use value_range::{Range, hull};
 
 /// How many registers there are.
 const REGISTERS: usize = 11;
 
-/// An abstract state (docs/VERIFIER.md): what is known of each register, and the stack bytes that are surely written.
-#[derive(Clone, Copy, Debug)]
+/// An abstract state (docs/VERIFIER.md): what is known of each register, the stack bytes that are surely written, and
+/// what is known of each double word of the stack.
+#[derive(Drop)]
 pub(crate) struct Known {
-    pub(crate) kinds: [Kind; REGISTERS],
+    pub(crate) kinds: Kinds,
     pub(crate) marks: Marks,
+    /// None where nothing is known.
+    pub(crate) entries: Option<Box<Entries>>,
 }
 
 /// What is known of a register that is of either kind.
@@ -45,12 +51,67 @@ fn joined(a: Kind, b: Kind) -> Kind
     }
 }
 
-fn join_kinds(kinds: &mut [Kind; REGISTERS], others: &[Kind; REGISTERS])
+fn join_kinds(kinds: &mut [Kind], others: &[Kind])
+    requires { length others.now ≡ length kinds.old }
     ensures { (number : ℕ) → kind_numbered kinds.new number
         ≡ joined_kind (kind_numbered kinds.old number) (kind_numbered others.now number) }
 {
-    for number in 0..REGISTERS {
+    for number in 0..kinds.len() {
         kinds[number] = joined(kinds[number], others[number]);
+    }
+}
+
+fn no_entries() -> [Kind; STACK_DWORDS]
+    ensures { (dword : ℕ) → kind_numbered result dword ≡ kinds.Unset }
+{
+    [Kind::Unset; STACK_DWORDS]
+}
+
+/// Takes away what is known of the double words of the stack's bytes from `first` on, before `end`.
+#[tactic(auto, using(crate::proofs::KindLaws::forgotten))]
+fn clear(kinds: &mut [Kind; STACK_DWORDS], first: u32, end: u32)
+    requires some { first ≤ end }
+    requires inside { end ≤ STACK_BYTES }
+    ensures { (other : ℕ) → kind_numbered kinds.new other ≡ cleared (kind_numbered kinds.old) first end other }
+{
+    for dword in first / 8..(end + 7) / 8 {
+        kinds[dword as usize] = Kind::Unset;
+    }
+}
+
+/// What is known of each register.
+#[derive(Clone, Copy)]
+pub(crate) struct Kinds {
+    pub(crate) list: [Kind; REGISTERS],
+}
+
+/// What is known of each double word of the stack.
+#[derive(Clone, Copy)]
+pub(crate) struct Entries {
+    pub(crate) kinds: [Kind; STACK_DWORDS],
+}
+
+impl Entries {
+    ghost use Rattle.std.specs.Prelude.{◌≡◌, IfOk};
+
+    fn boxed(&self, alloc: Global) -> Result<Box<Entries>, AllocError>
+        ensures { IfOk result (λ held. held.value ≡ self.now) }
+    {
+        Ok(Box::new(alloc, *self)?)
+    }
+}
+
+#[tactic(auto, using(crate::proofs::KindLaws::joined_unset))]
+fn join_entries(ours: &mut Option<Box<Entries>>, theirs: &Option<Box<Entries>>)
+    ensures { (dword : ℕ) → entry_in ours.new dword
+        ≡ joined_kind (entry_in ours.old dword) (entry_in theirs.now dword) }
+{
+    match theirs {
+        None => *ours = None,
+        Some(held) => match ours {
+            None => {}
+            Some(mine) => join_kinds(&mut mine.kinds, &held.kinds),
+        },
     }
 }
 
@@ -75,7 +136,7 @@ impl Known {
     pub(crate) fn kind(&self, register: Reg) -> Kind
         ensures { result ≡ kind_of (abstract_of self.now) register }
     {
-        self.kinds[register.number() as usize]
+        self.kinds.list[register.number() as usize]
     }
 
     /// A register is of a kind from now on.
@@ -83,7 +144,7 @@ impl Known {
     pub(crate) fn set_kind(&mut self, register: Reg, kind: Kind)
         ensures { abstract_of self.new ≡ with_kind (abstract_of self.old) register kind }
     {
-        self.kinds[register.number() as usize] = kind;
+        self.kinds.list[register.number() as usize] = kind;
     }
 
     /// So many stack bytes are written too.
@@ -95,6 +156,85 @@ impl Known {
         self.marks.add_all(first, count);
     }
 
+    /// What is known of the double word that a stack byte is in.
+    #[inline(always)]
+    pub(crate) fn entry_of(&self, byte: u32) -> Kind
+        requires { byte < STACK_BYTES }
+        ensures { result ≡ entry_in self.now.entries (dword_of byte) }
+    {
+        match &self.entries {
+            None => Kind::Unset,
+            Some(held) => held.kinds[(byte / 8) as usize],
+        }
+    }
+
+    /// Whether nothing is known of any double word.
+    #[inline(always)]
+    pub(crate) fn holds_none(&self) -> bool
+        ensures { result ≡ true → (dword : ℕ) → entry_in self.now.entries dword ≡ kinds.Unset }
+    {
+        self.entries.is_none()
+    }
+
+    fn set_entry(&mut self, alloc: Global, dword: u32, kind: Kind) -> Result<(), AllocError>
+        requires { 8 * dword < STACK_BYTES }
+        ensures entries { OnOk result ((other : ℕ) → entry_in self.new.entries other
+            ≡ put_kind (entry_in self.old.entries) dword kind other) }
+        ensures kinds { self.new.kinds ≡ self.old.kinds }
+        ensures marks { self.new.marks ≡ self.old.marks }
+    {
+        match &mut self.entries {
+            Some(held) => held.kinds[dword as usize] = kind,
+            empty => {
+                let mut kinds = no_entries();
+                kinds[dword as usize] = kind;
+                *empty = Some(Box::new(alloc, Entries { kinds })?);
+            }
+        }
+        Ok(())
+    }
+
+    /// The eight bytes from a place on hold a value.
+    pub(crate) fn hold(&mut self, alloc: Global, first: u32, value: Kind) -> Result<(), AllocError>
+        requires { first + 8 ≤ STACK_BYTES }
+        ensures { OnOk result (abstract_of self.new ≡ with_entry (abstract_of self.old) (Some first) value) }
+    {
+        match value {
+            Kind::Number(_) => self.marks.add_all(first, 8),
+            Kind::Unset | Kind::Pointer(..) => self.marks.take_all(first, 8),
+        }
+        self.set_entry(alloc, first / 8, value)
+    }
+
+    /// Nothing is known any more of the double words of the stack's bytes from `first` on, before `end`.
+    pub(crate) fn forget(&mut self, first: u32, end: u32)
+        requires some { first ≤ end }
+        requires inside { end ≤ STACK_BYTES }
+        ensures { abstract_of self.new ≡ with_entries (abstract_of self.old)
+            (cleared (abstract_of self.old).entries first end) }
+    {
+        match &mut self.entries {
+            None => {}
+            Some(held) => clear(&mut held.kinds, first, end),
+        }
+    }
+
+    /// The same again.
+    #[inline(always)]
+    pub(crate) fn copied(&self, alloc: Global) -> Result<Known, AllocError>
+        ensures { IfOk result (λ known. abstract_of known ≡ abstract_of self.now) }
+    {
+        let mut entries = None;
+        if let Some(held) = &self.entries {
+            entries = Some(held.boxed(alloc)?);
+        }
+        Ok(Known {
+            kinds: self.kinds,
+            marks: self.marks,
+            entries,
+        })
+    }
+
     /// What is known where a run begins.
     pub(crate) fn entry(shape: Shape) -> Known
         ensures { abstract_of result ≡ entry_state shape }
@@ -104,8 +244,9 @@ impl Known {
         kinds[2] = Kind::Number(below(shape.nodes()));
         kinds[10] = Kind::Pointer(Region::Stack, Range::single(u64::from(STACK_BYTES)));
         Known {
-            kinds,
+            kinds: Kinds { list: kinds },
             marks: Marks::none(),
+            entries: None,
         }
     }
 
@@ -113,7 +254,8 @@ impl Known {
     pub(crate) fn join(&mut self, other: &Known)
         ensures { abstract_of self.new ≡ joined_state (abstract_of self.old) (abstract_of other.now) }
     {
-        join_kinds(&mut self.kinds, &other.kinds);
+        join_kinds(&mut self.kinds.list, &other.kinds.list);
         self.marks.keep_common(&other.marks);
+        join_entries(&mut self.entries, &other.entries);
     }
 }

@@ -1,6 +1,6 @@
 //! Sets of stack bytes.
 
-ghost use Rattle.std.specs.Prelude.{◌≡◌, ℕ, ◌+◌, ◌<◌, ◌≤◌, ◌==◌, false, ◌||◌, ◌&&◌};
+ghost use Rattle.std.specs.Prelude.{◌≡◌, ℕ, ◌+◌, ◌<◌, ◌≤◌, ◌==◌, false, not, ◌||◌, ◌&&◌};
 ghost use Rattle.bpf_verify.specs.inner.Marks.{is_marked};
 ghost use Rattle.bpf_verify.specs.Outcomes.{is_between};
 
@@ -51,6 +51,27 @@ impl Marks {
     {
         for byte in first..first + count {
             self.add(byte);
+        }
+    }
+
+    #[inline(always)]
+    fn take(&mut self, byte: u32)
+        requires { byte < STACK_BYTES }
+        ensures { (other : ℕ) → is_marked self.new.words other
+            ≡ (not (other == byte) && is_marked self.old.words other) }
+    {
+        self.words[(byte / WORD_BITS) as usize] &= !(1 << (byte % WORD_BITS));
+    }
+
+    /// Takes so many bytes out.
+    #[inline(always)]
+    pub(crate) fn take_all(&mut self, first: u32, count: u32)
+        requires { first + count ≤ STACK_BYTES }
+        ensures { (byte : ℕ) → is_marked self.new.words byte
+            ≡ (not (is_between first (first + count) byte) && is_marked self.old.words byte) }
+    {
+        for byte in first..first + count {
+            self.take(byte);
         }
     }
 

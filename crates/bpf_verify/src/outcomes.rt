@@ -1,6 +1,6 @@
 //! What is known after an instruction (docs/VERIFIER.md, "Outcomes").
 
-ghost use Rattle.std.specs.Prelude.{◌≡◌, ℕ, ◌+◌, ◌-◌, ◌*◌, ◌^◌, ◌<◌, ◌≤◌, Bool, false, true, Some, None, IsTrue, IfSome};
+ghost use Rattle.std.specs.Prelude.{◌≡◌, ℕ, ◌+◌, ◌-◌, ◌*◌, ◌^◌, ◌<◌, ◌≤◌, Bool, false, true, Some, None, IsTrue, IfSome, IfOk, OnOk};
 ghost use Rattle.value_range.specs.Span.{full_of, just, meet_of};
 ghost use Rattle.bpf_insn.specs.Edges.{moved};
 ghost use Rattle.bpf_insn.specs.Operands.{access_bytes};
@@ -11,12 +11,15 @@ ghost use Rattle.bpf_verify.specs.Outcomes as outcomes;
 ghost use Rattle.value_range.specs.Results.{alu_of, neg_of, movsx_of, swap_of};
 ghost use Rattle.bpf_verify.specs.inner.Parts.{Becomes};
 ghost use Rattle.bpf_insn.specs.declared.forms.Operand.TheVariants as operand;
+ghost use Rattle.bpf_insn.specs.declared.forms.Width.TheVariants.{W64};
+ghost use Rattle.node_env.specs.declared.region.Region.TheVariants.{Stack};
 
 use crate::kind::Kind;
 use crate::known::{Known, below, up_to};
-use crate::rules::{bytes_taken, operand_kind};
+use crate::rules::{bytes_taken, is_whole, operand_kind, takes_dword};
 use bpf_insn::{AluOp, Cond, Insn, MovsxKind, Operand, Order, Reg, Size, SwapBits, Way, Width};
-use node_env::{Helper, Region, Shape};
+use node_env::{Helper, Region, STACK_BYTES, Shape};
+use std::alloc::{AllocError, Global};
 use value_range::{Range, alu, branch, meet, movsx, neg, swap};
 
 fn sum(a: Kind, b: Kind) -> Kind
@@ -113,6 +116,40 @@ fn loaded(size: Size) -> Range
     }
 }
 
+/// What eight bytes hold, by what is known of their double word.
+fn or_full(kind: Kind) -> Kind
+    ensures { result ≡ outcomes.or_full kind 8 }
+{
+    match kind {
+        Kind::Unset => Kind::Number(Range::full(Width::W64)),
+        Kind::Number(a) => {
+            let (_least, _greatest) = (a.lo(), a.hi());
+            Kind::Number(a)
+        }
+        Kind::Pointer(region, a) => Kind::Pointer(region, a),
+    }
+}
+
+/// What a load by a pointer gives.
+#[inline(always)]
+#[tactic(auto, using(crate::proofs::RuleLaws::nothing_held))]
+fn loaded_kind(shape: Shape, known: &Known, base: Reg, off: i16, size: Size) -> Kind
+    requires { may_leave_region shape (kind_of (abstract_of known.now) base) off (access_bytes size) ≡ false }
+    ensures { result ≡ outcomes.loaded_kind (abstract_of known.now) (kind_of (abstract_of known.now) base) off
+        (access_bytes size) }
+{
+    if known.holds_none() || !takes_dword(known.kind(base), off, size.bytes()) {
+        return Kind::Number(loaded(size));
+    }
+    match known.kind(base) {
+        Kind::Unset | Kind::Number(_) => Kind::Number(loaded(size)),
+        Kind::Pointer(region, a) => match bytes_taken(shape, region, a, off, size.bytes()) {
+            Some((first, _end)) => or_full(known.entry_of(first)),
+            None => unreachable!(),
+        },
+    }
+}
+
 fn answer(shape: Shape, helper: Option<Helper>) -> Kind
     ensures { result ≡ outcomes.answer_kind shape helper }
 {
@@ -139,18 +176,57 @@ fn call(shape: Shape, helper: Option<Helper>, known: &mut Known)
     known.set_kind(Reg::R5, Kind::Unset);
 }
 
-fn store(shape: Shape, kind: Kind, off: i16, count: u32, known: &mut Known)
-    requires few { count ≤ 8 }
-    requires inside { may_leave_region shape kind off count ≡ false }
-    ensures { (value : Kind) → abstract_of known.new ≡ outcomes.stored_at (abstract_of known.old) kind off count value }
+/// What is known after a store of an operand by a pointer into the stack, of bytes from a first on, before an end.
+#[inline(always)]
+fn store_there(
+    alloc: Global,
+    a: Range,
+    off: i16,
+    count: u32,
+    bytes: (u32, u32),
+    src: Operand,
+    known: &mut Known,
+) -> Result<(), AllocError>
+    requires first { moved a.lo off ≡ Some bytes.0 }
+    requires last { moved a.hi off ≡ Some (bytes.1 - count) }
+    requires inside { (count ≤ bytes.1) × (bytes.0 + count ≤ bytes.1) × (bytes.1 ≤ STACK_BYTES) }
+    ensures { OnOk result (abstract_of known.new ≡ outcomes.stored_at (abstract_of known.old) (Kind.Pointer Stack a) off
+        count (operand_kind W64 src (abstract_of known.old))) }
 {
-    if let Kind::Pointer(region, a) = kind {
-        if region == Region::Stack && a.lo() == a.hi() {
-            if let Some((first, _end)) = bytes_taken(shape, region, a, off, count) {
-                known.write(first, count);
+    let (first, end) = bytes;
+    if is_whole(a, off, count) {
+        return known.hold(alloc, first, operand_kind(Width::W64, src, known));
+    }
+    known.forget(first, end);
+    if a.lo() == a.hi() {
+        known.write(first, count);
+    }
+    Ok(())
+}
+
+#[inline(always)]
+fn store(
+    alloc: Global,
+    shape: Shape,
+    base: Reg,
+    off: i16,
+    count: u32,
+    src: Operand,
+    known: &mut Known,
+) -> Result<(), AllocError>
+    requires few { count ≤ 8 }
+    requires inside { may_leave_region shape (kind_of (abstract_of known.old) base) off count ≡ false }
+    ensures { OnOk result (abstract_of known.new ≡ outcomes.stored_at (abstract_of known.old)
+        (kind_of (abstract_of known.old) base) off count (operand_kind W64 src (abstract_of known.old))) }
+{
+    if let Kind::Pointer(region, a) = known.kind(base) {
+        if region == Region::Stack {
+            if let Some(bytes) = bytes_taken(shape, region, a, off, count) {
+                return store_there(alloc, a, off, count, bytes, src, known);
             }
         }
     }
+    Ok(())
 }
 
 /// One register on both sides has what the condition leaves of both.
@@ -254,9 +330,16 @@ fn swapped(order: Order, bits: SwapBits, kind: Kind) -> Kind
 }
 
 /// Makes what is known before an instruction what is known after it on a way. `false` where the way isn't taken.
-pub(crate) fn apply(shape: Shape, insn: &Insn, known: &mut Known, way: Way) -> bool
+pub(crate) fn apply(
+    alloc: Global,
+    shape: Shape,
+    insn: &Insn,
+    known: &mut Known,
+    way: Way,
+) -> Result<bool, AllocError>
     requires { may_leave_regions shape insn.now (abstract_of known.old) ≡ false }
-    ensures { Becomes (outcomes.outcome shape insn.now (abstract_of known.old) way) (abstract_of known.new) result }
+    ensures { IfOk result (Becomes (outcomes.outcome shape insn.now (abstract_of known.old) way)
+        (abstract_of known.new)) }
 {
     match *insn {
         Insn::Branch {
@@ -265,8 +348,8 @@ pub(crate) fn apply(shape: Shape, insn: &Insn, known: &mut Known, way: Way) -> b
             dst,
             src,
             ..
-        } => return take(known, cond, width, dst, src, is_taken(way)),
-        Insn::Exit => return false,
+        } => return Ok(take(known, cond, width, dst, src, is_taken(way))),
+        Insn::Exit => return Ok(false),
         Insn::Ja { .. } | Insn::JaLong { .. } => {}
         Insn::Alu {
             op,
@@ -280,21 +363,45 @@ pub(crate) fn apply(shape: Shape, insn: &Insn, known: &mut Known, way: Way) -> b
             known.set_kind(dst, swapped(order, bits, known.kind(dst)));
         }
         Insn::Call { id } => call(shape, Helper::of(id), known),
-        Insn::Load { size, dst, .. } => known.set_kind(dst, Kind::Number(loaded(size))),
+        Insn::Load {
+            size,
+            dst,
+            base,
+            off,
+        } => {
+            let kind = loaded_kind(shape, known, base, off, size);
+            known.set_kind(dst, kind);
+        }
         Insn::LoadSx { dst, .. } => known.set_kind(dst, Kind::Number(Range::full(Width::W64))),
         Insn::StoreReg {
             size,
             base,
             off,
-            ..
-        } => store(shape, known.kind(base), off, size.bytes(), known),
+            src,
+        } => store(
+            alloc,
+            shape,
+            base,
+            off,
+            size.bytes(),
+            Operand::Reg(src),
+            known,
+        )?,
         Insn::StoreImm {
             size,
             base,
             off,
-            ..
-        } => store(shape, known.kind(base), off, size.bytes(), known),
+            imm,
+        } => store(
+            alloc,
+            shape,
+            base,
+            off,
+            size.bytes(),
+            Operand::Imm(imm),
+            known,
+        )?,
         Insn::LoadImm64 { dst, value } => known.set_kind(dst, Kind::Number(Range::single(value))),
     }
-    true
+    Ok(true)
 }

@@ -3,7 +3,8 @@
 ghost use Rattle.std.specs.Prelude.{◌≡◌, ℕ, ◌+◌, ◌-◌, ◌%◌, ◌^◌, ◌<◌, ◌≤◌, Bool, false, true, Some, None, is_none, is_some, IsTrue, IsNone, IfSome, ◌↔◌};
 ghost use Rattle.std.specs.Int.{w64, cast_unsigned};
 ghost use Rattle.bpf_insn.specs.Programs.{insn_at, slots_of};
-ghost use Rattle.bpf_insn.specs.Edges.{moved};
+ghost use Rattle.bpf_insn.specs.Edges.{moved, target};
+ghost use Rattle.bpf_insn.specs.declared.edges.Way.TheVariants.{Onward};
 ghost use Rattle.bpf_insn.specs.Arithmetic.{bits_of};
 ghost use Rattle.bpf_verify.specs.inner.Rows.{abstract_of};
 ghost use Rattle.bpf_verify.specs.Rules as rules;
@@ -89,11 +90,22 @@ fn is_astray(program: &Program, to: Option<u64>) -> bool
     }
 }
 
+/// Whether the way onward leads past the program's end. Else an instruction begins there.
+fn ends_program(program: &Program, slot: u32, insn: &Insn) -> bool
+    requires { insn_at program.now slot ≡ Some insn.now }
+    ensures { result ≡ rules.is_astray program.now (target insn.now slot Onward) }
+{
+    match target(insn, slot, Way::Onward) {
+        None => false,
+        Some(next) => next >= u64::from(program.slot_count()),
+    }
+}
+
 fn leads_astray(program: &Program, slot: u32, insn: &Insn) -> bool
+    requires { insn_at program.now slot ≡ Some insn.now }
     ensures { result ≡ rules.leads_astray program.now slot insn.now }
 {
-    is_astray(program, target(insn, slot, Way::Onward))
-        || is_astray(program, target(insn, slot, Way::Jumping))
+    ends_program(program, slot, insn) || is_astray(program, target(insn, slot, Way::Jumping))
 }
 
 fn calls_unknown(insn: &Insn) -> bool
@@ -278,6 +290,80 @@ fn misuses_operands(shape: Shape, op: AluOp, width: Width, a: Kind, b: Kind) -> 
     }
 }
 
+/// Whether an access takes one double word whole, whichever pointer of the range it goes by.
+pub(crate) fn is_whole(a: Range, off: i16, count: u32) -> bool
+    ensures { result ≡ rules.is_whole a off count }
+{
+    if count != 8 || a.lo() != a.hi() {
+        return false;
+    }
+    let first = i128::from(a.lo()) + i128::from(off);
+    first.unsigned_abs() % 8 == 0
+}
+
+/// Whether an access takes one double word of the stack whole, whichever pointer of the kind it goes by.
+pub(crate) fn takes_dword(kind: Kind, off: i16, count: u32) -> bool
+    ensures { result ≡ rules.takes_dword kind off count }
+{
+    match kind {
+        Kind::Unset | Kind::Number(_) => false,
+        Kind::Pointer(region, a) => match region {
+            Region::Mem => false,
+            Region::Stack => is_whole(a, off, count),
+        },
+    }
+}
+
+/// Whether one of the stack's bytes from `first` on, before `end`, is of a kept pointer.
+fn touches(known: &Known, first: u32, end: u32) -> bool
+    requires { end ≤ STACK_BYTES }
+    ensures { result ≡ rules.touches (abstract_of known.now) first (end - first) }
+{
+    if known.holds_none() {
+        return false;
+    }
+    for byte in first..end {
+        if is_pointer(known.entry_of(byte)) {
+            return true;
+        }
+    }
+    false
+}
+
+fn touches_byte(shape: Shape, known: &Known, kind: Kind, off: i16, count: u32) -> bool
+    requires few { count ≤ 8 }
+    requires inside { rules.may_leave_region shape kind off count ≡ false }
+    ensures { result ≡ rules.touches_byte (abstract_of known.now) kind off count }
+{
+    match kind {
+        Kind::Unset | Kind::Number(_) => false,
+        Kind::Pointer(region, a) => match region {
+            Region::Mem => false,
+            Region::Stack => match bytes_taken(shape, region, a, off, count) {
+                Some((first, end)) => touches(known, first, end),
+                None => unreachable!(),
+            },
+        },
+    }
+}
+
+/// Whether a load may take a part of a kept pointer.
+#[inline(always)]
+fn may_take_part(shape: Shape, known: &Known, base: Reg, off: i16, count: u32) -> bool
+    requires { count ≤ 8 }
+    ensures { result ≡ rules.may_take_part shape (abstract_of known.now) (kind_of (abstract_of known.now) base) off
+        count }
+{
+    if known.holds_none() {
+        return false;
+    }
+    if leaves_region(shape, known.kind(base), off, count) {
+        return false;
+    }
+    touches_byte(shape, known, known.kind(base), off, count)
+        && !takes_dword(known.kind(base), off, count)
+}
+
 fn misuses_pointer(shape: Shape, insn: &Insn, known: &Known) -> bool
     ensures { result ≡ rules.may_misuse_pointer shape insn.now (abstract_of known.now) }
 {
@@ -303,13 +389,28 @@ fn misuses_pointer(shape: Shape, insn: &Insn, known: &Known) -> bool
             src,
             ..
         } => { is_pointer(known.kind(dst)) || is_pointer(operand_kind(width, src, known)) }
-        Insn::StoreReg { src, .. } => is_pointer(known.kind(src)),
+        Insn::Load {
+            size,
+            base,
+            off,
+            ..
+        } => may_take_part(shape, known, base, off, size.bytes()),
+        Insn::LoadSx {
+            size,
+            base,
+            off,
+            ..
+        } => may_take_part(shape, known, base, off, size.bytes()),
+        Insn::StoreReg {
+            size,
+            base,
+            off,
+            src,
+        } => { is_pointer(known.kind(src)) && !takes_dword(known.kind(base), off, size.bytes()) }
         Insn::Ja { .. }
         | Insn::JaLong { .. }
         | Insn::Call { .. }
         | Insn::Exit
-        | Insn::Load { .. }
-        | Insn::LoadSx { .. }
         | Insn::StoreImm { .. }
         | Insn::LoadImm64 { .. } => false,
     }
@@ -452,6 +553,16 @@ fn lacks_byte(shape: Shape, known: &Known, kind: Kind, off: i16, count: u32) -> 
     }
 }
 
+#[inline(always)]
+fn misses_byte(shape: Shape, known: &Known, base: Reg, off: i16, count: u32) -> bool
+    requires few { count ≤ 8 }
+    requires inside { rules.may_leave_region shape (kind_of (abstract_of known.now) base) off count ≡ false }
+    ensures { result ≡ rules.misses_byte (abstract_of known.now) (kind_of (abstract_of known.now) base) off count }
+{
+    lacks_byte(shape, known, known.kind(base), off, count)
+        && !touches_byte(shape, known, known.kind(base), off, count)
+}
+
 fn loads_unset(shape: Shape, insn: &Insn, known: &Known) -> bool
     requires { rules.may_leave_regions shape insn.now (abstract_of known.now) ≡ false }
     ensures { result ≡ rules.loads_unset insn.now (abstract_of known.now) }
@@ -462,13 +573,13 @@ fn loads_unset(shape: Shape, insn: &Insn, known: &Known) -> bool
             base,
             off,
             ..
-        } => lacks_byte(shape, known, known.kind(base), off, size.bytes()),
+        } => misses_byte(shape, known, base, off, size.bytes()),
         Insn::LoadSx {
             size,
             base,
             off,
             ..
-        } => lacks_byte(shape, known, known.kind(base), off, size.bytes()),
+        } => misses_byte(shape, known, base, off, size.bytes()),
         Insn::Alu { .. }
         | Insn::Neg { .. }
         | Insn::Movsx { .. }
@@ -579,6 +690,7 @@ pub(crate) fn broken_unreached(
     slot: u32,
     insn: &Insn,
 ) -> Option<Rule>
+    requires { insn_at program.now slot ≡ Some insn.now }
     ensures { result ≡ rules.lowest_broken program.now shape slot insn.now None }
 {
     if goes_back(insn) {
@@ -604,6 +716,7 @@ pub(crate) fn broken_reached(
     insn: &Insn,
     known: &Known,
 ) -> Option<Rule>
+    requires { insn_at program.now slot ≡ Some insn.now }
     ensures { result ≡ rules.lowest_broken program.now shape slot insn.now (Some (abstract_of known.now)) }
 {
     if goes_back(insn) {

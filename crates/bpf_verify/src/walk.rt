@@ -20,6 +20,7 @@ use crate::rules::{broken_reached, broken_unreached};
 use bpf_insn::{Insn, Program, Way, target};
 use node_env::Shape;
 use std::alloc::{AllocError, Global};
+use std::mem;
 
 /// What comes to the next instruction from the one before it, where anything does.
 #[derive(Drop)]
@@ -43,15 +44,15 @@ fn no_rows(alloc: Global, count: usize) -> Result<Rows, AllocError>
 }
 
 /// Joins what comes to a slot by a jump to what has come there.
-fn lead(alloc: Global, rows: &mut Rows, to: usize, known: &Known) -> Result<(), AllocError>
+fn lead(alloc: Global, rows: &mut Rows, to: usize, known: Known) -> Result<(), AllocError>
     requires { to < vec_len rows.old }
     ensures long { vec_len rows.new ≡ vec_len rows.old }
     ensures come { OnOk result ((slot : ℕ) → table_of rows.new.items slot
-        ≡ with_come (table_of rows.old.items) to (abstract_of known.now) slot) }
+        ≡ with_come (table_of rows.old.items) to (abstract_of known) slot) }
 {
     match &mut rows[to] {
-        Some(row) => row.join(known),
-        empty => *empty = Some(Box::new(alloc, *known)?),
+        Some(row) => row.join(&known),
+        empty => *empty = Some(Box::new(alloc, known)?),
     }
     Ok(())
 }
@@ -76,9 +77,10 @@ impl Front {
     {
         if let Some(mut known) = row {
             if self.reached {
-                known.join(&self.known);
+                self.known.join(&known);
+            } else {
+                mem::swap(&mut self.known, &mut *known);
             }
-            self.known = *known;
             self.reached = true;
         }
     }
@@ -103,15 +105,15 @@ fn jump(
     let Some(to) = target(insn, slot, Way::Jumping) else {
         return Ok(());
     };
-    let mut after = *known;
-    if !apply(shape, insn, &mut after, Way::Jumping) {
+    let mut after = known.copied(alloc)?;
+    if !apply(alloc, shape, insn, &mut after, Way::Jumping)? {
         return Ok(());
     }
-    lead(alloc, rows, to as usize, &after)
+    lead(alloc, rows, to as usize, after)
 }
 
 impl Front {
-    ghost use Rattle.std.specs.Prelude.{◌≡◌, false};
+    ghost use Rattle.std.specs.Prelude.{◌≡◌, false, OnOk};
     ghost use Rattle.bpf_insn.specs.declared.edges.Way.TheVariants.{Onward};
     ghost use Rattle.bpf_insn.specs.Edges.{target};
     ghost use Rattle.bpf_verify.specs.inner.Rows.{abstract_of};
@@ -120,18 +122,25 @@ impl Front {
     ghost use Rattle.bpf_verify.specs.inner.Walk.{come_of, come_after};
 
     /// Goes on to the next instruction.
-    fn go_on(&mut self, shape: Shape, slot: u32, insn: &Insn)
+    fn go_on(
+        &mut self,
+        alloc: Global,
+        shape: Shape,
+        slot: u32,
+        insn: &Insn,
+    ) -> Result<(), AllocError>
         requires { may_leave_regions shape insn.now (abstract_of self.old.known) ≡ false }
-        ensures { come_of self.new ≡ come_after (target insn.now slot Onward)
-            (outcome shape insn.now (abstract_of self.old.known) Onward) }
+        ensures { OnOk result (come_of self.new ≡ come_after (target insn.now slot Onward)
+            (outcome shape insn.now (abstract_of self.old.known) Onward)) }
     {
         match target(insn, slot, Way::Onward) {
             None => self.reached = false,
             Some(_next) => {
-                let taken = apply(shape, insn, &mut self.known, Way::Onward);
+                let taken = apply(alloc, shape, insn, &mut self.known, Way::Onward)?;
                 self.reached = taken;
             }
         }
+        Ok(())
     }
 }
 
@@ -141,6 +150,7 @@ fn pass_unreached(
     slot: u32,
     insn: &Insn,
 ) -> Result<(), VerifyError>
+    requires { insn_at program.now slot ≡ Some insn.now }
     ensures kept { OnOk result (KeepsRules program.now shape slot insn.now None) }
     ensures refused { IfErr result (RefusesInsn program.now shape slot insn.now None) }
 {
@@ -157,6 +167,7 @@ fn keep(
     insn: &Insn,
     known: &Known,
 ) -> Result<(), VerifyError>
+    requires { insn_at program.now slot ≡ Some insn.now }
     ensures kept { OnOk result (KeepsRules program.now shape slot insn.now (Some (abstract_of known.now))) }
     ensures refused { IfErr result (RefusesInsn program.now shape slot insn.now (Some (abstract_of known.now))) }
 {
@@ -176,6 +187,7 @@ fn pass(
     insn: &Insn,
     front: &mut Front,
 ) -> Result<(), VerifyError>
+    requires here { insn_at program.now slot ≡ Some insn.now }
     requires long { vec_len rows.old ≡ slots_of program.now }
     ensures long { vec_len rows.new ≡ vec_len rows.old }
     ensures kept { OnOk result (KeepsRules program.now shape slot insn.now (come_of front.old)) }
@@ -191,7 +203,9 @@ fn pass(
     let Ok(()) = jump(alloc, shape, rows, slot, insn, &front.known) else {
         return Err(VerifyError::Memory);
     };
-    front.go_on(shape, slot, insn);
+    let Ok(()) = front.go_on(alloc, shape, slot, insn) else {
+        return Err(VerifyError::Memory);
+    };
     Ok(())
 }
 

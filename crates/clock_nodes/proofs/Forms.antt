@@ -67,6 +67,7 @@ put s to dst w = record s {
     slot = to;
     registers = insert s.frame.registers (register_number dst) w;
     stack = s.frame.stack;
+    kept = s.frame.kept;
   };
 }
 

@@ -1,4 +1,5 @@
 pub mod Slots
 pub mod Env
+pub mod Dwords
 pub mod Helpers
 pub mod inner

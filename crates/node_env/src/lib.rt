@@ -13,7 +13,7 @@ pub use env::{Env, NO_MAIL};
 pub use helper::Helper;
 pub use mail::Mail;
 pub use outbox::Outbox;
-pub use region::{Region, STACK_BYTES};
+pub use region::{Region, STACK_BYTES, STACK_DWORDS};
 pub use shape::{MAX_MEMORY, MAX_NODES, MEMORY_UNIT, Shape};
 
 #[cfg(test)]

@@ -9,6 +9,7 @@ use Rattle.bpf_machine.specs.declared.word.Word.{Word}
 
 abbrev pub frame_code : Coded Word → Coded Frame
 frame_code word =
-    code_by (ℕ × (FinMap nat_cmp Word × FinMap nat_cmp ℕ))
-    (coded× coded_ℕ (coded× (map.code coded_ℕ word) (map.code coded_ℕ coded_ℕ)))
-    (λ f. (f.slot, (f.registers, f.stack))) (λ p. record { slot = p.0; registers = p.1.0; stack = p.1.1 }) (λ _. refl)
+    code_by (ℕ × (FinMap nat_cmp Word × (FinMap nat_cmp ℕ × FinMap nat_cmp Word)))
+    (coded× coded_ℕ (coded× (map.code coded_ℕ word) (coded× (map.code coded_ℕ coded_ℕ) (map.code coded_ℕ word))))
+    (λ f. (f.slot, (f.registers, (f.stack, f.kept))))
+    (λ p. record { slot = p.0; registers = p.1.0; stack = p.1.1.0; kept = p.1.1.1 }) (λ _. refl)
