@@ -1,10 +1,12 @@
 ghost use Rattle.std.specs.Prelude.{◌≡◌, IfOk};
 
 use super::*;
-use bpf_insn::{AluOp, Insn, Operand, Program, Reg, Size, Width, program_of};
+use bpf_insn::{AluOp, Insn, Operand, Program, Reg, Size, SxSize, Width, program_of};
 use node_env::{Env, Outbox, Shape};
 use std::alloc::Global;
 use std::test::Fail;
+
+mod kept;
 
 const NODES: u32 = 4;
 

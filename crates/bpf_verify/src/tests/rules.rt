@@ -330,8 +330,8 @@ fn pointers_are_no_numbers(rt: HostRuntime) -> Result<(), Fail> {
             Err((6, 0)),
         ),
         (
-            "stxdw [r10-8], r1; exit",
-            "7b1af8ff00000000 9500000000000000",
+            "stxdw [r10-12], r1; exit",
+            "7b1af4ff00000000 9500000000000000",
             Err((6, 0)),
         ),
         (
@@ -609,8 +609,8 @@ fn tells_the_lowest_slot_and_there_the_lowest_rule(rt: HostRuntime) -> Result<()
         ),
         // 6 and 7
         (
-            "stxdw [r10+0], r1; exit",
-            "7b1a000000000000 9500000000000000",
+            "stxw [r10+0], r1; exit",
+            "631a000000000000 9500000000000000",
             Err((6, 0)),
         ),
         // 7 and 8

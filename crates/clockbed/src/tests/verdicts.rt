@@ -100,17 +100,11 @@ const REGISTERS: [Row; 10] = [
 ];
 
 /// Pointers, regions and stack bytes: rules 6, 7, 8 and 11.
-const MEMORY: [Row; 13] = [
+const MEMORY: [Row; 12] = [
     (
         "",
         "mov32 r0, r1; exit",
         "bc10000000000000 9500000000000000",
-        "refused rule 6 slot 0",
-    ),
-    (
-        "",
-        "stxdw [r10-8], r1; mov64 r0, 0; exit",
-        "7b1af8ff00000000 b700000000000000 9500000000000000",
         "refused rule 6 slot 0",
     ),
     (
@@ -181,6 +175,58 @@ const MEMORY: [Row; 13] = [
     ),
 ];
 
+/// A text, its image, and the lines of `verify` and `exec`: pointers kept on the stack.
+const KEPT: [Row; 8] = [
+    (
+        "stxdw [r10-8], r1; ldxdw r3, [r10-8]; ldxb r0, [r3+0]; exit",
+        "7b1af8ff00000000 79a3f8ff00000000 7130000000000000 9500000000000000",
+        "accepted slots 4 announced 4",
+        "r0 0 steps 4",
+    ),
+    (
+        "stxdw [r10-8], r1; ldxb r0, [r10-8]; exit",
+        "7b1af8ff00000000 71a0f8ff00000000 9500000000000000",
+        "refused rule 6 slot 1",
+        "trap 5 NotNumber slot 1",
+    ),
+    (
+        "stxdw [r10-12], r1; exit",
+        "7b1af4ff00000000 9500000000000000",
+        "refused rule 6 slot 0",
+        "trap 5 NotNumber slot 0",
+    ),
+    (
+        "stxdw [r1+0], r1; exit",
+        "7b11000000000000 9500000000000000",
+        "refused rule 6 slot 0",
+        "trap 5 NotNumber slot 0",
+    ),
+    (
+        "stxdw [r10-8], r1; stb [r10-8], 1; ldxb r0, [r10-7]; exit",
+        "7b1af8ff00000000 720af8ff01000000 71a0f9ff00000000 9500000000000000",
+        "refused rule 8 slot 2",
+        "trap 7 UnsetByte slot 2",
+    ),
+    (
+        "mov64 r0, 0; ldxb r3, [r1+0]; jgt r3, 7, +4; stxdw [r10-8], r3; ldxdw r4, [r10-8]; add64 r1, r4; ldxb r0, [r1+0]; exit",
+        "b700000000000000 7113000000000000 2503040007000000 7b3af8ff00000000 79a4f8ff00000000 0f41000000000000 7110000000000000 9500000000000000",
+        "accepted slots 8 announced 8",
+        "r0 0 steps 8",
+    ),
+    (
+        "jgt r2, 0, +2; stxdw [r10-8], r1; ja +1; stxdw [r10-8], r2; ldxdw r0, [r10-8]; exit",
+        "2502020000000000 7b1af8ff00000000 0500010000000000 7b2af8ff00000000 79a0f8ff00000000 9500000000000000",
+        "refused rule 8 slot 4",
+        "trap 10 ExitNotNumber slot 5",
+    ),
+    (
+        "stxdw [r10-8], r1; mov64 r0, 0; exit",
+        "7b1af8ff00000000 b700000000000000 9500000000000000",
+        "accepted slots 3 announced 3",
+        "r0 0 steps 3",
+    ),
+];
+
 /// 0 for a program that is accepted, and 2 for one that is refused.
 fn status_of(line: &str) -> u8 {
     if line.starts_with("accepted") { 0 } else { 2 }
@@ -196,6 +242,17 @@ fn tells_what_is_accepted(rt: HostRuntime) -> Result<(), Fail> {
             assert_eq!(rt; got.err.len(), 0, "at {text}");
             assert_eq!(rt; got.status, status_of(line), "at {text}");
         }
+    }
+    Ok(())
+}
+
+#[test]
+fn pointers_are_kept_on_the_stack(rt: HostRuntime) -> Result<(), Fail> {
+    for (text, image, verdict, end) in KEPT {
+        let got = image_on(&rt, rt.alloc(), "verify", "", image)?;
+        assert_eq!(rt; got.line(), verdict, "at {text}");
+        let got = image_on(&rt, rt.alloc(), "exec", "", image)?;
+        assert_eq!(rt; got.line(), end, "at {text}");
     }
     Ok(())
 }
