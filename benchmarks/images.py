@@ -65,6 +65,9 @@ ACCESSES = b"".join(
     slot(store, 1, 3, off=8) + slot(load, 5, 1, off=8) + slot(store, 10, 4, off=-16) + slot(load, 6, 10, off=-16)
     for store, load in ((0x73, 0x71), (0x6B, 0x69), (0x63, 0x61), (0x7B, 0x79))
 ) + slot(0x7A, 10, off=-8, imm=-5) + slot(0x91, 7, 10, off=-8) + slot(0x81, 8, 10, off=-8) + slot(0x72, 1, off=15, imm=6)
+# four of ten spill: a pointer and a number are kept on the stack and taken back
+SPILLS = (slot(0x7B, 10, 1, off=-8) + slot(0x7B, 10, 4, off=-16) + slot(0x79, 6, 10, off=-8) + slot(0x79, 5, 10, off=-16)
+          + slot(0x71, 3, 6, off=5) + slot(0x07, 3, imm=77) + slot(0x57, 3, imm=255) + slot(MOV64_X, 4, 3) + slot(0xAF, 4, 5) + slot(MOV64_X, 0, 4))
 NUMBERS = slot(MOV64_K, 0, imm=1) + slot(MOV64_K, 3, imm=12345) + slot(MOV64_K, 4, imm=7)
 
 
@@ -118,9 +121,11 @@ IMAGES = {
     "jump": lambda: machine_loop(b""),
     "arithmetic": lambda: machine_loop(4 * ARITHMETIC),
     "memory": lambda: machine_loop(ACCESSES),
+    "spills": lambda: machine_loop(4 * SPILLS),
     "arithmetic-1000": lambda: filled(NUMBERS, ARITHMETIC, 1000),
     "memory-1000": lambda: filled(NUMBERS, ACCESSES, 1000),
     "branches-1000": lambda: branches(1000),
+    **{f"spills-{slots}": lambda slots=slots: filled(NUMBERS, SPILLS, slots) for slots in (64, 256, 1000, 1024)},
     **{f"straight-{slots}": lambda slots=slots: straight(slots) for slots in (64, 256, 1024)},
     **{f"branchy-{slots}": lambda slots=slots: branchy(slots) for slots in (64, 256, 1024)},
     **{f"clock-{27 + 7 * nodes}": lambda nodes=nodes: clock(nodes) for nodes in (4, 16, 32)},

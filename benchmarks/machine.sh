@@ -16,7 +16,7 @@ clockbed=$(cd "$(dirname "$clockbed")" && pwd)/$(basename "$clockbed")
 room=$(mktemp -d)
 trap 'rm -rf "$room"' EXIT
 cc -O2 -Wno-override-init -o "$room/machine" "$here/machine.c"
-for image in jump arithmetic memory; do
+for image in jump arithmetic memory spills; do
   python3 "$here/images.py" "$image" > "$room/$image.bpf"
   echo "image $image, $steps steps, the best of $runs runs"
   python3 "$here/measure.py" "$room/$image.bpf" "$runs" "$steps" ns \

@@ -39,7 +39,7 @@ if ! (cd "$driver" && rt run -- 4 16 1 < "$room/clock-55.bpf") > "$log" 2>&1; th
   exit 1
 fi
 
-for image in clock-55:4 clock-251:32 arithmetic-1000:4 memory-1000:4 branches-1000:4; do
+for image in clock-55:4 clock-251:32 arithmetic-1000:4 memory-1000:4 branches-1000:4 spills-1000:4; do
   name=${image%:*}
   nodes=${image#*:}
   python3 "$here/images.py" "$name" > "$room/$name.bpf"

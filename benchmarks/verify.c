@@ -3,6 +3,7 @@
  * It prints the line of `clockbed verify`, or with --rounds the sum of the announced counts of K passes over one decoded program. It takes images that `verify`
  * doesn't refuse. One walk forward with joins, a row only where a jump comes, then the longest path from the last slot down. */
 #include <stdbool.h>
+#include <stddef.h>
 #include <stdint.h>
 #include <stdio.h>
 #include <stdlib.h>
@@ -17,7 +18,8 @@ enum { JA, EQ, GT, GE, SET, NE, SGT, SGE, CALL, EXIT, LT, LE, SLT, SLE };
 
 struct range { uint64_t lo, hi; };
 struct word { enum kind kind; struct range at; };
-struct known { struct word regs[REGISTERS]; uint64_t marks[STACK / 64]; };
+/* `entries` has what is known of the double words of the stack whose bit is set in `some`. */
+struct known { struct word regs[REGISTERS]; uint64_t marks[STACK / 64], some; struct word entries[STACK / 8]; };
 struct insn { uint8_t op, dst, src, slots; int16_t off; int32_t imm; uint64_t value; };
 
 static struct insn program[SLOTS];
@@ -137,6 +139,10 @@ static bool branch(int code, bool w64, struct range *a, struct range *b, bool ta
 
 /* ---- abstract states */
 
+static void copy(struct known *to, const struct known *from) {
+  memcpy(to, from, from->some ? sizeof *to : offsetof(struct known, entries));
+}
+
 static void join(struct known *to, const struct known *from) {
   for (int r = 0; r < REGISTERS; r++) {
     struct word *a = &to->regs[r];
@@ -145,6 +151,12 @@ static void join(struct known *to, const struct known *from) {
     else a->at = hull(a->at, b->at);
   }
   for (int w = 0; w < STACK / 64; w++) to->marks[w] &= from->marks[w];
+  to->some &= from->some;
+  for (uint64_t left = to->some; left != 0; left &= left - 1) {
+    int d = __builtin_ctzll(left);
+    if (to->entries[d].kind != from->entries[d].kind) to->some &= ~(1ull << d);
+    else to->entries[d].at = hull(to->entries[d].at, from->entries[d].at);
+  }
 }
 
 static bool marked(const struct known *k, int64_t byte) { return k->marks[byte / 64] >> (byte % 64) & 1; }
@@ -190,10 +202,32 @@ static bool reads_unset(const struct insn *i, const struct known *k) {
   return false;
 }
 
+static bool leaves(const struct insn *i, const struct known *k) {
+  if (!is_load(i) && !is_store(i)) return false;
+  struct word base = k->regs[base_of(i)];
+  return is_pointer(base) && ((__int128)base.at.lo + i->off < 0 || (__int128)base.at.hi + i->off + bytes_of(i) > region(base.kind));
+}
+
+/* An access takes one double word of the stack whole. */
+static bool takes_dword(const struct insn *i, const struct known *k) {
+  struct word base = k->regs[base_of(i)];
+  return bytes_of(i) == 8 && base.kind == FRAME && single(base.at) && (base.at.lo + (uint64_t)(int64_t)i->off) % 8 == 0;
+}
+
+/* A load inside the stack may take a byte of a kept pointer. */
+static bool touches(const struct insn *i, const struct known *k) {
+  struct word base = k->regs[base_of(i)];
+  if (k->some == 0 || base.kind != FRAME) return false;
+  for (int64_t d = ((int64_t)base.at.lo + i->off) / 8; d <= ((int64_t)base.at.hi + i->off + bytes_of(i) - 1) / 8; d++)
+    if ((k->some >> d & 1) && is_pointer(k->entries[d])) return true;
+  return false;
+}
+
 static bool misuses(const struct insn *i, const struct known *k) {
   struct word a = k->regs[i->dst], b;
   int code = code_of(i);
-  if (class_of(i) == 3) return is_pointer(k->regs[i->src]);
+  if (is_load(i)) return k->some != 0 && !leaves(i, k) && touches(i, k) && !takes_dword(i, k);
+  if (class_of(i) == 3) return is_pointer(k->regs[i->src]) && !takes_dword(i, k);
   if (is_branch(i)) return is_pointer(a) || is_pointer(operand(i, k));
   if (!is_alu(i)) return false;
   if (code == NEG || code == END) return is_pointer(a);
@@ -204,17 +238,11 @@ static bool misuses(const struct insn *i, const struct known *k) {
   return alu(code, false, true, a.at, b.at).hi > region(is_pointer(a) ? a.kind : b.kind);
 }
 
-static bool leaves(const struct insn *i, const struct known *k) {
-  if (!is_load(i) && !is_store(i)) return false;
-  struct word base = k->regs[base_of(i)];
-  return is_pointer(base) && ((__int128)base.at.lo + i->off < 0 || (__int128)base.at.hi + i->off + bytes_of(i) > region(base.kind));
-}
-
 static bool loads_unset(const struct insn *i, const struct known *k) {
   struct word base = k->regs[base_of(i)];
   if (!is_load(i) || base.kind != FRAME) return false;
   for (int64_t byte = (int64_t)base.at.lo + i->off; byte < (int64_t)base.at.hi + i->off + bytes_of(i); byte++)
-    if (!marked(k, byte)) return true;
+    if (!marked(k, byte)) return !touches(i, k);
   return false;
 }
 
@@ -285,6 +313,25 @@ static bool apply_branch(const struct insn *i, struct known *k, bool taken) {
   return true;
 }
 
+static void apply_store(const struct insn *i, struct known *k) {
+  struct word base = k->regs[i->dst];
+  if (base.kind != FRAME) return;
+  int64_t first = (int64_t)base.at.lo + i->off, end = (int64_t)base.at.hi + i->off + bytes_of(i);
+  bool pointer = false;
+  if (takes_dword(i, k)) {
+    uint64_t imm = (uint64_t)(int64_t)i->imm;
+    struct word value = class_of(i) == 3 ? k->regs[i->src] : (struct word){NUMBER, {imm, imm}};
+    k->entries[first / 8] = value, k->some |= 1ull << first / 8;
+    pointer = is_pointer(value);
+  } else
+    for (int64_t d = first / 8; d <= (end - 1) / 8; d++) k->some &= ~(1ull << d);
+  if (!single(base.at)) return;
+  for (int64_t byte = first; byte < end; byte++) {
+    uint64_t bit = 1ull << (byte % 64);
+    k->marks[byte / 64] = pointer ? k->marks[byte / 64] & ~bit : k->marks[byte / 64] | bit;
+  }
+}
+
 static bool apply(const struct insn *i, struct known *k, bool taken) {
   static const uint64_t answers[5] = {0, 0, 0xffffffffu, 0, 1};
   if (is_exit(i)) return false;
@@ -296,12 +343,11 @@ static bool apply(const struct insn *i, struct known *k, bool taken) {
   } else if (is_load(i)) {
     int bytes = bytes_of(i);
     bool whole = bytes == 8 || i->op >> 5 == 4;
-    k->regs[i->dst] = (struct word){NUMBER, {0, whole ? UINT64_MAX : (1ull << 8 * bytes) - 1}};
-  } else if (is_store(i)) {
-    struct word base = k->regs[i->dst];
-    if (base.kind == FRAME && single(base.at))
-      for (int64_t byte = (int64_t)base.at.lo + i->off, end = byte + bytes_of(i); byte < end; byte++) k->marks[byte / 64] |= 1ull << (byte % 64);
-  } else if (class_of(i) == 0) k->regs[i->dst] = (struct word){NUMBER, {i->value, i->value}};
+    uint64_t d = (k->regs[i->src].at.lo + (uint64_t)(int64_t)i->off) / 8;
+    if (k->some != 0 && takes_dword(i, k) && (k->some >> d & 1)) k->regs[i->dst] = k->entries[d];
+    else k->regs[i->dst] = (struct word){NUMBER, {0, whole ? UINT64_MAX : (1ull << 8 * bytes) - 1}};
+  } else if (is_store(i)) apply_store(i, k);
+  else if (class_of(i) == 0) k->regs[i->dst] = (struct word){NUMBER, {i->value, i->value}};
   return true;
 }
 
@@ -333,7 +379,7 @@ static int verify(uint32_t *told) {
     const struct insn *i = &program[slot];
     if (rows[slot]) {
       if (reached) join(rows[slot], &front);
-      front = *rows[slot], reached = true;
+      copy(&front, rows[slot]), reached = true;
       free(rows[slot]), rows[slot] = NULL;
     }
     int rule = broken(i, slot, reached ? &front : NULL);
@@ -343,11 +389,11 @@ static int verify(uint32_t *told) {
     }
     if (!reached) continue;
     if (jumps(i)) {
-      after = front;
+      copy(&after, &front);
       int64_t to = slot + 1 + distance(i);
       if (!apply(i, &after, true)) ;
       else if (rows[to]) join(rows[to], &after);
-      else rows[to] = malloc(sizeof after), *rows[to] = after;
+      else rows[to] = malloc(sizeof after), copy(rows[to], &after);
     }
     reached = onward(i, slot) >= 0 && apply(i, &front, false);
   }

@@ -44,7 +44,7 @@ if ! (cd "$driver" && rt run -- 1 < "$room/straight-64.bpf") > "$log" 2>&1; then
   exit 1
 fi
 
-for image in straight-64 straight-256 straight-1024 branchy-64 branchy-256 branchy-1024 clock-55 clock-139 clock-251; do
+for image in straight-64 straight-256 straight-1024 branchy-64 branchy-256 branchy-1024 clock-55 clock-139 clock-251 spills-64 spills-256 spills-1024; do
   python3 "$here/images.py" "$image" > "$room/$image.bpf"
   count=${image##*-}
   rounds=$((slots / count))
