@@ -1,5 +1,5 @@
 -- What the verifier knows of a machine's state at a slot (docs/VERIFIER.md, "Abstract states").
-use Rattle.std.specs.Prelude.{◌≡◌, ℕ, ◌-◌, ◌/◌, ◌==◌, Bool, true, false, ◌&&◌, if◌then◌else◌}
+use Rattle.std.specs.Prelude.{◌≡◌, ℕ, ◌-◌, ◌==◌, Bool, true, false, ◌&&◌, if◌then◌else◌}
 use Rattle.node_env.specs.Env.{Extent}
 use Rattle.node_env.specs.declared.region.TheConstants.{STACK_BYTES}
 use Rattle.node_env.specs.declared.region.Region.{Region}
