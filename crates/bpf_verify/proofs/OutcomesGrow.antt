@@ -221,10 +221,10 @@ loaded_grows shape A C k (Pointer Stack b) off count c proper x (a, is, p) e f g
     by false true i j = let no : false ≡ true = sym i ∙ (whole_grows a b off count m p j).0 in absurd cc
     by true true i j =
         let same : at.low' ≡ at.low =
-            same_Some at.low' at.low (sym at.first'
-            ∙ (ap (λ n. moved n off) (whole_grows a b off count m p j).1 ∙ at.first)) in
+        same_Some at.low' at.low (sym at.first'
+        ∙ (ap (λ n. moved n off) (whole_grows a b off count m p j).1 ∙ at.first)) in
         let grows : IsKindIn (or_full (A.entries (dword_of at.low')) count)
-            (or_full (C.entries (dword_of at.low')) count) =
+        (or_full (C.entries (dword_of at.low')) count) =
         or_full_grows (A.entries (dword_of at.low')) (C.entries (dword_of at.low')) count (c.entries (dword_of at.low'))
         (λ unset. elim taken [
           | beside none all ↦ no_pointer all i
@@ -248,15 +248,15 @@ loaded_grows shape A C k (Pointer Stack b) off count c proper x (a, is, p) e f g
         touched k e unset some =
             let ends = whole_grows a b off count m p j in
             let same_low : at.low' ≡ at.low =
-                same_Some at.low' at.low (sym at.first' ∙ (ap (λ n. moved n off) ends.1 ∙ at.first)) in
+            same_Some at.low' at.low (sym at.first' ∙ (ap (λ n. moved n off) ends.1 ∙ at.first)) in
             let one : b.lo ≡ b.hi = eqb-true b.lo b.hi (whole_parts b off count j).0 in
             let same_high : at.high ≡ at.low =
-                same_Some at.high at.low (sym at.last ∙ (ap (λ n. moved n off) (sym one) ∙ at.first)) in
+            same_Some at.high at.low (sym at.last ∙ (ap (λ n. moved n off) (sym one) ∙ at.first)) in
             let eight = (whole_parts b off count j).1 in
             let none : touches_byte C (Pointer Stack b) off count ≡ false =
-                rw (at.first, at.last) (no_touch C at.low (at.high + count - at.low)
+            rw (at.first, at.last) (no_touch C at.low (at.high + count - at.low)
             (λ byte q r. none_at byte unset (omega (arith, same_low, q))
-                (omega (arith, same_low, same_high, eight, q, r)))) in
+            (omega (arith, same_low, same_high, eight, q, r)))) in
             let no : true ≡ false = sym some ∙ none in absurd cc
 
 -- ---- stores
@@ -335,8 +335,11 @@ wider_cleared low high low' high' count dword p q e =
     let both = and_parts (nat_le (dword_of low') dword) (nat_lt dword (dword_of (high' + count + 7))) e in
     let x : dword_of low' ≤ dword = leb-true (dword_of low') dword both.0 in
     let y : dword < dword_of (high' + count + 7) = ltb-true dword (dword_of (high' + count + 7)) both.1 in
-    rw (le-leb (dword_of low) dword (omega (arith, p, x)), lt-ltb dword (dword_of (high + count + 7))
-        (omega (arith, q, y))) refl
+    rw (
+      le-leb (dword_of low) dword (omega (arith, p, x)),
+      lt-ltb dword (dword_of (high + count + 7))
+          (omega (arith, q, y)),
+    ) refl
 
 cleared_grows : (A C : AbstractState) (low high low' high' count : ℕ) → low ≤ low' → high' ≤ high → IsContainedIn A C
     → IsContainedIn (with_cleared A (Some low') (Some high') count) (with_cleared C (Some low) (Some high) count)
@@ -460,7 +463,7 @@ stored_grows shape A C k (Pointer Stack b) off count v w p x (a, is, q) y e f g 
         let eight = (whole_parts a off count i').1 in
         let one : a.lo ≡ a.hi = eqb-true a.lo a.hi (whole_parts a off count i').0 in
         let ends : at.low' ≡ at.high' =
-            same_Some at.low' at.high' (sym at.first' ∙ (ap (λ n. moved n off) one ∙ at.last')) in
+        same_Some at.low' at.high' (sym at.first' ∙ (ap (λ n. moved n off) one ∙ at.last')) in
         rw (at.first, at.last, at.first') (entry_below_cleared A C at.low at.high at.low' count v eight (number i)
         at.above (omega (arith, ends, at.below)) p)
     by false false false true i j i' j' =

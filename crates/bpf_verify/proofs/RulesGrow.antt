@@ -335,7 +335,7 @@ pub data TakenCase (C : AbstractState) (b : Span) (off : ℤ) (count : ℕ) : Ty
 
 pub taken_case : (shape : Extent) (C : AbstractState) (b : Span) (off : ℤ) (count : ℕ)
     → may_leave_region shape (Pointer Stack b) off count ≡ false
-        → may_take_part shape C (Pointer Stack b) off count ≡ false
+    → may_take_part shape C (Pointer Stack b) off count ≡ false
     → misses_byte C (Pointer Stack b) off count ≡ false → TakenCase C b off count
 taken_case shape C b off count f g h = by (touches_byte C (Pointer Stack b) off count) (is_whole b off count) refl refl
   where
@@ -414,12 +414,12 @@ misses_grow shape A C k (Pointer Stack b) off count c proper x (a, is, p) e f h 
           let first : moved a.lo off ≡ Some s.0 = ap (λ n. moved n off) same.1 ∙ s.2 in
           let last : moved a.hi off ≡ Some s.1 = ap (λ n. moved n off) same.2 ∙ s.3 in
           let there : touches C s.0 (s.1 + count - s.0) ≡ true =
-              sym (ap (λ o. touches_between C o (moved b.hi off) count) s.2
+          sym (ap (λ o. touches_between C o (moved b.hi off) count) s.2
           ∙ ap (λ o. touches_between C (Some s.0) o count) s.3) ∙ some in
           let here : touches_byte A (Pointer Stack a) off count ≡ true =
-              rw (first, last) (touches_grow A C s.0 (s.1 + count - s.0) c there) in
+          rw (first, last) (touches_grow A C s.0 (s.1 + count - s.0) c there) in
           rw is (and_false (lacks_byte A (Pointer Stack a) off count)
-              (not (touches_byte A (Pointer Stack a) off count)) (ap not here))
+          (not (touches_byte A (Pointer Stack a) off count)) (ap not here))
     ]
 
 -- a pointer that may be kept may be kept where more is known
@@ -492,7 +492,7 @@ module _ (shape : Extent) (A C : AbstractState) (proper : IsProper A) (p : IsCon
   part : (base : Reg) (off : ℤ) (count : ℕ) → Unread C (base ∷ [])
       → may_leave_region shape (kind_of C base) off count ≡ false → misses_byte C (kind_of C base) off count ≡ false
       → may_take_part shape C (kind_of C base) off count ≡ false
-          → may_take_part shape A (kind_of A base) off count ≡ false
+      → may_take_part shape A (kind_of A base) off count ≡ false
   part base off count e f g h =
       part_grows shape A C (kind_of A base) (kind_of C base) off count p proper (proper_of base) (kind_in base)
       (one_set C base [] e) f g h

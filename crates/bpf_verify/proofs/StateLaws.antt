@@ -138,6 +138,6 @@ both_either_way false false = refl
 pub joined_either_way : (A C : AbstractState) → joined_state A C ≡ joined_state C A
 joined_either_way A C =
     same_state (joined_state A C) (joined_state C A)
-        (λ number. joined_kinds_either_way (A.kinds number) (C.kinds number))
+    (λ number. joined_kinds_either_way (A.kinds number) (C.kinds number))
     (λ byte. both_either_way (A.written byte) (C.written byte))
     (λ dword. joined_kinds_either_way (A.entries dword) (C.entries dword))

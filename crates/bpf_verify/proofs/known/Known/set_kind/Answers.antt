@@ -8,5 +8,5 @@ pub returns : goal.returns
 returns c = same_state _ _ (λ other.
     kind_set c.args.self.now.kinds.list c.number.result c.args.kind other (omega arith)
     ∙ ap (λ number. put_kind (kind_numbered c.args.self.now.kinds.list) number c.args.kind other)
-        c.number.ensures.value)
+    c.number.ensures.value)
     (λ _. refl) (λ _. refl)
