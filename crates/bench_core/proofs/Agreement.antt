@@ -8,29 +8,29 @@ use Rattle.std.proofs.lemmas.List.Elements.{All-head, All-tail, All-nil, All-con
 use Rattle.clock_nodes.specs.Rule.{is_mail, support}
 use Rattle.clock_nodes.specs.Rule.{pair_from}
 use Rattle.clock_nodes.specs.Rule.{clock_of, mark_of, clock_below, pair_after}
-use Rattle.bench_core.specs.Setup.{Setup, IsSetup, quorum}
+use Rattle.bench_core.specs.Setup.{Setup, IsSetup, HasRuleClock, quorum}
 use Rattle.bench_core.specs.State.{Node, State, new_state, no_node, node_at, row_at, setting_at}
 use Rattle.node_env.specs.Env.{inbox_of}
 use Rattle.bench_core.specs.Pulse.{Pulse}
-use Rattle.bench_core.specs.Settled.{settled_flags, settled_clocks, clocks_where, moving_clocks}
+use Rattle.bench_core.specs.Settled.{settled_flags, settled_clocks, clocks_where, moving_clocks, value_of}
 use Rattle.bench_core.specs.Replay.{Entry, Staged, Opened, Closed, Abandoned, Run}
 use Rattle.bench_core.specs.StepList.{entries_of}
-use Rattle.bench_core.specs.Laws.{ClocksAgree, StepsAgree, PairMovesOn, ran_to, IsQuiet}
+use Rattle.bench_core.specs.Laws.{ClocksAgree, StepsAgree, PairMovesOn, RuleClockBelow, ran_to, IsQuiet}
 use Rattle.bench_core.proofs.Counting.{came, support_came, two_values, enough_came, some_passes}
 use Rattle.bench_core.proofs.Rules.{next_pair}
 use Rattle.bench_core.proofs.Sound.{Sound, sound_run, sound_pulse, sound_replay, ran_pulse}
 use Rattle.bench_core.proofs.Replays.{steps_are_entries}
 
 -- where a clock of settled nodes stands
-pub record At (xs ys : List Node) (c : ℕ) : Type 0 where
+pub record At (m : ℕ) (xs ys : List Node) (c : ℕ) : Type 0 where
   pub node : ℕ
   pub within : node < length xs
   pub before : IsTrue (node_at xs node).mark
   pub after : IsTrue (node_at ys node).mark
-  pub clock : clock_of (node_at ys node).memory ≡ c
+  pub clock : value_of m (node_at ys node).memory ≡ c
 
-at_later : (x y : Node) (xs ys : List Node) (c : ℕ) → At xs ys c → At (x ∷ xs) (y ∷ ys) c
-at_later x y xs ys c h = record {
+at_later : (m : ℕ) (x y : Node) (xs ys : List Node) (c : ℕ) → At m xs ys c → At m (x ∷ xs) (y ∷ ys) c
+at_later m x y xs ys c h = record {
   node = suc h.node;
   within = omega (arith, h.within);
   before = h.before;
@@ -38,18 +38,18 @@ at_later x y xs ys c h = record {
   clock = h.clock;
 }
 
-pub all_at : (xs ys : List Node) → All (At xs ys) (clocks_where (settled_flags xs ys) ys)
-all_at [] ys = All-nil (At [] ys)
-all_at (x ∷ xs) [] = All-nil (At (x ∷ xs) [])
-all_at (x ∷ xs) (y ∷ ys) =
-    let rest = All-weaker (At xs ys) (At (x ∷ xs) (y ∷ ys)) (at_later x y xs ys)
-    (clocks_where (settled_flags xs ys) ys) (all_at xs ys) in
-    cond_both (x.mark && y.mark) (clock_of y.memory ∷ clocks_where (settled_flags xs ys) ys)
-    (clocks_where (settled_flags xs ys) ys) (All (At (x ∷ xs) (y ∷ ys)))
-    (λ e. All-cons (At (x ∷ xs) (y ∷ ys)) (clock_of y.memory) (clocks_where (settled_flags xs ys) ys) (first e) rest)
+pub all_at : (m : ℕ) (xs ys : List Node) → All (At m xs ys) (clocks_where m (settled_flags xs ys) ys)
+all_at m [] ys = All-nil (At m [] ys)
+all_at m (x ∷ xs) [] = All-nil (At m (x ∷ xs) [])
+all_at m (x ∷ xs) (y ∷ ys) =
+    let rest = All-weaker (At m xs ys) (At m (x ∷ xs) (y ∷ ys)) (at_later m x y xs ys)
+    (clocks_where m (settled_flags xs ys) ys) (all_at m xs ys) in
+    cond_both (x.mark && y.mark) (value_of m y.memory ∷ clocks_where m (settled_flags xs ys) ys)
+    (clocks_where m (settled_flags xs ys) ys) (All (At m (x ∷ xs) (y ∷ ys)))
+    (λ e. All-cons (At m (x ∷ xs) (y ∷ ys)) (value_of m y.memory) (clocks_where m (settled_flags xs ys) ys) (first e) rest)
     (λ e. rest)
   where
-    first : (x.mark && y.mark) ≡ true → At (x ∷ xs) (y ∷ ys) (clock_of y.memory)
+    first : (x.mark && y.mark) ≡ true → At m (x ∷ xs) (y ∷ ys) (value_of m y.memory)
     first e = record {
       node = 0;
       within = omega arith;
@@ -59,14 +59,14 @@ all_at (x ∷ xs) (y ∷ ys) =
     }
 
 -- a clock that settled nodes have and that is not 0
-found_at : (b b' : State) (c : ℕ) → Contains (moving_clocks b b') c → At b.nodes b'.nodes c × (c ≢ 0)
-found_at b b' c h =
-    let clocks = settled_clocks b b' in
+found_at : (s : Setup) (b b' : State) (c : ℕ) → Contains (moving_clocks s b b') c → At s.modulus b.nodes b'.nodes c × (c ≢ 0)
+found_at s b b' c h =
+    let clocks = settled_clocks s b b' in
     let test = λ (n : ℕ). not (n == 0) in
     let passes : not (c == 0) ≡ true = All-contains (λ n. test n ≡ true) (filter test clocks) c
     (filter_passes test clocks) h in (
-      All-contains (At b.nodes b'.nodes) (filter test clocks) c
-          (All-filter test (At b.nodes b'.nodes) clocks (all_at b.nodes b'.nodes)) h,
+      All-contains (At s.modulus b.nodes b'.nodes) (filter test clocks) c
+          (All-filter test (At s.modulus b.nodes b'.nodes) clocks (all_at s.modulus b.nodes b'.nodes)) h,
       (λ e. grind (arith, nat_tests)),
     )
 
@@ -83,26 +83,26 @@ flag_before (x ∷ xs) (y ∷ ys) zero h = (and_parts x.mark y.mark h).0
 flag_before (x ∷ xs) (y ∷ ys) (suc k) h = flag_before xs ys k h
 
 -- a node that moved to a clock that is not 0 had enough mails of the clock before it
-supported : (s : Setup) (b b' : State) (c : ℕ) → IsSetup s → Sound s b → (p : Pulse s b b')
-    → (h : At b.nodes b'.nodes c) → c ≢ 0
+supported : (s : Setup) (b b' : State) (c : ℕ) → IsSetup s → HasRuleClock s → Sound s b → (p : Pulse s b b')
+    → (h : At s.modulus b.nodes b'.nodes c) → c ≢ 0
     → quorum s ≤ came (c - 1) h.node b.mail
-supported s b b' c ok sound p h ne =
+supported s b b' c ok own sound p h ne =
     let lt : h.node < s.shape.nodes = omega (arith, h.within, sound.nodes) in
-    let ran = ran_pulse s b b' h.node ok sound p lt h.after in
+    let ran = ran_pulse s b b' h.node ok own sound p lt h.after in
     let same : (pair_after s.faults s.modulus (setting_at s b.mail p.coins h.node) (node_at b.nodes h.node).memory).0
-    ≡ c = sym ran.clock ∙ h.clock in
+    ≡ c = sym ran.clock ∙ (sym ran.told ∙ h.clock) in
     let many = ran.moved.enough (λ z. ne (sym same ∙ z)) in
     let many_c : quorum s ≤ support (inbox_of h.node b.mail) (c - 1) s.shape.nodes = subst
     (λ (n : ℕ). quorum s ≤ support (inbox_of h.node b.mail) (n - 1) s.shape.nodes) same many in
     subst (λ (n : ℕ). quorum s ≤ n) (support_came (c - 1) h.node s.shape.nodes b.mail sound.mail) many_c
 
 pub agreement : ClocksAgree
-agreement s history b b' ok replay p few c d inc ind =
+agreement s history b b' ok own replay p few c d inc ind =
     let sound = sound_replay s history b ok replay in
-    let at_c = found_at b b' c inc in
-    let at_d = found_at b b' d ind in
-    let many_c = supported s b b' c ok sound p at_c.0 at_c.1 in
-    let many_d = supported s b b' d ok sound p at_d.0 at_d.1 in
+    let at_c = found_at s b b' c inc in
+    let at_d = found_at s b b' d ind in
+    let many_c = supported s b b' c ok own sound p at_c.0 at_c.1 in
+    let many_d = supported s b b' d ok own sound p at_d.0 at_d.1 in
     let flags = settled_flags b.nodes b'.nodes in
     elim (cases_eq c d) [
       | inl e ↦ e
@@ -114,7 +114,7 @@ agreement s history b b' ok replay p few c d inc ind =
           let apart : (c - 1) ≢ (d - 1) = λ e. ne (same_from_pred c d at_c.1 at_d.1 e) in
           let together = two_values s.shape.nodes at_c.0.node at_d.0.node (c - 1)
           (d - 1) b.mail flags lengths lt lt' apart
-          (λ k l h. sound.sent k (omega (arith, l, sound.mail)) (flag_before b.nodes b'.nodes k h)) in
+          (λ k l h. sound.sent own k (omega (arith, l, sound.mail)) (flag_before b.nodes b'.nodes k h)) in
           absurd (omega (arith, together, many_c, many_d, few, sound.mail, ok.faults))
     ]
   where
@@ -122,8 +122,13 @@ agreement s history b b' ok replay p few c d inc ind =
     same_from_pred m n a b e = omega arith
 
 pub steps_agree : StepsAgree
-steps_agree s acts b b' ok h p few = agreement s (entries_of acts) b b' ok
+steps_agree s acts b b' ok own h p few = agreement s (entries_of acts) b b' ok own
     (steps_are_entries s (new_state s) acts b h) p few
+
+-- what a run of the rule's clock leaves is told as it is
+pub rule_clock_below : RuleClockBelow
+rule_clock_below s history b b' i ok own replay p lt marked =
+    (ran_pulse s b b' i ok own (sound_replay s history b ok replay) p lt marked).told
 
 -- ---- the pair moves on
 
@@ -146,7 +151,7 @@ ran_parts clock last x h =
     (first.0, eqb-true (clock_of x.memory) clock first.1)
 
 pub pair_moves : PairMovesOn
-pair_moves s history between b b' c c' clock i ok replay p many run quiet q lt marked clock_is mark_is =
+pair_moves s history between b b' c c' clock i ok own replay p many run quiet q lt marked clock_is mark_is =
     let sound = sound_replay s history b ok replay in
     let sound' = sound_pulse s b b' ok sound p in
     let sound_c = sound_run s b' between c ok sound' run in
@@ -158,7 +163,7 @@ pair_moves s history between b b' c c' clock i ok replay p many run quiet q lt m
     let support_c : quorum s ≤ support (inbox_of i c.mail) clock s.shape.nodes = subst (λ (n : ℕ). quorum s ≤ n)
     (sym (support_came clock i s.shape.nodes c.mail sound_c.mail)) came_same in
     let small = clock_small sound sound' (omega (arith, many, ok.faults)) in
-    let ran_c = ran_pulse s c c' i ok sound_c q lt marked in
+    let ran_c = ran_pulse s c c' i ok own sound_c q lt marked in
     let next = next_pair (quorum s) s.modulus clock (slice_index q.coins i)
     (λ v. support (inbox_of i c.mail) v s.shape.nodes) ok.least small support_c in
     let from = λ (a l : ℕ). pair_from (quorum s) s.modulus
@@ -175,7 +180,7 @@ pair_moves s history between b b' c c' clock i ok replay p many run quiet q lt m
         let within : k < s.shape.nodes = omega (arith, l, sound'.nodes) in
         let same_node : get_or b'.nodes k d ≡ node_at b'.nodes k = get_or_default b'.nodes k d no_node l in
         let parts = ran_parts clock 1 (node_at b'.nodes k) (ap (ran_to clock 1) (sym same_node) ∙ h) in
-        let ran = ran_pulse s b b' k ok sound p within parts.0 in
+        let ran = ran_pulse s b b' k ok own sound p within parts.0 in
         ap (is_mail clock) (ran.sent i lt ∙ ap (λ (n : ℕ). Some n) parts.1) ∙ eq-eqb clock clock refl
 
     clock_small : Sound s b → Sound s b' → 0 < quorum s → clock < s.modulus
@@ -186,5 +191,5 @@ pair_moves s history between b b' c c' clock i ok replay p many run quiet q lt m
         let same_node : found.0 ≡ node_at b'.nodes k = sym found.1.2
         ∙ get_or_default b'.nodes k found.0 no_node found.1.1 in
         let parts = ran_parts clock 1 (node_at b'.nodes k) (ap (ran_to clock 1) (sym same_node) ∙ found.2) in
-        let ran = ran_pulse s b b' k ok sound p within parts.0 in
+        let ran = ran_pulse s b b' k ok own sound p within parts.0 in
         subst (λ (n : ℕ). n < s.modulus) (sym ran.clock ∙ parts.1) ran.moved.clock

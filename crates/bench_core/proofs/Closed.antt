@@ -16,7 +16,7 @@ use Rattle.clock_nodes.specs.declared.rule.TheConstants.{MOST_MODULUS}
 use Rattle.bench_core.specs.declared.limits.TheConstants.{MOST_ENTRIES, MOST_PULSES, CLOCKS_DIFFER}
 use Rattle.bench_core.specs.declared.bench.Bench.TheInside.{Inside}
 use Rattle.bench_core.specs.declared.entry.Entry.TheVariants.{Closed}
-use Rattle.bench_core.specs.Setup.{Setup, IsSetup, clock_listing}
+use Rattle.bench_core.specs.Setup.{Setup, IsSetup}
 use Rattle.bench_core.specs.declared.refusal.CloseError.{CloseError}
 use Rattle.bench_core.specs.declared.refusal.CloseError.TheVariants as closing
 use Rattle.bench_core.specs.Refusals.{IsCloseRefusal}
@@ -160,11 +160,11 @@ enough_memory s b ok sound =
 
 pub small_clocks : (s : Setup) (b b' : State) (marks : List Bool) → IsSetup s → Sound s b → Pulse s b b'
     → marks ≡ map (λ x. x.mark) b.nodes
-    → All (λ c. c < MOST_MODULUS) (clocks_where (both_marked marks b'.nodes) b'.nodes)
+    → All (λ c. c < MOST_MODULUS) (clocks_where s.modulus (both_marked marks b'.nodes) b'.nodes)
 small_clocks s b b' marks ok sound p e =
     let same : both_marked marks b'.nodes ≡ settled_flags b.nodes b'.nodes = ap (λ ms. both_marked ms b'.nodes) e
     ∙ both_settled b.nodes b'.nodes in
-    subst (λ flags. All (λ c. c < MOST_MODULUS) (clocks_where flags b'.nodes)) (sym same)
+    subst (λ flags. All (λ c. c < MOST_MODULUS) (clocks_where s.modulus flags b'.nodes)) (sym same)
     (clocks_small s b b' ok sound p)
 
 -- the history keeps a place for the end of an open pulse
@@ -182,7 +182,7 @@ few_pulses b b' ok replays limit p =
 -- ---- what is told
 
 pub record Tells (s : Setup) (b b' : State) (r : PulseTold) : Type 0 where
-  pub row : r.row ≡ row_told b'.closed (settled_flags b.nodes b'.nodes) b'.nodes
+  pub row : r.row ≡ row_told s.modulus b'.closed (settled_flags b.nodes b'.nodes) b'.nodes
   pub clocks : r.clocks ≡ map told_clock b'.nodes
   pub settled : r.settled ≡ settled_flags b.nodes b'.nodes
   pub steps : IsSteps s b (unwrap_or b.coins []) r.steps
@@ -192,7 +192,7 @@ pub is_record : (s : Setup) (history : List EntryValue) (b b' : State) (r : Puls
     → Replays s history b → Pulse s b b' → Tells s b b' r → IsRecord s b b' r
 is_record s history b b' r ok replays p h =
     let tell = rows_tell s history b b' ok replays p in
-    let common : r.row.common ≡ (row_of b b').common = ap (λ (x : Row). x.common) h.row in
+    let common : r.row.common ≡ (row_of s b b').common = ap (λ (x : Row). x.common) h.row in
     record {
       row = h.row;
       clocks = h.clocks;
@@ -205,19 +205,19 @@ is_record s history b b' r ok replays p h =
 
 pub closed_advances : (b b' : Inside) (row : Row) → IsKept b
     → Pulse (view_of b).setup (view_of b).state (closed_state (view_of b).state b'.nodes.items b'.mail)
-    → row ≡ row_told (b.closed + 1) (settled_flags b.nodes.items b'.nodes.items) b'.nodes.items
+    → row ≡ row_told b.rule.modulus (b.closed + 1) (settled_flags b.nodes.items b'.nodes.items) b'.nodes.items
     → b'.history.items ≡ b.history.items ++ Closed row ∷ []
-    → b'.shape ≡ b.shape → b'.rule ≡ b.rule → b'.closed ≡ b.closed + 1 → b'.staged_from ≡ b.staged_from
+    → b'.shape ≡ b.shape → b'.rule ≡ b.rule → b'.clock ≡ b.clock → b'.closed ≡ b.closed + 1 → b'.staged_from ≡ b.staged_from
     → b'.coins ≡ None
     → Advances (view_of b) (ClosedValue row) (view_of b')
-closed_advances b b' row kept pulse tells is shape rule closed from over =
+closed_advances b b' row kept pulse tells is shape rule clock closed from over =
     let stays : staged_of (drop b'.staged_from (map entry_of b'.history.items)) ≡ (view_of b).state.staged =
     ap (λ n. staged_of (drop n (map entry_of b'.history.items))) from
     ∙ (staged_after b b'.history (Closed row) kept.staged is ∙ append-nil _) in
     let shut : option_map (λ v. v.items) b'.coins ≡ None = ap
     (λ (o : Option (Vec ℕ Global)). option_map (λ v. v.items) o) over in
     record {
-      setup = rw (shape, rule) refl;
+      setup = rw (shape, rule, clock) refl;
       history = entries_push b.history.items b'.history.items (Closed row) is;
       step = (
         record {
@@ -230,7 +230,7 @@ closed_advances b b' row kept pulse tells is shape rule closed from over =
           staged = stays;
           over = shut;
         },
-        tells ∙ ap (λ (n : ℕ). row_told n (settled_flags b.nodes.items b'.nodes.items) b'.nodes.items) (sym closed),
+        tells ∙ ap (λ (n : ℕ). row_told b.rule.modulus n (settled_flags b.nodes.items b'.nodes.items) b'.nodes.items) (sym closed),
       );
     }
 
@@ -246,8 +246,8 @@ sorted_at s xs ys mail cs coins opening ds dones found e f g each ends exact =
     (record { each = each; ends = ends; exact = exact })))
 
 pub coins_of : (s : Setup) (o : Option (Vec ℕ Global)) (coins : Vec ℕ Global) → o ≡ Some coins
-    → IfSome (option_map (λ v. v.items) o) (AreCoins s) → AreCoins s coins.items
-coins_of s o coins is h = subst (λ (o : Option (Vec ℕ Global)). IfSome (option_map (λ v. v.items) o) (AreCoins s)) is h
+    → IfSome (option_map (λ v. v.items) o) (AreCoins s.shape) → AreCoins s.shape coins.items
+coins_of s o coins is h = subst (λ (o : Option (Vec ℕ Global)). IfSome (option_map (λ v. v.items) o) (AreCoins s.shape)) is h
 
 -- each result that was found has the size of its node
 fits_node : (s : Setup) (b : State) (coins : List ℕ) (opening i : ℕ) (dones : List Done) (found : List Found)
@@ -263,7 +263,7 @@ fits_node s b coins opening i dones found ok sound is_open sorted lt (Once place
     (node_at b.nodes i).program refl at.result.0 at.result.1 in
     let task = handed_task s b.nodes b.mail coins opening i loaded.0 at.one.task loaded.1 at.result.0 at.result.1 in
     let ran = ran_of s b coins opening i at.one at.result.0 at.result.1 ends in
-    let fit : IsLoadable s ran.program = subst (λ (o : Option Accepted). IfSome o (IsLoadable s)) ran.loaded
+    let fit : IsLoadable s.shape ran.program = subst (λ (o : Option Accepted). IfSome o (IsLoadable s.shape)) ran.loaded
     (sound.programs i lt) in
     let whole = sound.memories i lt in
     let left = complete_run_leaves ran.program.program (setting_at s b.mail coins i)
@@ -288,10 +288,8 @@ pub pulse_at : (b : Inside) (coins : Vec ℕ Global) (dones : List Done) (found 
     → Pulse (view_of b).setup (view_of b).state (closed_state (view_of b).state nodes mail)
 pulse_at b coins dones found nodes mail kept is sorted count rows left =
     let whole = (sound_of b kept).nodes in
-    let knows : KnowsClock (clock_listing (view_of b).setup) b.nodes.items b.flags.items = subst
-    (λ (l : List Insn). KnowsClock l b.nodes.items b.flags.items) kept.clock kept.flags in
     pulse_closed (view_of b).setup (view_of b).state coins.items (b.opened - 1) dones b.flags.items found nodes mail
-    (ap (λ (o : Option (Vec ℕ Global)). option_map (λ v. v.items) o) is) sorted knows (count ∙ sym whole)
+    (ap (λ (o : Option (Vec ℕ Global)). option_map (λ v. v.items) o) is) sorted kept.flags (count ∙ sym whole)
     (rows ∙ sym whole) (λ i lt. left i (omega (arith, lt, whole)))
 
 pub refuses : (b : BenchValue) (dones : List Done) (e : CloseError) → IsSome b.state.coins

@@ -14,8 +14,7 @@ use Rattle.bpf_machine.specs.Run.{CompleteRun, End}
 use Rattle.bpf_verify.specs.Accepted.{Accepted}
 use Rattle.bpf_verify.specs.Typable.{Typable}
 use Rattle.bpf_run.proofs.Runs.{run_ends}
-use Rattle.clock_nodes.proofs.Programs.{clock_is_program}
-use Rattle.bench_core.specs.Setup.{Setup, IsSetup, clock_listing}
+use Rattle.bench_core.specs.Setup.{Setup, IsSetup}
 use Rattle.bench_core.specs.State.{Node, State, no_node, node_at, row_at, setting_at, IsLoadable}
 use Rattle.bench_core.specs.Pulse.{RunsClock, Runs, Rests, NodePulse, Pulse}
 use Rattle.bench_core.specs.Laws.{EachCloses}
@@ -28,16 +27,8 @@ use Rattle.bench_core.proofs.Replays.{one_pulse}
 abbrev AreInRange : List Insn → Type 0
 AreInRange is = AllByRecursion InRange is
 
-in_listing : (s : Setup) → IsSetup s → AreInRange (clock_listing s)
-in_listing s ok =
-    (clock_is_program (record { nodes = s.shape.nodes; faults = s.faults; modulus = s.modulus })
-    (record {
-      some = ok.extent.some;
-      few = ok.extent.few;
-      allowed = ok.faults;
-      least = ok.least;
-      most = ok.most;
-    })).in_range
+in_listing : (s : Setup) → IsSetup s → AreInRange s.clock
+in_listing s ok = ok.clock.in_range
 
 -- ---- whether a program has the clock program's instructions
 
@@ -63,11 +54,11 @@ unfolding numbers_same
 numbers_itself [] = refl
 numbers_itself (x ∷ xs) = rw (eq-eqb x x refl) (numbers_itself xs)
 
-runs_clock : (s : Setup) (p : Accepted) → AreInRange p.program → AreInRange (clock_listing s)
-    → IsTrue (numbers_same (image_of p.program) (image_of (clock_listing s))) ↔ RunsClock s p
+runs_clock : (s : Setup) (p : Accepted) → AreInRange p.program → AreInRange s.clock
+    → IsTrue (numbers_same (image_of p.program) (image_of s.clock)) ↔ RunsClock s p
 runs_clock s p mine other = (
-  λ e. image_once p.program (clock_listing s) mine other
-      (numbers_true (image_of p.program) (image_of (clock_listing s)) e),
+  λ e. image_once p.program (s.clock) mine other
+      (numbers_true (image_of p.program) (image_of s.clock) e),
   λ e. subst (λ (l : List Insn). numbers_same (image_of p.program) (image_of l) ≡ true) e
       (numbers_itself (image_of p.program)),
 )
@@ -77,7 +68,7 @@ runs_clock s p mine other = (
 abbrev Part : Type 0
 Part = Node × FinMap nat_cmp ℕ
 
-node_goes : (s : Setup) (env : Setting) (x : Node) (o : Option Accepted) → x.program ≡ o → AreInRange (clock_listing s)
+node_goes : (s : Setup) (env : Setting) (x : Node) (o : Option Accepted) → x.program ≡ o → AreInRange s.clock
     → IfSome o (λ p. AreInRange p.program × ((end : End) × CompleteRun p.program env x.memory end))
     → (y : Part) × NodePulse s env x y.0 y.1
 node_goes s env x None e listed ran =
@@ -95,7 +86,7 @@ node_goes s env x (Some p) e listed ran =
     let y : Node = record {
       program = Some p;
       memory = end.memory;
-      mark = numbers_same (image_of p.program) (image_of (clock_listing s));
+      mark = numbers_same (image_of p.program) (image_of s.clock);
     } in
     let runs : Runs s p env x y end.sent = record {
       end = end;
@@ -125,7 +116,7 @@ node_runs s b coins i ok sound is_open lt =
     let is = is_setting s b coins i ok sound is_open lt in
     let whole = sound.memories i lt in
     node_goes s env x x.program refl (in_listing s ok)
-    (if_mapped (IsLoadable s) (λ p. AreInRange p.program × ((end : End) × CompleteRun p.program env x.memory end))
+    (if_mapped (IsLoadable s.shape) (λ p. AreInRange p.program × ((end : End) × CompleteRun p.program env x.memory end))
     x.program
     (λ p fit. (
       fit.program.in_range,

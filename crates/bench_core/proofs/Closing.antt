@@ -9,7 +9,7 @@ use Rattle.bench_core.specs.declared.found.Found.{Found}
 use Rattle.bench_core.specs.declared.found.Found.TheVariants.{Nothing, Once, Again}
 use Rattle.bpf_machine.specs.Run.{CompleteRun}
 use Rattle.bpf_verify.specs.Accepted.{Accepted}
-use Rattle.bench_core.specs.Setup.{Setup, clock_listing}
+use Rattle.bench_core.specs.Setup.{Setup}
 use Rattle.bench_core.specs.State.{State, Node, no_node, node_at, row_at, setting_at}
 use Rattle.bench_core.specs.Pulse.{RunsClock, Runs, Rests, NodePulse, Pulse}
 use Rattle.bench_core.specs.Tasks.{Task, Done, task_at, IsHanded, IsResultOf, IsExact}
@@ -163,7 +163,7 @@ node_rested s xs mail coins opening i dones found flag y row Again e sorted has 
 pub node_closed : (s : Setup) (xs : List Node) (mail : List (FinMap nat_cmp ℕ)) (coins : List ℕ) (opening i : ℕ)
     (dones : List Done) (flags : List Bool) (found : List Found) (y : Node) (row : FinMap nat_cmp ℕ)
     → (o : Option Accepted) → (node_at xs i).program ≡ o → AreSorted s xs mail coins opening dones found
-    → KnowsClock (clock_listing s) xs flags → i < length xs
+    → KnowsClock s.clock xs flags → i < length xs
     → IsLeft dones (get_or flags i false) (node_at xs i) y row (found_at found i)
     → NodePulse s (setting_at s mail coins i) (node_at xs i) y row
 node_closed s xs mail coins opening i dones flags found y row None has sorted knows lt left =
@@ -198,7 +198,7 @@ closed_state b nodes mail = record {
 pub pulse_closed : (s : Setup) (b : State) (coins : List ℕ) (opening : ℕ) (dones : List Done) (flags : List Bool)
     (found : List Found) (nodes : List Node) (mail : List (FinMap nat_cmp ℕ))
     → b.coins ≡ Some coins → AreSorted s b.nodes b.mail coins opening dones found
-    → KnowsClock (clock_listing s) b.nodes flags
+    → KnowsClock s.clock b.nodes flags
     → length nodes ≡ length b.nodes → length mail ≡ length b.nodes
     → AreLeft dones flags b.nodes found nodes mail (length b.nodes)
     → Pulse s b (closed_state b nodes mail)

@@ -9,7 +9,7 @@ use Rattle.bench_core.specs.declared.bench.Bench.TheInside.{Inside}
 use Rattle.bench_core.specs.declared.change.Change.{Change}
 use Rattle.bench_core.specs.declared.entry.Entry.{Entry}
 use Rattle.bench_core.specs.declared.entry.Entry.TheVariants.{Staged, Abandoned}
-use Rattle.bench_core.specs.Setup.{IsSetup, clock_listing}
+use Rattle.bench_core.specs.Setup.{IsSetup}
 use Rattle.bench_core.specs.inner.Nodes.{KnowsClock}
 use Rattle.bench_core.specs.State.{IsChange}
 use Rattle.bench_core.specs.Replay.{Entry as EntryValue, Staged as StagedValue, Opened as OpenedValue, Closed as ClosedValue, Abandoned as AbandonedValue, BenchValue, Advances, openings, places_of}
@@ -38,16 +38,15 @@ openings_push (AbandonedValue ∷ es) e = openings_push es e
 
 -- a step keeps what is true of a bench, where its numbers and its room do
 pub kept_step : (b b' : Inside) (e : EntryValue) → IsKept b → Advances (view_of b) e (view_of b')
-    → b'.rule.nodes ≡ b'.shape.nodes → b'.clock ≡ b.clock → KnowsClock b'.clock b'.nodes.items b'.flags.items
+    → b'.rule.nodes ≡ b'.shape.nodes → KnowsClock b'.clock b'.nodes.items b'.flags.items
     → length b'.spare ≡ b'.shape.nodes → b'.opened ≡ b.opened + openings (e ∷ []) → (IsSome b'.coins → 1 ≤ b'.opened)
     → b'.staged_from ≤ length b'.history.items
     → places_of (view_of b') ≤ MOST_ENTRIES → places_of (view_of b') ≤ vec_capacity b'.history → IsKept b'
-kept_step b b' e kept step same clock flags spare opened counted staged limit room =
+kept_step b b' e kept step same flags spare opened counted staged limit room =
     record {
       replays = advances_replay (view_of b) (view_of b') e kept.replays step;
       setup = subst IsSetup (sym step.setup) kept.setup;
       same = same;
-      clock = clock ∙ (kept.clock ∙ ap clock_listing (sym step.setup));
       flags = flags;
       spare = spare;
       opened = opened ∙ (ap (λ (n : ℕ). n + openings (e ∷ [])) kept.opened
@@ -73,7 +72,7 @@ staged_after b history e within is =
     ∙ staged_push (map entry_of b.history.items) b.staged_from (entry_of e) within'
 
 pub staged_advances : (b : Inside) (history : Vec Entry Global) (actor : Actor) (change : Change)
-    → IsChange (view_of b).setup (change_of change) → b.staged_from ≤ length b.history.items
+    → IsChange b.shape (change_of change) → b.staged_from ≤ length b.history.items
     → history.items ≡ b.history.items ++ Staged actor change ∷ []
     → Advances (view_of b) (StagedValue actor (change_of change)) (view_of (record b { history = history }))
 staged_advances b history actor change fit within is =

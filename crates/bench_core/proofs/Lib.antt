@@ -16,3 +16,4 @@ pub mod Tallies
 pub mod Closing
 pub mod Closed
 pub mod OneRefusal
+pub mod OwnPulse

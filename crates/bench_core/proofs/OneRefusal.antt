@@ -14,12 +14,12 @@ use Rattle.bench_core.specs.Laws.{OneStageRefusal, OneOpenRefusal, OneCloseRefus
 
 -- ---- of a change
 
-node_below : (s : Setup) (c : Change) → IsChange s c → node_of c < s.shape.nodes
+node_below : (s : Setup) (c : Change) → IsChange s.shape c → node_of c < s.shape.nodes
 node_below s (Load i p) h = h.0
 node_below s (Unload i) h = h
 node_below s (Corrupt i image) h = h.0
 
-fits_so : (s : Setup) (c : Change) (e : StageError) → IsChange s c → IsMisfit s c e → ⊥
+fits_so : (s : Setup) (c : Change) (e : StageError) → IsChange s.shape c → IsMisfit s.shape c e → ⊥
 fits_so s c stage.BadNode fits h = omega (arith, h, node_below s c fits)
 fits_so s (Load i p) stage.OtherShape fits h = h.1 fits.1.shape
 fits_so s (Unload i) stage.OtherShape fits h = h.1
@@ -30,7 +30,7 @@ fits_so s (Corrupt i image) stage.BadImage fits h = h.1 fits.1.length
 fits_so s c stage.HistoryFull fits h = h
 fits_so s c stage.Memory fits h = h
 
-not_both : (s : Setup) (c : Change) → IsMisfit s c stage.OtherShape → IsMisfit s c stage.BadImage → ⊥
+not_both : (s : Setup) (c : Change) → IsMisfit s.shape c stage.OtherShape → IsMisfit s.shape c stage.BadImage → ⊥
 not_both s (Load i p) h k = k.1
 not_both s (Unload i) h k = k.1
 not_both s (Corrupt i image) h k = h.1

@@ -29,16 +29,16 @@ pub staged_slice : (items : List Entry) (from : ℕ)
 staged_slice items from = ap (λ es. staged_of (map entry_of es)) (take_rest items from)
     ∙ ap staged_of (sym (drop-map entry_of from items))
 
-node_within : (s : Setup) (c : Change) → IsChange s c → node_of c < s.shape.nodes
+node_within : (s : Setup) (c : Change) → IsChange s.shape c → node_of c < s.shape.nodes
 node_within s (Load i p) h = h.0
 node_within s (Unload i) h = h
 node_within s (Corrupt i image) h = h.0
 
 pub staged_within : (b : Inside) → IsKept b → All (λ c. node_of c < b.shape.nodes) (view_of b).state.staged
-staged_within b kept = All-weaker (IsChange (view_of b).setup) (λ c. node_of c < b.shape.nodes)
+staged_within b kept = All-weaker (IsChange b.shape) (λ c. node_of c < b.shape.nodes)
     (node_within (view_of b).setup) (view_of b).state.staged (sound_of b kept).staged
 
-shape_of : (s : Setup) (o : Option Accepted) → IfSome o (IsLoadable s) → IfSome o (λ p. p.shape ≡ s.shape)
+shape_of : (s : Setup) (o : Option Accepted) → IfSome o (IsLoadable s.shape) → IfSome o (λ p. p.shape ≡ s.shape)
 shape_of s None h = tt
 shape_of s (Some p) h = h.shape
 
@@ -47,7 +47,7 @@ all_fit s b sound = All-from_get_or (FitsShape s.shape) b.nodes no_node
     (λ i lt. let l : i < s.shape.nodes = omega (arith, lt, sound.nodes) in
     ((sound.memories i l).length, shape_of s (node_at b.nodes i).program (sound.programs i l)))
 
-pub nodes_after : (b : Inside) → IsKept b → (coins : List ℕ) → AreCoins (view_of b).setup coins
+pub nodes_after : (b : Inside) → IsKept b → (coins : List ℕ) → AreCoins b.shape coins
     → All (FitsShape b.shape) (all_applied b.nodes.items (view_of b).state.staged)
 nodes_after b kept coins fit = all_fit (view_of b).setup (opened_state (view_of b).state coins)
     (sound_opened (view_of b).setup (view_of b).state coins fit (sound_of b kept))
@@ -65,7 +65,7 @@ no_coins (Some v) h = absurd cc
 
 -- what is committed when a pulse opens
 pub record Opens (b b' : Inside) (coins : List ℕ) (entry : Vec ℕ Global) : Type 0 where
-  pub fit : AreCoins (view_of b).setup coins
+  pub fit : AreCoins b.shape coins
   pub shut : is_some b.coins ≡ false
   pub nodes : b'.nodes.items ≡ all_applied b.nodes.items (view_of b).state.staged
   pub kept : option_map (λ v. v.items) b'.coins ≡ Some coins
@@ -74,9 +74,9 @@ pub record Opens (b b' : Inside) (coins : List ℕ) (entry : Vec ℕ Global) : T
   pub from : b'.staged_from ≡ length b'.history.items
 
 pub opened_advances : (b b' : Inside) (coins : List ℕ) (entry : Vec ℕ Global) → Opens b b' coins entry
-    → b'.shape ≡ b.shape → b'.rule ≡ b.rule → b'.mail ≡ b.mail → b'.closed ≡ b.closed
+    → b'.shape ≡ b.shape → b'.rule ≡ b.rule → b'.clock ≡ b.clock → b'.mail ≡ b.mail → b'.closed ≡ b.closed
     → Advances (view_of b) (OpenedValue coins) (view_of b')
-opened_advances b b' coins entry h shape rule mail closed =
+opened_advances b b' coins entry h shape rule clock mail closed =
     let entries : map entry_of b'.history.items ≡ map entry_of b.history.items ++ OpenedValue coins ∷ [] =
     entries_push b.history.items b'.history.items (Opened entry) h.history
     ∙ ap (λ xs. map entry_of b.history.items ++ OpenedValue xs ∷ []) h.enters in
@@ -84,7 +84,7 @@ opened_advances b b' coins entry h shape rule mail closed =
     (drop_all b'.staged_from (map entry_of b'.history.items)
     (omega (arith, h.from, length-map b'.history.items entry_of))) in
     record {
-      setup = rw (shape, rule) refl;
+      setup = rw (shape, rule, clock) refl;
       history = entries;
       step = (h.fit, no_coins b.coins h.shut, rw (h.nodes, mail, closed, none_left, h.kept) refl);
     }

@@ -9,12 +9,13 @@ use Rattle.clock_nodes.specs.Rule.{clock_of}
 use Rattle.clock_nodes.specs.declared.rule.TheConstants.{MOST_MODULUS}
 use Rattle.bench_core.specs.declared.limits.TheConstants.{CLOCKS_DIFFER}
 use Rattle.bench_core.specs.Setup.{Setup, IsSetup}
-use Rattle.bench_core.specs.State.{Node, State, new_state}
+use Rattle.bench_core.specs.State.{Node, State, new_state, node_at}
 use Rattle.bench_core.specs.Pulse.{Pulse}
-use Rattle.bench_core.specs.Settled.{settled_flags, settled_clocks, clocks_where, moving_clocks, common_of}
+use Rattle.bench_core.specs.Settled.{settled_flags, settled_clocks, clocks_where, moving_clocks, common_of, value_of}
 use Rattle.bench_core.specs.Replay.{Entry, Staged, Opened, Closed, Abandoned, Step, Run}
 use Rattle.bench_core.specs.Laws.{RowsFit, RowsTell}
-use Rattle.bench_core.proofs.Sound.{Sound, sound_replay, ran_pulse}
+use Rattle.bench_core.proofs.Sound.{Sound, sound_replay}
+use Rattle.bench_core.proofs.Rules.{clock_below_modulus}
 use Rattle.bench_core.proofs.Agreement.{At, all_at, length_flags}
 
 -- ---- how many pulses a history can close
@@ -55,15 +56,14 @@ run_weight s b (e ∷ es) b' h = omega (arith, step_weight s b e h.0 h.1, run_we
 -- ---- clocks
 
 pub clocks_small : (s : Setup) (b b' : State) → IsSetup s → Sound s b → Pulse s b b'
-    → All (λ c. c < MOST_MODULUS) (settled_clocks b b')
-clocks_small s b b' ok sound p = All-weaker (At b.nodes b'.nodes) (λ c. c < MOST_MODULUS) small (settled_clocks b b')
-    (all_at b.nodes b'.nodes)
+    → All (λ c. c < MOST_MODULUS) (settled_clocks s b b')
+clocks_small s b b' ok sound p = All-weaker (At s.modulus b.nodes b'.nodes) (λ c. c < MOST_MODULUS) small (settled_clocks s b b')
+    (all_at s.modulus b.nodes b'.nodes)
   where
-    small : (c : ℕ) → At b.nodes b'.nodes c → c < MOST_MODULUS
+    small : (c : ℕ) → At s.modulus b.nodes b'.nodes c → c < MOST_MODULUS
     small c h =
-        let lt : h.node < s.shape.nodes = omega (arith, h.within, sound.nodes) in
-        let ran = ran_pulse s b b' h.node ok sound p lt h.after in
-        let below : c < s.modulus = subst (λ (n : ℕ). n < s.modulus) (sym ran.clock ∙ h.clock) ran.moved.clock in
+        let below : c < s.modulus = subst (λ (n : ℕ). n < s.modulus) h.clock
+        (clock_below_modulus s.modulus (clock_of (node_at b'.nodes h.node).memory) (omega (arith, ok.least))) in
         omega (arith, below, ok.most)
 
 common_small : (cs : List ℕ) → All (λ c. c < MOST_MODULUS) cs → (common_of cs < MOST_MODULUS)
@@ -74,12 +74,12 @@ common_small (c ∷ cs) small =
     (λ e. inl (All-head (λ d. d < MOST_MODULUS) c cs small))
     (λ e. inr refl)
 
-clocks_few : (flags : List Bool) (nodes : List Node) → length (clocks_where flags nodes) ≤ length flags
-clocks_few [] nodes = omega arith
-clocks_few (f ∷ flags) [] = omega arith
-clocks_few (f ∷ flags) (y ∷ nodes) =
-    let rest = clocks_few flags nodes in
-    cond_both f (clock_of y.memory ∷ clocks_where flags nodes) (clocks_where flags nodes)
+clocks_few : (m : ℕ) (flags : List Bool) (nodes : List Node) → length (clocks_where m flags nodes) ≤ length flags
+clocks_few m [] nodes = omega arith
+clocks_few m (f ∷ flags) [] = omega arith
+clocks_few m (f ∷ flags) (y ∷ nodes) =
+    let rest = clocks_few m flags nodes in
+    cond_both f (value_of m y.memory ∷ clocks_where m flags nodes) (clocks_where m flags nodes)
     (λ cs. length cs ≤ suc (length flags)) (λ e. omega (arith, rest)) (λ e. omega (arith, rest))
 
 pub rows_fit : RowsFit
@@ -88,14 +88,14 @@ rows_fit s history b b' ok replay p room =
     let weighs = run_weight s (new_state s) history b replay in
     let is_open : open_of b.coins ≡ 1 = ap open_of p.is_open in
     let flags = settled_flags b.nodes b'.nodes in
-    let clocks = settled_clocks b b' in
+    let clocks = settled_clocks s b b' in
     let few : length flags ≡ s.shape.nodes = length_flags b.nodes b'.nodes p.nodes ∙ sound.nodes in
     record {
       first = omega (arith, p.closed);
       last = omega (arith, p.closed, weighs, is_open, room);
-      common = common_small (moving_clocks b b')
+      common = common_small (moving_clocks s b b')
           (All-filter (λ c. not (c == 0)) (λ c. c < MOST_MODULUS) clocks (clocks_small s b b' ok sound p));
-      zeros = omega (arith, count_by-le-length (λ c. c == 0) clocks, clocks_few flags b'.nodes, few, ok.extent.few);
+      zeros = omega (arith, count_by-le-length (λ c. c == 0) clocks, clocks_few s.modulus flags b'.nodes, few, ok.extent.few);
       settled = omega (arith, count_by-le-length (λ x. x) flags, few, ok.extent.few);
     }
 
@@ -126,6 +126,6 @@ told_agree (x ∷ xs) told c d at at' =
 
 pub rows_tell : RowsTell
 rows_tell s history b b' ok replay p =
-    let small = All-filter (λ c. not (c == 0)) (λ c. c < MOST_MODULUS) (settled_clocks b b')
+    let small = All-filter (λ c. not (c == 0)) (λ c. c < MOST_MODULUS) (settled_clocks s b b')
     (clocks_small s b b' ok (sound_replay s history b ok replay) p) in
-    (agree_told (moving_clocks b b') small, told_agree (moving_clocks b b'))
+    (agree_told (moving_clocks s b b') small, told_agree (moving_clocks s b b'))

@@ -19,10 +19,10 @@ before_next m v lt ne =
       | inr above ↦ let e : v + 1 ≡ m = omega arith in absurd (ne (ap (λ n. n % m) e ∙ mod_self m))
     ]
 
-clock_below_modulus : (m c : ℕ) → 0 < m → clock_below m c < m
+pub clock_below_modulus : (m c : ℕ) → 0 < m → clock_below m c < m
 clock_below_modulus m c pos = grind (arith, nat_tests)
 
-clock_below_same : (m c : ℕ) → c < m → clock_below m c ≡ c
+pub clock_below_same : (m c : ℕ) → c < m → clock_below m c ≡ c
 clock_below_same m c lt = cond-true (nat_lt c m) c 0 (lt-ltb c m lt)
 
 moved_from : (q m v last coin : ℕ) (support : ℕ → ℕ) → 2 ≤ m → v < m → coin < 2

@@ -13,23 +13,24 @@ use Rattle.clock_nodes.specs.Rule.{support}
 use Rattle.clock_nodes.specs.Rule.{clock_of, mark_of, pair_after, with_pair}
 use Rattle.clock_nodes.proofs.Bytes.{clock_written, mark_written}
 use Rattle.clock_nodes.proofs.ClockRuns.{clock_ends_so}
-use Rattle.bench_core.specs.Setup.{Setup, IsSetup, quorum, clock_listing}
+use Rattle.bench_core.specs.Setup.{Setup, IsSetup, HasRuleClock, quorum, clock_listing}
 use Rattle.bench_core.specs.State.{Node, Change, Load, Unload, Corrupt, State, no_node, node_at, row_at, setting_at, new_node, new_state, IsMemory, IsLoadable, IsChange, AreCoins, applied, all_applied, opened_state, staged_state, abandoned_state}
 use Rattle.bench_core.specs.Pulse.{Runs, Rests, Pulse}
+use Rattle.bench_core.specs.Settled.{value_of}
 use Rattle.bench_core.specs.Replay.{Entry, Staged, Opened, Closed, Abandoned, Step, Run}
 use Rattle.bpf_machine.proofs.Ends.{complete_run_leaves}
 use Rattle.bench_core.proofs.Counting.{SentOne, inbox_numbers}
-use Rattle.bench_core.proofs.Rules.{IsMoved, moved_after}
+use Rattle.bench_core.proofs.Rules.{IsMoved, moved_after, clock_below_same}
 
 pub record Sound (s : Setup) (b : State) : Type 0 where
   pub nodes : length b.nodes ≡ s.shape.nodes
   pub mail : length b.mail ≡ s.shape.nodes
   pub rows : (i : ℕ) → i < s.shape.nodes → AreNumbers s.shape.nodes (row_at b.mail i)
-  pub memories : (i : ℕ) → i < s.shape.nodes → IsMemory s (node_at b.nodes i).memory
-  pub programs : (i : ℕ) → i < s.shape.nodes → IfSome (node_at b.nodes i).program (IsLoadable s)
-  pub sent : (i : ℕ) → i < s.shape.nodes → IsTrue (node_at b.nodes i).mark → SentOne s.shape.nodes (row_at b.mail i)
-  pub staged : All (IsChange s) b.staged
-  pub coins : IfSome b.coins (AreCoins s)
+  pub memories : (i : ℕ) → i < s.shape.nodes → IsMemory s.shape (node_at b.nodes i).memory
+  pub programs : (i : ℕ) → i < s.shape.nodes → IfSome (node_at b.nodes i).program (IsLoadable s.shape)
+  pub sent : HasRuleClock s → (i : ℕ) → i < s.shape.nodes → IsTrue (node_at b.nodes i).mark → SentOne s.shape.nodes (row_at b.mail i)
+  pub staged : All (IsChange s.shape) b.staged
+  pub coins : IfSome b.coins (AreCoins s.shape)
 
 no_numbers : (n : ℕ) → AreNumbers n empty
 no_numbers n j v e = let no : None ≡ Some v = sym (get-empty nat_cmp j) ∙ e in absurd cc
@@ -37,7 +38,7 @@ no_numbers n j v e = let no : None ≡ Some v = sym (get-empty nat_cmp j) ∙ e 
 pub sound_new : (s : Setup) → Sound s (new_state s)
 sound_new s =
     let one = λ (i : ℕ) (lt : i < s.shape.nodes). get_or-replicate s.shape.nodes i (new_node s) no_node lt in
-    let zeros : IsMemory s (replicate s.shape.memory 0) =
+    let zeros : IsMemory s.shape (replicate s.shape.memory 0) =
     record {
       length = length-replicate s.shape.memory 0;
       bytes = λ k d lt. let e = get_or-replicate s.shape.memory k 0 d
@@ -49,18 +50,18 @@ sound_new s =
       mail = length-replicate s.shape.nodes _;
       rows = λ i lt. subst (AreNumbers s.shape.nodes) (sym (get_or-replicate s.shape.nodes i empty empty lt))
           (no_numbers s.shape.nodes);
-      memories = λ i lt. subst (λ (x : Node). IsMemory s x.memory) (sym (one i lt)) zeros;
-      programs = λ i lt. subst (λ (x : Node). IfSome x.program (IsLoadable s)) (sym (one i lt)) tt;
-      sent = λ i lt marked. absurd (cc (ap (λ (x : Node). x.mark) (one i lt), marked));
-      staged = All-nil (IsChange s);
+      memories = λ i lt. subst (λ (x : Node). IsMemory s.shape x.memory) (sym (one i lt)) zeros;
+      programs = λ i lt. subst (λ (x : Node). IfSome x.program (IsLoadable s.shape)) (sym (one i lt)) tt;
+      sent = λ own i lt marked. absurd (cc (ap (λ (x : Node). x.mark) (one i lt), marked));
+      staged = All-nil (IsChange s.shape);
       coins = tt;
     }
 
 -- what a change leaves of a node: its mark, that its memory is one of this setup, and that its program is loadable
 pub record Keeps (s : Setup) (x y : Node) : Type 0 where
   pub mark : y.mark ≡ x.mark
-  pub memory : IsMemory s x.memory → IsMemory s y.memory
-  pub program : IfSome x.program (IsLoadable s) → IfSome y.program (IsLoadable s)
+  pub memory : IsMemory s.shape x.memory → IsMemory s.shape y.memory
+  pub program : IfSome x.program (IsLoadable s.shape) → IfSome y.program (IsLoadable s.shape)
 
 keeps_self : (s : Setup) (x : Node) → Keeps s x x
 keeps_self s x = record { mark = refl; memory = λ h. h; program = λ h. h }
@@ -79,7 +80,7 @@ keeps_set s nodes k i y lt kept =
           (keeps_self s (node_at nodes i))
     ]
 
-keeps_applied : (s : Setup) (c : Change) (nodes : List Node) (i : ℕ) → IsChange s c → i < length nodes
+keeps_applied : (s : Setup) (c : Change) (nodes : List Node) (i : ℕ) → IsChange s.shape c → i < length nodes
     → Keeps s (node_at nodes i) (node_at (applied nodes c) i)
 keeps_applied s (Load k p) nodes i fit lt = keeps_set s nodes k i _ lt
     (record { mark = refl; memory = λ h. h; program = λ h. fit.1 })
@@ -97,19 +98,19 @@ pub length-all_applied : (cs : List Change) (nodes : List Node) → length (all_
 length-all_applied [] nodes = refl
 length-all_applied (c ∷ cs) nodes = length-all_applied cs (applied nodes c) ∙ length-applied c nodes
 
-pub keeps_all : (s : Setup) (cs : List Change) (nodes : List Node) (i : ℕ) → All (IsChange s) cs → i < length nodes
+pub keeps_all : (s : Setup) (cs : List Change) (nodes : List Node) (i : ℕ) → All (IsChange s.shape) cs → i < length nodes
     → Keeps s (node_at nodes i) (node_at (all_applied nodes cs) i)
 keeps_all s [] nodes i fit lt = keeps_self s (node_at nodes i)
 keeps_all s (c ∷ cs) nodes i fit lt =
-    let first = keeps_applied s c nodes i (All-head (IsChange s) c cs fit) lt in
-    let rest = keeps_all s cs (applied nodes c) i (All-tail (IsChange s) c cs fit) (rw (length-applied c nodes) lt) in
+    let first = keeps_applied s c nodes i (All-head (IsChange s.shape) c cs fit) lt in
+    let rest = keeps_all s cs (applied nodes c) i (All-tail (IsChange s.shape) c cs fit) (rw (length-applied c nodes) lt) in
     record {
       mark = rest.mark ∙ first.mark;
       memory = λ h. rest.memory (first.memory h);
       program = λ h. rest.program (first.program h);
     }
 
-pub sound_opened : (s : Setup) (b : State) (coins : List ℕ) → AreCoins s coins → Sound s b
+pub sound_opened : (s : Setup) (b : State) (coins : List ℕ) → AreCoins s.shape coins → Sound s b
     → Sound s (opened_state b coins)
 sound_opened s b coins fit h =
     let within = λ (i : ℕ) (lt : i < s.shape.nodes). let w : i < length b.nodes = rw h.nodes lt in w in
@@ -119,13 +120,13 @@ sound_opened s b coins fit h =
       rows = h.rows;
       memories = λ i lt. (keeps_all s b.staged b.nodes i h.staged (within i lt)).memory (h.memories i lt);
       programs = λ i lt. (keeps_all s b.staged b.nodes i h.staged (within i lt)).program (h.programs i lt);
-      sent = λ i lt marked. h.sent i lt (subst IsTrue
+      sent = λ own i lt marked. h.sent own i lt (subst IsTrue
           (keeps_all s b.staged b.nodes i h.staged (within i lt)).mark marked);
-      staged = All-nil (IsChange s);
+      staged = All-nil (IsChange s.shape);
       coins = fit;
     }
 
-sound_staged : (s : Setup) (b : State) (c : Change) → IsChange s c → Sound s b → Sound s (staged_state b c)
+sound_staged : (s : Setup) (b : State) (c : Change) → IsChange s.shape c → Sound s b → Sound s (staged_state b c)
 sound_staged s b c fit h = record {
   nodes = h.nodes;
   mail = h.mail;
@@ -133,7 +134,7 @@ sound_staged s b c fit h = record {
   memories = h.memories;
   programs = h.programs;
   sent = h.sent;
-  staged = All-push (IsChange s) b.staged c h.staged fit;
+  staged = All-push (IsChange s.shape) b.staged c h.staged fit;
   coins = h.coins;
 }
 
@@ -154,7 +155,7 @@ sound_abandoned s b h = record {
 pub coin_small : (s : Setup) (b : State) (coins : List ℕ) (i : ℕ) → Sound s b → b.coins ≡ Some coins
     → i < s.shape.nodes → slice_index coins i < 2
 coin_small s b coins i sound is lt =
-    let fit : AreCoins s coins = subst (λ (o : Option (List ℕ)). IfSome o (AreCoins s)) is sound.coins in
+    let fit : AreCoins s.shape coins = subst (λ (o : Option (List ℕ)). IfSome o (AreCoins s.shape)) is sound.coins in
     fit.1 i 0 (rw fit.0 lt)
 
 pub is_setting : (s : Setup) (b : State) (coins : List ℕ) (i : ℕ) → IsSetup s → Sound s b → b.coins ≡ Some coins
@@ -170,21 +171,22 @@ is_setting s b coins i ok sound is lt =
 -- what a node that ran the clock program in a closed pulse has and sent
 pub record RanClock (s : Setup) (env : Setting) (before after : Node) (row : FinMap nat_cmp ℕ) : Type 0 where
   pub clock : clock_of after.memory ≡ (pair_after s.faults s.modulus env before.memory).0
+  pub told : value_of s.modulus after.memory ≡ clock_of after.memory
   pub last : mark_of after.memory ≡ (pair_after s.faults s.modulus env before.memory).1
   pub moved : IsMoved (quorum s) s.modulus (λ v. support env.inbox v s.shape.nodes)
       (pair_after s.faults s.modulus env before.memory)
   pub sent : (j : ℕ) → j < s.shape.nodes → get row j ≡ Some (clock_of after.memory)
 
 node_ran : (s : Setup) (mail : List (FinMap nat_cmp ℕ)) (coins : List ℕ) (i : ℕ) (x y : Node) (row : FinMap nat_cmp ℕ)
-    → IsSetup s → IsSetting (setting_at s mail coins i) → IsMemory s x.memory
+    → IsSetup s → HasRuleClock s → IsSetting (setting_at s mail coins i) → IsMemory s.shape x.memory
     → (o : Option Accepted) → MatchOption o (Rests x y row) (λ p. Runs s p (setting_at s mail coins i) x y row)
     → IsTrue y.mark → RanClock s (setting_at s mail coins i) x y row
-node_ran s mail coins i x y row ok is whole None h marked = absurd (cc (h.mark, marked))
-node_ran s mail coins i x y row ok is whole (Some p) h marked =
+node_ran s mail coins i x y row ok own is whole None h marked = absurd (cc (h.mark, marked))
+node_ran s mail coins i x y row ok own is whole (Some p) h marked =
     let env = setting_at s mail coins i in
     let pair = pair_after s.faults s.modulus env x.memory in
     let run : CompleteRun (clock_listing s) env x.memory h.end = subst
-    (λ (l : List Insn). CompleteRun l env x.memory h.end) (h.mark.0 marked) h.run in
+    (λ (l : List Insn). CompleteRun l env x.memory h.end) (h.mark.0 marked ∙ own) h.run in
     let ends = clock_ends_so (record { nodes = s.shape.nodes; faults = s.faults; modulus = s.modulus }) s.shape
     (record { some = ok.extent.some; few = ok.extent.few; allowed = ok.faults; least = ok.least; most = ok.most }) refl
     env x.memory h.end (record { extent = refl; setting = is; length = whole.length; bytes = whole.bytes }) run in
@@ -195,6 +197,7 @@ node_ran s mail coins i x y row ok is whole (Some p) h marked =
     ∙ clock_written pair x.memory (small_clock pair.0 s.modulus moved.clock ok.most) in
     record {
       clock = clock;
+      told = clock_below_same s.modulus (clock_of y.memory) (subst (λ (n : ℕ). n < s.modulus) (sym clock) moved.clock);
       last = ap mark_of left ∙ mark_written pair x.memory (small_mark pair.1 moved.last);
       moved = moved;
       sent = λ j lt. ap (λ (m : FinMap nat_cmp ℕ). get m j) h.sends
@@ -207,28 +210,28 @@ node_ran s mail coins i x y row ok is whole (Some p) h marked =
     small_mark : (c : ℕ) → c < 2 → c < 2 ^ 32
     small_mark c h = omega arith
 
-pub ran_pulse : (s : Setup) (b b' : State) (i : ℕ) → IsSetup s → Sound s b → (p : Pulse s b b') → i < s.shape.nodes
+pub ran_pulse : (s : Setup) (b b' : State) (i : ℕ) → IsSetup s → HasRuleClock s → Sound s b → (p : Pulse s b b') → i < s.shape.nodes
     → IsTrue (node_at b'.nodes i).mark
     → RanClock s (setting_at s b.mail p.coins i) (node_at b.nodes i) (node_at b'.nodes i) (row_at b'.mail i)
-ran_pulse s b b' i ok sound p lt marked =
+ran_pulse s b b' i ok own sound p lt marked =
     let within : i < length b.nodes = rw sound.nodes lt in
-    node_ran s b.mail p.coins i (node_at b.nodes i) (node_at b'.nodes i) (row_at b'.mail i) ok
+    node_ran s b.mail p.coins i (node_at b.nodes i) (node_at b'.nodes i) (row_at b'.mail i) ok own
     (is_setting s b p.coins i ok sound p.is_open lt) (sound.memories i lt) (node_at b.nodes i).program
     (p.each i within).1 marked
 
 -- what a node has and sent
 node_left : (s : Setup) (mail : List (FinMap nat_cmp ℕ)) (coins : List ℕ) (i : ℕ) (x y : Node) (row : FinMap nat_cmp ℕ)
-    → IsSetting (setting_at s mail coins i) → IsMemory s x.memory
-    → (o : Option Accepted) → IfSome o (IsLoadable s)
+    → IsSetting (setting_at s mail coins i) → IsMemory s.shape x.memory
+    → (o : Option Accepted) → IfSome o (IsLoadable s.shape)
     → MatchOption o (Rests x y row) (λ p. Runs s p (setting_at s mail coins i) x y row)
-    → IsMemory s y.memory × AreNumbers s.shape.nodes row
+    → IsMemory s.shape y.memory × AreNumbers s.shape.nodes row
 node_left s mail coins i x y row is whole None fit h =
-    (subst (IsMemory s) (sym h.memory) whole, subst (AreNumbers s.shape.nodes) (sym h.sends) (no_numbers s.shape.nodes))
+    (subst (IsMemory s.shape) (sym h.memory) whole, subst (AreNumbers s.shape.nodes) (sym h.sends) (no_numbers s.shape.nodes))
 node_left s mail coins i x y row is whole (Some p) fit h =
     let left = complete_run_leaves p.program (setting_at s mail coins i) x.memory h.end fit.program is whole.length
     whole.bytes h.run in
-    let memory : IsMemory s h.end.memory = record { length = left.memory; bytes = left.memory_bytes } in
-    (subst (IsMemory s) (sym h.memory) memory, subst (AreNumbers s.shape.nodes) (sym h.sends) left.sent)
+    let memory : IsMemory s.shape h.end.memory = record { length = left.memory; bytes = left.memory_bytes } in
+    (subst (IsMemory s.shape) (sym h.memory) memory, subst (AreNumbers s.shape.nodes) (sym h.sends) left.sent)
 
 pub sound_pulse : (s : Setup) (b b' : State) → IsSetup s → Sound s b → Pulse s b b' → Sound s b'
 sound_pulse s b b' ok sound p =
@@ -242,11 +245,11 @@ sound_pulse s b b' ok sound p =
       mail = p.mail ∙ sound.nodes;
       rows = λ i lt. (left i lt).1;
       memories = λ i lt. (left i lt).0;
-      programs = λ i lt. subst (λ (o : Option Accepted). IfSome o (IsLoadable s)) (sym (p.each i (within i lt)).0)
+      programs = λ i lt. subst (λ (o : Option Accepted). IfSome o (IsLoadable s.shape)) (sym (p.each i (within i lt)).0)
           (sound.programs i lt);
-      sent = λ i lt marked. (clock_of (node_at b'.nodes i).memory, (ran_pulse s b b' i ok sound p lt marked).sent);
-      staged = subst (λ cs. All (IsChange s) cs) (sym p.staged) sound.staged;
-      coins = subst (λ (o : Option (List ℕ)). IfSome o (AreCoins s)) (sym p.over) tt;
+      sent = λ own i lt marked. (clock_of (node_at b'.nodes i).memory, (ran_pulse s b b' i ok own sound p lt marked).sent);
+      staged = subst (λ cs. All (IsChange s.shape) cs) (sym p.staged) sound.staged;
+      coins = subst (λ (o : Option (List ℕ)). IfSome o (AreCoins s.shape)) (sym p.over) tt;
     }
 
 sound_step : (s : Setup) (b : State) (e : Entry) (b' : State) → IsSetup s → Sound s b → Step s b e b' → Sound s b'

@@ -1,10 +1,16 @@
 -- Each run in a pulse is a complete run of an accepted program, within its budget.
-use Rattle.std.proofs.Common.{◌≡◌, ℕ, ◌<◌, List, [], length, Option, Some, MatchOption, IfSome, sym, ap, subst}
+use Rattle.std.proofs.Common.{◌≡◌, ℕ, zero, suc, ◌<◌, List, [], length, Option, Some, MatchOption, IfSome, sym, ap, subst}
 use Rattle.std.specs.Prelude.{unwrap_or}
-use Rattle.bpf_machine.specs.Run.{CompleteRun, End, GetsStuck}
+use Rattle.std.specs.Ordering.{nat_cmp}
+use Rattle.std.specs.FinMap.{FinMap}
+use Rattle.node_env.specs.Env.{Setting}
+use Rattle.bpf_insn.specs.declared.forms.Insn.{Insn}
+use Rattle.bpf_machine.specs.Machine.{MachineState, Phase, Running, Ended, entry}
+use Rattle.bpf_machine.specs.Run.{CompleteRun, End, HasNoSuccessor, Leads, RunsTo, Steps}
+use Rattle.bpf_machine.proofs.OneRun.{one_step}
 use Rattle.bpf_verify.specs.Accepted.{Accepted}
 use Rattle.bpf_verify.specs.Typable.{Typable}
-use Rattle.bpf_run.proofs.Runs.{within_longest, run_unstuck, run_ends}
+use Rattle.bpf_run.proofs.Runs.{within_longest, run_ends}
 use Rattle.bench_core.specs.Setup.{Setup, IsSetup}
 use Rattle.bench_core.specs.State.{State, new_state, node_at, row_at, setting_at, IsLoadable}
 use Rattle.bench_core.specs.Pulse.{Runs, Rests, Pulse}
@@ -12,6 +18,20 @@ use Rattle.bench_core.specs.StepList.{entries_of}
 use Rattle.bench_core.specs.Laws.{EveryRun, EachEnds, IsWhole}
 use Rattle.bench_core.proofs.Sound.{Sound, sound_replay, is_setting}
 use Rattle.bench_core.proofs.Replays.{steps_are_entries}
+
+-- a state on the way to an end has a next one
+on_the_way : (program : List Insn) (env : Setting) (count steps : ℕ) (x : Phase) (s : MachineState) (m : List ℕ)
+    (out : FinMap nat_cmp ℕ) (r0 : ℕ)
+    → Leads program env count x (Running s) → Leads program env steps x (Ended m out r0) → HasNoSuccessor program env s → ⊥
+on_the_way program env zero zero x s m out r0 h g last = absurd cc
+on_the_way program env zero (suc steps) x s m out r0 h g last =
+    last g.0 (subst (λ (p : Phase). Steps program env p g.0) (sym h) g.1)
+on_the_way program env (suc count) zero x s m out r0 h g last =
+    subst (λ (p : Phase). Steps program env p h.0) (sym g) h.1
+on_the_way program env (suc count) (suc steps) x s m out r0 h g last =
+    let same : h.0 ≡ g.0 = one_step program env x h.0 g.0 h.1 g.1 in
+    on_the_way program env count steps g.0 s m out r0
+    (subst (λ (p : Phase). Leads program env count p (Running s)) same h.2) g.2 last
 
 -- from a state that a history leads to
 pub whole_run : (s : Setup) (b b' : State) (i : ℕ) (p : Accepted) → IsSetup s → Sound s b → Pulse s b b'
@@ -21,7 +41,7 @@ whole_run s b b' i p ok sound pulse lt loaded =
     let within : i < length b.nodes = rw sound.nodes lt in
     let env = setting_at s b.mail pulse.coins i in
     let memory = (node_at b.nodes i).memory in
-    let fit : IsLoadable s p = subst (λ (o : Option Accepted). IfSome o (IsLoadable s)) loaded (sound.programs i lt) in
+    let fit : IsLoadable s.shape p = subst (λ (o : Option Accepted). IfSome o (IsLoadable s.shape)) loaded (sound.programs i lt) in
     let runs : Runs s p env (node_at b.nodes i) (node_at b'.nodes i) (row_at b'.mail i) =
     subst (λ (o : Option Accepted). MatchOption o (Rests (node_at b.nodes i) (node_at b'.nodes i) (row_at b'.mail i))
     (λ q. Runs s q env (node_at b.nodes i) (node_at b'.nodes i) (row_at b'.mail i))) loaded
@@ -34,10 +54,11 @@ whole_run s b b' i p ok sound pulse lt loaded =
       record {
         run = subst (λ (cs : List ℕ). CompleteRun p.program (setting_at s b.mail cs i) memory runs.end)
             (sym coins) runs.run;
-        unstuck = λ count state kind gets.
-            run_unstuck p.program env memory count state kind fit.program is typable whole.length whole.bytes
-            (subst (λ (cs : List ℕ). GetsStuck p.program (setting_at s b.mail cs i) memory count state kind) coins
-            gets);
+        unstuck = λ count state there none.
+            on_the_way p.program env count runs.end.steps (Running (entry env memory)) state runs.end.memory
+            runs.end.sent runs.end.r0
+            (subst (λ (cs : List ℕ). RunsTo p.program (setting_at s b.mail cs i) memory count state) coins there)
+            runs.run (subst (λ (cs : List ℕ). HasNoSuccessor p.program (setting_at s b.mail cs i) state) coins none);
         within = within_longest p.program env memory runs.end p.budget fit.program is typable fit.longest whole.length
             whole.bytes runs.run;
         announced = fit.longest;
@@ -56,7 +77,7 @@ each_ends s acts b coins i p ok h is_open lt loaded =
     let sound = sound_replay s (entries_of acts) b ok (steps_are_entries s (new_state s) acts b h) in
     let env = setting_at s b.mail coins i in
     let memory = (node_at b.nodes i).memory in
-    let fit : IsLoadable s p = subst (λ (o : Option Accepted). IfSome o (IsLoadable s)) loaded (sound.programs i lt) in
+    let fit : IsLoadable s.shape p = subst (λ (o : Option Accepted). IfSome o (IsLoadable s.shape)) loaded (sound.programs i lt) in
     let is = is_setting s b coins i ok sound is_open lt in
     let whole = sound.memories i lt in
     let typable : Typable p.program env.shape = subst (Typable p.program) fit.shape fit.typable in

@@ -1,19 +1,19 @@
 -- What holds of every run of the pulse machine.
-use Rattle.std.specs.Prelude.{◌≡◌, ◌≢◌, ◌↔◌, ℕ, ◌+◌, ◌*◌, ◌%◌, ◌<◌, ◌≤◌, Bool, ◌&&◌, ◌==◌, IsTrue, IsSome, Some, List, length, count_by, All, slice_get, unwrap_or, []}
+use Rattle.std.specs.Prelude.{◌≡◌, ◌≢◌, ◌↔◌, ℕ, zero, suc, false, get_or, slice_index, ◌+◌, ◌*◌, ◌%◌, ◌<◌, ◌≤◌, Bool, ◌&&◌, ◌==◌, IsTrue, IsSome, Some, List, length, count_by, All, slice_get, unwrap_or, []}
+use Rattle.node_env.specs.Env.{inbox_of}
 use Rattle.clock_nodes.specs.Rule.{clock_of, mark_of}
-use Rattle.bpf_machine.specs.declared.word.TrapKind.{TrapKind}
 use Rattle.bpf_machine.specs.Machine.{MachineState}
-use Rattle.bpf_machine.specs.Run.{CompleteRun, End, GetsStuck}
+use Rattle.bpf_machine.specs.Run.{CompleteRun, End, HasNoSuccessor, RunsTo}
 use Rattle.bpf_verify.specs.Accepted.{Accepted}
 use Rattle.bpf_verify.specs.Paths.{IsLongestPath}
 use Rattle.bench_core.specs.declared.limits.TheConstants.{MOST_ENTRIES, CLOCKS_DIFFER}
 use Rattle.bench_core.specs.declared.refusal.StageError.{StageError}
 use Rattle.bench_core.specs.declared.refusal.OpenError.{OpenError}
 use Rattle.bench_core.specs.declared.refusal.CloseError.{CloseError}
-use Rattle.bench_core.specs.Setup.{Setup, IsSetup, quorum}
+use Rattle.bench_core.specs.Setup.{Setup, IsSetup, HasRuleClock, quorum}
 use Rattle.bench_core.specs.State.{Change, Node, State, new_state, node_at, row_at, setting_at}
 use Rattle.bench_core.specs.Pulse.{Pulse}
-use Rattle.bench_core.specs.Settled.{Row, IsRow, row_of, RanTo, faulty_count, Agree}
+use Rattle.bench_core.specs.Settled.{Row, IsRow, row_of, value_of, RanTo, faulty_count, Agree}
 use Rattle.bench_core.specs.Replay.{Entry, Staged, Closed, Run, Replays, BenchValue, Advances, rows_of}
 use Rattle.bench_core.specs.StepList.{Act, Locked, Ran, Performs, entries_of}
 use Rattle.bench_core.specs.Tasks.{Done, tasks_of, HandedOut, RanEach, IsExact}
@@ -39,16 +39,23 @@ AdvancesReplay = (old new : BenchValue) (entry : Entry) → Replays old.setup ol
 -- where the history has a place left for the close, the row is within its ranges
 abbrev pub RowsFit : Type 0
 RowsFit = (s : Setup) (history : List Entry) (b b' : State) → IsSetup s → Replays s history b → Pulse s b b'
-    → length history < MOST_ENTRIES → IsRow (row_of b b')
+    → length history < MOST_ENTRIES → IsRow (row_of s b b')
 
 -- the row tells whether settled clocks agree
 abbrev pub RowsTell : Type 0
 RowsTell = (s : Setup) (history : List Entry) (b b' : State) → IsSetup s → Replays s history b → Pulse s b b'
-    → Agree b b' ↔ ((row_of b b').common ≢ CLOCKS_DIFFER)
+    → Agree s b b' ↔ ((row_of s b b').common ≢ CLOCKS_DIFFER)
 
 abbrev pub ClocksAgree : Type 0
-ClocksAgree = (s : Setup) (history : List Entry) (b b' : State) → IsSetup s → Replays s history b → Pulse s b b'
-    → 2 * s.faults + faulty_count b b' < s.shape.nodes → Agree b b'
+ClocksAgree = (s : Setup) (history : List Entry) (b b' : State) → IsSetup s → HasRuleClock s → Replays s history b
+    → Pulse s b b'
+    → 2 * s.faults + faulty_count b b' < s.shape.nodes → Agree s b b'
+
+-- where the clock is the rule's, what a run of it leaves in the four bytes is below the modulus: it is told as it is
+abbrev pub RuleClockBelow : Type 0
+RuleClockBelow = (s : Setup) (history : List Entry) (b b' : State) (i : ℕ) → IsSetup s → HasRuleClock s
+    → Replays s history b → Pulse s b b' → i < s.shape.nodes → IsTrue (node_at b'.nodes i).mark
+    → value_of s.modulus (node_at b'.nodes i).memory ≡ clock_of (node_at b'.nodes i).memory
 
 -- the node ran the clock program in the last closed pulse, and has this pair
 abbrev pub ran_to : ℕ → ℕ → Node → Bool
@@ -62,20 +69,20 @@ IsQuiet _ = Unit {0}
 -- from the states round a closed pulse, b and b', other entries lead to c, and the next closed pulse to c'
 abbrev pub PairMovesOn : Type 0
 PairMovesOn = (s : Setup) (history between : List Entry) (b b' c c' : State) (clock i : ℕ) → IsSetup s
+    → HasRuleClock s
     → Replays s history b → Pulse s b b' → quorum s ≤ count_by (ran_to clock 1) b'.nodes
     → Run s b' between c → All IsQuiet between → Pulse s c c'
     → i < s.shape.nodes → IsTrue (node_at c'.nodes i).mark → clock_of (node_at c.nodes i).memory ≡ clock
     → mark_of (node_at c.nodes i).memory ≡ 1
     → (clock_of (node_at c'.nodes i).memory ≡ (clock + 1) % s.modulus) × (mark_of (node_at c'.nodes i).memory ≡ 1)
 
--- a loaded node's run in a closed pulse: a complete run, never stuck, of at most the announced number of instructions,
--- which leaves
--- the node's memory and its outgoing mail
+-- a loaded node's run in a closed pulse: a complete run, of at most the announced number of instructions, which leaves
+-- the node's memory and its outgoing mail. It is never stuck: each state that is reached has a next one
 pub record IsWhole (s : Setup) (b b' : State) (i : ℕ) (p : Accepted) (end : End) : Type 0 where
   pub run : CompleteRun p.program (setting_at s b.mail (unwrap_or b.coins []) i) (node_at b.nodes i).memory end
-  pub unstuck : (count : ℕ) (state : MachineState) (kind : TrapKind)
-      → GetsStuck p.program (setting_at s b.mail (unwrap_or b.coins []) i) (node_at b.nodes i).memory count state kind
-      → ⊥
+  pub unstuck : (count : ℕ) (state : MachineState)
+      → RunsTo p.program (setting_at s b.mail (unwrap_or b.coins []) i) (node_at b.nodes i).memory count state
+      → HasNoSuccessor p.program (setting_at s b.mail (unwrap_or b.coins []) i) state → ⊥
   pub within : end.steps ≤ p.budget
   pub announced : IsLongestPath p.program p.budget
   pub memory : (node_at b'.nodes i).memory ≡ end.memory
@@ -117,8 +124,9 @@ StepsAreEntries = (s : Setup) (b : State) (acts : List Act) (b' : State) → Per
     → Run s b (entries_of acts) b'
 
 abbrev pub StepsAgree : Type 0
-StepsAgree = (s : Setup) (acts : List Act) (b b' : State) → IsSetup s → Performs s (new_state s) acts b → Pulse s b b'
-    → 2 * s.faults + faulty_count b b' < s.shape.nodes → Agree b b'
+StepsAgree = (s : Setup) (acts : List Act) (b b' : State) → IsSetup s → HasRuleClock s
+    → Performs s (new_state s) acts b → Pulse s b b'
+    → 2 * s.faults + faulty_count b b' < s.shape.nodes → Agree s b b'
 
 -- where each task of the open pulse was run once, in any order and by anyone, its close takes the results
 abbrev pub ResultsFit : Type 0
@@ -138,3 +146,75 @@ OneOpenRefusal = (b : BenchValue) (coins : List ℕ) (e e' : OpenError) → IsOp
 abbrev pub OneCloseRefusal : Type 0
 OneCloseRefusal = (b : BenchValue) (dones : List Done) (e e' : CloseError) → IsCloseRefusal b dones e
     → IsCloseRefusal b dones e' → e ≡ e'
+
+-- the coin of a node in an open pulse
+abbrev pub coin_at : State → ℕ → ℕ
+coin_at b i = slice_index (unwrap_or b.coins []) i
+
+-- what a closed pulse makes of a node and its mail is by its own program, memory and coin and by the mail that came to
+-- it: two pulses in which these are equal give equal results, whatever all other nodes run, hold and send elsewhere
+abbrev pub OnlyItsOwn : Type 0
+OnlyItsOwn = (s : Setup) (b b' c c' : State) (i : ℕ) → Pulse s b b' → Pulse s c c'
+    → inbox_of i c.mail ≡ inbox_of i b.mail → coin_at c i ≡ coin_at b i
+    → i < length b.nodes → i < length c.nodes
+    → (node_at c.nodes i).program ≡ (node_at b.nodes i).program
+    → (node_at c.nodes i).memory ≡ (node_at b.nodes i).memory
+    → (node_at c'.nodes i ≡ node_at b'.nodes i) × (row_at c'.mail i ≡ row_at b'.mail i)
+
+-- these nodes: a flag for each node
+abbrev pub IsIn : List Bool → ℕ → Type 0
+IsIn group i = IsTrue (get_or group i false)
+
+-- each of these nodes ran the clock program in the last closed pulse, to the pair (clock, 1)
+abbrev pub SharePair : Setup → List Bool → ℕ → State → Type 0
+SharePair s group clock b = (i : ℕ) → i < s.shape.nodes → IsIn group i
+    → IsTrue (node_at b.nodes i).mark × (clock_of (node_at b.nodes i).memory ≡ clock)
+    × (mark_of (node_at b.nodes i).memory ≡ 1)
+
+-- entries that close no pulse, and after which these nodes have the program and the memory that they had
+pub record LeavesAlone (s : Setup) (group : List Bool) (b : State) (es : List Entry) (c : State) : Type 0 where
+  pub run : Run s b es c
+  pub quiet : All IsQuiet es
+  pub program : (i : ℕ) → i < s.shape.nodes → IsIn group i
+      → (node_at c.nodes i).program ≡ (node_at b.nodes i).program
+  pub memory : (i : ℕ) → i < s.shape.nodes → IsIn group i
+      → (node_at c.nodes i).memory ≡ (node_at b.nodes i).memory
+
+-- so many closed pulses, each after entries that leave these nodes alone
+abbrev pub Rounds : Setup → List Bool → ℕ → State → State → Type 0
+Rounds s group zero b b' = b' ≡ b
+Rounds s group (suc k) b b' = (es : List Entry) × (c : State) × (mid : State) × LeavesAlone s group b es c
+    × Pulse s c mid × Rounds s group k mid b'
+
+-- n - f nodes that share a pair (c, 1), run on and aren't corrupted have ((c + k) mod M, 1) after k closed pulses,
+-- whatever all others run, hold and send
+abbrev pub PairMovesOnFor : Type 0
+PairMovesOnFor = (s : Setup) (history : List Entry) (b0 b b' : State) (group : List Bool) (clock k : ℕ) → IsSetup s
+    → HasRuleClock s → Replays s history b0 → Pulse s b0 b
+    → length group ≡ s.shape.nodes → quorum s ≤ count_by (λ x. x) group
+    → SharePair s group clock b → Rounds s group k b b' → SharePair s group ((clock + k) % s.modulus) b'
+
+-- node i has the same program and the same memory in both
+abbrev pub SameNode : ℕ → State → State → Type 0
+SameNode i b c = ((node_at c.nodes i).program ≡ (node_at b.nodes i).program)
+    × ((node_at c.nodes i).memory ≡ (node_at b.nodes i).memory)
+
+-- of two beds, the next closed pulse of each, in which node i has the same program, memory, coin and mail
+pub record BothClose (s : Setup) (i : ℕ) (b b' c c' : State) : Type 0 where
+  pub left : Pulse s b b'
+  pub right : Pulse s c c'
+  pub within : i < length b.nodes
+  pub below : i < length c.nodes
+  pub mail : inbox_of i c.mail ≡ inbox_of i b.mail
+  pub coin : coin_at c i ≡ coin_at b i
+
+-- so many closed pulses of two beds side by side. Before each, whatever was done, node i was left as it was
+abbrev pub SideBySide : Setup → ℕ → ℕ → State → State → State → State → Type 0
+SideBySide s i zero b b' c c' = (b' ≡ b) × (c' ≡ c)
+SideBySide s i (suc k) b b' c c' = (before after : State) × (before_c after_c : State) × SameNode i b before
+    × SameNode i c before_c × BothClose s i before after before_c after_c × SideBySide s i k after b' after_c c'
+
+-- over any number of pulses in which the same mail comes to a node, it goes the same way, whatever else the beds have
+abbrev pub OnlyItsOwnFor : Type 0
+OnlyItsOwnFor = (s : Setup) (i k : ℕ) (b b' c c' : State) → SameNode i b c → SideBySide s i k b b' c c'
+    → SameNode i b' c'

@@ -7,39 +7,39 @@ use Rattle.bench_core.specs.declared.refusal.OpenError.{OpenError}
 use Rattle.bench_core.specs.declared.refusal.OpenError.TheVariants as opening
 use Rattle.bench_core.specs.declared.refusal.CloseError.{CloseError}
 use Rattle.bench_core.specs.declared.refusal.CloseError.TheVariants as closing
-use Rattle.bench_core.specs.Setup.{Setup}
+use Rattle.node_env.specs.Env.{Extent}
 use Rattle.bench_core.specs.State.{Change, Load, Corrupt, node_of, IsChange, AreCoins}
 use Rattle.bench_core.specs.Replay.{BenchValue, places_of}
 use Rattle.bench_core.specs.Tasks.{Task, Done, IsMissing, IsTwice, IsExact, HandedOut}
 
-abbrev pub HasOtherShape : Setup → Change → Type 0
-HasOtherShape s (Load i p) = p.shape ≢ s.shape
-HasOtherShape s _ = ⊥
+abbrev pub HasOtherShape : Extent → Change → Type 0
+HasOtherShape shape (Load i p) = p.shape ≢ shape
+HasOtherShape shape _ = ⊥
 
-abbrev pub HasBadImage : Setup → Change → Type 0
-HasBadImage s (Corrupt i image) = length image ≢ s.shape.memory
-HasBadImage s _ = ⊥
+abbrev pub HasBadImage : Extent → Change → Type 0
+HasBadImage shape (Corrupt i image) = length image ≢ shape.memory
+HasBadImage shape _ = ⊥
 
--- why a change is not one of a bench of this setup
-abbrev pub IsMisfit : Setup → Change → StageError → Type 0
-IsMisfit s c stage.BadNode = s.shape.nodes ≤ node_of c
-IsMisfit s c stage.OtherShape = (node_of c < s.shape.nodes) × HasOtherShape s c
-IsMisfit s c stage.BadImage = (node_of c < s.shape.nodes) × HasBadImage s c
-IsMisfit s c stage.HistoryFull = ⊥
-IsMisfit s c stage.Memory = ⊥
+-- why a change is not one of a bench of this shape
+abbrev pub IsMisfit : Extent → Change → StageError → Type 0
+IsMisfit shape c stage.BadNode = shape.nodes ≤ node_of c
+IsMisfit shape c stage.OtherShape = (node_of c < shape.nodes) × HasOtherShape shape c
+IsMisfit shape c stage.BadImage = (node_of c < shape.nodes) × HasBadImage shape c
+IsMisfit shape c stage.HistoryFull = ⊥
+IsMisfit shape c stage.Memory = ⊥
 
 abbrev pub IsStageRefusal : BenchValue → Change → StageError → Type 0
-IsStageRefusal b c stage.HistoryFull = IsChange b.setup c × (MOST_ENTRIES ≤ places_of b)
-IsStageRefusal b c stage.Memory = IsChange b.setup c × (places_of b < MOST_ENTRIES)
-IsStageRefusal b c e = IsMisfit b.setup c e
+IsStageRefusal b c stage.HistoryFull = IsChange b.setup.shape c × (MOST_ENTRIES ≤ places_of b)
+IsStageRefusal b c stage.Memory = IsChange b.setup.shape c × (places_of b < MOST_ENTRIES)
+IsStageRefusal b c e = IsMisfit b.setup.shape c e
 
 abbrev pub CanOpen : BenchValue → List ℕ → Type 0
-CanOpen b coins = IsNone b.state.coins × AreCoins b.setup coins
+CanOpen b coins = IsNone b.state.coins × AreCoins b.setup.shape coins
 
 -- an open pulse takes two places, one of them for its end
 abbrev pub IsOpenRefusal : BenchValue → List ℕ → OpenError → Type 0
 IsOpenRefusal b coins opening.PulseOpen = IsSome b.state.coins
-IsOpenRefusal b coins opening.BadCoins = IsNone b.state.coins × ¬ AreCoins b.setup coins
+IsOpenRefusal b coins opening.BadCoins = IsNone b.state.coins × ¬ AreCoins b.setup.shape coins
 IsOpenRefusal b coins opening.HistoryFull = CanOpen b coins × (MOST_ENTRIES < length b.history + 2)
 IsOpenRefusal b coins opening.Memory = CanOpen b coins × (length b.history + 2 ≤ MOST_ENTRIES)
 

@@ -14,9 +14,9 @@ pub data Entry : Type 0 where
   Abandoned : Entry
 
 abbrev pub Step : Setup → State → Entry → State → Type 0
-Step s b (Staged actor change) b' = IsChange s change × (b' ≡ staged_state b change)
-Step s b (Opened coins) b' = AreCoins s coins × (b.coins ≡ None) × (b' ≡ opened_state b coins)
-Step s b (Closed row) b' = Pulse s b b' × (row ≡ row_of b b')
+Step s b (Staged actor change) b' = IsChange s.shape change × (b' ≡ staged_state b change)
+Step s b (Opened coins) b' = AreCoins s.shape coins × (b.coins ≡ None) × (b' ≡ opened_state b coins)
+Step s b (Closed row) b' = Pulse s b b' × (row ≡ row_of s b b')
 Step s b Abandoned b' = IsSome b.coins × (b' ≡ abandoned_state b)
 
 -- the entries lead from one state to the other

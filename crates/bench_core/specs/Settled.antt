@@ -1,7 +1,7 @@
 -- Which nodes are settled after a closed pulse, and what is told of it.
 use Rattle.std.specs.Prelude.{◌≡◌, ℕ, ◌<◌, ◌≤◌, ◌⊎◌, Bool, not, ◌&&◌, ◌==◌, if◌then◌else◌, ◌↔◌, IsTrue, IsNone, Option, Some, None, List, [], ◌∷◌, map, filter, count_by, Contains, unwrap_or}
 use Rattle.std.specs.List.{list_all}
-use Rattle.clock_nodes.specs.Rule.{clock_of}
+use Rattle.clock_nodes.specs.Rule.{clock_of, clock_below}
 use Rattle.bpf_machine.specs.Run.{CompleteRun, End}
 use Rattle.bpf_verify.specs.Accepted.{Accepted}
 use Rattle.clock_nodes.specs.declared.rule.TheConstants.{MOST_MODULUS}
@@ -19,22 +19,26 @@ settled_flags (x ∷ before) (y ∷ after) = (x.mark && y.mark) ∷ settled_flag
 abbrev pub faulty_count : State → State → ℕ
 faulty_count b b' = count_by not (settled_flags b.nodes b'.nodes)
 
+-- the value of a clock: the first four bytes, or 0 where these are the modulus or more
+abbrev pub value_of : ℕ → List ℕ → ℕ
+value_of modulus memory = clock_below modulus (clock_of memory)
+
 -- the clocks of settled nodes, in node order
-abbrev pub clocks_where : List Bool → List Node → List ℕ
-clocks_where [] nodes = []
-clocks_where (x ∷ flags) [] = []
-clocks_where (x ∷ flags) (y ∷ nodes) = if x then clock_of y.memory
-    ∷ clocks_where flags nodes else clocks_where flags nodes
+abbrev pub clocks_where : ℕ → List Bool → List Node → List ℕ
+clocks_where m [] nodes = []
+clocks_where m (x ∷ flags) [] = []
+clocks_where m (x ∷ flags) (y ∷ nodes) = if x then value_of m y.memory
+    ∷ clocks_where m flags nodes else clocks_where m flags nodes
 
-abbrev pub settled_clocks : State → State → List ℕ
-settled_clocks b b' = clocks_where (settled_flags b.nodes b'.nodes) b'.nodes
+abbrev pub settled_clocks : Setup → State → State → List ℕ
+settled_clocks s b b' = clocks_where s.modulus (settled_flags b.nodes b'.nodes) b'.nodes
 
-abbrev pub moving_clocks : State → State → List ℕ
-moving_clocks b b' = filter (λ c. not (c == 0)) (settled_clocks b b')
+abbrev pub moving_clocks : Setup → State → State → List ℕ
+moving_clocks s b b' = filter (λ c. not (c == 0)) (settled_clocks s b b')
 
 -- any two settled clocks that are not zero are equal
-abbrev pub Agree : State → State → Type 0
-Agree b b' = (c d : ℕ) → Contains (moving_clocks b b') c → Contains (moving_clocks b b') d → c ≡ d
+abbrev pub Agree : Setup → State → State → Type 0
+Agree s b b' = (c d : ℕ) → Contains (moving_clocks s b b') c → Contains (moving_clocks s b b') d → c ≡ d
 
 pub record Row : Type 0 where
   pub pulse : ℕ
@@ -55,9 +59,9 @@ common_of [] = 0
 common_of (c ∷ cs) = if list_all (λ d. d == c) cs then c else CLOCKS_DIFFER
 
 -- the row of the closed pulse of this number, from the nodes before and after it
-abbrev pub row_from : ℕ → List Node → List Node → Row
-row_from pulse before after =
-    let clocks = clocks_where (settled_flags before after) after in
+abbrev pub row_from : ℕ → ℕ → List Node → List Node → Row
+row_from m pulse before after =
+    let clocks = clocks_where m (settled_flags before after) after in
     record {
       pulse = pulse;
       common = common_of (filter (λ c. not (c == 0)) clocks);
@@ -65,8 +69,8 @@ row_from pulse before after =
       settled = count_by (λ x. x) (settled_flags before after);
     }
 
-abbrev pub row_of : State → State → Row
-row_of b b' = row_from b'.closed b.nodes b'.nodes
+abbrev pub row_of : Setup → State → State → Row
+row_of s b b' = row_from s.modulus b'.closed b.nodes b'.nodes
 
 -- the complete run of the loaded node i
 pub record RanTo (s : Setup) (b : State) (coins : List ℕ) (i : ℕ) (end : End) : Type 0 where
@@ -81,7 +85,7 @@ pub record IsSteps (s : Setup) (b : State) (coins : List ℕ) (k : ℕ) : Type 0
   pub reached : ((i : ℕ) × (end : End) × RanTo s b coins i end × (end.steps ≡ k))
       ⊎ (((i : ℕ) → i < s.shape.nodes → IsNone (node_at b.nodes i).program) × (k ≡ 0))
 
--- what is told of a closed pulse
+-- what is told of a closed pulse. Its clocks are the four bytes, below the modulus or not; its row has their values
 pub record PulseTold : Type 0 where
   pub row : Row
   pub clocks : List (Option ℕ)
@@ -90,8 +94,8 @@ pub record PulseTold : Type 0 where
   pub agree : Bool
 
 pub record IsRecord (s : Setup) (b b' : State) (r : PulseTold) : Type 0 where
-  pub row : r.row ≡ row_of b b'
+  pub row : r.row ≡ row_of s b b'
   pub clocks : r.clocks ≡ map (λ x. if x.mark then Some (clock_of x.memory) else None) b'.nodes
   pub settled : r.settled ≡ settled_flags b.nodes b'.nodes
   pub steps : IsSteps s b (unwrap_or b.coins []) r.steps
-  pub agree : IsTrue r.agree ↔ Agree b b'
+  pub agree : IsTrue r.agree ↔ Agree s b b'

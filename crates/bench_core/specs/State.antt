@@ -2,7 +2,7 @@
 use Rattle.std.specs.Prelude.{◌≡◌, ℕ, ◌<◌, Bool, false, Option, Some, None, List, [], ◌∷◌, ◌++◌, length, get_or, slice_set, slice_index, replicate, All}
 use Rattle.std.specs.Ordering.{nat_cmp}
 use Rattle.std.specs.FinMap.{FinMap, empty}
-use Rattle.node_env.specs.Env.{Setting, inbox_of}
+use Rattle.node_env.specs.Env.{Extent, Setting, inbox_of}
 use Rattle.bpf_insn.specs.Programs.{IsProgram}
 use Rattle.bpf_verify.specs.Accepted.{Accepted}
 use Rattle.bpf_verify.specs.Typable.{Typable}
@@ -62,27 +62,27 @@ new_state s = record {
   coins = None;
 }
 
--- a memory of this setup
-pub record IsMemory (s : Setup) (memory : List ℕ) : Type 0 where
-  pub length : length memory ≡ s.shape.memory
+-- a memory of this shape
+pub record IsMemory (extent : Extent) (memory : List ℕ) : Type 0 where
+  pub length : length memory ≡ extent.memory
   pub bytes : All (λ byte. byte < 256) memory
 
--- a program that is accepted for this setup's shape
-pub record IsLoadable (s : Setup) (p : Accepted) : Type 0 where
-  pub shape : p.shape ≡ s.shape
+-- a program that is accepted for this shape
+pub record IsLoadable (extent : Extent) (p : Accepted) : Type 0 where
+  pub shape : p.shape ≡ extent
   pub program : IsProgram p.program
   pub typable : Typable p.program p.shape
   pub longest : IsLongestPath p.program p.budget
 
--- a change of a bench of this setup
-abbrev pub IsChange : Setup → Change → Type 0
-IsChange s (Load i p) = (i < s.shape.nodes) × IsLoadable s p
-IsChange s (Unload i) = i < s.shape.nodes
-IsChange s (Corrupt i image) = (i < s.shape.nodes) × IsMemory s image
+-- a change of a bench of this shape
+abbrev pub IsChange : Extent → Change → Type 0
+IsChange shape (Load i p) = (i < shape.nodes) × IsLoadable shape p
+IsChange shape (Unload i) = i < shape.nodes
+IsChange shape (Corrupt i image) = (i < shape.nodes) × IsMemory shape image
 
 -- a coin for each node
-abbrev pub AreCoins : Setup → List ℕ → Type 0
-AreCoins s coins = (length coins ≡ s.shape.nodes) × All (λ coin. coin < 2) coins
+abbrev pub AreCoins : Extent → List ℕ → Type 0
+AreCoins shape coins = (length coins ≡ shape.nodes) × All (λ coin. coin < 2) coins
 
 -- a load keeps the node's memory and mark
 abbrev pub applied : List Node → Change → List Node

@@ -1,5 +1,8 @@
 -- What contracts see of the code's types, and what the fields of a bench keep.
+use Rattle.std.specs.Prelude.{◌-◌, List}
 use Rattle.node_env.specs.Env.{Extent}
+use Rattle.bpf_insn.specs.declared.forms.Insn.{Insn}
+use Rattle.clock_nodes.specs.Listings.{listing}
 use Rattle.clock_nodes.specs.Rule.{Rule}
 use Rattle.bench_core.specs.declared.change.Change.{Change}
 use Rattle.bench_core.specs.declared.change.Change.TheVariants.{Load, Unload, Corrupt}
@@ -9,8 +12,13 @@ use Rattle.bench_core.specs.State.{Change as ChangeValue, Load as LoadValue, Unl
 use Rattle.bench_core.specs.Replay.{Entry as EntryValue, Staged as StagedValue, Opened as OpenedValue, Closed as ClosedValue, Abandoned as AbandonedValue}
 use Rattle.bench_core.specs.Setup.{Setup}
 
+-- of a shape, a rule and a clock
+abbrev pub setup_with : Extent → Rule → List Insn → Setup
+setup_with shape rule clock = record { shape = shape; faults = rule.faults; modulus = rule.modulus; clock = clock }
+
+-- the clock is the rule's
 abbrev pub setup_of : Extent → Rule → Setup
-setup_of shape rule = record { shape = shape; faults = rule.faults; modulus = rule.modulus }
+setup_of shape rule = setup_with shape rule (listing shape.nodes (shape.nodes - rule.faults) rule.modulus)
 
 -- changes and entries as the pulse machine's: by all parts, an image and coins by their numbers
 abbrev pub change_of : Change → ChangeValue

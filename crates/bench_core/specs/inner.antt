@@ -1,4 +1,5 @@
 -- What proofs and private contracts alone cite.
+pub mod ClockImages
 pub mod Found
 pub mod Kept
 pub mod Nodes

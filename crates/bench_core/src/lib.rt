@@ -4,6 +4,7 @@
 mod actor;
 mod bench;
 mod change;
+mod clock_program;
 mod close;
 mod entry;
 mod found;
@@ -19,10 +20,11 @@ mod task;
 pub use actor::Actor;
 pub use bench::{Bench, are_coins, misfit};
 pub use change::Change;
+pub use clock_program::ClockProgram;
 pub use entry::Entry;
 pub use laws::{
-    clocks_agree, every_run, one_refusal, one_replay, pair_moves_on, results_fit, rows_count,
-    steps_are_entries,
+    clocks_agree, every_run, one_refusal, one_replay, only_its_own, pair_moves_on, results_fit,
+    rows_count, steps_are_entries,
 };
 pub use limits::{CLOCKS_DIFFER, MOST_COUNTED, MOST_ENTRIES, MOST_PULSES};
 pub use record::PulseRecord;

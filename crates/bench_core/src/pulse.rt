@@ -7,10 +7,10 @@ ghost use Rattle.bench_core.specs.Views.{entry_of};
 ghost use Rattle.bench_core.specs.inner.OpenPulse.{setup_in, IsWhole, tasks_by};
 ghost use Rattle.bench_core.specs.Tasks.{tasks_from};
 
+use crate::clock_program::ClockProgram;
 use crate::entry::Entry;
 use crate::node::{NodeSlot, apply_all, copied};
 use crate::task::NodeTask;
-use bpf_insn::Program;
 use clock_nodes::ClockRule;
 use node_env::{Env, Mail, Shape};
 use std::alloc::{AllocError, Global};
@@ -20,6 +20,7 @@ use std::alloc::{AllocError, Global};
 pub(crate) struct OpenPulse<'a> {
     pub(crate) shape: Shape,
     pub(crate) rule: ClockRule,
+    pub(crate) clock: &'a ClockProgram,
     pub(crate) nodes: &'a [NodeSlot],
     pub(crate) mail: &'a Mail,
     pub(crate) coins: &'a [u32],
@@ -58,7 +59,6 @@ pub(crate) struct Prepared {
 pub(crate) fn prepare(
     alloc: Global,
     pulse: &OpenPulse,
-    clock: &Program,
     flags: &[bool],
     staged: &[Entry],
 ) -> Result<Prepared, AllocError>
@@ -67,11 +67,11 @@ pub(crate) fn prepare(
     requires after { All (FitsShape pulse.now.shape)
         (all_applied pulse.now.nodes.now (staged_of (map entry_of staged.now))) }
     requires mail { length pulse.now.mail.now ≡ pulse.now.shape.nodes }
-    requires coins { AreCoins (setup_in pulse.now) pulse.now.coins.now }
-    requires flags { KnowsClock clock.now pulse.now.nodes.now flags.now }
+    requires coins { AreCoins pulse.now.shape pulse.now.coins.now }
+    requires flags { KnowsClock pulse.now.clock.now pulse.now.nodes.now flags.now }
     ensures nodes { IfOk result (λ p.
         p.nodes.items ≡ all_applied pulse.now.nodes.now (staged_of (map entry_of staged.now))) }
-    ensures flags { IfOk result (λ p. KnowsClock clock.now p.nodes.items p.flags.items) }
+    ensures flags { IfOk result (λ p. KnowsClock pulse.now.clock.now p.nodes.items p.flags.items) }
     ensures tasks { IfOk result (λ p. p.tasks.items
         ≡ tasks_from (setup_in pulse.now) pulse.now.mail.now pulse.now.coins.now pulse.now.opening 0 p.nodes.items) }
     ensures kept { IfOk result (λ p. p.kept_coins.items ≡ pulse.now.coins.now) }
@@ -79,10 +79,11 @@ pub(crate) fn prepare(
 {
     let mut nodes = copied(alloc, pulse.nodes)?;
     let mut flags = Vec::from_slice(alloc, flags)?;
-    apply_all(alloc, clock, &mut nodes, &mut flags, staged)?;
+    apply_all(alloc, pulse.clock, &mut nodes, &mut flags, staged)?;
     let next = OpenPulse {
         shape: pulse.shape,
         rule: pulse.rule,
+        clock: pulse.clock,
         nodes: &nodes,
         mail: pulse.mail,
         coins: pulse.coins,

@@ -1,6 +1,5 @@
 //! What is told of a closed pulse.
 ghost use Rattle.std.specs.Prelude.{◌≡◌, ◌≢◌, ◌↔◌, ◌<◌, ◌≤◌, All, IfOk, IsTrue, length, map};
-ghost use Rattle.clock_nodes.specs.Rule.{clock_of};
 ghost use Rattle.clock_nodes.specs.declared.rule.TheConstants.{MOST_MODULUS};
 ghost use Rattle.bench_core.specs.declared.limits.TheConstants.{MOST_COUNTED, MOST_PULSES};
 ghost use Rattle.bench_core.specs.Settled.{clocks_where};
@@ -17,13 +16,13 @@ use std::marker::Model;
 #[derive(Drop)]
 pub struct PulseRecord {
     pub row: Row,
-    /// The clock of each node that ran the clock program of the bench's rule.
+    /// The four bytes of each node that ran the bench's clock, also where these are the modulus or more.
     pub clocks: Vec<Option<u32>>,
     /// Which nodes ran it in the closed pulse before as well.
     pub settled: Vec<bool>,
     /// The greatest number of instructions that a node ran, 0 where none is loaded.
     pub steps: u32,
-    /// Whether any two settled clocks that are not 0 are equal.
+    /// Whether any two settled clocks that are not 0 are equal, by their values: one past the modulus counts as 0.
     pub agree: bool,
 }
 
@@ -60,15 +59,22 @@ pub(crate) fn make_room(alloc: Global, nodes: &[NodeSlot]) -> Result<Room, Alloc
 }
 
 /// What is told of a pulse, the one of this number, that these results closed and that left these nodes.
-pub(crate) fn tell(room: Room, pulse: u32, nodes: &[NodeSlot], dones: &[NodeDone]) -> PulseRecord
+pub(crate) fn tell(
+    room: Room,
+    modulus: u32,
+    pulse: u32,
+    nodes: &[NodeSlot],
+    dones: &[NodeDone],
+) -> PulseRecord
     requires first { 1 ≤ pulse }
     requires last { pulse ≤ MOST_PULSES }
     requires settled { length room.settled.items ≡ length nodes.now }
     requires clocks { length room.clocks.items ≡ length nodes.now }
     requires few { length nodes.now ≤ MOST_COUNTED }
     requires memory { All (λ x. 4 ≤ length x.memory) nodes.now }
-    requires small { All (λ c. c < MOST_MODULUS) (clocks_where (both_marked room.settled.items nodes.now) nodes.now) }
-    ensures row { result.row ≡ row_told pulse (both_marked room.settled.items nodes.now) nodes.now }
+    requires small { All (λ c. c < MOST_MODULUS)
+        (clocks_where modulus (both_marked room.settled.items nodes.now) nodes.now) }
+    ensures row { result.row ≡ row_told modulus pulse (both_marked room.settled.items nodes.now) nodes.now }
     ensures clocks { result.clocks ≡ map told_clock nodes.now }
     ensures settled { result.settled ≡ both_marked room.settled.items nodes.now }
     ensures steps { IsMostSteps dones.now result.steps }
@@ -80,7 +86,7 @@ pub(crate) fn tell(room: Room, pulse: u32, nodes: &[NodeSlot], dones: &[NodeDone
     } = room;
     settle(&mut settled, nodes);
     tell_clocks(&mut clocks, nodes);
-    let row = row_told(pulse, &settled, nodes);
+    let row = row_told(modulus, pulse, &settled, nodes);
     PulseRecord {
         row,
         clocks,
@@ -125,14 +131,14 @@ fn tell_clocks(clocks: &mut [Option<u32>], nodes: &[NodeSlot])
 }
 
 /// The row of settled nodes.
-fn row_told(pulse: u32, settled: &[bool], nodes: &[NodeSlot]) -> Row
+fn row_told(modulus: u32, pulse: u32, settled: &[bool], nodes: &[NodeSlot]) -> Row
     requires first { 1 ≤ pulse }
     requires last { pulse ≤ MOST_PULSES }
     requires count { length settled.now ≡ length nodes.now }
     requires few { length settled.now ≤ MOST_COUNTED }
     requires room { All (λ x. 4 ≤ length x.memory) nodes.now }
-    requires small { All (λ c. c < MOST_MODULUS) (clocks_where settled.now nodes.now) }
-    ensures { result ≡ row_told pulse settled.now nodes.now }
+    requires small { All (λ c. c < MOST_MODULUS) (clocks_where modulus settled.now nodes.now) }
+    ensures { result ≡ row_told modulus pulse settled.now nodes.now }
 {
     let mut common = 0;
     let mut zeros = 0;
@@ -141,7 +147,7 @@ fn row_told(pulse: u32, settled: &[bool], nodes: &[NodeSlot]) -> Row
         let node = &nodes[i];
         if settled[i] {
             count += 1;
-            let clock = node.clock();
+            let clock = node.value(modulus);
             if clock == 0 {
                 zeros += 1;
             } else {

@@ -8,7 +8,7 @@ pub struct Row {
     pub pulse: u32,
     /// The one clock of settled nodes that is not 0: 0 where there is none, [`crate::CLOCKS_DIFFER`] where two differ.
     pub common: u32,
-    /// How many settled nodes have clock 0.
+    /// How many settled nodes have clock 0, or a clock past the modulus.
     pub zeros: u32,
     /// How many nodes are settled.
     pub settled: u32,

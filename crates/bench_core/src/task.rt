@@ -43,6 +43,9 @@ impl Model for NodeTask {
 }
 
 impl NodeTask {
+    ghost use Rattle.std.specs.Prelude.{◌≤◌};
+    ghost use Rattle.bench_core.specs.inner.Tasks.{IsEnd};
+
     /// The task of a node, with room for its result.
     pub(crate) fn of(
         alloc: Global,
@@ -79,7 +82,9 @@ impl NodeTask {
 
     /// Runs the program on its input.
     pub fn run(self) -> NodeDone
-        ensures { result.task ≡ self }
+        ensures input { result.task ≡ self }
+        ensures end { IsEnd result }
+        ensures within { result.end.steps ≤ result.task.program.budget }
     {
         let NodeTask {
             opening,

@@ -1,5 +1,6 @@
 mod benches;
 mod calls;
+mod own;
 mod plain;
 mod pulses;
 mod refusals;

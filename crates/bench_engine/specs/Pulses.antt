@@ -21,5 +21,5 @@ Stopped (Close e) old coins new = Adds old (Opened coins ∷ []) new ⊎ Adds ol
 -- what the refusal says of the coins
 abbrev pub IsPulseRefusal : Plan → List ℕ → EngineError → Type 0
 IsPulseRefusal p coins (Open e) = IsPlanOpenRefusal p coins e
-IsPulseRefusal p coins (Work e) = AreCoins p.setup coins
-IsPulseRefusal p coins (Close e) = AreCoins p.setup coins
+IsPulseRefusal p coins (Work e) = AreCoins p.setup.shape coins
+IsPulseRefusal p coins (Close e) = AreCoins p.setup.shape coins

@@ -15,10 +15,10 @@ use Rattle.bench_engine.specs.declared.event.RunRefusal.TheVariants as refusals
 -- from this state, with so many entries so far, the events give these records and lead to that state
 abbrev pub Goes : Setup → State → ℕ → List Event → List PulseTold → State → Type 0
 Goes s b n [] rs b' = (rs ≡ []) × (b' ≡ b)
-Goes s b n (Stage c ∷ es) rs b' = IsChange s c × (n < MOST_ENTRIES) × Goes s (staged_state b c) (n + 1) es rs b'
+Goes s b n (Stage c ∷ es) rs b' = IsChange s.shape c × (n < MOST_ENTRIES) × Goes s (staged_state b c) (n + 1) es rs b'
 Goes s b n (PulseEvent coins ∷ es) [] b' = ⊥
 Goes s b n (PulseEvent coins ∷ es) (r ∷ rs) b' =
-    AreCoins s coins × (n + 2 ≤ MOST_ENTRIES)
+    AreCoins s.shape coins × (n + 2 ≤ MOST_ENTRIES)
     × ((mid : State) × Pulse s (opened_state b coins) mid × IsRecord s (opened_state b coins) mid r
     × Goes s mid (n + 2) es rs b')
 
@@ -36,14 +36,14 @@ entries_after (PulseEvent coins ∷ es) = 2 + entries_after es
 
 -- what the refusal says of the event, after so many entries
 abbrev pub IsRefusalOf : Setup → ℕ → Event → RunRefusal → Type 0
-IsRefusalOf s n (Stage c) refusals.BadNode = IsMisfit s c stage.BadNode
-IsRefusalOf s n (Stage c) refusals.OtherShape = IsMisfit s c stage.OtherShape
-IsRefusalOf s n (Stage c) refusals.BadImage = IsMisfit s c stage.BadImage
-IsRefusalOf s n (Stage c) refusals.HistoryFull = IsChange s c × (MOST_ENTRIES < n + 1)
-IsRefusalOf s n (PulseEvent coins) refusals.BadCoins = AreCoins s coins → ⊥
-IsRefusalOf s n (PulseEvent coins) refusals.HistoryFull = AreCoins s coins × (MOST_ENTRIES < n + 2)
-IsRefusalOf s n (PulseEvent coins) refusals.NoThread = AreCoins s coins × (n + 2 ≤ MOST_ENTRIES)
-IsRefusalOf s n (PulseEvent coins) refusals.GateShut = AreCoins s coins × (n + 2 ≤ MOST_ENTRIES)
+IsRefusalOf s n (Stage c) refusals.BadNode = IsMisfit s.shape c stage.BadNode
+IsRefusalOf s n (Stage c) refusals.OtherShape = IsMisfit s.shape c stage.OtherShape
+IsRefusalOf s n (Stage c) refusals.BadImage = IsMisfit s.shape c stage.BadImage
+IsRefusalOf s n (Stage c) refusals.HistoryFull = IsChange s.shape c × (MOST_ENTRIES < n + 1)
+IsRefusalOf s n (PulseEvent coins) refusals.BadCoins = AreCoins s.shape coins → ⊥
+IsRefusalOf s n (PulseEvent coins) refusals.HistoryFull = AreCoins s.shape coins × (MOST_ENTRIES < n + 2)
+IsRefusalOf s n (PulseEvent coins) refusals.NoThread = AreCoins s.shape coins × (n + 2 ≤ MOST_ENTRIES)
+IsRefusalOf s n (PulseEvent coins) refusals.GateShut = AreCoins s.shape coins × (n + 2 ≤ MOST_ENTRIES)
 IsRefusalOf s n _ _ = ⊥
 
 -- the events before this one give some run, and it is refused after that

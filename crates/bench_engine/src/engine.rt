@@ -2,6 +2,7 @@
 ghost use Rattle.std.specs.Prelude.{◌≡◌, ◌≢◌, ◌≤◌, ◌∷◌, [], true, None, IfOk, IfErr, OnOk, length, map};
 ghost use Rattle.bench_core.specs.declared.limits.TheConstants.{MOST_ENTRIES};
 ghost use Rattle.bench_core.specs.declared.refusal.CloseError.TheVariants as CloseError;
+ghost use Rattle.bench_core.specs.State.{new_state};
 ghost use Rattle.bench_core.specs.Views.{change_of, setup_of};
 ghost use Rattle.bench_engine.specs.declared.event.RunRefusal.TheVariants.{GateShut, Memory};
 ghost use Rattle.bench_engine.specs.declared.refusal.WorkError.TheVariants as work;
@@ -169,9 +170,33 @@ pub fn run_events<R: Threads + Wait + Sync, G: Gate + Sync>(
     ensures open { G.always gate.now ≡ true → IfErr result (λ f. f.fault ≢ GateShut) }
 {
     let fault = RunRefusal::Memory;
-    let Ok(mut bench) = Bench::new(alloc, shape, rule) else {
+    let Ok(bench) = Bench::new(alloc, shape, rule) else {
         return Err(RunFault { event: 0, fault });
     };
+    run_events_on(rt, alloc, gate, workers, bench, events)
+}
+
+/// As `run_events`, on a new bench that is handed in: one with a clock of its own, say.
+pub fn run_events_on<R: Threads + Wait + Sync, G: Gate + Sync>(
+    rt: &R,
+    alloc: Global,
+    gate: &G,
+    workers: u32,
+    bench: Bench,
+    events: Vec<Event>,
+) -> Result<Run, RunFault>
+    requires some { 1 ≤ workers }
+    requires few { workers ≤ MOST_WORKERS }
+    requires state { bench.state ≡ new_state bench.setup }
+    requires history { bench.history ≡ [] }
+    ensures run { IfOk result (λ run. IsRun bench.setup (map event_of events.items) run.records.items
+        (map (λ memory. memory.items) run.memories.items)) }
+    ensures fault { IfErr result (λ f. IsFault bench.setup (map event_of events.items) f.event f.fault) }
+    ensures open { G.always gate.now ≡ true → IfErr result (λ f. f.fault ≢ GateShut) }
+{
+    let fault = RunRefusal::Memory;
+    let nodes = bench.shape().nodes();
+    let mut bench = bench;
     let mut records = Vec::new(alloc);
     let mut place = 0;
     for event in events {
@@ -186,7 +211,7 @@ pub fn run_events<R: Threads + Wait + Sync, G: Gate + Sync>(
         }
     }
     let _history = bench.history();
-    match memories_of(alloc, &bench, shape.nodes()) {
+    match memories_of(alloc, &bench, nodes) {
         Ok(memories) => Ok(Run { records, memories }),
         Err(_) => Err(RunFault {
             event: place,

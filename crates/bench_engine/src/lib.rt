@@ -11,7 +11,7 @@ mod shared_pulse;
 mod tasks;
 mod workers;
 
-pub use engine::run_events;
+pub use engine::{run_events, run_events_on};
 pub use event::{Event, Run, RunFault, RunRefusal};
 pub use gate::{Gate, Open};
 pub use refusal::{EngineError, WorkError};

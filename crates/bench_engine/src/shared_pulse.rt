@@ -43,7 +43,7 @@ pub fn pulse<B: Ledger, C: Ledger, R: Threads + Wait + Sync, G: Gate + Sync>(
     ensures silent { OnErr result (engine.new.posted ≡ engine.old.posted) }
     ensures paid { engine.new.owed ≡ None }
     ensures board { engine.new.board ≡ engine.old.board }
-    ensures fits { OnOk result (AreCoins shared.now.setup coins.now) }
+    ensures fits { OnOk result (AreCoins shared.now.setup.shape coins.now) }
     ensures refusal { IfErr result (IsPulseRefusal shared.now coins.now) }
     ensures open { G.always gate.now ≡ true → IfErr result (λ e. e ≢ Work GateShut) }
     ensures alone { workers ≡ 1 → IfErr result (λ e. e ≢ Work NoThread) }

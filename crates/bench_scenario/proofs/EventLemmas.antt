@@ -55,7 +55,7 @@ coins_below f (suc n) below =
     subst (All (λ c. c < 2)) (sym (map_more f (places_below n) n))
     (All-append (λ c. c < 2) (map f (places_below n)) (f n ∷ []) (coins_below f n below) (one_below (f n) (below n)))
 
-pulse_fits : (s : Scenario) (pulse : ℕ) → Each HasCoin s.entries.items → AreCoins (bench_of s) (coins_of s pulse)
+pulse_fits : (s : Scenario) (pulse : ℕ) → Each HasCoin s.entries.items → AreCoins (bench_of s).shape (coins_of s pulse)
 pulse_fits s pulse each = (
   places_length (coin_of s pulse) s.nodes,
   coins_below (coin_of s pulse) s.nodes

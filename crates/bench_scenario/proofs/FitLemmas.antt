@@ -35,9 +35,9 @@ each_at P (y ∷ xs) (suc k) x at each = each_at P xs k x at each.1
 
 -- the bench takes the event, wherever there is room
 abbrev pub Fits : Setup → Event → Type 0
-Fits s (Stage c) = (IsMisfit s c stage.BadNode → ⊥) × (IsMisfit s c stage.OtherShape → ⊥)
-    × (IsMisfit s c stage.BadImage → ⊥)
-Fits s (Pulse coins) = AreCoins s coins
+Fits s (Stage c) = (IsMisfit s.shape c stage.BadNode → ⊥) × (IsMisfit s.shape c stage.OtherShape → ⊥)
+    × (IsMisfit s.shape c stage.BadImage → ⊥)
+Fits s (Pulse coins) = AreCoins s.shape coins
 
 abbrev pub entries_of : Event → ℕ
 entries_of (Stage c) = 1

@@ -17,16 +17,16 @@ pub record Plan : Type 0 where
 
 -- a misfit is told as one, and no other change is
 abbrev pub IsPlanRefusal : Plan → Change → StageError → Type 0
-IsPlanRefusal p c stage.HistoryFull = IsChange p.setup c
-IsPlanRefusal p c stage.Memory = IsChange p.setup c
-IsPlanRefusal p c e = IsMisfit p.setup c e
+IsPlanRefusal p c stage.HistoryFull = IsChange p.setup.shape c
+IsPlanRefusal p c stage.Memory = IsChange p.setup.shape c
+IsPlanRefusal p c e = IsMisfit p.setup.shape c e
 
 -- bad coins are told as such or as an open pulse, and no other coins are told to be bad
 abbrev pub IsPlanOpenRefusal : Plan → List ℕ → OpenError → Type 0
 IsPlanOpenRefusal p coins opening.PulseOpen = Unit {0}
-IsPlanOpenRefusal p coins opening.BadCoins = ¬ AreCoins p.setup coins
-IsPlanOpenRefusal p coins opening.HistoryFull = AreCoins p.setup coins
-IsPlanOpenRefusal p coins opening.Memory = AreCoins p.setup coins
+IsPlanOpenRefusal p coins opening.BadCoins = ¬ AreCoins p.setup.shape coins
+IsPlanOpenRefusal p coins opening.HistoryFull = AreCoins p.setup.shape coins
+IsPlanOpenRefusal p coins opening.Memory = AreCoins p.setup.shape coins
 
 -- the tasks of one open pulse with these coins, of a bench of this setup
 pub record HandsOut (s : Setup) (coins : List ℕ) (tasks : List Task) : Type 0 where

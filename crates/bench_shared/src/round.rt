@@ -5,11 +5,12 @@ ghost use Rattle.bench_core.specs.Replay.{Advances, Staged, Opened, Closed, Aban
 ghost use Rattle.bench_core.specs.Refusals.{IsStageRefusal, IsOpenRefusal};
 ghost use Rattle.bench_core.specs.Setup.{IsSetup};
 ghost use Rattle.bench_core.specs.Tasks.{tasks_of};
-ghost use Rattle.bench_core.specs.Views.{change_of, entry_of, setup_of};
+ghost use Rattle.bench_core.specs.Views.{change_of, entry_of, setup_with};
 ghost use Rattle.bench_shared.specs.Plans.{HandsOut};
 
 use bench_core::{
-    Actor, Bench, Change, CloseError, Entry, NodeDone, NodeTask, OpenError, PulseRecord, StageError,
+    Actor, Bench, Change, ClockProgram, CloseError, Entry, NodeDone, NodeTask, OpenError,
+    PulseRecord, StageError,
 };
 use clock_nodes::ClockRule;
 use node_env::Shape;
@@ -42,11 +43,13 @@ impl<B: Ledger, C: Ledger> Round<B, C> {
         }
     }
 
-    /// Whether the bench is of this shape and rule.
-    pub(crate) fn is_of(&self, shape: Shape, rule: ClockRule) -> bool
-        ensures { IsTrue result → self.now.bench.setup ≡ setup_of shape rule }
+    /// Whether the bench is of this shape, rule and clock.
+    pub(crate) fn is_of(&self, shape: Shape, rule: ClockRule, clock: &ClockProgram) -> bool
+        ensures { IsTrue result → self.now.bench.setup ≡ setup_with shape rule clock.now }
     {
-        self.bench.shape() == shape && self.bench.rule() == rule
+        self.bench.shape() == shape
+            && self.bench.rule() == rule
+            && self.bench.clock_program().same(clock)
     }
 
     /// Whether the change can be staged but for want of memory.

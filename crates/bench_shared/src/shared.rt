@@ -4,7 +4,7 @@ ghost use Rattle.std.specs.List.{sum_by};
 ghost use Rattle.bench_core.specs.declared.actor.Actor.TheVariants.{Loader, Engine};
 ghost use Rattle.bench_core.specs.State.{Load, Unload, Corrupt, IsChange, AreCoins};
 ghost use Rattle.bench_core.specs.Replay.{Staged, Opened, Closed, Abandoned, rows_of};
-ghost use Rattle.bench_core.specs.Views.{change_of, setup_of};
+ghost use Rattle.bench_core.specs.Views.{change_of, setup_of, setup_with};
 ghost use Rattle.bench_shared.specs.Passes.{AreNew, OneMore};
 ghost use Rattle.bench_shared.specs.Ends.{placed_by, EachOnce, HasReplay};
 ghost use Rattle.bench_shared.specs.Plans.{HandsOut, IsPlanRefusal, IsPlanOpenRefusal};
@@ -14,11 +14,12 @@ use crate::finish::{Finished, are_all};
 use crate::passes::{EnginePass, LoaderPass, Receipt};
 use crate::round::Round;
 use bench_core::{
-    Actor, Bench, Change, CloseError, Entry, NodeDone, NodeTask, OpenError, PulseRecord,
-    StageError, are_coins, misfit,
+    Actor, Bench, Change, ClockProgram, CloseError, Entry, NodeDone, NodeTask, OpenError,
+    PulseRecord, StageError, are_coins, misfit,
 };
+use bpf_insn::Program;
 use bpf_verify::VerifiedProgram;
-use clock_nodes::ClockRule;
+use clock_nodes::{ClockRule, dolev_welch};
 use node_env::Shape;
 use std::alloc::{AllocError, Global};
 use std::marker::{Model, PhantomData};
@@ -38,16 +39,17 @@ pub struct SharedBench<B: Ledger, C: Ledger> {
     round: Mutex<Round<B, C>>,
     shape: Shape,
     rule: ClockRule,
+    clock: ClockProgram,
     loaders: u32,
 }
 
 impl<B: Ledger, C: Ledger> Model for SharedBench<B, C> {
-    ghost use Rattle.bench_core.specs.Views.{setup_of};
+    ghost use Rattle.bench_core.specs.Views.{setup_with};
     ghost use Rattle.bench_shared.specs.Plans.{Plan};
 
     ghost Value = { Plan };
 
-    ghost view = { λ b. record { setup = setup_of b.shape b.rule; loaders = b.loaders } };
+    ghost view = { λ b. record { setup = setup_with b.shape b.rule b.clock; loaders = b.loaders } };
 }
 
 /// One pass for each loader, each with a part of the ledger.
@@ -128,16 +130,56 @@ impl<B: Ledger, C: Ledger> SharedBench<B, C> {
         ensures watchers { IfOk result (λ r. (vec_len r.4 ≡ watchers)
             × All (λ p. p.board ≡ r.1) r.4.items × All (λ p. p.rows ≡ []) r.4.items) }
     {
+        let clock = dolev_welch(alloc, shape, rule)?;
+        SharedBench::with_clock(
+            alloc, entries, closes, shape, rule, clock, loaders, watchers,
+        )
+    }
+
+    /// As `new`, where this program counts as the clock.
+    pub fn with_clock(
+        alloc: Global,
+        entries: Blank,
+        closes: Blank,
+        shape: Shape,
+        rule: ClockRule,
+        clock: Program,
+        loaders: u32,
+        watchers: u32,
+    ) -> Result<
+        (
+            SharedBench<B, C>,
+            Board,
+            EnginePass<B, C>,
+            Vec<LoaderPass<B, C>>,
+            Vec<WatchPass>,
+        ),
+        AllocError,
+    >
+        requires entries { (entries.name ≡ B.name) × (entries.parts ≡ B.parts) × (entries.parts ≡ loaders + 1) }
+        requires closes { (closes.name ≡ C.name) × (closes.parts ≡ C.parts) × (closes.parts ≡ 1) }
+        requires nodes { rule.nodes ≡ shape.nodes }
+        requires some { 1 ≤ loaders }
+        requires few { loaders ≤ MOST_LOADERS }
+        requires watchers { watchers ≤ MOST_WATCHERS }
+        ensures plan { IfOk result (λ r. r.0 ≡ record { setup = setup_with shape rule clock; loaders = loaders }) }
+        ensures engine { IfOk result (λ r. r.2 ≡ record { board = r.1; receipts = []; posted = []; owed = None }) }
+        ensures loaders { IfOk result (λ r. (vec_len r.3 ≡ loaders) × AreNew r.3.items) }
+        ensures watchers { IfOk result (λ r. (vec_len r.4 ≡ watchers)
+            × All (λ p. p.board ≡ r.1) r.4.items × All (λ p. p.rows ≡ []) r.4.items) }
+    {
         let (entries, mut share) = entries.open::<B>();
         let (closes, close_share) = closes.open::<C>();
         let (board, mut seat) = Board::new(alloc)?;
         let loader_passes = loader_passes(alloc, &mut share, loaders)?;
         let watch_passes = watch_passes(alloc, &board, &mut seat, watchers)?;
-        let bench = Bench::new(alloc, shape, rule)?;
+        let bench = Bench::with_clock(alloc, shape, rule, clock)?;
+        let clock = bench.clock_program().copy(alloc)?;
         let shared = SharedBench {
             round: Mutex::new(Round::new(bench, entries, closes)),
             shape,
             rule,
+            clock,
             loaders,
         };
         let engine = EnginePass {
@@ -162,17 +204,17 @@ impl<B: Ledger, C: Ledger> SharedBench<B, C> {
         ensures receipt { OnOk result
             (OneMore pass.old.receipts (Staged (Loader pass.old.number) (change_of change)) pass.new.receipts) }
         ensures number { pass.new.number ≡ pass.old.number }
-        ensures fits { OnOk result (IsChange self.now.setup (change_of change)) }
+        ensures fits { OnOk result (IsChange self.now.setup.shape (change_of change)) }
         ensures refusal { IfErr result (λ e. IsPlanRefusal self.now (change_of change) e.1) }
         ensures unchanged { OnErr result (pass.new ≡ pass.old) }
         ensures handed_back { IfErr result (λ e. e.0 ≡ change) }
     {
-        match misfit(self.shape, self.rule, &change) {
+        match misfit(self.shape, &change) {
             Some(refusal) => return Err((change, refusal)),
             None => {}
         }
         let mut round = self.round.lock(rt);
-        if !round.is_of(self.shape, self.rule) || !round.has_room_for(&change) {
+        if !round.is_of(self.shape, self.rule, &self.clock) || !round.has_room_for(&change) {
             return Err((change, StageError::HistoryFull));
         }
         let Ok(()) = pass.receipts.reserve(1) else {
@@ -203,7 +245,7 @@ impl<B: Ledger, C: Ledger> SharedBench<B, C> {
         ensures receipt { OnOk result
             (OneMore pass.old.receipts (Staged (Loader pass.old.number) (Load node program)) pass.new.receipts) }
         ensures number { pass.new.number ≡ pass.old.number }
-        ensures fits { OnOk result (IsChange self.now.setup (Load node program)) }
+        ensures fits { OnOk result (IsChange self.now.setup.shape (Load node program)) }
         ensures refusal { IfErr result (λ e. IsPlanRefusal self.now (Load node program) e.1) }
         ensures unchanged { OnErr result (pass.new ≡ pass.old) }
         ensures handed_back { IfErr result (λ e. e.0 ≡ Change.Load node program) }
@@ -222,7 +264,7 @@ impl<B: Ledger, C: Ledger> SharedBench<B, C> {
         ensures receipt { OnOk result
             (OneMore pass.old.receipts (Staged (Loader pass.old.number) (Unload node)) pass.new.receipts) }
         ensures number { pass.new.number ≡ pass.old.number }
-        ensures fits { OnOk result (IsChange self.now.setup (Unload node)) }
+        ensures fits { OnOk result (IsChange self.now.setup.shape (Unload node)) }
         ensures refusal { IfErr result (λ e. IsPlanRefusal self.now (Unload node) e.1) }
         ensures unchanged { OnErr result (pass.new ≡ pass.old) }
         ensures handed_back { IfErr result (λ e. e.0 ≡ Change.Unload node) }
@@ -242,7 +284,7 @@ impl<B: Ledger, C: Ledger> SharedBench<B, C> {
         ensures receipt { OnOk result
             (OneMore pass.old.receipts (Staged (Loader pass.old.number) (Corrupt node image.items)) pass.new.receipts) }
         ensures number { pass.new.number ≡ pass.old.number }
-        ensures fits { OnOk result (IsChange self.now.setup (Corrupt node image.items)) }
+        ensures fits { OnOk result (IsChange self.now.setup.shape (Corrupt node image.items)) }
         ensures refusal { IfErr result (λ e. IsPlanRefusal self.now (Corrupt node image.items) e.1) }
         ensures unchanged { OnErr result (pass.new ≡ pass.old) }
         ensures handed_back { IfErr result (λ e. e.0 ≡ Change.Corrupt node image) }
@@ -265,7 +307,7 @@ impl<B: Ledger, C: Ledger> SharedBench<B, C> {
         ensures posted { pass.new.posted ≡ pass.old.posted }
         ensures owed { pass.new.owed ≡ None }
         ensures tasks { IfOk result (λ tasks. HandsOut self.now.setup coins.now tasks.items) }
-        ensures fits { OnOk result (AreCoins self.now.setup coins.now) }
+        ensures fits { OnOk result (AreCoins self.now.setup.shape coins.now) }
         ensures refusal { IfErr result (IsPlanOpenRefusal self.now coins.now) }
         ensures unchanged { OnErr result (pass.new ≡ pass.old) }
     {
@@ -273,10 +315,10 @@ impl<B: Ledger, C: Ledger> SharedBench<B, C> {
         if round.is_open() {
             return Err(OpenError::PulseOpen);
         }
-        if !are_coins(self.shape, self.rule, coins) {
+        if !are_coins(self.shape, coins) {
             return Err(OpenError::BadCoins);
         }
-        if !round.is_of(self.shape, self.rule) || !round.has_room_to_open() {
+        if !round.is_of(self.shape, self.rule, &self.clock) || !round.has_room_to_open() {
             return Err(OpenError::HistoryFull);
         }
         let Ok(()) = pass.receipts.reserve(2) else {
@@ -368,14 +410,18 @@ impl<B: Ledger, C: Ledger> SharedBench<B, C> {
             round,
             shape,
             rule,
+            clock,
             loaders: count,
         } = self;
         let round = round.into_inner();
-        if !round.is_of(shape, rule) || !are_all(round.history(), &engine, &loaders, count) {
+        if !round.is_of(shape, rule, &clock)
+            || !are_all(round.history(), &engine, &loaders, count)
+        {
             let shared = SharedBench {
                 round: Mutex::new(round),
                 shape,
                 rule,
+                clock,
                 loaders: count,
             };
             return Err((shared, engine, loaders));

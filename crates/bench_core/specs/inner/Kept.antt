@@ -2,15 +2,15 @@
 use Rattle.std.specs.Prelude.{◌≡◌, ◌≤◌, map, drop, length, option_map, vec_capacity, IsSome}
 use Rattle.bench_core.specs.declared.limits.TheConstants.{MOST_ENTRIES}
 use Rattle.bench_core.specs.declared.bench.Bench.TheInside.{Inside}
-use Rattle.bench_core.specs.Setup.{IsSetup, clock_listing}
+use Rattle.bench_core.specs.Setup.{IsSetup}
 use Rattle.bench_core.specs.inner.Nodes.{KnowsClock}
 use Rattle.bench_core.specs.Replay.{Replays, BenchValue, openings, places_of}
 use Rattle.bench_core.specs.inner.Replay.{staged_of}
-use Rattle.bench_core.specs.Views.{setup_of, entry_of}
+use Rattle.bench_core.specs.Views.{setup_with, entry_of}
 
 abbrev pub view_of : Inside → BenchValue
 view_of b = record {
-  setup = setup_of b.shape b.rule;
+  setup = setup_with b.shape b.rule b.clock;
   state = record {
     nodes = b.nodes.items;
     mail = b.mail;
@@ -25,7 +25,6 @@ pub record IsKept (b : Inside) : Type 0 where
   pub replays : Replays (view_of b).setup (view_of b).history (view_of b).state
   pub setup : IsSetup (view_of b).setup
   pub same : b.rule.nodes ≡ b.shape.nodes
-  pub clock : b.clock ≡ clock_listing (view_of b).setup
   pub flags : KnowsClock b.clock b.nodes.items b.flags.items
   pub spare : length b.spare ≡ b.shape.nodes
   pub opened : b.opened ≡ openings (view_of b).history

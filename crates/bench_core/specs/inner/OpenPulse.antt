@@ -5,17 +5,17 @@ use Rattle.bench_core.specs.Setup.{Setup}
 use Rattle.bench_core.specs.State.{AreCoins}
 use Rattle.bench_core.specs.inner.Nodes.{FitsShape}
 use Rattle.bench_core.specs.Tasks.{Task, tasks_from, IsHanded}
-use Rattle.bench_core.specs.Views.{setup_of}
+use Rattle.bench_core.specs.Views.{setup_with}
 
 abbrev pub setup_in : OpenPulse → Setup
-setup_in p = setup_of p.shape p.rule
+setup_in p = setup_with p.shape p.rule p.clock.now
 
 -- its parts fit its shape
 pub record IsWhole (p : OpenPulse) : Type 0 where
   pub count : length p.nodes.now ≡ p.shape.nodes
   pub nodes : All (FitsShape p.shape) p.nodes.now
   pub mail : length p.mail.now ≡ p.shape.nodes
-  pub coins : AreCoins (setup_in p) p.coins.now
+  pub coins : AreCoins p.shape p.coins.now
 
 abbrev pub tasks_by : OpenPulse → List Task
 tasks_by p = tasks_from (setup_in p) p.mail.now p.coins.now p.opening 0 p.nodes.now

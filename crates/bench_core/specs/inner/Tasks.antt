@@ -1,5 +1,4 @@
 -- Beside Tasks: what proofs and private contracts alone cite.
-use Rattle.std.specs.Prelude.{◌-◌}
 use Rattle.bpf_machine.specs.Run.{CompleteRun}
 use Rattle.bench_core.specs.Tasks.{Done}
 

@@ -12,14 +12,14 @@ both_marked [] nodes = []
 both_marked (x ∷ marks) [] = []
 both_marked (x ∷ marks) (y ∷ nodes) = (x && y.mark) ∷ both_marked marks nodes
 
--- the clock of a node that ran the clock program
+-- the four bytes of a node that ran the clock program
 abbrev pub told_clock : Node → Option ℕ
 told_clock x = if x.mark then Some (clock_of x.memory) else None
 
 -- the row of settled nodes
-abbrev pub row_told : ℕ → List Bool → List Node → Row
-row_told pulse settled nodes =
-    let clocks = clocks_where settled nodes in
+abbrev pub row_told : ℕ → ℕ → List Bool → List Node → Row
+row_told m pulse settled nodes =
+    let clocks = clocks_where m settled nodes in
     record {
       pulse = pulse;
       common = common_of (filter (λ c. not (c == 0)) clocks);

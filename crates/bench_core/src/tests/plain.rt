@@ -3,7 +3,7 @@ use crate::{Change, Entry};
 use bpf_insn::Program;
 use bpf_machine::{Outcome, run_checked};
 use bpf_verify::VerifiedProgram;
-use clock_nodes::{ClockRule, dolev_welch};
+use clock_nodes::ClockRule;
 use node_env::{Env, Outbox, Shape};
 use std::alloc::{AllocError, Global};
 use std::mem;
@@ -29,6 +29,7 @@ pub struct Told {
 #[derive(Drop)]
 pub struct Plain {
     shape: Shape,
+    modulus: u32,
     clock: Program,
     nodes: Vec<Node>,
     /// What each node sent, one node's row behind the other's.
@@ -103,8 +104,13 @@ impl Node {
 }
 
 impl Plain {
-    /// The machine of a new bench.
-    pub fn new(alloc: Global, shape: Shape, rule: ClockRule) -> Result<Plain, Fail> {
+    /// The machine of a new bench with this clock.
+    pub fn new(
+        alloc: Global,
+        shape: Shape,
+        rule: ClockRule,
+        clock: Program,
+    ) -> Result<Plain, Fail> {
         if rule.nodes() != shape.nodes() {
             return Err("no rule of the shape")?;
         }
@@ -120,7 +126,8 @@ impl Plain {
         let slots = shape.nodes() as usize * shape.nodes() as usize;
         Ok(Plain {
             shape,
-            clock: dolev_welch(alloc, shape, rule)?,
+            modulus: rule.modulus(),
+            clock,
             nodes,
             mail: vec![in alloc; None; slots]?,
             staged: Vec::new(alloc),
@@ -193,7 +200,7 @@ impl Plain {
             clocks.push(if node.ran_clock { Some(clock) } else { None })?;
             settled.push(node.ran_clock && ran_before)?;
             if node.ran_clock && ran_before {
-                settled_clocks.push(clock)?;
+                settled_clocks.push(if clock < self.modulus { clock } else { 0 })?;
             }
         }
         self.mail = mail;

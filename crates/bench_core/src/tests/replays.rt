@@ -4,6 +4,8 @@ use super::benches::{
 };
 use super::plain::{Plain, Told};
 use crate::{Bench, Entry, PulseRecord};
+use bpf_insn::Program;
+use clock_nodes::dolev_welch;
 use std::alloc::Global;
 use std::process::Abort;
 use std::test::Fail;
@@ -39,9 +41,14 @@ fn go(alloc: Global, bench: &mut Bench) -> Result<Vec<PulseRecord>, Fail> {
     Ok(records)
 }
 
-/// The plain machine after the bench's history.
-fn replay(rt: &impl Abort, alloc: Global, bench: &Bench) -> Result<Plain, Fail> {
-    let mut plain = Plain::new(alloc, bench.shape(), bench.rule())?;
+/// The plain machine with this clock after the bench's history.
+pub fn replay(
+    rt: &impl Abort,
+    alloc: Global,
+    bench: &Bench,
+    clock: Program,
+) -> Result<Plain, Fail> {
+    let mut plain = Plain::new(alloc, bench.shape(), bench.rule(), clock)?;
     for entry in bench.history() {
         plain.take(alloc, entry)?;
         if let Entry::Closed { row } = entry {
@@ -52,7 +59,7 @@ fn replay(rt: &impl Abort, alloc: Global, bench: &Bench) -> Result<Plain, Fail> 
     Ok(plain)
 }
 
-fn assert_alike(rt: &impl Abort, record: &PulseRecord, told: &Told) {
+pub fn assert_alike(rt: &impl Abort, record: &PulseRecord, told: &Told) {
     assert_eq!(rt; numbers_of(record.row), told.row);
     assert_eq!(rt; record.clocks.as_slice(), told.clocks.as_slice());
     assert_eq!(rt; record.settled.as_slice(), told.settled.as_slice());
@@ -65,7 +72,8 @@ fn a_history_leads_to_its_bench(rt: HostRuntime) -> Result<(), Fail> {
     let records = go(alloc, &mut bench)?;
     open(alloc, &mut bench, &[0; 4])?;
     stage_all(alloc, &mut bench, &[Plan::Corrupt(0, 1, 0)])?;
-    let plain = replay(&rt, alloc, &bench)?;
+    let listing = dolev_welch(alloc, bench.shape(), bench.rule())?;
+    let plain = replay(&rt, alloc, &bench, listing)?;
     let (sent, bytes) = (mail(alloc, &bench)?, memories(alloc, &bench)?);
     assert_eq!(rt; sent.as_slice(), plain.mail.as_slice());
     assert_eq!(rt; bytes.as_slice(), plain.memories(alloc)?.as_slice());

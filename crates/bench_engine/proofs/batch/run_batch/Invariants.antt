@@ -1,4 +1,4 @@
-use Rattle.std.proofs.Common.{◌≡◌, ◌+◌, ◌≤◌, vec_len, vec_capacity}
+use Rattle.std.proofs.Common.{◌+◌, ◌≤◌, vec_len, vec_capacity}
 use Rattle.std.specs.Vec.Iter.{into_iter_len}
 use Rattle.bench_engine.specs.inner.Batches.{RanInOrder}
 use Rattle.bench_engine.proofs.batch.run_batch.Given as goal

@@ -1,4 +1,4 @@
-use Rattle.std.proofs.Common.{arith, rules, ◌≡◌, ◌∙◌, [], ◌∷◌, length, map, ap}
+use Rattle.std.proofs.Common.{arith, ◌∙◌, [], ◌∷◌, map, ap}
 use Rattle.std.proofs.lemmas.List.{take_all, map-append}
 use Rattle.bench_core.specs.State.{Node}
 use Rattle.bench_core.proofs.Sound.{sound_replay}

@@ -1,4 +1,4 @@
-use Rattle.std.proofs.Common.{refl, ◌≡◌, ℕ, arith, None, is_some, cond, ap, Bool}
+use Rattle.std.proofs.Common.{◌≡◌, ℕ, arith, None, is_some, cond, ap, Bool}
 use Rattle.bench_core.specs.declared.entry.Entry.TheVariants.{Abandoned}
 use Rattle.bench_core.specs.Replay.{Abandoned as AbandonedValue}
 use Rattle.bench_core.proofs.Kept.{kept_step, abandoned_advances, as_seen, is_open_from, length_push, places_seen}
@@ -14,7 +14,7 @@ invariant_of-self c =
     let before = places_seen b in
     let one : ◌≡◌ {A = ℕ} (cond (is_some b.coins) 1 0) 1 = ap (λ (o : Bool). cond o 1 0) c.if-is_none.ensures in
     let after = places_seen (record b { coins = None; history = c.add.new.history }) in
-    kept_step b _ AbandonedValue kept advances kept.same refl kept.flags kept.spare (omega arith) (λ h. absurd cc)
+    kept_step b _ AbandonedValue kept advances kept.same kept.flags kept.spare (omega arith) (λ h. absurd cc)
     (omega (arith, longer, kept.staged))
     (omega (arith, longer, before, one, after, kept.limit))
     (omega (arith, longer, before, one, after, kept.room, c.add.ensures.capacity))

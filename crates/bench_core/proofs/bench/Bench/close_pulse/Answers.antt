@@ -5,6 +5,7 @@ use Rattle.std.specs.Vec.{with_items}
 use Rattle.std.specs.declared.alloc.Global.{Global}
 use Rattle.bench_core.specs.declared.entry.Entry.TheVariants.{Closed}
 use Rattle.bench_core.specs.State.{Node, node_at}
+use Rattle.bench_core.specs.Setup.{HasRuleClock}
 use Rattle.bench_core.specs.Pulse.{Pulse}
 use Rattle.bench_core.specs.Settled.{Row, PulseTold, IsRecord, settled_flags, faulty_count}
 use Rattle.bench_core.specs.Laws.{IsWhole}
@@ -196,7 +197,7 @@ tell-told-requires-clause-small c =
     let after : c.deref-7.result.now ≡ nodes = c.deref-7.ensures.value ∙ items in
     let marks : c.in-Ok-make_room.room.settled.items ≡ map (λ x. x.mark) b.nodes.items =
     c.in-Ok-make_room.ensures.settled ∙ ap (map (λ (x : Node). x.mark)) c.deref-4.ensures.value in
-    rw after (small_clocks (view_of b).setup (view_of b).state
+    rw (c.modulus-modulus.ensures.value, after) (small_clocks (view_of b).setup (view_of b).state
     (closed_state (view_of b).state nodes mail) c.in-Ok-make_room.room.settled.items kept.setup
     (sound_of b kept) pulse marks)
 
@@ -235,14 +236,14 @@ invariant_of-self c =
       coins = None;
       history = c.add.new.history;
     } in
-    let row : c.tell-told.result.row ≡ row_told (b.closed + 1)
+    let row : c.tell-told.result.row ≡ row_told b.rule.modulus (b.closed + 1)
     (settled_flags b.nodes.items (with_items b.nodes nodes).items) (with_items b.nodes nodes).items =
-    c.tell-told.ensures.row ∙ rw (items, after, marks, both_settled b.nodes.items nodes) refl in
+    c.tell-told.ensures.row ∙ rw (c.modulus-modulus.ensures.value, items, after, marks, both_settled b.nodes.items nodes) refl in
     let pulse' : Pulse (view_of b).setup (view_of b).state (closed_state (view_of b).state b'.nodes.items b'.mail) = rw
     (items, c.swap.ensures.x_after) pulse in
     let entered : c.add.new.history.items ≡ b.history.items ++ Closed c.tell-told.result.row ∷ [] = c.add.ensures.items
     ∙ ap (λ (t : PulseTold). b.history.items ++ Closed t.row ∷ []) c.told.view_is in
-    let advances = closed_advances b b' c.tell-told.result.row kept pulse' row entered refl refl refl refl refl in
+    let advances = closed_advances b b' c.tell-told.result.row kept pulse' row entered refl refl refl refl refl refl in
     let flags : KnowsClock b.clock (with_items b.nodes nodes).items b.flags.items = rw items
     (knows_after (view_of b).setup (view_of b).state
     (closed_state (view_of b).state nodes mail) b.clock b.flags.items pulse kept.flags) in
@@ -251,7 +252,7 @@ invariant_of-self c =
     (λ (o : Option (Vec ℕ Global)). cond (is_some o) 1 0) c.in-Some.is in
     let before = places_seen b in
     let places = places_seen b' in
-    kept_step b b' (ClosedValue c.tell-told.result.row) kept advances kept.same refl flags
+    kept_step b b' (ClosedValue c.tell-told.result.row) kept advances kept.same flags
     (ap length c.swap.ensures.y_after ∙ (sound_of b kept).mail) (omega arith) (λ h. absurd cc)
     (omega (arith, longer, kept.staged))
     (omega (arith, longer, before, is_open, places, kept.limit))
@@ -292,14 +293,14 @@ returns-clause-ok c =
       coins = None;
       history = c.add.new.history;
     } in
-    let row : c.tell-told.result.row ≡ row_told (b.closed + 1)
+    let row : c.tell-told.result.row ≡ row_told b.rule.modulus (b.closed + 1)
     (settled_flags b.nodes.items (with_items b.nodes nodes).items) (with_items b.nodes nodes).items =
-    c.tell-told.ensures.row ∙ rw (items, after, marks, both_settled b.nodes.items nodes) refl in
+    c.tell-told.ensures.row ∙ rw (c.modulus-modulus.ensures.value, items, after, marks, both_settled b.nodes.items nodes) refl in
     let pulse' : Pulse (view_of b).setup (view_of b).state (closed_state (view_of b).state b'.nodes.items b'.mail) = rw
     (items, c.swap.ensures.x_after) pulse in
     let entered : c.add.new.history.items ≡ b.history.items ++ Closed c.tell-told.result.row ∷ [] = c.add.ensures.items
     ∙ ap (λ (t : PulseTold). b.history.items ++ Closed t.row ∷ []) c.told.view_is in
-    let advances = closed_advances b b' c.tell-told.result.row kept pulse' row entered refl refl refl refl refl in
+    let advances = closed_advances b b' c.tell-told.result.row kept pulse' row entered refl refl refl refl refl refl in
     as_seen c.args.self.now b b' (ClosedValue c.tell-told.result.row) c.self.view_is advances
 
 pub returns-clause-headline : goal.returns-clause-headline
@@ -337,14 +338,14 @@ returns-clause-headline c =
       coins = None;
       history = c.add.new.history;
     } in
-    let row : c.tell-told.result.row ≡ row_told (b.closed + 1)
+    let row : c.tell-told.result.row ≡ row_told b.rule.modulus (b.closed + 1)
     (settled_flags b.nodes.items (with_items b.nodes nodes).items) (with_items b.nodes nodes).items =
-    c.tell-told.ensures.row ∙ rw (items, after, marks, both_settled b.nodes.items nodes) refl in
+    c.tell-told.ensures.row ∙ rw (c.modulus-modulus.ensures.value, items, after, marks, both_settled b.nodes.items nodes) refl in
     let pulse' : Pulse (view_of b).setup (view_of b).state (closed_state (view_of b).state b'.nodes.items b'.mail) = rw
     (items, c.swap.ensures.x_after) pulse in
     let entered : c.add.new.history.items ≡ b.history.items ++ Closed c.tell-told.result.row ∷ [] = c.add.ensures.items
     ∙ ap (λ (t : PulseTold). b.history.items ++ Closed t.row ∷ []) c.told.view_is in
-    let advances = closed_advances b b' c.tell-told.result.row kept pulse' row entered refl refl refl refl refl in
+    let advances = closed_advances b b' c.tell-told.result.row kept pulse' row entered refl refl refl refl refl refl in
     subst (λ (v : BenchValue). (i : ℕ) (p : Accepted) → i < v.setup.shape.nodes
     → (node_at v.state.nodes i).program ≡ Some p
     → (end : End) × IsWhole v.setup v.state (view_of b').state i p end) c.self.view_is
@@ -386,14 +387,14 @@ returns-clause-record c =
       coins = None;
       history = c.add.new.history;
     } in
-    let row : c.tell-told.result.row ≡ row_told (b.closed + 1)
+    let row : c.tell-told.result.row ≡ row_told b.rule.modulus (b.closed + 1)
     (settled_flags b.nodes.items (with_items b.nodes nodes).items) (with_items b.nodes nodes).items =
-    c.tell-told.ensures.row ∙ rw (items, after, marks, both_settled b.nodes.items nodes) refl in
+    c.tell-told.ensures.row ∙ rw (c.modulus-modulus.ensures.value, items, after, marks, both_settled b.nodes.items nodes) refl in
     let pulse' : Pulse (view_of b).setup (view_of b).state (closed_state (view_of b).state b'.nodes.items b'.mail) = rw
     (items, c.swap.ensures.x_after) pulse in
     let entered : c.add.new.history.items ≡ b.history.items ++ Closed c.tell-told.result.row ∷ [] = c.add.ensures.items
     ∙ ap (λ (t : PulseTold). b.history.items ++ Closed t.row ∷ []) c.told.view_is in
-    let advances = closed_advances b b' c.tell-told.result.row kept pulse' row entered refl refl refl refl refl in
+    let advances = closed_advances b b' c.tell-told.result.row kept pulse' row entered refl refl refl refl refl refl in
     let settled : both_marked c.in-Ok-make_room.room.settled.items c.deref-7.result.now
     ≡ settled_flags b.nodes.items b'.nodes.items = rw
     (items, after, marks, both_settled b.nodes.items nodes) refl in
@@ -447,14 +448,14 @@ returns-clause-agrees c =
       coins = None;
       history = c.add.new.history;
     } in
-    let row : c.tell-told.result.row ≡ row_told (b.closed + 1)
+    let row : c.tell-told.result.row ≡ row_told b.rule.modulus (b.closed + 1)
     (settled_flags b.nodes.items (with_items b.nodes nodes).items) (with_items b.nodes nodes).items =
-    c.tell-told.ensures.row ∙ rw (items, after, marks, both_settled b.nodes.items nodes) refl in
+    c.tell-told.ensures.row ∙ rw (c.modulus-modulus.ensures.value, items, after, marks, both_settled b.nodes.items nodes) refl in
     let pulse' : Pulse (view_of b).setup (view_of b).state (closed_state (view_of b).state b'.nodes.items b'.mail) = rw
     (items, c.swap.ensures.x_after) pulse in
     let entered : c.add.new.history.items ≡ b.history.items ++ Closed c.tell-told.result.row ∷ [] = c.add.ensures.items
     ∙ ap (λ (t : PulseTold). b.history.items ++ Closed t.row ∷ []) c.told.view_is in
-    let advances = closed_advances b b' c.tell-told.result.row kept pulse' row entered refl refl refl refl refl in
+    let advances = closed_advances b b' c.tell-told.result.row kept pulse' row entered refl refl refl refl refl refl in
     let settled : both_marked c.in-Ok-make_room.room.settled.items c.deref-7.result.now
     ≡ settled_flags b.nodes.items b'.nodes.items = rw
     (items, after, marks, both_settled b.nodes.items nodes) refl in
@@ -471,10 +472,10 @@ returns-clause-agrees c =
     } in
     let is = is_record (view_of b).setup (view_of b).history (view_of b).state
     (view_of b').state c.tell-told.result kept.setup kept.replays advances.step.0 tells in
-    subst (λ (v : BenchValue). 2 * v.setup.faults + faulty_count v.state (view_of b').state < v.setup.shape.nodes
+    subst (λ (v : BenchValue). HasRuleClock v.setup → 2 * v.setup.faults + faulty_count v.state (view_of b').state < v.setup.shape.nodes
     → IsTrue c.tell-told.result.agree) c.self.view_is
-    (λ few. is.agree.1 (agreement (view_of b).setup (view_of b).history (view_of b).state
-    (view_of b').state kept.setup kept.replays advances.step.0 few))
+    (λ own few. is.agree.1 (agreement (view_of b).setup (view_of b).history (view_of b).state
+    (view_of b').state kept.setup own kept.replays advances.step.0 few))
 
 pub returns-clause-pulse : goal.returns-clause-pulse
 returns-clause-pulse c =
@@ -511,14 +512,14 @@ returns-clause-pulse c =
       coins = None;
       history = c.add.new.history;
     } in
-    let row : c.tell-told.result.row ≡ row_told (b.closed + 1)
+    let row : c.tell-told.result.row ≡ row_told b.rule.modulus (b.closed + 1)
     (settled_flags b.nodes.items (with_items b.nodes nodes).items) (with_items b.nodes nodes).items =
-    c.tell-told.ensures.row ∙ rw (items, after, marks, both_settled b.nodes.items nodes) refl in
+    c.tell-told.ensures.row ∙ rw (c.modulus-modulus.ensures.value, items, after, marks, both_settled b.nodes.items nodes) refl in
     let pulse' : Pulse (view_of b).setup (view_of b).state (closed_state (view_of b).state b'.nodes.items b'.mail) = rw
     (items, c.swap.ensures.x_after) pulse in
     let entered : c.add.new.history.items ≡ b.history.items ++ Closed c.tell-told.result.row ∷ [] = c.add.ensures.items
     ∙ ap (λ (t : PulseTold). b.history.items ++ Closed t.row ∷ []) c.told.view_is in
-    let advances = closed_advances b b' c.tell-told.result.row kept pulse' row entered refl refl refl refl refl in
+    let advances = closed_advances b b' c.tell-told.result.row kept pulse' row entered refl refl refl refl refl refl in
     let count = rows_count (view_of b).setup (view_of b).history (view_of b).state kept.replays in
     let number : c.tell-told.result.row.pulse ≡ b.closed + 1 = ap (λ (r : Row). r.pulse) row in
     subst (λ (v : BenchValue). c.tell-told.result.row.pulse ≡ length (rows_of v.history) + 1) c.self.view_is

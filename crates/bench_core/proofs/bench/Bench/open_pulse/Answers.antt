@@ -72,12 +72,12 @@ invariant_of-self-in-Ok c =
       history = is;
       from = at_end;
     } in
-    let advances = opened_advances b b' c.args.coins.now next.entry_coins opens refl refl refl refl in
+    let advances = opened_advances b b' c.args.coins.now next.entry_coins opens refl refl refl refl refl in
     let kept = c.self.invariant in
     let longer = length_push b.history.items c.add.new.history.items (Opened next.entry_coins) is in
     let ok : vec_len c.reserve.new.self + 2 ≤ vec_capacity c.reserve.new.self = search rules in
     let places = places_seen b' in
-    kept_step b b' (OpenedValue c.args.coins.now) kept advances kept.same refl c.in-Ok.ensures.flags kept.spare
+    kept_step b b' (OpenedValue c.args.coins.now) kept advances kept.same c.in-Ok.ensures.flags kept.spare
     (omega arith) (λ h. omega arith) (omega (arith, at_end))
     (omega (arith, longer, places))
     (omega (arith, longer, places, c.add.ensures.capacity, c.reserve.ensures.len, ok))
@@ -111,7 +111,7 @@ returns-else-is_err-clause-ok c =
       history = is;
       from = at_end;
     } in
-    let advances = opened_advances b b' c.args.coins.now next.entry_coins opens refl refl refl refl in
+    let advances = opened_advances b b' c.args.coins.now next.entry_coins opens refl refl refl refl refl in
     as_seen c.args.self.now b b' (OpenedValue c.args.coins.now) c.self.view_is advances
 
 pub returns-else-is_err-clause-tasks : goal.returns-else-is_err-clause-tasks
@@ -143,6 +143,6 @@ returns-else-is_err-clause-tasks c =
       history = is;
       from = at_end;
     } in
-    let advances = opened_advances b b' c.args.coins.now next.entry_coins opens refl refl refl refl in
+    let advances = opened_advances b b' c.args.coins.now next.entry_coins opens refl refl refl refl refl in
     c.in-Ok.ensures.tasks ∙ (ap (λ (n : ℕ). tasks_from (view_of b).setup b.mail c.args.coins.now n 0 next.nodes.items)
     c.self.invariant.opened ∙ tasks_made (view_of b) (view_of b') c.args.coins.now advances)

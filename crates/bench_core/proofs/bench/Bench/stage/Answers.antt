@@ -1,4 +1,4 @@
-use Rattle.std.proofs.Common.{refl, ◌+◌, ◌≤◌, vec_len, vec_capacity, ◌≡◌, ◌++◌, ◌∷◌, [], arith, rules, ◌∙◌, ap}
+use Rattle.std.proofs.Common.{◌+◌, ◌≤◌, vec_len, vec_capacity, ◌≡◌, ◌++◌, ◌∷◌, [], arith, rules, ◌∙◌, ap}
 use Rattle.bench_core.specs.Views.{change_of}
 use Rattle.bench_core.specs.declared.entry.Entry.TheVariants.{Staged}
 use Rattle.bench_core.specs.Replay.{Staged as StagedValue}
@@ -17,7 +17,7 @@ invariant_of-self-2 c =
     let longer = length_push b.history.items c.add.new.history.items entry is in
     let places = places_seen (record b { history = c.add.new.history }) in
     kept_step b (record b { history = c.add.new.history })
-    (StagedValue c.args.actor (change_of c.args.change)) kept advances kept.same refl kept.flags kept.spare
+    (StagedValue c.args.actor (change_of c.args.change)) kept advances kept.same kept.flags kept.spare
     (omega arith) kept.counted (omega (arith, longer, kept.staged))
     (omega (arith, longer, places, c.places_kept-kept.ensures))
     (let ok : vec_len c.reserve.new.self + (1 + c.places_kept-kept.result) ≤ vec_capacity c.reserve.new.self =

@@ -1,8 +1,7 @@
 use Rattle.std.proofs.Common.{arith, ◌++◌, [], ◌∷◌, ◌∙◌, sym, ap, append_assoc, length-append}
 use Rattle.std.specs.Vec.Iter.{into_iter_items}
-use Rattle.bench_core.specs.Views.{setup_of}
 use Rattle.bench_engine.proofs.Going.{kept_on, place_fits, fault_here}
-use Rattle.bench_engine.proofs.engine.run_events.Goals as goal
+use Rattle.bench_engine.proofs.engine.run_events_on.Goals as goal
 
 pub overflow_add-place : goal.overflow_add-place
 overflow_add-place g c =
@@ -11,15 +10,15 @@ overflow_add-place g c =
       arith,
       place_fits c.loop-event.bench c.apply.new.bench c.loop-event.yielded c.in-Some.event c.loop-event.records.items
           c.apply.new.records.items c.loop-event.place i.count i.place
-          c.in-Ok-apply.ensures.ok c.in-Ok-apply.ensures.few,
+          c.in-Ok.ensures.ok c.in-Ok.ensures.few,
     )
 
 pub loop-event-preserved : goal.loop-event-preserved
 loop-event-preserved g c =
     let i = c.loop-event.invariant in
-    let kept = kept_on (setup_of c.args.shape c.args.rule) c.loop-event.bench c.apply.new.bench c.loop-event.yielded
+    let kept = kept_on c.args.bench.setup c.loop-event.bench c.apply.new.bench c.loop-event.yielded
     c.in-Some.event c.loop-event.records.items c.apply.new.records.items
-    i.setup i.count i.goes c.in-Ok-apply.ensures.ok in
+    i.setup i.count i.goes c.in-Ok.ensures.ok in
     record {
       setup = kept.setup;
       closed = kept.closed;
@@ -33,7 +32,7 @@ loop-event-preserved g c =
 pub returns-in-Err-clause-fault : goal.returns-in-Err-clause-fault
 returns-in-Err-clause-fault g c =
     let i = c.loop-event.invariant in
-    fault_here (setup_of c.args.shape c.args.rule) c.loop-event.bench c.args.events.items c.loop-event.yielded
+    fault_here c.args.bench.setup c.loop-event.bench c.args.events.items c.loop-event.yielded
     (into_iter_items c.next.new.self) c.in-Some.event c.loop-event.place c.in-Err.fault
     c.loop-event.records.items (i.rest ∙ ap (λ later. c.loop-event.yielded ++ later) c.in-Some.ensures.steps.0) i.place
     i.setup i.count i.goes c.in-Err.ensures.refusal

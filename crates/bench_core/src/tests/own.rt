@@ -1,0 +1,142 @@
+//! Clocks of one's own.
+use super::benches::{accepted, numbers_of, pulse};
+use super::replays::{assert_alike, replay};
+use crate::{Actor, Bench, CLOCKS_DIFFER, Change};
+use bpf_insn::{AluOp, Insn, Operand, Program, Reg, Size, Width, program_of};
+use clock_nodes::{ClockRule, dolev_welch};
+use node_env::Shape;
+use std::alloc::Global;
+use std::process::Abort;
+use std::test::Fail;
+
+fn mov(dst: Reg, src: Operand) -> Insn {
+    Insn::Alu {
+        op: AluOp::Mov,
+        width: Width::W64,
+        dst,
+        src,
+    }
+}
+
+/// A clock that writes the operand, and no more.
+fn writing(alloc: Global, src: Operand) -> Result<Program, Fail> {
+    let store = Insn::StoreReg {
+        size: Size::W,
+        base: Reg::R1,
+        off: 0,
+        src: Reg::R3,
+    };
+    let insns = [
+        mov(Reg::R3, src),
+        store,
+        mov(Reg::R0, Operand::Imm(0)),
+        Insn::Exit,
+    ]
+    .to_vec(alloc)?;
+    match program_of(alloc, insns) {
+        Ok(program) => Ok(program),
+        Err(_) => Err("no program")?,
+    }
+}
+
+/// A bench of four nodes with this clock in each.
+fn bench_with(alloc: Global, modulus: u32, clock: &Program) -> Result<Bench, Fail> {
+    let shape = Shape::of(4, 8).ok_or("no shape")?;
+    let rule = ClockRule::of(4, 1, modulus).ok_or("no rule")?;
+    let mut bench = Bench::with_clock(alloc, shape, rule, clock.copy(alloc)?)?;
+    let clock = accepted(alloc, clock, shape)?;
+    for node in 0..4 {
+        let program = clock.copy()?;
+        match bench.stage(Actor::Loader(0), Change::Load { node, program }) {
+            Ok(()) => {}
+            Err(_) => Err("not staged")?,
+        }
+    }
+    Ok(bench)
+}
+
+/// Its nodes are settled, and two clocks that differ are told.
+#[test]
+fn own_clocks_are_judged(rt: HostRuntime) -> Result<(), Fail> {
+    let alloc = rt.alloc();
+    let program = writing(alloc, Operand::Reg(Reg::R2))?;
+    let mut bench = bench_with(alloc, 8, &program)?;
+    let first = pulse(alloc, &mut bench, &[0; 4])?;
+    assert_eq!(rt; numbers_of(first.row), [1, 0, 0, 0]);
+    let second = pulse(alloc, &mut bench, &[0; 4])?;
+    assert_eq!(rt;
+        second.clocks.as_slice(),
+        [Some(0), Some(1), Some(2), Some(3)].as_slice()
+    );
+    assert_eq!(rt; numbers_of(second.row), [2, CLOCKS_DIFFER, 1, 4]);
+    assert!(rt; !second.agree);
+    Ok(())
+}
+
+/// A clock past the modulus counts as 0 in the row; the record has its four bytes.
+#[test]
+fn a_clock_past_the_modulus_counts_as_0(rt: HostRuntime) -> Result<(), Fail> {
+    let alloc = rt.alloc();
+    let program = writing(alloc, Operand::Imm(70_000))?;
+    let mut bench = bench_with(alloc, 65_536, &program)?;
+    pulse(alloc, &mut bench, &[0; 4])?;
+    let told = pulse(alloc, &mut bench, &[0; 4])?;
+    assert_eq!(rt; told.clocks.as_slice(), [Some(70_000); 4].as_slice());
+    assert_eq!(rt; numbers_of(told.row), [2, 0, 4, 4]);
+    assert_eq!(rt; bench.clock(2), 70_000);
+    Ok(())
+}
+
+/// The listing of the rule, given as a clock, is that of the rule; elsewhere it isn't the clock.
+#[test]
+fn the_listing_is_the_clock_where_it_is_given(rt: HostRuntime) -> Result<(), Fail> {
+    let alloc = rt.alloc();
+    let shape = Shape::of(4, 8).ok_or("no shape")?;
+    let rule = ClockRule::of(4, 1, 8).ok_or("no rule")?;
+    let listing = dolev_welch(alloc, shape, rule)?;
+    let mut bench = bench_with(alloc, 8, &listing)?;
+    pulse(alloc, &mut bench, &[1; 4])?;
+    let told = pulse(alloc, &mut bench, &[1; 4])?;
+    assert_eq!(rt; numbers_of(told.row), [2, 1, 0, 4]);
+    let other = writing(alloc, Operand::Imm(3))?;
+    let mut bench = Bench::with_clock(alloc, shape, rule, other)?;
+    let program = accepted(alloc, &listing, shape)?;
+    match bench.stage(Actor::Loader(0), Change::Load { node: 0, program }) {
+        Ok(()) => {}
+        Err(_) => Err("not staged")?,
+    }
+    let told = pulse(alloc, &mut bench, &[1; 4])?;
+    assert_eq!(rt; told.clocks.as_slice(), [None; 4].as_slice());
+    Ok(())
+}
+
+/// Four nodes that hold 0, 1, 2 and 3 agree where the modulus is 2: 0 is left out, and so are 2 and 3.
+#[test]
+fn zeros_are_left_out_of_agreement(rt: HostRuntime) -> Result<(), Fail> {
+    let alloc = rt.alloc();
+    let program = writing(alloc, Operand::Reg(Reg::R2))?;
+    let mut bench = bench_with(alloc, 2, &program)?;
+    pulse(alloc, &mut bench, &[0; 4])?;
+    let told = pulse(alloc, &mut bench, &[0; 4])?;
+    assert_eq!(rt; numbers_of(told.row), [2, 1, 3, 4]);
+    assert!(rt; told.agree);
+    Ok(())
+}
+
+/// A bench with a clock of its own is where the plain machine with that clock comes by its history.
+#[test]
+fn own_clocks_are_replayed(rt: HostRuntime) -> Result<(), Fail> {
+    let alloc = rt.alloc();
+    let program = writing(alloc, Operand::Reg(Reg::R2))?;
+    let mut bench = bench_with(alloc, 3, &program)?;
+    let mut records = Vec::new(alloc);
+    for coins in [[0; 4], [1; 4], [0, 1, 0, 1]] {
+        records.push(pulse(alloc, &mut bench, &coins)?)?;
+    }
+    let plain = replay(&rt, alloc, &bench, program)?;
+    assert_eq!(rt; (records.len(), plain.told.len()), (3, 3));
+    for (record, told) in records.iter().zip(plain.told.iter()) {
+        assert_alike(&rt, record, told);
+    }
+    Ok(())
+}
