@@ -29,6 +29,7 @@ fn read_once<R: Read, L: Ledger>(
 }
 
 /// The bytes up to the end, or the first `limit` of them, by at most `calls` calls of `read`, each of which is a step.
+/// Each call but the last brings a byte, so there are never more than `limit`.
 pub fn read_counted<R: Read, L: Ledger>(
     alloc: Global,
     reader: &mut R,
@@ -44,6 +45,7 @@ pub fn read_counted<R: Read, L: Ledger>(
         vec_len bytes < limit → IsAtEnd (R.remaining reader.new)) }
     ensures front { TakesAtMost limit (R.remaining reader.old) (R.remaining reader.new) }
     ensures cost { steps.new ≤ steps.old + calls }
+    ensures each_brings { steps.new ≤ steps.old + limit }
 {
     let mut bytes = Vec::new(alloc);
     let mut piece = [0u8; PIECE];

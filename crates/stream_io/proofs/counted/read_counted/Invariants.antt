@@ -8,4 +8,5 @@ invariant-loop g l =
       room : vec_len l.bytes < l.limit;
       taken : Consumes (g.R.Read.remaining l.fn.reader) (g.R.Read.remaining l.reader) l.bytes.items;
       cost : l.steps ≤ l.fn.steps + l.counter;
+      each_brings : l.steps ≤ l.fn.steps + vec_len l.bytes;
     }
