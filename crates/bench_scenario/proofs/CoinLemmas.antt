@@ -2,7 +2,8 @@
 use Rattle.std.proofs.Common.{◌≡◌, ℕ, zero, suc, ◌+◌, ◌<◌, ◌≤◌, List, [], ◌∷◌, ◌++◌, length, map, take, get_or, arith, refl, ap, ap₂, sym, subst, ◌∙◌, inl, inr, add-one}
 use Rattle.std.specs.Prelude.{Bool, true, false, ◌⊎◌, ◌==◌, ◌&&◌, if◌then◌else◌, slice_set}
 use Rattle.std.proofs.Math.Seq.{set-append_seam, take-suc}
-use Rattle.std.proofs.lemmas.List.{set-append_left}
+use Rattle.std.specs.Prelude.{replicate}
+use Rattle.std.proofs.lemmas.List.{set-append_left, replicate_more}
 use Rattle.std.proofs.lemmas.Bool.{cases_lt}
 use Rattle.std.proofs.lemmas.Bool.Decides.{nat_tests}
 use Rattle.scenario_text.specs.declared.scenario.CoinEntry.{CoinEntry}
@@ -25,6 +26,14 @@ pub places_length : (f : ℕ → ℕ) (n : ℕ) → length (map f (places_below 
 places_length f zero = refl
 places_length f (suc n) = ap length (map_more f (places_below n) n)
     ∙ (length_more (map f (places_below n)) (f n) ∙ ap suc (places_length f n))
+
+-- one coin for all
+pub same_coins : (coin n : ℕ) → replicate n coin ≡ map (λ node. coin) (places_below n)
+same_coins coin zero = refl
+same_coins coin (suc n) =
+    let more : replicate n coin ++ coin ∷ [] ≡ replicate (suc n) coin =
+    replicate_more n coin ∙ ap (λ k. replicate k coin) (add-one n) in
+    sym more ∙ (ap (λ xs. xs ++ coin ∷ []) (same_coins coin n) ∙ sym (map_more (λ (node : ℕ). coin) (places_below n) n))
 
 pub same_below : (f g : ℕ → ℕ) (n : ℕ) → ((i : ℕ) → i < n → f i ≡ g i) → map f (places_below n) ≡ map g (places_below n)
 same_below f g zero same = refl

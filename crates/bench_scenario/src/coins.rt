@@ -1,7 +1,7 @@
 //! The coins of a scenario.
 ghost use Rattle.std.specs.Prelude.{◌≡◌, ℕ, ◌+◌, ◌-◌, ◌*◌, ◌<◌, ◌≤◌, ◌^◌, ◌%◌, ◌==◌, ◌&&◌, if◌then◌else◌, IfOk, map};
 ghost use Rattle.rand_chacha.specs.ChaCha.{key_of};
-ghost use Rattle.bench_scenario.specs.Coins.{coins_of, drawn, places_below, replaced, seed_of};
+ghost use Rattle.bench_scenario.specs.Coins.{coin_at, coins_of, drawn, places_below, replaced, seed_of};
 
 use rand_chacha::ChaCha8Rng;
 use rand_core::SeedableRng;
@@ -20,7 +20,19 @@ fn generator_at(key: u64, place: u64) -> ChaCha8Rng
     generator
 }
 
-/// The coins from a place on. A word is drawn for each, also where it doesn't decide.
+/// The coins of the key from a place on.
+fn chacha_coins(alloc: Global, key: u64, place: u64, count: u32) -> Result<Vec<u32>, AllocError>
+    ensures { IfOk result (λ coins. coins.items ≡ map (λ node. coin_at key (place + node)) (places_below count)) }
+{
+    let mut generator = generator_at(key, place);
+    let mut coins = Vec::with_capacity(alloc, count as usize)?;
+    for _ in 0..count {
+        coins.push(generator.next_word() & 1)?;
+    }
+    Ok(coins)
+}
+
+/// The coins from a place on. Words are drawn only where they decide.
 fn drawn_coins(
     alloc: Global,
     coins: Coins,
@@ -31,18 +43,11 @@ fn drawn_coins(
     ensures { IfOk result (λ drawn_ones. drawn_ones.items ≡ map
         (λ node. drawn coins key (place + node)) (places_below count)) }
 {
-    let mut generator = generator_at(key, place);
-    let mut drawn = Vec::with_capacity(alloc, count as usize)?;
-    for _ in 0..count {
-        let word = generator.next_word();
-        let coin = match coins {
-            Coins::Zeros => 0,
-            Coins::Ones => 1,
-            Coins::Chacha => word & 1,
-        };
-        drawn.push(coin)?;
+    match coins {
+        Coins::Zeros => vec![in alloc; 0; count as usize],
+        Coins::Ones => vec![in alloc; 1; count as usize],
+        Coins::Chacha => chacha_coins(alloc, key, place, count),
     }
-    Ok(drawn)
 }
 
 /// Sets the coin of an entry of this pulse.

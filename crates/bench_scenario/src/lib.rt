@@ -2,6 +2,7 @@
 #![tactic(auto)]
 
 mod coins;
+mod paying;
 mod printing;
 mod run;
 mod schedule;

@@ -4,6 +4,7 @@ ghost use Rattle.stream_io.specs.Streams.{TakesAtMost};
 ghost use Rattle.bench_scenario.specs.Runs.{LeavesReport, Reports};
 ghost use Rattle.bench_scenario.specs.inner.Runs.{IsDueOf};
 
+use crate::paying::paying_workers;
 use crate::printing::report;
 use crate::schedule::events;
 use bench_engine::{MOST_WORKERS, Open, RunFault, run_events};
@@ -65,6 +66,7 @@ fn report_in<T: Threads + Wait + Sync>(
     let Ok(events) = events(alloc, &scenario) else {
         return Err(ScenarioFault::Memory);
     };
+    let workers = paying_workers(&scenario, workers);
     let run = match run_events(rt, alloc, &Open, workers, shape, rule, events) {
         Ok(run) => run,
         Err(fault) => return Err(ScenarioFault::Run(fault)),
@@ -75,8 +77,8 @@ fn report_in<T: Threads + Wait + Sync>(
     Ok(line)
 }
 
-/// Reads a scenario's text, runs it on so many workers, and writes the report. At most [`MOST_BYTES`] bytes are
-/// read, by at most [`MOST_CALLS`] calls of `read`. The report is whole before its first byte is written.
+/// Reads a scenario's text, runs it on as many of the workers as pay, and writes the report. At most [`MOST_BYTES`]
+/// bytes are read, by at most [`MOST_CALLS`] calls of `read`. The report is whole before its first byte is written.
 #[tactic(auto, using(crate::proofs::StreamLemmas::fault_left, crate::proofs::StreamLemmas::report_left, crate::proofs::StreamLemmas::front_left))]
 pub fn run_scenario<T: Threads + Wait + Sync, R: Read, W: Write>(
     rt: &T,

@@ -11,6 +11,7 @@ mod parts;
 mod reports;
 mod streams;
 mod vectors;
+mod workers;
 
 /// Four clocks of one fault, whose coins are all one.
 const FOUR_CLOCKS: &str = r#"nodes = 4
