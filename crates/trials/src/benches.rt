@@ -1,0 +1,236 @@
+//! Calls on a bench.
+
+use crate::four::{FIRST_STEPS, Four, MEMORY, NODES, ONES, accepted_clock, four_nodes};
+use crate::shown::{Shown, is_same};
+use crate::stop::{Ended, Stop, Wrong, expect};
+use bench_core::{
+    Actor, Bench, Change, CloseError, Entry, NodeDone, NodeTask, OpenError, PulseRecord, StageError,
+};
+use bpf_verify::VerifiedProgram;
+use std::alloc::{AllocError, Global};
+
+/// Who stages the changes.
+const LOADER: Actor = Actor::Loader(0);
+
+/// A memory whose clock is 3.
+const THREE: [u8; MEMORY as usize] = [3, 0, 0, 0, 0, 0, 0, 0];
+
+/// How many changes are staged one after the other: so many that the history grows between them.
+pub const TURNS: u32 = 2 * NODES;
+
+/// A kind of change.
+#[derive(Clone, Copy)]
+pub enum Kind {
+    Load,
+    Unload,
+    Corrupt,
+}
+
+/// The change of a kind.
+pub fn change_of(
+    alloc: Global,
+    kind: Kind,
+    node: u32,
+    program: &VerifiedProgram,
+) -> Result<Change, AllocError> {
+    match kind {
+        Kind::Load => Ok(Change::Load {
+            node,
+            program: program.copy()?,
+        }),
+        Kind::Unload => Ok(Change::Unload { node }),
+        Kind::Corrupt => Ok(Change::Corrupt {
+            node,
+            image: Vec::from_slice(alloc, &THREE)?,
+        }),
+    }
+}
+
+fn new_bench(alloc: Global, four: &Four) -> Result<Bench, AllocError> {
+    Bench::new(alloc, four.shape, four.rule)
+}
+
+/// A new bench has zeros, no mail and no history, also after a refusal.
+pub fn makes(alloc: Global) -> Result<Ended, Stop> {
+    let four = four_nodes();
+    let (bench, ended) = match new_bench(alloc, &four) {
+        Ok(bench) => (bench, Ended::AtOnce),
+        Err(AllocError) => (new_bench(alloc, &four)?, Ended::AfterRefusal),
+    };
+    let shown = Shown::of(alloc, &bench)?;
+    expect(shown.is_new(), Wrong::Answer)?;
+    Ok(ended)
+}
+
+/// A change of a kind for each node is staged, one after the other.
+pub fn stages(alloc: Global, kind: Kind) -> Result<Ended, Stop> {
+    let four = four_nodes();
+    let program = accepted_clock(alloc, &four)?;
+    let mut bench = new_bench(alloc, &four)?;
+    stage_each(alloc, &mut bench, kind, &program)
+}
+
+fn stage_each(
+    alloc: Global,
+    bench: &mut Bench,
+    kind: Kind,
+    program: &VerifiedProgram,
+) -> Result<Ended, Stop> {
+    let mut ended = Ended::AtOnce;
+    for turn in 0..TURNS {
+        let change = change_of(alloc, kind, turn % NODES, program)?;
+        ended = ended.and(stage(alloc, bench, change)?);
+    }
+    Ok(ended)
+}
+
+/// Stages a change, which comes last in the history.
+fn stage(alloc: Global, bench: &mut Bench, change: Change) -> Result<Ended, Stop> {
+    let copy = change.copy(alloc)?;
+    let count = bench.history().len();
+    let ended = stage_stubbornly(alloc, bench, change, &copy)?;
+    match bench.history().get(count..) {
+        Some([Entry::Staged { actor, change }]) => {
+            expect(*actor == LOADER && is_same(change, &copy), Wrong::History)?;
+            Ok(ended)
+        }
+        _ => Err(Stop::Wrong(Wrong::History)),
+    }
+}
+
+fn stage_stubbornly(
+    alloc: Global,
+    bench: &mut Bench,
+    change: Change,
+    copy: &Change,
+) -> Result<Ended, Stop> {
+    let before = Shown::of(alloc, bench)?;
+    let back = match bench.stage(LOADER, change) {
+        Ok(()) => return Ok(Ended::AtOnce),
+        Err((back, StageError::Memory)) => back,
+        Err(_) => return Err(Stop::Wrong(Wrong::Refusal)),
+    };
+    expect(before.is(bench), Wrong::Changed)?;
+    expect(is_same(&back, copy), Wrong::HandedBack)?;
+    match bench.stage(LOADER, back) {
+        Ok(()) => Ok(Ended::AfterRefusal),
+        Err((_, StageError::Memory)) => Err(Stop::Memory),
+        Err(_) => Err(Stop::Wrong(Wrong::Refusal)),
+    }
+}
+
+/// A bench on which the clock is staged for each node.
+fn clocks(alloc: Global, four: &Four) -> Result<Bench, Stop> {
+    let program = accepted_clock(alloc, four)?;
+    let mut bench = new_bench(alloc, four)?;
+    let _ended = stage_each(alloc, &mut bench, Kind::Load, &program)?;
+    Ok(bench)
+}
+
+/// Openings, one after the other, so that the history grows at one: each applies what is staged.
+pub fn opens(alloc: Global) -> Result<Ended, Stop> {
+    let mut bench = clocks(alloc, &four_nodes())?;
+    let mut ended = Ended::AtOnce;
+    for node in 0..NODES {
+        let image = Vec::from_slice(alloc, &THREE)?;
+        let staged = stage(alloc, &mut bench, Change::Corrupt { node, image })?;
+        ended = ended.and(staged).and(open(alloc, &mut bench)?);
+        expect(has_three(&bench, node), Wrong::Answer)?;
+    }
+    Ok(ended)
+}
+
+/// Opens a pulse, which hands out a task for each node, and abandons it.
+fn open(alloc: Global, bench: &mut Bench) -> Result<Ended, Stop> {
+    let before = Shown::of(alloc, bench)?;
+    let (tasks, ended) = match bench.open_pulse(alloc, &ONES) {
+        Err(OpenError::Memory) => {
+            expect(before.is(bench), Wrong::Changed)?;
+            (opened(bench.open_pulse(alloc, &ONES))?, Ended::AfterRefusal)
+        }
+        first => (opened(first)?, Ended::AtOnce),
+    };
+    expect(tasks.len() == NODES as usize, Wrong::Answer)?;
+    expect(bench.is_open(), Wrong::Answer)?;
+    expect(bench.abandon().is_ok(), Wrong::Refusal)?;
+    Ok(ended)
+}
+
+fn opened(tasks: Result<Vec<NodeTask>, OpenError>) -> Result<Vec<NodeTask>, Stop> {
+    match tasks {
+        Ok(tasks) => Ok(tasks),
+        Err(OpenError::Memory) => Err(Stop::Memory),
+        Err(_) => Err(Stop::Wrong(Wrong::Refusal)),
+    }
+}
+
+/// The results of the tasks, in their order or turned round.
+fn results(
+    alloc: Global,
+    tasks: Vec<NodeTask>,
+    reversed: bool,
+) -> Result<Vec<NodeDone>, AllocError> {
+    let mut dones = Vec::with_capacity(alloc, tasks.len())?;
+    for task in tasks {
+        dones.push(task.run())?;
+    }
+    if reversed {
+        dones.reverse();
+    }
+    Ok(dones)
+}
+
+/// A close takes the very list that it refused.
+pub fn closes(alloc: Global, reversed: bool) -> Result<Ended, Stop> {
+    let mut bench = clocks(alloc, &four_nodes())?;
+    let tasks = opened(bench.open_pulse(alloc, &ONES))?;
+    let dones = results(alloc, tasks, reversed)?;
+    let before = Shown::of(alloc, &bench)?;
+    let (record, ended) = match bench.close_pulse(alloc, dones) {
+        Err((back, CloseError::Memory)) => {
+            expect(before.is(&bench), Wrong::Changed)?;
+            (closed(bench.close_pulse(alloc, back))?, Ended::AfterRefusal)
+        }
+        first => (closed(first)?, Ended::AtOnce),
+    };
+    expect(is_first(&record), Wrong::Answer)?;
+    expect(!bench.is_open(), Wrong::Answer)?;
+    expect(all_sent_zero(&bench), Wrong::Answer)?;
+    Ok(ended)
+}
+
+fn closed(record: Result<PulseRecord, (Vec<NodeDone>, CloseError)>) -> Result<PulseRecord, Stop> {
+    match record {
+        Ok(record) => Ok(record),
+        Err((_, CloseError::Memory)) => Err(Stop::Memory),
+        Err(_) => Err(Stop::Wrong(Wrong::Refusal)),
+    }
+}
+
+/// Whether it is the record of the first pulse of four new clocks.
+pub fn is_first(record: &PulseRecord) -> bool {
+    record.row.pulse == 1
+        && record.row.common == 0
+        && record.row.settled == 0
+        && record.steps == FIRST_STEPS
+        && record.agree
+        && record.clocks.as_slice() == [Some(0); NODES as usize].as_slice()
+}
+
+/// Whether each node sent 0 to each.
+fn all_sent_zero(bench: &Bench) -> bool {
+    let nodes = bench.shape().nodes();
+    for sender in 0..nodes {
+        for receiver in 0..nodes {
+            if bench.mail().slot(sender, receiver) != Some(0) {
+                return false;
+            }
+        }
+    }
+    true
+}
+
+/// Whether the node's clock is 3.
+fn has_three(bench: &Bench, node: u32) -> bool {
+    node < bench.shape().nodes() && bench.clock(node) == 3
+}

@@ -1,0 +1,58 @@
+//! Four clocks, one of which may be faulty: the bed of every case.
+ghost use Rattle.std.specs.Prelude.{◌≡◌};
+
+use crate::stop::{Stop, Wrong};
+use bpf_insn::Program;
+use bpf_verify::{VerifiedProgram, VerifyError, verify};
+use clock_nodes::{ClockRule, dolev_welch};
+use node_env::Shape;
+use std::alloc::{AllocError, Global};
+
+pub const NODES: u32 = 4;
+
+/// The bytes of a node's memory: a pair alone.
+pub const MEMORY: u32 = 8;
+
+/// The coins of each pulse.
+pub const ONES: [u32; 4] = [1; 4];
+
+/// The longest path of the clock for four nodes.
+pub const ANNOUNCED: u32 = 45;
+
+/// The steps of a clock that gets no mail.
+pub const FIRST_STEPS: u32 = 36;
+
+/// The shape of the nodes, and the rule of their clocks.
+#[derive(Drop)]
+pub struct Four {
+    pub shape: Shape,
+    pub rule: ClockRule,
+    ghost nodes: { rule.nodes ≡ shape.nodes },
+}
+
+pub fn four_nodes() -> Four {
+    match (Shape::of(NODES, MEMORY), ClockRule::of(NODES, 1, 8)) {
+        (Some(shape), Some(rule)) => Four { shape, rule },
+        _ => unreachable!(),
+    }
+}
+
+/// The clock program.
+pub fn clock(alloc: Global, four: &Four) -> Result<Program, AllocError> {
+    dolev_welch(alloc, four.shape, four.rule)
+}
+
+/// The program, accepted.
+pub fn accepted(alloc: Global, program: &Program, four: &Four) -> Result<VerifiedProgram, Stop> {
+    match verify(alloc, program, four.shape) {
+        Ok(accepted) => Ok(accepted),
+        Err(VerifyError::Memory) => Err(Stop::Memory),
+        Err(VerifyError::Refused { .. }) => Err(Stop::Wrong(Wrong::Refusal)),
+    }
+}
+
+/// The clock program, accepted.
+pub fn accepted_clock(alloc: Global, four: &Four) -> Result<VerifiedProgram, Stop> {
+    let program = clock(alloc, four)?;
+    accepted(alloc, &program, four)
+}
