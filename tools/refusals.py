@@ -1,0 +1,247 @@
+#!/usr/bin/env python3
+"""Refuses the built programs what they ask for: tools/refusals.py memory|threads.
+
+Each program is run whole, then once for each of its requests with that one refused, and once for each with that one and
+all later ones refused. What may come of it is the right answer, or nothing on standard output and a line for the fault.
+The cases of crates/trials print a line each, and may say that they were refused and done. The number of requests comes
+from the first run. CLOCKBED_PROGRAM and TRIALS_PROGRAM name other programs than those that were built here, and
+PROCESSORS says how many runs go on at once.
+"""
+import concurrent.futures
+import dataclasses
+import os
+import re
+import subprocess
+import sys
+import tempfile
+
+TOP = os.path.dirname(os.path.dirname(os.path.abspath(__file__)))
+SECONDS = 60
+ENDLESS = 1 << 40
+CASE = re.compile(rb"(.+): (done|refused and done)\Z")
+
+
+def program(name):
+    path = os.environ.get(f"{name.upper()}_PROGRAM", f"{TOP}/crates/{name}/out/{name}")
+    if not os.access(path, os.X_OK):
+        sys.exit(f"refusals: {path} is not there: build it by rt run in crates/{name}")
+    return os.path.realpath(path)
+
+
+def contents(path):
+    with open(f"{TOP}/{path}", "rb") as it:
+        return it.read()
+
+
+@dataclasses.dataclass
+class Ran:
+    status: int
+    out: bytes
+    err: bytes
+
+
+@dataclasses.dataclass
+class Command:
+    """Words of clockbed with what they read."""
+
+    words: str
+    input: bytes
+
+
+@dataclasses.dataclass
+class Counts:
+    requests: int = 0
+    refused: int = 0
+    retried: int = 0
+    right: int = 0
+    wrong: list = dataclasses.field(default_factory=list)
+
+    def add(self, outcome, place):
+        if outcome == "refused":
+            self.refused += 1
+        elif outcome == "retried":
+            self.retried += 1
+        elif outcome == "right":
+            self.right += 1
+        else:
+            self.wrong.append(f"{place}: {outcome}")
+
+
+def compiled(room):
+    """The library that is preloaded."""
+    library = f"{room}/refusals.so"
+    subprocess.run(
+        ["cc", "-shared", "-fPIC", "-O1", "-o", library, f"{TOP}/tools/refusals.c", "-ldl"], check=True
+    )
+    return library
+
+
+def run(library, words, given, **said):
+    """Runs a program with what the library is to do."""
+    environment = {**os.environ, "LD_PRELOAD": library, **{name: str(value) for name, value in said.items()}}
+    try:
+        ran = subprocess.run(words, input=given, capture_output=True, env=environment, timeout=SECONDS)
+    except subprocess.TimeoutExpired:
+        return Ran(-1, b"", b"it didn't end")
+    return Ran(ran.returncode, ran.stdout, ran.stderr)
+
+
+def tallied(library, room, words, given):
+    """A whole run, and for each request and write: the bytes written before, and the requests of each kind."""
+    path = f"{room}/tally"
+    whole = run(library, words, given, TALLY=path)
+    with open(path, encoding="ascii") as it:
+        rows = [(0, 0, 0), *(tuple(map(int, line.split())) for line in it)]
+    return whole, rows
+
+
+def is_fault(ran):
+    return ran.status == 1 and ran.err in (b"fault memory\n", b"fault thread\n")
+
+
+def command_outcome(whole, ran):
+    """What came of a command, some of whose requests were refused."""
+    if ran == whole:
+        return "right"
+    if is_fault(ran) and not ran.out:
+        return "refused"
+    return f"status {ran.status}, output {ran.out[:60]!r}, errors {ran.err[:60]!r}"
+
+
+def trial_outcome(whole, ran, place, last):
+    """What came of the cases, where requests of the case at a place were refused, and later ones if it is the last."""
+    names = [CASE.fullmatch(line)[1] for line in whole.out.splitlines()]
+    lines = ran.out.splitlines()
+    found = [CASE.fullmatch(line) for line in lines]
+    if any(not it for it in found) or [it[1] for it in found] != names[: len(found)]:
+        return f"{next((line for line, it in zip(lines, found) if not it), lines[-1:])!r}"
+    retried = [at for at, it in enumerate(found) if it[2] != b"done"]
+    if ran.status == 0 and not ran.err and len(lines) == len(names):
+        if not retried:
+            return "right"
+        return "retried" if last or retried == [place] else f"{lines[retried[-1]]!r} is another case"
+    if last and is_fault(ran) and len(lines) >= place:
+        return "refused"
+    return f"status {ran.status}, {len(lines)} lines, errors {ran.err[:60]!r}"
+
+
+def ranges(count):
+    """The first and the last refused request of each run."""
+    for first in range(1, count + 1):
+        yield first, first
+    for first in range(1, count + 1):
+        yield first, ENDLESS
+
+
+def sweep_command(pool, library, room, kind, command):
+    words = [program("clockbed"), *command.words.split()]
+    whole, rows = tallied(library, room, words, command.input)
+    counts = Counts(requests=rows[-1][1 if kind == "memory" else 2])
+
+    def one(bounds):
+        return bounds, run(library, words, command.input, REFUSED=kind, FIRST=bounds[0], LAST=bounds[1])
+
+    for bounds, ran in pool.map(one, ranges(counts.requests)):
+        counts.add(command_outcome(whole, ran), bounds)
+    return counts
+
+
+def case_ends(whole, rows, kind):
+    """The number of requests that were made when the line of each case was whole."""
+    column = 1 if kind == "memory" else 2
+    ends, place = [], 0
+    for line in whole.out.splitlines(keepends=True):
+        place += len(line)
+        before = [row for row in rows if row[0] < place]
+        ends.append((line.split(b":")[0].decode(), before[-1][column]))
+    return ends
+
+
+def sweep_trials(pool, library, room, kind):
+    words = [program("trials")]
+    whole, rows = tallied(library, room, words, b"")
+    if whole.status or any(it[2] != b"done" for it in map(CASE.fullmatch, whole.out.splitlines())):
+        sys.exit(f"refusals: trials: status {whole.status}\n{whole.out.decode()}{whole.err.decode()}")
+    ends = case_ends(whole, rows, kind)
+    tables = {name: Counts() for name, _ in ends}
+    before = 0
+    jobs = []
+    for place, (name, end) in enumerate(ends):
+        tables[name].requests = end - before
+        for first in range(before + 1, end + 1):
+            jobs += [(name, place, first, first), (name, place, first, ENDLESS)]
+        before = end
+
+    def one(job):
+        _, place, first, last = job
+        ran = run(library, words, b"", REFUSED=kind, FIRST=first, LAST=last)
+        return job, trial_outcome(whole, ran, place, last == ENDLESS)
+
+    for (name, _, first, last), outcome in pool.map(one, jobs):
+        tables[name].add(outcome, (first, last))
+    return tables
+
+
+def commands(library, room, kind):
+    """The command lines that are tried."""
+    clockbed = program("clockbed")
+    four = contents("examples/four_clocks.toml")
+    text = b"ldxw r7, [r1+0]\njlt r7, 8, low\nmov64 r7, 0\nlow: mov64 r0, r7\nexit\n"
+    image = run(library, [clockbed, "asm"], text).out
+    if kind == "threads":
+        return [
+            Command("run --workers 2", four),
+            Command("run --workers 8", four),
+            Command("stress --loaders 2 --loads 4 --pulses 8 --workers 2", b""),
+            Command("stress --loaders 8 --loads 4 --pulses 8 --workers 8", b""),
+        ]
+    return [
+        Command("exec", image),
+        Command("exec --memory 12", image),
+        Command("exec", b"\xff" + bytes(7)),
+        Command("exec --fuel x", image),
+        Command("asm", text),
+        Command("asm", b"mov64 r11, 1\n"),
+        Command("dis", image),
+        Command("verify", image),
+        Command("verify", bytes.fromhex("bf10000000000000 9500000000000000")),
+        Command("run --workers 1", four),
+        Command("run --workers 2", four),
+        Command("run", contents("examples/splitter.toml").replace(b"pulses = 24", b"pulses = 3")),
+        Command("run", b"nodes = 33\n"),
+        Command("stress --loaders 2 --loads 4 --pulses 4 --workers 2", b""),
+        Command("--help", b""),
+    ]
+
+
+def print_row(name, counts):
+    print(
+        f"{name:60} {counts.requests:8} {counts.refused:8} {counts.retried:8} {counts.right:8} {len(counts.wrong):6}",
+        flush=True,
+    )
+    for wrong in counts.wrong[:5]:
+        print(f"  {wrong}", flush=True)
+
+
+def main(kind):
+    faults = 0
+    workers = int(os.environ.get("PROCESSORS", os.cpu_count() or 1))
+    with tempfile.TemporaryDirectory() as room, concurrent.futures.ThreadPoolExecutor(workers) as pool:
+        library = compiled(room)
+        print(f"{kind:60} {'requests':>8} {'refused':>8} {'retried':>8} {'right':>8} {'wrong':>6}")
+        for command in commands(library, room, kind):
+            counts = sweep_command(pool, library, room, kind, command)
+            print_row(f"clockbed {command.words}", counts)
+            faults += len(counts.wrong)
+        for name, counts in sweep_trials(pool, library, room, kind).items():
+            if counts.requests:
+                print_row(f"trials: {name}", counts)
+            faults += len(counts.wrong)
+    print(f"refusals: {faults} wrong", flush=True)
+    return 1 if faults else 0
+
+
+if __name__ == "__main__":
+    if sys.argv[1:] not in (["memory"], ["threads"]):
+        sys.exit(__doc__)
+    sys.exit(main(sys.argv[1]))
