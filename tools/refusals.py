@@ -182,6 +182,14 @@ def sweep_trials(pool, library, room, kind):
     return tables
 
 
+def long_pulses():
+    """A scenario whose pulses are so long that they are run on threads (docs/THREADS.md, "When workers pay")."""
+    head = "version = 2\nnodes = 64\nfaults = 21\nmodulus = 8\nmemory = 8\npulses = 4\ncoins = \"ones\"\n"
+    load = f"[[load]]\npulse = 1\nprogram = \"asm\"\nnodes = {list(range(64))}\n"
+    adds = "add64 r0, 1\n" * 2046
+    return f'{head}{load}text = """\nmov64 r0, 1\n{adds}exit\n"""\n'.encode()
+
+
 def commands(library, room, kind):
     """The command lines that are tried."""
     clockbed = program("clockbed")
@@ -190,8 +198,8 @@ def commands(library, room, kind):
     image = run(library, [clockbed, "asm"], text).out
     if kind == "threads":
         return [
-            Command("run --workers 2", four),
-            Command("run --workers 8", four),
+            Command("run --workers 2", long_pulses()),
+            Command("run --workers 8", long_pulses()),
             Command("stress --loaders 2 --loads 4 --pulses 8 --workers 2", b""),
             Command("stress --loaders 8 --loads 4 --pulses 8 --workers 8", b""),
         ]
