@@ -28,12 +28,15 @@ pub struct State {
     written: [bool; STACK_BYTES as usize],
     /// The pointer that each double word of the stack keeps.
     kept: [Option<Word>; STACK_DWORDS],
+    /// Whether one was kept in this run: else no double word is looked at.
+    keeps: bool,
 }
 
 impl Model for State {
     ghost use Rattle.node_env.specs.Slots.{map_of};
     ghost use Rattle.bpf_machine.specs.Machine.{Frame};
-    ghost use Rattle.bpf_machine.specs.inner.Cells.{written_bytes};
+    ghost use Rattle.std.specs.Prelude.{IsTrue, ◌||◌};
+    ghost use Rattle.bpf_machine.specs.inner.Cells.{holds_none, written_bytes};
     ghost use Rattle.bpf_machine.specs.inner.Codes.{frame_code};
     ghost use Rattle.bpf_machine.specs.contracts.word.Word as word;
 
@@ -47,6 +50,8 @@ impl Model for State {
       stack = written_bytes s.stack s.written;
       kept = map_of s.kept;
     } };
+
+    ghost invariant = { λ s. IsTrue (s.keeps || holds_none s.kept) };
 }
 
 impl State {
@@ -65,6 +70,7 @@ impl State {
             stack: [0; STACK_BYTES as usize],
             written: [false; STACK_BYTES as usize],
             kept: [None; STACK_DWORDS],
+            keeps: false,
         }
     }
 
@@ -161,6 +167,9 @@ impl State {
         requires inside { first + count ≤ STACK_BYTES }
         ensures { result ≡ touches_kept self.now first count }
     {
+        if !self.keeps {
+            return false;
+        }
         self.kept[first / 8].is_some() || self.kept[(first + count - 1) / 8].is_some()
     }
 
@@ -171,6 +180,9 @@ impl State {
         requires { first + 8 ≤ STACK_BYTES }
         ensures { result ≡ kept_at self.now Stack first 8 }
     {
+        if !self.keeps {
+            return None;
+        }
         if first % 8 == 0 {
             self.kept[first / 8]
         } else {
@@ -223,7 +235,9 @@ impl State {
         requires { dword < STACK_DWORDS }
         ensures { self.new ≡ record self.old { kept = map.remove self.old.kept dword } }
     {
-        self.kept[dword] = None;
+        if self.keeps {
+            self.kept[dword] = None;
+        }
     }
 
     /// Puts a number's low bytes into the stack, the lowest first. Each kept pointer that they touch goes.
@@ -253,6 +267,7 @@ impl State {
         requires { dword < STACK_DWORDS }
         ensures { self.new ≡ record self.old { kept = map.insert self.old.kept dword pointer } }
     {
+        self.keeps = true;
         self.kept[dword] = Some(pointer);
     }
 
