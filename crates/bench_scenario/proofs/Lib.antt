@@ -5,3 +5,4 @@ mod FitLemmas
 mod ListLemmas
 pub mod RunLemmas
 mod StreamLemmas
+mod VerdictLemmas

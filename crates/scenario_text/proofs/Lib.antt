@@ -1,3 +1,4 @@
+mod ClockLemmas
 pub mod EntryLemmas
 pub mod FrameLemmas
 mod ListLemmas
