@@ -5,4 +5,3 @@ mod FitLemmas
 mod ListLemmas
 pub mod RunLemmas
 mod StreamLemmas
-mod VerdictLemmas

@@ -52,9 +52,9 @@ due_whole bytes text (errors.OutOfRange place key) is due = due_when bytes text
     (errors.OutOfRange place key) is due.1.0 due
 due_whole bytes text (errors.UnknownProgram load) is due = due_when bytes text
     (errors.UnknownProgram load) is due.1.0 due
-due_whole bytes text (errors.BadText place key error) is due = due_when bytes text (errors.BadText place key error) is due.1.0 due
-due_whole bytes text (errors.NotAccepted place key slot rule) is due = due_when bytes text
-    (errors.NotAccepted place key slot rule) is due.1.0 due
+due_whole bytes text (errors.BadText load error) is due = due_when bytes text (errors.BadText load error) is due.1.0 due
+due_whole bytes text (errors.NotAccepted load key slot rule) is due = due_when bytes text
+    (errors.NotAccepted load key slot rule) is due.1.0 due
 due_whole bytes text (errors.Memory gone) is due = due
 
 stops_whole : (bytes text : List ℕ) (event : ℕ) (refusal : RunRefusal) → IsFront bytes text

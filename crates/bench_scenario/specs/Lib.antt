@@ -2,5 +2,4 @@ pub mod Coins
 pub mod Events
 pub mod Reports
 pub mod Runs
-pub mod Verdicts
 pub mod inner

@@ -2,12 +2,10 @@
 #![tactic(auto)]
 
 mod coins;
-mod judged;
 mod paying;
 mod printing;
 mod run;
 mod schedule;
-mod verdicts;
 
 pub use printing::report;
 pub use run::{MOST_BYTES, MOST_CALLS, ScenarioFault, run_scenario};

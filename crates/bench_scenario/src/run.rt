@@ -1,22 +1,17 @@
 //! A scenario from the first byte that is read to the last that is written.
-ghost use Rattle.std.specs.Prelude.{◌≡◌, ◌≤◌, ◌<◌, ◌↔◌, [], IfOk, IfSome, IsTrue, MatchResult, string_bytes};
-ghost use Rattle.bench_core.specs.Setup.{HasRuleClock};
-ghost use Rattle.bench_core.specs.State.{new_state};
-ghost use Rattle.scenario_text.specs.Spelling.{rule_of};
-ghost use Rattle.scenario_text.specs.Views.{extent_of, frame_of};
+ghost use Rattle.std.specs.Prelude.{◌≡◌, ◌≤◌, ◌<◌, IfSome, MatchResult, string_bytes};
 ghost use Rattle.stream_io.specs.Streams.{TakesAtMost};
-ghost use Rattle.bench_scenario.specs.Runs.{LeavesReport, Reports, bench_of};
+ghost use Rattle.bench_scenario.specs.Runs.{LeavesReport, Reports};
 ghost use Rattle.bench_scenario.specs.inner.Runs.{IsDueOf};
 
 use crate::paying::paying_workers;
 use crate::printing::report;
 use crate::schedule::events;
-use bench_core::Bench;
-use bench_engine::{MOST_WORKERS, Open, RunFault, run_events_on};
-use clock_nodes::{ClockRule, dolev_welch};
+use bench_engine::{MOST_WORKERS, Open, RunFault, run_events};
+use clock_nodes::ClockRule;
 use node_env::Shape;
-use scenario_text::{MAX_TEXT, Scenario, ScenarioError, scenario_in};
-use std::alloc::{AllocError, Global};
+use scenario_text::{MAX_TEXT, ScenarioError, scenario_in};
+use std::alloc::Global;
 use std::io::{Read, Write};
 use std::sync::Wait;
 use std::thread::Threads;
@@ -46,31 +41,6 @@ pub enum ScenarioFault {
     Memory,
 }
 
-/// The bench that a scenario is run on, and whether its clock is another than the rule's.
-fn bench_for(
-    alloc: Global,
-    scenario: &Scenario,
-    shape: Shape,
-    rule: ClockRule,
-) -> Result<(Bench, bool), AllocError>
-    requires shape { shape ≡ extent_of (frame_of scenario.now) }
-    requires rule { rule ≡ rule_of (frame_of scenario.now) }
-    ensures setup { IfOk result (λ r. r.0.setup ≡ bench_of scenario.now) }
-    ensures state { IfOk result (λ r. r.0.state ≡ new_state (bench_of scenario.now)) }
-    ensures history { IfOk result (λ r. r.0.history ≡ []) }
-    ensures other { IfOk result (λ r. IsTrue r.1 ↔ ¬ HasRuleClock (bench_of scenario.now)) }
-{
-    let listing = dolev_welch(alloc, shape, rule)?;
-    match &scenario.clock {
-        None => Ok((Bench::with_clock(alloc, shape, rule, listing)?, false)),
-        Some(clock) => {
-            let own = !clock.program().same(&listing);
-            let program = clock.program().copy(alloc)?;
-            Ok((Bench::with_clock(alloc, shape, rule, program)?, own))
-        }
-    }
-}
-
 /// The report of the run of the scenario that a text says.
 fn report_in<T: Threads + Wait + Sync>(
     rt: &T,
@@ -96,15 +66,12 @@ fn report_in<T: Threads + Wait + Sync>(
     let Ok(events) = events(alloc, &scenario) else {
         return Err(ScenarioFault::Memory);
     };
-    let Ok((bench, own)) = bench_for(alloc, &scenario, shape, rule) else {
-        return Err(ScenarioFault::Memory);
-    };
     let workers = paying_workers(&scenario, workers);
-    let run = match run_events_on(rt, alloc, &Open, workers, bench, events) {
+    let run = match run_events(rt, alloc, &Open, workers, shape, rule, events) {
         Ok(run) => run,
         Err(fault) => return Err(ScenarioFault::Run(fault)),
     };
-    let Ok(line) = report(alloc, &scenario, own, &run) else {
+    let Ok(line) = report(alloc, &scenario, &run) else {
         return Err(ScenarioFault::Memory);
     };
     Ok(line)

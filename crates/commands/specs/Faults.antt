@@ -1,7 +1,5 @@
--- Which faults come where, and what is said of them (docs/COMMANDS.md, "Faults").
-use Rattle.std.specs.Prelude.{ℕ, List, ◌++◌, codes, string_bytes, take, Option}
-use Rattle.std.specs.Fmt.{decimal}
-use Rattle.std.specs.Io.KnownBytes.{Appends}
+-- Which faults come where.
+use Rattle.std.specs.Prelude.{ℕ}
 use Rattle.commands.specs.declared.fault.Fault.{Fault}
 use Rattle.commands.specs.declared.fault.Fault.TheVariants.{Read, Write, Memory, Thread, CommandLine}
 
@@ -24,23 +22,3 @@ IsOfCommandLine (Write after) = ⊥
 IsOfCommandLine Memory = Unit {0}
 IsOfCommandLine Thread = ⊥
 IsOfCommandLine (CommandLine text) = Unit {0}
-
--- what a fault is told by, without its end where it is a line of ours
-abbrev pub fault_line : Fault → List ℕ
-fault_line Read = codes "fault read"
-fault_line (Write after) = codes "fault write after " ++ decimal after
-fault_line Memory = codes "fault memory"
-fault_line Thread = codes "fault thread"
-fault_line (CommandLine text) = string_bytes text
-
--- with its end. The text of a command line has one
-abbrev pub fault_text : Fault → List ℕ
-fault_text Read = fault_line Read ++ codes "\n"
-fault_text (Write after) = fault_line (Write after) ++ codes "\n"
-fault_text Memory = fault_line Memory ++ codes "\n"
-fault_text Thread = fault_line Thread ++ codes "\n"
-fault_text (CommandLine text) = string_bytes text
-
--- so much of a text was written as was taken
-abbrev pub Says : Option (List ℕ) → Option (List ℕ) → List ℕ → Type 0
-Says old new text = (taken : ℕ) × Appends old new (take taken text)

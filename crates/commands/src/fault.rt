@@ -1,6 +1,6 @@
 //! Why a command gave no whole answer, and how that is told.
-ghost use Rattle.std.specs.Prelude.{◌≡◌, Some};
-ghost use Rattle.commands.specs.Faults.{IsOfCommandLine, Says, fault_line, fault_status, fault_text};
+ghost use Rattle.std.specs.Prelude.{◌≡◌};
+ghost use Rattle.commands.specs.Faults.{IsOfCommandLine, fault_status};
 
 use std::alloc::Global;
 use std::fmt;
@@ -40,8 +40,7 @@ impl Fault {
     /// Says it on standard error, with no memory of its own, and answers the exit status.
     /// What `err` does not take is dropped.
     pub fn tell<E: Write>(&self, err: &mut E) -> u8
-        ensures status { result ≡ fault_status }
-        ensures said { Says (E.contents err.old) (E.contents err.new) (fault_text self.now) }
+        ensures { result ≡ fault_status }
     {
         let _ = match self {
             Fault::CommandLine { text } => write_fully(err, text.as_bytes()),
@@ -67,8 +66,6 @@ impl Fault {
 }
 
 impl fmt::Display for Fault {
-    ghost output = { λ fault. Some (fault_line fault) };
-
     fn fmt<W: fmt::Write>(&self, f: &mut fmt::Formatter<W>) -> fmt::Result {
         match self {
             Fault::Read => write!(f, "fault read"),

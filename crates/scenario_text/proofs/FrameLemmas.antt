@@ -2,7 +2,6 @@
 use Rattle.std.proofs.Common.{◌≡◌, ◌≤◌, ℕ, arith, ◌-◌, ◌%◌, List, ap, sym, subst, ◌∙◌, inl, inr}
 use Rattle.std.specs.Prelude.{true, false, ◌==◌, if◌then◌else◌, pos, Option, Some, None, codes, MatchOption, IfErr, Result, Ok, Err}
 use Rattle.toml.specs.Data.{Data, integer, Members, get_member}
-use Rattle.bpf_insn.specs.declared.forms.Insn.{Insn}
 use Rattle.scenario_text.specs.declared.scenario.Frame.{Frame}
 use Rattle.scenario_text.specs.declared.refusal.ScenarioError.{ScenarioError}
 use Rattle.scenario_text.specs.declared.refusal.ScenarioError.TheVariants as errors
@@ -12,8 +11,7 @@ use Rattle.scenario_text.specs.declared.scenario.Unload.{Unload}
 use Rattle.scenario_text.specs.declared.scenario.CoinEntry.{CoinEntry}
 use Rattle.scenario_text.specs.Drafts.{LoadDraft, CorruptDraft}
 use Rattle.scenario_text.specs.Tables.{HasNumber, MayBeArray, IsTable}
-use Rattle.scenario_text.proofs.ClockLemmas.{one_clock}
-use Rattle.scenario_text.specs.Spelling.{HasVersion, HasFrame, HasClock, most_nodes, SpelledLoad, SpelledUnload, SpelledCorrupt, SpelledCoin, SpellsNothing}
+use Rattle.scenario_text.specs.Spelling.{HasVersion, HasFrame, most_nodes, SpelledLoad, SpelledUnload, SpelledCorrupt, SpelledCoin, SpellsNothing}
 use Rattle.scenario_text.specs.declared.limits.TheConstants.{FIRST_VERSION, FIRST_MAX_NODES}
 use Rattle.clock_nodes.specs.Rule.{IsRule}
 use Rattle.node_env.specs.Env.{IsExtent}
@@ -67,8 +65,8 @@ excludes (errors.MissingKey place key) none is silent = silent
 excludes (errors.WrongKind place key) none is silent = silent
 excludes (errors.OutOfRange place key) none is silent = silent
 excludes (errors.UnknownProgram load) none is silent = silent
-excludes (errors.BadText place key error) none is silent = silent
-excludes (errors.NotAccepted place key slot rule) none is silent = tt
+excludes (errors.BadText load error) none is silent = silent
+excludes (errors.NotAccepted load key slot rule) none is silent = tt
 excludes (errors.Memory _) none is silent = tt
 
 -- what excludes less excludes more
@@ -80,8 +78,8 @@ excludes_more (errors.MissingKey place key) less more leads excluded = leads exc
 excludes_more (errors.WrongKind place key) less more leads excluded = leads excluded
 excludes_more (errors.OutOfRange place key) less more leads excluded = leads excluded
 excludes_more (errors.UnknownProgram load) less more leads excluded = leads excluded
-excludes_more (errors.BadText place key error) less more leads excluded = leads excluded
-excludes_more (errors.NotAccepted place key slot rule) less more leads excluded = tt
+excludes_more (errors.BadText load error) less more leads excluded = leads excluded
+excludes_more (errors.NotAccepted load key slot rule) less more leads excluded = tt
 excludes_more (errors.Memory _) less more leads excluded = tt
 
 -- a table has one frame at most
@@ -96,14 +94,12 @@ one_frame ms f g a b = λ k. record {
 }
 
 -- what the frame that was read has no entries for has no spelling
-pub no_loads : (ms : Members) (f : Frame) (c : Option (List Insn)) → HasFrame ms f → HasClock ms c
-    → ((loads : List LoadDraft) → MayBeArray (IsTable (SpelledLoad f c)) (get_member (codes "load") ms) loads → ⊥)
+pub no_loads : (ms : Members) (f : Frame) → HasFrame ms f
+    → ((loads : List LoadDraft) → MayBeArray (IsTable (SpelledLoad f)) (get_member (codes "load") ms) loads → ⊥)
     → SpellsNothing ms
-no_loads ms f c has clock none d spelled =
-    let framed = subst (λ g. MayBeArray (IsTable (SpelledLoad g d.clock)) (get_member (codes "load") ms) d.loads)
-    (one_frame ms d.frame f spelled.frame has) spelled.loads in
-    none d.loads (subst (λ k. MayBeArray (IsTable (SpelledLoad f k)) (get_member (codes "load") ms) d.loads)
-    (one_clock ms d.clock c spelled.clock clock) framed)
+no_loads ms f has none d spelled =
+    none d.loads (subst (λ g. MayBeArray (IsTable (SpelledLoad g)) (get_member (codes "load") ms) d.loads)
+    (one_frame ms d.frame f spelled.frame has) spelled.loads)
 
 pub no_unloads : (ms : Members) (f : Frame) → HasFrame ms f
     → ((us : List Unload) → MayBeArray (IsTable (SpelledUnload f)) (get_member (codes "unload") ms) us → ⊥)

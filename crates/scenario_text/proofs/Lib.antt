@@ -1,4 +1,3 @@
-mod ClockLemmas
 pub mod EntryLemmas
 pub mod FrameLemmas
 mod ListLemmas

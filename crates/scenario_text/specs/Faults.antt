@@ -6,6 +6,6 @@ use Rattle.scenario_text.specs.declared.refusal.ScenarioError.TheVariants as err
 abbrev pub Excludes : ScenarioError → Type 0 → Type 0
 Excludes errors.TooLong none = ⊥
 Excludes errors.NotToml none = ⊥
-Excludes (errors.NotAccepted place key slot rule) none = Unit {0}
+Excludes (errors.NotAccepted load key slot rule) none = Unit {0}
 Excludes (errors.Memory _) none = Unit {0}
 Excludes _ none = none

@@ -25,7 +25,7 @@ abbrev pub IsDue : List ℕ → ScenarioError → Type 0
 IsDue text errors.TooLong = MAX_TEXT < length text
 IsDue text errors.NotToml = (length text ≤ MAX_TEXT) × (IsUtf8 text → parse_document text ≡ None)
 IsDue text (errors.Memory _) = ⊥
-IsDue text (errors.NotAccepted place key slot rule) = (members : Members) × IsDocument text members
+IsDue text (errors.NotAccepted load key slot rule) = (members : Members) × IsDocument text members
 IsDue text _ = (members : Members) × IsDocument text members × SpellsNothing members
 
 -- a refusal that is due, or want of memory

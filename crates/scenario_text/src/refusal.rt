@@ -45,16 +45,15 @@ pub enum ScenarioError {
     UnknownProgram {
         load: usize,
     },
-    #[error("the text {key} in {place:?} is refused")]
+    #[error("the text of load {load} is refused")]
     BadText {
-        place: Place,
-        key: &'static str,
+        load: usize,
         error: TextError,
     },
     /// `key` is that of the text, or of the name of a listing.
-    #[error("{key} in {place:?} is not accepted")]
+    #[error("{key} of load {load} is not accepted")]
     NotAccepted {
-        place: Place,
+        load: usize,
         key: &'static str,
         slot: u32,
         rule: Rule,

@@ -1,65 +1,27 @@
-//! The frame of a scenario, with what is made of its numbers, and its clock.
-ghost use Rattle.std.specs.Prelude.{◌≡◌, List, Option, IfErr, IfOk, IfSome, option_map};
-ghost use Rattle.bpf_insn.specs.declared.forms.Insn.{Insn};
-ghost use Rattle.bpf_verify.specs.Typable.{Typable};
+//! The frame of a scenario, with what is made of its numbers.
+ghost use Rattle.std.specs.Prelude.{◌≡◌};
 ghost use Rattle.clock_nodes.specs.Rule.{IsRule};
 ghost use Rattle.node_env.specs.Env.{IsExtent};
-ghost use Rattle.toml.specs.View.{table_view};
-ghost use Rattle.scenario_text.specs.Faults.{Excludes};
-ghost use Rattle.scenario_text.specs.inner.Setups.{IsSetup, own_clock};
-ghost use Rattle.scenario_text.specs.Spelling.{HasClock};
-ghost use Rattle.scenario_text.specs.Views.{FitsFrame};
+ghost use Rattle.scenario_text.specs.inner.Setups.{IsSetup};
 
-use crate::programs::{accepted, program_in};
-use crate::refusal::{Place, ScenarioError};
 use crate::scenario::Frame;
-use crate::table::value_at;
-use bpf_verify::VerifiedProgram;
 use clock_nodes::ClockRule;
 use node_env::Shape;
-use std::alloc::Global;
-use toml::Table;
 
-/// The numbers of the top keys, the shape and the rule that they make, and the clock where it isn't that of the rule.
-#[derive(Drop)]
+/// The numbers of the top keys, and the shape and the rule that they make.
+#[derive(Clone, Copy, Debug, PartialEq, Eq)]
 pub(crate) struct Setup {
     pub(crate) frame: Frame,
     pub(crate) shape: Shape,
     pub(crate) rule: ClockRule,
-    pub(crate) clock: Option<VerifiedProgram>,
 }
 
-/// The clock of one's own, where there is one.
-#[tactic(auto, using(crate::proofs::ClockLemmas::no_clock))]
-fn clock_at(
-    alloc: Global,
-    table: &Table,
-    shape: Shape,
-) -> Result<Option<VerifiedProgram>, ScenarioError>
-    ensures clock { IfOk result (λ clock. HasClock (table_view table.now) (option_map (λ v. v.program) clock)) }
-    ensures accepted { IfOk result (λ clock.
-        IfSome clock (λ v. (v.shape ≡ shape) × Typable v.program shape)) }
-    ensures refused { IfErr result (λ e. Excludes e ((clock : Option (List Insn)) →
-        HasClock (table_view table.now) clock → ⊥)) }
-{
-    if value_at(table, "clock").is_none() {
-        return Ok(None);
-    }
-    let program = program_in(alloc, table, Place::Top, "clock")?;
-    let verified = accepted(alloc, &program, shape, Place::Top, "clock")?;
-    Ok(Some(verified))
-}
-
-/// What the numbers make, and the clock.
-pub(crate) fn setup_at(alloc: Global, table: &Table, frame: Frame) -> Result<Setup, ScenarioError>
+/// What the numbers make.
+pub(crate) fn setup_of(frame: Frame) -> Setup
     requires extent { IsExtent frame.nodes frame.memory }
     requires rule { IsRule frame.nodes frame.faults frame.modulus }
-    ensures frame { IfOk result (λ s. s.frame ≡ frame) }
-    ensures setup { IfOk result IsSetup }
-    ensures clock { IfOk result (λ s. HasClock (table_view table.now) (own_clock s)) }
-    ensures fits { IfOk result (λ s. IfSome s.clock (FitsFrame frame)) }
-    ensures refused { IfErr result (λ e. Excludes e ((clock : Option (List Insn)) →
-        HasClock (table_view table.now) clock → ⊥)) }
+    ensures frame { result.frame ≡ frame }
+    ensures setup { IsSetup result }
 {
     let Some(shape) = Shape::of(frame.nodes, frame.memory) else {
         unreachable!()
@@ -67,11 +29,5 @@ pub(crate) fn setup_at(alloc: Global, table: &Table, frame: Frame) -> Result<Set
     let Some(rule) = ClockRule::of(frame.nodes, frame.faults, frame.modulus) else {
         unreachable!()
     };
-    let clock = clock_at(alloc, table, shape)?;
-    Ok(Setup {
-        frame,
-        shape,
-        rule,
-        clock,
-    })
+    Setup { frame, shape, rule }
 }

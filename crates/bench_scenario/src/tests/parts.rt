@@ -118,7 +118,7 @@ fn lines_of_a_report(rt: HostRuntime) -> Result<(), Fail> {
             assert!(rt; false, "version {version}");
             continue;
         };
-        let text = report(rt.alloc(), &scenario, false, &run)?;
+        let text = report(rt.alloc(), &scenario, &run)?;
         let wanted = format!(in rt.alloc(); "{head}nodes 4 faults 1 modulus 8\n{lines}")?;
         assert_eq!(rt; text.as_str(), wanted.as_str());
     }

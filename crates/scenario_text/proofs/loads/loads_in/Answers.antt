@@ -3,7 +3,6 @@ use Rattle.std.proofs.lemmas.List.Elements.{All-push}
 use Rattle.toml.specs.View.{view, array_view}
 use Rattle.scenario_text.specs.Drafts.{LoadDraft}
 use Rattle.scenario_text.specs.Tables.{ReadsEach, IsTable}
-use Rattle.scenario_text.specs.inner.Setups.{own_clock}
 use Rattle.scenario_text.specs.Spelling.{SpelledLoad}
 use Rattle.scenario_text.specs.Views.{load_of, FitsLoad}
 use Rattle.scenario_text.proofs.FrameLemmas.{excludes_more}
@@ -14,7 +13,7 @@ use Rattle.scenario_text.proofs.loads.loads_in.Goals as goal
 -- an entry that spells nothing
 pub returns-in_err-load-clause-refused : goal.returns-in_err-load-clause-refused
 returns-in_err-load-clause-refused c =
-    let reads = IsTable (SpelledLoad c.args.setup.now.frame (own_clock c.args.setup.now)) in
+    let reads = IsTable (SpelledLoad c.args.setup.now.frame) in
     let items = c.deref-value-items.result.now in
     let i = c.loop-index.index in
     let within : i < length items = omega arith in
@@ -36,7 +35,7 @@ loop-index-preserved c =
     ∷ [] = ap (map load_of) pushed ∙ map_more load_of before c.in_ok-load.load in
     record {
       same = c.loop-index.invariant.same;
-      read = next_read (IsTable (SpelledLoad c.args.setup.now.frame (own_clock c.args.setup.now))) items i c.value-item.result
+      read = next_read (IsTable (SpelledLoad c.args.setup.now.frame)) items i c.value-item.result
           (map load_of before) _ (load_of c.in_ok-load.load) within
           (search rules) c.loop-index.invariant.read c.in_ok-load.ensures.load mapped;
       fits = rw pushed (All-push (FitsLoad c.args.setup.now.frame) before c.in_ok-load.load c.loop-index.invariant.fits

@@ -2,7 +2,7 @@ use Rattle.std.proofs.Common.{◌≡◌, ap, subst, rules}
 use Rattle.std.specs.Prelude.{IfOk}
 use Rattle.clock_nodes.specs.Listings.{clock_listing}
 use Rattle.scenario_text.specs.Spelling.{rule_of}
-use Rattle.scenario_text.proofs.loads.rule_program.Goals as goal
+use Rattle.scenario_text.proofs.loads.clock_program.Goals as goal
 
 pub returns-clause-program : goal.returns-clause-program
 returns-clause-program c =
