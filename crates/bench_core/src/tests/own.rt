@@ -83,6 +83,8 @@ fn a_clock_past_the_modulus_counts_as_0(rt: HostRuntime) -> Result<(), Fail> {
     let told = pulse(alloc, &mut bench, &[0; 4])?;
     assert_eq!(rt; told.clocks.as_slice(), [Some(70_000); 4].as_slice());
     assert_eq!(rt; numbers_of(told.row), [2, 0, 4, 4]);
+    let nodes = bench.shape().nodes();
+    assert!(rt; 2 < nodes);
     assert_eq!(rt; bench.clock(2), 70_000);
     Ok(())
 }
