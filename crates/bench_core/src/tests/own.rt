@@ -3,7 +3,7 @@ use super::benches::{accepted, numbers_of, pulse};
 use super::replays::{assert_alike, replay};
 use crate::{Actor, Bench, CLOCKS_DIFFER, Change};
 use bpf_insn::{AluOp, Insn, Operand, Program, Reg, Size, Width, program_of};
-use clock_nodes::{ClockRule, dolev_welch};
+use clock_nodes::ClockRule;
 use node_env::Shape;
 use std::alloc::Global;
 use std::process::Abort;
@@ -86,29 +86,6 @@ fn a_clock_past_the_modulus_counts_as_0(rt: HostRuntime) -> Result<(), Fail> {
     let nodes = bench.shape().nodes();
     assert!(rt; 2 < nodes);
     assert_eq!(rt; bench.clock(2), 70_000);
-    Ok(())
-}
-
-/// The listing of the rule, given as a clock, is that of the rule; elsewhere it isn't the clock.
-#[test]
-fn the_listing_is_the_clock_where_it_is_given(rt: HostRuntime) -> Result<(), Fail> {
-    let alloc = rt.alloc();
-    let shape = Shape::of(4, 8).ok_or("no shape")?;
-    let rule = ClockRule::of(4, 1, 8).ok_or("no rule")?;
-    let listing = dolev_welch(alloc, shape, rule)?;
-    let mut bench = bench_with(alloc, 8, &listing)?;
-    pulse(alloc, &mut bench, &[1; 4])?;
-    let told = pulse(alloc, &mut bench, &[1; 4])?;
-    assert_eq!(rt; numbers_of(told.row), [2, 1, 0, 4]);
-    let other = writing(alloc, Operand::Imm(3))?;
-    let mut bench = Bench::with_clock(alloc, shape, rule, other)?;
-    let program = accepted(alloc, &listing, shape)?;
-    match bench.stage(Actor::Loader(0), Change::Load { node: 0, program }) {
-        Ok(()) => {}
-        Err(_) => Err("not staged")?,
-    }
-    let told = pulse(alloc, &mut bench, &[1; 4])?;
-    assert_eq!(rt; told.clocks.as_slice(), [None; 4].as_slice());
     Ok(())
 }
 
