@@ -3,7 +3,7 @@ use super::benches::{accepted, numbers_of, pulse};
 use super::replays::{assert_alike, replay};
 use crate::{Actor, Bench, CLOCKS_DIFFER, Change};
 use bpf_insn::{AluOp, Insn, Operand, Program, Reg, Size, Width, program_of};
-use clock_nodes::ClockRule;
+use clock_nodes::{ClockRule, dolev_welch};
 use node_env::Shape;
 use std::alloc::Global;
 use std::process::Abort;
@@ -86,6 +86,29 @@ fn a_clock_past_the_modulus_counts_as_0(rt: HostRuntime) -> Result<(), Fail> {
     let nodes = bench.shape().nodes();
     assert!(rt; 2 < nodes);
     assert_eq!(rt; bench.clock(2), 70_000);
+    Ok(())
+}
+
+/// A bench whose clock writes 3, with the listing of its rule in node 0.
+fn bench_of_another_clock(alloc: Global) -> Result<Bench, Fail> {
+    let shape = Shape::of(4, 8).ok_or("no shape")?;
+    let rule = ClockRule::of(4, 1, 8).ok_or("no rule")?;
+    let clock = writing(alloc, Operand::Imm(3))?;
+    let mut bench = Bench::with_clock(alloc, shape, rule, clock)?;
+    let listing = dolev_welch(alloc, shape, rule)?;
+    let program = accepted(alloc, &listing, shape)?;
+    match bench.stage(Actor::Loader(0), Change::Load { node: 0, program }) {
+        Ok(()) => Ok(bench),
+        Err(_) => Err("not staged")?,
+    }
+}
+
+/// Where another is the clock, the listing of the rule isn't.
+#[test]
+fn the_listing_is_no_clock_elsewhere(rt: HostRuntime) -> Result<(), Fail> {
+    let mut bench = bench_of_another_clock(rt.alloc())?;
+    let told = pulse(rt.alloc(), &mut bench, &[1; 4])?;
+    assert_eq!(rt; told.clocks.as_slice(), [None; 4].as_slice());
     Ok(())
 }
 
