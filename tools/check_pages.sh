@@ -40,13 +40,13 @@ check_example() {
     "$top/tools/picture.py" < "$room/report" > "$room/picture"
     cmp "$name.svg" "$room/picture" || faults=$((faults + 1))
   fi
-  if ! grep -q "examples/$(basename "$name").toml" "$top/docs/GALLERY.md"; then
+  if ! grep -q "${1#"$top"/}" "$top/docs/GALLERY.md"; then
     echo "check_pages: docs/GALLERY.md doesn't show $1" >&2
     faults=$((faults + 1))
   fi
 }
 
-for scenario in "$top"/examples/*.toml; do
+for scenario in "$top"/examples/*.toml "$top"/examples/clocks/*.toml; do
   check_example "$scenario"
 done
 cd "$top"

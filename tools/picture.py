@@ -3,32 +3,37 @@
 
 Pulses go along and nodes go down. A cell has the colour of the node's clock, and is grey where the node ran no clock.
 A frame says that the node is settled: it ran the clock in this pulse and in the one before. A red bar stands under a
-pulse in which two settled clocks that aren't 0 differ (`agree no`).
+pulse with `agree no`: two settled clocks that aren't 0 differ, or, of a clock of one's own, two settled clocks differ
+or one is past the modulus, which is black.
 """
 import colorsys
 import re
 import sys
 from typing import List, NamedTuple, Optional
 
-HEAD = re.compile(r"(?:version 2 )?nodes (\d+) faults (\d+) modulus (\d+)")
-PULSE = re.compile(r"pulse (\d+) clocks ((?:(?:\d+|-) )+)settled (\d+) steps \d+ agree (yes|no)")
-TAIL = re.compile(r"agreed (\d+) of (\d+)")
+HEAD = re.compile(r"(?:version [23] )?nodes (\d+) faults (\d+) modulus (\d+)(?: clock (rule|own))?")
+PULSE = re.compile(
+    r"pulse (\d+) clocks ((?:(?:\d+|-|!) )+)settled (\d+) steps \d+ agree (yes|no|none)(?: counts (?:yes|no|none))?"
+)
+TAIL = re.compile(r"agreed (\d+) of (\d+)(?: counted \d+ of \d+)?")
 
 LEFT, TOP, BAR, FOOT = 58, 54, 6, 30
 GREY, ZERO, INK, RED = "#d0d0d0", "#fbf3d9", "#222222", "#d81b1b"
+PAST = -1
 MOST_HUES = 24
 
 
 class Pulse(NamedTuple):
     clocks: List[Optional[int]]
     settled: List[bool]
-    agrees: bool
+    agrees: Optional[bool]
 
 
 class Report(NamedTuple):
     nodes: int
     faults: int
     modulus: int
+    is_own: bool
     pulses: List[Pulse]
 
 
@@ -43,36 +48,48 @@ def matched(rule, line, what):
     return found.groups()
 
 
+def clock_of(word):
+    """The clock that a word tells: none for a dash, and PAST for one that is past the modulus."""
+    return None if word == "-" else PAST if word == "!" else int(word)
+
+
+def judged(pulses):
+    return [it.agrees for it in pulses if it.agrees is not None]
+
+
 def read_pulse(line, number, nodes, before):
     given, clocks, settled, agree = matched(PULSE, line, "line of a pulse")
-    clocks = [None if word == "-" else int(word) for word in clocks.split()]
+    clocks = [clock_of(word) for word in clocks.split()]
     if int(given) != number or len(clocks) != nodes:
         raise NoReport(f"pulse {number} of {nodes} nodes is wanted: {line}")
     both = [now is not None and last is not None for now, last in zip(clocks, before)]
     if sum(both) != int(settled):
         raise NoReport(f"{sum(both)} nodes are settled by their clocks: {line}")
-    return Pulse(clocks, both, agree == "yes")
+    return Pulse(clocks, both, None if agree == "none" else agree == "yes")
 
 
 def read_report(text):
     lines = text.splitlines()
     if len(lines) < 3:
         raise NoReport(f"too few lines: {text.strip()}")
-    nodes, faults, modulus = map(int, matched(HEAD, lines[0], "first line"))
+    *numbers, clock = matched(HEAD, lines[0], "first line")
+    nodes, faults, modulus = map(int, numbers)
     pulses, before = [], [None] * nodes
     for number, line in enumerate(lines[1:-1], 1):
         pulses.append(read_pulse(line, number, nodes, before))
         before = pulses[-1].clocks
     agreed, of = map(int, matched(TAIL, lines[-1], "last line"))
-    if (agreed, of) != (sum(it.agrees for it in pulses), len(pulses)):
+    if (agreed, of) != (sum(judged(pulses)), len(judged(pulses))):
         raise NoReport(f"the pulses don't add up: {lines[-1]}")
-    return Report(nodes, faults, modulus, pulses)
+    return Report(nodes, faults, modulus, clock == "own", pulses)
 
 
 def colour(clock, modulus):
     """One colour for each clock: 0 is pale, and the others go from orange to purple; many of them jump about."""
     if clock is None:
         return GREY
+    if clock == PAST:
+        return INK
     if clock == 0:
         return ZERO
     part = (clock - 1) / modulus if modulus <= MOST_HUES else clock * 0.618034 % 1
@@ -93,7 +110,7 @@ def draw_cell(x, y, wide, high, clock, is_settled, modulus):
     frame = f' stroke="{INK}"' if is_settled else ""
     parts = [rectangle(x + 1, y + 1, wide - 3, high - 3, colour(clock, modulus), frame)]
     size = 12 if high >= 20 else 8
-    if clock is not None and wide >= 8 + len(str(clock)) * size * 0.6:
+    if clock is not None and clock != PAST and wide >= 8 + len(str(clock)) * size * 0.6:
         parts.append(label(x + wide / 2 - 0.5, y + high / 2 + size * 0.35 - 0.5, clock, size))
     return parts
 
@@ -112,7 +129,7 @@ def draw_pulse(report, at, pulse, wide, high):
         parts.append(label(x + wide / 2 - 0.5, TOP - 6, number, 10))
     for node, (clock, is_settled) in enumerate(zip(pulse.clocks, pulse.settled)):
         parts += draw_cell(x, TOP + node * high, wide, high, clock, is_settled, report.modulus)
-    if not pulse.agrees:
+    if pulse.agrees is False:
         parts.append(rectangle(x, TOP + report.nodes * high + 1, wide - 1, BAR, RED))
     return parts
 
@@ -120,8 +137,8 @@ def draw_pulse(report, at, pulse, wide, high):
 def said(report):
     nodes = f"{report.nodes} node{'s' * (report.nodes > 1)}"
     allowed = f"{report.faults or 'no'} fault{'s' * (report.faults != 1)} allowed"
-    agreed = sum(it.agrees for it in report.pulses)
-    return f"{nodes}, {allowed}, clocks below {report.modulus}; {agreed} of {len(report.pulses)} pulses agree"
+    verdicts = judged(report.pulses)
+    return f"{nodes}, {allowed}, clocks below {report.modulus}; {sum(verdicts)} of {len(verdicts)} pulses agree"
 
 
 def draw(report):
@@ -140,7 +157,8 @@ def draw(report):
         parts.append(label(LEFT - 6, TOP + node * high + high / 2 + 3, f"node {node}", 10, "end"))
     for at, pulse in enumerate(report.pulses):
         parts += draw_pulse(report, at, pulse, wide, high)
-    key = "grey: ran no clock. frame: settled. red bar: two settled clocks that aren't 0 differ"
+    differ = "two settled clocks differ" if report.is_own else "two settled clocks that aren't 0 differ"
+    key = f"grey: ran no clock. frame: settled. red bar: {differ}"
     parts.append(label(LEFT, height - 10, key, 10, "start"))
     return "\n".join([*parts, "</svg>", ""])
 

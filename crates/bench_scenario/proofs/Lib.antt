@@ -5,3 +5,5 @@ mod FitLemmas
 mod ListLemmas
 pub mod RunLemmas
 mod StreamLemmas
+mod VerdictLaws
+mod VerdictLemmas

@@ -1,17 +1,15 @@
 -- A scenario that was read makes a shape and a rule, and its run is that of its bench.
-use Rattle.std.proofs.Common.{◌≡◌, ℕ, List, arith, subst, ap₂}
+use Rattle.std.proofs.Common.{◌≡◌, ℕ, List, arith, subst}
 use Rattle.std.specs.Prelude.{◌≢◌}
 use Rattle.std.proofs.lemmas.List.{length-map}
 use Rattle.node_env.specs.Env.{Extent}
-use Rattle.clock_nodes.specs.Rule.{Rule}
-use Rattle.bench_core.specs.Views.{setup_of}
+use Rattle.bench_core.specs.Setup.{Setup}
 use Rattle.bench_core.specs.Settled.{PulseTold}
 use Rattle.bench_engine.specs.Events.{Event}
 use Rattle.bench_engine.specs.declared.event.RunRefusal.{RunRefusal}
 use Rattle.bench_engine.specs.declared.event.RunRefusal.TheVariants as refusals
 use Rattle.bench_engine.specs.Runs.{IsFault, IsRun}
 use Rattle.scenario_text.specs.declared.scenario.Scenario.{Scenario}
-use Rattle.scenario_text.specs.Spelling.{rule_of}
 use Rattle.scenario_text.specs.Texts.{ReadsText}
 use Rattle.scenario_text.specs.Views.{corrupt_of, extent_of, frame_of}
 use Rattle.bench_scenario.specs.Events.{events_of}
@@ -20,24 +18,21 @@ use Rattle.bench_scenario.proofs.FitLemmas.{none_refused}
 use Rattle.bench_scenario.proofs.CountLemmas.{entries_within}
 use Rattle.bench_scenario.proofs.EventLemmas.{events_fit}
 
-extent_is : (s : Scenario) (shape : Extent) → (shape.nodes ≡ s.nodes) × (shape.memory ≡ s.memory)
+pub extent_is : (s : Scenario) (shape : Extent) → (shape.nodes ≡ s.nodes) × (shape.memory ≡ s.memory)
     → shape ≡ extent_of (frame_of s)
 extent_is s shape same = λ k. record { nodes = same.0 k; memory = same.1 k }
 
-pub run_met : (s : Scenario) (shape : Extent) (rule : Rule) (es : List Event) (records : List PulseTold)
-    (left : List (List ℕ))
-    → (shape.nodes ≡ s.nodes) × (shape.memory ≡ s.memory) → rule ≡ rule_of (frame_of s) → es ≡ events_of s
-    → IsRun (setup_of shape rule) es records left → IsRun (bench_of s) (events_of s) records left
-run_met s shape rule es records left same ruled listed run =
-    subst (λ e. IsRun (bench_of s) e records left) listed
-    (subst (λ b. IsRun b es records left) (ap₂ setup_of (extent_is s shape same) ruled) run)
+pub run_met : (s : Scenario) (bench : Setup) (es : List Event) (records : List PulseTold) (left : List (List ℕ))
+    → bench ≡ bench_of s → es ≡ events_of s → IsRun bench es records left
+    → IsRun (bench_of s) (events_of s) records left
+run_met s bench es records left same listed run =
+    subst (λ e. IsRun (bench_of s) e records left) listed (subst (λ b. IsRun b es records left) same run)
 
-pub fault_met : (s : Scenario) (shape : Extent) (rule : Rule) (es : List Event) (place : ℕ) (refusal : RunRefusal)
-    → (shape.nodes ≡ s.nodes) × (shape.memory ≡ s.memory) → rule ≡ rule_of (frame_of s) → es ≡ events_of s
-    → IsFault (setup_of shape rule) es place refusal → IsFault (bench_of s) (events_of s) place refusal
-fault_met s shape rule es place refusal same ruled listed fault =
-    subst (λ e. IsFault (bench_of s) e place refusal) listed
-    (subst (λ b. IsFault b es place refusal) (ap₂ setup_of (extent_is s shape same) ruled) fault)
+pub fault_met : (s : Scenario) (bench : Setup) (es : List Event) (place : ℕ) (refusal : RunRefusal)
+    → bench ≡ bench_of s → es ≡ events_of s → IsFault bench es place refusal
+    → IsFault (bench_of s) (events_of s) place refusal
+fault_met s bench es place refusal same listed fault =
+    subst (λ e. IsFault (bench_of s) e place refusal) listed (subst (λ b. IsFault b es place refusal) same fault)
 
 pub fault_due : (text : List ℕ) (s : Scenario) (place : ℕ) (refusal : RunRefusal) → ReadsText text s
     → IsFault (bench_of s) (events_of s) place refusal → refusal ≢ refusals.GateShut → IsMemoryOrThread refusal

@@ -52,9 +52,9 @@ due_whole bytes text (errors.OutOfRange place key) is due = due_when bytes text
     (errors.OutOfRange place key) is due.1.0 due
 due_whole bytes text (errors.UnknownProgram load) is due = due_when bytes text
     (errors.UnknownProgram load) is due.1.0 due
-due_whole bytes text (errors.BadText load error) is due = due_when bytes text (errors.BadText load error) is due.1.0 due
-due_whole bytes text (errors.NotAccepted load key slot rule) is due = due_when bytes text
-    (errors.NotAccepted load key slot rule) is due.1.0 due
+due_whole bytes text (errors.BadText place key error) is due = due_when bytes text (errors.BadText place key error) is due.1.0 due
+due_whole bytes text (errors.NotAccepted place key slot rule) is due = due_when bytes text
+    (errors.NotAccepted place key slot rule) is due.1.0 due
 due_whole bytes text (errors.Memory gone) is due = due
 
 stops_whole : (bytes text : List ℕ) (event : ℕ) (refusal : RunRefusal) → IsFront bytes text
@@ -83,17 +83,21 @@ fault_left (Some text) old bytes slice fault (Err e) taken same kept due is =
     subst (λ x. LeavesReport old old text (Err x)) (sym is)
     (fault_here old bytes text fault (front_of bytes text taken) kept (subst (λ b. IsDueOf b fault) same due))
 
-pub report_left : (known old new : Option (List ℕ)) (bytes line : List ℕ)
-    → IfSome known (λ text. bytes ≡ take MOST_BYTES text) → Reports bytes line
-    → Appends old new line → IfSome known (λ text. LeavesReport old new text (Ok tt))
-report_left None old new bytes line taken told left = tt
-report_left (Some text) old new bytes line taken told left =
-    (line, reports_whole bytes text line (front_of bytes text taken) told, left)
+-- the report is written whole
+pub report_left : (known old new : Option (List ℕ)) (bytes slice line told : List ℕ)
+    → IfSome known (λ text. bytes ≡ take MOST_BYTES text) → slice ≡ bytes → told ≡ line → Reports slice line
+    → Appends old new told → IfSome known (λ text. LeavesReport old new text (Ok tt))
+report_left None old new bytes slice line told taken same whole reports left = tt
+report_left (Some text) old new bytes slice line told taken same whole reports left =
+    (line, reports_whole bytes text line (front_of bytes text taken) (subst (λ b. Reports b line) same reports),
+    subst (λ t. Appends old new t) whole left)
 
-pub front_left : (known old new : Option (List ℕ)) (bytes line : List ℕ) (written : ℕ)
-    → IfSome known (λ text. bytes ≡ take MOST_BYTES text) → Reports bytes line
-    → written < length line → Appends old new (take written line)
+-- or its front
+pub front_left : (known old new : Option (List ℕ)) (bytes slice line told : List ℕ) (written : ℕ)
+    → IfSome known (λ text. bytes ≡ take MOST_BYTES text) → slice ≡ bytes → told ≡ line → Reports slice line
+    → written < length told → Appends old new (take written told)
     → IfSome known (λ text. LeavesReport old new text (Err (faults.Write written)))
-front_left None old new bytes line written taken told part left = tt
-front_left (Some text) old new bytes line written taken told part left =
-    (line, reports_whole bytes text line (front_of bytes text taken) told, part, left)
+front_left None old new bytes slice line told written taken same whole reports part left = tt
+front_left (Some text) old new bytes slice line told written taken same whole reports part left =
+    (line, reports_whole bytes text line (front_of bytes text taken) (subst (λ b. Reports b line) same reports),
+    subst (λ t. written < length t) whole part, subst (λ t. Appends old new (take written t)) whole left)

@@ -1,5 +1,7 @@
 pub mod Coins
 pub mod Events
+pub mod Laws
 pub mod Reports
 pub mod Runs
+pub mod Verdicts
 pub mod inner

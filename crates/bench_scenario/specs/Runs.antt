@@ -1,16 +1,16 @@
 -- What the run of a scenario's text leaves on its writer (docs/SCENARIOS.md, "Runs").
-use Rattle.std.specs.Prelude.{◌≡◌, ◌<◌, List, ℕ, length, take, Option, Result, Ok, Err}
+use Rattle.std.specs.Prelude.{◌≡◌, ◌<◌, is_some, List, ℕ, length, take, Option, Result, Ok, Err}
 use Rattle.std.specs.Io.KnownBytes.{Appends, Keeps}
 use Rattle.bench_core.specs.Setup.{Setup}
 use Rattle.bench_core.specs.Settled.{PulseTold}
-use Rattle.bench_core.specs.Views.{setup_of}
+use Rattle.bench_core.specs.Views.{setup_with}
 use Rattle.bench_engine.specs.declared.event.RunRefusal.{RunRefusal}
 use Rattle.bench_engine.specs.declared.event.RunRefusal.TheVariants as refusals
 use Rattle.bench_engine.specs.Runs.{IsFault, IsRun}
 use Rattle.scenario_text.specs.declared.scenario.Scenario.{Scenario}
-use Rattle.scenario_text.specs.Spelling.{rule_of}
+use Rattle.scenario_text.specs.Spelling.{clock_insns, rule_of}
 use Rattle.scenario_text.specs.Texts.{IsDue, ReadsText}
-use Rattle.scenario_text.specs.Views.{extent_of, frame_of}
+use Rattle.scenario_text.specs.Views.{draft_of, extent_of, frame_of}
 use Rattle.bench_scenario.specs.declared.run.ScenarioFault.{ScenarioFault}
 use Rattle.bench_scenario.specs.declared.run.ScenarioFault.TheVariants as faults
 use Rattle.bench_scenario.specs.Events.{events_of}
@@ -18,7 +18,7 @@ use Rattle.bench_scenario.specs.Reports.{report_of}
 
 -- the bench that a scenario is run on
 abbrev pub bench_of : Scenario → Setup
-bench_of s = setup_of (extent_of (frame_of s)) (rule_of (frame_of s))
+bench_of s = setup_with (extent_of (frame_of s)) (rule_of (frame_of s)) (clock_insns (frame_of s) (draft_of s).clock)
 
 -- the line is the report of the run of the scenario that the text says
 pub record Reports (text line : List ℕ) : Type 0 where
@@ -27,7 +27,7 @@ pub record Reports (text line : List ℕ) : Type 0 where
   pub memories : List (List ℕ)
   pub reads : ReadsText text scenario
   pub run : IsRun (bench_of scenario) (events_of scenario) records memories
-  pub whole : line ≡ report_of (frame_of scenario) records
+  pub whole : line ≡ report_of (frame_of scenario) (is_some scenario.clock) records
 
 -- no event of a scenario is refused for itself
 abbrev pub IsMemoryOrThread : RunRefusal → Type 0

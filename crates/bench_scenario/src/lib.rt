@@ -2,10 +2,13 @@
 #![tactic(auto)]
 
 mod coins;
+mod judged;
+pub mod laws;
 mod paying;
 mod printing;
 mod run;
 mod schedule;
+mod verdicts;
 
 pub use printing::report;
 pub use run::{MOST_BYTES, MOST_CALLS, ScenarioFault, run_scenario};

@@ -1,16 +1,17 @@
 //! The report of a run.
-ghost use Rattle.std.specs.Prelude.{◌≡◌, ◌++◌, IfOk, OnOk, string_bytes, codes, count_by, length};
+ghost use Rattle.std.specs.Prelude.{◌≡◌, ◌++◌, IfOk, OnOk, is_some, string_bytes, codes, count_by, length};
 ghost use Rattle.std.specs.Fmt.{decimal};
-ghost use Rattle.bench_scenario.specs.Reports.{report_of, clock_text, clocks_text, record_line, record_lines, shape_text, last_line, head_line, yes_or_no};
+ghost use Rattle.bench_scenario.specs.Reports.{report_of, plain_report, clock_text, clocks_text, record_line, record_lines, shape_text, last_line, head_line, yes_or_no};
 ghost use Rattle.scenario_text.specs.Views.{frame_of};
 
+use crate::judged::judged_report;
 use bench_core::PulseRecord;
 use bench_engine::Run;
-use scenario_text::{FIRST_VERSION, Scenario};
+use scenario_text::{CLOCK_VERSION, FIRST_VERSION, Scenario};
 use std::alloc::{AllocError, Global};
 use std::fmt::Write;
 
-fn add(report: &mut String, part: &str) -> Result<(), AllocError>
+pub(crate) fn add(report: &mut String, part: &str) -> Result<(), AllocError>
     ensures { OnOk result (string_bytes report.new ≡ string_bytes report.old ++ part.now) }
 {
     report.push_str(part)
@@ -84,16 +85,33 @@ fn head(alloc: Global, scenario: &Scenario) -> Result<String, AllocError>
     }
 }
 
-/// The report of a scenario's run: a line for the scenario, one for each closed pulse, and one for all.
-pub fn report(alloc: Global, scenario: &Scenario, run: &Run) -> Result<String, AllocError>
-    ensures { IfOk result (λ text. string_bytes text ≡ report_of (frame_of scenario.now) run.now.records.items) }
+/// The report of a run of versions 1 and 2.
+fn plain_report(
+    alloc: Global,
+    scenario: &Scenario,
+    records: &[PulseRecord],
+) -> Result<String, AllocError>
+    ensures { IfOk result (λ text. string_bytes text ≡ plain_report (frame_of scenario.now) records.now) }
 {
     let mut text = head(alloc, scenario)?;
-    let records = run.records.as_slice();
     add_records(alloc, &mut text, records)?;
     let agreed = agreed(records);
     let count = records.len();
     let last = format!(in alloc; "agreed {agreed} of {count}\n")?;
     add(&mut text, last.as_str())?;
     Ok(text)
+}
+
+/// The report of a scenario's run: a line for the scenario, one for each closed pulse, and one for all.
+pub fn report(alloc: Global, scenario: &Scenario, run: &Run) -> Result<String, AllocError>
+    ensures { IfOk result (λ text. string_bytes text
+        ≡ report_of (frame_of scenario.now) (is_some scenario.now.clock) run.now.records.items) }
+{
+    let records = run.records.as_slice();
+    let own = scenario.clock.is_some();
+    if scenario.version as u64 == CLOCK_VERSION {
+        judged_report(alloc, scenario, own, records)
+    } else {
+        plain_report(alloc, scenario, records)
+    }
 }

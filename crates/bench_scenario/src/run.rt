@@ -1,17 +1,21 @@
 //! A scenario from the first byte that is read to the last that is written.
-ghost use Rattle.std.specs.Prelude.{◌≡◌, ◌≤◌, ◌<◌, IfSome, MatchResult, string_bytes};
+ghost use Rattle.std.specs.Prelude.{◌≡◌, ◌≤◌, ◌<◌, [], IfOk, IfSome, MatchResult, string_bytes};
+ghost use Rattle.bench_core.specs.State.{new_state};
+ghost use Rattle.scenario_text.specs.Spelling.{rule_of};
+ghost use Rattle.scenario_text.specs.Views.{extent_of, frame_of};
 ghost use Rattle.stream_io.specs.Streams.{TakesAtMost};
-ghost use Rattle.bench_scenario.specs.Runs.{LeavesReport, Reports};
+ghost use Rattle.bench_scenario.specs.Runs.{LeavesReport, Reports, bench_of};
 ghost use Rattle.bench_scenario.specs.inner.Runs.{IsDueOf};
 
 use crate::paying::paying_workers;
 use crate::printing::report;
 use crate::schedule::events;
-use bench_engine::{MOST_WORKERS, Open, RunFault, run_events};
+use bench_core::Bench;
+use bench_engine::{MOST_WORKERS, Open, RunFault, run_events_on};
 use clock_nodes::ClockRule;
 use node_env::Shape;
-use scenario_text::{MAX_TEXT, ScenarioError, scenario_in};
-use std::alloc::Global;
+use scenario_text::{MAX_TEXT, Scenario, ScenarioError, scenario_in};
+use std::alloc::{AllocError, Global};
 use std::io::{Read, Write};
 use std::sync::Wait;
 use std::thread::Threads;
@@ -41,6 +45,28 @@ pub enum ScenarioFault {
     Memory,
 }
 
+/// The bench that a scenario is run on.
+fn bench_for(
+    alloc: Global,
+    scenario: &Scenario,
+    shape: Shape,
+    rule: ClockRule,
+) -> Result<Bench, AllocError>
+    requires shape { shape ≡ extent_of (frame_of scenario.now) }
+    requires rule { rule ≡ rule_of (frame_of scenario.now) }
+    ensures setup { IfOk result (λ b. b.setup ≡ bench_of scenario.now) }
+    ensures state { IfOk result (λ b. b.state ≡ new_state (bench_of scenario.now)) }
+    ensures history { IfOk result (λ b. b.history ≡ []) }
+{
+    match &scenario.clock {
+        None => Bench::new(alloc, shape, rule),
+        Some(clock) => {
+            let program = clock.program().copy(alloc)?;
+            Bench::with_clock(alloc, shape, rule, program)
+        }
+    }
+}
+
 /// The report of the run of the scenario that a text says.
 fn report_in<T: Threads + Wait + Sync>(
     rt: &T,
@@ -66,8 +92,11 @@ fn report_in<T: Threads + Wait + Sync>(
     let Ok(events) = events(alloc, &scenario) else {
         return Err(ScenarioFault::Memory);
     };
+    let Ok(bench) = bench_for(alloc, &scenario, shape, rule) else {
+        return Err(ScenarioFault::Memory);
+    };
     let workers = paying_workers(&scenario, workers);
-    let run = match run_events(rt, alloc, &Open, workers, shape, rule, events) {
+    let run = match run_events_on(rt, alloc, &Open, workers, bench, events) {
         Ok(run) => run,
         Err(fault) => return Err(ScenarioFault::Run(fault)),
     };
@@ -79,7 +108,7 @@ fn report_in<T: Threads + Wait + Sync>(
 
 /// Reads a scenario's text, runs it on as many of the workers as pay, and writes the report. At most [`MOST_BYTES`]
 /// bytes are read, by at most [`MOST_CALLS`] calls of `read`. The report is whole before its first byte is written.
-#[tactic(auto, using(crate::proofs::StreamLemmas::fault_left, crate::proofs::StreamLemmas::report_left, crate::proofs::StreamLemmas::front_left))]
+#[tactic(auto, using(crate::proofs::StreamLemmas::fault_left))]
 pub fn run_scenario<T: Threads + Wait + Sync, R: Read, W: Write>(
     rt: &T,
     alloc: Global,

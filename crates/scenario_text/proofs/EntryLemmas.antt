@@ -2,6 +2,7 @@
 use Rattle.std.proofs.Common.{◌≡◌, ℕ, suc, ◌-◌, ◌<◌, ◌≤◌, List, [], ◌∷◌, length, map, arith}
 use Rattle.std.specs.Prelude.{Option, Some, None, All, codes}
 use Rattle.toml.specs.Data.{Data, Items, Members, no_items, item, array, string, integer, float, boolean, datetime, table, get_member}
+use Rattle.bpf_insn.specs.declared.forms.Insn.{Insn}
 use Rattle.scenario_text.specs.declared.scenario.CoinEntry.{CoinEntry}
 use Rattle.scenario_text.specs.declared.scenario.Frame.{Frame}
 use Rattle.scenario_text.specs.declared.scenario.Load.{Load}
@@ -12,7 +13,7 @@ use Rattle.scenario_text.specs.Drafts.{LoadDraft, CorruptDraft}
 use Rattle.scenario_text.specs.Spelling.{SpelledLoad, SpelledUnload, SpelledCorrupt, SpelledCoin}
 use Rattle.scenario_text.specs.Tables.{IsArray, IsNumber, IsTable, MayBeArray, ReadsEach}
 use Rattle.scenario_text.specs.Texts.{ReadsText}
-use Rattle.scenario_text.specs.Views.{FitsLoad, corrupt_of, frame_of, load_of}
+use Rattle.scenario_text.specs.Views.{FitsLoad, corrupt_of, draft_of, frame_of, load_of}
 
 -- each of a list
 abbrev pub Each : {A : Type 0} → (A → Type 0) → List A → Type 0
@@ -111,16 +112,18 @@ HasNode f u = u.node < f.nodes
 abbrev pub HasCoin : CoinEntry → Type 0
 HasCoin e = e.value < 2
 
-load_nodes : (f : Frame) → 1 ≤ f.nodes → (ms : Members) (l : LoadDraft) → SpelledLoad f ms l → HasNodes f l
-load_nodes f some ms l spelled = below_nodes f l.nodes some
+load_nodes : (f : Frame) (c : Option (List Insn)) → 1 ≤ f.nodes → (ms : Members) (l : LoadDraft) → SpelledLoad f c ms l
+    → HasNodes f l
+load_nodes f c some ms l spelled = below_nodes f l.nodes some
     (each_number (f.nodes - 1) (get_member (codes "nodes") ms) l.nodes spelled.nodes)
 
 pub loads_there : (text : List ℕ) (s : Scenario) → ReadsText text s
     → Each (λ (l : Load). HasNodes (frame_of s) (load_of l)) s.loads.items
 loads_there text s reads =
     let f = frame_of s in
-    each_entry (IsTable (SpelledLoad f)) (HasNodes f) load_of
-    (in_table (HasNodes f) (SpelledLoad f) (load_nodes f reads.2.spelled.frame.nodes.1))
+    let c = (draft_of s).clock in
+    each_entry (IsTable (SpelledLoad f c)) (HasNodes f) load_of
+    (in_table (HasNodes f) (SpelledLoad f c) (load_nodes f c reads.2.spelled.frame.nodes.1))
     (get_member (codes "load") reads.0) s.loads.items reads.2.spelled.loads
 
 pub loads_fit : (text : List ℕ) (s : Scenario) → ReadsText text s → Each (FitsLoad (frame_of s)) s.loads.items

@@ -2,16 +2,19 @@
 use Rattle.std.proofs.Common.{◌≡◌, ◌≤◌, ℕ, arith, ◌-◌, ◌%◌, List, ap, sym, subst, ◌∙◌, inl, inr}
 use Rattle.std.specs.Prelude.{true, false, ◌==◌, if◌then◌else◌, pos, Option, Some, None, codes, MatchOption, IfErr, Result, Ok, Err}
 use Rattle.toml.specs.Data.{Data, integer, Members, get_member}
+use Rattle.bpf_insn.specs.declared.forms.Insn.{Insn}
 use Rattle.scenario_text.specs.declared.scenario.Frame.{Frame}
 use Rattle.scenario_text.specs.declared.refusal.ScenarioError.{ScenarioError}
 use Rattle.scenario_text.specs.declared.refusal.ScenarioError.TheVariants as errors
-use Rattle.scenario_text.specs.Faults.{Excludes}
+use Rattle.scenario_text.specs.declared.refusal.Place.{Place}
+use Rattle.scenario_text.specs.Faults.{Excludes, Refuses}
 use Rattle.scenario_text.specs.inner.Faults.{IsOfSpelling}
 use Rattle.scenario_text.specs.declared.scenario.Unload.{Unload}
 use Rattle.scenario_text.specs.declared.scenario.CoinEntry.{CoinEntry}
 use Rattle.scenario_text.specs.Drafts.{LoadDraft, CorruptDraft}
 use Rattle.scenario_text.specs.Tables.{HasNumber, MayBeArray, IsTable}
-use Rattle.scenario_text.specs.Spelling.{HasVersion, HasFrame, most_nodes, SpelledLoad, SpelledUnload, SpelledCorrupt, SpelledCoin, SpellsNothing}
+use Rattle.scenario_text.proofs.ClockLemmas.{one_clock}
+use Rattle.scenario_text.specs.Spelling.{HasVersion, HasFrame, HasClock, rule_of, most_nodes, SpelledLoad, SpelledUnload, SpelledCorrupt, SpelledCoin, SpellsNothing}
 use Rattle.scenario_text.specs.declared.limits.TheConstants.{FIRST_VERSION, FIRST_MAX_NODES}
 use Rattle.clock_nodes.specs.Rule.{IsRule}
 use Rattle.node_env.specs.Env.{IsExtent}
@@ -65,8 +68,8 @@ excludes (errors.MissingKey place key) none is silent = silent
 excludes (errors.WrongKind place key) none is silent = silent
 excludes (errors.OutOfRange place key) none is silent = silent
 excludes (errors.UnknownProgram load) none is silent = silent
-excludes (errors.BadText load error) none is silent = silent
-excludes (errors.NotAccepted load key slot rule) none is silent = tt
+excludes (errors.BadText place key error) none is silent = silent
+excludes (errors.NotAccepted place key slot rule) none is silent = is
 excludes (errors.Memory _) none is silent = tt
 
 -- what excludes less excludes more
@@ -78,9 +81,36 @@ excludes_more (errors.MissingKey place key) less more leads excluded = leads exc
 excludes_more (errors.WrongKind place key) less more leads excluded = leads excluded
 excludes_more (errors.OutOfRange place key) less more leads excluded = leads excluded
 excludes_more (errors.UnknownProgram load) less more leads excluded = leads excluded
-excludes_more (errors.BadText load error) less more leads excluded = leads excluded
-excludes_more (errors.NotAccepted load key slot rule) less more leads excluded = tt
+excludes_more (errors.BadText place key error) less more leads excluded = leads excluded
+excludes_more (errors.NotAccepted place key slot rule) less more leads excluded = excluded
 excludes_more (errors.Memory _) less more leads excluded = tt
+
+-- who accepts no program refuses for the spelling alone
+pub refuses : (e : ScenarioError) (none : Type 0) (broken : Place → ℕ → Type 0) → Excludes e none → Refuses e none broken
+refuses errors.TooLong none broken excluded = excluded
+refuses errors.NotToml none broken excluded = excluded
+refuses (errors.UnknownKey place) none broken excluded = excluded
+refuses (errors.MissingKey place key) none broken excluded = excluded
+refuses (errors.WrongKind place key) none broken excluded = excluded
+refuses (errors.OutOfRange place key) none broken excluded = excluded
+refuses (errors.UnknownProgram load) none broken excluded = excluded
+refuses (errors.BadText place key error) none broken excluded = excluded
+refuses (errors.NotAccepted place key slot rule) none broken excluded = absurd excluded
+refuses (errors.Memory _) none broken excluded = tt
+
+-- what refuses less refuses more
+pub refuses_more : (e : ScenarioError) (less more : Type 0) (here there : Place → ℕ → Type 0) → (less → more)
+    → ((p : Place) (slot : ℕ) → here p slot → there p slot) → Refuses e less here → Refuses e more there
+refuses_more errors.TooLong less more here there leads moves refused = refused
+refuses_more errors.NotToml less more here there leads moves refused = refused
+refuses_more (errors.UnknownKey place) less more here there leads moves refused = leads refused
+refuses_more (errors.MissingKey place key) less more here there leads moves refused = leads refused
+refuses_more (errors.WrongKind place key) less more here there leads moves refused = leads refused
+refuses_more (errors.OutOfRange place key) less more here there leads moves refused = leads refused
+refuses_more (errors.UnknownProgram load) less more here there leads moves refused = leads refused
+refuses_more (errors.BadText place key error) less more here there leads moves refused = leads refused
+refuses_more (errors.NotAccepted place key slot rule) less more here there leads moves refused = moves place slot refused
+refuses_more (errors.Memory _) less more here there leads moves refused = tt
 
 -- a table has one frame at most
 pub one_frame : (ms : Members) (f g : Frame) → HasFrame ms f → HasFrame ms g → f ≡ g
@@ -94,12 +124,16 @@ one_frame ms f g a b = λ k. record {
 }
 
 -- what the frame that was read has no entries for has no spelling
-pub no_loads : (ms : Members) (f : Frame) → HasFrame ms f
-    → ((loads : List LoadDraft) → MayBeArray (IsTable (SpelledLoad f)) (get_member (codes "load") ms) loads → ⊥)
+pub no_loads : (ms : Members) (f : Frame) (c : Option (List Insn)) → HasFrame ms f → HasClock (rule_of f) ms c
+    → ((loads : List LoadDraft) → MayBeArray (IsTable (SpelledLoad f c)) (get_member (codes "load") ms) loads → ⊥)
     → SpellsNothing ms
-no_loads ms f has none d spelled =
-    none d.loads (subst (λ g. MayBeArray (IsTable (SpelledLoad g)) (get_member (codes "load") ms) d.loads)
-    (one_frame ms d.frame f spelled.frame has) spelled.loads)
+no_loads ms f c has clock none d spelled =
+    let same = one_frame ms d.frame f spelled.frame has in
+    let framed = subst (λ g. MayBeArray (IsTable (SpelledLoad g d.clock)) (get_member (codes "load") ms) d.loads)
+    same spelled.loads in
+    let mine = subst (λ g. HasClock (rule_of g) ms d.clock) same spelled.clock in
+    none d.loads (subst (λ k. MayBeArray (IsTable (SpelledLoad f k)) (get_member (codes "load") ms) d.loads)
+    (one_clock (rule_of f) ms d.clock c mine clock) framed)
 
 pub no_unloads : (ms : Members) (f : Frame) → HasFrame ms f
     → ((us : List Unload) → MayBeArray (IsTable (SpelledUnload f)) (get_member (codes "unload") ms) us → ⊥)

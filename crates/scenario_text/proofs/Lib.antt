@@ -1,3 +1,5 @@
+mod BrokenLemmas
+mod ClockLemmas
 pub mod EntryLemmas
 pub mod FrameLemmas
 mod ListLemmas

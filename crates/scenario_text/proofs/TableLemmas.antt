@@ -10,6 +10,7 @@ use Rattle.toml.specs.View.{items_view, members_view, table_view, view}
 use Rattle.toml.specs.Data.{Data, as_integer, array, table, get_member, Items, no_items, item, Members}
 use Rattle.scenario_text.specs.Tables.{knows, ReadsEach, IsArray, MayBeArray, IsTable, IsNumber}
 use Rattle.scenario_text.specs.declared.scenario.Frame.{Frame}
+use Rattle.bpf_insn.specs.declared.forms.Insn.{Insn}
 use Rattle.scenario_text.specs.Drafts.{LoadDraft}
 use Rattle.scenario_text.specs.inner.Arrays.{is_table, all_tables, are_tables, items_length, entry_count, loads_counted, nodes_count, count_in, counted}
 use Rattle.scenario_text.specs.Spelling.{IsSaid, SpelledLoad, load_count}
@@ -135,19 +136,19 @@ array_length : {A : Type 0} (reads : Data → A → Type 0) (o : Option Data) (x
 array_length reads (Some (array items)) xs read = each_length reads items xs read
 array_length reads _ xs read = absurd read
 
-load_counted : (f : Frame) (d : Data) (load : LoadDraft) → IsTable (SpelledLoad f) d load
+load_counted : (f : Frame) (c : Option (List Insn)) (d : Data) (load : LoadDraft) → IsTable (SpelledLoad f c) d load
     → count_in d ≡ length load.nodes
-load_counted f (table ms) load read = array_length _ (get_member (codes "nodes") ms) load.nodes read.nodes
-load_counted f _ load read = absurd read
+load_counted f c (table ms) load read = array_length _ (get_member (codes "nodes") ms) load.nodes read.nodes
+load_counted f c _ load read = absurd read
 
 -- the loads that are spelled are as many as were counted
-pub each_load_counted : (f : Frame) (items : Items) (loads : List LoadDraft)
-    → ReadsEach (IsTable (SpelledLoad f)) items loads → counted items ≡ load_count loads
-each_load_counted f no_items [] read = refl
-each_load_counted f no_items (l ∷ ls) read = absurd read
-each_load_counted f (item v vs) [] read = absurd read
-each_load_counted f (item v vs) (l ∷ ls) read = ap₂ (λ a b. a + b) (load_counted f v l read.0)
-    (each_load_counted f vs ls read.1)
+pub each_load_counted : (f : Frame) (c : Option (List Insn)) (items : Items) (loads : List LoadDraft)
+    → ReadsEach (IsTable (SpelledLoad f c)) items loads → counted items ≡ load_count loads
+each_load_counted f c no_items [] read = refl
+each_load_counted f c no_items (l ∷ ls) read = absurd read
+each_load_counted f c (item v vs) [] read = absurd read
+each_load_counted f c (item v vs) (l ∷ ls) read = ap₂ (λ a b. a + b) (load_counted f c v l read.0)
+    (each_load_counted f c vs ls read.1)
 
 -- ---- kinds
 
@@ -181,8 +182,9 @@ entries_read reads None xs read = sym (ap length read)
 entries_read reads (Some (array items)) xs read = each_length reads items xs read
 entries_read reads (Some _) xs read = absurd read
 
-pub loads_read : (f : Frame) (o : Option Data) (loads : List LoadDraft) → MayBeArray (IsTable (SpelledLoad f)) o loads
+pub loads_read : (f : Frame) (c : Option (List Insn)) (o : Option Data) (loads : List LoadDraft)
+    → MayBeArray (IsTable (SpelledLoad f c)) o loads
     → loads_counted o ≡ load_count loads
-loads_read f None loads read = sym (ap load_count read)
-loads_read f (Some (array items)) loads read = each_load_counted f items loads read
-loads_read f (Some _) loads read = absurd read
+loads_read f c None loads read = sym (ap load_count read)
+loads_read f c (Some (array items)) loads read = each_load_counted f c items loads read
+loads_read f c (Some _) loads read = absurd read

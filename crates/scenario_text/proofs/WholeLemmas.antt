@@ -7,17 +7,17 @@ use Rattle.scenario_text.specs.declared.scenario.Frame.{Frame}
 use Rattle.scenario_text.specs.declared.scenario.Unload.{Unload}
 use Rattle.scenario_text.specs.declared.scenario.CoinEntry.{CoinEntry}
 use Rattle.scenario_text.specs.inner.Arrays.{HasArrays}
-use Rattle.scenario_text.specs.Drafts.{LoadDraft, CorruptDraft, Draft}
+use Rattle.scenario_text.specs.Drafts.{CorruptDraft, Draft}
 use Rattle.scenario_text.specs.Faults.{Excludes}
 use Rattle.scenario_text.specs.Tables.{knows, IsTable, MayBeArray}
-use Rattle.scenario_text.specs.Spelling.{HasFrame, HasCoins, HasKey, Spelled, SpelledLoad, SpelledUnload, SpelledCorrupt, SpelledCoin, SpellsNothing, is_top_key}
-use Rattle.scenario_text.proofs.FrameLemmas.{excludes_more, no_loads, no_unloads, no_corruptions, no_entries}
+use Rattle.scenario_text.specs.Spelling.{HasFrame, HasCoins, HasKey, HasClock, Spelled, SpelledLoad, SpelledUnload, SpelledCorrupt, SpelledCoin, SpellsNothing, has_clock_key, is_top_key, rule_of}
+use Rattle.scenario_text.proofs.FrameLemmas.{excludes_more, no_unloads, no_corruptions, no_entries}
 use Rattle.scenario_text.proofs.TableLemmas.{tables_read, entries_read, loads_read}
 
 -- a table that spells a scenario has its arrays
 pub spelled_arrays : (ms : Members) (d : Draft) → Spelled ms d → HasArrays ms
 spelled_arrays ms d spelled =
-    let loads = loads_read d.frame _ d.loads spelled.loads in
+    let loads = loads_read d.frame d.clock _ d.loads spelled.loads in
     let unloads = entries_read _ _ d.unloads spelled.unloads in
     let corruptions = entries_read _ _ d.corruptions spelled.corruptions in
     let entries = entries_read _ _ d.entries spelled.entries in
@@ -36,15 +36,15 @@ pub no_arrays : (ms : Members) → (HasArrays ms → ⊥) → SpellsNothing ms
 no_arrays ms none d spelled = none (spelled_arrays ms d spelled)
 
 -- what is read of all keys is spelled, where the arrays aren't too long
-pub spelled_whole : (ms : Members) (d : Draft) → knows is_top_key ms ≡ true → HasFrame ms d.frame → HasCoins ms d.coins
-    → HasKey ms d.coins d.key
-    → MayBeArray (IsTable (SpelledLoad d.frame)) (get_member (codes "load") ms) d.loads
+pub spelled_whole : (ms : Members) (d : Draft) → knows (is_top_key (has_clock_key ms)) ms ≡ true → HasFrame ms d.frame → HasCoins ms d.coins
+    → HasKey ms d.coins d.key → HasClock (rule_of d.frame) ms d.clock
+    → MayBeArray (IsTable (SpelledLoad d.frame d.clock)) (get_member (codes "load") ms) d.loads
     → MayBeArray (IsTable (SpelledUnload d.frame)) (get_member (codes "unload") ms) d.unloads
     → MayBeArray (IsTable (SpelledCorrupt d.frame)) (get_member (codes "corrupt") ms) d.corruptions
     → MayBeArray (IsTable (SpelledCoin d.frame)) (get_member (codes "coin") ms) d.entries
     → HasArrays ms → Spelled ms d
-spelled_whole ms d known frame coins key loads unloads corruptions entries has =
-    let loads_are = loads_read d.frame _ d.loads loads in
+spelled_whole ms d known frame coins key clock loads unloads corruptions entries has =
+    let loads_are = loads_read d.frame d.clock _ d.loads loads in
     let unloads_are = entries_read _ _ d.unloads unloads in
     let corruptions_are = entries_read _ _ d.corruptions corruptions in
     let entries_are = entries_read _ _ d.entries entries in
@@ -55,6 +55,7 @@ spelled_whole ms d known frame coins key loads unloads corruptions entries has =
       frame = frame;
       coins = coins;
       key = key;
+      clock = clock;
       loads = loads;
       unloads = unloads;
       corruptions = corruptions;
@@ -64,15 +65,6 @@ spelled_whole ms d known frame coins key loads unloads corruptions entries has =
     }
 
 -- ---- where the array of the frame that was read has no reading, nothing is spelled
-
-pub loads_excluded : (ms : Members) (f g : Frame) (o : Option Data) (e : ScenarioError) → HasFrame ms f → g ≡ f
-    → o ≡ get_member (codes "load") ms
-    → Excludes e ((ls : List LoadDraft) → MayBeArray (IsTable (SpelledLoad g)) o ls → ⊥) → Excludes e (SpellsNothing ms)
-loads_excluded ms f g o e has same held excluded =
-    let P : Frame → Option Data → Type 0 = λ h p. (ls : List LoadDraft) → MayBeArray (IsTable (SpelledLoad h)) p ls
-    → ⊥ in
-    excludes_more e (P g o) (SpellsNothing ms) (λ none. no_loads ms f has
-    (subst (λ h. P h (get_member (codes "load") ms)) same (subst (P g) held none))) excluded
 
 pub unloads_excluded : (ms : Members) (f : Frame) (o : Option Data) (e : ScenarioError) → HasFrame ms f
     → o ≡ get_member (codes "unload") ms

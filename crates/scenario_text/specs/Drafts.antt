@@ -20,6 +20,7 @@ pub record Draft : Type 0 where
   pub frame : Frame
   pub coins : Coins
   pub key : Option ℕ
+  pub clock : Option (List Insn)
   pub loads : List LoadDraft
   pub unloads : List Unload
   pub corruptions : List CorruptDraft

@@ -1,11 +1,19 @@
 -- What a refusal says of a table.
+use Rattle.std.specs.Prelude.{ℕ}
+use Rattle.scenario_text.specs.declared.refusal.Place.{Place}
 use Rattle.scenario_text.specs.declared.refusal.ScenarioError.{ScenarioError}
 use Rattle.scenario_text.specs.declared.refusal.ScenarioError.TheVariants as errors
 
--- where a reader refuses for the spelling, there is no reading; it doesn't refuse for the bytes of the text
+-- where a reader refuses for the spelling, there is no reading; it doesn't refuse for the bytes of the text, and
+-- accepts no program
 abbrev pub Excludes : ScenarioError → Type 0 → Type 0
 Excludes errors.TooLong none = ⊥
 Excludes errors.NotToml none = ⊥
-Excludes (errors.NotAccepted load key slot rule) none = Unit {0}
+Excludes (errors.NotAccepted place key slot rule) none = ⊥
 Excludes (errors.Memory _) none = Unit {0}
 Excludes _ none = none
+
+-- the same of a reader that has programs accepted: `NotAccepted` tells a place and a slot of which this holds
+abbrev pub Refuses : ScenarioError → Type 0 → (Place → ℕ → Type 0) → Type 0
+Refuses (errors.NotAccepted place key slot rule) none broken = broken place slot
+Refuses error none broken = Excludes error none

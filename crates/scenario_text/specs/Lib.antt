@@ -2,6 +2,7 @@ pub mod Tables
 pub mod Drafts
 pub mod Spelling
 pub mod Views
+pub mod Broken
 pub mod Faults
 pub mod Texts
 pub mod Lines

@@ -42,9 +42,9 @@ refusal_line (errors.WrongKind place key) = codes "refused scenario WrongKind " 
 refusal_line (errors.OutOfRange place key) = codes "refused scenario OutOfRange " ++ path_text place key.now
 refusal_line (errors.UnknownProgram load) = codes "refused scenario UnknownProgram "
     ++ path_text (places.Load load) (codes "program")
-refusal_line (errors.BadText load error) = codes "refused scenario BadText "
-    ++ (path_text (places.Load load) (codes "text") ++ (codes " " ++ text_fault error))
-refusal_line (errors.NotAccepted load key slot rule) =
-    codes "refused scenario NotAccepted " ++ (path_text (places.Load load) key.now ++ (codes " rule "
+refusal_line (errors.BadText place key error) = codes "refused scenario BadText "
+    ++ (path_text place key.now ++ (codes " " ++ text_fault error))
+refusal_line (errors.NotAccepted place key slot rule) =
+    codes "refused scenario NotAccepted " ++ (path_text place key.now ++ (codes " rule "
     ++ (decimal (rule_number rule) ++ (codes " slot " ++ decimal slot))))
 refusal_line (errors.Memory _) = codes "refused scenario Memory"

@@ -1,5 +1,5 @@
 -- How a table spells a scenario (docs/SCENARIOS.md, "Keys").
-use Rattle.std.specs.Prelude.{◌≡◌, ℕ, negsuc, ◌+◌, ◌-◌, ◌%◌, ◌≤◌, ◌==◌, ◌||◌, ◌⊎◌, if◌then◌else◌, Bool, true, List, [], ◌∷◌, codes, length, Option, Some, None}
+use Rattle.std.specs.Prelude.{◌≡◌, ℕ, pos, negsuc, ◌+◌, ◌-◌, ◌%◌, ◌≤◌, ◌==◌, ◌||◌, ◌&&◌, ◌⊎◌, if◌then◌else◌, Bool, true, false, List, [], ◌∷◌, codes, length, Option, Some, None}
 use Rattle.std.specs.Str.{bytes_eq}
 use Rattle.toml.specs.Data.{Data, string, integer, Members, get_member}
 use Rattle.bpf_insn.specs.declared.forms.Insn.{Insn}
@@ -15,7 +15,7 @@ use Rattle.clock_nodes.specs.Rule.{Rule}
 use Rattle.clock_nodes.specs.Listings.{clock_listing, say_listing, echo_listing}
 use Rattle.clock_nodes.specs.declared.rule.TheConstants.{LEAST_MODULUS, MOST_MODULUS}
 use Rattle.node_env.specs.declared.shape.TheConstants.{MAX_NODES, MAX_MEMORY, MEMORY_UNIT}
-use Rattle.scenario_text.specs.declared.limits.TheConstants.{FIRST_VERSION, LAST_VERSION, FIRST_MAX_NODES, MAX_PULSES, MAX_KEY, MAX_SAID, MAX_CHANGES, MAX_COIN_ENTRIES}
+use Rattle.scenario_text.specs.declared.limits.TheConstants.{FIRST_VERSION, LAST_VERSION, CLOCK_VERSION, FIRST_MAX_NODES, MAX_PULSES, MAX_KEY, MAX_SAID, MAX_CHANGES, MAX_COIN_ENTRIES}
 use Rattle.scenario_text.specs.Tables.{knows, IsNumber, HasNumber, HasText, IsArray, MayBeArray, IsTable}
 use Rattle.scenario_text.specs.declared.scenario.Frame.{Frame}
 
@@ -31,8 +31,22 @@ is_array_key key =
     bytes_eq key (codes "load") || (bytes_eq key (codes "unload") || (bytes_eq key (codes "corrupt")
     || bytes_eq key (codes "coin")))
 
-abbrev pub is_top_key : List ℕ → Bool
-is_top_key key = is_frame_key key || (bytes_eq key (codes "coins") || (bytes_eq key (codes "key") || is_array_key key))
+-- the top keys of every version
+abbrev pub is_plain_top_key : List ℕ → Bool
+is_plain_top_key key =
+    is_frame_key key || (bytes_eq key (codes "coins") || (bytes_eq key (codes "key") || is_array_key key))
+
+-- whether this is the version that has the key `clock`
+abbrev pub is_clock_version : Option Data → Bool
+is_clock_version (Some (integer (pos version))) = version == CLOCK_VERSION
+is_clock_version _ = false
+
+abbrev pub has_clock_key : Members → Bool
+has_clock_key members = is_clock_version (get_member (codes "version") members)
+
+-- the top keys, where `clock` is one or isn't
+abbrev pub is_top_key : Bool → List ℕ → Bool
+is_top_key with_clock key = is_plain_top_key key || (with_clock && bytes_eq key (codes "clock"))
 
 -- the version is the first where it isn't told
 abbrev pub HasVersion : Members → ℕ → Type 0
@@ -98,22 +112,34 @@ MeansAt _ insns = ⊥
 abbrev pub rule_of : Frame → Rule
 rule_of f = record { nodes = f.nodes; faults = f.faults; modulus = f.modulus }
 
--- the listing that is named, or what the text means
-abbrev pub IsProgramOf : Frame → Kind → Members → List Insn → Type 0
-IsProgramOf f Clock load insns = insns ≡ clock_listing (rule_of f)
-IsProgramOf f Say load insns =
+-- a clock of one's own is what the text under `clock` means, where that isn't the rule's clock
+abbrev pub HasClock : Rule → Members → Option (List Insn) → Type 0
+HasClock rule members None =
+    (get_member (codes "clock") members ≡ None) ⊎ MeansAt (get_member (codes "clock") members) (clock_listing rule)
+HasClock rule members (Some insns) =
+    MeansAt (get_member (codes "clock") members) insns × (insns ≡ clock_listing rule → ⊥)
+
+-- the clock of a scenario: its own, or else that of its rule
+abbrev pub clock_insns : Frame → Option (List Insn) → List Insn
+clock_insns f None = clock_listing (rule_of f)
+clock_insns f (Some insns) = insns
+
+-- the clock, the listing that is named, or what the text means
+abbrev pub IsProgramOf : Frame → Option (List Insn) → Kind → Members → List Insn → Type 0
+IsProgramOf f clock Clock load insns = insns ≡ clock_insns f clock
+IsProgramOf f clock Say load insns =
     (values : List (Option ℕ)) × IsArray IsSaid (get_member (codes "values") load) values × (length values ≡ f.nodes)
     × (insns ≡ say_listing values)
-IsProgramOf f Echo load insns = insns ≡ echo_listing f.nodes
-IsProgramOf f Asm load insns = MeansAt (get_member (codes "text") load) insns
+IsProgramOf f clock Echo load insns = insns ≡ echo_listing f.nodes
+IsProgramOf f clock Asm load insns = MeansAt (get_member (codes "text") load) insns
 
-pub record SpelledLoad (f : Frame) (members : Members) (load : LoadDraft) : Type 0 where
+pub record SpelledLoad (f : Frame) (clock : Option (List Insn)) (members : Members) (load : LoadDraft) : Type 0 where
   pub pulse : HasNumber members (codes "pulse") 1 f.pulses load.pulse
   pub nodes : IsArray (IsNumber 0 (f.nodes - 1)) (get_member (codes "nodes") members) load.nodes
   pub kind : Kind
   pub named : HasText members (codes "program") (kind_name kind)
   pub known : knows (is_load_key kind) members ≡ true
-  pub program : IsProgramOf f kind members load.program
+  pub program : IsProgramOf f clock kind members load.program
 
 -- ---- the other entries
 
@@ -152,11 +178,12 @@ load_count [] = 0
 load_count (load ∷ loads) = length load.nodes + load_count loads
 
 pub record Spelled (members : Members) (d : Draft) : Type 0 where
-  pub known : knows is_top_key members ≡ true
+  pub known : knows (is_top_key (has_clock_key members)) members ≡ true
   pub frame : HasFrame members d.frame
   pub coins : HasCoins members d.coins
   pub key : HasKey members d.coins d.key
-  pub loads : MayBeArray (IsTable (SpelledLoad d.frame)) (get_member (codes "load") members) d.loads
+  pub clock : HasClock (rule_of d.frame) members d.clock
+  pub loads : MayBeArray (IsTable (SpelledLoad d.frame d.clock)) (get_member (codes "load") members) d.loads
   pub unloads : MayBeArray (IsTable (SpelledUnload d.frame)) (get_member (codes "unload") members) d.unloads
   pub corruptions : MayBeArray (IsTable (SpelledCorrupt d.frame)) (get_member (codes "corrupt") members) d.corruptions
   pub entries : MayBeArray (IsTable (SpelledCoin d.frame)) (get_member (codes "coin") members) d.entries

@@ -7,6 +7,7 @@ use Rattle.scenario_text.specs.declared.limits.TheConstants.{MAX_TEXT}
 use Rattle.scenario_text.specs.declared.refusal.ScenarioError.{ScenarioError}
 use Rattle.scenario_text.specs.declared.refusal.ScenarioError.TheVariants as errors
 use Rattle.scenario_text.specs.declared.scenario.Scenario.{Scenario}
+use Rattle.scenario_text.specs.Broken.{BrokenAt}
 use Rattle.scenario_text.specs.Spelling.{SpellsNothing}
 use Rattle.scenario_text.specs.Views.{Reads}
 
@@ -18,14 +19,14 @@ IsDocument text members = (length text ≤ MAX_TEXT) × IsUtf8 text × (parse_do
 abbrev pub ReadsText : List ℕ → Scenario → Type 0
 ReadsText text s = (members : Members) × IsDocument text members × Reads members s
 
--- `TooLong` and `NotToml` are decided by the bytes, `NotAccepted` comes only of a document, and the other six are
--- decided by the spelling.
--- Want of memory is no refusal
+-- `TooLong` and `NotToml` are decided by the bytes, `NotAccepted` by a program of the document, and the other six by the
+-- spelling. Want of memory is no refusal
 abbrev pub IsDue : List ℕ → ScenarioError → Type 0
 IsDue text errors.TooLong = MAX_TEXT < length text
 IsDue text errors.NotToml = (length text ≤ MAX_TEXT) × (IsUtf8 text → parse_document text ≡ None)
 IsDue text (errors.Memory _) = ⊥
-IsDue text (errors.NotAccepted load key slot rule) = (members : Members) × IsDocument text members
+IsDue text (errors.NotAccepted place key slot rule) = (members : Members) × IsDocument text members
+    × BrokenAt members place slot
 IsDue text _ = (members : Members) × IsDocument text members × SpellsNothing members
 
 -- a refusal that is due, or want of memory

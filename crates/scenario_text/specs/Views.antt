@@ -1,7 +1,8 @@
 -- What a scenario is as plain data, and when a table reads as it.
-use Rattle.std.specs.Prelude.{◌≡◌, map, All}
+use Rattle.std.specs.Prelude.{◌≡◌, map, All, IfSome, option_map}
 use Rattle.toml.specs.Data.{Members}
 use Rattle.node_env.specs.Env.{Extent}
+use Rattle.bpf_verify.specs.Accepted.{Accepted}
 use Rattle.bpf_verify.specs.Typable.{Typable}
 use Rattle.scenario_text.specs.declared.scenario.Scenario.{Scenario}
 use Rattle.scenario_text.specs.declared.scenario.Load.{Load}
@@ -31,6 +32,7 @@ draft_of s = record {
   frame = frame_of s;
   coins = s.coins;
   key = s.key;
+  clock = option_map (λ v. v.program) s.clock;
   loads = map load_of s.loads.items;
   unloads = s.unloads.items;
   corruptions = map corrupt_of s.corruptions.items;
@@ -40,11 +42,16 @@ draft_of s = record {
 abbrev pub extent_of : Frame → Extent
 extent_of f = record { nodes = f.nodes; memory = f.memory }
 
--- a load's program is accepted for the scenario's shape
+-- the program is accepted for the scenario's shape
+abbrev pub FitsFrame : Frame → Accepted → Type 0
+FitsFrame f p = (p.shape ≡ extent_of f) × Typable p.program (extent_of f)
+
+-- a load's program is
 abbrev pub FitsLoad : Frame → Load → Type 0
-FitsLoad f l = (l.program.shape ≡ extent_of f) × Typable l.program.program (extent_of f)
+FitsLoad f l = FitsFrame f l.program
 
 -- the table reads as this scenario
 pub record Reads (members : Members) (s : Scenario) : Type 0 where
   pub spelled : Spelled members (draft_of s)
+  pub clock : IfSome s.clock (FitsFrame (frame_of s))
   pub typable : All (FitsLoad (frame_of s)) s.loads.items

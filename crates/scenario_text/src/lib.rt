@@ -8,6 +8,7 @@ mod limits;
 mod line;
 mod loads;
 mod numbers;
+mod programs;
 mod refusal;
 mod scenario;
 mod setup;
@@ -18,8 +19,8 @@ mod unloads;
 mod whole;
 
 pub use limits::{
-    FIRST_MAX_NODES, FIRST_VERSION, LAST_VERSION, MAX_CHANGES, MAX_COIN_ENTRIES, MAX_KEY,
-    MAX_PULSES, MAX_SAID, MAX_TEXT,
+    CLOCK_VERSION, FIRST_MAX_NODES, FIRST_VERSION, LAST_VERSION, MAX_CHANGES, MAX_COIN_ENTRIES,
+    MAX_KEY, MAX_PULSES, MAX_SAID, MAX_TEXT,
 };
 pub use line::RefusalLine;
 pub use refusal::{Place, ScenarioError};

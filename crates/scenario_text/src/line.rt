@@ -85,17 +85,17 @@ impl fmt::Display for RefusalLine<'_> {
                 let path = Path(Place::Load(*load), "program");
                 write!(f, "refused scenario UnknownProgram {path}")
             }
-            ScenarioError::BadText { load, error } => {
-                let path = Path(Place::Load(*load), "text");
+            ScenarioError::BadText { place, key, error } => {
+                let path = Path(*place, key);
                 write!(f, "refused scenario BadText {path} {}", TextFault(*error))
             }
             ScenarioError::NotAccepted {
-                load,
+                place,
                 key,
                 slot,
                 rule,
             } => {
-                let path = Path(Place::Load(*load), key);
+                let path = Path(*place, key);
                 let number = rule.number();
                 write!(
                     f,

@@ -1,32 +1,32 @@
 //! The entries `[[load]]`.
-ghost use Rattle.std.specs.Prelude.{◌≡◌, ◌≤◌, ◌<◌, ◌^◌, ◌-◌, ℕ, List, Option, IfOk, IfErr, OnOk, MatchResult, string_bytes, length, codes, map, option_map, All};
+ghost use Rattle.std.specs.Prelude.{◌≡◌, ◌≤◌, ◌<◌, ◌^◌, ◌-◌, ℕ, List, Option, IfOk, IfErr, OnOk, MatchResult, Some, string_bytes, length, codes, map, option_map, All};
 ghost use Rattle.std.specs.BTreeMap.{keys};
 ghost use Rattle.std.specs.List.{list_all};
 ghost use Rattle.toml.specs.Data.{get_member, array as array_data};
 ghost use Rattle.toml.specs.View.{array_view, table_view, view};
-ghost use Rattle.bpf_verify.specs.Typable.{Typable};
 ghost use Rattle.bpf_insn.specs.declared.forms.Insn.{Insn};
 ghost use Rattle.scenario_text.specs.declared.scenario.Kind.{Kind as KindValue};
 ghost use Rattle.scenario_text.specs.Drafts.{LoadDraft};
-ghost use Rattle.scenario_text.specs.Faults.{Excludes};
+ghost use Rattle.scenario_text.specs.declared.refusal.Place.TheVariants.{Load as LoadAt};
+ghost use Rattle.scenario_text.specs.Broken.{BrokenIn, BrokenLoad};
+ghost use Rattle.scenario_text.specs.Faults.{Excludes, Refuses};
+ghost use Rattle.scenario_text.specs.inner.Broken.{IsBrokenLoad};
 ghost use Rattle.scenario_text.specs.inner.Faults.{IsOfSpelling};
-ghost use Rattle.clock_nodes.specs.Listings.{clock_listing, say_listing, echo_listing};
-ghost use Rattle.scenario_text.specs.inner.Setups.{IsSetup};
+ghost use Rattle.clock_nodes.specs.Listings.{say_listing, echo_listing};
+ghost use Rattle.scenario_text.specs.inner.Setups.{IsSetup, own_clock};
 ghost use Rattle.scenario_text.specs.Tables.{knows, HasText, IsArray, MayBeArray, ReadsEach, IsTable};
-ghost use Rattle.scenario_text.specs.Spelling.{is_plain_load_key, is_load_key, kind_name, IsSaid, MeansAt, IsProgramOf, SpelledLoad, rule_of};
+ghost use Rattle.scenario_text.specs.Spelling.{is_plain_load_key, is_load_key, kind_name, clock_insns, IsSaid, IsProgramOf, SpelledLoad, rule_of};
 ghost use Rattle.scenario_text.specs.Views.{load_of, extent_of, FitsLoad};
 
 use crate::numbers::{integers_at, numbers_of, said_of};
+use crate::programs::{accepted, program_in, rule_program};
 use crate::refusal::{Place, ScenarioError};
 use crate::scenario::{Kind, Load};
 use crate::setup::Setup;
 use crate::table::{number_at, value_at};
 use crate::top::kind_named;
-use bpf_asm::{TextError, assemble};
 use bpf_insn::Program;
-use bpf_verify::{VerifiedProgram, VerifyError, verify};
-use clock_nodes::{dolev_welch, echo, say};
-use node_env::Shape;
+use clock_nodes::{echo, say};
 use std::alloc::{AllocError, Global};
 use toml::value::Array;
 use toml::{Table, Value};
@@ -106,33 +106,19 @@ fn said_at(
     said_of(alloc, array, place, "values")
 }
 
-/// The program that a text means.
-fn program_in(alloc: Global, table: &Table, index: usize) -> Result<Program, ScenarioError>
-    ensures program { IfOk result (MeansAt (get_member (codes "text") (table_view table.now))) }
-    ensures refused { IfErr result (λ e. Excludes e ((insns : List Insn) →
-        MeansAt (get_member (codes "text") (table_view table.now)) insns → ⊥)) }
-{
-    let place = Place::Load(index);
-    let key = "text";
-    let Some(value) = value_at(table, "text") else {
-        return Err(ScenarioError::MissingKey { place, key });
-    };
-    let Some(text) = value.as_str() else {
-        return Err(ScenarioError::WrongKind { place, key });
-    };
-    match assemble(alloc, text.as_bytes()) {
-        Ok(program) => Ok(program),
-        Err(TextError::Memory) => Err(ScenarioError::Memory(AllocError)),
-        Err(error) => Err(ScenarioError::BadText { load: index, error }),
-    }
-}
-
+/// The clock of the scenario.
 fn clock_program(alloc: Global, setup: &Setup) -> Result<Program, ScenarioError>
     requires { IsSetup setup.now }
-    ensures program { IfOk result (λ p. p ≡ clock_listing (rule_of setup.now.frame)) }
+    ensures program { IfOk result (λ p. p ≡ clock_insns setup.now.frame (own_clock setup.now)) }
     ensures refused { IfErr result (λ e. Excludes e ⊥) }
 {
-    dolev_welch(alloc, setup.shape, setup.rule).map_err(|_| ScenarioError::Memory(AllocError))
+    match &setup.clock {
+        None => rule_program(alloc, setup.shape, setup.rule),
+        Some(clock) => match clock.program().copy(alloc) {
+            Ok(program) => Ok(program),
+            Err(error) => Err(ScenarioError::Memory(error)),
+        },
+    }
 }
 
 /// The program of a load, before it is accepted.
@@ -144,9 +130,9 @@ fn program_of(
     index: usize,
 ) -> Result<Program, ScenarioError>
     requires { IsSetup setup.now }
-    ensures program { IfOk result (IsProgramOf setup.now.frame kind (table_view table.now)) }
+    ensures program { IfOk result (IsProgramOf setup.now.frame (own_clock setup.now) kind (table_view table.now)) }
     ensures refused { IfErr result (λ e. Excludes e ((insns : List Insn) →
-        IsProgramOf setup.now.frame kind (table_view table.now) insns → ⊥)) }
+        IsProgramOf setup.now.frame (own_clock setup.now) kind (table_view table.now) insns → ⊥)) }
 {
     match kind {
         Kind::Clock => clock_program(alloc, setup),
@@ -155,45 +141,27 @@ fn program_of(
             say(alloc, setup.shape, said.as_slice()).map_err(|_| ScenarioError::Memory(AllocError))
         }
         Kind::Echo => { echo(alloc, setup.shape).map_err(|_| ScenarioError::Memory(AllocError)) }
-        Kind::Asm => program_in(alloc, table, index),
+        Kind::Asm => program_in(alloc, table, Place::Load(index), "text"),
     }
 }
 
-/// The program, accepted.
-fn accepted(
-    alloc: Global,
-    program: &Program,
-    shape: Shape,
-    kind: Kind,
-    index: usize,
-) -> Result<VerifiedProgram, ScenarioError>
-    ensures program { IfOk result (λ v. (v.program ≡ program.now) × (v.shape ≡ shape)) }
-    ensures typable { OnOk result (Typable program.now shape) }
-    ensures refused { IfErr result (λ e. Excludes e ⊥) }
-{
-    match verify(alloc, program, shape) {
-        Ok(verified) => Ok(verified),
-        Err(VerifyError::Memory) => Err(ScenarioError::Memory(AllocError)),
-        Err(VerifyError::Refused { slot, rule }) => Err(ScenarioError::NotAccepted {
-            load: index,
-            key: if matches!(kind, Kind::Asm) {
-                "text"
-            } else {
-                "program"
-            },
-            slot,
-            rule,
-        }),
+/// The key that a refusal of a load's program names.
+fn program_key(kind: Kind) -> &'static str {
+    match kind {
+        Kind::Clock | Kind::Say | Kind::Echo => "program",
+        Kind::Asm => "text",
     }
 }
 
 /// The load that a table spells.
 fn load_of(alloc: Global, setup: &Setup, index: usize, table: &Table) -> Result<Load, ScenarioError>
     requires { IsSetup setup.now }
-    ensures load { IfOk result (λ load. SpelledLoad setup.now.frame (table_view table.now) (load_of load)) }
+    ensures load { IfOk result (λ load.
+        SpelledLoad setup.now.frame (own_clock setup.now) (table_view table.now) (load_of load)) }
     ensures fits { IfOk result (FitsLoad setup.now.frame) }
-    ensures refused { IfErr result (λ e. Excludes e ((load : LoadDraft)
-        → SpelledLoad setup.now.frame (table_view table.now) load → ⊥)) }
+    ensures refused { IfErr result (λ e. Refuses e ((load : LoadDraft)
+        → SpelledLoad setup.now.frame (own_clock setup.now) (table_view table.now) load → ⊥)
+        (λ p slot. (p ≡ LoadAt index) × BrokenLoad setup.now.frame (own_clock setup.now) (table_view table.now) slot)) }
 {
     let place = Place::Load(index);
     let frame = setup.frame;
@@ -205,7 +173,8 @@ fn load_of(alloc: Global, setup: &Setup, index: usize, table: &Table) -> Result<
         return Err(ScenarioError::UnknownKey { place });
     }
     let program = program_of(alloc, setup, kind, table, index)?;
-    let verified = accepted(alloc, &program, setup.shape, kind, index)?;
+    let key = program_key(kind);
+    let verified = accepted(alloc, &program, setup.shape, place, key)?;
     Ok(Load {
         pulse: pulse as u32,
         nodes,
@@ -215,10 +184,12 @@ fn load_of(alloc: Global, setup: &Setup, index: usize, table: &Table) -> Result<
 
 fn load_in(alloc: Global, setup: &Setup, index: usize, value: &Value) -> Result<Load, ScenarioError>
     requires { IsSetup setup.now }
-    ensures load { IfOk result (λ load. IsTable (SpelledLoad setup.now.frame) (view value.now) (load_of load)) }
+    ensures load { IfOk result (λ load.
+        IsTable (SpelledLoad setup.now.frame (own_clock setup.now)) (view value.now) (load_of load)) }
     ensures fits { IfOk result (FitsLoad setup.now.frame) }
-    ensures refused { IfErr result (λ e. Excludes e ((load : LoadDraft)
-        → IsTable (SpelledLoad setup.now.frame) (view value.now) load → ⊥)) }
+    ensures refused { IfErr result (λ e. Refuses e ((load : LoadDraft)
+        → IsTable (SpelledLoad setup.now.frame (own_clock setup.now)) (view value.now) load → ⊥)
+        (λ p slot. (p ≡ LoadAt index) × IsBrokenLoad setup.now.frame (own_clock setup.now) (view value.now) slot)) }
 {
     let Some(table) = value.as_table() else {
         return Err(ScenarioError::WrongKind {
@@ -232,10 +203,12 @@ fn load_in(alloc: Global, setup: &Setup, index: usize, value: &Value) -> Result<
 fn loads_in(alloc: Global, setup: &Setup, array: &Array) -> Result<Vec<Load>, ScenarioError>
     requires { IsSetup setup.now }
     ensures loads { IfOk result
-        (λ ls. ReadsEach (IsTable (SpelledLoad setup.now.frame)) (array_view array.now) (map load_of ls.items)) }
+        (λ ls. ReadsEach (IsTable (SpelledLoad setup.now.frame (own_clock setup.now))) (array_view array.now)
+        (map load_of ls.items)) }
     ensures fits { IfOk result (λ ls. All (FitsLoad setup.now.frame) ls.items) }
-    ensures refused { IfErr result (λ e. Excludes e ((ls : List LoadDraft) →
-        ReadsEach (IsTable (SpelledLoad setup.now.frame)) (array_view array.now) ls → ⊥)) }
+    ensures refused { IfErr result (λ e. Refuses e ((ls : List LoadDraft) →
+        ReadsEach (IsTable (SpelledLoad setup.now.frame (own_clock setup.now))) (array_view array.now) ls → ⊥)
+        (BrokenIn setup.now.frame (own_clock setup.now) (Some (array_data (array_view array.now))))) }
 {
     let mut loads = Vec::new(alloc);
     for (index, value) in array.iter().enumerate() {
@@ -254,12 +227,13 @@ pub(crate) fn loads_of(
     array: Option<&Array>,
 ) -> Result<Vec<Load>, ScenarioError>
     requires { IsSetup setup.now }
-    ensures loads { IfOk result (λ ls. MayBeArray (IsTable (SpelledLoad setup.now.frame))
+    ensures loads { IfOk result (λ ls. MayBeArray (IsTable (SpelledLoad setup.now.frame (own_clock setup.now)))
         (option_map (λ a. array_data (array_view a.now)) array.entry) (map load_of ls.items)) }
     ensures fits { IfOk result (λ ls. All (FitsLoad setup.now.frame) ls.items) }
-    ensures refused { IfErr result (λ e. Excludes e ((ls : List LoadDraft)
-        → MayBeArray (IsTable (SpelledLoad setup.now.frame))
-        (option_map (λ a. array_data (array_view a.now)) array.entry) ls → ⊥)) }
+    ensures refused { IfErr result (λ e. Refuses e ((ls : List LoadDraft)
+        → MayBeArray (IsTable (SpelledLoad setup.now.frame (own_clock setup.now)))
+        (option_map (λ a. array_data (array_view a.now)) array.entry) ls → ⊥)
+        (BrokenIn setup.now.frame (own_clock setup.now) (option_map (λ a. array_data (array_view a.now)) array.entry))) }
 {
     match array {
         Some(array) => loads_in(alloc, setup, array),

@@ -45,15 +45,16 @@ pub enum ScenarioError {
     UnknownProgram {
         load: usize,
     },
-    #[error("the text of load {load} is refused")]
+    #[error("the text {key} in {place:?} is refused")]
     BadText {
-        load: usize,
+        place: Place,
+        key: &'static str,
         error: TextError,
     },
     /// `key` is that of the text, or of the name of a listing.
-    #[error("{key} of load {load} is not accepted")]
+    #[error("{key} in {place:?} is not accepted")]
     NotAccepted {
-        load: usize,
+        place: Place,
         key: &'static str,
         slot: u32,
         rule: Rule,

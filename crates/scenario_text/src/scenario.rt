@@ -60,7 +60,8 @@ pub struct CoinEntry {
     pub value: u32,
 }
 
-/// A scenario: docs/SCENARIOS.md has each key. `corruptions` are those of `corrupt`, `entries` those of `coin`.
+/// A scenario: docs/SCENARIOS.md has each key. `clock` is there where the scenario's isn't that of its rule,
+/// `corruptions` are those of `corrupt`, `entries` those of `coin`.
 #[derive(Drop)]
 pub struct Scenario {
     pub version: u32,
@@ -71,6 +72,7 @@ pub struct Scenario {
     pub pulses: u32,
     pub coins: Coins,
     pub key: Option<u64>,
+    pub clock: Option<VerifiedProgram>,
     pub loads: Vec<Load>,
     pub unloads: Vec<Unload>,
     pub corruptions: Vec<Corrupt>,

@@ -6,6 +6,6 @@ use Rattle.scenario_text.specs.declared.refusal.ScenarioError.TheVariants as err
 abbrev pub IsOfSpelling : ScenarioError → Type 0
 IsOfSpelling errors.TooLong = ⊥
 IsOfSpelling errors.NotToml = ⊥
-IsOfSpelling (errors.NotAccepted load key slot rule) = ⊥
+IsOfSpelling (errors.NotAccepted place key slot rule) = ⊥
 IsOfSpelling (errors.Memory _) = ⊥
 IsOfSpelling _ = Unit {0}

@@ -89,6 +89,32 @@ fn a_table_that_was_read_elsewhere(rt: HostRuntime) -> Result<(), Fail> {
     Ok(())
 }
 
+/// A load of the clock is one of the scenario's own, where there is one.
+#[test]
+fn a_clock_of_ones_own_is_loaded(rt: HostRuntime) -> Result<(), Fail> {
+    let text = r#"
+version = 3
+nodes = 4
+faults = 1
+modulus = 8
+memory = 8
+pulses = 1
+coins = "ones"
+clock = "mov64 r0, 0\nexit"
+load = [{pulse = 1, nodes = [0], program = "clock"}, {pulse = 1, nodes = [1], program = "echo"}]
+"#;
+    let Ok(scenario) = scenario_in(rt.alloc(), text.as_bytes()) else {
+        assert!(rt; false);
+        return Ok(());
+    };
+    let budgets = scenario.clock.as_ref().map(|clock| clock.budget());
+    assert_eq!(rt; budgets, Some(2));
+    let mut announced = scenario.loads.iter().map(|load| load.program.budget());
+    assert_eq!(rt; announced.next(), Some(2));
+    assert_eq!(rt; announced.next(), Some(22));
+    Ok(())
+}
+
 /// The listings for every number of nodes are accepted.
 #[test]
 fn listings_of_every_size(rt: HostRuntime) -> Result<(), Fail> {

@@ -1,5 +1,5 @@
 //! Each refusal with its line.
-use super::rows::{ADDED, TOP, WHOLE};
+use super::rows::{ADDED, CLOCKS, TOP, WHOLE};
 use super::vectors::REFUSED;
 use super::*;
 use crate::MAX_TEXT;
@@ -24,7 +24,7 @@ fn whole_texts(rt: HostRuntime) -> Result<(), Fail> {
         assert_eq!(rt; refusal(line.as_str()), wanted, "at {row}");
         rows = rows.wrapping_add(1);
     }
-    assert_eq!(rt; rows, 42);
+    assert_eq!(rt; rows, 49);
     Ok(())
 }
 
@@ -42,6 +42,23 @@ fn after_the_top_keys(rt: HostRuntime) -> Result<(), Fail> {
         rows = rows.wrapping_add(1);
     }
     assert_eq!(rt; rows, 61);
+    Ok(())
+}
+
+#[test]
+fn clocks_of_ones_own(rt: HostRuntime) -> Result<(), Fail> {
+    let mut rows = 0u32;
+    for row in CLOCKS.lines() {
+        let Some((added, wanted)) = row.split_once("=>") else {
+            continue;
+        };
+        let whole = format!(in rt.alloc(); "version = 3;{TOP};{added}")?;
+        let text = lines_of(rt.alloc(), whole.as_str())?;
+        let line = line_of(rt.alloc(), text.as_bytes())?;
+        assert_eq!(rt; refusal(line.as_str()), wanted, "at {row}");
+        rows = rows.wrapping_add(1);
+    }
+    assert_eq!(rt; rows, 14);
     Ok(())
 }
 

@@ -19,7 +19,14 @@ version = 1; nodes = 33=>OutOfRange nodes
 version = 2; nodes = 65=>OutOfRange nodes
 version = 2; nodes = 64=>MissingKey faults
 version = 0=>OutOfRange version
-version = 3=>OutOfRange version
+version = 3; nodes = 65=>OutOfRange nodes
+version = 3; nodes = 64=>MissingKey faults
+version = 4=>OutOfRange version
+clock = "exit"=>UnknownKey top
+version = 2; clock = "exit"=>UnknownKey top
+version = 4; clock = "exit"=>UnknownKey top
+version = "3"; clock = "exit"=>UnknownKey top
+version = 3; clock = "exit"=>MissingKey nodes
 version = "2"=>WrongKind version
 nodes = 4=>MissingKey faults
 nodes = 4; faults = 4=>OutOfRange faults
@@ -111,6 +118,23 @@ coin = [[]]=>WrongKind coin
 [[coin]]; pulse = 1; node = 0; value = false=>WrongKind coin[0].value
 [[coin]]; pulse = 1; node = 0; value = 1=>taken
 [[coin]]; pulse = 1; node = 0; image = []=>UnknownKey coin[0]
+"#;
+
+/// What follows the top keys of four nodes in version 3.
+pub const CLOCKS: &str = r#"=>taken
+clock = 3=>WrongKind clock
+clock = ["exit"]=>WrongKind clock
+clock = ""=>BadText clock line 0 Empty
+clock = "mov64 r0, 0\nexut"=>BadText clock line 2 UnknownWord
+clock = "ja -1"=>NotAccepted clock rule 1 slot 0
+clock = "mov64 r0, 0\nexit"=>taken
+clock = "mov64 r0, 0\nexit"; [[load]]; pulse = 1; nodes = [0]; program = "clock"=>taken
+[[load]]; pulse = 1; nodes = [0]; program = "clock"=>taken
+clock = 1; x = 1=>UnknownKey top
+clock = 1; key = -1=>OutOfRange key
+clock = "x"; load = 3=>BadText clock line 1 UnknownWord
+clock = "ja -1"; [[load]]; pulse = 0=>NotAccepted clock rule 1 slot 0
+clock = "mov64 r0, 0\nexit"; load = 3=>WrongKind load
 "#;
 
 /// Several refusals hold, and the first in the order is told. These follow the top keys too.

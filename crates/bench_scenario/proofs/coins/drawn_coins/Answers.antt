@@ -1,5 +1,4 @@
 use Rattle.std.proofs.Common.{rules}
-use Rattle.std.proofs.lemmas.Grind.{common_steps}
 use Rattle.bench_scenario.proofs.CoinLemmas.{same_coins}
 use Rattle.bench_scenario.proofs.coins.drawn_coins.Goals as goal
 

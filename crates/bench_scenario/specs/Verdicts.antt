@@ -1,0 +1,74 @@
+-- What a report judges of closed pulses (docs/SCENARIOS.md, "Verdicts").
+use Rattle.std.specs.Prelude.{ℕ, ◌+◌, ◌%◌, ◌==◌, ◌&&◌, nat_lt, if◌then◌else◌, Bool, true, List, [], ◌∷◌, Option, Some, None}
+use Rattle.std.specs.List.{list_all}
+use Rattle.bench_core.specs.Settled.{PulseTold}
+use Rattle.bench_scenario.specs.declared.verdicts.TheConstants.{FEWEST}
+use Rattle.bench_scenario.specs.declared.verdicts.Judged.{Judged}
+
+-- node by node: its clock, where the node is settled
+abbrev pub told_clocks : List Bool → List (Option ℕ) → List (Option ℕ)
+told_clocks [] clocks = []
+told_clocks (settled ∷ rest) [] = []
+told_clocks (settled ∷ rest) (clock ∷ clocks) = (if settled then clock else None) ∷ told_clocks rest clocks
+
+abbrev pub settled_in : PulseTold → List (Option ℕ)
+settled_in r = told_clocks r.settled r.clocks
+
+-- ---- agreement
+
+abbrev pub first_clock : List (Option ℕ) → Option ℕ
+first_clock [] = None
+first_clock (Some clock ∷ clocks) = Some clock
+first_clock (None ∷ clocks) = first_clock clocks
+
+abbrev pub is_clock : ℕ → Option ℕ → Bool
+is_clock clock (Some other) = other == clock
+is_clock clock None = true
+
+-- all are equal, and none is past the modulus
+abbrev pub are_one : ℕ → List (Option ℕ) → Option ℕ → Bool
+are_one modulus clocks (Some first) = nat_lt first modulus && list_all (is_clock first) clocks
+are_one modulus clocks None = true
+
+-- of the rule's clock by its own meaning of 0, of another one strictly
+abbrev pub agreement : Bool → ℕ → PulseTold → Option Bool
+agreement own modulus r =
+    if nat_lt r.row.settled FEWEST then None
+    else if own then Some (are_one modulus (settled_in r) (first_clock (settled_in r))) else Some r.agree
+
+-- ---- counting
+
+-- from one clock, below the modulus, to the next one
+abbrev pub counts_on : ℕ → ℕ → ℕ → Bool
+counts_on modulus before after = nat_lt before modulus && (after == (before + 1) % modulus)
+
+-- whether a node counted, where it is settled in both pulses
+abbrev pub step_of : ℕ → Option ℕ → Option ℕ → Option Bool
+step_of modulus (Some before) (Some after) = Some (counts_on modulus before after)
+step_of modulus (Some before) None = None
+step_of modulus None after = None
+
+-- yes where no verdict is no; none where there is none
+abbrev pub joined : Option Bool → Option Bool → Option Bool
+joined None other = other
+joined (Some one) None = Some one
+joined (Some one) (Some other) = Some (one && other)
+
+-- of the settled clocks of two pulses, the later one's after the earlier one's
+abbrev pub counting : ℕ → List (Option ℕ) → List (Option ℕ) → Option Bool
+counting modulus [] after = None
+counting modulus (b ∷ before) [] = None
+counting modulus (b ∷ before) (a ∷ after) = joined (step_of modulus b a) (counting modulus before after)
+
+-- ---- a run
+
+-- pulse after pulse, each with the settled clocks of the one before
+abbrev pub judged_after : Bool → ℕ → List (Option ℕ) → List PulseTold → List Judged
+judged_after own modulus before [] = []
+judged_after own modulus before (r ∷ rs) =
+    record { agree = agreement own modulus r; counts = counting modulus before (settled_in r) }
+    ∷ judged_after own modulus (settled_in r) rs
+
+-- the first pulse has none before it
+abbrev pub judged_of : Bool → ℕ → List PulseTold → List Judged
+judged_of own modulus rs = judged_after own modulus [] rs

@@ -1,0 +1,81 @@
+//! Programs that texts mean, and their acceptance.
+ghost use Rattle.std.specs.Prelude.{◌≡◌, List, IfOk, IfErr, OnOk};
+ghost use Rattle.toml.specs.Data.{get_member};
+ghost use Rattle.toml.specs.View.{table_view};
+ghost use Rattle.bpf_insn.specs.declared.forms.Insn.{Insn};
+ghost use Rattle.bpf_verify.specs.Typable.{Typable};
+ghost use Rattle.clock_nodes.specs.Listings.{clock_listing};
+ghost use Rattle.bpf_verify.specs.Accepted.{IsFirstBroken};
+ghost use Rattle.scenario_text.specs.Faults.{Excludes, Refuses};
+ghost use Rattle.scenario_text.specs.Spelling.{MeansAt};
+
+use crate::refusal::{Place, ScenarioError};
+use crate::table::value_at;
+use bpf_asm::{TextError, assemble};
+use bpf_insn::Program;
+use bpf_verify::{VerifiedProgram, VerifyError, verify};
+use clock_nodes::{ClockRule, dolev_welch};
+use node_env::Shape;
+use std::alloc::{AllocError, Global};
+use toml::Table;
+
+/// The program that the text under a key means.
+pub(crate) fn program_in(
+    alloc: Global,
+    table: &Table,
+    place: Place,
+    key: &'static str,
+) -> Result<Program, ScenarioError>
+    ensures program { IfOk result (MeansAt (get_member key.entry.now (table_view table.now))) }
+    ensures refused { IfErr result (λ e. Excludes e ((insns : List Insn) →
+        MeansAt (get_member key.entry.now (table_view table.now)) insns → ⊥)) }
+{
+    let Some(value) = value_at(table, key) else {
+        return Err(ScenarioError::MissingKey { place, key });
+    };
+    let Some(text) = value.as_str() else {
+        return Err(ScenarioError::WrongKind { place, key });
+    };
+    match assemble(alloc, text.as_bytes()) {
+        Ok(program) => Ok(program),
+        Err(TextError::Memory) => Err(ScenarioError::Memory(AllocError)),
+        Err(error) => Err(ScenarioError::BadText { place, key, error }),
+    }
+}
+
+/// The clock of the rule.
+pub(crate) fn rule_program(
+    alloc: Global,
+    shape: Shape,
+    rule: ClockRule,
+) -> Result<Program, ScenarioError>
+    requires nodes { rule.nodes ≡ shape.nodes }
+    ensures program { IfOk result (λ p. p ≡ clock_listing rule) }
+    ensures refused { IfErr result (λ e. Excludes e ⊥) }
+{
+    dolev_welch(alloc, shape, rule).map_err(|_| ScenarioError::Memory(AllocError))
+}
+
+/// The program, accepted. A refusal names the key that it comes from.
+pub(crate) fn accepted(
+    alloc: Global,
+    program: &Program,
+    shape: Shape,
+    place: Place,
+    key: &'static str,
+) -> Result<VerifiedProgram, ScenarioError>
+    ensures program { IfOk result (λ v. (v.program ≡ program.now) × (v.shape ≡ shape)) }
+    ensures typable { OnOk result (Typable program.now shape) }
+    ensures refused { IfErr result (λ e. Refuses e ⊥ (λ p slot. (p ≡ place) × IsFirstBroken program.now shape slot)) }
+{
+    match verify(alloc, program, shape) {
+        Ok(verified) => Ok(verified),
+        Err(VerifyError::Memory) => Err(ScenarioError::Memory(AllocError)),
+        Err(VerifyError::Refused { slot, rule }) => Err(ScenarioError::NotAccepted {
+            place,
+            key,
+            slot,
+            rule,
+        }),
+    }
+}
