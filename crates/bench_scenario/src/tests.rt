@@ -10,7 +10,6 @@ use std::thread::Threads;
 mod parts;
 mod reports;
 mod streams;
-mod vectors;
 mod workers;
 
 /// Four clocks of one fault, whose coins are all one.
