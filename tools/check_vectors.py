@@ -1,11 +1,15 @@
 #!/usr/bin/env python3
-"""Holds the built program against answers of an independent implementation (vectors/README.md).
+"""Holds the built program against answers that this repository's code didn't make (vectors/README.md).
 
 usage: check_vectors.py [PROGRAM]
 
-PROGRAM is the built `clockbed`; without it the one of this checkout. Each program of vectors/kept.txt is assembled,
-verified and run by it, and each line compared. It prints what differs, and how many programs it tried.
+PROGRAM is the built `clockbed`; without it CLOCKBED_PROGRAM, or else the one of this checkout. The program's commands
+are given each vector, and what they print is compared, with the status. It prints each vector that differs, named by its
+file and line, and how many of each file were tried.
 """
+import csv
+import dataclasses
+import os
 import pathlib
 import subprocess
 import sys
@@ -13,45 +17,153 @@ from concurrent.futures import ThreadPoolExecutor
 
 TOP = pathlib.Path(__file__).resolve().parent.parent
 BUILT = TOP / "crates/clockbed/out/clockbed"
+SECONDS = 60
+NO_LAST_LF = "\n\\ no LF at the end\n"
 
 
-def parts_of(entry):
-    """Options, text, and the wanted lines: without kept pointers, of `verify`, and of `exec`."""
+@dataclasses.dataclass
+class Answer:
+    status: int
+    out: bytes
+    err: bytes
+
+
+class Asked:
+    """The program, asked for one vector, and where it differs."""
+
+    def __init__(self, program):
+        self.program = program
+        self.differences = []
+
+    def answer(self, words, given):
+        line = [self.program, *words.split()]
+        done = subprocess.run(line, input=given, capture_output=True, check=False, timeout=SECONDS)
+        return Answer(done.returncode, done.stdout, done.stderr)
+
+    def differ(self, words, got, wanted):
+        self.differences.append(f"{words}: {got} in place of {wanted}")
+
+    def wants(self, words, given, out, status=0):
+        """Asks that the command gives these bytes and this status."""
+        wanted = Answer(status, out, b"")
+        got = self.answer(words, given)
+        if got != wanted:
+            self.differ(words, got, wanted)
+
+    def wants_line(self, words, given, line):
+        """Asks for the line and its status."""
+        self.wants(words, given, f"{line}\n".encode(), 2 if line.startswith("refused") else 0)
+
+
+def listing(text):
+    """The canonical text of instructions that " ; " parts."""
+    return "".join(f"{line}\n" for line in text.split(" ; ")).encode()
+
+
+def check_encoding(asked, row):
+    """A text and its image, both ways."""
+    text, image = listing(row["text"]), bytes.fromhex(row["hex"])
+    asked.wants("asm", text, image)
+    asked.wants("dis", image, text)
+
+
+def check_result(asked, row):
+    """A program, both ways, and its r0. Outside machines tell no steps."""
+    check_encoding(asked, row)
+    got = asked.answer("exec", bytes.fromhex(row["hex"]))
+    start = f"r0 {row['r0']} steps "
+    if got.status or got.err or not got.out.startswith(start.encode()):
+        asked.differ("exec", got, start)
+
+
+def check_field(asked, row):
+    """An image, which reads as a text or is refused at a slot."""
+    image, expected = bytes.fromhex(row["hex"]), row["expected"]
+    reads = expected.removeprefix("reads: ")
+    if reads != expected:
+        check_encoding(asked, {"text": reads, "hex": row["hex"]})
+        return
+    name, slot = expected.split()
+    for words in ("dis", "exec", "verify"):
+        asked.wants_line(words, image, f"refused image {name} slot {slot}")
+
+
+def check_kept(asked, entry):
+    """A program with what was said of it without kept pointers, and the lines of `verify` and `exec`."""
     head, rest = entry.split("\n", 1)
     text, rest = rest.split("---- without kept pointers\n")
     before, rest = rest.split("---- verify\n")
-    verdict, end = rest.split("---- exec\n")
+    verdict, end = (part.strip() for part in rest.split("---- exec\n"))
     _, nodes, _, memory = head.split()
-    return ["--nodes", nodes, "--memory", memory], text, before.strip(), verdict.strip(), end.strip()
+    options = f"--nodes {nodes} --memory {memory}"
+    image = asked.answer("asm", text.encode()).out
+    asked.wants("dis", image, text.encode())
+    asked.wants_line(f"verify {options}", image, verdict)
+    asked.wants_line(f"exec {options}", image, end)
+    if before.startswith("accepted") and before.strip() != verdict:
+        asked.differ("verify without kept pointers", before.strip(), verdict)
 
 
-def answer(program, words, data):
-    done = subprocess.run([program, *words], input=data, capture_output=True, check=False, timeout=60)
-    return done.stdout
+def check_scenario(asked, entry):
+    """A scenario and what `run` prints of it."""
+    text, wanted = entry.split("---- prints\n")
+    given = text.removesuffix(NO_LAST_LF).encode()
+    status = 2 if wanted.startswith("refused") else 0
+    for workers in (1, 2):
+        asked.wants(f"run --workers {workers}", given, wanted.encode(), status)
 
 
-def differences(program, entry):
-    options, text, before, verdict, end = parts_of(entry)
-    image = answer(program, ["asm"], text.encode())
-    found = []
-    if before.startswith("accepted") and before != verdict:
-        found.append(f"accepted without kept pointers as {before!r}, and with them {verdict!r}")
-    for name, wanted in (("verify", verdict), ("exec", end)):
-        got = answer(program, [name, *options], image).decode().strip()
-        if got != wanted:
-            found.append(f"{name} {' '.join(options)}: {got!r} in place of {wanted!r}")
-    return [f"{line}\n{text}" for line in found]
+def rows_of(path):
+    """The rows of a table, with the number of each one's line."""
+    with path.open(encoding="utf-8", newline="") as it:
+        yield from enumerate(csv.DictReader(it, delimiter="\t", quoting=csv.QUOTE_NONE), 2)
+
+
+def entries_of(path):
+    """The entries of a text, each of which begins with "==== ", with the number of each one's line."""
+    line = 1
+    for entry in path.read_text(encoding="utf-8").split("==== ")[1:]:
+        yield line, entry
+        line += entry.count("\n")
+
+
+def scenarios_of(path):
+    for line, entry in entries_of(path):
+        yield line, entry.removeprefix("scenario\n")
+
+
+FILES = [
+    ("encodings.tsv", rows_of, check_encoding),
+    ("results.tsv", rows_of, check_result),
+    ("fields.tsv", rows_of, check_field),
+    ("kept.txt", entries_of, check_kept),
+    ("scenarios.txt", scenarios_of, check_scenario),
+]
 
 
 def main():
-    program = sys.argv[1] if len(sys.argv) > 1 else str(BUILT)
-    entries = (TOP / "vectors/kept.txt").read_text(encoding="utf-8").split("==== ")[1:]
-    with ThreadPoolExecutor() as workers:
-        found = [line for lines in workers.map(lambda entry: differences(program, entry), entries) for line in lines]
-    for line in found:
-        print(line)
-    print(f"check_vectors: {len(entries)} programs, {len(found)} differences")
-    return 1 if found or not entries else 0
+    given = sys.argv[1] if len(sys.argv) > 1 else os.environ.get("CLOCKBED_PROGRAM", BUILT)
+    program = os.path.realpath(given)
+    vectors = [
+        (name, line, check, vector)
+        for name, reader, check in FILES
+        for line, vector in reader(TOP / "vectors" / name)
+    ]
+
+    def differences(one):
+        name, line, check, vector = one
+        asked = Asked(program)
+        check(asked, vector)
+        return [f"vectors/{name}:{line}: {difference}" for difference in asked.differences]
+
+    with ThreadPoolExecutor(os.cpu_count()) as workers:
+        found = [difference for some in workers.map(differences, vectors) for difference in some]
+    for difference in found:
+        print(difference)
+    counts = {name: sum(one[0] == name for one in vectors) for name, _, _ in FILES}
+    tried = ", ".join(f"{name} {count}" for name, count in counts.items())
+    print(f"check_vectors: {tried}: {len(found)} differences")
+    return 1 if found or not all(counts.values()) else 0
 
 
 if __name__ == "__main__":

@@ -95,20 +95,22 @@ def tallied(library, room, words, given):
     return whole, rows
 
 
-def is_fault(ran):
-    return ran.status == 1 and ran.err in (b"fault memory\n", b"fault thread\n")
+def is_fault(ran, kind):
+    """Whether the line of the fault is told. A thread wants memory, too, where it is started."""
+    lines = {"memory": (b"fault memory\n", b"fault thread\n"), "threads": (b"fault thread\n",)}
+    return ran.status == 1 and ran.err in lines[kind]
 
 
-def command_outcome(whole, ran):
-    """What came of a command, some of whose requests were refused."""
+def command_outcome(whole, ran, kind):
+    """What came of a command, some of whose requests of a kind were refused."""
     if ran == whole:
         return "right"
-    if is_fault(ran) and not ran.out:
+    if is_fault(ran, kind) and not ran.out:
         return "refused"
     return f"status {ran.status}, output {ran.out[:60]!r}, errors {ran.err[:60]!r}"
 
 
-def trial_outcome(whole, ran, place, last):
+def trial_outcome(whole, ran, kind, place, last):
     """What came of the cases, where requests of the case at a place were refused, and later ones if it is the last."""
     names = [CASE.fullmatch(line)[1] for line in whole.out.splitlines()]
     lines = ran.out.splitlines()
@@ -120,7 +122,7 @@ def trial_outcome(whole, ran, place, last):
         if not retried:
             return "right"
         return "retried" if last or retried == [place] else f"{lines[retried[-1]]!r} is another case"
-    if last and is_fault(ran) and len(lines) >= place:
+    if last and is_fault(ran, kind) and len(lines) >= place:
         return "refused"
     return f"status {ran.status}, {len(lines)} lines, errors {ran.err[:60]!r}"
 
@@ -142,7 +144,7 @@ def sweep_command(pool, library, room, kind, command):
         return bounds, run(library, words, command.input, REFUSED=kind, FIRST=bounds[0], LAST=bounds[1])
 
     for bounds, ran in pool.map(one, ranges(counts.requests)):
-        counts.add(command_outcome(whole, ran), bounds)
+        counts.add(command_outcome(whole, ran, kind), bounds)
     return counts
 
 
@@ -175,7 +177,7 @@ def sweep_trials(pool, library, room, kind):
     def one(job):
         _, place, first, last = job
         ran = run(library, words, b"", REFUSED=kind, FIRST=first, LAST=last)
-        return job, trial_outcome(whole, ran, place, last == ENDLESS)
+        return job, trial_outcome(whole, ran, kind, place, last == ENDLESS)
 
     for (name, _, first, last), outcome in pool.map(one, jobs):
         tables[name].add(outcome, (first, last))

@@ -11,7 +11,6 @@ mod judged;
 mod parts;
 mod reports;
 mod streams;
-mod vectors;
 mod workers;
 
 /// Four clocks of one fault, whose coins are all one.

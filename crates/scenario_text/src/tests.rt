@@ -7,7 +7,6 @@ mod accepted;
 mod orders;
 mod refused;
 mod rows;
-mod vectors;
 
 /// The line of a text's refusal, or `taken`.
 fn line_of(alloc: Global, text: &[u8]) -> Result<String, AllocError> {

@@ -1,6 +1,6 @@
 //! Calls on a bench.
 
-use crate::four::{FIRST_STEPS, Four, MEMORY, NODES, ONES, accepted_clock, four_nodes};
+use crate::four::{Four, MEMORY, NODES, ONES, ROWS, accepted_clock, four_nodes, is_row};
 use crate::shown::{Shown, is_same};
 use crate::stop::{Ended, Stop, Wrong, expect};
 use bench_core::{
@@ -66,7 +66,7 @@ pub fn makes(alloc: Global) -> Result<Ended, Stop> {
 pub fn stages(alloc: Global, kind: Kind) -> Result<Ended, Stop> {
     let four = four_nodes();
     let program = accepted_clock(alloc, &four)?;
-    let mut bench = new_bench(alloc, &four)?;
+    let mut bench = clocks(alloc, &four)?;
     stage_each(alloc, &mut bench, kind, &program)
 }
 
@@ -119,12 +119,21 @@ fn stage_stubbornly(
     }
 }
 
-/// A bench on which the clock is staged for each node.
+/// A bench of four clocks that has closed a pulse, so that it has mail.
 fn clocks(alloc: Global, four: &Four) -> Result<Bench, Stop> {
-    let program = accepted_clock(alloc, four)?;
     let mut bench = new_bench(alloc, four)?;
-    let _ended = stage_each(alloc, &mut bench, Kind::Load, &program)?;
+    close_first(alloc, four, &mut bench)?;
     Ok(bench)
+}
+
+/// Loads the clock into each node of a new bench, and closes a pulse.
+fn close_first(alloc: Global, four: &Four, bench: &mut Bench) -> Result<(), Stop> {
+    let program = accepted_clock(alloc, four)?;
+    let _ended = stage_each(alloc, bench, Kind::Load, &program)?;
+    let tasks = opened(bench.open_pulse(alloc, &ONES))?;
+    let dones = results(alloc, tasks, false)?;
+    let record = closed(bench.close_pulse(alloc, dones))?;
+    expect(is_row(&record, ROWS[0]), Wrong::Answer)
 }
 
 /// Openings, one after the other, so that the history grows at one: each applies what is staged.
@@ -165,7 +174,7 @@ fn opened(tasks: Result<Vec<NodeTask>, OpenError>) -> Result<Vec<NodeTask>, Stop
 }
 
 /// The results of the tasks, in their order or turned round.
-fn results(
+pub fn results(
     alloc: Global,
     tasks: Vec<NodeTask>,
     reversed: bool,
@@ -193,9 +202,9 @@ pub fn closes(alloc: Global, reversed: bool) -> Result<Ended, Stop> {
         }
         first => (closed(first)?, Ended::AtOnce),
     };
-    expect(is_first(&record), Wrong::Answer)?;
+    expect(is_row(&record, ROWS[1]), Wrong::Answer)?;
     expect(!bench.is_open(), Wrong::Answer)?;
-    expect(all_sent_zero(&bench), Wrong::Answer)?;
+    expect(all_sent_one(&bench), Wrong::Answer)?;
     Ok(ended)
 }
 
@@ -207,22 +216,12 @@ fn closed(record: Result<PulseRecord, (Vec<NodeDone>, CloseError)>) -> Result<Pu
     }
 }
 
-/// Whether it is the record of the first pulse of four new clocks.
-pub fn is_first(record: &PulseRecord) -> bool {
-    record.row.pulse == 1
-        && record.row.common == 0
-        && record.row.settled == 0
-        && record.steps == FIRST_STEPS
-        && record.agree
-        && record.clocks.as_slice() == [Some(0); NODES as usize].as_slice()
-}
-
-/// Whether each node sent 0 to each.
-fn all_sent_zero(bench: &Bench) -> bool {
+/// Whether each node sent 1 to each.
+fn all_sent_one(bench: &Bench) -> bool {
     let nodes = bench.shape().nodes();
     for sender in 0..nodes {
         for receiver in 0..nodes {
-            if bench.mail().slot(sender, receiver) != Some(0) {
+            if bench.mail().slot(sender, receiver) != Some(1) {
                 return false;
             }
         }

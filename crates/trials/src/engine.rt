@@ -2,11 +2,10 @@
 ghost use Rattle.std.specs.Prelude.{◌≡◌, ◌≤◌, None, IfOk};
 ghost use Rattle.bench_engine.specs.declared.tasks.TheConstants.{MOST_WORKERS};
 
-use crate::benches::is_first;
-use crate::four::{Four, MEMORY, NODES, ONES, accepted_clock, four_nodes};
+use crate::four::{Four, MEMORY, NODES, ONES, PULSES, ROWS, accepted_clock, four_nodes, is_row};
 use crate::shown::Received;
-use crate::stop::{Ended, Stop, Wrong, expect, stubbornly};
-use bench_core::{Change, CloseError, Entry, OpenError, PulseRecord};
+use crate::stop::{Ended, Stop, Wrong, expect};
+use bench_core::{Change, CloseError, Entry, OpenError};
 use bench_engine::{
     EngineError, Event, MOST_WORKERS, Open, Run, RunRefusal, WorkError, pulse, run_events,
 };
@@ -50,7 +49,7 @@ pub fn pulses<B: Ledger, C: Ledger, R: Threads + Wait + Sync>(
             }
         }
     };
-    expect(is_first(&told), Wrong::Answer)?;
+    expect(is_row(&told, ROWS[0]), Wrong::Answer)?;
     Ok(ended)
 }
 
@@ -76,9 +75,6 @@ fn is_abandoned<B: Ledger, C: Ledger>(before: &Received, engine: &EnginePass<B, 
         _ => false,
     }
 }
-
-/// The pulses of a run of events.
-const PULSES: u32 = 3;
 
 /// The clock in each of four nodes, and then the pulses.
 fn clock_events(alloc: Global, program: &VerifiedProgram) -> Result<Vec<Event>, AllocError> {
@@ -138,9 +134,6 @@ fn run_once<R: Threads + Wait + Sync>(
     }
 }
 
-/// The clock, the settled nodes and the steps of each pulse.
-const ROWS: [(u32, u32, u32); PULSES as usize] = [(0, 0, 36), (1, 4, 44), (2, 4, 41)];
-
 /// The memory of a clock of 2 that goes on.
 const TWO: [u8; MEMORY as usize] = [2, 0, 0, 0, 1, 0, 0, 0];
 
@@ -157,12 +150,4 @@ fn is_run(run: &Run) -> bool {
             .memories
             .iter()
             .all(|memory| memory.as_slice() == TWO.as_slice())
-}
-
-fn is_row(told: &PulseRecord, row: (u32, u32, u32)) -> bool {
-    let (clock, settled, steps) = row;
-    told.row.settled == settled
-        && told.steps == steps
-        && told.agree
-        && told.clocks.as_slice() == [Some(clock); NODES as usize].as_slice()
 }

@@ -2,6 +2,7 @@
 ghost use Rattle.std.specs.Prelude.{◌≡◌};
 
 use crate::stop::{Stop, Wrong};
+use bench_core::PulseRecord;
 use bpf_insn::Program;
 use bpf_verify::{VerifiedProgram, VerifyError, verify};
 use clock_nodes::{ClockRule, dolev_welch};
@@ -19,8 +20,11 @@ pub const ONES: [u32; 4] = [1; 4];
 /// The longest path of the clock for four nodes.
 pub const ANNOUNCED: u32 = 45;
 
-/// The steps of a clock that gets no mail.
-pub const FIRST_STEPS: u32 = 36;
+/// How many pulses a run of events has.
+pub const PULSES: u32 = 3;
+
+/// The clock, the settled nodes and the steps of the first pulses of four clocks whose coins are 1.
+pub const ROWS: [(u32, u32, u32); PULSES as usize] = [(0, 0, 36), (1, 4, 44), (2, 4, 41)];
 
 /// The shape of the nodes, and the rule of their clocks.
 #[derive(Drop)]
@@ -55,4 +59,13 @@ pub fn accepted(alloc: Global, program: &Program, four: &Four) -> Result<Verifie
 pub fn accepted_clock(alloc: Global, four: &Four) -> Result<VerifiedProgram, Stop> {
     let program = clock(alloc, four)?;
     accepted(alloc, &program, four)
+}
+
+/// Whether it is the record of four clocks that agree, with this row.
+pub fn is_row(told: &PulseRecord, row: (u32, u32, u32)) -> bool {
+    let (clock, settled, steps) = row;
+    told.row.settled == settled
+        && told.steps == steps
+        && told.agree
+        && told.clocks.as_slice() == [Some(clock); NODES as usize].as_slice()
 }

@@ -33,10 +33,17 @@ agreed 3 of 3
 const MANY: &[u8] = b"nodes = 33\n";
 
 fn scenario(alloc: Global) -> Result<Scenario, Stop> {
-    match scenario_in(alloc, TEXT) {
-        Ok(scenario) => Ok(scenario),
-        Err(ScenarioError::Memory(_)) => Err(Stop::Memory),
-        Err(_) => Err(Stop::Wrong(Wrong::Refusal)),
+    scenario_of(alloc, TEXT)
+}
+
+fn scenario_of(alloc: Global, text: &[u8]) -> Result<Scenario, Stop> {
+    scenario_in(alloc, text).map_err(|error| stop_of_text(&error))
+}
+
+fn stop_of_text(error: &ScenarioError) -> Stop {
+    match error {
+        ScenarioError::Memory(_) => Stop::Memory,
+        _ => Stop::Wrong(Wrong::Refusal),
     }
 }
 

@@ -1,7 +1,7 @@
 //! Calls on a shared bench, by one hand.
 ghost use Rattle.std.specs.Prelude.{◌≡◌, ◌+◌, ◌≤◌, None};
 
-use crate::benches::{Kind, TURNS, change_of};
+use crate::benches::{Kind, TURNS, change_of, results};
 use crate::engine::pulses;
 use crate::four::{NODES, ONES, accepted_clock, four_nodes};
 use crate::shown::{Received, is_same};
@@ -44,26 +44,56 @@ fn on_bench<B: Ledger, C: Ledger, R: Threads + Wait + Sync>(
     let (shared, board, mut engine, mut loaders, _watchers) = SharedBench::<B, C>::new(
         alloc, entries, closes, four.shape, four.rule, 1, 0,
     )?;
+    match loads_and_does(rt, alloc, &shared, &board, &mut engine, &mut loaders, deed) {
+        Ok(ended) => finishes(shared, engine, loaders, ended),
+        Err(stop) => Err(stop),
+    }
+}
+
+/// Loads each node and does the deed.
+fn loads_and_does<B: Ledger, C: Ledger, R: Threads + Wait + Sync>(
+    rt: &R,
+    alloc: Global,
+    shared: &SharedBench<B, C>,
+    board: &Board,
+    engine: &mut EnginePass<B, C>,
+    loaders: &mut [LoaderPass<B, C>],
+    deed: Deed,
+) -> Result<Ended, Stop>
+    requires paid { engine.old.owed ≡ None }
+    requires board { engine.old.board ≡ board.now }
+    ensures paid { engine.new.owed ≡ None }
+{
     let Some(loader) = loaders.first_mut() else {
         return Err(Stop::Wrong(Wrong::Answer));
     };
-    let loaded = stage_each(rt, alloc, &shared, loader, Kind::Load)?;
+    let loaded = stage_each(rt, alloc, shared, loader, Kind::Load)?;
     let done = match deed {
-        Deed::Stage(kind) => stage_each(rt, alloc, &shared, loader, kind)?,
-        Deed::Open => opens_pulse(rt, alloc, &shared, &mut engine)?,
-        Deed::Close => closes_pulse(rt, alloc, &shared, &board, &mut engine)?,
-        Deed::PulseAlone => pulses(rt, alloc, &shared, &board, &mut engine, 1)?,
-        Deed::PulseOnTwo => pulses(rt, alloc, &shared, &board, &mut engine, 2)?,
+        Deed::Stage(kind) => stage_each(rt, alloc, shared, loader, kind)?,
+        Deed::Open => opens_pulse(rt, alloc, shared, engine)?,
+        Deed::Close => closes_pulse(rt, alloc, shared, board, engine)?,
+        Deed::PulseAlone => pulses(rt, alloc, shared, board, engine, 1)?,
+        Deed::PulseOnTwo => pulses(rt, alloc, shared, board, engine, 2)?,
     };
+    Ok(loaded.and(done))
+}
+
+/// Ends the bench by its receipts.
+fn finishes<B: Ledger, C: Ledger>(
+    shared: SharedBench<B, C>,
+    engine: EnginePass<B, C>,
+    loaders: Vec<LoaderPass<B, C>>,
+    ended: Ended,
+) -> Result<Ended, Stop>
+    requires paid { engine.owed ≡ None }
+{
     let receipts = engine.receipts().len();
-    match shared.finish(engine, loaders) {
-        Ok(finished) => {
-            expect(finished.loads() >= TURNS as usize, Wrong::History)?;
-            expect(finished.history().len() > receipts, Wrong::History)?;
-            Ok(loaded.and(done))
-        }
-        Err(_) => Err(Stop::Wrong(Wrong::History)),
-    }
+    let Ok(finished) = shared.finish(engine, loaders) else {
+        return Err(Stop::Wrong(Wrong::History));
+    };
+    let is_told = finished.loads() >= TURNS as usize && finished.history().len() > receipts;
+    expect(is_told, Wrong::History)?;
+    Ok(ended)
 }
 
 /// Stages a change of a kind for each node, one after the other.
@@ -197,10 +227,7 @@ fn closes_pulse<B: Ledger, C: Ledger, R: Wait>(
     ensures paid { engine.new.owed ≡ None }
 {
     let (tasks, opened) = open(rt, alloc, shared, engine)?;
-    let mut dones = Vec::with_capacity(alloc, tasks.len())?;
-    for task in tasks {
-        dones.push(task.run())?;
-    }
+    let dones = results(alloc, tasks, false)?;
     let before = Received::of(alloc, engine.receipts())?;
     let (record, ended) = match shared.close_pulse(rt, alloc, engine, dones) {
         Err((back, CloseError::Memory)) => {

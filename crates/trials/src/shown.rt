@@ -101,10 +101,7 @@ impl Received {
     pub fn of(alloc: Global, receipts: &[Receipt]) -> Result<Received, AllocError> {
         let mut copies = Vec::new(alloc);
         for receipt in receipts {
-            copies.push(Receipt {
-                place: receipt.place,
-                entry: copy_of(alloc, &receipt.entry)?,
-            })?;
+            copies.push(receipt_of(alloc, receipt)?)?;
         }
         Ok(Received { receipts: copies })
     }
@@ -126,6 +123,15 @@ impl Received {
     pub fn rest<'a>(&self, receipts: &'a [Receipt]) -> &'a [Receipt] {
         receipts.get(self.receipts.len()..).unwrap_or(&[])
     }
+}
+
+/// An equal receipt.
+fn receipt_of(alloc: Global, receipt: &Receipt) -> Result<Receipt, AllocError> {
+    let entry = copy_of(alloc, &receipt.entry)?;
+    Ok(Receipt {
+        place: receipt.place,
+        entry,
+    })
 }
 
 /// An equal entry.

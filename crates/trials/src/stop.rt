@@ -1,6 +1,6 @@
 //! How cases end.
 
-use std::alloc::{AllocError, AllocFailed};
+use std::alloc::AllocError;
 
 /// Whether a call was refused before it was done.
 #[derive(Clone, Copy)]
@@ -60,12 +60,6 @@ impl Wrong {
 
 impl From<AllocError> for Stop {
     fn from(_error: AllocError) -> Stop {
-        Stop::Memory
-    }
-}
-
-impl<T: Drop> From<AllocFailed<T>> for Stop {
-    fn from(_error: AllocFailed<T>) -> Stop {
         Stop::Memory
     }
 }

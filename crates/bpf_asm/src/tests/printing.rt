@@ -1,11 +1,9 @@
 //! From images and instructions to texts.
 
-use super::vectors::ENCODINGS;
 use super::*;
-use crate::forms::FORMS;
 use bpf_insn::{
     AluOp, Cond, Insn, MAX_SLOTS, Operand, Program, ProgramError, Reg, Size, SxSize, Width, decode,
-    encode, program_of,
+    program_of,
 };
 
 /// The text of an image in hexadecimal.
@@ -18,36 +16,6 @@ fn text_of(alloc: Global, hex: &str) -> Result<String, Fail> {
 /// The program with these instructions.
 fn program(alloc: Global, insns: Vec<Insn>) -> Result<Program, ProgramError> {
     program_of(alloc, insns).map_err(|(_, error)| error)
-}
-
-#[test]
-fn outside_texts(rt: HostRuntime) -> Result<(), Fail> {
-    let mut rows = 0u32;
-    for line in ENCODINGS.lines() {
-        let Some((hex, text)) = line.split_once('\t') else {
-            continue;
-        };
-        let bytes = bytes_of(rt.alloc(), hex)?;
-        let program = decode(rt.alloc(), &bytes)?;
-        let got = disassemble(rt.alloc(), &program)?;
-        assert_eq!(rt; got.strip_suffix("\n"), Some(text));
-        let image = encode(rt.alloc(), &program)?;
-        assert_eq!(rt; image.as_slice(), bytes.as_slice(), "at {text}");
-        rows = rows.wrapping_add(1);
-    }
-    assert_eq!(rt; rows, 288);
-    Ok(())
-}
-
-#[test]
-fn every_word_is_an_outside_one(rt: HostRuntime) {
-    for form in FORMS {
-        let known = ENCODINGS
-            .lines()
-            .filter_map(|line| line.split_once('\t'))
-            .any(|(_, text)| text.split_ascii_whitespace().next() == Some(form.word()));
-        assert!(rt; known, "{}", form.word());
-    }
 }
 
 #[test]

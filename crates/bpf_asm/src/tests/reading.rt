@@ -1,7 +1,6 @@
 //! From texts to images: the definitions are the text that people write, and which refusal is told at which line.
 
 use super::texts::{RANGES, READINGS};
-use super::vectors::ENCODINGS;
 use super::*;
 use bpf_insn::encode;
 
@@ -49,21 +48,6 @@ fn lines_of(alloc: Global, text: &str) -> Result<String, AllocError> {
         all.push(if letter == ';' { '\n' } else { letter })?;
     }
     Ok(all)
-}
-
-#[test]
-fn outside_images(rt: HostRuntime) -> Result<(), Fail> {
-    let mut rows = 0u32;
-    for line in ENCODINGS.lines() {
-        let Some((hex, text)) = line.split_once('\t') else {
-            continue;
-        };
-        let answer = answer(rt.alloc(), text.as_bytes())?;
-        assert_eq!(rt; answer.as_str(), hex, "at {text}");
-        rows = rows.wrapping_add(1);
-    }
-    assert_eq!(rt; rows, 288);
-    Ok(())
 }
 
 #[test]

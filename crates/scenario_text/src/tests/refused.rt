@@ -1,6 +1,5 @@
 //! Each refusal with its line.
 use super::rows::{ADDED, CLOCKS, TOP, WHOLE};
-use super::vectors::REFUSED;
 use super::*;
 use crate::MAX_TEXT;
 
@@ -59,26 +58,6 @@ fn clocks_of_ones_own(rt: HostRuntime) -> Result<(), Fail> {
         rows = rows.wrapping_add(1);
     }
     assert_eq!(rt; rows, 14);
-    Ok(())
-}
-
-#[test]
-fn refused_vectors(rt: HostRuntime) -> Result<(), Fail> {
-    let mut rows = 0u32;
-    for part in REFUSED.split("==== scenario\n") {
-        let Some((text, wanted)) = part.split_once("---- prints\n") else {
-            continue;
-        };
-        let text = match text.strip_suffix("\n\\ no LF at the end\n") {
-            Some(front) => front,
-            None => text,
-        };
-        let line = line_of(rt.alloc(), text.as_bytes())?;
-        let printed = format!(in rt.alloc(); "{line}\n")?;
-        assert_eq!(rt; printed.as_str(), wanted, "at {text}");
-        rows = rows.wrapping_add(1);
-    }
-    assert_eq!(rt; rows, 80);
     Ok(())
 }
 
