@@ -2,6 +2,7 @@
 use Rattle.std.specs.Prelude.{◌≡◌, ◌⊎◌, ℕ, List, [], ◌∷◌, ◌++◌, map}
 use Rattle.bench_core.specs.Replay.{Entry, Opened, Abandoned}
 use Rattle.bench_core.specs.State.{AreCoins}
+use Rattle.bench_core.specs.declared.refusal.CloseError.TheVariants.{NotOpen, Missing, Twice, Stranger, Memory}
 use Rattle.bench_shared.specs.Passes.{Placed, entry_in}
 use Rattle.bench_shared.specs.Plans.{Plan, IsPlanOpenRefusal}
 use Rattle.bench_engine.specs.declared.refusal.EngineError.{EngineError}
@@ -11,12 +12,15 @@ use Rattle.bench_engine.specs.declared.refusal.EngineError.TheVariants.{Open, Wo
 abbrev pub Adds : List Placed → List Entry → List Placed → Type 0
 Adds old entries new = (more : List Placed) × (map entry_in more ≡ entries) × (new ≡ old ++ more)
 
--- a refused opening adds no receipt; a later refusal leaves that of the opening, and at most that of an end without a
--- row
+-- a refused opening adds no receipt. After a later refusal the pulse is over, or that of abandoning it is told, NotOpen
 abbrev pub Stopped : EngineError → List Placed → List ℕ → List Placed → Type 0
 Stopped (Open e) old coins new = new ≡ old
-Stopped (Work e) old coins new = Adds old (Opened coins ∷ []) new ⊎ Adds old (Opened coins ∷ Abandoned ∷ []) new
-Stopped (Close e) old coins new = Adds old (Opened coins ∷ []) new ⊎ Adds old (Opened coins ∷ Abandoned ∷ []) new
+Stopped (Work e) old coins new = Adds old (Opened coins ∷ Abandoned ∷ []) new
+Stopped (Close (Missing i)) old coins new = Adds old (Opened coins ∷ Abandoned ∷ []) new
+Stopped (Close (Twice i)) old coins new = Adds old (Opened coins ∷ Abandoned ∷ []) new
+Stopped (Close (Stranger i)) old coins new = Adds old (Opened coins ∷ Abandoned ∷ []) new
+Stopped (Close Memory) old coins new = Adds old (Opened coins ∷ Abandoned ∷ []) new
+Stopped (Close NotOpen) old coins new = Adds old (Opened coins ∷ []) new ⊎ Adds old (Opened coins ∷ Abandoned ∷ []) new
 
 -- what the refusal says of the coins
 abbrev pub IsPulseRefusal : Plan → List ℕ → EngineError → Type 0

@@ -44,6 +44,8 @@ IsRefusalOf s n (PulseEvent coins) refusals.BadCoins = AreCoins s.shape coins �
 IsRefusalOf s n (PulseEvent coins) refusals.HistoryFull = AreCoins s.shape coins × (MOST_ENTRIES < n + 2)
 IsRefusalOf s n (PulseEvent coins) refusals.NoThread = AreCoins s.shape coins × (n + 2 ≤ MOST_ENTRIES)
 IsRefusalOf s n (PulseEvent coins) refusals.GateShut = AreCoins s.shape coins × (n + 2 ≤ MOST_ENTRIES)
+IsRefusalOf s n (Stage c) refusals.Memory = IsChange s.shape c × (n + 1 ≤ MOST_ENTRIES)
+IsRefusalOf s n (PulseEvent coins) refusals.Memory = AreCoins s.shape coins × (n + 2 ≤ MOST_ENTRIES)
 IsRefusalOf s n _ _ = ⊥
 
 -- the events before this one give some run, and it is refused after that
@@ -55,9 +57,19 @@ pub record IsFirstRefused (s : Setup) (es : List Event) (k : ℕ) (refusal : Run
   pub here : slice_get es k ≡ Some event
   pub refused : IsRefusalOf s (entries_after (take k es)) event refusal
 
--- the fault names the first event that is refused, and why; want of memory has a place up to the number of events
+-- want of memory: the events before this place give some run, and the event there, where there is one, isn't refused
+-- for another reason
+pub record IsShort (s : Setup) (es : List Event) (k : ℕ) : Type 0 where
+  pub records : List PulseTold
+  pub state : State
+  pub before : Goes s (new_state s) 0 (take k es) records state
+  pub within : k ≤ length es
+  pub only : (event : Event) → slice_get es k ≡ Some event
+      → IsRefusalOf s (entries_after (take k es)) event refusals.Memory
+
+-- the fault names the first event that is refused, and why; want of memory may come at an event or after the last
 abbrev pub IsFault : Setup → List Event → ℕ → RunRefusal → Type 0
-IsFault s es k refusals.Memory = k ≤ length es
+IsFault s es k refusals.Memory = IsShort s es k
 IsFault s es k refusals.BadNode = IsFirstRefused s es k refusals.BadNode
 IsFault s es k refusals.OtherShape = IsFirstRefused s es k refusals.OtherShape
 IsFault s es k refusals.BadImage = IsFirstRefused s es k refusals.BadImage

@@ -1,7 +1,8 @@
 //! The tasks of a pulse, dealt out to its workers.
-ghost use Rattle.std.specs.Prelude.{◌≡◌, ◌≤◌, ◌<◌, [], ◌∷◌, ◌++◌, IfOk, IfErr, OnOk, vec_len};
+ghost use Rattle.std.specs.Prelude.{◌≡◌, ◌≤◌, ◌<◌, [], ◌∷◌, ◌++◌, IfOk, IfErr, OnOk, get_or, map, slice_set, vec_len};
 ghost use Rattle.std.specs.List.{flat_map};
 ghost use Rattle.std.specs.List.Sorted.{IsPermutation};
+ghost use Rattle.bench_engine.specs.inner.Batches.{AreDealt};
 ghost use Rattle.bench_engine.specs.declared.refusal.WorkError.TheVariants.{Memory};
 ghost use Rattle.bench_engine.specs.declared.tasks.TheConstants.{MOST_WORKERS};
 
@@ -9,7 +10,7 @@ use crate::refusal::WorkError;
 use bench_core::NodeTask;
 use std::alloc::Global;
 
-/// Deals the tasks out: task k goes to worker k mod `workers`.
+/// Deals the tasks out in turn: the task at place k goes to worker k mod `workers`.
 pub(crate) fn deal(
     alloc: Global,
     tasks: Vec<NodeTask>,
@@ -18,6 +19,7 @@ pub(crate) fn deal(
     requires some { 1 ≤ workers }
     requires few { workers ≤ MOST_WORKERS }
     ensures count { IfOk result (λ batches. vec_len batches ≡ workers) }
+    ensures each { IfOk result (λ batches. AreDealt workers tasks.items (map (λ b. b.items) batches.items)) }
     ensures dealt { IfOk result (λ batches. IsPermutation tasks.items (flat_map (λ b. b.items) batches.items)) }
     ensures refusal { IfErr result (λ e. e ≡ Memory) }
 {
@@ -52,6 +54,8 @@ fn give(batches: &mut Vec<Vec<NodeTask>>, worker: usize, task: NodeTask) -> Resu
     ensures count { vec_len batches.new ≡ vec_len batches.old }
     ensures given { OnOk result (IsPermutation (flat_map (λ b. b.items) batches.old.items ++ task ∷ [])
         (flat_map (λ b. b.items) batches.new.items)) }
+    ensures batch { OnOk result (map (λ b. b.items) batches.new.items ≡ slice_set (map (λ b. b.items) batches.old.items)
+        worker (get_or (map (λ b. b.items) batches.old.items) worker [] ++ task ∷ [])) }
     ensures refusal { IfErr result (λ e. e ≡ Memory) }
 {
     let batch = &mut batches[worker];

@@ -4,18 +4,20 @@ ghost use Rattle.bench_core.specs.declared.limits.TheConstants.{MOST_ENTRIES};
 ghost use Rattle.bench_core.specs.declared.refusal.CloseError.TheVariants as CloseError;
 ghost use Rattle.bench_core.specs.State.{new_state};
 ghost use Rattle.bench_core.specs.Views.{change_of, setup_of};
-ghost use Rattle.bench_engine.specs.declared.event.RunRefusal.TheVariants.{GateShut, Memory};
+ghost use Rattle.bench_engine.specs.declared.event.RunRefusal.TheVariants.{GateShut, Memory, NoThread};
 ghost use Rattle.bench_engine.specs.declared.refusal.WorkError.TheVariants as work;
 ghost use Rattle.bench_engine.specs.declared.tasks.TheConstants.{MOST_WORKERS};
 ghost use Rattle.bench_engine.specs.Events.{Stage, Pulse, event_of};
-ghost use Rattle.bench_engine.specs.inner.Going.{GoesOn, IsApplied, IsOfWorkers, IsStopped};
-ghost use Rattle.bench_engine.specs.Runs.{IsFault, IsRun};
+ghost use Rattle.bench_engine.specs.inner.Going.{GoesOn, IsApplied, IsOfWorkers};
+ghost use Rattle.bench_engine.specs.Runs.{IsFault, IsRefusalOf, IsRun};
 
 use crate::event::{Event, Run, RunFault, RunRefusal};
 use crate::gate::Gate;
 use crate::refusal::WorkError;
 use crate::tasks::run_tasks;
-use bench_core::{Actor, Bench, Change, CloseError, OpenError, PulseRecord, StageError};
+use bench_core::{
+    Actor, Bench, Change, CloseError, OpenError, PulseRecord, StageError, are_coins, misfit,
+};
 use clock_nodes::ClockRule;
 use node_env::Shape;
 use std::alloc::{AllocError, Global};
@@ -29,7 +31,7 @@ const LOADER: Actor = Actor::Loader(0);
 fn stage(bench: &mut Bench, change: Change) -> Result<(), RunRefusal>
     requires { bench.old.state.coins ≡ None }
     ensures ok { OnOk result (GoesOn bench.old (Stage (change_of change)) [] bench.new) }
-    ensures refusal { IfErr result (IsStopped bench.old.setup (length bench.old.history) (Stage (change_of change))) }
+    ensures refusal { IfErr result (IsRefusalOf bench.old.setup (length bench.old.history) (Stage (change_of change))) }
 {
     match bench.stage(LOADER, change) {
         Ok(()) => Ok(()),
@@ -54,8 +56,9 @@ fn pulse<R: Threads + Wait + Sync, G: Gate + Sync>(
     requires few { workers ≤ MOST_WORKERS }
     requires closed { bench.old.state.coins ≡ None }
     ensures ok { IfOk result (λ told. GoesOn bench.old (Pulse coins.now) (told ∷ []) bench.new) }
-    ensures refusal { IfErr result (IsStopped bench.old.setup (length bench.old.history) (Pulse coins.now)) }
+    ensures refusal { IfErr result (IsRefusalOf bench.old.setup (length bench.old.history) (Pulse coins.now)) }
     ensures open { G.always gate.now ≡ true → IfErr result (λ e. e ≢ GateShut) }
+    ensures alone { workers ≡ 1 → IfErr result (λ e. e ≢ NoThread) }
 {
     let tasks = match bench.open_pulse(alloc, coins) {
         Ok(tasks) => tasks,
@@ -79,6 +82,7 @@ fn pulse<R: Threads + Wait + Sync, G: Gate + Sync>(
 fn of_work(error: WorkError) -> RunRefusal
     ensures workers { IsOfWorkers result }
     ensures shut { result ≡ GateShut → error ≡ work.GateShut }
+    ensures thread { result ≡ NoThread → error ≡ work.NoThread }
 {
     match error {
         WorkError::NoThread => RunRefusal::NoThread,
@@ -116,8 +120,9 @@ fn apply<R: Threads + Wait + Sync, G: Gate + Sync>(
     requires closed { bench.old.state.coins ≡ None }
     ensures ok { OnOk result (IsApplied bench.old records.old.items (event_of event) bench.new records.new.items) }
     ensures few { OnOk result (length bench.new.history ≤ MOST_ENTRIES) }
-    ensures refusal { IfErr result (IsStopped bench.old.setup (length bench.old.history) (event_of event)) }
+    ensures refusal { IfErr result (IsRefusalOf bench.old.setup (length bench.old.history) (event_of event)) }
     ensures open { G.always gate.now ≡ true → IfErr result (λ e. e ≢ GateShut) }
+    ensures alone { workers ≡ 1 → IfErr result (λ e. e ≢ NoThread) }
 {
     match event {
         Event::Stage(change) => {
@@ -149,9 +154,45 @@ fn memories_of(alloc: Global, bench: &Bench, nodes: u32) -> Result<Vec<Vec<u8>>,
     Ok(memories)
 }
 
+/// Why the event would be refused as the first of a new bench: want of memory, if for nothing else.
+fn refusal_of(shape: Shape, _rule: ClockRule, event: &Event) -> RunRefusal
+    ensures refused { IsRefusalOf (setup_of shape _rule) 0 (event_of event.now) result }
+    ensures open { result ≢ GateShut }
+    ensures alone { result ≢ NoThread }
+{
+    match event {
+        Event::Stage(change) => match misfit(shape, change) {
+            Some(StageError::BadNode) => RunRefusal::BadNode,
+            Some(StageError::OtherShape) => RunRefusal::OtherShape,
+            Some(StageError::BadImage) => RunRefusal::BadImage,
+            Some(StageError::HistoryFull) => unreachable!(),
+            Some(StageError::Memory) => unreachable!(),
+            None => RunRefusal::Memory,
+        },
+        Event::Pulse(coins) => {
+            if are_coins(shape, coins) {
+                RunRefusal::Memory
+            } else {
+                RunRefusal::BadCoins
+            }
+        }
+    }
+}
+
+/// What is told where there is no memory for a new bench.
+fn first_refusal(shape: Shape, rule: ClockRule, events: &[Event]) -> RunRefusal
+    ensures fault { IsFault (setup_of shape rule) (map event_of events.now) 0 result }
+    ensures open { result ≢ GateShut }
+    ensures alone { result ≢ NoThread }
+{
+    match events.first() {
+        Some(event) => refusal_of(shape, rule, event),
+        None => RunRefusal::Memory,
+    }
+}
+
 /// The run of the events on a new bench, whose pulses are run by 1 to [`MOST_WORKERS`] workers. The fault of an
-/// event that can't be done has its place, from 0 on; want of memory before the first has place 0, and after the
-/// last their number. The run is the same for every number of workers (docs/SCENARIOS.md, "Runs").
+/// event that can't be done has its place, from 0 on; want of memory after the last has their number. The run is the same for every number of workers (docs/SCENARIOS.md, "Runs").
 pub fn run_events<R: Threads + Wait + Sync, G: Gate + Sync>(
     rt: &R,
     alloc: Global,
@@ -168,9 +209,10 @@ pub fn run_events<R: Threads + Wait + Sync, G: Gate + Sync>(
         (map (λ memory. memory.items) run.memories.items)) }
     ensures fault { IfErr result (λ f. IsFault (setup_of shape rule) (map event_of events.items) f.event f.fault) }
     ensures open { G.always gate.now ≡ true → IfErr result (λ f. f.fault ≢ GateShut) }
+    ensures alone { workers ≡ 1 → IfErr result (λ f. f.fault ≢ NoThread) }
 {
-    let fault = RunRefusal::Memory;
     let Ok(bench) = Bench::new(alloc, shape, rule) else {
+        let fault = first_refusal(shape, rule, &events);
         return Err(RunFault { event: 0, fault });
     };
     run_events_on(rt, alloc, gate, workers, bench, events)
@@ -193,6 +235,7 @@ pub fn run_events_on<R: Threads + Wait + Sync, G: Gate + Sync>(
         (map (λ memory. memory.items) run.memories.items)) }
     ensures fault { IfErr result (λ f. IsFault bench.setup (map event_of events.items) f.event f.fault) }
     ensures open { G.always gate.now ≡ true → IfErr result (λ f. f.fault ≢ GateShut) }
+    ensures alone { workers ≡ 1 → IfErr result (λ f. f.fault ≢ NoThread) }
 {
     let fault = RunRefusal::Memory;
     let nodes = bench.shape().nodes();

@@ -9,6 +9,7 @@ mod gate;
 mod refusal;
 mod shared_pulse;
 mod tasks;
+mod waiting;
 mod workers;
 
 pub use engine::{run_events, run_events_on};

@@ -1,9 +1,10 @@
 //! A pulse of a shared bench.
-ghost use Rattle.std.specs.Prelude.{◌≡◌, ◌≢◌, ◌≤◌, ◌∷◌, ◌++◌, [], true, None, Some};
+ghost use Rattle.std.specs.Prelude.{◌≡◌, ◌≢◌, ◌≤◌, ℕ, List, ◌∷◌, ◌++◌, [], true, None, Some};
 ghost use Rattle.std.specs.Prelude.{IfOk, IfErr, OnOk, OnErr};
 ghost use Rattle.bench_core.specs.State.{AreCoins};
 ghost use Rattle.bench_core.specs.Replay.{Opened, Closed};
 ghost use Rattle.bench_shared.specs.Passes.{OneMore};
+ghost use Rattle.bench_shared.specs.Told.{OpenedLast, TellsClose, TellsAgreement};
 ghost use Rattle.bench_engine.specs.declared.refusal.EngineError.TheVariants.{Work};
 ghost use Rattle.bench_engine.specs.declared.refusal.WorkError.TheVariants.{GateShut, NoThread};
 ghost use Rattle.bench_engine.specs.declared.tasks.TheConstants.{MOST_WORKERS};
@@ -21,7 +22,8 @@ use std::sync::ledger::Ledger;
 use std::thread::Threads;
 
 /// Opens a pulse, runs its tasks on 1 to [`MOST_WORKERS`](crate::MOST_WORKERS) workers, closes it and posts its row.
-/// What is refused past the opening is abandoned once all workers have ended; a refusal of that is dropped.
+/// What is refused past the opening is abandoned once all workers have ended; where that is refused, it is told as a
+/// refused close, `NotOpen`.
 pub fn pulse<B: Ledger, C: Ledger, R: Threads + Wait + Sync, G: Gate + Sync>(
     rt: &R,
     alloc: Global,
@@ -38,6 +40,8 @@ pub fn pulse<B: Ledger, C: Ledger, R: Threads + Wait + Sync, G: Gate + Sync>(
     requires paid { engine.old.owed ≡ None }
     ensures closed { IfOk result (λ told.
         Adds engine.old.receipts (Opened coins.now ∷ Closed told.row ∷ []) engine.new.receipts) }
+    ensures told { IfOk result (TellsClose shared.now.setup coins.now) }
+    ensures agrees { IfOk result (TellsAgreement shared.now.setup) }
     ensures posted { IfOk result (λ told. engine.new.posted ≡ engine.old.posted ++ told.row ∷ []) }
     ensures stopped { IfErr result (λ e. Stopped e engine.old.receipts coins.now engine.new.receipts) }
     ensures silent { OnErr result (engine.new.posted ≡ engine.old.posted) }
@@ -57,10 +61,10 @@ pub fn pulse<B: Ledger, C: Ledger, R: Threads + Wait + Sync, G: Gate + Sync>(
             board.post(engine, told.row);
             Ok(told)
         }
-        Err(error) => {
-            let _ = shared.abandon(rt, engine);
-            Err(error)
-        }
+        Err(error) => match shared.abandon(rt, engine) {
+            Ok(()) => Err(error),
+            Err(refusal) => Err(EngineError::Close(refusal)),
+        },
     }
 }
 
@@ -79,6 +83,9 @@ fn run_and_close<B: Ledger, C: Ledger, R: Threads + Wait + Sync, G: Gate + Sync>
     requires paid { engine.old.owed ≡ None }
     ensures closed { IfOk result (λ told. OneMore engine.old.receipts (Closed told.row) engine.new.receipts) }
     ensures owed { IfOk result (λ told. engine.new.owed ≡ Some told.row) }
+    ensures told { IfOk result (λ told. (coins : List ℕ)
+        × OpenedLast engine.old.receipts coins × TellsClose shared.now.setup coins told) }
+    ensures agrees { IfOk result (TellsAgreement shared.now.setup) }
     ensures board { engine.new.board ≡ engine.old.board }
     ensures posted { engine.new.posted ≡ engine.old.posted }
     ensures unchanged { OnErr result (engine.new ≡ engine.old) }

@@ -8,6 +8,7 @@ use crate::batch::run_batch;
 use crate::deal::deal;
 use crate::gate::Gate;
 use crate::refusal::WorkError;
+use crate::waiting::Waiting;
 use crate::workers::{join_all, start_all};
 use bench_core::{NodeDone, NodeTask};
 use std::alloc::Global;
@@ -61,7 +62,7 @@ fn run_alone<G: Gate>(
     let Ok(room) = Vec::with_capacity(alloc, tasks.len()) else {
         return Err(WorkError::Memory);
     };
-    match run_batch(gate, 0, tasks, room) {
+    match run_batch(gate, 0, Waiting::of(tasks), room) {
         Some(dones) => Ok(dones),
         None => Err(WorkError::GateShut),
     }

@@ -1,14 +1,15 @@
 //! The workers of a pulse, on threads of a scope.
-ghost use Rattle.std.specs.Prelude.{◌≡◌, ◌≢◌, ◌≤◌, ◌++◌, [], true, All, vec_len, vec_capacity};
+ghost use Rattle.std.specs.Prelude.{◌≡◌, ◌≢◌, ◌≤◌, ◌++◌, [], true, All, length, map, vec_len, vec_capacity};
 ghost use Rattle.std.specs.Prelude.{IfOk, IfErr, IfSome, IfNone, IsSome, IsOk, OnOk};
 ghost use Rattle.std.specs.List.{flat_map};
-ghost use Rattle.bench_engine.specs.inner.Batches.{RanInOrder};
+ghost use Rattle.bench_engine.specs.inner.Batches.{AreNumbered, RanInOrder};
 ghost use Rattle.bench_engine.specs.declared.refusal.WorkError.TheVariants.{GateShut, NoThread};
 ghost use Rattle.bench_engine.specs.declared.tasks.TheConstants.{MOST_WORKERS};
 
 use crate::batch::{Batch, run_batch};
 use crate::gate::Gate;
 use crate::refusal::WorkError;
+use crate::waiting::Waiting;
 use bench_core::{NodeDone, NodeTask};
 use std::alloc::Global;
 use std::snapshot::Snapshot;
@@ -25,24 +26,28 @@ fn start<'s, E, G: Gate + Sync>(
     worker: u32,
     tasks: Vec<NodeTask>,
 ) -> Result<Worker<G>, WorkError>
-    ensures tasks { IfOk result (λ h. h.promise.tasks.value ≡ tasks) }
+    ensures tasks { IfOk result (λ h. h.promise.tasks.value ≡ tasks.items) }
+    ensures worker { IfOk result (λ h. h.promise.worker ≡ worker) }
     ensures gate { IfOk result (λ h. h.promise.gate.value ≡ gate.now) }
     ensures open { IfErr result (λ e. e ≢ GateShut) }
 {
     let Ok(room) = Vec::with_capacity(alloc, tasks.len()) else {
         return Err(WorkError::Memory);
     };
+    let waiting = Waiting::of(tasks);
     let promise = Batch {
         gate: Snapshot::of(gate),
-        tasks: Snapshot::of(&tasks),
+        worker,
+        tasks: Snapshot::of(&waiting),
     };
     let job = move || -> Option<Vec<NodeDone>>
         requires empty { room.items ≡ [] }
-        requires enough { vec_len tasks ≤ vec_capacity room }
+        requires enough { length waiting ≤ vec_capacity room }
         requires len { vec_len room ≡ 0 }
         ensures open { G.always gate.entry.now ≡ true → IsSome result }
-        ensures ran { IfSome result (λ dones. RanInOrder tasks.items dones.items) }
-    { run_batch(gate, worker, tasks, room) };
+        ensures ran { IfSome result (λ dones. RanInOrder waiting dones.items) }
+        ensures let_in { IsSome result → G.lets_in gate.entry.now worker ≡ true }
+    { run_batch(gate, worker, waiting, room) };
     match scope.spawn_with(promise, job) {
         Ok(handle) => Ok(handle),
         Err(_refused) => Err(WorkError::NoThread),
@@ -58,8 +63,9 @@ pub(crate) fn start_all<'s, E, G: Gate + Sync>(
 ) -> (Vec<Worker<G>>, Option<WorkError>)
     requires { vec_len batches ≤ MOST_WORKERS }
     ensures gate { All (λ h. h.promise.gate.value ≡ gate.now) result.0.items }
-    ensures tasks { IfNone result.1 (flat_map (λ h. h.promise.tasks.value.items) result.0.items
-        ≡ flat_map (λ b. b.items) batches.items) }
+    ensures tasks { IfNone result.1 (map (λ h. h.promise.tasks.value) result.0.items
+        ≡ map (λ b. b.items) batches.items) }
+    ensures workers { AreNumbered (map (λ h. h.promise.worker) result.0.items) }
     ensures open { IfSome result.1 (λ e. e ≢ GateShut) }
 {
     let Ok(mut started) = Vec::with_capacity(alloc, batches.len()) else {
@@ -104,7 +110,8 @@ pub(crate) fn join_all<R: Threads, G: Gate>(
     started: Vec<Worker<G>>,
 ) -> Result<Vec<NodeDone>, WorkError>
     ensures ran { IfOk result (λ dones.
-        RanInOrder (flat_map (λ h. h.promise.tasks.value.items) started.items) dones.items) }
+        RanInOrder (flat_map (λ h. h.promise.tasks.value) started.items) dones.items) }
+    ensures let_in { OnOk result (All (λ h. G.lets_in h.promise.gate.value h.promise.worker ≡ true) started.items) }
     ensures open { All (λ h. G.always h.promise.gate.value ≡ true) started.items
         → IfErr result (λ e. e ≢ GateShut) }
     ensures started { IfErr result (λ e. e ≢ NoThread) }

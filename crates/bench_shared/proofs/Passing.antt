@@ -1,11 +1,14 @@
 -- One receipt more.
 use Rattle.std.proofs.Common.{◌≡◌, ◌+◌, ℕ, List, [], ◌∷◌, ◌++◌, length, map, true, false, true≢false, refl, sym, ap, ◌∙◌, arith, length-append, append-nil}
-use Rattle.std.proofs.lemmas.List.{map-append}
+use Rattle.std.specs.Prelude.{◌-◌, ◌<◌, Some, option_map, get_or, slice_get}
+use Rattle.std.proofs.lemmas.List.{map-append, length-map}
+use Rattle.std.proofs.lemmas.Option.{slice_get-map, slice_get-get_or}
 use Rattle.bench_core.specs.Settled.{Row}
-use Rattle.bench_core.specs.Replay.{Entry, rows_of}
+use Rattle.bench_core.specs.Replay.{Entry, Opened, rows_of}
 use Rattle.bench_core.specs.Views.{entry_of}
 use Rattle.bench_shared.specs.Passes.{Placed, OneMore, entry_in, rows_in}
 use Rattle.bench_shared.specs.Receipts.{placed_of, all_placed}
+use Rattle.bench_shared.specs.Told.{OpenedLast}
 use Rattle.bench_shared.specs.declared.passes.Receipt.{Receipt}
 use Rattle.bench_shared.proofs.Counting.{rows_of-push}
 
@@ -48,3 +51,13 @@ not_open e = absurd (true≢false (sym e))
 -- a list that was given room, and then a receipt
 pub grown : (rs mid now : List Receipt) (r : Receipt) → now ≡ mid ++ r ∷ [] → mid ≡ rs → now ≡ rs ++ r ∷ []
 grown rs mid now r is room = is ∙ ap (λ l. l ++ r ∷ []) room
+
+-- the last receipt, as plain data
+pub opened_last : (rs : List Receipt) (r : Receipt) (coins : List ℕ) → 0 < length rs
+    → r ≡ get_or rs (length rs - 1) r → entry_of r.entry ≡ Opened coins → OpenedLast (all_placed rs) coins
+opened_last rs r coins several at is = (
+  r.place,
+  ap (λ n. slice_get (all_placed rs) (n - 1)) (length-map rs placed_of) ∙ slice_get-map placed_of rs (length rs - 1)
+      ∙ ap (option_map placed_of) (slice_get-get_or rs (length rs - 1) r (omega (arith, several)) ∙ ap Some (sym at))
+      ∙ ap (λ (e : Entry). Some (r.place, e)) is,
+)

@@ -1,13 +1,16 @@
 //! What lies under the lock.
-ghost use Rattle.std.specs.Prelude.{◌≡◌, ◌+◌, ◌<◌, [], length, map, IfOk, IfErr, IsTrue, OnOk, OnErr, Some};
-ghost use Rattle.bench_core.specs.Settled.{IsRow};
+ghost use Rattle.std.specs.Prelude.{◌≡◌, ◌+◌, ◌<◌, ℕ, List, [], length, map, IfOk, IfErr, IsTrue, OnOk, OnErr, Some};
+ghost use Rattle.bench_core.specs.Settled.{IsRow, IsRecord};
 ghost use Rattle.bench_core.specs.Replay.{Advances, Staged, Opened, Closed, Abandoned, Replays, rows_of};
 ghost use Rattle.bench_core.specs.Refusals.{IsStageRefusal, IsOpenRefusal};
 ghost use Rattle.bench_core.specs.Setup.{IsSetup};
 ghost use Rattle.bench_core.specs.Tasks.{tasks_of};
 ghost use Rattle.bench_core.specs.Views.{change_of, entry_of, setup_with};
 ghost use Rattle.bench_shared.specs.Plans.{HandsOut};
+ghost use Rattle.bench_shared.specs.Receipts.{all_placed};
+ghost use Rattle.bench_shared.specs.Told.{OpenedLast, TellsAgreement};
 
+use crate::passes::Receipt;
 use bench_core::{
     Actor, Bench, Change, ClockProgram, CloseError, Entry, NodeDone, NodeTask, OpenError,
     PulseRecord, StageError,
@@ -60,6 +63,20 @@ impl<B: Ledger, C: Ledger> Round<B, C> {
     /// Whether a pulse is open.
     pub(crate) fn is_open(&self) -> bool {
         self.bench.is_open()
+    }
+
+    /// Whether the open pulse has the coins of the opening that the last of these receipts is for.
+    pub(crate) fn has_coins_of(&self, receipts: &[Receipt]) -> bool
+        ensures { IsTrue result → (coins : List ℕ) × OpenedLast (all_placed receipts.now) coins
+            × (self.now.bench.state.coins ≡ Some coins) }
+    {
+        let Some(receipt) = receipts.last() else {
+            return false;
+        };
+        match &receipt.entry {
+            Entry::Opened { coins } => self.bench.has_coins(coins),
+            Entry::Staged { .. } | Entry::Closed { .. } | Entry::Abandoned => false,
+        }
     }
 
     /// Whether the history has the two places of a pulse.
@@ -145,6 +162,9 @@ impl<B: Ledger, C: Ledger> Round<B, C> {
         requires whole { closes.old.parts ≡ C.parts }
         ensures ok { IfOk result (λ r. Advances self.old.bench (Closed r.1.row) self.new.bench) }
         ensures place { IfOk result (λ r. r.0 ≡ length self.old.bench.history) }
+        ensures told { IfOk result (λ r. IsRecord self.old.bench.setup self.old.bench.state self.new.bench.state r.1) }
+        ensures agrees { IfOk result (λ r. TellsAgreement self.old.bench.setup r.1) }
+        ensures replays { Replays self.old.bench.setup self.old.bench.history self.old.bench.state }
         ensures pulse { IfOk result (λ r. r.1.row.pulse ≡ closes.old.amount + 1) }
         ensures ranges { IfOk result (λ r. IsRow r.1.row) }
         ensures counted { OnOk result (share.new.amount ≡ share.old.amount + 1) }

@@ -1,5 +1,5 @@
 //! The bench that loaders and the engine share.
-ghost use Rattle.std.specs.Prelude.{◌≡◌, ◌+◌, ◌<◌, ◌≤◌, [], length, vec_len, All, None, Some, IfOk, IfErr, OnOk, OnErr};
+ghost use Rattle.std.specs.Prelude.{◌≡◌, ◌+◌, ◌<◌, ◌≤◌, ℕ, List, [], length, vec_len, All, None, Some, IfOk, IfErr, OnOk, OnErr};
 ghost use Rattle.std.specs.List.{sum_by};
 ghost use Rattle.bench_core.specs.declared.actor.Actor.TheVariants.{Loader, Engine};
 ghost use Rattle.bench_core.specs.State.{Load, Unload, Corrupt, IsChange, AreCoins};
@@ -8,6 +8,7 @@ ghost use Rattle.bench_core.specs.Views.{change_of, setup_of, setup_with};
 ghost use Rattle.bench_shared.specs.Passes.{AreNew, OneMore};
 ghost use Rattle.bench_shared.specs.Ends.{placed_by, EachOnce, HasReplay};
 ghost use Rattle.bench_shared.specs.Plans.{HandsOut, IsPlanRefusal, IsPlanOpenRefusal};
+ghost use Rattle.bench_shared.specs.Told.{OpenedLast, TellsClose, TellsAgreement};
 
 use crate::board::{Board, EngineSeat, WatchPass};
 use crate::finish::{Finished, are_all};
@@ -346,6 +347,9 @@ impl<B: Ledger, C: Ledger> SharedBench<B, C> {
         requires { pass.old.owed ≡ None }
         ensures receipt { IfOk result (λ r. OneMore pass.old.receipts (Closed r.row) pass.new.receipts) }
         ensures owed { IfOk result (λ r. pass.new.owed ≡ Some r.row) }
+        ensures told { IfOk result (λ r. (coins : List ℕ)
+            × OpenedLast pass.old.receipts coins × TellsClose self.now.setup coins r) }
+        ensures agrees { IfOk result (λ r. TellsAgreement self.now.setup r) }
         ensures board { pass.new.board ≡ pass.old.board }
         ensures posted { pass.new.posted ≡ pass.old.posted }
         ensures unchanged { OnErr result (pass.new ≡ pass.old) }
@@ -354,10 +358,12 @@ impl<B: Ledger, C: Ledger> SharedBench<B, C> {
         if !pass.is_open {
             return Err((dones, CloseError::NotOpen));
         }
-        let (place, told) = self
-            .round
-            .lock(rt)
-            .close(alloc, dones, &mut pass.share, &mut pass.closes)?;
+        let mut locked = self.round.lock(rt);
+        let round = &mut *locked;
+        if !round.is_of(self.shape, self.rule, &self.clock) || !round.has_coins_of(&pass.receipts) {
+            return Err((dones, CloseError::NotOpen));
+        }
+        let (place, told) = round.close(alloc, dones, &mut pass.share, &mut pass.closes)?;
         let row = told.row;
         let entry = Entry::Closed { row };
         pass.receipts.push_reserved(Receipt { place, entry });

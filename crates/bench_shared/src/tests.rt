@@ -2,4 +2,5 @@ mod benches;
 mod boards;
 mod ends;
 mod refusals;
+mod results;
 mod threads;

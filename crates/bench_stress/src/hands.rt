@@ -1,10 +1,10 @@
 //! The engine beside the loaders, on one bench.
 
-ghost use Rattle.std.specs.Prelude.{◌≡◌, ◌+◌, ◌≤◌, None, IfOk, vec_len, Contains};
+ghost use Rattle.std.specs.Prelude.{◌≡◌, ◌+◌, ◌≤◌, None, IfOk, IsTrue, vec_len, Contains};
 ghost use Rattle.bench_shared.specs.Ends.{HasReplay};
 ghost use Rattle.bench_shared.specs.declared.shared.TheConstants.{MOST_LOADERS};
 ghost use Rattle.bench_engine.specs.declared.tasks.TheConstants.{MOST_WORKERS};
-ghost use Rattle.bench_stress.specs.Stressed.{stressed_setup};
+ghost use Rattle.bench_stress.specs.Stressed.{HasEntries, nearest, stressed_setup};
 
 use crate::loaders::{Programs, accept_both, begin, join_all};
 use crate::setup::setup;
@@ -173,6 +173,17 @@ fn only(watchers: Vec<WatchPass>) -> WatchPass
     }
 }
 
+/// Whether the history has the entries that the options ask for, and no other.
+fn has_entries(finished: &Finished, options: StressOptions) -> bool
+    ensures { IsTrue result → HasEntries options.loaders options.loads options.pulses finished.now }
+{
+    let loads = u64::from(options.loaders) * u64::from(options.loads);
+    let pulses = u64::from(options.pulses);
+    finished.loads() as u64 == loads
+        && finished.closes() as u64 == pulses
+        && finished.history().len() as u64 == loads + 2 * pulses
+}
+
 /// The history of the bench after all that its hands did.
 fn hands<B: Ledger + Send + Sync, C: Ledger + Send + Sync, R: Threads + Wait + Sync>(
     rt: &R,
@@ -185,7 +196,8 @@ fn hands<B: Ledger + Send + Sync, C: Ledger + Send + Sync, R: Threads + Wait + S
     requires closes { (closes.name ≡ C.name) × (closes.parts ≡ C.parts) × (closes.parts ≡ 1) }
     requires loaders { (1 ≤ options.loaders) × (options.loaders ≤ MOST_LOADERS) }
     requires workers { (1 ≤ options.workers) × (options.workers ≤ MOST_WORKERS) }
-    ensures { IfOk result (HasReplay stressed_setup) }
+    ensures replays { IfOk result (HasReplay stressed_setup) }
+    ensures entries { IfOk result (HasEntries options.loaders options.loads options.pulses) }
 {
     let (shape, rule) = setup();
     let programs = accept_both(alloc, shape, rule)?;
@@ -200,20 +212,25 @@ fn hands<B: Ledger + Send + Sync, C: Ledger + Send + Sync, R: Threads + Wait + S
     if let Some(stop) = stop {
         return Err(stop);
     }
-    match shared.finish(engine, passes) {
-        Ok(finished) => Ok(finished),
-        Err(_) => Err(Stop::Mismatch),
+    let Ok(finished) = shared.finish(engine, passes) else {
+        return Err(Stop::Mismatch);
+    };
+    if has_entries(&finished, options) {
+        Ok(finished)
+    } else {
+        Err(Stop::Mismatch)
     }
 }
 
 /// Lets loaders and an engine work on one bench at once, in threads of their own, and gives the bench's history
-/// where it is what their receipts say. A number of loaders or workers that is none is the nearest that is one.
+/// where it is what their receipts say, and has the entries that the options ask for. A number of loaders or workers that is none is the nearest that is one.
 pub fn stress_bench<R: Threads + Wait + Sync>(
     rt: &R,
     alloc: Global,
     options: StressOptions,
 ) -> Result<Finished, Stop>
-    ensures { IfOk result (HasReplay stressed_setup) }
+    ensures replays { IfOk result (HasReplay stressed_setup) }
+    ensures entries { IfOk result (HasEntries (nearest options.loaders) options.loads options.pulses) }
 {
     let loaders = options.loaders.clamp(1, MOST_LOADERS);
     let workers = options.workers.clamp(1, MOST_WORKERS);

@@ -1,10 +1,9 @@
 -- One event of a run, as the engine's parts tell it.
-use Rattle.std.specs.Prelude.{◌≡◌, ℕ, ◌+◌, List, [], ◌∷◌, ◌++◌, length, None, ◌⊎◌}
-use Rattle.bench_core.specs.Setup.{Setup}
+use Rattle.std.specs.Prelude.{◌≡◌, ◌+◌, List, [], ◌∷◌, ◌++◌, length, None}
 use Rattle.bench_core.specs.Settled.{PulseTold}
 use Rattle.bench_core.specs.Replay.{BenchValue}
 use Rattle.bench_engine.specs.Events.{Event}
-use Rattle.bench_engine.specs.Runs.{Goes, IsRefusalOf, entries_after}
+use Rattle.bench_engine.specs.Runs.{Goes, entries_after}
 use Rattle.bench_engine.specs.declared.event.RunRefusal.{RunRefusal}
 use Rattle.bench_engine.specs.declared.event.RunRefusal.TheVariants as refusals
 
@@ -14,10 +13,6 @@ pub record GoesOn (old : BenchValue) (event : Event) (records : List PulseTold) 
   pub count : length new.history ≡ length old.history + entries_after (event ∷ [])
   pub closed : new.state.coins ≡ None
   pub goes : Goes old.setup old.state (length old.history) (event ∷ []) records new.state
-
--- the event is refused, or memory is short
-abbrev pub IsStopped : Setup → ℕ → Event → RunRefusal → Type 0
-IsStopped s n event refusal = (refusal ≡ refusals.Memory) ⊎ IsRefusalOf s n event refusal
 
 -- a refusal of those who run the tasks
 abbrev pub IsOfWorkers : RunRefusal → Type 0

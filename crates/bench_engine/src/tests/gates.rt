@@ -51,9 +51,11 @@ impl Counting {
 }
 
 impl Gate for Counting {
-    ghost use Rattle.std.specs.Prelude.{false};
+    ghost use Rattle.std.specs.Prelude.{true, false};
 
     ghost always = { λ _. false };
+
+    ghost lets_in = { λ _ _. true };
 
     fn enter(&self, worker: u32) -> bool {
         if let Some(count) = self.each.get(worker as usize) {
@@ -70,9 +72,11 @@ pub struct Shut {
 }
 
 impl Gate for Shut {
-    ghost use Rattle.std.specs.Prelude.{false};
+    ghost use Rattle.std.specs.Prelude.{true, false};
 
     ghost always = { λ _. false };
+
+    ghost lets_in = { λ _ _. true };
 
     fn enter(&self, worker: u32) -> bool {
         worker != self.worker
@@ -105,9 +109,11 @@ fn comes(other: &AtomicU32) -> bool {
 }
 
 impl Gate for Meeting {
-    ghost use Rattle.std.specs.Prelude.{false};
+    ghost use Rattle.std.specs.Prelude.{true, false};
 
     ghost always = { λ _. false };
+
+    ghost lets_in = { λ _ _. true };
 
     fn enter(&self, worker: u32) -> bool {
         let first: &AtomicU32 = &self.first;

@@ -1,4 +1,5 @@
-use Rattle.std.proofs.Common.{◌≡◌, ◌<◌, vec_len}
+use Rattle.std.proofs.Common.{◌≡◌, ℕ, ◌+◌, ◌*◌, ◌<◌, length, map, vec_len}
+use Rattle.bench_engine.specs.inner.Batches.{AreDealt}
 use Rattle.std.specs.List.{flat_map}
 use Rattle.std.specs.List.Sorted.{IsPermutation}
 use Rattle.bench_engine.proofs.deal.deal.Given as goal
@@ -7,5 +8,7 @@ abbrev pub invariant-loop-task : goal.invariant-loop-task
 invariant-loop-task l = record {
   count : vec_len l.batches ≡ l.workers;
   next : l.worker < l.workers;
+  turns : (q : ℕ) × (length l.yielded ≡ l.worker + q * l.workers);
+  each : AreDealt l.workers l.yielded (map (λ b. b.items) l.batches.items);
   dealt : IsPermutation l.yielded (flat_map (λ b. b.items) l.batches.items);
 }

@@ -1,6 +1,7 @@
-use Rattle.std.proofs.Common.{arith, ◌++◌, [], ◌∷◌, ◌∙◌, sym, ap, append_assoc, length-append}
+use Rattle.std.proofs.Common.{arith, ◌++◌, [], ◌∷◌, ◌∙◌, sym, ap, append_assoc, append-nil, length-append, ◌≡◌}
+use Rattle.std.proofs.lemmas.List.{nil_from_length}
 use Rattle.std.specs.Vec.Iter.{into_iter_items}
-use Rattle.bench_engine.proofs.Going.{kept_on, place_fits, fault_here}
+use Rattle.bench_engine.proofs.Going.{kept_on, place_fits, fault_here, short_after}
 use Rattle.bench_engine.proofs.engine.run_events_on.Goals as goal
 
 pub overflow_add-place : goal.overflow_add-place
@@ -36,3 +37,13 @@ returns-in-Err-clause-fault g c =
     (into_iter_items c.next.new.self) c.in-Some.event c.loop-event.place c.in-Err.fault
     c.loop-event.records.items (i.rest ∙ ap (λ later. c.loop-event.yielded ++ later) c.in-Some.ensures.steps.0) i.place
     i.setup i.count i.goes c.in-Err.ensures.refusal
+
+pub returns-clause-fault : goal.returns-clause-fault
+returns-clause-fault g c =
+    let i = c.loop-event.invariant in
+    let rest = c.loop-event.event-iterator.rest in
+    let none : rest.items ≡ [] = nil_from_length rest.items (omega (arith, c.in-None.ensures.steps.0, rest.ok.0)) in
+    let done = c.loop-event.yielded in
+    let whole = i.rest ∙ ap (λ later. done ++ later) none ∙ append-nil done in
+    short_after c.args.bench.setup c.loop-event.bench c.args.events.items done c.loop-event.place
+    c.loop-event.records.items whole i.place i.goes

@@ -1,9 +1,14 @@
-use Rattle.std.proofs.Common.{◌++◌, ◌∷◌, [], length, sym, ap, ◌∙◌, subst, arith, length-append, append-nil}
+use Rattle.std.proofs.Common.{List, ◌++◌, ◌∷◌, [], length, sym, ap, ◌∙◌, subst, arith, length-append, append-nil}
 use Rattle.bench_shared.specs.Rows.{InOrder}
 use Rattle.std.specs.Prelude.{option_to_list}
 use Rattle.bench_core.specs.Replay.{Closed}
 use Rattle.bench_core.specs.Settled.{Row, PulseTold}
-use Rattle.bench_shared.specs.Passes.{EngineView}
+use Rattle.bench_core.specs.Setup.{Setup}
+use Rattle.bench_shared.specs.Passes.{EngineView, Placed}
+use Rattle.bench_shared.specs.Receipts.{all_placed}
+use Rattle.bench_shared.specs.Plans.{Plan}
+use Rattle.bench_shared.specs.Told.{OpenedLast, TellsAgreement}
+use Rattle.bench_shared.proofs.Closing.{tells_close}
 use Rattle.bench_shared.proofs.Passing.{rows_after, rows_among, count_after, placed_after, not_open}
 use Rattle.bench_shared.proofs.Rowing.{in_order-push}
 use Rattle.bench_shared.proofs.shared.SharedBench.close_pulse.Goals as goal
@@ -42,3 +47,20 @@ returns-clause-receipt g c =
     placed_after c.pass.inside.receipts.items _ _ _ _ c.push_reserved.ensures.items
     (ap (λ (v : EngineView). v.receipts) c.pass.view_is)
     (ap (λ (told : PulseTold). Closed told.row) c.told.view_is)
+
+pub returns-clause-told : goal.returns-clause-told
+returns-clause-told g c =
+    let e = c.in_ok-place.ensures in
+    let held = c.has_coins_of.ensures c.if-not-has_coins_of.false in
+    let setup = c.is_of.ensures c.if-not-is_of.false ∙ ap (λ (p : Plan). p.setup) c.self.view_is in (
+      held.0,
+      subst (λ (l : List Placed). OpenedLast l held.0)
+          (ap all_placed c.deref.ensures.value ∙ ap (λ (v : EngineView). v.receipts) c.pass.view_is) held.1,
+      tells_close c.args.self.now.setup c.deref_mut-round.result.now.bench c.close.new.self.bench held.0 c.in_ok-place.told
+          setup e.replays held.2 e.ok e.told,
+    )
+
+pub returns-clause-agrees : goal.returns-clause-agrees
+returns-clause-agrees g c =
+    let setup = c.is_of.ensures c.if-not-is_of.false ∙ ap (λ (p : Plan). p.setup) c.self.view_is in
+    subst (λ (s : Setup). TellsAgreement s c.in_ok-place.told) setup c.in_ok-place.ensures.agrees
