@@ -11,3 +11,6 @@ pub mod Adding
 pub mod Made
 pub mod HostileRuns
 pub mod Pairs
+pub mod Lengths
+pub mod Taken
+pub mod TakenClock

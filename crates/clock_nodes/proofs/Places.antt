@@ -49,7 +49,7 @@ pub ones_append : (xs ys : List Insn) → Ones xs → Ones ys → Ones (xs ++ ys
 ones_append [] ys h g = g
 ones_append (x ∷ xs) ys h g = (h.0, ones_append xs ys h.1 g)
 
-found : (p : List Insn) (k : ℕ) → Ones p → insn_at p k ≡ slice_get p k
+pub found : (p : List Insn) (k : ℕ) → Ones p → insn_at p k ≡ slice_get p k
 found [] k h = refl
 found (i ∷ p) zero h = refl
 found (i ∷ p) (suc k) h =

@@ -55,11 +55,11 @@ count_of : (p : List Insn) → Ones p → slots_of p ≡ length p
 count_of [] h = refl
 count_of (i ∷ p) h = omega (arith, slots_of-cons i p, h.0, count_of p h.1)
 
-length_counts : (n j : ℕ) → length (count_blocks n j) ≡ 4 * n
+pub length_counts : (n j : ℕ) → length (count_blocks n j) ≡ 4 * n
 length_counts zero j = refl
 length_counts (suc n) j = omega (arith, length_counts n (suc j))
 
-length_sends : (n j : ℕ) → length (send_blocks n j) ≡ 3 * n
+pub length_sends : (n j : ℕ) → length (send_blocks n j) ≡ 3 * n
 length_sends zero j = refl
 length_sends (suc n) j = omega (arith, length_sends n (suc j))
 

@@ -1,9 +1,11 @@
 //! Laws of the programs, for those who hold only their instructions, and of the pair.
 ghost use Rattle.std.specs.Prelude.{◌≡◌, ◌≤◌, ◌<◌, ◌+◌, ◌*◌, ◌^◌, ℕ, List, Option, All, length};
 ghost use Rattle.node_env.specs.declared.shape.TheConstants.{MAX_NODES};
-ghost use Rattle.node_env.specs.Env.{Extent, IsSetting, Setting};
+ghost use Rattle.node_env.specs.Env.{Extent, IsExtent, IsSetting, Setting};
 ghost use Rattle.node_env.specs.Slots.{IsSlot};
 ghost use Rattle.bpf_insn.specs.Programs.{IsProgram, slots_of};
+ghost use Rattle.bpf_verify.specs.Typable.{Typable};
+ghost use Rattle.bpf_verify.specs.Paths.{IsLongestPath};
 ghost use Rattle.clock_nodes.specs.Rule.{Rule, IsRule, clock_of, mark_of, pair_after, with_pair};
 ghost use Rattle.clock_nodes.specs.Listings.{listing, clock_listing, say_listing, echo_listing};
 ghost use Rattle.clock_nodes.specs.Ends.{HasRuns, EndsBy, IsClockEnd, IsSayEnd, IsEchoEnd};
@@ -19,7 +21,15 @@ pub fn clock_ends()
         rule.nodes ≡ shape.nodes → EndsBy (clock_listing rule) shape (IsClockEnd rule.faults rule.modulus) }
 {}
 
-/// The same of `say`, for a value or none for each node.
+/// Every clock is taken: its listing is typable for every shape of its nodes, so `verify` of `bpf_verify` refuses no
+/// clock, and what it announces is the length that stands here.
+pub fn clock_is_taken()
+    ensures typable { (rule : Rule) (shape : Extent) → IsRule rule.nodes rule.faults rule.modulus →
+        IsExtent shape.nodes shape.memory → rule.nodes ≡ shape.nodes → Typable (clock_listing rule) shape }
+    ensures longest { (rule : Rule) → IsLongestPath (clock_listing rule) (17 + 7 * rule.nodes) }
+{}
+
+/// What `clock_ends` says of the clock, of `say`, for a value or none for each node.
 pub fn say_ends()
     ensures slots { (values : List (Option ℕ)) → slots_of (say_listing values) ≤ 2 + 3 * length values }
     ensures program { (values : List (Option ℕ)) → length values ≤ MAX_NODES →

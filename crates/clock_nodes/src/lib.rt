@@ -9,7 +9,7 @@ mod rule;
 
 pub use clock::dolev_welch;
 pub use hostile::{echo, say};
-pub use laws::{clock_ends, echo_ends, pair_is_read_back, say_ends};
+pub use laws::{clock_ends, clock_is_taken, echo_ends, pair_is_read_back, say_ends};
 pub use rule::{ClockRule, LEAST_MODULUS, MOST_MODULUS};
 
 #[cfg(test)]

@@ -1,5 +1,5 @@
 //! The program over any streams.
-ghost use Rattle.std.specs.Prelude.{◌≤◌};
+ghost use Rattle.clockbed.specs.Command.{Commands};
 
 use crate::request::request_of;
 use commands::perform::perform;
@@ -19,7 +19,8 @@ pub fn command<T: Threads + Wait + Sync, S: AsStr, R: Read, W: Write, E: Write>(
     out: &mut W,
     err: &mut E,
 ) -> u8
-    ensures { result ≤ 2 }
+    ensures { Commands (R.remaining reader.old) (R.remaining reader.new) (W.contents out.old) (W.contents out.new)
+        (E.contents err.old) (E.contents err.new) result }
 {
     match request_of(alloc, words) {
         Ok(request) => perform(rt, alloc, &request, reader, out, err),

@@ -74,6 +74,7 @@ struct Helps {
     nodes: InlineText<HELP_BYTES>,
     memory: InlineText<HELP_BYTES>,
     fuel: InlineText<HELP_BYTES>,
+    most_workers: InlineText<HELP_BYTES>,
     workers: InlineText<HELP_BYTES>,
     loaders: InlineText<HELP_BYTES>,
     loads: InlineText<HELP_BYTES>,
@@ -90,8 +91,11 @@ impl Helps {
             fuel: InlineText::of(format_args!(
                 "The most steps of the run [default: {DEFAULT_FUEL}]"
             )),
+            most_workers: InlineText::of(format_args!(
+                "The most workers of a long pulse [default: {DEFAULT_WORKERS}]"
+            )),
             workers: InlineText::of(format_args!(
-                "The workers of a pulse; long programs gain [default: {DEFAULT_WORKERS}]"
+                "The workers of a pulse [default: {DEFAULT_WORKERS}]"
             )),
             loaders: InlineText::of(format_args!(
                 "The loaders, each in a thread [default: {DEFAULT_LOADERS}]"
@@ -118,7 +122,7 @@ fn command_line<'a>(alloc: Global, helps: &'a Helps) -> Result<Command<'a>, Allo
     let verify = Command::new(alloc, "verify").about(
         "Accepts or refuses the image on standard input",
     );
-    let workers = count_option(alloc, "workers", helps.workers.as_str(), MOST_WORKERS);
+    let workers = count_option(alloc, "workers", helps.most_workers.as_str(), MOST_WORKERS);
     let run = Command::new(alloc, "run").about(
         "Prints the report of the scenario on standard input",
     );

@@ -2,3 +2,4 @@ mod AnswerLemmas
 mod VerdictLemmas
 mod RunLemmas
 mod StressLemmas
+mod FaultLemmas

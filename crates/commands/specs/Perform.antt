@@ -1,4 +1,4 @@
--- What the program does for a request: what it takes, what it leaves, and its exit status (docs/COMMANDS.md).
+-- What the program does for a request: what it takes, what it leaves and says, and its exit status (docs/COMMANDS.md).
 use Rattle.std.specs.Prelude.{◌≡◌, ℕ, ◌+◌, List, Option, Result, Ok, Err, IfSome, string_bytes, take}
 use Rattle.stream_io.specs.Streams.{TakesAtMost}
 use Rattle.commands.specs.declared.asm.TheConstants.{TEXT_BYTES}
@@ -6,15 +6,17 @@ use Rattle.commands.specs.declared.ending.Ending.{Ending}
 use Rattle.commands.specs.declared.ending.Ending.TheVariants.{Done}
 use Rattle.commands.specs.declared.fault.Fault.{Fault}
 use Rattle.commands.specs.declared.image.TheConstants.{IMAGE_BYTES}
+use Rattle.commands.specs.declared.request.ShapeOptions.{ShapeOptions}
 use Rattle.commands.specs.declared.request.Request.{Request}
 use Rattle.commands.specs.declared.request.Request.TheVariants.{Exec, Asm, Dis, Verify, Run, Stress, Help}
 use Rattle.commands.specs.Asm.{LeavesImage}
 use Rattle.commands.specs.Dis.{LeavesListing}
 use Rattle.commands.specs.Ending.{status_of}
 use Rattle.commands.specs.Exec.{LeavesAnswer}
-use Rattle.commands.specs.Faults.{fault_status}
+use Rattle.commands.specs.Faults.{Says, fault_status, fault_text}
+use Rattle.commands.specs.Image.{HasShape}
 use Rattle.commands.specs.Output.{Leaves}
-use Rattle.commands.specs.Run.{LeavesTold}
+use Rattle.commands.specs.Run.{LeavesTold, WantsThread}
 use Rattle.bench_scenario.specs.declared.run.TheConstants.{MOST_BYTES}
 use Rattle.commands.specs.Stress.{LeavesStressed}
 use Rattle.commands.specs.Verdict.{LeavesVerdict}
@@ -27,7 +29,8 @@ CarriesOut Asm input old new ended = IfSome input (λ bytes. LeavesImage old new
 CarriesOut Dis input old new ended = IfSome input (λ bytes. LeavesListing old new (take IMAGE_BYTES bytes) ended)
 CarriesOut (Verify asked) input old new ended = IfSome input
     (λ bytes. LeavesVerdict old new asked (take IMAGE_BYTES bytes) ended)
-CarriesOut (Run asked) input old new ended = IfSome input (λ bytes. LeavesTold old new bytes ended)
+CarriesOut (Run asked) input old new ended = IfSome input
+    (λ bytes. LeavesTold old new bytes ended × WantsThread bytes ended)
 CarriesOut (Stress asked) input old new ended = LeavesStressed old new ended
 CarriesOut (Help text) input old new ended = Leaves old new (string_bytes text) Done ended
 
@@ -36,17 +39,28 @@ abbrev pub status_for : Result Ending Fault → ℕ
 status_for (Ok ending) = status_of ending
 status_for (Err fault) = fault_status
 
--- the command is carried out, and the status is that of how it ended
-abbrev pub Performs : Request → Option (List ℕ) → Option (List ℕ) → Option (List ℕ) → ℕ → Type 0
-Performs request input old new status = (ended : Result Ending Fault) × CarriesOut request input old new ended
-    × (status ≡ status_for ended)
+-- what is said of how it ended: the fault, or nothing
+abbrev pub SaysOf : Result Ending Fault → Option (List ℕ) → Option (List ℕ) → Type 0
+SaysOf (Ok ending) old new = new ≡ old
+SaysOf (Err fault) old new = Says old new (fault_text fault)
+
+-- the command is carried out, and told are the status and the fault of how it ended
+pub record Performs (request : Request) (input old new said_old said_new : Option (List ℕ)) (status : ℕ) : Type 0 where
+  pub ended : Result Ending Fault
+  pub carried_out : CarriesOut request input old new ended
+  pub answer : status ≡ status_for ended
+  pub said : SaysOf ended said_old said_new
+
+-- nothing is taken where the options have no shape
+abbrev pub TakesShaped : ShapeOptions → Option (List ℕ) → Option (List ℕ) → Type 0
+TakesShaped asked old new = TakesAtMost IMAGE_BYTES old new × ((HasShape asked → ⊥) → new ≡ old)
 
 -- how much of its input a command takes at most, whatever comes of it
 abbrev pub TakesFor : Request → Option (List ℕ) → Option (List ℕ) → Type 0
-TakesFor (Exec asked) old new = TakesAtMost IMAGE_BYTES old new
+TakesFor (Exec asked) old new = TakesShaped asked.shape old new
 TakesFor Asm old new = TakesAtMost (TEXT_BYTES + 1) old new
 TakesFor Dis old new = TakesAtMost IMAGE_BYTES old new
-TakesFor (Verify asked) old new = TakesAtMost IMAGE_BYTES old new
+TakesFor (Verify asked) old new = TakesShaped asked old new
 TakesFor (Run asked) old new = TakesAtMost MOST_BYTES old new
 TakesFor (Stress asked) old new = new ≡ old
 TakesFor (Help text) old new = new ≡ old

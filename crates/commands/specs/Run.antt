@@ -1,12 +1,14 @@
 -- What `run` leaves on its output (docs/COMMANDS.md, "What run prints").
-use Rattle.std.specs.Prelude.{ℕ, List, ◌++◌, codes, Option, Result}
+use Rattle.std.specs.Prelude.{ℕ, List, ◌++◌, codes, Option, Result, Err}
+use Rattle.bench_engine.specs.declared.event.RunRefusal.TheVariants.{NoThread}
 use Rattle.scenario_text.specs.declared.refusal.ScenarioError.{ScenarioError}
 use Rattle.scenario_text.specs.Lines.{refusal_line}
 use Rattle.scenario_text.specs.Texts.{IsDue}
-use Rattle.bench_scenario.specs.Runs.{Reports}
+use Rattle.bench_scenario.specs.Runs.{Reports, StopsAt}
 use Rattle.commands.specs.declared.ending.Ending.{Ending}
 use Rattle.commands.specs.declared.ending.Ending.TheVariants.{Done, Refused}
 use Rattle.commands.specs.declared.fault.Fault.{Fault}
+use Rattle.commands.specs.declared.fault.Fault.TheVariants as faults
 use Rattle.commands.specs.Output.{LeavesAny}
 
 -- the report of a text, or why it has none
@@ -30,3 +32,8 @@ told_ending (Refusal error) = Refused
 -- the report of the run of the scenario that the text says, or the line that refuses it
 abbrev pub LeavesTold : Option (List ℕ) → Option (List ℕ) → List ℕ → Result Ending Fault → Type 0
 LeavesTold old new text result = LeavesAny (IsTold text) told_text told_ending old new result
+
+-- want of a thread is told only where the run stopped at an event for it
+abbrev pub WantsThread : List ℕ → Result Ending Fault → Type 0
+WantsThread text (Err faults.Thread) = (event : ℕ) × StopsAt text event NoThread
+WantsThread text other = Unit {0}

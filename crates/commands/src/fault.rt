@@ -1,12 +1,16 @@
 //! Why a command gave no whole answer, and how that is told.
-ghost use Rattle.std.specs.Prelude.{◌≡◌};
-ghost use Rattle.commands.specs.Faults.{IsOfCommandLine, fault_status};
+ghost use Rattle.std.specs.Prelude.{◌≡◌, ◌+◌, ◌<◌, ◌≤◌, ◌++◌, IfErr, OnOk, codes, length, take};
+ghost use Rattle.std.specs.Fmt.{decimal};
+ghost use Rattle.std.specs.Fmt.InlineText.{IsIntact, IsOpen, inline_text};
+ghost use Rattle.std.specs.Io.KnownBytes.{Appends};
+ghost use Rattle.commands.specs.Faults.{IsOfCommandLine, Says, fault_status, fault_text};
+ghost use Rattle.commands.specs.declared.fault.TheConstants.{LINE_BYTES};
 
+use itoa::Buffer;
 use std::alloc::Global;
-use std::fmt;
-use std::fmt::InlineText;
+use std::fmt::{InlineText, Write as _};
 use std::io::Write;
-use stream_io::write_fully;
+use stream_io::{WriteFault, write_fully};
 
 /// Why a command gave no whole answer.
 #[derive(Debug, Drop)]
@@ -40,16 +44,27 @@ impl Fault {
     /// Says it on standard error, with no memory of its own, and answers the exit status.
     /// What `err` does not take is dropped.
     pub fn tell<E: Write>(&self, err: &mut E) -> u8
-        ensures { result ≡ fault_status }
+        ensures status { result ≡ fault_status }
+        ensures said { Says (E.contents err.old) (E.contents err.new) (fault_text self.now) }
     {
-        let _ = match self {
-            Fault::CommandLine { text } => write_fully(err, text.as_bytes()),
-            Fault::Read | Fault::Write { .. } | Fault::Memory | Fault::Thread => {
-                let line = InlineText::<LINE_BYTES>::of(format_args!("{self}\n"));
-                write_fully(err, line.as_str().as_bytes())
-            }
-        };
+        let _ = self.say(err);
         self.status()
+    }
+
+    /// Says it, up to the first call of `write` that fails.
+    fn say<E: Write>(&self, err: &mut E) -> Result<(), WriteFault>
+        ensures whole { OnOk result (Appends (E.contents err.old) (E.contents err.new) (fault_text self.now)) }
+        ensures part { IfErr result (λ fault. fault.written < length (fault_text self.now)) }
+        ensures prefix { IfErr result (λ fault.
+            Appends (E.contents err.old) (E.contents err.new) (take fault.written (fault_text self.now))) }
+    {
+        match self {
+            Fault::Read => write_fully(err, b"fault read\n"),
+            Fault::Write { after } => write_fully(err, write_line(*after).as_str().as_bytes()),
+            Fault::Memory => write_fully(err, b"fault memory\n"),
+            Fault::Thread => write_fully(err, b"fault thread\n"),
+            Fault::CommandLine { text } => write_fully(err, text.as_bytes()),
+        }
     }
 
     fn status(&self) -> u8
@@ -65,14 +80,29 @@ impl Fault {
     }
 }
 
-impl fmt::Display for Fault {
-    fn fmt<W: fmt::Write>(&self, f: &mut fmt::Formatter<W>) -> fmt::Result {
-        match self {
-            Fault::Read => write!(f, "fault read"),
-            Fault::Write { after } => write!(f, "fault write after {after}"),
-            Fault::Memory => write!(f, "fault memory"),
-            Fault::Thread => write!(f, "fault thread"),
-            Fault::CommandLine { text } => write!(f, "{text}"),
-        }
+/// The line of a write that failed, with its end.
+fn write_line(after: usize) -> InlineText<LINE_BYTES>
+    ensures { inline_text result ≡ codes "fault write after " ++ (decimal after ++ codes "\n") }
+{
+    let mut digits = Buffer::new();
+    let mut line = InlineText::new();
+    push(&mut line, "fault write after ");
+    push(&mut line, digits.format(after));
+    push(&mut line, "\n");
+    line
+}
+
+/// Appends a part for which there is room.
+fn push(line: &mut InlineText<LINE_BYTES>, part: &str)
+    requires intact { IsIntact line.old }
+    requires open { IsOpen line.old }
+    requires room { length (inline_text line.old) + length part.now ≤ LINE_BYTES }
+    ensures text { inline_text line.new ≡ inline_text line.old ++ part.now }
+    ensures intact { IsIntact line.new }
+    ensures open { IsOpen line.new }
+{
+    match line.write_str(part) {
+        Ok(()) => {}
+        Err(_) => unreachable!(),
     }
 }

@@ -27,7 +27,8 @@ pub fn perform<T: Threads + Wait + Sync, R: Read, W: Write, E: Write>(
     out: &mut W,
     err: &mut E,
 ) -> u8
-    ensures performed { Performs request.now (R.remaining reader.old) (W.contents out.old) (W.contents out.new) result }
+    ensures performed { Performs request.now (R.remaining reader.old) (W.contents out.old) (W.contents out.new)
+        (E.contents err.old) (E.contents err.new) result }
     ensures taken { TakesFor request.now (R.remaining reader.old) (R.remaining reader.new) }
 {
     let ended = carry_out(rt, alloc, request, reader, out);

@@ -26,7 +26,7 @@ pub struct ShapeOptions {
 /// The options of `run`.
 #[derive(Clone, Copy, Debug, PartialEq, Eq)]
 pub struct RunOptions {
-    /// On how many workers the tasks of a pulse are run. The report is the same for every number.
+    /// On how many workers at most the tasks of a pulse are run. The report is the same for every number.
     pub workers: u32,
 }
 

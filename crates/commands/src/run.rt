@@ -1,17 +1,17 @@
 //! `run`: the report of the scenario on standard input.
-ghost use Rattle.std.specs.Prelude.{IfSome};
+ghost use Rattle.std.specs.Prelude.{◌≡◌, IfSome};
 ghost use Rattle.bench_scenario.specs.declared.run.TheConstants.{MOST_BYTES};
 ghost use Rattle.stream_io.specs.Streams.{TakesAtMost};
 ghost use Rattle.commands.specs.declared.ending.Ending.TheVariants.{Refused};
-ghost use Rattle.commands.specs.inner.Faults.{IsOfRun};
+ghost use Rattle.commands.specs.inner.Faults.{IsOfRun, run_fault};
 ghost use Rattle.commands.specs.Output.{Leaves};
-ghost use Rattle.commands.specs.Run.{LeavesTold, Refusal, told_text};
+ghost use Rattle.commands.specs.Run.{LeavesTold, Refusal, WantsThread, told_text};
 
 use crate::ending::Ending;
 use crate::fault::Fault;
 use crate::output::write_whole;
 use crate::request::RunOptions;
-use bench_engine::{MOST_WORKERS, RunFault, RunRefusal};
+use bench_engine::{MOST_WORKERS, RunRefusal};
 use bench_scenario::{ScenarioFault, run_scenario};
 use scenario_text::{RefusalLine, ScenarioError};
 use std::alloc::Global;
@@ -30,6 +30,7 @@ pub fn run<T: Threads + Wait + Sync, R: Read, W: Write>(
 ) -> Result<Ending, Fault>
     ensures told { IfSome (R.remaining reader.old) (λ input.
         LeavesTold (W.contents out.old) (W.contents out.new) input result) }
+    ensures thread { IfSome (R.remaining reader.old) (λ input. WantsThread input result) }
     ensures front { TakesAtMost MOST_BYTES (R.remaining reader.old) (R.remaining reader.new) }
 {
     let workers = options.workers.clamp(1, MOST_WORKERS);
@@ -37,7 +38,7 @@ pub fn run<T: Threads + Wait + Sync, R: Read, W: Write>(
         Ok(()) => Ok(Ending::Done),
         Err(ScenarioFault::Read) => Err(Fault::Read),
         Err(ScenarioFault::Refused(error)) => write_refusal(alloc, &error, out),
-        Err(ScenarioFault::Run(fault)) => Err(fault_of(fault)),
+        Err(ScenarioFault::Run(fault)) => Err(fault_of(fault.fault)),
         Err(ScenarioFault::Write { written }) => Err(Fault::Write {
             after: written as usize,
         }),
@@ -46,10 +47,11 @@ pub fn run<T: Threads + Wait + Sync, R: Read, W: Write>(
 }
 
 /// A run of a scenario stops for want of memory or of a thread alone.
-fn fault_of(fault: RunFault) -> Fault
-    ensures { IsOfRun result }
+fn fault_of(refusal: RunRefusal) -> Fault
+    ensures want { IsOfRun result }
+    ensures fault { result ≡ run_fault refusal }
 {
-    match fault.fault {
+    match refusal {
         RunRefusal::NoThread => Fault::Thread,
         RunRefusal::Memory
         | RunRefusal::BadNode

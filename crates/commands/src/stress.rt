@@ -1,6 +1,7 @@
 //! `stress`: many hands at one bench, and whether its history is what they did.
 ghost use Rattle.std.specs.Prelude.{◌≡◌, length};
 ghost use Rattle.commands.specs.Stress.{LeavesStressed, Replayed, stressed_text};
+ghost use Rattle.commands.specs.inner.Faults.{stop_fault};
 ghost use Rattle.commands.specs.Output.{Leaves};
 ghost use Rattle.commands.specs.declared.ending.Ending.TheVariants.{Done};
 
@@ -28,9 +29,21 @@ pub fn stress<R: Threads + Wait + Sync, W: Write>(
 {
     match stress_bench(rt, alloc, options) {
         Ok(finished) => write_finished(alloc, &finished, out),
-        Err(Stop::Memory) => Err(Fault::Memory),
-        Err(Stop::Thread) => Err(Fault::Thread),
-        Err(Stop::Mismatch) => write_whole(out, b"replay mismatch\n", Ending::Mismatched),
+        Err(stop) => match fault_of(stop) {
+            Some(fault) => Err(fault),
+            None => write_whole(out, b"replay mismatch\n", Ending::Mismatched),
+        },
+    }
+}
+
+/// What the hands stopped for the want of.
+fn fault_of(stop: Stop) -> Option<Fault>
+    ensures { result ≡ stop_fault stop }
+{
+    match stop {
+        Stop::Memory => Some(Fault::Memory),
+        Stop::Thread => Some(Fault::Thread),
+        Stop::Mismatch => None,
     }
 }
 

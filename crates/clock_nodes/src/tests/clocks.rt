@@ -2,7 +2,7 @@
 use super::nodes::{MEMORY, Start, memory_of, run_node};
 use crate::{ClockRule, dolev_welch};
 use bpf_verify::verify;
-use node_env::{MAX_NODES, Shape};
+use node_env::Shape;
 use std::alloc::Global;
 use std::process::Abort;
 use std::test::Fail;
@@ -16,15 +16,6 @@ fn size_of_clock(alloc: Global, nodes: u32, faults: u32) -> Result<(u32, u32), F
         return Err("not accepted")?;
     };
     Ok((program.slot_count(), verified.budget()))
-}
-
-#[test]
-fn is_accepted_for_each_number_of_nodes(rt: HostRuntime) -> Result<(), Fail> {
-    for nodes in 1..=MAX_NODES {
-        let size = size_of_clock(rt.alloc(), nodes, (nodes - 1) / 3)?;
-        assert_eq!(rt; size, (27 + 7 * nodes, 17 + 7 * nodes), "{nodes} nodes");
-    }
-    Ok(())
 }
 
 #[test]

@@ -1,6 +1,10 @@
 -- Beside Faults: what proofs and private contracts alone cite.
-use Rattle.std.specs.Prelude.{ℕ, ◌<◌, List, length, take, Option}
+use Rattle.std.specs.Prelude.{ℕ, ◌<◌, List, length, take, Option, Some, None}
 use Rattle.std.specs.Io.KnownBytes.{Appends}
+use Rattle.bench_engine.specs.declared.event.RunRefusal.{RunRefusal}
+use Rattle.bench_engine.specs.declared.event.RunRefusal.TheVariants as refusals
+use Rattle.bench_stress.specs.declared.stop.Stop.{Stop}
+use Rattle.bench_stress.specs.declared.stop.Stop.TheVariants as stops
 use Rattle.commands.specs.declared.fault.Fault.{Fault}
 use Rattle.commands.specs.declared.fault.Fault.TheVariants.{Read, Write, Memory, Thread, CommandLine}
 
@@ -19,3 +23,20 @@ IsCut old new text (Write after) = (after < length text) × Appends old new (tak
 IsCut old new text Memory = ⊥
 IsCut old new text Thread = ⊥
 IsCut old new text (CommandLine said) = ⊥
+
+-- the fault by which a run is told that stopped. A scenario's stops for want of memory or of a thread alone
+abbrev pub run_fault : RunRefusal → Fault
+run_fault refusals.BadNode = Memory
+run_fault refusals.OtherShape = Memory
+run_fault refusals.BadImage = Memory
+run_fault refusals.HistoryFull = Memory
+run_fault refusals.Memory = Memory
+run_fault refusals.BadCoins = Memory
+run_fault refusals.NoThread = Thread
+run_fault refusals.GateShut = Memory
+
+-- the fault by which hands are told that stopped, where they stopped for want of something
+abbrev pub stop_fault : Stop → Option Fault
+stop_fault stops.Memory = Some Memory
+stop_fault stops.Thread = Some Thread
+stop_fault stops.Mismatch = None
