@@ -3,15 +3,13 @@ use Rattle.std.proofs.Common.{◌≡◌, ℕ, zero, suc, ◌<◌, List, [], ◌�
 use Rattle.std.specs.Prelude.{Option, Some, IsSomeAnd, codes}
 use Rattle.toml.specs.declared.value.Value.{Value}
 use Rattle.toml.specs.View.{items_view, view}
-use Rattle.toml.specs.Data.{Data, array, string, integer, float, boolean, datetime, table, Members, get_member}
+use Rattle.toml.specs.Data.{Data, array, Members, get_member}
 use Rattle.bpf_insn.specs.declared.forms.Insn.{Insn}
-use Rattle.bpf_verify.specs.Accepted.{IsFirstBroken}
 use Rattle.scenario_text.specs.declared.refusal.Place.{Place}
 use Rattle.scenario_text.specs.declared.refusal.Place.TheVariants as places
 use Rattle.scenario_text.specs.declared.refusal.ScenarioError.{ScenarioError}
 use Rattle.scenario_text.specs.declared.scenario.Frame.{Frame}
-use Rattle.scenario_text.specs.Broken.{BrokenAt, BrokenClock, BrokenIn, StandsAt, item_at}
-use Rattle.scenario_text.specs.inner.Broken.{IsBrokenLoad}
+use Rattle.scenario_text.specs.Broken.{BrokenAt, BrokenIn, BrokenLoad, BrokenText, StandsAt, item_at}
 use Rattle.scenario_text.specs.Drafts.{LoadDraft}
 use Rattle.scenario_text.specs.Faults.{Refuses}
 use Rattle.scenario_text.specs.Tables.{IsTable, MayBeArray}
@@ -24,27 +22,16 @@ item_is [] i d within = absurd (omega arith)
 item_is (v ∷ vs) zero d within = refl
 item_is (v ∷ vs) (suc i) d within = item_is vs i d (omega arith)
 
-load_in : (f : Frame) (c : Option (List Insn)) (d : Data) (slot : ℕ) → IsBrokenLoad f c d slot
-    → (load : LoadDraft) × IsTable (SpelledLoad f c) d load × IsFirstBroken load.program (extent_of f) slot
-load_in f c (table ms) slot is = (is.load, is.spelled, is.broken)
-load_in f c (array items) slot is = absurd is
-load_in f c (string text) slot is = absurd is
-load_in f c (integer n) slot is = absurd is
-load_in f c (float x) slot is = absurd is
-load_in f c (boolean b) slot is = absurd is
-load_in f c (datetime d) slot is = absurd is
-
 -- the next item of an array
 pub next_broken : (f : Frame) (c : Option (List Insn)) (vs whole : List Value) (i : ℕ) (v : Value) → i < length vs
-    → get_or vs i v ≡ v → vs ≡ whole → (p : Place) (slot : ℕ) → (p ≡ places.Load i) × IsBrokenLoad f c (view v) slot
-    → BrokenIn f c (Some (array (items_view whole))) p slot
+    → get_or vs i v ≡ v → vs ≡ whole → (p : Place) (slot : ℕ)
+    → (p ≡ places.Load i) × IsTable (BrokenLoad f c) (view v) slot → BrokenIn f c (Some (array (items_view whole))) p slot
 next_broken f c vs whole i v within found same p slot is =
-    let one = load_in f c (view v) slot is.1 in
     let item : item_at (items_view whole) i ≡ Some (view v) =
     ap (λ (ws : List Value). item_at (items_view ws) i) (sym same) ∙ (item_is vs i v within ∙ ap (λ w. Some (view w)) found) in
-    let stands : StandsAt (IsTable (SpelledLoad f c)) (Some (array (items_view whole))) i one.0 =
-    subst (λ (o : Option Data). IsSomeAnd o (λ value. IsTable (SpelledLoad f c) value one.0)) (sym item) one.1 in
-    subst (λ (q : Place). BrokenIn f c (Some (array (items_view whole))) q slot) (sym is.0) (one.0, stands, one.2)
+    let stands : StandsAt (IsTable (BrokenLoad f c)) (Some (array (items_view whole))) i slot =
+    subst (λ (o : Option Data). IsSomeAnd o (λ value. IsTable (BrokenLoad f c) value slot)) (sym item) is.1 in
+    subst (λ (q : Place). BrokenIn f c (Some (array (items_view whole))) q slot) (sym is.0) stands
 
 broken_at : (ms : Members) (f : Frame) (c : Option (List Insn)) → HasFrame ms f → HasClock (rule_of f) ms c
     → (p : Place) (slot : ℕ) → BrokenIn f c (get_member (codes "load") ms) p slot → BrokenAt ms p slot
@@ -71,11 +58,11 @@ loads_refused ms f g c o e has clock same held refused =
 -- a refusal of the clock is one of the table
 pub clock_refused : (ms : Members) (f : Frame) (e : ScenarioError) → HasFrame ms f
     → Refuses e ((c : Option (List Insn)) → HasClock (rule_of f) ms c → ⊥)
-    (λ p slot. (p ≡ places.Top) × BrokenClock ms (extent_of f) slot)
+    (λ p slot. (p ≡ places.Top) × BrokenText ms (codes "clock") (extent_of f) slot)
     → Refuses e (SpellsNothing ms) (BrokenAt ms)
 clock_refused ms f e has refused =
     refuses_more e ((c : Option (List Insn)) → HasClock (rule_of f) ms c → ⊥) (SpellsNothing ms)
-    (λ p slot. (p ≡ places.Top) × BrokenClock ms (extent_of f) slot) (BrokenAt ms)
+    (λ p slot. (p ≡ places.Top) × BrokenText ms (codes "clock") (extent_of f) slot) (BrokenAt ms)
     (λ none d spelled. none d.clock
     (subst (λ g. HasClock (rule_of g) ms d.clock) (one_frame ms d.frame f spelled.frame has) spelled.clock))
     (λ p slot is. subst (λ (q : Place). BrokenAt ms q slot) (sym is.0) (f, has, is.1)) refused

@@ -98,6 +98,11 @@ refuses (errors.BadText place key error) none broken excluded = excluded
 refuses (errors.NotAccepted place key slot rule) none broken excluded = absurd excluded
 refuses (errors.Memory _) none broken excluded = tt
 
+pub excluded_refuses : {A : Type 0} (r : Result A ScenarioError) (none : Type 0) (broken : Place → ℕ → Type 0)
+    → IfErr r (λ e. Excludes e none) → IfErr r (λ e. Refuses e none broken)
+excluded_refuses (Ok x) none broken excluded = tt
+excluded_refuses (Err e) none broken excluded = refuses e none broken excluded
+
 -- what refuses less refuses more
 pub refuses_more : (e : ScenarioError) (less more : Type 0) (here there : Place → ℕ → Type 0) → (less → more)
     → ((p : Place) (slot : ℕ) → here p slot → there p slot) → Refuses e less here → Refuses e more there

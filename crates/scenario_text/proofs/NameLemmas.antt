@@ -9,6 +9,8 @@ use Rattle.scenario_text.specs.declared.scenario.Kind.{Kind}
 use Rattle.scenario_text.specs.declared.scenario.Kind.TheVariants.{Clock, Say, Echo, Asm}
 use Rattle.scenario_text.specs.inner.Names.{coins_named, kind_named}
 use Rattle.scenario_text.specs.Spelling.{coins_name, kind_name}
+use Rattle.scenario_text.specs.Tables.{HasText}
+use Rattle.toml.specs.Data.{Members, string}
 
 nothing : {A : Type 0} {a : A} → None ≡ Some a → ⊥
 nothing same = subst (λ o. MatchOption o (Unit {0}) (λ _. ⊥)) same tt
@@ -56,3 +58,12 @@ kind_by_name name k =
     (chosen Named (bytes_eq name (codes "echo")) Echo _ k (same_bytes name (codes "echo"))
     (chosen Named (bytes_eq name (codes "asm")) Asm None k (same_bytes name (codes "asm"))
     (λ found. absurd (nothing found)))))
+
+-- a table names one kind
+pub one_kind : (ms : Members) (k l : Kind) → HasText ms (codes "program") (kind_name k)
+    → HasText ms (codes "program") (kind_name l) → k ≡ l
+one_kind ms k l first second =
+    let both : Some (string (kind_name k)) ≡ Some (string (kind_name l)) = sym first ∙ second in
+    let same : kind_name k ≡ kind_name l = cc in
+    let named : Some k ≡ Some l = sym (kind_back k) ∙ (ap kind_named same ∙ kind_back l) in
+    cc

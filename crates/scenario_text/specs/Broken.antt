@@ -7,9 +7,10 @@ use Rattle.bpf_verify.specs.Accepted.{IsFirstBroken}
 use Rattle.scenario_text.specs.declared.refusal.Place.{Place}
 use Rattle.scenario_text.specs.declared.refusal.Place.TheVariants as places
 use Rattle.scenario_text.specs.declared.scenario.Frame.{Frame}
+use Rattle.scenario_text.specs.declared.scenario.Kind.TheVariants.{Asm}
 use Rattle.scenario_text.specs.Drafts.{LoadDraft}
-use Rattle.scenario_text.specs.Tables.{IsTable}
-use Rattle.scenario_text.specs.Spelling.{HasClock, HasFrame, MeansAt, SpelledLoad, rule_of}
+use Rattle.scenario_text.specs.Tables.{HasText, IsTable}
+use Rattle.scenario_text.specs.Spelling.{HasClock, HasFrame, MeansAt, SpelledLoad, kind_name, rule_of}
 use Rattle.scenario_text.specs.Views.{extent_of}
 
 -- the item at this place, from 0 on
@@ -23,29 +24,28 @@ abbrev pub StandsAt : {A : Type 0} → (Data → A → Type 0) → Option Data �
 StandsAt reads (Some (array items)) index x = IsSomeAnd (item_at items index) (λ value. reads value x)
 StandsAt reads _ index x = ⊥
 
--- the text under `clock` means a program that breaks the rules first at this slot
-pub record BrokenClock (members : Members) (shape : Extent) (slot : ℕ) : Type 0 where
+-- the text under the key means a program that breaks the rules first at this slot
+pub record BrokenText (members : Members) (key : List ℕ) (shape : Extent) (slot : ℕ) : Type 0 where
   pub program : List Insn
-  pub means : MeansAt (get_member (codes "clock") members) program
+  pub means : MeansAt (get_member key members) program
   pub broken : IsFirstBroken program shape slot
 
--- the table spells a load whose program breaks the rules first at this slot
+-- the table spells a load of a text, whose program breaks the rules first at this slot. No listing does
 pub record BrokenLoad (f : Frame) (clock : Option (List Insn)) (members : Members) (slot : ℕ) : Type 0 where
   pub load : LoadDraft
   pub spelled : SpelledLoad f clock members load
+  pub named : HasText members (codes "program") (kind_name Asm)
   pub broken : IsFirstBroken load.program (extent_of f) slot
 
 -- so does the item at this place of the loads
 abbrev pub BrokenIn : Frame → Option (List Insn) → Option Data → Place → ℕ → Type 0
-BrokenIn f clock loads (places.Load index) slot =
-    (load : LoadDraft) × StandsAt (IsTable (SpelledLoad f clock)) loads index load
-    × IsFirstBroken load.program (extent_of f) slot
+BrokenIn f clock loads (places.Load index) slot = StandsAt (IsTable (BrokenLoad f clock)) loads index slot
 BrokenIn f clock loads _ slot = ⊥
 
 -- the clock of the table, or a load of it
 abbrev pub BrokenAt : Members → Place → ℕ → Type 0
 BrokenAt members places.Top slot =
-    (f : Frame) × HasFrame members f × BrokenClock members (extent_of f) slot
+    (f : Frame) × HasFrame members f × BrokenText members (codes "clock") (extent_of f) slot
 BrokenAt members place slot =
     (f : Frame) × (clock : Option (List Insn)) × HasFrame members f × HasClock (rule_of f) members clock
     × BrokenIn f clock (get_member (codes "load") members) place slot

@@ -1,6 +1,5 @@
 -- What proofs and private contracts alone cite.
 pub mod Arrays
-pub mod Broken
 pub mod Faults
 pub mod Names
 pub mod Setups

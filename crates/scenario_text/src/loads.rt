@@ -6,27 +6,25 @@ ghost use Rattle.toml.specs.Data.{get_member, array as array_data};
 ghost use Rattle.toml.specs.View.{array_view, table_view, view};
 ghost use Rattle.bpf_insn.specs.declared.forms.Insn.{Insn};
 ghost use Rattle.scenario_text.specs.declared.scenario.Kind.{Kind as KindValue};
+ghost use Rattle.scenario_text.specs.declared.scenario.Kind.TheVariants.{Asm, Say};
 ghost use Rattle.scenario_text.specs.Drafts.{LoadDraft};
 ghost use Rattle.scenario_text.specs.declared.refusal.Place.TheVariants.{Load as LoadAt};
-ghost use Rattle.scenario_text.specs.Broken.{BrokenIn, BrokenLoad};
+ghost use Rattle.scenario_text.specs.Broken.{BrokenIn, BrokenLoad, BrokenText};
 ghost use Rattle.scenario_text.specs.Faults.{Excludes, Refuses};
-ghost use Rattle.scenario_text.specs.inner.Broken.{IsBrokenLoad};
 ghost use Rattle.scenario_text.specs.inner.Faults.{IsOfSpelling};
-ghost use Rattle.clock_nodes.specs.Listings.{say_listing, echo_listing};
 ghost use Rattle.scenario_text.specs.inner.Setups.{IsSetup, own_clock};
 ghost use Rattle.scenario_text.specs.Tables.{knows, HasText, IsArray, MayBeArray, ReadsEach, IsTable};
-ghost use Rattle.scenario_text.specs.Spelling.{is_plain_load_key, is_load_key, kind_name, clock_insns, IsSaid, IsProgramOf, SpelledLoad, rule_of};
-ghost use Rattle.scenario_text.specs.Views.{load_of, extent_of, FitsLoad};
+ghost use Rattle.scenario_text.specs.Spelling.{is_plain_load_key, is_load_key, kind_name, IsSaid, IsProgramOf, MeansAt, SpelledLoad};
+ghost use Rattle.scenario_text.specs.Views.{load_of, extent_of, FitsFrame, FitsLoad};
 
 use crate::numbers::{integers_at, numbers_of, said_of};
-use crate::programs::{accepted, program_in, rule_program};
+use crate::programs::{accepted, program_in, say_program};
 use crate::refusal::{Place, ScenarioError};
 use crate::scenario::{Kind, Load};
 use crate::setup::Setup;
 use crate::table::{number_at, value_at};
 use crate::top::kind_named;
-use bpf_insn::Program;
-use clock_nodes::{echo, say};
+use bpf_verify::VerifiedProgram;
 use std::alloc::{AllocError, Global};
 use toml::value::Array;
 use toml::{Table, Value};
@@ -106,50 +104,74 @@ fn said_at(
     said_of(alloc, array, place, "values")
 }
 
-/// The clock of the scenario.
-fn clock_program(alloc: Global, setup: &Setup) -> Result<Program, ScenarioError>
-    requires { IsSetup setup.now }
-    ensures program { IfOk result (λ p. p ≡ clock_insns setup.now.frame (own_clock setup.now)) }
+/// The same program once more, which its loads share.
+fn shared(program: &VerifiedProgram) -> Result<VerifiedProgram, ScenarioError>
+    ensures program { IfOk result (λ v. v ≡ program.now) }
     ensures refused { IfErr result (λ e. Excludes e ⊥) }
 {
-    match &setup.clock {
-        None => rule_program(alloc, setup.shape, setup.rule),
-        Some(clock) => match clock.program().copy(alloc) {
-            Ok(program) => Ok(program),
-            Err(error) => Err(ScenarioError::Memory(error)),
-        },
-    }
+    program.copy().map_err(ScenarioError::Memory)
 }
 
-/// The program of a load, before it is accepted.
+/// The program of the text of a load.
+fn text_program(
+    alloc: Global,
+    setup: &Setup,
+    table: &Table,
+    index: usize,
+) -> Result<VerifiedProgram, ScenarioError>
+    requires { IsSetup setup.now }
+    ensures program { IfOk result (λ v. MeansAt (get_member (codes "text") (table_view table.now)) v.program) }
+    ensures fits { IfOk result (FitsFrame setup.now.frame) }
+    ensures refused { IfErr result (λ e. Refuses e ((insns : List Insn) →
+        MeansAt (get_member (codes "text") (table_view table.now)) insns → ⊥)
+        (λ p slot. (p ≡ LoadAt index)
+        × BrokenText (table_view table.now) (codes "text") (extent_of setup.now.frame) slot)) }
+{
+    let place = Place::Load(index);
+    let program = program_in(alloc, table, place, "text")?;
+    accepted(alloc, &program, setup.shape, place, "text")
+}
+
+/// The program of a load that says values.
+fn said_program(
+    alloc: Global,
+    setup: &Setup,
+    table: &Table,
+    index: usize,
+) -> Result<VerifiedProgram, ScenarioError>
+    requires { IsSetup setup.now }
+    ensures program { IfOk result (λ v.
+        IsProgramOf setup.now.frame (own_clock setup.now) Say (table_view table.now) v.program) }
+    ensures fits { IfOk result (FitsFrame setup.now.frame) }
+    ensures refused { IfErr result (λ e. Excludes e ((insns : List Insn) →
+        IsProgramOf setup.now.frame (own_clock setup.now) Say (table_view table.now) insns → ⊥)) }
+{
+    let said = said_at(alloc, table, index, setup.frame.nodes)?;
+    say_program(alloc, setup.shape, said.as_slice()).map_err(ScenarioError::Memory)
+}
+
+/// The program of a load.
 fn program_of(
     alloc: Global,
     setup: &Setup,
     kind: Kind,
     table: &Table,
     index: usize,
-) -> Result<Program, ScenarioError>
+) -> Result<VerifiedProgram, ScenarioError>
     requires { IsSetup setup.now }
-    ensures program { IfOk result (IsProgramOf setup.now.frame (own_clock setup.now) kind (table_view table.now)) }
-    ensures refused { IfErr result (λ e. Excludes e ((insns : List Insn) →
-        IsProgramOf setup.now.frame (own_clock setup.now) kind (table_view table.now) insns → ⊥)) }
+    ensures program { IfOk result (λ v.
+        IsProgramOf setup.now.frame (own_clock setup.now) kind (table_view table.now) v.program) }
+    ensures fits { IfOk result (FitsFrame setup.now.frame) }
+    ensures refused { IfErr result (λ e. Refuses e ((insns : List Insn) →
+        IsProgramOf setup.now.frame (own_clock setup.now) kind (table_view table.now) insns → ⊥)
+        (λ p slot. (p ≡ LoadAt index) × (kind ≡ Asm)
+        × BrokenText (table_view table.now) (codes "text") (extent_of setup.now.frame) slot)) }
 {
     match kind {
-        Kind::Clock => clock_program(alloc, setup),
-        Kind::Say => {
-            let said = said_at(alloc, table, index, setup.frame.nodes)?;
-            say(alloc, setup.shape, said.as_slice()).map_err(|_| ScenarioError::Memory(AllocError))
-        }
-        Kind::Echo => { echo(alloc, setup.shape).map_err(|_| ScenarioError::Memory(AllocError)) }
-        Kind::Asm => program_in(alloc, table, Place::Load(index), "text"),
-    }
-}
-
-/// The key that a refusal of a load's program names.
-fn program_key(kind: Kind) -> &'static str {
-    match kind {
-        Kind::Clock | Kind::Say | Kind::Echo => "program",
-        Kind::Asm => "text",
+        Kind::Clock => shared(&setup.clock),
+        Kind::Say => said_program(alloc, setup, table, index),
+        Kind::Echo => shared(&setup.echo),
+        Kind::Asm => text_program(alloc, setup, table, index),
     }
 }
 
@@ -173,12 +195,10 @@ fn load_of(alloc: Global, setup: &Setup, index: usize, table: &Table) -> Result<
         return Err(ScenarioError::UnknownKey { place });
     }
     let program = program_of(alloc, setup, kind, table, index)?;
-    let key = program_key(kind);
-    let verified = accepted(alloc, &program, setup.shape, place, key)?;
     Ok(Load {
         pulse: pulse as u32,
         nodes,
-        program: verified,
+        program,
     })
 }
 
@@ -189,7 +209,8 @@ fn load_in(alloc: Global, setup: &Setup, index: usize, value: &Value) -> Result<
     ensures fits { IfOk result (FitsLoad setup.now.frame) }
     ensures refused { IfErr result (λ e. Refuses e ((load : LoadDraft)
         → IsTable (SpelledLoad setup.now.frame (own_clock setup.now)) (view value.now) load → ⊥)
-        (λ p slot. (p ≡ LoadAt index) × IsBrokenLoad setup.now.frame (own_clock setup.now) (view value.now) slot)) }
+        (λ p slot. (p ≡ LoadAt index)
+        × IsTable (BrokenLoad setup.now.frame (own_clock setup.now)) (view value.now) slot)) }
 {
     let Some(table) = value.as_table() else {
         return Err(ScenarioError::WrongKind {

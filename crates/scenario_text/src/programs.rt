@@ -1,10 +1,12 @@
 //! Programs that texts mean, and their acceptance.
-ghost use Rattle.std.specs.Prelude.{◌≡◌, List, IfOk, IfErr, OnOk};
+ghost use Rattle.std.specs.Prelude.{◌≡◌, List, IfOk, IfErr, OnOk, length};
 ghost use Rattle.toml.specs.Data.{get_member};
 ghost use Rattle.toml.specs.View.{table_view};
 ghost use Rattle.bpf_insn.specs.declared.forms.Insn.{Insn};
 ghost use Rattle.bpf_verify.specs.Typable.{Typable};
-ghost use Rattle.clock_nodes.specs.Listings.{clock_listing};
+ghost use Rattle.clock_nodes.specs.Listings.{clock_listing, echo_listing, say_listing};
+ghost use Rattle.clock_nodes.specs.Rule.{IsRule};
+ghost use Rattle.node_env.specs.Env.{IsExtent};
 ghost use Rattle.bpf_verify.specs.Accepted.{IsFirstBroken};
 ghost use Rattle.scenario_text.specs.Faults.{Excludes, Refuses};
 ghost use Rattle.scenario_text.specs.Spelling.{MeansAt};
@@ -14,7 +16,7 @@ use crate::table::value_at;
 use bpf_asm::{TextError, assemble};
 use bpf_insn::Program;
 use bpf_verify::{VerifiedProgram, VerifyError, verify};
-use clock_nodes::{ClockRule, dolev_welch};
+use clock_nodes::{ClockRule, dolev_welch, echo, say};
 use node_env::Shape;
 use std::alloc::{AllocError, Global};
 use toml::Table;
@@ -43,17 +45,57 @@ pub(crate) fn program_in(
     }
 }
 
+/// A listing, accepted.
+fn taken(alloc: Global, listing: &Program, shape: Shape) -> Result<VerifiedProgram, AllocError>
+    requires { Typable listing.now shape }
+    ensures { IfOk result (λ v. (v.program ≡ listing.now) × (v.shape ≡ shape)) }
+{
+    match verify(alloc, listing, shape) {
+        Ok(verified) => Ok(verified),
+        Err(VerifyError::Memory) => Err(AllocError),
+        Err(VerifyError::Refused { .. }) => unreachable!(),
+    }
+}
+
 /// The clock of the rule.
-pub(crate) fn rule_program(
+pub(crate) fn rule_clock(
     alloc: Global,
     shape: Shape,
     rule: ClockRule,
-) -> Result<Program, ScenarioError>
+) -> Result<VerifiedProgram, AllocError>
+    requires rule { IsRule rule.nodes rule.faults rule.modulus }
+    requires extent { IsExtent shape.nodes shape.memory }
     requires nodes { rule.nodes ≡ shape.nodes }
-    ensures program { IfOk result (λ p. p ≡ clock_listing rule) }
-    ensures refused { IfErr result (λ e. Excludes e ⊥) }
+    ensures program { IfOk result (λ v. v.program ≡ clock_listing rule) }
+    ensures fits { IfOk result (λ v. (v.shape ≡ shape) × Typable v.program shape) }
 {
-    dolev_welch(alloc, shape, rule).map_err(|_| ScenarioError::Memory(AllocError))
+    let listing = dolev_welch(alloc, shape, rule)?;
+    taken(alloc, &listing, shape)
+}
+
+/// The echo of these nodes.
+pub(crate) fn echo_program(alloc: Global, shape: Shape) -> Result<VerifiedProgram, AllocError>
+    requires extent { IsExtent shape.nodes shape.memory }
+    ensures program { IfOk result (λ v. v.program ≡ echo_listing shape.nodes) }
+    ensures fits { IfOk result (λ v. (v.shape ≡ shape) × Typable v.program shape) }
+{
+    let listing = echo(alloc, shape)?;
+    taken(alloc, &listing, shape)
+}
+
+/// Who says these values.
+pub(crate) fn say_program(
+    alloc: Global,
+    shape: Shape,
+    values: &[Option<u32>],
+) -> Result<VerifiedProgram, AllocError>
+    requires extent { IsExtent shape.nodes shape.memory }
+    requires values { length values.now ≡ shape.nodes }
+    ensures program { IfOk result (λ v. v.program ≡ say_listing values.now) }
+    ensures fits { IfOk result (λ v. (v.shape ≡ shape) × Typable v.program shape) }
+{
+    let listing = say(alloc, shape, values)?;
+    taken(alloc, &listing, shape)
 }
 
 /// The program, accepted. A refusal names the key that it comes from.

@@ -100,7 +100,7 @@ pub fn scenario_of(alloc: Global, table: &Table) -> Result<Scenario, ScenarioErr
     let unloads = unloads_of(alloc, frame, arrays.unloads)?;
     let corruptions = corruptions_of(alloc, frame, arrays.corruptions)?;
     let entries = coin_entries_of(alloc, frame, arrays.entries)?;
-    let Setup { clock, .. } = setup;
+    let Setup { own, .. } = setup;
     Ok(Scenario {
         version: frame.version,
         nodes: frame.nodes,
@@ -110,7 +110,7 @@ pub fn scenario_of(alloc: Global, table: &Table) -> Result<Scenario, ScenarioErr
         pulses: frame.pulses,
         coins,
         key,
-        clock,
+        clock: own,
         loads,
         unloads,
         corruptions,

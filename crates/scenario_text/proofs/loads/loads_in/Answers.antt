@@ -8,8 +8,7 @@ use Rattle.scenario_text.specs.Spelling.{SpelledLoad}
 use Rattle.scenario_text.specs.Views.{load_of, FitsLoad}
 use Rattle.scenario_text.proofs.FrameLemmas.{refuses_more}
 use Rattle.scenario_text.proofs.BrokenLemmas.{next_broken}
-use Rattle.scenario_text.specs.Broken.{BrokenIn}
-use Rattle.scenario_text.specs.inner.Broken.{IsBrokenLoad}
+use Rattle.scenario_text.specs.Broken.{BrokenIn, BrokenLoad}
 use Rattle.scenario_text.specs.declared.refusal.Place.{Place}
 use Rattle.scenario_text.specs.declared.refusal.Place.TheVariants as places
 use Rattle.toml.specs.Data.{array as array_data}
@@ -32,7 +31,7 @@ returns-in_err-load-clause-refused c =
     let f = c.args.setup.now.frame in
     let clock = own_clock c.args.setup.now in
     let here : Place → ℕ → Type 0 = λ p slot. (p ≡ places.Load i)
-    × IsBrokenLoad f clock (view c.value-item.result) slot in
+    × IsTable (BrokenLoad f clock) (view c.value-item.result) slot in
     let there = BrokenIn f clock (Some (array_data (array_view c.args.array.now))) in
     let all = refuses_more c.in_err-load.field-0.0 One None here there leads
     (next_broken f clock items _ i c.value-item.result within (search rules) c.loop-index.invariant.same)
