@@ -14,3 +14,4 @@ pub mod Pairs
 pub mod Lengths
 pub mod Taken
 pub mod TakenClock
+pub mod TakenHostile

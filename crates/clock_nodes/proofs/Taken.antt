@@ -1,4 +1,4 @@
--- The clock's listing is typable: a table for it, made of the states of its parts.
+-- How a listing is shown to be typable: a table for it, made of the states of its parts.
 use Rattle.std.proofs.Common.{◌≡◌, ℕ, zero, suc, ◌+◌, ◌<◌, ◌==◌, Bool, true, false, ◌||◌, if◌then◌else◌, List, [], ◌∷◌, ◌++◌, length, Option, Some, None, IsSome, is_none, slice_get, refl, sym, ap, ◌∙◌, arith, subst}
 use Rattle.std.proofs.lemmas.Option.{same_Some, none-some}
 use Rattle.std.proofs.lemmas.Bool.{ne_eqb}
@@ -6,15 +6,16 @@ use Rattle.node_env.specs.Env.{Extent}
 use Rattle.bpf_insn.specs.declared.forms.Insn.{Insn}
 use Rattle.bpf_insn.specs.declared.edges.Way.{Way}
 use Rattle.bpf_insn.specs.declared.edges.Way.TheVariants.{Onward, Jumping}
-use Rattle.bpf_insn.specs.Programs.{insn_at}
+use Rattle.bpf_insn.specs.Programs.{insn_at, slots_of}
 use Rattle.bpf_insn.specs.Edges.{BeginsAt, target}
 use Rattle.bpf_verify.specs.declared.kind.Kind.{Kind}
 use Rattle.bpf_verify.specs.declared.kind.Kind.TheVariants.{Unset}
 use Rattle.bpf_verify.specs.declared.rule.Rule.TheVariants.{NotForward, BadTarget, UnknownHelper, UnsetRegister, FrameWrite, PointerMisuse, OutOfRegion, UnsetStackByte, BadArgument, ExitNotNumber, NotPointer}
-use Rattle.bpf_verify.specs.States.{AbstractState, abstract_state, IsKindIn, IsContainedIn, IsProperKind, IsProper}
+use Rattle.bpf_verify.specs.States.{AbstractState, abstract_state, IsKindIn, IsContainedIn, IsProperKind, IsProper, entry_state}
 use Rattle.bpf_verify.specs.Rules.{KeepsRules, is_astray, leads_astray, goes_back, calls_unknown, reads_unset, writes_frame, may_misuse_pointer, may_leave_regions, loads_unset, misses_argument, may_exit_with_pointer, accesses_number}
 use Rattle.bpf_verify.specs.Outcomes.{outcome}
-use Rattle.bpf_verify.specs.Typable.{Table, IsCovered}
+use Rattle.bpf_verify.specs.Typable.{Table, IsCovered, Typable, Types}
+use Rattle.clock_nodes.proofs.Places.{Ones, found}
 
 -- ---- states: what is known of r0, r1, r2 and of r6 to r9
 
@@ -100,7 +101,8 @@ pub record KeepsOwn (shape : Extent) (insn : Insn) (A : AbstractState) : Type 0 
 abbrev pub breaks_own : Extent → Insn → AbstractState → Bool
 breaks_own shape insn A =
     goes_back insn || (calls_unknown insn || (reads_unset insn A || (writes_frame insn
-    || (may_misuse_pointer shape insn A || (may_leave_regions shape insn A || (loads_unset insn A || (misses_argument shape insn A
+    || (may_misuse_pointer shape insn A || (may_leave_regions shape insn A || (loads_unset insn A
+    || (misses_argument shape insn A
     || (may_exit_with_pointer insn A || accesses_number insn A))))))))
 
 neither : (a b : Bool) → (a || b) ≡ false → (a ≡ false) × (b ≡ false)
@@ -340,3 +342,48 @@ sound_at program shape table base k (suc l) (i ∷ is) insn h e =
     let same : base + (suc k + l) ≡ base + (k + suc l) = omega arith in
     subst (λ (s : ℕ). (A : AbstractState) × (table s ≡ Some A) × Sound program shape table s insn A) same
     (sound_at program shape table base (suc k) l is insn h.1 e)
+
+-- ---- the whole
+
+module _ (program : List Insn) (shape : Extent) (states : List AbstractState) (first : AbstractState)
+    (ones : Ones program) (start : slice_get states 0 ≡ Some first) (inside : IsContainedIn (entry_state shape) first)
+    (sounds : Sounds program shape (λ at. slice_get states at) 0 0 program) where
+  abbrev table : Table
+  table at = slice_get states at
+
+  -- each slot's instruction is sound with the state that stands there
+  record Here (slot : ℕ) (insn : Insn) : Type 0 where
+    known : AbstractState
+    stands : table slot ≡ Some known
+    sound : Sound program shape table slot insn known
+
+  here : (slot : ℕ) (insn : Insn) → insn_at program slot ≡ Some insn → Here slot insn
+  here slot insn e =
+      let listed : slice_get program slot ≡ Some insn = sym (found program slot ones) ∙ e in
+      let there = sound_at program shape table 0 0 slot program insn sounds listed in
+      let same : 0 + (0 + slot) ≡ slot = omega arith in
+      subst (λ (s : ℕ). Here s insn) same (record { known = there.0; stands = there.1; sound = there.2 })
+
+  types : Types program shape (slots_of program) table
+  types = record {
+    entry = covered table (entry_state shape) first 0 start inside;
+    proper = λ slot insn A below e f.
+        let h = here slot insn e in
+        subst IsProper (same_Some h.known A (sym h.stands ∙ f)) h.sound.proper;
+    rules = λ slot insn below e.
+        let h = here slot insn e in
+        subst (λ (known : Option AbstractState). KeepsRules program shape slot insn known) (sym h.stands) h.sound.rules;
+    edges = λ slot to insn way A C below end e f g o.
+        let h = here slot insn e in
+        let same : A ≡ h.known = same_Some A h.known (sym f ∙ h.stands) in
+        h.sound.edges to way C g (subst (λ (B : AbstractState). outcome shape insn B way ≡ Some C) same o);
+  }
+
+-- where each instruction is sound with the state that stands at its slot, the states are a table
+pub typed : (program : List Insn) (shape : Extent) (states : List AbstractState) (first : AbstractState) → Ones program
+    → slice_get states 0 ≡ Some first → IsContainedIn (entry_state shape) first
+    → Sounds program shape (λ at. slice_get states at) 0 0 program → Typable program shape
+typed program shape states first ones start inside sounds = (
+  table program shape states first ones start inside sounds,
+  types program shape states first ones start inside sounds,
+)

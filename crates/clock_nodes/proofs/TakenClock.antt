@@ -1,5 +1,5 @@
 -- The table of the clock's listing, part by part.
-use Rattle.std.proofs.Common.{◌≡◌, ℕ, zero, suc, ◌+◌, ◌-◌, ◌*◌, ◌^◌, ◌%◌, ◌<◌, ◌≤◌, Bool, true, false, nat_lt, List, [], ◌∷◌, ◌++◌, length, Option, Some, None, IsSome, slice_get, min, drop, ℤ, pos, refl, sym, ap, ◌∙◌, arith, subst}
+use Rattle.std.proofs.Common.{◌≡◌, ℕ, zero, suc, ◌+◌, ◌-◌, ◌*◌, ◌^◌, ◌%◌, ◌<◌, ◌≤◌, Bool, true, false, nat_lt, List, [], ◌∷◌, ◌++◌, length, Option, Some, None, IsSome, slice_get, min, drop, ℤ, pos, refl, sym, ap, arith, subst}
 use Rattle.std.specs.Int.{w64, cast_unsigned}
 use Rattle.std.proofs.Math.Nat.{mod-eq_of_lt}
 use Rattle.std.proofs.lemmas.Option.{same_Some, none-some}
@@ -12,24 +12,22 @@ use Rattle.bpf_insn.specs.declared.forms.Width.TheVariants.{W64}
 use Rattle.bpf_insn.specs.declared.forms.Cond.TheVariants.{Lt}
 use Rattle.bpf_insn.specs.declared.forms.Operand.TheVariants as operand
 use Rattle.bpf_insn.specs.declared.forms.Insn.{Insn}
-use Rattle.bpf_insn.specs.Programs.{insn_at, slots_of}
 use Rattle.bpf_insn.specs.Edges.{BeginsAt}
 use Rattle.value_range.specs.Span.{Span, span, just, full_of, is_single, IsInside}
 use Rattle.value_range.specs.Conditions.{less, branch_of}
 use Rattle.bpf_verify.specs.declared.kind.Kind.{Kind}
 use Rattle.bpf_verify.specs.declared.kind.Kind.TheVariants.{Unset, Number, Pointer}
 use Rattle.bpf_verify.specs.States.{AbstractState, IsKindIn, IsContainedIn, IsProperKind, IsProper, entry_state}
-use Rattle.bpf_verify.specs.Rules.{KeepsRules}
-use Rattle.bpf_verify.specs.Outcomes.{outcome, with_kind, refined_by}
-use Rattle.bpf_verify.specs.Typable.{Table, Typable, Types}
+use Rattle.bpf_verify.specs.Outcomes.{with_kind, refined_by}
+use Rattle.bpf_verify.specs.Typable.{Table, Typable}
 use Rattle.bpf_verify.proofs.StateLaws.{kind_in_itself}
 use Rattle.clock_nodes.specs.declared.rule.TheConstants.{MOST_MODULUS}
 use Rattle.clock_nodes.specs.Rule.{Rule, IsRule, quorum_of}
 use Rattle.clock_nodes.specs.Listings.{head, count_block, count_blocks, choice, store, send_block, send_blocks, tail, listing, clock_listing}
-use Rattle.clock_nodes.proofs.Places.{Stands, begins, found, first_begins, found_in, stands_behind, stands_whole}
+use Rattle.clock_nodes.proofs.Places.{Stands, begins, first_begins, found_in, stands_behind, stands_whole}
 use Rattle.clock_nodes.proofs.ClockRuns.{ones_clock}
 use Rattle.clock_nodes.proofs.Programs.{length_counts, length_sends}
-use Rattle.clock_nodes.proofs.Taken.{state, proper, within, keeps_own, covered, Sound, sound_on, sound_jump, sound_end, sound_fork, one_outcome, Marked, mark_in, marks_behind, marks_whole, Sounds, counted_from, sounds_append, sound_at}
+use Rattle.clock_nodes.proofs.Taken.{state, proper, within, keeps_own, sound_on, sound_jump, sound_end, sound_fork, one_outcome, Marked, mark_in, marks_behind, marks_whole, Sounds, counted_from, sounds_append, typed}
 
 -- ---- what is known: the memory's place in r6, and numbers of 32 or 64 bits
 
@@ -46,7 +44,7 @@ any = Number (full_of 64)
 abbrev more : Kind
 more = Number (span 0 (2 ^ 32))
 
-abbrev node : Extent → Kind
+abbrev pub node : Extent → Kind
 node shape = Number (span 0 (shape.nodes - 1))
 
 abbrev at_entry : AbstractState
@@ -145,10 +143,10 @@ length_states shape (suc n) = omega (arith, length_states shape n)
 ordered : (a b : ℕ) → a ≤ b → IsInside (just a) (span 0 b)
 ordered a b h = record { low = omega arith; high = h }
 
-small_kind : (a b : ℕ) → a ≤ b → IsKindIn (Number (just a)) (Number (span 0 b))
+pub small_kind : (a b : ℕ) → a ≤ b → IsKindIn (Number (just a)) (Number (span 0 b))
 small_kind a b h = (just a, refl, ordered a b h)
 
-imm_is : (n : ℕ) → n < 2 ^ 32 → cast_unsigned w64 (pos n) % 2 ^ 64 ≡ n
+pub imm_is : (n : ℕ) → n < 2 ^ 32 → cast_unsigned w64 (pos n) % 2 ^ 64 ≡ n
 imm_is n h = mod-eq_of_lt (omega (arith, h))
 
 -- of the numbers below the modulus
@@ -196,7 +194,7 @@ some_any = record { ordered = omega arith }
 some_more : IsProperKind more
 some_more = record { ordered = omega arith }
 
-some_node : (shape : Extent) → IsProperKind (node shape)
+pub some_node : (shape : Extent) → IsProperKind (node shape)
 some_node shape = record { ordered = omega arith }
 
 is_entry : IsProper at_entry
@@ -309,7 +307,7 @@ still_word = kind_in_itself word
 still_any : IsKindIn any any
 still_any = kind_in_itself any
 
-still_node : (shape : Extent) → IsKindIn (node shape) (node shape)
+pub still_node : (shape : Extent) → IsKindIn (node shape) (node shape)
 still_node shape = kind_in_itself (node shape)
 
 -- ---- the head
@@ -743,7 +741,8 @@ ends_sound program shape table base quorum modulus is few stands marks =
     let s_last : Sounds program shape table at_sends 0 last = sounds_append program shape table at_sends 0 sends tail
     s_sends (counted_from program shape table at_tail at_sends 0 (0 + length sends) tail (omega arith) s_tail) in
     let s_rest : Sounds program shape table (base + 18) 0 (store ++ last) = sounds_append program shape table
-    (base + 18) 0 store last s_store (counted_from program shape table at_sends (base + 18) 0 2 last (omega arith) s_last) in
+    (base + 18) 0 store last s_store
+    (counted_from program shape table at_sends (base + 18) 0 2 last (omega arith) s_last) in
     sounds_append program shape table base 0 (choice quorum modulus) (store ++ last) s_choice
     (counted_from program shape table (base + 18) base 0 18 (store ++ last) (omega arith) s_rest)
 
@@ -758,7 +757,8 @@ all_sound program shape table quorum modulus is few stands marks =
     let stand_counts : Stands program 5 (counts ++ ends) = stands_behind program 0 5 (head modulus) (counts ++ ends)
     (omega arith) stands in
     let mark_counts : Marked table 5 (count_states shape n ++ (choice_states ++ end_states shape n)) =
-    marks_behind table 0 5 head_states (count_states shape n ++ (choice_states ++ end_states shape n)) (omega arith) marks in
+    marks_behind table 0 5 head_states (count_states shape n ++ (choice_states ++ end_states shape n)) (omega arith)
+    marks in
     let at_ends = 5 + length counts in
     let stand_ends : Stands program at_ends ends = stands_behind program 5 at_ends counts ends refl stand_counts in
     let mark_ends : Marked table at_ends (choice_states ++ end_states shape n) = marks_behind table 5 at_ends
@@ -777,59 +777,24 @@ all_sound program shape table quorum modulus is few stands marks =
     sounds_append program shape table 0 0 (head modulus) (counts ++ ends) s_head
     (counted_from program shape table 5 0 0 5 (counts ++ ends) (omega arith) s_rest)
 
-module _ (rule : Rule) (shape : Extent) (ok : IsRule rule.nodes rule.faults rule.modulus)
-    (is : IsExtent shape.nodes shape.memory) (nodes : rule.nodes ≡ shape.nodes) where
-  abbrev program : List Insn
-  program = clock_listing rule
-
-  abbrev states : List AbstractState
-  states = clock_states shape shape.nodes
-
-  abbrev table : Table
-  table at = slice_get states at
-
-  same_listing : listing shape.nodes (quorum_of rule) rule.modulus ≡ program
-  same_listing = ap (λ (n : ℕ). listing n (quorum_of rule) rule.modulus) (sym nodes)
-
-  sounds : Sounds program shape table 0 0 program
-  sounds =
-      let stands : Stands program 0 (listing shape.nodes (quorum_of rule) rule.modulus) = subst
-      (λ (is : List Insn). Stands program 0 is) (sym same_listing)
-      (stands_whole program (ones_clock rule.nodes (quorum_of rule) rule.modulus)) in
-      subst (λ (is : List Insn). Sounds program shape table 0 0 is) same_listing
-      (all_sound program shape table (quorum_of rule) rule.modulus is ok.most stands (marks_whole states))
-
-  -- each slot's instruction is sound with the state that stands there
-  record Here (slot : ℕ) (insn : Insn) : Type 0 where
-    known : AbstractState
-    stands : table slot ≡ Some known
-    sound : Sound program shape table slot insn known
-
-  here : (slot : ℕ) (insn : Insn) → insn_at program slot ≡ Some insn → Here slot insn
-  here slot insn e =
-      let listed : slice_get program slot ≡ Some insn = sym (found program slot
-      (ones_clock rule.nodes (quorum_of rule) rule.modulus)) ∙ e in
-      let there = sound_at program shape table 0 0 slot program insn sounds listed in
-      let same : 0 + (0 + slot) ≡ slot = omega arith in
-      subst (λ (s : ℕ). Here s insn) same (record { known = there.0; stands = there.1; sound = there.2 })
-
-  types : Types program shape (slots_of program) table
-  types = record {
-    entry = covered table (entry_state shape) at_entry 0 refl
-        (within (entry_state shape) _ _ _ _ _ _ _ tt still_place tt tt tt tt tt);
-    proper = λ slot insn A below e f.
-        let h = here slot insn e in
-        subst IsProper (same_Some h.known A (sym h.stands ∙ f)) h.sound.proper;
-    rules = λ slot insn below e.
-        let h = here slot insn e in
-        subst (λ (known : Option AbstractState). KeepsRules program shape slot insn known) (sym h.stands) h.sound.rules;
-    edges = λ slot to insn way A C below end e f g o.
-        let h = here slot insn e in
-        let same : A ≡ h.known = same_Some A h.known (sym f ∙ h.stands) in
-        h.sound.edges to way C g (subst (λ (B : AbstractState). outcome shape insn B way ≡ Some C) same o);
-  }
+clock_sounds : (rule : Rule) (shape : Extent) → IsRule rule.nodes rule.faults rule.modulus
+    → IsExtent shape.nodes shape.memory → rule.nodes ≡ shape.nodes
+    → Sounds (clock_listing rule) shape (λ at. slice_get (clock_states shape shape.nodes) at) 0 0 (clock_listing rule)
+clock_sounds rule shape ok is nodes =
+    let program = clock_listing rule in
+    let states = clock_states shape shape.nodes in
+    let same : listing shape.nodes (quorum_of rule) rule.modulus ≡ program = ap
+    (λ (n : ℕ). listing n (quorum_of rule) rule.modulus) (sym nodes) in
+    let stands : Stands program 0 (listing shape.nodes (quorum_of rule) rule.modulus) = subst
+    (λ (is : List Insn). Stands program 0 is) (sym same)
+    (stands_whole program (ones_clock rule.nodes (quorum_of rule) rule.modulus)) in
+    subst (λ (is : List Insn). Sounds program shape (λ at. slice_get states at) 0 0 is) same
+    (all_sound program shape (λ at. slice_get states at) (quorum_of rule) rule.modulus is ok.most stands
+    (marks_whole states))
 
 -- the clock is typable for every shape of its nodes
 pub clock_typable : (rule : Rule) (shape : Extent) → IsRule rule.nodes rule.faults rule.modulus
     → IsExtent shape.nodes shape.memory → rule.nodes ≡ shape.nodes → Typable (clock_listing rule) shape
-clock_typable rule shape ok is nodes = (table rule shape ok is nodes, types rule shape ok is nodes)
+clock_typable rule shape ok is nodes = typed (clock_listing rule) shape (clock_states shape shape.nodes) at_entry
+    (ones_clock rule.nodes (quorum_of rule) rule.modulus) refl
+    (within (entry_state shape) _ _ _ _ _ _ _ tt still_place tt tt tt tt tt) (clock_sounds rule shape ok is nodes)

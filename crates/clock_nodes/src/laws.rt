@@ -48,6 +48,13 @@ pub fn echo_ends()
     ensures ends { (shape : Extent) → EndsBy (echo_listing shape.nodes) shape IsEchoEnd }
 {}
 
+/// The listings of `say` and `echo` are taken too.
+pub fn hostile_is_taken()
+    ensures say { (values : List (Option ℕ)) (shape : Extent) → IsExtent shape.nodes shape.memory →
+        length values ≡ shape.nodes → Typable (say_listing values) shape }
+    ensures echo { (shape : Extent) → IsExtent shape.nodes shape.memory → Typable (echo_listing shape.nodes) shape }
+{}
+
 /// A clock and a mark that are written are read back, and those of the rule fit their places.
 pub fn pair_is_read_back()
     ensures clock { (pair : ℕ × ℕ) (memory : List ℕ) → pair.0 < 2 ^ 32 → clock_of (with_pair pair memory) ≡ pair.0 }
