@@ -35,9 +35,12 @@ returns-in_err-verified-clause-refused c =
     × IsFirstBroken draft.program c.args.setup.now.shape slot in
     let there : Place → ℕ → Type 0 = λ p slot. (p ≡ places.Load c.args.index) × BrokenLoad f clock ms slot in
     let all = refuses_more c.in_err-verified.field-0.0 ⊥ none here there (λ no_one. absurd no_one)
-    (λ p slot is. (is.0, record {
-      load = draft;
-      spelled = spelled;
-      broken = subst (λ (x : Extent). IsFirstBroken draft.program x slot) c.requires.shape is.1;
-    })) c.in_err-verified.ensures.refused in
+    (λ p slot is. (
+      is.0,
+      record {
+        load = draft;
+        spelled = spelled;
+        broken = subst (λ (x : Extent). IsFirstBroken draft.program x slot) c.requires.shape is.1;
+      },
+    )) c.in_err-verified.ensures.refused in
     search (rules, all)
