@@ -191,8 +191,9 @@ fn first_refusal(shape: Shape, rule: ClockRule, events: &[Event]) -> RunRefusal
     }
 }
 
-/// The run of the events on a new bench, whose pulses are run by 1 to [`MOST_WORKERS`] workers. The fault of an
-/// event that can't be done has its place, from 0 on; want of memory after the last has their number. The run is the same for every number of workers (docs/SCENARIOS.md, "Runs").
+/// The run of the events on a new bench, whose pulses are run by 1 to [`MOST_WORKERS`] workers. The fault of an event
+/// that can't be done has its place, from 0 on; want of memory after the last has their number. The run is the same for
+/// every number of workers (docs/SCENARIOS.md, "Runs").
 pub fn run_events<R: Threads + Wait + Sync, G: Gate + Sync>(
     rt: &R,
     alloc: Global,

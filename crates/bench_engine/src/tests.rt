@@ -12,6 +12,7 @@ use std::test::Fail;
 use std::thread::Threads;
 
 mod gates;
+mod records;
 mod shared;
 
 use gates::{Counting, Meeting, Shut};

@@ -88,9 +88,11 @@ pub report_left : (known old new : Option (List ℕ)) (bytes slice line told : L
     → IfSome known (λ text. bytes ≡ take MOST_BYTES text) → slice ≡ bytes → told ≡ line → Reports slice line
     → Appends old new told → IfSome known (λ text. LeavesReport old new text (Ok tt))
 report_left None old new bytes slice line told taken same whole reports left = tt
-report_left (Some text) old new bytes slice line told taken same whole reports left =
-    (line, reports_whole bytes text line (front_of bytes text taken) (subst (λ b. Reports b line) same reports),
-    subst (λ t. Appends old new t) whole left)
+report_left (Some text) old new bytes slice line told taken same whole reports left = (
+  line,
+  reports_whole bytes text line (front_of bytes text taken) (subst (λ b. Reports b line) same reports),
+  subst (λ t. Appends old new t) whole left,
+)
 
 -- or its front
 pub front_left : (known old new : Option (List ℕ)) (bytes slice line told : List ℕ) (written : ℕ)
@@ -98,6 +100,9 @@ pub front_left : (known old new : Option (List ℕ)) (bytes slice line told : Li
     → written < length told → Appends old new (take written told)
     → IfSome known (λ text. LeavesReport old new text (Err (faults.Write written)))
 front_left None old new bytes slice line told written taken same whole reports part left = tt
-front_left (Some text) old new bytes slice line told written taken same whole reports part left =
-    (line, reports_whole bytes text line (front_of bytes text taken) (subst (λ b. Reports b line) same reports),
-    subst (λ t. written < length t) whole part, subst (λ t. Appends old new (take written t)) whole left)
+front_left (Some text) old new bytes slice line told written taken same whole reports part left = (
+  line,
+  reports_whole bytes text line (front_of bytes text taken) (subst (λ b. Reports b line) same reports),
+  subst (λ t. written < length t) whole part,
+  subst (λ t. Appends old new (take written t)) whole left,
+)

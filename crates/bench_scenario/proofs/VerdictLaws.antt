@@ -78,15 +78,16 @@ one_of : (modulus : ℕ) (clocks : List (Option ℕ)) (f : Option ℕ) → first
 one_of modulus clocks None e =
     (λ is i j c d has other. absurd (none_there clocks e i c has), λ each. refl)
 one_of modulus clocks (Some f) e =
-    let there = first_there clocks f e in
-    (λ is i j c d has other.
-        let parts = and_parts (nat_lt f modulus) (list_all (is_clock f) clocks) is in
-        let one = all_are f clocks parts.1 i c has in
-        let two = all_are f clocks parts.1 j d other in
-        (one ∙ sym two, subst (λ (k : ℕ). k < modulus) (sym one) (ltb-true f modulus parts.0)),
-    λ each. and_from (nat_lt f modulus) (list_all (is_clock f) clocks)
-        (lt-ltb f modulus (each there.0 there.0 f f there.1 there.1).1)
-        (are_all f clocks (λ i c has. (each i there.0 c f has there.1).0)))
+    let there = first_there clocks f e in (
+      λ is i j c d has other.
+          let parts = and_parts (nat_lt f modulus) (list_all (is_clock f) clocks) is in
+          let one = all_are f clocks parts.1 i c has in
+          let two = all_are f clocks parts.1 j d other in
+          (one ∙ sym two, subst (λ (k : ℕ). k < modulus) (sym one) (ltb-true f modulus parts.0)),
+      λ each. and_from (nat_lt f modulus) (list_all (is_clock f) clocks)
+          (lt-ltb f modulus (each there.0 there.0 f f there.1 there.1).1)
+          (are_all f clocks (λ i c has. (each i there.0 c f has there.1).0)),
+    )
 
 judged_own : (modulus : ℕ) (r : PulseTold) (few told : Bool)
     → (if few then None else Some (are_one modulus (settled_in r) (first_clock (settled_in r)))) ≡ Some told
@@ -97,9 +98,10 @@ judged_own modulus r false told e = cc
 pub own_agrees : OwnAgrees
 own_agrees modulus r told e =
     let same = judged_own modulus r (nat_lt r.row.settled FEWEST) told e in
-    let ways = one_of modulus (settled_in r) (first_clock (settled_in r)) refl in
-    (λ is i j c d has other. ways.0 (same ∙ is) i j c d (settled_at r i c has) (settled_at r j d other),
-    λ each. sym same ∙ ways.1 (λ i j c d has other. each i j c d (at_settled r i c has) (at_settled r j d other)))
+    let ways = one_of modulus (settled_in r) (first_clock (settled_in r)) refl in (
+      λ is i j c d has other. ways.0 (same ∙ is) i j c d (settled_at r i c has) (settled_at r j d other),
+      λ each. sym same ∙ ways.1 (λ i j c d has other. each i j c d (at_settled r i c has) (at_settled r j d other)),
+    )
 
 -- ---- counting
 
@@ -148,16 +150,20 @@ Tells modulus before after (Some told) = (IsTrue told ↔ On modulus before afte
 
 joins : (modulus : ℕ) (b a : ℕ) (before after : List (Option ℕ)) (rest : Option Bool) → Tells modulus before after rest
     → Tells modulus (Some b ∷ before) (Some a ∷ after) (joined (Some (counts_on modulus b a)) rest)
-joins modulus b a before after None apart =
-    ((λ is. on_more modulus (Some b) (Some a) before after
+joins modulus b a before after None apart = (
+  (
+    λ is. on_more modulus (Some b) (Some a) before after
         (λ c d e f. let p : b ≡ c = cc in let q : a ≡ d = cc in
         subst (λ (k : ℕ). (k < modulus) × (d ≡ (k + 1) % modulus)) p
         (subst (λ (k : ℕ). (b < modulus) × (k ≡ (b + 1) % modulus)) q (on_from modulus b a is)))
         (apart_on modulus before after apart),
-    λ on. from_on modulus b a (on 0 b a refl refl)),
-    λ none. none 0 b a refl refl)
-joins modulus b a before after (Some told) rest =
-    ((λ both.
+    λ on. from_on modulus b a (on 0 b a refl refl),
+  ),
+  λ none. none 0 b a refl refl,
+)
+joins modulus b a before after (Some told) rest = (
+  (
+    λ both.
         let parts = and_parts (counts_on modulus b a) told both in
         on_more modulus (Some b) (Some a) before after
         (λ c d e f. let p : b ≡ c = cc in let q : a ≡ d = cc in
@@ -165,17 +171,22 @@ joins modulus b a before after (Some told) rest =
         (subst (λ (k : ℕ). (b < modulus) × (k ≡ (b + 1) % modulus)) q (on_from modulus b a parts.0)))
         (rest.0.0 parts.1),
     λ on. and_from (counts_on modulus b a) told (from_on modulus b a (on 0 b a refl refl))
-        (rest.0.1 (on_rest modulus (Some b) (Some a) before after on))),
-    λ none. none 0 b a refl refl)
+        (rest.0.1 (on_rest modulus (Some b) (Some a) before after on)),
+  ),
+  λ none. none 0 b a refl refl,
+)
 
 skips : (modulus : ℕ) (b a : Option ℕ) (before after : List (Option ℕ)) (rest : Option Bool)
     → ((c d : ℕ) → b ≡ Some c → a ≡ Some d → ⊥) → Tells modulus before after rest
     → Tells modulus (b ∷ before) (a ∷ after) rest
 skips modulus b a before after None first apart = apart_more b a before after first apart
-skips modulus b a before after (Some told) first rest =
-    ((λ is. on_more modulus b a before after (λ c d e f. absurd (first c d e f)) (rest.0.0 is),
-    λ on. rest.0.1 (on_rest modulus b a before after on)),
-    λ none. rest.1 (λ i c d has other. none (suc i) c d has other))
+skips modulus b a before after (Some told) first rest = (
+  (
+    λ is. on_more modulus b a before after (λ c d e f. absurd (first c d e f)) (rest.0.0 is),
+    λ on. rest.0.1 (on_rest modulus b a before after on),
+  ),
+  λ none. rest.1 (λ i c d has other. none (suc i) c d has other),
+)
 
 tells : (modulus : ℕ) (before after : List (Option ℕ)) → Tells modulus before after (counting modulus before after)
 tells modulus [] after = λ i c d has other. cc
@@ -190,9 +201,10 @@ tells modulus (None ∷ before) (a ∷ after) =
 pub counts : Counts
 counts modulus before after verdict e =
     let told = subst (λ (v : Option Bool). Tells modulus (settled_in before) (settled_in after) v) e
-    (tells modulus (settled_in before) (settled_in after)) in
-    (λ is i c d has other. told.0.0 is i c d (settled_at before i c has) (settled_at after i d other),
-    λ all. told.0.1 (λ i c d has other. all i c d (at_settled before i c has) (at_settled after i d other)))
+    (tells modulus (settled_in before) (settled_in after)) in (
+      λ is i c d has other. told.0.0 is i c d (settled_at before i c has) (settled_at after i d other),
+      λ all. told.0.1 (λ i c d has other. all i c d (at_settled before i c has) (at_settled after i d other)),
+    )
 
 -- a verdict is there where nodes are
 nothing_told : (modulus : ℕ) (before after : List (Option ℕ)) (v : Option Bool) → Tells modulus before after v
@@ -201,11 +213,12 @@ nothing_told modulus before after None told apart = refl
 nothing_told modulus before after (Some verdict) told apart = absurd (told.1 apart)
 
 pub counts_nothing : CountsNothing
-counts_nothing modulus before after =
-    (λ e. let told = subst (λ (v : Option Bool). Tells modulus (settled_in before) (settled_in after) v) e
-        (tells modulus (settled_in before) (settled_in after)) in
-        λ i c d has other. told i c d (settled_at before i c has) (settled_at after i d other),
-    λ none. nothing_told modulus (settled_in before) (settled_in after)
-        (counting modulus (settled_in before) (settled_in after))
-        (tells modulus (settled_in before) (settled_in after))
-        (λ i c d has other. none i c d (at_settled before i c has) (at_settled after i d other)))
+counts_nothing modulus before after = (
+  λ e. let told = subst (λ (v : Option Bool). Tells modulus (settled_in before) (settled_in after) v) e
+      (tells modulus (settled_in before) (settled_in after)) in
+      λ i c d has other. told i c d (settled_at before i c has) (settled_at after i d other),
+  λ none. nothing_told modulus (settled_in before) (settled_in after)
+      (counting modulus (settled_in before) (settled_in after))
+      (tells modulus (settled_in before) (settled_in after))
+      (λ i c d has other. none i c d (at_settled before i c has) (at_settled after i d other)),
+)

@@ -75,7 +75,9 @@ fn add_judged(
     let steps = one.steps;
     let agree = verdict_text(judged.agree);
     let counts = verdict_text(judged.counts);
-    let rest = format!(in alloc; " settled {settled} steps {steps} agree {agree} counts {counts}\n")?;
+    let rest = format!(in alloc;
+        " settled {settled} steps {steps} agree {agree} counts {counts}\n"
+    )?;
     add(report, rest.as_str())
 }
 
@@ -148,7 +150,9 @@ fn head(alloc: Global, scenario: &Scenario, own: bool) -> Result<String, AllocEr
     let faults = scenario.faults;
     let modulus = scenario.modulus;
     let clock = if own { "own" } else { "rule" };
-    format!(in alloc; "version {version} nodes {nodes} faults {faults} modulus {modulus} clock {clock}\n")
+    format!(in alloc;
+        "version {version} nodes {nodes} faults {faults} modulus {modulus} clock {clock}\n"
+    )
 }
 
 /// The report, with what is judged of each pulse.
@@ -162,7 +166,13 @@ pub(crate) fn judged_report(
 {
     let mut text = head(alloc, scenario, own)?;
     let judged = judged_of(alloc, own, scenario.modulus, records)?;
-    add_all_judged(alloc, &mut text, scenario.modulus, records, judged.as_slice())?;
+    add_all_judged(
+        alloc,
+        &mut text,
+        scenario.modulus,
+        records,
+        judged.as_slice(),
+    )?;
     let last = last(alloc, judged.as_slice())?;
     add(&mut text, last.as_str())?;
     Ok(text)

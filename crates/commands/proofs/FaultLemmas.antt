@@ -1,5 +1,5 @@
 -- What was said of a fault, by what came of the write.
-use Rattle.std.proofs.Common.{◌≡◌, List, ℕ, length, take, Option, Result, Ok, Err, sym, subst}
+use Rattle.std.proofs.Common.{List, ℕ, length, take, Option, Result, Ok, Err, sym, subst}
 use Rattle.std.specs.Prelude.{IfErr, OnOk}
 use Rattle.std.specs.Io.KnownBytes.{Appends}
 use Rattle.std.proofs.Math.Seq.{take-length}

@@ -3,7 +3,8 @@ use Rattle.std.specs.Prelude.{ℕ, List, length, ◌++◌, codes, count_by, Opti
 use Rattle.std.specs.Fmt.{decimal}
 use Rattle.bench_core.specs.Replay.{Entry}
 use Rattle.bench_shared.specs.Ends.{HasReplay, is_load, is_close}
-use Rattle.bench_stress.specs.Stressed.{stressed_setup}
+use Rattle.bench_stress.specs.declared.hands.StressOptions.{StressOptions}
+use Rattle.bench_stress.specs.Stressed.{HasEntries, nearest, stressed_setup}
 use Rattle.commands.specs.declared.ending.Ending.{Ending}
 use Rattle.commands.specs.declared.ending.Ending.TheVariants as endings
 use Rattle.commands.specs.declared.fault.Fault.{Fault}
@@ -14,10 +15,11 @@ pub data Stressed : Type 0 where
   Replayed : (history : List Entry) → Stressed
   Mismatch : Stressed
 
--- a history that is told leads a new bench to some state
-abbrev pub IsStressed : Stressed → Type 0
-IsStressed (Replayed history) = HasReplay stressed_setup history
-IsStressed Mismatch = Unit {0}
+-- a history that is told leads a new bench to some state, and has the entries that are asked for
+abbrev pub IsStressed : StressOptions → Stressed → Type 0
+IsStressed asked (Replayed history) =
+    HasReplay stressed_setup history × HasEntries (nearest asked.loaders) asked.loads asked.pulses history
+IsStressed asked Mismatch = Unit {0}
 
 -- the loads that were staged, the pulses that were closed, and the entries of the history
 abbrev pub finished_line : List Entry → List ℕ
@@ -35,5 +37,5 @@ stressed_ending (Replayed history) = endings.Done
 stressed_ending Mismatch = endings.Mismatched
 
 -- the line, its first bytes where a write failed, or nothing at another fault
-abbrev pub LeavesStressed : Option (List ℕ) → Option (List ℕ) → Result Ending Fault → Type 0
-LeavesStressed old new result = LeavesAny IsStressed stressed_text stressed_ending old new result
+abbrev pub LeavesStressed : StressOptions → Option (List ℕ) → Option (List ℕ) → Result Ending Fault → Type 0
+LeavesStressed asked old new result = LeavesAny (IsStressed asked) stressed_text stressed_ending old new result

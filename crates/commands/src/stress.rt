@@ -25,7 +25,7 @@ pub fn stress<R: Threads + Wait + Sync, W: Write>(
     options: StressOptions,
     out: &mut W,
 ) -> Result<Ending, Fault>
-    ensures { LeavesStressed (W.contents out.old) (W.contents out.new) result }
+    ensures { LeavesStressed options (W.contents out.old) (W.contents out.new) result }
 {
     match stress_bench(rt, alloc, options) {
         Ok(finished) => write_finished(alloc, &finished, out),

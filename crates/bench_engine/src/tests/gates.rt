@@ -131,3 +131,47 @@ impl Gate for Meeting {
         }
     }
 }
+
+/// A gate that lets a pulse go once a watcher has seen the row of the one before it.
+#[derive(Drop)]
+pub struct Seen {
+    seen: CachePadded<AtomicU32>,
+    wanted: CachePadded<AtomicU32>,
+}
+
+impl Seen {
+    pub fn new() -> Seen {
+        Seen {
+            seen: counter(),
+            wanted: counter(),
+        }
+    }
+
+    /// The watcher has seen the row of this pulse.
+    pub fn see(&self, pulse: u32) {
+        self.seen.store(pulse, Ordering::SeqCst);
+    }
+
+    /// The next pulse waits for the row of this one.
+    pub fn want(&self, pulse: u32) {
+        self.wanted.store(pulse, Ordering::SeqCst);
+    }
+}
+
+impl Gate for Seen {
+    ghost use Rattle.std.specs.Prelude.{true, false};
+
+    ghost always = { λ _. false };
+
+    ghost lets_in = { λ _ _. true };
+
+    fn enter(&self, _worker: u32) -> bool {
+        let wanted = self.wanted.load(Ordering::SeqCst);
+        for _ in 0..TURNS {
+            if self.seen.load(Ordering::SeqCst) == wanted {
+                return true;
+            }
+        }
+        false
+    }
+}

@@ -1,7 +1,7 @@
 //! Pulses of a shared bench.
 ghost use Rattle.std.specs.Prelude.{◌≡◌, ◌+◌, ◌≤◌, None};
 
-use super::gates::{Meeting, Shut, TURNS};
+use super::gates::{Meeting, Seen, Shut, TURNS};
 use super::{Four, clock, four_nodes};
 use crate::*;
 use bench_core::Entry;
@@ -16,7 +16,7 @@ use std::thread;
 use std::thread::{Promise, Scope, Threads};
 
 /// The clock in each of four nodes.
-fn load_clocks<B: Ledger, C: Ledger, R: Wait>(
+pub fn load_clocks<B: Ledger, C: Ledger, R: Wait>(
     rt: &R,
     alloc: Global,
     shared: &SharedBench<B, C>,
@@ -165,19 +165,22 @@ fn gate_shut_on_a_shared_bench(rt: HostRuntime) -> Result<(), Fail> {
 /// The pulses that the engine runs beside a watcher.
 const PULSES: u32 = 10;
 
-/// Looks until the last pulse is seen. Answers the pass, and whether that pulse was seen and none was lower than one
-/// before it.
-fn watch(board: &Board, mut pass: WatchPass) -> (WatchPass, bool)
+/// Looks until the last pulse is seen, and says in the gate which was seen last. Answers the pass, and whether each
+/// pulse was seen, in order.
+fn watch(board: &Board, gate: &Seen, mut pass: WatchPass) -> (WatchPass, bool)
     requires { pass.board ≡ board.now }
     ensures { result.0.board ≡ board.now }
 {
     let mut last = 0;
     for _turn in 0..TURNS {
         if let Some(row) = board.look(&mut pass) {
-            if row.pulse < last {
-                return (pass, false);
+            if row.pulse != last {
+                if row.pulse != last.wrapping_add(1) {
+                    return (pass, false);
+                }
+                last = row.pulse;
+                gate.see(last);
             }
-            last = row.pulse;
             if last == PULSES {
                 return (pass, true);
             }
@@ -203,21 +206,23 @@ impl Promise<(WatchPass, bool)> for OfBoard {
     ghost kept_by = { λ p watched. watched.0.board ≡ p.board.value };
 }
 
-/// Runs so many pulses of four nodes, and tells whether each left a row.
+/// Runs so many pulses of four nodes, each once the row before it was seen, and tells whether each left a row.
 fn run_pulses<B: Ledger, C: Ledger, R: Threads + Wait + Sync>(
     rt: &R,
     alloc: Global,
     shared: &SharedBench<B, C>,
     board: &Board,
     engine: &mut EnginePass<B, C>,
+    gate: &Seen,
 ) -> bool
     requires board { engine.old.board ≡ board.now }
     requires paid { engine.old.owed ≡ None }
     ensures board { engine.new.board ≡ engine.old.board }
     ensures paid { engine.new.owed ≡ None }
 {
-    for _pulse in 0..PULSES {
-        if left_by(rt, alloc, shared, board, engine, &Open) != Left::Row {
+    for pulse in 0..PULSES {
+        gate.want(pulse);
+        if left_by(rt, alloc, shared, board, engine, gate) != Left::Row {
             return false;
         }
     }
@@ -231,6 +236,7 @@ fn run_beside<'s, E, B: Ledger, C: Ledger, R: Threads + Wait + Sync>(
     alloc: Global,
     shared: &SharedBench<B, C>,
     board: &'s Board,
+    gate: &'s Seen,
     mut engine: EnginePass<B, C>,
     pass: WatchPass,
 ) -> Option<(bool, bool, u32)>
@@ -244,11 +250,11 @@ fn run_beside<'s, E, B: Ledger, C: Ledger, R: Threads + Wait + Sync>(
     let job = move || -> (WatchPass, bool)
         requires { pass.board ≡ board.now }
         ensures { result.0.board ≡ board.entry.now }
-    { watch(board, pass) };
+    { watch(board, gate, pass) };
     let Ok(child) = scope.spawn_with(promise, job) else {
         return None;
     };
-    let ran = run_pulses(rt, alloc, shared, board, &mut engine);
+    let ran = run_pulses(rt, alloc, shared, board, &mut engine, gate);
     let (mut pass, saw) = child.join(rt);
     Some((ran, saw, board.meet(&mut engine, &mut pass)))
 }
@@ -271,7 +277,8 @@ fn watched<B: Ledger, C: Ledger, R: Threads + Wait + Sync>(
     let Some(pass) = watchers.pop() else {
         return Err("no watcher")?;
     };
-    let (bench, seen) = (&shared, &board);
+    let gate = Seen::new();
+    let (bench, seen, shown) = (&shared, &board, &gate);
     Ok(thread::scope(
         thread::scope_env(),
         rt,
@@ -279,10 +286,11 @@ fn watched<B: Ledger, C: Ledger, R: Threads + Wait + Sync>(
             requires board { engine.board ≡ seen.now }
             requires paid { engine.owed ≡ None }
             requires watcher { pass.board ≡ seen.now }
-        { run_beside(scope, rt, alloc, bench, seen, engine, pass) },
+        { run_beside(scope, rt, alloc, bench, seen, shown, engine, pass) },
     ))
 }
 
+/// A watcher that only looks once all pulses have ended fails here: each pulse but the first waits for it.
 #[test]
 fn watcher_thread(rt: HostRuntime) -> Result<(), Fail> {
     let four = four_nodes()?;

@@ -30,12 +30,16 @@ fn rule_text(alloc: Global) -> Result<String, AllocError> {
         "mov64 r6, r1\nldxw r7, [r6+0]\njlt r7, 8, +1\nmov64 r7, 0\nmov64 r8, 0\n",
     )?;
     for node in 0u32..4 {
-        let heard = format!(in alloc; "mov64 r1, {node}\ncall recv\njne r0, r7, +1\nadd64 r8, 1\n")?;
+        let heard = format!(in alloc;
+            "mov64 r1, {node}\ncall recv\njne r0, r7, +1\nadd64 r8, 1\n"
+        )?;
         text.push_str(heard.as_str())?;
     }
     text.push_str("jge r8, 3, ok\nmov64 r7, 0\nmov64 r9, 0\nja store\n")?;
     text.push_str("ok: jne r7, 0, inc\nldxw r9, [r6+4]\njne r9, 0, one\ncall coin\n")?;
-    text.push_str("mov64 r7, r0\nmov64 r9, r0\nja store\none: mov64 r7, 1\nmov64 r9, 1\nja store\n")?;
+    text.push_str(
+        "mov64 r7, r0\nmov64 r9, r0\nja store\none: mov64 r7, 1\nmov64 r9, 1\nja store\n",
+    )?;
     text.push_str("inc: add64 r7, 1\nmov64 r9, 1\njlt r7, 8, store\nmov64 r7, 0\n")?;
     text.push_str("store: stxw [r6+0], r7\nstxw [r6+4], r9\n")?;
     for node in 0u32..4 {
