@@ -8,7 +8,7 @@ use Rattle.clock_nodes.specs.Listings.{clock_listing}
 use Rattle.scenario_text.specs.Spelling.{MeansAt, HasClock}
 
 -- a value means one program at most
-one_meaning : (o : Option Data) (p q : List Insn) → MeansAt o p → MeansAt o q → p ≡ q
+pub one_meaning : (o : Option Data) (p q : List Insn) → MeansAt o p → MeansAt o q → p ≡ q
 one_meaning None p q first second = absurd first
 one_meaning (Some (string text)) p q first second = let same : Some p ≡ Some q = sym first.reads ∙ second.reads in cc
 one_meaning (Some (integer n)) p q first second = absurd first
@@ -19,7 +19,7 @@ one_meaning (Some (array items)) p q first second = absurd first
 one_meaning (Some (table ms)) p q first second = absurd first
 
 -- where there is no value, there is no meaning
-none_meant : (o : Option Data) (p : List Insn) → o ≡ None → MeansAt o p → ⊥
+pub none_meant : (o : Option Data) (p : List Insn) → o ≡ None → MeansAt o p → ⊥
 none_meant o p none means = subst (λ o. MeansAt o p) none means
 
 -- a table has the rule's clock or another one

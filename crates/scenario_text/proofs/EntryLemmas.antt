@@ -20,7 +20,7 @@ abbrev pub Each : {A : Type 0} → (A → Type 0) → List A → Type 0
 Each P [] = Unit {0}
 Each P (x ∷ xs) = P x × Each P xs
 
-each_of_all : {A : Type 0} (P : A → Type 0) (xs : List A) → All P xs → Each P xs
+pub each_of_all : {A : Type 0} (P : A → Type 0) (xs : List A) → All P xs → Each P xs
 each_of_all P [] all = tt
 each_of_all P (x ∷ xs) all = (all 0 x (omega arith), each_of_all P xs (λ k d within. all (suc k) d (omega arith)))
 

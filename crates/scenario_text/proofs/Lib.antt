@@ -5,4 +5,5 @@ pub mod FrameLemmas
 mod ListLemmas
 mod NameLemmas
 pub mod TableLemmas
+mod RefusedLaws
 mod WholeLemmas

@@ -5,5 +5,6 @@ pub mod Views
 pub mod Broken
 pub mod Faults
 pub mod Texts
+pub mod Laws
 pub mod Lines
 pub mod inner

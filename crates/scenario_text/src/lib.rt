@@ -4,6 +4,7 @@
 mod arrays;
 mod coin_entries;
 mod corruptions;
+pub mod laws;
 mod limits;
 mod line;
 mod loads;

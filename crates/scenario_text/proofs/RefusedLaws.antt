@@ -1,0 +1,130 @@
+-- A table of which a program is refused reads as no scenario.
+use Rattle.std.proofs.Common.{◌≡◌, ℕ, zero, suc, List, [], ◌∷◌, map, refl, sym, subst, inl, inr}
+use Rattle.std.specs.Prelude.{Option, Some, None, IfSome, IsSomeAnd, codes, option_map}
+use Rattle.toml.specs.Data.{Data, Items, no_items, item, array, string, integer, float, boolean, datetime, table, Members, get_member}
+use Rattle.bpf_insn.specs.declared.forms.Insn.{Insn}
+use Rattle.node_env.specs.Env.{Extent, IsExtent}
+use Rattle.bpf_verify.specs.Accepted.{Accepted, IsFirstBroken}
+use Rattle.bpf_verify.specs.Typable.{Typable}
+use Rattle.bpf_verify.proofs.VerdictLaws.{broken_untypable}
+use Rattle.clock_nodes.specs.Rule.{Rule, IsRule}
+use Rattle.clock_nodes.specs.Listings.{clock_listing}
+use Rattle.clock_nodes.proofs.TakenClock.{clock_typable}
+use Rattle.scenario_text.specs.declared.refusal.Place.TheVariants as places
+use Rattle.scenario_text.specs.declared.scenario.Frame.{Frame}
+use Rattle.scenario_text.specs.declared.scenario.Kind.{Kind}
+use Rattle.scenario_text.specs.declared.scenario.Kind.TheVariants.{Asm}
+use Rattle.scenario_text.specs.declared.scenario.Load.{Load}
+use Rattle.scenario_text.specs.declared.scenario.Scenario.{Scenario}
+use Rattle.scenario_text.specs.Broken.{BrokenLoad, BrokenText, StandsAt, item_at}
+use Rattle.scenario_text.specs.Drafts.{LoadDraft}
+use Rattle.scenario_text.specs.Laws.{RefusedReadsAsNone}
+use Rattle.scenario_text.specs.Spelling.{HasClock, HasFrame, IsProgramOf, MeansAt, SpelledLoad, rule_of}
+use Rattle.scenario_text.specs.Tables.{IsTable, MayBeArray, ReadsEach}
+use Rattle.scenario_text.specs.Views.{FitsLoad, Reads, draft_of, extent_of, frame_of, load_of}
+use Rattle.scenario_text.proofs.ClockLemmas.{none_meant, one_clock, one_meaning}
+use Rattle.scenario_text.proofs.EntryLemmas.{Each, each_of_all}
+use Rattle.scenario_text.proofs.FrameLemmas.{frame_extent, frame_rule, one_frame}
+use Rattle.scenario_text.proofs.NameLemmas.{one_kind}
+
+-- ---- the clock
+
+by_clock : (rule : Rule) (ms : Members) (shape : Extent) (o : Option Accepted) (p : List Insn) (slot : ℕ)
+    → IsRule rule.nodes rule.faults rule.modulus → IsExtent shape.nodes shape.memory → rule.nodes ≡ shape.nodes
+    → HasClock rule ms (option_map (λ v. v.program) o) → IfSome o (λ v. (v.shape ≡ shape) × Typable v.program shape)
+    → MeansAt (get_member (codes "clock") ms) p → IsFirstBroken p shape slot → ⊥
+by_clock rule ms shape None p slot ok is nodes has fits means broken =
+    let o = get_member (codes "clock") ms in
+    elim has [
+      | inl gone ↦ none_meant o p gone means
+      | inr listing ↦ broken_untypable p shape slot broken
+          (subst (λ (q : List Insn). Typable q shape) (one_meaning o (clock_listing rule) p listing means)
+          (clock_typable rule shape ok is nodes))
+    ]
+by_clock rule ms shape (Some v) p slot ok is nodes has fits means broken =
+    broken_untypable p shape slot broken (subst (λ (q : List Insn). Typable q shape)
+    (one_meaning (get_member (codes "clock") ms) v.program p has.0 means) fits.1)
+
+clock_unread : (ms : Members) (s : Scenario) (slot : ℕ) (f : Frame) → HasFrame ms f
+    → BrokenText ms (codes "clock") (extent_of f) slot → Reads ms s → ⊥
+clock_unread ms s slot f has broken reads =
+    let g = frame_of s in
+    let same = one_frame ms g f reads.spelled.frame has in
+    by_clock (rule_of g) ms (extent_of g) s.clock broken.program slot (frame_rule ms g reads.spelled.frame)
+    (frame_extent ms g reads.spelled.frame) refl reads.spelled.clock reads.clock broken.means
+    (subst (λ (h : Frame). IsFirstBroken broken.program (extent_of h) slot) (sym same) broken.broken)
+
+-- ---- a load
+
+some_at : (o : Option Data) (P : Data → Type 0) → IsSomeAnd o P → (v : Data) × (o ≡ Some v) × P v
+some_at None P is = absurd is
+some_at (Some v) P is = (v, refl, is)
+
+load_at : (f : Frame) (reads : Data → LoadDraft → Type 0) (items : Items) (ls : List Load) (index : ℕ) (v : Data)
+    → ReadsEach reads items (map load_of ls) → Each (FitsLoad f) ls → item_at items index ≡ Some v
+    → (l : Load) × reads v (load_of l) × FitsLoad f l
+load_at f reads no_items ls index v each fits at = absurd cc
+load_at f reads (item w ws) [] index v each fits at = absurd each
+load_at f reads (item w ws) (l ∷ ls) zero v each fits at =
+    let same : w ≡ v = cc in
+    (l, subst (λ (u : Data). reads u (load_of l)) same each.0, fits.0)
+load_at f reads (item w ws) (l ∷ ls) (suc index) v each fits at = load_at f reads ws ls index v each.1 fits.1 at
+
+-- the load that is read there is the one that is refused
+load_refused : (f : Frame) (c : Option (List Insn)) (slot : ℕ) (v : Data) (l : Load)
+    → IsTable (SpelledLoad f c) v (load_of l) → FitsLoad f l → IsTable (BrokenLoad f c) v slot → ⊥
+load_refused f c slot (table ms) l spelled fits broken =
+    let p = (load_of l).program in
+    let q = broken.load.program in
+    let mine : MeansAt (get_member (codes "text") ms) p = subst (λ (k : Kind). IsProgramOf f c k ms p)
+    (one_kind ms spelled.kind Asm spelled.named broken.named) spelled.program in
+    let theirs : MeansAt (get_member (codes "text") ms) q = subst (λ (k : Kind). IsProgramOf f c k ms q)
+    (one_kind ms broken.spelled.kind Asm broken.spelled.named broken.named) broken.spelled.program in
+    broken_untypable q (extent_of f) slot broken.broken (subst (λ (r : List Insn). Typable r (extent_of f))
+    (one_meaning (get_member (codes "text") ms) p q mine theirs) fits.1)
+load_refused f c slot (array items) l spelled fits broken = absurd spelled
+load_refused f c slot (string text) l spelled fits broken = absurd spelled
+load_refused f c slot (integer n) l spelled fits broken = absurd spelled
+load_refused f c slot (float x) l spelled fits broken = absurd spelled
+load_refused f c slot (boolean b) l spelled fits broken = absurd spelled
+load_refused f c slot (datetime d) l spelled fits broken = absurd spelled
+
+by_loads : (f : Frame) (c : Option (List Insn)) (o : Option Data) (ls : List Load) (index slot : ℕ)
+    → MayBeArray (IsTable (SpelledLoad f c)) o (map load_of ls) → Each (FitsLoad f) ls
+    → StandsAt (IsTable (BrokenLoad f c)) o index slot → ⊥
+by_loads f c None ls index slot each fits stands = absurd stands
+by_loads f c (Some (array items)) ls index slot each fits stands =
+    let there = some_at (item_at items index) (λ value. IsTable (BrokenLoad f c) value slot) stands in
+    let one = load_at f (IsTable (SpelledLoad f c)) items ls index there.0 each fits there.1 in
+    load_refused f c slot there.0 one.0 one.1 one.2 there.2
+by_loads f c (Some (string text)) ls index slot each fits stands = absurd stands
+by_loads f c (Some (integer n)) ls index slot each fits stands = absurd stands
+by_loads f c (Some (float x)) ls index slot each fits stands = absurd stands
+by_loads f c (Some (boolean b)) ls index slot each fits stands = absurd stands
+by_loads f c (Some (datetime d)) ls index slot each fits stands = absurd stands
+by_loads f c (Some (table ms)) ls index slot each fits stands = absurd stands
+
+load_unread : (ms : Members) (s : Scenario) (index slot : ℕ) (f : Frame) (c : Option (List Insn)) → HasFrame ms f
+    → HasClock (rule_of f) ms c → StandsAt (IsTable (BrokenLoad f c)) (get_member (codes "load") ms) index slot
+    → Reads ms s → ⊥
+load_unread ms s index slot f c has clock stands reads =
+    let g = frame_of s in
+    let d = (draft_of s).clock in
+    let o = get_member (codes "load") ms in
+    let same = one_frame ms g f reads.spelled.frame has in
+    let mine = subst (λ (h : Frame). HasClock (rule_of h) ms d) same reads.spelled.clock in
+    let both = one_clock (rule_of f) ms d c mine clock in
+    let spelled = subst (λ (k : Option (List Insn)). MayBeArray (IsTable (SpelledLoad f k)) o (map load_of s.loads.items))
+    both (subst (λ (h : Frame). MayBeArray (IsTable (SpelledLoad h d)) o (map load_of s.loads.items)) same
+    reads.spelled.loads) in
+    let fits = subst (λ (h : Frame). Each (FitsLoad h) s.loads.items) same
+    (each_of_all (FitsLoad g) s.loads.items reads.typable) in
+    by_loads f c o s.loads.items index slot spelled fits stands
+
+pub refused_reads_as_none : RefusedReadsAsNone
+refused_reads_as_none ms places.Top slot s broken reads = clock_unread ms s slot broken.0 broken.1 broken.2 reads
+refused_reads_as_none ms (places.Load index) slot s broken reads =
+    load_unread ms s index slot broken.0 broken.1 broken.2 broken.3 broken.4 reads
+refused_reads_as_none ms (places.Unload index) slot s broken reads = absurd broken.4
+refused_reads_as_none ms (places.Corrupt index) slot s broken reads = absurd broken.4
+refused_reads_as_none ms (places.Coin index) slot s broken reads = absurd broken.4
