@@ -25,8 +25,7 @@ use Rattle.bench_core.specs.Pulse.{Pulse}
 use Rattle.bench_core.specs.Settled.{Row, PulseTold, IsRecord, IsSteps, RanTo, row_of, settled_flags, clocks_where}
 use Rattle.bench_core.specs.Replay.{Entry as EntryValue, Closed as ClosedValue, Replays, BenchValue, Advances, places_of}
 use Rattle.bench_core.specs.inner.Replay.{staged_of}
-use Rattle.bench_core.specs.Tasks.{Task, Done, IsHanded, IsResultOf, IsExact, HandedOut}
-use Rattle.bench_core.specs.inner.Tasks.{IsEnd}
+use Rattle.bench_core.specs.Tasks.{Task, Done, IsEnd, IsHanded, IsResultOf, IsExact, HandedOut}
 use Rattle.bench_core.specs.inner.Nodes.{KnowsClock}
 use Rattle.bench_core.specs.declared.found.Found.{Found}
 use Rattle.bench_core.specs.declared.found.Found.TheVariants.{Nothing, Once, Again}

@@ -12,8 +12,7 @@ use Rattle.bpf_verify.specs.Accepted.{Accepted}
 use Rattle.bench_core.specs.Setup.{Setup}
 use Rattle.bench_core.specs.State.{State, Node, no_node, node_at, row_at, setting_at}
 use Rattle.bench_core.specs.Pulse.{RunsClock, Runs, Rests, NodePulse, Pulse}
-use Rattle.bench_core.specs.Tasks.{Task, Done, task_at, IsHanded, IsResultOf, IsExact}
-use Rattle.bench_core.specs.inner.Tasks.{IsEnd}
+use Rattle.bench_core.specs.Tasks.{Task, Done, task_at, IsEnd, IsHanded, IsResultOf, IsExact}
 use Rattle.bench_core.specs.inner.Nodes.{KnowsClock}
 use Rattle.bench_core.specs.inner.Found.{found_at, IsFound, IsLeft}
 

@@ -5,5 +5,4 @@ pub mod Kept
 pub mod Nodes
 pub mod OpenPulse
 pub mod Replay
-pub mod Tasks
 pub mod Told

@@ -44,7 +44,7 @@ impl Model for NodeTask {
 
 impl NodeTask {
     ghost use Rattle.std.specs.Prelude.{◌≤◌};
-    ghost use Rattle.bench_core.specs.inner.Tasks.{IsEnd};
+    ghost use Rattle.bench_core.specs.Tasks.{IsEnd};
 
     /// The task of a node, with room for its result.
     pub(crate) fn of(
@@ -153,7 +153,7 @@ impl Model for NodeDone {
 
 impl NodeDone {
     ghost use Rattle.node_env.specs.Env.{inbox_of};
-    ghost use Rattle.bench_core.specs.inner.Tasks.{IsEnd};
+    ghost use Rattle.bench_core.specs.Tasks.{IsEnd};
 
     pub(crate) fn node(&self) -> u32
         ensures value { result ≡ self.now.task.node }
