@@ -6,6 +6,7 @@ mod deal;
 mod engine;
 mod event;
 mod gate;
+pub mod laws;
 mod refusal;
 mod shared_pulse;
 mod tasks;
