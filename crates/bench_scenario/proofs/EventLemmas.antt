@@ -1,5 +1,5 @@
 -- The events of a scenario that was read fit its bench.
-use Rattle.std.proofs.Common.{◌≡◌, ℕ, zero, suc, ◌+◌, ◌-◌, ◌*◌, ◌<◌, List, [], ◌∷◌, ◌++◌, length, map, arith, sym, subst}
+use Rattle.std.proofs.Common.{◌≡◌, ℕ, zero, suc, ◌+◌, ◌-◌, ◌*◌, ◌<◌, List, [], ◌∷◌, ◌++◌, length, map, ap, arith, refl, sym, subst}
 use Rattle.std.specs.Prelude.{Bool, ◌==◌, ◌&&◌, if◌then◌else◌, true, false, flat_map, All, unwrap_or}
 use Rattle.std.proofs.lemmas.List.Elements.{All-append}
 use Rattle.bpf_verify.specs.Accepted.{Accepted}
@@ -16,7 +16,7 @@ use Rattle.scenario_text.specs.declared.scenario.Scenario.{Scenario}
 use Rattle.scenario_text.specs.Texts.{ReadsText}
 use Rattle.scenario_text.specs.Views.{FitsLoad, corrupt_of, frame_of, load_of}
 use Rattle.scenario_text.proofs.EntryLemmas.{Each, HasCoin, HasImage, HasNode, HasNodes, coins_there, corruptions_there, loads_fit, loads_there, unloads_there}
-use Rattle.bench_scenario.specs.Coins.{coin_of, coins_of, drawn, places_below, replaced}
+use Rattle.bench_scenario.specs.Coins.{coin_of, coins_of, drawn, keyed, places_below, replaced}
 use Rattle.bench_scenario.specs.Events.{changes_at, corrupt_events, events_at, events_of, events_to, load_events, unload_events}
 use Rattle.bench_scenario.specs.Runs.{bench_of}
 use Rattle.bench_scenario.proofs.CoinLemmas.{places_length}
@@ -118,13 +118,31 @@ changes_fit text s p reads =
     (each_flat (Fits b) (λ (c : Corrupt). HasImage (frame_of s) (corrupt_of c)) (corrupt_events p) s.corruptions.items
     (corruptions_fit_at s p) (corruptions_there text s reads)))
 
-events_fit_to : (text : List ℕ) (s : Scenario) (n : ℕ) → ReadsText text s → Each (Fits (bench_of s)) (events_to s n)
-events_fit_to text s zero reads = tt
-events_fit_to text s (suc n) reads =
+-- with any key
+events_fit_to : (text : List ℕ) (s : Scenario) (key n : ℕ) → ReadsText text s
+    → Each (Fits (bench_of s)) (events_to (keyed s key) n)
+events_fit_to text s key zero reads = tt
+events_fit_to text s key (suc n) reads =
     let b = bench_of s in
-    each_append (Fits b) (events_to s n) (events_at s (suc n)) (events_fit_to text s n reads)
-    (each_append (Fits b) (changes_at s (suc n)) (Pulse (coins_of s (suc n)) ∷ []) (changes_fit text s (suc n) reads)
-    (pulse_fits s (suc n) (coins_there text s reads), tt))
+    let k = keyed s key in
+    each_append (Fits b) (events_to k n) (events_at k (suc n)) (events_fit_to text s key n reads)
+    (each_append (Fits b) (changes_at s (suc n)) (Pulse (coins_of k (suc n)) ∷ []) (changes_fit text s (suc n) reads)
+    (pulse_fits k (suc n) (coins_there text s reads), tt))
+
+pub keyed_fit : (text : List ℕ) (s : Scenario) (key : ℕ) → ReadsText text s
+    → Each (Fits (bench_of s)) (events_of (keyed s key))
+keyed_fit text s key reads = events_fit_to text s key s.pulses reads
+
+-- a scenario's own key, or that of one without
+abbrev pub own_key : Scenario → ℕ
+own_key s = unwrap_or s.key 0
+
+own_to : (s : Scenario) (n : ℕ) → events_to (keyed s (own_key s)) n ≡ events_to s n
+own_to s zero = refl
+own_to s (suc n) = ap (λ es. es ++ events_at s (suc n)) (own_to s n)
+
+pub own_events : (s : Scenario) → events_of (keyed s (own_key s)) ≡ events_of s
+own_events s = own_to s s.pulses
 
 pub events_fit : (text : List ℕ) (s : Scenario) → ReadsText text s → Each (Fits (bench_of s)) (events_of s)
-events_fit text s reads = events_fit_to text s s.pulses reads
+events_fit text s reads = subst (Each (Fits (bench_of s))) (own_events s) (keyed_fit text s (own_key s) reads)

@@ -8,11 +8,14 @@ use Rattle.bench_engine.specs.declared.event.RunRefusal.{RunRefusal}
 use Rattle.scenario_text.specs.declared.limits.TheConstants.{MAX_TEXT}
 use Rattle.scenario_text.specs.declared.refusal.ScenarioError.{ScenarioError}
 use Rattle.scenario_text.specs.declared.refusal.ScenarioError.TheVariants as errors
-use Rattle.scenario_text.specs.Texts.{IsDue}
+use Rattle.scenario_text.specs.declared.scenario.Scenario.{Scenario}
+use Rattle.scenario_text.specs.Texts.{IsDue, ReadsText}
 use Rattle.bench_scenario.specs.declared.run.TheConstants.{MOST_BYTES}
+use Rattle.bench_scenario.specs.declared.reading.TextFault.{TextFault}
+use Rattle.bench_scenario.specs.declared.reading.TextFault.TheVariants as text_faults
 use Rattle.bench_scenario.specs.declared.run.ScenarioFault.{ScenarioFault}
 use Rattle.bench_scenario.specs.declared.run.ScenarioFault.TheVariants as faults
-use Rattle.bench_scenario.specs.Runs.{LeavesReport, Reports, StopsAt}
+use Rattle.bench_scenario.specs.Runs.{IsDueOfText, LeavesReport, Reports, StopsAt}
 use Rattle.bench_scenario.specs.inner.Runs.{IsDueOf}
 
 -- the whole text was read, or both are too long
@@ -106,3 +109,25 @@ front_left (Some text) old new bytes slice line told written taken same whole re
   subst (λ t. written < length t) whole part,
   subst (λ t. Appends old new (take written t)) whole left,
 )
+
+-- the scenario is that of the whole text, and so is a refusal
+due_of_text : (bytes text : List ℕ) (fault : TextFault) → IsFront bytes text → IsDueOfText bytes fault
+    → IsDueOfText text fault
+due_of_text bytes text text_faults.Read is due = due
+due_of_text bytes text (text_faults.Refused error) is due = due_whole bytes text error is due
+due_of_text bytes text text_faults.Memory is due = due
+
+pub text_read : (known : Option (List ℕ)) (bytes slice : List ℕ) (s : Scenario)
+    → IfSome known (λ text. bytes ≡ take MOST_BYTES text) → slice ≡ bytes → ReadsText slice s
+    → IfSome known (λ text. ReadsText text s)
+text_read None bytes slice s taken same reads = tt
+text_read (Some text) bytes slice s taken same reads =
+    let read = subst (λ b. ReadsText b s) same reads in
+    subst (λ t. ReadsText t s) (whole_of bytes text (front_of bytes text taken) read.1.0) read
+
+pub text_refused : (known : Option (List ℕ)) (bytes slice : List ℕ) (fault : TextFault)
+    → IfSome known (λ text. bytes ≡ take MOST_BYTES text) → slice ≡ bytes → IsDueOfText slice fault
+    → IfSome known (λ text. IsDueOfText text fault)
+text_refused None bytes slice fault taken same due = tt
+text_refused (Some text) bytes slice fault taken same due =
+    due_of_text bytes text fault (front_of bytes text taken) (subst (λ b. IsDueOfText b fault) same due)

@@ -1,5 +1,5 @@
 -- The coins of a scenario (docs/SCENARIOS.md, "Coins").
-use Rattle.std.specs.Prelude.{ℕ, zero, suc, ◌+◌, ◌-◌, ◌*◌, ◌%◌, ◌==◌, ◌&&◌, if◌then◌else◌, List, [], ◌∷◌, ◌++◌, map, replicate, unwrap_or}
+use Rattle.std.specs.Prelude.{ℕ, zero, suc, ◌+◌, ◌-◌, ◌*◌, ◌%◌, ◌==◌, ◌&&◌, if◌then◌else◌, List, [], ◌∷◌, ◌++◌, Some, map, replicate, unwrap_or}
 use Rattle.std.specs.Int.{w64, to_le_bytes}
 use Rattle.rand_chacha.specs.ChaCha.{word_at, key_of}
 use Rattle.scenario_text.specs.declared.scenario.Coins.{Coins}
@@ -39,3 +39,7 @@ coin_of s pulse node =
 -- the coins of a pulse, by node
 abbrev pub coins_of : Scenario → ℕ → List ℕ
 coins_of s pulse = map (coin_of s pulse) (places_below s.nodes)
+
+-- the scenario with this key in place of its own
+abbrev pub keyed : Scenario → ℕ → Scenario
+keyed s key = record s { key = Some key }

@@ -11,6 +11,8 @@ use Rattle.scenario_text.specs.declared.scenario.Scenario.{Scenario}
 use Rattle.scenario_text.specs.Spelling.{clock_insns, rule_of}
 use Rattle.scenario_text.specs.Texts.{IsDue, ReadsText}
 use Rattle.scenario_text.specs.Views.{draft_of, extent_of, frame_of}
+use Rattle.bench_scenario.specs.declared.reading.TextFault.{TextFault}
+use Rattle.bench_scenario.specs.declared.reading.TextFault.TheVariants as text_faults
 use Rattle.bench_scenario.specs.declared.run.ScenarioFault.{ScenarioFault}
 use Rattle.bench_scenario.specs.declared.run.ScenarioFault.TheVariants as faults
 use Rattle.bench_scenario.specs.Events.{events_of}
@@ -56,3 +58,9 @@ LeavesReport old new text (Err (faults.Refused error)) = IsDue text error × Kee
 LeavesReport old new text (Err (faults.Run stop)) = StopsAt text stop.event stop.fault × Keeps old new
 LeavesReport old new text (Err faults.Read) = Keeps old new
 LeavesReport old new text (Err faults.Memory) = Keeps old new
+
+-- why a reader gave no scenario: the text says none, or it could not be read, or there was no memory for it
+abbrev pub IsDueOfText : List ℕ → TextFault → Type 0
+IsDueOfText text text_faults.Read = Unit {0}
+IsDueOfText text (text_faults.Refused error) = IsDue text error
+IsDueOfText text text_faults.Memory = Unit {0}

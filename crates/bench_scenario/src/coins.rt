@@ -1,7 +1,7 @@
 //! The coins of a scenario.
 ghost use Rattle.std.specs.Prelude.{◌≡◌, ℕ, ◌+◌, ◌-◌, ◌*◌, ◌<◌, ◌≤◌, ◌^◌, ◌%◌, ◌==◌, ◌&&◌, if◌then◌else◌, IfOk, map};
 ghost use Rattle.rand_chacha.specs.ChaCha.{key_of};
-ghost use Rattle.bench_scenario.specs.Coins.{coin_at, coins_of, drawn, places_below, replaced, seed_of};
+ghost use Rattle.bench_scenario.specs.Coins.{coin_at, coins_of, drawn, keyed, places_below, replaced, seed_of};
 
 use rand_chacha::ChaCha8Rng;
 use rand_core::SeedableRng;
@@ -75,16 +75,16 @@ fn replace_coins(coins: &mut [u32], entries: &[CoinEntry], pulse: u32)
     }
 }
 
-/// The coins of a pulse, by node.
+/// The coins of a pulse, by node, where the scenario has this key.
 pub(crate) fn coins_of(
     alloc: Global,
     scenario: &Scenario,
+    key: u64,
     pulse: u32,
 ) -> Result<Vec<u32>, AllocError>
     requires { 1 ≤ pulse }
-    ensures { IfOk result (λ coins. coins.items ≡ coins_of scenario.now pulse) }
+    ensures { IfOk result (λ coins. coins.items ≡ coins_of (keyed scenario.now key) pulse) }
 {
-    let key = scenario.key.unwrap_or(0);
     let place = (pulse - 1) as u64 * scenario.nodes as u64;
     let mut coins = drawn_coins(alloc, scenario.coins, key, place, scenario.nodes)?;
     replace_coins(coins.as_mut_slice(), scenario.entries.as_slice(), pulse);

@@ -99,7 +99,7 @@ fn add_all_judged(
     Ok(())
 }
 
-fn is_yes(verdict: Option<bool>) -> bool
+pub(crate) fn is_yes(verdict: Option<bool>) -> bool
     ensures { result ≡ is_yes verdict }
 {
     match verdict {

@@ -2,18 +2,26 @@
 #![tactic(auto)]
 
 mod coins;
+mod in_step;
 mod judged;
+mod keyed;
 pub mod laws;
 mod paying;
 mod printing;
+mod reading;
 mod run;
 mod schedule;
+mod summary;
 mod verdicts;
 
+pub use in_step::in_step_since;
+pub use keyed::run_with_key;
 pub use printing::report;
+pub use reading::{TextFault, read_scenario};
 pub use run::{MOST_BYTES, MOST_CALLS, ScenarioFault, run_scenario};
 pub use scenario_text::{RefusalLine, Scenario, ScenarioError, scenario_of};
 pub use schedule::events;
+pub use summary::{RunSummary, summary_of};
 
 #[cfg(test)]
 mod tests;

@@ -46,7 +46,7 @@ pub enum ScenarioFault {
 }
 
 /// The bench that a scenario is run on.
-fn bench_for(
+pub(crate) fn bench_for(
     alloc: Global,
     scenario: &Scenario,
     shape: Shape,

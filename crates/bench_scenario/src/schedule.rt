@@ -1,6 +1,7 @@
 //! The events of a scenario.
 ghost use Rattle.std.specs.Prelude.{◌≡◌, ◌++◌, ◌≤◌, IfOk, OnOk, flat_map, map};
 ghost use Rattle.bench_engine.specs.Events.{event_of};
+ghost use Rattle.bench_scenario.specs.Coins.{keyed};
 ghost use Rattle.bench_scenario.specs.Events.{changes_at, corrupt_events, events_at, events_of, load_events, unload_events};
 
 use crate::coins::coins_of;
@@ -97,14 +98,15 @@ fn add_events(
     alloc: Global,
     events: &mut Vec<Event>,
     scenario: &Scenario,
+    key: u64,
     pulse: u32,
 ) -> Result<(), AllocError>
     requires { 1 ≤ pulse }
     ensures { OnOk result (map event_of events.new.items ≡ map event_of events.old.items
-        ++ events_at scenario.now pulse) }
+        ++ events_at (keyed scenario.now key) pulse) }
 {
     add_changes(alloc, events, scenario, pulse)?;
-    let coins = coins_of(alloc, scenario, pulse)?;
+    let coins = coins_of(alloc, scenario, key, pulse)?;
     events.push(Event::Pulse(coins))?;
     Ok(())
 }
@@ -114,9 +116,20 @@ fn add_events(
 pub fn events(alloc: Global, scenario: &Scenario) -> Result<Vec<Event>, AllocError>
     ensures { IfOk result (λ es. map event_of es.items ≡ events_of scenario.now) }
 {
+    events_with_key(alloc, scenario, scenario.key.unwrap_or(0))
+}
+
+/// The same where the scenario has this key.
+pub(crate) fn events_with_key(
+    alloc: Global,
+    scenario: &Scenario,
+    key: u64,
+) -> Result<Vec<Event>, AllocError>
+    ensures { IfOk result (λ es. map event_of es.items ≡ events_of (keyed scenario.now key)) }
+{
     let mut events = Vec::new(alloc);
     for before in 0..scenario.pulses {
-        add_events(alloc, &mut events, scenario, before + 1)?;
+        add_events(alloc, &mut events, scenario, key, before + 1)?;
     }
     Ok(events)
 }

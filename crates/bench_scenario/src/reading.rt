@@ -1,0 +1,48 @@
+//! The scenario that a reader's bytes say.
+ghost use Rattle.std.specs.Prelude.{ℕ, List, IfOk, IfSome, MatchResult};
+ghost use Rattle.scenario_text.specs.Texts.{IsDueUnlessMemory, ReadsText};
+ghost use Rattle.stream_io.specs.Streams.{TakesAtMost};
+ghost use Rattle.bench_scenario.specs.Runs.{IsDueOfText};
+
+use crate::run::{MOST_BYTES, MOST_CALLS};
+use scenario_text::{Scenario, ScenarioError, scenario_in};
+use std::alloc::Global;
+use std::io::Read;
+use stream_io::{ReadFault, read_at_most};
+
+/// Why a reader gave no scenario.
+#[derive(Debug, Drop)]
+pub enum TextFault {
+    /// A call of `read` failed, or their bound was reached.
+    Read,
+    Refused(ScenarioError),
+    Memory,
+}
+
+/// The scenario that the text says which is read. At most [`MOST_BYTES`] bytes are read, by at most [`MOST_CALLS`]
+/// calls of `read`.
+pub fn read_scenario<R: Read>(alloc: Global, reader: &mut R) -> Result<Scenario, TextFault>
+    ensures taken { TakesAtMost MOST_BYTES (R.remaining reader.old) (R.remaining reader.new) }
+    ensures scenario { IfSome (R.remaining reader.old) (λ text. MatchResult result (ReadsText text) (IsDueOfText text)) }
+    ensures reads { IfOk result (λ s. (text : List ℕ) × ReadsText text s) }
+{
+    let bytes = match read_at_most(alloc, reader, MOST_BYTES, MOST_CALLS) {
+        Ok(bytes) => bytes,
+        Err(ReadFault::Stream) => return Err(TextFault::Read),
+        Err(ReadFault::Memory) => return Err(TextFault::Memory),
+    };
+    match scenario_in(alloc, bytes.as_slice()) {
+        Ok(scenario) => Ok(scenario),
+        Err(error) => Err(fault_of(error)),
+    }
+}
+
+/// What a refusal is to a reader: want of memory is none.
+fn fault_of(error: ScenarioError) -> TextFault
+    ensures { (text : List ℕ) → IsDueUnlessMemory text error → IsDueOfText text result }
+{
+    match error {
+        ScenarioError::Memory(_) => TextFault::Memory,
+        error => TextFault::Refused(error),
+    }
+}
