@@ -1,0 +1,236 @@
+-- Lines one after the other.
+use Rattle.std.proofs.Common.{◌≡◌, ℕ, zero, suc, ◌+◌, ◌≤◌, ◌⊎◌, inl, inr, List, [], ◌∷◌, ◌++◌, length, take, min, Ok, Err, arith, refl, ap, sym, subst, ◌∙◌}
+use Rattle.std.specs.Prelude.{◌↔◌, IfSome, IsErrAnd, IsTrue, Bool, true, false, Option, Result, Some, None, slice_get}
+use Rattle.std.specs.Io.KnownBytes.{Appends}
+use Rattle.std.proofs.KnownBytes.{Appends-trans}
+use Rattle.std.proofs.lemmas.List.{append_assoc, append-nil, length-append}
+use Rattle.csv.specs.Writing.{default_writer, row_text}
+use Rattle.scenario_text.specs.declared.scenario.Coins.TheVariants.{Chacha}
+use Rattle.scenario_text.specs.declared.scenario.Scenario.{Scenario}
+use Rattle.scenario_text.specs.Texts.{ReadsText}
+use Rattle.bench_scenario.specs.declared.summary.RunSummary.{RunSummary}
+use Rattle.key_sweep.specs.Keys.{Span, count_of}
+use Rattle.key_sweep.specs.Rows.{fields_of, names, rows_text, sweep_text}
+use Rattle.key_sweep.specs.Sweeps.{AreOfKeys, HasKey, IsOfKey, LeavesLines, LeavesSweep, Lines, MOST_TOLD}
+use Rattle.key_sweep.specs.declared.sweeping.SweepFault.{SweepFault}
+use Rattle.key_sweep.specs.declared.sweeping.SweepFault.TheVariants as faults
+use Rattle.key_sweep.specs.inner.Reading.{IsDueOf}
+use Rattle.key_sweep.specs.inner.Writing.{IsFront}
+
+-- ---- rows
+
+pub rows_more : (key next : ℕ) (m : RunSummary) (ms : List RunSummary) → next ≡ key + 1
+    → rows_text key (m ∷ ms) ≡ row_text default_writer (fields_of key m) ++ rows_text next ms
+rows_more key next m ms e = ap (λ k. row_text default_writer (fields_of key m) ++ rows_text k ms) (sym e)
+
+rows_append : (key : ℕ) (xs ys : List RunSummary)
+    → rows_text key (xs ++ ys) ≡ rows_text key xs ++ rows_text (key + length xs) ys
+rows_append key [] ys = ap (λ k. rows_text k ys) (omega arith)
+rows_append key (x ∷ xs) ys =
+    let row = row_text default_writer (fields_of key x) in
+    let rest = rows_append (key + 1) xs ys in
+    let place : (key + 1) + length xs ≡ key + length (x ∷ xs) = omega arith in
+    ap (λ t. row ++ t) (rest ∙ ap (λ k. rows_text (key + 1) xs ++ rows_text k ys) place)
+    ∙ sym (append_assoc row (rows_text (key + 1) xs) (rows_text (key + length (x ∷ xs)) ys))
+
+text_append : (key : ℕ) (xs ys : List RunSummary)
+    → sweep_text key (xs ++ ys) ≡ sweep_text key xs ++ rows_text (key + length xs) ys
+text_append key xs ys =
+    let top = row_text default_writer names in
+    ap (λ t. top ++ t) (rows_append key xs ys)
+    ∙ sym (append_assoc top (rows_text key xs) (rows_text (key + length xs) ys))
+
+-- ---- keys
+
+get_append : {A : Type 0} (xs ys : List A) (i : ℕ) (x : A) → slice_get (xs ++ ys) i ≡ Some x
+    → (slice_get xs i ≡ Some x) ⊎ ((j : ℕ) × (i ≡ length xs + j) × (slice_get ys j ≡ Some x))
+get_append [] ys i x at = inr (i, omega arith, at)
+get_append (y ∷ xs) ys zero x at = inl at
+get_append (y ∷ xs) ys (suc i) x at =
+    elim (get_append xs ys i x at) [
+      | inl here ↦ inl here
+      | inr there ↦ let place = there.1 in inr (there.0, omega (arith, place), there.2)
+    ]
+
+keys_append : (s : Scenario) (first next : ℕ) (xs ys : List RunSummary) → next ≡ first + length xs
+    → AreOfKeys s first xs → AreOfKeys s next ys → AreOfKeys s first (xs ++ ys)
+keys_append s first next xs ys e front back = λ i m at.
+    elim (get_append xs ys i m at) [
+      | inl there ↦ front i m there
+      | inr there ↦
+          let place = there.1 in
+          let same : next + there.0 ≡ first + i = omega (arith, e, place) in
+          subst (λ k. IsOfKey s k m) same (back there.0 m there.2)
+    ]
+
+-- ---- what is written so far
+
+-- the lines of the keys before the next one
+pub record Swept (old now : Option (List ℕ)) (s : Scenario) (first next told : ℕ) : Type 0 where
+  pub text : List ℕ
+  pub count : ℕ
+  pub place : next ≡ first + count
+  pub lines : Lines s first count text
+  pub left : Appends old now text
+  pub number : told ≡ min (length text) MOST_TOLD
+
+more_lines : (s : Scenario) (first next count : ℕ) (text rows : List ℕ) (ms : List RunSummary) → next ≡ first + count
+    → Lines s first count text → AreOfKeys s next ms → rows ≡ rows_text next ms
+    → Lines s first (count + length ms) (text ++ rows)
+more_lines s first next count text rows ms e lines each is =
+    let all = lines.all in
+    let place : next ≡ first + length lines.summaries = omega (arith, e, all) in
+    record {
+      summaries = lines.summaries ++ ms;
+      each = keys_append s first next lines.summaries ms place lines.each each;
+      all = length-append lines.summaries ms ∙ ap (λ n. n + length ms) all;
+      whole = ap (λ t. t ++ rows) lines.whole ∙ (ap (λ t. sweep_text first lines.summaries ++ t)
+          (is ∙ ap (λ k. rows_text k ms) place) ∙ sym (text_append first lines.summaries ms));
+    }
+
+no_lines : (s : Scenario) (first : ℕ) (top : List ℕ) → top ≡ row_text default_writer names → Lines s first 0 top
+no_lines s first top is = record {
+  summaries = [];
+  each = λ i m at. absurd cc;
+  all = refl;
+  whole = is ∙ sym (append-nil (row_text default_writer names));
+}
+
+pub swept_names : (old new : Option (List ℕ)) (s : Scenario) (first next told : ℕ) (top : List ℕ)
+    → top ≡ row_text default_writer names → next ≡ first → Appends old new top
+    → told ≡ min (0 + length top) MOST_TOLD → Swept old new s first next told
+swept_names old new s first next told top is at left number = record {
+  text = top;
+  count = 0;
+  place = omega (arith, at);
+  lines = no_lines s first top is;
+  left = left;
+  number = omega (arith, number);
+}
+
+-- the front of the names
+names_broken : (old new : Option (List ℕ)) (s : Scenario) (keys : Span) (top : List ℕ) (fault : SweepFault)
+    → top ≡ row_text default_writer names → IsFront old new 0 top fault → LeavesLines old new s keys (Err fault)
+names_broken old new s keys top (faults.Write written) is front =
+    let number = front.2 in
+    record {
+      told = top;
+      count = 0;
+      within = omega arith;
+      lines = no_lines s keys.first top is;
+      taken = front.0;
+      part = front.1;
+      number = omega (arith, number);
+      left = front.3;
+    }
+names_broken old new s keys top faults.Read is front = absurd front
+names_broken old new s keys top (faults.Refused error) is front = absurd front
+names_broken old new s keys top faults.NoKey is front = absurd front
+names_broken old new s keys top faults.Memory is front = absurd front
+
+told_so : (old new : Option (List ℕ)) (s : Scenario) (keys : Span) (fault : SweepFault) (result : Result (Unit {0}) SweepFault)
+    → LeavesLines old new s keys (Err fault) → IsErrAnd result (λ e. e ≡ fault) → LeavesLines old new s keys result
+told_so old new s keys fault (Ok done) left is = absurd is
+told_so old new s keys fault (Err e) left is = subst (λ x. LeavesLines old new s keys (Err x)) (sym is) left
+
+pub front_of_names : (old new : Option (List ℕ)) (s : Scenario) (keys : Span) (top : List ℕ) (fault : SweepFault)
+    (result : Result (Unit {0}) SweepFault) → top ≡ row_text default_writer names → IsFront old new 0 top fault
+    → IsErrAnd result (λ e. e ≡ fault) → LeavesLines old new s keys result
+front_of_names old new s keys top fault result is front given =
+    told_so old new s keys fault result (names_broken old new s keys top fault is front) given
+
+pub swept_more : (old now new : Option (List ℕ)) (s : Scenario) (first next past told after : ℕ) (rows : List ℕ)
+    (ms : List RunSummary) → past ≡ next + length ms → Swept old now s first next told → AreOfKeys s next ms
+    → rows ≡ rows_text next ms → Appends now new rows → after ≡ min (told + length rows) MOST_TOLD
+    → Swept old new s first past after
+swept_more old now new s first next past told after rows ms at swept each is left number =
+    let place = swept.place in
+    let before = swept.number in
+    record {
+      text = swept.text ++ rows;
+      count = swept.count + length ms;
+      place = omega (arith, place, at);
+      lines = more_lines s first next swept.count swept.text rows ms swept.place swept.lines each is;
+      left = Appends-trans old now new swept.text rows swept.left left;
+      number = omega (arith, before, number, length-append swept.text rows);
+    }
+
+pub all_swept : (old now : Option (List ℕ)) (s : Scenario) (keys : Span) (next told : ℕ) → Swept old now s keys.first next told
+    → keys.first ≤ keys.last → next ≡ keys.last + 1 → LeavesLines old now s keys (Ok tt)
+all_swept old now s keys next told swept order at = (
+  swept.text,
+  (let place = swept.place in
+      subst (λ n. Lines s keys.first n swept.text) (let e : swept.count ≡ count_of keys = omega (arith, place, order, at) in e)
+      swept.lines),
+  swept.left,
+)
+
+pub some_swept : (old now : Option (List ℕ)) (s : Scenario) (keys : Span) (next told : ℕ) → Swept old now s keys.first next told
+    → next ≤ keys.last → LeavesLines old now s keys (Err faults.Memory)
+some_swept old now s keys next told swept before = inr (record {
+  told = swept.text;
+  count = swept.count;
+  fewer = (let place = swept.place in omega (arith, place, before));
+  lines = swept.lines;
+  left = swept.left;
+})
+
+front_of_both : (text rows : List ℕ) (taken : ℕ) → take (length text + taken) (text ++ rows) ≡ text ++ take taken rows
+front_of_both [] rows taken = ap (λ n. take n rows) (omega arith)
+front_of_both (t ∷ text) rows taken =
+    let one : length (t ∷ text) + taken ≡ suc (length text + taken) = omega arith in
+    ap (λ n. take n (t ∷ (text ++ rows))) one ∙ ap (λ x. t ∷ x) (front_of_both text rows taken)
+
+-- the front of more lines
+rows_broken : (old now new : Option (List ℕ)) (s : Scenario) (keys : Span) (next told : ℕ) (rows : List ℕ)
+    (ms : List RunSummary) (fault : SweepFault) → Swept old now s keys.first next told → AreOfKeys s next ms
+    → rows ≡ rows_text next ms → next + length ms ≤ keys.last + 1 → IsFront now new told rows fault
+    → LeavesLines old new s keys (Err fault)
+rows_broken old now new s keys next told rows ms (faults.Write written) swept each is few front =
+    let place = swept.place in
+    let before = swept.number in
+    let part = front.1 in
+    let number = front.2 in
+    record {
+      told = swept.text ++ rows;
+      count = swept.count + length ms;
+      within = omega (arith, place, few);
+      lines = more_lines s keys.first next swept.count swept.text rows ms swept.place swept.lines each is;
+      taken = length swept.text + front.0;
+      part = omega (arith, part, length-append swept.text rows);
+      number = omega (arith, before, number);
+      left = subst (λ t. Appends old new t) (sym (front_of_both swept.text rows front.0))
+          (Appends-trans old now new swept.text (take front.0 rows) swept.left front.3);
+    }
+rows_broken old now new s keys next told rows ms faults.Read swept each is few front = absurd front
+rows_broken old now new s keys next told rows ms (faults.Refused error) swept each is few front = absurd front
+rows_broken old now new s keys next told rows ms faults.NoKey swept each is few front = absurd front
+rows_broken old now new s keys next told rows ms faults.Memory swept each is few front = absurd front
+
+pub front_of_rows : (old now new : Option (List ℕ)) (s : Scenario) (keys : Span) (next told : ℕ) (rows : List ℕ)
+    (ms : List RunSummary) (fault : SweepFault) (result : Result (Unit {0}) SweepFault)
+    → Swept old now s keys.first next told → AreOfKeys s next ms → rows ≡ rows_text next ms
+    → next + length ms ≤ keys.last + 1 → IsFront now new told rows fault → IsErrAnd result (λ e. e ≡ fault)
+    → LeavesLines old new s keys result
+front_of_rows old now new s keys next told rows ms fault result swept each is few front given =
+    told_so old new s keys fault result
+    (rows_broken old now new s keys next told rows ms fault swept each is few front) given
+
+-- ---- of a text
+
+pub no_key : (known : Option (List ℕ)) (s : Scenario) (keyed : Bool) → IfSome known (λ text. ReadsText text s)
+    → (IsTrue keyed ↔ (s.coins ≡ Chacha)) → keyed ≡ false → IfSome known (λ text. IsDueOf text faults.NoKey)
+no_key None s keyed reads told isnt = tt
+no_key (Some text) s keyed reads told isnt =
+    (s, reads, λ chacha. let is : keyed ≡ true = told.1 chacha in let untrue : false ≡ true = cc in cc)
+
+pub of_text : (known old new : Option (List ℕ)) (s : Scenario) (keys : Span) (result : Result (Unit {0}) SweepFault)
+    → IfSome known (λ text. HasKey text s) → LeavesLines old new s keys result
+    → IfSome known (λ text. LeavesSweep old new text keys result)
+of_text None old new s keys result has left = tt
+of_text (Some text) old new s keys (Ok done) has left = (s, has, left)
+of_text (Some text) old new s keys (Err (faults.Write written)) has left = (s, has, left)
+of_text (Some text) old new s keys (Err faults.Memory) has left = inr (s, has, left)
+of_text (Some text) old new s keys (Err faults.Read) has left = absurd left
+of_text (Some text) old new s keys (Err (faults.Refused error)) has left = absurd left
+of_text (Some text) old new s keys (Err faults.NoKey) has left = absurd left

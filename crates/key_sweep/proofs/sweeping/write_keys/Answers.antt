@@ -1,0 +1,75 @@
+use Rattle.std.proofs.Common.{◌≡◌, ◌+◌, ◌∙◌, ap, arith, length}
+use Rattle.key_sweep.specs.Rows.{rows_text}
+use Rattle.key_sweep.proofs.LineLemmas.{front_of_names, front_of_rows, some_swept, swept_more, swept_names}
+use Rattle.key_sweep.proofs.sweeping.write_keys.Goals as goal
+
+pub returns-in_err-told : goal.returns-in_err-told
+returns-in_err-told g c =
+    front_of_names _ _ c.args.scenario.now c.args.keys c.as_slice.result.now c.in_err-told.field-0.0
+    c.from_residual.result (c.as_slice.ensures.value ∙ c.in-Ok.ensures) c.in_err-told.ensures.front
+    c.from_residual.ensures.1
+
+pub loop-next-init : goal.loop-next-init
+loop-next-init g c = record {
+  swept = swept_names _ _ c.args.scenario.now c.args.keys.first c.first-next.result c.in_ok-told.told
+      c.as_slice.result.now (c.as_slice.ensures.value ∙ c.in-Ok.ensures) c.first-next.ensures.value
+      c.in_ok-told.ensures.all.1 c.in_ok-told.ensures.all.0;
+  past = let last = c.last-past.ensures.value in omega (arith, last);
+  within =
+      let first = c.first-next.ensures.value in
+      let last = c.last-past.ensures.value in
+      let order = c.first-next.ensures.span.0 in
+      omega (arith, first, last, order);
+}
+
+pub returns-in_err-told-2 : goal.returns-in_err-told-2
+returns-in_err-told-2 g c =
+    let past = c.loop-next.invariant.past in
+    let count = c.min-count.ensures in
+    let few = c.in-Ok-summaries_of.ensures.few in
+    let before = c.loop-next-test.true in
+    front_of_rows _ _ _ c.args.scenario.now c.args.keys c.loop-next.next c.loop-next.told
+    c.as_slice-in-loop-next.result.now c.in-Ok-summaries_of.summaries.items c.in_err-told-2.field-0.0
+    c.from_residual-in_err-told-2.result c.loop-next.invariant.swept c.in-Ok-summaries_of.ensures.each
+    (c.as_slice-in-loop-next.ensures.value ∙ (c.in-Ok-rows_text.ensures
+    ∙ ap (rows_text c.loop-next.next) c.as_slice-front.ensures.value))
+    (omega (arith, past, count, few, before)) c.in_err-told-2.ensures.front
+    c.from_residual-in_err-told-2.ensures.1
+
+pub returns-then-front-count : goal.returns-then-front-count
+returns-then-front-count g c =
+    let past = c.loop-next.invariant.past in
+    let count = c.min-count.ensures in
+    let fewer = c.if-front-count.true in
+    let same = ap length c.as_slice-front.ensures.value in
+    some_swept _ _ c.args.scenario.now c.args.keys
+    (c.loop-next.next + length c.in-Ok-summaries_of.summaries.items) c.in_ok-told-2.told
+    (swept_more _ _ _ c.args.scenario.now c.args.keys.first c.loop-next.next
+    (c.loop-next.next + length c.in-Ok-summaries_of.summaries.items) c.loop-next.told c.in_ok-told-2.told
+    c.as_slice-in-loop-next.result.now c.in-Ok-summaries_of.summaries.items (omega arith) c.loop-next.invariant.swept
+    c.in-Ok-summaries_of.ensures.each
+    (c.as_slice-in-loop-next.ensures.value ∙ (c.in-Ok-rows_text.ensures
+    ∙ ap (rows_text c.loop-next.next) c.as_slice-front.ensures.value))
+    c.in_ok-told-2.ensures.all.1 c.in_ok-told-2.ensures.all.0)
+    (omega (arith, past, count, fewer, same))
+
+pub loop-next-preserved : goal.loop-next-preserved
+loop-next-preserved g c =
+    let past = c.loop-next.invariant.past in
+    let count = c.min-count.ensures in
+    let all = c.if-front-count.false in
+    let few = c.in-Ok-summaries_of.ensures.few in
+    let before = c.loop-next-test.true in
+    let same = ap length c.as_slice-front.ensures.value in
+    let whole : length c.in-Ok-summaries_of.summaries.items ≡ c.min-count.result = omega (arith, all, few, same) in
+    record {
+      swept = swept_more _ _ _ c.args.scenario.now c.args.keys.first c.loop-next.next
+          (c.loop-next.next + c.min-count.result) c.loop-next.told c.in_ok-told-2.told
+          c.as_slice-in-loop-next.result.now c.in-Ok-summaries_of.summaries.items (omega (arith, whole))
+          c.loop-next.invariant.swept c.in-Ok-summaries_of.ensures.each
+          (c.as_slice-in-loop-next.ensures.value ∙ (c.in-Ok-rows_text.ensures
+          ∙ ap (rows_text c.loop-next.next) c.as_slice-front.ensures.value))
+          c.in_ok-told-2.ensures.all.1 c.in_ok-told-2.ensures.all.0;
+      past = past;
+      within = omega (arith, count, before);
+    }

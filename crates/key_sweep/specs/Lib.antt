@@ -1,0 +1,4 @@
+pub mod Keys
+pub mod Rows
+pub mod Sweeps
+pub mod inner

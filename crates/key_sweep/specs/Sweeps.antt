@@ -1,0 +1,86 @@
+-- What a sweep leaves on its writer (docs/LUCK.md, "What is promised").
+use Rattle.std.specs.Prelude.{◌≡◌, ◌≢◌, ◌⊎◌, ℕ, ◌+◌, ◌-◌, ◌^◌, ◌<◌, ◌≤◌, is_some, min, List, length, take, slice_get, Option, Some, Result, Ok, Err}
+use Rattle.std.specs.Io.KnownBytes.{Appends, Keeps}
+use Rattle.bench_core.specs.Settled.{PulseTold}
+use Rattle.bench_engine.specs.Runs.{IsRun}
+use Rattle.scenario_text.specs.declared.scenario.Coins.TheVariants.{Chacha}
+use Rattle.scenario_text.specs.declared.scenario.Scenario.{Scenario}
+use Rattle.scenario_text.specs.Texts.{IsDue, ReadsText}
+use Rattle.scenario_text.specs.Views.{frame_of}
+use Rattle.bench_scenario.specs.Coins.{keyed}
+use Rattle.bench_scenario.specs.Events.{events_of}
+use Rattle.bench_scenario.specs.Runs.{bench_of}
+use Rattle.bench_scenario.specs.Summary.{IsSummary}
+use Rattle.bench_scenario.specs.declared.summary.RunSummary.{RunSummary}
+use Rattle.key_sweep.specs.Keys.{Span, count_of}
+use Rattle.key_sweep.specs.declared.sweeping.SweepFault.{SweepFault}
+use Rattle.key_sweep.specs.declared.sweeping.SweepFault.TheVariants as faults
+use Rattle.key_sweep.specs.Rows.{sweep_text}
+
+-- what the run of the scenario comes to, where it has this key
+pub record IsOfKey (s : Scenario) (key : ℕ) (m : RunSummary) : Type 0 where
+  pub records : List PulseTold
+  pub memories : List (List ℕ)
+  pub run : IsRun (bench_of s) (events_of (keyed s key)) records memories
+  pub summary : IsSummary (frame_of s) (is_some s.clock) records m
+
+-- of keys in a row, the first of which is this one
+abbrev pub AreOfKeys : Scenario → ℕ → List RunSummary → Type 0
+AreOfKeys s first ms = (i : ℕ) (m : RunSummary) → slice_get ms i ≡ Some m → IsOfKey s (first + i) m
+
+-- the lines of so many keys from this one on
+pub record Lines (s : Scenario) (first count : ℕ) (told : List ℕ) : Type 0 where
+  pub summaries : List RunSummary
+  pub each : AreOfKeys s first summaries
+  pub all : length summaries ≡ count
+  pub whole : told ≡ sweep_text first summaries
+
+-- the lines of the first keys, and not of all
+pub record Stops (old new : Option (List ℕ)) (s : Scenario) (keys : Span) : Type 0 where
+  pub told : List ℕ
+  pub count : ℕ
+  pub fewer : count < count_of keys
+  pub lines : Lines s keys.first count told
+  pub left : Appends old new told
+
+-- as many bytes as a fault tells, which has room for a number up to this one
+abbrev pub MOST_TOLD : ℕ
+MOST_TOLD = 2 ^ 64 - 1
+
+-- the first bytes of the lines of some keys, as many as were taken
+pub record Breaks (old new : Option (List ℕ)) (s : Scenario) (keys : Span) (written : ℕ) : Type 0 where
+  pub told : List ℕ
+  pub count : ℕ
+  pub within : count ≤ count_of keys
+  pub lines : Lines s keys.first count told
+  pub taken : ℕ
+  pub part : taken < length told
+  pub number : written ≡ min taken MOST_TOLD
+  pub left : Appends old new (take taken told)
+
+-- the lines of all keys; the front of them where a write failed; those of the first keys where there was no memory for
+-- one more
+abbrev pub LeavesLines : Option (List ℕ) → Option (List ℕ) → Scenario → Span → Result (Unit {0}) SweepFault → Type 0
+LeavesLines old new s keys (Ok done) =
+    (told : List ℕ) × Lines s keys.first (count_of keys) told × Appends old new told
+LeavesLines old new s keys (Err (faults.Write written)) = Breaks old new s keys written
+LeavesLines old new s keys (Err faults.Memory) = Keeps old new ⊎ Stops old new s keys
+LeavesLines old new s keys (Err (faults.Refused error)) = ⊥
+LeavesLines old new s keys (Err faults.NoKey) = ⊥
+LeavesLines old new s keys (Err faults.Read) = ⊥
+
+-- the text says this scenario, whose coins are drawn by a key
+abbrev pub HasKey : List ℕ → Scenario → Type 0
+HasKey text s = ReadsText text s × (s.coins ≡ Chacha)
+
+-- the same of a text, of which nothing is left where it says no such scenario
+abbrev pub LeavesSweep : Option (List ℕ) → Option (List ℕ) → List ℕ → Span → Result (Unit {0}) SweepFault → Type 0
+LeavesSweep old new text keys (Err (faults.Refused error)) = IsDue text error × Keeps old new
+LeavesSweep old new text keys (Err faults.NoKey) =
+    ((s : Scenario) × ReadsText text s × (s.coins ≢ Chacha)) × Keeps old new
+LeavesSweep old new text keys (Err faults.Read) = Keeps old new
+LeavesSweep old new text keys (Err faults.Memory) =
+    Keeps old new ⊎ ((s : Scenario) × HasKey text s × LeavesLines old new s keys (Err faults.Memory))
+LeavesSweep old new text keys (Err (faults.Write written)) =
+    (s : Scenario) × HasKey text s × LeavesLines old new s keys (Err (faults.Write written))
+LeavesSweep old new text keys (Ok done) = (s : Scenario) × HasKey text s × LeavesLines old new s keys (Ok done)

@@ -1,0 +1,4 @@
+-- What proofs and private contracts alone cite.
+pub mod Blocks
+pub mod Reading
+pub mod Writing

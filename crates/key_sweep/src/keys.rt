@@ -1,0 +1,61 @@
+//! Keys in a row.
+ghost use Rattle.std.specs.Prelude.{◌≡◌, ◌≤◌, IfSome, IsSome, ◌↔◌};
+ghost use Rattle.key_sweep.specs.Keys.{IsSpan, count_of};
+
+use std::marker::Model;
+
+/// The greatest key that a scenario's text can say.
+pub const MOST_KEY: u64 = 9_223_372_036_854_775_807;
+
+/// The keys from a first to a last one.
+#[derive(Clone, Copy, Debug, PartialEq, Eq)]
+pub struct KeySpan {
+    first: u64,
+    last: u64,
+}
+
+impl Model for KeySpan {
+    ghost use Rattle.key_sweep.specs.Keys.{IsSpan, Span};
+
+    ghost Value = { Span };
+
+    ghost view = { λ k. record { first = k.first; last = k.last } };
+
+    ghost invariant = { λ k. IsSpan k.first k.last };
+
+    ghost inverse = { λ k. record { first = k.first; last = k.last } };
+}
+
+impl KeySpan {
+    /// The first key is at most the last one, and that at most [`MOST_KEY`].
+    pub fn of(first: u64, last: u64) -> Option<KeySpan>
+        ensures value { IfSome result (λ k. k ≡ record { first = first; last = last }) }
+        ensures some { IsSome result ↔ IsSpan first last }
+    {
+        if first > last || last > MOST_KEY {
+            return None;
+        }
+        Some(KeySpan { first, last })
+    }
+
+    pub fn first(self) -> u64
+        ensures value { result ≡ self.first }
+        ensures span { IsSpan self.first self.last }
+    {
+        self.first
+    }
+
+    pub fn last(self) -> u64
+        ensures value { result ≡ self.last }
+        ensures span { IsSpan self.first self.last }
+    {
+        self.last
+    }
+
+    /// How many there are.
+    pub fn count(self) -> u64
+        ensures { result ≡ count_of self }
+    {
+        self.last - self.first + 1
+    }
+}

@@ -1,0 +1,13 @@
+//! The runs of a scenario with one key after the other: docs/LUCK.md.
+#![tactic(auto)]
+
+mod block;
+mod keys;
+mod rows;
+mod sweeping;
+
+pub use keys::{KeySpan, MOST_KEY};
+pub use sweeping::{SweepFault, sweep};
+
+#[cfg(test)]
+mod tests;

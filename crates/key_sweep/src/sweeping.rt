@@ -1,0 +1,142 @@
+//! A sweep, from the first byte that is read to the last that is written.
+ghost use Rattle.std.specs.Prelude.{◌≡◌, ℕ, List, ◌+◌, ◌<◌, ◌≤◌, IfOk, IfErr, IfSome, IsTrue, MatchResult, ◌↔◌, min, length};
+ghost use Rattle.std.specs.Io.KnownBytes.{Appends};
+ghost use Rattle.bench_scenario.specs.declared.run.TheConstants.{MOST_BYTES};
+ghost use Rattle.scenario_text.specs.declared.scenario.Coins.TheVariants.{Chacha};
+ghost use Rattle.scenario_text.specs.Texts.{ReadsText};
+ghost use Rattle.stream_io.specs.Streams.{TakesAtMost};
+ghost use Rattle.key_sweep.specs.Sweeps.{HasKey, LeavesLines, LeavesSweep, MOST_TOLD};
+ghost use Rattle.key_sweep.specs.inner.Reading.{IsDueOf};
+ghost use Rattle.key_sweep.specs.inner.Writing.{IsFront};
+
+use crate::block::summaries_of;
+use crate::keys::KeySpan;
+use crate::rows::{names_row, rows_text};
+use bench_scenario::{TextFault, read_scenario};
+use scenario_text::{Coins, Scenario, ScenarioError};
+use std::alloc::Global;
+use std::io::{Read, Write};
+use std::sync::Wait;
+use std::thread::Threads;
+use stream_io::{WriteFault, write_fully};
+use thiserror::Error;
+
+/// How many keys are shared out at once: so many lines are written together.
+const KEYS_AT_ONCE: u64 = 64;
+
+/// Why a sweep left not all its lines.
+#[derive(Debug, Drop, Error)]
+pub enum SweepFault {
+    /// A call of `read` failed, or their bound was reached.
+    #[error("reading failed")]
+    Read,
+    #[error(transparent)]
+    Refused(ScenarioError),
+    /// The scenario's coins are not drawn by a key.
+    #[error("the coins have no key")]
+    NoKey,
+    /// A call of `write` failed or took nothing, when so many bytes were taken.
+    #[error("writing failed after {written} bytes")]
+    Write { written: u64 },
+    #[error("out of memory")]
+    Memory,
+}
+
+/// The scenario that is read, whose coins are drawn by a key.
+fn keyed_scenario<R: Read>(alloc: Global, reader: &mut R) -> Result<Scenario, SweepFault>
+    ensures taken { TakesAtMost MOST_BYTES (R.remaining reader.old) (R.remaining reader.new) }
+    ensures scenario { IfSome (R.remaining reader.old) (λ text. MatchResult result (HasKey text) (IsDueOf text)) }
+    ensures reads { IfOk result (λ s. (text : List ℕ) × ReadsText text s) }
+{
+    let scenario = match read_scenario(alloc, reader) {
+        Ok(scenario) => scenario,
+        Err(TextFault::Read) => return Err(SweepFault::Read),
+        Err(TextFault::Refused(error)) => return Err(SweepFault::Refused(error)),
+        Err(TextFault::Memory) => return Err(SweepFault::Memory),
+    };
+    if has_key(scenario.coins) {
+        Ok(scenario)
+    } else {
+        Err(SweepFault::NoKey)
+    }
+}
+
+fn has_key(coins: Coins) -> bool
+    ensures { IsTrue result ↔ (coins ≡ Chacha) }
+{
+    match coins {
+        Coins::Chacha => true,
+        Coins::Zeros | Coins::Ones => false,
+    }
+}
+
+/// Writes bytes after so many, and answers how many there are then.
+fn write_part<W: Write>(writer: &mut W, before: u64, bytes: &[u8]) -> Result<u64, SweepFault>
+    ensures all { IfOk result (λ after. (after ≡ min (before + length bytes.now) MOST_TOLD)
+        × Appends (W.contents writer.old) (W.contents writer.new) bytes.now) }
+    ensures front { IfErr result (IsFront (W.contents writer.old) (W.contents writer.new) before bytes.now) }
+{
+    match write_fully(writer, bytes) {
+        Ok(()) => Ok(before.saturating_add(bytes.len() as u64)),
+        Err(WriteFault { written }) => Err(SweepFault::Write {
+            written: before.saturating_add(written as u64),
+        }),
+    }
+}
+
+/// Runs the keys block by block, and writes their lines.
+fn write_keys<T: Threads + Wait + Sync, W: Write>(
+    rt: &T,
+    alloc: Global,
+    scenario: &Scenario,
+    keys: KeySpan,
+    workers: u32,
+    writer: &mut W,
+) -> Result<(), SweepFault>
+    requires reads { (text : List ℕ) × ReadsText text scenario.now }
+    requires workers { 1 ≤ workers }
+    ensures { LeavesLines (W.contents writer.old) (W.contents writer.new) scenario.now keys result }
+{
+    let Ok(names) = names_row(alloc) else {
+        return Err(SweepFault::Memory);
+    };
+    let mut told = write_part(writer, 0, names.as_slice())?;
+    let mut next = keys.first();
+    let past = keys.last() + 1;
+    while next < past {
+        let count = (past - next).min(KEYS_AT_ONCE);
+        let Ok(summaries) = summaries_of(rt, alloc, scenario, workers, next, count as usize) else {
+            return Err(SweepFault::Memory);
+        };
+        let front = summaries.as_slice();
+        let Ok(rows) = rows_text(alloc, next, front) else {
+            return Err(SweepFault::Memory);
+        };
+        told = write_part(writer, told, rows.as_slice())?;
+        if (front.len() as u64) < count {
+            return Err(SweepFault::Memory);
+        }
+        next += count;
+    }
+    Ok(())
+}
+
+/// Reads a scenario whose coins are drawn by a key, runs it with each of these keys in place of its own, and writes a
+/// line for each, in their order, after one of names. Each of at most so many workers runs whole scenarios; where no
+/// thread can be started, the caller's runs them. At most [`MOST_BYTES`] bytes are read.
+pub fn sweep<T: Threads + Wait + Sync, R: Read, W: Write>(
+    rt: &T,
+    alloc: Global,
+    keys: KeySpan,
+    workers: u32,
+    reader: &mut R,
+    writer: &mut W,
+) -> Result<(), SweepFault>
+    requires workers { 1 ≤ workers }
+    ensures taken { TakesAtMost MOST_BYTES (R.remaining reader.old) (R.remaining reader.new) }
+    ensures left { IfSome (R.remaining reader.old) (λ text.
+        LeavesSweep (W.contents writer.old) (W.contents writer.new) text keys result) }
+{
+    let scenario = keyed_scenario(alloc, reader)?;
+    write_keys(rt, alloc, &scenario, keys, workers, writer)
+}
