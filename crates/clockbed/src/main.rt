@@ -2,29 +2,48 @@
 #![tactic(auto)]
 
 pub mod command;
+mod progress;
 mod request;
 #[cfg(test)]
 mod tests;
 
 use crate::command::command;
+use crate::progress::Progress;
+use crate::request::request_of;
 use commands::Fault;
+use commands::request::Request;
+use std::alloc::Global;
+use std::io::IsTerminal;
 use std::process::ExitCode;
 use std::{env, io};
 
 fn main(rt: HostRuntime) -> ExitCode {
-    let (mut input, mut out, mut err) = (rt.stdin(), rt.stdout(), rt.stderr());
     let status = match words_of(&rt) {
-        Ok(words) => command(
-            &rt,
-            rt.alloc(),
-            words.as_slice(),
-            &mut input,
-            &mut out,
-            &mut err,
-        ),
-        Err(fault) => fault.tell(&mut err),
+        Ok(words) => status_of(&rt, words.as_slice()),
+        Err(fault) => fault.tell(&mut rt.stderr()),
     };
     ExitCode::from(status)
+}
+
+/// Does what the words ask for; how far a sweep is, is told where standard error is a terminal.
+fn status_of(rt: &HostRuntime, words: &[String]) -> u8 {
+    let alloc = rt.alloc();
+    let (mut input, mut out, mut err) = (rt.stdin(), rt.stdout(), rt.stderr());
+    match swept_keys(alloc, words) {
+        Some(keys) if err.is_terminal() => {
+            let mut told = Progress::new(out, rt.stderr(), rt, keys);
+            command(rt, alloc, words, &mut input, &mut told, &mut err)
+        }
+        _ => command(rt, alloc, words, &mut input, &mut out, &mut err),
+    }
+}
+
+/// How many keys the words ask to sweep.
+fn swept_keys(alloc: Global, words: &[String]) -> Option<u64> {
+    match request_of(alloc, words) {
+        Ok(Request::Sweep(options)) => Some(options.keys.count()),
+        Ok(_) | Err(_) => None,
+    }
 }
 
 /// The words of the command line, the program's name first.

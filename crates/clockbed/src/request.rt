@@ -7,7 +7,10 @@ use bench_shared::MOST_LOADERS;
 use clap::error::ErrorKind;
 use clap::{Arg, ArgMatches, Command, Error, value_parser};
 use commands::Fault;
-use commands::request::{ExecOptions, Request, RunOptions, ShapeOptions, StressOptions};
+use commands::request::{
+    ExecOptions, Request, RunOptions, ShapeOptions, StressOptions, SweepOptions,
+};
+use key_sweep::KeySpan;
 use node_env::{MAX_MEMORY, MAX_NODES, MEMORY_UNIT};
 use std::alloc::{AllocError, Global};
 use std::convert::AsStr;
@@ -64,6 +67,13 @@ fn parse<S: AsStr>(alloc: Global, words: &[S]) -> Result<Request, Error> {
         Some(("verify", options)) => Ok(Request::Verify(shape_options(options))),
         Some(("run", options)) => Ok(Request::Run(run_options(options))),
         Some(("stress", options)) => Ok(Request::Stress(stress_options(options))),
+        Some(("sweep", options)) => match sweep_options(options) {
+            Some(options) => Ok(Request::Sweep(options)),
+            None => Err(command.error(
+                ErrorKind::ValueValidation,
+                "the keys are FIRST..LAST, the first at most the last",
+            )?),
+        },
         _ => Err(command.error(ErrorKind::MissingSubcommand, "a command is needed")?),
     }
 }
@@ -134,7 +144,23 @@ fn command_line<'a>(alloc: Global, helps: &'a Helps) -> Result<Command<'a>, Allo
         .subcommand(dis)?
         .subcommand(with_shape(alloc, verify, helps)?)?
         .subcommand(run.arg(workers)?)?
-        .subcommand(stress(alloc, helps)?)
+        .subcommand(stress(alloc, helps)?)?
+        .subcommand(sweep(alloc)?)
+}
+
+/// The command `sweep` with its options.
+fn sweep<'a>(alloc: Global) -> Result<Command<'a>, AllocError> {
+    let keys = Arg::new(alloc, "keys")
+        .long("keys")
+        .value_name("FIRST..LAST")
+        .help("The keys of the coins, both ends among them")
+        .required(true);
+    let help = "The workers that run whole scenarios [default: the processors]";
+    let workers = count_option(alloc, "workers", help, MOST_WORKERS);
+    Command::new(alloc, "sweep")
+        .about("Runs the scenario on standard input with each key, and prints CSV")
+        .arg(keys)?
+        .arg(workers)
 }
 
 /// The command `stress` with its options.
@@ -199,6 +225,16 @@ fn stress_options(options: &ArgMatches<'_>) -> StressOptions {
         pulses: options.get_one::<u32>("pulses").unwrap_or(DEFAULT_PULSES),
         workers: options.get_one::<u32>("workers").unwrap_or(DEFAULT_WORKERS),
     }
+}
+
+/// The options of `sweep`, where the keys are two numbers in order.
+fn sweep_options(options: &ArgMatches<'_>) -> Option<SweepOptions> {
+    let (first, last) = options.get_str("keys")?.split_once("..")?;
+    let keys = KeySpan::of(first.parse().ok()?, last.parse().ok()?)?;
+    Some(SweepOptions {
+        keys,
+        workers: options.get_one::<u32>("workers"),
+    })
 }
 
 fn exec_options(options: &ArgMatches<'_>) -> ExecOptions {

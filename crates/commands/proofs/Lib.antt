@@ -3,3 +3,4 @@ mod VerdictLemmas
 mod RunLemmas
 mod StressLemmas
 mod FaultLemmas
+mod SweepLemmas

@@ -23,13 +23,13 @@ pub cut_report : (input old new : Option (List ℕ)) (written : ℕ)
 cut_report None old new written left = tt
 cut_report (Some text) old new written left = (Report left.0, left.1, left.2, left.3)
 
-kept_appends : (a b c : Option (List ℕ)) (bs : List ℕ) → Keeps a b → Appends b c bs → Appends a c bs
+pub kept_appends : (a b c : Option (List ℕ)) (bs : List ℕ) → Keeps a b → Appends b c bs → Appends a c bs
 kept_appends None b c bs p q = tt
 kept_appends (Some x) None c bs p q = absurd p
 kept_appends (Some x) (Some y) None bs p q = absurd q
 kept_appends (Some x) (Some y) (Some z) bs p q = q ∙ ap (λ l. l ++ bs) p
 
-kept_twice : (a b c : Option (List ℕ)) → Keeps a b → Keeps b c → Keeps a c
+pub kept_twice : (a b c : Option (List ℕ)) → Keeps a b → Keeps b c → Keeps a c
 kept_twice None b c p q = tt
 kept_twice (Some x) None c p q = absurd p
 kept_twice (Some x) (Some y) None p q = absurd q

@@ -9,5 +9,6 @@ pub mod Output
 pub mod Verdict
 pub mod Run
 pub mod Stress
+pub mod Sweep
 pub mod Perform
 pub mod inner

@@ -8,7 +8,7 @@ use Rattle.commands.specs.declared.fault.Fault.{Fault}
 use Rattle.commands.specs.declared.image.TheConstants.{IMAGE_BYTES}
 use Rattle.commands.specs.declared.request.ShapeOptions.{ShapeOptions}
 use Rattle.commands.specs.declared.request.Request.{Request}
-use Rattle.commands.specs.declared.request.Request.TheVariants.{Exec, Asm, Dis, Verify, Run, Stress, Help}
+use Rattle.commands.specs.declared.request.Request.TheVariants.{Exec, Asm, Dis, Verify, Run, Stress, Sweep, Help}
 use Rattle.commands.specs.Asm.{LeavesImage}
 use Rattle.commands.specs.Dis.{LeavesListing}
 use Rattle.commands.specs.Ending.{status_of}
@@ -19,6 +19,7 @@ use Rattle.commands.specs.Output.{Leaves}
 use Rattle.commands.specs.Run.{LeavesTold, WantsThread}
 use Rattle.bench_scenario.specs.declared.run.TheConstants.{MOST_BYTES}
 use Rattle.commands.specs.Stress.{LeavesStressed}
+use Rattle.commands.specs.Sweep.{LeavesSwept}
 use Rattle.commands.specs.Verdict.{LeavesVerdict}
 
 -- what each command leaves on its output, where the bytes of its input are known, and how it ends
@@ -32,6 +33,7 @@ CarriesOut (Verify asked) input old new ended = IfSome input
 CarriesOut (Run asked) input old new ended = IfSome input
     (λ bytes. LeavesTold old new bytes ended × WantsThread bytes ended)
 CarriesOut (Stress asked) input old new ended = LeavesStressed asked old new ended
+CarriesOut (Sweep asked) input old new ended = IfSome input (λ bytes. LeavesSwept old new bytes asked.keys ended)
 CarriesOut (Help text) input old new ended = Leaves old new (string_bytes text) Done ended
 
 -- the status of an ending, or of a fault
@@ -63,4 +65,5 @@ TakesFor Dis old new = TakesAtMost IMAGE_BYTES old new
 TakesFor (Verify asked) old new = TakesShaped asked old new
 TakesFor (Run asked) old new = TakesAtMost MOST_BYTES old new
 TakesFor (Stress asked) old new = new ≡ old
+TakesFor (Sweep asked) old new = TakesAtMost MOST_BYTES old new
 TakesFor (Help text) old new = new ≡ old

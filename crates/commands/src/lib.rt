@@ -14,6 +14,7 @@ pub mod perform;
 pub mod request;
 mod run;
 mod stress;
+mod sweep;
 mod verdict;
 pub mod verify;
 

@@ -11,6 +11,7 @@ use crate::output::write_whole;
 use crate::request::Request;
 use crate::run::run;
 use crate::stress::stress;
+use crate::sweep::sweep;
 use crate::verify::verify;
 use std::alloc::Global;
 use std::io::{Read, Write};
@@ -57,6 +58,7 @@ fn carry_out<T: Threads + Wait + Sync, R: Read, W: Write>(
         Request::Verify(options) => verify(alloc, *options, reader, out),
         Request::Run(options) => run(rt, alloc, *options, reader, out),
         Request::Stress(options) => stress(rt, alloc, *options, out),
+        Request::Sweep(options) => sweep(rt, alloc, *options, reader, out),
         Request::Help { text } => write_whole(out, text.as_bytes(), Ending::Done),
     }
 }

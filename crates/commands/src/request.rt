@@ -1,6 +1,7 @@
 //! What a command line asks for.
 
 pub use bench_stress::StressOptions;
+use key_sweep::KeySpan;
 
 /// A command with its options, or the help that is asked for in its place.
 #[derive(Debug, Drop)]
@@ -11,6 +12,7 @@ pub enum Request {
     Verify(ShapeOptions),
     Run(RunOptions),
     Stress(StressOptions),
+    Sweep(SweepOptions),
     /// A text whose last line ends.
     Help { text: String },
 }
@@ -28,6 +30,14 @@ pub struct ShapeOptions {
 pub struct RunOptions {
     /// On how many workers at most the tasks of a pulse are run. The report is the same for every number.
     pub workers: u32,
+}
+
+/// The options of `sweep`.
+#[derive(Clone, Copy, Debug, PartialEq, Eq)]
+pub struct SweepOptions {
+    pub keys: KeySpan,
+    /// How many workers run whole scenarios; as many as there are processors where none are named.
+    pub workers: Option<u32>,
 }
 
 /// The options of `exec`.

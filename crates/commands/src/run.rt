@@ -63,7 +63,7 @@ fn fault_of(refusal: RunRefusal) -> Fault
     }
 }
 
-fn write_refusal<W: Write>(
+pub(crate) fn write_refusal<W: Write>(
     alloc: Global,
     error: &ScenarioError,
     out: &mut W,
