@@ -335,7 +335,7 @@ def rows_of_key(run, looks, phases):
         (HATCH, "", other, HATCH in fills),
         (BLANK, f' stroke="{GREY}" stroke-dasharray="2 2"', "empty", BLANK in fills),
         (INK, "", "past the modulus", INK in fills),
-        (BLANK, f' stroke="{INK}"', "settled", any(it.is_settled for it in looks)),
+        (BLANK, f' stroke="{INK}"', "settled", any(it.is_settled and not it.is_wrong for it in looks)),
         (BLANK, f' stroke="{RED}" stroke-width="3"', "contradicts another", any(it.is_wrong for it in looks)),
     ]
     return [row[:3] for row in rows if row[3]]
