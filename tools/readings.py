@@ -65,14 +65,15 @@ def have_one(pulse):
 
 
 def in_step_since(pulses, modulus):
-    """The least pulse from which to the last all nodes that ran the clock have one, and each goes on by one."""
+    """The least pulse from which to the last all nodes that ran the clock have one, and each goes on by one. The last
+    pulse alone shows no going on."""
     since = None
     for at in range(len(pulses) - 1, -1, -1):
         is_last = since is None
         if not have_one(pulses[at]) or not (is_last or went_on(pulses[at], pulses[at + 1], modulus)):
             break
         since = pulses[at].number
-    return since
+    return since if since is not None and since < pulses[-1].number else None
 
 
 def contradicts(run, pulse):
