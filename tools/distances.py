@@ -1,5 +1,7 @@
 #!/usr/bin/env python3
-"""Tells of each pulse of a report the greatest distance of two settled clocks: tools/distances.py < REPORT
+"""Tells of each pulse of a run the greatest distance of two settled clocks: tools/distances.py < REPORT
+
+A report will do, and the lines of `run --json`.
 
 The distance goes round the modulus: of 65535 and 1 it is 2. A dash stands where fewer than two nodes are settled, and a
 clock past the modulus is left out.
@@ -7,7 +9,7 @@ clock past the modulus is left out.
 import sys
 
 sys.dont_write_bytecode = True
-from picture import PAST, NoReport, read_report
+from readings import PAST, NoReport, read_run
 
 
 def distance(one, other, modulus):
@@ -23,12 +25,12 @@ def greatest(pulse, modulus):
 
 def main():
     try:
-        report = read_report(sys.stdin.read())
+        run = read_run(sys.stdin.read())
     except NoReport as why:
         print(f"distances: {why}", file=sys.stderr)
         return 1
-    for number, pulse in enumerate(report.pulses, 1):
-        print(f"pulse {number} distance {greatest(pulse, report.modulus)}")
+    for pulse in run.pulses:
+        print(f"pulse {pulse.number} distance {greatest(pulse, run.modulus)}")
     return 0
 
 

@@ -1,171 +1,412 @@
 #!/usr/bin/env python3
-"""Draws a report of `clockbed run` as an SVG: tools/picture.py < REPORT > PICTURE
+"""Draws a run of `clockbed run` as an SVG: tools/picture.py [--phase] < LINES > PICTURE
 
-Pulses go along and nodes go down. A cell has the colour of the node's clock, and is grey where the node ran no clock.
-A frame says that the node is settled: it ran the clock in this pulse and in the one before. A red bar stands under a
-pulse with `agree no`: two settled clocks that aren't 0 differ, or, of a clock of one's own, two settled clocks differ
-or one is past the modulus, which is black.
+LINES are a report, or the lines of `run --json`, which tell more: what each node runs, and what was done to it.
+
+Pulses go along and nodes go down. Up to 40 pulses a cell has the colour of the node's clock. From 41 pulses on, or by
+--phase, it has the colour of the clock less the number of the pulse, modulo M: what counts on by one keeps its colour,
+and is one rectangle. docs/GALLERY.md tells how to read the rest.
 """
-import colorsys
-import re
+import math
 import sys
 from typing import List, NamedTuple, Optional
 
-HEAD = re.compile(r"(?:version [23] )?nodes (\d+) faults (\d+) modulus (\d+)(?: clock (rule|own))?")
-PULSE = re.compile(
-    r"pulse (\d+) clocks ((?:(?:\d+|-|!) )+)settled (\d+) steps \d+ agree (yes|no|none)(?: counts (?:yes|no|none))?"
+sys.dont_write_bytecode = True
+from readings import PAST, UNTOLD, NoReport, contradicts, read_run
+
+MOST_CELLS_ALONE = 40
+# With more shapes and marks than this all cells of one colour are drawn as one, and nothing has a title.
+MOST_TITLES = 6000
+LEAST_FRAME, LEAST_NUMBER, WIDEST = 8, 18, 1200
+TOP, BAR, LINE, NAMES = 54, 6, 16, 54
+PALE, INK, RED, BLANK, GREY = "#fbf3d9", "#222222", "#c8102e", "#ffffff", "#666666"
+HATCH = "url(#h)"
+# Chosen so that each differs from those before it also to readers who don't see red, green or blue as others do.
+COLOURS = (
+    "#56b4e9 #e69f00 #e15a78 #7878ff #b4f087 #ff1eb4 #a5a55a #ffe100 #ffa5c3 #5ae196 #ffd2ff #d2e15a"
+    " #9696ff #0096b4 #e1872d #69a596 #c3c35a #e178d2 #78c396 #a5875a #d2a5d2 #d2693c #ffc32d #ff96ff"
+).split()
+HATCHING = (
+    '<defs><pattern id="h" width="6" height="6" patternUnits="userSpaceOnUse" patternTransform="rotate(45)">'
+    '<rect width="6" height="6" fill="#f1f1f1"/><rect width="2" height="6" fill="#a8a8a8"/></pattern></defs>'
 )
-TAIL = re.compile(r"agreed (\d+) of (\d+)(?: counted \d+ of \d+)?")
-
-LEFT, TOP, BAR, FOOT = 58, 54, 6, 30
-GREY, ZERO, INK, RED = "#d0d0d0", "#fbf3d9", "#222222", "#d81b1b"
-PAST = -1
-MOST_HUES = 24
-
-
-class Pulse(NamedTuple):
-    clocks: List[Optional[int]]
-    settled: List[bool]
-    agrees: Optional[bool]
+MARKS = {
+    "load": ("M{x} {y}h7l-3.5 6z", INK, "a load"),
+    "unload": ("M{x} {y}h7l-3.5 6z", BLANK, "an unload"),
+    "corrupt": ("M{x} {y}m3.5 -.5l3.5 3.5l-3.5 3.5l-3.5 -3.5z", "#ffe100", "a corruption"),
+}
 
 
-class Report(NamedTuple):
-    nodes: int
-    faults: int
-    modulus: int
-    is_own: bool
-    pulses: List[Pulse]
+class Look(NamedTuple):
+    fill: str
+    is_settled: bool
+    is_wrong: bool
 
 
-class NoReport(Exception):
-    """The text isn't a report; says why."""
+class Shape(NamedTuple):
+    """The cells of a node that are one rectangle: `count` of them from the place `at` on."""
+
+    node: int
+    at: int
+    count: int
+    look: Look
 
 
-def matched(rule, line, what):
-    found = rule.fullmatch(line)
-    if not found:
-        raise NoReport(f"no {what}: {line}")
-    return found.groups()
+class Sheet(NamedTuple):
+    """Where things stand: the corner of the cells, and the size of one."""
+
+    left: float
+    wide: float
+    high: float
+
+    def x(self, at):
+        return self.left + at * self.wide
+
+    def y(self, node):
+        return TOP + node * self.high
 
 
-def clock_of(word):
-    """The clock that a word tells: none for a dash, and PAST for one that is past the modulus."""
-    return None if word == "-" else PAST if word == "!" else int(word)
+def escaped(text):
+    return str(text).replace("&", "&amp;").replace("<", "&lt;")
 
 
-def judged(pulses):
-    return [it.agrees for it in pulses if it.agrees is not None]
+def rectangle(x, y, width, height, fill, more="", title=""):
+    front = f'<rect x="{x:g}" y="{y:g}" width="{width:g}" height="{height:g}" fill="{fill}"{more}'
+    return f"{front}><title>{escaped(title)}</title></rect>" if title else f"{front}/>"
 
 
-def read_pulse(line, number, nodes, before):
-    given, clocks, settled, agree = matched(PULSE, line, "line of a pulse")
-    clocks = [clock_of(word) for word in clocks.split()]
-    if int(given) != number or len(clocks) != nodes:
-        raise NoReport(f"pulse {number} of {nodes} nodes is wanted: {line}")
-    both = [now is not None and last is not None for now, last in zip(clocks, before)]
-    if sum(both) != int(settled):
-        raise NoReport(f"{sum(both)} nodes are settled by their clocks: {line}")
-    return Pulse(clocks, both, None if agree == "none" else agree == "yes")
+def label(x, y, text, size, anchor="middle", fill=""):
+    side = "" if anchor == "middle" else f' text-anchor="{anchor}"'
+    colour = f' fill="{fill}"' if fill else ""
+    return f'<text x="{x:g}" y="{y:g}" font-size="{size}"{side}{colour}>{escaped(text)}</text>'
 
 
-def read_report(text):
-    lines = text.splitlines()
-    if len(lines) < 3:
-        raise NoReport(f"too few lines: {text.strip()}")
-    *numbers, clock = matched(HEAD, lines[0], "first line")
-    nodes, faults, modulus = map(int, numbers)
-    pulses, before = [], [None] * nodes
-    for number, line in enumerate(lines[1:-1], 1):
-        pulses.append(read_pulse(line, number, nodes, before))
-        before = pulses[-1].clocks
-    agreed, of = map(int, matched(TAIL, lines[-1], "last line"))
-    if (agreed, of) != (sum(judged(pulses)), len(judged(pulses))):
-        raise NoReport(f"the pulses don't add up: {lines[-1]}")
-    return Report(nodes, faults, modulus, clock == "own", pulses)
+def staged(pulse):
+    """What was done before a pulse, where that is told."""
+    return (pulse.inside or {}).get("staged", [])
 
 
-def colour(clock, modulus):
-    """One colour for each clock: 0 is pale, and the others go from orange to purple; many of them jump about."""
+# What each node runs.
+
+
+def name_after(name, ran):
+    """What a node runs, by the name of its last load and by what it ran in the pulse."""
+    if ran is None:
+        return "empty"
+    if ran == "clock":
+        return "clock"
+    if ran == UNTOLD:
+        return "no clock"
+    return name if name not in ("empty", "clock", "") else "other"
+
+
+def names(run):
+    """For each node what it ran in each pulse."""
+    loaded, told = [""] * run.nodes, [[] for _ in range(run.nodes)]
+    for pulse in run.pulses:
+        for done in staged(pulse):
+            if "load" in done:
+                loaded[done["load"]] = done["program"]
+        for node, ran in enumerate(pulse.ran):
+            told[node].append(name_after(loaded[node], ran))
+    return told
+
+
+def in_turn(told):
+    """The programs of a node one after the other, the first three."""
+    turns = [name for at, name in enumerate(told) if at == 0 or told[at - 1] != name]
+    return ", ".join(turns[:3]) + (", .." if len(turns) > 3 else "")
+
+
+# Colours.
+
+
+def is_resting(run, at, node):
+    """Whether a node is at 0 and didn't come there by counting."""
+    before = run.pulses[at - 1].clocks[node] if at else None
+    return run.pulses[at].clocks[node] == 0 and before != run.modulus - 1
+
+
+def phase(run, pulse, clock):
+    return (clock - pulse.number) % run.modulus
+
+
+def phase_colours(run):
+    """A colour for each phase; the first is that of the phase with the most cells, and so on."""
+    count = {}
+    for at, pulse in enumerate(run.pulses):
+        for node, clock in enumerate(pulse.clocks):
+            if clock not in (None, PAST) and not is_resting(run, at, node):
+                it = phase(run, pulse, clock)
+                count[it] = count.get(it, 0) + 1
+    by_count = sorted(count, key=lambda it: (-count[it], it))
+    return {it: COLOURS[place % len(COLOURS)] for place, it in enumerate(by_count)}
+
+
+def fill(run, at, node, phases):
+    """The colour of a cell; `phases` has the colours of phases, where these are drawn."""
+    pulse = run.pulses[at]
+    clock = pulse.clocks[node]
     if clock is None:
-        return GREY
+        return BLANK if pulse.ran[node] is None else HATCH
     if clock == PAST:
         return INK
-    if clock == 0:
-        return ZERO
-    part = (clock - 1) / modulus if modulus <= MOST_HUES else clock * 0.618034 % 1
-    parts = colorsys.hls_to_rgb(0.08 + 0.84 * part, 0.62 if clock % 2 else 0.74, 0.7)
-    return "#" + "".join(f"{round(255 * it):02x}" for it in parts)
+    if phases is None:
+        return PALE if clock == 0 else COLOURS[(clock - 1) % len(COLOURS)]
+    return PALE if is_resting(run, at, node) else phases[phase(run, pulse, clock)]
 
 
-def rectangle(x, y, width, height, fill, more=""):
-    return f'<rect x="{x}" y="{y}" width="{width}" height="{height}" fill="{fill}"{more}/>'
+# Cells.
 
 
-def label(x, y, text, size, anchor="middle"):
-    side = "" if anchor == "middle" else f' text-anchor="{anchor}"'
-    return f'<text x="{x:g}" y="{y:g}" font-size="{size}"{side}>{text}</text>'
+def shapes(run, phases) -> List[Shape]:
+    """The rectangles of all cells: one for each cell, or for all that follow one another and look alike."""
+    wrong = [contradicts(run, pulse) for pulse in run.pulses]
+    found = []
+    for node in range(run.nodes):
+        for at, pulse in enumerate(run.pulses):
+            look = Look(fill(run, at, node, phases), pulse.settled[node], wrong[at][node])
+            last = found[-1] if found else None
+            if phases is not None and at and last.look == look:
+                found[-1] = last._replace(count=last.count + 1)
+            else:
+                found.append(Shape(node, at, 1, look))
+    return found
 
 
-def draw_cell(x, y, wide, high, clock, is_settled, modulus):
-    frame = f' stroke="{INK}"' if is_settled else ""
-    parts = [rectangle(x + 1, y + 1, wide - 3, high - 3, colour(clock, modulus), frame)]
-    size = 12 if high >= 20 else 8
-    if clock is not None and clock != PAST and wide >= 8 + len(str(clock)) * size * 0.6:
-        parts.append(label(x + wide / 2 - 0.5, y + high / 2 + size * 0.35 - 0.5, clock, size))
+def title(run, shape, told):
+    pulse = run.pulses[shape.at]
+    clock, name = pulse.clocks[shape.node], told[shape.node][shape.at]
+    words = [f"node {shape.node}, pulse {pulse.number}"]
+    if shape.count > 1:
+        words[0] = f"node {shape.node}, pulses {pulse.number} to {pulse.number + shape.count - 1}"
+    if clock is None:
+        words.append(name)
+    elif shape.look.fill == INK:
+        words.append("a clock past the modulus")
+    else:
+        moves = shape.count > 1 and shape.look.fill != PALE
+        words.append(f"clock {clock} and on by one" if moves else f"clock {clock}")
+    if shape.look.is_settled:
+        words.append("settled")
+    if shape.look.is_wrong:
+        words.append("contradicts")
+    if pulse.inside and shape.count == 1 and name != "empty":
+        words.append(f"coin {pulse.inside['coins'][shape.node]}, {pulse.inside['steps'][shape.node]} steps")
+    return ": ".join([words[0], ", ".join(words[1:])])
+
+
+def frame(look, wide, high):
+    """The edge of a rectangle of this size."""
+    if min(wide, high) < LEAST_FRAME:
+        return ""
+    if look.is_wrong:
+        return f' stroke="{RED}" stroke-width="3"'
+    return f' stroke="{INK}"' if look.is_settled else ""
+
+
+def draw_shape(run, sheet, shape, told):
+    gap = 2 if sheet.wide >= LEAST_FRAME else 0
+    x, y = sheet.x(shape.at) + gap / 2, sheet.y(shape.node) + 1
+    wide, high = shape.count * sheet.wide - gap, sheet.high - 2
+    look = shape.look
+    edge = frame(look, wide, high)
+    inset = 0 if not edge else 1.5 if look.is_wrong else 0.5
+    place = (x + inset, y + inset, wide - 2 * inset, high - 2 * inset)
+    parts = [rectangle(*place, look.fill, edge, title(run, shape, told))]
+    if look.is_wrong and not edge:
+        parts.append(rectangle(x, y + high - 3, wide, 3, RED))
     return parts
 
 
-def sizes(report):
-    """The width and the height of a cell: small where there are many."""
-    count = len(report.pulses)
-    wide = 30 if count <= 40 else max(4, 1200 // count)
-    return wide, 26 if report.nodes <= 16 else 13
+def draw_alike(sheet, found):
+    """All shapes of one colour as one path."""
+    paths = {}
+    for shape in found:
+        piece = f"M{sheet.x(shape.at):g} {sheet.y(shape.node) + 1:g}h{shape.count * sheet.wide:g}v{sheet.high - 2:g}"
+        paths.setdefault(shape.look.fill, []).append(f"{piece}h-{shape.count * sheet.wide:g}z")
+    return [f'<path fill="{fill}" d="{"".join(pieces)}"/>' for fill, pieces in paths.items() if fill != BLANK]
 
 
-def draw_pulse(report, at, pulse, wide, high):
-    x, number = LEFT + at * wide, at + 1
+def draw_numbers(run, sheet):
+    size = 12 if sheet.high >= 20 else 8
     parts = []
-    if number == 1 or number % (1 if wide >= 18 else 10) == 0:
-        parts.append(label(x + wide / 2 - 0.5, TOP - 6, number, 10))
-    for node, (clock, is_settled) in enumerate(zip(pulse.clocks, pulse.settled)):
-        parts += draw_cell(x, TOP + node * high, wide, high, clock, is_settled, report.modulus)
-    if pulse.agrees is False:
-        parts.append(rectangle(x, TOP + report.nodes * high + 1, wide - 1, BAR, RED))
+    for at, pulse in enumerate(run.pulses):
+        for node, clock in enumerate(pulse.clocks):
+            text = "!" if clock == PAST else clock
+            if clock is not None and sheet.wide >= 8 + len(str(text)) * size * 0.6:
+                x, y = sheet.x(at) + sheet.wide / 2, sheet.y(node) + sheet.high / 2 + size * 0.35
+                parts.append(label(x, y, text, size, fill=BLANK if clock == PAST else ""))
     return parts
 
 
-def said(report):
-    nodes = f"{report.nodes} node{'s' * (report.nodes > 1)}"
-    allowed = f"{report.faults or 'no'} fault{'s' * (report.faults != 1)} allowed"
-    verdicts = judged(report.pulses)
-    return f"{nodes}, {allowed}, clocks below {report.modulus}; {sum(verdicts)} of {len(verdicts)} pulses agree"
+# What was done.
 
 
-def draw(report):
-    wide, high = sizes(report)
-    width = LEFT + max(len(report.pulses) * wide, 500) + 10
-    height = TOP + report.nodes * high + BAR + FOOT
-    parts = [
-        f'<svg xmlns="http://www.w3.org/2000/svg" width="{width}" height="{height}" viewBox="0 0 {width} {height}"'
-        f' font-family="sans-serif" text-anchor="middle" fill="{INK}" role="img">',
-        f"<title>{said(report)}</title>",
-        rectangle(0, 0, width, height, "#ffffff"),
-        label(LEFT, 20, said(report), 13, "start"),
-        label(LEFT - 6, TOP - 6, "pulse", 10, "end"),
+def draw_mark(kind, x, y, text):
+    path, colour, _ = MARKS[kind]
+    shape = f'<path d="{path.format(x=f"{x:g}", y=f"{y:g}")}" fill="{colour}" stroke="{INK}" stroke-width=".8"'
+    return f"{shape}><title>{escaped(text)}</title></path>" if text else f"{shape}/>"
+
+
+def done_in_words(number, kind, done):
+    node = done[kind]
+    if kind == "load":
+        return f"before pulse {number}: node {node} is loaded with {done['program']}"
+    if kind == "unload":
+        return f"before pulse {number}: node {node} is unloaded"
+    return f"before pulse {number}: the memory of node {node} becomes {done['image']}"
+
+
+def kind_of(done):
+    return next(it for it in MARKS if it in done)
+
+
+def draw_marks(run, sheet, has_titles):
+    parts = []
+    for at, pulse in enumerate(run.pulses):
+        count = {}
+        for done in staged(pulse):
+            kind = kind_of(done)
+            node = done[kind]
+            x = sheet.x(at) + 8 * count.get(node, 0) + (1 if sheet.wide >= LEAST_FRAME else -3)
+            count[node] = count.get(node, 0) + 1
+            words = done_in_words(pulse.number, kind, done) if has_titles else ""
+            parts.append(draw_mark(kind, x, sheet.y(node) + 1, words))
+    return parts
+
+
+# What stands around the cells.
+
+
+def steps_of_axis(wide):
+    """After how many pulses the next number fits."""
+    return next(it for it in (1, 2, 5, 10, 20, 50, 100, 200, 500) if it * wide >= (LEAST_NUMBER if it == 1 else 36))
+
+
+def draw_axis(run, sheet):
+    parts, step = [], steps_of_axis(sheet.wide)
+    for at, pulse in enumerate(run.pulses):
+        if pulse.number == 1 or pulse.number % step == 0:
+            parts.append(label(sheet.x(at) + sheet.wide / 2, TOP - 6, pulse.number, 10))
+    return parts
+
+
+def draw_bars(run, sheet):
+    """A bar under the pulses whose clocks don't agree."""
+    parts, at, y = [], 0, sheet.y(run.nodes) + 1
+    while at < len(run.pulses):
+        begin = at
+        while at < len(run.pulses) and run.pulses[at].agrees is False:
+            at += 1
+        if at > begin:
+            first, last = run.pulses[begin].number, run.pulses[at - 1].number
+            words = f"pulse {first}: no agreement" if first == last else f"pulses {first} to {last}: no agreement"
+            wide = (at - begin) * sheet.wide - min(1, sheet.wide / 4)
+            parts.append(rectangle(sheet.x(begin), y, wide, BAR, RED, "", words))
+        at += 1
+    return parts
+
+
+def draw_names(run, sheet, told):
+    parts = []
+    for node in range(run.nodes):
+        y = sheet.y(node) + sheet.high / 2 + 3.5
+        parts.append(label(8, y, f"node {node}", 10, "start"))
+        parts.append(label(NAMES, y, in_turn(told[node]), 10, "start", GREY))
+    return parts
+
+
+def caption(run):
+    nodes = f"{run.nodes} node{'s' * (run.nodes > 1)}"
+    allowed = f"{run.faults or 'no'} fault{'s' * (run.faults != 1)} allowed"
+    step = f"in step from pulse {run.in_step_since} on" if run.in_step_since else "not in step at the end"
+    first, last = run.pulses[0].number, run.pulses[-1].number
+    span = "" if (first, last) == (1, run.count) else f"; here pulses {first} to {last} of {run.count}"
+    return f"{nodes}, {allowed}, clocks below {run.modulus}; {run.agreed} of {run.judged} pulses agree; {step}{span}"
+
+
+def rows_of_key(run, looks, phases):
+    """What the picture shows that needs a word: a sample, as its fill and its edge, and the word."""
+    fills = {it.fill for it in looks}
+    other = "another program" if run.pulses[0].inside else "no clock"
+    rows = [
+        (PALE, "", "0, not by counting", PALE in fills and phases is not None),
+        (HATCH, "", other, HATCH in fills),
+        (BLANK, f' stroke="{GREY}" stroke-dasharray="2 2"', "empty", BLANK in fills),
+        (INK, "", "past the modulus", INK in fills),
+        (BLANK, f' stroke="{INK}"', "settled", any(it.is_settled and not it.is_wrong for it in looks)),
+        (BLANK, f' stroke="{RED}" stroke-width="3"', "contradicts another", any(it.is_wrong for it in looks)),
     ]
-    for node in range(report.nodes):
-        parts.append(label(LEFT - 6, TOP + node * high + high / 2 + 3, f"node {node}", 10, "end"))
-    for at, pulse in enumerate(report.pulses):
-        parts += draw_pulse(report, at, pulse, wide, high)
-    differ = "two settled clocks differ" if report.is_own else "two settled clocks that aren't 0 differ"
-    key = f"grey: ran no clock. frame: settled. red bar: {differ}"
-    parts.append(label(LEFT, height - 10, key, 10, "start"))
+    return [row[:3] for row in rows if row[3]]
+
+
+def draw_key(run, looks, phases, y):
+    """The key, and the greatest x in it."""
+    x, parts = 8, []
+    kinds = {kind_of(done) for pulse in run.pulses for done in staged(pulse)}
+    samples = [(rectangle(1, -9, 11, 10, fill, edge), word) for fill, edge, word in rows_of_key(run, looks, phases)]
+    samples += [(draw_mark(kind, 2, -8, ""), MARKS[kind][2]) for kind in MARKS if kind in kinds]
+    for sample, word in samples:
+        parts.append(f'<g transform="translate({x:g} {y:g})">{sample}{label(17, 0, word, 10, "start")}</g>')
+        x += 17 + len(word) * 5.6 + 16
+    if phases is not None:
+        words = f"Colour: the clock less the pulse's number, modulo {run.modulus}. It stays while the clock counts on."
+        parts.append(label(8, y + LINE, words, 10, "start"))
+        x = max(x, 8 + len(words) * 5.6)
+    return parts, x
+
+
+def draw_cells(run, sheet, found, told):
+    marks = sum(len(staged(pulse)) for pulse in run.pulses)
+    has_titles = len(found) + marks <= MOST_TITLES
+    cells = [part for shape in found for part in draw_shape(run, sheet, shape, told)] if has_titles else []
+    return [
+        *(cells or draw_alike(sheet, found)),
+        *(draw_numbers(run, sheet) if sheet.wide >= LEAST_NUMBER else []),
+        *draw_marks(run, sheet, has_titles),
+    ]
+
+
+def sheet_for(run, told):
+    count = len(run.pulses)
+    wide = 30 if count <= MOST_CELLS_ALONE else max(1, WIDEST // count)
+    longest = max(len(in_turn(it)) for it in told)
+    return Sheet(math.ceil(NAMES + longest * 5.4 + 8), wide, 26 if run.nodes <= 16 else 13)
+
+
+def draw(run, is_phase):
+    phases = phase_colours(run) if is_phase or len(run.pulses) > MOST_CELLS_ALONE else None
+    told = names(run)
+    sheet = sheet_for(run, told)
+    found = shapes(run, phases)
+    foot = sheet.y(run.nodes) + BAR + LINE + 6
+    key, key_width = draw_key(run, {it.look for it in found}, phases, foot)
+    width = math.ceil(max(sheet.x(len(run.pulses)) + 12, key_width, 16 + len(caption(run)) * 6.7))
+    height = foot + (LINE if phases is not None else 0) + 12
+    parts = [
+        f'<svg xmlns="http://www.w3.org/2000/svg" width="{width}" height="{height:g}" viewBox="0 0 {width} {height:g}"'
+        f' font-family="sans-serif" text-anchor="middle" fill="{INK}" role="img">',
+        f"<title>{caption(run)}</title>",
+        HATCHING,
+        rectangle(0, 0, width, height, BLANK),
+        label(8, 20, caption(run), 13, "start"),
+        label(sheet.left - 6, TOP - 6, "pulse", 10, "end"),
+        *draw_axis(run, sheet),
+        *draw_names(run, sheet, told),
+        *draw_cells(run, sheet, found, told),
+        *draw_bars(run, sheet),
+        *key,
+    ]
     return "\n".join([*parts, "</svg>", ""])
 
 
-def main():
+def main(words):
+    if words not in ([], ["--phase"]):
+        print(__doc__, file=sys.stderr, end="")
+        return 1
     try:
-        sys.stdout.write(draw(read_report(sys.stdin.read())))
+        sys.stdout.write(draw(read_run(sys.stdin.read()), bool(words)))
     except NoReport as why:
         print(f"picture: {why}", file=sys.stderr)
         return 1
@@ -173,4 +414,4 @@ def main():
 
 
 if __name__ == "__main__":
-    sys.exit(main())
+    sys.exit(main(sys.argv[1:]))

@@ -9,7 +9,8 @@ object=$(mktemp)
 trap 'rm -f "$object"' EXIT
 
 clang -target bpf -O2 -mcpu=v3 -fno-jump-tables -mllvm -disable-block-placement -Wall "$@" -c "$source" -o "$object"
-if llvm-readelf -r "$object" | grep -q R_BPF; then
+# Relocations of the text: those of what -g adds don't touch the image.
+if llvm-readelf -r "$object" | grep -q "'\.rel\.text'"; then
   echo "compile: $source has data outside its functions, which an image can't hold" >&2
   exit 1
 fi
