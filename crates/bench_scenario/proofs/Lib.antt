@@ -2,6 +2,7 @@ mod CoinLemmas
 mod CountLemmas
 mod EventLemmas
 mod FitLemmas
+mod InStepLemmas
 mod ListLemmas
 pub mod RunLemmas
 mod StreamLemmas

@@ -11,7 +11,7 @@ use Rattle.bench_scenario.specs.Laws.{SettledWith, OwnAgrees, Counts, CountsNoth
 -- ---- settled clocks, one node after the other
 
 -- the clock at a place of the list
-abbrev Has : List (Option ℕ) → ℕ → ℕ → Type 0
+abbrev pub Has : List (Option ℕ) → ℕ → ℕ → Type 0
 Has clocks i c = slice_get clocks i ≡ Some (Some c)
 
 told_at : (flags : List Bool) (clocks : List (Option ℕ)) (i c : ℕ) → slice_get flags i ≡ Some true → Has clocks i c
@@ -41,12 +41,12 @@ at_settled r i c has =
 
 -- ---- agreement
 
-first_there : (clocks : List (Option ℕ)) (f : ℕ) → first_clock clocks ≡ Some f → (i : ℕ) × Has clocks i f
+pub first_there : (clocks : List (Option ℕ)) (f : ℕ) → first_clock clocks ≡ Some f → (i : ℕ) × Has clocks i f
 first_there [] f e = absurd cc
 first_there (Some c ∷ clocks) f e = (0, ap (λ (k : Option ℕ). Some k) e)
 first_there (None ∷ clocks) f e = let rest = first_there clocks f e in (suc rest.0, rest.1)
 
-none_there : (clocks : List (Option ℕ)) → first_clock clocks ≡ None → (i c : ℕ) → Has clocks i c → ⊥
+pub none_there : (clocks : List (Option ℕ)) → first_clock clocks ≡ None → (i c : ℕ) → Has clocks i c → ⊥
 none_there [] e i c has = cc
 none_there (Some k ∷ clocks) e i c has = cc
 none_there (None ∷ clocks) e zero c has = cc
@@ -70,10 +70,10 @@ are_all f (Some k ∷ clocks) each =
 are_all f (None ∷ clocks) each = are_all f clocks (λ i c has. each (suc i) c has)
 
 -- all clocks of a list are one number below the modulus
-abbrev One : ℕ → List (Option ℕ) → Type 0
+abbrev pub One : ℕ → List (Option ℕ) → Type 0
 One modulus clocks = (i j c d : ℕ) → Has clocks i c → Has clocks j d → (c ≡ d) × (c < modulus)
 
-one_of : (modulus : ℕ) (clocks : List (Option ℕ)) (f : Option ℕ) → first_clock clocks ≡ f
+pub one_of : (modulus : ℕ) (clocks : List (Option ℕ)) (f : Option ℕ) → first_clock clocks ≡ f
     → IsTrue (are_one modulus clocks f) ↔ One modulus clocks
 one_of modulus clocks None e =
     (λ is i j c d has other. absurd (none_there clocks e i c has), λ each. refl)
@@ -106,11 +106,11 @@ own_agrees modulus r told e =
 -- ---- counting
 
 -- all clocks that stand at one place of both lists went on by one
-abbrev On : ℕ → List (Option ℕ) → List (Option ℕ) → Type 0
+abbrev pub On : ℕ → List (Option ℕ) → List (Option ℕ) → Type 0
 On modulus before after = (i c d : ℕ) → Has before i c → Has after i d → (c < modulus) × (d ≡ (c + 1) % modulus)
 
 -- no clocks stand at one place of both
-abbrev Apart : List (Option ℕ) → List (Option ℕ) → Type 0
+abbrev pub Apart : List (Option ℕ) → List (Option ℕ) → Type 0
 Apart before after = (i c d : ℕ) → Has before i c → Has after i d → ⊥
 
 on_from : (modulus b a : ℕ) → counts_on modulus b a ≡ true → (b < modulus) × (a ≡ (b + 1) % modulus)
@@ -144,7 +144,7 @@ apart_more b a before after first rest zero c d has other =
 apart_more b a before after first rest (suc i) c d has other = rest i c d has other
 
 -- a verdict on all nodes
-abbrev Tells : ℕ → List (Option ℕ) → List (Option ℕ) → Option Bool → Type 0
+abbrev pub Tells : ℕ → List (Option ℕ) → List (Option ℕ) → Option Bool → Type 0
 Tells modulus before after None = Apart before after
 Tells modulus before after (Some told) = (IsTrue told ↔ On modulus before after) × (Apart before after → ⊥)
 
@@ -188,7 +188,7 @@ skips modulus b a before after (Some told) first rest = (
   λ none. rest.1 (λ i c d has other. none (suc i) c d has other),
 )
 
-tells : (modulus : ℕ) (before after : List (Option ℕ)) → Tells modulus before after (counting modulus before after)
+pub tells : (modulus : ℕ) (before after : List (Option ℕ)) → Tells modulus before after (counting modulus before after)
 tells modulus [] after = λ i c d has other. cc
 tells modulus (b ∷ before) [] = λ i c d has other. cc
 tells modulus (Some b ∷ before) (Some a ∷ after) =

@@ -1,5 +1,6 @@
 pub mod Coins
 pub mod Events
+pub mod InStep
 pub mod Laws
 pub mod Reports
 pub mod Runs

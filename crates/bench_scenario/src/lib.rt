@@ -2,6 +2,7 @@
 #![tactic(auto)]
 
 mod coins;
+mod in_step;
 mod judged;
 pub mod laws;
 mod paying;
@@ -10,6 +11,7 @@ mod run;
 mod schedule;
 mod verdicts;
 
+pub use in_step::in_step_since;
 pub use printing::report;
 pub use run::{MOST_BYTES, MOST_CALLS, ScenarioFault, run_scenario};
 pub use scenario_text::{RefusalLine, Scenario, ScenarioError, scenario_of};

@@ -40,7 +40,7 @@ fn told_clocks(
     Ok(told)
 }
 
-fn first_clock(clocks: &[Option<u32>]) -> Option<u32>
+pub(crate) fn first_clock(clocks: &[Option<u32>]) -> Option<u32>
     ensures { result ≡ first_clock clocks.now }
 {
     for clock in clocks {
@@ -67,7 +67,7 @@ fn are_all(clock: u32, clocks: &[Option<u32>]) -> bool
 }
 
 /// Whether all are equal, and none is past the modulus.
-fn are_one(modulus: u32, clocks: &[Option<u32>]) -> bool
+pub(crate) fn are_one(modulus: u32, clocks: &[Option<u32>]) -> bool
     ensures { result ≡ are_one modulus clocks.now (first_clock clocks.now) }
 {
     match first_clock(clocks) {
@@ -117,7 +117,7 @@ fn joined(one: Option<bool>, other: Option<bool>) -> Option<bool>
 }
 
 /// Whether the clocks of nodes that are settled in two pulses counted.
-fn counting(modulus: u32, before: &[Option<u32>], after: &[Option<u32>]) -> Option<bool>
+pub(crate) fn counting(modulus: u32, before: &[Option<u32>], after: &[Option<u32>]) -> Option<bool>
     ensures { result ≡ counting modulus before.now after.now }
 {
     let mut verdict = None;

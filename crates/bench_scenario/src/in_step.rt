@@ -1,0 +1,54 @@
+//! From which pulse on a run is in step.
+ghost use Rattle.std.specs.Prelude.{ℕ, ◌<◌, ◌^◌, ◌↔◌, IsTrue, length};
+ghost use Rattle.bench_scenario.specs.InStep.{EachWentOn, HaveOne, IsInStepSince};
+ghost use Rattle.bench_scenario.specs.inner.InStep.{Begins};
+
+use crate::verdicts::{are_one, counting, first_clock};
+use bench_core::PulseRecord;
+
+/// Whether some node ran the clock, and all that did have one clock below the modulus.
+fn have_one(modulus: u32, one: &PulseRecord) -> bool
+    ensures { IsTrue result ↔ ((c : ℕ) × HaveOne modulus one.now c) }
+{
+    let clocks = one.clocks.as_slice();
+    first_clock(clocks).is_some() && are_one(modulus, clocks)
+}
+
+/// Whether each node that ran the clock in both pulses went on by one.
+fn went_on(modulus: u32, before: &PulseRecord, after: &PulseRecord) -> bool
+    requires { (c : ℕ) × HaveOne modulus before.now c }
+    ensures { IsTrue result ↔ EachWentOn modulus before.now after.now }
+{
+    counting(modulus, before.clocks.as_slice(), after.clocks.as_slice()).unwrap_or(true)
+}
+
+/// Whether all have one clock in the first of these records, and went on from it to the second, where there is one.
+fn begins_in_step(modulus: u32, records: &[PulseRecord]) -> bool
+    ensures { IsTrue result ↔ Begins modulus records.now }
+{
+    let Some((first, rest)) = records.split_first() else {
+        return false;
+    };
+    if !have_one(modulus, first) {
+        return false;
+    }
+    match rest.first() {
+        Some(next) => went_on(modulus, first, next),
+        None => true,
+    }
+}
+
+/// The first pulse, counted from 1, from which to the last the records are in step.
+pub fn in_step_since(modulus: u32, records: &[PulseRecord]) -> Option<u32>
+    requires few { length records.now < 2 ^ 32 }
+    ensures { IsInStepSince modulus records.now result }
+{
+    let mut since = None;
+    for place in (0..records.len()).rev() {
+        if !begins_in_step(modulus, &records[place..]) {
+            break;
+        }
+        since = Some(place as u32 + 1);
+    }
+    since
+}
