@@ -1,4 +1,5 @@
 pub mod Events
 pub mod Pulses
 pub mod Runs
+pub mod Watching
 pub mod inner
