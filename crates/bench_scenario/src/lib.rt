@@ -13,7 +13,7 @@ mod verdicts;
 
 pub use in_step::in_step_since;
 pub use printing::report;
-pub use run::{MOST_BYTES, MOST_CALLS, ScenarioFault, run_scenario};
+pub use run::{MOST_BYTES, MOST_CALLS, ScenarioFault, run_scenario, run_scenario_judged};
 pub use scenario_text::{RefusalLine, Scenario, ScenarioError, scenario_of};
 pub use schedule::events;
 
