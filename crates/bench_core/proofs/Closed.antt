@@ -57,7 +57,7 @@ knows_after s b b' listing flags p h = record { count = h.count ∙ sym p.nodes;
 
 -- ---- the greatest number of steps
 
-no_task : (s : Setup) (xs : List Node) (mail : List (FinMap nat_cmp ℕ)) (coins : List ℕ) (opening i : ℕ) (t : Task)
+pub no_task : (s : Setup) (xs : List Node) (mail : List (FinMap nat_cmp ℕ)) (coins : List ℕ) (opening i : ℕ) (t : Task)
     (o : Option Accepted) → (node_at xs i).program ≡ o
     → IsHanded s xs mail coins opening t → t.node ≡ i → (p : Accepted) × ((node_at xs i).program ≡ Some p)
 no_task s xs mail coins opening i t None has handed at_i = absurd
@@ -65,7 +65,7 @@ no_task s xs mail coins opening i t None has handed at_i = absurd
 no_task s xs mail coins opening i t (Some p) has handed at_i = (p, has)
 
 -- a result of what was handed out is its node's run
-ran_of : (s : Setup) (b : State) (coins : List ℕ) (opening i : ℕ) (one : Done)
+pub ran_of : (s : Setup) (b : State) (coins : List ℕ) (opening i : ℕ) (one : Done)
     → IsHanded s b.nodes b.mail coins opening one.task → one.task.node ≡ i → IsEnd one → RanTo s b coins i one.end
 ran_of s b coins opening i one handed at_i ends =
     let loaded = no_task s b.nodes b.mail coins opening i one.task (node_at b.nodes i).program refl handed at_i in
@@ -77,7 +77,7 @@ ran_of s b coins opening i one handed at_i ends =
       run = subst (λ (t : Task). CompleteRun t.program.program t.setting t.memory one.end) is ends;
     }
 
-one_end : (s : Setup) (b : State) (coins : List ℕ) (i : ℕ) (end other : End) → RanTo s b coins i end
+pub one_end : (s : Setup) (b : State) (coins : List ℕ) (i : ℕ) (end other : End) → RanTo s b coins i end
     → RanTo s b coins i other → end ≡ other
 one_end s b coins i end other h g =
     let same : g.program ≡ h.program = same_Some g.program h.program (sym g.loaded ∙ h.loaded) in

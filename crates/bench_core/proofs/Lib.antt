@@ -15,5 +15,6 @@ pub mod Telling
 pub mod Tallies
 pub mod Closing
 pub mod Closed
+pub mod NodeSteps
 pub mod OneRefusal
 pub mod OwnPulse

@@ -1,5 +1,5 @@
 -- Which nodes are settled after a closed pulse, and what is told of it.
-use Rattle.std.specs.Prelude.{◌≡◌, ℕ, ◌<◌, ◌≤◌, ◌⊎◌, Bool, not, ◌&&◌, ◌==◌, if◌then◌else◌, ◌↔◌, IsTrue, IsNone, Option, Some, None, List, [], ◌∷◌, map, filter, count_by, Contains, unwrap_or}
+use Rattle.std.specs.Prelude.{◌≡◌, ℕ, ◌<◌, ◌≤◌, ◌⊎◌, Bool, not, ◌&&◌, ◌==◌, if◌then◌else◌, ◌↔◌, IsTrue, IsNone, Option, Some, None, List, [], ◌∷◌, map, filter, count_by, length, slice_index, Contains, unwrap_or}
 use Rattle.std.specs.List.{list_all}
 use Rattle.clock_nodes.specs.Rule.{clock_of, clock_below}
 use Rattle.bpf_machine.specs.Run.{CompleteRun, End}
@@ -84,6 +84,12 @@ pub record IsSteps (s : Setup) (b : State) (coins : List ℕ) (k : ℕ) : Type 0
   pub most : (i : ℕ) (end : End) → RanTo s b coins i end → end.steps ≤ k
   pub reached : ((i : ℕ) × (end : End) × RanTo s b coins i end × (end.steps ≡ k))
       ⊎ (((i : ℕ) → i < s.shape.nodes → IsNone (node_at b.nodes i).program) × (k ≡ 0))
+
+-- how many instructions each node runs, 0 where none is loaded
+pub record AreSteps (s : Setup) (b : State) (coins steps : List ℕ) : Type 0 where
+  pub nodes : length steps ≡ s.shape.nodes
+  pub ran : (i : ℕ) (end : End) → RanTo s b coins i end → slice_index steps i ≡ end.steps
+  pub rested : (i : ℕ) → i < s.shape.nodes → IsNone (node_at b.nodes i).program → slice_index steps i ≡ 0
 
 -- what is told of a closed pulse. Its clocks are the four bytes, below the modulus or not; its row has their values
 pub record PulseTold : Type 0 where

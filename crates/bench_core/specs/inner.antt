@@ -5,4 +5,5 @@ pub mod Kept
 pub mod Nodes
 pub mod OpenPulse
 pub mod Replay
+pub mod Steps
 pub mod Told

@@ -15,6 +15,7 @@ mod pulse;
 mod record;
 mod refusal;
 mod row;
+mod steps;
 mod task;
 
 pub use actor::Actor;
@@ -30,6 +31,7 @@ pub use limits::{CLOCKS_DIFFER, MOST_COUNTED, MOST_ENTRIES, MOST_PULSES};
 pub use record::PulseRecord;
 pub use refusal::{CloseError, OpenError, StageError};
 pub use row::Row;
+pub use steps::steps_by_node;
 pub use task::{NodeDone, NodeTask};
 
 #[cfg(test)]

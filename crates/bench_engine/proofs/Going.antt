@@ -1,5 +1,5 @@
 -- Events done one after the other, and their faults.
-use Rattle.std.proofs.Common.{◌≡◌, ℕ, ◌+◌, ◌<◌, ◌≤◌, ◌^◌, List, [], ◌∷◌, ◌++◌, length, map, take, get_or, Some, refl, sym, ap, ◌∙◌, subst, arith, length-append}
+use Rattle.std.proofs.Common.{◌≡◌, ℕ, ◌+◌, ◌<◌, ◌≤◌, List, [], ◌∷◌, ◌++◌, length, map, take, get_or, Some, refl, sym, ap, ◌∙◌, subst, arith, length-append}
 use Rattle.std.specs.Prelude.{slice_get, Option, IsSome, IsNone, None}
 use Rattle.std.proofs.lemmas.List.{length-map, map-append, map_more, take_all}
 use Rattle.std.proofs.lemmas.Option.{get_or_from_slice_get, none-some, same_Some, slice_get_past, slice_get_within}
@@ -13,11 +13,9 @@ use Rattle.bench_core.specs.declared.refusal.CloseError.{CloseError}
 use Rattle.bench_core.specs.declared.refusal.CloseError.TheVariants as closing
 use Rattle.bench_core.specs.Tasks.{Task, Done, HandedOut, IsExact, RanEach, tasks_of}
 use Rattle.bench_core.proofs.Results.{results_fit}
-use Rattle.bench_core.specs.declared.limits.TheConstants.{MOST_ENTRIES}
 use Rattle.bench_engine.specs.declared.event.Event.{Event as EventCode}
 use Rattle.bench_engine.specs.Events.{Event, Stage, event_of}
 use Rattle.bench_engine.specs.Events.{Pulse as PulseEvent}
-use Rattle.bench_engine.specs.inner.Going.{IsApplied}
 use Rattle.bench_engine.specs.Runs.{Goes, IsFault, IsFirstRefused, IsRefusalOf, IsShort, entries_after}
 use Rattle.bench_engine.specs.declared.event.RunRefusal.{RunRefusal}
 use Rattle.bench_engine.specs.declared.event.RunRefusal.TheVariants as refusals
@@ -34,24 +32,6 @@ pub entries-count : (es : List Event) → length es ≤ entries_after es
 entries-count [] = omega arith
 entries-count (Stage c ∷ es) = omega (arith, entries-count es)
 entries-count (PulseEvent coins ∷ es) = omega (arith, entries-count es)
-
--- a run, and then one event
-pub goes_on : (s : Setup) (b mid c : State) (n m : ℕ) (es : List Event) (rs told : List PulseTold) (e : Event)
-    → m ≡ n + entries_after es
-    → Goes s b n es rs mid → Goes s mid m (e ∷ []) told c → Goes s b n (es ++ e ∷ []) (rs ++ told) c
-goes_on s b mid c n m [] rs told e at before next =
-    let same : m ≡ n = omega arith in
-    subst (λ list. Goes s b n (e ∷ []) (list ++ told) c) (sym before.0)
-    (subst (λ (state : State). Goes s state n (e ∷ []) told c) before.1
-    (subst (λ (k : ℕ). Goes s mid k (e ∷ []) told c) same next))
-goes_on s b mid c n m (Stage change ∷ es) rs told e at before next =
-    (before.0, before.1, goes_on s _ mid c (n + 1) m es rs told e (omega arith) before.2 next)
-goes_on s b mid c n m (PulseEvent coins ∷ es) [] told e at before next = absurd before
-goes_on s b mid c n m (PulseEvent coins ∷ es) (r ∷ rs) told e at before next = (
-  before.0,
-  before.1,
-  (before.2.0, before.2.1, before.2.2, goes_on s before.2.0 mid c (n + 2) m es rs told e (omega arith) before.2.3 next),
-)
 
 -- where an event stands, and what stands before it
 stands_behind : {B : Type 0} (before rest : List B) (x : B) → (take (length before) (before ++ (x ∷ rest)) ≡ before)
@@ -162,40 +142,6 @@ closes_for_memory old new coins tasks dones e opens ok replays given ran refusal
     refusal
 
 -- ---- the loop over the events
-
-pub record IsKeptOn (s : Setup) (done : List EventCode) (records : List PulseTold) (b : BenchValue) : Type 0 where
-  pub setup : b.setup ≡ s
-  pub closed : b.state.coins ≡ None
-  pub count : length b.history ≡ entries_after (map event_of done)
-  pub goes : Goes s (new_state s) 0 (map event_of done) records b.state
-
-pub kept_on : (s : Setup) (old new : BenchValue) (done : List EventCode) (x : EventCode)
-    (records more : List PulseTold) → old.setup ≡ s → length old.history ≡ entries_after (map event_of done)
-    → Goes s (new_state s) 0 (map event_of done) records old.state → IsApplied old records (event_of x) new more
-    → IsKeptOn s (done ++ x ∷ []) more new
-kept_on s old new done x records more same count goes applied =
-    let mapped : map event_of (done ++ x ∷ []) ≡ map event_of done ++ event_of x
-    ∷ [] = map-append event_of done (x ∷ []) in
-    let step : Goes s old.state (length old.history) (event_of x ∷ []) applied.told new.state =
-    subst (λ (t : Setup). Goes t old.state (length old.history) (event_of x ∷ []) applied.told new.state) same
-    applied.goes.goes in
-    let on : Goes s (new_state s) 0 (map event_of done ++ event_of x ∷ []) (records ++ applied.told) new.state =
-    goes_on s (new_state s) old.state new.state 0 (length old.history) (map event_of done) records applied.told
-    (event_of x) (omega (arith, count)) goes step in
-    record {
-      setup = applied.goes.setup ∙ same;
-      closed = applied.goes.closed;
-      count = applied.goes.count ∙ ap (λ n. n + entries_after (event_of x ∷ [])) count
-          ∙ sym (ap entries_after mapped ∙ entries-append (map event_of done) (event_of x));
-      goes = rw (mapped, applied.records) on;
-    }
-
-pub place_fits : (old new : BenchValue) (done : List EventCode) (x : EventCode) (records more : List PulseTold)
-    (place : ℕ) → length old.history ≡ entries_after (map event_of done)
-    → place ≡ length done → IsApplied old records (event_of x) new more → length new.history ≤ MOST_ENTRIES
-    → place + 1 < 2 ^ 32
-place_fits old new done x records more place count at applied few =
-    omega (arith, entries-count (map event_of done), length-map done event_of, applied.goes.count)
 
 pub fault_here : (s : Setup) (b : BenchValue) (all done rest : List EventCode) (x : EventCode) (place : ℕ)
     (refusal : RunRefusal) (records : List PulseTold) → all ≡ done ++ (x ∷ rest) → place ≡ length done

@@ -1,3 +1,4 @@
 pub mod Dealt
 pub mod Going
 mod OneRun
+pub mod Showing

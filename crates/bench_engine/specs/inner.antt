@@ -2,3 +2,4 @@
 pub mod Batches
 pub mod Going
 pub mod Pulses
+pub mod Watching

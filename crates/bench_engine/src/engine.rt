@@ -2,21 +2,27 @@
 ghost use Rattle.std.specs.Prelude.{◌≡◌, ◌≢◌, ◌≤◌, ◌∷◌, [], true, None, IfOk, IfErr, OnOk, length, map};
 ghost use Rattle.bench_core.specs.declared.limits.TheConstants.{MOST_ENTRIES};
 ghost use Rattle.bench_core.specs.declared.refusal.CloseError.TheVariants as CloseError;
-ghost use Rattle.bench_core.specs.State.{new_state};
+ghost use Rattle.bench_core.specs.Settled.{AreSteps};
+ghost use Rattle.bench_core.specs.State.{new_state, opened_state};
 ghost use Rattle.bench_core.specs.Views.{change_of, setup_of};
 ghost use Rattle.bench_engine.specs.declared.event.RunRefusal.TheVariants.{GateShut, Memory, NoThread};
 ghost use Rattle.bench_engine.specs.declared.refusal.WorkError.TheVariants as work;
 ghost use Rattle.bench_engine.specs.declared.tasks.TheConstants.{MOST_WORKERS};
 ghost use Rattle.bench_engine.specs.Events.{Stage, Pulse, event_of};
-ghost use Rattle.bench_engine.specs.inner.Going.{GoesOn, IsApplied, IsOfWorkers};
+ghost use Rattle.bench_engine.specs.inner.Going.{GoesOn, IsOfWorkers};
+ghost use Rattle.bench_engine.specs.declared.watcher.WatchFault.TheVariants as WatchFault;
+ghost use Rattle.bench_engine.specs.inner.Watching.{IsOfRun};
 ghost use Rattle.bench_engine.specs.Runs.{IsFault, IsRefusalOf, IsRun};
 
 use crate::event::{Event, Run, RunFault, RunRefusal};
 use crate::gate::Gate;
 use crate::refusal::WorkError;
 use crate::tasks::run_tasks;
+use crate::watched::run_events_watched;
+use crate::watcher::{Nobody, WatchFault};
 use bench_core::{
     Actor, Bench, Change, CloseError, OpenError, PulseRecord, StageError, are_coins, misfit,
+    steps_by_node,
 };
 use clock_nodes::ClockRule;
 use node_env::Shape;
@@ -28,7 +34,7 @@ use std::thread::Threads;
 const LOADER: Actor = Actor::Loader(0);
 
 /// Stages a change.
-fn stage(bench: &mut Bench, change: Change) -> Result<(), RunRefusal>
+pub(crate) fn stage(bench: &mut Bench, change: Change) -> Result<(), RunRefusal>
     requires { bench.old.state.coins ≡ None }
     ensures ok { OnOk result (GoesOn bench.old (Stage (change_of change)) [] bench.new) }
     ensures refusal { IfErr result (IsRefusalOf bench.old.setup (length bench.old.history) (Stage (change_of change))) }
@@ -43,19 +49,28 @@ fn stage(bench: &mut Bench, change: Change) -> Result<(), RunRefusal>
     }
 }
 
+/// What is told of a closed pulse, and how many instructions each node ran.
+#[derive(Drop)]
+pub(crate) struct Closed {
+    pub(crate) told: PulseRecord,
+    pub(crate) steps: Vec<u32>,
+}
+
 /// Opens a pulse, runs its tasks and closes it.
-fn pulse<R: Threads + Wait + Sync, G: Gate + Sync>(
+pub(crate) fn pulse<R: Threads + Wait + Sync, G: Gate + Sync>(
     rt: &R,
     alloc: Global,
     gate: &G,
     workers: u32,
     bench: &mut Bench,
     coins: &[u32],
-) -> Result<PulseRecord, RunRefusal>
+) -> Result<Closed, RunRefusal>
     requires some { 1 ≤ workers }
     requires few { workers ≤ MOST_WORKERS }
     requires closed { bench.old.state.coins ≡ None }
-    ensures ok { IfOk result (λ told. GoesOn bench.old (Pulse coins.now) (told ∷ []) bench.new) }
+    ensures ok { IfOk result (λ c. GoesOn bench.old (Pulse coins.now) (c.told ∷ []) bench.new) }
+    ensures steps { IfOk result (λ c.
+        AreSteps bench.old.setup (opened_state bench.old.state coins.now) coins.now c.steps.items) }
     ensures refusal { IfErr result (IsRefusalOf bench.old.setup (length bench.old.history) (Pulse coins.now)) }
     ensures open { G.always gate.now ≡ true → IfErr result (λ e. e ≢ GateShut) }
     ensures alone { workers ≡ 1 → IfErr result (λ e. e ≢ NoThread) }
@@ -72,8 +87,11 @@ fn pulse<R: Threads + Wait + Sync, G: Gate + Sync>(
         Err(error) => return Err(of_work(error)),
     };
     let _history = bench.history();
+    let Ok(steps) = steps_by_node(alloc, bench, &dones) else {
+        return Err(RunRefusal::Memory);
+    };
     match bench.close_pulse(alloc, dones) {
-        Ok(told) => Ok(told),
+        Ok(told) => Ok(Closed { told, steps }),
         Err((_, error)) => Err(of_close(error)),
     }
 }
@@ -105,44 +123,12 @@ fn of_close(error: CloseError) -> RunRefusal
     }
 }
 
-/// Does one event, and keeps the record of a pulse.
-fn apply<R: Threads + Wait + Sync, G: Gate + Sync>(
-    rt: &R,
-    alloc: Global,
-    gate: &G,
-    workers: u32,
-    bench: &mut Bench,
-    records: &mut Vec<PulseRecord>,
-    event: Event,
-) -> Result<(), RunRefusal>
-    requires some { 1 ≤ workers }
-    requires few { workers ≤ MOST_WORKERS }
-    requires closed { bench.old.state.coins ≡ None }
-    ensures ok { OnOk result (IsApplied bench.old records.old.items (event_of event) bench.new records.new.items) }
-    ensures few { OnOk result (length bench.new.history ≤ MOST_ENTRIES) }
-    ensures refusal { IfErr result (IsRefusalOf bench.old.setup (length bench.old.history) (event_of event)) }
-    ensures open { G.always gate.now ≡ true → IfErr result (λ e. e ≢ GateShut) }
-    ensures alone { workers ≡ 1 → IfErr result (λ e. e ≢ NoThread) }
-{
-    match event {
-        Event::Stage(change) => {
-            stage(bench, change)?;
-            let _few = bench.history();
-            Ok(())
-        }
-        Event::Pulse(coins) => {
-            let told = pulse(rt, alloc, gate, workers, bench, &coins)?;
-            let _few = bench.history();
-            match records.push(told) {
-                Ok(()) => Ok(()),
-                Err(_) => Err(RunRefusal::Memory),
-            }
-        }
-    }
-}
-
 /// The memories of the nodes, in their order.
-fn memories_of(alloc: Global, bench: &Bench, nodes: u32) -> Result<Vec<Vec<u8>>, AllocError>
+pub(crate) fn memories_of(
+    alloc: Global,
+    bench: &Bench,
+    nodes: u32,
+) -> Result<Vec<Vec<u8>>, AllocError>
     requires { nodes ≡ bench.now.setup.shape.nodes }
     ensures { IfOk result (λ memories. map (λ m. m.items) memories.items ≡ map (λ x. x.memory) bench.now.state.nodes) }
 {
@@ -219,6 +205,17 @@ pub fn run_events<R: Threads + Wait + Sync, G: Gate + Sync>(
     run_events_on(rt, alloc, gate, workers, bench, events)
 }
 
+/// The fault of a run that nobody stops.
+fn of_run(fault: WatchFault) -> RunFault
+    requires { IsOfRun fault }
+    ensures { fault ≡ WatchFault.Run result }
+{
+    match fault {
+        WatchFault::Run(fault) => fault,
+        WatchFault::Stopped(_) => unreachable!(),
+    }
+}
+
 /// As `run_events`, on a new bench that is handed in: one with a clock of its own, say.
 pub fn run_events_on<R: Threads + Wait + Sync, G: Gate + Sync>(
     rt: &R,
@@ -238,28 +235,17 @@ pub fn run_events_on<R: Threads + Wait + Sync, G: Gate + Sync>(
     ensures open { G.always gate.now ≡ true → IfErr result (λ f. f.fault ≢ GateShut) }
     ensures alone { workers ≡ 1 → IfErr result (λ f. f.fault ≢ NoThread) }
 {
-    let fault = RunRefusal::Memory;
-    let nodes = bench.shape().nodes();
-    let mut bench = bench;
-    let mut records = Vec::new(alloc);
-    let mut place = 0;
-    for event in events {
-        match apply(rt, alloc, gate, workers, &mut bench, &mut records, event) {
-            Ok(()) => place += 1,
-            Err(fault) => {
-                return Err(RunFault {
-                    event: place,
-                    fault,
-                });
-            }
-        }
-    }
-    let _history = bench.history();
-    match memories_of(alloc, &bench, nodes) {
-        Ok(memories) => Ok(Run { records, memories }),
-        Err(_) => Err(RunFault {
-            event: place,
-            fault,
-        }),
+    match run_events_watched(
+        rt,
+        alloc,
+        gate,
+        workers,
+        bench,
+        events,
+        &mut Nobody,
+        &mut (),
+    ) {
+        Ok(run) => Ok(run),
+        Err(fault) => Err(of_run(fault)),
     }
 }

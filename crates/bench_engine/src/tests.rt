@@ -2,7 +2,7 @@
 ghost use Rattle.std.specs.Prelude.{◌≡◌, ◌≤◌, ◌<◌, IfOk};
 
 use crate::*;
-use bench_core::Change;
+use bench_core::{Bench, Change};
 use bpf_verify::{VerifiedProgram, verify};
 use clock_nodes::{ClockRule, dolev_welch, echo};
 use node_env::Shape;
@@ -14,6 +14,7 @@ use std::thread::Threads;
 mod gates;
 mod records;
 mod shared;
+mod watching;
 
 use gates::{Counting, Meeting, Shut};
 

@@ -1,6 +1,6 @@
 -- What holds of the bytes that were read holds of the whole text.
 use Rattle.std.proofs.Common.{◌≡◌, ℕ, ◌<◌, ◌≤◌, List, length, take, arith, subst, sym, ap, ◌∙◌, inl, inr}
-use Rattle.std.specs.Prelude.{◌⊎◌, Option, Some, None, IfSome, IsErrAnd, Result, Ok, Err}
+use Rattle.std.specs.Prelude.{◌⊎◌, Bool, Option, Some, None, IfSome, IsErrAnd, Result, Ok, Err}
 use Rattle.std.proofs.lemmas.Bool.{cases_lt}
 use Rattle.std.proofs.lemmas.List.{length-take-le, take_all}
 use Rattle.std.specs.Io.KnownBytes.{Appends, Keeps}
@@ -15,7 +15,7 @@ use Rattle.bench_scenario.specs.declared.reading.TextFault.{TextFault}
 use Rattle.bench_scenario.specs.declared.reading.TextFault.TheVariants as text_faults
 use Rattle.bench_scenario.specs.declared.run.ScenarioFault.{ScenarioFault}
 use Rattle.bench_scenario.specs.declared.run.ScenarioFault.TheVariants as faults
-use Rattle.bench_scenario.specs.Runs.{IsDueOfText, LeavesReport, Reports, StopsAt}
+use Rattle.bench_scenario.specs.Runs.{IsDueOfText, LeavesJudged, LeavesReport, ReportsVerdict, StopsAt}
 use Rattle.bench_scenario.specs.inner.Runs.{IsDueOf}
 
 -- the whole text was read, or both are too long
@@ -35,8 +35,10 @@ front_of bytes text taken =
 whole_of : (bytes text : List ℕ) → IsFront bytes text → length bytes ≤ MAX_TEXT → bytes ≡ text
 whole_of bytes text is few = elim is.front [ inl same ↦ same | inr long ↦ let much = long.0 in absurd (omega arith) ]
 
-reports_whole : (bytes text line : List ℕ) → IsFront bytes text → Reports bytes line → Reports text line
-reports_whole bytes text line is told = subst (λ t. Reports t line) (whole_of bytes text is told.reads.1.0) told
+reports_whole : (bytes text line : List ℕ) (agrees : Bool) → IsFront bytes text → ReportsVerdict bytes line agrees
+    → ReportsVerdict text line agrees
+reports_whole bytes text line agrees is told =
+    subst (λ t. ReportsVerdict t line agrees) (whole_of bytes text is told.told.reads.1.0) told
 
 due_when : (bytes text : List ℕ) (error : ScenarioError) → IsFront bytes text → length bytes ≤ MAX_TEXT
     → IsDue bytes error → IsDue text error
@@ -76,39 +78,48 @@ fault_here old bytes text faults.Memory is kept due = kept
 
 -- where there is no report nothing is written
 pub fault_left : (known old : Option (List ℕ)) (bytes slice : List ℕ) (fault : ScenarioFault)
-    (result : Result (Unit {0}) ScenarioFault)
+    (result : Result Bool ScenarioFault)
     → IfSome known (λ text. bytes ≡ take MOST_BYTES text) → slice ≡ bytes → Keeps old old → IsDueOf slice fault
     → IsErrAnd result (λ e. e ≡ fault)
-    → IfSome known (λ text. LeavesReport old old text result)
+    → IfSome known (λ text. LeavesJudged old old text result)
 fault_left None old bytes slice fault result taken same kept due is = tt
-fault_left (Some text) old bytes slice fault (Ok done) taken same kept due is = absurd is
+fault_left (Some text) old bytes slice fault (Ok agrees) taken same kept due is = absurd is
 fault_left (Some text) old bytes slice fault (Err e) taken same kept due is =
     subst (λ x. LeavesReport old old text (Err x)) (sym is)
     (fault_here old bytes text fault (front_of bytes text taken) kept (subst (λ b. IsDueOf b fault) same due))
 
 -- the report is written whole
-pub report_left : (known old new : Option (List ℕ)) (bytes slice line told : List ℕ)
-    → IfSome known (λ text. bytes ≡ take MOST_BYTES text) → slice ≡ bytes → told ≡ line → Reports slice line
-    → Appends old new told → IfSome known (λ text. LeavesReport old new text (Ok tt))
-report_left None old new bytes slice line told taken same whole reports left = tt
-report_left (Some text) old new bytes slice line told taken same whole reports left = (
+pub report_left : (known old new : Option (List ℕ)) (bytes slice line told : List ℕ) (agrees : Bool)
+    → IfSome known (λ text. bytes ≡ take MOST_BYTES text) → slice ≡ bytes → told ≡ line
+    → ReportsVerdict slice line agrees → Appends old new told
+    → IfSome known (λ text. LeavesJudged old new text (Ok agrees))
+report_left None old new bytes slice line told agrees taken same whole reports left = tt
+report_left (Some text) old new bytes slice line told agrees taken same whole reports left = (
   line,
-  reports_whole bytes text line (front_of bytes text taken) (subst (λ b. Reports b line) same reports),
+  reports_whole bytes text line agrees (front_of bytes text taken)
+      (subst (λ b. ReportsVerdict b line agrees) same reports),
   subst (λ t. Appends old new t) whole left,
 )
 
 -- or its front
-pub front_left : (known old new : Option (List ℕ)) (bytes slice line told : List ℕ) (written : ℕ)
-    → IfSome known (λ text. bytes ≡ take MOST_BYTES text) → slice ≡ bytes → told ≡ line → Reports slice line
-    → written < length told → Appends old new (take written told)
-    → IfSome known (λ text. LeavesReport old new text (Err (faults.Write written)))
-front_left None old new bytes slice line told written taken same whole reports part left = tt
-front_left (Some text) old new bytes slice line told written taken same whole reports part left = (
+pub front_left : (known old new : Option (List ℕ)) (bytes slice line told : List ℕ) (agrees : Bool) (written : ℕ)
+    → IfSome known (λ text. bytes ≡ take MOST_BYTES text) → slice ≡ bytes → told ≡ line
+    → ReportsVerdict slice line agrees → written < length told → Appends old new (take written told)
+    → IfSome known (λ text. LeavesJudged old new text (Err (faults.Write written)))
+front_left None old new bytes slice line told agrees written taken same whole reports part left = tt
+front_left (Some text) old new bytes slice line told agrees written taken same whole reports part left = (
   line,
-  reports_whole bytes text line (front_of bytes text taken) (subst (λ b. Reports b line) same reports),
+  (reports_whole bytes text line agrees (front_of bytes text taken)
+      (subst (λ b. ReportsVerdict b line agrees) same reports)).told,
   subst (λ t. written < length t) whole part,
   subst (λ t. Appends old new (take written t)) whole left,
 )
+
+-- a report without what is answered of it
+pub plain_left : (known old new : Option (List ℕ)) (agrees : Bool)
+    → IfSome known (λ text. LeavesJudged old new text (Ok agrees)) → IfSome known (λ text. LeavesReport old new text (Ok tt))
+plain_left None old new agrees left = tt
+plain_left (Some text) old new agrees left = (left.0, left.1.told, left.2)
 
 -- the scenario is that of the whole text, and so is a refusal
 due_of_text : (bytes text : List ℕ) (fault : TextFault) → IsFront bytes text → IsDueOfText bytes fault

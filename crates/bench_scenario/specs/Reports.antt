@@ -1,5 +1,6 @@
 -- The report of a scenario and the records of its run (docs/SCENARIOS.md, "The report" and "Verdicts").
-use Rattle.std.specs.Prelude.{ℕ, ◌==◌, nat_lt, if◌then◌else◌, is_some, Bool, true, false, List, [], ◌∷◌, ◌++◌, length, count_by, flat_map, codes, Option, Some, None}
+use Rattle.std.specs.Prelude.{ℕ, ◌==◌, nat_lt, if◌then◌else◌, is_some, Bool, true, false, List, [], ◌∷◌, ◌++◌, length, count_by, flat_map, codes, Option, Some, None, unwrap_or}
+use Rattle.std.specs.List.{list_all}
 use Rattle.std.specs.Fmt.{decimal}
 use Rattle.bench_core.specs.Settled.{PulseTold}
 use Rattle.scenario_text.specs.declared.limits.TheConstants.{FIRST_VERSION, CLOCK_VERSION}
@@ -101,3 +102,11 @@ judged_report f own rs =
 
 abbrev pub report_of : Frame → Bool → List PulseTold → List ℕ
 report_of f own rs = if f.version == CLOCK_VERSION then judged_report f own rs else plain_report f rs
+
+-- ---- the verdict on a run
+
+-- no pulse's verdict on agreement is no
+abbrev pub all_agree : Frame → Bool → List PulseTold → Bool
+all_agree f own rs =
+    if f.version == CLOCK_VERSION then list_all (λ j. unwrap_or j.agree true) (judged_of own f.modulus rs)
+    else list_all (λ r. r.agree) rs

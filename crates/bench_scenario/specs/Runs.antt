@@ -1,5 +1,5 @@
 -- What the run of a scenario's text leaves on its writer (docs/SCENARIOS.md, "Runs").
-use Rattle.std.specs.Prelude.{◌≡◌, ◌<◌, is_some, List, ℕ, length, take, Option, Result, Ok, Err}
+use Rattle.std.specs.Prelude.{◌≡◌, ◌<◌, is_some, Bool, List, ℕ, length, take, Option, Result, Ok, Err}
 use Rattle.std.specs.Io.KnownBytes.{Appends, Keeps}
 use Rattle.bench_core.specs.Setup.{Setup}
 use Rattle.bench_core.specs.Settled.{PulseTold}
@@ -16,7 +16,7 @@ use Rattle.bench_scenario.specs.declared.reading.TextFault.TheVariants as text_f
 use Rattle.bench_scenario.specs.declared.run.ScenarioFault.{ScenarioFault}
 use Rattle.bench_scenario.specs.declared.run.ScenarioFault.TheVariants as faults
 use Rattle.bench_scenario.specs.Events.{events_of}
-use Rattle.bench_scenario.specs.Reports.{report_of}
+use Rattle.bench_scenario.specs.Reports.{all_agree, report_of}
 
 -- the bench that a scenario is run on
 abbrev pub bench_of : Scenario → Setup
@@ -30,6 +30,11 @@ pub record Reports (text line : List ℕ) : Type 0 where
   pub reads : ReadsText text scenario
   pub run : IsRun (bench_of scenario) (events_of scenario) records memories
   pub whole : line ≡ report_of (frame_of scenario) (is_some scenario.clock) records
+
+-- and whether no pulse's verdict on agreement is no
+pub record ReportsVerdict (text line : List ℕ) (agrees : Bool) : Type 0 where
+  pub told : Reports text line
+  pub verdict : agrees ≡ all_agree (frame_of told.scenario) (is_some told.scenario.clock) told.records
 
 -- no event of a scenario is refused for itself
 abbrev pub IsMemoryOrThread : RunRefusal → Type 0
@@ -58,6 +63,11 @@ LeavesReport old new text (Err (faults.Refused error)) = IsDue text error × Kee
 LeavesReport old new text (Err (faults.Run stop)) = StopsAt text stop.event stop.fault × Keeps old new
 LeavesReport old new text (Err faults.Read) = Keeps old new
 LeavesReport old new text (Err faults.Memory) = Keeps old new
+
+-- as LeavesReport, and what is answered of the whole report
+abbrev pub LeavesJudged : Option (List ℕ) → Option (List ℕ) → List ℕ → Result Bool ScenarioFault → Type 0
+LeavesJudged old new text (Ok agrees) = (line : List ℕ) × ReportsVerdict text line agrees × Appends old new line
+LeavesJudged old new text (Err fault) = LeavesReport old new text (Err fault)
 
 -- why a reader gave no scenario: the text says none, or it could not be read, or there was no memory for it
 abbrev pub IsDueOfText : List ℕ → TextFault → Type 0

@@ -1,10 +1,12 @@
 //! The report of a run.
-ghost use Rattle.std.specs.Prelude.{◌≡◌, ◌++◌, IfOk, OnOk, is_some, string_bytes, codes, count_by, length};
+ghost use Rattle.std.specs.Prelude.{◌≡◌, true, unwrap_or, ◌++◌, IfOk, OnOk, is_some, string_bytes, codes, count_by, length};
+ghost use Rattle.std.specs.List.{list_all};
 ghost use Rattle.std.specs.Fmt.{decimal};
-ghost use Rattle.bench_scenario.specs.Reports.{report_of, plain_report, clock_text, clocks_text, record_line, record_lines, shape_text, last_line, head_line, yes_or_no};
+ghost use Rattle.bench_scenario.specs.Reports.{report_of, plain_report, all_agree, clock_text, clocks_text, record_line, record_lines, shape_text, last_line, head_line, yes_or_no};
 ghost use Rattle.scenario_text.specs.Views.{frame_of};
 
 use crate::judged::judged_report;
+use crate::verdicts::{Judged, judged_of};
 use bench_core::PulseRecord;
 use bench_engine::Run;
 use scenario_text::{CLOCK_VERSION, FIRST_VERSION, Scenario};
@@ -113,5 +115,33 @@ pub fn report(alloc: Global, scenario: &Scenario, run: &Run) -> Result<String, A
         judged_report(alloc, scenario, own, records)
     } else {
         plain_report(alloc, scenario, records)
+    }
+}
+
+/// Whether no verdict on agreement is no.
+fn all_verdicts_agree(judged: &[Judged]) -> bool
+    ensures { result ≡ list_all (λ j. unwrap_or j.agree true) judged.now }
+{
+    judged.iter().all(|one| one.agree.unwrap_or(true))
+}
+
+fn all_records_agree(records: &[PulseRecord]) -> bool
+    ensures { result ≡ list_all (λ r. r.agree) records.now }
+{
+    records.iter().all(|one| one.agree)
+}
+
+/// Whether no pulse's verdict on agreement is no.
+pub(crate) fn all_agree(alloc: Global, scenario: &Scenario, run: &Run) -> Result<bool, AllocError>
+    ensures { IfOk result (λ agrees. agrees
+        ≡ all_agree (frame_of scenario.now) (is_some scenario.now.clock) run.now.records.items) }
+{
+    let records = run.records.as_slice();
+    let own = scenario.clock.is_some();
+    if scenario.version as u64 == CLOCK_VERSION {
+        let judged = judged_of(alloc, own, scenario.modulus, records)?;
+        Ok(all_verdicts_agree(judged.as_slice()))
+    } else {
+        Ok(all_records_agree(records))
     }
 }

@@ -4,11 +4,11 @@ ghost use Rattle.bench_core.specs.State.{new_state};
 ghost use Rattle.scenario_text.specs.Spelling.{rule_of};
 ghost use Rattle.scenario_text.specs.Views.{extent_of, frame_of};
 ghost use Rattle.stream_io.specs.Streams.{TakesAtMost};
-ghost use Rattle.bench_scenario.specs.Runs.{LeavesReport, Reports, bench_of};
+ghost use Rattle.bench_scenario.specs.Runs.{LeavesJudged, LeavesReport, ReportsVerdict, bench_of};
 ghost use Rattle.bench_scenario.specs.inner.Runs.{IsDueOf};
 
 use crate::paying::paying_workers;
-use crate::printing::report;
+use crate::printing::{all_agree, report};
 use crate::schedule::events;
 use bench_core::Bench;
 use bench_engine::{MOST_WORKERS, Open, RunFault, run_events_on};
@@ -67,16 +67,24 @@ pub(crate) fn bench_for(
     }
 }
 
+/// A report, and whether no pulse's verdict on agreement is no.
+#[derive(Drop)]
+struct Judgement {
+    line: String,
+    agrees: bool,
+}
+
 /// The report of the run of the scenario that a text says.
 fn report_in<T: Threads + Wait + Sync>(
     rt: &T,
     alloc: Global,
     bytes: &[u8],
     workers: u32,
-) -> Result<String, ScenarioFault>
+) -> Result<Judgement, ScenarioFault>
     requires some { 1 ≤ workers }
     requires few { workers ≤ MOST_WORKERS }
-    ensures { MatchResult result (λ line. Reports bytes.now (string_bytes line)) (IsDueOf bytes.now) }
+    ensures { MatchResult result (λ told. ReportsVerdict bytes.now (string_bytes told.line) told.agrees)
+        (IsDueOf bytes.now) }
 {
     let scenario = match scenario_in(alloc, bytes) {
         Ok(scenario) => scenario,
@@ -103,12 +111,14 @@ fn report_in<T: Threads + Wait + Sync>(
     let Ok(line) = report(alloc, &scenario, &run) else {
         return Err(ScenarioFault::Memory);
     };
-    Ok(line)
+    let Ok(agrees) = all_agree(alloc, &scenario, &run) else {
+        return Err(ScenarioFault::Memory);
+    };
+    Ok(Judgement { line, agrees })
 }
 
 /// Reads a scenario's text, runs it on as many of the workers as pay, and writes the report. At most [`MOST_BYTES`]
 /// bytes are read, by at most [`MOST_CALLS`] calls of `read`. The report is whole before its first byte is written.
-#[tactic(auto, using(crate::proofs::StreamLemmas::fault_left))]
 pub fn run_scenario<T: Threads + Wait + Sync, R: Read, W: Write>(
     rt: &T,
     alloc: Global,
@@ -122,15 +132,36 @@ pub fn run_scenario<T: Threads + Wait + Sync, R: Read, W: Write>(
     ensures left { IfSome (R.remaining reader.old) (λ text.
         LeavesReport (W.contents writer.old) (W.contents writer.new) text result) }
 {
+    match run_scenario_judged(rt, alloc, reader, writer, workers) {
+        Ok(_agrees) => Ok(()),
+        Err(fault) => Err(fault),
+    }
+}
+
+/// As `run_scenario`. The answer is whether no pulse's verdict on agreement is no.
+#[tactic(auto, using(crate::proofs::StreamLemmas::fault_left))]
+pub fn run_scenario_judged<T: Threads + Wait + Sync, R: Read, W: Write>(
+    rt: &T,
+    alloc: Global,
+    reader: &mut R,
+    writer: &mut W,
+    workers: u32,
+) -> Result<bool, ScenarioFault>
+    requires some { 1 ≤ workers }
+    requires few { workers ≤ MOST_WORKERS }
+    ensures taken { TakesAtMost MOST_BYTES (R.remaining reader.old) (R.remaining reader.new) }
+    ensures left { IfSome (R.remaining reader.old) (λ text.
+        LeavesJudged (W.contents writer.old) (W.contents writer.new) text result) }
+{
     let bytes = match read_at_most(alloc, reader, MOST_BYTES, MOST_CALLS) {
         Ok(bytes) => bytes,
         Err(ReadFault::Stream) => return Err(ScenarioFault::Read),
         Err(ReadFault::Memory) => return Err(ScenarioFault::Memory),
     };
-    let line = report_in(rt, alloc, bytes.as_slice(), workers)?;
-    let told = line.as_bytes();
+    let report = report_in(rt, alloc, bytes.as_slice(), workers)?;
+    let told = report.line.as_bytes();
     match write_fully(writer, told) {
-        Ok(()) => Ok(()),
+        Ok(()) => Ok(report.agrees),
         Err(WriteFault { written }) => Err(ScenarioFault::Write {
             written: written as u64,
         }),

@@ -7,6 +7,7 @@ use std::sync::Wait;
 use std::test::Fail;
 use std::thread::Threads;
 
+mod in_step;
 mod judged;
 mod parts;
 mod reports;

@@ -31,7 +31,7 @@ CarriesOut Dis input old new ended = IfSome input (λ bytes. LeavesListing old n
 CarriesOut (Verify asked) input old new ended = IfSome input
     (λ bytes. LeavesVerdict old new asked (take IMAGE_BYTES bytes) ended)
 CarriesOut (Run asked) input old new ended = IfSome input
-    (λ bytes. LeavesTold old new bytes ended × WantsThread bytes ended)
+    (λ bytes. LeavesTold asked.check old new bytes ended × WantsThread bytes ended)
 CarriesOut (Stress asked) input old new ended = LeavesStressed asked old new ended
 CarriesOut (Sweep asked) input old new ended = IfSome input (λ bytes. LeavesSwept old new bytes asked.keys ended)
 CarriesOut (Help text) input old new ended = Leaves old new (string_bytes text) Done ended

@@ -1,37 +1,38 @@
 -- What `run` leaves on its output (docs/COMMANDS.md, "What run prints").
-use Rattle.std.specs.Prelude.{ℕ, List, ◌++◌, codes, Option, Result, Err}
+use Rattle.std.specs.Prelude.{ℕ, Bool, not, ◌&&◌, if◌then◌else◌, List, ◌++◌, codes, Option, Result, Err}
 use Rattle.bench_engine.specs.declared.event.RunRefusal.TheVariants.{NoThread}
 use Rattle.scenario_text.specs.declared.refusal.ScenarioError.{ScenarioError}
 use Rattle.scenario_text.specs.Lines.{refusal_line}
 use Rattle.scenario_text.specs.Texts.{IsDue}
-use Rattle.bench_scenario.specs.Runs.{Reports, StopsAt}
+use Rattle.bench_scenario.specs.Runs.{ReportsVerdict, StopsAt}
 use Rattle.commands.specs.declared.ending.Ending.{Ending}
-use Rattle.commands.specs.declared.ending.Ending.TheVariants.{Done, Refused}
+use Rattle.commands.specs.declared.ending.Ending.TheVariants.{Disagreed, Done, Refused}
 use Rattle.commands.specs.declared.fault.Fault.{Fault}
 use Rattle.commands.specs.declared.fault.Fault.TheVariants as faults
 use Rattle.commands.specs.Output.{LeavesAny}
 
--- the report of a text, or why it has none
+-- the report of a text and whether no pulse's verdict on agreement is no, or why it has none
 pub data Told : Type 0 where
-  Report : (line : List ℕ) → Told
+  Report : (line : List ℕ) (agrees : Bool) → Told
   Refusal : (error : ScenarioError) → Told
 
 abbrev pub IsTold : List ℕ → Told → Type 0
-IsTold text (Report line) = Reports text line
+IsTold text (Report line agrees) = ReportsVerdict text line agrees
 IsTold text (Refusal error) = IsDue text error
 
 -- what is printed: the report, or the line of the refusal
 abbrev pub told_text : Told → List ℕ
-told_text (Report line) = line
+told_text (Report line agrees) = line
 told_text (Refusal error) = refusal_line error ++ codes "\n"
 
-abbrev pub told_ending : Told → Ending
-told_ending (Report line) = Done
-told_ending (Refusal error) = Refused
+-- a pulse that doesn't agree is told where that is to be checked
+abbrev pub told_ending : Bool → Told → Ending
+told_ending check (Report line agrees) = if check && not agrees then Disagreed else Done
+told_ending check (Refusal error) = Refused
 
 -- the report of the run of the scenario that the text says, or the line that refuses it
-abbrev pub LeavesTold : Option (List ℕ) → Option (List ℕ) → List ℕ → Result Ending Fault → Type 0
-LeavesTold old new text result = LeavesAny (IsTold text) told_text told_ending old new result
+abbrev pub LeavesTold : Bool → Option (List ℕ) → Option (List ℕ) → List ℕ → Result Ending Fault → Type 0
+LeavesTold check old new text result = LeavesAny (IsTold text) told_text (told_ending check) old new result
 
 -- want of a thread is told only where the run stopped at an event for it
 abbrev pub WantsThread : List ℕ → Result Ending Fault → Type 0

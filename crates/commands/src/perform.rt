@@ -18,7 +18,8 @@ use std::io::{Read, Write};
 use std::sync::Wait;
 use std::thread::Threads;
 
-/// Runs the command, says its fault on `err`, and answers the exit status: 0 done, 1 fault or mismatch, 2 refused.
+/// Runs the command, says its fault on `err`, and answers the exit status: 0 done, 1 fault or mismatch, 2 refused,
+/// 3 a pulse that doesn't agree.
 /// What `err` does not take is dropped.
 pub fn perform<T: Threads + Wait + Sync, R: Read, W: Write, E: Write>(
     rt: &T,

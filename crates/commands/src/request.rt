@@ -30,6 +30,8 @@ pub struct ShapeOptions {
 pub struct RunOptions {
     /// On how many workers at most the tasks of a pulse are run. The report is the same for every number.
     pub workers: u32,
+    /// Whether the status tells of a pulse that doesn't agree.
+    pub check: bool,
 }
 
 /// The options of `sweep`.

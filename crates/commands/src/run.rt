@@ -1,8 +1,8 @@
 //! `run`: the report of the scenario on standard input.
-ghost use Rattle.std.specs.Prelude.{◌≡◌, IfSome};
+ghost use Rattle.std.specs.Prelude.{◌≡◌, ◌&&◌, not, if◌then◌else◌, IfSome};
 ghost use Rattle.bench_scenario.specs.declared.run.TheConstants.{MOST_BYTES};
 ghost use Rattle.stream_io.specs.Streams.{TakesAtMost};
-ghost use Rattle.commands.specs.declared.ending.Ending.TheVariants.{Refused};
+ghost use Rattle.commands.specs.declared.ending.Ending.TheVariants.{Disagreed, Done, Refused};
 ghost use Rattle.commands.specs.inner.Faults.{IsOfRun, run_fault};
 ghost use Rattle.commands.specs.Output.{Leaves};
 ghost use Rattle.commands.specs.Run.{LeavesTold, Refusal, WantsThread, told_text};
@@ -12,14 +12,15 @@ use crate::fault::Fault;
 use crate::output::write_whole;
 use crate::request::RunOptions;
 use bench_engine::{MOST_WORKERS, RunRefusal};
-use bench_scenario::{ScenarioFault, run_scenario};
+use bench_scenario::{ScenarioFault, run_scenario_judged};
 use scenario_text::{RefusalLine, ScenarioError};
 use std::alloc::Global;
 use std::io::{Read, Write};
 use std::sync::Wait;
 use std::thread::Threads;
 
-/// Writes the report of the run of the scenario that is read, or the line that refuses it. A number of workers that
+/// Writes the report of the run of the scenario that is read, or the line that refuses it. Where that is to be checked,
+/// the ending tells of a pulse that doesn't agree. A number of workers that
 /// is none is the nearest that is one.
 pub fn run<T: Threads + Wait + Sync, R: Read, W: Write>(
     rt: &T,
@@ -29,13 +30,13 @@ pub fn run<T: Threads + Wait + Sync, R: Read, W: Write>(
     out: &mut W,
 ) -> Result<Ending, Fault>
     ensures told { IfSome (R.remaining reader.old) (λ input.
-        LeavesTold (W.contents out.old) (W.contents out.new) input result) }
+        LeavesTold options.check (W.contents out.old) (W.contents out.new) input result) }
     ensures thread { IfSome (R.remaining reader.old) (λ input. WantsThread input result) }
     ensures front { TakesAtMost MOST_BYTES (R.remaining reader.old) (R.remaining reader.new) }
 {
     let workers = options.workers.clamp(1, MOST_WORKERS);
-    match run_scenario(rt, alloc, reader, out, workers) {
-        Ok(()) => Ok(Ending::Done),
+    match run_scenario_judged(rt, alloc, reader, out, workers) {
+        Ok(agrees) => Ok(ending_of(options.check, agrees)),
         Err(ScenarioFault::Read) => Err(Fault::Read),
         Err(ScenarioFault::Refused(error)) => write_refusal(alloc, &error, out),
         Err(ScenarioFault::Run(fault)) => Err(fault_of(fault.fault)),
@@ -43,6 +44,17 @@ pub fn run<T: Threads + Wait + Sync, R: Read, W: Write>(
             after: written as usize,
         }),
         Err(ScenarioFault::Memory) => Err(Fault::Memory),
+    }
+}
+
+/// How a run ends whose report is written.
+fn ending_of(check: bool, agrees: bool) -> Ending
+    ensures { result ≡ (if check && not agrees then Disagreed else Done) }
+{
+    if check && !agrees {
+        Ending::Disagreed
+    } else {
+        Ending::Done
     }
 }
 

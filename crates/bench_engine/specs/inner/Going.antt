@@ -1,5 +1,5 @@
 -- One event of a run, as the engine's parts tell it.
-use Rattle.std.specs.Prelude.{◌≡◌, ◌+◌, List, [], ◌∷◌, ◌++◌, length, None}
+use Rattle.std.specs.Prelude.{◌≡◌, ◌+◌, List, [], ◌∷◌, length, None}
 use Rattle.bench_core.specs.Settled.{PulseTold}
 use Rattle.bench_core.specs.Replay.{BenchValue}
 use Rattle.bench_engine.specs.Events.{Event}
@@ -24,10 +24,3 @@ IsOfWorkers refusals.OtherShape = ⊥
 IsOfWorkers refusals.BadImage = ⊥
 IsOfWorkers refusals.HistoryFull = ⊥
 IsOfWorkers refusals.BadCoins = ⊥
-
--- the event is done, and its records are put behind those that were there
-pub record IsApplied (old : BenchValue) (before : List PulseTold) (event : Event) (new : BenchValue)
-    (after : List PulseTold) : Type 0 where
-  pub told : List PulseTold
-  pub records : after ≡ before ++ told
-  pub goes : GoesOn old event told new

@@ -17,11 +17,14 @@ returns-in-Err-run_events_on g c =
 
 pub returns : goal.returns
 returns g c = record {
-  scenario = c.in-Ok.scenario;
-  records = _;
-  memories = _;
-  reads = c.in-Ok.ensures.reads;
-  run = run_met c.in-Ok.scenario _ _ _ _ c.in-Ok-bench_for.ensures.setup c.in-Ok-events.ensures
-      c.in-Ok-run_events_on.ensures.run;
-  whole = c.in-Ok-report.ensures;
+  told = record {
+    scenario = c.in-Ok.scenario;
+    records = _;
+    memories = _;
+    reads = c.in-Ok.ensures.reads;
+    run = run_met c.in-Ok.scenario _ _ _ _ c.in-Ok-bench_for.ensures.setup c.in-Ok-events.ensures
+        c.in-Ok-run_events_on.ensures.run;
+    whole = c.in-Ok-report.ensures;
+  };
+  verdict = c.in-Ok-all_agree.ensures;
 }

@@ -1,20 +1,5 @@
-use Rattle.std.proofs.KnownBytes.{Keeps-refl}
-use Rattle.bench_scenario.proofs.StreamLemmas.{fault_left, front_left, report_left}
+use Rattle.bench_scenario.proofs.StreamLemmas.{plain_left}
 use Rattle.bench_scenario.proofs.run.run_scenario.Goals as goal
 
-pub returns-in_err-line-clause-left : goal.returns-in_err-line-clause-left
-returns-in_err-line-clause-left g c =
-    fault_left _ _ c.in-Ok.bytes.items c.as_slice.result.now c.in_err-line.field-0.0 c.from_residual.result
-    c.in-Ok.ensures.exact c.as_slice.ensures.value
-    (Keeps-refl _) c.in_err-line.ensures c.from_residual.ensures.1
-
-pub returns-in-Ok-write_fully-clause-left : goal.returns-in-Ok-write_fully-clause-left
-returns-in-Ok-write_fully-clause-left g c =
-    report_left _ _ _ c.in-Ok.bytes.items c.as_slice.result.now _ c.as_bytes-told.result.now c.in-Ok.ensures.exact
-    c.as_slice.ensures.value c.as_bytes-told.ensures.value c.in_ok-line.ensures c.in-Ok-write_fully.ensures.all
-
-pub returns-clause-left : goal.returns-clause-left
-returns-clause-left g c =
-    front_left _ _ _ c.in-Ok.bytes.items c.as_slice.result.now _ c.as_bytes-told.result.now c.in-Err.field-0.written
-    c.in-Ok.ensures.exact c.as_slice.ensures.value c.as_bytes-told.ensures.value c.in_ok-line.ensures
-    c.in-Err.ensures.part c.in-Err.ensures.prefix
+pub returns-in-Ok-clause-left : goal.returns-in-Ok-clause-left
+returns-in-Ok-clause-left g c = plain_left _ _ _ _ c.in-Ok.ensures.left

@@ -1,0 +1,15 @@
+-- What one of the results of a node took.
+use Rattle.std.specs.Prelude.{◌≡◌, ◌≢◌, ◌⊎◌, ℕ, List, All, Contains}
+use Rattle.bench_core.specs.Tasks.{Done, IsEnd}
+
+-- a result of this node took so many instructions
+pub record Took (dones : List Done) (i k : ℕ) : Type 0 where
+  pub one : Done
+  pub among : Contains dones one
+  pub node : one.task.node ≡ i
+  pub ends : IsEnd one
+  pub steps : k ≡ one.end.steps
+
+-- or it has none, and 0 is told
+abbrev pub TookAt : List Done → ℕ → ℕ → Type 0
+TookAt dones i k = Took dones i k ⊎ (All (λ d. d.task.node ≢ i) dones × (k ≡ 0))
