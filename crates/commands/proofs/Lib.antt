@@ -3,3 +3,5 @@ mod VerdictLemmas
 mod RunLemmas
 mod StressLemmas
 mod FaultLemmas
+pub mod PlaceLemmas
+pub mod ExploreLemmas

@@ -1,11 +1,13 @@
 //! How a command ends that wrote its whole answer.
 
-/// Whether the answer is a result, a refusal of what was read, or that a bench's history isn't what its hands did.
+/// Whether the answer is a result, a refusal of what was read, that a bench's history isn't what its hands did, or that a
+/// bound was reached before there was a result.
 #[derive(Clone, Copy, Debug, PartialEq, Eq)]
 pub enum Ending {
     Done,
     Refused,
     Mismatched,
+    Unfinished,
 }
 
 impl Ending {
@@ -20,6 +22,7 @@ impl Ending {
             Ending::Done => 0,
             Ending::Refused => 2,
             Ending::Mismatched => 1,
+            Ending::Unfinished => 3,
         }
     }
 }

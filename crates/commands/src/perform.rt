@@ -6,6 +6,7 @@ use crate::asm::asm;
 use crate::dis::dis;
 use crate::ending::Ending;
 use crate::exec::exec;
+use crate::explore::explore;
 use crate::fault::Fault;
 use crate::output::write_whole;
 use crate::request::Request;
@@ -17,7 +18,8 @@ use std::io::{Read, Write};
 use std::sync::Wait;
 use std::thread::Threads;
 
-/// Runs the command, says its fault on `err`, and answers the exit status: 0 done, 1 fault or mismatch, 2 refused.
+/// Runs the command, says its fault on `err`, and answers the exit status: 0 done, 1 fault or mismatch, 2 refused,
+/// 3 not finished.
 /// What `err` does not take is dropped.
 pub fn perform<T: Threads + Wait + Sync, R: Read, W: Write, E: Write>(
     rt: &T,
@@ -57,6 +59,7 @@ fn carry_out<T: Threads + Wait + Sync, R: Read, W: Write>(
         Request::Verify(options) => verify(alloc, *options, reader, out),
         Request::Run(options) => run(rt, alloc, *options, reader, out),
         Request::Stress(options) => stress(rt, alloc, *options, out),
+        Request::Explore(options) => explore(alloc, *options, reader, out),
         Request::Help { text } => write_whole(out, text.as_bytes(), Ending::Done),
     }
 }

@@ -11,6 +11,7 @@ pub enum Request {
     Verify(ShapeOptions),
     Run(RunOptions),
     Stress(StressOptions),
+    Explore(ExploreOptions),
     /// A text whose last line ends.
     Help { text: String },
 }
@@ -28,6 +29,17 @@ pub struct ShapeOptions {
 pub struct RunOptions {
     /// On how many workers at most the tasks of a pulse are run. The report is the same for every number.
     pub workers: u32,
+}
+
+/// The options of `explore`.
+#[derive(Clone, Copy, Debug, PartialEq, Eq)]
+pub struct ExploreOptions {
+    /// The last number that a liar may send, from 0 on: the modulus, where none is named.
+    pub mail: Option<u32>,
+    /// The most states.
+    pub states: u32,
+    /// The last pulse whose moves are tried.
+    pub depth: u32,
 }
 
 /// The options of `exec`.
