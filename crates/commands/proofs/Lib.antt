@@ -4,3 +4,5 @@ mod RunLemmas
 mod StressLemmas
 mod FaultLemmas
 mod SweepLemmas
+pub mod PlaceLemmas
+pub mod ExploreLemmas

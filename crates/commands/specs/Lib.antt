@@ -3,6 +3,7 @@ pub mod Asm
 pub mod Dis
 pub mod Ending
 pub mod Exec
+pub mod Explore
 pub mod Faults
 pub mod Image
 pub mod Output

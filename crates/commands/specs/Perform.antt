@@ -8,11 +8,12 @@ use Rattle.commands.specs.declared.fault.Fault.{Fault}
 use Rattle.commands.specs.declared.image.TheConstants.{IMAGE_BYTES}
 use Rattle.commands.specs.declared.request.ShapeOptions.{ShapeOptions}
 use Rattle.commands.specs.declared.request.Request.{Request}
-use Rattle.commands.specs.declared.request.Request.TheVariants.{Exec, Asm, Dis, Verify, Run, Stress, Sweep, Help}
+use Rattle.commands.specs.declared.request.Request.TheVariants.{Exec, Asm, Dis, Verify, Run, Stress, Sweep, Explore, Help}
 use Rattle.commands.specs.Asm.{LeavesImage}
 use Rattle.commands.specs.Dis.{LeavesListing}
 use Rattle.commands.specs.Ending.{status_of}
 use Rattle.commands.specs.Exec.{LeavesAnswer}
+use Rattle.commands.specs.Explore.{LeavesExplored}
 use Rattle.commands.specs.Faults.{Says, fault_status, fault_text}
 use Rattle.commands.specs.Image.{HasShape}
 use Rattle.commands.specs.Output.{Leaves}
@@ -34,6 +35,8 @@ CarriesOut (Run asked) input old new ended = IfSome input
     (λ bytes. LeavesTold asked.check old new bytes ended × WantsThread bytes ended)
 CarriesOut (Stress asked) input old new ended = LeavesStressed asked old new ended
 CarriesOut (Sweep asked) input old new ended = IfSome input (λ bytes. LeavesSwept old new bytes asked.keys ended)
+CarriesOut (Explore asked) input old new ended = IfSome input
+    (λ bytes. LeavesExplored old new asked (take MOST_BYTES bytes) ended)
 CarriesOut (Help text) input old new ended = Leaves old new (string_bytes text) Done ended
 
 -- the status of an ending, or of a fault
@@ -66,4 +69,5 @@ TakesFor (Verify asked) old new = TakesShaped asked old new
 TakesFor (Run asked) old new = TakesAtMost MOST_BYTES old new
 TakesFor (Stress asked) old new = new ≡ old
 TakesFor (Sweep asked) old new = TakesAtMost MOST_BYTES old new
+TakesFor (Explore asked) old new = TakesAtMost MOST_BYTES old new
 TakesFor (Help text) old new = new ≡ old

@@ -10,7 +10,7 @@ use Rattle.scenario_text.specs.declared.scenario.Scenario.{Scenario}
 use Rattle.scenario_text.specs.Lines.{refusal_line}
 use Rattle.scenario_text.specs.Texts.{IsDue, ReadsText}
 use Rattle.commands.specs.declared.ending.Ending.{Ending}
-use Rattle.commands.specs.declared.ending.Ending.TheVariants.{Done, Mismatched, Refused}
+use Rattle.commands.specs.declared.ending.Ending.TheVariants.{Disagreed, Done, Mismatched, Refused, Unfinished}
 use Rattle.commands.specs.declared.fault.Fault.{Fault}
 use Rattle.commands.specs.declared.fault.Fault.TheVariants as faults
 use Rattle.commands.specs.Output.{Leaves}
@@ -42,6 +42,8 @@ abbrev pub LeavesSwept : Option (List ℕ) → Option (List ℕ) → List ℕ �
 LeavesSwept old new text keys (Ok Done) = LeavesSweep old new text keys (Ok tt)
 LeavesSwept old new text keys (Ok Refused) = LeavesUnswept old new text (Ok Refused)
 LeavesSwept old new text keys (Ok Mismatched) = ⊥
+LeavesSwept old new text keys (Ok Disagreed) = ⊥
+LeavesSwept old new text keys (Ok Unfinished) = ⊥
 LeavesSwept old new text keys (Err faults.Read) = Keeps old new
 LeavesSwept old new text keys (Err (faults.Write after)) =
     LeavesSweep old new text keys (Err (sweeps.Write after)) ⊎ LeavesUnswept old new text (Err (faults.Write after))

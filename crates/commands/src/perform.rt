@@ -6,6 +6,7 @@ use crate::asm::asm;
 use crate::dis::dis;
 use crate::ending::Ending;
 use crate::exec::exec;
+use crate::explore::explore;
 use crate::fault::Fault;
 use crate::output::write_whole;
 use crate::request::Request;
@@ -19,8 +20,7 @@ use std::sync::Wait;
 use std::thread::Threads;
 
 /// Runs the command, says its fault on `err`, and answers the exit status: 0 done, 1 fault or mismatch, 2 refused,
-/// 3 a pulse that doesn't agree.
-/// What `err` does not take is dropped.
+/// 3 a pulse that doesn't agree, or not finished. What `err` does not take is dropped.
 pub fn perform<T: Threads + Wait + Sync, R: Read, W: Write, E: Write>(
     rt: &T,
     alloc: Global,
@@ -60,6 +60,7 @@ fn carry_out<T: Threads + Wait + Sync, R: Read, W: Write>(
         Request::Run(options) => run(rt, alloc, *options, reader, out),
         Request::Stress(options) => stress(rt, alloc, *options, out),
         Request::Sweep(options) => sweep(rt, alloc, *options, reader, out),
+        Request::Explore(options) => explore(alloc, *options, reader, out),
         Request::Help { text } => write_whole(out, text.as_bytes(), Ending::Done),
     }
 }

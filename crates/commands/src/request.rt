@@ -13,6 +13,7 @@ pub enum Request {
     Run(RunOptions),
     Stress(StressOptions),
     Sweep(SweepOptions),
+    Explore(ExploreOptions),
     /// A text whose last line ends.
     Help { text: String },
 }
@@ -40,6 +41,17 @@ pub struct SweepOptions {
     pub keys: KeySpan,
     /// How many workers run whole scenarios; as many as there are processors where none are named.
     pub workers: Option<u32>,
+}
+
+/// The options of `explore`.
+#[derive(Clone, Copy, Debug, PartialEq, Eq)]
+pub struct ExploreOptions {
+    /// The last number that a liar may send, from 0 on: the modulus, where none is named.
+    pub mail: Option<u32>,
+    /// The most states.
+    pub states: u32,
+    /// The last pulse whose moves are tried.
+    pub depth: u32,
 }
 
 /// The options of `exec`.
