@@ -18,24 +18,21 @@ use std::process::ExitCode;
 use std::{env, io};
 
 fn main(rt: HostRuntime) -> ExitCode {
-    let status = match words_of(&rt) {
-        Ok(words) => status_of(&rt, words.as_slice()),
-        Err(fault) => fault.tell(&mut rt.stderr()),
-    };
-    ExitCode::from(status)
-}
-
-/// Does what the words ask for; how far a sweep is, is told where standard error is a terminal.
-fn status_of(rt: &HostRuntime, words: &[String]) -> u8 {
     let alloc = rt.alloc();
     let (mut input, mut out, mut err) = (rt.stdin(), rt.stdout(), rt.stderr());
-    match swept_keys(alloc, words) {
+    let words = match words_of(&rt) {
+        Ok(words) => words,
+        Err(fault) => return ExitCode::from(fault.tell(&mut err)),
+    };
+    let words = words.as_slice();
+    let status = match swept_keys(alloc, words) {
         Some(keys) if err.is_terminal() => {
-            let mut told = Progress::new(out, rt.stderr(), rt, keys);
-            command(rt, alloc, words, &mut input, &mut told, &mut err)
+            let mut told = Progress::new(out, rt.stderr(), &rt, keys);
+            command(&rt, alloc, words, &mut input, &mut told, &mut err)
         }
-        _ => command(rt, alloc, words, &mut input, &mut out, &mut err),
-    }
+        _ => command(&rt, alloc, words, &mut input, &mut out, &mut err),
+    };
+    ExitCode::from(status)
 }
 
 /// How many keys the words ask to sweep.

@@ -7,21 +7,21 @@ use std::time::{Clock, Duration, Instant};
 
 /// A writer that passes on what it is given, and tells after each write how many lines of keys went by, of how many.
 #[derive(Drop)]
-pub struct Progress<W, E, C> {
+pub struct Progress<'a, W, E, C> {
     out: W,
     terminal: E,
-    clock: C,
+    clock: &'a C,
     began: Option<Instant>,
     keys: u64,
     lines: u64,
 }
 
-impl<W: Write, E: Write, C: Clock> Progress<W, E, C> {
+impl<'a, W: Write, E: Write, C: Clock> Progress<'a, W, E, C> {
     /// A writer of the lines of so many keys, after a line of names.
-    pub fn new(out: W, terminal: E, clock: C, keys: u64) -> Progress<W, E, C>
+    pub fn new(out: W, terminal: E, clock: &'a C, keys: u64) -> Progress<'a, W, E, C>
         ensures { result.out ≡ out }
     {
-        let began = Instant::now(&clock).ok();
+        let began = Instant::now(clock).ok();
         Progress {
             out,
             terminal,
@@ -33,13 +33,13 @@ impl<W: Write, E: Write, C: Clock> Progress<W, E, C> {
     }
 }
 
-impl<W: Write, E: Write, C: Clock> Write for Progress<W, E, C> {
+impl<W: Write, E: Write, C: Clock> Write for Progress<'_, W, E, C> {
     ghost contents = { λ p. W.contents p.out };
 
     fn write(&mut self, buf: &[u8]) -> io::Result<usize> {
         let taken = self.out.write(buf)?;
         self.lines = self.lines.saturating_add(lines_in(&buf[..taken]));
-        let time = passed(&self.began, &self.clock);
+        let time = passed(&self.began, self.clock);
         tell(
             &mut self.terminal,
             self.lines.saturating_sub(1),

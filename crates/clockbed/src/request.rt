@@ -5,10 +5,10 @@ ghost use Rattle.commands.specs.Faults.{IsOfCommandLine};
 use bench_engine::MOST_WORKERS;
 use bench_shared::MOST_LOADERS;
 use clap::error::ErrorKind;
-use clap::{Arg, ArgMatches, Command, Error, value_parser};
+use clap::{Arg, ArgAction, ArgMatches, Command, Error, value_parser};
 use commands::Fault;
 use commands::request::{
-    ExecOptions, Request, RunOptions, ShapeOptions, StressOptions, SweepOptions,
+    ExecOptions, ExploreOptions, Request, RunOptions, ShapeOptions, StressOptions, SweepOptions,
 };
 use key_sweep::KeySpan;
 use node_env::{MAX_MEMORY, MAX_NODES, MEMORY_UNIT};
@@ -44,6 +44,14 @@ const DEFAULT_PULSES: u32 = 8;
 
 const MOST_PULSES: u32 = 1_000;
 
+/// The most states and the last pulse that are explored where none are named, and the most that can be named.
+const DEFAULT_STATES: u32 = 1_000_000;
+
+const MOST_STATES: u32 = 1_000_000_000;
+
+/// The last number of a liar's mail that can be named.
+const MOST_MAIL: u32 = 65_536;
+
 const HELP_BYTES: usize = 64;
 
 /// The request of the words, of which the first is the program's name.
@@ -67,6 +75,7 @@ fn parse<S: AsStr>(alloc: Global, words: &[S]) -> Result<Request, Error> {
         Some(("verify", options)) => Ok(Request::Verify(shape_options(options))),
         Some(("run", options)) => Ok(Request::Run(run_options(options))),
         Some(("stress", options)) => Ok(Request::Stress(stress_options(options))),
+        Some(("explore", options)) => Ok(Request::Explore(explore_options(options))),
         Some(("sweep", options)) => match sweep_options(options) {
             Some(options) => Ok(Request::Sweep(options)),
             None => Err(command.error(
@@ -89,6 +98,7 @@ struct Helps {
     loaders: InlineText<HELP_BYTES>,
     loads: InlineText<HELP_BYTES>,
     pulses: InlineText<HELP_BYTES>,
+    states: InlineText<HELP_BYTES>,
 }
 
 impl Helps {
@@ -116,6 +126,9 @@ impl Helps {
             pulses: InlineText::of(format_args!(
                 "The pulses of the engine [default: {DEFAULT_PULSES}]"
             )),
+            states: InlineText::of(format_args!(
+                "The most states that are seen [default: {DEFAULT_STATES}]"
+            )),
         }
     }
 }
@@ -133,6 +146,10 @@ fn command_line<'a>(alloc: Global, helps: &'a Helps) -> Result<Command<'a>, Allo
         "Accepts or refuses the image on standard input",
     );
     let workers = count_option(alloc, "workers", helps.most_workers.as_str(), MOST_WORKERS);
+    let check = Arg::new(alloc, "check")
+        .long("check")
+        .help("Ends with status 3 where a pulse doesn't agree")
+        .action(ArgAction::SetTrue);
     let run = Command::new(alloc, "run").about(
         "Prints the report of the scenario on standard input",
     );
@@ -143,9 +160,32 @@ fn command_line<'a>(alloc: Global, helps: &'a Helps) -> Result<Command<'a>, Allo
         .subcommand(asm)?
         .subcommand(dis)?
         .subcommand(with_shape(alloc, verify, helps)?)?
-        .subcommand(run.arg(workers)?)?
+        .subcommand(run.arg(workers)?.arg(check)?)?
         .subcommand(stress(alloc, helps)?)?
-        .subcommand(sweep(alloc)?)
+        .subcommand(sweep(alloc)?)?
+        .subcommand(explore(alloc, helps)?)
+}
+
+/// The command `explore` with its options.
+fn explore<'a>(alloc: Global, helps: &'a Helps) -> Result<Command<'a>, AllocError> {
+    let mail = count_option(
+        alloc,
+        "mail",
+        "Liars send 0 to COUNT, or nothing [default: the modulus]",
+        MOST_MAIL,
+    );
+    let states = count_option(alloc, "states", helps.states.as_str(), MOST_STATES);
+    let depth = count_option(
+        alloc,
+        "depth",
+        "The last pulse that is explored",
+        MOST_STATES,
+    );
+    Command::new(alloc, "explore")
+        .about("Tries every lie and every coin on the scenario on standard input")
+        .arg(mail)?
+        .arg(states)?
+        .arg(depth)
 }
 
 /// The command `sweep` with its options.
@@ -215,6 +255,7 @@ fn shape_options(options: &ArgMatches<'_>) -> ShapeOptions {
 fn run_options(options: &ArgMatches<'_>) -> RunOptions {
     RunOptions {
         workers: options.get_one::<u32>("workers").unwrap_or(DEFAULT_WORKERS),
+        check: options.get_flag("check"),
     }
 }
 
@@ -235,6 +276,14 @@ fn sweep_options(options: &ArgMatches<'_>) -> Option<SweepOptions> {
         keys,
         workers: options.get_one::<u32>("workers"),
     })
+}
+
+fn explore_options(options: &ArgMatches<'_>) -> ExploreOptions {
+    ExploreOptions {
+        mail: options.get_one::<u32>("mail"),
+        states: options.get_one::<u32>("states").unwrap_or(DEFAULT_STATES),
+        depth: options.get_one::<u32>("depth").unwrap_or(MOST_STATES),
+    }
 }
 
 fn exec_options(options: &ArgMatches<'_>) -> ExecOptions {
