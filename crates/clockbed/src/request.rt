@@ -7,7 +7,9 @@ use bench_shared::MOST_LOADERS;
 use clap::error::ErrorKind;
 use clap::{Arg, ArgMatches, Command, Error, value_parser};
 use commands::Fault;
-use commands::request::{ExecOptions, Request, RunOptions, ShapeOptions, StressOptions};
+use commands::request::{
+    ExecOptions, ExploreOptions, Request, RunOptions, ShapeOptions, StressOptions,
+};
 use node_env::{MAX_MEMORY, MAX_NODES, MEMORY_UNIT};
 use std::alloc::{AllocError, Global};
 use std::convert::AsStr;
@@ -41,6 +43,14 @@ const DEFAULT_PULSES: u32 = 8;
 
 const MOST_PULSES: u32 = 1_000;
 
+/// The most states and the last pulse that are explored where none are named, and the most that can be named.
+const DEFAULT_STATES: u32 = 1_000_000;
+
+const MOST_STATES: u32 = 1_000_000_000;
+
+/// The last number of a liar's mail that can be named.
+const MOST_MAIL: u32 = 65_536;
+
 const HELP_BYTES: usize = 64;
 
 /// The request of the words, of which the first is the program's name.
@@ -63,6 +73,7 @@ fn parse<S: AsStr>(alloc: Global, words: &[S]) -> Result<Request, Error> {
         Some(("dis", _)) => Ok(Request::Dis),
         Some(("verify", options)) => Ok(Request::Verify(shape_options(options))),
         Some(("run", options)) => Ok(Request::Run(run_options(options))),
+        Some(("explore", options)) => Ok(Request::Explore(explore_options(options))),
         Some(("stress", options)) => Ok(Request::Stress(stress_options(options))),
         _ => Err(command.error(ErrorKind::MissingSubcommand, "a command is needed")?),
     }
@@ -79,6 +90,7 @@ struct Helps {
     loaders: InlineText<HELP_BYTES>,
     loads: InlineText<HELP_BYTES>,
     pulses: InlineText<HELP_BYTES>,
+    states: InlineText<HELP_BYTES>,
 }
 
 impl Helps {
@@ -105,6 +117,9 @@ impl Helps {
             )),
             pulses: InlineText::of(format_args!(
                 "The pulses of the engine [default: {DEFAULT_PULSES}]"
+            )),
+            states: InlineText::of(format_args!(
+                "The most states that are seen [default: {DEFAULT_STATES}]"
             )),
         }
     }
@@ -134,7 +149,30 @@ fn command_line<'a>(alloc: Global, helps: &'a Helps) -> Result<Command<'a>, Allo
         .subcommand(dis)?
         .subcommand(with_shape(alloc, verify, helps)?)?
         .subcommand(run.arg(workers)?)?
-        .subcommand(stress(alloc, helps)?)
+        .subcommand(stress(alloc, helps)?)?
+        .subcommand(explore(alloc, helps)?)
+}
+
+/// The command `explore` with its options.
+fn explore<'a>(alloc: Global, helps: &'a Helps) -> Result<Command<'a>, AllocError> {
+    let mail = count_option(
+        alloc,
+        "mail",
+        "Liars send 0 to COUNT, or nothing [default: the modulus]",
+        MOST_MAIL,
+    );
+    let states = count_option(alloc, "states", helps.states.as_str(), MOST_STATES);
+    let depth = count_option(
+        alloc,
+        "depth",
+        "The last pulse that is explored",
+        MOST_STATES,
+    );
+    Command::new(alloc, "explore")
+        .about("Tries every lie and every coin on the scenario on standard input")
+        .arg(mail)?
+        .arg(states)?
+        .arg(depth)
 }
 
 /// The command `stress` with its options.
@@ -198,6 +236,14 @@ fn stress_options(options: &ArgMatches<'_>) -> StressOptions {
         loads: options.get_one::<u32>("loads").unwrap_or(DEFAULT_LOADS),
         pulses: options.get_one::<u32>("pulses").unwrap_or(DEFAULT_PULSES),
         workers: options.get_one::<u32>("workers").unwrap_or(DEFAULT_WORKERS),
+    }
+}
+
+fn explore_options(options: &ArgMatches<'_>) -> ExploreOptions {
+    ExploreOptions {
+        mail: options.get_one::<u32>("mail"),
+        states: options.get_one::<u32>("states").unwrap_or(DEFAULT_STATES),
+        depth: options.get_one::<u32>("depth").unwrap_or(MOST_STATES),
     }
 }
 
