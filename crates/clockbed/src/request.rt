@@ -10,7 +10,7 @@ use commands::Fault;
 use commands::request::{
     ExecOptions, ExploreOptions, Request, RunOptions, ShapeOptions, StressOptions, SweepOptions,
 };
-use key_sweep::KeySpan;
+use key_sweep::{KeySpan, MOST_SWEEPERS};
 use node_env::{MAX_MEMORY, MAX_NODES, MEMORY_UNIT};
 use std::alloc::{AllocError, Global};
 use std::convert::AsStr;
@@ -196,7 +196,7 @@ fn sweep<'a>(alloc: Global) -> Result<Command<'a>, AllocError> {
         .help("The keys of the coins, both ends among them")
         .required(true);
     let help = "The workers that run whole scenarios [default: the processors]";
-    let workers = count_option(alloc, "workers", help, MOST_WORKERS);
+    let workers = count_option(alloc, "workers", help, MOST_SWEEPERS);
     Command::new(alloc, "sweep")
         .about("Runs the scenario on standard input with each key, and prints CSV")
         .arg(keys)?

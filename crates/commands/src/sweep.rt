@@ -1,6 +1,6 @@
 //! `sweep`: a line for each key of the scenario on standard input.
 ghost use Rattle.std.specs.Prelude.{◌≡◌, ◌≤◌, IfSome};
-ghost use Rattle.bench_engine.specs.declared.tasks.TheConstants.{MOST_WORKERS};
+ghost use Rattle.key_sweep.specs.declared.sweeping.TheConstants.{MOST_SWEEPERS};
 ghost use Rattle.bench_scenario.specs.declared.run.TheConstants.{MOST_BYTES};
 ghost use Rattle.stream_io.specs.Streams.{TakesAtMost};
 ghost use Rattle.commands.specs.declared.ending.Ending.TheVariants.{Refused};
@@ -12,8 +12,7 @@ use crate::fault::Fault;
 use crate::output::write_whole;
 use crate::request::SweepOptions;
 use crate::run::write_refusal;
-use bench_engine::MOST_WORKERS;
-use key_sweep::SweepFault;
+use key_sweep::{MOST_SWEEPERS, SweepFault};
 use std::alloc::Global;
 use std::io::{Read, Write};
 use std::sync::Wait;
@@ -47,12 +46,12 @@ pub fn sweep<T: Threads + Wait + Sync, R: Read, W: Write>(
 /// So many workers as are asked for, or one for each processor. A number that is none is the nearest that is one.
 fn workers_for<T: Threads>(rt: &T, asked: Option<u32>) -> u32
     ensures some { 1 ≤ result }
-    ensures few { result ≤ MOST_WORKERS }
+    ensures few { result ≤ MOST_SWEEPERS }
 {
     match asked {
-        Some(workers) => workers.clamp(1, MOST_WORKERS),
+        Some(workers) => workers.clamp(1, MOST_SWEEPERS),
         None => match available_parallelism(rt) {
-            Ok(processors) => processors.get().clamp(1, MOST_WORKERS as usize) as u32,
+            Ok(processors) => processors.get().clamp(1, MOST_SWEEPERS as usize) as u32,
             Err(_) => 1,
         },
     }

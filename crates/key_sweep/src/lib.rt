@@ -7,7 +7,7 @@ mod rows;
 mod sweeping;
 
 pub use keys::{KeySpan, MOST_KEY};
-pub use sweeping::{SweepFault, sweep};
+pub use sweeping::{MOST_SWEEPERS, SweepFault, sweep};
 
 #[cfg(test)]
 mod tests;

@@ -21,8 +21,11 @@ use std::thread::Threads;
 use stream_io::{WriteFault, write_fully};
 use thiserror::Error;
 
+/// The most workers that are of use: one for each key that is shared out at once.
+pub const MOST_SWEEPERS: u32 = 64;
+
 /// How many keys are shared out at once: so many lines are written together.
-const KEYS_AT_ONCE: u64 = 64;
+const KEYS_AT_ONCE: u64 = MOST_SWEEPERS as u64;
 
 /// Why a sweep left not all its lines.
 #[derive(Debug, Drop, Error)]
