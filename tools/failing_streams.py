@@ -13,6 +13,7 @@ import tempfile
 from refusals import Ran, compiled, contents, program, run
 
 FOUR = contents("examples/four_clocks.toml")
+CHACHA = contents("examples/chacha.toml")
 LIMIT = 1 << 20
 
 
@@ -39,6 +40,8 @@ def answers(library, clockbed):
         ("dis", image),
         ("asm", text),
         ("run", FOUR),
+        ("sweep --keys 7..8 --workers 1", CHACHA),
+        ("explore", FOUR),
         ("stress", b""),
         ("--help", b""),
     ]:

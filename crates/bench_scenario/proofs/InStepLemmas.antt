@@ -32,8 +32,10 @@ first_of m r c have (Some f) e = refl
 one_of_record : (m : ℕ) (r : PulseTold) (c : ℕ) → HaveOne m r c → are_one m r.clocks (first_clock r.clocks) ≡ true
 one_of_record m r c have =
     (one_of m r.clocks (first_clock r.clocks) refl).1
-    (λ i j d e has other. (have.each i d has ∙ sym (have.each j e other),
-    subst (λ (k : ℕ). k < m) (sym (have.each i d has)) have.below))
+    (λ i j d e has other. (
+      have.each i d has ∙ sym (have.each j e other),
+      subst (λ (k : ℕ). k < m) (sym (have.each i d has)) have.below,
+    ))
 
 -- what is answered of a pulse whose nodes have a first clock, and of one whose nodes have none
 pub one_told : (m : ℕ) (r : PulseTold) (clocks : List (Option ℕ)) (first : Option ℕ) (there answer : Bool) → clocks ≡ r.clocks
@@ -186,7 +188,7 @@ rest_of rs k = take_all (length rs - k) (drop k rs) (omega (arith, length-drop k
 pub since_found : (m : ℕ) (rs : List PulseTold) (k : ℕ) (since : Option ℕ) → Kept m rs k since
     → ((j : ℕ) → j < k → StaysFrom m (drop j rs) → ⊥) → StaysSince m rs since
 since_found m rs k None kept none = λ j is.
-    elim (cases_lt j k) [ | inl early ↦ none j early is | inr late ↦ past_all m rs j (omega (arith, kept)) is ]
+    elim (cases_lt j k) [ inl early ↦ none j early is | inr late ↦ past_all m rs j (omega (arith, kept)) is ]
 since_found m rs k (Some pulse) kept none = record {
   before = k;
   within = kept.0;

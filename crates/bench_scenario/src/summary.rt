@@ -33,10 +33,7 @@ fn judged_agreements(alloc: Global, judged: &[Judged]) -> Result<Vec<Option<bool
 }
 
 /// Whether each pulse agrees.
-fn plain_agreements(
-    alloc: Global,
-    records: &[PulseRecord],
-) -> Result<Vec<Option<bool>>, AllocError>
+fn plain_agreements(alloc: Global, records: &[PulseRecord]) -> Result<Vec<Option<bool>>, AllocError>
     ensures { IfOk result (λ verdicts. verdicts.items ≡ map (λ r. Some r.agree) records.now) }
 {
     let mut verdicts = Vec::with_capacity(alloc, records.len())?;

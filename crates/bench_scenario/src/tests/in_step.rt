@@ -37,10 +37,7 @@ const ROWS: [([[Option<u32>; 2]; 3], Option<usize>); 5] = [
         [[Some(1), Some(1)], [Some(2), Some(2)], [Some(8), None]],
         None,
     ),
-    (
-        [[Some(1), Some(1)], [None, None], [Some(2), Some(2)]],
-        None,
-    ),
+    ([[Some(1), Some(1)], [None, None], [Some(2), Some(2)]], None),
 ];
 
 #[test]
