@@ -37,9 +37,13 @@ fn main(rt: HostRuntime) -> ExitCode {
 
 /// How many keys the words ask to sweep.
 fn swept_keys(alloc: Global, words: &[String]) -> Option<u64> {
-    match request_of(alloc, words) {
-        Ok(Request::Sweep(options)) => Some(options.keys.count()),
-        Ok(_) | Err(_) => None,
+    let Ok(request) = request_of(alloc, words) else {
+        return None;
+    };
+    if let Request::Sweep(options) = &request {
+        Some(options.keys.count())
+    } else {
+        None
     }
 }
 
