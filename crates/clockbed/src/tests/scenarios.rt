@@ -79,25 +79,6 @@ pulse 3 clocks 2 1 - settled 2 steps 36 agree no
 agreed 2 of 3
 ";
 
-#[test]
-fn checks_whether_all_pulses_agree(rt: HostRuntime) {
-    let rows = [
-        (FOUR_CLOCKS, FOUR_CLOCKS_REPORT, 0),
-        (THREE_PART, THREE_PART_REPORT, 3),
-    ];
-    for (text, report, status) in rows {
-        let got = run_on(
-            &rt,
-            rt.alloc(),
-            &["clockbed", "run", "--check"],
-            text.as_bytes(),
-        );
-        assert_eq!(rt; got.out.as_slice(), report.as_bytes());
-        assert_eq!(rt; got.err.len(), 0);
-        assert_eq!(rt; got.status, status);
-    }
-}
-
 const ONE_NODE: &str = "\
 nodes = 1
 faults = 0
