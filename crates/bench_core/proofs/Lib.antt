@@ -16,5 +16,6 @@ pub mod Tallies
 pub mod Closing
 pub mod Closed
 pub mod NodeSteps
+pub mod NotedSteps
 pub mod OneRefusal
 pub mod OwnPulse

@@ -1,23 +1,22 @@
 //! How many instructions each node ran in a pulse.
-ghost use Rattle.std.specs.Prelude.{[], IfOk, unwrap_or};
+ghost use Rattle.std.specs.Prelude.{◌≡◌, [], IfOk, slice_set, unwrap_or};
 ghost use Rattle.bench_core.specs.Settled.{AreSteps};
-ghost use Rattle.bench_core.specs.Tasks.{HandedOut, IsExact};
-ghost use Rattle.bench_core.specs.inner.Steps.{TookAt};
+ghost use Rattle.bench_core.specs.Tasks.{HandedOut, IsEnd, IsExact};
 
 use crate::bench::Bench;
 use crate::task::NodeDone;
 use std::alloc::{AllocError, Global};
 
-/// How many instructions the first result of a node took, 0 where it has none.
-fn steps_at(dones: &[NodeDone], node: u32) -> u32
-    ensures { TookAt dones.now node result }
+/// The steps of a result come to the place of its node, where there is one.
+#[tactic(auto, using(std::proofs::lemmas::List::set_past))]
+fn note(steps: &mut Vec<u32>, done: &NodeDone)
+    ensures noted { steps.new.items ≡ slice_set steps.old.items done.now.task.node done.now.end.steps }
+    ensures end { IsEnd done.now }
 {
-    for done in dones {
-        if done.node() == node {
-            return done.steps();
-        }
+    let node = done.node() as usize;
+    if node < steps.len() {
+        steps[node] = done.steps();
     }
-    0
 }
 
 /// How many instructions each node ran, by the results that close the open pulse of a bench.
@@ -32,9 +31,9 @@ pub fn steps_by_node(
 {
     let _history = bench.history();
     let nodes = bench.shape().nodes();
-    let mut steps = Vec::with_capacity(alloc, nodes as usize)?;
-    for node in 0..nodes {
-        steps.push(steps_at(dones, node))?;
+    let mut steps = vec![in alloc; 0; nodes as usize]?;
+    for done in dones {
+        note(&mut steps, done);
     }
     Ok(steps)
 }

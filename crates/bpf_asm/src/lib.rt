@@ -22,6 +22,3 @@ pub use meaning_laws::{canonical_text_means_its_program, one_meaning, text_round
 pub use printing::disassemble;
 pub use text_error::TextError;
 pub use word_laws::{one_helper_each, one_register_each, one_word_each};
-
-#[cfg(test)]
-mod tests;

@@ -77,9 +77,9 @@ load_refused f c slot (table ms) l spelled fits broken =
     let p = (load_of l).program in
     let q = broken.load.program in
     let mine : MeansAt (get_member (codes "text") ms) p = subst (λ (k : Kind). IsProgramOf f c k ms p)
-    (one_kind ms spelled.kind Asm spelled.named broken.named) spelled.program in
+    (one_kind ms l.kind Asm spelled.named broken.named) spelled.program in
     let theirs : MeansAt (get_member (codes "text") ms) q = subst (λ (k : Kind). IsProgramOf f c k ms q)
-    (one_kind ms broken.spelled.kind Asm broken.spelled.named broken.named) broken.spelled.program in
+    (one_kind ms broken.load.kind Asm broken.spelled.named broken.named) broken.spelled.program in
     broken_untypable q (extent_of f) slot broken.broken (subst (λ (r : List Insn). Typable r (extent_of f))
     (one_meaning (get_member (codes "text") ms) p q mine theirs) fits.1)
 load_refused f c slot (array items) l spelled fits broken = absurd spelled

@@ -3,12 +3,14 @@ use Rattle.std.specs.Prelude.{ℕ, List, Option}
 use Rattle.bpf_insn.specs.declared.forms.Insn.{Insn}
 use Rattle.scenario_text.specs.declared.scenario.Coins.{Coins}
 use Rattle.scenario_text.specs.declared.scenario.Frame.{Frame}
+use Rattle.scenario_text.specs.declared.scenario.Kind.{Kind}
 use Rattle.scenario_text.specs.declared.scenario.Unload.{Unload}
 use Rattle.scenario_text.specs.declared.scenario.CoinEntry.{CoinEntry}
 
 pub record LoadDraft : Type 0 where
   pub pulse : ℕ
   pub nodes : List ℕ
+  pub kind : Kind
   pub program : List Insn
 
 pub record CorruptDraft : Type 0 where

@@ -136,10 +136,9 @@ IsProgramOf f clock Asm load insns = MeansAt (get_member (codes "text") load) in
 pub record SpelledLoad (f : Frame) (clock : Option (List Insn)) (members : Members) (load : LoadDraft) : Type 0 where
   pub pulse : HasNumber members (codes "pulse") 1 f.pulses load.pulse
   pub nodes : IsArray (IsNumber 0 (f.nodes - 1)) (get_member (codes "nodes") members) load.nodes
-  pub kind : Kind
-  pub named : HasText members (codes "program") (kind_name kind)
-  pub known : knows (is_load_key kind) members ≡ true
-  pub program : IsProgramOf f clock kind members load.program
+  pub named : HasText members (codes "program") (kind_name load.kind)
+  pub known : knows (is_load_key load.kind) members ≡ true
+  pub program : IsProgramOf f clock load.kind members load.program
 
 -- ---- the other entries
 

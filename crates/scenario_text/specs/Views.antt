@@ -12,7 +12,7 @@ use Rattle.scenario_text.specs.Drafts.{LoadDraft, CorruptDraft, Draft}
 use Rattle.scenario_text.specs.Spelling.{Spelled}
 
 abbrev pub load_of : Load → LoadDraft
-load_of l = record { pulse = l.pulse; nodes = l.nodes.items; program = l.program.program }
+load_of l = record { pulse = l.pulse; nodes = l.nodes.items; kind = l.kind; program = l.program.program }
 
 abbrev pub corrupt_of : Corrupt → CorruptDraft
 corrupt_of c = record { pulse = c.pulse; node = c.node; image = c.image.items }

@@ -28,6 +28,3 @@ pub use refusal::{Place, ScenarioError};
 pub use scenario::{CoinEntry, Coins, Corrupt, Frame, Kind, Load, Scenario, Unload};
 pub use text::scenario_in;
 pub use whole::scenario_of;
-
-#[cfg(test)]
-mod tests;

@@ -198,6 +198,7 @@ fn load_of(alloc: Global, setup: &Setup, index: usize, table: &Table) -> Result<
     Ok(Load {
         pulse: pulse as u32,
         nodes,
+        kind,
         program,
     })
 }

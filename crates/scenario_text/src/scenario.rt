@@ -29,11 +29,12 @@ pub struct Frame {
     pub pulses: u32,
 }
 
-/// One `[[load]]`: before this pulse the program comes into each of the nodes.
+/// One `[[load]]`: before this pulse the program, of the kind that its table names, comes into each of the nodes.
 #[derive(Drop)]
 pub struct Load {
     pub pulse: u32,
     pub nodes: Vec<u32>,
+    pub kind: Kind,
     pub program: VerifiedProgram,
 }
 

@@ -76,17 +76,15 @@ pub fn change_of(alloc: Global, bench: &Bench, plan: Plan) -> Result<Change, Fai
 
 pub fn stage(alloc: Global, bench: &mut Bench, plan: Plan) -> Result<(), Fail> {
     let change = change_of(alloc, bench, plan)?;
+    stage_change(bench, change)
+}
+
+/// Stages the change by a loader.
+pub fn stage_change(bench: &mut Bench, change: Change) -> Result<(), Fail> {
     match bench.stage(Actor::Loader(0), change) {
         Ok(()) => Ok(()),
         Err(_) => Err("not staged")?,
     }
-}
-
-pub fn stage_all(alloc: Global, bench: &mut Bench, plans: &[Plan]) -> Result<(), Fail> {
-    for plan in plans {
-        stage(alloc, bench, *plan)?;
-    }
-    Ok(())
 }
 
 /// A bench each of whose nodes has the clock program staged.
@@ -191,15 +189,6 @@ pub fn assert_mail(
     Ok(())
 }
 
-/// The memories of all nodes, one behind the other.
-pub fn memories(alloc: Global, bench: &Bench) -> Result<Vec<u8>, AllocError> {
-    let mut bytes = Vec::new(alloc);
-    for node in 0..bench.shape().nodes() {
-        bytes.extend_from_slice(bench.memory(node))?;
-    }
-    Ok(bytes)
-}
-
 /// What the nodes sent, one node's row behind the other's.
 pub fn mail(alloc: Global, bench: &Bench) -> Result<Vec<Option<u32>>, AllocError> {
     let mail = bench.mail();
@@ -210,37 +199,4 @@ pub fn mail(alloc: Global, bench: &Bench) -> Result<Vec<Option<u32>>, AllocError
         }
     }
     Ok(slots)
-}
-
-/// All that can be seen of a bench.
-#[derive(Drop)]
-pub struct Seen {
-    memories: Vec<u8>,
-    mail: Vec<Option<u32>>,
-    entries: usize,
-    is_open: bool,
-}
-
-pub fn look(alloc: Global, bench: &Bench) -> Result<Seen, AllocError> {
-    Ok(Seen {
-        memories: memories(alloc, bench)?,
-        mail: mail(alloc, bench)?,
-        entries: bench.history().len(),
-        is_open: bench.is_open(),
-    })
-}
-
-/// Nothing is seen to have changed.
-pub fn assert_same(
-    rt: &impl Abort,
-    alloc: Global,
-    bench: &Bench,
-    before: &Seen,
-) -> Result<(), Fail> {
-    let after = look(alloc, bench)?;
-    assert_eq!(rt; after.memories.as_slice(), before.memories.as_slice());
-    assert_eq!(rt; after.mail.as_slice(), before.mail.as_slice());
-    assert_eq!(rt; after.entries, before.entries);
-    assert_eq!(rt; after.is_open, before.is_open);
-    Ok(())
 }

@@ -1,12 +1,10 @@
 //! Clocks of one's own.
-use super::benches::{accepted, numbers_of, pulse};
-use super::replays::{assert_alike, replay};
-use crate::{Actor, Bench, CLOCKS_DIFFER, Change};
+use super::benches::{accepted, numbers_of, pulse, stage_change};
+use crate::{Bench, CLOCKS_DIFFER, Change};
 use bpf_insn::{AluOp, Insn, Operand, Program, Reg, Size, Width, program_of};
-use clock_nodes::{ClockRule, dolev_welch};
+use clock_nodes::ClockRule;
 use node_env::Shape;
 use std::alloc::Global;
-use std::process::Abort;
 use std::test::Fail;
 
 fn mov(dst: Reg, src: Operand) -> Insn {
@@ -39,18 +37,19 @@ fn writing(alloc: Global, src: Operand) -> Result<Program, Fail> {
     }
 }
 
-/// A bench of four nodes with this clock in each.
-fn bench_with(alloc: Global, modulus: u32, clock: &Program) -> Result<Bench, Fail> {
+/// A bench of four nodes with this clock.
+fn empty_bench(alloc: Global, modulus: u32, clock: &Program) -> Result<Bench, Fail> {
     let shape = Shape::of(4, 8).ok_or("no shape")?;
     let rule = ClockRule::of(4, 1, modulus).ok_or("no rule")?;
-    let mut bench = Bench::with_clock(alloc, shape, rule, clock.copy(alloc)?)?;
-    let clock = accepted(alloc, clock, shape)?;
+    Ok(Bench::with_clock(alloc, shape, rule, clock.copy(alloc)?)?)
+}
+
+/// And with it in each node.
+fn bench_with(alloc: Global, modulus: u32, clock: &Program) -> Result<Bench, Fail> {
+    let mut bench = empty_bench(alloc, modulus, clock)?;
     for node in 0..4 {
-        let program = clock.copy()?;
-        match bench.stage(Actor::Loader(0), Change::Load { node, program }) {
-            Ok(()) => {}
-            Err(_) => Err("not staged")?,
-        }
+        let program = accepted(alloc, clock, bench.shape())?;
+        stage_change(&mut bench, Change::Load { node, program })?;
     }
     Ok(bench)
 }
@@ -89,29 +88,6 @@ fn a_clock_past_the_modulus_counts_as_0(rt: HostRuntime) -> Result<(), Fail> {
     Ok(())
 }
 
-/// A bench whose clock writes 3, with the listing of its rule in node 0.
-fn bench_of_another_clock(alloc: Global) -> Result<Bench, Fail> {
-    let shape = Shape::of(4, 8).ok_or("no shape")?;
-    let rule = ClockRule::of(4, 1, 8).ok_or("no rule")?;
-    let clock = writing(alloc, Operand::Imm(3))?;
-    let mut bench = Bench::with_clock(alloc, shape, rule, clock)?;
-    let listing = dolev_welch(alloc, shape, rule)?;
-    let program = accepted(alloc, &listing, shape)?;
-    match bench.stage(Actor::Loader(0), Change::Load { node: 0, program }) {
-        Ok(()) => Ok(bench),
-        Err(_) => Err("not staged")?,
-    }
-}
-
-/// Where another is the clock, the listing of the rule isn't.
-#[test]
-fn the_listing_is_no_clock_elsewhere(rt: HostRuntime) -> Result<(), Fail> {
-    let mut bench = bench_of_another_clock(rt.alloc())?;
-    let told = pulse(rt.alloc(), &mut bench, &[1; 4])?;
-    assert_eq!(rt; told.clocks.as_slice(), [None; 4].as_slice());
-    Ok(())
-}
-
 /// Four nodes that hold 0, 1, 2 and 3 agree where the modulus is 2: 0 is left out, and so are 2 and 3.
 #[test]
 fn zeros_are_left_out_of_agreement(rt: HostRuntime) -> Result<(), Fail> {
@@ -122,23 +98,5 @@ fn zeros_are_left_out_of_agreement(rt: HostRuntime) -> Result<(), Fail> {
     let told = pulse(alloc, &mut bench, &[0; 4])?;
     assert_eq!(rt; numbers_of(told.row), [2, 1, 3, 4]);
     assert!(rt; told.agree);
-    Ok(())
-}
-
-/// A bench with a clock of its own is where the plain machine with that clock comes by its history.
-#[test]
-fn own_clocks_are_replayed(rt: HostRuntime) -> Result<(), Fail> {
-    let alloc = rt.alloc();
-    let program = writing(alloc, Operand::Reg(Reg::R2))?;
-    let mut bench = bench_with(alloc, 3, &program)?;
-    let mut records = Vec::new(alloc);
-    for coins in [[0; 4], [1; 4], [0, 1, 0, 1]] {
-        records.push(pulse(alloc, &mut bench, &coins)?)?;
-    }
-    let plain = replay(&rt, alloc, &bench, program)?;
-    assert_eq!(rt; (records.len(), plain.told.len()), (3, 3));
-    for (record, told) in records.iter().zip(plain.told.iter()) {
-        assert_alike(&rt, record, told);
-    }
     Ok(())
 }

@@ -1,11 +1,9 @@
 //! Closed and abandoned pulses.
 use super::benches::{
     Plan, abandoned_pulse, assert_clocks, assert_mail, assert_told, bench_of, clock, clocks_of,
-    close, open, pulse, refused_close, run_all, stage, stage_all,
+    close, open, pulse, refused_close, run_all, stage,
 };
-use crate::{Bench, CLOCKS_DIFFER, CloseError, PulseRecord};
-use std::alloc::Global;
-use std::process::Abort;
+use crate::{CLOCKS_DIFFER, CloseError};
 use std::test::Fail;
 
 /// The mail of four nodes, of which the first sent this to all.
@@ -83,73 +81,6 @@ fn an_abandoned_pulse_keeps_its_changes(rt: HostRuntime) -> Result<(), Fail> {
     let (_, refusal) = refused_close(alloc, &mut bench, Vec::new(alloc))?;
     assert_eq!(rt; refusal, CloseError::NotOpen);
     assert_eq!(rt; bench.abandon(), Err(CloseError::NotOpen));
-    Ok(())
-}
-
-/// Which places of the list of results change places, one pair after the other.
-type Order = [(usize, usize); 2];
-
-/// A pulse of three nodes whose results come in this order.
-fn pulse_in_order(
-    rt: &impl Abort,
-    alloc: Global,
-    bench: &mut Bench,
-    order: Order,
-) -> Result<PulseRecord, Fail> {
-    let tasks = open(alloc, bench, &[1; 3])?;
-    let mut dones = run_all(alloc, tasks)?;
-    for (i, k) in order {
-        assert!(rt; i < dones.len());
-        assert!(rt; k < dones.len());
-        dones.swap(i, k);
-    }
-    close(alloc, bench, dones)
-}
-
-/// Three pulses of a clock, a node that says 7 and an echo.
-fn assert_order(rt: &impl Abort, alloc: Global, order: Order) -> Result<(), Fail> {
-    let mut bench = bench_of(alloc, 3, 2, 8)?;
-    stage_all(
-        alloc,
-        &mut bench,
-        &[Plan::Clock(0), Plan::Say(1, 7), Plan::Echo(2)],
-    )?;
-    let (seven, none) = (Some(7), Some(u32::MAX));
-    let table = [
-        (0, 0, false, none, none),
-        (1, 1, true, Some(0), seven),
-        (2, 1, true, Some(1), seven),
-    ];
-    for (clock, settled, is_settled, first, second) in table {
-        let record = pulse_in_order(rt, alloc, &mut bench, order)?;
-        let (sent, number) = (Some(clock), clock + 1);
-        let row = [number, clock, 0, settled];
-        assert_told(
-            rt,
-            &record,
-            row,
-            &[sent, None, None],
-            &[is_settled, false, false],
-        );
-        let mail = [sent, sent, sent, seven, seven, seven, first, second, none];
-        assert_mail(rt, alloc, &bench, &mail)?;
-    }
-    Ok(())
-}
-
-#[test]
-fn results_come_in_any_order(rt: HostRuntime) -> Result<(), Fail> {
-    let orders = [
-        [(0, 0), (0, 0)],
-        [(0, 1), (0, 0)],
-        [(0, 2), (0, 0)],
-        [(1, 2), (0, 0)],
-        [(0, 1), (1, 2)],
-        [(1, 2), (0, 1)],
-    ];
-    for order in orders {
-        assert_order(&rt, rt.alloc(), order)?;
-    }
     Ok(())
 }
 
