@@ -8,3 +8,4 @@ pub mod RunLemmas
 mod StreamLemmas
 mod VerdictLaws
 mod VerdictLemmas
+mod WatchLemmas

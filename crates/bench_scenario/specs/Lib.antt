@@ -6,4 +6,5 @@ pub mod Reports
 pub mod Runs
 pub mod Summary
 pub mod Verdicts
+pub mod Watching
 pub mod inner

@@ -10,8 +10,6 @@ ghost use Rattle.bench_scenario.specs.Runs.{bench_of};
 use crate::run::bench_for;
 use crate::schedule::events_with_key;
 use bench_engine::{Open, Run, RunRefusal, run_events_on};
-use clock_nodes::ClockRule;
-use node_env::Shape;
 use scenario_text::Scenario;
 use std::alloc::{AllocError, Global};
 use std::sync::Wait;
@@ -28,14 +26,8 @@ pub fn run_with_key<T: Threads + Wait + Sync>(
     ensures { IfOk result (λ run. IsRun (bench_of scenario.now) (events_of (keyed scenario.now key)) run.records.items
         (map (λ memory. memory.items) run.memories.items)) }
 {
-    let Some(shape) = Shape::of(scenario.nodes, scenario.memory) else {
-        unreachable!()
-    };
-    let Some(rule) = ClockRule::of(scenario.nodes, scenario.faults, scenario.modulus) else {
-        unreachable!()
-    };
     let events = events_with_key(alloc, scenario, key)?;
-    let bench = bench_for(alloc, scenario, shape, rule)?;
+    let bench = bench_for(alloc, scenario)?;
     match run_events_on(rt, alloc, &Open, 1, bench, events) {
         Ok(run) => Ok(run),
         Err(fault) => Err(want_of(fault.fault)),

@@ -13,15 +13,18 @@ mod run;
 mod schedule;
 mod summary;
 mod verdicts;
+mod watched;
 
 pub use in_step::in_step_since;
 pub use keyed::run_with_key;
-pub use printing::report;
+pub use printing::{all_agree, report};
 pub use reading::{TextFault, read_scenario};
 pub use run::{MOST_BYTES, MOST_CALLS, ScenarioFault, run_scenario, run_scenario_judged};
 pub use scenario_text::{RefusalLine, Scenario, ScenarioError, scenario_of};
 pub use schedule::events;
 pub use summary::{RunSummary, summary_of};
+pub use verdicts::{agreement, counting, told_clocks};
+pub use watched::{WatchedFault, run_watched};
 
 #[cfg(test)]
 mod tests;

@@ -132,7 +132,7 @@ fn all_records_agree(records: &[PulseRecord]) -> bool
 }
 
 /// Whether no pulse's verdict on agreement is no.
-pub(crate) fn all_agree(alloc: Global, scenario: &Scenario, run: &Run) -> Result<bool, AllocError>
+pub fn all_agree(alloc: Global, scenario: &Scenario, run: &Run) -> Result<bool, AllocError>
     ensures { IfOk result (λ agrees. agrees
         ≡ all_agree (frame_of scenario.now) (is_some scenario.now.clock) run.now.records.items) }
 {

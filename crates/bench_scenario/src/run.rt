@@ -1,8 +1,7 @@
 //! A scenario from the first byte that is read to the last that is written.
-ghost use Rattle.std.specs.Prelude.{◌≡◌, ◌≤◌, ◌<◌, [], IfOk, IfSome, MatchResult, string_bytes};
+ghost use Rattle.std.specs.Prelude.{◌≡◌, ◌≤◌, ◌<◌, ℕ, List, [], IfOk, IfSome, MatchResult, string_bytes};
 ghost use Rattle.bench_core.specs.State.{new_state};
-ghost use Rattle.scenario_text.specs.Spelling.{rule_of};
-ghost use Rattle.scenario_text.specs.Views.{extent_of, frame_of};
+ghost use Rattle.scenario_text.specs.Texts.{ReadsText};
 ghost use Rattle.stream_io.specs.Streams.{TakesAtMost};
 ghost use Rattle.bench_scenario.specs.Runs.{LeavesJudged, LeavesReport, ReportsVerdict, bench_of};
 ghost use Rattle.bench_scenario.specs.inner.Runs.{IsDueOf};
@@ -46,18 +45,18 @@ pub enum ScenarioFault {
 }
 
 /// The bench that a scenario is run on.
-pub(crate) fn bench_for(
-    alloc: Global,
-    scenario: &Scenario,
-    shape: Shape,
-    rule: ClockRule,
-) -> Result<Bench, AllocError>
-    requires shape { shape ≡ extent_of (frame_of scenario.now) }
-    requires rule { rule ≡ rule_of (frame_of scenario.now) }
+pub(crate) fn bench_for(alloc: Global, scenario: &Scenario) -> Result<Bench, AllocError>
+    requires reads { (text : List ℕ) × ReadsText text scenario.now }
     ensures setup { IfOk result (λ b. b.setup ≡ bench_of scenario.now) }
     ensures state { IfOk result (λ b. b.state ≡ new_state (bench_of scenario.now)) }
     ensures history { IfOk result (λ b. b.history ≡ []) }
 {
+    let Some(shape) = Shape::of(scenario.nodes, scenario.memory) else {
+        unreachable!()
+    };
+    let Some(rule) = ClockRule::of(scenario.nodes, scenario.faults, scenario.modulus) else {
+        unreachable!()
+    };
     match &scenario.clock {
         None => Bench::new(alloc, shape, rule),
         Some(clock) => {
@@ -91,16 +90,10 @@ fn report_in<T: Threads + Wait + Sync>(
         Err(ScenarioError::Memory(_)) => return Err(ScenarioFault::Memory),
         Err(error) => return Err(ScenarioFault::Refused(error)),
     };
-    let Some(shape) = Shape::of(scenario.nodes, scenario.memory) else {
-        unreachable!()
-    };
-    let Some(rule) = ClockRule::of(scenario.nodes, scenario.faults, scenario.modulus) else {
-        unreachable!()
-    };
     let Ok(events) = events(alloc, &scenario) else {
         return Err(ScenarioFault::Memory);
     };
-    let Ok(bench) = bench_for(alloc, &scenario, shape, rule) else {
+    let Ok(bench) = bench_for(alloc, &scenario) else {
         return Err(ScenarioFault::Memory);
     };
     let workers = paying_workers(&scenario, workers);

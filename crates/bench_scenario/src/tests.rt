@@ -12,6 +12,7 @@ mod judged;
 mod parts;
 mod reports;
 mod streams;
+mod watched;
 mod workers;
 
 /// Four clocks of one fault, whose coins are all one.

@@ -24,8 +24,8 @@ fn told_clock(settled: bool, clock: Option<u32>) -> Option<u32>
     if settled { clock } else { None }
 }
 
-/// The clocks of these nodes, where they are settled.
-fn told_clocks(
+/// Node by node its clock, where it is settled.
+pub fn told_clocks(
     alloc: Global,
     settled: &[bool],
     clocks: &[Option<u32>],
@@ -76,8 +76,9 @@ pub(crate) fn are_one(modulus: u32, clocks: &[Option<u32>]) -> bool
     }
 }
 
-/// Whether the settled clocks agree.
-fn agreement(own: bool, modulus: u32, one: &PulseRecord, clocks: &[Option<u32>]) -> Option<bool>
+/// Whether the settled clocks of a pulse agree: nothing where fewer than two nodes are settled. Another clock than the
+/// rule's (`own`) is held to one value below the modulus; for the rule's, the pulse's record has the answer.
+pub fn agreement(own: bool, modulus: u32, one: &PulseRecord, clocks: &[Option<u32>]) -> Option<bool>
     requires { clocks.now ≡ settled_in one.now }
     ensures { result ≡ agreement own modulus one.now }
 {
@@ -117,7 +118,7 @@ fn joined(one: Option<bool>, other: Option<bool>) -> Option<bool>
 }
 
 /// Whether the clocks of nodes that are settled in two pulses counted.
-pub(crate) fn counting(modulus: u32, before: &[Option<u32>], after: &[Option<u32>]) -> Option<bool>
+pub fn counting(modulus: u32, before: &[Option<u32>], after: &[Option<u32>]) -> Option<bool>
     ensures { result ≡ counting modulus before.now after.now }
 {
     let mut verdict = None;
