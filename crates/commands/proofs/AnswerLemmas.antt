@@ -1,8 +1,8 @@
 -- Bytes have one answer under given options and one listing, where images have one reading and programs one run.
-use Rattle.std.proofs.Common.{◌≡◌, ◌≢◌, ℕ, List, Result, Ok, Err, ◌∙◌, refl, sym, ap, subst, replicate}
+use Rattle.std.proofs.Common.{◌≡◌, ◌≢◌, ℕ, List, Result, Ok, Err, ◌∙◌, refl, sym, ap, subst}
 use Rattle.std.specs.Ordering.{nat_cmp}
 use Rattle.std.specs.FinMap.{FinMap}
-use Rattle.node_env.specs.Env.{Extent, Setting}
+use Rattle.node_env.specs.Env.{Setting}
 use Rattle.bpf_insn.specs.declared.forms.Insn.{Insn}
 use Rattle.bpf_insn.specs.declared.image.ImageError.{ImageError}
 use Rattle.bpf_insn.specs.declared.image.ImageError.TheVariants as errors
@@ -16,7 +16,8 @@ use Rattle.commands.specs.declared.answer.Answer.TheVariants.{Refused, Ran}
 use Rattle.commands.specs.declared.image.Refusal.{Refusal}
 use Rattle.commands.specs.declared.image.Refusal.TheVariants.{Shape, Image}
 use Rattle.commands.specs.declared.request.ShapeOptions.{ShapeOptions}
-use Rattle.commands.specs.Answer.{Answers, BareRun, RunsImage, bare_setting}
+use Rattle.commands.specs.Answer.{Answers, AnswersLeaving, RunsImage}
+use Rattle.commands.specs.Case.{Left, case_memory, case_setting}
 use Rattle.commands.specs.Image.{HasShape, IsRefused, ReadsImage, asked_extent}
 
 -- what the laws of the crates below say
@@ -38,19 +39,28 @@ OneRun =
     → (first ≡ second) × (left ≡ right) × (sent ≡ gone)
 
 -- an image of a program has no refusal but want of memory
-not_both : Apart → (shape : Extent) (bytes : List ℕ) (fuel : ℕ) (e : ImageError) (outcome : Outcome)
-    → RefusesImage bytes e → RunsImage shape bytes fuel outcome → e ≡ errors.Memory
-not_both apart shape bytes fuel e outcome refused ran =
+not_both : Apart → (asked : ExecOptions) (bytes : List ℕ) (e : ImageError) (outcome : Outcome) (left : Left)
+    → RefusesImage bytes e → RunsImage asked bytes outcome left → e ≡ errors.Memory
+not_both apart asked bytes e outcome left refused ran =
     apart ran.program e ran.whole (subst (λ (l : List ℕ). RefusesImage l e) ran.image refused)
 
-one_outcome : OneProgram → OneRun → (shape : Extent) (bytes : List ℕ) (fuel : ℕ) (o w : Outcome)
-    → RunsImage shape bytes fuel o → RunsImage shape bytes fuel w → o ≡ w
-one_outcome one_program one_run shape bytes fuel o w first second =
+-- one image has one run
+pub record SameRun (o w : Outcome) (l m : Left) : Type 0 where
+  pub outcome : o ≡ w
+  pub memory : l.memory ≡ m.memory
+  pub sent : l.outbox.sent ≡ m.outbox.sent
+
+same_run : OneProgram → OneRun → (asked : ExecOptions) (bytes : List ℕ) (o w : Outcome) (l m : Left)
+    → RunsImage asked bytes o l → RunsImage asked bytes w m → SameRun o w l m
+same_run one_program one_run asked bytes o w l m first second =
     let same = one_program first.program second.program first.whole second.whole (sym first.image ∙ second.image) in
-    let moved : BareRun shape second.program fuel o = subst
-    (λ (p : List Insn). BareRun shape p fuel o) same first.run in
-    (one_run second.program _ _ fuel moved.left second.run.left moved.sent second.run.sent o w moved.run
-    second.run.run).0
+    let env = case_setting (asked_extent asked.shape) asked.case in
+    let memory = case_memory (asked_extent asked.shape) asked.case in
+    let moved : RunAnswers second.program env memory asked.fuel l.memory l.outbox.sent o =
+    subst (λ (p : List Insn). RunAnswers p env memory asked.fuel l.memory l.outbox.sent o) same first.run in
+    let all = one_run second.program env memory asked.fuel l.memory m.memory l.outbox.sent m.outbox.sent o w moved
+    second.run in
+    record { outcome = all.0; memory = all.1; sent = all.2 }
 
 -- options and bytes have one refusal
 pub one_refused : OneRefusal → (options : ShapeOptions) (bytes : List ℕ) (a b : Refusal) → IsRefused options bytes a
@@ -62,39 +72,39 @@ one_refused one_refusal options bytes (Image e) (Image d) first second = ap Imag
     (one_refusal bytes e d first.1.0 second.1.0 first.1.1 second.1.1)
 
 -- where they have one, no program runs
-refused_or_run : Apart → (options : ShapeOptions) (bytes : List ℕ) (fuel : ℕ) (refusal : Refusal) (outcome : Outcome)
-    → IsRefused options bytes refusal → HasShape options → RunsImage (asked_extent options) bytes fuel outcome → ⊥
-refused_or_run apart options bytes fuel Shape outcome refused shape ran = refused shape
-refused_or_run apart options bytes fuel (Image e) outcome refused shape ran = refused.1.1
-    (not_both apart _ bytes fuel e outcome refused.1.0 ran)
+refused_or_run : Apart → (options : ExecOptions) (bytes : List ℕ) (refusal : Refusal) (outcome : Outcome) (left : Left)
+    → IsRefused options.shape bytes refusal → HasShape options.shape → RunsImage options bytes outcome left → ⊥
+refused_or_run apart options bytes Shape outcome left refused shape ran = refused shape
+refused_or_run apart options bytes (Image e) outcome left refused shape ran = refused.1.1
+    (not_both apart options bytes e outcome left refused.1.0 ran)
 
 pub one_answer : OneProgram → OneRefusal → Apart → OneRun
     → (options : ExecOptions) (bytes : List ℕ) (a b : Answer) → Answers options bytes a → Answers options bytes b
     → a ≡ b
 one_answer one_program one_refusal apart one_run options bytes (Refused r) (Refused q) first second =
-    ap Refused (one_refused one_refusal options.shape bytes r q first second)
+    ap Refused (one_refused one_refusal options.shape bytes r q first.1 second.1)
 one_answer one_program one_refusal apart one_run options bytes (Refused r) (Ran w given) first second =
-    absurd (refused_or_run apart options.shape bytes options.fuel r w first second.0 second.1)
+    absurd (refused_or_run apart options bytes r w second.0 first.1 second.1.0 second.1.1)
 one_answer one_program one_refusal apart one_run options bytes (Ran o given) (Refused q) first second =
-    absurd (refused_or_run apart options.shape bytes options.fuel q o second first.0 first.1)
+    absurd (refused_or_run apart options bytes q o first.0 second.1 first.1.0 first.1.1)
 one_answer one_program one_refusal apart one_run options bytes (Ran o given) (Ran w other) first second =
-    let outcome = one_outcome one_program one_run _ bytes options.fuel o w first.1 second.1 in
-    let fuels : given ≡ other = first.2 ∙ sym second.2 in
-    ap (λ x. Ran x given) outcome ∙ ap (λ n. Ran w n) fuels
+    let run = same_run one_program one_run options bytes o w first.0 second.0 first.1.1 second.1.1 in
+    let fuels : given ≡ other = first.1.2 ∙ sym second.1.2 in
+    ap (λ x. Ran x given) run.outcome ∙ ap (λ n. Ran w n) fuels
 
--- a run in a setting that is the bare one, from a memory that is zero
-pub bare_run : (shape : Extent) (program : List Insn) (fuel : ℕ) (outcome : Outcome) (env : Setting)
-    (memory left : List ℕ) (sent : FinMap nat_cmp ℕ)
-    → RunAnswers program env memory fuel left sent outcome → env ≡ bare_setting shape
-    → memory ≡ replicate shape.memory 0 → BareRun shape program fuel outcome
-bare_run shape program fuel outcome env memory left sent run at zeros =
-    record {
-      left = left;
-      sent = sent;
-      run =
-          subst (λ (l : List ℕ). RunAnswers program (bare_setting shape) l fuel left sent outcome) zeros
-          (subst (λ (e : Setting). RunAnswers program e memory fuel left sent outcome) at run);
-    }
+same_left : (l m : Left) → l.memory ≡ m.memory → l.outbox.nodes ≡ m.outbox.nodes → l.outbox.sent ≡ m.outbox.sent → l ≡ m
+same_left l m memory nodes sent =
+    ap (λ (x : List ℕ). record { memory = x; outbox = l.outbox }) memory
+    ∙ (ap (λ (n : ℕ). record { memory = m.memory; outbox = record { nodes = n; sent = l.outbox.sent } }) nodes
+    ∙ ap (λ (s : FinMap nat_cmp ℕ). record { memory = m.memory; outbox = record { nodes = m.outbox.nodes; sent = s } })
+    sent)
+
+pub one_left : OneProgram → OneRun
+    → (options : ExecOptions) (bytes : List ℕ) (o : Outcome) (fuel : ℕ) (l m : Left)
+    → AnswersLeaving options bytes (Ran o fuel) l → AnswersLeaving options bytes (Ran o fuel) m → l ≡ m
+one_left one_program one_run options bytes o fuel l m first second =
+    let run = same_run one_program one_run options bytes o o l m first.1 second.1 in
+    same_left l m run.memory (first.1.nodes ∙ sym second.1.nodes) run.sent
 
 -- bytes are the image of one program or have one refusal
 pub one_listing : OneProgram → OneRefusal → Apart → (bytes : List ℕ) (a b : Result (List Insn) ImageError)

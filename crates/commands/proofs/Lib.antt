@@ -1,4 +1,5 @@
 mod AnswerLemmas
+mod CaseLemmas
 mod VerdictLemmas
 mod RunLemmas
 mod StressLemmas

@@ -1,5 +1,5 @@
 -- Programs that come into nodes.
-use Rattle.std.proofs.Common.{◌≡◌, ℕ, ◌+◌, ◌<◌, ◌≤◌, List, [], ◌∷◌, Option, Some, None, IfSome, All, length, drop, get_or, set, replicate, refl, sym, ap, ◌∙◌, subst, arith}
+use Rattle.std.proofs.Common.{◌≡◌, ℕ, ◌+◌, ◌<◌, List, ◌∷◌, Option, Some, None, IfSome, length, drop, get_or, set, replicate, sym, ap, ◌∙◌, subst, arith}
 use Rattle.std.proofs.lemmas.List.{drop_more, length-set, length-replicate, get_or-replicate}
 use Rattle.std.proofs.lemmas.List.Elements.{All-set}
 use Rattle.node_env.specs.Env.{Extent}
@@ -10,11 +10,12 @@ use Rattle.commands.specs.Explore.{all_placed, placed}
 
 -- one node more
 pub placed_more : (programs all : List (Option Accepted)) (p : Accepted) (nodes : List ℕ) (i d : ℕ) → i < length nodes
-    → placed programs p (drop i nodes) ≡ all → placed (set programs (get_or nodes i d) (Some p)) p (drop (i + 1) nodes) ≡ all
+    → placed programs p (drop i nodes) ≡ all
+    → placed (set programs (get_or nodes i d) (Some p)) p (drop (i + 1) nodes) ≡ all
 placed_more programs all p nodes i d lt h = sym (ap (placed programs p) (drop_more nodes i d lt)) ∙ h
 
-pub programs_set : (shape : Extent) (programs : List (Option Accepted)) (i : ℕ) (p : Accepted) → ArePrograms shape programs
-    → p.shape ≡ shape → ArePrograms shape (set programs i (Some p))
+pub programs_set : (shape : Extent) (programs : List (Option Accepted)) (i : ℕ) (p : Accepted)
+    → ArePrograms shape programs → p.shape ≡ shape → ArePrograms shape (set programs i (Some p))
 programs_set shape programs i p are fits = record {
   count = length-set programs i (Some p) ∙ are.count;
   shapes = All-set (λ o. IfSome o (λ q. q.shape ≡ shape)) programs i (Some p) fits are.shapes;

@@ -45,9 +45,11 @@ kept_twice (Some x) None c p q = absurd p
 kept_twice (Some x) (Some y) None p q = absurd q
 kept_twice (Some x) (Some y) (Some z) p q = q ∙ p
 
-pub refused_scenario : (input old mid new : Option (List ℕ)) (check : Bool) (error : ScenarioError) (result : Result Ending Fault)
+pub refused_scenario : (input old mid new : Option (List ℕ)) (check : Bool) (error : ScenarioError)
+    (result : Result Ending Fault)
     → IfSome input (λ text. LeavesJudged old mid text (Err (scenario.Refused error)))
-    → Leaves mid new (told_text (Refusal error)) Refused result → IfSome input (λ text. LeavesTold check old new text result)
+    → Leaves mid new (told_text (Refusal error)) Refused result
+    → IfSome input (λ text. LeavesTold check old new text result)
 refused_scenario None old mid new check error result left wrote = tt
 refused_scenario (Some text) old mid new check error (Ok given) left wrote =
     (Refusal error, left.0, wrote.0, kept_appends old mid new _ left.1 wrote.1)

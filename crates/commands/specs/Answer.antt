@@ -1,9 +1,6 @@
 -- What `exec` answers to the bytes that it read, and the line that says it.
-use Rattle.std.specs.Prelude.{◌≡◌, ℕ, List, ◌++◌, codes, replicate}
+use Rattle.std.specs.Prelude.{◌≡◌, ℕ, List, [], ◌++◌, codes, if◌then◌else◌}
 use Rattle.std.specs.Fmt.{decimal}
-use Rattle.std.specs.Ordering.{nat_cmp}
-use Rattle.std.specs.FinMap.{FinMap, empty}
-use Rattle.node_env.specs.Env.{Extent, Setting}
 use Rattle.bpf_insn.specs.declared.forms.Insn.{Insn}
 use Rattle.bpf_insn.specs.Programs.{IsProgram, image_of}
 use Rattle.bpf_machine.specs.declared.word.Outcome.{Outcome}
@@ -17,30 +14,28 @@ use Rattle.commands.specs.declared.answer.Answer.{Answer}
 use Rattle.commands.specs.declared.answer.Answer.TheVariants.{Refused, Ran}
 use Rattle.commands.specs.declared.ending.Ending.{Ending}
 use Rattle.commands.specs.declared.ending.Ending.TheVariants as endings
+use Rattle.commands.specs.Case.{Left, case_memory, case_setting, left_lines}
 use Rattle.commands.specs.Image.{HasShape, IsRefused, asked_extent, refusal_line}
 
--- what `exec` lets a program see: node 0 of the shape, with no mail and coin 0 (docs/COMMANDS.md, "What exec runs")
-abbrev pub bare_setting : Extent → Setting
-bare_setting shape = record { shape = shape; id = 0; inbox = empty; coin = 0 }
-
--- what the run of a program there comes to, from a memory of zeros. What it leaves and sends is not told
-pub record BareRun (shape : Extent) (program : List Insn) (fuel : ℕ) (outcome : Outcome) : Type 0 where
-  pub left : List ℕ
-  pub sent : FinMap nat_cmp ℕ
-  pub run : RunAnswers program (bare_setting shape) (replicate shape.memory 0) fuel left sent outcome
-
--- the bytes are the image of a program (RFC 9669, section 3), whose run comes to this
-pub record RunsImage (shape : Extent) (bytes : List ℕ) (fuel : ℕ) (outcome : Outcome) : Type 0 where
+-- the bytes are the image of a program (RFC 9669, section 3), and its run in the case that is asked for comes to this
+-- and leaves this
+pub record RunsImage (asked : ExecOptions) (bytes : List ℕ) (outcome : Outcome) (left : Left) : Type 0 where
   pub program : List Insn
   pub whole : IsProgram program
   pub image : bytes ≡ image_of program
-  pub run : BareRun shape program fuel outcome
+  pub run :
+      RunAnswers program (case_setting (asked_extent asked.shape) asked.case)
+      (case_memory (asked_extent asked.shape) asked.case) asked.fuel left.memory left.outbox.sent outcome
+  pub nodes : left.outbox.nodes ≡ asked.shape.nodes
 
--- the answer to these bytes under these options. Want of memory is none
+-- the answer to these bytes under these options, and what the run leaves. Want of memory is none
+abbrev pub AnswersLeaving : ExecOptions → List ℕ → Answer → Left → Type 0
+AnswersLeaving asked bytes (Refused refusal) left = IsRefused asked.shape bytes refusal
+AnswersLeaving asked bytes (Ran outcome given) left =
+    HasShape asked.shape × RunsImage asked bytes outcome left × (given ≡ asked.fuel)
+
 abbrev pub Answers : ExecOptions → List ℕ → Answer → Type 0
-Answers asked bytes (Refused refusal) = IsRefused asked.shape bytes refusal
-Answers asked bytes (Ran outcome given) =
-    HasShape asked.shape × RunsImage (asked_extent asked.shape) bytes asked.fuel outcome × (given ≡ asked.fuel)
+Answers asked bytes answer = (left : Left) × AnswersLeaving asked bytes answer left
 
 -- ---- the line of an answer, without its end (docs/COMMANDS.md, "What exec prints")
 
@@ -69,6 +64,15 @@ line_of (Ran outcome fuel) = outcome_line outcome fuel
 -- the line with its end
 abbrev pub text_of : Answer → List ℕ
 text_of answer = line_of answer ++ codes "\n"
+
+-- what the run left, where that is to be shown
+abbrev pub shown_lines : ExecOptions → Answer → Left → List ℕ
+shown_lines asked (Refused refusal) left = []
+shown_lines asked (Ran outcome fuel) left = if asked.show then left_lines left else []
+
+-- the line, and what is shown behind it
+abbrev pub told_text : ExecOptions → Answer → Left → List ℕ
+told_text asked answer left = text_of answer ++ shown_lines asked answer left
 
 -- how the command ends that wrote it
 abbrev pub ending_of : Answer → Ending

@@ -1,4 +1,5 @@
--- The exit statuses of the program: 0 done, 1 fault or mismatch, 2 refused, 3 a pulse that doesn't agree or not finished.
+-- The exit statuses of the program: 0 done, 1 fault or mismatch, 2 refused, 3 a pulse that doesn't agree or not
+-- finished.
 use Rattle.std.specs.Prelude.{ℕ}
 use Rattle.commands.specs.declared.ending.Ending.{Ending}
 use Rattle.commands.specs.declared.ending.Ending.TheVariants.{Done, Refused, Mismatched, Disagreed, Unfinished}

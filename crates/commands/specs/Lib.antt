@@ -1,5 +1,6 @@
 pub mod Answer
 pub mod Asm
+pub mod Case
 pub mod Dis
 pub mod Ending
 pub mod Exec

@@ -1,88 +1,153 @@
-//! `exec`: runs the image on standard input as node 0 of a shape, with zero memory, no mail and coin 0.
-ghost use Rattle.std.specs.Prelude.{◌≡◌, Ok, IfOk, IfErr, IfSome, take};
+//! `exec`: runs the image on standard input in the case of a node of a shape.
+ghost use Rattle.std.specs.Prelude.{◌≡◌, ◌++◌, Ok, IfOk, IfErr, IfSome, OnOk, string_bytes, take};
 ghost use Rattle.stream_io.specs.Streams.{TakesAtMost};
 ghost use Rattle.commands.specs.declared.answer.Answer.TheVariants.{Refused};
+ghost use Rattle.commands.specs.declared.exec.Reply.TheVariants as replies;
 ghost use Rattle.commands.specs.declared.image.Refusal.TheVariants.{Shape as NoShape};
 ghost use Rattle.commands.specs.declared.image.TheConstants.{IMAGE_BYTES};
-ghost use Rattle.commands.specs.Answer.{Answers, BareRun, bare_setting};
+ghost use Rattle.commands.specs.Answer.{AnswersLeaving, ending_of, shown_lines, told_text};
 ghost use Rattle.commands.specs.Exec.{LeavesAnswer, LeavesLine};
 ghost use Rattle.commands.specs.Faults.{IsBeforeWriting};
-ghost use Rattle.commands.specs.Image.{HasShape};
+ghost use Rattle.commands.specs.Image.{HasShape, asked_extent};
+ghost use Rattle.commands.specs.Output.{Leaves};
+ghost use Rattle.commands.specs.inner.Exec.{RunsCase, answer_in, left_of};
 
 use crate::answer::Answer;
 use crate::ending::Ending;
 use crate::fault::Fault;
-use crate::image::program_for;
+use crate::image::{Refusal, program_for};
+use crate::left::{LeftByRun, add_left};
 use crate::output::write_whole;
 use crate::request::ExecOptions;
 use bpf_insn::Program;
 use bpf_machine::{Outcome, run_checked};
-use node_env::{Env, Outbox, Shape};
+use node_env::{Outbox, Shape};
 use std::alloc::{AllocError, Global};
 use std::io::{Read, Write};
 
-/// Writes the line of the answer to the image that is read. Where the options have no shape, nothing is read.
+/// Writes the line of the answer to the image that is read, and what its run leaves, where that is asked for. Where the
+/// options have no shape, nothing is read.
 pub fn exec<R: Read, W: Write>(
     alloc: Global,
-    options: ExecOptions,
+    options: &ExecOptions,
     reader: &mut R,
     out: &mut W,
 ) -> Result<Ending, Fault>
     ensures answer { IfSome (R.remaining reader.old) (λ input.
-        LeavesAnswer (W.contents out.old) (W.contents out.new) options (take IMAGE_BYTES input) result) }
-    ensures no_shape { (HasShape options.shape → ⊥)
+        LeavesAnswer (W.contents out.old) (W.contents out.new) options.now (take IMAGE_BYTES input) result) }
+    ensures no_shape { (HasShape options.now.shape → ⊥)
         → LeavesLine (W.contents out.old) (W.contents out.new) (Refused NoShape) result }
-    ensures unread { (HasShape options.shape → ⊥) → R.remaining reader.new ≡ R.remaining reader.old }
+    ensures unread { (HasShape options.now.shape → ⊥) → R.remaining reader.new ≡ R.remaining reader.old }
     ensures front { TakesAtMost IMAGE_BYTES (R.remaining reader.old) (R.remaining reader.new) }
 {
-    let answer = answer_of(alloc, options, reader)?;
-    write_answer(alloc, &answer, out)
+    let reply = reply_to(alloc, options, reader)?;
+    write_reply(alloc, options, &reply, out)
 }
 
-fn answer_of<R: Read>(alloc: Global, options: ExecOptions, reader: &mut R) -> Result<Answer, Fault>
-    ensures answer { IfOk result (λ answer.
-        IfSome (R.remaining reader.old) (λ input. Answers options (take IMAGE_BYTES input) answer)) }
+/// Why there is no program, or what its run came to and left.
+#[derive(Drop)]
+enum Reply {
+    Refused(Refusal),
+    Ran { outcome: Outcome, left: LeftByRun },
+}
+
+impl Reply {
+    ghost use Rattle.std.specs.Prelude.{◌≡◌};
+    ghost use Rattle.commands.specs.Output.{Leaves};
+    ghost use Rattle.commands.specs.inner.Exec.{answer_in};
+
+    /// The answer, where the run had so much fuel.
+    fn answer(&self, fuel: u64) -> Answer
+        ensures { result ≡ answer_in fuel self.now }
+    {
+        match self {
+            Reply::Refused(refusal) => Answer::Refused(*refusal),
+            Reply::Ran { outcome, .. } => Answer::Ran {
+                outcome: *outcome,
+                fuel,
+            },
+        }
+    }
+}
+
+fn reply_to<R: Read>(alloc: Global, options: &ExecOptions, reader: &mut R) -> Result<Reply, Fault>
+    ensures answer { IfOk result (λ reply. IfSome (R.remaining reader.old) (λ input.
+        AnswersLeaving options.now (take IMAGE_BYTES input) (answer_in options.now.fuel reply) (left_of reply))) }
     ensures fault { IfErr result IsBeforeWriting }
-    ensures no_shape { (HasShape options.shape → ⊥) → result ≡ Ok (Refused NoShape) }
-    ensures unread { (HasShape options.shape → ⊥) → R.remaining reader.new ≡ R.remaining reader.old }
+    ensures no_shape { (HasShape options.now.shape → ⊥) → result ≡ Ok (replies.Refused NoShape) }
+    ensures unread { (HasShape options.now.shape → ⊥) → R.remaining reader.new ≡ R.remaining reader.old }
     ensures front { TakesAtMost IMAGE_BYTES (R.remaining reader.old) (R.remaining reader.new) }
 {
     match program_for(alloc, options.shape, reader)? {
         Ok((shape, program)) => {
-            let fuel = options.fuel;
-            let outcome = run_bare(alloc, shape, &program, fuel).map_err(|_| Fault::Memory)?;
-            Ok(Answer::Ran { outcome, fuel })
+            run_case(alloc, shape, &program, options).map_err(|_| Fault::Memory)
         }
-        Err(refusal) => Ok(Answer::Refused(refusal)),
+        Err(refusal) => Ok(Reply::Refused(refusal)),
     }
 }
 
-fn write_answer<W: Write>(alloc: Global, answer: &Answer, out: &mut W) -> Result<Ending, Fault>
-    ensures { LeavesLine (W.contents out.old) (W.contents out.new) answer.now result }
-{
-    let line = format!(in alloc; "{answer}\n").map_err(|_| Fault::Memory)?;
-    write_whole(out, line.as_bytes(), answer.ending())
-}
-
-/// The run of a program as node 0, with zero memory, no mail and coin 0.
-fn run_bare(
+/// The run of a program in the case that is asked for.
+fn run_case(
     alloc: Global,
     shape: Shape,
     program: &Program,
-    fuel: u64,
-) -> Result<Outcome, AllocError>
-    ensures { IfOk result (BareRun shape program.now fuel) }
+    options: &ExecOptions,
+) -> Result<Reply, AllocError>
+    requires { shape ≡ asked_extent options.now.shape }
+    ensures { IfOk result (RunsCase options.now program.now) }
 {
-    let env = bare_env(alloc, shape)?;
-    let mut memory = vec![in alloc; 0; shape.memory() as usize]?;
+    let env = options.case.env(alloc, shape)?;
+    let mut memory = options.case.memory(alloc, shape)?;
     let mut outbox = Outbox::new(alloc, shape)?;
-    Ok(run_checked(program, &env, &mut memory, &mut outbox, fuel))
+    let outcome = run_checked(program, &env, &mut memory, &mut outbox, options.fuel);
+    let left = LeftByRun { memory, outbox };
+    Ok(Reply::Ran { outcome, left })
 }
 
-#[tactic(auto, using(node_env::proofs::Slots::slots))]
-fn bare_env(alloc: Global, shape: Shape) -> Result<Env, AllocError>
-    ensures { IfOk result (λ env. env ≡ bare_setting shape) }
+/// Adds what the run left, where that is to be shown.
+fn add_shown(
+    alloc: Global,
+    text: &mut String,
+    options: &ExecOptions,
+    reply: &Reply,
+) -> Result<(), AllocError>
+    ensures { OnOk result (string_bytes text.new ≡ string_bytes text.old
+        ++ shown_lines options.now (answer_in options.now.fuel reply.now) (left_of reply.now)) }
 {
-    let inbox = vec![in alloc; None; shape.nodes() as usize]?;
-    Ok(Env::new(shape, 0, inbox, 0))
+    match reply {
+        Reply::Refused(_) => Ok(()),
+        Reply::Ran { left, .. } => {
+            if options.show {
+                add_left(alloc, text, left)
+            } else {
+                Ok(())
+            }
+        }
+    }
+}
+
+/// What is told of a reply.
+fn text_of(alloc: Global, options: &ExecOptions, reply: &Reply) -> Result<String, AllocError>
+    ensures { IfOk result (λ text. string_bytes text
+        ≡ told_text options.now (answer_in options.now.fuel reply.now) (left_of reply.now)) }
+{
+    let answer = reply.answer(options.fuel);
+    let mut text = format!(in alloc; "{answer}\n")?;
+    add_shown(alloc, &mut text, options, reply)?;
+    Ok(text)
+}
+
+fn write_reply<W: Write>(
+    alloc: Global,
+    options: &ExecOptions,
+    reply: &Reply,
+    out: &mut W,
+) -> Result<Ending, Fault>
+    ensures { Leaves (W.contents out.old) (W.contents out.new)
+        (told_text options.now (answer_in options.now.fuel reply.now) (left_of reply.now))
+        (ending_of (answer_in options.now.fuel reply.now)) result }
+{
+    let text = text_of(alloc, options, reply).map_err(|_| Fault::Memory)?;
+    let ending = reply.answer(options.fuel).ending();
+    write_whole(out, text.as_bytes(), ending)
 }

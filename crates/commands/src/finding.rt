@@ -1,10 +1,13 @@
 //! What `explore` answers to the scenario that it read, and the line that says it.
-ghost use Rattle.std.specs.Prelude.{Some};
-ghost use Rattle.commands.specs.Explore.{finding_line, tried_text, unfit_name};
+ghost use Rattle.std.specs.Prelude.{◌≡◌, ◌++◌, IfOk, OnOk, Some, string_bytes};
+ghost use Rattle.commands.specs.Explore.{mail_text, nodes_text, span_text, spans_text, tried_text, unfit_name};
 
 use crate::ending::Ending;
+use crate::request::MailSpan;
 use scenario_text::{RefusalLine, ScenarioError};
+use std::alloc::{AllocError, Global};
 use std::fmt;
+use std::fmt::Write;
 
 /// What of a scenario can't be explored.
 #[derive(Clone, Copy, Debug, PartialEq, Eq)]
@@ -19,16 +22,34 @@ pub enum Unfit {
     Coin,
 }
 
+/// What was tried beside both coins.
+#[derive(Debug, Drop)]
+pub struct Tried {
+    /// The nodes that lie.
+    pub liars: Vec<u32>,
+    /// The numbers that they send.
+    pub mail: Vec<MailSpan>,
+}
+
 /// Why nothing is explored, or what was found.
 #[derive(Debug, Drop)]
 pub enum Finding {
     Refused(ScenarioError),
     Unfit(Unfit),
-    /// No run parts the clocks, where liars send 0 to `last` or nothing.
-    Never { states: u64, moves: u64, last: u32 },
+    /// No run parts the clocks, where this was tried.
+    Never {
+        states: u64,
+        moves: u64,
+        tried: Tried,
+    },
     /// Some clocks part in this pulse.
-    Parts { pulse: u64, states: u64 },
-    Unfinished { states: u64 },
+    Parts {
+        pulse: u64,
+        states: u64,
+    },
+    Unfinished {
+        states: u64,
+    },
 }
 
 impl Finding {
@@ -47,6 +68,21 @@ impl Finding {
     }
 }
 
+impl fmt::Display for MailSpan {
+    ghost output = { λ span. Some (span_text span) };
+
+    fn fmt<W: fmt::Write>(&self, f: &mut fmt::Formatter<W>) -> fmt::Result {
+        let MailSpan { first, last } = *self;
+        if last == first {
+            write!(f, " {first}")
+        } else if first.checked_add(1) == Some(last) {
+            write!(f, " {first} {last}")
+        } else {
+            write!(f, " {first}..{last}")
+        }
+    }
+}
+
 impl fmt::Display for Unfit {
     ghost output = { λ unfit. Some (unfit_name unfit) };
 
@@ -61,39 +97,81 @@ impl fmt::Display for Unfit {
     }
 }
 
-/// The coins and the mail that were tried.
-#[derive(Clone, Copy)]
-struct Tried {
-    last: u32,
-}
-
-impl fmt::Display for Tried {
-    ghost output = { λ tried. Some (tried_text tried.last) };
-
-    fn fmt<W: fmt::Write>(&self, f: &mut fmt::Formatter<W>) -> fmt::Result {
-        write!(f, "coins 0 1, mail of liars: none 0..{}", self.last)
+/// Adds the numbers of nodes, each after a blank.
+fn add_nodes(alloc: Global, text: &mut String, nodes: &[u32]) -> Result<(), AllocError>
+    ensures { OnOk result (string_bytes text.new ≡ string_bytes text.old ++ nodes_text nodes.now) }
+{
+    for node in nodes {
+        let part = format!(in alloc; " {node}")?;
+        text.push_str(part.as_str())?;
     }
+    Ok(())
 }
 
-impl fmt::Display for Finding {
-    ghost output = { λ finding. Some (finding_line finding) };
+/// Adds the spans, each after a blank.
+fn add_spans(alloc: Global, text: &mut String, mail: &[MailSpan]) -> Result<(), AllocError>
+    ensures { OnOk result (string_bytes text.new ≡ string_bytes text.old ++ spans_text mail.now) }
+{
+    for span in mail {
+        let part = format!(in alloc; "{span}")?;
+        text.push_str(part.as_str())?;
+    }
+    Ok(())
+}
 
-    fn fmt<W: fmt::Write>(&self, f: &mut fmt::Formatter<W>) -> fmt::Result {
+/// The nodes that lie and what each may send, after a blank.
+fn mail_line(alloc: Global, tried: &Tried) -> Result<String, AllocError>
+    ensures { IfOk result (λ text. string_bytes text ≡ mail_text tried.now.liars.items tried.now.mail.items) }
+{
+    if tried.liars.len() == 0 {
+        return String::from_str(alloc, " none");
+    }
+    let mut nodes = String::new(alloc);
+    add_nodes(alloc, &mut nodes, &tried.liars)?;
+    let mut spans = String::new(alloc);
+    add_spans(alloc, &mut spans, &tried.mail)?;
+    format!(in alloc; "{nodes}: none{spans}")
+}
+
+/// The coins and the mail that were tried.
+fn tried_line(alloc: Global, tried: &Tried) -> Result<String, AllocError>
+    ensures { IfOk result (λ text. string_bytes text ≡ tried_text tried.now.liars.items tried.now.mail.items) }
+{
+    let mail = mail_line(alloc, tried)?;
+    format!(in alloc; "coins 0 1, mail of nodes{mail}")
+}
+
+impl Finding {
+    ghost use Rattle.commands.specs.Explore.{finding_line, finding_text};
+
+    /// The line that says it, without its end.
+    fn line(&self, alloc: Global) -> Result<String, AllocError>
+        ensures { IfOk result (λ text. string_bytes text ≡ finding_line self.now) }
+    {
         match self {
-            Finding::Refused(error) => write!(f, "{}", RefusalLine(error)),
-            Finding::Unfit(unfit) => write!(f, "refused explore {unfit}"),
+            Finding::Refused(error) => format!(in alloc; "{}", RefusalLine(error)),
+            Finding::Unfit(unfit) => format!(in alloc; "refused explore {unfit}"),
             Finding::Never {
                 states,
                 moves,
-                last,
+                tried,
             } => {
-                let tried = Tried { last: *last };
-                write!(f, "never parts: {states} states, {moves} moves, {tried}")
+                let tried = tried_line(alloc, tried)?;
+                format!(in alloc; "never parts: {states} states, {moves} moves, {tried}")
             }
             Finding::Parts { pulse, states } => {
-                write!(f, "parts in pulse {pulse} ({states} states)")
+                format!(in alloc; "parts in pulse {pulse} ({states} states)")
             }
-            Finding::Unfinished { states } => write!(f, "not finished: {states} states"),
+            Finding::Unfinished { states } => format!(in alloc; "not finished: {states} states"),
         }
+    }
+
+    /// The line with its end.
+    pub fn text(&self, alloc: Global) -> Result<String, AllocError>
+        ensures { IfOk result (λ text. string_bytes text ≡ finding_text self.now) }
+    {
+        let mut text = self.line(alloc)?;
+        text.push_str("\n")?;
+        Ok(text)
     }
 }

@@ -64,6 +64,7 @@ pub fn program_for<R: Read>(
 ) -> Result<Result<(Shape, Program), Refusal>, Fault>
     ensures read { IfOk result (λ read.
         IfSome (R.remaining reader.old) (λ input. ReadsFor options (take IMAGE_BYTES input) read)) }
+    ensures shape { IfOk result (λ read. IfOk read (λ pair. pair.0 ≡ asked_extent options)) }
     ensures fault { IfErr result IsBeforeWriting }
     ensures no_shape { (HasShape options → ⊥) → result ≡ Ok (Err refusals.Shape) }
     ensures unread { (HasShape options → ⊥) → R.remaining reader.new ≡ R.remaining reader.old }

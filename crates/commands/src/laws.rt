@@ -2,11 +2,14 @@
 ghost use Rattle.std.specs.Prelude.{◌≡◌, List, Result, ℕ};
 ghost use Rattle.bpf_insn.specs.declared.forms.Insn.{Insn};
 ghost use Rattle.bpf_insn.specs.declared.image.ImageError.{ImageError};
+ghost use Rattle.bpf_machine.specs.declared.word.Outcome.{Outcome};
 ghost use Rattle.commands.specs.declared.answer.Answer.{Answer};
+ghost use Rattle.commands.specs.declared.answer.Answer.TheVariants.{Ran};
 ghost use Rattle.commands.specs.declared.request.ExecOptions.{ExecOptions};
 ghost use Rattle.commands.specs.declared.request.ShapeOptions.{ShapeOptions};
 ghost use Rattle.commands.specs.declared.verdict.Verdict.{Verdict};
-ghost use Rattle.commands.specs.Answer.{Answers};
+ghost use Rattle.commands.specs.Answer.{Answers, AnswersLeaving};
+ghost use Rattle.commands.specs.Case.{Left};
 ghost use Rattle.commands.specs.Image.{ReadsImage};
 ghost use Rattle.commands.specs.Verdict.{Judges, SameVerdict};
 
@@ -17,6 +20,16 @@ use bpf_machine::one_run;
 pub fn one_answer()
     ensures { (options : ExecOptions) (bytes : List ℕ) (answer other : Answer) → Answers options bytes answer
         → Answers options bytes other → answer ≡ other }
+{
+    one_reading();
+    one_run();
+}
+
+/// A run leaves one memory, and sends one number or none to each node.
+pub fn one_left()
+    ensures { (options : ExecOptions) (bytes : List ℕ) (outcome : Outcome) (fuel : ℕ) (left other : Left)
+        → AnswersLeaving options bytes (Ran outcome fuel) left → AnswersLeaving options bytes (Ran outcome fuel) other
+        → left ≡ other }
 {
     one_reading();
     one_run();

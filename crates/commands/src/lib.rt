@@ -3,6 +3,7 @@
 
 mod answer;
 pub mod asm;
+mod case;
 pub mod dis;
 mod ending;
 pub mod exec;
@@ -11,6 +12,7 @@ mod fault;
 mod finding;
 pub mod image;
 pub mod laws;
+mod left;
 mod output;
 pub mod perform;
 pub mod request;

@@ -53,14 +53,14 @@ fn carry_out<T: Threads + Wait + Sync, R: Read, W: Write>(
     ensures taken { TakesFor request.now (R.remaining reader.old) (R.remaining reader.new) }
 {
     match request {
-        Request::Exec(options) => exec(alloc, *options, reader, out),
+        Request::Exec(options) => exec(alloc, options, reader, out),
         Request::Asm => asm(alloc, reader, out),
         Request::Dis => dis(alloc, reader, out),
         Request::Verify(options) => verify(alloc, *options, reader, out),
         Request::Run(options) => run(rt, alloc, *options, reader, out),
         Request::Stress(options) => stress(rt, alloc, *options, out),
         Request::Sweep(options) => sweep(rt, alloc, *options, reader, out),
-        Request::Explore(options) => explore(alloc, *options, reader, out),
+        Request::Explore(options) => explore(alloc, options, reader, out),
         Request::Help { text } => write_whole(out, text.as_bytes(), Ending::Done),
     }
 }

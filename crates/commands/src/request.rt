@@ -1,5 +1,7 @@
 //! What a command line asks for.
+ghost use Rattle.std.specs.Prelude.{◌<◌};
 
+pub use crate::case::Case;
 pub use bench_stress::StressOptions;
 use key_sweep::KeySpan;
 
@@ -43,11 +45,18 @@ pub struct SweepOptions {
     pub workers: Option<u32>,
 }
 
-/// The options of `explore`.
+/// The numbers from the first to the last, both among them.
 #[derive(Clone, Copy, Debug, PartialEq, Eq)]
+pub struct MailSpan {
+    pub first: u32,
+    pub last: u32,
+}
+
+/// The options of `explore`.
+#[derive(Debug, Drop)]
 pub struct ExploreOptions {
-    /// The last number that a liar may send, from 0 on: the modulus, where none is named.
-    pub mail: Option<u32>,
+    /// The numbers that a liar may send: 0 to the modulus, where none are named.
+    pub mail: Option<Vec<MailSpan>>,
     /// The most states.
     pub states: u32,
     /// The last pulse whose moves are tried.
@@ -55,9 +64,13 @@ pub struct ExploreOptions {
 }
 
 /// The options of `exec`.
-#[derive(Clone, Copy, Debug, PartialEq, Eq)]
+#[derive(Debug, Drop)]
 pub struct ExecOptions {
     pub shape: ShapeOptions,
     /// The most steps of the run.
     pub fuel: u64,
+    pub case: Case,
+    /// Whether memory and what was sent are told too.
+    pub show: bool,
+    ghost node: { case.id < shape.nodes },
 }

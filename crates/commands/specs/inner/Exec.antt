@@ -1,0 +1,35 @@
+-- Beside Exec: what proofs and private contracts alone cite.
+use Rattle.std.specs.Prelude.{◌≡◌, ℕ, List, []}
+use Rattle.std.specs.FinMap.{empty}
+use Rattle.bpf_insn.specs.declared.forms.Insn.{Insn}
+use Rattle.bpf_machine.specs.Run.{RunAnswers}
+use Rattle.commands.specs.declared.answer.Answer.{Answer}
+use Rattle.commands.specs.declared.answer.Answer.TheVariants as answers
+use Rattle.commands.specs.declared.exec.Reply.{Reply}
+use Rattle.commands.specs.declared.exec.Reply.TheVariants.{Refused, Ran}
+use Rattle.commands.specs.declared.left.LeftByRun.{LeftByRun}
+use Rattle.commands.specs.declared.request.ExecOptions.{ExecOptions}
+use Rattle.commands.specs.Case.{Left, case_memory, case_setting}
+use Rattle.commands.specs.Image.{asked_extent}
+
+-- what a run leaves, as contracts see it
+abbrev pub left_in : LeftByRun → Left
+left_in left = record { memory = left.memory.items; outbox = left.outbox }
+
+-- the answer of a reply with so much fuel
+abbrev pub answer_in : ℕ → Reply → Answer
+answer_in fuel (Refused refusal) = answers.Refused refusal
+answer_in fuel (Ran outcome left) = answers.Ran outcome fuel
+
+-- what its run leaves: nothing where there was none
+abbrev pub left_of : Reply → Left
+left_of (Refused refusal) = record { memory = []; outbox = record { nodes = 0; sent = empty } }
+left_of (Ran outcome left) = left_in left
+
+-- a reply that is the run of the program in the case that is asked for
+abbrev pub RunsCase : ExecOptions → List Insn → Reply → Type 0
+RunsCase asked program (Refused refusal) = ⊥
+RunsCase asked program (Ran outcome left) =
+    RunAnswers program (case_setting (asked_extent asked.shape) asked.case)
+    (case_memory (asked_extent asked.shape) asked.case) asked.fuel left.memory.items left.outbox.sent outcome
+    × (left.outbox.nodes ≡ asked.shape.nodes)
