@@ -4,8 +4,8 @@
 usage: check_vectors.py [PROGRAM]
 
 PROGRAM is the built `clockbed`; without it CLOCKBED_PROGRAM, or else the one of this checkout. The program's commands
-are given each vector, and what they print is compared, with the status. It prints each vector that differs, named by its
-file and line, and how many of each file were tried.
+are given each vector, and what they print is compared, with the status. It prints each vector that differs, named by
+its file and line, and how many of each file were tried.
 """
 import csv
 import dataclasses
@@ -18,6 +18,7 @@ from concurrent.futures import ThreadPoolExecutor
 TOP = pathlib.Path(__file__).resolve().parent.parent
 BUILT = TOP / "crates/clockbed/out/clockbed"
 SECONDS = 60
+NOTHING_LEFT = f"\nmemory {'00' * 16}\nsent -,-,-,-\n".encode()
 NO_LAST_LF = "\n\\ no LF at the end\n"
 
 
@@ -68,12 +69,12 @@ def check_encoding(asked, row):
 
 
 def check_result(asked, row):
-    """A program, both ways, and its r0. Outside machines tell no steps."""
+    """A program, both ways, and its r0. Outside machines tell no steps. No program writes memory or sends."""
     check_encoding(asked, row)
-    got = asked.answer("exec", bytes.fromhex(row["hex"]))
+    got = asked.answer("exec --show", bytes.fromhex(row["hex"]))
     start = f"r0 {row['r0']} steps "
-    if got.status or got.err or not got.out.startswith(start.encode()):
-        asked.differ("exec", got, start)
+    if got.status or got.err or not got.out.startswith(start.encode()) or not got.out.endswith(NOTHING_LEFT):
+        asked.differ("exec --show", got, start)
 
 
 def check_field(asked, row):

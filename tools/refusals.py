@@ -220,6 +220,8 @@ def commands(library, room, kind):
     return [
         Command("exec", image),
         Command("exec --memory 12", image),
+        Command("exec --id 3 --mail -,1,2,3 --coin 1 --contents 00ff --show", image),
+        Command("exec --mail 1", image),
         Command("exec", b"\xff" + bytes(7)),
         Command("exec --fuel x", image),
         Command("asm", text),

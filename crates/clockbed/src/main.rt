@@ -2,6 +2,8 @@
 #![tactic(auto)]
 
 pub mod command;
+mod exec_words;
+mod mail;
 mod progress;
 mod request;
 #[cfg(test)]

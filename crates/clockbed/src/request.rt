@@ -2,13 +2,15 @@
 ghost use Rattle.std.specs.Prelude.{IfErr};
 ghost use Rattle.commands.specs.Faults.{IsOfCommandLine};
 
+use crate::exec_words::{CaseFault, DEFAULT_FUEL, exec, exec_options};
+use crate::mail::{MailFault, mail_in};
 use bench_engine::MOST_WORKERS;
 use bench_shared::MOST_LOADERS;
 use clap::error::ErrorKind;
 use clap::{Arg, ArgAction, ArgMatches, Command, Error, value_parser};
 use commands::Fault;
 use commands::request::{
-    ExecOptions, ExploreOptions, Request, RunOptions, ShapeOptions, StressOptions, SweepOptions,
+    ExploreOptions, Request, RunOptions, ShapeOptions, StressOptions, SweepOptions,
 };
 use key_sweep::{KeySpan, MOST_SWEEPERS};
 use node_env::{MAX_MEMORY, MAX_NODES, MEMORY_UNIT};
@@ -21,12 +23,6 @@ const DEFAULT_NODES: u32 = 4;
 
 /// The bytes of memory where none are named.
 const DEFAULT_MEMORY: u32 = 16;
-
-/// The fuel of a run for which none is named.
-const DEFAULT_FUEL: u64 = 1_000_000;
-
-/// The most fuel that can be named.
-const MOST_FUEL: i64 = 1_000_000_000;
 
 /// The workers of a pulse for which none are named.
 const DEFAULT_WORKERS: u32 = 2;
@@ -49,9 +45,6 @@ const DEFAULT_STATES: u32 = 1_000_000;
 
 const MOST_STATES: u32 = 1_000_000_000;
 
-/// The last number of a liar's mail that can be named.
-const MOST_MAIL: u32 = 65_536;
-
 const HELP_BYTES: usize = 64;
 
 /// The request of the words, of which the first is the program's name.
@@ -69,13 +62,21 @@ fn parse<S: AsStr>(alloc: Global, words: &[S]) -> Result<Request, Error> {
     let mut command = command_line(alloc, &helps)?;
     let matches = command.try_get_matches_from_mut(words)?;
     match matches.subcommand() {
-        Some(("exec", options)) => Ok(Request::Exec(exec_options(options))),
+        Some(("exec", options)) => match exec_options(alloc, options) {
+            Ok(options) => Ok(Request::Exec(options)),
+            Err(CaseFault::Memory) => Err(Error::from(AllocError)),
+            Err(fault) => Err(command.error(ErrorKind::ValueValidation, fault.reason())?),
+        },
         Some(("asm", _)) => Ok(Request::Asm),
         Some(("dis", _)) => Ok(Request::Dis),
         Some(("verify", options)) => Ok(Request::Verify(shape_options(options))),
         Some(("run", options)) => Ok(Request::Run(run_options(options))),
         Some(("stress", options)) => Ok(Request::Stress(stress_options(options))),
-        Some(("explore", options)) => Ok(Request::Explore(explore_options(options))),
+        Some(("explore", options)) => match explore_options(alloc, options) {
+            Ok(options) => Ok(Request::Explore(options)),
+            Err(MailFault::Memory) => Err(Error::from(AllocError)),
+            Err(fault) => Err(command.error(ErrorKind::ValueValidation, fault.reason())?),
+        },
         Some(("sweep", options)) => match sweep_options(options) {
             Some(options) => Ok(Request::Sweep(options)),
             None => Err(command.error(
@@ -89,10 +90,10 @@ fn parse<S: AsStr>(alloc: Global, words: &[S]) -> Result<Request, Error> {
 
 /// The help of each option, with its default.
 #[derive(Drop)]
-struct Helps {
+pub(crate) struct Helps {
     nodes: InlineText<HELP_BYTES>,
     memory: InlineText<HELP_BYTES>,
-    fuel: InlineText<HELP_BYTES>,
+    pub(crate) fuel: InlineText<HELP_BYTES>,
     most_workers: InlineText<HELP_BYTES>,
     workers: InlineText<HELP_BYTES>,
     loaders: InlineText<HELP_BYTES>,
@@ -134,12 +135,6 @@ impl Helps {
 }
 
 fn command_line<'a>(alloc: Global, helps: &'a Helps) -> Result<Command<'a>, AllocError> {
-    let fuel = Arg::new(alloc, "fuel")
-        .long("fuel")
-        .value_name("STEPS")
-        .help(helps.fuel.as_str())
-        .value_parser(value_parser!(u64).range(0..=MOST_FUEL));
-    let exec = Command::new(alloc, "exec").about("Runs the image on standard input");
     let asm = Command::new(alloc, "asm").about("Prints the image of the text on standard input");
     let dis = Command::new(alloc, "dis").about("Prints the image on standard input as text");
     let verify = Command::new(alloc, "verify").about(
@@ -156,7 +151,7 @@ fn command_line<'a>(alloc: Global, helps: &'a Helps) -> Result<Command<'a>, Allo
     Command::new(alloc, "clockbed")
         .about("A testbed for Byzantine clock synchronisation")
         .subcommand_required(true)
-        .subcommand(with_shape(alloc, exec, helps)?.arg(fuel)?)?
+        .subcommand(exec(alloc, helps)?)?
         .subcommand(asm)?
         .subcommand(dis)?
         .subcommand(with_shape(alloc, verify, helps)?)?
@@ -168,11 +163,8 @@ fn command_line<'a>(alloc: Global, helps: &'a Helps) -> Result<Command<'a>, Allo
 
 /// The command `explore` with its options.
 fn explore<'a>(alloc: Global, helps: &'a Helps) -> Result<Command<'a>, AllocError> {
-    let mail = count_option(
-        alloc,
-        "mail",
-        "Liars send 0 to COUNT, or nothing [default: the modulus]",
-        MOST_MAIL,
+    let mail = Arg::new(alloc, "mail").long("mail").value_name("LIST").help(
+        "What liars send, as 0..7,9, or nothing [default: 0 to the modulus]",
     );
     let states = count_option(alloc, "states", helps.states.as_str(), MOST_STATES);
     let depth = count_option(
@@ -227,7 +219,7 @@ fn count_option<'a>(alloc: Global, name: &'static str, help: &'a str, most: u32)
 }
 
 /// Adds the options that ask for a shape.
-fn with_shape<'a>(
+pub(crate) fn with_shape<'a>(
     alloc: Global,
     command: Command<'a>,
     helps: &'a Helps,
@@ -245,7 +237,7 @@ fn with_shape<'a>(
     command.arg(nodes)?.arg(memory)
 }
 
-fn shape_options(options: &ArgMatches<'_>) -> ShapeOptions {
+pub(crate) fn shape_options(options: &ArgMatches<'_>) -> ShapeOptions {
     ShapeOptions {
         nodes: options.get_one::<u32>("nodes").unwrap_or(DEFAULT_NODES),
         memory: options.get_one::<u32>("memory").unwrap_or(DEFAULT_MEMORY),
@@ -278,19 +270,16 @@ fn sweep_options(options: &ArgMatches<'_>) -> Option<SweepOptions> {
     })
 }
 
-fn explore_options(options: &ArgMatches<'_>) -> ExploreOptions {
-    ExploreOptions {
-        mail: options.get_one::<u32>("mail"),
+fn explore_options(alloc: Global, options: &ArgMatches<'_>) -> Result<ExploreOptions, MailFault> {
+    let mail = match options.get_str("mail") {
+        Some(text) => Some(mail_in(alloc, text)?),
+        None => None,
+    };
+    Ok(ExploreOptions {
+        mail,
         states: options.get_one::<u32>("states").unwrap_or(DEFAULT_STATES),
         depth: options.get_one::<u32>("depth").unwrap_or(MOST_STATES),
-    }
-}
-
-fn exec_options(options: &ArgMatches<'_>) -> ExecOptions {
-    ExecOptions {
-        shape: shape_options(options),
-        fuel: options.get_one::<u64>("fuel").unwrap_or(DEFAULT_FUEL),
-    }
+    })
 }
 
 /// What `clap` says in place of a request: the help, or why it refuses the words.

@@ -1,7 +1,7 @@
 //! Damaged images of the clock program: each front of one, and each with one bit turned.
 use super::*;
 use commands::perform::perform;
-use commands::request::{ExecOptions, Request, ShapeOptions};
+use commands::request::{Case, ExecOptions, Request, ShapeOptions};
 
 const SHAPE: ShapeOptions = ShapeOptions {
     nodes: 4,
@@ -24,10 +24,12 @@ fn answer_of<T: Threads + Wait + Sync>(
     Ran { status, out, err }
 }
 
-fn exec() -> Request {
+fn exec(alloc: Global) -> Request {
     Request::Exec(ExecOptions {
         shape: SHAPE,
         fuel: FUEL,
+        case: Case::bare(alloc),
+        show: false,
     })
 }
 
@@ -37,7 +39,7 @@ fn tells_how_an_image_is_cut(rt: HostRuntime) -> Result<(), Fail> {
     assert_eq!(rt; image.len(), 440);
     for count in 0..440usize {
         let verdict = answer_of(&rt, rt.alloc(), &Request::Verify(SHAPE), &image[..count]);
-        let run = answer_of(&rt, rt.alloc(), &exec(), &image[..count]);
+        let run = answer_of(&rt, rt.alloc(), &exec(rt.alloc()), &image[..count]);
         let slot = count / 8;
         if count == 0 {
             assert_eq!(rt; verdict.line(), "refused image Empty");
@@ -101,7 +103,7 @@ fn answers_an_image_with_a_bit_turned(rt: HostRuntime) -> Result<(), Fail> {
     for bit in 0..440usize * 8 {
         turn(&mut image, bit);
         let verdict = answer_of(&rt, rt.alloc(), &Request::Verify(SHAPE), &image);
-        let run = answer_of(&rt, rt.alloc(), &exec(), &image);
+        let run = answer_of(&rt, rt.alloc(), &exec(rt.alloc()), &image);
         turn(&mut image, bit);
         assert!(rt; fit(&verdict, &run), "bit {bit}");
         assert_eq!(rt; (verdict.err.len(), run.err.len()), (0, 0), "bit {bit}");

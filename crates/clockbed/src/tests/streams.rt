@@ -9,9 +9,16 @@ use std::process::Abort;
 const MOST_BYTES: usize = 2_000;
 
 /// An input of each command, and what it leaves on its output.
-fn rows() -> [(&'static [&'static str], &'static [u8], &'static [u8]); 5] {
+fn rows() -> [(&'static [&'static str], &'static [u8], &'static [u8]); 6] {
     [
         (EXEC, SEVEN, b"r0 7 steps 2\n"),
+        (
+            &[
+                "clockbed", "exec", "--nodes", "2", "--memory", "8", "--show",
+            ],
+            SEVEN,
+            b"r0 7 steps 2\nmemory 0000000000000000\nsent -,-\n",
+        ),
         (VERIFY, SEVEN, b"accepted slots 2 announced 2\n"),
         (DIS, SEVEN, b"mov64 r0, 7\nexit\n"),
         (ASM, b"exit\n", b"\x95\0\0\0\0\0\0\0"),
