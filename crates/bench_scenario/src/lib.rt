@@ -23,7 +23,7 @@ pub use run::{MOST_BYTES, MOST_CALLS, ScenarioFault, run_scenario, run_scenario_
 pub use scenario_text::{RefusalLine, Scenario, ScenarioError, scenario_of};
 pub use schedule::events;
 pub use summary::{RunSummary, summary_of};
-pub use verdicts::{agreement, counting, told_clocks};
+pub use verdicts::{Judged, agreement, counting, told_clocks};
 pub use watched::{WatchedFault, run_watched};
 
 #[cfg(test)]

@@ -12,9 +12,9 @@ const FEWEST: u32 = 2;
 
 /// What is judged of a pulse: nothing where there are too few settled nodes.
 #[derive(Clone, Copy, Debug, PartialEq, Eq)]
-pub(crate) struct Judged {
-    pub(crate) agree: Option<bool>,
-    pub(crate) counts: Option<bool>,
+pub struct Judged {
+    pub agree: Option<bool>,
+    pub counts: Option<bool>,
 }
 
 /// The clock of a node, where it is settled.

@@ -19,7 +19,8 @@ impl Watcher<Vec<u32>> for Numbers {
             return Err(Stop);
         }
         self.left -= 1;
-        sink.push(shown.told.row.pulse).map_err(|_| Stop)
+        let told = shown.told;
+        sink.push(told.row.pulse).map_err(|_| Stop)
     }
 }
 
