@@ -86,8 +86,9 @@ def size_differences(program, size):
     image = answer(program, ["asm"], clock_text(*size)).out
     shape = ["--memory", "8", "--nodes", str(nodes)]
     own = scenario(*size, f"clock = '''{clock_text(*size).decode()}'''")
+    accepted = line(f"accepted slots {27 + 7 * nodes} announced {17 + 7 * nodes}", DONE)
     rows = [
-        ("verify", ["verify", *shape], image, line(f"accepted slots {27 + 7 * nodes} announced {17 + 7 * nodes}", DONE)),
+        ("verify", ["verify", *shape], image, accepted),
         ("exec", ["exec", *shape], image, line(f"r0 0 steps {12 + 6 * nodes}", DONE)),
         ("run", ["run"], own, answer(program, ["run"], scenario(*size, ""))),
     ]
