@@ -6,17 +6,15 @@ one colour as the run is in step, and as many colours as it has phases, up to th
 names another program than the one that was built here.
 """
 import collections
-import os
-import pathlib
 import subprocess
 import sys
 import xml.etree.ElementTree
 
 sys.dont_write_bytecode = True
+from built_program import named_program
 from picture import COLOURS, LEAST_FRAME, PALE, draw
 from readings import read_run
 
-BUILT = pathlib.Path(__file__).resolve().parent.parent / "crates/clockbed/out/clockbed"
 SVG = "{http://www.w3.org/2000/svg}"
 CLOCKS = [*COLOURS, PALE]
 MOST_RECTANGLES, MOST_BYTES = 20_000, 2 << 20
@@ -126,7 +124,7 @@ def faults_of(text, least_part, least_colours):
 
 
 def main():
-    program = os.path.realpath(os.environ.get("CLOCKBED_PROGRAM", BUILT))
+    program = named_program()
     count = 0
     for name, (scenario, least_part, least_colours) in RUNS.items():
         print(name, end=": ")

@@ -1,31 +1,30 @@
 #!/usr/bin/env python3
 """Holds `sweep` against `run`: each line must be what the report of the run with its key says.
 
-    tools/check_sweep.py [PROGRAM]
+usage: check_sweep.py [PROGRAM]
 
 Sweeps examples with drawn coins on 1, 2 and 3 workers, whose output must be the same, and derives each line from the
 report that `run` prints of the scenario with that key (docs/LUCK.md).
 """
 import re
-import subprocess
 import sys
-from pathlib import Path
 
 sys.dont_write_bytecode = True
+from built_program import TOP, answer, named_program, on_all_processors, tell
 from readings import in_step_since, read_run
 
-TOP = Path(__file__).resolve().parent.parent
 SCENARIOS = ["examples/chacha.toml", "examples/splitter.toml", "examples/luck/four.toml"]
 FIRST, LAST = 3, 11
+WORKERS = "123"
 NAMES = "key,agreed,of,first_disagreement,in_step_since,steps"
 
 
 def output(program, words, text):
     """What the program prints on this input, which must end with status 0."""
-    done = subprocess.run([program, *words], input=text, capture_output=True, text=True, check=False)
-    if done.returncode != 0:
-        sys.exit(f"check_sweep: {' '.join(words)} ends with status {done.returncode}: {done.stderr.strip()}")
-    return done.stdout
+    got = answer(program, words, text.encode())
+    if got.status:
+        sys.exit(f"check_sweep: {' '.join(words)}: {got}")
+    return got.out.decode()
 
 
 def line_of(key, text):
@@ -40,21 +39,20 @@ def line_of(key, text):
 
 
 def main():
-    program = sys.argv[1] if len(sys.argv) > 1 else str(TOP / "crates/clockbed/out/clockbed")
-    wrong = 0
-    for name in SCENARIOS:
+    program = named_program()
+
+    def differences(name):
         text = (TOP / name).read_text()
-        lines = [NAMES]
-        for key in range(FIRST, LAST + 1):
-            lines.append(line_of(key, output(program, ["run"], re.sub(r"(?m)^key = .*", f"key = {key}", text))))
+        reports = ((key, re.sub(r"(?m)^key = .*", f"key = {key}", text)) for key in range(FIRST, LAST + 1))
+        lines = [NAMES, *(line_of(key, output(program, ["run"], keyed)) for key, keyed in reports)]
         want = "".join(f"{line}\n" for line in lines)
-        for workers in "123":
+        for workers in WORKERS:
             got = output(program, ["sweep", "--keys", f"{FIRST}..{LAST}", "--workers", workers], text)
             if got != want:
-                wrong += 1
-                print(f"{name} with {workers} workers: {got!r} is not {want!r}")
-    print(f"sweeps: {3 * len(SCENARIOS)} compared with reports, {wrong} wrong")
-    return 1 if wrong else 0
+                yield f"{name} with {workers} workers: {got!r} is not {want!r}"
+
+    counts = {"sweeps": len(WORKERS) * len(SCENARIOS)}
+    return tell("check_sweep", counts, on_all_processors(differences, SCENARIOS))
 
 
 if __name__ == "__main__":

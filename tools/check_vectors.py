@@ -8,25 +8,13 @@ are given each vector, and what they print is compared, with the status. It prin
 its file and line, and how many of each file were tried.
 """
 import csv
-import dataclasses
-import os
-import pathlib
-import subprocess
 import sys
-from concurrent.futures import ThreadPoolExecutor
 
-TOP = pathlib.Path(__file__).resolve().parent.parent
-BUILT = TOP / "crates/clockbed/out/clockbed"
-SECONDS = 60
+sys.dont_write_bytecode = True
+from built_program import TOP, Answer, answer, named_program, on_all_processors, tell
+
 NOTHING_LEFT = f"\nmemory {'00' * 16}\nsent -,-,-,-\n".encode()
 NO_LAST_LF = "\n\\ no LF at the end\n"
-
-
-@dataclasses.dataclass
-class Answer:
-    status: int
-    out: bytes
-    err: bytes
 
 
 class Asked:
@@ -37,9 +25,7 @@ class Asked:
         self.differences = []
 
     def answer(self, words, given):
-        line = [self.program, *words.split()]
-        done = subprocess.run(line, input=given, capture_output=True, check=False, timeout=SECONDS)
-        return Answer(done.returncode, done.stdout, done.stderr)
+        return answer(self.program, words.split(), given)
 
     def differ(self, words, got, wanted):
         self.differences.append(f"{words}: {got} in place of {wanted}")
@@ -143,8 +129,7 @@ FILES = [
 
 
 def main():
-    given = sys.argv[1] if len(sys.argv) > 1 else os.environ.get("CLOCKBED_PROGRAM", BUILT)
-    program = os.path.realpath(given)
+    program = named_program()
     vectors = [
         (name, line, check, vector)
         for name, reader, check in FILES
@@ -157,14 +142,8 @@ def main():
         check(asked, vector)
         return [f"vectors/{name}:{line}: {difference}" for difference in asked.differences]
 
-    with ThreadPoolExecutor(os.cpu_count()) as workers:
-        found = [difference for some in workers.map(differences, vectors) for difference in some]
-    for difference in found:
-        print(difference)
     counts = {name: sum(one[0] == name for one in vectors) for name, _, _ in FILES}
-    tried = ", ".join(f"{name} {count}" for name, count in counts.items())
-    print(f"check_vectors: {tried}: {len(found)} differences")
-    return 1 if found or not all(counts.values()) else 0
+    return tell("check_vectors", counts, on_all_processors(differences, vectors))
 
 
 if __name__ == "__main__":

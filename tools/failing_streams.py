@@ -2,122 +2,215 @@
 """Gives the built program streams that fail, break off or are narrow: tools/failing_streams.py.
 
 What must come: the right answer where every byte gets through, else a line for the fault with status 1, and on standard
-output the first bytes of the answer, as many as the line says. CLOCKBED_PROGRAM names another program than the one that
-was built here.
+output the first bytes of the answer, as many as the line says; what standard error doesn't take is dropped. Of a stream
+without end no more is read than the command's bound. CLOCKBED_PROGRAM names another program than the one that was built
+here.
 """
+import concurrent.futures
+import dataclasses
 import os
 import subprocess
 import sys
 import tempfile
 
+sys.dont_write_bytecode = True
+from check_clock import clock_text
 from refusals import Ran, compiled, contents, program, run
 
 FOUR = contents("examples/four_clocks.toml")
 CHACHA = contents("examples/chacha.toml")
 LIMIT = 1 << 20
+MOST_IMAGE = 8 * 2048
+FAULT, REFUSED = 1, 2
+READ_FAULT = b"fault read\n"
 
 
-class Checks:
-    """Counts what was tried, and tells what isn't as it must be."""
+@dataclasses.dataclass
+class Check:
+    """A run, and what must come of it."""
 
-    def __init__(self):
-        self.tried = self.wrong = 0
-
-    def equal(self, what, ran, status, out, err):
-        self.tried += 1
-        if ran != Ran(status, out, err):
-            self.wrong += 1
-            print(f"wrong {what}: status {ran.status}, output {ran.out[:70]!r}, errors {ran.err[:70]!r}")
+    what: str
+    ask: object
+    wanted: object
 
 
-def answers(library, clockbed):
-    """Command lines with what they read, and their answers."""
+@dataclasses.dataclass
+class Asked:
+    """A command line with what it reads, and its answer."""
+
+    words: str
+    given: bytes
+    whole: Ran
+
+
+class Clockbed:
+    """The program with the library that is preloaded."""
+
+    def __init__(self, library):
+        self.library = library
+        self.path = program("clockbed")
+
+    def line(self, words):
+        return [self.path, *words.split()]
+
+    def run(self, words, given, **said):
+        return run(self.library, self.line(words), given, **said)
+
+    def redirected(self, words, given, redirections):
+        """Runs the program by a shell that opens and closes its descriptors."""
+        script = f'exec "$0" {words} {redirections}'
+        ran = subprocess.run(["bash", "-c", script, self.path], input=given, capture_output=True, check=False)
+        return Ran(ran.returncode, ran.stdout, ran.stderr)
+
+    def into_closed_pipe(self, words, given):
+        """Runs the program with a standard output whose reader is gone."""
+        reader, writer = os.pipe()
+        os.close(reader)
+        ran = subprocess.run(self.line(words), input=given, stdout=writer, stderr=subprocess.PIPE, check=False)
+        os.close(writer)
+        return Ran(ran.returncode, b"", ran.stderr)
+
+    def calls_of_read(self, words):
+        """The status, the output and the calls of `read` where each gives a byte, and there are enough bytes."""
+        environment = {**os.environ, "LD_PRELOAD": self.library, "NARROW": "1"}
+        with tempfile.TemporaryFile() as given:
+            given.truncate(2 * LIMIT)
+            ran = subprocess.run(self.line(words), stdin=given, capture_output=True, env=environment, check=False)
+            return ran.returncode, ran.stdout, os.lseek(given.fileno(), 0, os.SEEK_CUR)
+
+
+def asked(clockbed):
     text = b"mov64 r0, 7\nexit\n"
-    image = run(library, [clockbed, "asm"], text).out
+    image = clockbed.run("asm", text).out
+    clock = clock_text(4, 1, 8)
+    clock_image = clockbed.run("asm", clock).out
     for words, given in [
         ("exec", image),
+        ("exec --nodes 2 --memory 8 --show", image),
         ("verify", image),
         ("dis", image),
+        ("dis", clock_image),
         ("asm", text),
+        ("asm", clock),
         ("run", FOUR),
         ("sweep --keys 7..8 --workers 1", CHACHA),
         ("explore", FOUR),
         ("stress", b""),
         ("--help", b""),
     ]:
-        yield words, given, run(library, [clockbed, *words.split()], given)
+        yield Asked(words, given, clockbed.run(words, given))
 
 
-def redirected(clockbed, words, given, redirections):
-    """Runs the program by a shell that opens and closes its descriptors."""
-    script = f'exec "$0" {words} {redirections}'
-    ran = subprocess.run(["bash", "-c", script, clockbed], input=given, capture_output=True, check=False)
-    return Ran(ran.returncode, ran.stdout, ran.stderr)
-
-
-def into_closed_pipe(clockbed, words, given):
-    """Runs the program with a standard output whose reader is gone."""
-    reader, writer = os.pipe()
-    os.close(reader)
-    ran = subprocess.run(
-        [clockbed, *words.split()], input=given, stdout=writer, stderr=subprocess.PIPE, check=False
-    )
-    os.close(writer)
-    return Ran(ran.returncode, b"", ran.stderr)
-
-
-def check_output(checks, library, clockbed, words, given, whole):
-    line = [clockbed, *words.split()]
-    checks.equal(f"{words}, a byte a call", run(library, line, given, NARROW=1), 0, whole.out, b"")
+def output_checks(clockbed, it):
+    """Where standard output is narrow or fails."""
+    words, given, whole = it.words, it.given, it.whole
+    yield Check(f"{words}, whole", lambda: whole, Ran(0, whole.out, b""))
+    narrow = lambda: clockbed.run(words, given, NARROW=1)
+    yield Check(f"{words}, a byte a call", narrow, Ran(0, whole.out, b""))
     for room in range(len(whole.out)):
-        ran = run(library, line, given, WRITE_ROOM=room)
-        fault = b"fault write after %d\n" % room
-        checks.equal(f"{words}, room for {room} bytes", ran, 1, whole.out[:room], fault)
-    fault = b"fault write after 0\n"
-    checks.equal(f"{words} > /dev/full", redirected(clockbed, words, given, "> /dev/full"), 1, b"", fault)
-    checks.equal(f"{words}, a closed pipe", into_closed_pipe(clockbed, words, given), 1, b"", fault)
-    checks.equal(f"{words} >&-", redirected(clockbed, words, given, ">&-"), 1, b"", fault)
-    both = redirected(clockbed, words, given, "> /dev/full 2>&-")
-    checks.equal(f"{words} > /dev/full 2>&-", both, 1, b"", b"")
+        for kind in [{}, {"NARROW": 1}]:
+            ask = lambda room=room, kind=kind: clockbed.run(words, given, WRITE_ROOM=room, **kind)
+            wanted = Ran(FAULT, whole.out[:room], b"fault write after %d\n" % room)
+            yield Check(f"{words}, room for {room} bytes {kind}", ask, wanted)
+    nothing = Ran(FAULT, b"", b"fault write after 0\n")
+    for where in ["> /dev/full", ">&-"]:
+        ask = lambda where=where: clockbed.redirected(words, given, where)
+        yield Check(f"{words} {where}", ask, nothing)
+    yield Check(f"{words}, a closed pipe", lambda: clockbed.into_closed_pipe(words, given), nothing)
 
 
-def check_input(checks, library, clockbed, words, given):
-    line = [clockbed, *words.split()]
-    fault = b"fault read\n"
+def input_checks(clockbed, it):
+    """Where standard input fails, by an error of the device or by a signal."""
+    words, given = it.words, it.given
     for room in range(len(given) + 1):
-        checks.equal(f"{words}, {room} bytes to read", run(library, line, given, READ_ROOM=room), 1, b"", fault)
-    checks.equal(f"{words} < .", redirected(clockbed, words, b"", "< ."), 1, b"", fault)
-    checks.equal(f"{words} <&-", redirected(clockbed, words, b"", "<&-"), 1, b"", fault)
-    silent = redirected(clockbed, words, b"", "< . 2> /dev/full")
-    checks.equal(f"{words} < . 2> /dev/full", silent, 1, b"", b"")
+        for kind in [{}, {"INTERRUPTED": 1}]:
+            ask = lambda room=room, kind=kind: clockbed.run(words, given, NARROW=1, READ_ROOM=room, **kind)
+            yield Check(f"{words}, {room} bytes to read {kind}", ask, Ran(FAULT, b"", READ_FAULT))
+    for where in ["< .", "<&-"]:
+        ask = lambda where=where: clockbed.redirected(words, b"", where)
+        yield Check(f"{words} {where}", ask, Ran(FAULT, b"", READ_FAULT))
 
 
-def check_lengths(checks, library, clockbed):
+def silent_checks(clockbed, it):
+    """Where standard error fails too."""
+    rows = [(it.given, "> /dev/full 2>&-")]
+    if it.given:
+        rows.append((b"", "< . 2> /dev/full"))
+    for given, where in rows:
+        ask = lambda given=given, where=where: clockbed.redirected(it.words, given, where)
+        yield Check(f"{it.words} {where}", ask, Ran(FAULT, b"", b""))
+
+    said = b"fault write after 0\n"
+    for room in range(len(said)):
+        ask = lambda room=room: clockbed.run(it.words, it.given, WRITE_ROOM=0, SAY_ROOM=room)
+        yield Check(f"{it.words}, {room} bytes to say", ask, Ran(FAULT, b"", said[:room]))
+
+
+def unknown_checks(clockbed):
+    """Words that ask for nothing, where standard error fails."""
+    said = clockbed.run("fly", b"").err
+    for room in range(len(said)):
+        ask = lambda room=room: clockbed.run("fly", b"", SAY_ROOM=room)
+        yield Check(f"fly, {room} bytes to say", ask, Ran(FAULT, b"", said[:room]))
+
+
+def length_checks(clockbed):
     """The longest text, and one byte more."""
     rows = [
-        ("run", LIMIT, 2, b"refused scenario MissingKey nodes\n", b""),
-        ("run", LIMIT + 1, 2, b"refused scenario TooLong\n", b""),
-        ("asm", LIMIT, 2, b"refused text Empty line 0\n", b""),
-        ("asm", LIMIT + 1, 1, b"", b"fault read\n"),
+        ("run", LIMIT, Ran(REFUSED, b"refused scenario MissingKey nodes\n", b"")),
+        ("run", LIMIT + 1, Ran(REFUSED, b"refused scenario TooLong\n", b"")),
+        ("asm", LIMIT, Ran(REFUSED, b"refused text Empty line 0\n", b"")),
+        ("asm", LIMIT + 1, Ran(FAULT, b"", READ_FAULT)),
     ]
-    for words, count, status, out, err in rows:
-        ran = run(library, [clockbed, words], b"#" * count)
-        checks.equal(f"{words}, {count} bytes", ran, status, out, err)
+    for words, count, wanted in rows:
+        ask = lambda words=words, count=count: clockbed.run(words, b"#" * count)
+        yield Check(f"{words}, {count} bytes", ask, wanted)
+
+
+def bound_checks(clockbed):
+    """How often `read` is called, where each call gives a byte."""
+    long_image, long_text = b"refused image TooLong\n", b"refused scenario TooLong\n"
+    rows = [
+        ("exec", (REFUSED, long_image, MOST_IMAGE + 1)),
+        ("verify", (REFUSED, long_image, MOST_IMAGE + 1)),
+        ("dis", (REFUSED, long_image, MOST_IMAGE + 1)),
+        ("asm", (FAULT, b"", LIMIT + 1)),
+        ("run", (REFUSED, long_text, LIMIT + 1)),
+        ("sweep --keys 7..8", (REFUSED, long_text, LIMIT + 1)),
+        ("explore", (REFUSED, long_text, LIMIT + 1)),
+        ("exec --memory 12", (REFUSED, b"refused shape\n", 0)),
+        ("verify --memory 12", (REFUSED, b"refused shape\n", 0)),
+        ("stress --pulses 1 --loads 1", (0, b"loads 2 pulses 1 history 4 replay ok\n", 0)),
+        ("fly", (FAULT, b"", 0)),
+    ]
+    for words, wanted in rows:
+        ask = lambda words=words: clockbed.calls_of_read(words)
+        yield Check(f"{words}, without end", ask, wanted)
+
+
+def checks(clockbed):
+    for it in asked(clockbed):
+        yield from output_checks(clockbed, it)
+        yield from silent_checks(clockbed, it)
+        if it.given:
+            yield from input_checks(clockbed, it)
+    yield from unknown_checks(clockbed)
+    yield from length_checks(clockbed)
+    yield from bound_checks(clockbed)
 
 
 def main():
-    checks = Checks()
-    clockbed = program("clockbed")
-    with tempfile.TemporaryDirectory() as room:
-        library = compiled(room)
-        for words, given, whole in answers(library, clockbed):
-            checks.equal(words, whole, 0, whole.out, b"")
-            check_output(checks, library, clockbed, words, given, whole)
-            if given:
-                check_input(checks, library, clockbed, words, given)
-        check_lengths(checks, library, clockbed)
-    print(f"failing_streams: {checks.tried} tried, {checks.wrong} wrong")
-    return 1 if checks.wrong or not checks.tried else 0
+    tried = wrong = 0
+    with tempfile.TemporaryDirectory() as room, concurrent.futures.ThreadPoolExecutor(os.cpu_count()) as workers:
+        clockbed = Clockbed(compiled(room))
+        rows = list(checks(clockbed))
+        for check, got in zip(rows, workers.map(lambda check: check.ask(), rows)):
+            tried += 1
+            if got != check.wanted:
+                wrong += 1
+                print(f"wrong {check.what}: {got} in place of {check.wanted}"[:400])
+    print(f"failing_streams: {tried} tried, {wrong} wrong")
+    return 1 if wrong or not tried else 0
 
 
 if __name__ == "__main__":

@@ -5,8 +5,9 @@
  *   TALLY=FILE                                writes there, at each request and each write to standard output, how many
  *                                             bytes were written before, and the requests for memory and for threads
  *   NARROW=1                                  reads and writes at most one byte a call
- *   READ_ROOM=N  WRITE_ROOM=N                 fails each read of standard input once N bytes were read, and each
- *                                             write to standard output once N bytes were taken
+ *   READ_ROOM=N  WRITE_ROOM=N  SAY_ROOM=N     fails each read of standard input once N bytes were read, and each
+ *                                             write to standard output, or to standard error, once N bytes were taken
+ *   INTERRUPTED=1                             those that fail are interrupted, in place of an error of the device
  */
 #define _GNU_SOURCE
 #include <dlfcn.h>
@@ -20,7 +21,9 @@
 #include <unistd.h>
 
 static long seen_memory, seen_threads, written;
-static long read_room = -1, write_room = -1;
+/* How many bytes each descriptor of the first three still lets through. -1: all. */
+static long rooms[] = {-1, -1, -1};
+static int fault = EIO;
 static long first_memory, last_memory, first_threads, last_threads;
 static int tally = -1;
 static size_t most = (size_t)-1;
@@ -53,8 +56,10 @@ __attribute__((constructor)) static void begin(void) {
     last_threads = number("LAST");
   }
   if (getenv("NARROW")) most = 1;
-  if (getenv("READ_ROOM")) read_room = number("READ_ROOM");
-  if (getenv("WRITE_ROOM")) write_room = number("WRITE_ROOM");
+  const char *names[] = {"READ_ROOM", "WRITE_ROOM", "SAY_ROOM"};
+  for (int to = STDIN_FILENO; to <= STDERR_FILENO; to++)
+    if (getenv(names[to])) rooms[to] = number(names[to]);
+  if (getenv("INTERRUPTED")) fault = EINTR;
   const char *file = getenv("TALLY");
   if (file) tally = open(file, O_WRONLY | O_CREAT | O_TRUNC | O_CLOEXEC, 0600);
   /* What the loader asked for before doesn't count. */
@@ -108,31 +113,39 @@ int pthread_create(pthread_t *thread, const pthread_attr_t *attr, void *(*work)(
   return next_pthread_create(thread, attr, work, given);
 }
 
+static int is_limited(int which) {
+  return STDIN_FILENO <= which && which <= STDERR_FILENO && rooms[which] >= 0;
+}
+
 /* How many of so many bytes go through in this call, where there is room left for some. -1: there is none. */
-static ssize_t let_through(size_t count, int limited, long room) {
+static ssize_t let_through(int which, size_t count) {
   if (count > most) count = most;
-  if (!limited || room < 0 || count == 0) return count;
-  if (room == 0) {
-    errno = EIO;
+  if (!is_limited(which) || count == 0) return count;
+  if (rooms[which] == 0) {
+    errno = fault;
     return -1;
   }
-  return count < (size_t)room ? count : room;
+  return count < (size_t)rooms[which] ? (ssize_t)count : rooms[which];
+}
+
+static void use_up(int which, ssize_t count) {
+  if (is_limited(which) && count > 0) rooms[which] -= count;
 }
 
 ssize_t read(int from, void *bytes, size_t count) {
-  ssize_t part = let_through(count, from == STDIN_FILENO, read_room);
+  ssize_t part = let_through(from, count);
   if (part < 0) return -1;
   ssize_t got = syscall(SYS_read, from, bytes, part);
-  if (from == STDIN_FILENO && read_room > 0 && got > 0) read_room -= got;
+  use_up(from, got);
   return got;
 }
 
 ssize_t write(int to, const void *bytes, size_t count) {
   if (to == STDOUT_FILENO && tally >= 0) tell();
-  ssize_t part = let_through(count, to == STDOUT_FILENO, write_room);
+  ssize_t part = let_through(to, count);
   if (part < 0) return -1;
   ssize_t took = syscall(SYS_write, to, bytes, part);
+  use_up(to, took);
   if (to == STDOUT_FILENO && took > 0) written += took;
-  if (to == STDOUT_FILENO && write_room > 0 && took > 0) write_room -= took;
   return took;
 }

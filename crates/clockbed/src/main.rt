@@ -6,8 +6,6 @@ mod exec_words;
 mod mail;
 mod progress;
 mod request;
-#[cfg(test)]
-mod tests;
 
 use crate::command::command;
 use crate::progress::Progress;

@@ -8,6 +8,3 @@ mod sweeping;
 
 pub use keys::{KeySpan, MOST_KEY};
 pub use sweeping::{MOST_SWEEPERS, SweepFault, sweep};
-
-#[cfg(test)]
-mod tests;

@@ -1,0 +1,171 @@
+#!/usr/bin/env python3
+"""Gives the built program the clock's own text, and its image cut and damaged.
+
+usage: check_clock.py [PROGRAM]
+
+For some sizes: the text has an image, which `verify` accepts and `exec` runs, and a scenario whose `clock` is that text
+isn't told to have a clock of its own, so that the text is the clock that the program makes. Of the image for four
+nodes: each front, and each with one bit turned, of which `verify` and `exec` have to say what fits together. PROGRAM is
+as for check_rows.py.
+"""
+import sys
+
+sys.dont_write_bytecode = True
+from built_program import Answer, answer, named_program, on_all_processors, tell
+
+# Nodes, faults and modulus.
+SIZES = [(1, 0, 2), (4, 1, 8), (4, 1, 16), (7, 3, 65535), (32, 10, 65536), (64, 21, 65536)]
+DAMAGED = (4, 1, 16)
+DAMAGED_BYTES = 440
+# Enough for every program that is accepted, and for those that have no way back.
+FUEL = 2048
+REFUSED, DONE = 2, 0
+ENDS = (b"r0 ", b"trap ", b"out of fuel ")
+
+
+def clock_text(nodes, faults, modulus):
+    """The clock of docs/CLOCK.md, with labels."""
+    heard = "".join(f"mov64 r1, {node}\ncall recv\njne r0, r7, +1\nadd64 r8, 1\n" for node in range(nodes))
+    told = "".join(f"mov64 r1, {node}\nmov64 r2, r7\ncall send\n" for node in range(nodes))
+    return f"""
+        mov64 r6, r1
+        ldxw r7, [r6+0]
+        jlt r7, {modulus}, +1
+        mov64 r7, 0
+        mov64 r8, 0
+        {heard}
+        jge r8, {nodes - faults}, ok
+        mov64 r7, 0
+        mov64 r9, 0
+        ja store
+ok:     jne r7, 0, inc
+        ldxw r9, [r6+4]
+        jne r9, 0, one
+        call coin
+        mov64 r7, r0
+        mov64 r9, r0
+        ja store
+one:    mov64 r7, 1
+        mov64 r9, 1
+        ja store
+inc:    add64 r7, 1
+        mov64 r9, 1
+        jlt r7, {modulus}, store
+        mov64 r7, 0
+store:  stxw [r6+0], r7
+        stxw [r6+4], r9
+        {told}
+        mov64 r0, 0
+        exit
+""".encode()
+
+
+def scenario(nodes, faults, modulus, clock):
+    return f"""version = 3
+nodes = {nodes}
+faults = {faults}
+modulus = {modulus}
+memory = 8
+pulses = 3
+coins = "ones"
+{clock}
+[[load]]
+pulse = 1
+nodes = {list(range(nodes))}
+program = "clock"
+""".encode()
+
+
+def line(text, status):
+    return Answer(status, f"{text}\n".encode(), b"")
+
+
+def size_differences(program, size):
+    """The text of a size is a clock, and no other than the program's."""
+    nodes, _, _ = size
+    image = answer(program, ["asm"], clock_text(*size)).out
+    shape = ["--memory", "8", "--nodes", str(nodes)]
+    own = scenario(*size, f"clock = '''{clock_text(*size).decode()}'''")
+    accepted = line(f"accepted slots {27 + 7 * nodes} announced {17 + 7 * nodes}", DONE)
+    rows = [
+        ("verify", ["verify", *shape], image, accepted),
+        ("exec", ["exec", *shape], image, line(f"r0 0 steps {12 + 6 * nodes}", DONE)),
+        ("run", ["run"], own, answer(program, ["run"], scenario(*size, ""))),
+    ]
+    for name, words, given, wanted in rows:
+        got = answer(program, words, given)
+        if got != wanted or got.status != DONE:
+            yield f"the clock of {size}: {name}: {got} in place of {wanted}"
+    if nodes > 1:
+        words = ["verify", "--memory", "8", "--nodes", str(nodes - 1)]
+        got, wanted = answer(program, words, image), line(f"refused rule 9 slot {2 + 4 * nodes}", REFUSED)
+        if got != wanted:
+            yield f"the clock of {size} for a node less: {got} in place of {wanted}"
+
+
+def pair(program, image):
+    """What `verify` and `exec` answer."""
+    verdict = answer(program, ["verify", "--memory", "8"], image)
+    return verdict, answer(program, ["exec", "--memory", "8", "--fuel", str(FUEL)], image)
+
+
+def front_fits(count, verdict, ran):
+    """Whether these are the answers to so many first bytes, fewer than all."""
+    if count == 0:
+        return verdict == ran == line("refused image Empty", REFUSED)
+    if count % 8:
+        return verdict == ran == line(f"refused image Truncated slot {count // 8}", REFUSED)
+    breaks = verdict.out.startswith(b"refused rule 2 slot ") and verdict.status == REFUSED
+    return breaks and ran.out.startswith(b"trap 1 BadJump slot ") and ran.status == DONE
+
+
+def last_number(told):
+    return int(told.split()[-1])
+
+
+def damage_fits(verdict, ran):
+    """The same refusal of an image; a run within its count where it is accepted; and else any end by name."""
+    if verdict.err or ran.err:
+        return False
+    if verdict.out.startswith(b"refused image "):
+        return verdict == ran and ran.status == REFUSED
+    if verdict.out.startswith(b"accepted slots "):
+        ended = ran.out.startswith(b"r0 ") and verdict.status == ran.status == DONE
+        return ended and last_number(ran.out) <= last_number(verdict.out)
+    refused = verdict.out.startswith(b"refused rule ") and verdict.status == REFUSED
+    return refused and ran.out.startswith(ENDS) and ran.status == DONE
+
+
+def turned(image, bit):
+    bytes_of = bytearray(image)
+    bytes_of[bit // 8] ^= 1 << bit % 8
+    return bytes(bytes_of)
+
+
+def main():
+    program = named_program()
+    image = answer(program, ["asm"], clock_text(*DAMAGED)).out
+    if len(image) != DAMAGED_BYTES:
+        sys.exit(f"check_clock: the image has {len(image)} bytes in place of {DAMAGED_BYTES}")
+    accepted = []
+
+    def differences(row):
+        kind, it = row
+        if kind == "sizes":
+            return list(size_differences(program, it))
+        verdict, ran = pair(program, image[:it] if kind == "fronts" else turned(image, it))
+        if kind == "bits" and verdict.status == DONE:
+            accepted.append(it)
+        fits = front_fits(it, verdict, ran) if kind == "fronts" else damage_fits(verdict, ran)
+        return [] if fits else [f"{kind} {it}: {verdict} and {ran} don't fit"]
+
+    kinds = {"sizes": SIZES, "fronts": range(len(image)), "bits": range(8 * len(image))}
+    rows = [(kind, it) for kind, those in kinds.items() for it in those]
+    found = on_all_processors(differences, rows)
+    if not accepted:
+        found.append("no image with a bit turned is accepted")
+    return tell("check_clock", {kind: len(those) for kind, those in kinds.items()}, found)
+
+
+if __name__ == "__main__":
+    sys.exit(main())
