@@ -12,9 +12,10 @@ use clap::error::ErrorKind;
 use clap::{ArgMatches, Error};
 use commands::Fault;
 use commands::request::{
-    ExploreOptions, Request, RunOptions, ShapeOptions, StressOptions, SweepOptions,
+    ExploreOptions, LinesOptions, Request, RunOptions, ShapeOptions, StressOptions, SweepOptions,
 };
 use key_sweep::KeySpan;
+use run_lines::PulseSpan;
 use std::alloc::{AllocError, Global};
 use std::convert::AsStr;
 
@@ -92,7 +93,7 @@ fn request_in(
         "asm" => Ok(Request::Asm),
         "dis" => Ok(Request::Dis),
         "verify" => Ok(Request::Verify(shape_options(options))),
-        "run" => Ok(Request::Run(run_options(options))),
+        "run" => run_request(options),
         "stress" => Ok(Request::Stress(stress_options(options))),
         "explore" => Ok(Request::Explore(explore_options(alloc, options)?)),
         "sweep" => match sweep_options(options) {
@@ -131,6 +132,20 @@ fn run_options(options: &ArgMatches<'_>) -> RunOptions {
     RunOptions {
         workers: options.get_one::<u32>("workers").unwrap_or(DEFAULT_WORKERS),
         check: options.get_flag("check"),
+    }
+}
+
+/// A report, or the lines of a span of pulses.
+fn run_request(options: &ArgMatches<'_>) -> Result<Request, OptionsFault> {
+    let run = run_options(options);
+    if !options.get_flag("json") {
+        return Ok(Request::Run(run));
+    }
+    let from = options.get_one::<u32>("from").unwrap_or(1);
+    let until = options.get_one::<u32>("until").unwrap_or(u32::MAX);
+    match PulseSpan::of(from, until) {
+        Some(span) => Ok(Request::Lines(LinesOptions { run, span })),
+        None => Err(OptionsFault::Reason("--from is past --until")),
     }
 }
 

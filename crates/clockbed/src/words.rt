@@ -163,14 +163,36 @@ fn run<'a>(alloc: Global, helps: &'a Helps) -> Result<Command<'a>, AllocError> {
         .long("check")
         .help("Ends with status 3 where a pulse doesn't agree")
         .action(ArgAction::SetTrue);
-    Command::new(alloc, "run")
+    let json = Arg::new(alloc, "json")
+        .long("json")
+        .help("Prints a line of JSON for each pulse, with all that the bed knows")
+        .action(ArgAction::SetTrue);
+    let run = Command::new(alloc, "run")
         .about("Prints the report of a scenario")
         .after_help(
             "Example: clockbed run --check examples/four_clocks.toml\nPage: docs/SCENARIOS.md",
         )
         .arg(workers)?
         .arg(check)?
-        .arg(file(alloc))
+        .arg(json)?;
+    with_span(alloc, run)?.arg(file(alloc))
+}
+
+/// Adds the options that ask for a span of pulses.
+fn with_span<'a>(alloc: Global, command: Command<'a>) -> Result<Command<'a>, AllocError> {
+    let from = Arg::new(alloc, "from")
+        .long("from")
+        .value_name("PULSE")
+        .help("The first pulse of the JSON lines [default: 1]")
+        .requires_arg("json")?
+        .value_parser(value_parser!(u32).range(1..));
+    let until = Arg::new(alloc, "until")
+        .long("until")
+        .value_name("PULSE")
+        .help("The last pulse of the JSON lines [default: the scenario's]")
+        .requires_arg("json")?
+        .value_parser(value_parser!(u32).range(1..));
+    command.arg(from)?.arg(until)
 }
 
 /// The command `explore` with its options.
