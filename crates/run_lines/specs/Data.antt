@@ -70,7 +70,7 @@ abbrev pub verdict_members : Frame → Bool → Seen → List Member
 verdict_members f own x =
     if f.version == CLOCK_VERSION
     then (codes "agree", option_data boolean (judged_one own f.modulus x.earlier x.told).agree)
-    ∷ (codes "counts", option_data boolean (judged_one own f.modulus x.earlier x.told).counts) ∷ []
+        ∷ (codes "counts", option_data boolean (judged_one own f.modulus x.earlier x.told).counts) ∷ []
     else (codes "agree", boolean x.told.agree) ∷ []
 
 -- before it this was staged, and it was seen so

@@ -1,14 +1,20 @@
-//! A run told line by line: docs/INSIDE.md.
+//! A run told pulse by pulse, in lines of JSON: docs/INSIDE.md, "The lines".
 #![tactic(auto)]
 
 mod fault;
-mod pulse_line;
+mod frame_lines;
+mod nodes;
+mod pulse_lines;
 mod span;
+mod staged;
 mod telling;
+mod text;
+mod values;
 mod writer;
 
 pub use fault::LinesFault;
-pub use pulse_line::{frame_line, last_line, pulse_line};
+pub use frame_lines::{frame_line, last_line};
+pub use pulse_lines::pulse_line;
 pub use span::PulseSpan;
 pub use telling::tell_lines;
 

@@ -6,7 +6,7 @@ ghost use Rattle.run_lines.specs.Telling.{LeavesLines};
 ghost use Rattle.run_lines.specs.inner.Writing.{Adds, IsEnd, IsLineFault};
 
 use crate::fault::LinesFault;
-use crate::pulse_line::{frame_line, last_line};
+use crate::frame_lines::{frame_line, last_line};
 use crate::span::PulseSpan;
 use crate::writer::{LineWriter, write_line};
 use bench_engine::{MOST_WORKERS, Run};

@@ -5,7 +5,7 @@ ghost use Rattle.run_lines.specs.inner.Writing.{Adds, IsLineFault};
 ghost use Rattle.run_lines.specs.Lines.{told_line};
 
 use crate::fault::LinesFault;
-use crate::pulse_line::pulse_line;
+use crate::pulse_lines::pulse_line;
 use crate::span::PulseSpan;
 use bench_engine::{Shown, Stop, Watcher};
 use bench_scenario::Scenario;
