@@ -13,6 +13,7 @@ import tempfile
 from refusals import Ran, compiled, contents, program, run
 
 FOUR = contents("examples/four_clocks.toml")
+THREE = contents("examples/three_part.toml")
 CHACHA = contents("examples/chacha.toml")
 LIMIT = 1 << 20
 
@@ -41,6 +42,7 @@ def answers(library, clockbed):
         ("asm", text),
         ("run", FOUR),
         ("sweep --keys 7..8 --workers 1", CHACHA),
+        ("run --json --workers 1", THREE),
         ("explore", FOUR),
         ("stress", b""),
         ("--help", b""),
