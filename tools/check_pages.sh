@@ -37,7 +37,7 @@ check_example() {
     echo "check_pages: $name.report is not the report of $1" >&2
     faults=$((faults + 1))
   elif ! grep -q '^refused' "$room/report"; then
-    "$top/tools/picture.py" < "$room/report" > "$room/picture"
+    "$program" run --json < "$1" | "$top/tools/picture.py" > "$room/picture"
     cmp "$name.svg" "$room/picture" || faults=$((faults + 1))
   fi
   if ! grep -q "${1#"$top"/}" "$top/docs/GALLERY.md"; then

@@ -76,7 +76,7 @@ RUNS = {
 
 
 def run(program, scenario):
-    ran = subprocess.run([program, "run"], input=scenario.encode(), capture_output=True, check=False)
+    ran = subprocess.run([program, "run", "--json"], input=scenario.encode(), capture_output=True, check=False)
     if ran.returncode:
         raise SystemExit(f"check_pictures: status {ran.returncode}: {(ran.stdout + ran.stderr)[:200]!r}")
     return ran.stdout.decode()

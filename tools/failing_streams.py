@@ -18,6 +18,7 @@ from check_clock import clock_text
 from refusals import Ran, compiled, contents, program, run
 
 FOUR = contents("examples/four_clocks.toml")
+THREE = contents("examples/three_part.toml")
 CHACHA = contents("examples/chacha.toml")
 LIMIT = 1 << 20
 MOST_IMAGE = 8 * 2048
@@ -94,6 +95,7 @@ def asked(clockbed):
         ("asm", clock),
         ("run", FOUR),
         ("sweep --keys 7..8 --workers 1", CHACHA),
+        ("run --json --workers 1", THREE),
         ("explore", FOUR),
         ("stress", b""),
         ("--help", b""),

@@ -1,7 +1,7 @@
 #!/usr/bin/env python3
 """Draws a run of `clockbed run` as an SVG: tools/picture.py [--phase] < LINES > PICTURE
 
-LINES are a report, or lines of JSON of the same run, which tell more: what each node runs, and what was done to it.
+LINES are a report, or the lines of `run --json`, which tell more: what each node runs, and what was done to it.
 
 Pulses go along and nodes go down. Up to 40 pulses a cell has the colour of the node's clock. From 41 pulses on, or by
 --phase, it has the colour of the clock less the number of the pulse, modulo M: what counts on by one keeps its colour,

@@ -1,4 +1,4 @@
-"""Reads a run: the report that `clockbed run` wrote, or lines of JSON that tell the same. Other tools take it from here."""
+"""Reads a run: what `clockbed run` wrote, its report or the lines of `run --json`. Other tools take it from here."""
 import json
 import re
 from typing import Dict, List, NamedTuple, Optional
@@ -137,7 +137,7 @@ def read_lines(text):
         pulses = [read_inside(it, nodes, modulus) for it in pulses]
         agreed, judged, since = last["agreed"], last["of"], last["in_step_since"]
     except (ValueError, KeyError, TypeError) as why:
-        raise NoReport(f"no lines of a run: {why}") from why
+        raise NoReport(f"no lines of run --json: {why}") from why
     if not pulses or [it.number for it in pulses] != list(range(pulses[0].number, pulses[0].number + len(pulses))):
         raise NoReport("the pulses don't follow one another")
     if len(pulses) == frame["pulses"] and since != in_step_since(pulses, modulus):

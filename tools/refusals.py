@@ -102,9 +102,9 @@ def is_fault(ran, kind):
 
 
 def is_left(command, whole, ran):
-    """Whether the output is what a fault leaves: nothing, or of a sweep the lines of the first keys."""
-    lines = command.words.startswith("sweep") and whole.out.startswith(ran.out) and ran.out.endswith(b"\n")
-    return not ran.out or lines
+    """Whether the output is what a fault leaves: nothing, or of what is told line by line the first lines."""
+    by_line = command.words.startswith(("sweep", "run --json"))
+    return not ran.out or (by_line and whole.out.startswith(ran.out) and ran.out.endswith(b"\n"))
 
 
 def command_outcome(command, whole, ran, kind):
@@ -207,12 +207,14 @@ def commands(library, room, kind):
     """The command lines that are tried."""
     clockbed = program("clockbed")
     four = contents("examples/four_clocks.toml")
+    three = contents("examples/three_part.toml")
     text = b"ldxw r7, [r1+0]\njlt r7, 8, low\nmov64 r7, 0\nlow: mov64 r0, r7\nexit\n"
     image = run(library, [clockbed, "asm"], text).out
     if kind == "threads":
         return [
             Command("run --workers 2", long_pulses()),
             Command("run --workers 8", long_pulses()),
+            Command("run --json --workers 2", long_pulses()),
             Command("stress --loaders 2 --loads 4 --pulses 8 --workers 2", b""),
             Command("stress --loaders 8 --loads 4 --pulses 8 --workers 8", b""),
             Command("sweep --keys 7..15 --workers 4", few_pulses()),
@@ -234,6 +236,11 @@ def commands(library, room, kind):
         Command("run", contents("examples/splitter.toml").replace(b"pulses = 24", b"pulses = 3")),
         Command("run", b"nodes = 33\n"),
         Command("run --check --workers 1", four),
+        Command("run --json --workers 1", three),
+        Command("run --json --from 4", three),
+        Command("run --json", b"nodes = 33\n"),
+        Command(f"run {TOP}/examples/three_part.toml", b""),
+        Command("run /no/such/file", b""),
         Command("sweep --keys 7..8 --workers 1", few_pulses()),
         Command("sweep --keys 7..8", four),
         Command("explore", four),

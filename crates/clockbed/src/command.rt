@@ -1,7 +1,7 @@
 //! The program over any streams.
 ghost use Rattle.clockbed.specs.Command.{Commands};
 
-use crate::request::request_of;
+use crate::request::asked_by;
 use commands::perform::perform;
 use std::alloc::Global;
 use std::convert::AsStr;
@@ -22,8 +22,8 @@ pub fn command<T: Threads + Wait + Sync, S: AsStr, R: Read, W: Write, E: Write>(
     ensures { Commands (R.remaining reader.old) (R.remaining reader.new) (W.contents out.old) (W.contents out.new)
         (E.contents err.old) (E.contents err.new) result }
 {
-    match request_of(alloc, words) {
-        Ok(request) => perform(rt, alloc, &request, reader, out, err),
+    match asked_by(alloc, words) {
+        Ok(asked) => perform(rt, alloc, &asked.request, reader, out, err),
         Err(fault) => fault.tell(err),
     }
 }

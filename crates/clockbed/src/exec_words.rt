@@ -1,6 +1,7 @@
 //! The words of `exec`.
 
-use crate::request::{Helps, shape_options, with_shape};
+use crate::request::shape_options;
+use crate::words::{Helps, file, with_shape};
 use clap::{Arg, ArgAction, ArgMatches, Command, value_parser};
 use commands::request::{Case, ExecOptions, ShapeOptions};
 use hex::FromHexError;
@@ -11,7 +12,7 @@ use std::alloc::{AllocError, Global};
 pub(crate) const DEFAULT_FUEL: u64 = 1_000_000;
 
 /// The most fuel that can be named.
-const MOST_FUEL: i64 = 1_000_000_000;
+pub(crate) const MOST_FUEL: i64 = 1_000_000_000;
 
 /// Why the values of options make no case.
 #[derive(Clone, Copy)]
@@ -24,7 +25,11 @@ pub(crate) enum CaseFault {
 
 /// The command `exec` with its options.
 pub(crate) fn exec<'a>(alloc: Global, helps: &'a Helps) -> Result<Command<'a>, AllocError> {
-    let command = Command::new(alloc, "exec").about("Runs the image on standard input");
+    let command = Command::new(alloc, "exec")
+        .about("Runs the program of an image")
+        .after_help(
+            "Example: clockbed exec --memory 8 --show examples/seven.bpf\nPage: docs/COMMANDS.md",
+        );
     let fuel = Arg::new(alloc, "fuel")
         .long("fuel")
         .value_name("STEPS")
@@ -35,15 +40,21 @@ pub(crate) fn exec<'a>(alloc: Global, helps: &'a Helps) -> Result<Command<'a>, A
         .help("Prints the memory and what was sent too")
         .action(ArgAction::SetTrue);
     let command = with_shape(alloc, command, helps)?.arg(fuel)?;
-    with_case(alloc, command)?.arg(show)
+    with_case(alloc, command, helps)?
+        .arg(show)?
+        .arg(file(alloc))
 }
 
 /// Adds the options that say the case.
-fn with_case<'a>(alloc: Global, command: Command<'a>) -> Result<Command<'a>, AllocError> {
+fn with_case<'a>(
+    alloc: Global,
+    command: Command<'a>,
+    helps: &'a Helps,
+) -> Result<Command<'a>, AllocError> {
     let id = Arg::new(alloc, "id")
         .long("id")
         .value_name("NODE")
-        .help("Which node the program is [default: 0]")
+        .help(helps.id.as_str())
         .value_parser(value_parser!(u32).range(0..=i64::from(MAX_NODES) - 1));
     let mail = Arg::new(alloc, "mail")
         .long("mail")

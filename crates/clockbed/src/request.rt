@@ -2,239 +2,123 @@
 ghost use Rattle.std.specs.Prelude.{IfErr};
 ghost use Rattle.commands.specs.Faults.{IsOfCommandLine};
 
-use crate::exec_words::{CaseFault, DEFAULT_FUEL, exec, exec_options};
+use crate::exec_words::{CaseFault, exec_options};
 use crate::mail::{MailFault, mail_in};
-use bench_engine::MOST_WORKERS;
-use bench_shared::MOST_LOADERS;
+use crate::words::{
+    DEFAULT_LOADERS, DEFAULT_LOADS, DEFAULT_MEMORY, DEFAULT_NODES, DEFAULT_PULSES, DEFAULT_STATES,
+    DEFAULT_WORKERS, Helps, MOST_STATES, command_line,
+};
 use clap::error::ErrorKind;
-use clap::{Arg, ArgAction, ArgMatches, Command, Error, value_parser};
+use clap::{ArgMatches, Error};
 use commands::Fault;
 use commands::request::{
-    ExploreOptions, Request, RunOptions, ShapeOptions, StressOptions, SweepOptions,
+    ExploreOptions, LinesOptions, Request, RunOptions, ShapeOptions, StressOptions, SweepOptions,
 };
-use key_sweep::{KeySpan, MOST_SWEEPERS};
-use node_env::{MAX_MEMORY, MAX_NODES, MEMORY_UNIT};
+use key_sweep::KeySpan;
+use run_lines::PulseSpan;
 use std::alloc::{AllocError, Global};
 use std::convert::AsStr;
-use std::fmt::InlineText;
 
-/// The number of nodes where none is named.
-const DEFAULT_NODES: u32 = 4;
-
-/// The bytes of memory where none are named.
-const DEFAULT_MEMORY: u32 = 16;
-
-/// The workers of a pulse for which none are named.
-const DEFAULT_WORKERS: u32 = 2;
-
-/// The loaders of a stressed bench for which none are named.
-const DEFAULT_LOADERS: u32 = 2;
-
-/// The loads of each loader where none are named, and the most that can be named.
-const DEFAULT_LOADS: u32 = 8;
-
-const MOST_LOADS: u32 = 100;
-
-/// The pulses of a stressed bench for which none are named, and the most that can be named.
-const DEFAULT_PULSES: u32 = 8;
-
-const MOST_PULSES: u32 = 1_000;
-
-/// The most states and the last pulse that are explored where none are named, and the most that can be named.
-const DEFAULT_STATES: u32 = 1_000_000;
-
-const MOST_STATES: u32 = 1_000_000_000;
-
-const HELP_BYTES: usize = 64;
-
-/// The request of the words, of which the first is the program's name.
-pub fn request_of<S: AsStr>(alloc: Global, words: &[S]) -> Result<Request, Fault>
-    ensures { IfErr result IsOfCommandLine }
-{
-    match parse(alloc, words) {
-        Ok(request) => Ok(request),
-        Err(error) => said_by(alloc, &error),
-    }
-}
-
-fn parse<S: AsStr>(alloc: Global, words: &[S]) -> Result<Request, Error> {
-    let helps = Helps::new();
-    let mut command = command_line(alloc, &helps)?;
-    let matches = command.try_get_matches_from_mut(words)?;
-    match matches.subcommand() {
-        Some(("exec", options)) => match exec_options(alloc, options) {
-            Ok(options) => Ok(Request::Exec(options)),
-            Err(CaseFault::Memory) => Err(Error::from(AllocError)),
-            Err(fault) => Err(command.error(ErrorKind::ValueValidation, fault.reason())?),
-        },
-        Some(("asm", _)) => Ok(Request::Asm),
-        Some(("dis", _)) => Ok(Request::Dis),
-        Some(("verify", options)) => Ok(Request::Verify(shape_options(options))),
-        Some(("run", options)) => Ok(Request::Run(run_options(options))),
-        Some(("stress", options)) => Ok(Request::Stress(stress_options(options))),
-        Some(("explore", options)) => match explore_options(alloc, options) {
-            Ok(options) => Ok(Request::Explore(options)),
-            Err(MailFault::Memory) => Err(Error::from(AllocError)),
-            Err(fault) => Err(command.error(ErrorKind::ValueValidation, fault.reason())?),
-        },
-        Some(("sweep", options)) => match sweep_options(options) {
-            Some(options) => Ok(Request::Sweep(options)),
-            None => Err(command.error(
-                ErrorKind::ValueValidation,
-                "the keys are FIRST..LAST, the first at most the last",
-            )?),
-        },
-        _ => Err(command.error(ErrorKind::MissingSubcommand, "a command is needed")?),
-    }
-}
-
-/// The help of each option, with its default.
+/// What the words ask for, and the file that they name for it to read.
 #[derive(Drop)]
-pub(crate) struct Helps {
-    nodes: InlineText<HELP_BYTES>,
-    memory: InlineText<HELP_BYTES>,
-    pub(crate) fuel: InlineText<HELP_BYTES>,
-    most_workers: InlineText<HELP_BYTES>,
-    workers: InlineText<HELP_BYTES>,
-    loaders: InlineText<HELP_BYTES>,
-    loads: InlineText<HELP_BYTES>,
-    pulses: InlineText<HELP_BYTES>,
-    states: InlineText<HELP_BYTES>,
+pub struct Asked {
+    pub request: Request,
+    pub file: Option<String>,
 }
 
-impl Helps {
-    fn new() -> Helps {
-        Helps {
-            nodes: InlineText::of(format_args!("The number of nodes [default: {DEFAULT_NODES}]")),
-            memory: InlineText::of(format_args!(
-                "The bytes of a node's memory [default: {DEFAULT_MEMORY}]"
-            )),
-            fuel: InlineText::of(format_args!(
-                "The most steps of the run [default: {DEFAULT_FUEL}]"
-            )),
-            most_workers: InlineText::of(format_args!(
-                "The most workers of a long pulse [default: {DEFAULT_WORKERS}]"
-            )),
-            workers: InlineText::of(format_args!(
-                "The workers of a pulse [default: {DEFAULT_WORKERS}]"
-            )),
-            loaders: InlineText::of(format_args!(
-                "The loaders, each in a thread [default: {DEFAULT_LOADERS}]"
-            )),
-            loads: InlineText::of(format_args!(
-                "The loads of each loader [default: {DEFAULT_LOADS}]"
-            )),
-            pulses: InlineText::of(format_args!(
-                "The pulses of the engine [default: {DEFAULT_PULSES}]"
-            )),
-            states: InlineText::of(format_args!(
-                "The most states that are seen [default: {DEFAULT_STATES}]"
-            )),
+/// Why the values of options make no request.
+enum OptionsFault {
+    Reason(&'static str),
+    Memory,
+}
+
+impl From<CaseFault> for OptionsFault {
+    fn from(fault: CaseFault) -> OptionsFault {
+        match fault {
+            CaseFault::Memory => OptionsFault::Memory,
+            CaseFault::Id | CaseFault::Mail | CaseFault::Contents => {
+                OptionsFault::Reason(fault.reason())
+            }
         }
     }
 }
 
-fn command_line<'a>(alloc: Global, helps: &'a Helps) -> Result<Command<'a>, AllocError> {
-    let asm = Command::new(alloc, "asm").about("Prints the image of the text on standard input");
-    let dis = Command::new(alloc, "dis").about("Prints the image on standard input as text");
-    let verify = Command::new(alloc, "verify").about(
-        "Accepts or refuses the image on standard input",
-    );
-    let workers = count_option(alloc, "workers", helps.most_workers.as_str(), MOST_WORKERS);
-    let check = Arg::new(alloc, "check")
-        .long("check")
-        .help("Ends with status 3 where a pulse doesn't agree")
-        .action(ArgAction::SetTrue);
-    let run = Command::new(alloc, "run").about(
-        "Prints the report of the scenario on standard input",
-    );
-    Command::new(alloc, "clockbed")
-        .about("A testbed for Byzantine clock synchronisation")
-        .subcommand_required(true)
-        .subcommand(exec(alloc, helps)?)?
-        .subcommand(asm)?
-        .subcommand(dis)?
-        .subcommand(with_shape(alloc, verify, helps)?)?
-        .subcommand(run.arg(workers)?.arg(check)?)?
-        .subcommand(stress(alloc, helps)?)?
-        .subcommand(sweep(alloc)?)?
-        .subcommand(explore(alloc, helps)?)
+impl From<MailFault> for OptionsFault {
+    fn from(fault: MailFault) -> OptionsFault {
+        match fault {
+            MailFault::Memory => OptionsFault::Memory,
+            MailFault::NotNumbers | MailFault::Falls | MailFault::TooMany => {
+                OptionsFault::Reason(fault.reason())
+            }
+        }
+    }
 }
 
-/// The command `explore` with its options.
-fn explore<'a>(alloc: Global, helps: &'a Helps) -> Result<Command<'a>, AllocError> {
-    let mail = Arg::new(alloc, "mail").long("mail").value_name("LIST").help(
-        "What liars send, as 0..7,9, or nothing [default: 0 to the modulus]",
-    );
-    let states = count_option(alloc, "states", helps.states.as_str(), MOST_STATES);
-    let depth = count_option(
-        alloc,
-        "depth",
-        "The last pulse that is explored",
-        MOST_STATES,
-    );
-    Command::new(alloc, "explore")
-        .about("Tries every lie and every coin on the scenario on standard input")
-        .arg(mail)?
-        .arg(states)?
-        .arg(depth)
+/// What the words ask for, of which the first is the program's name.
+pub fn asked_by<S: AsStr>(alloc: Global, words: &[S]) -> Result<Asked, Fault>
+    ensures { IfErr result IsOfCommandLine }
+{
+    match parse(alloc, words) {
+        Ok(asked) => Ok(asked),
+        Err(error) => said_by(alloc, &error),
+    }
 }
 
-/// The command `sweep` with its options.
-fn sweep<'a>(alloc: Global) -> Result<Command<'a>, AllocError> {
-    let keys = Arg::new(alloc, "keys")
-        .long("keys")
-        .value_name("FIRST..LAST")
-        .help("The keys of the coins, both ends among them")
-        .required(true);
-    let help = "The workers that run whole scenarios [default: the processors]";
-    let workers = count_option(alloc, "workers", help, MOST_SWEEPERS);
-    Command::new(alloc, "sweep")
-        .about("Runs the scenario on standard input with each key, and prints CSV")
-        .arg(keys)?
-        .arg(workers)
+fn parse<S: AsStr>(alloc: Global, words: &[S]) -> Result<Asked, Error> {
+    let helps = Helps::new();
+    let mut command = command_line(alloc, &helps)?;
+    let matches = command.try_get_matches_from_mut(words)?;
+    let Some((name, options)) = matches.subcommand() else {
+        return Err(command.error(ErrorKind::MissingSubcommand, "a command is needed")?);
+    };
+    let request = match request_in(alloc, name, options) {
+        Ok(request) => request,
+        Err(OptionsFault::Memory) => return Err(Error::from(AllocError)),
+        Err(OptionsFault::Reason(reason)) => {
+            return Err(command.error(ErrorKind::ValueValidation, reason)?);
+        }
+    };
+    let file = file_in(alloc, name, options)?;
+    Ok(Asked { request, file })
 }
 
-/// The command `stress` with its options.
-fn stress<'a>(alloc: Global, helps: &'a Helps) -> Result<Command<'a>, AllocError> {
-    let loaders = count_option(alloc, "loaders", helps.loaders.as_str(), MOST_LOADERS);
-    let loads = count_option(alloc, "loads", helps.loads.as_str(), MOST_LOADS);
-    let pulses = count_option(alloc, "pulses", helps.pulses.as_str(), MOST_PULSES);
-    let workers = count_option(alloc, "workers", helps.workers.as_str(), MOST_WORKERS);
-    Command::new(alloc, "stress")
-        .about("Lets many threads work on one bench, and checks its history")
-        .arg(loaders)?
-        .arg(loads)?
-        .arg(pulses)?
-        .arg(workers)
-}
-
-/// An option for a number from 1 on.
-fn count_option<'a>(alloc: Global, name: &'static str, help: &'a str, most: u32) -> Arg<'a> {
-    Arg::new(alloc, name)
-        .long(name)
-        .value_name("COUNT")
-        .help(help)
-        .value_parser(value_parser!(u32).range(1..=i64::from(most)))
-}
-
-/// Adds the options that ask for a shape.
-pub(crate) fn with_shape<'a>(
+/// What the command of this name is asked for by its options.
+fn request_in(
     alloc: Global,
-    command: Command<'a>,
-    helps: &'a Helps,
-) -> Result<Command<'a>, AllocError> {
-    let nodes = Arg::new(alloc, "nodes")
-        .long("nodes")
-        .value_name("COUNT")
-        .help(helps.nodes.as_str())
-        .value_parser(value_parser!(u32).range(1..=i64::from(MAX_NODES)));
-    let memory = Arg::new(alloc, "memory")
-        .long("memory")
-        .value_name("BYTES")
-        .help(helps.memory.as_str())
-        .value_parser(value_parser!(u32).range(i64::from(MEMORY_UNIT)..=i64::from(MAX_MEMORY)));
-    command.arg(nodes)?.arg(memory)
+    name: &str,
+    options: &ArgMatches<'_>,
+) -> Result<Request, OptionsFault> {
+    match name {
+        "exec" => Ok(Request::Exec(exec_options(alloc, options)?)),
+        "asm" => Ok(Request::Asm),
+        "dis" => Ok(Request::Dis),
+        "verify" => Ok(Request::Verify(shape_options(options))),
+        "run" => run_request(options),
+        "stress" => Ok(Request::Stress(stress_options(options))),
+        "explore" => Ok(Request::Explore(explore_options(alloc, options)?)),
+        "sweep" => match sweep_options(options) {
+            Some(options) => Ok(Request::Sweep(options)),
+            None => Err(OptionsFault::Reason(
+                "the keys are FIRST..LAST, the first at most the last",
+            )),
+        },
+        _ => Err(OptionsFault::Reason("a command is needed")),
+    }
+}
+
+/// The file that is named, a dash being none. `stress` reads nothing.
+fn file_in(
+    alloc: Global,
+    name: &str,
+    options: &ArgMatches<'_>,
+) -> Result<Option<String>, AllocError> {
+    if name == "stress" {
+        return Ok(None);
+    }
+    match options.get_str("file") {
+        None | Some("-") => Ok(None),
+        Some(path) => Ok(Some(String::from_str(alloc, path)?)),
+    }
 }
 
 pub(crate) fn shape_options(options: &ArgMatches<'_>) -> ShapeOptions {
@@ -248,6 +132,20 @@ fn run_options(options: &ArgMatches<'_>) -> RunOptions {
     RunOptions {
         workers: options.get_one::<u32>("workers").unwrap_or(DEFAULT_WORKERS),
         check: options.get_flag("check"),
+    }
+}
+
+/// A report, or the lines of a span of pulses.
+fn run_request(options: &ArgMatches<'_>) -> Result<Request, OptionsFault> {
+    let run = run_options(options);
+    if !options.get_flag("json") {
+        return Ok(Request::Run(run));
+    }
+    let from = options.get_one::<u32>("from").unwrap_or(1);
+    let until = options.get_one::<u32>("until").unwrap_or(u32::MAX);
+    match PulseSpan::of(from, until) {
+        Some(span) => Ok(Request::Lines(LinesOptions { run, span })),
+        None => Err(OptionsFault::Reason("--from is past --until")),
     }
 }
 
@@ -283,7 +181,7 @@ fn explore_options(alloc: Global, options: &ArgMatches<'_>) -> Result<ExploreOpt
 }
 
 /// What `clap` says in place of a request: the help, or why it refuses the words.
-fn said_by(alloc: Global, error: &Error) -> Result<Request, Fault>
+fn said_by(alloc: Global, error: &Error) -> Result<Asked, Fault>
     ensures { IfErr result IsOfCommandLine }
 {
     if error.kind() == ErrorKind::OutOfMemory {
@@ -293,7 +191,10 @@ fn said_by(alloc: Global, error: &Error) -> Result<Request, Fault>
     if error.use_stderr() {
         Err(Fault::CommandLine { text })
     } else {
-        Ok(Request::Help { text })
+        Ok(Asked {
+            request: Request::Help { text },
+            file: None,
+        })
     }
 }
 

@@ -7,3 +7,4 @@ mod FaultLemmas
 mod SweepLemmas
 pub mod PlaceLemmas
 pub mod ExploreLemmas
+mod LinesLemmas

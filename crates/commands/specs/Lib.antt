@@ -10,6 +10,7 @@ pub mod Image
 pub mod Output
 pub mod Verdict
 pub mod Run
+pub mod Lines
 pub mod Stress
 pub mod Sweep
 pub mod Perform

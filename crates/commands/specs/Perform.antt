@@ -8,7 +8,7 @@ use Rattle.commands.specs.declared.fault.Fault.{Fault}
 use Rattle.commands.specs.declared.image.TheConstants.{IMAGE_BYTES}
 use Rattle.commands.specs.declared.request.ShapeOptions.{ShapeOptions}
 use Rattle.commands.specs.declared.request.Request.{Request}
-use Rattle.commands.specs.declared.request.Request.TheVariants.{Exec, Asm, Dis, Verify, Run, Stress, Sweep, Explore, Help}
+use Rattle.commands.specs.declared.request.Request.TheVariants.{Exec, Asm, Dis, Verify, Run, Lines, Stress, Sweep, Explore, Help}
 use Rattle.commands.specs.Asm.{LeavesImage}
 use Rattle.commands.specs.Dis.{LeavesListing}
 use Rattle.commands.specs.Ending.{status_of}
@@ -16,6 +16,7 @@ use Rattle.commands.specs.Exec.{LeavesAnswer}
 use Rattle.commands.specs.Explore.{LeavesExplored}
 use Rattle.commands.specs.Faults.{Says, fault_status, fault_text}
 use Rattle.commands.specs.Image.{HasShape}
+use Rattle.commands.specs.Lines.{LeavesJson}
 use Rattle.commands.specs.Output.{Leaves}
 use Rattle.commands.specs.Run.{LeavesTold, WantsThread}
 use Rattle.bench_scenario.specs.declared.run.TheConstants.{MOST_BYTES}
@@ -33,6 +34,8 @@ CarriesOut (Verify asked) input old new ended = IfSome input
     (λ bytes. LeavesVerdict old new asked (take IMAGE_BYTES bytes) ended)
 CarriesOut (Run asked) input old new ended = IfSome input
     (λ bytes. LeavesTold asked.check old new bytes ended × WantsThread bytes ended)
+CarriesOut (Lines asked) input old new ended = IfSome input
+    (λ bytes. LeavesJson asked.run.check old new bytes asked.span ended)
 CarriesOut (Stress asked) input old new ended = LeavesStressed asked old new ended
 CarriesOut (Sweep asked) input old new ended = IfSome input (λ bytes. LeavesSwept old new bytes asked.keys ended)
 CarriesOut (Explore asked) input old new ended = IfSome input
@@ -67,6 +70,7 @@ TakesFor Asm old new = TakesAtMost (TEXT_BYTES + 1) old new
 TakesFor Dis old new = TakesAtMost IMAGE_BYTES old new
 TakesFor (Verify asked) old new = TakesShaped asked old new
 TakesFor (Run asked) old new = TakesAtMost MOST_BYTES old new
+TakesFor (Lines asked) old new = TakesAtMost MOST_BYTES old new
 TakesFor (Stress asked) old new = new ≡ old
 TakesFor (Sweep asked) old new = TakesAtMost MOST_BYTES old new
 TakesFor (Explore asked) old new = TakesAtMost MOST_BYTES old new

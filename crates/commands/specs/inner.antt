@@ -1,3 +1,4 @@
 -- What proofs and private contracts alone cite.
 pub mod Exec
 pub mod Faults
+pub mod Lines

@@ -13,6 +13,7 @@ mod finding;
 pub mod image;
 pub mod laws;
 mod left;
+mod lines;
 mod output;
 pub mod perform;
 pub mod request;

@@ -8,6 +8,7 @@ use crate::ending::Ending;
 use crate::exec::exec;
 use crate::explore::explore;
 use crate::fault::Fault;
+use crate::lines::lines;
 use crate::output::write_whole;
 use crate::request::Request;
 use crate::run::run;
@@ -58,6 +59,7 @@ fn carry_out<T: Threads + Wait + Sync, R: Read, W: Write>(
         Request::Dis => dis(alloc, reader, out),
         Request::Verify(options) => verify(alloc, *options, reader, out),
         Request::Run(options) => run(rt, alloc, *options, reader, out),
+        Request::Lines(options) => lines(rt, alloc, *options, reader, out),
         Request::Stress(options) => stress(rt, alloc, *options, out),
         Request::Sweep(options) => sweep(rt, alloc, *options, reader, out),
         Request::Explore(options) => explore(alloc, options, reader, out),

@@ -4,6 +4,7 @@ ghost use Rattle.std.specs.Prelude.{◌<◌};
 pub use crate::case::Case;
 pub use bench_stress::StressOptions;
 use key_sweep::KeySpan;
+use run_lines::PulseSpan;
 
 /// A command with its options, or the help that is asked for in its place.
 #[derive(Debug, Drop)]
@@ -13,6 +14,8 @@ pub enum Request {
     Dis,
     Verify(ShapeOptions),
     Run(RunOptions),
+    /// `run --json`.
+    Lines(LinesOptions),
     Stress(StressOptions),
     Sweep(SweepOptions),
     Explore(ExploreOptions),
@@ -35,6 +38,14 @@ pub struct RunOptions {
     pub workers: u32,
     /// Whether the status tells of a pulse that doesn't agree.
     pub check: bool,
+}
+
+/// The options of `run --json`.
+#[derive(Clone, Copy, Debug, PartialEq, Eq)]
+pub struct LinesOptions {
+    pub run: RunOptions,
+    /// The pulses that are told.
+    pub span: PulseSpan,
 }
 
 /// The options of `sweep`.

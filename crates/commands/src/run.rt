@@ -48,7 +48,7 @@ pub fn run<T: Threads + Wait + Sync, R: Read, W: Write>(
 }
 
 /// How a run ends whose report is written.
-fn ending_of(check: bool, agrees: bool) -> Ending
+pub(crate) fn ending_of(check: bool, agrees: bool) -> Ending
     ensures { result ≡ (if check && not agrees then Disagreed else Done) }
 {
     if check && !agrees {
@@ -59,7 +59,7 @@ fn ending_of(check: bool, agrees: bool) -> Ending
 }
 
 /// A run of a scenario stops for want of memory or of a thread alone.
-fn fault_of(refusal: RunRefusal) -> Fault
+pub(crate) fn fault_of(refusal: RunRefusal) -> Fault
     ensures want { IsOfRun result }
     ensures fault { result ≡ run_fault refusal }
 {

@@ -1,0 +1,97 @@
+-- What the lines of a run tell, as values of JSON (docs/INSIDE.md, "The lines").
+use Rattle.std.specs.Prelude.{ℕ, ◌==◌, if◌then◌else◌, is_some, Bool, List, [], ◌∷◌, ◌++◌, length, codes}
+use Rattle.std.specs.Ordering.{nat_cmp}
+use Rattle.std.specs.FinMap.{FinMap, get}
+use Rattle.hex.specs.Hex.{encode_lower}
+use Rattle.serde_json.specs.Data.{Data, null, boolean, string}
+use Rattle.serde_json.specs.Written.{compact_text}
+use Rattle.bench_core.specs.State.{Node}
+use Rattle.bench_engine.specs.Watching.{Seen}
+use Rattle.scenario_text.specs.declared.limits.TheConstants.{CLOCK_VERSION}
+use Rattle.scenario_text.specs.declared.scenario.Frame.{Frame}
+use Rattle.scenario_text.specs.declared.scenario.Kind.{Kind}
+use Rattle.scenario_text.specs.declared.scenario.Kind.TheVariants.{Clock, Say, Echo, Asm}
+use Rattle.bench_scenario.specs.Coins.{places_below}
+use Rattle.bench_scenario.specs.Reports.{rule_or_own}
+use Rattle.bench_scenario.specs.declared.summary.RunSummary.{RunSummary}
+use Rattle.run_lines.specs.Judging.{judged_one}
+use Rattle.run_lines.specs.Staged.{StagedTold, Loaded, Unloaded, Corrupted}
+use Rattle.run_lines.specs.Values.{Member, list_data, number_data, object_data, option_data}
+
+-- the text of a value, and the end of a line
+abbrev pub line_of : Data → List ℕ
+line_of d = compact_text d ++ codes "\n"
+
+-- ---- the first line
+
+-- whose clock it is, where the version knows that
+abbrev pub clock_members : Frame → Bool → List Member
+clock_members f own = if f.version == CLOCK_VERSION then (codes "clock", string (rule_or_own own)) ∷ [] else []
+
+-- of a scenario's numbers, and whether it has a clock of its own
+abbrev pub frame_data : Frame → Bool → Data
+frame_data f own = object_data (
+    (codes "format", number_data f.version)
+    ∷ (codes "nodes", number_data f.nodes)
+    ∷ (codes "faults", number_data f.faults)
+    ∷ (codes "modulus", number_data f.modulus)
+    ∷ (codes "memory", number_data f.memory)
+    ∷ (codes "pulses", number_data f.pulses)
+    ∷ clock_members f own)
+
+-- ---- the line of a pulse
+
+abbrev pub kind_text : Kind → List ℕ
+kind_text Clock = codes "clock"
+kind_text Say = codes "say"
+kind_text Echo = codes "echo"
+kind_text Asm = codes "asm"
+
+abbrev pub staged_data : StagedTold → Data
+staged_data (Loaded node kind) =
+    object_data ((codes "load", number_data node) ∷ (codes "program", string (kind_text kind)) ∷ [])
+staged_data (Unloaded node) = object_data ((codes "unload", number_data node) ∷ [])
+staged_data (Corrupted node) = object_data ((codes "corrupt", number_data node) ∷ [])
+
+-- what a node ran: the clock, another program, or nothing
+abbrev pub ran_data : Node → Data
+ran_data x =
+    if x.mark then string (codes "clock") else (if is_some x.program then string (codes "other") else null)
+
+abbrev pub memory_data : Node → Data
+memory_data x = string (encode_lower x.memory)
+
+-- what one node sent to each of so many
+abbrev pub sent_data : ℕ → FinMap nat_cmp ℕ → Data
+sent_data nodes row = list_data (λ receiver. option_data number_data (get row receiver)) (places_below nodes)
+
+-- of a version that judges: what the report judges; else what the record tells
+abbrev pub verdict_members : Frame → Bool → Seen → List Member
+verdict_members f own x =
+    if f.version == CLOCK_VERSION
+    then (codes "agree", option_data boolean (judged_one own f.modulus x.earlier x.told).agree)
+        ∷ (codes "counts", option_data boolean (judged_one own f.modulus x.earlier x.told).counts) ∷ []
+    else (codes "agree", boolean x.told.agree) ∷ []
+
+-- before it this was staged, and it was seen so
+abbrev pub pulse_data : Frame → Bool → List StagedTold → Seen → Data
+pulse_data f own staged x = object_data (
+    (codes "pulse", number_data x.told.row.pulse)
+    ∷ (codes "staged", list_data staged_data staged)
+    ∷ (codes "coins", list_data number_data x.coins)
+    ∷ (codes "ran", list_data ran_data x.after.nodes)
+    ∷ (codes "clocks", list_data (option_data number_data) x.told.clocks)
+    ∷ (codes "settled", list_data boolean x.told.settled)
+    ∷ (codes "steps", list_data number_data x.steps)
+    ∷ (codes "memory", list_data memory_data x.after.nodes)
+    ∷ (codes "sent", list_data (sent_data (length x.after.mail)) x.after.mail)
+    ∷ verdict_members f own x)
+
+-- ---- the last line
+
+abbrev pub last_data : RunSummary → Data
+last_data m = object_data (
+    (codes "agreed", number_data m.agreed)
+    ∷ (codes "of", number_data m.judged)
+    ∷ (codes "in_step_since", option_data number_data m.in_step_since)
+    ∷ [])

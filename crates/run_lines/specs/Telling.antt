@@ -1,0 +1,70 @@
+-- What a told run leaves on its writer (docs/INSIDE.md, "The lines").
+use Rattle.std.specs.Prelude.{◌≡◌, ◌⊎◌, ℕ, ◌-◌, ◌^◌, ◌<◌, is_some, min, Bool, List, length, map, take, Option, None, Result, Ok, Err}
+use Rattle.std.specs.Io.KnownBytes.{Appends, Keeps}
+use Rattle.bench_core.specs.State.{State, new_state}
+use Rattle.bench_engine.specs.Events.{Event}
+use Rattle.bench_engine.specs.Runs.{IsFault}
+use Rattle.bench_engine.specs.Watching.{Seen, Shows}
+use Rattle.scenario_text.specs.declared.scenario.Scenario.{Scenario}
+use Rattle.scenario_text.specs.Views.{frame_of}
+use Rattle.bench_scenario.specs.declared.summary.RunSummary.{RunSummary}
+use Rattle.bench_scenario.specs.Events.{events_of}
+use Rattle.bench_scenario.specs.Reports.{all_agree}
+use Rattle.bench_scenario.specs.Runs.{IsMemoryOrThread, bench_of}
+use Rattle.bench_scenario.specs.Summary.{IsSummary}
+use Rattle.run_lines.specs.declared.fault.LinesFault.{LinesFault}
+use Rattle.run_lines.specs.declared.fault.LinesFault.TheVariants as faults
+use Rattle.run_lines.specs.Lines.{front_text, whole_text}
+use Rattle.run_lines.specs.Spans.{Span}
+
+-- on the scenario's bench, which is new, these events show these pulses
+abbrev pub AreShown : Scenario → List Event → List Seen → Type 0
+AreShown s es xs = (last : State) × Shows (bench_of s) (new_state (bench_of s)) 0 None es xs last
+
+-- the first line, and those of the pulses that so many events of the run show
+pub record IsFront (s : Scenario) (span : Span) (events : ℕ) (told : List ℕ) : Type 0 where
+  pub seen : List Seen
+  pub shown : AreShown s (take events (events_of s)) seen
+  pub text : told ≡ front_text s span seen
+
+-- all lines, and whether no pulse's verdict on agreement is no
+pub record IsWhole (s : Scenario) (span : Span) (told : List ℕ) (agrees : Bool) : Type 0 where
+  pub seen : List Seen
+  pub summary : RunSummary
+  pub shown : AreShown s (events_of s) seen
+  pub summed : IsSummary (frame_of s) (is_some s.clock) (map (λ x. x.told) seen) summary
+  pub verdict : agrees ≡ all_agree (frame_of s) (is_some s.clock) (map (λ x. x.told) seen)
+  pub text : told ≡ whole_text s span seen summary
+
+-- whole lines up to some pulse
+pub record LeavesFront (old new : Option (List ℕ)) (s : Scenario) (span : Span) (events : ℕ) : Type 0 where
+  pub told : List ℕ
+  pub front : IsFront s span events told
+  pub left : Appends old new told
+
+-- lines up to some pulse, or all
+abbrev pub AreLines : Scenario → Span → List ℕ → Type 0
+AreLines s span told = ((events : ℕ) × IsFront s span events told) ⊎ ((agrees : Bool) × IsWhole s span told agrees)
+
+-- as many bytes as a fault tells, which has room for a number up to this one
+abbrev pub MOST_TOLD : ℕ
+MOST_TOLD = 2 ^ 64 - 1
+
+-- the first bytes of lines, as many as were taken
+pub record Breaks (old new : Option (List ℕ)) (s : Scenario) (span : Span) (written : ℕ) : Type 0 where
+  pub told : List ℕ
+  pub lines : AreLines s span told
+  pub taken : ℕ
+  pub part : taken < length told
+  pub number : written ≡ min taken MOST_TOLD
+  pub left : Appends old new (take taken told)
+
+-- all lines; the first bytes of lines where a write failed; where the run stopped at an event, whole lines of the
+-- pulses before it; where there was no memory, nothing or whole lines
+abbrev pub LeavesLines : Option (List ℕ) → Option (List ℕ) → Scenario → Span → Result Bool LinesFault → Type 0
+LeavesLines old new s span (Ok agrees) = (told : List ℕ) × IsWhole s span told agrees × Appends old new told
+LeavesLines old new s span (Err (faults.Write written)) = Breaks old new s span written
+LeavesLines old new s span (Err faults.Memory) = Keeps old new ⊎ ((events : ℕ) × LeavesFront old new s span events)
+LeavesLines old new s span (Err (faults.Run stop)) =
+    IsFault (bench_of s) (events_of s) stop.event stop.fault × IsMemoryOrThread stop.fault
+    × LeavesFront old new s span stop.event

@@ -1,0 +1,22 @@
+//! A run told pulse by pulse, in lines of JSON: docs/INSIDE.md, "The lines".
+#![tactic(auto)]
+
+mod fault;
+mod frame_lines;
+mod nodes;
+mod pulse_lines;
+mod span;
+mod staged;
+mod telling;
+mod text;
+mod values;
+mod writer;
+
+pub use fault::LinesFault;
+pub use frame_lines::{frame_line, last_line};
+pub use pulse_lines::pulse_line;
+pub use span::PulseSpan;
+pub use telling::tell_lines;
+
+#[cfg(test)]
+mod tests;
