@@ -14,7 +14,7 @@ use Rattle.scenario_text.specs.declared.scenario.Kind.TheVariants.{Clock, Say, E
 use Rattle.bench_scenario.specs.Coins.{places_below}
 use Rattle.bench_scenario.specs.Reports.{rule_or_own}
 use Rattle.bench_scenario.specs.declared.summary.RunSummary.{RunSummary}
-use Rattle.run_lines.specs.Judging.{judged_one}
+use Rattle.run_lines.specs.Judging.{agree_of, counts_of}
 use Rattle.run_lines.specs.Staged.{StagedTold, Loaded, Unloaded, Corrupted}
 use Rattle.run_lines.specs.Values.{Member, list_data, number_data, object_data, option_data}
 
@@ -28,16 +28,19 @@ line_of d = compact_text d ++ codes "\n"
 abbrev pub clock_members : Frame → Bool → List Member
 clock_members f own = if f.version == CLOCK_VERSION then (codes "clock", string (rule_or_own own)) ∷ [] else []
 
--- of a scenario's numbers, and whether it has a clock of its own
-abbrev pub frame_data : Frame → Bool → Data
-frame_data f own = object_data (
+abbrev pub frame_members : Frame → Bool → List Member
+frame_members f own =
     (codes "format", number_data f.version)
     ∷ (codes "nodes", number_data f.nodes)
     ∷ (codes "faults", number_data f.faults)
     ∷ (codes "modulus", number_data f.modulus)
     ∷ (codes "memory", number_data f.memory)
     ∷ (codes "pulses", number_data f.pulses)
-    ∷ clock_members f own)
+    ∷ clock_members f own
+
+-- of a scenario's numbers, and whether it has a clock of its own
+abbrev pub frame_data : Frame → Bool → Data
+frame_data f own = object_data (frame_members f own)
 
 -- ---- the line of a pulse
 
@@ -65,17 +68,15 @@ memory_data x = string (encode_lower x.memory)
 abbrev pub sent_data : ℕ → FinMap nat_cmp ℕ → Data
 sent_data nodes row = list_data (λ receiver. option_data number_data (get row receiver)) (places_below nodes)
 
--- of a version that judges: what the report judges; else what the record tells
+-- the verdict on agreement, and that on counting where the version judges it
 abbrev pub verdict_members : Frame → Bool → Seen → List Member
 verdict_members f own x =
-    if f.version == CLOCK_VERSION
-    then (codes "agree", option_data boolean (judged_one own f.modulus x.earlier x.told).agree)
-        ∷ (codes "counts", option_data boolean (judged_one own f.modulus x.earlier x.told).counts) ∷ []
-    else (codes "agree", boolean x.told.agree) ∷ []
+    (codes "agree", option_data boolean (agree_of f own x.told))
+    ∷ (if f.version == CLOCK_VERSION
+       then (codes "counts", option_data boolean (counts_of f.modulus x.earlier x.told)) ∷ [] else [])
 
--- before it this was staged, and it was seen so
-abbrev pub pulse_data : Frame → Bool → List StagedTold → Seen → Data
-pulse_data f own staged x = object_data (
+abbrev pub pulse_members : Frame → Bool → List StagedTold → Seen → List Member
+pulse_members f own staged x =
     (codes "pulse", number_data x.told.row.pulse)
     ∷ (codes "staged", list_data staged_data staged)
     ∷ (codes "coins", list_data number_data x.coins)
@@ -85,7 +86,11 @@ pulse_data f own staged x = object_data (
     ∷ (codes "steps", list_data number_data x.steps)
     ∷ (codes "memory", list_data memory_data x.after.nodes)
     ∷ (codes "sent", list_data (sent_data (length x.after.mail)) x.after.mail)
-    ∷ verdict_members f own x)
+    ∷ verdict_members f own x
+
+-- before the pulse this was staged, and it was seen so
+abbrev pub pulse_data : Frame → Bool → List StagedTold → Seen → Data
+pulse_data f own staged x = object_data (pulse_members f own staged x)
 
 -- ---- the last line
 

@@ -1,16 +1,15 @@
 -- What is judged of one pulse, by its record and that of the pulse before (docs/SCENARIOS.md, "Verdicts").
-use Rattle.std.specs.Prelude.{ℕ, Bool, List, [], Option, Some, None}
+use Rattle.std.specs.Prelude.{ℕ, ◌==◌, if◌then◌else◌, Bool, Option, Some, None}
 use Rattle.bench_core.specs.Settled.{PulseTold}
-use Rattle.bench_scenario.specs.declared.verdicts.Judged.{Judged}
+use Rattle.scenario_text.specs.declared.limits.TheConstants.{CLOCK_VERSION}
+use Rattle.scenario_text.specs.declared.scenario.Frame.{Frame}
 use Rattle.bench_scenario.specs.Verdicts.{agreement, counting, settled_in}
 
--- the first pulse has none before it
-abbrev pub settled_before : Option PulseTold → List (Option ℕ)
-settled_before None = []
-settled_before (Some earlier) = settled_in earlier
+-- of a version that judges: by the clock; else as the record has it
+abbrev pub agree_of : Frame → Bool → PulseTold → Option Bool
+agree_of f own r = if f.version == CLOCK_VERSION then agreement own f.modulus r else Some r.agree
 
-abbrev pub judged_one : Bool → ℕ → Option PulseTold → PulseTold → Judged
-judged_one own modulus earlier r = record {
-  agree = agreement own modulus r;
-  counts = counting modulus (settled_before earlier) (settled_in r);
-}
+-- nothing counts in the first pulse, which has none before it
+abbrev pub counts_of : ℕ → Option PulseTold → PulseTold → Option Bool
+counts_of modulus None r = None
+counts_of modulus (Some earlier) r = counting modulus (settled_in earlier) (settled_in r)

@@ -2,6 +2,8 @@ pub mod Values
 pub mod Staged
 pub mod Judging
 pub mod Data
+pub mod Readers
+pub mod Laws
 pub mod Spans
 pub mod Lines
 pub mod Telling

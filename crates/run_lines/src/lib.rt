@@ -3,6 +3,7 @@
 
 mod fault;
 mod frame_lines;
+pub mod laws;
 mod nodes;
 mod pulse_lines;
 mod span;

@@ -1,14 +1,12 @@
 //! The line of a pulse.
-ghost use Rattle.std.specs.Prelude.{◌≡◌, ◌∷◌, [], Some, IfOk, OnOk, codes, is_some, length, option_copied, string_bytes};
+ghost use Rattle.std.specs.Prelude.{◌≡◌, ◌∷◌, [], IfOk, OnOk, codes, is_some, length, option_copied, string_bytes};
 ghost use Rattle.serde_json.specs.Data.{boolean};
-ghost use Rattle.serde_json.specs.Read.{read};
 ghost use Rattle.serde_json.specs.View.{members_view, view};
-ghost use Rattle.serde_json.specs.Written.{compact_text};
 ghost use Rattle.bench_engine.specs.Watching.{seen_of};
-ghost use Rattle.bench_scenario.specs.Verdicts.{agreement, counting, settled_in};
 ghost use Rattle.scenario_text.specs.Views.{frame_of};
 ghost use Rattle.run_lines.specs.Data.{line_of, memory_data, pulse_data, ran_data, sent_data, staged_data, verdict_members};
-ghost use Rattle.run_lines.specs.Judging.{settled_before};
+ghost use Rattle.run_lines.specs.Judging.{agree_of, counts_of};
+ghost use Rattle.run_lines.specs.Laws.{ReadsBack};
 ghost use Rattle.run_lines.specs.Staged.{staged_at};
 ghost use Rattle.run_lines.specs.Values.{list_data, number_data, option_data, with_members};
 
@@ -36,7 +34,8 @@ fn add_doings(
         ∷ (codes "coins", list_data number_data (seen_of shown.now).coins)
         ∷ (codes "ran", list_data ran_data (seen_of shown.now).after.nodes) ∷ [])) }
 {
-    let pulse = shown.told.row.pulse;
+    let told = shown.told;
+    let pulse = told.row.pulse;
     put(members, alloc, "pulse", Value::from(pulse))?;
     put(members, alloc, "staged", staged(alloc, scenario, pulse)?)?;
     put(members, alloc, "coins", numbers(alloc, shown.coins)?)?;
@@ -57,7 +56,12 @@ fn add_record(
     let told = shown.told;
     let clocks = numbers_or_null(alloc, told.clocks.as_slice())?;
     put(members, alloc, "clocks", clocks)?;
-    put(members, alloc, "settled", flags(alloc, told.settled.as_slice())?)?;
+    put(
+        members,
+        alloc,
+        "settled",
+        flags(alloc, told.settled.as_slice())?,
+    )?;
     put(members, alloc, "steps", numbers(alloc, shown.steps)?)
 }
 
@@ -76,41 +80,38 @@ fn add_left(
     put(members, alloc, "sent", sent(alloc, shown.bench.mail())?)
 }
 
-/// Node by node the clock of the pulse before, where the node was settled in it.
-fn settled_before(
+/// Whether a pulse agrees, as the report says it.
+fn agree_of(
     alloc: Global,
-    earlier: Option<&PulseRecord>,
-) -> Result<Vec<Option<u32>>, AllocError>
-    ensures { IfOk result (λ told. told.items ≡ settled_before (option_copied earlier)) }
+    scenario: &Scenario,
+    told: &PulseRecord,
+) -> Result<Option<bool>, AllocError>
+    ensures { IfOk result (λ verdict. verdict
+        ≡ agree_of (frame_of scenario.now) (is_some scenario.now.clock) told.now) }
 {
-    match earlier {
-        Some(earlier) => told_clocks(alloc, earlier.settled.as_slice(), earlier.clocks.as_slice()),
-        None => Ok(Vec::new(alloc)),
+    if scenario.version as u64 != CLOCK_VERSION {
+        return Ok(Some(told.agree));
     }
-}
-
-/// The verdicts of a pulse on agreement and on counting.
-#[derive(Clone, Copy)]
-struct Verdicts {
-    agree: Option<bool>,
-    counts: Option<bool>,
-}
-
-/// What is judged of a pulse, by its record and the one before.
-fn judged(alloc: Global, scenario: &Scenario, shown: &Shown) -> Result<Verdicts, AllocError>
-    ensures agree { IfOk result (λ v. v.agree
-        ≡ agreement (is_some scenario.now.clock) scenario.now.modulus (seen_of shown.now).told) }
-    ensures counts { IfOk result (λ v. v.counts ≡ counting scenario.now.modulus
-        (settled_before (seen_of shown.now).earlier) (settled_in (seen_of shown.now).told)) }
-{
-    let told = shown.told;
-    let modulus = scenario.modulus;
-    let before = settled_before(alloc, shown.earlier)?;
     let clocks = told_clocks(alloc, told.settled.as_slice(), told.clocks.as_slice())?;
-    Ok(Verdicts {
-        agree: agreement(scenario.clock.is_some(), modulus, told, clocks.as_slice()),
-        counts: counting(modulus, before.as_slice(), clocks.as_slice()),
-    })
+    let own = scenario.clock.is_some();
+    Ok(agreement(own, scenario.modulus, told, clocks.as_slice()))
+}
+
+/// Whether the clocks counted from the pulse before to this one.
+fn counts_of(
+    alloc: Global,
+    modulus: u32,
+    earlier: Option<&PulseRecord>,
+    told: &PulseRecord,
+) -> Result<Option<bool>, AllocError>
+    ensures { IfOk result (λ verdict. verdict ≡ counts_of modulus (option_copied earlier.entry) told.now) }
+{
+    let Some(earlier) = earlier else {
+        return Ok(None);
+    };
+    let before = told_clocks(alloc, earlier.settled.as_slice(), earlier.clocks.as_slice())?;
+    let after = told_clocks(alloc, told.settled.as_slice(), told.clocks.as_slice())?;
+    Ok(counting(modulus, before.as_slice(), after.as_slice()))
 }
 
 /// What is judged of it.
@@ -123,12 +124,13 @@ fn add_verdicts(
     ensures { OnOk result (members_view members.new.entries ≡ with_members (members_view members.old.entries)
         (verdict_members (frame_of scenario.now) (is_some scenario.now.clock) (seen_of shown.now))) }
 {
+    let agree = agree_of(alloc, scenario, shown.told)?;
+    put(members, alloc, "agree", verdict_or_null(agree))?;
     if scenario.version as u64 != CLOCK_VERSION {
-        return put(members, alloc, "agree", Value::Bool(shown.told.agree));
+        return Ok(());
     }
-    let verdicts = judged(alloc, scenario, shown)?;
-    put(members, alloc, "agree", verdict_or_null(verdicts.agree))?;
-    put(members, alloc, "counts", verdict_or_null(verdicts.counts))
+    let counts = counts_of(alloc, scenario.modulus, shown.earlier, shown.told)?;
+    put(members, alloc, "counts", verdict_or_null(counts))
 }
 
 /// What the line of a pulse tells.
@@ -144,10 +146,12 @@ fn pulse_value(alloc: Global, scenario: &Scenario, shown: &Shown) -> Result<Valu
     Ok(Value::Object(members))
 }
 
-/// The line of a closed pulse of a scenario's run.
+/// The line of a closed pulse of a scenario's run, whose text reads back as what it tells.
 pub fn pulse_line(alloc: Global, scenario: &Scenario, shown: &Shown) -> Result<String, AllocError>
     ensures line { IfOk result (λ s. string_bytes s
         ≡ line_of (pulse_data (frame_of scenario.now) (is_some scenario.now.clock)
+        (staged_at scenario.now (seen_of shown.now).told.row.pulse) (seen_of shown.now))) }
+    ensures reads { OnOk result (ReadsBack (pulse_data (frame_of scenario.now) (is_some scenario.now.clock)
         (staged_at scenario.now (seen_of shown.now).told.row.pulse) (seen_of shown.now))) }
 {
     let value = pulse_value(alloc, scenario, shown)?;

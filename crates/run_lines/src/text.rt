@@ -1,10 +1,11 @@
 //! The text of a line.
-ghost use Rattle.std.specs.Prelude.{◌≡◌, ◌≤◌, false, Some, IfOk, OnOk, string_bytes};
+ghost use Rattle.std.specs.Prelude.{◌≡◌, ◌≤◌, false, IfOk, OnOk, string_bytes};
 ghost use Rattle.serde_json.specs.Data.{depth};
-ghost use Rattle.serde_json.specs.Read.{max_depth, read};
+ghost use Rattle.serde_json.specs.Read.{max_depth};
 ghost use Rattle.serde_json.specs.View.{view};
-ghost use Rattle.serde_json.specs.Written.{compact_text, has_float};
+ghost use Rattle.serde_json.specs.Written.{has_float};
 ghost use Rattle.run_lines.specs.Data.{line_of};
+ghost use Rattle.run_lines.specs.Laws.{ReadsBack};
 
 use serde_json::Value;
 use std::alloc::{AllocError, Global};
@@ -14,7 +15,7 @@ pub(crate) fn line_of(alloc: Global, value: &Value) -> Result<String, AllocError
     requires whole { has_float (view value.now) ≡ false }
     requires flat { depth (view value.now) ≤ max_depth }
     ensures line { IfOk result (λ s. string_bytes s ≡ line_of (view value.now)) }
-    ensures reads { OnOk result (read (compact_text (view value.now)) ≡ Some (view value.now)) }
+    ensures reads { OnOk result (ReadsBack (view value.now)) }
 {
     let mut text = value.to_string(alloc)?;
     text.push_str("\n")?;

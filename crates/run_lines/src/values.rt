@@ -49,10 +49,7 @@ pub(crate) fn numbers(alloc: Global, numbers: &[u32]) -> Result<Value, AllocErro
 }
 
 /// A list of numbers, with null for nothing.
-pub(crate) fn numbers_or_null(
-    alloc: Global,
-    numbers: &[Option<u32>],
-) -> Result<Value, AllocError>
+pub(crate) fn numbers_or_null(alloc: Global, numbers: &[Option<u32>]) -> Result<Value, AllocError>
     ensures { IfOk result (λ v. view v ≡ list_data (option_data number_data) numbers.now) }
 {
     let mut values = Vec::with_capacity(alloc, numbers.len())?;

@@ -1,0 +1,5 @@
+mod PlainLemmas
+mod ToldLemmas
+mod DataLemmas
+mod JudgingLaws
+mod LineLaws

@@ -1,0 +1,9 @@
+use Rattle.std.proofs.Common.{◌≡◌, ◌++◌, drop, map}
+use Rattle.run_lines.specs.Values.{number_data}
+use Rattle.serde_json.specs.View.{view}
+use Rattle.run_lines.proofs.values.numbers.Given as goal
+
+-- what is told and what is still to come are the whole
+abbrev pub invariant-loop-number : goal.invariant-loop-number
+invariant-loop-number l =
+    map view l.values.items ++ map number_data (drop l.number-index l.numbers) ≡ map number_data l.numbers

@@ -1,0 +1,72 @@
+-- What the lines of pulses let their reader know (docs/INSIDE.md, "The lines").
+use Rattle.std.specs.Prelude.{◌≡◌, ℕ, ◌<◌, Bool, List, Option, Some, None, All, length, map}
+use Rattle.std.specs.FinMap.{get}
+use Rattle.serde_json.specs.Data.{Data}
+use Rattle.serde_json.specs.Read.{read}
+use Rattle.serde_json.specs.Written.{compact_text}
+use Rattle.bench_core.specs.Setup.{Setup}
+use Rattle.bench_core.specs.State.{State, new_state}
+use Rattle.bench_engine.specs.Events.{Event}
+use Rattle.bench_engine.specs.Watching.{Seen, Shows}
+use Rattle.scenario_text.specs.declared.scenario.Frame.{Frame}
+use Rattle.bench_scenario.specs.Coins.{places_below}
+use Rattle.bench_scenario.specs.Summary.{agreements}
+use Rattle.bench_scenario.specs.Verdicts.{judged_of}
+use Rattle.run_lines.specs.Data.{line_of, pulse_data}
+use Rattle.run_lines.specs.Judging.{agree_of, counts_of}
+use Rattle.run_lines.specs.Readers.{told_clocks, told_coins, told_memory, told_pulse, told_sent, told_settled, told_steps}
+use Rattle.run_lines.specs.Staged.{StagedTold}
+
+-- the text of the value reads as it
+abbrev pub ReadsBack : Data → Type 0
+ReadsBack d = read (compact_text d) ≡ Some d
+
+-- each memory is of bytes
+abbrev pub HoldsBytes : State → Type 0
+HoldsBytes b = All (λ x. All (λ byte. byte < 256) x.memory) b.nodes
+
+abbrev pub memories_in : State → List (List ℕ)
+memories_in b = map (λ x. x.memory) b.nodes
+
+-- what each node sent to each
+abbrev pub slots_in : State → List (List (Option ℕ))
+slots_in b = map (λ row. map (get row) (places_below (length b.mail))) b.mail
+
+-- a reader of the value finds what was seen
+pub record TellsSeen (x : Seen) (d : Data) : Type 0 where
+  pub pulse : told_pulse d ≡ Some x.told.row.pulse
+  pub coins : told_coins d ≡ Some x.coins
+  pub clocks : told_clocks d ≡ Some x.told.clocks
+  pub settled : told_settled d ≡ Some x.told.settled
+  pub steps : told_steps d ≡ Some x.steps
+  pub memory : HoldsBytes x.after → told_memory d ≡ Some (memories_in x.after)
+  pub sent : told_sent d ≡ Some (slots_in x.after)
+
+abbrev pub TellsItsPulse : Type 0
+TellsItsPulse = (f : Frame) (own : Bool) (staged : List StagedTold) (x : Seen) → TellsSeen x (pulse_data f own staged x)
+
+pub record AreAlike (x y : Seen) : Type 0 where
+  pub pulse : x.told.row.pulse ≡ y.told.row.pulse
+  pub coins : x.coins ≡ y.coins
+  pub clocks : x.told.clocks ≡ y.told.clocks
+  pub settled : x.told.settled ≡ y.told.settled
+  pub steps : x.steps ≡ y.steps
+  pub memory : HoldsBytes x.after → HoldsBytes y.after → memories_in x.after ≡ memories_in y.after
+  pub sent : slots_in x.after ≡ slots_in y.after
+
+-- pulses of one line are alike. The line of each pulse that is written reads back
+abbrev pub OneLineOnePulse : Type 0
+OneLineOnePulse = (f g : Frame) (own other : Bool) (staged before : List StagedTold) (x y : Seen)
+    → ReadsBack (pulse_data f own staged x) → ReadsBack (pulse_data g other before y)
+    → line_of (pulse_data f own staged x) ≡ line_of (pulse_data g other before y) → AreAlike x y
+
+-- the verdicts of these pulses are those that the report judges of their records
+pub record AreOfReport (f : Frame) (own : Bool) (xs : List Seen) : Type 0 where
+  pub agree : map (λ x. agree_of f own x.told) xs ≡ agreements f own (map (λ x. x.told) xs)
+  pub counts : map (λ x. counts_of f.modulus x.earlier x.told) xs
+      ≡ map (λ j. j.counts) (judged_of own f.modulus (map (λ x. x.told) xs))
+
+-- pulse by pulse the lines of a run judge what its report judges
+abbrev pub JudgesAsTheReport : Type 0
+JudgesAsTheReport = (f : Frame) (own : Bool) (s : Setup) (es : List Event) (xs : List Seen) (b : State)
+    → Shows s (new_state s) 0 None es xs b → AreOfReport f own xs
