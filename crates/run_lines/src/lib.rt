@@ -18,6 +18,3 @@ pub use frame_lines::{frame_line, last_line};
 pub use pulse_lines::pulse_line;
 pub use span::PulseSpan;
 pub use telling::tell_lines;
-
-#[cfg(test)]
-mod tests;
