@@ -1,10 +1,10 @@
 -- What the lines tell has no float, and nests no deeper than three levels.
-use Rattle.std.proofs.Common.{◌≡◌, ℕ, List, [], ◌∷◌, length}
-use Rattle.std.specs.Prelude.{Bool, true, false, Option, Some, None, codes, if◌then◌else◌, is_some, ◌==◌}
+use Rattle.std.proofs.Common.{ℕ, List, [], ◌∷◌, length}
+use Rattle.std.specs.Prelude.{Bool, true, false, Option, codes, if◌then◌else◌, is_some, ◌==◌}
 use Rattle.std.specs.List.{AllByRecursion}
 use Rattle.std.specs.Ordering.{nat_cmp}
 use Rattle.std.specs.FinMap.{FinMap, get}
-use Rattle.serde_json.specs.Data.{Data, boolean, null, string}
+use Rattle.serde_json.specs.Data.{boolean, null, string}
 use Rattle.bench_core.specs.State.{Node}
 use Rattle.bench_engine.specs.Watching.{Seen}
 use Rattle.scenario_text.specs.declared.limits.TheConstants.{CLOCK_VERSION}
@@ -33,8 +33,13 @@ plain_frame f own =
     (plain_string 0 (rule_or_own own), tt) tt in
     let last : AllPlain 0 ((codes "memory", number_data f.memory) ∷ (codes "pulses", number_data f.pulses)
     ∷ clock_members f own) = (plain_number 0 f.memory, (plain_number 0 f.pulses, clock)) in
-    let each : AllPlain 0 (frame_members f own) = (plain_number 0 f.version, (plain_number 0 f.nodes,
-    (plain_number 0 f.faults, (plain_number 0 f.modulus, last)))) in
+    let each : AllPlain 0 (frame_members f own) = (
+      plain_number 0 f.version,
+      (
+        plain_number 0 f.nodes,
+        (plain_number 0 f.faults, (plain_number 0 f.modulus, last)),
+      ),
+    ) in
     plain_object 0 (frame_members f own) each
 
 abbrev last_members : RunSummary → List Member
@@ -81,7 +86,7 @@ plain_verdicts f own x =
     let counts = counts_of f.modulus x.earlier x.told in (
       plain_verdict (agree_of f own x.told),
       either_plain (f.version == CLOCK_VERSION) 2 ((codes "counts", option_data boolean counts) ∷ []) []
-      (plain_verdict counts, tt) tt,
+          (plain_verdict counts, tt) tt,
     )
 
 pub plain_pulse : (f : Frame) (own : Bool) (staged : List StagedTold) (x : Seen)

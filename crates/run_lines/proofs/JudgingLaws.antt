@@ -1,5 +1,5 @@
 -- Pulse by pulse the lines judge what the report judges.
-use Rattle.std.proofs.Common.{◌≡◌, ℕ, ◌+◌, List, [], ◌∷◌, map, ap, refl, sym, ◌∙◌}
+use Rattle.std.proofs.Common.{◌≡◌, ℕ, ◌+◌, List, [], ◌∷◌, map, ap, refl, ◌∙◌}
 use Rattle.std.specs.Prelude.{Bool, true, false, Option, Some, None, if◌then◌else◌, ◌==◌}
 use Rattle.bench_core.specs.Settled.{PulseTold}
 use Rattle.bench_core.specs.Setup.{Setup}
@@ -9,9 +9,8 @@ use Rattle.bench_engine.specs.Events.{Pulse as PulseEvent}
 use Rattle.bench_engine.specs.Watching.{Seen, Shows}
 use Rattle.scenario_text.specs.declared.limits.TheConstants.{CLOCK_VERSION}
 use Rattle.scenario_text.specs.declared.scenario.Frame.{Frame}
-use Rattle.bench_scenario.specs.Summary.{agreements}
 use Rattle.bench_scenario.specs.Verdicts.{agreement, counting, judged_after, judged_of, settled_in}
-use Rattle.run_lines.specs.Judging.{agree_of, counts_of}
+use Rattle.run_lines.specs.Judging.{counts_of}
 use Rattle.run_lines.specs.Laws.{AreOfReport}
 
 -- ---- agreement
@@ -30,7 +29,7 @@ plain_agree (x ∷ xs) = ap (λ os. Some x.told.agree ∷ os) (plain_agree xs)
 either_agree : (b own : Bool) (modulus : ℕ) (xs : List Seen)
     → map (λ x. if b then agreement own modulus x.told else Some x.told.agree) xs
     ≡ (if b then map (λ j. j.agree) (judged_of own modulus (map (λ x. x.told) xs))
-       else map (λ r. Some r.agree) (map (λ x. x.told) xs))
+    else map (λ r. Some r.agree) (map (λ x. x.told) xs))
 either_agree true own modulus xs = judged_agree own modulus [] xs
 either_agree false own modulus xs = plain_agree xs
 

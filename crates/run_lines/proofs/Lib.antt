@@ -1,5 +1,6 @@
-mod PlainLemmas
-mod ToldLemmas
 mod DataLemmas
 mod JudgingLaws
 mod LineLaws
+mod LineLemmas
+mod PlainLemmas
+mod ToldLemmas

@@ -1,6 +1,6 @@
 -- What is read of the line of a pulse.
-use Rattle.std.proofs.Common.{◌≡◌, ℕ, zero, suc, ◌<◌, arith, List, [], ◌∷◌, ◌++◌, length, map, ap, refl, sym, subst, ◌∙◌, codes, bytes_eq, true≢false}
-use Rattle.std.specs.Prelude.{Bool, true, false, All, slice_index, Option, Some, None, if◌then◌else◌, ◌==◌, option_and_then}
+use Rattle.std.proofs.Common.{◌≡◌, ℕ, zero, suc, ◌<◌, arith, List, [], ◌∷◌, length, map, ap, refl, sym, ◌∙◌, codes, bytes_eq, true≢false}
+use Rattle.std.specs.Prelude.{Bool, true, false, All, slice_index, Option, Some, if◌then◌else◌, ◌==◌, option_and_then}
 use Rattle.std.specs.List.{AllByRecursion}
 use Rattle.std.specs.Ordering.{nat_cmp}
 use Rattle.std.specs.FinMap.{FinMap, get as get_in}
@@ -14,14 +14,14 @@ use Rattle.serde_json.specs.Find.{as_bool, get, get_member}
 use Rattle.serde_json.specs.Read.{read}
 use Rattle.serde_json.specs.View.{items_of}
 use Rattle.serde_json.specs.Written.{compact_text}
-use Rattle.bench_core.specs.State.{Node, State}
+use Rattle.bench_core.specs.State.{Node}
 use Rattle.bench_engine.specs.Watching.{Seen}
 use Rattle.scenario_text.specs.declared.limits.TheConstants.{CLOCK_VERSION}
 use Rattle.scenario_text.specs.declared.scenario.Frame.{Frame}
 use Rattle.bench_scenario.specs.Coins.{places_below}
 use Rattle.run_lines.specs.Data.{line_of, memory_data, pulse_data, ran_data, sent_data, staged_data, verdict_members}
 use Rattle.run_lines.specs.Judging.{agree_of, counts_of}
-use Rattle.run_lines.specs.Laws.{AreAlike, HoldsBytes, ReadsBack, TellsSeen, memories_in, slots_in}
+use Rattle.run_lines.specs.Laws.{AreAlike, ReadsBack, TellsSeen, memories_in, slots_in}
 use Rattle.run_lines.specs.Readers.{bytes_in, each_in, list_in, number_in, option_in, told_clocks, told_coins, told_memory, told_pulse, told_sent, told_settled, told_steps}
 use Rattle.run_lines.specs.Staged.{StagedTold}
 use Rattle.run_lines.specs.Values.{Member, list_data, number_data, option_data, with_members}

@@ -1,13 +1,13 @@
 -- What is told is read again.
-use Rattle.std.proofs.Common.{◌≡◌, ℕ, List, [], ◌∷◌, map, arith, refl, ap, ◌∙◌, codes}
-use Rattle.std.specs.Prelude.{Bool, true, false, Option, Some, None, is_some}
+use Rattle.std.proofs.Common.{◌≡◌, ℕ, List, [], ◌∷◌, map, refl, ◌∙◌}
+use Rattle.std.specs.Prelude.{false, Option, Some, None, is_some}
 use Rattle.std.specs.List.{AllByRecursion}
-use Rattle.serde_json.specs.Data.{Data, Members, boolean, no_members, put}
-use Rattle.serde_json.specs.Find.{as_bool, as_null, get_member}
+use Rattle.serde_json.specs.Data.{Data, Members, put}
+use Rattle.serde_json.specs.Find.{as_null, get_member}
 use Rattle.serde_json.specs.View.{items_of}
-use Rattle.serde_json.proofs.Views.{get_member-put, get_member-put_other}
-use Rattle.run_lines.specs.Readers.{each_in, list_in, number_in, option_in}
-use Rattle.run_lines.specs.Values.{Member, list_data, number_data, option_data, with_members}
+use Rattle.serde_json.proofs.Views.{get_member-put_other}
+use Rattle.run_lines.specs.Readers.{each_in, number_in, option_in}
+use Rattle.run_lines.specs.Values.{Member, number_data, option_data, with_members}
 
 pub list_told : {A B : Type 0} (f : A → Data) (r : Data → Option B) (g : A → B) (xs : List A)
     → AllByRecursion (λ x. r (f x) ≡ Some (g x)) xs → each_in r (items_of (map f xs)) ≡ Some (map g xs)

@@ -73,7 +73,7 @@ abbrev pub verdict_members : Frame → Bool → Seen → List Member
 verdict_members f own x =
     (codes "agree", option_data boolean (agree_of f own x.told))
     ∷ (if f.version == CLOCK_VERSION
-       then (codes "counts", option_data boolean (counts_of f.modulus x.earlier x.told)) ∷ [] else [])
+    then (codes "counts", option_data boolean (counts_of f.modulus x.earlier x.told)) ∷ [] else [])
 
 abbrev pub pulse_members : Frame → Bool → List StagedTold → Seen → List Member
 pulse_members f own staged x =

@@ -3,7 +3,7 @@ use Rattle.std.specs.Prelude.{◌≡◌, ◌⊎◌, ℕ, ◌-◌, ◌^◌, ◌<�
 use Rattle.std.specs.Io.KnownBytes.{Appends, Keeps}
 use Rattle.bench_core.specs.State.{State, new_state}
 use Rattle.bench_engine.specs.Events.{Event}
-use Rattle.bench_engine.specs.Runs.{IsFault}
+use Rattle.bench_engine.specs.Runs.{IsFault, IsRun}
 use Rattle.bench_engine.specs.Watching.{Seen, Shows}
 use Rattle.scenario_text.specs.declared.scenario.Scenario.{Scenario}
 use Rattle.scenario_text.specs.Views.{frame_of}
@@ -27,11 +27,13 @@ pub record IsFront (s : Scenario) (span : Span) (events : ℕ) (told : List ℕ)
   pub shown : AreShown s (take events (events_of s)) seen
   pub text : told ≡ front_text s span seen
 
--- all lines, and whether no pulse's verdict on agreement is no
+-- all lines, and whether no pulse's verdict on agreement is no; the run is that of the report
 pub record IsWhole (s : Scenario) (span : Span) (told : List ℕ) (agrees : Bool) : Type 0 where
   pub seen : List Seen
   pub summary : RunSummary
+  pub memories : List (List ℕ)
   pub shown : AreShown s (events_of s) seen
+  pub run : IsRun (bench_of s) (events_of s) (map (λ x. x.told) seen) memories
   pub summed : IsSummary (frame_of s) (is_some s.clock) (map (λ x. x.told) seen) summary
   pub verdict : agrees ≡ all_agree (frame_of s) (is_some s.clock) (map (λ x. x.told) seen)
   pub text : told ≡ whole_text s span seen summary

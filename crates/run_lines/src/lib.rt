@@ -1,4 +1,4 @@
-//! A run told pulse by pulse, in lines of JSON: docs/INSIDE.md, "The lines".
+//! A run told in lines of JSON: docs/INSIDE.md, "The lines".
 #![tactic(auto)]
 
 mod fault;

@@ -10,7 +10,8 @@ use crate::frame_lines::{frame_line, last_line};
 use crate::span::PulseSpan;
 use crate::writer::{LineWriter, write_line};
 use bench_engine::{MOST_WORKERS, Run};
-use bench_scenario::{Scenario, WatchedFault, all_agree, run_watched, summary_of};
+use bench_scenario::{all_agree, run_watched, summary_of};
+use scenario_text::Scenario;
 use std::alloc::Global;
 use std::io::Write;
 use std::sync::Wait;
@@ -70,9 +71,7 @@ pub fn tell_lines<T: Threads + Wait + Sync, W: Write>(
     let mut writer = LineWriter::new(alloc, scenario, span, written);
     let run = match run_watched(rt, alloc, scenario, workers, &mut writer, out) {
         Ok(run) => run,
-        Err(WatchedFault::Memory) => return Err(LinesFault::Memory),
-        Err(WatchedFault::Run(fault)) => return Err(LinesFault::Run(fault)),
-        Err(WatchedFault::Stopped(_event)) => return Err(writer.fault()),
+        Err(end) => return Err(writer.fault(end)),
     };
     write_last(alloc, scenario, &run, writer.written(), out)
 }

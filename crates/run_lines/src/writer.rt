@@ -1,14 +1,15 @@
 //! The watcher of a run that writes its lines.
-ghost use Rattle.std.specs.Prelude.{◌≡◌, IfErr, IfOk, IfSome, Some, None};
+ghost use Rattle.std.specs.Prelude.{◌≡◌, IfErr, IfOk};
 ghost use Rattle.bench_engine.specs.Watching.{seen_of};
-ghost use Rattle.run_lines.specs.inner.Writing.{Adds, IsLineFault};
-ghost use Rattle.run_lines.specs.Lines.{told_line};
+ghost use Rattle.run_lines.specs.inner.Writing.{Adds, IsLineFault, IsReason};
+ghost use Rattle.run_lines.specs.Lines.{line_within};
 
 use crate::fault::LinesFault;
 use crate::pulse_lines::pulse_line;
 use crate::span::PulseSpan;
 use bench_engine::{Shown, Stop, Watcher};
-use bench_scenario::Scenario;
+use bench_scenario::WatchedFault;
+use scenario_text::Scenario;
 use std::alloc::Global;
 use std::io::Write;
 use stream_io::{WriteFault, write_fully};
@@ -24,6 +25,14 @@ pub(crate) fn write_line<W: Write>(out: &mut W, before: u64, line: &[u8]) -> Res
             written: before.saturating_add(written as u64),
         }),
     }
+}
+
+/// The number of a pulse.
+fn pulse_of(shown: &Shown) -> u32
+    ensures { result ≡ (seen_of shown.now).told.row.pulse }
+{
+    let told = shown.told;
+    told.row.pulse
 }
 
 /// Writes the line of each pulse within the span, and keeps why it stopped.
@@ -64,26 +73,32 @@ impl<'a> LineWriter<'a> {
         self.written
     }
 
-    /// Why it stopped the run.
-    pub(crate) fn fault(&self) -> LinesFault
-        ensures { IfSome self.now.stopped (λ fault. result ≡ fault) }
+    /// Why the run that it watched has no end.
+    pub(crate) fn fault(&self, end: WatchedFault) -> LinesFault
+        ensures { IsReason self.now.stopped end result }
     {
-        match self.stopped {
-            Some(fault) => fault,
-            None => LinesFault::Memory,
+        match (end, self.stopped) {
+            (WatchedFault::Run(stop), _) => LinesFault::Run(stop),
+            (WatchedFault::Stopped(_event), Some(fault)) => fault,
+            (WatchedFault::Stopped(_), None) | (WatchedFault::Memory, _) => LinesFault::Memory,
         }
     }
 
+    /// Writes the line of a pulse, where it is within the span, and answers how many bytes were written then.
     fn tell<W: Write>(&self, out: &mut W, shown: &Shown) -> Result<u64, LinesFault>
         ensures told { IfOk result (Adds (W.contents out.old) (W.contents out.new) self.now.written
-            (told_line self.now.scenario.now (seen_of shown.now))) }
+            (line_within self.now.scenario.now self.now.span (seen_of shown.now))) }
         ensures fault { IfErr result (IsLineFault (W.contents out.old) (W.contents out.new) self.now.written
-            (told_line self.now.scenario.now (seen_of shown.now))) }
+            (line_within self.now.scenario.now self.now.span (seen_of shown.now))) }
     {
+        let before = self.written;
+        if !self.span.contains(pulse_of(shown)) {
+            return Ok(before);
+        }
         let Ok(line) = pulse_line(self.alloc, self.scenario, shown) else {
             return Err(LinesFault::Memory);
         };
-        write_line(out, self.written, line.as_bytes())
+        write_line(out, before, line.as_bytes())
     }
 }
 
@@ -95,9 +110,6 @@ impl<'a, W: Write> Watcher<W> for LineWriter<'a> {
     ghost stops = { Stops W.contents };
 
     fn see(&mut self, sink: &mut W, shown: &Shown) -> Result<(), Stop> {
-        if !self.span.contains(shown.told.row.pulse) {
-            return Ok(());
-        }
         match self.tell(sink, shown) {
             Ok(written) => {
                 self.written = written;

@@ -1,5 +1,5 @@
 -- Lines that are written after others.
-use Rattle.std.specs.Prelude.{◌≡◌, ℕ, ◌+◌, ◌<◌, is_some, min, Bool, List, length, take, Option, Some, Result, Ok, Err}
+use Rattle.std.specs.Prelude.{◌≡◌, ℕ, ◌+◌, ◌<◌, is_some, min, Bool, IfSome, List, length, take, Option, Some, Result, Ok, Err}
 use Rattle.std.specs.Io.KnownBytes.{Appends, Keeps}
 use Rattle.bench_core.specs.Settled.{PulseTold}
 use Rattle.bench_engine.specs.Watching.{Seen}
@@ -7,6 +7,8 @@ use Rattle.scenario_text.specs.declared.scenario.Scenario.{Scenario}
 use Rattle.scenario_text.specs.Views.{frame_of}
 use Rattle.bench_scenario.specs.declared.summary.RunSummary.{RunSummary}
 use Rattle.bench_scenario.specs.Reports.{all_agree}
+use Rattle.bench_scenario.specs.declared.watched.WatchedFault.{WatchedFault}
+use Rattle.bench_scenario.specs.declared.watched.WatchedFault.TheVariants as watched
 use Rattle.bench_scenario.specs.Summary.{IsSummary}
 use Rattle.run_lines.specs.declared.fault.LinesFault.{LinesFault}
 use Rattle.run_lines.specs.declared.fault.LinesFault.TheVariants as faults
@@ -51,6 +53,12 @@ pub record Stops {S : Type 0} (contents : S → Option (List ℕ)) (k : LineWrit
   pub fault : LinesFault
   pub kept : k'.stopped ≡ Some fault
   pub why : IsLineFault (contents o) (contents o') k.written (line_within k.scenario.now k.span x) fault
+
+-- why not all lines were written, where the run that it watched has no end
+abbrev pub IsReason : Option LinesFault → WatchedFault → LinesFault → Type 0
+IsReason stopped watched.Memory fault = fault ≡ faults.Memory
+IsReason stopped (watched.Run stop) fault = fault ≡ faults.Run stop
+IsReason stopped (watched.Stopped event) fault = IfSome stopped (λ why. fault ≡ why)
 
 -- ---- the end
 

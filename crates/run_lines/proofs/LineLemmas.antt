@@ -1,0 +1,364 @@
+-- Lines one after the other.
+use Rattle.std.proofs.Common.{◌≡◌, ℕ, zero, suc, ◌+◌, ◌-◌, ◌<◌, ◌≤◌, ◌⊎◌, inl, inr, List, [], ◌∷◌, ◌++◌, length, map, take, min, Ok, Err, arith, refl, ap, sym, subst, ◌∙◌, append_assoc, append-nil, length-append}
+use Rattle.std.specs.Prelude.{if◌then◌else◌, Bool, true, false, is_some, IfSome, IsErrAnd, Option, None, Some, Result}
+use Rattle.std.specs.Io.KnownBytes.{Appends, Keeps}
+use Rattle.std.proofs.KnownBytes.{Appends-nil, Appends-trans}
+use Rattle.std.proofs.lemmas.List.{flat_map_more, take_all}
+use Rattle.bench_core.specs.Setup.{Setup}
+use Rattle.bench_core.specs.State.{State, new_state, staged_state}
+use Rattle.bench_core.specs.Settled.{PulseTold}
+use Rattle.bench_engine.specs.Events.{Event, Stage}
+use Rattle.bench_engine.specs.Events.{Pulse as PulseEvent}
+use Rattle.bench_engine.specs.Runs.{IsRun}
+use Rattle.bench_engine.specs.Watching.{Seen, Shows, StoppedAt, Watched, Watches}
+use Rattle.scenario_text.specs.declared.scenario.Scenario.{Scenario}
+use Rattle.scenario_text.specs.Views.{frame_of}
+use Rattle.bench_scenario.specs.Events.{events_of}
+use Rattle.bench_scenario.specs.Reports.{all_agree}
+use Rattle.bench_scenario.specs.Runs.{bench_of}
+use Rattle.bench_scenario.specs.Summary.{IsSummary}
+use Rattle.bench_scenario.specs.Watching.{EndsAt}
+use Rattle.bench_scenario.specs.declared.summary.RunSummary.{RunSummary}
+use Rattle.bench_scenario.specs.declared.watched.WatchedFault.{WatchedFault}
+use Rattle.bench_scenario.specs.declared.watched.WatchedFault.TheVariants as watched
+use Rattle.run_lines.specs.declared.fault.LinesFault.{LinesFault}
+use Rattle.run_lines.specs.declared.fault.LinesFault.TheVariants as faults
+use Rattle.run_lines.specs.declared.writer.LineWriter.{LineWriter}
+use Rattle.run_lines.specs.Lines.{first_line, front_text, last_line, line_within, lines_of, told_line, whole_text}
+use Rattle.run_lines.specs.Spans.{Span, is_within}
+use Rattle.run_lines.specs.Telling.{AreLines, AreShown, Breaks, IsFront, IsWhole, LeavesFront, LeavesLines, MOST_TOLD}
+use Rattle.run_lines.specs.inner.Writing.{Adds, BreaksOff, IsEnd, IsLineFault, IsReason, Stops, Tells}
+
+-- ---- bytes
+
+-- this text is written, of so many bytes
+pub record Told (old now : Option (List ℕ)) (text : List ℕ) (written : ℕ) : Type 0 where
+  pub left : Appends old now text
+  pub number : written ≡ min (length text) MOST_TOLD
+
+told_first : (old now : Option (List ℕ)) (text : List ℕ) (n : ℕ) → Adds old now 0 text n → Told old now text n
+told_first old now text n adds = record {
+  left = adds.left;
+  number = let number = adds.number in omega (arith, number);
+}
+
+told_more : (old now new : Option (List ℕ)) (text more : List ℕ) (n m : ℕ) → Told old now text n → Adds now new n more m
+    → Told old new (text ++ more) m
+told_more old now new text more n m told adds = record {
+  left = Appends-trans old now new text more told.left adds.left;
+  number =
+      let before = told.number in
+      let number = adds.number in
+      omega (arith, before, number, length-append text more);
+}
+
+appends_kept : (old now new : Option (List ℕ)) (text : List ℕ) → Appends old now text → Keeps now new → Appends old new text
+appends_kept None now new text left kept = tt
+appends_kept (Some x) None new text left kept = absurd left
+appends_kept (Some x) (Some y) None text left kept = absurd kept
+appends_kept (Some x) (Some y) (Some z) text left kept = kept ∙ left
+
+front_of_both : (text more : List ℕ) (taken : ℕ) → take (length text + taken) (text ++ more) ≡ text ++ take taken more
+front_of_both [] more taken = ap (λ n. take n more) (omega arith)
+front_of_both (t ∷ text) more taken =
+    let one : length (t ∷ text) + taken ≡ suc (length text + taken) = omega arith in
+    ap (λ n. take n (t ∷ (text ++ more))) one ∙ ap (λ x. t ∷ x) (front_of_both text more taken)
+
+-- a text whose last part broke off
+breaks_more : (old now new : Option (List ℕ)) (s : Scenario) (span : Span) (text more : List ℕ) (n written : ℕ)
+    → AreLines s span (text ++ more) → Told old now text n → BreaksOff now new n more written
+    → Breaks old new s span written
+breaks_more old now new s span text more n written lines told off =
+    let before = told.number in
+    let part = off.part in
+    let number = off.number in
+    record {
+      told = text ++ more;
+      lines = lines;
+      taken = length text + off.taken;
+      part = omega (arith, part, length-append text more);
+      number = omega (arith, before, number);
+      left = subst (λ t. Appends old new t) (sym (front_of_both text more off.taken))
+          (Appends-trans old now new text (take off.taken more) told.left off.left);
+    }
+
+-- ---- pulses
+
+-- the pulses but the last are shown by fewer events
+shows_fewer : (s : Setup) (b b' : State) (n : ℕ) (earlier : Option PulseTold) (es : List Event) (xs : List Seen) (x : Seen)
+    → Shows s b n earlier es (xs ++ x ∷ []) b' → (m : ℕ) × (mid : State) × Shows s b n earlier (take m es) xs mid
+shows_fewer s b b' n earlier [] [] x shows = let none = shows.0 in absurd cc
+shows_fewer s b b' n earlier [] (y ∷ xs) x shows = let none = shows.0 in absurd cc
+shows_fewer s b b' n earlier (Stage c ∷ es) xs x shows =
+    let fewer = shows_fewer s (staged_state b c) b' (n + 1) earlier es xs x shows.2 in
+    (suc fewer.0, fewer.1, (shows.0, shows.1, fewer.2))
+shows_fewer s b b' n earlier (PulseEvent coins ∷ es) [] x shows = (0, b, (refl, refl))
+shows_fewer s b b' n earlier (PulseEvent coins ∷ es) (y ∷ xs) x shows =
+    let fewer = shows_fewer s y.after b' (n + 2) (Some y.told) es xs x shows.3 in
+    (suc fewer.0, fewer.1, (shows.0, shows.1, shows.2, fewer.2))
+
+take_twice : {A : Type 0} (m k : ℕ) (es : List A) → (j : ℕ) × (take m (take k es) ≡ take j es)
+take_twice zero k es = (0, refl)
+take_twice (suc m) zero es = (0, refl)
+take_twice (suc m) (suc k) [] = (0, refl)
+take_twice (suc m) (suc k) (e ∷ es) = let less = take_twice m k es in (suc less.0, ap (λ t. e ∷ t) less.1)
+
+-- the pulses before the last are shown by a front of the events
+shown_before : (s : Scenario) (k : ℕ) (xs : List Seen) (x : Seen) → AreShown s (take k (events_of s)) (xs ++ x ∷ [])
+    → (j : ℕ) × AreShown s (take j (events_of s)) xs
+shown_before s k xs x shown =
+    let fewer = shows_fewer (bench_of s) (new_state (bench_of s)) shown.0 0 None (take k (events_of s)) xs x shown.1 in
+    let less = take_twice fewer.0 k (events_of s) in
+    (less.0, (fewer.1, subst (λ es. Shows (bench_of s) (new_state (bench_of s)) 0 None es xs fewer.1) less.1 fewer.2))
+
+-- ---- the watcher
+
+-- the lines up to some pulse are written
+pub record Stands {S : Type 0} (contents : S → Option (List ℕ)) (old : Option (List ℕ)) (s : Scenario) (span : Span)
+    (seen : List Seen) (k : LineWriter) (o : S) : Type 0 where
+  pub scenario : k.scenario.now ≡ s
+  pub within : k.span ≡ span
+  pub told : Told old (contents o) (front_text s span seen) k.written
+
+line_same : (s t : Scenario) (p q : Span) (x : Seen) → s ≡ t → p ≡ q → line_within s p x ≡ line_within t q x
+line_same s t p q x same as_well = ap (λ u. line_within u p x) same ∙ ap (λ r. line_within t r x) as_well
+
+stands_one : {S : Type 0} (contents : S → Option (List ℕ)) (old : Option (List ℕ)) (s : Scenario) (span : Span)
+    (seen : List Seen) (x : Seen) (k k1 : LineWriter) (o o1 : S) → Stands contents old s span seen k o
+    → Tells contents k o x k1 o1 → Stands contents old s span (seen ++ x ∷ []) k1 o1
+stands_one contents old s span seen x k k1 o o1 stands tells =
+    let line = line_same k.scenario.now s k.span span x stands.scenario stands.within in
+    record {
+      scenario = tells.same.scenario ∙ stands.scenario;
+      within = tells.same.span ∙ stands.within;
+      told = subst (λ t. Told old (contents o1) t k1.written) (flat_map_more (line_within s span) (first_line s) seen x)
+          (told_more old (contents o) (contents o1) (front_text s span seen) (line_within s span x) k.written k1.written
+          stands.told (subst (λ t. Adds (contents o) (contents o1) k.written t k1.written) line tells.adds));
+    }
+
+stands_all : {S : Type 0} (contents : S → Option (List ℕ)) (old : Option (List ℕ)) (s : Scenario) (span : Span)
+    (seen xs : List Seen) (k k' : LineWriter) (o o' : S) → Stands contents old s span seen k o
+    → Watches (Tells contents) k o xs k' o' → Stands contents old s span (seen ++ xs) k' o'
+stands_all {S} contents old s span seen [] k k' o o' stands watches =
+    subst (λ (w : LineWriter). Stands contents old s span (seen ++ []) w o') (sym watches.0)
+    (subst (λ (y : S). Stands contents old s span (seen ++ []) k y) (sym watches.1)
+    (subst (λ (xs : List Seen). Stands contents old s span xs k o) (sym (append-nil seen)) stands))
+stands_all contents old s span seen (x ∷ xs) k k' o o' stands watches =
+    let one = stands_one contents old s span seen x k watches.0 o watches.1 stands watches.2 in
+    subst (λ (ys : List Seen). Stands contents old s span ys k' o') (append_assoc seen (x ∷ []) xs)
+    (stands_all contents old s span (seen ++ x ∷ []) xs watches.0 k' watches.1 o' one watches.3)
+
+-- ---- how it ends
+
+told_so : (old new : Option (List ℕ)) (s : Scenario) (span : Span) (fault : LinesFault) (result : Result Bool LinesFault)
+    → LeavesLines old new s span (Err fault) → IsErrAnd result (λ e. e ≡ fault) → LeavesLines old new s span result
+told_so old new s span fault (Ok agrees) left is = absurd is
+told_so old new s span fault (Err e) left is = subst (λ f. LeavesLines old new s span (Err f)) (sym is) left
+
+no_pulse : (s : Scenario) (span : Span) → IsFront s span 0 (first_line s)
+no_pulse s span = record {
+  seen = [];
+  shown = (new_state (bench_of s), (refl, refl));
+  text = sym (append-nil (first_line s));
+}
+
+first_broken : (old new : Option (List ℕ)) (s : Scenario) (span : Span) (fault : LinesFault)
+    → IsLineFault old new 0 (first_line s) fault → LeavesLines old new s span (Err fault)
+first_broken old new s span (faults.Write written) off = record {
+  told = first_line s;
+  lines = inl (0, no_pulse s span);
+  taken = off.taken;
+  part = off.part;
+  number = let number = off.number in omega (arith, number);
+  left = off.left;
+}
+first_broken old new s span faults.Memory kept = inl kept
+first_broken old new s span (faults.Run stop) none = absurd none
+
+-- the first line isn't written
+pub first_fault : (old new : Option (List ℕ)) (s : Scenario) (span : Span) (fault : LinesFault) (result : Result Bool LinesFault)
+    → IsLineFault old new 0 (first_line s) fault → IsErrAnd result (λ e. e ≡ fault) → LeavesLines old new s span result
+first_fault old new s span fault result broken given =
+    told_so old new s span fault result (first_broken old new s span fault broken) given
+
+-- it is, and the watcher begins
+pub begins : {S : Type 0} (contents : S → Option (List ℕ)) (old : Option (List ℕ)) (s : Scenario) (span : Span) (n : ℕ)
+    (k : LineWriter) (o : S) → Adds old (contents o) 0 (first_line s) n → k.scenario.now ≡ s → k.span ≡ span
+    → k.written ≡ n → Stands contents old s span [] k o
+unfolding no_pulse
+begins contents old s span n k o adds same as_well number = record {
+  scenario = same;
+  within = as_well;
+  told = subst (λ t. Told old (contents o) t k.written) (no_pulse s span).text
+      (told_first old (contents o) (first_line s) k.written
+      (subst (λ m. Adds old (contents o) 0 (first_line s) m) (sym number) adds));
+}
+
+front_left : {S : Type 0} (contents : S → Option (List ℕ)) (old : Option (List ℕ)) (s : Scenario) (span : Span)
+    (seen : List Seen) (events : ℕ) (k : LineWriter) (o : S) → Stands contents old s span seen k o
+    → AreShown s (take events (events_of s)) seen → LeavesFront old (contents o) s span events
+front_left contents old s span seen events k o stands shown = record {
+  told = front_text s span seen;
+  front = record { seen = seen; shown = shown; text = refl };
+  left = stands.told.left;
+}
+
+line_broken : {S : Type 0} (contents : S → Option (List ℕ)) (old new : Option (List ℕ)) (s : Scenario) (span : Span)
+    (seen : List Seen) (x : Seen) (event : ℕ) (k : LineWriter) (o : S) (fault : LinesFault)
+    → Stands contents old s span seen k o → AreShown s (take (event + 1) (events_of s)) (seen ++ x ∷ [])
+    → IsLineFault (contents o) new k.written (line_within s span x) fault → LeavesLines old new s span (Err fault)
+line_broken contents old new s span seen x event k o (faults.Write written) stands shown off =
+    let front : IsFront s span (event + 1) (front_text s span seen ++ line_within s span x) = record {
+      seen = seen ++ x ∷ [];
+      shown = shown;
+      text = flat_map_more (line_within s span) (first_line s) seen x;
+    } in
+    breaks_more old (contents o) new s span (front_text s span seen) (line_within s span x) k.written written
+    (inl (event + 1, front)) stands.told off
+line_broken contents old new s span seen x event k o faults.Memory stands shown kept =
+    let before = shown_before s (event + 1) seen x shown in
+    inr (
+      before.0,
+      record {
+        told = front_text s span seen;
+        front = record { seen = seen; shown = before.1; text = refl };
+        left = appends_kept old (contents o) new (front_text s span seen) stands.told.left kept;
+      },
+    )
+line_broken contents old new s span seen x event k o (faults.Run stop) stands shown none = absurd none
+
+line_stopped : {S : Type 0} (contents : S → Option (List ℕ)) (old : Option (List ℕ)) (s : Scenario) (span : Span)
+    (k k' : LineWriter) (o o' : S) (event : ℕ) (fault : LinesFault) → Stands contents old s span [] k o
+    → StoppedAt (Tells contents) (Stops contents) (bench_of s) (events_of s) event k o k' o'
+    → IfSome k'.stopped (λ why. fault ≡ why) → LeavesLines old (contents o') s span (Err fault)
+line_stopped contents old s span k k' o o' event fault stands ends told =
+    let now = stands_all contents old s span [] ends.before k ends.k1 o ends.o1 stands ends.watches in
+    let same : fault ≡ ends.stops.fault = subst (λ kept. IfSome kept (λ f. fault ≡ f)) ends.stops.kept told in
+    let line = line_same ends.k1.scenario.now s ends.k1.span span ends.here now.scenario now.within in
+    let broken = subst (λ t. IsLineFault (contents ends.o1) (contents o') ends.k1.written t ends.stops.fault) line
+    ends.stops.why in
+    subst (λ f. LeavesLines old (contents o') s span (Err f)) (sym same)
+    (line_broken contents old (contents o') s span ends.before ends.here event ends.k1 ends.o1 ends.stops.fault now
+    (ends.last, ends.shows) broken)
+
+-- no pulse was run; the run stopped at an event; or the watcher stopped it
+pub ends_early : {S : Type 0} (contents : S → Option (List ℕ)) (old : Option (List ℕ)) (s : Scenario) (span : Span)
+    (k k' : LineWriter) (o o' : S) (end : WatchedFault) (fault : LinesFault) → Stands contents old s span [] k o
+    → EndsAt (Tells contents) (Stops contents) s k o k' o' end → IsReason k'.stopped end fault
+    → LeavesLines old (contents o') s span (Err fault)
+unfolding no_pulse
+ends_early {S} contents old s span k k' o o' watched.Memory fault stands ends reason =
+    subst (λ f. LeavesLines old (contents o') s span (Err f)) (sym reason)
+    (inr (
+      0,
+      subst (λ (y : S). LeavesFront old (contents y) s span 0) (sym ends.1)
+          (front_left contents old s span [] 0 k o stands (no_pulse s span).shown),
+    ))
+ends_early contents old s span k k' o o' (watched.Run stop) fault stands ends reason =
+    let xs = ends.2.0 in
+    let shown = ends.2.1 in
+    subst (λ f. LeavesLines old (contents o') s span (Err f)) (sym reason) (
+      ends.0,
+      ends.1,
+      front_left contents old s span xs stop.event k' o'
+          (stands_all contents old s span [] xs k k' o o' stands shown.watches) (shown.last, shown.shows),
+    )
+ends_early contents old s span k k' o o' (watched.Stopped event) fault stands ends reason =
+    line_stopped contents old s span k k' o o' event fault stands ends reason
+
+-- ---- the last line
+
+last_broken : (old new : Option (List ℕ)) (s : Scenario) (before : ℕ) (rs : List PulseTold) (m : RunSummary) (fault : LinesFault)
+    → IsSummary (frame_of s) (is_some s.clock) rs m → IsLineFault old new before (last_line m) fault
+    → IsEnd old new s before rs (Err fault)
+last_broken old new s before rs m (faults.Write written) summed off = (m, summed, off)
+last_broken old new s before rs m faults.Memory summed kept = kept
+last_broken old new s before rs m (faults.Run stop) summed none = absurd none
+
+pub last_fault : (old new : Option (List ℕ)) (s : Scenario) (before : ℕ) (rs : List PulseTold) (m : RunSummary)
+    (fault : LinesFault) (result : Result Bool LinesFault) → IsSummary (frame_of s) (is_some s.clock) rs m
+    → IsLineFault old new before (last_line m) fault → IsErrAnd result (λ e. e ≡ fault)
+    → IsEnd old new s before rs result
+last_fault old new s before rs m fault (Ok agrees) summed broken is = absurd is
+last_fault old new s before rs m fault (Err e) summed broken is =
+    subst (λ f. IsEnd old new s before rs (Err f)) (sym is) (last_broken old new s before rs m fault summed broken)
+
+-- all pulses were shown
+ended : {S : Type 0} (contents : S → Option (List ℕ)) (old new : Option (List ℕ)) (s : Scenario) (span : Span)
+    (xs : List Seen) (memories : List (List ℕ)) (k : LineWriter) (o : S) (result : Result Bool LinesFault)
+    → Stands contents old s span xs k o → AreShown s (events_of s) xs
+    → IsRun (bench_of s) (events_of s) (map (λ x. x.told) xs) memories
+    → IsEnd (contents o) new s k.written (map (λ x. x.told) xs) result → LeavesLines old new s span result
+ended contents old new s span xs memories k o (Ok agrees) stands shown run end =
+    let m = end.1.0 in (
+      whole_text s span xs m,
+      record {
+        seen = xs;
+        summary = m;
+        memories = memories;
+        shown = shown;
+        run = run;
+        summed = end.1.1;
+        verdict = end.0;
+        text = refl;
+      },
+      Appends-trans old (contents o) new (front_text s span xs) (last_line m) stands.told.left end.1.2,
+    )
+ended contents old new s span xs memories k o (Err (faults.Write written)) stands shown run end =
+    let agrees = all_agree (frame_of s) (is_some s.clock) (map (λ x. x.told) xs) in
+    let whole : IsWhole s span (front_text s span xs ++ last_line end.0) agrees = record {
+      seen = xs;
+      summary = end.0;
+      memories = memories;
+      shown = shown;
+      run = run;
+      summed = end.1;
+      verdict = refl;
+      text = refl;
+    } in
+    breaks_more old (contents o) new s span (front_text s span xs) (last_line end.0) k.written written
+    (inr (agrees, whole)) stands.told end.2
+ended contents old new s span xs memories k o (Err faults.Memory) stands shown run kept =
+    let es = events_of s in
+    let all : take (length es) es ≡ es = take_all (length es) es (omega arith) in
+    inr (
+      length es,
+      record {
+        told = front_text s span xs;
+        front = record {
+          seen = xs;
+          shown = (shown.0, subst (λ fs. Shows (bench_of s) (new_state (bench_of s)) 0 None fs xs shown.0) (sym all) shown.1);
+          text = refl;
+        };
+        left = appends_kept old (contents o) new (front_text s span xs) stands.told.left kept;
+      },
+    )
+ended contents old new s span xs memories k o (Err (faults.Run stop)) stands shown run none = absurd none
+
+pub ends_whole : {S : Type 0} (contents : S → Option (List ℕ)) (old new : Option (List ℕ)) (s : Scenario) (span : Span)
+    (rs : List PulseTold) (memories : List (List ℕ)) (n : ℕ) (k k' : LineWriter) (o o' : S)
+    (result : Result Bool LinesFault) → Stands contents old s span [] k o
+    → IsRun (bench_of s) (events_of s) rs memories
+    → (xs : List Seen) × (rs ≡ map (λ x. x.told) xs) × Watched (Tells contents) (bench_of s) (events_of s) k o xs k' o'
+    → n ≡ k'.written → IsEnd (contents o') new s n rs result → LeavesLines old new s span result
+ends_whole contents old new s span rs memories n k k' o o' result stands run shown number end =
+    let xs = shown.0 in
+    let now = stands_all contents old s span [] xs k k' o o' stands shown.2.watches in
+    ended contents old new s span xs memories k' o' result now (shown.2.last, shown.2.shows)
+    (subst (λ ts. IsRun (bench_of s) (events_of s) ts memories) shown.1 run)
+    (subst (λ ts. IsEnd (contents o') new s k'.written ts result) shown.1
+    (subst (λ m. IsEnd (contents o') new s m rs result) number end))
+
+-- ---- one pulse
+
+-- outside the span it has no line
+pub none_told : (s : Scenario) (span : Span) (x : Seen) (known : Option (List ℕ)) (n : ℕ)
+    → is_within span x.told.row.pulse ≡ false → n ≤ MOST_TOLD → Adds known known n (line_within s span x) n
+none_told s span x known n out few =
+    let none : line_within s span x ≡ [] = ap (λ b. if b then told_line s x else []) out in
+    subst (λ t. Adds known known n t n) (sym none)
+    (record { left = Appends-nil known; number = omega (arith, few) })
+
+pub line_told : (s : Scenario) (span : Span) (x : Seen) → is_within span x.told.row.pulse ≡ true
+    → told_line s x ≡ line_within s span x
+line_told s span x within = sym (ap (λ b. if b then told_line s x else []) within)
