@@ -17,6 +17,8 @@ from built_program import Answer, answer, named_program, on_all_processors, tell
 SIZES = [(1, 0, 2), (4, 1, 8), (4, 1, 16), (7, 3, 65535), (32, 10, 65536), (64, 21, 65536)]
 DAMAGED = (4, 1, 16)
 DAMAGED_BYTES = 440
+# The slots from which two fronts lead out: that of a slot, and that without `exit`.
+BROKEN = {8: 0, 432: 53}
 # Enough for every program that is accepted, and for those that have no way back.
 FUEL = 2048
 REFUSED, DONE = 2, 0
@@ -115,7 +117,8 @@ def front_fits(count, verdict, ran):
         return verdict == ran == line("refused image Empty", REFUSED)
     if count % 8:
         return verdict == ran == line(f"refused image Truncated slot {count // 8}", REFUSED)
-    breaks = verdict.out.startswith(b"refused rule 2 slot ") and verdict.status == REFUSED
+    wanted = f"refused rule 2 slot {BROKEN.get(count, '')}"
+    breaks = verdict.out.startswith(wanted.encode()) and verdict.status == REFUSED
     return breaks and ran.out.startswith(b"trap 1 BadJump slot ") and ran.status == DONE
 
 

@@ -16,93 +16,108 @@ from built_program import TOP, Answer, answer, named_program, on_all_processors,
 
 MARK = re.compile(r"(====|----)(?: (.*))?\n")
 COMMENT = "#### "
-REPEATED = re.compile(r"\\ (\d+) times: (.*\n)")
+REPEATED = re.compile(r"^\\ (\d+) times: (.*\n)", re.M)
 NO_LAST_LF = "\n\\ no LF at the end\n"
 ANY = b"..."
 MOST_SHOWN = 400
 
 
 @dataclasses.dataclass
+class Part:
+    """A mark's place, its word, what stands behind it, and the lines below."""
+
+    place: str
+    word: str
+    rest: str
+    text: str = ""
+
+    def lines(self):
+        """All lines, of which the first can stand behind the mark."""
+        return (f"{self.rest}\n" if self.rest else "") + self.text
+
+
+@dataclasses.dataclass
 class Case:
     """Command lines, each with its place, that read the same and have one answer."""
 
-    lines: list
-    form: str
-    text: str
-    wanted: Answer
-    is_whole: bool = False
+    form: str = "text"
+    given: str = ""
+    lines: list = dataclasses.field(default_factory=list)
+    wanted: Answer = dataclasses.field(default_factory=lambda: Answer(0, b"", b""))
+    is_answered: bool = False
+
+
+def part_of(place, mark):
+    if mark[1] == "====":
+        return Part(place, "asks", mark[2] or "")
+    word, _, rest = (mark[2] or "").partition(" ")
+    return Part(place, word, rest)
 
 
 def parts_of(path):
-    """The parts of a file: the place, the word of the mark, what stands behind it, and the lines below."""
+    """The parts of a file, each without the empty lines at its end."""
     parts = []
     for number, line in enumerate(path.read_text(encoding="utf-8").splitlines(keepends=True), 1):
         mark = MARK.fullmatch(line)
         if mark:
-            name, _, rest = (mark[2] or "").partition(" ") if mark[1] == "----" else ("asks", "", mark[2] or "")
-            parts.append([f"rows/{path.name}:{number}", name, rest, ""])
+            parts.append(part_of(f"rows/{path.name}:{number}", mark))
         elif parts and not line.startswith(COMMENT):
-            parts[-1][3] += line
-    for place, name, rest, text in parts:
-        yield place, name, rest, text.rstrip("\n") + "\n" if text.strip("\n") else ""
+            parts[-1].text += line
+    for part in parts:
+        text = part.text.rstrip("\n")
+        part.text = f"{text}\n" if text else ""
+    return parts
 
 
 def spelled(text):
     """The bytes of a text, each repeated line as often as it says."""
-    whole = REPEATED.sub(lambda it: it[2] * int(it[1]), text)
-    return (whole.removesuffix(NO_LAST_LF) if text.endswith(NO_LAST_LF) else whole).encode()
+    return REPEATED.sub(lambda it: it[2] * int(it[1]), text).removesuffix(NO_LAST_LF).encode()
 
 
-def lines_of(rest, text):
-    """The lines of a part, of which the first can stand behind the mark."""
-    return (f"{rest}\n" if rest else "") + text
+def hexadecimal(text):
+    return bytes.fromhex(spelled(text).decode())
 
 
-def add_words(cases, place, name, rest, text):
+def add_words(cases, part):
     """A further command line: of the last case, where that has no answer yet, or else of a new one."""
-    before = cases[-1] if cases else None
-    if before is None or before.is_whole:
-        goes_on = name == "and" and before is not None
-        form, given = (before.form, before.text) if goes_on else ("text", "")
-        cases.append(Case([], form, given, Answer(0, b"", b"")))
-    elif before.text and name == "asks":
-        sys.exit(f"{place}: the row above has no answer")
-    cases[-1].lines.append((place, shlex.split(rest, comments=True)))
-    if name == "asks":
-        cases[-1].text = text
-    elif text:
-        sys.exit(f"{place}: the input is that of the row above")
+    if not cases or cases[-1].is_answered:
+        before = cases[-1] if cases and part.word == "and" else Case()
+        cases.append(Case(before.form, before.given))
+    case = cases[-1]
+    case.lines.append((part.place, shlex.split(part.rest, comments=True)))
+    if part.word == "asks" and not case.given:
+        case.given = part.text
+    elif part.word == "asks" or part.text:
+        sys.exit(f"{part.place}: the row above has no answer, or the input stands there")
 
 
-def add_part(case, place, name, rest, text):
+def add_part(case, part):
     """What a case reads, or a part of its answer."""
-    if name == "image":
-        case.form, case.text = name, lines_of(rest.replace("; ", "\n"), text)
+    if part.word in ("image", "bytes"):
+        rest = part.rest.replace("; ", "\n")
+        case.form, case.given = part.word, dataclasses.replace(part, rest=rest).lines()
         return
-    if name == "bytes":
-        case.form, case.text = name, lines_of(rest, text)
-        return
-    case.is_whole = True
-    if name == "prints":
-        case.wanted.out = spelled(lines_of(rest, text))
-    elif name == "gives":
-        case.wanted.out = bytes.fromhex(spelled(lines_of(rest, text)).decode())
-    elif name == "says":
-        case.wanted.err = spelled(lines_of(rest, text))
-    elif name == "status":
-        case.wanted.status = int(rest)
+    case.is_answered = True
+    if part.word == "prints":
+        case.wanted.out = spelled(part.lines())
+    elif part.word == "gives":
+        case.wanted.out = hexadecimal(part.lines())
+    elif part.word == "says":
+        case.wanted.err = spelled(part.lines())
+    elif part.word == "status":
+        case.wanted.status = int(part.rest)
     else:
-        sys.exit(f"{place}: {name!r} is no part of a row")
+        sys.exit(f"{part.place}: {part.word!r} is no part of a row")
 
 
 def cases_of(path):
     cases = []
-    for place, name, rest, text in parts_of(path):
-        if name in ("asks", "and"):
-            add_words(cases, place, name, rest, text)
+    for part in parts_of(path):
+        if part.word in ("asks", "and"):
+            add_words(cases, part)
         else:
-            add_part(cases[-1], place, name, rest, text)
-    if not all(case.is_whole for case in cases):
+            add_part(cases[-1], part)
+    if not all(case.is_answered for case in cases):
         sys.exit(f"rows/{path.name}: the last row has no answer")
     return cases
 
@@ -110,10 +125,10 @@ def cases_of(path):
 def given_to(program, case):
     """The bytes that a case reads."""
     if case.form == "bytes":
-        return bytes.fromhex(spelled(case.text).decode())
-    if case.form != "image":
-        return spelled(case.text)
-    made = answer(program, ["asm"], spelled(case.text))
+        return hexadecimal(case.given)
+    if case.form == "text":
+        return spelled(case.given)
+    made = answer(program, ["asm"], spelled(case.given))
     if made.status:
         sys.exit(f"{case.lines[0][0]}: the text has no image: {shown(made)}")
     return made.out
