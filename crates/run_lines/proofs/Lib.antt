@@ -1,5 +1,6 @@
 mod DataLemmas
 mod JudgingLaws
+mod MailLaws
 mod LineLaws
 mod LineLemmas
 mod PlainLemmas

@@ -25,6 +25,7 @@ use Rattle.run_lines.specs.Laws.{AreAlike, ReadsBack, TellsSeen, memories_in, sl
 use Rattle.run_lines.specs.Readers.{bytes_in, each_in, list_in, number_in, option_in, told_clocks, told_coins, told_memory, told_pulse, told_sent, told_settled, told_steps}
 use Rattle.run_lines.specs.Staged.{StagedTold}
 use Rattle.run_lines.specs.Values.{Member, list_data, number_data, option_data, with_members}
+use Rattle.run_lines.proofs.MailLaws.{mail_same}
 use Rattle.run_lines.proofs.ToldLemmas.{get_with_others, list_back, list_told, number_back, option_back}
 
 -- ---- names
@@ -153,6 +154,7 @@ alike x y d e same a b = record {
   steps = one_of told_steps d e _ _ same a.steps b.steps;
   memory = λ mine other. one_of told_memory d e _ _ same (a.memory mine) (b.memory other);
   sent = one_of told_sent d e _ _ same a.sent b.sent;
+  mail = λ mine other. mail_same x.after.mail y.after.mail mine other (one_of told_sent d e _ _ same a.sent b.sent);
 }
 
 pub one_line_one_pulse : (f g : Frame) (own other : Bool) (staged before : List StagedTold) (x y : Seen)

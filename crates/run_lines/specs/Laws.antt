@@ -4,6 +4,7 @@ use Rattle.std.specs.FinMap.{get}
 use Rattle.serde_json.specs.Data.{Data}
 use Rattle.serde_json.specs.Read.{read}
 use Rattle.serde_json.specs.Written.{compact_text}
+use Rattle.node_env.specs.Env.{AreNumbers}
 use Rattle.bench_core.specs.Setup.{Setup}
 use Rattle.bench_core.specs.State.{State, new_state}
 use Rattle.bench_engine.specs.Events.{Event}
@@ -24,6 +25,10 @@ ReadsBack d = read (compact_text d) ≡ Some d
 -- each memory is of bytes
 abbrev pub HoldsBytes : State → Type 0
 HoldsBytes b = All (λ x. All (λ byte. byte < 256) x.memory) b.nodes
+
+-- no number is for a node that isn't there
+abbrev pub HoldsMail : State → Type 0
+HoldsMail b = All (AreNumbers (length b.mail)) b.mail
 
 abbrev pub memories_in : State → List (List ℕ)
 memories_in b = map (λ x. x.memory) b.nodes
@@ -53,6 +58,7 @@ pub record AreAlike (x y : Seen) : Type 0 where
   pub steps : x.steps ≡ y.steps
   pub memory : HoldsBytes x.after → HoldsBytes y.after → memories_in x.after ≡ memories_in y.after
   pub sent : slots_in x.after ≡ slots_in y.after
+  pub mail : HoldsMail x.after → HoldsMail y.after → x.after.mail ≡ y.after.mail
 
 -- pulses of one line are alike. The line of each pulse that is written reads back
 abbrev pub OneLineOnePulse : Type 0
