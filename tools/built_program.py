@@ -29,7 +29,9 @@ def named_program():
 def answer(program, words, given):
     """What the program does with these words and this standard input."""
     try:
-        done = subprocess.run([program, *words], input=given, capture_output=True, check=False, timeout=SECONDS)
+        done = subprocess.run(
+            ["clockbed", *words], executable=program, input=given, capture_output=True, check=False, timeout=SECONDS
+        )
     except subprocess.TimeoutExpired:
         return Answer(-1, b"", b"it didn't end")
     return Answer(done.returncode, done.stdout, done.stderr)
