@@ -105,6 +105,8 @@ _clockbed "$@"
 
 
 def main():
+    if not os.access(PROGRAM, os.X_OK):
+        sys.exit(f"{PROGRAM} is not there: build it by ./clockbed --prove")
     told = list(commands())
     if not told:
         sys.exit("completions: the help names no command")

@@ -1,0 +1,32 @@
+# bash completion for clockbed: made by tools/completions.py
+_clockbed_offer() {
+  local word=${COMP_WORDS[COMP_CWORD]}
+  if [[ $word = -* ]]; then
+    mapfile -t COMPREPLY < <(compgen -W "$1" -- "$word")
+  elif [ "${2:-}" = files ]; then
+    mapfile -t COMPREPLY < <(compgen -f -- "$word")
+  fi
+}
+
+_clockbed() {
+  COMPREPLY=()
+  if [ "$COMP_CWORD" -le 1 ]; then
+    mapfile -t COMPREPLY < <(compgen -W "exec asm dis verify run stress sweep explore help --help --version" -- "${COMP_WORDS[COMP_CWORD]}")
+    return
+  fi
+  case ${COMP_WORDS[COMP_CWORD - 1]} in
+    --coin | --contents | --depth | --from | --fuel | --id | --keys | --loaders | --loads | --mail | --memory | --nodes | --pulses | --states | --until | --workers) return ;;
+  esac
+  case ${COMP_WORDS[1]} in
+    exec) _clockbed_offer "--nodes --memory --fuel --id --mail --coin --contents --show --help" files ;;
+    asm) _clockbed_offer "--help" files ;;
+    dis) _clockbed_offer "--help" files ;;
+    verify) _clockbed_offer "--nodes --memory --help" files ;;
+    run) _clockbed_offer "--workers --check --json --from --until --help" files ;;
+    stress) _clockbed_offer "--loaders --loads --pulses --workers --help" ;;
+    sweep) _clockbed_offer "--keys --workers --help" files ;;
+    explore) _clockbed_offer "--mail --states --depth --help" files ;;
+  esac
+}
+
+complete -o filenames -F _clockbed clockbed
