@@ -255,7 +255,7 @@ def done_in_words(number, kind, done):
         return f"before pulse {number}: node {node} is loaded with {done['program']}"
     if kind == "unload":
         return f"before pulse {number}: node {node} is unloaded"
-    return f"before pulse {number}: the memory of node {node} becomes {done['image']}"
+    return f"before pulse {number}: the memory of node {node} is corrupted"
 
 
 def kind_of(done):

@@ -120,7 +120,7 @@ class Trial:
         pulse = self.pulses[number - 1]
         self.equal(what, self.browser.value("document.getElementById('where').textContent"), f"pulse {number} of 24")
         shown = "[...document.querySelectorAll('#bed .node')].map((it) => it.querySelector('text').textContent)"
-        clocks = ["text" if it is None else str(it) for it in pulse["clocks"]]
+        clocks = ["asm" if it is None else str(it) for it in pulse["clocks"]]
         self.equal(f"{what}: clocks", self.browser.value(shown), clocks)
         self.mail_is(what, pulse["sent"])
         verdict = self.browser.value("document.querySelector('#verdict div').textContent")
