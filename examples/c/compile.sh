@@ -10,7 +10,8 @@ trap 'rm -f "$object"' EXIT
 
 clang -target bpf -O2 -mcpu=v3 -fno-jump-tables -mllvm -disable-block-placement -Wall "$@" -c "$source" -o "$object"
 # Relocations of the text: those of what -g adds don't touch the image.
-if llvm-readelf -r "$object" | grep -q "'\.rel\.text'"; then
+relocations=$(llvm-readelf -r "$object")
+if [[ $relocations == *"'.rel.text'"* ]]; then
   echo "compile: $source has data outside its functions, which an image can't hold" >&2
   exit 1
 fi
