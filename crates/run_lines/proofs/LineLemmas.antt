@@ -1,5 +1,5 @@
 -- Lines one after the other.
-use Rattle.std.proofs.Common.{◌≡◌, ℕ, zero, suc, ◌+◌, ◌-◌, ◌<◌, ◌≤◌, ◌⊎◌, inl, inr, List, [], ◌∷◌, ◌++◌, length, map, take, min, Ok, Err, arith, refl, ap, sym, subst, ◌∙◌, append_assoc, append-nil, length-append}
+use Rattle.std.proofs.Common.{◌≡◌, ℕ, zero, suc, ◌+◌, ◌≤◌, inl, inr, List, [], ◌∷◌, ◌++◌, length, map, take, min, Ok, Err, arith, refl, ap, sym, subst, ◌∙◌, append_assoc, append-nil, length-append}
 use Rattle.std.specs.Prelude.{if◌then◌else◌, Bool, true, false, is_some, IfSome, IsErrAnd, Option, None, Some, Result}
 use Rattle.std.specs.Io.KnownBytes.{Appends, Keeps}
 use Rattle.std.proofs.KnownBytes.{Appends-nil, Appends-trans}
@@ -24,7 +24,7 @@ use Rattle.bench_scenario.specs.declared.watched.WatchedFault.TheVariants as wat
 use Rattle.run_lines.specs.declared.fault.LinesFault.{LinesFault}
 use Rattle.run_lines.specs.declared.fault.LinesFault.TheVariants as faults
 use Rattle.run_lines.specs.declared.writer.LineWriter.{LineWriter}
-use Rattle.run_lines.specs.Lines.{first_line, front_text, last_line, line_within, lines_of, told_line, whole_text}
+use Rattle.run_lines.specs.Lines.{first_line, front_text, last_line, line_within, told_line, whole_text}
 use Rattle.run_lines.specs.Spans.{Span, is_within}
 use Rattle.run_lines.specs.Telling.{AreLines, AreShown, Breaks, IsFront, IsWhole, LeavesFront, LeavesLines, MOST_TOLD}
 use Rattle.run_lines.specs.inner.Writing.{Adds, BreaksOff, IsEnd, IsLineFault, IsReason, Stops, Tells}
@@ -358,7 +358,3 @@ none_told s span x known n out few =
     let none : line_within s span x ≡ [] = ap (λ b. if b then told_line s x else []) out in
     subst (λ t. Adds known known n t n) (sym none)
     (record { left = Appends-nil known; number = omega (arith, few) })
-
-pub line_told : (s : Scenario) (span : Span) (x : Seen) → is_within span x.told.row.pulse ≡ true
-    → told_line s x ≡ line_within s span x
-line_told s span x within = sym (ap (λ b. if b then told_line s x else []) within)

@@ -1,4 +1,4 @@
-use Rattle.std.proofs.Common.{◌≡◌, ◌≤◌, ◌∙◌, ap, arith, sym}
+use Rattle.std.proofs.Common.{◌≤◌, ◌∙◌, ap, arith, sym}
 use Rattle.bench_engine.specs.Watching.{seen_of}
 use Rattle.run_lines.proofs.LineLemmas.{none_told}
 use Rattle.run_lines.specs.Spans.{is_within}
