@@ -23,7 +23,7 @@ version=$("$program" --version)
 name=${version// /-}
 mkdir "$room/$name"
 cp "$program" "$room/$name/clockbed"
-git -C "$top" archive HEAD README.md docs examples completions tools/picture.py tools/plot.py tools/readings.py |
+git -C "$top" archive HEAD README.md docs examples completions tools/{picture,play,plot,readings}.py tools/play.html |
   tar -x -C "$room/$name"
 cat > "$room/$name/PROVED" << END
 $version, built from commit $(git -C "$top" rev-parse HEAD)
