@@ -26,7 +26,7 @@ use Rattle.run_lines.specs.declared.fault.LinesFault.TheVariants as faults
 use Rattle.run_lines.specs.declared.writer.LineWriter.{LineWriter}
 use Rattle.run_lines.specs.Lines.{first_line, front_text, last_line, line_within, told_line, whole_text}
 use Rattle.run_lines.specs.Spans.{Span, is_within}
-use Rattle.run_lines.specs.Telling.{AreLines, AreShown, Breaks, IsFront, IsWhole, LeavesFront, LeavesLines, MOST_TOLD}
+use Rattle.run_lines.specs.Telling.{AreLines, AreShown, Breaks, IsFrontText, IsWholeText, LeavesFront, LeavesLines, MOST_TOLD}
 use Rattle.run_lines.specs.inner.Writing.{Adds, BreaksOff, IsEnd, IsLineFault, IsReason, Stops, Tells}
 
 -- ---- bytes
@@ -52,7 +52,8 @@ told_more old now new text more n m told adds = record {
       omega (arith, before, number, length-append text more);
 }
 
-appends_kept : (old now new : Option (List ℕ)) (text : List ℕ) → Appends old now text → Keeps now new → Appends old new text
+appends_kept : (old now new : Option (List ℕ)) (text : List ℕ) → Appends old now text → Keeps now new
+    → Appends old new text
 appends_kept None now new text left kept = tt
 appends_kept (Some x) None new text left kept = absurd left
 appends_kept (Some x) (Some y) None text left kept = absurd kept
@@ -85,8 +86,8 @@ breaks_more old now new s span text more n written lines told off =
 -- ---- pulses
 
 -- the pulses but the last are shown by fewer events
-shows_fewer : (s : Setup) (b b' : State) (n : ℕ) (earlier : Option PulseTold) (es : List Event) (xs : List Seen) (x : Seen)
-    → Shows s b n earlier es (xs ++ x ∷ []) b' → (m : ℕ) × (mid : State) × Shows s b n earlier (take m es) xs mid
+shows_fewer : (s : Setup) (b b' : State) (n : ℕ) (earlier : Option PulseTold) (es : List Event) (xs : List Seen)
+    (x : Seen) → Shows s b n earlier es (xs ++ x ∷ []) b' → (m : ℕ) × (mid : State) × Shows s b n earlier (take m es) xs mid
 shows_fewer s b b' n earlier [] [] x shows = let none = shows.0 in absurd cc
 shows_fewer s b b' n earlier [] (y ∷ xs) x shows = let none = shows.0 in absurd cc
 shows_fewer s b b' n earlier (Stage c ∷ es) xs x shows =
@@ -150,12 +151,12 @@ stands_all contents old s span seen (x ∷ xs) k k' o o' stands watches =
 
 -- ---- how it ends
 
-told_so : (old new : Option (List ℕ)) (s : Scenario) (span : Span) (fault : LinesFault) (result : Result Bool LinesFault)
-    → LeavesLines old new s span (Err fault) → IsErrAnd result (λ e. e ≡ fault) → LeavesLines old new s span result
+told_so : (old new : Option (List ℕ)) (s : Scenario) (span : Span) (fault : LinesFault)
+    (result : Result Bool LinesFault) → LeavesLines old new s span (Err fault) → IsErrAnd result (λ e. e ≡ fault) → LeavesLines old new s span result
 told_so old new s span fault (Ok agrees) left is = absurd is
 told_so old new s span fault (Err e) left is = subst (λ f. LeavesLines old new s span (Err f)) (sym is) left
 
-no_pulse : (s : Scenario) (span : Span) → IsFront s span 0 (first_line s)
+no_pulse : (s : Scenario) (span : Span) → IsFrontText s span 0 (first_line s)
 no_pulse s span = record {
   seen = [];
   shown = (new_state (bench_of s), (refl, refl));
@@ -176,8 +177,9 @@ first_broken old new s span faults.Memory kept = inl kept
 first_broken old new s span (faults.Run stop) none = absurd none
 
 -- the first line isn't written
-pub first_fault : (old new : Option (List ℕ)) (s : Scenario) (span : Span) (fault : LinesFault) (result : Result Bool LinesFault)
-    → IsLineFault old new 0 (first_line s) fault → IsErrAnd result (λ e. e ≡ fault) → LeavesLines old new s span result
+pub first_fault : (old new : Option (List ℕ)) (s : Scenario) (span : Span) (fault : LinesFault)
+    (result : Result Bool LinesFault) → IsLineFault old new 0 (first_line s) fault
+    → IsErrAnd result (λ e. e ≡ fault) → LeavesLines old new s span result
 first_fault old new s span fault result broken given =
     told_so old new s span fault result (first_broken old new s span fault broken) given
 
@@ -208,7 +210,7 @@ line_broken : {S : Type 0} (contents : S → Option (List ℕ)) (old new : Optio
     → Stands contents old s span seen k o → AreShown s (take (event + 1) (events_of s)) (seen ++ x ∷ [])
     → IsLineFault (contents o) new k.written (line_within s span x) fault → LeavesLines old new s span (Err fault)
 line_broken contents old new s span seen x event k o (faults.Write written) stands shown off =
-    let front : IsFront s span (event + 1) (front_text s span seen ++ line_within s span x) = record {
+    let front : IsFrontText s span (event + 1) (front_text s span seen ++ line_within s span x) = record {
       seen = seen ++ x ∷ [];
       shown = shown;
       text = flat_map_more (line_within s span) (first_line s) seen x;
@@ -268,8 +270,8 @@ ends_early contents old s span k k' o o' (watched.Stopped event) fault stands en
 
 -- ---- the last line
 
-last_broken : (old new : Option (List ℕ)) (s : Scenario) (before : ℕ) (rs : List PulseTold) (m : RunSummary) (fault : LinesFault)
-    → IsSummary (frame_of s) (is_some s.clock) rs m → IsLineFault old new before (last_line m) fault
+last_broken : (old new : Option (List ℕ)) (s : Scenario) (before : ℕ) (rs : List PulseTold) (m : RunSummary)
+    (fault : LinesFault) → IsSummary (frame_of s) (is_some s.clock) rs m → IsLineFault old new before (last_line m) fault
     → IsEnd old new s before rs (Err fault)
 last_broken old new s before rs m (faults.Write written) summed off = (m, summed, off)
 last_broken old new s before rs m faults.Memory summed kept = kept
@@ -306,7 +308,7 @@ ended contents old new s span xs memories k o (Ok agrees) stands shown run end =
     )
 ended contents old new s span xs memories k o (Err (faults.Write written)) stands shown run end =
     let agrees = all_agree (frame_of s) (is_some s.clock) (map (λ x. x.told) xs) in
-    let whole : IsWhole s span (front_text s span xs ++ last_line end.0) agrees = record {
+    let whole : IsWholeText s span (front_text s span xs ++ last_line end.0) agrees = record {
       seen = xs;
       summary = end.0;
       memories = memories;
@@ -327,7 +329,10 @@ ended contents old new s span xs memories k o (Err faults.Memory) stands shown r
         told = front_text s span xs;
         front = record {
           seen = xs;
-          shown = (shown.0, subst (λ fs. Shows (bench_of s) (new_state (bench_of s)) 0 None fs xs shown.0) (sym all) shown.1);
+          shown = (
+            shown.0,
+            subst (λ fs. Shows (bench_of s) (new_state (bench_of s)) 0 None fs xs shown.0) (sym all) shown.1,
+          );
           text = refl;
         };
         left = appends_kept old (contents o) new (front_text s span xs) stands.told.left kept;

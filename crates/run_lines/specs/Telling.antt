@@ -22,13 +22,13 @@ abbrev pub AreShown : Scenario → List Event → List Seen → Type 0
 AreShown s es xs = (last : State) × Shows (bench_of s) (new_state (bench_of s)) 0 None es xs last
 
 -- the first line, and those of the pulses that so many events of the run show
-pub record IsFront (s : Scenario) (span : Span) (events : ℕ) (told : List ℕ) : Type 0 where
+pub record IsFrontText (s : Scenario) (span : Span) (events : ℕ) (told : List ℕ) : Type 0 where
   pub seen : List Seen
   pub shown : AreShown s (take events (events_of s)) seen
   pub text : told ≡ front_text s span seen
 
 -- all lines, and whether no pulse's verdict on agreement is no; the run is that of the report
-pub record IsWhole (s : Scenario) (span : Span) (told : List ℕ) (agrees : Bool) : Type 0 where
+pub record IsWholeText (s : Scenario) (span : Span) (told : List ℕ) (agrees : Bool) : Type 0 where
   pub seen : List Seen
   pub summary : RunSummary
   pub memories : List (List ℕ)
@@ -41,12 +41,13 @@ pub record IsWhole (s : Scenario) (span : Span) (told : List ℕ) (agrees : Bool
 -- whole lines up to some pulse
 pub record LeavesFront (old new : Option (List ℕ)) (s : Scenario) (span : Span) (events : ℕ) : Type 0 where
   pub told : List ℕ
-  pub front : IsFront s span events told
+  pub front : IsFrontText s span events told
   pub left : Appends old new told
 
 -- lines up to some pulse, or all
 abbrev pub AreLines : Scenario → Span → List ℕ → Type 0
-AreLines s span told = ((events : ℕ) × IsFront s span events told) ⊎ ((agrees : Bool) × IsWhole s span told agrees)
+AreLines s span told =
+    ((events : ℕ) × IsFrontText s span events told) ⊎ ((agrees : Bool) × IsWholeText s span told agrees)
 
 -- as many bytes as a fault tells, which has room for a number up to this one
 abbrev pub MOST_TOLD : ℕ
@@ -64,7 +65,7 @@ pub record Breaks (old new : Option (List ℕ)) (s : Scenario) (span : Span) (wr
 -- all lines; the first bytes of lines where a write failed; where the run stopped at an event, whole lines of the
 -- pulses before it; where there was no memory, nothing or whole lines
 abbrev pub LeavesLines : Option (List ℕ) → Option (List ℕ) → Scenario → Span → Result Bool LinesFault → Type 0
-LeavesLines old new s span (Ok agrees) = (told : List ℕ) × IsWhole s span told agrees × Appends old new told
+LeavesLines old new s span (Ok agrees) = (told : List ℕ) × IsWholeText s span told agrees × Appends old new told
 LeavesLines old new s span (Err (faults.Write written)) = Breaks old new s span written
 LeavesLines old new s span (Err faults.Memory) = Keeps old new ⊎ ((events : ℕ) × LeavesFront old new s span events)
 LeavesLines old new s span (Err (faults.Run stop)) =
