@@ -59,7 +59,9 @@ fn with_case<'a>(
     let mail = Arg::new(alloc, "mail")
         .long("mail")
         .value_name("LIST")
-        .help("The mail from each node: numbers, or - for none, with commas between them")
+        .help(
+            "The mail from each node: numbers below 4294967296, or - for none, with commas between",
+        )
         .allow_hyphen_values(true);
     let coin = Arg::new(alloc, "coin")
         .long("coin")
@@ -69,7 +71,7 @@ fn with_case<'a>(
     let contents = Arg::new(alloc, "contents")
         .long("contents")
         .value_name("HEX")
-        .help("The first bytes of the memory; the others are 0");
+        .help("The first bytes of the memory, two digits each; the others are 0");
     command.arg(id)?.arg(mail)?.arg(coin)?.arg(contents)
 }
 

@@ -4,7 +4,7 @@ use crate::exec_words::{DEFAULT_FUEL, MOST_FUEL, exec};
 use bench_engine::MOST_WORKERS;
 use bench_shared::MOST_LOADERS;
 use clap::{Arg, ArgAction, Command, value_parser};
-use key_sweep::MOST_SWEEPERS;
+use key_sweep::{MOST_KEY, MOST_SWEEPERS};
 use node_env::{MAX_MEMORY, MAX_NODES, MEMORY_UNIT};
 use std::alloc::{AllocError, Global};
 use std::fmt::InlineText;
@@ -57,6 +57,8 @@ pub(crate) struct Helps {
     loads: Help,
     pulses: Help,
     states: Help,
+    depth: Help,
+    keys: Help,
 }
 
 impl Helps {
@@ -92,6 +94,12 @@ impl Helps {
                 MOST_STATES,
                 DEFAULT_STATES,
             ),
+            depth: Help::of(format_args!(
+                "The last pulse that is explored, 1 to {MOST_STATES} [default: all]"
+            )),
+            keys: Help::of(format_args!(
+                "The keys of the coins, both ends among them, 0 to {MOST_KEY}"
+            )),
         }
     }
 }
@@ -183,13 +191,13 @@ fn with_span<'a>(alloc: Global, command: Command<'a>) -> Result<Command<'a>, All
     let from = Arg::new(alloc, "from")
         .long("from")
         .value_name("PULSE")
-        .help("The first pulse of the JSON lines [default: 1]")
+        .help("The first pulse of the JSON lines, from 1 on [default: 1]")
         .requires_arg("json")?
         .value_parser(value_parser!(u32).range(1..));
     let until = Arg::new(alloc, "until")
         .long("until")
         .value_name("PULSE")
-        .help("The last pulse of the JSON lines [default: the scenario's]")
+        .help("The last pulse of the JSON lines, from --from on [default: the scenario's]")
         .requires_arg("json")?
         .value_parser(value_parser!(u32).range(1..));
     command.arg(from)?.arg(until)
@@ -198,15 +206,10 @@ fn with_span<'a>(alloc: Global, command: Command<'a>) -> Result<Command<'a>, All
 /// The command `explore` with its options.
 fn explore<'a>(alloc: Global, helps: &'a Helps) -> Result<Command<'a>, AllocError> {
     let mail = Arg::new(alloc, "mail").long("mail").value_name("LIST").help(
-        "What liars send, as 0..7,9, or nothing [default: 0 to the modulus]",
+        "What liars may send beside nothing: numbers below 4294967296, as 0..7,9 [default: 0 to the modulus]",
     );
     let states = count_option(alloc, "states", helps.states.as_str(), MOST_STATES);
-    let depth = count_option(
-        alloc,
-        "depth",
-        "The last pulse that is explored [default: all]",
-        MOST_STATES,
-    );
+    let depth = count_option(alloc, "depth", helps.depth.as_str(), MOST_STATES);
     Command::new(alloc, "explore")
         .about("Tries every lie and every coin on a scenario")
         .after_help(
@@ -223,7 +226,7 @@ fn sweep<'a>(alloc: Global, helps: &'a Helps) -> Result<Command<'a>, AllocError>
     let keys = Arg::new(alloc, "keys")
         .long("keys")
         .value_name("FIRST..LAST")
-        .help("The keys of the coins, both ends among them")
+        .help(helps.keys.as_str())
         .required(true);
     let workers = count_option(alloc, "workers", helps.sweepers.as_str(), MOST_SWEEPERS);
     Command::new(alloc, "sweep")
