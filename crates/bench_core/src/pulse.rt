@@ -4,7 +4,7 @@ ghost use Rattle.bench_core.specs.State.{all_applied, node_of, AreCoins};
 ghost use Rattle.bench_core.specs.inner.Nodes.{KnowsClock, FitsShape};
 ghost use Rattle.bench_core.specs.inner.Replay.{staged_of};
 ghost use Rattle.bench_core.specs.Views.{entry_of};
-ghost use Rattle.bench_core.specs.inner.OpenPulse.{setup_in, IsWhole, tasks_by};
+ghost use Rattle.bench_core.specs.inner.OpenPulse.{setup_in, PartsFit, tasks_by};
 ghost use Rattle.bench_core.specs.Tasks.{tasks_from};
 
 use crate::clock_program::ClockProgram;
@@ -29,7 +29,7 @@ pub(crate) struct OpenPulse<'a> {
 
 /// A task for each loaded node, in node order.
 fn tasks(alloc: Global, pulse: &OpenPulse) -> Result<Vec<NodeTask>, AllocError>
-    requires { IsWhole pulse.now }
+    requires { PartsFit pulse.now }
     ensures { IfOk result (λ tasks. tasks.items ≡ tasks_by pulse.now) }
 {
     let mut tasks = Vec::new(alloc);

@@ -1,8 +1,6 @@
 -- The first byte of an instruction (RFC 9669, 3.3 "Instruction Classes"): its class in the low three bits. In the
--- classes of arithmetic and
--- jumps (section 4) bit 3 is the source of the second operand, and the high four bits are the code. In those of loads
--- and stores (section 5)
--- bits 3 and 4 are the size, and the high three bits the mode.
+-- classes of arithmetic and jumps (section 4) bit 3 is the source of the second operand, and the high four bits are the
+-- code. In those of loads and stores (section 5) bits 3 and 4 are the size, and the high three bits the mode.
 -- ---- the parts of a byte
 use Rattle.std.specs.Prelude.{ℕ, ◌+◌, ◌*◌, ◌==◌, nat_lt, not, Bool, false}
 use Rattle.bpf_insn.specs.declared.forms.Width.{Width}

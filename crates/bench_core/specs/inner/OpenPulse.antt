@@ -11,7 +11,7 @@ abbrev pub setup_in : OpenPulse → Setup
 setup_in p = setup_with p.shape p.rule p.clock.now
 
 -- its parts fit its shape
-pub record IsWhole (p : OpenPulse) : Type 0 where
+pub record PartsFit (p : OpenPulse) : Type 0 where
   pub count : length p.nodes.now ≡ p.shape.nodes
   pub nodes : All (FitsShape p.shape) p.nodes.now
   pub mail : length p.mail.now ≡ p.shape.nodes
