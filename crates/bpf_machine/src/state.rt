@@ -6,6 +6,7 @@ ghost use Rattle.bpf_machine.specs.declared.word.Word.TheVariants.{Num};
 ghost use Rattle.bpf_machine.specs.inner.Cells.{are_set, with_marks, without_marks};
 ghost use Rattle.std.specs.FinMap as map;
 ghost use Rattle.bpf_machine.specs.Machine.{entry_frame};
+ghost use Rattle.bpf_machine.specs.Traps.{held};
 ghost use Rattle.node_env.specs.declared.region.Region.TheVariants.{Stack};
 ghost use Rattle.bpf_machine.specs.Step.{after_call, kept_at, kept_frame, number_at, number_in, operand_of, touches_kept, with_number, with_register, without_bytes, word_of, writable, written_frame};
 
@@ -79,6 +80,14 @@ impl State {
         ensures { result ≡ self.now.slot }
     {
         self.slot
+    }
+
+    /// What a register holds, where it is set.
+    #[tactic(auto, using(node_env::proofs::Slots::slots))]
+    pub fn register(&self, register: Reg) -> Option<Word>
+        ensures { result ≡ held self.now register }
+    {
+        self.registers[register.number() as usize]
     }
 
     /// What a register holds.
