@@ -35,7 +35,7 @@ with_distance-slots off (insn.StoreReg size base old src) = refl
 with_distance-slots off (insn.StoreImm size base old imm) = refl
 with_distance-slots off (insn.LoadImm64 dst value) = refl
 
-keeps_slots : (slots : List ℕ → Option ℕ) (slot : ℕ) (s : Source) (i : Insn) → insn_by slots slot s ≡ Some i
+pub keeps_slots : (slots : List ℕ → Option ℕ) (slot : ℕ) (s : Source) (i : Insn) → insn_by slots slot s ≡ Some i
     → slots_taken i ≡ slots_taken s.insn
 keeps_slots slots slot s i found = by_label s.label found
   where

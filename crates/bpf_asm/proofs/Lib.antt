@@ -2,6 +2,8 @@ pub mod Beginnings
 mod CanonicalLaws
 mod InsnLemmas
 mod LabelLemmas
+mod ListingLaws
+mod ListingLemmas
 mod NumberLemmas
 mod OperandLemmas
 mod PieceLemmas

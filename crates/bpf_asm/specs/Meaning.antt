@@ -7,7 +7,6 @@ use Rattle.bpf_insn.specs.declared.forms.Insn.{Insn}
 use Rattle.bpf_insn.specs.declared.forms.Insn.TheVariants.{Ja, JaLong, Branch}
 use Rattle.bpf_insn.specs.Encoding.{slots_taken}
 use Rattle.bpf_insn.specs.Programs.{IsProgram}
-use Rattle.bpf_insn.specs.declared.listing.TheConstants.{MAX_SLOTS}
 use Rattle.bpf_asm.specs.Pieces.{lines_of}
 use Rattle.bpf_asm.specs.Statements.{Source, Line, line_of}
 

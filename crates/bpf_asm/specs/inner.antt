@@ -1,5 +1,6 @@
 -- What proofs and private contracts alone cite.
 pub mod Canonical
+pub mod Listing
 pub mod Meaning
 pub mod Numbers
 pub mod Operands

@@ -31,7 +31,7 @@ pub fn next_line(text: &[u8]) -> (Line<'_>, Option<&[u8]>)
 }
 
 /// The slots of a line's instruction.
-fn slots_in(source: Result<Option<Source<'_>>, Fault>) -> usize
+pub(crate) fn slots_in(source: Result<Option<Source<'_>>, Fault>) -> usize
     ensures { result ≡ slots_in (written_in source.entry) }
 {
     match source {

@@ -1,5 +1,5 @@
 -- Beside Numbers: what proofs and private contracts alone cite.
-use Rattle.std.specs.Prelude.{◌≡◌, ◌≤◌, ◌^◌, ℕ, ◌-◌}
+use Rattle.std.specs.Prelude.{◌≡◌, ◌≤◌, ◌^◌, ℕ}
 use Rattle.std.specs.Prelude.{Option, Some, None}
 use Rattle.bpf_asm.specs.declared.numbers.Magnitude.{Magnitude}
 use Rattle.bpf_asm.specs.declared.numbers.Magnitude.TheVariants.{Fits, TooGreat}

@@ -7,7 +7,7 @@ use Rattle.bpf_insn.specs.declared.forms.Operand.{Operand}
 use Rattle.bpf_asm.specs.declared.statements.Source as code_source
 use Rattle.bpf_asm.specs.declared.statements.Line as code_line
 use Rattle.bpf_asm.specs.declared.operands.Target as code
-use Rattle.bpf_asm.specs.Operands.{Target, label}
+use Rattle.bpf_asm.specs.Operands.{Target}
 use Rattle.bpf_asm.specs.inner.Operands.{target_in}
 use Rattle.bpf_asm.specs.Statements.{Source, Line}
 
