@@ -3,6 +3,7 @@ pub mod KindLaws
 pub mod RuleLaws
 pub mod StateLaws
 pub mod Walking
+pub mod Keeping
 pub mod LengthLaws
 pub mod RulesGrow
 pub mod OutcomesGrow

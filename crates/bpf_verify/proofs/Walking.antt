@@ -16,7 +16,7 @@ use Rattle.bpf_verify.specs.States.{AbstractState, IsContainedIn, IsProper, join
 use Rattle.bpf_verify.specs.Rules.{KeepsRules, lowest_broken}
 use Rattle.bpf_verify.specs.Outcomes.{outcome}
 use Rattle.bpf_verify.specs.Typable.{Table, IsCovered, Types, Typable}
-use Rattle.bpf_verify.specs.inner.Walk.{Passed, IsProperRow, come_of, RefusesInsn, met_state, with_come, sent_on, come_after, rows_after, front_after, IsLeast, IsStop, Walks}
+use Rattle.bpf_verify.specs.inner.Walk.{Passed, IsProperRow, Stands, come_of, RefusesInsn, met_state, with_come, sent_on, come_after, rows_after, front_after, IsLeast, IsStop, Walks}
 use Rattle.bpf_verify.specs.declared.rule.Rule.{Rule}
 use Rattle.bpf_verify.specs.declared.rule.Rule.TheVariants.{NotForward}
 use Rattle.bpf_verify.specs.Accepted.{IsFirstBroken, IsRefusal}
@@ -130,19 +130,19 @@ within_met (Some B) (Some C) bound p q A e =
 -- ---- the table after an instruction
 
 -- what it was up to the slot, and after it what comes by jumps and, at the next instruction, from this one
-abbrev next_table : Table → ℕ → ℕ → Option AbstractState → Table → Table
+abbrev pub next_table : Table → ℕ → ℕ → Option AbstractState → Table → Table
 next_table table slot next come rows to = if nat_le to slot then table to else
     (if to == next then met_state (rows to) come else rows to)
 
-table_before : (table : Table) (slot next : ℕ) (come : Option AbstractState) (rows : Table) (to : ℕ) → to ≤ slot
+pub table_before : (table : Table) (slot next : ℕ) (come : Option AbstractState) (rows : Table) (to : ℕ) → to ≤ slot
     → next_table table slot next come rows to ≡ table to
 table_before table slot next come rows to h = rw (le-leb to slot h) refl
 
-table_later : (table : Table) (slot next : ℕ) (come : Option AbstractState) (rows : Table) (to : ℕ) → slot < to
+pub table_later : (table : Table) (slot next : ℕ) (come : Option AbstractState) (rows : Table) (to : ℕ) → slot < to
     → to ≢ next → next_table table slot next come rows to ≡ rows to
 table_later table slot next come rows to h n = rw (lt-leb to slot h, ne_eqb to next n) refl
 
-table_next : (table : Table) (slot next : ℕ) (come : Option AbstractState) (rows : Table) → slot < next
+pub table_next : (table : Table) (slot next : ℕ) (come : Option AbstractState) (rows : Table) → slot < next
     → next_table table slot next come rows next ≡ met_state (rows next) come
 table_next table slot next come rows h = rw (lt-leb next slot h, eq-eqb next next refl) refl
 
@@ -340,52 +340,60 @@ module _ (program : List Insn) (shape : Extent) (slot : ℕ) (insn : Insn) (stat
       ahead_proper later = subst IsProperRow (sym (sent to))
           (rows_proper shape insn slot state rows to (subst IsProperRow (ahead to later) (proper to)) here_proper)
 
+  pub goes_beyond : slot < slot + slots_taken insn
+  goes_beyond = beyond
+
+  pub stands_on : ((at : ℕ) → IsProperRow (table at))
+      → Stands program shape (slot + slots_taken insn) come' rows'
+      (next_table table slot (slot + slots_taken insn) come' rows')
+  stands_on proper = record {
+    passed = record {
+      entry = still 0 (entry_state shape) passed.entry;
+      rules = rules;
+      edges = edges;
+    };
+    here = table_next table slot next come' rows' beyond;
+    ahead = λ to h. table_later table slot next come' rows' to (omega (arith, beyond))
+        (λ e. absurd (omega (arith, e)));
+    proper = proper_after proper;
+  }
+
+  pub least_on : ((at : ℕ) → IsProperRow (table at)) → IsLeast program shape table
+      → IsLeast program shape (next_table table slot (slot + slots_taken insn) come' rows')
+  least_on proper least = still_least (subst IsProperRow (is) (proper slot)) least
+
   pub walk_on : ((at : ℕ) → IsProperRow (table at)) → IsLeast program shape table
       → Walks program shape (slot + slots_taken insn) come' rows'
-  walk_on proper least = (
-    after,
-    record {
-      passed = record {
-        entry = still 0 (entry_state shape) passed.entry;
-        rules = rules;
-        edges = edges;
-      };
-      here = table_next table slot next come' rows' beyond;
-      ahead = λ to h. table_later table slot next come' rows' to (omega (arith, beyond))
-          (λ e. absurd (omega (arith, e)));
-      proper = proper_after proper;
-    },
-    still_least (subst IsProperRow (is) (proper slot)) least,
-  )
+  walk_on proper least = (after, stands_on proper, least_on proper least)
 
 -- ---- the first step, the last, and a refusal
 
-entry_table : Extent → Table
+unfoldable pub entry_table : Extent → Table
 entry_table shape slot = if slot == 0 then Some (entry_state shape) else None
 
-pub walk_begins : (program : List Insn) (shape : Extent) (come : Option AbstractState) (rows : Table)
+pub begins_stand : (program : List Insn) (shape : Extent) (come : Option AbstractState) (rows : Table)
     → come ≡ Some (entry_state shape)
-    → ((slot : ℕ) → rows slot ≡ None) → Walks program shape 0 come rows
+    → ((slot : ℕ) → rows slot ≡ None) → Stands program shape 0 come rows (entry_table shape)
 unfolding entry_table
-walk_begins program shape come rows comes empty = (
-  entry_table shape,
-  record {
-    passed = record {
-      entry = contained_in_itself (entry_state shape);
-      rules = λ slot insn before e. absurd (omega (arith, before));
-      edges = λ slot to insn way A C before e f g h. absurd (omega (arith, before));
-    };
-    here = sym (ap (λ row. met_state row come) (empty 0) ∙ comes);
-    ahead = λ to later. rw (ne_eqb to 0 (λ e. absurd (omega (arith, e)))) (sym (empty to));
-    proper = λ at. begun (at == 0);
-  },
-  λ end other types slot A before e. first end other types slot A e (cases_eq slot 0),
-)
+begins_stand program shape come rows comes empty = record {
+  passed = record {
+    entry = contained_in_itself (entry_state shape);
+    rules = λ slot insn before e. absurd (omega (arith, before));
+    edges = λ slot to insn way A C before e f g h. absurd (omega (arith, before));
+  };
+  here = sym (ap (λ row. met_state row come) (empty 0) ∙ comes);
+  ahead = λ to later. rw (ne_eqb to 0 (λ e. absurd (omega (arith, e)))) (sym (empty to));
+  proper = λ at. begun (at == 0);
+}
   where
     begun : (b : Bool) → IsProperRow (if b then Some (entry_state shape) else None)
     begun true = entry_proper shape
     begun false = tt
 
+pub begins_least : (program : List Insn) (shape : Extent) → IsLeast program shape (entry_table shape)
+unfolding entry_table
+begins_least program shape end other types slot A before e = first end other types slot A e (cases_eq slot 0)
+  where
     first : (end : ℕ) (other : Table) → Types program shape end other → (slot : ℕ) (A : AbstractState)
         → entry_table shape slot ≡ Some A
         → (slot ≡ 0) ⊎ (slot ≢ 0) → IsCovered other A slot
@@ -397,7 +405,16 @@ walk_begins program shape come rows comes empty = (
         none : ◌≡◌ {A = Option AbstractState} None (Some A) → ⊥
         none f = absurd cc
 
-types_passed : (program : List Insn) (shape : Extent) (end : ℕ) (table : Table) → Passed program shape end table
+pub walk_begins : (program : List Insn) (shape : Extent) (come : Option AbstractState) (rows : Table)
+    → come ≡ Some (entry_state shape)
+    → ((slot : ℕ) → rows slot ≡ None) → Walks program shape 0 come rows
+walk_begins program shape come rows comes empty = (
+  entry_table shape,
+  begins_stand program shape come rows comes empty,
+  begins_least program shape,
+)
+
+pub types_passed : (program : List Insn) (shape : Extent) (end : ℕ) (table : Table) → Passed program shape end table
     → ((at : ℕ) → IsProperRow (table at))
     → Types program shape end table
 types_passed program shape end table passed proper =

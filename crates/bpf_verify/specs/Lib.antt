@@ -4,5 +4,7 @@ pub mod Outcomes
 pub mod Typable
 pub mod Paths
 pub mod Accepted
+pub mod Refusals
+pub mod Findings
 pub mod Records
 pub mod inner

@@ -1,5 +1,5 @@
 -- What the verifier asks of an instruction (docs/VERIFIER.md, "Rules"): which rules it breaks.
-use Rattle.std.specs.Prelude.{◌≡◌, ℕ, ◌+◌, ◌-◌, ◌%◌, ◌^◌, ◌==◌, Bool, true, false, ◌||◌, ◌&&◌, not, List, [], ◌∷◌, Option, Some, None, is_none, nat_lt, ℤ, pos, negsuc, ◌+ℤ◌}
+use Rattle.std.specs.Prelude.{◌≡◌, codes, ℕ, ◌+◌, ◌-◌, ◌%◌, ◌^◌, ◌==◌, Bool, true, false, ◌||◌, ◌&&◌, not, List, [], ◌∷◌, Option, Some, None, is_none, nat_lt, ℤ, pos, negsuc, ◌+ℤ◌}
 use Rattle.std.specs.Int.{w64, cast_unsigned}
 use Rattle.std.specs.List.{list_any, find, range_with_len}
 use Rattle.node_env.specs.Env.{Extent, region_size}
@@ -252,6 +252,20 @@ rule_number UnsetStackByte = 8
 rule_number BadArgument = 9
 rule_number ExitNotNumber = 10
 rule_number NotPointer = 11
+
+-- the name by which it is told
+abbrev pub rule_name : Rule → List ℕ
+rule_name NotForward = codes "NotForward"
+rule_name BadTarget = codes "BadTarget"
+rule_name UnknownHelper = codes "UnknownHelper"
+rule_name UnsetRegister = codes "UnsetRegister"
+rule_name FrameWrite = codes "FrameWrite"
+rule_name PointerMisuse = codes "PointerMisuse"
+rule_name OutOfRegion = codes "OutOfRegion"
+rule_name UnsetStackByte = codes "UnsetStackByte"
+rule_name BadArgument = codes "BadArgument"
+rule_name ExitNotNumber = codes "ExitNotNumber"
+rule_name NotPointer = codes "NotPointer"
 
 -- what is asked of the state at a slot, where there is one
 abbrev pub in_state : Option AbstractState → (AbstractState → Bool) → Bool

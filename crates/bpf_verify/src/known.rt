@@ -16,12 +16,12 @@ use std::alloc::{AllocError, Global};
 use value_range::{Range, hull};
 
 /// How many registers there are.
-const REGISTERS: usize = 11;
+pub const REGISTERS: usize = 11;
 
 /// An abstract state (docs/VERIFIER.md): what is known of each register, the stack bytes that are surely written, and
 /// what is known of each double word of the stack.
 #[derive(Drop)]
-pub(crate) struct Known {
+pub struct Known {
     pub(crate) kinds: Kinds,
     pub(crate) marks: Marks,
     /// None where nothing is known.
@@ -133,10 +133,18 @@ pub(crate) fn up_to(greatest: u64) -> Range
 impl Known {
     /// What is known of a register.
     #[inline(always)]
-    pub(crate) fn kind(&self, register: Reg) -> Kind
+    pub fn kind(&self, register: Reg) -> Kind
         ensures { result ≡ kind_of (abstract_of self.now) register }
     {
         self.kinds.list[register.number() as usize]
+    }
+
+    /// What is known of the register of a number, 0 to 10.
+    pub fn kind_numbered(&self, number: u32) -> Kind
+        requires { number < REGISTERS }
+        ensures { result ≡ (abstract_of self.now).kinds number }
+    {
+        self.kinds.list[number as usize]
     }
 
     /// A register is of a kind from now on.
@@ -166,6 +174,26 @@ impl Known {
             None => Kind::Unset,
             Some(held) => held.kinds[(byte / 8) as usize],
         }
+    }
+
+    /// What is known of the double word of this number, 0 to 63, of the stack: its bytes are those from eight times its
+    /// number on.
+    pub fn dword(&self, number: u32) -> Kind
+        requires { number < STACK_DWORDS }
+        ensures { result ≡ (abstract_of self.now).entries number }
+    {
+        match &self.entries {
+            None => Kind::Unset,
+            Some(held) => held.kinds[number as usize],
+        }
+    }
+
+    /// Whether a stack byte, 0 to 511, is surely written.
+    pub fn is_written(&self, byte: u32) -> bool
+        requires { byte < STACK_BYTES }
+        ensures { result ≡ (abstract_of self.now).written byte }
+    {
+        self.marks.has(byte)
     }
 
     /// Whether nothing is known of any double word.

@@ -3,6 +3,7 @@
 
 mod code;
 mod codes;
+mod findings;
 mod kind;
 mod known;
 mod laws;
@@ -17,10 +18,15 @@ mod verified;
 mod walk;
 
 pub use code::Code;
+pub use findings::{Findings, Verdict, explain};
+pub use kind::Kind;
+pub use known::{Known, REGISTERS};
 pub use laws::{more_keeps_rules, one_verdict};
+pub use outcomes::alu_kind;
 pub use records::Record;
 pub use refusal::VerifyError;
 pub use rule::Rule;
+pub use rules::{bytes_taken, is_astray, is_pointer, is_unset, moved, operand_kind, takes_dword};
 pub use verified::{VerifiedProgram, judge, verify};
 
 #[cfg(test)]

@@ -1,7 +1,7 @@
 //! The rules of the verifier.
 
 ghost use Rattle.std.specs.Prelude.{◌≡◌};
-ghost use Rattle.bpf_verify.specs.Rules.{rule_number};
+ghost use Rattle.bpf_verify.specs.Rules.{rule_name, rule_number};
 
 /// A rule that a program can break (docs/VERIFIER.md, "Rules"). Of the rules that an instruction breaks the one of the
 /// lowest number is told.
@@ -48,6 +48,24 @@ impl Rule {
             Rule::BadArgument => 9,
             Rule::ExitNotNumber => 10,
             Rule::NotPointer => 11,
+        }
+    }
+    /// The name by which a rule is told.
+    pub fn name(self) -> &'static str
+        ensures { result.now ≡ rule_name self }
+    {
+        match self {
+            Rule::NotForward => "NotForward",
+            Rule::BadTarget => "BadTarget",
+            Rule::UnknownHelper => "UnknownHelper",
+            Rule::UnsetRegister => "UnsetRegister",
+            Rule::FrameWrite => "FrameWrite",
+            Rule::PointerMisuse => "PointerMisuse",
+            Rule::OutOfRegion => "OutOfRegion",
+            Rule::UnsetStackByte => "UnsetStackByte",
+            Rule::BadArgument => "BadArgument",
+            Rule::ExitNotNumber => "ExitNotNumber",
+            Rule::NotPointer => "NotPointer",
         }
     }
 }

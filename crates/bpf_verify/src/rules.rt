@@ -20,7 +20,8 @@ use bpf_insn::{AluOp, Insn, Operand, Program, Reg, Way, Width, distance, target}
 use node_env::{Helper, Region, STACK_BYTES, Shape};
 use value_range::{Range, alu};
 
-fn is_unset(kind: Kind) -> bool
+/// Whether nothing is known.
+pub fn is_unset(kind: Kind) -> bool
     ensures { result ≡ rules.is_unset_kind kind }
 {
     match kind {
@@ -29,7 +30,8 @@ fn is_unset(kind: Kind) -> bool
     }
 }
 
-fn is_pointer(kind: Kind) -> bool
+/// Whether it is a pointer.
+pub fn is_pointer(kind: Kind) -> bool
     ensures { result ≡ rules.is_pointer_kind kind }
 {
     match kind {
@@ -58,7 +60,7 @@ fn immediate(width: Width, imm: i32) -> u64
 }
 
 /// What is known of a second operand.
-pub(crate) fn operand_kind(width: Width, src: Operand, known: &Known) -> Kind
+pub fn operand_kind(width: Width, src: Operand, known: &Known) -> Kind
     ensures { result ≡ rules.operand_kind width src (abstract_of known.now) }
 {
     match src {
@@ -76,7 +78,8 @@ fn goes_back(insn: &Insn) -> bool
     }
 }
 
-fn is_astray(program: &Program, to: Option<u64>) -> bool
+/// Whether no instruction begins where a way leads.
+pub fn is_astray(program: &Program, to: Option<u64>) -> bool
     ensures { result ≡ rules.is_astray program.now to }
 {
     match to {
@@ -302,7 +305,7 @@ pub(crate) fn is_whole(a: Range, off: i16, count: u32) -> bool
 }
 
 /// Whether an access takes one double word of the stack whole, whichever pointer of the kind it goes by.
-pub(crate) fn takes_dword(kind: Kind, off: i16, count: u32) -> bool
+pub fn takes_dword(kind: Kind, off: i16, count: u32) -> bool
     ensures { result ≡ rules.takes_dword kind off count }
 {
     match kind {
@@ -417,7 +420,7 @@ fn misuses_pointer(shape: Shape, insn: &Insn, known: &Known) -> bool
 }
 
 /// An offset in a region moved by a signed one.
-fn moved(place: u64, off: i16) -> Option<u128>
+pub fn moved(place: u64, off: i16) -> Option<u128>
     ensures { result ≡ moved place off }
 {
     let size = u128::from(off.unsigned_abs());
@@ -510,7 +513,7 @@ fn lacks(known: &Known, first: u32, end: u32) -> bool
 }
 
 /// The first byte of the lowest access and the end of the highest, where all of them stay inside their region.
-pub(crate) fn bytes_taken(
+pub fn bytes_taken(
     shape: Shape,
     region: Region,
     a: Range,

@@ -139,7 +139,7 @@ impl VerifiedProgram {
         &shared.program
     }
 
-    /// The records of its slots (docs/VERIFIER.md, "Records"): at the slot of each instruction there is one that stands
+    /// The records of its slots (docs/RUNNER.md, "Records"): at the slot of each instruction there is one that stands
     /// for it.
     pub fn records(&self) -> &[Record]
         ensures records { AreRecords self.now.program result.now }

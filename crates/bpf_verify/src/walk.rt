@@ -30,9 +30,9 @@ pub(crate) struct Front {
 }
 
 /// What has come to each slot by jumps.
-type Rows = Vec<Option<Box<Known>>>;
+pub(crate) type Rows = Vec<Option<Box<Known>>>;
 
-fn no_rows(alloc: Global, count: usize) -> Result<Rows, AllocError>
+pub(crate) fn no_rows(alloc: Global, count: usize) -> Result<Rows, AllocError>
     ensures long { IfOk result (λ rows. vec_len rows ≡ count) }
     ensures empty { IfOk result (λ rows. (slot : ℕ) → table_of rows.items slot ≡ None) }
 {
@@ -72,7 +72,7 @@ impl Front {
     ghost use Rattle.bpf_verify.specs.inner.Walk.{come_of, row_state, met_state};
 
     /// Joins what has come by jumps to what comes from the instruction before.
-    fn meet(&mut self, row: Option<Box<Known>>)
+    pub(crate) fn meet(&mut self, row: Option<Box<Known>>)
         ensures { come_of self.new ≡ met_state (row_state row) (come_of self.old) }
     {
         if let Some(mut known) = row {
@@ -87,7 +87,7 @@ impl Front {
 }
 
 /// Sends what is known after an instruction on by its jump.
-fn jump(
+pub(crate) fn jump(
     alloc: Global,
     shape: Shape,
     rows: &mut Rows,
@@ -122,7 +122,7 @@ impl Front {
     ghost use Rattle.bpf_verify.specs.inner.Walk.{come_of, come_after};
 
     /// Goes on to the next instruction.
-    fn go_on(
+    pub(crate) fn go_on(
         &mut self,
         alloc: Global,
         shape: Shape,

@@ -1,11 +1,14 @@
 -- What the verifier's walk over the slots keeps.
-use Rattle.std.specs.Prelude.{◌≡◌, ℕ, ◌<◌, ◌==◌, List, Option, Some, None, slice_index_or, if◌then◌else◌, ◌⊎◌}
+use Rattle.std.specs.Prelude.{◌≡◌, ℕ, ◌+◌, ◌<◌, ◌==◌, List, Option, Some, None, slice_index_or, if◌then◌else◌, ◌⊎◌}
 use Rattle.node_env.specs.Env.{Extent}
 use Rattle.bpf_insn.specs.declared.forms.Insn.{Insn}
 use Rattle.bpf_insn.specs.declared.edges.Way.{Way}
 use Rattle.bpf_insn.specs.declared.edges.Way.TheVariants.{Onward, Jumping}
 use Rattle.bpf_insn.specs.Programs.{insn_at, slots_of}
 use Rattle.bpf_insn.specs.Edges.{target, BeginsAt}
+use Rattle.bpf_insn.specs.Encoding.{slots_taken}
+use Rattle.bpf_verify.specs.declared.rule.Rule.{Rule}
+use Rattle.bpf_verify.specs.Refusals.{IsRefusedAt}
 use Rattle.bpf_verify.specs.declared.walk.Front.{Front}
 use Rattle.bpf_verify.specs.declared.known.Known.{Known}
 use Rattle.bpf_verify.specs.States.{AbstractState, IsProper, joined_state, entry_state}
@@ -80,6 +83,27 @@ abbrev pub Walks : List Insn → Extent → ℕ → Option AbstractState → Tab
 Walks program shape slot come rows =
     (table : Table) × Stands program shape slot come rows table × IsLeast program shape table
 
+-- the rows once what is known at a slot is left there
+abbrev pub with_row : Table → ℕ → Option AbstractState → Table
+with_row rows slot row other = if other == slot then row else rows other
+
+-- the walk stands at a slot, and the rows have what is known there too
+pub record StandsAt
+    (program : List Insn) (shape : Extent) (slot : ℕ) (state : Option AbstractState) (rows : Table) : Type 0 where
+  pub passed : Passed program shape slot rows
+  pub here : rows slot ≡ state
+  pub proper : (at : ℕ) → IsProperRow (rows at)
+  pub least : IsLeast program shape rows
+
+-- the rows, with what comes to the slot
+abbrev pub with_met : Table → ℕ → Option AbstractState → Table
+with_met rows slot come = with_row rows slot (met_state (rows slot) come)
+
+-- the walk stands before a slot, and the rows have what was known at each slot before it
+abbrev pub Keeps : List Insn → Extent → ℕ → Option AbstractState → Table → Type 0
+Keeps program shape slot come rows =
+    Stands program shape slot come rows (with_met rows slot come) × IsLeast program shape (with_met rows slot come)
+
 -- an instruction that is refused: its slot, and the lowest rule that it breaks
 abbrev pub RefusesInsn : List Insn → Extent → ℕ → Insn → Option AbstractState → VerifyError → Type 0
 RefusesInsn program shape slot insn state (error.Refused at rule) =
@@ -101,3 +125,11 @@ row_state (Some row) = Some (abstract_of row.value)
 
 abbrev pub table_of : {A : Type 0} → List (Option (Box Known A)) → Table
 table_of rows slot = row_state (slice_index_or rows slot None)
+
+-- ---- one step of the walk that keeps its rows
+
+-- by the rule that an instruction breaks: the walk stands before the next slot, or this one is refused
+abbrev pub IsStep : List Insn → Extent → ℕ → Insn → Option AbstractState → Table → Option Rule → Type 0
+IsStep program shape slot insn come rows None = Keeps program shape (slot + slots_taken insn) come rows
+IsStep program shape slot insn come rows (Some rule) =
+    Types program shape slot rows × IsRefusedAt program shape rows slot rule
