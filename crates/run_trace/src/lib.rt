@@ -1,0 +1,13 @@
+//! A run told step by step, as it goes: docs/COMMANDS.md, "A trace".
+#![tactic(auto)]
+
+mod fault;
+mod laws;
+mod line;
+mod operands;
+mod telling;
+mod tracing;
+
+pub use fault::TraceFault;
+pub use laws::{as_many_lines_as_steps, tells_the_run};
+pub use tracing::{Traced, trace};
