@@ -1,0 +1,42 @@
+-- The text of what is known of a register or of the stack (docs/VERIFIER.md, "Asking why").
+use Rattle.std.specs.Prelude.{ℕ, ◌==◌, List, [], ◌∷◌, ◌++◌, codes, if◌then◌else◌}
+use Rattle.std.specs.List.{flat_map}
+use Rattle.std.specs.Fmt.{decimal}
+use Rattle.node_env.specs.declared.region.Region.{Region}
+use Rattle.node_env.specs.declared.region.Region.TheVariants.{Mem, Stack}
+use Rattle.bpf_verify.specs.declared.kind.Kind.{Kind}
+use Rattle.bpf_verify.specs.declared.kind.Kind.TheVariants.{Unset, Number, Pointer}
+use Rattle.bpf_explain.specs.declared.fact.Fact.{Fact}
+use Rattle.bpf_explain.specs.declared.fact.Fact.TheVariants as facts
+
+-- one number, or two with those between them
+abbrev pub range_text : ℕ → ℕ → List ℕ
+range_text lo hi = if lo == hi then decimal lo else decimal lo ++ (codes ".." ++ decimal hi)
+
+abbrev pub region_word : Region → List ℕ
+region_word Mem = codes "memory"
+region_word Stack = codes "stack"
+
+abbrev pub kind_text : Kind → List ℕ
+kind_text Unset = codes "unset"
+kind_text (Number a) = range_text a.lo a.hi
+kind_text (Pointer region a) = region_word region ++ (codes "+" ++ range_text a.lo a.hi)
+
+abbrev pub fact_text : Fact → List ℕ
+fact_text facts.NotReached = codes "not reached"
+fact_text (facts.Register number kind) = codes "r" ++ (decimal number ++ (codes " = " ++ kind_text kind))
+fact_text (facts.Dword number kind) = codes "dword " ++ (decimal number ++ (codes " = " ++ kind_text kind))
+fact_text (facts.Written first last) = codes "written " ++ range_text first last
+fact_text (facts.Holds first last kind) =
+    codes "stack " ++ (range_text first last ++ (codes " = " ++ kind_text kind))
+fact_text (facts.HasWritten first last) = codes "stack " ++ (range_text first last ++ codes " written")
+fact_text (facts.MayLack byte) = codes "stack " ++ (decimal byte ++ codes " unwritten")
+
+-- facts, each behind a comma and a blank
+abbrev pub listed : List Fact → List ℕ
+listed facts = flat_map (λ fact. codes ", " ++ fact_text fact) facts
+
+-- what is told behind an instruction
+abbrev pub remark : List Fact → List ℕ
+remark [] = []
+remark (first ∷ rest) = codes " # " ++ (fact_text first ++ listed rest)

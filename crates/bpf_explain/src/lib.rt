@@ -1,0 +1,15 @@
+//! Tells what the verifier knows at each slot of a program, and why a rule is broken (docs/VERIFIER.md, "Asking why").
+#![tactic(auto)]
+
+mod access;
+mod detail;
+mod fact;
+mod facts;
+mod loaded;
+mod reasons;
+mod register_list;
+mod row_texts;
+
+pub use detail::Detail;
+pub use reasons::reason;
+pub use row_texts::rows;
