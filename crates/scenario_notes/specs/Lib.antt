@@ -1,0 +1,5 @@
+pub mod Words
+pub mod Slots
+pub mod Places
+pub mod Told
+pub mod inner

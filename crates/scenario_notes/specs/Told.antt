@@ -1,0 +1,82 @@
+-- When what a note says is so (docs/SCENARIOS.md, "Notes"). Of a line of the file, of what is shown of a line, and of a
+-- nearest key nothing is said here.
+use Rattle.std.specs.Prelude.{◌≡◌, ℕ, List, ◌++◌, codes, Option, Some, None}
+use Rattle.toml.specs.Data.{Members}
+use Rattle.bpf_asm.specs.declared.text_error.TextError.{TextError}
+use Rattle.bpf_asm.specs.declared.text_error.TextError.TheVariants as text
+use Rattle.bpf_verify.specs.declared.rule.Rule.{Rule}
+use Rattle.scenario_text.specs.declared.refusal.Place.{Place}
+use Rattle.scenario_text.specs.declared.refusal.ScenarioError.{ScenarioError}
+use Rattle.scenario_text.specs.declared.refusal.ScenarioError.TheVariants as errors
+use Rattle.scenario_notes.specs.declared.note.Note.{Note}
+use Rattle.scenario_notes.specs.declared.note.Note.TheVariants as notes
+use Rattle.scenario_text.specs.Texts.{IsDocument}
+use Rattle.scenario_notes.specs.Places.{text_at}
+use Rattle.scenario_notes.specs.Slots.{IsLineOfSlot}
+use Rattle.scenario_notes.specs.Words.{IsNote, note_words}
+
+-- the line of a text that a fault names
+abbrev pub fault_line : TextError → Option ℕ
+fault_line (text.UnknownWord line) = Some line
+fault_line (text.BadOperand line) = Some line
+fault_line (text.OutOfRange line) = Some line
+fault_line (text.UnknownLabel line) = Some line
+fault_line (text.LabelTwice line) = Some line
+fault_line (text.TooLong line) = Some line
+fault_line text.Empty = None
+fault_line text.Memory = None
+
+-- a line of the file is told
+abbrev pub IsOfLine : Note → Type 0
+IsOfLine (notes.OfLine line shown) = Unit {0}
+IsOfLine (notes.OfText spot) = ⊥
+IsOfLine (notes.NotToml line column message) = ⊥
+IsOfLine (notes.OfKey unknown) = ⊥
+IsOfLine (notes.OfSlot spot slot rule) = ⊥
+IsOfLine (notes.OfSlotAlone slot rule) = ⊥
+
+-- of a fault of a text its line is told, or no line of the text
+abbrev pub IsOfFault : TextError → Note → Type 0
+IsOfFault error (notes.OfText spot) = fault_line error ≡ Some spot.line
+IsOfFault error (notes.OfLine line shown) = fault_line error ≡ None
+IsOfFault error (notes.NotToml line column message) = ⊥
+IsOfFault error (notes.OfKey unknown) = ⊥
+IsOfFault error (notes.OfSlot spot slot rule) = ⊥
+IsOfFault error (notes.OfSlotAlone slot rule) = ⊥
+
+-- the line of the text under this key of the file whose instruction begins at the slot
+pub record IsTextLineOfSlot (file : List ℕ) (place : Place) (key : List ℕ) (slot line : ℕ) : Type 0 where
+  pub members : Members
+  pub document : IsDocument file members
+  pub text : List ℕ
+  pub stands : text_at members place key ≡ Some text
+  pub of_slot : IsLineOfSlot text slot line
+
+-- of a program that isn't accepted the slot and the rule are told, and the line of its text
+abbrev pub IsOfSlot : List ℕ → Place → List ℕ → ℕ → Rule → Note → Type 0
+IsOfSlot file place key slot rule (notes.OfSlot spot told broken) =
+    (told ≡ slot) × (broken ≡ rule) × IsTextLineOfSlot file place key slot spot.line
+IsOfSlot file place key slot rule (notes.OfSlotAlone told broken) = (told ≡ slot) × (broken ≡ rule)
+IsOfSlot file place key slot rule (notes.NotToml line column message) = ⊥
+IsOfSlot file place key slot rule (notes.OfKey unknown) = ⊥
+IsOfSlot file place key slot rule (notes.OfLine line shown) = ⊥
+IsOfSlot file place key slot rule (notes.OfText spot) = ⊥
+
+abbrev pub IsNoteOf : List ℕ → ScenarioError → Note → Type 0
+IsNoteOf file (errors.BadText place key error) note = IsOfFault error note
+IsNoteOf file (errors.NotAccepted place key slot rule) note = IsOfSlot file place key.now slot rule note
+IsNoteOf file errors.TooLong note = ⊥
+IsNoteOf file (errors.Memory _) note = ⊥
+IsNoteOf file errors.NotToml note = Unit {0}
+IsNoteOf file (errors.UnknownKey place) note = Unit {0}
+IsNoteOf file (errors.MissingKey place key) note = Unit {0}
+IsNoteOf file (errors.WrongKind place key) note = Unit {0}
+IsNoteOf file (errors.OutOfRange place key) note = Unit {0}
+IsNoteOf file (errors.UnknownProgram load) note = Unit {0}
+
+-- the line tells a note on the refusal of the file
+pub record Tells (file : List ℕ) (error : ScenarioError) (line : List ℕ) : Type 0 where
+  pub note : Note
+  pub is_so : IsNoteOf file error note
+  pub line_is : line ≡ codes "note: " ++ (note_words note ++ codes "\n")
+  pub one_line : IsNote line

@@ -1,0 +1,47 @@
+-- The words of a note (docs/SCENARIOS.md, "Notes").
+use Rattle.std.specs.Prelude.{◌≡◌, ◌==◌, ℕ, false, List, [], ◌++◌, codes, Option, Some, None, option_map, string_bytes}
+use Rattle.std.specs.Fmt.{decimal}
+use Rattle.std.specs.List.{list_any}
+use Rattle.bpf_verify.specs.declared.rule.Rule.{Rule}
+use Rattle.bpf_verify.specs.Rules.{rule_name, rule_number}
+use Rattle.scenario_notes.specs.declared.note.Note.{Note}
+use Rattle.scenario_notes.specs.declared.note.Note.TheVariants as notes
+use Rattle.scenario_notes.specs.declared.note.Spot.{Spot}
+use Rattle.scenario_notes.specs.declared.note.UnknownKey.{UnknownKey}
+
+-- a line of the file, where it is told
+abbrev pub line_words : Option ℕ → List ℕ
+line_words None = []
+line_words (Some line) = codes "line " ++ (decimal line ++ codes ": ")
+
+-- a line of a text, behind the line of the file where it stands
+abbrev pub spot_words : Spot → List ℕ
+spot_words spot = line_words spot.file ++ (codes "line " ++ (decimal spot.line ++ codes " of the text: "))
+
+abbrev pub nearest_words : Option (List ℕ) → List ℕ
+nearest_words None = []
+nearest_words (Some name) = codes "; the nearest is " ++ name
+
+abbrev pub key_words : UnknownKey → List ℕ
+key_words unknown = codes "unknown key " ++ (string_bytes unknown.key
+    ++ nearest_words (option_map (λ name. name.now) unknown.nearest))
+
+abbrev pub rule_words : Rule → List ℕ
+rule_words rule = codes "rule " ++ (decimal (rule_number rule) ++ (codes ", "
+    ++ (rule_name rule ++ codes " (docs/VERIFIER.md)")))
+
+abbrev pub note_words : Note → List ℕ
+note_words (notes.NotToml line column message) = codes "line " ++ (decimal line ++ (codes ", column "
+    ++ (decimal column ++ (codes ": " ++ string_bytes message))))
+note_words (notes.OfKey unknown) = line_words unknown.line ++ key_words unknown
+note_words (notes.OfLine line shown) = line_words (Some line) ++ string_bytes shown
+note_words (notes.OfText spot) = spot_words spot ++ string_bytes spot.shown
+note_words (notes.OfSlot spot slot rule) = spot_words spot ++ (codes "slot " ++ (decimal slot
+    ++ (codes ": " ++ (string_bytes spot.shown ++ (codes ": " ++ rule_words rule)))))
+note_words (notes.OfSlotAlone slot rule) = codes "slot " ++ (decimal slot ++ (codes ": " ++ rule_words rule))
+
+-- one line that begins as a note does
+pub record IsNote (line : List ℕ) : Type 0 where
+  pub words : List ℕ
+  pub one_line : list_any (λ c. c == 10) words ≡ false
+  pub line_is : line ≡ codes "note: " ++ (words ++ codes "\n")

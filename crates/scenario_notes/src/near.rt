@@ -1,0 +1,45 @@
+//! Which known name an unknown one is near to.
+
+use std::alloc::{AllocError, Global};
+use strsim::levenshtein;
+
+/// The longest name that is compared, in bytes.
+const LONGEST_NAME: usize = 64;
+
+/// One letter in three may be wrong.
+const LETTERS_AN_EDIT: usize = 3;
+
+/// How many edits lead from one name to the other, where these are few; equal names have none.
+fn edits(alloc: Global, name: &str, known: &str) -> Result<Option<usize>, AllocError> {
+    let distance = levenshtein(alloc, name, known)?;
+    let is_near = 0 < distance && distance <= name.len().max(known.len()) / LETTERS_AN_EDIT;
+    if is_near {
+        Ok(Some(distance))
+    } else {
+        Ok(None)
+    }
+}
+
+/// The nearest of the known names, the first of several, where one is near.
+pub(crate) fn nearest(
+    alloc: Global,
+    name: &str,
+    known: &[&'static str],
+) -> Result<Option<&'static str>, AllocError> {
+    if name.len() > LONGEST_NAME {
+        return Ok(None);
+    }
+    let mut best: Option<(&'static str, usize)> = None;
+    for other in known {
+        if let Some(distance) = edits(alloc, name, other)? {
+            let is_nearer = match best {
+                None => true,
+                Some((_, least)) => distance < least,
+            };
+            if is_nearer {
+                best = Some((other, distance));
+            }
+        }
+    }
+    Ok(best.map(|(other, _)| other))
+}

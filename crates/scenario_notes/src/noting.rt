@@ -1,0 +1,210 @@
+//! The note on a refusal.
+ghost use Rattle.std.specs.Prelude.{◌≡◌, IfOk, IfSome, MatchOption, None, Some, string_bytes};
+ghost use Rattle.scenario_notes.specs.Told.{IsNoteOf, IsOfFault, IsOfLine, IsOfSlot, IsTextLineOfSlot, Tells, fault_line};
+
+use crate::finding::{Sought, find, find_in_text, line_at, without_comment};
+use crate::known::{names_at, unknown_key};
+use crate::near::nearest;
+use crate::note::{Note, Spot, UnknownKey};
+use crate::shown::shown;
+use crate::slot_line::line_of_slot;
+use crate::table::{array_of, key_at, table_at, table_in, text_at};
+use crate::toml_fault::fault_in;
+use bpf_asm::TextError;
+use bpf_verify::Rule;
+use scenario_text::{Place, ScenarioError};
+use std::alloc::{AllocError, Global};
+use std::str;
+
+/// The line of what is sought.
+fn line_note(alloc: Global, file: &[u8], sought: Sought<'_>) -> Result<Option<Note>, AllocError>
+    ensures { IfOk result (λ found. IfSome found IsOfLine) }
+{
+    let Ok(text) = str::from_utf8(file) else {
+        return Ok(None);
+    };
+    let Some((line, words)) = find(text, sought) else {
+        return Ok(None);
+    };
+    let shown = shown(alloc, words)?;
+    Ok(Some(Note::OfLine { line, shown }))
+}
+
+/// The line of a key.
+fn line_of_key(file: &[u8], place: Place, key: &str) -> Option<usize> {
+    let text = str::from_utf8(file).ok()?;
+    let (line, _words) = find(text, key_at(place, key))?;
+    Some(line)
+}
+
+fn unknown_key_note(alloc: Global, file: &[u8], place: Place) -> Result<Option<Note>, AllocError> {
+    let Some(table) = table_in(alloc, file)? else {
+        return Ok(None);
+    };
+    let Some(entry) = table_at(&table, place) else {
+        return Ok(None);
+    };
+    let Some(key) = unknown_key(entry, place) else {
+        return Ok(None);
+    };
+    let unknown = UnknownKey {
+        line: line_of_key(file, place, key),
+        key: shown(alloc, key)?,
+        nearest: nearest(alloc, key, names_at(place))?,
+    };
+    Ok(Some(Note::OfKey { unknown }))
+}
+
+/// A line of the text under a key, shown without its comment.
+fn spot_at(
+    alloc: Global,
+    file: &[u8],
+    sought: Sought<'_>,
+    text: &str,
+    line: usize,
+) -> Result<Option<Spot>, AllocError>
+    ensures { IfOk result (λ found. IfSome found (λ spot. spot.line ≡ line)) }
+{
+    let Some(whole) = line_at(text, line) else {
+        return Ok(None);
+    };
+    let words = without_comment(whole);
+    let place = match str::from_utf8(file) {
+        Ok(file) => find_in_text(file, sought, line, words.trim()),
+        Err(_) => None,
+    };
+    let shown = shown(alloc, words)?;
+    Ok(Some(Spot {
+        file: place,
+        line,
+        shown,
+    }))
+}
+
+/// The line that a fault of a text names.
+fn fault_line(error: TextError) -> Option<usize>
+    ensures { result ≡ fault_line error }
+{
+    match error {
+        TextError::UnknownWord(line)
+        | TextError::BadOperand(line)
+        | TextError::OutOfRange(line)
+        | TextError::UnknownLabel(line)
+        | TextError::LabelTwice(line)
+        | TextError::TooLong(line) => Some(line),
+        TextError::Empty | TextError::Memory => None,
+    }
+}
+
+fn text_note(
+    alloc: Global,
+    file: &[u8],
+    place: Place,
+    key: &str,
+    error: TextError,
+) -> Result<Option<Note>, AllocError>
+    ensures { IfOk result (λ found. IfSome found (IsOfFault error)) }
+{
+    let sought = key_at(place, key);
+    let Some(line) = fault_line(error) else {
+        return line_note(alloc, file, sought);
+    };
+    let Some(table) = table_in(alloc, file)? else {
+        return Ok(None);
+    };
+    let Some(text) = text_at(&table, place, key) else {
+        return Ok(None);
+    };
+    match spot_at(alloc, file, sought, text, line)? {
+        Some(spot) => Ok(Some(Note::OfText { spot })),
+        None => Ok(None),
+    }
+}
+
+/// The line of the text under a key whose instruction begins at the slot.
+fn slot_spot(
+    alloc: Global,
+    file: &[u8],
+    place: Place,
+    key: &str,
+    slot: u32,
+) -> Result<Option<Spot>, AllocError>
+    ensures { IfOk result (λ found. IfSome found (λ spot.
+        IsTextLineOfSlot file.now place key.now slot spot.line)) }
+{
+    let Some(table) = table_in(alloc, file)? else {
+        return Ok(None);
+    };
+    let Some(text) = text_at(&table, place, key) else {
+        return Ok(None);
+    };
+    let Some(line) = line_of_slot(alloc, text.as_bytes(), slot)? else {
+        return Ok(None);
+    };
+    spot_at(alloc, file, key_at(place, key), text, line)
+}
+
+fn slot_note(
+    alloc: Global,
+    file: &[u8],
+    place: Place,
+    key: &str,
+    slot: u32,
+    rule: Rule,
+) -> Result<Note, AllocError>
+    ensures { IfOk result (IsOfSlot file.now place key.now slot rule) }
+{
+    match slot_spot(alloc, file, place, key, slot)? {
+        Some(spot) => Ok(Note::OfSlot { spot, slot, rule }),
+        None => Ok(Note::OfSlotAlone { slot, rule }),
+    }
+}
+
+/// What can be said of where the refusal of a file comes from.
+fn note_of(alloc: Global, file: &[u8], error: &ScenarioError) -> Result<Option<Note>, AllocError>
+    ensures { IfOk result (λ found. IfSome found (IsNoteOf file.now error.now)) }
+{
+    match error {
+        ScenarioError::TooLong | ScenarioError::Memory(_) => Ok(None),
+        ScenarioError::NotToml => fault_in(alloc, file),
+        ScenarioError::UnknownKey { place } => unknown_key_note(alloc, file, *place),
+        ScenarioError::MissingKey { place, .. } => {
+            let entry = array_of(*place);
+            line_note(alloc, file, Sought { entry, key: None })
+        }
+        ScenarioError::WrongKind { place, key } | ScenarioError::OutOfRange { place, key } => {
+            line_note(alloc, file, key_at(*place, key))
+        }
+        ScenarioError::UnknownProgram { load } => {
+            line_note(alloc, file, key_at(Place::Load(*load), "program"))
+        }
+        ScenarioError::BadText { place, key, error } => {
+            text_note(alloc, file, *place, key, *error)
+        }
+        ScenarioError::NotAccepted {
+            place,
+            key,
+            slot,
+            rule,
+        } => Ok(Some(slot_note(alloc, file, *place, key, *slot, *rule)?)),
+    }
+}
+
+/// The line of the note on the refusal of a file, with its end, where there is something to say.
+pub fn note_on(
+    alloc: Global,
+    file: &[u8],
+    error: &ScenarioError,
+) -> Result<Option<String>, AllocError>
+    ensures { IfOk result (λ found. IfSome found (λ line. Tells file.now error.now (string_bytes line))) }
+{
+    let Some(note) = note_of(alloc, file, error)? else {
+        return Ok(None);
+    };
+    let words = format!(in alloc; "{note}")?;
+    if words.as_bytes().contains(&b'\n') {
+        return Ok(None);
+    }
+    let line = format!(in alloc; "note: {words}\n")?;
+    Ok(Some(line))
+}

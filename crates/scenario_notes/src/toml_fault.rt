@@ -1,0 +1,41 @@
+//! What the parser says of a text that it doesn't read.
+
+use crate::note::Note;
+use std::alloc::{AllocError, Global};
+
+/// The line and the column behind a front.
+fn place_behind(front: &[u8]) -> (usize, usize) {
+    let mut line = 1usize;
+    let mut column = 1usize;
+    for byte in front {
+        if *byte == b'\n' {
+            line = line.saturating_add(1);
+            column = 1;
+        } else if begins_letter(*byte) {
+            column = column.saturating_add(1);
+        }
+    }
+    (line, column)
+}
+
+/// Whether a byte of UTF-8 is the first of its character.
+fn begins_letter(byte: u8) -> bool {
+    byte & 0xc0 != 0x80
+}
+
+/// Where and why the parser stops, if it does.
+pub(crate) fn fault_in(alloc: Global, text: &[u8]) -> Result<Option<Note>, AllocError> {
+    let Err(error) = toml::table_from_slice(alloc, text) else {
+        return Ok(None);
+    };
+    let Some(span) = error.span() else {
+        return Err(AllocError);
+    };
+    let (line, column) = place_behind(&text[..span.start.min(text.len())]);
+    let message = String::from_str(alloc, error.message())?;
+    Ok(Some(Note::NotToml {
+        line,
+        column,
+        message,
+    }))
+}
