@@ -18,10 +18,10 @@ _clockbed() {
     --coin | --contents | --depth | --from | --fuel | --id | --keys | --loaders | --loads | --mail | --memory | --nodes | --pulses | --states | --until | --workers) return ;;
   esac
   case ${COMP_WORDS[1]} in
-    exec) _clockbed_offer "--nodes --memory --fuel --id --mail --coin --contents --show --help" files ;;
-    asm) _clockbed_offer "--help" files ;;
-    dis) _clockbed_offer "--help" files ;;
-    verify) _clockbed_offer "--nodes --memory --help" files ;;
+    exec) _clockbed_offer "--nodes --memory --fuel --id --mail --coin --contents --show --trace --help" files ;;
+    asm) _clockbed_offer "--list --help" files ;;
+    dis) _clockbed_offer "--list --help" files ;;
+    verify) _clockbed_offer "--nodes --memory --text --explain --all --help" files ;;
     run) _clockbed_offer "--workers --check --json --from --until --help" files ;;
     stress) _clockbed_offer "--loaders --loads --pulses --workers --help" ;;
     sweep) _clockbed_offer "--keys --workers --help" files ;;

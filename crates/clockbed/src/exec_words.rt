@@ -39,9 +39,14 @@ pub(crate) fn exec<'a>(alloc: Global, helps: &'a Helps) -> Result<Command<'a>, A
         .long("show")
         .help("Prints the memory and what was sent too")
         .action(ArgAction::SetTrue);
+    let trace = Arg::new(alloc, "trace")
+        .long("trace")
+        .help("Prints each step of the run")
+        .action(ArgAction::SetTrue);
     let command = with_shape(alloc, command, helps)?.arg(fuel)?;
     with_case(alloc, command, helps)?
         .arg(show)?
+        .arg(trace)?
         .arg(file(alloc))
 }
 
@@ -90,6 +95,7 @@ pub(crate) fn exec_options(
         fuel: options.get_one::<u64>("fuel").unwrap_or(DEFAULT_FUEL),
         case,
         show: options.get_flag("show"),
+        trace: options.get_flag("trace"),
     })
 }
 

@@ -12,7 +12,8 @@ use clap::error::ErrorKind;
 use clap::{ArgMatches, Error};
 use commands::Fault;
 use commands::request::{
-    ExploreOptions, LinesOptions, Request, RunOptions, ShapeOptions, StressOptions, SweepOptions,
+    Detail, ExplainOptions, ExploreOptions, LinesOptions, Request, RunOptions, ShapeOptions,
+    StressOptions, SweepOptions,
 };
 use key_sweep::KeySpan;
 use run_lines::PulseSpan;
@@ -90,9 +91,13 @@ fn request_in(
 ) -> Result<Request, OptionsFault> {
     match name {
         "exec" => Ok(Request::Exec(exec_options(alloc, options)?)),
-        "asm" => Ok(Request::Asm),
-        "dis" => Ok(Request::Dis),
-        "verify" => Ok(Request::Verify(shape_options(options))),
+        "asm" => Ok(Request::Asm {
+            list: options.get_flag("list"),
+        }),
+        "dis" => Ok(Request::Dis {
+            list: options.get_flag("list"),
+        }),
+        "verify" => Ok(verify_request(options)),
         "run" => run_request(options),
         "stress" => Ok(Request::Stress(stress_options(options))),
         "explore" => Ok(Request::Explore(explore_options(alloc, options)?)),
@@ -126,6 +131,31 @@ pub(crate) fn shape_options(options: &ArgMatches<'_>) -> ShapeOptions {
         nodes: options.get_one::<u32>("nodes").unwrap_or(DEFAULT_NODES),
         memory: options.get_one::<u32>("memory").unwrap_or(DEFAULT_MEMORY),
     }
+}
+
+/// What is told of each slot, where that is asked for.
+fn detail(options: &ArgMatches<'_>) -> Option<Detail> {
+    if !options.get_flag("explain") {
+        None
+    } else if options.get_flag("all") {
+        Some(Detail::All)
+    } else {
+        Some(Detail::Read)
+    }
+}
+
+fn verify_request(options: &ArgMatches<'_>) -> Request {
+    let shape = shape_options(options);
+    let text = options.get_flag("text");
+    let detail = detail(options);
+    if !text && detail.is_none() {
+        return Request::Verify(shape);
+    }
+    Request::Explain(ExplainOptions {
+        shape,
+        text,
+        detail,
+    })
 }
 
 fn run_options(options: &ArgMatches<'_>) -> RunOptions {

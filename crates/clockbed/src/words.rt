@@ -138,11 +138,20 @@ pub(crate) fn file<'a>(alloc: Global) -> Arg<'a> {
         .help("What is read; standard input where it is - or none")
 }
 
+/// The option that asks for a listing.
+fn list<'a>(alloc: Global) -> Arg<'a> {
+    Arg::new(alloc, "list")
+        .long("list")
+        .help("Prints the slot and the bytes of each instruction beside its line")
+        .action(ArgAction::SetTrue)
+}
+
 /// The command `asm`.
 fn asm<'a>(alloc: Global) -> Result<Command<'a>, AllocError> {
     Command::new(alloc, "asm")
         .about("Prints the image of an assembler text")
         .after_help("Example: clockbed asm program.s > program.bpf\nPage: docs/ASSEMBLER.md")
+        .arg(list(alloc))?
         .arg(file(alloc))
 }
 
@@ -151,6 +160,7 @@ fn dis<'a>(alloc: Global) -> Result<Command<'a>, AllocError> {
     Command::new(alloc, "dis")
         .about("Prints an image as assembler text")
         .after_help("Example: clockbed dis examples/seven.bpf\nPage: docs/ASSEMBLER.md")
+        .arg(list(alloc))?
         .arg(file(alloc))
 }
 
@@ -161,7 +171,24 @@ fn verify<'a>(alloc: Global, helps: &'a Helps) -> Result<Command<'a>, AllocError
         .after_help(
             "Example: clockbed verify --memory 8 examples/seven.bpf\nPage: docs/VERIFIER.md",
         );
-    with_shape(alloc, verify, helps)?.arg(file(alloc))
+    let text = Arg::new(alloc, "text")
+        .long("text")
+        .help("Reads an assembler text")
+        .action(ArgAction::SetTrue);
+    let explain = Arg::new(alloc, "explain")
+        .long("explain")
+        .help("Prints what is known at each slot, and why a rule is broken")
+        .action(ArgAction::SetTrue);
+    let all = Arg::new(alloc, "all")
+        .long("all")
+        .help("Prints all that is known at each slot")
+        .requires_arg("explain")?
+        .action(ArgAction::SetTrue);
+    with_shape(alloc, verify, helps)?
+        .arg(text)?
+        .arg(explain)?
+        .arg(all)?
+        .arg(file(alloc))
 }
 
 /// The command `run` with its options.

@@ -1,10 +1,13 @@
+pub mod ExplainLemmas
 mod AnswerLemmas
 mod CaseLemmas
 mod VerdictLemmas
 mod RunLemmas
 mod StressLemmas
 mod FaultLemmas
+mod TracedLemmas
 mod SweepLemmas
 pub mod PlaceLemmas
 pub mod ExploreLemmas
 mod LinesLemmas
+mod AheadLemmas

@@ -1,10 +1,11 @@
 -- What `asm` leaves on its output.
-use Rattle.std.specs.Prelude.{◌≢◌, ◌≤◌, ℕ, List, ◌++◌, codes, length, Option, Result, Ok, Err}
+use Rattle.std.specs.Prelude.{◌≢◌, ◌≤◌, ℕ, Bool, List, ◌++◌, codes, length, Option, Result, Ok, Err, if◌then◌else◌}
 use Rattle.std.specs.Fmt.{decimal}
 use Rattle.bpf_insn.specs.declared.forms.Insn.{Insn}
 use Rattle.bpf_insn.specs.Programs.{image_of}
 use Rattle.bpf_asm.specs.declared.text_error.TextError.{TextError}
 use Rattle.bpf_asm.specs.declared.text_error.TextError.TheVariants as errors
+use Rattle.bpf_asm.specs.Listing.{text_listing}
 use Rattle.bpf_asm.specs.Meaning.{Means}
 use Rattle.commands.specs.declared.asm.TheConstants.{TEXT_BYTES}
 use Rattle.commands.specs.declared.ending.Ending.{Ending}
@@ -29,15 +30,20 @@ ReadsText text (Ok program) = (length text ≤ TEXT_BYTES) × Means text program
 ReadsText text (Err error) = (length text ≤ TEXT_BYTES) × (error ≢ errors.Memory)
     × ((program : List Insn) → Means text program → ⊥)
 
--- what is printed: the image of the program, or the line of the refusal
-abbrev pub assembled : Result (List Insn) TextError → List ℕ
-assembled (Ok program) = image_of program
-assembled (Err error) = text_refusal error ++ codes "\n"
+-- what is printed of the program of a text: its image, or the text's listing where that is asked for
+abbrev pub program_text : Bool → List ℕ → List Insn → List ℕ
+program_text list text program = if list then text_listing text (image_of program) else image_of program
+
+-- the same, or the line of the refusal
+abbrev pub assembled : Bool → List ℕ → Result (List Insn) TextError → List ℕ
+assembled list text (Ok program) = program_text list text program
+assembled list text (Err error) = text_refusal error ++ codes "\n"
 
 abbrev pub assembled_ending : Result (List Insn) TextError → Ending
 assembled_ending (Ok program) = Done
 assembled_ending (Err error) = Refused
 
--- the image of the program that the text means, or the line that refuses it
-abbrev pub LeavesImage : Option (List ℕ) → Option (List ℕ) → List ℕ → Result Ending Fault → Type 0
-LeavesImage old new text result = LeavesAny (ReadsText text) assembled assembled_ending old new result
+-- the image of the program that the text means, or its listing, or the line that refuses it
+abbrev pub LeavesImage : Option (List ℕ) → Option (List ℕ) → Bool → List ℕ → Result Ending Fault → Type 0
+LeavesImage old new list text result =
+    LeavesAny (ReadsText text) (assembled list text) assembled_ending old new result

@@ -1,8 +1,9 @@
 -- What `dis` leaves on its output.
-use Rattle.std.specs.Prelude.{ℕ, List, ◌++◌, codes, Option, Result, Ok, Err}
+use Rattle.std.specs.Prelude.{ℕ, Bool, List, ◌++◌, codes, Option, Result, Ok, Err, if◌then◌else◌}
 use Rattle.bpf_insn.specs.declared.forms.Insn.{Insn}
 use Rattle.bpf_insn.specs.declared.image.ImageError.{ImageError}
 use Rattle.bpf_asm.specs.Canonical.{canonical_text}
+use Rattle.bpf_asm.specs.Listing.{program_listing}
 use Rattle.commands.specs.declared.ending.Ending.{Ending}
 use Rattle.commands.specs.declared.ending.Ending.TheVariants.{Done, Refused}
 use Rattle.commands.specs.declared.fault.Fault.{Fault}
@@ -10,15 +11,17 @@ use Rattle.commands.specs.declared.image.Refusal.TheVariants.{Image}
 use Rattle.commands.specs.Image.{ReadsImage, refusal_line}
 use Rattle.commands.specs.Output.{LeavesAny}
 
--- what is printed: the canonical text of the program, or the line of the refusal (docs/COMMANDS.md, "What dis prints")
-abbrev pub listing_text : Result (List Insn) ImageError → List ℕ
-listing_text (Ok program) = canonical_text program
-listing_text (Err error) = refusal_line (Image error) ++ codes "\n"
+-- what is printed: the canonical text of the program, or its listing where that is asked for, or the line of the
+-- refusal (docs/COMMANDS.md, "What dis prints")
+abbrev pub listing_text : Bool → Result (List Insn) ImageError → List ℕ
+listing_text list (Ok program) = if list then program_listing program else canonical_text program
+listing_text list (Err error) = refusal_line (Image error) ++ codes "\n"
 
 abbrev pub listing_ending : Result (List Insn) ImageError → Ending
 listing_ending (Ok program) = Done
 listing_ending (Err error) = Refused
 
--- the listing of the program of these bytes, or the line of their refusal
-abbrev pub LeavesListing : Option (List ℕ) → Option (List ℕ) → List ℕ → Result Ending Fault → Type 0
-LeavesListing old new bytes result = LeavesAny (ReadsImage bytes) listing_text listing_ending old new result
+-- what is printed of the program of these bytes, or the line of their refusal
+abbrev pub LeavesListing : Option (List ℕ) → Option (List ℕ) → Bool → List ℕ → Result Ending Fault → Type 0
+LeavesListing old new list bytes result =
+    LeavesAny (ReadsImage bytes) (listing_text list) listing_ending old new result

@@ -4,6 +4,7 @@ pub mod Case
 pub mod Dis
 pub mod Ending
 pub mod Exec
+pub mod Explained
 pub mod Explore
 pub mod Faults
 pub mod Image

@@ -6,8 +6,7 @@ use Rattle.commands.specs.declared.fault.Fault.{Fault}
 use Rattle.commands.specs.declared.fault.Fault.TheVariants as faults
 
 -- The whole text, with this ending; the first bytes of the text, as many as the fault says and not all, where a write
--- failed;
--- and nothing where memory ran out. No other fault comes.
+-- failed; and nothing where memory ran out. No other fault comes.
 abbrev pub Leaves : Option (List ℕ) → Option (List ℕ) → List ℕ → Ending → Result Ending Fault → Type 0
 Leaves old new text ending (Ok given) = (given ≡ ending) × Appends old new text
 Leaves old new text ending (Err (faults.Write after)) = (after < length text) × Appends old new (take after text)
@@ -17,8 +16,7 @@ Leaves old new text ending (Err faults.Thread) = ⊥
 Leaves old new text ending (Err (faults.CommandLine said)) = ⊥
 
 -- The whole text of what the command answers, with its ending; the first bytes of that text, as many as the fault says
--- and not all, where a
--- write failed; and nothing at every other fault.
+-- and not all, where a write failed; and nothing at every other fault.
 abbrev pub LeavesAny : {A : Type 0} → (A → Type 0) → (A → List ℕ) → (A → Ending) → Option (List ℕ) → Option (List ℕ)
     → Result Ending Fault → Type 0
 LeavesAny {A} IsAnswer text ending old new (Ok given) = (answer : A) × IsAnswer answer × (given ≡ ending answer)

@@ -1,24 +1,26 @@
 -- What the program does for a request: what it takes, what it leaves and says, and its exit status (docs/COMMANDS.md).
-use Rattle.std.specs.Prelude.{◌≡◌, ℕ, ◌+◌, List, Option, Result, Ok, Err, IfSome, string_bytes, take}
+use Rattle.std.specs.Prelude.{◌≡◌, ◌⊎◌, ℕ, ◌+◌, List, Option, Result, Ok, Err, IfSome, string_bytes, take}
 use Rattle.stream_io.specs.Streams.{TakesAtMost}
 use Rattle.commands.specs.declared.asm.TheConstants.{TEXT_BYTES}
 use Rattle.commands.specs.declared.ending.Ending.{Ending}
-use Rattle.commands.specs.declared.ending.Ending.TheVariants.{Done}
+use Rattle.commands.specs.declared.ending.Ending.TheVariants.{Disagreed, Done, Mismatched, Refused, Unfinished}
 use Rattle.commands.specs.declared.fault.Fault.{Fault}
 use Rattle.commands.specs.declared.image.TheConstants.{IMAGE_BYTES}
 use Rattle.commands.specs.declared.request.ShapeOptions.{ShapeOptions}
 use Rattle.commands.specs.declared.request.Request.{Request}
-use Rattle.commands.specs.declared.request.Request.TheVariants.{Exec, Asm, Dis, Verify, Run, Lines, Stress, Sweep, Explore, Help}
+use Rattle.commands.specs.declared.request.Request.TheVariants.{Exec, Asm, Dis, Verify, Explain, Run, Lines, Stress, Sweep, Explore, Help}
 use Rattle.commands.specs.Asm.{LeavesImage}
 use Rattle.commands.specs.Dis.{LeavesListing}
 use Rattle.commands.specs.Ending.{status_of}
-use Rattle.commands.specs.Exec.{LeavesAnswer}
+use Rattle.commands.specs.Exec.{LeavesExec}
+use Rattle.commands.specs.Explained.{LeavesExplained, most_read}
 use Rattle.commands.specs.Explore.{LeavesExplored}
 use Rattle.commands.specs.Faults.{Says, fault_status, fault_text}
 use Rattle.commands.specs.Image.{HasShape}
 use Rattle.commands.specs.Lines.{LeavesJson}
 use Rattle.commands.specs.Output.{Leaves}
 use Rattle.commands.specs.Run.{LeavesTold, WantsThread}
+use Rattle.scenario_notes.specs.Words.{IsNote}
 use Rattle.bench_scenario.specs.declared.run.TheConstants.{MOST_BYTES}
 use Rattle.commands.specs.Stress.{LeavesStressed}
 use Rattle.commands.specs.Sweep.{LeavesSwept}
@@ -27,11 +29,15 @@ use Rattle.commands.specs.Verdict.{LeavesVerdict}
 -- what each command leaves on its output, where the bytes of its input are known, and how it ends
 abbrev pub CarriesOut : Request → Option (List ℕ) → Option (List ℕ) → Option (List ℕ) → Result Ending Fault → Type 0
 CarriesOut (Exec asked) input old new ended = IfSome input
-    (λ bytes. LeavesAnswer old new asked (take IMAGE_BYTES bytes) ended)
-CarriesOut Asm input old new ended = IfSome input (λ bytes. LeavesImage old new (take (TEXT_BYTES + 1) bytes) ended)
-CarriesOut Dis input old new ended = IfSome input (λ bytes. LeavesListing old new (take IMAGE_BYTES bytes) ended)
+    (λ bytes. LeavesExec old new asked (take IMAGE_BYTES bytes) ended)
+CarriesOut (Asm list) input old new ended = IfSome input
+    (λ bytes. LeavesImage old new list (take (TEXT_BYTES + 1) bytes) ended)
+CarriesOut (Dis list) input old new ended = IfSome input
+    (λ bytes. LeavesListing old new list (take IMAGE_BYTES bytes) ended)
 CarriesOut (Verify asked) input old new ended = IfSome input
     (λ bytes. LeavesVerdict old new asked (take IMAGE_BYTES bytes) ended)
+CarriesOut (Explain asked) input old new ended = IfSome input
+    (λ bytes. LeavesExplained old new asked (take (most_read asked.text) bytes) ended)
 CarriesOut (Run asked) input old new ended = IfSome input
     (λ bytes. LeavesTold asked.check old new bytes ended × WantsThread bytes ended)
 CarriesOut (Lines asked) input old new ended = IfSome input
@@ -47,9 +53,17 @@ abbrev pub status_for : Result Ending Fault → ℕ
 status_for (Ok ending) = status_of ending
 status_for (Err fault) = fault_status
 
--- what is said of how it ended: the fault, or nothing
+-- nothing is said, or so much of a note as was taken
+abbrev pub SaysNote : Option (List ℕ) → Option (List ℕ) → Type 0
+SaysNote old new = (new ≡ old) ⊎ ((note : List ℕ) × IsNote note × Says old new note)
+
+-- what is said of how it ended: the fault; of a refusal a note, or nothing; of another ending nothing
 abbrev pub SaysOf : Result Ending Fault → Option (List ℕ) → Option (List ℕ) → Type 0
-SaysOf (Ok ending) old new = new ≡ old
+SaysOf (Ok Refused) old new = SaysNote old new
+SaysOf (Ok Done) old new = new ≡ old
+SaysOf (Ok Mismatched) old new = new ≡ old
+SaysOf (Ok Disagreed) old new = new ≡ old
+SaysOf (Ok Unfinished) old new = new ≡ old
 SaysOf (Err fault) old new = Says old new (fault_text fault)
 
 -- the command is carried out, and told are the status and the fault of how it ended
@@ -66,9 +80,11 @@ TakesShaped asked old new = TakesAtMost IMAGE_BYTES old new × ((HasShape asked 
 -- how much of its input a command takes at most, whatever comes of it
 abbrev pub TakesFor : Request → Option (List ℕ) → Option (List ℕ) → Type 0
 TakesFor (Exec asked) old new = TakesShaped asked.shape old new
-TakesFor Asm old new = TakesAtMost (TEXT_BYTES + 1) old new
-TakesFor Dis old new = TakesAtMost IMAGE_BYTES old new
+TakesFor (Asm list) old new = TakesAtMost (TEXT_BYTES + 1) old new
+TakesFor (Dis list) old new = TakesAtMost IMAGE_BYTES old new
 TakesFor (Verify asked) old new = TakesShaped asked old new
+TakesFor (Explain asked) old new =
+    TakesAtMost (most_read asked.text) old new × ((HasShape asked.shape → ⊥) → new ≡ old)
 TakesFor (Run asked) old new = TakesAtMost MOST_BYTES old new
 TakesFor (Lines asked) old new = TakesAtMost MOST_BYTES old new
 TakesFor (Stress asked) old new = new ≡ old

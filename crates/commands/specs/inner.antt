@@ -1,4 +1,5 @@
 -- What proofs and private contracts alone cite.
+pub mod Ahead
 pub mod Exec
 pub mod Faults
 pub mod Lines

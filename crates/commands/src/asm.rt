@@ -3,16 +3,16 @@ ghost use Rattle.std.specs.Prelude.{◌≡◌, ◌≢◌, ◌≤◌, ◌+◌, Li
 ghost use Rattle.bpf_insn.specs.declared.forms.Insn.{Insn};
 ghost use Rattle.bpf_asm.specs.Meaning.{Means};
 ghost use Rattle.stream_io.specs.Streams.{TakesAtMost};
-ghost use Rattle.commands.specs.Asm.{LeavesImage, ReadsText, assembled, assembled_ending, text_refusal};
+ghost use Rattle.commands.specs.Asm.{LeavesImage, ReadsText, assembled, assembled_ending, program_text, text_refusal};
 ghost use Rattle.commands.specs.Faults.{IsBeforeWriting};
 ghost use Rattle.commands.specs.Output.{Leaves};
 
 use crate::ending::Ending;
 use crate::fault::Fault;
 use crate::output::write_whole;
-use bpf_asm::{TextError, assemble};
+use bpf_asm::{TextError, assemble, list_text};
 use bpf_insn::{Program, encode};
-use std::alloc::Global;
+use std::alloc::{AllocError, Global};
 use std::fmt;
 use std::io::{Read, Write};
 use stream_io::{ReadFault, read_at_most};
@@ -23,29 +23,25 @@ pub const TEXT_BYTES: usize = 1 << 20;
 /// The most calls of `read`.
 pub const TEXT_CALLS: usize = 2 * TEXT_BYTES;
 
-/// Writes the image of the program that the text means that is read, or the line that refuses it. A text of more than
-/// [`TEXT_BYTES`] is a fault of reading.
-pub fn asm<R: Read, W: Write>(alloc: Global, reader: &mut R, out: &mut W) -> Result<Ending, Fault>
+/// Writes the image of the program that the text means that is read, or the text's listing, or the line that refuses it.
+/// A text of more than [`TEXT_BYTES`] is a fault of reading.
+pub fn asm<R: Read, W: Write>(
+    alloc: Global,
+    list: bool,
+    reader: &mut R,
+    out: &mut W,
+) -> Result<Ending, Fault>
     ensures image { IfSome (R.remaining reader.old) (λ input.
-        LeavesImage (W.contents out.old) (W.contents out.new) (take (TEXT_BYTES + 1) input) result) }
-    ensures front { TakesAtMost (TEXT_BYTES + 1) (R.remaining reader.old) (R.remaining reader.new) }
-{
-    let read = read_program(alloc, reader)?;
-    write_assembled(alloc, &read, out)
-}
-
-fn read_program<R: Read>(alloc: Global, reader: &mut R) -> Result<Result<Program, TextError>, Fault>
-    ensures read { IfOk result (λ read.
-        IfSome (R.remaining reader.old) (λ input. ReadsText (take (TEXT_BYTES + 1) input) read)) }
-    ensures fault { IfErr result IsBeforeWriting }
+        LeavesImage (W.contents out.old) (W.contents out.new) list (take (TEXT_BYTES + 1) input) result) }
     ensures front { TakesAtMost (TEXT_BYTES + 1) (R.remaining reader.old) (R.remaining reader.new) }
 {
     let text = read_text(alloc, reader)?;
-    program_meant(alloc, text.as_slice())
+    let read = program_meant(alloc, text.as_slice())?;
+    write_assembled(alloc, list, text.as_slice(), &read, out)
 }
 
 /// The whole text, where it isn't too long.
-fn read_text<R: Read>(alloc: Global, reader: &mut R) -> Result<Vec<u8>, Fault>
+pub(crate) fn read_text<R: Read>(alloc: Global, reader: &mut R) -> Result<Vec<u8>, Fault>
     ensures bytes { IfOk result (λ text.
         IfSome (R.remaining reader.old) (λ input. text.items ≡ take (TEXT_BYTES + 1) input)) }
     ensures few { IfOk result (λ text. length text.items ≤ TEXT_BYTES) }
@@ -64,7 +60,8 @@ fn read_text<R: Read>(alloc: Global, reader: &mut R) -> Result<Vec<u8>, Fault>
     }
 }
 
-fn program_meant(alloc: Global, text: &[u8]) -> Result<Result<Program, TextError>, Fault>
+/// The program that a text means, or why it means none.
+pub(crate) fn program_meant(alloc: Global, text: &[u8]) -> Result<Result<Program, TextError>, Fault>
     requires { length text.now ≤ TEXT_BYTES }
     ensures read { IfOk result (ReadsText text.now) }
     ensures fault { IfErr result IsBeforeWriting }
@@ -76,17 +73,37 @@ fn program_meant(alloc: Global, text: &[u8]) -> Result<Result<Program, TextError
     }
 }
 
+/// The image of the program of a text, or the text's listing.
+fn bytes_of(
+    alloc: Global,
+    list: bool,
+    text: &[u8],
+    program: &Program,
+) -> Result<Vec<u8>, AllocError>
+    ensures { IfOk result (λ bytes. bytes.items ≡ program_text list text.now program.now) }
+{
+    let image = encode(alloc, program)?;
+    if list {
+        list_text(alloc, text, image.as_slice())
+    } else {
+        Ok(image)
+    }
+}
+
 fn write_assembled<W: Write>(
     alloc: Global,
+    list: bool,
+    text: &[u8],
     read: &Result<Program, TextError>,
     out: &mut W,
 ) -> Result<Ending, Fault>
-    ensures { Leaves (W.contents out.old) (W.contents out.new) (assembled read.now) (assembled_ending read.now) result }
+    ensures { Leaves (W.contents out.old) (W.contents out.new) (assembled list text.now read.now)
+        (assembled_ending read.now) result }
 {
     match read {
         Ok(program) => {
-            let image = encode(alloc, program).map_err(|_| Fault::Memory)?;
-            write_whole(out, image.as_slice(), Ending::Done)
+            let bytes = bytes_of(alloc, list, text, program).map_err(|_| Fault::Memory)?;
+            write_whole(out, bytes.as_slice(), Ending::Done)
         }
         Err(error) => {
             let line = format!(in alloc; "{}\n", TextRefusal(*error)).map_err(|_| Fault::Memory)?;

@@ -10,20 +10,25 @@ use crate::ending::Ending;
 use crate::fault::Fault;
 use crate::image::{Refusal, program_in, read_image};
 use crate::output::write_whole;
-use bpf_asm::disassemble;
+use bpf_asm::{disassemble, list_program};
 use bpf_insn::{ImageError, Program};
 use std::alloc::Global;
 use std::io::{Read, Write};
 
-/// Writes the canonical text of the program whose image is read, or the line that refuses it.
-pub fn dis<R: Read, W: Write>(alloc: Global, reader: &mut R, out: &mut W) -> Result<Ending, Fault>
+/// Writes the canonical text of the program whose image is read, or its listing, or the line that refuses it.
+pub fn dis<R: Read, W: Write>(
+    alloc: Global,
+    list: bool,
+    reader: &mut R,
+    out: &mut W,
+) -> Result<Ending, Fault>
     ensures listing { IfSome (R.remaining reader.old) (λ input.
-        LeavesListing (W.contents out.old) (W.contents out.new) (take IMAGE_BYTES input) result) }
+        LeavesListing (W.contents out.old) (W.contents out.new) list (take IMAGE_BYTES input) result) }
     ensures front { TakesAtMost IMAGE_BYTES (R.remaining reader.old) (R.remaining reader.new) }
 {
     let read = read_program(alloc, reader)?;
-    let text = listing(alloc, &read)?;
-    write_whole(out, text.as_bytes(), ending(&read))
+    let text = listing(alloc, list, &read)?;
+    write_whole(out, text.as_slice(), ending(&read))
 }
 
 fn read_program<R: Read>(
@@ -39,14 +44,21 @@ fn read_program<R: Read>(
     program_in(alloc, image.as_slice())
 }
 
-fn listing(alloc: Global, read: &Result<Program, ImageError>) -> Result<String, Fault>
-    ensures text { IfOk result (λ text. string_bytes text ≡ listing_text read.now) }
+fn listing(alloc: Global, list: bool, read: &Result<Program, ImageError>) -> Result<Vec<u8>, Fault>
+    ensures text { IfOk result (λ text. text.items ≡ listing_text list read.now) }
     ensures fault { IfErr result IsBeforeWriting }
 {
-    match read {
-        Ok(program) => disassemble(alloc, program).map_err(|_| Fault::Memory),
-        Err(error) => format!(in alloc; "{}\n", Refusal::Image(*error)).map_err(|_| Fault::Memory),
-    }
+    let text = match read {
+        Ok(program) => {
+            if list {
+                list_program(alloc, program)
+            } else {
+                disassemble(alloc, program).map(String::into_bytes)
+            }
+        }
+        Err(error) => format!(in alloc; "{}\n", Refusal::Image(*error)).map(String::into_bytes),
+    };
+    text.map_err(|_| Fault::Memory)
 }
 
 /// How the command ends that wrote it.

@@ -6,7 +6,7 @@ ghost use Rattle.commands.specs.declared.exec.Reply.TheVariants as replies;
 ghost use Rattle.commands.specs.declared.image.Refusal.TheVariants.{Shape as NoShape};
 ghost use Rattle.commands.specs.declared.image.TheConstants.{IMAGE_BYTES};
 ghost use Rattle.commands.specs.Answer.{AnswersLeaving, ending_of, shown_lines, told_text};
-ghost use Rattle.commands.specs.Exec.{LeavesAnswer, LeavesLine};
+ghost use Rattle.commands.specs.Exec.{LeavesAnswer, LeavesExec, LeavesLine};
 ghost use Rattle.commands.specs.Faults.{IsBeforeWriting};
 ghost use Rattle.commands.specs.Image.{HasShape, asked_extent};
 ghost use Rattle.commands.specs.Output.{Leaves};
@@ -19,15 +19,37 @@ use crate::image::{Refusal, program_for};
 use crate::left::{LeftByRun, add_left};
 use crate::output::write_whole;
 use crate::request::ExecOptions;
+use crate::traced::exec_traced;
 use bpf_insn::Program;
 use bpf_machine::{Outcome, run_checked};
 use node_env::{Outbox, Shape};
 use std::alloc::{AllocError, Global};
 use std::io::{Read, Write};
 
-/// Writes the line of the answer to the image that is read, and what its run leaves, where that is asked for. Where the
-/// options have no shape, nothing is read.
+/// Writes the line of the answer to the image that is read, and what its run leaves, where that is asked for; where the
+/// steps are asked for, before them the line of each. Where the options have no shape, nothing is read.
 pub fn exec<R: Read, W: Write>(
+    alloc: Global,
+    options: &ExecOptions,
+    reader: &mut R,
+    out: &mut W,
+) -> Result<Ending, Fault>
+    ensures answer { IfSome (R.remaining reader.old) (λ input.
+        LeavesExec (W.contents out.old) (W.contents out.new) options.now (take IMAGE_BYTES input) result) }
+    ensures no_shape { (HasShape options.now.shape → ⊥)
+        → LeavesLine (W.contents out.old) (W.contents out.new) (Refused NoShape) result }
+    ensures unread { (HasShape options.now.shape → ⊥) → R.remaining reader.new ≡ R.remaining reader.old }
+    ensures front { TakesAtMost IMAGE_BYTES (R.remaining reader.old) (R.remaining reader.new) }
+{
+    if options.trace {
+        exec_traced(alloc, options, reader, out)
+    } else {
+        exec_answered(alloc, options, reader, out)
+    }
+}
+
+/// The same where the steps aren't asked for.
+fn exec_answered<R: Read, W: Write>(
     alloc: Global,
     options: &ExecOptions,
     reader: &mut R,
@@ -46,7 +68,7 @@ pub fn exec<R: Read, W: Write>(
 
 /// Why there is no program, or what its run came to and left.
 #[derive(Drop)]
-enum Reply {
+pub(crate) enum Reply {
     Refused(Refusal),
     Ran { outcome: Outcome, left: LeftByRun },
 }
@@ -137,7 +159,8 @@ fn text_of(alloc: Global, options: &ExecOptions, reply: &Reply) -> Result<String
     Ok(text)
 }
 
-fn write_reply<W: Write>(
+/// Writes what is told of a reply.
+pub(crate) fn write_reply<W: Write>(
     alloc: Global,
     options: &ExecOptions,
     reply: &Reply,

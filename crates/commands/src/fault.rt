@@ -4,6 +4,7 @@ ghost use Rattle.std.specs.Fmt.{decimal};
 ghost use Rattle.std.specs.Fmt.InlineText.{IsIntact, IsOpen, inline_text};
 ghost use Rattle.std.specs.Io.KnownBytes.{Appends};
 ghost use Rattle.commands.specs.Faults.{IsOfCommandLine, Says, fault_status, fault_text};
+ghost use Rattle.commands.specs.inner.Faults.{fault_behind};
 ghost use Rattle.commands.specs.declared.fault.TheConstants.{LINE_BYTES};
 
 use itoa::Buffer;
@@ -38,6 +39,21 @@ impl Fault {
         match String::from_str(alloc, text) {
             Ok(text) => Fault::CommandLine { text },
             Err(_) => Fault::Memory,
+        }
+    }
+
+    /// The same of a text that stands behind so many bytes.
+    pub(crate) fn behind(self, before: usize) -> Fault
+        ensures { result ≡ fault_behind before self }
+    {
+        match self {
+            Fault::Read => Fault::Read,
+            Fault::Write { after } => Fault::Write {
+                after: before.saturating_add(after),
+            },
+            Fault::Memory => Fault::Memory,
+            Fault::Thread => Fault::Thread,
+            Fault::CommandLine { text } => Fault::CommandLine { text },
         }
     }
 

@@ -1,12 +1,14 @@
 //! What `clockbed COMMAND` does once its command line is read: each command over any streams.
 #![tactic(auto)]
 
+mod ahead;
 mod answer;
 pub mod asm;
 mod case;
 pub mod dis;
 mod ending;
 pub mod exec;
+mod explanation;
 mod explore;
 mod fault;
 mod finding;
@@ -14,12 +16,14 @@ pub mod image;
 pub mod laws;
 mod left;
 mod lines;
+mod note;
 mod output;
 pub mod perform;
 pub mod request;
 mod run;
 mod stress;
 mod sweep;
+mod traced;
 mod verdict;
 pub mod verify;
 

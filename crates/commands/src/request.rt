@@ -3,6 +3,7 @@ ghost use Rattle.std.specs.Prelude.{◌<◌};
 
 pub use crate::case::Case;
 pub use bench_stress::StressOptions;
+pub use bpf_explain::Detail;
 use key_sweep::KeySpan;
 use run_lines::PulseSpan;
 
@@ -10,9 +11,13 @@ use run_lines::PulseSpan;
 #[derive(Debug, Drop)]
 pub enum Request {
     Exec(ExecOptions),
-    Asm,
-    Dis,
+    /// `asm`: the image of a text, or its listing.
+    Asm { list: bool },
+    /// `dis`: the text of an image, or its listing.
+    Dis { list: bool },
     Verify(ShapeOptions),
+    /// `verify --text`, `verify --explain`.
+    Explain(ExplainOptions),
     Run(RunOptions),
     /// `run --json`.
     Lines(LinesOptions),
@@ -29,6 +34,16 @@ pub struct ShapeOptions {
     pub nodes: u32,
     /// The bytes of a node's memory.
     pub memory: u32,
+}
+
+/// The options of `verify` where a text is read, or more is told than the verdict.
+#[derive(Clone, Copy, Debug, PartialEq, Eq)]
+pub struct ExplainOptions {
+    pub shape: ShapeOptions,
+    /// Whether a text is read in place of an image.
+    pub text: bool,
+    /// What is told of each slot, where that is asked for.
+    pub detail: Option<Detail>,
 }
 
 /// The options of `run`.
@@ -83,5 +98,7 @@ pub struct ExecOptions {
     pub case: Case,
     /// Whether memory and what was sent are told too.
     pub show: bool,
+    /// Whether each step is told first.
+    pub trace: bool,
     ghost node: { case.id < shape.nodes },
 }

@@ -20,8 +20,7 @@ use std::sync::Wait;
 use std::thread::Threads;
 
 /// Writes the report of the run of the scenario that is read, or the line that refuses it. Where that is to be checked,
-/// the ending tells of a pulse that doesn't agree. A number of workers that
-/// is none is the nearest that is one.
+/// the ending tells of a pulse that doesn't agree. A number of workers that is none is the nearest that is one.
 pub fn run<T: Threads + Wait + Sync, R: Read, W: Write>(
     rt: &T,
     alloc: Global,

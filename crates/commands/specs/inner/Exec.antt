@@ -1,8 +1,10 @@
 -- Beside Exec: what proofs and private contracts alone cite.
-use Rattle.std.specs.Prelude.{◌≡◌, ℕ, List, []}
+use Rattle.std.specs.Prelude.{◌≡◌, ℕ, min, List, [], length, Option}
+use Rattle.std.specs.Io.KnownBytes.{Appends}
 use Rattle.std.specs.FinMap.{empty}
 use Rattle.bpf_insn.specs.declared.forms.Insn.{Insn}
 use Rattle.bpf_machine.specs.Run.{RunAnswers}
+use Rattle.run_trace.specs.Traces.{MOST_TOLD}
 use Rattle.commands.specs.declared.answer.Answer.{Answer}
 use Rattle.commands.specs.declared.answer.Answer.TheVariants as answers
 use Rattle.commands.specs.declared.exec.Reply.{Reply}
@@ -10,6 +12,7 @@ use Rattle.commands.specs.declared.exec.Reply.TheVariants.{Refused, Ran}
 use Rattle.commands.specs.declared.left.LeftByRun.{LeftByRun}
 use Rattle.commands.specs.declared.request.ExecOptions.{ExecOptions}
 use Rattle.commands.specs.Case.{Left, case_memory, case_setting}
+use Rattle.commands.specs.Exec.{case_trace}
 use Rattle.commands.specs.Image.{asked_extent}
 
 -- what a run leaves, as contracts see it
@@ -33,3 +36,9 @@ RunsCase asked program (Ran outcome left) =
     RunAnswers program (case_setting (asked_extent asked.shape) asked.case)
     (case_memory (asked_extent asked.shape) asked.case) asked.fuel left.memory.items left.outbox.sent outcome
     × (left.outbox.nodes ≡ asked.shape.nodes)
+
+-- the lines of the steps were written, of which so many bytes are told
+pub record WroteTrace (old new : Option (List ℕ)) (asked : ExecOptions) (program : List Insn) (written : ℕ)
+    : Type 0 where
+  pub left : Appends old new (case_trace asked program)
+  pub number : written ≡ min (length (case_trace asked program)) MOST_TOLD

@@ -1,10 +1,11 @@
 -- Beside Faults: what proofs and private contracts alone cite.
-use Rattle.std.specs.Prelude.{ℕ, ◌<◌, List, length, take, Option, Some, None}
+use Rattle.std.specs.Prelude.{ℕ, ◌+◌, ◌<◌, min, List, length, take, Option, Some, None}
 use Rattle.std.specs.Io.KnownBytes.{Appends}
 use Rattle.bench_engine.specs.declared.event.RunRefusal.{RunRefusal}
 use Rattle.bench_engine.specs.declared.event.RunRefusal.TheVariants as refusals
 use Rattle.bench_stress.specs.declared.stop.Stop.{Stop}
 use Rattle.bench_stress.specs.declared.stop.Stop.TheVariants as stops
+use Rattle.run_trace.specs.Traces.{MOST_TOLD}
 use Rattle.commands.specs.declared.fault.Fault.{Fault}
 use Rattle.commands.specs.declared.fault.Fault.TheVariants.{Read, Write, Memory, Thread, CommandLine}
 
@@ -40,3 +41,11 @@ abbrev pub stop_fault : Stop → Option Fault
 stop_fault stops.Memory = Some Memory
 stop_fault stops.Thread = Some Thread
 stop_fault stops.Mismatch = None
+
+-- a fault of a text that stands behind so many bytes
+abbrev pub fault_behind : ℕ → Fault → Fault
+fault_behind before Read = Read
+fault_behind before (Write after) = Write (min (before + after) MOST_TOLD)
+fault_behind before Memory = Memory
+fault_behind before Thread = Thread
+fault_behind before (CommandLine text) = CommandLine text

@@ -5,7 +5,7 @@ use Rattle.commands.specs.Answer.{AnswersLeaving, ending_of, told_text}
 use Rattle.commands.specs.Case.{Left}
 use Rattle.commands.specs.inner.Exec.{answer_in, left_of}
 use Rattle.commands.proofs.CaseLemmas.{leaves_read}
-use Rattle.commands.proofs.exec.exec.Goals as goal
+use Rattle.commands.proofs.exec.exec_answered.Goals as goal
 
 pub returns-clause-answer : goal.returns-clause-answer
 returns-clause-answer g c =

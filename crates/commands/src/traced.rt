@@ -1,0 +1,118 @@
+//! `exec --trace`: the steps of the run, and then what it comes to.
+ghost use Rattle.std.specs.Prelude.{◌≡◌, IfErr, IfOk, IfSome, Err, length, take};
+ghost use Rattle.stream_io.specs.Streams.{TakesAtMost};
+ghost use Rattle.commands.specs.declared.answer.Answer.TheVariants.{Refused};
+ghost use Rattle.commands.specs.declared.image.Refusal.TheVariants.{Shape as NoShape};
+ghost use Rattle.commands.specs.declared.image.TheConstants.{IMAGE_BYTES};
+ghost use Rattle.commands.specs.Case.{case_memory, case_setting};
+ghost use Rattle.commands.specs.Exec.{LeavesLine, LeavesSteps, LeavesTraced};
+ghost use Rattle.commands.specs.Image.{HasShape, asked_extent};
+ghost use Rattle.commands.specs.inner.Exec.{RunsCase, WroteTrace};
+
+use crate::ending::Ending;
+use crate::exec::{Reply, write_reply};
+use crate::fault::Fault;
+use crate::image::program_for;
+use crate::left::LeftByRun;
+use crate::request::ExecOptions;
+use bpf_insn::Program;
+use node_env::{Env, Outbox, Shape};
+use run_trace::{TraceFault, trace};
+use std::alloc::{AllocError, Global};
+use std::io::{Read, Write};
+
+/// Writes the line of each step of the run of the image that is read, and then what is told of its answer. Where the
+/// options have no shape, nothing is read.
+pub(crate) fn exec_traced<R: Read, W: Write>(
+    alloc: Global,
+    options: &ExecOptions,
+    reader: &mut R,
+    out: &mut W,
+) -> Result<Ending, Fault>
+    ensures answer { IfSome (R.remaining reader.old) (λ input.
+        LeavesTraced (W.contents out.old) (W.contents out.new) options.now (take IMAGE_BYTES input) result) }
+    ensures no_shape { (HasShape options.now.shape → ⊥)
+        → LeavesLine (W.contents out.old) (W.contents out.new) (Refused NoShape) result }
+    ensures unread { (HasShape options.now.shape → ⊥) → R.remaining reader.new ≡ R.remaining reader.old }
+    ensures front { TakesAtMost IMAGE_BYTES (R.remaining reader.old) (R.remaining reader.new) }
+{
+    match program_for(alloc, options.shape, reader)? {
+        Ok((shape, program)) => trace_program(alloc, shape, &program, options, out),
+        Err(refusal) => write_reply(alloc, options, &Reply::Refused(refusal), out),
+    }
+}
+
+/// The same of a program that was read.
+fn trace_program<W: Write>(
+    alloc: Global,
+    shape: Shape,
+    program: &Program,
+    options: &ExecOptions,
+    out: &mut W,
+) -> Result<Ending, Fault>
+    requires { shape ≡ asked_extent options.now.shape }
+    ensures { LeavesSteps (W.contents out.old) (W.contents out.new) options.now program.now result }
+{
+    let (reply, written) = trace_case(alloc, shape, program, options, out)?;
+    match write_reply(alloc, options, &reply, out) {
+        Ok(ending) => Ok(ending),
+        Err(fault) => Err(fault.behind(written as usize)),
+    }
+}
+
+/// What the program sees in the case, the memory in which its run begins, and an outbox.
+fn case_parts(
+    alloc: Global,
+    shape: Shape,
+    options: &ExecOptions,
+) -> Result<(Env, Vec<u8>, Outbox), AllocError>
+    requires { shape ≡ asked_extent options.now.shape }
+    ensures env { IfOk result (λ parts. parts.0 ≡ case_setting shape options.now.case) }
+    ensures memory { IfOk result (λ parts. parts.1.items ≡ case_memory shape options.now.case) }
+    ensures size { IfOk result (λ parts. length parts.1.items ≡ shape.memory) }
+    ensures nodes { IfOk result (λ parts. parts.2.nodes ≡ shape.nodes) }
+{
+    let env = options.case.env(alloc, shape)?;
+    let memory = options.case.memory(alloc, shape)?;
+    let outbox = Outbox::new(alloc, shape)?;
+    Ok((env, memory, outbox))
+}
+
+/// The run of a program in the case that is asked for, whose steps are told, and how many bytes were written.
+fn trace_case<W: Write>(
+    alloc: Global,
+    shape: Shape,
+    program: &Program,
+    options: &ExecOptions,
+    out: &mut W,
+) -> Result<(Reply, u64), Fault>
+    requires { shape ≡ asked_extent options.now.shape }
+    ensures run { IfOk result (λ told. RunsCase options.now program.now told.0) }
+    ensures written { IfOk result (λ told.
+        WroteTrace (W.contents out.old) (W.contents out.new) options.now program.now told.1) }
+    ensures fault { IfErr result (λ fault.
+        LeavesSteps (W.contents out.old) (W.contents out.new) options.now program.now (Err fault)) }
+{
+    let Ok((env, mut memory, mut outbox)) = case_parts(alloc, shape, options) else {
+        return Err(Fault::Memory);
+    };
+    match trace(
+        alloc,
+        program,
+        &env,
+        &mut memory,
+        &mut outbox,
+        options.fuel,
+        out,
+    ) {
+        Ok(traced) => {
+            let left = LeftByRun { memory, outbox };
+            let outcome = traced.outcome;
+            Ok((Reply::Ran { outcome, left }, traced.written))
+        }
+        Err(TraceFault::Write { written }) => Err(Fault::Write {
+            after: written as usize,
+        }),
+        Err(TraceFault::Memory) => Err(Fault::Memory),
+    }
+}
