@@ -2,6 +2,7 @@
 import dataclasses
 import os
 import pathlib
+import re
 import subprocess
 import sys
 from concurrent.futures import ThreadPoolExecutor
@@ -35,6 +36,13 @@ def answer(program, words, given):
     except subprocess.TimeoutExpired:
         return Answer(-1, b"", b"it didn't end")
     return Answer(done.returncode, done.stdout, done.stderr)
+
+
+def without_note(told):
+    """The answer without the note that may follow a refusal: one line on standard error."""
+    if told.status == 2 and re.fullmatch(rb"note: [^\n]*\n", told.err):
+        return dataclasses.replace(told, err=b"")
+    return told
 
 
 def on_all_processors(differences, rows):

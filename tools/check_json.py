@@ -10,7 +10,7 @@ import json
 import sys
 
 sys.dont_write_bytecode = True
-from built_program import TOP, answer, named_program, on_all_processors, tell
+from built_program import TOP, answer, named_program, on_all_processors, tell, without_note
 from check_vectors import NO_LAST_LF, scenarios_of
 
 VERDICTS = {True: "yes", False: "no", None: "none"}
@@ -24,7 +24,7 @@ class Differs(Exception):
 
 
 def ask(program, words, given):
-    got = answer(program, words, given)
+    got = without_note(answer(program, words, given))
     must(not got.err, f"{' '.join(words)}: {got.err.decode().strip()}")
     return got.status, got.out.decode()
 

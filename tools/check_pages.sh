@@ -32,7 +32,7 @@ check_page() {
 
 check_example() {
   local name=${1%.toml}
-  "$program" run < "$1" > "$room/report" 2>&1 || true
+  "$program" run < "$1" > "$room/report" 2> /dev/null || true
   if ! diff "$name.report" "$room/report"; then
     echo "check_pages: $name.report is not the report of $1" >&2
     faults=$((faults + 1))

@@ -5,9 +5,11 @@ usage: check_tables.py [PROGRAM]
 
 In each text ";" parts lines. texts.tsv has texts with their images in hexadecimal, or the refusal and its line;
 canonical.tsv texts that `dis` gives back; refused.tsv texts of scenarios, or what stands behind the keys at the top,
-with the refusal, or `taken`. PROGRAM is as for check_rows.py.
+with the refusal, or `taken`. A refusal may be followed by a note, of which notes.txt has rows. PROGRAM is as for
+check_rows.py.
 """
 import csv
+import re
 import sys
 
 sys.dont_write_bytecode = True
@@ -15,6 +17,7 @@ from built_program import TOP, Answer, answer, named_program, on_all_processors,
 
 TOP_KEYS = b'nodes = 4\nfaults = 1\nmodulus = 8\nmemory = 8\npulses = 10\ncoins = "ones"\n'
 BEFORE = {"nothing": b"", "top": TOP_KEYS, "version 3": b"version = 3\n" + TOP_KEYS}
+NOTE = re.compile(rb"(note: [^\n]+\n)?")
 LISTED_NODES = 64
 LISTED = """version = 2
 nodes = {nodes}
@@ -49,7 +52,8 @@ def scenario_answers(program, cells):
     got = answer(program, ["run"], BEFORE[cells["after"]] + lines_of(cells["text"]))
     if cells["answer"] == "taken":
         return got, Answer(0, got.out, b"")
-    return got, Answer(2, f"refused scenario {cells['answer']}\n".encode(), b"")
+    note = got.err if NOTE.fullmatch(got.err) else b""
+    return got, Answer(2, f"refused scenario {cells['answer']}\n".encode(), note)
 
 
 def listed_answers(program, cells):

@@ -11,7 +11,7 @@ import csv
 import sys
 
 sys.dont_write_bytecode = True
-from built_program import TOP, Answer, answer, named_program, on_all_processors, tell
+from built_program import TOP, Answer, answer, named_program, on_all_processors, tell, without_note
 
 NOTHING_LEFT = f"\nmemory {'00' * 16}\nsent -,-,-,-\n".encode()
 NO_LAST_LF = "\n\\ no LF at the end\n"
@@ -33,7 +33,7 @@ class Asked:
     def wants(self, words, given, out, status=0):
         """Asks that the command gives these bytes and this status."""
         wanted = Answer(status, out, b"")
-        got = self.answer(words, given)
+        got = without_note(self.answer(words, given))
         if got != wanted:
             self.differ(words, got, wanted)
 

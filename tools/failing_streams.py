@@ -88,6 +88,7 @@ def asked(clockbed):
     for words, given in [
         ("exec", image),
         ("exec --nodes 2 --memory 8 --show", image),
+        ("exec --trace --show", image),
         ("verify", image),
         ("dis", image),
         ("dis", clock_image),

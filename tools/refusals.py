@@ -2,7 +2,8 @@
 """Refuses the built programs what they ask for: tools/refusals.py memory|threads.
 
 Each program is run whole, then once for each of its requests with that one refused, and once for each with that one and
-all later ones refused. What may come of it is the right answer, or nothing on standard output and a line for the fault.
+all later ones refused. What may come of it is the right answer, with or without its note, or nothing on standard output
+and a line for the fault.
 The cases of crates/trials print a line each, and may say that they were refused and done. The number of requests comes
 from the first run. CLOCKBED_PROGRAM and TRIALS_PROGRAM name other programs than those that were built here, and
 PROCESSORS says how many runs go on at once.
@@ -103,13 +104,18 @@ def is_fault(ran, kind):
 
 def is_left(command, whole, ran):
     """Whether the output is what a fault leaves: nothing, or of what is told line by line the first lines."""
-    by_line = command.words.startswith(("sweep", "run --json"))
+    by_line = command.words.startswith(("sweep", "run --json", "exec --trace"))
     return not ran.out or (by_line and whole.out.startswith(ran.out) and ran.out.endswith(b"\n"))
+
+
+def is_without_note(whole, ran):
+    """Whether just the note on a refusal is left out."""
+    return whole.err.startswith(b"note: ") and ran == Ran(whole.status, whole.out, b"")
 
 
 def command_outcome(command, whole, ran, kind):
     """What came of a command, some of whose requests of a kind were refused."""
-    if ran == whole:
+    if ran == whole or is_without_note(whole, ran):
         return "right"
     if is_fault(ran, kind) and is_left(command, whole, ran):
         return "refused"
@@ -223,6 +229,7 @@ def commands(library, room, kind):
         Command("exec", image),
         Command("exec --memory 12", image),
         Command("exec --id 3 --mail -,1,2,3 --coin 1 --contents 00ff --show", image),
+        Command("exec --trace --show", image),
         Command("exec --mail 1", image),
         Command("exec", b"\xff" + bytes(7)),
         Command("exec --fuel x", image),
@@ -235,6 +242,9 @@ def commands(library, room, kind):
         Command("run --workers 2", four),
         Command("run", contents("examples/splitter.toml").replace(b"pulses = 24", b"pulses = 3")),
         Command("run", b"nodes = 33\n"),
+        Command("run", contents("examples/splitter_unknown_node.toml")),
+        Command("run", b"nodes = 4\nmodulo = 8\n"),
+        Command("run", b"nodes = \n"),
         Command("run --check --workers 1", four),
         Command("run --json --workers 1", three),
         Command("run --json --from 4", three),
