@@ -1,10 +1,9 @@
 //! What `explore` answers to the scenario that it read, and the line that says it.
 ghost use Rattle.std.specs.Prelude.{◌≡◌, ◌++◌, IfOk, OnOk, Some, string_bytes};
-ghost use Rattle.commands.specs.Explore.{mail_text, nodes_text, recovery_text, span_text, spans_text, tried_text, unfit_name};
+ghost use Rattle.commands.specs.Explore.{mail_text, nodes_text, span_text, spans_text, tried_text, unfit_name};
 
 use crate::ending::Ending;
 use crate::request::MailSpan;
-use bench_space::Recovery;
 use scenario_text::{RefusalLine, ScenarioError};
 use std::alloc::{AllocError, Global};
 use std::fmt;
@@ -37,12 +36,11 @@ pub struct Tried {
 pub enum Finding {
     Refused(ScenarioError),
     Unfit(Unfit),
-    /// No run parts the clocks, where this was tried; and how they come into step.
+    /// No run parts the clocks, where this was tried.
     Never {
         states: u64,
         moves: u64,
         tried: Tried,
-        recovery: Recovery,
     },
     /// Some clocks part in this pulse.
     Parts {
@@ -143,26 +141,10 @@ fn tried_line(alloc: Global, tried: &Tried) -> Result<String, AllocError>
     format!(in alloc; "coins 0 1, mail of nodes{mail}")
 }
 
-/// How the clocks come into step.
-fn recovery_line(alloc: Global, recovery: Recovery) -> Result<String, AllocError>
-    ensures { IfOk result (λ text. string_bytes text ≡ recovery_text recovery) }
-{
-    match recovery {
-        Recovery::InStep { pulses } => {
-            format!(in alloc; "in step at the latest after {pulses} pulses")
-        }
-        Recovery::Luck { pulses } => format!(
-            in alloc;
-            "luck needed: from each state some coins lead into step, within {pulses} pulses"
-        ),
-        Recovery::HeldOff => format!(in alloc; "a liar can hold them off for ever"),
-    }
-}
-
 impl Finding {
     ghost use Rattle.commands.specs.Explore.{finding_line, finding_text};
 
-    /// The line or two that say it, without their end.
+    /// The line that says it, without its end.
     fn line(&self, alloc: Global) -> Result<String, AllocError>
         ensures { IfOk result (λ text. string_bytes text ≡ finding_line self.now) }
     {
@@ -173,11 +155,9 @@ impl Finding {
                 states,
                 moves,
                 tried,
-                recovery,
             } => {
                 let tried = tried_line(alloc, tried)?;
-                let recovery = recovery_line(alloc, *recovery)?;
-                format!(in alloc; "never parts: {states} states, {moves} moves, {tried}\n{recovery}")
+                format!(in alloc; "never parts: {states} states, {moves} moves, {tried}")
             }
             Finding::Parts { pulse, states } => {
                 format!(in alloc; "parts in pulse {pulse} ({states} states)")
@@ -186,7 +166,7 @@ impl Finding {
         }
     }
 
-    /// The same with its end.
+    /// The line with its end.
     pub fn text(&self, alloc: Global) -> Result<String, AllocError>
         ensures { IfOk result (λ text. string_bytes text ≡ finding_text self.now) }
     {
