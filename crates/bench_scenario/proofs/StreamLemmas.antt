@@ -1,6 +1,6 @@
 -- What holds of the bytes that were read holds of the whole text.
 use Rattle.std.proofs.Common.{◌≡◌, ℕ, ◌<◌, ◌≤◌, List, length, take, arith, subst, sym, ap, ◌∙◌, inl, inr}
-use Rattle.std.specs.Prelude.{◌⊎◌, Bool, Option, Some, None, IfSome, IsErrAnd, Result, Ok, Err}
+use Rattle.std.specs.Prelude.{◌⊎◌, Bool, Option, Some, None, IfErr, IfSome, IsErrAnd, Result, Ok, Err}
 use Rattle.std.proofs.lemmas.Bool.{cases_lt}
 use Rattle.std.proofs.lemmas.List.{length-take-le, take_all}
 use Rattle.std.specs.Io.KnownBytes.{Appends, Keeps}
@@ -15,7 +15,7 @@ use Rattle.bench_scenario.specs.declared.reading.TextFault.{TextFault}
 use Rattle.bench_scenario.specs.declared.reading.TextFault.TheVariants as text_faults
 use Rattle.bench_scenario.specs.declared.run.ScenarioFault.{ScenarioFault}
 use Rattle.bench_scenario.specs.declared.run.ScenarioFault.TheVariants as faults
-use Rattle.bench_scenario.specs.Runs.{IsDueOfText, LeavesJudged, LeavesReport, ReportsVerdict, StopsAt}
+use Rattle.bench_scenario.specs.Runs.{IsDueOfText, LeavesJudged, LeavesReport, ReportsVerdict, StopsAt, StopsForWant}
 use Rattle.bench_scenario.specs.inner.Runs.{IsDueOf}
 
 -- the whole text was read, or both are too long
@@ -87,6 +87,19 @@ fault_left (Some text) old bytes slice fault (Ok agrees) taken same kept due is 
 fault_left (Some text) old bytes slice fault (Err e) taken same kept due is =
     subst (λ x. LeavesReport old old text (Err x)) (sym is)
     (fault_here old bytes text fault (front_of bytes text taken) kept (subst (λ b. IsDueOf b fault) same due))
+
+-- a run that stopped did so for want of memory or of a thread
+want_due : (bytes : List ℕ) (fault : ScenarioFault) → IsDueOf bytes fault → StopsForWant fault
+want_due bytes faults.Read due = tt
+want_due bytes (faults.Refused error) due = tt
+want_due bytes (faults.Run stop) due = due.want
+want_due bytes (faults.Write written) due = tt
+want_due bytes faults.Memory due = tt
+
+pub want_left : (bytes : List ℕ) (fault : ScenarioFault) (result : Result Bool ScenarioFault) → IsDueOf bytes fault
+    → IsErrAnd result (λ e. e ≡ fault) → IfErr result StopsForWant
+want_left bytes fault (Ok agrees) due is = absurd is
+want_left bytes fault (Err e) due is = subst StopsForWant (sym is) (want_due bytes fault due)
 
 -- the report is written whole
 pub report_left : (known old new : Option (List ℕ)) (bytes slice line told : List ℕ) (agrees : Bool)

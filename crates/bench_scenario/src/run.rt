@@ -1,9 +1,9 @@
 //! A scenario from the first byte that is read to the last that is written.
-ghost use Rattle.std.specs.Prelude.{◌≡◌, ◌≤◌, ◌<◌, ℕ, List, [], IfOk, IfSome, MatchResult, string_bytes};
+ghost use Rattle.std.specs.Prelude.{◌≡◌, ◌≤◌, ◌<◌, ℕ, List, [], IfErr, IfOk, IfSome, MatchResult, string_bytes};
 ghost use Rattle.bench_core.specs.State.{new_state};
 ghost use Rattle.scenario_text.specs.Texts.{ReadsText};
 ghost use Rattle.stream_io.specs.Streams.{TakesAtMost};
-ghost use Rattle.bench_scenario.specs.Runs.{LeavesJudged, LeavesReport, ReportsVerdict, bench_of};
+ghost use Rattle.bench_scenario.specs.Runs.{LeavesJudged, LeavesReport, ReportsVerdict, StopsForWant, bench_of};
 ghost use Rattle.bench_scenario.specs.inner.Runs.{IsDueOf};
 
 use crate::paying::paying_workers;
@@ -124,6 +124,7 @@ pub fn run_scenario<T: Threads + Wait + Sync, R: Read, W: Write>(
     ensures taken { TakesAtMost MOST_BYTES (R.remaining reader.old) (R.remaining reader.new) }
     ensures left { IfSome (R.remaining reader.old) (λ text.
         LeavesReport (W.contents writer.old) (W.contents writer.new) text result) }
+    ensures want { IfErr result StopsForWant }
 {
     match run_scenario_judged(rt, alloc, reader, writer, workers) {
         Ok(_agrees) => Ok(()),
@@ -145,6 +146,7 @@ pub fn run_scenario_judged<T: Threads + Wait + Sync, R: Read, W: Write>(
     ensures taken { TakesAtMost MOST_BYTES (R.remaining reader.old) (R.remaining reader.new) }
     ensures left { IfSome (R.remaining reader.old) (λ text.
         LeavesJudged (W.contents writer.old) (W.contents writer.new) text result) }
+    ensures want { IfErr result StopsForWant }
 {
     let bytes = match read_at_most(alloc, reader, MOST_BYTES, MOST_CALLS) {
         Ok(bytes) => bytes,

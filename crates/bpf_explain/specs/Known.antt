@@ -1,5 +1,6 @@
 -- Which facts are told of a slot.
-use Rattle.std.specs.Prelude.{ℕ, zero, suc, ◌+◌, ◌-◌, ◌&&◌, Bool, true, false, not, List, [], ◌∷◌, ◌++◌, map, Option, Some, None, ℤ, if◌then◌else◌}
+use Rattle.std.specs.Prelude.{ℕ, zero, suc, ◌+◌, ◌-◌, ◌&&◌, Bool, false, not, List, [], ◌∷◌, ◌++◌, map, Option, Some, None, ℤ, if◌then◌else◌}
+use Rattle.std.specs.Option.{option_or}
 use Rattle.std.specs.List.{find, flat_map, range_with_len}
 use Rattle.node_env.specs.Env.{Extent}
 use Rattle.node_env.specs.Dwords.{dword_of}
@@ -8,16 +9,15 @@ use Rattle.node_env.specs.declared.region.TheConstants.{STACK_BYTES, STACK_DWORD
 use Rattle.node_env.specs.declared.region.Region.TheVariants.{Mem, Stack}
 use Rattle.bpf_insn.specs.declared.forms.Reg.{Reg}
 use Rattle.bpf_insn.specs.declared.forms.Insn.{Insn}
-use Rattle.bpf_insn.specs.declared.forms.Insn.TheVariants as i
+use Rattle.bpf_insn.specs.declared.operands.Access.{Access}
 use Rattle.bpf_insn.specs.Registers.{register_number}
 use Rattle.bpf_insn.specs.Edges.{moved}
-use Rattle.bpf_insn.specs.Operands.{reads, access_bytes, sx_access_bytes}
+use Rattle.bpf_insn.specs.Operands.{reads, load_of, store_of}
 use Rattle.bpf_verify.specs.declared.kind.Kind.{Kind}
 use Rattle.bpf_verify.specs.declared.kind.Kind.TheVariants.{Unset, Number, Pointer}
 use Rattle.bpf_verify.specs.declared.known.TheConstants.{REGISTERS}
 use Rattle.bpf_verify.specs.States.{AbstractState, kind_of, is_unset_kind}
 use Rattle.bpf_verify.specs.Rules.{may_leave_region, takes_dword}
-use Rattle.bpf_explain.specs.declared.access.Access.{Access}
 use Rattle.bpf_explain.specs.declared.detail.Detail.{Detail}
 use Rattle.bpf_explain.specs.declared.detail.Detail.TheVariants.{Read, All}
 use Rattle.bpf_explain.specs.declared.fact.Fact.{Fact}
@@ -25,28 +25,9 @@ use Rattle.bpf_explain.specs.declared.fact.Fact.TheVariants as facts
 
 -- ---- accesses
 
-abbrev pub load : Reg → ℤ → ℕ → Option Access
-load base off count = Some (record { base = base; off = off; count = count; loads = true })
-
-abbrev pub store : Reg → ℤ → ℕ → Option Access
-store base off count = Some (record { base = base; off = off; count = count; loads = false })
-
 -- the load or the store that an instruction is
 abbrev pub access_of : Insn → Option Access
-access_of (i.Alu op width dst src) = None
-access_of (i.Neg width dst) = None
-access_of (i.Movsx kind dst src) = None
-access_of (i.Swap order bits dst) = None
-access_of (i.Ja off) = None
-access_of (i.JaLong off) = None
-access_of (i.Branch cond width dst src off) = None
-access_of (i.Call id) = None
-access_of i.Exit = None
-access_of (i.Load size dst base off) = load base off (access_bytes size)
-access_of (i.LoadSx size dst base off) = load base off (sx_access_bytes size)
-access_of (i.StoreReg size base off src) = store base off (access_bytes size)
-access_of (i.StoreImm size base off imm) = store base off (access_bytes size)
-access_of (i.LoadImm64 dst value) = None
+access_of insn = option_or (load_of insn) (store_of insn)
 
 -- from the one place to the end of so many bytes at the other
 abbrev pub between : Option ℕ → Option ℕ → ℕ → Option (ℕ × ℕ)
@@ -88,13 +69,11 @@ taken_facts A whole (Some bytes) = taken_fact A bytes.0 bytes.1 whole ∷ []
 -- of a load from the stack, what is known of the bytes that it may take
 abbrev pub load_facts : Extent → AbstractState → Option Access → List Fact
 load_facts shape A None = []
-load_facts shape A (Some access) = if access.loads
-    then taken_facts A (takes_dword (kind_of A access.base) access.off access.count)
+load_facts shape A (Some access) = taken_facts A (takes_dword (kind_of A access.base) access.off access.count)
     (stack_bytes shape (kind_of A access.base) access.off access.count)
-    else []
 
 abbrev pub read_facts : Extent → Insn → AbstractState → List Fact
-read_facts shape insn A = map (register_fact A) (reads arguments_of insn) ++ load_facts shape A (access_of insn)
+read_facts shape insn A = map (register_fact A) (reads arguments_of insn) ++ load_facts shape A (load_of insn)
 
 -- ---- all that is known
 

@@ -14,7 +14,8 @@ use Rattle.bpf_insn.specs.declared.forms.Insn.TheVariants as i
 use Rattle.bpf_insn.specs.declared.edges.Way.TheVariants.{Onward, Jumping}
 use Rattle.bpf_insn.specs.Programs.{insn_at}
 use Rattle.bpf_insn.specs.Edges.{distance, moved, target}
-use Rattle.bpf_insn.specs.Operands.{reads, call_of}
+use Rattle.bpf_insn.specs.declared.operands.Access.{Access}
+use Rattle.bpf_insn.specs.Operands.{reads, call_of, load_of}
 use Rattle.bpf_insn.specs.Registers.{register_number}
 use Rattle.bpf_verify.specs.declared.kind.Kind.{Kind}
 use Rattle.bpf_verify.specs.declared.kind.Kind.TheVariants.{Unset, Number, Pointer}
@@ -27,7 +28,6 @@ use Rattle.bpf_verify.specs.Findings.{table_in}
 use Rattle.bpf_verify.specs.States.{AbstractState, kind_of, is_unset_kind, is_pointer_kind}
 use Rattle.bpf_verify.specs.Rules.{operand_kind, is_astray, may_reach, rule_name, rule_number}
 use Rattle.bpf_verify.specs.Outcomes.{alu_kind}
-use Rattle.bpf_explain.specs.declared.access.Access.{Access}
 use Rattle.bpf_explain.specs.Facts.{region_word}
 use Rattle.bpf_explain.specs.Known.{access_of, stack_bytes, first_unwritten}
 
@@ -188,7 +188,7 @@ reason_text UnsetRegister program shape slot insn state = in_known state (λ A. 
 reason_text FrameWrite program shape slot insn state = frame_text
 reason_text PointerMisuse program shape slot insn state = in_known state (λ A. misuse_text shape A insn)
 reason_text OutOfRegion program shape slot insn state = in_known state (λ A. leaves_text shape A (access_of insn))
-reason_text UnsetStackByte program shape slot insn state = in_known state (λ A. unwritten_text shape A (access_of insn))
+reason_text UnsetStackByte program shape slot insn state = in_known state (λ A. unwritten_text shape A (load_of insn))
 reason_text BadArgument program shape slot insn state = in_known state (arguments_text shape)
 reason_text ExitNotNumber program shape slot insn state = exit_text
 reason_text NotPointer program shape slot insn state = base_text (access_of insn)

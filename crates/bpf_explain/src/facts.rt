@@ -1,6 +1,7 @@
 //! Which facts are told of a slot.
 
 ghost use Rattle.std.specs.Prelude.{◌≡◌, ◌<◌, ◌++◌, [], ◌∷◌, OnOk, map, string_bytes};
+ghost use Rattle.bpf_insn.specs.Operands.{registers_in};
 ghost use Rattle.bpf_verify.specs.Findings.{abstract_of};
 ghost use Rattle.bpf_explain.specs.Facts.{listed};
 ghost use Rattle.bpf_explain.specs.Known as known_facts;
@@ -9,11 +10,10 @@ ghost use Rattle.bpf_explain.specs.declared.fact.Fact.TheVariants.{NotReached};
 use crate::detail::Detail;
 use crate::fact::{Fact, add_fact};
 use crate::loaded::{add_load_facts, first_unwritten};
-use crate::register_list::registers_read;
-use bpf_insn::{Insn, Reg};
-use bpf_verify::{Known, REGISTERS, is_unset};
+use bpf_insn::{Insn, Reads, Reg};
+use bpf_verify::{Known, REGISTERS, is_unset, registers_of};
 use node_env::{STACK_BYTES, STACK_DWORDS, Shape};
-use std::alloc::{AllocError, Global};
+use std::alloc::AllocError;
 
 fn add_register(told: &mut String, known: &Known, register: Reg) -> Result<(), AllocError>
     ensures { OnOk result (string_bytes told.new ≡ string_bytes told.old
@@ -25,30 +25,28 @@ fn add_register(told: &mut String, known: &Known, register: Reg) -> Result<(), A
 }
 
 /// Adds what is known of registers.
-fn add_registers(told: &mut String, known: &Known, registers: &[Reg]) -> Result<(), AllocError>
+#[tactic(auto, using(crate::proofs::Listing::listed_both))]
+fn add_registers(told: &mut String, known: &Known, registers: Reads) -> Result<(), AllocError>
     ensures { OnOk result (string_bytes told.new ≡ string_bytes told.old
-        ++ listed (map (known_facts.register_fact (abstract_of known.now)) registers.now)) }
+        ++ listed (map (known_facts.register_fact (abstract_of known.now)) (registers_in registers))) }
 {
-    for register in registers {
-        add_register(told, known, *register)?;
+    match registers {
+        Reads::Nothing => Ok(()),
+        Reads::One(first) => add_register(told, known, first),
+        Reads::Two(first, second) => {
+            add_register(told, known, first)?;
+            add_register(told, known, second)
+        }
     }
-    Ok(())
 }
 
 /// Adds what is known of what an instruction reads.
 #[tactic(auto, using(crate::proofs::Listing::listed_both))]
-fn add_read(
-    alloc: Global,
-    told: &mut String,
-    shape: Shape,
-    insn: &Insn,
-    known: &Known,
-) -> Result<(), AllocError>
+fn add_read(told: &mut String, shape: Shape, insn: &Insn, known: &Known) -> Result<(), AllocError>
     ensures { OnOk result (string_bytes told.new ≡ string_bytes told.old
         ++ listed (known_facts.read_facts shape insn.now (abstract_of known.now))) }
 {
-    let registers = registers_read(alloc, insn)?;
-    add_registers(told, known, &registers)?;
+    add_registers(told, known, registers_of(insn))?;
     add_load_facts(told, shape, insn, known)
 }
 
@@ -161,7 +159,6 @@ fn add_all(told: &mut String, known: &Known) -> Result<(), AllocError>
 
 /// Adds what is told of a slot that is reached.
 pub(crate) fn add_facts(
-    alloc: Global,
     told: &mut String,
     detail: Detail,
     shape: Shape,
@@ -172,7 +169,7 @@ pub(crate) fn add_facts(
         ++ listed (known_facts.facts_of detail shape insn.now (abstract_of known.now))) }
 {
     match detail {
-        Detail::Read => add_read(alloc, told, shape, insn, known),
+        Detail::Read => add_read(told, shape, insn, known),
         Detail::All => add_all(told, known),
     }
 }

@@ -7,7 +7,6 @@ mod fact;
 mod facts;
 mod loaded;
 mod reasons;
-mod register_list;
 mod row_texts;
 
 pub use detail::Detail;

@@ -1,13 +1,14 @@
 //! What is known of the bytes that a load may take.
 
 ghost use Rattle.std.specs.Prelude.{◌≡◌, ◌<◌, ◌≤◌, ◌++◌, ◌∷◌, [], IfSome, OnOk, string_bytes};
+ghost use Rattle.bpf_insn.specs.Operands.{load_of};
 ghost use Rattle.bpf_verify.specs.Findings.{abstract_of};
 ghost use Rattle.bpf_explain.specs.Facts.{listed};
-ghost use Rattle.bpf_explain.specs.Known.{access_of, first_unwritten, load_facts, taken_fact, written_fact};
+ghost use Rattle.bpf_explain.specs.Known.{first_unwritten, load_facts, taken_fact, written_fact};
 
-use crate::access::{Access, access_of, stack_bytes};
+use crate::access::stack_bytes;
 use crate::fact::{Fact, add_fact};
-use bpf_insn::Insn;
+use bpf_insn::{Access, Insn, load_of};
 use bpf_verify::{Known, is_unset, takes_dword};
 use node_env::{STACK_BYTES, Shape};
 use std::alloc::AllocError;
@@ -86,22 +87,11 @@ pub(crate) fn add_load_facts(
     known: &Known,
 ) -> Result<(), AllocError>
     ensures { OnOk result (string_bytes told.new ≡ string_bytes told.old
-        ++ listed (load_facts shape (abstract_of known.now) (access_of insn.now))) }
+        ++ listed (load_facts shape (abstract_of known.now) (load_of insn.now))) }
 {
-    let Some(
-        Access {
-            base,
-            off,
-            count,
-            loads,
-        },
-    ) = access_of(insn)
-    else {
+    let Some(Access { base, off, count }) = load_of(insn) else {
         return Ok(());
     };
-    if !loads {
-        return Ok(());
-    }
     match stack_bytes(shape, known.kind(base), off, count) {
         None => Ok(()),
         Some((first, end)) => {

@@ -1,9 +1,9 @@
 //! Why a rule is broken: what was known, and what the rule asks.
 
-ghost use Rattle.std.specs.Prelude.{◌≡◌, ◌++◌, ◌+◌, ◌-◌, ◌^◌, ◌<◌, ◌≤◌, codes, IfOk, IfSome, Some, None, string_bytes};
+ghost use Rattle.std.specs.Prelude.{◌≡◌, [], ◌∷◌, ◌++◌, ◌+◌, ◌-◌, ◌^◌, ◌<◌, ◌≤◌, codes, IfOk, IfSome, Some, None, string_bytes};
 ghost use Rattle.std.specs.Fmt.{decimal};
 ghost use Rattle.node_env.specs.Helpers.{arguments_of};
-ghost use Rattle.bpf_insn.specs.Operands.{call_of, reads};
+ghost use Rattle.bpf_insn.specs.Operands.{call_of, load_of, reads, registers_in};
 ghost use Rattle.bpf_insn.specs.Edges.{distance};
 ghost use Rattle.bpf_insn.specs.Programs.{insn_at};
 ghost use Rattle.bpf_verify.specs.Findings.{AreFindings, abstract_of, table_in};
@@ -13,14 +13,15 @@ ghost use Rattle.std.specs.List.{find};
 ghost use Rattle.bpf_explain.specs.Reasons as reasons;
 ghost use Rattle.bpf_explain.specs.Known.{access_of, stack_bytes};
 
-use crate::access::{Access, access_of, stack_bytes};
+use crate::access::{access_of, stack_bytes};
 use crate::fact::region_word;
 use crate::loaded::first_unwritten;
-use crate::register_list::registers_read;
-use bpf_insn::{Insn, Operand, Program, Reg, Way, distance, target};
+use bpf_insn::{
+    Access, Insn, Operand, Program, Reads, Reg, Way, call_of, distance, load_of, target,
+};
 use bpf_verify::{
     Findings, Kind, Known, Rule, Verdict, alu_kind, is_astray, is_pointer, is_unset, moved,
-    operand_kind,
+    operand_kind, registers_of,
 };
 use node_env::{Region, Shape};
 use std::alloc::{AllocError, Global};
@@ -62,27 +63,6 @@ fn target_reason(
     }
 }
 
-fn call_of(insn: &Insn) -> Option<i32>
-    ensures { result ≡ call_of insn.now }
-{
-    match *insn {
-        Insn::Call { id } => Some(id),
-        Insn::Alu { .. }
-        | Insn::Neg { .. }
-        | Insn::Movsx { .. }
-        | Insn::Swap { .. }
-        | Insn::Ja { .. }
-        | Insn::JaLong { .. }
-        | Insn::Branch { .. }
-        | Insn::Exit
-        | Insn::Load { .. }
-        | Insn::LoadSx { .. }
-        | Insn::StoreReg { .. }
-        | Insn::StoreImm { .. }
-        | Insn::LoadImm64 { .. } => None,
-    }
-}
-
 fn helper_reason(alloc: Global, insn: &Insn) -> Result<String, AllocError>
     ensures { IfOk result (λ text. string_bytes text ≡ reasons.helper_text (call_of insn.now)) }
 {
@@ -104,14 +84,32 @@ fn exit_reason(alloc: Global) -> Result<String, AllocError>
     String::from_str(alloc, "r0 is a pointer, and a program ends with a number")
 }
 
-/// The first of the registers that may be unset.
-fn first_unset(known: &Known, registers: &[Reg]) -> Option<Reg>
-    ensures { result ≡ find (λ register. is_unset_kind (kind_of (abstract_of known.now) register)) registers.now }
+/// The register, where it may be unset.
+fn unset(known: &Known, register: Reg) -> Option<Reg>
+    ensures { result ≡ find (λ register. is_unset_kind (kind_of (abstract_of known.now) register)) (register ∷ []) }
 {
-    registers
-        .iter()
-        .copied()
-        .find(|register| is_unset(known.kind(*register)))
+    if is_unset(known.kind(register)) {
+        Some(register)
+    } else {
+        None
+    }
+}
+
+/// The first of the registers that may be unset.
+fn first_unset(known: &Known, registers: Reads) -> Option<Reg>
+    ensures { result ≡ find (λ register. is_unset_kind (kind_of (abstract_of known.now) register))
+        (registers_in registers) }
+{
+    match registers {
+        Reads::Nothing => None,
+        Reads::One(first) => unset(known, first),
+        Reads::Two(first, second) => {
+            if is_unset(known.kind(first)) {
+                return Some(first);
+            }
+            unset(known, second)
+        }
+    }
 }
 
 fn register_reason(alloc: Global, register: Reg) -> Result<String, AllocError>
@@ -124,8 +122,7 @@ fn unset_reason(alloc: Global, insn: &Insn, known: &Known) -> Result<String, All
     ensures { IfOk result (λ text. string_bytes text
         ≡ reasons.unset_text (reasons.first_unset (abstract_of known.now) insn.now)) }
 {
-    let registers = registers_read(alloc, insn)?;
-    match first_unset(known, &registers) {
+    match first_unset(known, registers_of(insn)) {
         None => Ok(String::new(alloc)),
         Some(register) => register_reason(alloc, register),
     }
@@ -346,14 +343,9 @@ fn leaves_reason(
 {
     match access_of(insn) {
         None => Ok(String::new(alloc)),
-        Some(
-            Access {
-                base,
-                off,
-                count,
-                ..
-            },
-        ) => { region_reason(alloc, shape, known.kind(base), off, count) }
+        Some(Access { base, off, count }) => {
+            region_reason(alloc, shape, known.kind(base), off, count)
+        }
     }
 }
 
@@ -373,17 +365,9 @@ fn unwritten_reason(
     known: &Known,
 ) -> Result<String, AllocError>
     ensures { IfOk result (λ text. string_bytes text
-        ≡ reasons.unwritten_text shape (abstract_of known.now) (access_of insn.now)) }
+        ≡ reasons.unwritten_text shape (abstract_of known.now) (load_of insn.now)) }
 {
-    let Some(
-        Access {
-            base,
-            off,
-            count,
-            ..
-        },
-    ) = access_of(insn)
-    else {
+    let Some(Access { base, off, count }) = load_of(insn) else {
         return Ok(String::new(alloc));
     };
     match stack_bytes(shape, known.kind(base), off, count) {

@@ -32,7 +32,7 @@ fn told_at(
 {
     let mut told = String::new(alloc);
     match findings.known_at(slot) {
-        Some(known) => add_facts(alloc, &mut told, detail, shape, insn, known)?,
+        Some(known) => add_facts(&mut told, detail, shape, insn, known)?,
         None => add_unreached(&mut told)?,
     }
     Ok(told)

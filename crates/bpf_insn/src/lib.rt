@@ -9,6 +9,7 @@ mod image;
 mod laws;
 mod listing;
 mod opcode;
+mod operands;
 mod same;
 mod slot;
 
@@ -20,6 +21,9 @@ pub use image::{ImageError, decode, encode};
 pub use laws::{one_reading, one_spelling, round_trip, spelling_length};
 pub use listing::{MAX_SLOTS, Program, ProgramError, program_of};
 pub use opcode::{AluCode, FieldUse, Opcode, Source, Uses};
+pub use operands::{
+    Access, MOST_ARGUMENTS, Reads, call_of, is_exit, load_of, registers_read, store_of, written_by,
+};
 pub use slot::{Slot, SlotFault};
 
 #[cfg(test)]

@@ -23,7 +23,8 @@ use Rattle.bpf_insn.specs.declared.edges.Way.TheVariants.{Onward, Jumping}
 use Rattle.bpf_insn.specs.Programs.{insn_at}
 use Rattle.bpf_insn.specs.Edges.{distance, moved, target}
 use Rattle.bpf_insn.specs.Arithmetic.{bits_of}
-use Rattle.bpf_insn.specs.Operands.{Access, access_bytes, sx_access_bytes, reads, written_by, is_frame_pointer, load_of, store_of, call_of, is_exit}
+use Rattle.bpf_insn.specs.declared.operands.Access.{Access}
+use Rattle.bpf_insn.specs.Operands.{access_bytes, sx_access_bytes, reads, written_by, is_frame_pointer, load_of, store_of, call_of, is_exit}
 use Rattle.value_range.specs.Span.{Span, just, is_single}
 use Rattle.value_range.specs.Results.{alu_of}
 use Rattle.bpf_verify.specs.declared.kind.Kind.{Kind}

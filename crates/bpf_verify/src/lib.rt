@@ -26,7 +26,9 @@ pub use outcomes::alu_kind;
 pub use records::Record;
 pub use refusal::VerifyError;
 pub use rule::Rule;
-pub use rules::{bytes_taken, is_astray, is_pointer, is_unset, moved, operand_kind, takes_dword};
+pub use rules::{
+    bytes_taken, is_astray, is_pointer, is_unset, moved, operand_kind, registers_of, takes_dword,
+};
 pub use verified::{VerifiedProgram, judge, verify};
 
 #[cfg(test)]

@@ -11,13 +11,16 @@ ghost use Rattle.bpf_verify.specs.Rules as rules;
 ghost use Rattle.bpf_verify.specs.States.{kind_of};
 ghost use Rattle.node_env.specs.Helpers.{arguments_of};
 ghost use Rattle.node_env.specs.Env.{region_size};
-ghost use Rattle.bpf_insn.specs.Operands.{operand_reads, alu_reads, argument_registers, is_frame_pointer};
+ghost use Rattle.bpf_insn.specs.Operands.{call_of, is_frame_pointer, reads, registers_in};
 
 use crate::kind::Kind;
 use crate::known::Known;
 use crate::rule::Rule;
-use bpf_insn::{AluOp, Insn, Operand, Program, Reg, Way, Width, distance, target};
-use node_env::{Helper, Region, STACK_BYTES, Shape};
+use bpf_insn::{
+    Access, AluOp, Insn, MOST_ARGUMENTS, Operand, Program, Reads, Reg, Way, Width, call_of,
+    distance, is_exit, load_of, registers_read, store_of, target, written_by,
+};
+use node_env::{Helper, Region, STACK_BYTES, Shape, arguments_of};
 use value_range::{Range, alu};
 
 /// Whether nothing is known.
@@ -114,21 +117,9 @@ fn leads_astray(program: &Program, slot: u32, insn: &Insn) -> bool
 fn calls_unknown(insn: &Insn) -> bool
     ensures { result ≡ rules.calls_unknown insn.now }
 {
-    match *insn {
-        Insn::Call { id } => Helper::of(id).is_none(),
-        Insn::Alu { .. }
-        | Insn::Neg { .. }
-        | Insn::Movsx { .. }
-        | Insn::Swap { .. }
-        | Insn::Ja { .. }
-        | Insn::JaLong { .. }
-        | Insn::Branch { .. }
-        | Insn::Exit
-        | Insn::Load { .. }
-        | Insn::LoadSx { .. }
-        | Insn::StoreReg { .. }
-        | Insn::StoreImm { .. }
-        | Insn::LoadImm64 { .. } => false,
+    match call_of(insn) {
+        Some(id) => Helper::of(id).is_none(),
+        None => false,
     }
 }
 
@@ -138,65 +129,31 @@ fn holds_nothing(known: &Known, register: Reg) -> bool
     is_unset(known.kind(register))
 }
 
-fn operand_unset(known: &Known, src: Operand) -> bool
-    ensures { result ≡ rules.some_unset (abstract_of known.now) (operand_reads src) }
+/// How many arguments the instruction's call takes, none if it is no call.
+fn arguments(insn: &Insn) -> u32
+    ensures count { IfSome (call_of insn.now) (λ id. arguments_of id ≡ result) }
+    ensures few { result ≤ MOST_ARGUMENTS }
 {
-    match src {
-        Operand::Imm(_) => false,
-        Operand::Reg(register) => holds_nothing(known, register),
+    match call_of(insn) {
+        Some(id) => arguments_of(id),
+        None => 0,
     }
 }
 
-fn alu_reads_unset(known: &Known, op: AluOp, dst: Reg, src: Operand) -> bool
-    ensures { result ≡ rules.some_unset (abstract_of known.now) (alu_reads op dst src) }
+/// The registers that an instruction reads, in order; of a call, those of its helper's arguments.
+pub fn registers_of(insn: &Insn) -> Reads
+    ensures { registers_in result ≡ reads arguments_of insn.now }
 {
-    match op {
-        AluOp::Mov => operand_unset(known, src),
-        AluOp::Add
-        | AluOp::Sub
-        | AluOp::Mul
-        | AluOp::Div
-        | AluOp::Sdiv
-        | AluOp::Or
-        | AluOp::And
-        | AluOp::Lsh
-        | AluOp::Rsh
-        | AluOp::Mod
-        | AluOp::Smod
-        | AluOp::Xor
-        | AluOp::Arsh => holds_nothing(known, dst) || operand_unset(known, src),
-    }
-}
-
-fn call_reads_unset(known: &Known, id: i32) -> bool
-    ensures { result ≡ rules.some_unset (abstract_of known.now) (argument_registers (arguments_of id)) }
-{
-    match Helper::of(id) {
-        None => false,
-        Some(helper) => match helper {
-            Helper::Id | Helper::Coin => false,
-            Helper::Recv => holds_nothing(known, Reg::R1),
-            Helper::Send => holds_nothing(known, Reg::R1) || holds_nothing(known, Reg::R2),
-        },
-    }
+    registers_read(insn, arguments(insn))
 }
 
 fn reads_unset(insn: &Insn, known: &Known) -> bool
     ensures { result ≡ rules.reads_unset insn.now (abstract_of known.now) }
 {
-    match *insn {
-        Insn::Alu { op, dst, src, .. } => alu_reads_unset(known, op, dst, src),
-        Insn::Neg { dst, .. } => holds_nothing(known, dst),
-        Insn::Swap { dst, .. } => holds_nothing(known, dst),
-        Insn::Movsx { src, .. } => holds_nothing(known, src),
-        Insn::Branch { dst, src, .. } => holds_nothing(known, dst) || operand_unset(known, src),
-        Insn::Call { id } => call_reads_unset(known, id),
-        Insn::Exit => holds_nothing(known, Reg::R0),
-        Insn::Load { base, .. } => holds_nothing(known, base),
-        Insn::LoadSx { base, .. } => holds_nothing(known, base),
-        Insn::StoreReg { base, src, .. } => holds_nothing(known, base) || holds_nothing(known, src),
-        Insn::StoreImm { base, .. } => holds_nothing(known, base),
-        Insn::Ja { .. } | Insn::JaLong { .. } | Insn::LoadImm64 { .. } => false,
+    match registers_of(insn) {
+        Reads::Nothing => false,
+        Reads::One(first) => holds_nothing(known, first),
+        Reads::Two(first, second) => holds_nothing(known, first) || holds_nothing(known, second),
     }
 }
 
@@ -209,21 +166,9 @@ fn is_frame_pointer(register: Reg) -> bool
 fn writes_frame(insn: &Insn) -> bool
     ensures { result ≡ rules.writes_frame insn.now }
 {
-    match *insn {
-        Insn::Alu { dst, .. } => is_frame_pointer(dst),
-        Insn::Neg { dst, .. } => is_frame_pointer(dst),
-        Insn::Movsx { dst, .. } => is_frame_pointer(dst),
-        Insn::Swap { dst, .. } => is_frame_pointer(dst),
-        Insn::Load { dst, .. } => is_frame_pointer(dst),
-        Insn::LoadSx { dst, .. } => is_frame_pointer(dst),
-        Insn::LoadImm64 { dst, .. } => is_frame_pointer(dst),
-        Insn::Ja { .. }
-        | Insn::JaLong { .. }
-        | Insn::Branch { .. }
-        | Insn::Call { .. }
-        | Insn::Exit
-        | Insn::StoreReg { .. }
-        | Insn::StoreImm { .. } => false,
+    match written_by(insn) {
+        Some(register) => is_frame_pointer(register),
+        None => false,
     }
 }
 
@@ -431,7 +376,7 @@ pub fn moved(place: u64, off: i16) -> Option<u128>
     }
 }
 
-fn leaves(size: u32, first: Option<u128>, last: Option<u128>, count: u32) -> bool
+fn leave(size: u32, first: Option<u128>, last: Option<u128>, count: u32) -> bool
     requires { IfSome last (λ place. place < 2 ^ 127) }
     ensures { result ≡ rules.may_leave size first last count }
 {
@@ -449,7 +394,7 @@ fn leaves_region(shape: Shape, kind: Kind, off: i16, count: u32) -> bool
 {
     match kind {
         Kind::Unset | Kind::Number(_) => false,
-        Kind::Pointer(region, a) => leaves(
+        Kind::Pointer(region, a) => leave(
             shape.region_size(region),
             moved(a.lo(), off),
             moved(a.hi(), off),
@@ -458,45 +403,19 @@ fn leaves_region(shape: Shape, kind: Kind, off: i16, count: u32) -> bool
     }
 }
 
+fn leaves(shape: Shape, known: &Known, access: Option<Access>) -> bool
+    ensures { result ≡ rules.on_base (rules.may_leave_region shape) (abstract_of known.now) access }
+{
+    match access {
+        Some(access) => { leaves_region(shape, known.kind(access.base), access.off, access.count) }
+        None => false,
+    }
+}
+
 fn leaves_regions(shape: Shape, insn: &Insn, known: &Known) -> bool
     ensures { result ≡ rules.may_leave_regions shape insn.now (abstract_of known.now) }
 {
-    match *insn {
-        Insn::Load {
-            size,
-            base,
-            off,
-            ..
-        } => leaves_region(shape, known.kind(base), off, size.bytes()),
-        Insn::LoadSx {
-            size,
-            base,
-            off,
-            ..
-        } => leaves_region(shape, known.kind(base), off, size.bytes()),
-        Insn::StoreReg {
-            size,
-            base,
-            off,
-            ..
-        } => leaves_region(shape, known.kind(base), off, size.bytes()),
-        Insn::StoreImm {
-            size,
-            base,
-            off,
-            ..
-        } => leaves_region(shape, known.kind(base), off, size.bytes()),
-        Insn::Alu { .. }
-        | Insn::Neg { .. }
-        | Insn::Movsx { .. }
-        | Insn::Swap { .. }
-        | Insn::Ja { .. }
-        | Insn::JaLong { .. }
-        | Insn::Branch { .. }
-        | Insn::Call { .. }
-        | Insn::Exit
-        | Insn::LoadImm64 { .. } => false,
-    }
+    leaves(shape, known, load_of(insn)) || leaves(shape, known, store_of(insn))
 }
 
 /// Whether one of the stack's bytes from `first` on, before `end`, isn't surely written.
@@ -570,31 +489,9 @@ fn loads_unset(shape: Shape, insn: &Insn, known: &Known) -> bool
     requires { rules.may_leave_regions shape insn.now (abstract_of known.now) ≡ false }
     ensures { result ≡ rules.loads_unset insn.now (abstract_of known.now) }
 {
-    match *insn {
-        Insn::Load {
-            size,
-            base,
-            off,
-            ..
-        } => misses_byte(shape, known, base, off, size.bytes()),
-        Insn::LoadSx {
-            size,
-            base,
-            off,
-            ..
-        } => misses_byte(shape, known, base, off, size.bytes()),
-        Insn::Alu { .. }
-        | Insn::Neg { .. }
-        | Insn::Movsx { .. }
-        | Insn::Swap { .. }
-        | Insn::Ja { .. }
-        | Insn::JaLong { .. }
-        | Insn::Branch { .. }
-        | Insn::Call { .. }
-        | Insn::Exit
-        | Insn::StoreReg { .. }
-        | Insn::StoreImm { .. }
-        | Insn::LoadImm64 { .. } => false,
+    match load_of(insn) {
+        Some(access) => misses_byte(shape, known, access.base, access.off, access.count),
+        None => false,
     }
 }
 
@@ -611,21 +508,9 @@ fn not_below(limit: u64, kind: Kind) -> bool
 fn misses_argument(shape: Shape, insn: &Insn, known: &Known) -> bool
     ensures { result ≡ rules.misses_argument shape insn.now (abstract_of known.now) }
 {
-    match *insn {
-        Insn::Call { id } => helper_refuses(shape, Helper::of(id), known),
-        Insn::Alu { .. }
-        | Insn::Neg { .. }
-        | Insn::Movsx { .. }
-        | Insn::Swap { .. }
-        | Insn::Ja { .. }
-        | Insn::JaLong { .. }
-        | Insn::Branch { .. }
-        | Insn::Exit
-        | Insn::Load { .. }
-        | Insn::LoadSx { .. }
-        | Insn::StoreReg { .. }
-        | Insn::StoreImm { .. }
-        | Insn::LoadImm64 { .. } => false,
+    match call_of(insn) {
+        Some(id) => helper_refuses(shape, Helper::of(id), known),
+        None => false,
     }
 }
 
@@ -647,43 +532,22 @@ fn helper_refuses(shape: Shape, helper: Option<Helper>, known: &Known) -> bool
 fn exits_with_pointer(insn: &Insn, known: &Known) -> bool
     ensures { result ≡ rules.may_exit_with_pointer insn.now (abstract_of known.now) }
 {
-    match *insn {
-        Insn::Exit => is_pointer(known.kind(Reg::R0)),
-        Insn::Alu { .. }
-        | Insn::Neg { .. }
-        | Insn::Movsx { .. }
-        | Insn::Swap { .. }
-        | Insn::Ja { .. }
-        | Insn::JaLong { .. }
-        | Insn::Branch { .. }
-        | Insn::Call { .. }
-        | Insn::Load { .. }
-        | Insn::LoadSx { .. }
-        | Insn::StoreReg { .. }
-        | Insn::StoreImm { .. }
-        | Insn::LoadImm64 { .. } => false,
+    is_exit(insn) && is_pointer(known.kind(Reg::R0))
+}
+
+fn has_number_base(known: &Known, access: Option<Access>) -> bool
+    ensures { result ≡ rules.on_base rules.is_number_base (abstract_of known.now) access }
+{
+    match access {
+        Some(access) => is_number(known.kind(access.base)),
+        None => false,
     }
 }
 
 fn accesses_number(insn: &Insn, known: &Known) -> bool
     ensures { result ≡ rules.accesses_number insn.now (abstract_of known.now) }
 {
-    match *insn {
-        Insn::Load { base, .. } => is_number(known.kind(base)),
-        Insn::LoadSx { base, .. } => is_number(known.kind(base)),
-        Insn::StoreReg { base, .. } => is_number(known.kind(base)),
-        Insn::StoreImm { base, .. } => is_number(known.kind(base)),
-        Insn::Alu { .. }
-        | Insn::Neg { .. }
-        | Insn::Movsx { .. }
-        | Insn::Swap { .. }
-        | Insn::Ja { .. }
-        | Insn::JaLong { .. }
-        | Insn::Branch { .. }
-        | Insn::Call { .. }
-        | Insn::Exit
-        | Insn::LoadImm64 { .. } => false,
-    }
+    has_number_base(known, load_of(insn)) || has_number_base(known, store_of(insn))
 }
 
 /// The lowest rule that an instruction breaks that is never reached.

@@ -1,9 +1,10 @@
 //! `run`: the report of the scenario on standard input.
 ghost use Rattle.std.specs.Prelude.{◌≡◌, ◌&&◌, not, if◌then◌else◌, IfSome};
 ghost use Rattle.bench_scenario.specs.declared.run.TheConstants.{MOST_BYTES};
+ghost use Rattle.bench_scenario.specs.Runs.{IsMemoryOrThread};
 ghost use Rattle.stream_io.specs.Streams.{TakesAtMost};
 ghost use Rattle.commands.specs.declared.ending.Ending.TheVariants.{Disagreed, Done, Refused};
-ghost use Rattle.commands.specs.inner.Faults.{IsOfRun, run_fault};
+ghost use Rattle.commands.specs.inner.Faults.{IsRunFault};
 ghost use Rattle.commands.specs.Output.{Leaves};
 ghost use Rattle.commands.specs.Run.{LeavesTold, Refusal, WantsThread, told_text};
 
@@ -59,18 +60,18 @@ pub(crate) fn ending_of(check: bool, agrees: bool) -> Ending
 
 /// A run of a scenario stops for want of memory or of a thread alone.
 pub(crate) fn fault_of(refusal: RunRefusal) -> Fault
-    ensures want { IsOfRun result }
-    ensures fault { result ≡ run_fault refusal }
+    requires { IsMemoryOrThread refusal }
+    ensures { IsRunFault refusal result }
 {
     match refusal {
+        RunRefusal::Memory => Fault::Memory,
         RunRefusal::NoThread => Fault::Thread,
-        RunRefusal::Memory
-        | RunRefusal::BadNode
+        RunRefusal::BadNode
         | RunRefusal::OtherShape
         | RunRefusal::BadImage
         | RunRefusal::HistoryFull
         | RunRefusal::BadCoins
-        | RunRefusal::GateShut => Fault::Memory,
+        | RunRefusal::GateShut => unreachable!(),
     }
 }
 

@@ -5,7 +5,7 @@ use Rattle.std.specs.Cmp.{nat_cmp_total, unsigned_tied}
 use Rattle.std.specs.FinMap.{FinMap, empty, get, insert, get-empty, get-insert}
 use Rattle.std.proofs.Common.{sym, ◌∙◌, subst, arith, T}
 use Rattle.std.proofs.lemmas.Bool.Decides.{nat_tests}
-use Rattle.node_env.specs.Env.{AreNumbers, Sendings, IsSendings}
+use Rattle.node_env.specs.Env.{AreNumbers, IsSendings}
 use Rattle.node_env.specs.Slots.{IsSlot}
 use Rattle.node_env.specs.inner.Slots.{numbers_of}
 use Rattle.node_env.specs.declared.shape.TheConstants.{MAX_NODES}

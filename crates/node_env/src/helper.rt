@@ -1,6 +1,6 @@
 //! The functions that a program can call.
-ghost use Rattle.std.specs.Prelude.{◌≡◌};
-ghost use Rattle.node_env.specs.Helpers.{helper_of};
+ghost use Rattle.std.specs.Prelude.{◌≡◌, ◌≤◌};
+ghost use Rattle.node_env.specs.Helpers.{argument_count, arguments_of, helper_of};
 
 /// A helper function that a program calls by its number (RFC 9669 section 4.3.1; docs/MACHINE.md, "Helpers").
 #[derive(Clone, Copy, Debug, PartialEq, Eq)]
@@ -27,5 +27,29 @@ impl Helper {
             4 => Some(Helper::Coin),
             _ => None,
         }
+    }
+
+    /// How many of r1 to r5 it reads.
+    pub fn arguments(self) -> u32
+        ensures count { result ≡ argument_count self }
+        ensures few { result ≤ 2 }
+    {
+        match self {
+            Helper::Id => 0,
+            Helper::Recv => 1,
+            Helper::Send => 2,
+            Helper::Coin => 0,
+        }
+    }
+}
+
+/// How many of r1 to r5 a call reads, by its immediate: none where that names no helper.
+pub fn arguments_of(id: i32) -> u32
+    ensures count { result ≡ arguments_of id }
+    ensures few { result ≤ 2 }
+{
+    match Helper::of(id) {
+        Some(helper) => helper.arguments(),
+        None => 0,
     }
 }

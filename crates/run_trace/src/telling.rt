@@ -9,8 +9,8 @@ ghost use Rattle.run_trace.specs.Steps.{step_at};
 ghost use Rattle.run_trace.specs.inner.Parts.{line_in, reading_texts, wrote_by, wrote_in};
 
 use crate::line::{Did, Held, Line, Reading};
-use crate::operands::{Reads, destination, registers_read};
-use bpf_insn::{Insn, Program, Reg};
+use crate::operands::{destination, registers_of};
+use bpf_insn::{Insn, Program, Reads, Reg};
 use bpf_machine::{State, Turn, step};
 use node_env::{Env, Outbox};
 
@@ -27,7 +27,7 @@ fn hold(state: &State, register: Reg) -> Held
 fn read_before(state: &State, insn: Insn) -> Reading
     ensures { reading_texts result ≡ read_texts state.now insn }
 {
-    match registers_read(insn) {
+    match registers_of(&insn) {
         Reads::Nothing => Reading::Nothing,
         Reads::One(first) => Reading::One(hold(state, first)),
         Reads::Two(first, second) => Reading::Two(hold(state, first), hold(state, second)),
@@ -39,7 +39,7 @@ fn wrote_after(state: &State, insn: Insn, turn: Turn) -> Option<Held>
     ensures { wrote_in result ≡ wrote_by turn state.now insn }
 {
     match turn {
-        Turn::Next => destination(insn).map(|register| hold(state, register)),
+        Turn::Next => destination(&insn).map(|register| hold(state, register)),
         Turn::Ended(_) => None,
         Turn::Trap(_) => None,
     }

@@ -9,14 +9,6 @@ use Rattle.run_trace.specs.Traces.{MOST_TOLD}
 use Rattle.commands.specs.declared.fault.Fault.{Fault}
 use Rattle.commands.specs.declared.fault.Fault.TheVariants.{Read, Write, Memory, Thread, CommandLine}
 
--- a fault of a run
-abbrev pub IsOfRun : Fault → Type 0
-IsOfRun Read = ⊥
-IsOfRun (Write after) = ⊥
-IsOfRun Memory = Unit {0}
-IsOfRun Thread = Unit {0}
-IsOfRun (CommandLine text) = ⊥
-
 -- a write took the first bytes of the text, as many as the fault says and not all
 abbrev pub IsCut : Option (List ℕ) → Option (List ℕ) → List ℕ → Fault → Type 0
 IsCut old new text Read = ⊥
@@ -25,16 +17,17 @@ IsCut old new text Memory = ⊥
 IsCut old new text Thread = ⊥
 IsCut old new text (CommandLine said) = ⊥
 
--- the fault by which a run is told that stopped. A scenario's stops for want of memory or of a thread alone
-abbrev pub run_fault : RunRefusal → Fault
-run_fault refusals.BadNode = Memory
-run_fault refusals.OtherShape = Memory
-run_fault refusals.BadImage = Memory
-run_fault refusals.HistoryFull = Memory
-run_fault refusals.Memory = Memory
-run_fault refusals.BadCoins = Memory
-run_fault refusals.NoThread = Thread
-run_fault refusals.GateShut = Memory
+-- the fault by which a run is told that stopped for want of memory or of a thread. No other refusal stops the run of a
+-- scenario
+abbrev pub IsRunFault : RunRefusal → Fault → Type 0
+IsRunFault refusals.Memory fault = fault ≡ Memory
+IsRunFault refusals.NoThread fault = fault ≡ Thread
+IsRunFault refusals.BadNode fault = ⊥
+IsRunFault refusals.OtherShape fault = ⊥
+IsRunFault refusals.BadImage fault = ⊥
+IsRunFault refusals.HistoryFull fault = ⊥
+IsRunFault refusals.BadCoins fault = ⊥
+IsRunFault refusals.GateShut fault = ⊥
 
 -- the fault by which hands are told that stopped, where they stopped for want of something
 abbrev pub stop_fault : Stop → Option Fault

@@ -2,7 +2,6 @@
 use Rattle.std.specs.Prelude.{ℕ, List, [], ◌∷◌, ◌++◌, codes, Option, Some, None, option_map}
 use Rattle.std.specs.Fmt.{decimal}
 use Rattle.bpf_insn.specs.declared.forms.Insn.{Insn}
-use Rattle.bpf_insn.specs.declared.forms.Reg.{Reg}
 use Rattle.bpf_machine.specs.declared.word.Turn.{Turn}
 use Rattle.bpf_machine.specs.declared.word.Turn.TheVariants as turns
 use Rattle.bpf_machine.specs.Machine.{Frame}
@@ -12,14 +11,7 @@ use Rattle.run_trace.specs.declared.line.Held.{Held}
 use Rattle.run_trace.specs.declared.line.Line.{Line}
 use Rattle.run_trace.specs.declared.line.Reading.{Reading}
 use Rattle.run_trace.specs.declared.line.Reading.TheVariants as readings
-use Rattle.run_trace.specs.declared.operands.Reads.{Reads}
-use Rattle.run_trace.specs.declared.operands.Reads.TheVariants as reads
 use Rattle.run_trace.specs.Lines.{destination, register_text, remark, told_register}
-
-abbrev pub registers_in : Reads → List Reg
-registers_in reads.Nothing = []
-registers_in (reads.One first) = first ∷ []
-registers_in (reads.Two first second) = first ∷ second ∷ []
 
 abbrev pub held_in : Held → List ℕ
 held_in h = register_text h.register h.word

@@ -1,5 +1,5 @@
 use Rattle.std.proofs.KnownBytes.{Keeps-refl}
-use Rattle.bench_scenario.proofs.StreamLemmas.{fault_left, front_left, report_left}
+use Rattle.bench_scenario.proofs.StreamLemmas.{fault_left, front_left, report_left, want_left}
 use Rattle.bench_scenario.proofs.run.run_scenario_judged.Goals as goal
 
 pub returns-in_err-report-clause-left : goal.returns-in_err-report-clause-left
@@ -7,6 +7,11 @@ returns-in_err-report-clause-left g c =
     fault_left _ _ c.in-Ok.bytes.items c.as_slice.result.now c.in_err-report.field-0.0 c.from_residual.result
     c.in-Ok.ensures.exact c.as_slice.ensures.value
     (Keeps-refl _) c.in_err-report.ensures c.from_residual.ensures.1
+
+pub returns-in_err-report-clause-want : goal.returns-in_err-report-clause-want
+returns-in_err-report-clause-want g c =
+    want_left c.as_slice.result.now c.in_err-report.field-0.0 c.from_residual.result c.in_err-report.ensures
+    c.from_residual.ensures.1
 
 pub returns-in-Ok-write_fully-clause-left : goal.returns-in-Ok-write_fully-clause-left
 returns-in-Ok-write_fully-clause-left g c =

@@ -1,6 +1,5 @@
 use Rattle.std.proofs.Common.{◌≡◌, ◌%◌, ◌==◌, true, false, None, Option, if◌then◌else◌, refl, sym, ap, ◌∙◌}
-use Rattle.std.specs.FinMap.{FinMap, empty}
-use Rattle.std.specs.Ordering.{nat_cmp}
+use Rattle.std.specs.FinMap.{empty}
 use Rattle.node_env.specs.Dwords.{dword_of}
 use Rattle.bpf_machine.specs.declared.word.Word.{Word}
 use Rattle.bpf_machine.specs.Machine.{Frame}

@@ -1,8 +1,6 @@
 use Rattle.std.proofs.Common.{◌≡◌, ◌+◌, ◌-◌, refl, sym, ap, ◌∙◌}
 use Rattle.std.specs.FinMap.{empty}
-use Rattle.std.specs.Ordering.{nat_cmp}
 use Rattle.node_env.specs.Dwords.{dword_of}
-use Rattle.bpf_machine.specs.declared.word.Word.{Word}
 use Rattle.bpf_machine.specs.Machine.{Frame}
 use Rattle.bpf_machine.proofs.KeptLaws.{get_nothing, nothing_kept}
 use Rattle.bpf_machine.proofs.state.State.touches_kept.Goals as goal
