@@ -1,6 +1,5 @@
 -- Which facts are told of a slot.
 use Rattle.std.specs.Prelude.{ℕ, zero, suc, ◌+◌, ◌-◌, ◌&&◌, Bool, false, not, List, [], ◌∷◌, ◌++◌, map, Option, Some, None, ℤ, if◌then◌else◌}
-use Rattle.std.specs.Option.{option_or}
 use Rattle.std.specs.List.{find, flat_map, range_with_len}
 use Rattle.node_env.specs.Env.{Extent}
 use Rattle.node_env.specs.Dwords.{dword_of}
@@ -12,7 +11,7 @@ use Rattle.bpf_insn.specs.declared.forms.Insn.{Insn}
 use Rattle.bpf_insn.specs.declared.operands.Access.{Access}
 use Rattle.bpf_insn.specs.Registers.{register_number}
 use Rattle.bpf_insn.specs.Edges.{moved}
-use Rattle.bpf_insn.specs.Operands.{reads, load_of, store_of}
+use Rattle.bpf_insn.specs.Operands.{reads, load_of}
 use Rattle.bpf_verify.specs.declared.kind.Kind.{Kind}
 use Rattle.bpf_verify.specs.declared.kind.Kind.TheVariants.{Unset, Number, Pointer}
 use Rattle.bpf_verify.specs.declared.known.TheConstants.{REGISTERS}
@@ -24,10 +23,6 @@ use Rattle.bpf_explain.specs.declared.fact.Fact.{Fact}
 use Rattle.bpf_explain.specs.declared.fact.Fact.TheVariants as facts
 
 -- ---- accesses
-
--- the load or the store that an instruction is
-abbrev pub access_of : Insn → Option Access
-access_of insn = option_or (load_of insn) (store_of insn)
 
 -- from the one place to the end of so many bytes at the other
 abbrev pub between : Option ℕ → Option ℕ → ℕ → Option (ℕ × ℕ)

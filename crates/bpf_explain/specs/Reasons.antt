@@ -15,7 +15,7 @@ use Rattle.bpf_insn.specs.declared.edges.Way.TheVariants.{Onward, Jumping}
 use Rattle.bpf_insn.specs.Programs.{insn_at}
 use Rattle.bpf_insn.specs.Edges.{distance, moved, target}
 use Rattle.bpf_insn.specs.declared.operands.Access.{Access}
-use Rattle.bpf_insn.specs.Operands.{reads, call_of, load_of}
+use Rattle.bpf_insn.specs.Operands.{access_of, reads, call_of, load_of}
 use Rattle.bpf_insn.specs.Registers.{register_number}
 use Rattle.bpf_verify.specs.declared.kind.Kind.{Kind}
 use Rattle.bpf_verify.specs.declared.kind.Kind.TheVariants.{Unset, Number, Pointer}
@@ -29,7 +29,7 @@ use Rattle.bpf_verify.specs.States.{AbstractState, kind_of, is_unset_kind, is_po
 use Rattle.bpf_verify.specs.Rules.{operand_kind, is_astray, may_reach, rule_name, rule_number}
 use Rattle.bpf_verify.specs.Outcomes.{alu_kind}
 use Rattle.bpf_explain.specs.Facts.{region_word}
-use Rattle.bpf_explain.specs.Known.{access_of, stack_bytes, first_unwritten}
+use Rattle.bpf_explain.specs.Known.{stack_bytes, first_unwritten}
 
 -- ---- jumps and calls
 

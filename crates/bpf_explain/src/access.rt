@@ -1,23 +1,10 @@
 //! Loads and stores.
 
-ghost use Rattle.std.specs.Prelude.{◌≡◌, ◌≤◌, ◌+◌, IfSome, length};
-ghost use Rattle.bpf_explain.specs.Known.{access_of, stack_bytes};
-ghost use Rattle.std.specs.Prelude.{◌<◌};
+ghost use Rattle.std.specs.Prelude.{◌≡◌, ◌≤◌, ◌+◌, IfSome};
+ghost use Rattle.bpf_explain.specs.Known.{stack_bytes};
 
-use bpf_insn::{Access, Insn, load_of, store_of};
 use bpf_verify::{Kind, bytes_taken};
 use node_env::{Region, STACK_BYTES, Shape};
-
-/// The load or the store that an instruction is.
-pub(crate) fn access_of(insn: &Insn) -> Option<Access>
-    ensures access { result ≡ access_of insn.now }
-    ensures few { IfSome result (λ access. (1 ≤ access.count) × (access.count ≤ 8)) }
-{
-    match load_of(insn) {
-        Some(load) => Some(load),
-        None => store_of(insn),
-    }
-}
 
 /// The first of the stack bytes that an access may take, and their end. None where it goes elsewhere, or may leave the
 /// stack.

@@ -3,7 +3,7 @@
 ghost use Rattle.std.specs.Prelude.{◌≡◌, [], ◌∷◌, ◌++◌, ◌+◌, ◌-◌, ◌^◌, ◌<◌, ◌≤◌, codes, IfOk, IfSome, Some, None, string_bytes};
 ghost use Rattle.std.specs.Fmt.{decimal};
 ghost use Rattle.node_env.specs.Helpers.{arguments_of};
-ghost use Rattle.bpf_insn.specs.Operands.{call_of, load_of, reads, registers_in};
+ghost use Rattle.bpf_insn.specs.Operands.{access_of, call_of, load_of, reads, registers_in};
 ghost use Rattle.bpf_insn.specs.Edges.{distance};
 ghost use Rattle.bpf_insn.specs.Programs.{insn_at};
 ghost use Rattle.bpf_verify.specs.Findings.{AreFindings, abstract_of, table_in};
@@ -11,13 +11,13 @@ ghost use Rattle.bpf_verify.specs.Rules.{may_reach};
 ghost use Rattle.bpf_verify.specs.States.{is_unset_kind, kind_of};
 ghost use Rattle.std.specs.List.{find};
 ghost use Rattle.bpf_explain.specs.Reasons as reasons;
-ghost use Rattle.bpf_explain.specs.Known.{access_of, stack_bytes};
+ghost use Rattle.bpf_explain.specs.Known.{stack_bytes};
 
-use crate::access::{access_of, stack_bytes};
+use crate::access::stack_bytes;
 use crate::fact::region_word;
 use crate::loaded::first_unwritten;
 use bpf_insn::{
-    Access, Insn, Operand, Program, Reads, Reg, Way, call_of, distance, load_of, target,
+    Access, Insn, Operand, Program, Reads, Reg, Way, access_of, call_of, distance, load_of, target,
 };
 use bpf_verify::{
     Findings, Kind, Known, Rule, Verdict, alu_kind, is_astray, is_pointer, is_unset, moved,

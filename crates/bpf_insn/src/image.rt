@@ -229,7 +229,7 @@ fn push_found(image: &mut Vec<u8>, found: Option<Insn>) -> Result<(), AllocError
 fn spell_slots(alloc: Global, slots: &[Option<Insn>]) -> Result<Vec<u8>, AllocError>
     ensures { IfOk result (λ bytes. bytes.items ≡ flat_map spelling_at slots.now) }
 {
-    let mut image = Vec::new(alloc);
+    let mut image = Vec::with_capacity(alloc, slots.len().saturating_mul(8))?;
     for found in slots {
         push_found(&mut image, *found)?;
     }

@@ -2,7 +2,7 @@
 //! and 5).
 ghost use Rattle.std.specs.Prelude.{◌≡◌, ◌≤◌, ◌∷◌, ℕ, ℤ, IfSome};
 ghost use Rattle.bpf_insn.specs.Operands.{access, alu_reads, argument_registers, call_of, operand_reads, reads};
-ghost use Rattle.bpf_insn.specs.Operands.{is_exit, load_of, registers_in, store_of, written_by};
+ghost use Rattle.bpf_insn.specs.Operands.{access_of, is_exit, load_of, registers_in, written_by};
 
 use crate::forms::{AluOp, Insn, Operand, Reg};
 
@@ -172,14 +172,26 @@ pub fn load_of(insn: &Insn) -> Option<Access>
     }
 }
 
-/// What a store takes. It has 1 to 8 bytes.
+/// What a load or a store takes.
 #[inline(always)]
-pub fn store_of(insn: &Insn) -> Option<Access>
-    ensures access { result ≡ store_of insn.now }
+pub fn access_of(insn: &Insn) -> Option<Access>
+    ensures access { result ≡ access_of insn.now }
     ensures some { IfSome result (λ access. 1 ≤ access.count) }
     ensures few { IfSome result (λ access. access.count ≤ 8) }
 {
     match *insn {
+        Insn::Load {
+            size,
+            base,
+            off,
+            ..
+        } => taken(base, off, size.bytes()),
+        Insn::LoadSx {
+            size,
+            base,
+            off,
+            ..
+        } => taken(base, off, size.bytes()),
         Insn::StoreReg {
             size,
             base,
@@ -201,8 +213,6 @@ pub fn store_of(insn: &Insn) -> Option<Access>
         | Insn::Branch { .. }
         | Insn::Call { .. }
         | Insn::Exit
-        | Insn::Load { .. }
-        | Insn::LoadSx { .. }
         | Insn::LoadImm64 { .. } => None,
     }
 }

@@ -1,6 +1,7 @@
 -- Rules, as the verifier asks them.
 use Rattle.std.proofs.Common.{◌≡◌, ℕ, suc, ◌+◌, ◌-◌, ◌*◌, ◌<◌, Bool, true, false, cond, ◌||◌, List, Option, Some, None, refl, sym, ap, subst, ◌∙◌, inl, inr, arith}
 use Rattle.std.specs.Prelude.{ℤ, pos, negsuc, IsSome, IfSome, is_none, nat_le, if◌then◌else◌}
+use Rattle.std.proofs.Math.Bool.{or-false}
 use Rattle.std.proofs.lemmas.Bool.{cases_lt, le-leb, lt-leb}
 use Rattle.std.proofs.lemmas.Option.{same_Some}
 use Rattle.node_env.specs.Env.{Extent}
@@ -12,6 +13,7 @@ use Rattle.bpf_insn.specs.declared.edges.Way.{Way}
 use Rattle.bpf_insn.specs.declared.edges.Way.TheVariants.{Onward, Jumping}
 use Rattle.bpf_insn.specs.Programs.{insn_at, slots_of}
 use Rattle.bpf_insn.specs.Edges.{distance, target, BeginsAt}
+use Rattle.bpf_insn.specs.Operands.{access_of, load_of, store_of}
 use Rattle.bpf_insn.proofs.EdgeLaws.{jumps_by_distance, no_distance_no_jump}
 use Rattle.bpf_insn.proofs.LayoutLaws.{next_stop, past_end}
 use Rattle.bpf_verify.specs.declared.rule.Rule.{Rule}
@@ -21,7 +23,7 @@ use Rattle.bpf_verify.specs.declared.kind.Kind.{Kind}
 use Rattle.bpf_verify.specs.declared.kind.Kind.TheVariants.{Unset, Number}
 use Rattle.bpf_verify.specs.States.{AbstractState, is_pointer_kind}
 use Rattle.bpf_verify.specs.Outcomes.{or_full, entry_at, lowest_place, loaded_kind}
-use Rattle.bpf_verify.specs.Rules.{takes_dword, lacks, touches, is_negative, goes_back, is_astray, leads_astray, breaks, KeepsRules, lowest_broken}
+use Rattle.bpf_verify.specs.Rules.{on_base, takes_dword, lacks, touches, is_negative, goes_back, is_astray, leads_astray, breaks, KeepsRules, lowest_broken}
 
 -- a byte that is written tells nothing of those after it
 pub lacks_past : (A : AbstractState) (place end : ℕ) → place < end → A.written place ≡ true
@@ -225,3 +227,21 @@ onward_astray program slot next insn here goes =
     there : (found : Option Insn) → IsSome found → is_none found ≡ false
     there (Some i) e = refl
     there None e = absurd cc
+
+-- what is asked of an access is asked of the load or of the store
+pub on_access : (asked : Kind → ℤ → ℕ → Bool) (A : AbstractState) (insn : Insn)
+    → on_base asked A (access_of insn) ≡ (on_base asked A (load_of insn) || on_base asked A (store_of insn))
+on_access asked A (Alu op width dst src) = refl
+on_access asked A (Neg width dst) = refl
+on_access asked A (Movsx kind dst src) = refl
+on_access asked A (Swap order bits dst) = refl
+on_access asked A (Ja off) = refl
+on_access asked A (JaLong off) = refl
+on_access asked A (Branch cond width dst src off) = refl
+on_access asked A (Call id) = refl
+on_access asked A Exit = refl
+on_access asked A (Load size dst base off) = sym (or-false _)
+on_access asked A (LoadSx size dst base off) = sym (or-false _)
+on_access asked A (StoreReg size base off src) = refl
+on_access asked A (StoreImm size base off imm) = refl
+on_access asked A (LoadImm64 dst value) = refl

@@ -17,8 +17,8 @@ use crate::kind::Kind;
 use crate::known::Known;
 use crate::rule::Rule;
 use bpf_insn::{
-    Access, AluOp, Insn, MOST_ARGUMENTS, Operand, Program, Reads, Reg, Way, Width, call_of,
-    distance, is_exit, load_of, registers_read, store_of, target, written_by,
+    Access, AluOp, Insn, MOST_ARGUMENTS, Operand, Program, Reads, Reg, Way, Width, access_of,
+    call_of, distance, is_exit, load_of, registers_read, target, written_by,
 };
 use node_env::{Helper, Region, STACK_BYTES, Shape, arguments_of};
 use value_range::{Range, alu};
@@ -114,10 +114,10 @@ fn leads_astray(program: &Program, slot: u32, insn: &Insn) -> bool
     ends_program(program, slot, insn) || is_astray(program, target(insn, slot, Way::Jumping))
 }
 
-fn calls_unknown(insn: &Insn) -> bool
-    ensures { result ≡ rules.calls_unknown insn.now }
+fn is_unknown(call: Option<i32>) -> bool
+    ensures { result ≡ rules.is_unknown_helper call }
 {
-    match call_of(insn) {
+    match call {
         Some(id) => Helper::of(id).is_none(),
         None => false,
     }
@@ -412,12 +412,6 @@ fn leaves(shape: Shape, known: &Known, access: Option<Access>) -> bool
     }
 }
 
-fn leaves_regions(shape: Shape, insn: &Insn, known: &Known) -> bool
-    ensures { result ≡ rules.may_leave_regions shape insn.now (abstract_of known.now) }
-{
-    leaves(shape, known, load_of(insn)) || leaves(shape, known, store_of(insn))
-}
-
 /// Whether one of the stack's bytes from `first` on, before `end`, isn't surely written.
 fn lacks(known: &Known, first: u32, end: u32) -> bool
     requires { end ≤ STACK_BYTES }
@@ -505,10 +499,10 @@ fn not_below(limit: u64, kind: Kind) -> bool
     }
 }
 
-fn misses_argument(shape: Shape, insn: &Insn, known: &Known) -> bool
-    ensures { result ≡ rules.misses_argument shape insn.now (abstract_of known.now) }
+fn call_refuses(shape: Shape, call: Option<i32>, known: &Known) -> bool
+    ensures { result ≡ rules.call_may_refuse shape call (abstract_of known.now) }
 {
-    match call_of(insn) {
+    match call {
         Some(id) => helper_refuses(shape, Helper::of(id), known),
         None => false,
     }
@@ -544,12 +538,6 @@ fn has_number_base(known: &Known, access: Option<Access>) -> bool
     }
 }
 
-fn accesses_number(insn: &Insn, known: &Known) -> bool
-    ensures { result ≡ rules.accesses_number insn.now (abstract_of known.now) }
-{
-    has_number_base(known, load_of(insn)) || has_number_base(known, store_of(insn))
-}
-
 /// The lowest rule that an instruction breaks that is never reached.
 pub(crate) fn broken_unreached(
     program: &Program,
@@ -566,7 +554,7 @@ pub(crate) fn broken_unreached(
     if leads_astray(program, slot, insn) {
         return Some(Rule::BadTarget);
     }
-    if calls_unknown(insn) {
+    if is_unknown(call_of(insn)) {
         return Some(Rule::UnknownHelper);
     }
     if writes_frame(insn) {
@@ -576,6 +564,7 @@ pub(crate) fn broken_unreached(
 }
 
 /// The lowest rule that an instruction breaks where so much is known.
+#[tactic(auto, using(crate::proofs::RuleLaws::on_access))]
 pub(crate) fn broken_reached(
     program: &Program,
     shape: Shape,
@@ -586,13 +575,15 @@ pub(crate) fn broken_reached(
     requires { insn_at program.now slot ≡ Some insn.now }
     ensures { result ≡ rules.lowest_broken program.now shape slot insn.now (Some (abstract_of known.now)) }
 {
+    let call = call_of(insn);
+    let access = access_of(insn);
     if goes_back(insn) {
         return Some(Rule::NotForward);
     }
     if leads_astray(program, slot, insn) {
         return Some(Rule::BadTarget);
     }
-    if calls_unknown(insn) {
+    if is_unknown(call) {
         return Some(Rule::UnknownHelper);
     }
     if reads_unset(insn, known) {
@@ -604,19 +595,19 @@ pub(crate) fn broken_reached(
     if misuses_pointer(shape, insn, known) {
         return Some(Rule::PointerMisuse);
     }
-    if leaves_regions(shape, insn, known) {
+    if leaves(shape, known, access) {
         return Some(Rule::OutOfRegion);
     }
     if loads_unset(shape, insn, known) {
         return Some(Rule::UnsetStackByte);
     }
-    if misses_argument(shape, insn, known) {
+    if call_refuses(shape, call, known) {
         return Some(Rule::BadArgument);
     }
     if exits_with_pointer(insn, known) {
         return Some(Rule::ExitNotNumber);
     }
-    if accesses_number(insn, known) {
+    if has_number_base(known, access) {
         return Some(Rule::NotPointer);
     }
     None
