@@ -11,7 +11,7 @@ ghost use Rattle.bpf_verify.specs.Rules as rules;
 ghost use Rattle.bpf_verify.specs.States.{kind_of};
 ghost use Rattle.node_env.specs.Helpers.{arguments_of};
 ghost use Rattle.node_env.specs.Env.{region_size};
-ghost use Rattle.bpf_insn.specs.Operands.{call_of, is_frame_pointer, reads, registers_in};
+ghost use Rattle.bpf_insn.specs.Operands.{alu_reads, argument_registers, call_of, is_frame_pointer, operand_reads, reads, registers_in};
 
 use crate::kind::Kind;
 use crate::known::Known;
@@ -114,10 +114,10 @@ fn leads_astray(program: &Program, slot: u32, insn: &Insn) -> bool
     ends_program(program, slot, insn) || is_astray(program, target(insn, slot, Way::Jumping))
 }
 
-fn is_unknown(call: Option<i32>) -> bool
-    ensures { result ≡ rules.is_unknown_helper call }
+fn calls_unknown(insn: &Insn) -> bool
+    ensures { result ≡ rules.calls_unknown insn.now }
 {
-    match call {
+    match call_of(insn) {
         Some(id) => Helper::of(id).is_none(),
         None => false,
     }
@@ -147,13 +147,65 @@ pub fn registers_of(insn: &Insn) -> Reads
     registers_read(insn, arguments(insn))
 }
 
+fn operand_unset(known: &Known, src: Operand) -> bool
+    ensures { result ≡ rules.some_unset (abstract_of known.now) (operand_reads src) }
+{
+    match src {
+        Operand::Imm(_) => false,
+        Operand::Reg(register) => holds_nothing(known, register),
+    }
+}
+
+fn alu_reads_unset(known: &Known, op: AluOp, dst: Reg, src: Operand) -> bool
+    ensures { result ≡ rules.some_unset (abstract_of known.now) (alu_reads op dst src) }
+{
+    match op {
+        AluOp::Mov => operand_unset(known, src),
+        AluOp::Add
+        | AluOp::Sub
+        | AluOp::Mul
+        | AluOp::Div
+        | AluOp::Sdiv
+        | AluOp::Or
+        | AluOp::And
+        | AluOp::Lsh
+        | AluOp::Rsh
+        | AluOp::Mod
+        | AluOp::Smod
+        | AluOp::Xor
+        | AluOp::Arsh => holds_nothing(known, dst) || operand_unset(known, src),
+    }
+}
+
+fn call_reads_unset(known: &Known, id: i32) -> bool
+    ensures { result ≡ rules.some_unset (abstract_of known.now) (argument_registers (arguments_of id)) }
+{
+    match Helper::of(id) {
+        None => false,
+        Some(helper) => match helper {
+            Helper::Id | Helper::Coin => false,
+            Helper::Recv => holds_nothing(known, Reg::R1),
+            Helper::Send => holds_nothing(known, Reg::R1) || holds_nothing(known, Reg::R2),
+        },
+    }
+}
+
 fn reads_unset(insn: &Insn, known: &Known) -> bool
     ensures { result ≡ rules.reads_unset insn.now (abstract_of known.now) }
 {
-    match registers_of(insn) {
-        Reads::Nothing => false,
-        Reads::One(first) => holds_nothing(known, first),
-        Reads::Two(first, second) => holds_nothing(known, first) || holds_nothing(known, second),
+    match *insn {
+        Insn::Alu { op, dst, src, .. } => alu_reads_unset(known, op, dst, src),
+        Insn::Neg { dst, .. } => holds_nothing(known, dst),
+        Insn::Swap { dst, .. } => holds_nothing(known, dst),
+        Insn::Movsx { src, .. } => holds_nothing(known, src),
+        Insn::Branch { dst, src, .. } => holds_nothing(known, dst) || operand_unset(known, src),
+        Insn::Call { id } => call_reads_unset(known, id),
+        Insn::Exit => holds_nothing(known, Reg::R0),
+        Insn::Load { base, .. } => holds_nothing(known, base),
+        Insn::LoadSx { base, .. } => holds_nothing(known, base),
+        Insn::StoreReg { base, src, .. } => holds_nothing(known, base) || holds_nothing(known, src),
+        Insn::StoreImm { base, .. } => holds_nothing(known, base),
+        Insn::Ja { .. } | Insn::JaLong { .. } | Insn::LoadImm64 { .. } => false,
     }
 }
 
@@ -412,6 +464,13 @@ fn leaves(shape: Shape, known: &Known, access: Option<Access>) -> bool
     }
 }
 
+#[tactic(auto, using(crate::proofs::RuleLaws::on_access))]
+fn leaves_regions(shape: Shape, insn: &Insn, known: &Known) -> bool
+    ensures { result ≡ rules.may_leave_regions shape insn.now (abstract_of known.now) }
+{
+    leaves(shape, known, access_of(insn))
+}
+
 /// Whether one of the stack's bytes from `first` on, before `end`, isn't surely written.
 fn lacks(known: &Known, first: u32, end: u32) -> bool
     requires { end ≤ STACK_BYTES }
@@ -499,10 +558,10 @@ fn not_below(limit: u64, kind: Kind) -> bool
     }
 }
 
-fn call_refuses(shape: Shape, call: Option<i32>, known: &Known) -> bool
-    ensures { result ≡ rules.call_may_refuse shape call (abstract_of known.now) }
+fn misses_argument(shape: Shape, insn: &Insn, known: &Known) -> bool
+    ensures { result ≡ rules.misses_argument shape insn.now (abstract_of known.now) }
 {
-    match call {
+    match call_of(insn) {
         Some(id) => helper_refuses(shape, Helper::of(id), known),
         None => false,
     }
@@ -538,6 +597,13 @@ fn has_number_base(known: &Known, access: Option<Access>) -> bool
     }
 }
 
+#[tactic(auto, using(crate::proofs::RuleLaws::on_access))]
+fn accesses_number(insn: &Insn, known: &Known) -> bool
+    ensures { result ≡ rules.accesses_number insn.now (abstract_of known.now) }
+{
+    has_number_base(known, access_of(insn))
+}
+
 /// The lowest rule that an instruction breaks that is never reached.
 pub(crate) fn broken_unreached(
     program: &Program,
@@ -554,7 +620,7 @@ pub(crate) fn broken_unreached(
     if leads_astray(program, slot, insn) {
         return Some(Rule::BadTarget);
     }
-    if is_unknown(call_of(insn)) {
+    if calls_unknown(insn) {
         return Some(Rule::UnknownHelper);
     }
     if writes_frame(insn) {
@@ -564,7 +630,6 @@ pub(crate) fn broken_unreached(
 }
 
 /// The lowest rule that an instruction breaks where so much is known.
-#[tactic(auto, using(crate::proofs::RuleLaws::on_access))]
 pub(crate) fn broken_reached(
     program: &Program,
     shape: Shape,
@@ -575,15 +640,13 @@ pub(crate) fn broken_reached(
     requires { insn_at program.now slot ≡ Some insn.now }
     ensures { result ≡ rules.lowest_broken program.now shape slot insn.now (Some (abstract_of known.now)) }
 {
-    let call = call_of(insn);
-    let access = access_of(insn);
     if goes_back(insn) {
         return Some(Rule::NotForward);
     }
     if leads_astray(program, slot, insn) {
         return Some(Rule::BadTarget);
     }
-    if is_unknown(call) {
+    if calls_unknown(insn) {
         return Some(Rule::UnknownHelper);
     }
     if reads_unset(insn, known) {
@@ -595,19 +658,19 @@ pub(crate) fn broken_reached(
     if misuses_pointer(shape, insn, known) {
         return Some(Rule::PointerMisuse);
     }
-    if leaves(shape, known, access) {
+    if leaves_regions(shape, insn, known) {
         return Some(Rule::OutOfRegion);
     }
     if loads_unset(shape, insn, known) {
         return Some(Rule::UnsetStackByte);
     }
-    if call_refuses(shape, call, known) {
+    if misses_argument(shape, insn, known) {
         return Some(Rule::BadArgument);
     }
     if exits_with_pointer(insn, known) {
         return Some(Rule::ExitNotNumber);
     }
-    if has_number_base(known, access) {
+    if accesses_number(insn, known) {
         return Some(Rule::NotPointer);
     }
     None
