@@ -330,6 +330,7 @@ fn touches(known: &Known, first: u32, end: u32) -> bool
     false
 }
 
+#[inline(always)]
 fn touches_byte(shape: Shape, known: &Known, kind: Kind, off: i16, count: u32) -> bool
     requires few { count ≤ 8 }
     requires inside { rules.may_leave_region shape kind off count ≡ false }
