@@ -1,18 +1,19 @@
 -- Rows of words, one after another, as the finite maps of the numbers in them.
-use Rattle.std.specs.Prelude.{◌≡◌, ℕ, zero, suc, ◌+◌, ◌-◌, ◌*◌, ◌<◌, ◌≤◌, ◌^◌, Bool, true, false, if◌then◌else◌, All, List, [], ◌∷◌, ◌++◌, length, map, take, drop, Option, Some, None, refl, replicate, nat_lt, slice_set}
+use Rattle.std.specs.Prelude.{◌≡◌, ◌≢◌, ℕ, zero, suc, ◌+◌, ◌*◌, ◌<◌, ◌≤◌, ◌^◌, ◌==◌, Bool, true, false, if◌then◌else◌, All, List, [], ◌∷◌, length, map, take, drop, Option, Some, None, refl, replicate, nat_lt, slice_set}
 use Rattle.std.specs.Ordering.{nat_cmp}
 use Rattle.std.specs.FinMap.{FinMap, empty, get, insert}
 use Rattle.std.proofs.Common.{sym, ◌∙◌, ap, subst, arith, get_or, length-drop}
-use Rattle.std.proofs.lemmas.List.{take-append-le, drop-append-le, take-replicate, drop-replicate, get_or-take, get_or-drop, get_or_past, length-take-le, length-map, map-set, get_or-map}
-use Rattle.std.proofs.lemmas.List.Elements.{All-cons}
-use Rattle.std.proofs.Math.Seq.{take-append_seam, drop-append_seam}
+use Rattle.std.specs.List.{range_with_len}
+use Rattle.std.proofs.lemmas.List.{ext_get_or, get_or-take, get_or-drop, get_or_past, get_or_default, get_or-replicate, get_or-set_other, length-take-le, length-map, length-replicate, length-set, map-set, get_or-map}
+use Rattle.std.proofs.lemmas.List.FromFn.{fill_by_all, get_or-map-range_with_len, length-map-range_with_len}
+use Rattle.std.proofs.lemmas.Grind.{get_or-set_at}
+use Rattle.std.proofs.lemmas.List.Elements.{All-map}
 use Rattle.std.proofs.lemmas.Bool.Decides.{nat_tests}
 use Rattle.std.proofs.Math.Nat.{mul-le-mul_right}
-use borrow.Rule.Slice.PartMut.{put_mid, mid_of, post_of, put_same}
 use Rattle.node_env.specs.declared.word.TheConstants.{EMPTY}
 use Rattle.node_env.specs.Env.{AreNumbers, inbox_of}
 use Rattle.node_env.specs.Slots.{map_of}
-use Rattle.node_env.specs.inner.Slots.{slot_of, numbers_of, rows_of}
+use Rattle.node_env.specs.inner.Slots.{IsWord, slot_of, numbers_of, word_at, row_of, rows_of}
 use Rattle.node_env.proofs.Slots.{get-map_of, map_of-replicate, map_of-set}
 
 -- the slot of a word at a place is what the map holds there
@@ -37,54 +38,117 @@ map-replicate (suc n) = ap (λ xs. None ∷ xs) (map-replicate n)
 pub numbers_of-empty : (n : ℕ) → numbers_of (replicate n EMPTY) ≡ empty
 numbers_of-empty n = rw (map-replicate n) (map_of-replicate n)
 
-pub length-rows_of : (n k : ℕ) (words : List ℕ) → length (rows_of n k words) ≡ k
-length-rows_of n zero words = refl
-length-rows_of n (suc k) words = ap suc (length-rows_of n k (drop n words))
+pub length-rows_of : (n : ℕ) (words : List ℕ) → length (rows_of n words) ≡ n
+unfolding rows_of
+length-rows_of n words = length-map-range_with_len (row_of n words) 0 n
 
-pub rows_of-empty : (n k : ℕ) → rows_of n k (replicate (k * n) EMPTY) ≡ replicate k empty
-rows_of-empty n zero = refl
-rows_of-empty n (suc k) =
-    let first : take n (replicate (suc k * n) EMPTY) ≡ replicate n EMPTY = take-replicate n (suc k * n) EMPTY
-    (omega arith) in
-    let size : suc k * n - n ≡ k * n = omega arith in
-    let rest : drop n (replicate (suc k * n) EMPTY) ≡ replicate (k * n) EMPTY = drop-replicate n (suc k * n) EMPTY
-    ∙ ap (λ m. replicate m EMPTY) size in
-    rw (first, rest, numbers_of-empty n, rows_of-empty n k) refl
+-- a sender's row, and a receiver's word there
+get-rows_of_row : (n s : ℕ) (words : List ℕ) → s < n → get_or (rows_of n words) s empty ≡ row_of n words s
+unfolding rows_of
+get-rows_of_row n s words low = get_or-map-range_with_len (row_of n words) 0 n s s empty low (omega arith)
 
--- the row at a place
-pub get-rows_of : (n k s r d : ℕ) (words : List ℕ) → s < k → r < n → k * n ≤ length words
-    → get (get_or (rows_of n k words) s empty) r ≡ slot_of (get_or words (s * n + r) d)
-get-rows_of n zero s r d words low inner long = absurd (omega arith)
-get-rows_of n (suc k) zero r d words low inner long =
-    get-numbers_of (take n words) r d (omega (arith, length-take-le n words (omega arith)))
-    ∙ ap slot_of (get_or-take n words r d inner ∙ ap (λ q. get_or words q d) (omega arith))
-get-rows_of n (suc k) (suc s) r d words low inner long =
-    get-rows_of n k s r d (drop n words) (omega arith) inner (omega (arith, length-drop n words))
-    ∙ ap slot_of (get_or-drop n words (s * n + r) d ∙ ap (λ q. get_or words q d) (omega arith))
+within_square : (n s r : ℕ) → s < n → r < n → r * n + s < n * n
+within_square n s r low inner = let line : suc r * n ≤ n * n = mul-le-mul_right n inner in omega arith
 
-nothing : (before : List ℕ) (s n : ℕ) → length before ≡ s * n → s ≡ 0 → before ≡ []
-nothing [] s n at none = refl
-nothing (w ∷ ws) s n at none = absurd (omega (arith, (rw none at at)))
+get-row_of : (n s r : ℕ) (words : List ℕ) → r < n → get (row_of n words s) r ≡ slot_of (word_at n words s r)
+get-row_of n s r words inner =
+    get-numbers_of (map (word_at n words s) (range_with_len 0 n)) r EMPTY
+    (rw (length-map-range_with_len (word_at n words s) 0 n) inner)
+    ∙ ap slot_of (get_or-map-range_with_len (word_at n words s) 0 n r r EMPTY inner (omega arith))
 
--- a row that is written over another, wherever it stands
-pub rows_of-write : (n k s : ℕ) (before old new after : List ℕ) → s < k → length before ≡ s * n → length old ≡ n
-    → length new ≡ n
-    → rows_of n k (before ++ (new ++ after)) ≡ slice_set (rows_of n k (before ++ (old ++ after))) s (numbers_of new)
-rows_of-write n zero s before old new after low at was is = absurd (omega arith)
-rows_of-write n (suc k) zero before old new after low at was is =
-    rw (nothing before 0 n at refl, ← is, take-append_seam new after, drop-append_seam new after)
-    (rw (is, ← was, drop-append_seam old after) refl)
-rows_of-write n (suc k) (suc s) before old new after low at was is =
-    let long : n ≤ length before = omega arith in
-    rw (
-      take-append-le n before (new ++ after) long,
-      drop-append-le n before
-          (new ++ after) long,
-      take-append-le n before (old ++ after) long,
-      drop-append-le n before (old ++ after) long,
-    )
-    (ap (λ rows. numbers_of (take n before) ∷ rows)
-    (rows_of-write n k s (drop n before) old new after (omega arith) (omega (arith, length-drop n before)) was is))
+pub get-rows_of : (n s r d : ℕ) (words : List ℕ) → s < n → r < n → length words ≡ n * n
+    → get (get_or (rows_of n words) s empty) r ≡ slot_of (get_or words (r * n + s) d)
+get-rows_of n s r d words low inner whole =
+    ap (λ row. get row r) (get-rows_of_row n s words low) ∙ get-row_of n s r words inner
+    ∙ ap slot_of (get_or_default words (r * n + s) EMPTY d (omega (arith, within_square n s r low inner)))
+
+-- nothing was sent
+empty_row : (n s : ℕ) → s < n → row_of n (replicate (n * n) EMPTY) s ≡ empty
+empty_row n s low =
+    ap numbers_of (sym (fill_by_all (word_at n (replicate (n * n) EMPTY) s) (replicate n EMPTY) n EMPTY
+    (length-replicate n EMPTY) (λ r inner. get_or-replicate n r EMPTY EMPTY inner
+    ∙ sym (get_or-replicate (n * n) (r * n + s) EMPTY EMPTY (within_square n s r low inner)))))
+    ∙ numbers_of-empty n
+
+pub rows_of-empty : (n : ℕ) → rows_of n (replicate (n * n) EMPTY) ≡ replicate n empty
+unfolding rows_of
+rows_of-empty n = sym (fill_by_all (row_of n (replicate (n * n) EMPTY)) (replicate n empty) n empty
+    (length-replicate n empty) (λ s low. get_or-replicate n s empty empty low ∙ sym (empty_row n s low)))
+
+-- after a sender's row was written up to a receiver: its words are there, and others are as they were
+pub record IsWritten (n s k : ℕ) (old row new : List ℕ) : Type 0 where
+  pub there : (r : ℕ) → r < k → get_or new (r * n + s) EMPTY ≡ get_or row r EMPTY
+  pub kept : (t r : ℕ) → t < n → t ≢ s → get_or new (r * n + t) EMPTY ≡ get_or old (r * n + t) EMPTY
+
+-- two places in different columns
+other_place : (n r t k s : ℕ) → t < n → s < n → t ≢ s → r * n + t ≢ k * n + s
+other_place n r t k s low inner differ e = by (nat_lt r k) (nat_lt k r) refl refl
+  where
+    by : (b c : Bool) → nat_lt r k ≡ b → nat_lt k r ≡ c → ⊥
+    by true c before after = let line : suc r * n ≤ k * n = mul-le-mul_right n (grind (arith, nat_tests)) in omega arith
+    by false true before after =
+        let line : suc k * n ≤ r * n = mul-le-mul_right n (grind (arith, nat_tests)) in omega arith
+    by false false before after =
+        let same : r ≡ k = grind (arith, nat_tests) in
+        let lines : r * n ≡ k * n = ap (λ q. q * n) same in
+        differ (omega arith)
+
+pub written_none : (n s : ℕ) (old row : List ℕ) → IsWritten n s 0 old row old
+written_none n s old row = record { there = λ r low. absurd (omega arith); kept = λ t r low differ. refl }
+
+-- one more word
+pub written_more : (n s k : ℕ) (old row new : List ℕ) → s < n → k < n → length new ≡ n * n → k < length row
+    → IsWritten n s k old row new → IsWritten n s (k + 1) old row (slice_set new (k * n + s) (get_or row k 0))
+written_more n s k old row new inner line whole long before = record {
+  there = λ r low. at r low (nat_lt r k) refl;
+  kept = λ t r low differ. get_or-set_other new (k * n + s) (r * n + t) (get_or row k 0) EMPTY
+      (other_place n r t k s low inner differ) ∙ before.kept t r low differ;
+}
+  where
+    at : (r : ℕ) → r < k + 1 → (b : Bool) → nat_lt r k ≡ b
+        → get_or (slice_set new (k * n + s) (get_or row k 0)) (r * n + s) EMPTY ≡ get_or row r EMPTY
+    at r low true t =
+        let below : r < k = grind (arith, nat_tests) in
+        let lines : suc r * n ≤ k * n = mul-le-mul_right n below in
+        get_or-set_other new (k * n + s) (r * n + s) (get_or row k 0) EMPTY (λ e. omega arith) ∙ before.there r below
+    at r low false t =
+        let same : r ≡ k = grind (arith, nat_tests) in
+        get_or-set_at new (k * n + s) (r * n + s) (get_or row k 0) EMPTY (ap (λ q. q * n + s) same)
+        (omega (arith, within_square n s k inner line))
+        ∙ get_or_default row k 0 EMPTY long ∙ ap (λ q. get_or row q EMPTY) (sym same)
+
+-- the whole row
+written_row : (n s : ℕ) (old row new : List ℕ) → length row ≡ n → IsWritten n s n old row new
+    → numbers_of row ≡ row_of n new s
+written_row n s old row new whole done = ap numbers_of (fill_by_all (word_at n new s) row n EMPTY whole
+    (λ r low. sym (done.there r low)))
+
+kept_row : (n s t : ℕ) (old row new : List ℕ) → t < n → t ≢ s → IsWritten n s n old row new
+    → row_of n old t ≡ row_of n new t
+kept_row n s t old row new low differ done =
+    ap numbers_of (fill_by_all (word_at n new t) (map (word_at n old t) (range_with_len 0 n)) n EMPTY
+    (length-map-range_with_len (word_at n old t) 0 n)
+    (λ r inner. get_or-map-range_with_len (word_at n old t) 0 n r r EMPTY inner (omega arith)
+    ∙ sym (done.kept t r low differ)))
+
+pub rows_of-written : (n s : ℕ) (old row new : List ℕ) → s < n → length row ≡ n → IsWritten n s n old row new
+    → rows_of n new ≡ slice_set (rows_of n old) s (numbers_of row)
+unfolding rows_of
+rows_of-written n s old row new inner whole done =
+    sym (fill_by_all (row_of n new) (slice_set (rows_of n old) s (numbers_of row)) n empty
+    (length-set (rows_of n old) s (numbers_of row) ∙ length-rows_of n old)
+    (λ t low. at t low (t == s) refl))
+  where
+    at : (t : ℕ) → t < n → (b : Bool) → (t == s) ≡ b
+        → get_or (slice_set (rows_of n old) s (numbers_of row)) t empty ≡ row_of n new t
+    at t low true e =
+        let same : t ≡ s = grind (arith, nat_tests) in
+        get_or-set_at (rows_of n old) s t (numbers_of row) empty same (omega (arith, length-rows_of n old))
+        ∙ written_row n s old row new whole done ∙ ap (row_of n new) (sym same)
+    at t low false e =
+        let differ : t ≢ s = (λ is. grind (arith, nat_tests)) in
+        get_or-set_other (rows_of n old) s t (numbers_of row) empty differ ∙ get-rows_of_row n t old low
+        ∙ kept_row n s t old row new low differ done
 
 -- the numbers of a row
 pub numbers-words : (n : ℕ) (words : List ℕ) → length words ≤ n → AreNumbers n (numbers_of words)
@@ -101,11 +165,51 @@ numbers-words n words few j v e = held (nat_lt j (length words)) refl
         (omega arith, word_fits (get_or words j 0) v (nat_lt (get_or words j 0) EMPTY) refl word)
     held false t = let past : None ≡ Some v = sym (get-numbers_of_past words j (grind (arith, nat_tests))) ∙ e in cc
 
-pub rows-numbers : (n k : ℕ) (words : List ℕ) → k * n ≤ length words → All (AreNumbers n) (rows_of n k words)
-rows-numbers n zero words long = λ i d low. absurd (omega arith)
-rows-numbers n (suc k) words long =
-    All-cons (AreNumbers n) _ _ (numbers-words n (take n words) (omega (arith, length-take-le n words (omega arith))))
-    (rows-numbers n k (drop n words) (omega (arith, length-drop n words)))
+pub rows-numbers : (n : ℕ) (words : List ℕ) → All (AreNumbers n) (rows_of n words)
+unfolding rows_of
+rows-numbers n words = All-map (AreNumbers n) (row_of n words) (range_with_len 0 n)
+    (λ s d low. numbers-words n (map (word_at n words (get_or (range_with_len 0 n) s d)) (range_with_len 0 n))
+    (omega (arith, length-map-range_with_len (word_at n words (get_or (range_with_len 0 n) s d)) 0 n)))
+
+-- the words to a receiver are its inbox
+pub inbox_words : (n r : ℕ) (words : List ℕ) → r < n → length words ≡ n * n
+    → numbers_of (take n (drop (r * n) words)) ≡ inbox_of r (rows_of n words)
+inbox_words n r words inner whole =
+    ap map_of (ext_get_or None (map slot_of line) (map (λ row. get row r) (rows_of n words))
+    (length-map line slot_of ∙ long ∙ sym (length-map (rows_of n words) (λ (row : FinMap nat_cmp ℕ). get row r)
+    ∙ length-rows_of n words)) (λ s low. at s (omega (arith, length-map line slot_of, long))))
+  where
+    line : List ℕ
+    line = take n (drop (r * n) words)
+
+    lines : suc r * n ≤ n * n
+    lines = mul-le-mul_right n inner
+
+    long : length line ≡ n
+    long = length-take-le n (drop (r * n) words) (omega (arith, length-drop (r * n) words, lines))
+
+    at : (s : ℕ) → s < n → get_or (map slot_of line) s None ≡ get_or (map (λ row. get row r) (rows_of n words)) s None
+    at s low =
+        get_or-map slot_of line s 0 None (omega (arith, long))
+        ∙ ap slot_of (get_or-take n (drop (r * n) words) s 0 low ∙ get_or-drop (r * n) words s 0)
+        ∙ sym (get_or-map (λ (row : FinMap nat_cmp ℕ). get row r) (rows_of n words) s empty None
+        (omega (arith, length-rows_of n words))
+        ∙ get-rows_of n s r 0 words low inner whole)
+
+-- words that stand for the same slots are the same
+same_word : (w v : ℕ) (b c : Bool) → nat_lt w EMPTY ≡ b → nat_lt v EMPTY ≡ c → IsWord w → IsWord v
+    → (if b then Some w else None) ≡ (if c then Some v else None) → w ≡ v
+same_word w v true true s t low high e = cc
+same_word w v true false s t low high e = cc
+same_word w v false true s t low high e = cc
+same_word w v false false s t low high e = grind (arith, nat_tests)
+
+pub same_words : (xs ys : List ℕ) → length xs ≡ length ys → All IsWord xs → All IsWord ys
+    → numbers_of xs ≡ numbers_of ys → xs ≡ ys
+same_words xs ys long left right e = ext_get_or 0 xs ys long (λ i low.
+    same_word (get_or xs i 0) (get_or ys i 0) (nat_lt (get_or xs i 0) EMPTY) (nat_lt (get_or ys i 0) EMPTY) refl refl
+    (left i 0 low) (right i 0 (omega arith))
+    (sym (get-numbers_of xs i 0 low) ∙ ap (λ m. get m i) e ∙ get-numbers_of ys i 0 (omega arith)))
 
 -- a number that is written
 pub numbers_of-set : (words : List ℕ) (i v : ℕ) → i < length words → v < 2 ^ 32
@@ -118,20 +222,9 @@ numbers_of-set words i v low small =
     some_number v true t small = refl
     some_number v false t small = absurd (grind (arith, nat_tests))
 
--- a row that is written into a square
-pub rows_of-put : (n s a k : ℕ) (words new : List ℕ) → s < n → length words ≡ n * n → a ≡ s * n → k ≡ n → length new ≡ n
-    → rows_of n n (put_mid a k words new) ≡ slice_set (rows_of n n words) s (numbers_of new)
-rows_of-put n s a k words new low square at wide is =
-    let within : suc s * n ≤ n * n = mul-le-mul_right n (omega arith) in
-    let within : a + k ≤ length words = omega arith in
-    rows_of-write n n s (take a words) (mid_of a k words) new (post_of a k words) low
-    (length-take-le a words (omega arith) ∙ at)
-    (length-take-le k (drop a words) (omega (arith, length-drop a words)) ∙ wide) is
-    ∙ ap (λ ws. slice_set (rows_of n n ws) s (numbers_of new)) (put_same a k words)
-
-pub length-square : (n : ℕ) (words : List ℕ) (rows : List (FinMap nat_cmp ℕ)) → rows_of n n words ≡ rows
+pub length-square : (n : ℕ) (words : List ℕ) (rows : List (FinMap nat_cmp ℕ)) → rows_of n words ≡ rows
     → length rows ≡ n
-length-square n words rows e = subst (λ rows. length rows ≡ n) e (length-rows_of n n words)
+length-square n words rows e = subst (λ rows. length rows ≡ n) e (length-rows_of n words)
 
 pub ruleset words = (get-numbers_of, get-numbers_of_past, numbers_of-empty)
 

@@ -1,14 +1,41 @@
 //! What a node's program sees in a pulse.
-ghost use Rattle.std.specs.Prelude.{◌≡◌, ◌<◌, ◌↔◌, ℕ, length, All, IsTrue};
+ghost use Rattle.std.specs.Prelude.{◌≡◌, ◌<◌, ◌↔◌, ℕ, length, All, IfOk, IsTrue};
 ghost use Rattle.node_env.specs.Env.{IsSetting, inbox_of, received, setting_of};
 ghost use Rattle.node_env.specs.Slots.{map_of, IsSlot};
+ghost use Rattle.node_env.specs.inner.Slots.{IsWord, numbers_of};
 
 use crate::mail::Mail;
 use crate::shape::Shape;
+use crate::word::slot_in;
+use std::alloc::{AllocError, Global};
 use std::marker::Model;
 
 /// What `recv` answers for no mail.
 pub const NO_MAIL: u32 = 4294967295;
+
+/// Where an inbox stands, by sender.
+#[derive(Drop)]
+enum Inbox {
+    Slots(Vec<Option<u32>>),
+    /// As they stand in the mail.
+    Words(Vec<u64>),
+}
+
+impl Inbox {
+    ghost use Rattle.std.specs.FinMap.{get};
+    ghost use Rattle.node_env.specs.inner.Env.{mail_in, slot_count};
+
+    #[tactic(auto, using(crate::proofs::Slots::slots, crate::proofs::Rows::words))]
+    fn slot(&self, sender: u32) -> Option<u32>
+        requires { sender < slot_count self.now }
+        ensures { result ≡ get (mail_in self.now) sender }
+    {
+        match self {
+            Inbox::Slots(slots) => slots[sender as usize],
+            Inbox::Words(words) => slot_in(words[sender as usize]),
+        }
+    }
+}
 
 /// What one node sees in a pulse: the shape, its own number, the mail from each node in the last closed pulse, and
 /// the coin.
@@ -16,25 +43,25 @@ pub const NO_MAIL: u32 = 4294967295;
 pub struct Env {
     shape: Shape,
     id: u32,
-    inbox: Vec<Option<u32>>,
+    inbox: Inbox,
     coin: u32,
 }
 
 impl Model for Env {
-    ghost use Rattle.std.specs.Prelude.{◌≡◌, length};
+    ghost use Rattle.std.specs.Prelude.{◌≡◌};
     ghost use Rattle.std.specs.Coded.{Coded};
     ghost use Rattle.node_env.specs.inner.Codes.{setting_code};
     ghost use Rattle.node_env.specs.Env.{Setting, IsSetting};
-    ghost use Rattle.node_env.specs.Slots.{map_of};
+    ghost use Rattle.node_env.specs.inner.Env.{IsFit, mail_in, slot_count};
 
     ghost Value = { Setting };
 
     ghost coded = { setting_code };
 
-    ghost view = { λ e. record { shape = e.shape; id = e.id; inbox = map_of e.inbox.items; coin = e.coin } };
+    ghost view = { λ e. record { shape = e.shape; id = e.id; inbox = mail_in e.inbox; coin = e.coin } };
 
-    ghost invariant = { λ e. (length e.inbox.items ≡ e.shape.nodes) ×
-        IsSetting (record { shape = e.shape; id = e.id; inbox = map_of e.inbox.items; coin = e.coin }) };
+    ghost invariant = { λ e. (slot_count e.inbox ≡ e.shape.nodes) × IsFit e.inbox ×
+        IsSetting (record { shape = e.shape; id = e.id; inbox = mail_in e.inbox; coin = e.coin }) };
 }
 
 /// Contracts see a slot's number as any number; this says that it has 32 bits.
@@ -67,9 +94,32 @@ impl Env {
         Env {
             shape,
             id,
-            inbox,
+            inbox: Inbox::Slots(inbox),
             coin,
         }
+    }
+
+    /// What a node sees in a pulse with this mail and coin. The id is the number of a node, and the coin is 0 or 1.
+    /// Fails only for want of memory.
+    pub fn with_mail(
+        alloc: Global,
+        shape: Shape,
+        id: u32,
+        mail: &Mail,
+        coin: u32,
+    ) -> Result<Env, AllocError>
+        requires id { id < shape.nodes }
+        requires mail { length mail.now ≡ shape.nodes }
+        requires coin { coin < 2 }
+        ensures { IfOk result (λ env. env ≡ setting_of shape id mail.now coin) }
+    {
+        let words = Vec::from_slice(alloc, mail.words_to(id))?;
+        Ok(Env {
+            shape,
+            id,
+            inbox: Inbox::Words(words),
+            coin,
+        })
     }
 
     /// The shape: how many nodes there are, and how much memory each has.
@@ -89,12 +139,11 @@ impl Env {
     }
 
     /// The mail from a node of the shape, or `NO_MAIL` for none. A mail of `NO_MAIL` reads alike.
-    #[tactic(auto, using(crate::proofs::Slots::slots))]
     pub fn recv(&self, sender: u32) -> u32
         requires { sender < self.now.shape.nodes }
         ensures { result ≡ received self.now sender }
     {
-        self.inbox[sender as usize].unwrap_or(NO_MAIL)
+        self.inbox.slot(sender).unwrap_or(NO_MAIL)
     }
 
     /// 0 or 1, the same at each call.
@@ -115,7 +164,10 @@ impl Env {
         if self.shape != shape || self.id != id || self.coin != coin {
             return false;
         }
-        is_inbox(&self.inbox, mail, id)
+        match &self.inbox {
+            Inbox::Slots(slots) => is_inbox(slots, mail, id),
+            Inbox::Words(words) => are_alike(words, mail.words_to(id)),
+        }
     }
 }
 
@@ -131,4 +183,14 @@ fn is_inbox(inbox: &[Option<u32>], mail: &Mail, receiver: u32) -> bool
         }
     }
     true
+}
+
+/// Whether the words stand for the same slots.
+fn are_alike(words: &[u64], others: &[u64]) -> bool
+    requires nodes { length words.now ≡ length others.now }
+    requires words { All IsWord words.now }
+    requires others { All IsWord others.now }
+    ensures { IsTrue result ↔ (numbers_of words.now ≡ numbers_of others.now) }
+{
+    words == others
 }

@@ -1,10 +1,10 @@
 //! What all nodes sent.
-ghost use Rattle.std.specs.Prelude.{◌≡◌, ◌<◌, ◌≤◌, ◌+◌, ◌*◌, IfOk, All, length, replicate, slice_index_or, slice_set};
+ghost use Rattle.std.specs.Prelude.{◌≡◌, ◌<◌, ◌≤◌, ◌+◌, ◌*◌, IfOk, All, length, take, drop, replicate, slice_index_or, slice_set};
 ghost use Rattle.std.specs.FinMap as map;
 ghost use Rattle.node_env.specs.Env.{AreNumbers, inbox_of};
 ghost use Rattle.node_env.specs.inner.Env.{IsSquare};
 ghost use Rattle.node_env.specs.Slots.{map_of};
-ghost use Rattle.node_env.specs.inner.Slots.{numbers_of, rows_of};
+ghost use Rattle.node_env.specs.inner.Slots.{IsWord, numbers_of, rows_of};
 
 use crate::outbox::Outbox;
 use crate::shape::{MAX_NODES, Shape};
@@ -13,7 +13,7 @@ use std::alloc::{AllocError, Global};
 use std::marker::Model;
 
 /// What all nodes sent in the last closed pulse: for each sender and each receiver a number of 32 bits, or nothing,
-/// as one list of words, row by row.
+/// as one list of words, in which those to a receiver stand side by side, by sender.
 #[derive(Drop)]
 pub struct Mail {
     nodes: u32,
@@ -33,7 +33,7 @@ impl Model for Mail {
 
     ghost coded = { coded_list numbers_code };
 
-    ghost view = { λ m. rows_of m.nodes m.nodes m.words.items };
+    ghost view = { λ m. rows_of m.nodes m.words.items };
 
     ghost invariant = { λ m. IsSquare m.nodes m.words.items };
 }
@@ -64,10 +64,10 @@ impl Mail {
         requires receiver { receiver < length self.now }
         ensures { result ≡ map.get (slice_index_or self.now sender map.empty) receiver }
     {
-        slot_in(self.words[place_of(self.nodes, sender, receiver)])
+        slot_in(self.words[place_of(self.nodes, receiver, sender)])
     }
 
-    /// What came to a node, by sender: the list that `Env::new` takes. Fails only for want of memory.
+    /// What came to a node, by sender: a list that `Env::new` takes. Fails only for want of memory.
     pub fn inbox(&self, alloc: Global, receiver: u32) -> Result<Vec<Option<u32>>, AllocError>
         requires { receiver < length self.now }
         ensures nodes { IfOk result (λ inbox. length inbox.items ≡ length self.now) }
@@ -79,6 +79,17 @@ impl Mail {
             inbox.push(self.slot(sender, receiver))?;
         }
         Ok(inbox)
+    }
+
+    /// What came to a node, by sender, as words.
+    pub(crate) fn words_to(&self, receiver: u32) -> &[u64]
+        requires { receiver < length self.now }
+        ensures nodes { length result.now ≡ length self.now }
+        ensures inbox { numbers_of result.now ≡ inbox_of receiver self.now }
+        ensures words { All IsWord result.now }
+    {
+        let first = place_of(self.nodes, receiver, 0);
+        part(&self.words, first, self.nodes as usize)
     }
 
     /// A node's slots become those of an outbox, which has a slot for each node.
@@ -101,25 +112,34 @@ impl Mail {
     }
 }
 
-/// The place of a sender's slot for a receiver.
-fn place_of(nodes: u32, sender: u32, receiver: u32) -> usize
+/// The place of a receiver's word from a sender.
+fn place_of(nodes: u32, receiver: u32, sender: u32) -> usize
     requires few { nodes ≤ MAX_NODES }
-    requires sender { sender ≤ nodes }
-    requires receiver { receiver < nodes }
-    ensures { result ≡ sender * nodes + receiver }
+    requires receiver { receiver ≤ nodes }
+    requires sender { sender < nodes }
+    ensures { result ≡ receiver * nodes + sender }
 {
-    sender as usize * nodes as usize + receiver as usize
+    receiver as usize * nodes as usize + sender as usize
 }
 
-/// Writes a sender's row.
+/// So many words from a place on.
+fn part(words: &[u64], first: usize, count: usize) -> &[u64]
+    requires { first + count ≤ length words.now }
+    ensures { result.now ≡ take count (drop first words.now) }
+{
+    &words[first..first + count]
+}
+
+/// Writes what a sender sent, to each receiver's words one.
 fn write_row(words: &mut [u64], nodes: u32, sender: u32, row: &[u64])
     requires square { IsSquare nodes words.old }
     requires sender { sender < nodes }
     requires row { length row.now ≡ nodes }
+    requires words { All IsWord row.now }
     ensures square { IsSquare nodes words.new }
-    ensures rows { rows_of nodes nodes words.new ≡ slice_set (rows_of nodes nodes words.old) sender
-        (numbers_of row.now) }
+    ensures rows { rows_of nodes words.new ≡ slice_set (rows_of nodes words.old) sender (numbers_of row.now) }
 {
-    let start = place_of(nodes, sender, 0);
-    words[start..start + nodes as usize].copy_from_slice(row);
+    for receiver in 0..nodes {
+        words[place_of(nodes, receiver, sender)] = row[receiver as usize];
+    }
 }

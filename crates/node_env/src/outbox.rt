@@ -1,8 +1,8 @@
 //! What a node sends in a pulse.
-ghost use Rattle.std.specs.Prelude.{◌≡◌, ◌<◌, ◌≤◌, ℕ, IfOk, None, length};
+ghost use Rattle.std.specs.Prelude.{◌≡◌, ◌<◌, ◌≤◌, ℕ, All, IfOk, None, length};
 ghost use Rattle.std.specs.FinMap as map;
 ghost use Rattle.node_env.specs.Env.{IsSendings};
-ghost use Rattle.node_env.specs.inner.Slots.{numbers_of};
+ghost use Rattle.node_env.specs.inner.Slots.{IsWord, numbers_of};
 
 use crate::shape::Shape;
 use crate::word::{EMPTY, slot_in};
@@ -18,7 +18,8 @@ pub struct Outbox {
 impl Model for Outbox {
     ghost use Rattle.std.specs.Prelude.{length};
     ghost use Rattle.node_env.specs.inner.Codes.{sendings_code};
-    ghost use Rattle.node_env.specs.Env.{Sendings, IsSendings};
+    ghost use Rattle.node_env.specs.Env.{Sendings};
+    ghost use Rattle.node_env.specs.inner.Env.{IsRow};
     ghost use Rattle.node_env.specs.inner.Slots.{numbers_of};
 
     ghost Value = { Sendings };
@@ -27,7 +28,7 @@ impl Model for Outbox {
 
     ghost view = { λ o. record { nodes = length o.words.items; sent = numbers_of o.words.items } };
 
-    ghost invariant = { λ o. IsSendings (record { nodes = length o.words.items; sent = numbers_of o.words.items }) };
+    ghost invariant = { λ o. IsRow o.words.items };
 }
 
 impl Outbox {
@@ -83,6 +84,7 @@ impl Outbox {
     pub(crate) fn words(&self) -> &[u64]
         ensures nodes { length result.now ≡ self.now.nodes }
         ensures sent { numbers_of result.now ≡ self.now.sent }
+        ensures words { All IsWord result.now }
     {
         &self.words
     }

@@ -157,6 +157,34 @@ fn a_node_sees_its_shape_number_mail_and_coin(rt: HostRuntime) -> Result<(), Fai
 }
 
 #[test]
+fn mail_is_seen_as_it_stands(rt: HostRuntime) -> Result<(), Fail> {
+    let Some(shape) = Shape::of(3, 8) else {
+        return Err("no shape")?;
+    };
+    let mut outbox = Outbox::new(rt.alloc(), shape)?;
+    let mut mail = Mail::new(rt.alloc(), shape)?;
+    outbox.send(1, 7);
+    outbox.send(2, 5);
+    mail.fill(0, &outbox);
+    outbox.send(2, 4294967295);
+    mail.fill(1, &outbox);
+    let env = Env::with_mail(rt.alloc(), shape, 2, &mail, 1)?;
+    assert_eq!(rt; env.recv(0), 5);
+    assert_eq!(rt; env.recv(1), 4294967295);
+    assert_eq!(rt; env.recv(2), 4294967295);
+    assert_eq!(rt; (env.shape(), env.id(), env.coin()), (shape, 2, 1));
+    assert!(rt; env.sees(shape, 2, &mail, 1));
+    assert!(rt; !env.sees(shape, 1, &mail, 1));
+    assert!(rt; !env.sees(shape, 2, &mail, 0));
+    mail.clear(1);
+    assert!(rt;
+        !env.sees(shape, 2, &mail, 1),
+        "none and the greatest number differ"
+    );
+    Ok(())
+}
+
+#[test]
 fn a_row_of_mail_is_cleared_alone(rt: HostRuntime) -> Result<(), Fail> {
     let Some(shape) = Shape::of(2, 8) else {
         return Err("no shape")?;

@@ -1,9 +1,14 @@
 -- Beside Slots: what proofs and private contracts alone cite.
-use Rattle.std.specs.Prelude.{ℕ, zero, suc, nat_lt, if◌then◌else◌, List, [], ◌∷◌, map, take, drop, Option, Some, None}
+use Rattle.std.specs.Prelude.{ℕ, ◌+◌, ◌*◌, ◌≤◌, nat_lt, if◌then◌else◌, List, map, slice_index_or, Option, Some, None}
+use Rattle.std.specs.List.{range_with_len}
 use Rattle.std.specs.Ordering.{nat_cmp}
 use Rattle.std.specs.FinMap.{FinMap}
 use Rattle.node_env.specs.declared.word.TheConstants.{EMPTY}
 use Rattle.node_env.specs.Slots.{map_of}
+
+-- a number of 32 bits, or the word of an empty slot
+abbrev pub IsWord : ℕ → Type 0
+IsWord word = word ≤ EMPTY
 
 -- the slot that a word stands for: its number where that has 32 bits
 abbrev pub slot_of : ℕ → Option ℕ
@@ -13,7 +18,14 @@ slot_of word = if nat_lt word EMPTY then Some word else None
 abbrev pub numbers_of : List ℕ → FinMap nat_cmp ℕ
 numbers_of words = map_of (map slot_of words)
 
--- as many rows, each of so many words, one after another
-abbrev pub rows_of : ℕ → ℕ → List ℕ → List (FinMap nat_cmp ℕ)
-rows_of each zero words = []
-rows_of each (suc count) words = numbers_of (take each words) ∷ rows_of each count (drop each words)
+-- what a sender sent to a receiver: the words to a receiver stand side by side, by sender
+abbrev pub word_at : ℕ → List ℕ → ℕ → ℕ → ℕ
+word_at nodes words sender receiver = slice_index_or words (receiver * nodes + sender) EMPTY
+
+-- what a sender sent, by receiver
+abbrev pub row_of : ℕ → List ℕ → ℕ → FinMap nat_cmp ℕ
+row_of nodes words sender = numbers_of (map (word_at nodes words sender) (range_with_len 0 nodes))
+
+-- a row for each sender
+unfoldable pub rows_of : ℕ → List ℕ → List (FinMap nat_cmp ℕ)
+rows_of nodes words = map (row_of nodes words) (range_with_len 0 nodes)

@@ -14,13 +14,13 @@ write_row-requires-clause-sender c = omega (arith, length-square _ _ _ c.self.vi
 pub returns : goal.returns
 returns c =
     let few : c.self.inside.nodes ≤ MAX_NODES = c.self.invariant.few in
-    ap (rows_of c.self.inside.nodes c.self.inside.nodes)
+    ap (rows_of c.self.inside.nodes)
     (with_items_is c.self.inside.words c.write_row.new.words
     (search (rules, c.write_row.ensures.square.whole, c.self.invariant.whole)))
     ∙ c.write_row.ensures.rows
-    ∙ ap (λ words. slice_set (rows_of c.self.inside.nodes c.self.inside.nodes words) c.args.sender
+    ∙ ap (λ words. slice_set (rows_of c.self.inside.nodes words) c.args.sender
     (numbers_of (take c.self.inside.nodes (replicate MAX_NODES EMPTY)))) c.deref_mut.ensures.value
-    ∙ ap (λ sent. slice_set (rows_of c.self.inside.nodes c.self.inside.nodes c.self.inside.words.items) c.args.sender
+    ∙ ap (λ sent. slice_set (rows_of c.self.inside.nodes c.self.inside.words.items) c.args.sender
     sent)
     (ap numbers_of (take-replicate c.self.inside.nodes MAX_NODES EMPTY few) ∙ numbers_of-empty c.self.inside.nodes)
     ∙ ap (λ rows. slice_set rows c.args.sender empty) c.self.view_is

@@ -17,12 +17,12 @@ write_row-requires-clause-row c = omega (
 
 pub returns : goal.returns
 returns c =
-    ap (rows_of c.self.inside.nodes c.self.inside.nodes)
+    ap (rows_of c.self.inside.nodes)
     (with_items_is c.self.inside.words c.write_row.new.words
     (search (rules, c.write_row.ensures.square.whole, c.self.invariant.whole)))
     ∙ c.write_row.ensures.rows
-    ∙ ap (λ words. slice_set (rows_of c.self.inside.nodes c.self.inside.nodes words) c.args.sender
+    ∙ ap (λ words. slice_set (rows_of c.self.inside.nodes words) c.args.sender
     (numbers_of c.words.result.now)) c.deref_mut.ensures.value
-    ∙ ap (λ sent. slice_set (rows_of c.self.inside.nodes c.self.inside.nodes c.self.inside.words.items) c.args.sender
+    ∙ ap (λ sent. slice_set (rows_of c.self.inside.nodes c.self.inside.words.items) c.args.sender
     sent) c.words.ensures.sent
     ∙ ap (λ rows. slice_set rows c.args.sender c.args.outbox.now.sent) c.self.view_is

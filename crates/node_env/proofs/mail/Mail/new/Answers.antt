@@ -9,4 +9,4 @@ pub returns : goal.returns
 returns c =
     let nodes = c.nodes-nodes.result in
     let items : c.in_ok-words.words.items ≡ replicate (nodes * nodes) EMPTY = (search rules) in
-    ap (rows_of nodes nodes) items ∙ rows_of-empty nodes nodes ∙ ap (λ n. replicate n empty) c.nodes-nodes.ensures.value
+    ap (rows_of nodes) items ∙ rows_of-empty nodes ∙ ap (λ n. replicate n empty) c.nodes-nodes.ensures.value

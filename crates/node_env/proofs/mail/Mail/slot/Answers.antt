@@ -5,19 +5,19 @@ use Rattle.node_env.specs.inner.Slots.{slot_of}
 use Rattle.node_env.proofs.Rows.{length-square, get-rows_of}
 use Rattle.node_env.proofs.mail.Mail.slot.Goals as goal
 
-pub place_of-requires-clause-sender : goal.place_of-requires-clause-sender
-place_of-requires-clause-sender c = omega (arith, length-square _ _ _ c.self.view_is, c.requires.sender)
-
 pub place_of-requires-clause-receiver : goal.place_of-requires-clause-receiver
 place_of-requires-clause-receiver c = omega (arith, length-square _ _ _ c.self.view_is, c.requires.receiver)
 
+pub place_of-requires-clause-sender : goal.place_of-requires-clause-sender
+place_of-requires-clause-sender c = omega (arith, length-square _ _ _ c.self.view_is, c.requires.sender)
+
 pub index-requires : goal.index-requires
 index-requires c =
-    let low : suc c.args.sender ≤ c.self.inside.nodes = omega
-    (arith, length-square _ _ _ c.self.view_is, c.requires.sender) in
-    let inner : c.args.receiver < c.self.inside.nodes = omega
+    let low : suc c.args.receiver ≤ c.self.inside.nodes = omega
     (arith, length-square _ _ _ c.self.view_is, c.requires.receiver) in
-    let rows : suc c.args.sender * c.self.inside.nodes ≤ c.self.inside.nodes * c.self.inside.nodes =
+    let inner : c.args.sender < c.self.inside.nodes = omega
+    (arith, length-square _ _ _ c.self.view_is, c.requires.sender) in
+    let lines : suc c.args.receiver * c.self.inside.nodes ≤ c.self.inside.nodes * c.self.inside.nodes =
     mul-le-mul_right c.self.inside.nodes low in
     omega (arith, c.self.invariant.whole, c.place_of.ensures)
 
@@ -29,6 +29,6 @@ returns c =
     (arith, length-square _ _ _ c.self.view_is, c.requires.receiver) in
     c.slot_in.ensures
     ∙ ap slot_of (c.index.ensures ∙ ap (λ q. get_or c.self.inside.words.items q c.index.result.now) c.place_of.ensures)
-    ∙ sym (get-rows_of c.self.inside.nodes c.self.inside.nodes c.args.sender c.args.receiver c.index.result.now
-    c.self.inside.words.items low inner (omega (arith, c.self.invariant.whole)))
+    ∙ sym (get-rows_of c.self.inside.nodes c.args.sender c.args.receiver c.index.result.now c.self.inside.words.items
+    low inner c.self.invariant.whole)
     ∙ ap (λ rows. get (get_or rows c.args.sender empty) c.args.receiver) c.self.view_is

@@ -7,7 +7,10 @@ use Rattle.node_env.proofs.Rows.{numbers_of-set}
 use Rattle.node_env.proofs.outbox.Outbox.send.Goals as goal
 
 pub invariant_of-self : goal.invariant_of-self
-invariant_of-self c = are_sendings _ (search rules) (search rules)
+invariant_of-self c = record {
+  sendings = are_sendings _ (search rules) (search rules);
+  fit = search rules;
+}
 
 pub returns-clause-sent : goal.returns-clause-sent
 returns-clause-sent c =
