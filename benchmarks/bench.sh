@@ -36,7 +36,7 @@ for crate in "${crates[@]}"; do
 done
 cp "$here/bench_driver.rt.txt" "$driver/src/main.rt"
 for crate in "${crates[@]}"; do grep "^$crate:" "$here/../crates.txt"; done > "$room/crates.txt"
-echo "bench_driver: node_env bpf_verify clock_nodes bench_core" >> "$room/crates.txt"
+echo "bench_driver: node_env bpf_verify bpf_run clock_nodes bench_core" >> "$room/crates.txt"
 cc -O2 -o "$room/in_c" "$here/bench.c"
 
 log=$room/build.log

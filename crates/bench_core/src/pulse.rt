@@ -37,8 +37,8 @@ fn tasks(alloc: Global, pulse: &OpenPulse) -> Result<Vec<NodeTask>, AllocError>
     for node in 0..count {
         let slot = &pulse.nodes[node as usize];
         if let Some(program) = &slot.program {
-            let inbox = pulse.mail.inbox(alloc, node)?;
-            let env = Env::new(pulse.shape, node, inbox, pulse.coins[node as usize]);
+            let coin = pulse.coins[node as usize];
+            let env = Env::with_mail(alloc, pulse.shape, node, pulse.mail, coin)?;
             tasks.push(NodeTask::of(alloc, pulse.opening, node, program, env, &slot.memory)?)?;
         }
     }

@@ -2,7 +2,7 @@
 
 ghost use Rattle.std.specs.Prelude.{◌≡◌, ◌↔◌, ◌<◌, IfOk, IsTrue, length};
 
-use bpf_run::run;
+use bpf_run::Room;
 use bpf_verify::VerifiedProgram;
 use node_env::{Env, Mail, Outbox, Shape};
 use std::alloc::{AllocError, Global};
@@ -86,6 +86,15 @@ impl NodeTask {
         ensures end { IsEnd result }
         ensures within { result.end.steps ≤ result.task.program.budget }
     {
+        self.run_in(&mut Room::new())
+    }
+
+    /// As `run`, in room that is kept.
+    pub fn run_in(self, room: &mut Room) -> NodeDone
+        ensures input { result.task ≡ self }
+        ensures end { IsEnd result }
+        ensures within { result.end.steps ≤ result.task.program.budget }
+    {
         let NodeTask {
             opening,
             node,
@@ -95,7 +104,7 @@ impl NodeTask {
             mut after,
             mut outbox,
         } = self;
-        let ended = run(&program, &env, &mut after, &mut outbox);
+        let ended = room.run(&program, &env, &mut after, &mut outbox);
         NodeDone {
             opening,
             node,
