@@ -5,6 +5,7 @@ ghost use Rattle.bench_engine.specs.inner.Batches.{RanInOrder};
 use crate::gate::Gate;
 use crate::waiting::Waiting;
 use bench_core::NodeDone;
+use bpf_run::Room;
 use std::snapshot::Snapshot;
 use std::thread::Promise;
 
@@ -36,7 +37,8 @@ impl<G: Gate> Promise<Option<Vec<NodeDone>>> for Batch<G> {
         × (IsSome given → G.lets_in batch.gate.value batch.worker ≡ true) };
 }
 
-/// Enters the gate, which hands out the tasks, and then runs each once, in order. There is room for the results.
+/// Enters the gate, which hands out the tasks, and then runs each once, in order, all in one room. There is room for
+/// the results.
 pub(crate) fn run_batch<G: Gate>(
     gate: &G,
     worker: u32,
@@ -52,8 +54,9 @@ pub(crate) fn run_batch<G: Gate>(
 {
     let tasks = waiting.enter(gate, worker)?;
     let mut dones = room;
+    let mut bytes = Room::new();
     for task in tasks {
-        dones.push_reserved(task.run());
+        dones.push_reserved(task.run_in(&mut bytes));
     }
     Some(dones)
 }
