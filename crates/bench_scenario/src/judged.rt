@@ -5,27 +5,22 @@ ghost use Rattle.bench_scenario.specs.Reports.{is_yes, judged_head, judged_last,
 ghost use Rattle.bench_scenario.specs.Reports.{value_text, values_text, verdict_text, rule_or_own};
 ghost use Rattle.scenario_text.specs.Views.{frame_of};
 
-use crate::printing::add;
+use crate::printing::{add, add_counts, add_front, add_number};
 use crate::verdicts::{Judged, judged_of};
 use bench_core::PulseRecord;
 use scenario_text::Scenario;
 use std::alloc::{AllocError, Global};
 use std::fmt::Write;
 
-fn add_value(
-    alloc: Global,
-    report: &mut String,
-    modulus: u32,
-    clock: Option<u32>,
-) -> Result<(), AllocError>
+fn add_value(report: &mut String, modulus: u32, clock: Option<u32>) -> Result<(), AllocError>
     ensures { OnOk result (string_bytes report.new ≡ string_bytes report.old ++ value_text modulus clock) }
 {
     match clock {
         None => add(report, " -"),
         Some(clock) => {
             if clock < modulus {
-                let text = format!(in alloc; " {clock}")?;
-                add(report, text.as_str())
+                add(report, " ")?;
+                add_number(report, clock)
             } else {
                 add(report, " !")
             }
@@ -33,16 +28,11 @@ fn add_value(
     }
 }
 
-fn add_values(
-    alloc: Global,
-    report: &mut String,
-    modulus: u32,
-    clocks: &[Option<u32>],
-) -> Result<(), AllocError>
+fn add_values(report: &mut String, modulus: u32, clocks: &[Option<u32>]) -> Result<(), AllocError>
     ensures { OnOk result (string_bytes report.new ≡ string_bytes report.old ++ values_text modulus clocks.now) }
 {
     for clock in clocks {
-        add_value(alloc, report, modulus, *clock)?;
+        add_value(report, modulus, *clock)?;
     }
     Ok(())
 }
@@ -57,8 +47,18 @@ fn verdict_text(verdict: Option<bool>) -> &'static str
     }
 }
 
+/// The end of the line.
+fn add_verdicts(report: &mut String, judged: Judged) -> Result<(), AllocError>
+    ensures { OnOk result (string_bytes report.new ≡ string_bytes report.old ++ (verdict_text judged.agree
+        ++ (codes " counts " ++ (verdict_text judged.counts ++ codes "\n")))) }
+{
+    add(report, verdict_text(judged.agree))?;
+    add(report, " counts ")?;
+    add(report, verdict_text(judged.counts))?;
+    add(report, "\n")
+}
+
 fn add_judged(
-    alloc: Global,
     report: &mut String,
     modulus: u32,
     one: &PulseRecord,
@@ -67,22 +67,13 @@ fn add_judged(
     ensures { OnOk result (string_bytes report.new
         ≡ string_bytes report.old ++ judged_line modulus one.now judged) }
 {
-    let pulse = one.row.pulse;
-    let front = format!(in alloc; "pulse {pulse} clocks")?;
-    add(report, front.as_str())?;
-    add_values(alloc, report, modulus, one.clocks.as_slice())?;
-    let settled = one.row.settled;
-    let steps = one.steps;
-    let agree = verdict_text(judged.agree);
-    let counts = verdict_text(judged.counts);
-    let rest = format!(in alloc;
-        " settled {settled} steps {steps} agree {agree} counts {counts}\n"
-    )?;
-    add(report, rest.as_str())
+    add_front(report, one.row.pulse)?;
+    add_values(report, modulus, one.clocks.as_slice())?;
+    add_counts(report, one.row.settled, one.steps)?;
+    add_verdicts(report, judged)
 }
 
 fn add_all_judged(
-    alloc: Global,
     report: &mut String,
     modulus: u32,
     records: &[PulseRecord],
@@ -94,7 +85,7 @@ fn add_all_judged(
     let count = records.len().min(judged.len());
     for pulse in 0..count {
         let one = &records[pulse];
-        add_judged(alloc, report, modulus, one, judged[pulse])?;
+        add_judged(report, modulus, one, judged[pulse])?;
     }
     Ok(())
 }
@@ -166,13 +157,7 @@ pub(crate) fn judged_report(
 {
     let mut text = head(alloc, scenario, own)?;
     let judged = judged_of(alloc, own, scenario.modulus, records)?;
-    add_all_judged(
-        alloc,
-        &mut text,
-        scenario.modulus,
-        records,
-        judged.as_slice(),
-    )?;
+    add_all_judged(&mut text, scenario.modulus, records, judged.as_slice())?;
     let last = last(alloc, judged.as_slice())?;
     add(&mut text, last.as_str())?;
     Ok(text)

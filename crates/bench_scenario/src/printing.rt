@@ -9,6 +9,7 @@ use crate::judged::judged_report;
 use crate::verdicts::{Judged, judged_of};
 use bench_core::PulseRecord;
 use bench_engine::Run;
+use itoa::Buffer;
 use scenario_text::{CLOCK_VERSION, FIRST_VERSION, Scenario};
 use std::alloc::{AllocError, Global};
 use std::fmt::Write;
@@ -19,50 +20,71 @@ pub(crate) fn add(report: &mut String, part: &str) -> Result<(), AllocError>
     report.push_str(part)
 }
 
-fn add_clock(alloc: Global, report: &mut String, clock: Option<u32>) -> Result<(), AllocError>
+pub(crate) fn add_number(report: &mut String, number: u32) -> Result<(), AllocError>
+    ensures { OnOk result (string_bytes report.new ≡ string_bytes report.old ++ decimal number) }
+{
+    let mut digits = Buffer::new();
+    add(report, digits.format(number))
+}
+
+fn add_clock(report: &mut String, clock: Option<u32>) -> Result<(), AllocError>
     ensures { OnOk result (string_bytes report.new ≡ string_bytes report.old ++ clock_text clock) }
 {
     match clock {
         None => add(report, " -"),
         Some(clock) => {
-            let text = format!(in alloc; " {clock}")?;
-            add(report, text.as_str())
+            add(report, " ")?;
+            add_number(report, clock)
         }
     }
 }
 
-fn add_clocks(alloc: Global, report: &mut String, clocks: &[Option<u32>]) -> Result<(), AllocError>
+fn add_clocks(report: &mut String, clocks: &[Option<u32>]) -> Result<(), AllocError>
     ensures { OnOk result (string_bytes report.new ≡ string_bytes report.old ++ clocks_text clocks.now) }
 {
     for clock in clocks {
-        add_clock(alloc, report, *clock)?;
+        add_clock(report, *clock)?;
     }
     Ok(())
 }
 
-fn add_record(alloc: Global, report: &mut String, one: &PulseRecord) -> Result<(), AllocError>
-    ensures { OnOk result (string_bytes report.new ≡ string_bytes report.old ++ record_line one.now) }
+/// The line up to its clocks.
+pub(crate) fn add_front(report: &mut String, pulse: u32) -> Result<(), AllocError>
+    ensures { OnOk result (string_bytes report.new
+        ≡ string_bytes report.old ++ (codes "pulse " ++ (decimal pulse ++ codes " clocks"))) }
 {
-    let pulse = one.row.pulse;
-    let front = format!(in alloc; "pulse {pulse} clocks")?;
-    add(report, front.as_str())?;
-    add_clocks(alloc, report, one.clocks.as_slice())?;
-    let settled = one.row.settled;
-    let steps = one.steps;
-    let agree = if one.agree { "yes" } else { "no" };
-    let rest = format!(in alloc; " settled {settled} steps {steps} agree {agree}\n")?;
-    add(report, rest.as_str())
+    add(report, "pulse ")?;
+    add_number(report, pulse)?;
+    add(report, " clocks")
 }
 
-fn add_records(
-    alloc: Global,
-    report: &mut String,
-    records: &[PulseRecord],
-) -> Result<(), AllocError>
+/// What stands behind them in the lines of all versions.
+pub(crate) fn add_counts(report: &mut String, settled: u32, steps: u32) -> Result<(), AllocError>
+    ensures { OnOk result (string_bytes report.new
+        ≡ string_bytes report.old ++ (codes " settled " ++ (decimal settled ++ (codes " steps "
+        ++ (decimal steps ++ codes " agree "))))) }
+{
+    add(report, " settled ")?;
+    add_number(report, settled)?;
+    add(report, " steps ")?;
+    add_number(report, steps)?;
+    add(report, " agree ")
+}
+
+fn add_record(report: &mut String, one: &PulseRecord) -> Result<(), AllocError>
+    ensures { OnOk result (string_bytes report.new ≡ string_bytes report.old ++ record_line one.now) }
+{
+    add_front(report, one.row.pulse)?;
+    add_clocks(report, one.clocks.as_slice())?;
+    add_counts(report, one.row.settled, one.steps)?;
+    add(report, if one.agree { "yes\n" } else { "no\n" })
+}
+
+fn add_records(report: &mut String, records: &[PulseRecord]) -> Result<(), AllocError>
     ensures { OnOk result (string_bytes report.new ≡ string_bytes report.old ++ record_lines records.now) }
 {
     for one in records {
-        add_record(alloc, report, one)?;
+        add_record(report, one)?;
     }
     Ok(())
 }
@@ -96,7 +118,7 @@ fn plain_report(
     ensures { IfOk result (λ text. string_bytes text ≡ plain_report (frame_of scenario.now) records.now) }
 {
     let mut text = head(alloc, scenario)?;
-    add_records(alloc, &mut text, records)?;
+    add_records(&mut text, records)?;
     let agreed = agreed(records);
     let count = records.len();
     let last = format!(in alloc; "agreed {agreed} of {count}\n")?;
