@@ -15,7 +15,7 @@ use Rattle.bench_core.specs.Pulse.{Pulse}
 use Rattle.bench_core.specs.Settled.{settled_flags, settled_clocks, clocks_where, moving_clocks, value_of}
 use Rattle.bench_core.specs.Replay.{Entry, Staged, Opened, Closed, Abandoned, Run}
 use Rattle.bench_core.specs.StepList.{entries_of}
-use Rattle.bench_core.specs.Laws.{ClocksAgree, StepsAgree, PairMovesOn, RuleClockBelow, ran_to, IsQuiet}
+use Rattle.bench_core.specs.Laws.{ClocksAgree, StepsAgree, PairMovesOn, RuleClockBelow, ran_to_pair, IsQuiet}
 use Rattle.bench_core.proofs.Counting.{came, support_came, two_values, enough_came, some_passes}
 use Rattle.bench_core.proofs.Rules.{next_pair}
 use Rattle.bench_core.proofs.Sound.{Sound, sound_run, sound_pulse, sound_replay, ran_pulse}
@@ -144,7 +144,7 @@ quiet_mail s b (Abandoned ∷ es) c h quiet = quiet_mail s h.0 es c h.2 (All-tai
     ∙ ap (λ (x : State). x.mail) h.1.1
 
 -- a node that passes ran to the pair
-ran_parts : (clock last : ℕ) (x : Node) → ran_to clock last x ≡ true → IsTrue x.mark × (clock_of x.memory ≡ clock)
+ran_parts : (clock last : ℕ) (x : Node) → ran_to_pair clock last x ≡ true → IsTrue x.mark × (clock_of x.memory ≡ clock)
 ran_parts clock last x h =
     let both = and_parts (x.mark && (clock_of x.memory == clock)) (mark_of x.memory == last) h in
     let first = and_parts x.mark (clock_of x.memory == clock) both.0 in
@@ -156,7 +156,7 @@ pair_moves s history between b b' c c' clock i ok own replay p many run quiet q 
     let sound' = sound_pulse s b b' ok sound p in
     let sound_c = sound_run s b' between c ok sound' run in
     let same_mail = quiet_mail s b' between c run quiet in
-    let came_i = enough_came (ran_to clock 1) i clock b'.nodes b'.mail (sound'.mail ∙ sym sound'.nodes)
+    let came_i = enough_came (ran_to_pair clock 1) i clock b'.nodes b'.mail (sound'.mail ∙ sym sound'.nodes)
     (λ k d l h. sent_clock sound sound' k d l h) in
     let came_c : quorum s ≤ came clock i b'.mail = omega (arith, came_i, many) in
     let came_same : quorum s ≤ came clock i c.mail = subst (λ m. quorum s ≤ came clock i m) (sym same_mail) came_c in
@@ -175,21 +175,21 @@ pair_moves s history between b b' c c' clock i ok own replay p many run quiet q 
     (ran_c.clock ∙ ap (λ (n : ℕ × ℕ). n.0) pair, ran_c.last ∙ ap (λ (n : ℕ × ℕ). n.1) pair)
   where
     sent_clock : Sound s b → Sound s b' → (k : ℕ) (d : Node) → k < length b'.nodes
-        → ran_to clock 1 (get_or b'.nodes k d) ≡ true → is_mail clock (get (row_at b'.mail k) i) ≡ true
+        → ran_to_pair clock 1 (get_or b'.nodes k d) ≡ true → is_mail clock (get (row_at b'.mail k) i) ≡ true
     sent_clock sound sound' k d l h =
         let within : k < s.shape.nodes = omega (arith, l, sound'.nodes) in
         let same_node : get_or b'.nodes k d ≡ node_at b'.nodes k = get_or_default b'.nodes k d no_node l in
-        let parts = ran_parts clock 1 (node_at b'.nodes k) (ap (ran_to clock 1) (sym same_node) ∙ h) in
+        let parts = ran_parts clock 1 (node_at b'.nodes k) (ap (ran_to_pair clock 1) (sym same_node) ∙ h) in
         let ran = ran_pulse s b b' k ok own sound p within parts.0 in
         ap (is_mail clock) (ran.sent i lt ∙ ap (λ (n : ℕ). Some n) parts.1) ∙ eq-eqb clock clock refl
 
     clock_small : Sound s b → Sound s b' → 0 < quorum s → clock < s.modulus
     clock_small sound sound' pos =
-        let found = some_passes (ran_to clock 1) b'.nodes (omega (arith, many, pos)) in
+        let found = some_passes (ran_to_pair clock 1) b'.nodes (omega (arith, many, pos)) in
         let k = found.1.0 in
         let within : k < s.shape.nodes = omega (arith, found.1.1, sound'.nodes) in
         let same_node : found.0 ≡ node_at b'.nodes k = sym found.1.2
         ∙ get_or_default b'.nodes k found.0 no_node found.1.1 in
-        let parts = ran_parts clock 1 (node_at b'.nodes k) (ap (ran_to clock 1) (sym same_node) ∙ found.2) in
+        let parts = ran_parts clock 1 (node_at b'.nodes k) (ap (ran_to_pair clock 1) (sym same_node) ∙ found.2) in
         let ran = ran_pulse s b b' k ok own sound p within parts.0 in
         subst (λ (n : ℕ). n < s.modulus) (sym ran.clock ∙ parts.1) ran.moved.clock

@@ -1,10 +1,11 @@
 -- What a close does to a bench's fields, and what is told of it.
 use Rattle.std.proofs.Common.{◌≡◌, ◌≢◌, ◌↔◌, ℕ, ◌+◌, ◌<◌, ◌≤◌, Bool, false, IsTrue, IsSome, List, [], ◌∷◌, ◌++◌, length, map, drop, get_or, All, Option, Some, None, is_some, IfSome, ◌-◌, cond, Vec, refl, sym, ap, ◌∙◌, subst, arith, inl, inr}
 use Rattle.std.specs.Prelude.{option_map, unwrap_or, IsNone}
+use Rattle.std.specs.Vec.{with_items}
 use Rattle.std.specs.declared.alloc.Global.{Global}
 use Rattle.std.specs.Ordering.{nat_cmp}
 use Rattle.std.specs.FinMap.{FinMap}
-use Rattle.std.proofs.lemmas.List.{append-nil, get_or_past}
+use Rattle.std.proofs.lemmas.List.{append-nil, get_or_past, with_items_is}
 use Rattle.std.proofs.lemmas.List.Elements.{All-nil, All-from_get_or, All-contains}
 use Rattle.std.proofs.lemmas.Bool.{cases_lt}
 use Rattle.std.proofs.lemmas.Option.{same_Some, none-some, slice_get_within, get_or_from_slice_get}
@@ -20,26 +21,26 @@ use Rattle.bench_core.specs.Setup.{Setup, IsSetup}
 use Rattle.bench_core.specs.declared.refusal.CloseError.{CloseError}
 use Rattle.bench_core.specs.declared.refusal.CloseError.TheVariants as closing
 use Rattle.bench_core.specs.Refusals.{IsCloseRefusal}
-use Rattle.bench_core.specs.State.{State, Node, no_node, node_at, setting_at, AreCoins, IsLoadable}
+use Rattle.bench_core.specs.State.{State, Node, no_node, node_at, setting_at, AreCoins}
 use Rattle.bench_core.specs.Pulse.{Pulse}
-use Rattle.bench_core.specs.Settled.{Row, PulseTold, IsRecord, IsSteps, RanTo, row_of, settled_flags, clocks_where}
+use Rattle.bench_core.specs.Settled.{Row, PulseTold, IsRecord, IsSteps, RanTo, row_of, row_from, settled_flags, clocks_where, told_clock}
 use Rattle.bench_core.specs.Replay.{Entry as EntryValue, Closed as ClosedValue, Replays, BenchValue, Advances, places_of}
 use Rattle.bench_core.specs.inner.Replay.{staged_of}
 use Rattle.bench_core.specs.Tasks.{Task, Done, IsEnd, IsHanded, IsResultOf, IsExact, HandedOut}
 use Rattle.bench_core.specs.inner.Nodes.{KnowsClock}
 use Rattle.bench_core.specs.declared.found.Found.{Found}
 use Rattle.bench_core.specs.declared.found.Found.TheVariants.{Nothing, Once, Again}
-use Rattle.bench_core.specs.inner.Found.{found_at, IsFound, FitsNode, RefusesResults}
-use Rattle.bench_core.specs.inner.Told.{both_marked, row_told, told_clock, IsMostSteps}
+use Rattle.bench_core.specs.inner.Found.{found_at, IsFound, FitsNode, RefusesResults, AreLeft}
+use Rattle.bench_core.specs.inner.Told.{both_marked, IsMostSteps}
 use Rattle.bench_core.specs.Views.{entry_of}
 use Rattle.bench_core.specs.inner.Kept.{view_of, IsKept}
-use Rattle.bench_core.proofs.Sound.{Sound, is_setting}
+use Rattle.bench_core.proofs.AnyRuns.{any_run_leaves}
+use Rattle.bench_core.proofs.Sound.{Sound}
 use Rattle.bench_core.proofs.Rows.{rows_fit, rows_tell, clocks_small}
 use Rattle.bench_core.proofs.Kept.{entries_push, staged_after}
-use Rattle.bpf_machine.proofs.Ends.{complete_run_leaves}
 use Rattle.bench_core.proofs.Opening.{sound_of}
 use Rattle.bench_core.proofs.Telling.{both_settled}
-use Rattle.bench_core.proofs.Closing.{closed_state, AreSorted, AreLeft, none_handed, handed_task, pulse_closed}
+use Rattle.bench_core.proofs.Closing.{closed_state, AreSorted, none_handed, handed_task, pulse_closed}
 
 -- programs stay at a close
 pub knows_after : (s : Setup) (b b' : State) (listing : List Insn) (flags : List Bool) → Pulse s b b'
@@ -181,7 +182,7 @@ few_pulses b b' ok replays limit p =
 -- ---- what is told
 
 pub record Tells (s : Setup) (b b' : State) (r : PulseTold) : Type 0 where
-  pub row : r.row ≡ row_told s.modulus b'.closed (settled_flags b.nodes b'.nodes) b'.nodes
+  pub row : r.row ≡ row_from s.modulus b'.closed (settled_flags b.nodes b'.nodes) b'.nodes
   pub clocks : r.clocks ≡ map told_clock b'.nodes
   pub settled : r.settled ≡ settled_flags b.nodes b'.nodes
   pub steps : IsSteps s b (unwrap_or b.coins []) r.steps
@@ -204,7 +205,7 @@ is_record s history b b' r ok replays p h =
 
 pub closed_advances : (b b' : Inside) (row : Row) → IsKept b
     → Pulse (view_of b).setup (view_of b).state (closed_state (view_of b).state b'.nodes.items b'.mail)
-    → row ≡ row_told b.rule.modulus (b.closed + 1) (settled_flags b.nodes.items b'.nodes.items) b'.nodes.items
+    → row ≡ row_from b.rule.modulus (b.closed + 1) (settled_flags b.nodes.items b'.nodes.items) b'.nodes.items
     → b'.history.items ≡ b.history.items ++ Closed row ∷ []
     → b'.shape ≡ b.shape → b'.rule ≡ b.rule → b'.clock ≡ b.clock → b'.closed ≡ b.closed + 1 → b'.staged_from ≡ b.staged_from
     → b'.coins ≡ None
@@ -229,7 +230,7 @@ closed_advances b b' row kept pulse tells is shape rule clock closed from over =
           staged = stays;
           over = shut;
         },
-        tells ∙ ap (λ (n : ℕ). row_told b.rule.modulus n (settled_flags b.nodes.items b'.nodes.items) b'.nodes.items) (sym closed),
+        tells ∙ ap (λ (n : ℕ). row_from b.rule.modulus n (settled_flags b.nodes.items b'.nodes.items) b'.nodes.items) (sym closed),
       );
     }
 
@@ -250,11 +251,11 @@ coins_of s o coins is h = subst (λ (o : Option (Vec ℕ Global)). IfSome (optio
 
 -- each result that was found has the size of its node
 fits_node : (s : Setup) (b : State) (coins : List ℕ) (opening i : ℕ) (dones : List Done) (found : List Found)
-    → IsSetup s → Sound s b → b.coins ≡ Some coins
+    → Sound s b
     → AreSorted s b.nodes b.mail coins opening dones found → i < s.shape.nodes → (f : Found) → found_at found i ≡ f
     → FitsNode s.shape.nodes dones (node_at b.nodes i) f
-fits_node s b coins opening i dones found ok sound is_open sorted lt Nothing e = tt
-fits_node s b coins opening i dones found ok sound is_open sorted lt (Once place) e =
+fits_node s b coins opening i dones found sound sorted lt Nothing e = tt
+fits_node s b coins opening i dones found sound sorted lt (Once place) e =
     let at = (subst (IsFound (IsHanded s b.nodes b.mail coins opening) dones i) e (sorted.each i)).0 in
     let is = get_or_from_slice_get dones place at.one at.one at.at in
     let ends : IsEnd at.one = subst IsEnd is (sorted.ends place at.one (slice_get_within dones place at.one at.at)) in
@@ -262,34 +263,62 @@ fits_node s b coins opening i dones found ok sound is_open sorted lt (Once place
     (node_at b.nodes i).program refl at.result.0 at.result.1 in
     let task = handed_task s b.nodes b.mail coins opening i loaded.0 at.one.task loaded.1 at.result.0 at.result.1 in
     let ran = ran_of s b coins opening i at.one at.result.0 at.result.1 ends in
-    let fit : IsLoadable s.shape ran.program = subst (λ (o : Option Accepted). IfSome o (IsLoadable s.shape)) ran.loaded
-    (sound.programs i lt) in
     let whole = sound.memories i lt in
-    let left = complete_run_leaves ran.program.program (setting_at s b.mail coins i)
-    (node_at b.nodes i).memory at.one.end fit.program
-    (is_setting s b coins i ok sound is_open lt) whole.length whole.bytes ran.run in
+    let left = any_run_leaves ran.program.program (setting_at s b.mail coins i)
+    (node_at b.nodes i).memory at.one.end whole.length whole.bytes ran.run in
     (at.one, at.at, left.memory ∙ sym whole.length, ap (λ (t : Task). t.setting.shape.nodes) task)
-fits_node s b coins opening i dones found ok sound is_open sorted lt Again e = tt
+fits_node s b coins opening i dones found sound sorted lt Again e = tt
 
 pub all_fit_nodes : (b : Inside) (coins : Vec ℕ Global) (dones : List Done) (found : List Found) → IsKept b
-    → b.coins ≡ Some coins
     → AreSorted (view_of b).setup b.nodes.items b.mail coins.items (b.opened - 1) dones found
     → (i : ℕ) → i < b.shape.nodes → FitsNode b.shape.nodes dones (node_at b.nodes.items i) (found_at found i)
-all_fit_nodes b coins dones found kept is sorted i lt =
-    fits_node (view_of b).setup (view_of b).state coins.items (b.opened - 1) i dones found kept.setup (sound_of b kept)
-    (ap (λ (o : Option (Vec ℕ Global)). option_map (λ v. v.items) o) is) sorted lt (found_at found i) refl
+all_fit_nodes b coins dones found kept sorted i lt =
+    fits_node (view_of b).setup (view_of b).state coins.items (b.opened - 1) i dones found (sound_of b kept) sorted lt
+    (found_at found i) refl
 
-pub pulse_at : (b : Inside) (coins : Vec ℕ Global) (dones : List Done) (found : List Found) (nodes : List Node)
-    (mail : List (FinMap nat_cmp ℕ)) → IsKept b → b.coins ≡ Some coins
-    → AreSorted (view_of b).setup b.nodes.items b.mail coins.items (b.opened - 1) dones found
-    → length nodes ≡ b.shape.nodes → length mail ≡ b.shape.nodes
-    → AreLeft dones b.flags.items b.nodes.items found nodes mail b.shape.nodes
-    → Pulse (view_of b).setup (view_of b).state (closed_state (view_of b).state nodes mail)
-pulse_at b coins dones found nodes mail kept is sorted count rows left =
+-- what closing the nodes said, of the bench's own lists
+pub left_at : (ds dones : List Done) (fs flags : List Bool) (xs old : List Node) (found : List Found)
+    (nodes : List Node) (mail : List (FinMap nat_cmp ℕ)) (m n : ℕ) → ds ≡ dones → fs ≡ flags → xs ≡ old → m ≡ n
+    → AreLeft ds fs xs found nodes mail m → AreLeft dones flags old found nodes mail n
+left_at ds dones fs flags xs old found nodes mail m n e f g h left =
+    subst (λ (k : ℕ). AreLeft dones flags old found nodes mail k) h
+    (subst (λ (ns : List Node). AreLeft dones flags ns found nodes mail m) g
+    (subst (λ (ns : List Bool). AreLeft dones ns xs found nodes mail m) f
+    (subst (λ (ns : List Done). AreLeft ns fs xs found nodes mail m) e left)))
+
+-- the results are sorted, there are as many nodes as before, and they are those of a closed pulse
+pub record ClosesNodes (b : Inside) (coins : Vec ℕ Global) (dones : List Done) (found : List Found) (nodes : List Node)
+    (mail : List (FinMap nat_cmp ℕ)) : Type 0 where
+  pub sorted : AreSorted (view_of b).setup b.nodes.items b.mail coins.items (b.opened - 1) dones found
+  pub count : length nodes ≡ b.shape.nodes
+  pub items : (with_items b.nodes nodes).items ≡ nodes
+  pub pulse : Pulse (view_of b).setup (view_of b).state (closed_state (view_of b).state nodes mail)
+
+-- from what sorting the results and closing the nodes said, of lists that are the bench's own
+pub closes_nodes : (b : Inside) (coins : Vec ℕ Global) (xs : List Node) (cs : List ℕ) (ds : List Done) (old : List Node)
+    (flags : List Bool) (ran dones : List Done) (found : List Found) (nodes : List Node)
+    (mail : List (FinMap nat_cmp ℕ)) (count : ℕ) → IsKept b → b.coins ≡ Some coins
+    → (xs ≡ b.nodes.items) × (cs ≡ coins.items) × (ds ≡ dones)
+    → ((i : ℕ) → IsFound (IsHanded (view_of b).setup xs b.mail cs (b.opened - 1)) ds i (found_at found i)) × All IsEnd ds
+    × IsExact (IsHanded (view_of b).setup xs b.mail cs (b.opened - 1)) xs ds
+    → (old ≡ b.nodes.items) × (flags ≡ b.flags.items) × (ran ≡ dones) × (count ≡ b.shape.nodes)
+    → (length nodes ≡ length old) × (length mail ≡ count) × AreLeft ran flags old found nodes mail count
+    → ClosesNodes b coins dones found nodes mail
+closes_nodes b coins xs cs ds old flags ran dones found nodes mail count kept is own results own' left =
     let whole = (sound_of b kept).nodes in
-    pulse_closed (view_of b).setup (view_of b).state coins.items (b.opened - 1) dones b.flags.items found nodes mail
-    (ap (λ (o : Option (Vec ℕ Global)). option_map (λ v. v.items) o) is) sorted kept.flags (count ∙ sym whole)
-    (rows ∙ sym whole) (λ i lt. left i (omega (arith, lt, whole)))
+    let sorted = sorted_at (view_of b).setup xs b.nodes.items b.mail cs coins.items (b.opened - 1) ds dones found own.0
+    own.1 own.2 results.0 results.1 results.2 in
+    let same : length nodes ≡ length b.nodes.items = left.0 ∙ ap length own'.0 in
+    let each = left_at ran dones flags b.flags.items old b.nodes.items found nodes mail count b.shape.nodes own'.2 own'.1
+    own'.0 own'.3 left.2 in
+    record {
+      sorted = sorted;
+      count = same ∙ whole;
+      items = with_items_is b.nodes nodes (same ∙ sym b.nodes.ok.0);
+      pulse = pulse_closed (view_of b).setup (view_of b).state coins.items (b.opened - 1) dones b.flags.items found nodes
+          mail (ap (λ (o : Option (Vec ℕ Global)). option_map (λ v. v.items) o) is) sorted kept.flags same
+          (left.1 ∙ (own'.3 ∙ sym whole)) (λ i lt. each i (omega (arith, lt, whole)));
+    }
 
 pub refuses : (b : BenchValue) (dones : List Done) (e : CloseError) → IsSome b.state.coins
     → RefusesResults (HandedOut b) b.state.nodes dones e → IsCloseRefusal b dones e
@@ -319,13 +348,3 @@ refuses_at b v coins xs cs ds dones e kept view is nodes same given h =
     (IsHanded (view_of b).setup b.nodes.items b.mail (unwrap_or (view_of b).state.coins []) (n - 1)) b.nodes.items
     dones e) kept.opened at'' in
     subst (λ (w : BenchValue). IsCloseRefusal w dones e) view (refuses (view_of b) dones e (ap is_some open_coins) last)
-
--- what closing the nodes said, of the bench's own lists
-pub left_at : (ds dones : List Done) (fs flags : List Bool) (xs old : List Node) (found : List Found)
-    (nodes : List Node) (mail : List (FinMap nat_cmp ℕ)) (m n : ℕ) → ds ≡ dones → fs ≡ flags → xs ≡ old → m ≡ n
-    → AreLeft ds fs xs found nodes mail m → AreLeft dones flags old found nodes mail n
-left_at ds dones fs flags xs old found nodes mail m n e f g h left =
-    subst (λ (k : ℕ). AreLeft dones flags old found nodes mail k) h
-    (subst (λ (ns : List Node). AreLeft dones flags ns found nodes mail m) g
-    (subst (λ (ns : List Bool). AreLeft dones ns xs found nodes mail m) f
-    (subst (λ (ns : List Done). AreLeft ns fs xs found nodes mail m) e left)))

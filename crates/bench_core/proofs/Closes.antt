@@ -5,20 +5,21 @@ use Rattle.std.specs.Ordering.{nat_cmp}
 use Rattle.std.specs.FinMap.{FinMap, empty}
 use Rattle.std.proofs.lemmas.Bool.{and_parts, eqb-true, eq-eqb}
 use Rattle.std.proofs.lemmas.List.{length-map}
-use Rattle.node_env.specs.Env.{Setting}
+use Rattle.node_env.specs.Env.{Setting, IsSetting}
 use Rattle.bpf_insn.specs.declared.forms.Insn.{Insn}
 use Rattle.bpf_insn.specs.Encoding.{InRange}
 use Rattle.bpf_insn.specs.Programs.{image_of}
 use Rattle.bpf_insn.proofs.ImageLaws.{image_once}
 use Rattle.bpf_machine.specs.Run.{CompleteRun, End}
-use Rattle.bpf_verify.specs.Accepted.{Accepted}
+use Rattle.bpf_verify.specs.Accepted.{Accepted, IsVerified}
 use Rattle.bpf_verify.specs.Typable.{Typable}
 use Rattle.bpf_run.proofs.Runs.{run_ends}
 use Rattle.bench_core.specs.Setup.{Setup, IsSetup}
-use Rattle.bench_core.specs.State.{Node, State, no_node, node_at, row_at, setting_at, IsLoadable}
+use Rattle.bench_core.specs.State.{Node, State, IsMemory, no_node, node_at, row_at, setting_at}
 use Rattle.bench_core.specs.Pulse.{RunsClock, Runs, Rests, NodePulse, Pulse}
-use Rattle.bench_core.specs.Laws.{EachCloses}
-use Rattle.bench_core.proofs.Sound.{Sound, sound_replay, is_setting}
+use Rattle.bench_core.specs.Headline.{EachCloses}
+use Rattle.bench_core.proofs.Acceptance.{HasAccepted, accepted_replay, program_is}
+use Rattle.bench_core.proofs.Sound.{Sound, IsShaped, sound_replay, is_setting}
 use Rattle.bench_core.proofs.Counting.{get_map}
 use Rattle.bench_core.proofs.Replays.{one_pulse}
 
@@ -103,27 +104,33 @@ node_goes s env x (Some p) e listed ran =
       ),
     )
 
-if_mapped : {A : Type 0} (P Q : A → Type 0) (o : Option A) → ((x : A) → P x → Q x) → IfSome o P → IfSome o Q
-if_mapped P Q None f h = tt
-if_mapped P Q (Some x) f h = f x h
+if_there : {A : Type 0} (P Q : A → Type 0) (o : Option A) → ((x : A) → o ≡ Some x → P x → Q x) → IfSome o P → IfSome o Q
+if_there P Q None f h = tt
+if_there P Q (Some x) f h = f x refl h
 
-node_runs : (s : Setup) (b : State) (coins : List ℕ) (i : ℕ) → IsSetup s → Sound s b → b.coins ≡ Some coins
-    → i < s.shape.nodes
+node_runs : (s : Setup) (b : State) (coins : List ℕ) (i : ℕ) → IsSetup s → Sound s b → HasAccepted b
+    → b.coins ≡ Some coins → i < s.shape.nodes
     → (y : Part) × NodePulse s (setting_at s b.mail coins i) (node_at b.nodes i) y.0 y.1
-node_runs s b coins i ok sound is_open lt =
+node_runs s b coins i ok sound has is_open lt =
     let env = setting_at s b.mail coins i in
     let x = node_at b.nodes i in
     let is = is_setting s b coins i ok sound is_open lt in
     let whole = sound.memories i lt in
     node_goes s env x x.program refl (in_listing s ok)
-    (if_mapped (IsLoadable s.shape) (λ p. AreInRange p.program × ((end : End) × CompleteRun p.program env x.memory end))
+    (if_there (IsShaped s.shape) (λ p. AreInRange p.program × ((end : End) × CompleteRun p.program env x.memory end))
     x.program
-    (λ p fit. (
-      fit.program.in_range,
-      run_ends p.program env x.memory p.budget fit.program is
-          (subst (Typable p.program) fit.shape fit.typable) fit.longest whole.length whole.bytes,
-    ))
+    (λ p loaded shape. ends p (program_is b i p has loaded) shape is whole)
     (sound.programs i lt))
+  where
+    ends : (p : Accepted) → IsVerified p → IsShaped s.shape p → IsSetting (setting_at s b.mail coins i)
+        → IsMemory s.shape (node_at b.nodes i).memory
+        → AreInRange p.program
+        × ((end : End) × CompleteRun p.program (setting_at s b.mail coins i) (node_at b.nodes i).memory end)
+    ends p fit shape is whole = (
+      fit.program.in_range,
+      run_ends p.program (setting_at s b.mail coins i) (node_at b.nodes i).memory p.budget fit.program is
+          (subst (Typable p.program) shape fit.typable) fit.longest whole.length whole.bytes,
+    )
 
 -- one of each is a list
 at_cons : {X : Type 0} (P : ℕ → X → Type 0) (d x : X) (xs : List X) (n : ℕ) → P 0 x
@@ -147,12 +154,12 @@ chosen P d (suc n) f =
       each = at_cons P d first.0 rest.items n first.1 rest.each;
     }
 
-closed_pulse : (s : Setup) (b : State) (coins : List ℕ) → IsSetup s → Sound s b → b.coins ≡ Some coins
-    → (b' : State) × Pulse s b b'
-closed_pulse s b coins ok sound is_open =
+closed_pulse : (s : Setup) (b : State) (coins : List ℕ) → IsSetup s → Sound s b → HasAccepted b
+    → b.coins ≡ Some coins → (b' : State) × Pulse s b b'
+closed_pulse s b coins ok sound has is_open =
     let none : Part = (no_node, empty) in
     let parts = chosen (λ i (y : Part). NodePulse s (setting_at s b.mail coins i) (node_at b.nodes i) y.0 y.1) none
-    s.shape.nodes (λ i lt. node_runs s b coins i ok sound is_open lt) in
+    s.shape.nodes (λ i lt. node_runs s b coins i ok sound has is_open lt) in
     let nodes = map (λ (y : Part). y.0) parts.items in
     let mail = map (λ (y : Part). y.1) parts.items in
     let b' : State = record { nodes = nodes; mail = mail; closed = b.closed + 1; staged = b.staged; coins = None } in (
@@ -184,7 +191,8 @@ open_coins None h = absurd (let no : false ≡ true = h in cc)
 open_coins (Some coins) h = (coins, refl)
 
 pub each_closes : EachCloses
-each_closes s history b ok replay is_open =
+each_closes s history b ok replay are is_open =
     let open_with = open_coins b.coins is_open in
-    let made = closed_pulse s b open_with.0 ok (sound_replay s history b ok replay) open_with.1 in
+    let made = closed_pulse s b open_with.0 ok (sound_replay s history b ok replay)
+    (accepted_replay s history b are replay) open_with.1 in
     (made.0, made.1, λ c pulse. one_pulse s b c made.0 pulse made.1)

@@ -14,13 +14,7 @@ use Rattle.bench_core.specs.State.{State, Node, no_node, node_at, row_at, settin
 use Rattle.bench_core.specs.Pulse.{RunsClock, Runs, Rests, NodePulse, Pulse}
 use Rattle.bench_core.specs.Tasks.{Task, Done, task_at, IsEnd, IsHanded, IsResultOf, IsExact}
 use Rattle.bench_core.specs.inner.Nodes.{KnowsClock}
-use Rattle.bench_core.specs.inner.Found.{found_at, IsFound, IsLeft}
-
--- what the nodes before the next one are left
-abbrev pub AreLeft : List Done → List Bool → List Node → List Found → List Node → List (FinMap nat_cmp ℕ) → ℕ → Type 0
-AreLeft dones flags old found nodes mail n =
-    (i : ℕ) → i < n → IsLeft dones (get_or flags i false) (node_at old i) (node_at nodes i) (row_at mail i)
-    (found_at found i)
+use Rattle.bench_core.specs.inner.Found.{found_at, IsFound, IsLeft, AreLeft}
 
 pub left_more : (dones : List Done) (flags : List Bool) (old : List Node) (found : List Found) (nodes : List Node)
     (mail : List (FinMap nat_cmp ℕ)) (n : ℕ) (y : Node) (row : FinMap nat_cmp ℕ)

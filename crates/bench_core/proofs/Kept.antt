@@ -1,8 +1,9 @@
 -- What one more entry does to a bench's fields.
-use Rattle.std.proofs.Common.{◌≡◌, ℕ, zero, suc, ◌+◌, ◌≤◌, List, [], ◌∷◌, ◌++◌, length, drop, map, Option, Some, None, is_some, IsSome, cond, vec_capacity, Vec, refl, sym, ap, ◌∙◌, arith, subst, length-append, true}
+use Rattle.std.proofs.Common.{◌≡◌, ℕ, zero, suc, ◌+◌, ◌≤◌, List, [], ◌∷◌, ◌++◌, length, drop, map, Option, Some, None, is_some, IsSome, All, cond, vec_capacity, Vec, refl, sym, ap, ◌∙◌, arith, subst, length-append, true}
 use Rattle.std.specs.Prelude.{option_map}
 use Rattle.std.specs.declared.alloc.Global.{Global}
 use Rattle.std.proofs.lemmas.List.{append-nil, map_push, length-map}
+use Rattle.std.proofs.lemmas.List.Elements.{All-push}
 use Rattle.bench_core.specs.declared.limits.TheConstants.{MOST_ENTRIES}
 use Rattle.bench_core.specs.declared.actor.Actor.{Actor}
 use Rattle.bench_core.specs.declared.bench.Bench.TheInside.{Inside}
@@ -12,7 +13,7 @@ use Rattle.bench_core.specs.declared.entry.Entry.TheVariants.{Staged, Abandoned}
 use Rattle.bench_core.specs.Setup.{IsSetup}
 use Rattle.bench_core.specs.inner.Nodes.{KnowsClock}
 use Rattle.bench_core.specs.State.{IsChange}
-use Rattle.bench_core.specs.Replay.{Entry as EntryValue, Staged as StagedValue, Opened as OpenedValue, Closed as ClosedValue, Abandoned as AbandonedValue, BenchValue, Advances, openings, places_of}
+use Rattle.bench_core.specs.Replay.{Entry as EntryValue, Staged as StagedValue, Opened as OpenedValue, Closed as ClosedValue, Abandoned as AbandonedValue, BenchValue, Advances, StagesAccepted, openings, places_of}
 use Rattle.bench_core.specs.inner.Replay.{staged_of}
 use Rattle.bench_core.specs.Views.{change_of, entry_of}
 use Rattle.bench_core.specs.inner.Kept.{view_of, IsKept}
@@ -37,14 +38,16 @@ openings_push (ClosedValue row ∷ es) e = openings_push es e
 openings_push (AbandonedValue ∷ es) e = openings_push es e
 
 -- a step keeps what is true of a bench, where its numbers and its room do
-pub kept_step : (b b' : Inside) (e : EntryValue) → IsKept b → Advances (view_of b) e (view_of b')
+pub kept_step : (b b' : Inside) (e : EntryValue) → IsKept b → StagesAccepted e → Advances (view_of b) e (view_of b')
     → b'.rule.nodes ≡ b'.shape.nodes → KnowsClock b'.clock b'.nodes.items b'.flags.items
     → length b'.spare ≡ b'.shape.nodes → b'.opened ≡ b.opened + openings (e ∷ []) → (IsSome b'.coins → 1 ≤ b'.opened)
     → b'.staged_from ≤ length b'.history.items
     → places_of (view_of b') ≤ MOST_ENTRIES → places_of (view_of b') ≤ vec_capacity b'.history → IsKept b'
-kept_step b b' e kept step same flags spare opened counted staged limit room =
+kept_step b b' e kept accepted step same flags spare opened counted staged limit room =
     record {
       replays = advances_replay (view_of b) (view_of b') e kept.replays step;
+      accepted = subst (λ (es : List EntryValue). All StagesAccepted es) (sym step.history)
+          (All-push StagesAccepted (view_of b).history e kept.accepted accepted);
       setup = subst IsSetup (sym step.setup) kept.setup;
       same = same;
       flags = flags;

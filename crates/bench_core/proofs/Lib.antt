@@ -1,7 +1,9 @@
 pub mod Replays
 pub mod Counting
 pub mod Rules
+pub mod AnyRuns
 pub mod Sound
+pub mod Acceptance
 pub mod Agreement
 pub mod WholeRuns
 pub mod Results

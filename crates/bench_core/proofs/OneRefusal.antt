@@ -21,7 +21,7 @@ node_below s (Corrupt i image) h = h.0
 
 fits_so : (s : Setup) (c : Change) (e : StageError) → IsChange s.shape c → IsMisfit s.shape c e → ⊥
 fits_so s c stage.BadNode fits h = omega (arith, h, node_below s c fits)
-fits_so s (Load i p) stage.OtherShape fits h = h.1 fits.1.shape
+fits_so s (Load i p) stage.OtherShape fits h = h.1 fits.1
 fits_so s (Unload i) stage.OtherShape fits h = h.1
 fits_so s (Corrupt i image) stage.OtherShape fits h = h.1
 fits_so s (Load i p) stage.BadImage fits h = h.1

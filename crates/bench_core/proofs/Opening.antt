@@ -1,26 +1,29 @@
 -- What opening a pulse asks, and what it does to a bench's fields.
-use Rattle.std.proofs.Common.{◌≡◌, ℕ, ◌-◌, ◌<◌, ◌≤◌, List, [], ◌∷◌, ◌++◌, length, drop, take, map, Option, Some, None, false, is_some, IfSome, All, Vec, refl, sym, ap, ◌∙◌, arith}
+use Rattle.std.proofs.Common.{◌≡◌, ℕ, ◌-◌, ◌<◌, ◌≤◌, List, [], ◌∷◌, ◌++◌, length, drop, take, map, Option, Some, None, false, is_some, All, Vec, refl, sym, ap, ◌∙◌, arith}
 use Rattle.std.specs.Prelude.{option_map, unwrap_or}
 use Rattle.std.proofs.lemmas.List.{length-map, take_rest, drop-map, drop_all}
 use Rattle.std.proofs.lemmas.List.Elements.{All-weaker, All-from_get_or}
 use Rattle.std.specs.declared.alloc.Global.{Global}
-use Rattle.bpf_verify.specs.Accepted.{Accepted}
 use Rattle.bench_core.specs.declared.bench.Bench.TheInside.{Inside}
 use Rattle.bench_core.specs.declared.entry.Entry.{Entry}
 use Rattle.bench_core.specs.declared.entry.Entry.TheVariants.{Opened}
 use Rattle.bench_core.specs.Setup.{Setup}
-use Rattle.bench_core.specs.State.{State, Change, Load, Unload, Corrupt, no_node, node_of, node_at, all_applied, opened_state, IsChange, IsLoadable, AreCoins}
+use Rattle.bench_core.specs.State.{State, Change, Load, Unload, Corrupt, no_node, node_of, node_at, all_applied, opened_state, IsChange, AreCoins}
 use Rattle.bench_core.specs.Replay.{Entry as EntryValue, Staged, Opened as OpenedValue, Closed, Abandoned, BenchValue, Advances, openings}
 use Rattle.bench_core.specs.inner.Replay.{staged_of}
 use Rattle.bench_core.specs.Tasks.{tasks_of, tasks_from}
 use Rattle.bench_core.specs.inner.Nodes.{FitsShape}
 use Rattle.bench_core.specs.Views.{entry_of}
 use Rattle.bench_core.specs.inner.Kept.{view_of, IsKept}
+use Rattle.bench_core.proofs.Acceptance.{HasAccepted, accepted_replay}
 use Rattle.bench_core.proofs.Sound.{Sound, sound_replay, sound_opened}
 use Rattle.bench_core.proofs.Kept.{entries_push, openings_push}
 
 pub sound_of : (b : Inside) → IsKept b → Sound (view_of b).setup (view_of b).state
 sound_of b kept = sound_replay (view_of b).setup (view_of b).history (view_of b).state kept.setup kept.replays
+
+pub accepted_of : (b : Inside) → IsKept b → HasAccepted (view_of b).state
+accepted_of b kept = accepted_replay (view_of b).setup (view_of b).history (view_of b).state kept.accepted kept.replays
 
 -- the staged changes stand in the entries from a place on
 pub staged_slice : (items : List Entry) (from : ℕ)
@@ -38,14 +41,10 @@ pub staged_within : (b : Inside) → IsKept b → All (λ c. node_of c < b.shape
 staged_within b kept = All-weaker (IsChange b.shape) (λ c. node_of c < b.shape.nodes)
     (node_within (view_of b).setup) (view_of b).state.staged (sound_of b kept).staged
 
-shape_of : (s : Setup) (o : Option Accepted) → IfSome o (IsLoadable s.shape) → IfSome o (λ p. p.shape ≡ s.shape)
-shape_of s None h = tt
-shape_of s (Some p) h = h.shape
-
 pub all_fit : (s : Setup) (b : State) → Sound s b → All (FitsShape s.shape) b.nodes
 all_fit s b sound = All-from_get_or (FitsShape s.shape) b.nodes no_node
     (λ i lt. let l : i < s.shape.nodes = omega (arith, lt, sound.nodes) in
-    ((sound.memories i l).length, shape_of s (node_at b.nodes i).program (sound.programs i l)))
+    ((sound.memories i l).length, sound.programs i l))
 
 pub nodes_after : (b : Inside) → IsKept b → (coins : List ℕ) → AreCoins b.shape coins
     → All (FitsShape b.shape) (all_applied b.nodes.items (view_of b).state.staged)

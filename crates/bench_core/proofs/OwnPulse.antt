@@ -14,7 +14,7 @@ use Rattle.bench_core.specs.State.{Node, State, new_state, node_at, row_at, sett
 use Rattle.bench_core.specs.Pulse.{RunsClock, Runs, Rests, NodePulse, Pulse}
 use Rattle.bench_core.specs.Settled.{row_of}
 use Rattle.bench_core.specs.Replay.{Entry, Closed, Run, Replays}
-use Rattle.bench_core.specs.Laws.{OnlyItsOwn, OnlyItsOwnFor, SameNode, PairMovesOnFor, SharePair, IsIn, ran_to, coin_at}
+use Rattle.bench_core.specs.Laws.{OnlyItsOwn, OnlyItsOwnFor, SameNode, PairMovesOnFor, SharePair, IsIn, ran_to_pair, coin_at}
 use Rattle.bench_core.proofs.Replays.{one_node, run_push}
 use Rattle.bench_core.proofs.Counting.{unit_of, count_cons}
 use Rattle.bench_core.proofs.Sound.{Sound, sound_replay, sound_pulse, ran_pulse}
@@ -97,7 +97,7 @@ group_passes P (f ∷ group) (x ∷ xs) e h =
     first false h = omega arith
 
 pair_passes : (clock : ℕ) (x : Node) → IsTrue x.mark → clock_of x.memory ≡ clock → mark_of x.memory ≡ 1
-    → ran_to clock 1 x ≡ true
+    → ran_to_pair clock 1 x ≡ true
 pair_passes clock x marked c m = rw (marked, eq-eqb (clock_of x.memory) clock c, eq-eqb (mark_of x.memory) 1 m) refl
 
 -- whose program is the clock's, and who ran: its mark is set
@@ -155,8 +155,8 @@ pair_moves_for s history b0 b b' group clock (suc k) ok own replay p count many 
     let replay_c : Replays s ((history ++ Closed (row_of s b0 b) ∷ []) ++ es) c = run_append s (new_state s)
     (history ++ Closed (row_of s b0 b) ∷ []) es b c closed alone.run in
     let sound_c = sound_replay s ((history ++ Closed (row_of s b0 b) ∷ []) ++ es) c ok replay_c in
-    let came : quorum s ≤ count_by (ran_to clock 1) b.nodes =
-    let passes = group_passes (ran_to clock 1) group b.nodes (count ∙ sym sound_b.nodes)
+    let came : quorum s ≤ count_by (ran_to_pair clock 1) b.nodes =
+    let passes = group_passes (ran_to_pair clock 1) group b.nodes (count ∙ sym sound_b.nodes)
     (λ i l in_group. let has = share i (omega (arith, l, sound_b.nodes)) in_group in
     pair_passes clock (node_at b.nodes i) has.0 has.1 has.2) in omega (arith, passes, many) in
     let next : SharePair s group ((clock + 1) % s.modulus) mid = λ i lt in_group.

@@ -5,7 +5,7 @@ use Rattle.std.specs.FinMap.{FinMap, empty, get, get-empty}
 use Rattle.std.proofs.lemmas.Bool.{cases_eq}
 use Rattle.std.proofs.lemmas.List.{get_or-replicate, length-replicate, length-set}
 use Rattle.std.proofs.lemmas.List.Elements.{All-nil, All-push, All-head, All-tail}
-use Rattle.node_env.specs.Env.{Setting, IsSetting, AreNumbers}
+use Rattle.node_env.specs.Env.{Extent, Setting, IsSetting, AreNumbers}
 use Rattle.bpf_insn.specs.declared.forms.Insn.{Insn}
 use Rattle.bpf_machine.specs.Run.{CompleteRun}
 use Rattle.bpf_verify.specs.Accepted.{Accepted}
@@ -14,20 +14,24 @@ use Rattle.clock_nodes.specs.Rule.{clock_of, mark_of, pair_after, with_pair}
 use Rattle.clock_nodes.proofs.Bytes.{clock_written, mark_written}
 use Rattle.clock_nodes.proofs.ClockRuns.{clock_ends_so}
 use Rattle.bench_core.specs.Setup.{Setup, IsSetup, HasRuleClock, quorum, clock_listing}
-use Rattle.bench_core.specs.State.{Node, Change, Load, Unload, Corrupt, State, no_node, node_at, row_at, setting_at, new_node, new_state, IsMemory, IsLoadable, IsChange, AreCoins, applied, all_applied, opened_state, staged_state, abandoned_state}
+use Rattle.bench_core.specs.State.{Node, Change, Load, Unload, Corrupt, State, no_node, node_at, row_at, setting_at, new_node, new_state, IsMemory, IsChange, AreCoins, applied, all_applied, opened_state, staged_state, abandoned_state}
 use Rattle.bench_core.specs.Pulse.{Runs, Rests, Pulse}
 use Rattle.bench_core.specs.Settled.{value_of}
 use Rattle.bench_core.specs.Replay.{Entry, Staged, Opened, Closed, Abandoned, Step, Run}
-use Rattle.bpf_machine.proofs.Ends.{complete_run_leaves}
+use Rattle.bench_core.proofs.AnyRuns.{any_run_leaves}
 use Rattle.bench_core.proofs.Counting.{SentOne, inbox_numbers}
 use Rattle.bench_core.proofs.Rules.{IsMoved, moved_after, clock_below_same}
+
+-- a program of this shape
+abbrev pub IsShaped : Extent → Accepted → Type 0
+IsShaped shape p = p.shape ≡ shape
 
 pub record Sound (s : Setup) (b : State) : Type 0 where
   pub nodes : length b.nodes ≡ s.shape.nodes
   pub mail : length b.mail ≡ s.shape.nodes
   pub rows : (i : ℕ) → i < s.shape.nodes → AreNumbers s.shape.nodes (row_at b.mail i)
   pub memories : (i : ℕ) → i < s.shape.nodes → IsMemory s.shape (node_at b.nodes i).memory
-  pub programs : (i : ℕ) → i < s.shape.nodes → IfSome (node_at b.nodes i).program (IsLoadable s.shape)
+  pub programs : (i : ℕ) → i < s.shape.nodes → IfSome (node_at b.nodes i).program (IsShaped s.shape)
   pub sent : HasRuleClock s → (i : ℕ) → i < s.shape.nodes → IsTrue (node_at b.nodes i).mark → SentOne s.shape.nodes (row_at b.mail i)
   pub staged : All (IsChange s.shape) b.staged
   pub coins : IfSome b.coins (AreCoins s.shape)
@@ -51,17 +55,17 @@ sound_new s =
       rows = λ i lt. subst (AreNumbers s.shape.nodes) (sym (get_or-replicate s.shape.nodes i empty empty lt))
           (no_numbers s.shape.nodes);
       memories = λ i lt. subst (λ (x : Node). IsMemory s.shape x.memory) (sym (one i lt)) zeros;
-      programs = λ i lt. subst (λ (x : Node). IfSome x.program (IsLoadable s.shape)) (sym (one i lt)) tt;
+      programs = λ i lt. subst (λ (x : Node). IfSome x.program (IsShaped s.shape)) (sym (one i lt)) tt;
       sent = λ own i lt marked. absurd (cc (ap (λ (x : Node). x.mark) (one i lt), marked));
       staged = All-nil (IsChange s.shape);
       coins = tt;
     }
 
--- what a change leaves of a node: its mark, that its memory is one of this setup, and that its program is loadable
+-- what a change leaves of a node: its mark, that its memory is one of this setup, and that its program has its shape
 pub record Keeps (s : Setup) (x y : Node) : Type 0 where
   pub mark : y.mark ≡ x.mark
   pub memory : IsMemory s.shape x.memory → IsMemory s.shape y.memory
-  pub program : IfSome x.program (IsLoadable s.shape) → IfSome y.program (IsLoadable s.shape)
+  pub program : IfSome x.program (IsShaped s.shape) → IfSome y.program (IsShaped s.shape)
 
 keeps_self : (s : Setup) (x : Node) → Keeps s x x
 keeps_self s x = record { mark = refl; memory = λ h. h; program = λ h. h }
@@ -221,15 +225,13 @@ ran_pulse s b b' i ok own sound p lt marked =
 
 -- what a node has and sent
 node_left : (s : Setup) (mail : List (FinMap nat_cmp ℕ)) (coins : List ℕ) (i : ℕ) (x y : Node) (row : FinMap nat_cmp ℕ)
-    → IsSetting (setting_at s mail coins i) → IsMemory s.shape x.memory
-    → (o : Option Accepted) → IfSome o (IsLoadable s.shape)
-    → MatchOption o (Rests x y row) (λ p. Runs s p (setting_at s mail coins i) x y row)
+    → IsMemory s.shape x.memory
+    → (o : Option Accepted) → MatchOption o (Rests x y row) (λ p. Runs s p (setting_at s mail coins i) x y row)
     → IsMemory s.shape y.memory × AreNumbers s.shape.nodes row
-node_left s mail coins i x y row is whole None fit h =
+node_left s mail coins i x y row whole None h =
     (subst (IsMemory s.shape) (sym h.memory) whole, subst (AreNumbers s.shape.nodes) (sym h.sends) (no_numbers s.shape.nodes))
-node_left s mail coins i x y row is whole (Some p) fit h =
-    let left = complete_run_leaves p.program (setting_at s mail coins i) x.memory h.end fit.program is whole.length
-    whole.bytes h.run in
+node_left s mail coins i x y row whole (Some p) h =
+    let left = any_run_leaves p.program (setting_at s mail coins i) x.memory h.end whole.length whole.bytes h.run in
     let memory : IsMemory s.shape h.end.memory = record { length = left.memory; bytes = left.memory_bytes } in
     (subst (IsMemory s.shape) (sym h.memory) memory, subst (AreNumbers s.shape.nodes) (sym h.sends) left.sent)
 
@@ -238,14 +240,13 @@ sound_pulse s b b' ok sound p =
     let within = λ (i : ℕ) (lt : i < s.shape.nodes). let w : i < length b.nodes = rw sound.nodes lt in w in
     let left = λ (i : ℕ) (lt : i < s.shape.nodes).
     node_left s b.mail p.coins i (node_at b.nodes i) (node_at b'.nodes i) (row_at b'.mail i)
-    (is_setting s b p.coins i ok sound p.is_open lt) (sound.memories i lt) (node_at b.nodes i).program
-    (sound.programs i lt) (p.each i (within i lt)).1 in
+    (sound.memories i lt) (node_at b.nodes i).program (p.each i (within i lt)).1 in
     record {
       nodes = p.nodes ∙ sound.nodes;
       mail = p.mail ∙ sound.nodes;
       rows = λ i lt. (left i lt).1;
       memories = λ i lt. (left i lt).0;
-      programs = λ i lt. subst (λ (o : Option Accepted). IfSome o (IsLoadable s.shape)) (sym (p.each i (within i lt)).0)
+      programs = λ i lt. subst (λ (o : Option Accepted). IfSome o (IsShaped s.shape)) (sym (p.each i (within i lt)).0)
           (sound.programs i lt);
       sent = λ own i lt marked. (clock_of (node_at b'.nodes i).memory, (ran_pulse s b b' i ok own sound p lt marked).sent);
       staged = subst (λ cs. All (IsChange s.shape) cs) (sym p.staged) sound.staged;

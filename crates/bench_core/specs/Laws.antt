@@ -1,17 +1,14 @@
--- What holds of every run of the pulse machine.
+-- What else holds of every run of the pulse machine.
 use Rattle.std.specs.Prelude.{◌≡◌, ◌≢◌, ◌↔◌, ℕ, zero, suc, false, get_or, slice_index, ◌+◌, ◌*◌, ◌%◌, ◌<◌, ◌≤◌, Bool, ◌&&◌, ◌==◌, IsTrue, IsSome, Some, List, length, count_by, All, slice_get, unwrap_or, []}
 use Rattle.node_env.specs.Env.{inbox_of}
 use Rattle.clock_nodes.specs.Rule.{clock_of, mark_of}
-use Rattle.bpf_machine.specs.Machine.{MachineState}
-use Rattle.bpf_machine.specs.Run.{CompleteRun, End, HasNoSuccessor, RunsTo}
-use Rattle.bpf_verify.specs.Accepted.{Accepted}
-use Rattle.bpf_verify.specs.Paths.{IsLongestPath}
+use Rattle.bpf_machine.specs.Run.{End}
 use Rattle.bench_core.specs.declared.limits.TheConstants.{MOST_ENTRIES, CLOCKS_DIFFER}
 use Rattle.bench_core.specs.declared.refusal.StageError.{StageError}
 use Rattle.bench_core.specs.declared.refusal.OpenError.{OpenError}
 use Rattle.bench_core.specs.declared.refusal.CloseError.{CloseError}
 use Rattle.bench_core.specs.Setup.{Setup, IsSetup, HasRuleClock, quorum}
-use Rattle.bench_core.specs.State.{Change, Node, State, new_state, node_at, row_at, setting_at}
+use Rattle.bench_core.specs.State.{Change, Node, State, new_state, node_at, row_at}
 use Rattle.bench_core.specs.Pulse.{Pulse}
 use Rattle.bench_core.specs.Settled.{Row, IsRow, row_of, value_of, RanTo, faulty_count, Agree}
 use Rattle.bench_core.specs.Replay.{Entry, Staged, Closed, Run, Replays, BenchValue, Advances, rows_of}
@@ -23,88 +20,15 @@ use Rattle.bench_core.specs.Refusals.{IsStageRefusal, IsOpenRefusal, IsCloseRefu
 abbrev pub OneReplay : Type 0
 OneReplay = (s : Setup) (history : List Entry) (b b' : State) → Replays s history b → Replays s history b' → b ≡ b'
 
--- the rows of a history are those of its closed pulses, numbered from 1
-abbrev pub RowsCount : Type 0
-RowsCount = (s : Setup) (history : List Entry) (b : State) → Replays s history b → b.closed ≡ length (rows_of history)
-
-abbrev pub RowsInOrder : Type 0
-RowsInOrder = (s : Setup) (history : List Entry) (b : State) (k : ℕ) (row : Row) → Replays s history b
-    → slice_get (rows_of history) k ≡ Some row → row.pulse ≡ k + 1
-
 -- a step's entry goes to the end of the history
 abbrev pub AdvancesReplay : Type 0
 AdvancesReplay = (old new : BenchValue) (entry : Entry) → Replays old.setup old.history old.state
     → Advances old entry new → Replays new.setup new.history new.state
 
--- where the history has a place left for the close, the row is within its ranges
-abbrev pub RowsFit : Type 0
-RowsFit = (s : Setup) (history : List Entry) (b b' : State) → IsSetup s → Replays s history b → Pulse s b b'
-    → length history < MOST_ENTRIES → IsRow (row_of s b b')
-
--- the row tells whether settled clocks agree
-abbrev pub RowsTell : Type 0
-RowsTell = (s : Setup) (history : List Entry) (b b' : State) → IsSetup s → Replays s history b → Pulse s b b'
-    → Agree s b b' ↔ ((row_of s b b').common ≢ CLOCKS_DIFFER)
-
-abbrev pub ClocksAgree : Type 0
-ClocksAgree = (s : Setup) (history : List Entry) (b b' : State) → IsSetup s → HasRuleClock s → Replays s history b
-    → Pulse s b b'
-    → 2 * s.faults + faulty_count b b' < s.shape.nodes → Agree s b b'
-
--- where the clock is the rule's, what a run of it leaves in the four bytes is below the modulus: it is told as it is
-abbrev pub RuleClockBelow : Type 0
-RuleClockBelow = (s : Setup) (history : List Entry) (b b' : State) (i : ℕ) → IsSetup s → HasRuleClock s
-    → Replays s history b → Pulse s b b' → i < s.shape.nodes → IsTrue (node_at b'.nodes i).mark
-    → value_of s.modulus (node_at b'.nodes i).memory ≡ clock_of (node_at b'.nodes i).memory
-
--- the node ran the clock program in the last closed pulse, and has this pair
-abbrev pub ran_to : ℕ → ℕ → Node → Bool
-ran_to clock last x = x.mark && (clock_of x.memory == clock) && (mark_of x.memory == last)
-
--- no pulse is closed
-abbrev pub IsQuiet : Entry → Type 0
-IsQuiet (Closed row) = ⊥
-IsQuiet _ = Unit {0}
-
--- from the states round a closed pulse, b and b', other entries lead to c, and the next closed pulse to c'
-abbrev pub PairMovesOn : Type 0
-PairMovesOn = (s : Setup) (history between : List Entry) (b b' c c' : State) (clock i : ℕ) → IsSetup s
-    → HasRuleClock s
-    → Replays s history b → Pulse s b b' → quorum s ≤ count_by (ran_to clock 1) b'.nodes
-    → Run s b' between c → All IsQuiet between → Pulse s c c'
-    → i < s.shape.nodes → IsTrue (node_at c'.nodes i).mark → clock_of (node_at c.nodes i).memory ≡ clock
-    → mark_of (node_at c.nodes i).memory ≡ 1
-    → (clock_of (node_at c'.nodes i).memory ≡ (clock + 1) % s.modulus) × (mark_of (node_at c'.nodes i).memory ≡ 1)
-
--- a loaded node's run in a closed pulse: a complete run, of at most the announced number of instructions, which leaves
--- the node's memory and its outgoing mail. It is never stuck: each state that is reached has a next one
-pub record IsWhole (s : Setup) (b b' : State) (i : ℕ) (p : Accepted) (end : End) : Type 0 where
-  pub run : CompleteRun p.program (setting_at s b.mail (unwrap_or b.coins []) i) (node_at b.nodes i).memory end
-  pub unstuck : (count : ℕ) (state : MachineState)
-      → RunsTo p.program (setting_at s b.mail (unwrap_or b.coins []) i) (node_at b.nodes i).memory count state
-      → HasNoSuccessor p.program (setting_at s b.mail (unwrap_or b.coins []) i) state → ⊥
-  pub within : end.steps ≤ p.budget
-  pub announced : IsLongestPath p.program p.budget
-  pub memory : (node_at b'.nodes i).memory ≡ end.memory
-  pub sends : row_at b'.mail i ≡ end.sent
-
--- over every list of steps
-abbrev pub EveryRun : Type 0
-EveryRun = (s : Setup) (acts : List Act) (b b' : State) (i : ℕ) (p : Accepted) → IsSetup s
-    → Performs s (new_state s) acts b → Pulse s b b'
-    → i < s.shape.nodes → (node_at b.nodes i).program ≡ Some p → (end : End) × IsWhole s b b' i p end
-
--- in every open pulse each accepted program has a run: no pulse waits for one that doesn't end
-abbrev pub EachEnds : Type 0
-EachEnds = (s : Setup) (acts : List Act) (b : State) (coins : List ℕ) (i : ℕ) (p : Accepted) → IsSetup s
-    → Performs s (new_state s) acts b → b.coins ≡ Some coins
-    → i < s.shape.nodes → (node_at b.nodes i).program ≡ Some p
-    → (end : End) × RanTo s b coins i end × (end.steps ≤ p.budget)
-
--- each open pulse can be closed, in one way
-abbrev pub EachCloses : Type 0
-EachCloses = (s : Setup) (history : List Entry) (b : State) → IsSetup s → Replays s history b → IsSome b.coins
-    → (b' : State) × Pulse s b b' × ((c : State) → Pulse s b c → c ≡ b')
+-- what any list of steps does is what its entries do
+abbrev pub StepsAreEntries : Type 0
+StepsAreEntries = (s : Setup) (b : State) (acts : List Act) (b' : State) → Performs s b acts b'
+    → Run s b (entries_of acts) b'
 
 -- within an open pulse: runs of nodes, and changes that are staged
 abbrev pub IsWithinPulse : Act → Type 0
@@ -118,48 +42,42 @@ InputsStay = (s : Setup) (acts : List Act) (b b' : State) (coins : List ℕ) (i 
     → All IsWithinPulse acts
     → (b'.coins ≡ b.coins) × (RanTo s b coins i end ↔ RanTo s b' coins i end)
 
--- what any list of steps does is what its entries do
-abbrev pub StepsAreEntries : Type 0
-StepsAreEntries = (s : Setup) (b : State) (acts : List Act) (b' : State) → Performs s b acts b'
-    → Run s b (entries_of acts) b'
+-- ---- agreement
+
+abbrev pub ClocksAgree : Type 0
+ClocksAgree = (s : Setup) (history : List Entry) (b b' : State) → IsSetup s → HasRuleClock s → Replays s history b
+    → Pulse s b b'
+    → 2 * s.faults + faulty_count b b' < s.shape.nodes → Agree s b b'
 
 abbrev pub StepsAgree : Type 0
 StepsAgree = (s : Setup) (acts : List Act) (b b' : State) → IsSetup s → HasRuleClock s
     → Performs s (new_state s) acts b → Pulse s b b'
     → 2 * s.faults + faulty_count b b' < s.shape.nodes → Agree s b b'
 
--- where each task of the open pulse was run once, in any order and by anyone, its close takes the results
-abbrev pub ResultsFit : Type 0
-ResultsFit = (b : BenchValue) (dones : List Done) → IsSetup b.setup → Replays b.setup b.history b.state
-    → IsSome b.state.coins
-    → RanEach (tasks_of b) dones → IsExact (HandedOut b) b.state.nodes dones
+-- where the clock is the rule's, what a run of it leaves in the four bytes is below the modulus: it is told as it is
+abbrev pub RuleClockBelow : Type 0
+RuleClockBelow = (s : Setup) (history : List Entry) (b b' : State) (i : ℕ) → IsSetup s → HasRuleClock s
+    → Replays s history b → Pulse s b b' → i < s.shape.nodes → IsTrue (node_at b'.nodes i).mark
+    → value_of s.modulus (node_at b'.nodes i).memory ≡ clock_of (node_at b'.nodes i).memory
 
--- at most one refusal of a call applies
-abbrev pub OneStageRefusal : Type 0
-OneStageRefusal = (b : BenchValue) (c : Change) (e e' : StageError) → IsStageRefusal b c e → IsStageRefusal b c e'
-    → e ≡ e'
+-- the node ran the clock program in the last closed pulse, and has this pair
+abbrev pub ran_to_pair : ℕ → ℕ → Node → Bool
+ran_to_pair clock last x = x.mark && (clock_of x.memory == clock) && (mark_of x.memory == last)
 
-abbrev pub OneOpenRefusal : Type 0
-OneOpenRefusal = (b : BenchValue) (coins : List ℕ) (e e' : OpenError) → IsOpenRefusal b coins e
-    → IsOpenRefusal b coins e' → e ≡ e'
+-- no pulse is closed
+abbrev pub IsQuiet : Entry → Type 0
+IsQuiet (Closed row) = ⊥
+IsQuiet _ = Unit {0}
 
-abbrev pub OneCloseRefusal : Type 0
-OneCloseRefusal = (b : BenchValue) (dones : List Done) (e e' : CloseError) → IsCloseRefusal b dones e
-    → IsCloseRefusal b dones e' → e ≡ e'
-
--- the coin of a node in an open pulse
-abbrev pub coin_at : State → ℕ → ℕ
-coin_at b i = slice_index (unwrap_or b.coins []) i
-
--- what a closed pulse makes of a node and its mail is by its own program, memory and coin and by the mail that came to
--- it: two pulses in which these are equal give equal results, whatever all other nodes run, hold and send elsewhere
-abbrev pub OnlyItsOwn : Type 0
-OnlyItsOwn = (s : Setup) (b b' c c' : State) (i : ℕ) → Pulse s b b' → Pulse s c c'
-    → inbox_of i c.mail ≡ inbox_of i b.mail → coin_at c i ≡ coin_at b i
-    → i < length b.nodes → i < length c.nodes
-    → (node_at c.nodes i).program ≡ (node_at b.nodes i).program
-    → (node_at c.nodes i).memory ≡ (node_at b.nodes i).memory
-    → (node_at c'.nodes i ≡ node_at b'.nodes i) × (row_at c'.mail i ≡ row_at b'.mail i)
+-- from the states round a closed pulse, b and b', other entries lead to c, and the next closed pulse to c'
+abbrev pub PairMovesOn : Type 0
+PairMovesOn = (s : Setup) (history between : List Entry) (b b' c c' : State) (clock i : ℕ) → IsSetup s
+    → HasRuleClock s
+    → Replays s history b → Pulse s b b' → quorum s ≤ count_by (ran_to_pair clock 1) b'.nodes
+    → Run s b' between c → All IsQuiet between → Pulse s c c'
+    → i < s.shape.nodes → IsTrue (node_at c'.nodes i).mark → clock_of (node_at c.nodes i).memory ≡ clock
+    → mark_of (node_at c.nodes i).memory ≡ 1
+    → (clock_of (node_at c'.nodes i).memory ≡ (clock + 1) % s.modulus) × (mark_of (node_at c'.nodes i).memory ≡ 1)
 
 -- these nodes: a flag for each node
 abbrev pub IsIn : List Bool → ℕ → Type 0
@@ -194,6 +112,22 @@ PairMovesOnFor = (s : Setup) (history : List Entry) (b0 b b' : State) (group : L
     → length group ≡ s.shape.nodes → quorum s ≤ count_by (λ x. x) group
     → SharePair s group clock b → Rounds s group k b b' → SharePair s group ((clock + k) % s.modulus) b'
 
+-- ---- a node's own
+
+-- the coin of a node in an open pulse
+abbrev pub coin_at : State → ℕ → ℕ
+coin_at b i = slice_index (unwrap_or b.coins []) i
+
+-- what a closed pulse makes of a node and its mail is by its own program, memory and coin and by the mail that came to
+-- it: two pulses in which these are equal give equal results, whatever all other nodes run, hold and send elsewhere
+abbrev pub OnlyItsOwn : Type 0
+OnlyItsOwn = (s : Setup) (b b' c c' : State) (i : ℕ) → Pulse s b b' → Pulse s c c'
+    → inbox_of i c.mail ≡ inbox_of i b.mail → coin_at c i ≡ coin_at b i
+    → i < length b.nodes → i < length c.nodes
+    → (node_at c.nodes i).program ≡ (node_at b.nodes i).program
+    → (node_at c.nodes i).memory ≡ (node_at b.nodes i).memory
+    → (node_at c'.nodes i ≡ node_at b'.nodes i) × (row_at c'.mail i ≡ row_at b'.mail i)
+
 -- node i has the same program and the same memory in both
 abbrev pub SameNode : ℕ → State → State → Type 0
 SameNode i b c = ((node_at c.nodes i).program ≡ (node_at b.nodes i).program)
@@ -218,3 +152,46 @@ SideBySide s i (suc k) b b' c c' = (before after : State) × (before_c after_c :
 abbrev pub OnlyItsOwnFor : Type 0
 OnlyItsOwnFor = (s : Setup) (i k : ℕ) (b b' c c' : State) → SameNode i b c → SideBySide s i k b b' c c'
     → SameNode i b' c'
+
+-- ---- rows
+
+-- the rows of a history are those of its closed pulses, numbered from 1
+abbrev pub RowsCount : Type 0
+RowsCount = (s : Setup) (history : List Entry) (b : State) → Replays s history b → b.closed ≡ length (rows_of history)
+
+abbrev pub RowsInOrder : Type 0
+RowsInOrder = (s : Setup) (history : List Entry) (b : State) (k : ℕ) (row : Row) → Replays s history b
+    → slice_get (rows_of history) k ≡ Some row → row.pulse ≡ k + 1
+
+-- where the history has a place left for the close, the row is within its ranges
+abbrev pub RowsFit : Type 0
+RowsFit = (s : Setup) (history : List Entry) (b b' : State) → IsSetup s → Replays s history b → Pulse s b b'
+    → length history < MOST_ENTRIES → IsRow (row_of s b b')
+
+-- the row tells whether settled clocks agree
+abbrev pub RowsTell : Type 0
+RowsTell = (s : Setup) (history : List Entry) (b b' : State) → IsSetup s → Replays s history b → Pulse s b b'
+    → Agree s b b' ↔ ((row_of s b b').common ≢ CLOCKS_DIFFER)
+
+-- ---- refusals
+
+-- at most one refusal of a call applies
+abbrev pub OneStageRefusal : Type 0
+OneStageRefusal = (b : BenchValue) (c : Change) (e e' : StageError) → IsStageRefusal b c e → IsStageRefusal b c e'
+    → e ≡ e'
+
+abbrev pub OneOpenRefusal : Type 0
+OneOpenRefusal = (b : BenchValue) (coins : List ℕ) (e e' : OpenError) → IsOpenRefusal b coins e
+    → IsOpenRefusal b coins e' → e ≡ e'
+
+abbrev pub OneCloseRefusal : Type 0
+OneCloseRefusal = (b : BenchValue) (dones : List Done) (e e' : CloseError) → IsCloseRefusal b dones e
+    → IsCloseRefusal b dones e' → e ≡ e'
+
+-- ---- results
+
+-- where each task of the open pulse was run once, in any order and by anyone, its close takes the results
+abbrev pub ResultsFit : Type 0
+ResultsFit = (b : BenchValue) (dones : List Done) → IsSetup b.setup → Replays b.setup b.history b.state
+    → IsSome b.state.coins
+    → RanEach (tasks_of b) dones → IsExact (HandedOut b) b.state.nodes dones

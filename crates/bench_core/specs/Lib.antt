@@ -1,3 +1,4 @@
+pub mod Headline
 pub mod Setup
 pub mod State
 pub mod Pulse

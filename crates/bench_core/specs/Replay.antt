@@ -3,7 +3,8 @@ use Rattle.std.specs.Prelude.{◌≡◌, ℕ, ◌+◌, None, IsSome, is_some, if
 use Rattle.bench_core.specs.declared.actor.Actor.{Actor}
 use Rattle.bench_core.specs.declared.actor.Actor.TheVariants.{Engine}
 use Rattle.bench_core.specs.Setup.{Setup}
-use Rattle.bench_core.specs.State.{Change, IsChange, AreCoins, State, new_state, staged_state, opened_state, abandoned_state}
+use Rattle.bpf_verify.specs.Accepted.{IsVerified}
+use Rattle.bench_core.specs.State.{Change, Load, Unload, Corrupt, IsChange, AreCoins, State, new_state, staged_state, opened_state, abandoned_state}
 use Rattle.bench_core.specs.Pulse.{Pulse}
 use Rattle.bench_core.specs.Settled.{Row, row_of}
 
@@ -27,6 +28,18 @@ Run s b (e ∷ es) b' = (mid : State) × Step s b e mid × Run s mid es b'
 -- the state is where a new bench comes by these entries
 abbrev pub Replays : Setup → List Entry → State → Type 0
 Replays s history b = Run s (new_state s) history b
+
+-- a program that is loaded is accepted for its shape, and its announced count is its longest path
+abbrev pub LoadsAccepted : Change → Type 0
+LoadsAccepted (Load i p) = IsVerified p
+LoadsAccepted (Unload i) = Unit {0}
+LoadsAccepted (Corrupt i image) = Unit {0}
+
+abbrev pub StagesAccepted : Entry → Type 0
+StagesAccepted (Staged actor change) = LoadsAccepted change
+StagesAccepted (Opened coins) = Unit {0}
+StagesAccepted (Closed row) = Unit {0}
+StagesAccepted Abandoned = Unit {0}
 
 -- whose entry it is
 abbrev pub made_by : Entry → Actor

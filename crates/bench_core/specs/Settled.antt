@@ -58,19 +58,19 @@ abbrev pub common_of : List ℕ → ℕ
 common_of [] = 0
 common_of (c ∷ cs) = if list_all (λ d. d == c) cs then c else CLOCKS_DIFFER
 
--- the row of the closed pulse of this number, from the nodes before and after it
-abbrev pub row_from : ℕ → ℕ → List Node → List Node → Row
-row_from m pulse before after =
-    let clocks = clocks_where m (settled_flags before after) after in
+-- the row of the closed pulse of this number, from which nodes are settled, and the nodes after it
+abbrev pub row_from : ℕ → ℕ → List Bool → List Node → Row
+row_from m pulse settled after =
+    let clocks = clocks_where m settled after in
     record {
       pulse = pulse;
       common = common_of (filter (λ c. not (c == 0)) clocks);
       zeros = count_by (λ c. c == 0) clocks;
-      settled = count_by (λ x. x) (settled_flags before after);
+      settled = count_by (λ x. x) settled;
     }
 
 abbrev pub row_of : Setup → State → State → Row
-row_of s b b' = row_from s.modulus b'.closed b.nodes b'.nodes
+row_of s b b' = row_from s.modulus b'.closed (settled_flags b.nodes b'.nodes) b'.nodes
 
 -- the complete run of the loaded node i
 pub record RanTo (s : Setup) (b : State) (coins : List ℕ) (i : ℕ) (end : End) : Type 0 where
@@ -91,6 +91,10 @@ pub record AreSteps (s : Setup) (b : State) (coins steps : List ℕ) : Type 0 wh
   pub ran : (i : ℕ) (end : End) → RanTo s b coins i end → slice_index steps i ≡ end.steps
   pub rested : (i : ℕ) → i < s.shape.nodes → IsNone (node_at b.nodes i).program → slice_index steps i ≡ 0
 
+-- the four bytes of a node that ran the clock program in the closed pulse
+abbrev pub told_clock : Node → Option ℕ
+told_clock x = if x.mark then Some (clock_of x.memory) else None
+
 -- what is told of a closed pulse. Its clocks are the four bytes, below the modulus or not; its row has their values
 pub record PulseTold : Type 0 where
   pub row : Row
@@ -101,7 +105,7 @@ pub record PulseTold : Type 0 where
 
 pub record IsRecord (s : Setup) (b b' : State) (r : PulseTold) : Type 0 where
   pub row : r.row ≡ row_of s b b'
-  pub clocks : r.clocks ≡ map (λ x. if x.mark then Some (clock_of x.memory) else None) b'.nodes
+  pub clocks : r.clocks ≡ map told_clock b'.nodes
   pub settled : r.settled ≡ settled_flags b.nodes b'.nodes
   pub steps : IsSteps s b (unwrap_or b.coins []) r.steps
   pub agree : IsTrue r.agree ↔ Agree s b b'

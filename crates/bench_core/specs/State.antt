@@ -3,10 +3,7 @@ use Rattle.std.specs.Prelude.{◌≡◌, ℕ, ◌<◌, Bool, false, Option, Some
 use Rattle.std.specs.Ordering.{nat_cmp}
 use Rattle.std.specs.FinMap.{FinMap, empty}
 use Rattle.node_env.specs.Env.{Extent, Setting, inbox_of}
-use Rattle.bpf_insn.specs.Programs.{IsProgram}
 use Rattle.bpf_verify.specs.Accepted.{Accepted}
-use Rattle.bpf_verify.specs.Typable.{Typable}
-use Rattle.bpf_verify.specs.Paths.{IsLongestPath}
 use Rattle.bench_core.specs.Setup.{Setup}
 
 -- a node: its program, its memory, and whether it ran the clock program of the bench's rule in the last closed pulse
@@ -67,16 +64,9 @@ pub record IsMemory (extent : Extent) (memory : List ℕ) : Type 0 where
   pub length : length memory ≡ extent.memory
   pub bytes : All (λ byte. byte < 256) memory
 
--- a program that is accepted for this shape
-pub record IsLoadable (extent : Extent) (p : Accepted) : Type 0 where
-  pub shape : p.shape ≡ extent
-  pub program : IsProgram p.program
-  pub typable : Typable p.program p.shape
-  pub longest : IsLongestPath p.program p.budget
-
 -- a change of a bench of this shape
 abbrev pub IsChange : Extent → Change → Type 0
-IsChange shape (Load i p) = (i < shape.nodes) × IsLoadable shape p
+IsChange shape (Load i p) = (i < shape.nodes) × (p.shape ≡ shape)
 IsChange shape (Unload i) = i < shape.nodes
 IsChange shape (Corrupt i image) = (i < shape.nodes) × IsMemory shape image
 

@@ -1,5 +1,6 @@
 //! What is staged.
 ghost use Rattle.std.specs.Prelude.{◌≡◌, ◌↔◌, IfOk, IsTrue};
+ghost use Rattle.bench_core.specs.Replay.{LoadsAccepted};
 ghost use Rattle.bench_core.specs.Views.{change_of};
 
 use bpf_verify::VerifiedProgram;
@@ -33,6 +34,19 @@ impl Change {
             }
         }
     }
+
+    /// A program that it loads is accepted: its type keeps that.
+    pub(crate) fn loads_accepted(&self)
+        ensures { LoadsAccepted (change_of self.now) }
+    {
+        match self {
+            Change::Load { node: _, program } => {
+                let _program = program.program();
+            }
+            Change::Unload { .. } | Change::Corrupt { .. } => {}
+        }
+    }
+
     /// Whether the other is equal by all parts, a program by its instructions and shape.
     pub(crate) fn is(&self, other: &Change) -> bool
         ensures { IsTrue result ↔ (change_of self.now ≡ change_of other.now) }

@@ -1,7 +1,7 @@
 //! What a closed pulse leaves of the nodes and their mail.
-ghost use Rattle.std.specs.Prelude.{◌≡◌, ◌<◌, ◌≤◌, ℕ, false, length, get_or};
-ghost use Rattle.bench_core.specs.State.{node_at, row_at};
-ghost use Rattle.bench_core.specs.inner.Found.{found_at, FitsNode, IsLeft};
+ghost use Rattle.std.specs.Prelude.{◌≡◌, ◌<◌, ◌≤◌, ℕ, false, length};
+ghost use Rattle.bench_core.specs.State.{node_at};
+ghost use Rattle.bench_core.specs.inner.Found.{found_at, AreLeft, FitsNode};
 
 use crate::found::Found;
 use crate::node::NodeSlot;
@@ -42,9 +42,7 @@ pub(crate) fn close_nodes(
     requires found { count ≤ length found.now }
     requires fits { (i : ℕ) → i < count → FitsNode count dones.now (node_at nodes.old i) (found_at found.now i) }
     ensures mail { length mail.new ≡ count }
-    ensures left { (i : ℕ) → i < count →
-        IsLeft dones.now (get_or flags.now i false) (node_at nodes.old i) (node_at nodes.new i) (row_at mail.new i)
-        (found_at found.now i) }
+    ensures left { AreLeft dones.now flags.now nodes.old found.now nodes.new mail.new count }
 {
     for node in 0..count {
         let place = node as usize;

@@ -2,8 +2,8 @@
 ghost use Rattle.std.specs.Prelude.{◌≡◌, ◌≢◌, ◌↔◌, ◌<◌, ◌≤◌, All, IfOk, IsTrue, length, map};
 ghost use Rattle.clock_nodes.specs.declared.rule.TheConstants.{MOST_MODULUS};
 ghost use Rattle.bench_core.specs.declared.limits.TheConstants.{MOST_COUNTED, MOST_PULSES};
-ghost use Rattle.bench_core.specs.Settled.{clocks_where};
-ghost use Rattle.bench_core.specs.inner.Told.{both_marked, joined_of, row_told, told_clock, IsMostSteps};
+ghost use Rattle.bench_core.specs.Settled.{clocks_where, row_from, told_clock};
+ghost use Rattle.bench_core.specs.inner.Told.{both_marked, joined_of, IsMostSteps};
 
 use crate::limits::CLOCKS_DIFFER;
 use crate::node::NodeSlot;
@@ -74,7 +74,7 @@ pub(crate) fn tell(
     requires memory { All (λ x. 4 ≤ length x.memory) nodes.now }
     requires small { All (λ c. c < MOST_MODULUS)
         (clocks_where modulus (both_marked room.settled.items nodes.now) nodes.now) }
-    ensures row { result.row ≡ row_told modulus pulse (both_marked room.settled.items nodes.now) nodes.now }
+    ensures row { result.row ≡ row_from modulus pulse (both_marked room.settled.items nodes.now) nodes.now }
     ensures clocks { result.clocks ≡ map told_clock nodes.now }
     ensures settled { result.settled ≡ both_marked room.settled.items nodes.now }
     ensures steps { IsMostSteps dones.now result.steps }
@@ -138,7 +138,7 @@ fn row_told(modulus: u32, pulse: u32, settled: &[bool], nodes: &[NodeSlot]) -> R
     requires few { length settled.now ≤ MOST_COUNTED }
     requires room { All (λ x. 4 ≤ length x.memory) nodes.now }
     requires small { All (λ c. c < MOST_MODULUS) (clocks_where modulus settled.now nodes.now) }
-    ensures { result ≡ row_told modulus pulse settled.now nodes.now }
+    ensures { result ≡ row_from modulus pulse settled.now nodes.now }
 {
     let mut common = 0;
     let mut zeros = 0;

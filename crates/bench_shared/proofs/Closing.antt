@@ -1,21 +1,22 @@
 -- What a close of the locked bench tells of the shared one.
-use Rattle.std.proofs.Common.{◌≡◌, ℕ, ◌-◌, List, [], ◌∷◌, ◌++◌, length, Some, None, refl, sym, ap, ◌∙◌, subst, arith, length-append}
+use Rattle.std.proofs.Common.{◌≡◌, ℕ, ◌-◌, List, [], ◌∷◌, ◌++◌, length, Some, None, All, refl, sym, ap, ◌∙◌, subst, arith, length-append}
 use Rattle.std.specs.Prelude.{Option, slice_get}
 use Rattle.bench_core.specs.Setup.{Setup}
 use Rattle.bench_core.specs.Settled.{PulseTold, IsRecord}
-use Rattle.bench_core.specs.Replay.{Advances, BenchValue, Staged, Opened, Closed, Abandoned, Replays}
+use Rattle.bench_core.specs.Replay.{Advances, BenchValue, Staged, Opened, Closed, Abandoned, Replays, StagesAccepted}
 use Rattle.bench_shared.specs.Passes.{Placed, OneMore}
 use Rattle.bench_shared.specs.Told.{OpenedLast, TellsClose}
 
 pub tells_close : (s : Setup) (old new : BenchValue) (coins : List ℕ) (told : PulseTold) → old.setup ≡ s
-    → Replays old.setup old.history old.state → old.state.coins ≡ Some coins → Advances old (Closed told.row) new
+    → Replays old.setup old.history old.state → All StagesAccepted old.history → old.state.coins ≡ Some coins → Advances old (Closed told.row) new
     → IsRecord old.setup old.state new.state told → TellsClose s coins told
-tells_close s old new coins told same replays now step tells =
+tells_close s old new coins told same replays accepted now step tells =
     subst (λ (t : Setup). TellsClose t coins told) same record {
       history = old.history;
       before = old.state;
       after = new.state;
       replays = replays;
+      accepted = accepted;
       is_open = now;
       pulse = step.step.0;
       tells = tells;

@@ -1,12 +1,12 @@
 -- What a shared bench is made for, and why its calls are refused.
-use Rattle.std.specs.Prelude.{◌≡◌, ℕ, List, Some}
+use Rattle.std.specs.Prelude.{◌≡◌, ℕ, List, Some, All}
 use Rattle.bench_core.specs.declared.refusal.StageError.{StageError}
 use Rattle.bench_core.specs.declared.refusal.StageError.TheVariants as stage
 use Rattle.bench_core.specs.declared.refusal.OpenError.{OpenError}
 use Rattle.bench_core.specs.declared.refusal.OpenError.TheVariants as opening
 use Rattle.bench_core.specs.Setup.{Setup}
 use Rattle.bench_core.specs.State.{Change, IsChange, AreCoins}
-use Rattle.bench_core.specs.Replay.{BenchValue, Replays}
+use Rattle.bench_core.specs.Replay.{BenchValue, Replays, StagesAccepted}
 use Rattle.bench_core.specs.Refusals.{IsMisfit}
 use Rattle.bench_core.specs.Tasks.{Task, tasks_of}
 
@@ -33,5 +33,6 @@ pub record HandsOut (s : Setup) (coins : List ℕ) (tasks : List Task) : Type 0 
   pub bench : BenchValue
   pub setup : bench.setup ≡ s
   pub replays : Replays bench.setup bench.history bench.state
+  pub accepted : All StagesAccepted bench.history
   pub is_open : bench.state.coins ≡ Some coins
   pub handed : tasks ≡ tasks_of bench

@@ -1,10 +1,10 @@
 -- What a close of a shared bench tells: no clause can name the bench behind the lock, but each can say that there is one.
-use Rattle.std.specs.Prelude.{◌≡◌, ℕ, ◌+◌, ◌-◌, ◌*◌, ◌<◌, not, IsTrue, List, Some, count_by, length, slice_get}
+use Rattle.std.specs.Prelude.{◌≡◌, ℕ, ◌+◌, ◌-◌, ◌*◌, ◌<◌, not, IsTrue, List, Some, count_by, length, slice_get, All}
 use Rattle.bench_core.specs.Setup.{Setup, HasRuleClock}
 use Rattle.bench_core.specs.State.{State}
 use Rattle.bench_core.specs.Pulse.{Pulse}
 use Rattle.bench_core.specs.Settled.{PulseTold, IsRecord}
-use Rattle.bench_core.specs.Replay.{Entry, Opened, Replays}
+use Rattle.bench_core.specs.Replay.{Entry, Opened, Replays, StagesAccepted}
 use Rattle.bench_shared.specs.Passes.{Placed}
 
 -- the last of these receipts is for the opening of a pulse with these coins
@@ -17,6 +17,7 @@ pub record TellsClose (s : Setup) (coins : List ℕ) (told : PulseTold) : Type 0
   pub before : State
   pub after : State
   pub replays : Replays s history before
+  pub accepted : All StagesAccepted history
   pub is_open : before.coins ≡ Some coins
   pub pulse : Pulse s before after
   pub tells : IsRecord s before after told

@@ -1,7 +1,7 @@
 //! What lies under the lock.
-ghost use Rattle.std.specs.Prelude.{◌≡◌, ◌+◌, ◌<◌, ℕ, List, [], length, map, IfOk, IfErr, IsTrue, OnOk, OnErr, Some};
+ghost use Rattle.std.specs.Prelude.{◌≡◌, ◌+◌, ◌<◌, ℕ, List, [], length, map, All, IfOk, IfErr, IsTrue, OnOk, OnErr, Some};
 ghost use Rattle.bench_core.specs.Settled.{IsRow, IsRecord};
-ghost use Rattle.bench_core.specs.Replay.{Advances, Staged, Opened, Closed, Abandoned, Replays, rows_of};
+ghost use Rattle.bench_core.specs.Replay.{Advances, Staged, Opened, Closed, Abandoned, Replays, StagesAccepted, rows_of};
 ghost use Rattle.bench_core.specs.Refusals.{IsStageRefusal, IsOpenRefusal};
 ghost use Rattle.bench_core.specs.Setup.{IsSetup};
 ghost use Rattle.bench_core.specs.Tasks.{tasks_of};
@@ -95,6 +95,7 @@ impl<B: Ledger, C: Ledger> Round<B, C> {
     pub(crate) fn into_history(self) -> Vec<Entry>
         ensures entries { map entry_of result.items ≡ self.bench.history }
         ensures replays { Replays self.bench.setup self.bench.history self.bench.state }
+        ensures accepted { All StagesAccepted self.bench.history }
         ensures setup { IsSetup self.bench.setup }
     {
         let Round { bench, .. } = self;
@@ -165,6 +166,7 @@ impl<B: Ledger, C: Ledger> Round<B, C> {
         ensures told { IfOk result (λ r. IsRecord self.old.bench.setup self.old.bench.state self.new.bench.state r.1) }
         ensures agrees { IfOk result (λ r. TellsAgreement self.old.bench.setup r.1) }
         ensures replays { Replays self.old.bench.setup self.old.bench.history self.old.bench.state }
+        ensures accepted { All StagesAccepted self.old.bench.history }
         ensures pulse { IfOk result (λ r. r.1.row.pulse ≡ closes.old.amount + 1) }
         ensures ranges { IfOk result (λ r. IsRow r.1.row) }
         ensures counted { OnOk result (share.new.amount ≡ share.old.amount + 1) }

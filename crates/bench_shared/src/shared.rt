@@ -3,7 +3,7 @@ ghost use Rattle.std.specs.Prelude.{◌≡◌, ◌+◌, ◌<◌, ◌≤◌, ℕ,
 ghost use Rattle.std.specs.List.{sum_by};
 ghost use Rattle.bench_core.specs.declared.actor.Actor.TheVariants.{Loader, Engine};
 ghost use Rattle.bench_core.specs.State.{Load, Unload, Corrupt, IsChange, AreCoins};
-ghost use Rattle.bench_core.specs.Replay.{Staged, Opened, Closed, Abandoned, rows_of};
+ghost use Rattle.bench_core.specs.Replay.{Staged, Opened, Closed, Abandoned, StagesAccepted, rows_of};
 ghost use Rattle.bench_core.specs.Views.{change_of, setup_of, setup_with};
 ghost use Rattle.bench_shared.specs.Passes.{AreNew, OneMore};
 ghost use Rattle.bench_shared.specs.Ends.{placed_by, EachOnce, HasReplay};
@@ -408,6 +408,7 @@ impl<B: Ledger, C: Ledger> SharedBench<B, C> {
             length history ≡ length engine.receipts + sum_by (λ p. length p.receipts) loaders.items) }
         ensures posted { IfOk result (λ history. rows_of history ≡ engine.posted) }
         ensures replays { IfOk result (HasReplay self.setup) }
+        ensures accepted { IfOk result (All StagesAccepted) }
         ensures handed_back { IfErr result (λ r. r.0 ≡ self) }
         ensures engine_back { IfErr result (λ r. r.1 ≡ engine) }
         ensures loaders_back { IfErr result (λ r. r.2 ≡ loaders) }

@@ -1,6 +1,7 @@
 //! The engine beside the loaders, on one bench.
 
-ghost use Rattle.std.specs.Prelude.{◌≡◌, ◌+◌, ◌≤◌, None, IfOk, IsTrue, vec_len, Contains};
+ghost use Rattle.std.specs.Prelude.{◌≡◌, ◌+◌, ◌≤◌, None, All, IfOk, IsTrue, vec_len, Contains};
+ghost use Rattle.bench_core.specs.Replay.{StagesAccepted};
 ghost use Rattle.bench_shared.specs.Ends.{HasReplay};
 ghost use Rattle.bench_shared.specs.declared.shared.TheConstants.{MOST_LOADERS};
 ghost use Rattle.bench_engine.specs.declared.tasks.TheConstants.{MOST_WORKERS};
@@ -197,6 +198,7 @@ fn hands<B: Ledger + Send + Sync, C: Ledger + Send + Sync, R: Threads + Wait + S
     requires loaders { (1 ≤ options.loaders) × (options.loaders ≤ MOST_LOADERS) }
     requires workers { (1 ≤ options.workers) × (options.workers ≤ MOST_WORKERS) }
     ensures replays { IfOk result (HasReplay stressed_setup) }
+    ensures accepted { IfOk result (All StagesAccepted) }
     ensures entries { IfOk result (HasEntries options.loaders options.loads options.pulses) }
 {
     let (shape, rule) = setup();
@@ -231,6 +233,7 @@ pub fn stress_bench<R: Threads + Wait + Sync>(
     options: StressOptions,
 ) -> Result<Finished, Stop>
     ensures replays { IfOk result (HasReplay stressed_setup) }
+    ensures accepted { IfOk result (All StagesAccepted) }
     ensures entries { IfOk result (HasEntries (nearest options.loaders) options.loads options.pulses) }
 {
     let loaders = options.loaders.clamp(1, MOST_LOADERS);

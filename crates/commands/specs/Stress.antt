@@ -1,7 +1,7 @@
 -- What `stress` leaves on its output (docs/COMMANDS.md, "What stress prints").
-use Rattle.std.specs.Prelude.{ℕ, List, length, ◌++◌, codes, count_by, Option, Result}
+use Rattle.std.specs.Prelude.{ℕ, List, All, length, ◌++◌, codes, count_by, Option, Result}
 use Rattle.std.specs.Fmt.{decimal}
-use Rattle.bench_core.specs.Replay.{Entry}
+use Rattle.bench_core.specs.Replay.{Entry, StagesAccepted}
 use Rattle.bench_shared.specs.Ends.{HasReplay, is_load, is_close}
 use Rattle.bench_stress.specs.declared.hands.StressOptions.{StressOptions}
 use Rattle.bench_stress.specs.Stressed.{HasEntries, nearest, stressed_setup}
@@ -15,10 +15,12 @@ pub data Stressed : Type 0 where
   Replayed : (history : List Entry) → Stressed
   Mismatch : Stressed
 
--- a history that is told leads a new bench to some state, and has the entries that are asked for
+-- a history that is told leads a new bench to some state, loads accepted programs alone, and has the entries that are
+-- asked for
 abbrev pub IsStressed : StressOptions → Stressed → Type 0
 IsStressed asked (Replayed history) =
-    HasReplay stressed_setup history × HasEntries (nearest asked.loaders) asked.loads asked.pulses history
+    HasReplay stressed_setup history × All StagesAccepted history
+    × HasEntries (nearest asked.loaders) asked.loads asked.pulses history
 IsStressed asked Mismatch = Unit {0}
 
 -- the loads that were staged, the pulses that were closed, and the entries of the history

@@ -1,10 +1,10 @@
 -- A bench's fields, as contracts see them, and what is true of them.
-use Rattle.std.specs.Prelude.{◌≡◌, ◌≤◌, map, drop, length, option_map, vec_capacity, IsSome}
+use Rattle.std.specs.Prelude.{◌≡◌, ◌≤◌, All, map, drop, length, option_map, vec_capacity, IsSome}
 use Rattle.bench_core.specs.declared.limits.TheConstants.{MOST_ENTRIES}
 use Rattle.bench_core.specs.declared.bench.Bench.TheInside.{Inside}
 use Rattle.bench_core.specs.Setup.{IsSetup}
 use Rattle.bench_core.specs.inner.Nodes.{KnowsClock}
-use Rattle.bench_core.specs.Replay.{Replays, BenchValue, openings, places_of}
+use Rattle.bench_core.specs.Replay.{Replays, StagesAccepted, BenchValue, openings, places_of}
 use Rattle.bench_core.specs.inner.Replay.{staged_of}
 use Rattle.bench_core.specs.Views.{setup_with, entry_of}
 
@@ -23,6 +23,7 @@ view_of b = record {
 
 pub record IsKept (b : Inside) : Type 0 where
   pub replays : Replays (view_of b).setup (view_of b).history (view_of b).state
+  pub accepted : All StagesAccepted (view_of b).history
   pub setup : IsSetup (view_of b).setup
   pub same : b.rule.nodes ≡ b.shape.nodes
   pub flags : KnowsClock b.clock b.nodes.items b.flags.items

@@ -1,31 +1,14 @@
 -- What the code tells of a closed pulse, one node after the other.
-use Rattle.std.specs.Prelude.{◌≡◌, ◌⊎◌, ℕ, ◌≤◌, ◌==◌, ◌&&◌, ◌||◌, Bool, not, if◌then◌else◌, Option, Some, None, List, [], ◌∷◌, filter, count_by, All, Contains}
-use Rattle.clock_nodes.specs.Rule.{clock_of}
+use Rattle.std.specs.Prelude.{◌≡◌, ◌⊎◌, ℕ, ◌≤◌, ◌==◌, ◌&&◌, ◌||◌, Bool, if◌then◌else◌, List, [], ◌∷◌, All, Contains}
 use Rattle.bench_core.specs.declared.limits.TheConstants.{CLOCKS_DIFFER}
 use Rattle.bench_core.specs.State.{Node}
-use Rattle.bench_core.specs.Settled.{Row, clocks_where, common_of}
 use Rattle.bench_core.specs.Tasks.{Done}
 
--- of marks before, and nodes after: which nodes have both
+-- which nodes are settled (`settled_flags`), of the marks before and the nodes after
 abbrev pub both_marked : List Bool → List Node → List Bool
 both_marked [] nodes = []
 both_marked (x ∷ marks) [] = []
 both_marked (x ∷ marks) (y ∷ nodes) = (x && y.mark) ∷ both_marked marks nodes
-
--- the four bytes of a node that ran the clock program
-abbrev pub told_clock : Node → Option ℕ
-told_clock x = if x.mark then Some (clock_of x.memory) else None
-
--- the row of settled nodes
-abbrev pub row_told : ℕ → ℕ → List Bool → List Node → Row
-row_told m pulse settled nodes =
-    let clocks = clocks_where m settled nodes in
-    record {
-      pulse = pulse;
-      common = common_of (filter (λ c. not (c == 0)) clocks);
-      zeros = count_by (λ c. c == 0) clocks;
-      settled = count_by (λ x. x) settled;
-    }
 
 -- the common clock so far, 0 before the first, and one clock more
 abbrev pub joined_of : ℕ → ℕ → ℕ

@@ -77,7 +77,7 @@ invariant_of-self-in-Ok c =
     let longer = length_push b.history.items c.add.new.history.items (Opened next.entry_coins) is in
     let ok : vec_len c.reserve.new.self + 2 ≤ vec_capacity c.reserve.new.self = search rules in
     let places = places_seen b' in
-    kept_step b b' (OpenedValue c.args.coins.now) kept advances kept.same c.in-Ok.ensures.flags kept.spare
+    kept_step b b' (OpenedValue c.args.coins.now) kept tt advances kept.same c.in-Ok.ensures.flags kept.spare
     (omega arith) (λ h. omega arith) (omega (arith, at_end))
     (omega (arith, longer, places))
     (omega (arith, longer, places, c.add.ensures.capacity, c.reserve.ensures.len, ok))
