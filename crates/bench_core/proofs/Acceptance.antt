@@ -1,5 +1,5 @@
 -- Where each program that a history loads is accepted, so is each that a node has.
-use Rattle.std.proofs.Common.{◌≡◌, ℕ, ◌<◌, List, [], ◌∷◌, length, replicate, Option, None, Some, IfSome, All, sym, ap, ◌∙◌, subst, arith, inl, inr}
+use Rattle.std.proofs.Common.{◌≡◌, ℕ, ◌<◌, List, [], ◌∷◌, length, Option, Some, IfSome, All, sym, subst, arith, inl, inr}
 use Rattle.std.proofs.lemmas.Bool.{cases_lt}
 use Rattle.std.proofs.lemmas.List.{get_or_past}
 use Rattle.std.proofs.lemmas.List.Elements.{All-nil, All-head, All-tail, All-push, All-set, All-replicate, All-get_or, All-from_get_or}
@@ -55,7 +55,8 @@ accepted_pulse s b b' p has = record {
 accepted_step : (s : Setup) (b : State) (e : Entry) (b' : State) → StagesAccepted e → HasAccepted b → Step s b e b'
     → HasAccepted b'
 accepted_step s b (Staged actor change) b' is has h =
-    subst HasAccepted (sym h.1) (record { nodes = has.nodes; staged = All-push LoadsAccepted b.staged change has.staged is })
+    subst HasAccepted (sym h.1)
+    (record { nodes = has.nodes; staged = All-push LoadsAccepted b.staged change has.staged is })
 accepted_step s b (Opened coins) b' is has h =
     subst HasAccepted (sym h.2)
     (record { nodes = accepted_all b.staged b.nodes has.staged has.nodes; staged = All-nil LoadsAccepted })
@@ -76,4 +77,5 @@ accepted_replay s history b are h = accepted_run s (new_state s) history b are (
 
 pub program_is : (b : State) (i : ℕ) (p : Accepted) → HasAccepted b → (node_at b.nodes i).program ≡ Some p
     → IsVerified p
-program_is b i p has loaded = subst (λ (o : Option Accepted). IfSome o IsVerified) loaded (accepted_at b.nodes i has.nodes)
+program_is b i p has loaded =
+    subst (λ (o : Option Accepted). IfSome o IsVerified) loaded (accepted_at b.nodes i has.nodes)

@@ -1,9 +1,7 @@
--- What a complete run of any instructions leaves, accepted or not: a memory of the shape's length, bytes, and numbers of
--- 32 bits sent to the shape's nodes.
-use Rattle.std.proofs.Common.{◌≡◌, ℕ, zero, suc, ◌/◌, ◌%◌, ◌^◌, ◌<◌, Bool, true, false, List, length, Option, Some, None, Result, Ok, IfOk, All, nat_lt, ℤ, if◌then◌else◌, slice_set, sym, ◌∙◌, subst, arith, length-set}
+-- What a complete run of any instructions leaves, accepted or not: a memory of the shape's length, bytes, and numbers
+-- of 32 bits sent to the shape's nodes.
+use Rattle.std.proofs.Common.{◌≡◌, ℕ, zero, suc, ◌/◌, ◌%◌, ◌^◌, ◌<◌, Bool, true, false, List, length, Option, Some, None, IfOk, All, nat_lt, ℤ, if◌then◌else◌, slice_set, sym, ◌∙◌, subst, arith, length-set}
 use Rattle.std.specs.Int.{w64, cast_unsigned}
-use Rattle.std.specs.Ordering.{nat_cmp}
-use Rattle.std.specs.FinMap.{FinMap}
 use Rattle.std.proofs.lemmas.Bool.{ltb-true}
 use Rattle.std.proofs.lemmas.Result.{IfOk-at_ok}
 use Rattle.std.proofs.lemmas.List.Elements.{All-set}
@@ -26,7 +24,7 @@ use Rattle.bpf_machine.specs.declared.word.Word.{Word}
 use Rattle.bpf_machine.specs.declared.word.Word.TheVariants.{Num, Ptr}
 use Rattle.bpf_machine.specs.declared.word.TrapKind.TheVariants.{BadHelper, BadArgument}
 use Rattle.bpf_machine.specs.Machine.{MachineState, Phase, Running, Ended, entry}
-use Rattle.bpf_machine.specs.Step.{needed, word_of, place, Bytes, bytes_of, with_number, stored, store, keep, store_word, store_register, store_immediate, Calls, calls_of, below, call_helper, call, alu, change, load, load_extended, load_immediate, next_slot, effect, advance, result_of_exit, going_on, ended_by, execute_at, step}
+use Rattle.bpf_machine.specs.Step.{needed, word_of, place, Bytes, bytes_of, with_number, stored, store, keep, store_word, store_register, store_immediate, Calls, calls_of, below, call_helper, call, alu, change, load, load_extended, load_immediate, next_slot, effect, advance, result_of_exit, going_on, ended_by, execute_at}
 use Rattle.bpf_machine.specs.Run.{Steps, Leads, End, CompleteRun}
 use Rattle.bpf_machine.specs.Sound.{IsSoundEnd}
 use Rattle.bpf_machine.proofs.SoundParts.{then_ok, after_any, tested_ok, AreBytes}

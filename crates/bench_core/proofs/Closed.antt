@@ -230,7 +230,8 @@ closed_advances b b' row kept pulse tells is shape rule clock closed from over =
           staged = stays;
           over = shut;
         },
-        tells ∙ ap (λ (n : ℕ). row_from b.rule.modulus n (settled_flags b.nodes.items b'.nodes.items) b'.nodes.items) (sym closed),
+        tells ∙ ap (λ (n : ℕ). row_from b.rule.modulus n (settled_flags b.nodes.items b'.nodes.items)
+            b'.nodes.items) (sym closed),
       );
     }
 
@@ -299,8 +300,8 @@ pub closes_nodes : (b : Inside) (coins : Vec ℕ Global) (xs : List Node) (cs : 
     (flags : List Bool) (ran dones : List Done) (found : List Found) (nodes : List Node)
     (mail : List (FinMap nat_cmp ℕ)) (count : ℕ) → IsKept b → b.coins ≡ Some coins
     → (xs ≡ b.nodes.items) × (cs ≡ coins.items) × (ds ≡ dones)
-    → ((i : ℕ) → IsFound (IsHanded (view_of b).setup xs b.mail cs (b.opened - 1)) ds i (found_at found i)) × All IsEnd ds
-    × IsExact (IsHanded (view_of b).setup xs b.mail cs (b.opened - 1)) xs ds
+    → ((i : ℕ) → IsFound (IsHanded (view_of b).setup xs b.mail cs (b.opened - 1)) ds i (found_at found i))
+    × All IsEnd ds × IsExact (IsHanded (view_of b).setup xs b.mail cs (b.opened - 1)) xs ds
     → (old ≡ b.nodes.items) × (flags ≡ b.flags.items) × (ran ≡ dones) × (count ≡ b.shape.nodes)
     → (length nodes ≡ length old) × (length mail ≡ count) × AreLeft ran flags old found nodes mail count
     → ClosesNodes b coins dones found nodes mail
@@ -309,14 +310,14 @@ closes_nodes b coins xs cs ds old flags ran dones found nodes mail count kept is
     let sorted = sorted_at (view_of b).setup xs b.nodes.items b.mail cs coins.items (b.opened - 1) ds dones found own.0
     own.1 own.2 results.0 results.1 results.2 in
     let same : length nodes ≡ length b.nodes.items = left.0 ∙ ap length own'.0 in
-    let each = left_at ran dones flags b.flags.items old b.nodes.items found nodes mail count b.shape.nodes own'.2 own'.1
-    own'.0 own'.3 left.2 in
+    let each = left_at ran dones flags b.flags.items old b.nodes.items found nodes mail count b.shape.nodes own'.2
+    own'.1 own'.0 own'.3 left.2 in
     record {
       sorted = sorted;
       count = same ∙ whole;
       items = with_items_is b.nodes nodes (same ∙ sym b.nodes.ok.0);
-      pulse = pulse_closed (view_of b).setup (view_of b).state coins.items (b.opened - 1) dones b.flags.items found nodes
-          mail (ap (λ (o : Option (Vec ℕ Global)). option_map (λ v. v.items) o) is) sorted kept.flags same
+      pulse = pulse_closed (view_of b).setup (view_of b).state coins.items (b.opened - 1) dones b.flags.items found
+          nodes mail (ap (λ (o : Option (Vec ℕ Global)). option_map (λ v. v.items) o) is) sorted kept.flags same
           (left.1 ∙ (own'.3 ∙ sym whole)) (λ i lt. each i (omega (arith, lt, whole)));
     }
 

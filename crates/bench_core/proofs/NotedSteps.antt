@@ -1,11 +1,11 @@
 -- The steps of results are noted one after the other.
-use Rattle.std.proofs.Common.{◌≡◌, ◌≢◌, ℕ, ◌+◌, ◌<◌, List, [], ◌∷◌, ◌++◌, length, get_or, take, replicate, slice_set, inl, inr, refl, sym, ap, subst, ◌∙◌, arith}
+use Rattle.std.proofs.Common.{◌≡◌, ◌≢◌, ℕ, ◌+◌, ◌<◌, List, [], ◌∷◌, ◌++◌, length, get_or, take, replicate, slice_set, inl, inr, sym, ap, subst, ◌∙◌, arith}
 use Rattle.std.specs.Prelude.{All, Contains}
 use Rattle.std.proofs.lemmas.Bool.{cases_eq}
 use Rattle.std.proofs.lemmas.List.{get_or-set_same, get_or-set_other, get_or-replicate, take_all}
 use Rattle.std.proofs.lemmas.List.Elements.{All-nil, All-push}
 use Rattle.bench_core.specs.Tasks.{Done, IsEnd}
-use Rattle.bench_core.specs.inner.Steps.{Took, TookIn, TookAt}
+use Rattle.bench_core.specs.inner.Steps.{TookIn, TookAt}
 
 -- of no result nothing is noted
 pub took_none : (dones : List Done) (nodes i : ℕ) → i < nodes → TookIn dones 0 i (get_or (replicate nodes 0) i 0)

@@ -8,7 +8,7 @@ use Rattle.bench_core.specs.declared.bench.Bench.TheInside.{Inside}
 use Rattle.bench_core.specs.declared.entry.Entry.{Entry}
 use Rattle.bench_core.specs.declared.entry.Entry.TheVariants.{Opened}
 use Rattle.bench_core.specs.Setup.{Setup}
-use Rattle.bench_core.specs.State.{State, Change, Load, Unload, Corrupt, no_node, node_of, node_at, all_applied, opened_state, IsChange, AreCoins}
+use Rattle.bench_core.specs.State.{State, Change, Load, Unload, Corrupt, no_node, node_of, all_applied, opened_state, IsChange, AreCoins}
 use Rattle.bench_core.specs.Replay.{Entry as EntryValue, Staged, Opened as OpenedValue, Closed, Abandoned, BenchValue, Advances, openings}
 use Rattle.bench_core.specs.inner.Replay.{staged_of}
 use Rattle.bench_core.specs.Tasks.{tasks_of, tasks_from}

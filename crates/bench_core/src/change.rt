@@ -41,7 +41,7 @@ impl Change {
     {
         match self {
             Change::Load { node: _, program } => {
-                let _program = program.program();
+                let _program = program.program(); // brings its acceptance
             }
             Change::Unload { .. } | Change::Corrupt { .. } => {}
         }

@@ -29,7 +29,7 @@ pub fn steps_by_node(
     ensures { IfOk result (λ steps. AreSteps bench.now.setup bench.now.state
         (unwrap_or bench.now.state.coins []) steps.items) }
 {
-    let _history = bench.history();
+    let _history = bench.history(); // brings its replay
     let nodes = bench.shape().nodes();
     let mut steps = vec![in alloc; 0; nodes as usize]?;
     for done in dones {

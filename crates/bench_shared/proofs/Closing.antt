@@ -8,7 +8,8 @@ use Rattle.bench_shared.specs.Passes.{Placed, OneMore}
 use Rattle.bench_shared.specs.Told.{OpenedLast, TellsClose}
 
 pub tells_close : (s : Setup) (old new : BenchValue) (coins : List ℕ) (told : PulseTold) → old.setup ≡ s
-    → Replays old.setup old.history old.state → All StagesAccepted old.history → old.state.coins ≡ Some coins → Advances old (Closed told.row) new
+    → Replays old.setup old.history old.state → All StagesAccepted old.history → old.state.coins ≡ Some coins
+    → Advances old (Closed told.row) new
     → IsRecord old.setup old.state new.state told → TellsClose s coins told
 tells_close s old new coins told same replays accepted now step tells =
     subst (λ (t : Setup). TellsClose t coins told) same record {

@@ -1,7 +1,9 @@
 //! What lies under the lock.
-ghost use Rattle.std.specs.Prelude.{◌≡◌, ◌+◌, ◌<◌, ℕ, List, [], length, map, All, IfOk, IfErr, IsTrue, OnOk, OnErr, Some};
+ghost use Rattle.std.specs.Prelude.{◌≡◌, ◌+◌, ◌<◌, ℕ, List, [], length, map, All, IfOk, IfErr};
+ghost use Rattle.std.specs.Prelude.{IsTrue, OnOk, OnErr, Some};
 ghost use Rattle.bench_core.specs.Settled.{IsRow, IsRecord};
-ghost use Rattle.bench_core.specs.Replay.{Advances, Staged, Opened, Closed, Abandoned, Replays, StagesAccepted, rows_of};
+ghost use Rattle.bench_core.specs.Replay.{Advances, Staged, Opened, Closed, Abandoned, rows_of};
+ghost use Rattle.bench_core.specs.Replay.{Replays, StagesAccepted};
 ghost use Rattle.bench_core.specs.Refusals.{IsStageRefusal, IsOpenRefusal};
 ghost use Rattle.bench_core.specs.Setup.{IsSetup};
 ghost use Rattle.bench_core.specs.Tasks.{tasks_of};
@@ -144,7 +146,7 @@ impl<B: Ledger, C: Ledger> Round<B, C> {
     {
         let place = self.bench.history().len();
         let tasks = self.bench.open_pulse(alloc, coins)?;
-        let _history = self.bench.history();
+        let _history = self.bench.history(); // brings its replay
         self.entries.add(share, 1);
         Ok((place, tasks))
     }

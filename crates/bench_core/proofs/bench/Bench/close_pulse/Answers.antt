@@ -23,7 +23,7 @@ use Rattle.bench_core.proofs.Replays.{rows_count}
 use Rattle.bench_core.proofs.Agreement.{agreement}
 use Rattle.bench_core.proofs.WholeRuns.{whole_run}
 use Rattle.bench_core.proofs.Opening.{sound_of, accepted_of, all_fit}
-use Rattle.bench_core.proofs.Closed.{knows_after, steps_told, small_clocks, enough_memory, few_pulses, is_record, closed_advances, sorted_at, coins_of, all_fit_nodes, left_at, ClosesNodes, closes_nodes, refuses_at}
+use Rattle.bench_core.proofs.Closed.{knows_after, steps_told, small_clocks, enough_memory, few_pulses, is_record, closed_advances, sorted_at, coins_of, all_fit_nodes, ClosesNodes, closes_nodes, refuses_at}
 use Rattle.bench_core.proofs.bench.Bench.close_pulse.Goals as goal
 
 pub sort_results-requires : goal.sort_results-requires
