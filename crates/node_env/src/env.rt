@@ -6,7 +6,7 @@ ghost use Rattle.node_env.specs.inner.Slots.{IsWord, numbers_of};
 
 use crate::mail::Mail;
 use crate::shape::Shape;
-use crate::word::slot_in;
+use crate::word::number_in;
 use std::alloc::{AllocError, Global};
 use std::marker::Model;
 
@@ -22,17 +22,20 @@ enum Inbox {
 }
 
 impl Inbox {
+    ghost use Rattle.std.specs.Prelude.{unwrap_or};
     ghost use Rattle.std.specs.FinMap.{get};
     ghost use Rattle.node_env.specs.inner.Env.{mail_in, slot_count};
 
+    /// The mail from a node, or `NO_MAIL`.
+    #[inline(always)]
     #[tactic(auto, using(crate::proofs::Slots::slots, crate::proofs::Rows::words))]
-    fn slot(&self, sender: u32) -> Option<u32>
+    fn recv(&self, sender: u32) -> u32
         requires { sender < slot_count self.now }
-        ensures { result ≡ get (mail_in self.now) sender }
+        ensures { result ≡ unwrap_or (get (mail_in self.now) sender) NO_MAIL }
     {
         match self {
-            Inbox::Slots(slots) => slots[sender as usize],
-            Inbox::Words(words) => slot_in(words[sender as usize]),
+            Inbox::Slots(slots) => slots[sender as usize].unwrap_or(NO_MAIL),
+            Inbox::Words(words) => number_in(words[sender as usize]),
         }
     }
 }
@@ -143,7 +146,7 @@ impl Env {
         requires { sender < self.now.shape.nodes }
         ensures { result ≡ received self.now sender }
     {
-        self.inbox.slot(sender).unwrap_or(NO_MAIL)
+        self.inbox.recv(sender)
     }
 
     /// 0 or 1, the same at each call.

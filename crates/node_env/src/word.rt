@@ -1,6 +1,9 @@
 //! Words of 64 bits that stand for slots: a number of 32 bits, or empty.
-ghost use Rattle.std.specs.Prelude.{◌≡◌};
+ghost use Rattle.std.specs.Prelude.{◌≡◌, unwrap_or};
+ghost use Rattle.node_env.specs.declared.env.TheConstants.{NO_MAIL};
 ghost use Rattle.node_env.specs.inner.Slots.{slot_of};
+
+use crate::env::NO_MAIL;
 
 /// The word of an empty slot: the least number that doesn't have 32 bits.
 pub const EMPTY: u64 = 4294967296;
@@ -14,4 +17,12 @@ pub fn slot_in(word: u64) -> Option<u32>
     } else {
         None
     }
+}
+
+/// What `recv` answers for the slot that a word stands for.
+#[inline(always)]
+pub fn number_in(word: u64) -> u32
+    ensures { result ≡ unwrap_or (slot_of word) NO_MAIL }
+{
+    word.min(u64::from(NO_MAIL)) as u32
 }
