@@ -1,9 +1,10 @@
 //! What `explore` answers to the scenario that it read, and the line that says it.
 ghost use Rattle.std.specs.Prelude.{◌≡◌, ◌++◌, IfOk, OnOk, Some, string_bytes};
-ghost use Rattle.commands.specs.Explore.{mail_text, nodes_text, span_text, spans_text, tried_text, unfit_name};
+ghost use Rattle.commands.specs.Explore.{mail_text, nodes_text, recovery_text, span_text, spans_text, tried_text, unfit_name};
 
 use crate::ending::Ending;
 use crate::request::MailSpan;
+use bench_space::Recovery;
 use scenario_text::{RefusalLine, ScenarioError};
 use std::alloc::{AllocError, Global};
 use std::fmt;
@@ -36,11 +37,12 @@ pub struct Tried {
 pub enum Finding {
     Refused(ScenarioError),
     Unfit(Unfit),
-    /// No run parts the clocks, where this was tried.
+    /// No run parts the clocks, where this was tried; and how they come into step.
     Never {
         states: u64,
         moves: u64,
         tried: Tried,
+        recovery: Recovery,
     },
     /// Some clocks part in this pulse.
     Parts {
@@ -141,10 +143,26 @@ fn tried_line(alloc: Global, tried: &Tried) -> Result<String, AllocError>
     format!(in alloc; "coins 0 1, mail of nodes{mail}")
 }
 
+/// How the clocks come into step.
+fn recovery_line(alloc: Global, recovery: Recovery) -> Result<String, AllocError>
+    ensures { IfOk result (λ text. string_bytes text ≡ recovery_text recovery) }
+{
+    match recovery {
+        Recovery::InStep { pulses } => {
+            format!(in alloc; "in step at the latest after {pulses} pulses")
+        }
+        Recovery::Luck { pulses } => format!(
+            in alloc;
+            "luck needed: from each state some coins lead into step, within {pulses} pulses"
+        ),
+        Recovery::HeldOff => format!(in alloc; "a liar can hold them off for ever"),
+    }
+}
+
 impl Finding {
     ghost use Rattle.commands.specs.Explore.{finding_line, finding_text};
 
-    /// The line that says it, without its end.
+    /// The line or two that say it, without their end.
     fn line(&self, alloc: Global) -> Result<String, AllocError>
         ensures { IfOk result (λ text. string_bytes text ≡ finding_line self.now) }
     {
@@ -155,9 +173,11 @@ impl Finding {
                 states,
                 moves,
                 tried,
+                recovery,
             } => {
                 let tried = tried_line(alloc, tried)?;
-                format!(in alloc; "never parts: {states} states, {moves} moves, {tried}")
+                let recovery = recovery_line(alloc, *recovery)?;
+                format!(in alloc; "never parts: {states} states, {moves} moves, {tried}\n{recovery}")
             }
             Finding::Parts { pulse, states } => {
                 format!(in alloc; "parts in pulse {pulse} ({states} states)")
@@ -166,7 +186,7 @@ impl Finding {
         }
     }
 
-    /// The line with its end.
+    /// The same with its end.
     pub fn text(&self, alloc: Global) -> Result<String, AllocError>
         ensures { IfOk result (λ text. string_bytes text ≡ finding_text self.now) }
     {
