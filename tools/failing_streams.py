@@ -19,6 +19,15 @@ from refusals import Ran, compiled, contents, program, run
 
 FOUR = contents("examples/four_clocks.toml")
 THREE = contents("examples/three_part.toml")
+# Two clocks and a liar, who can part them: `explore` shows it by a scenario.
+PARTING = b"""nodes = 3
+faults = 1
+modulus = 8
+memory = 8
+pulses = 3
+coins = "zeros"
+load = [{pulse = 1, nodes = [0, 1], program = "clock"}]
+"""
 CHACHA = contents("examples/chacha.toml")
 LIMIT = 1 << 20
 MOST_IMAGE = 8 * 2048
@@ -98,6 +107,7 @@ def asked(clockbed):
         ("sweep --keys 7..8 --workers 1", CHACHA),
         ("run --json --workers 1", THREE),
         ("explore", FOUR),
+        ("explore", PARTING),
         ("stress", b""),
         ("--help", b""),
     ]:

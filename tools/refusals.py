@@ -253,10 +253,23 @@ def commands(library, room, kind):
         Command("run /no/such/file", b""),
         Command("sweep --keys 7..8 --workers 1", few_pulses()),
         Command("sweep --keys 7..8", four),
-        Command("explore", four),
+        Command("explore", beds(correct=1)),
+        Command("explore", beds(correct=2)),
         Command("stress --loaders 2 --loads 4 --pulses 4 --workers 2", b""),
         Command("--help", b""),
     ]
+
+
+def beds(correct):
+    """A small bed of so many clocks and one liar, whose clocks part where there are two."""
+    return f"""nodes = {correct + 1}
+faults = {correct - 1}
+modulus = 3
+memory = 8
+pulses = 3
+coins = "zeros"
+load = [{{pulse = 1, nodes = {list(range(correct))}, program = "clock"}}]
+""".encode()
 
 
 def print_row(name, counts):

@@ -1,4 +1,4 @@
-//! The list of `--mail`: numbers and ranges, with commas between.
+//! The lists of `--mail` and `--bytes`: numbers and ranges, with commas between.
 use commands::request::MailSpan;
 use std::alloc::{AllocError, Global};
 use std::collections::BTreeSet;
@@ -58,6 +58,30 @@ pub fn mail_in(alloc: Global, text: &str) -> Result<Vec<MailSpan>, MailFault> {
         }
     }
     Ok(spans_of(alloc, &numbers)?)
+}
+
+/// The bytes of a text, in rising order, each once; none where it isn't a list of bytes.
+pub fn bytes_in(alloc: Global, text: &str) -> Result<Option<Vec<u8>>, AllocError> {
+    let mut bytes = BTreeSet::new(alloc);
+    for part in text.split(',') {
+        let Ok(span) = span_in(part) else {
+            return Ok(None);
+        };
+        let (Ok(first), Ok(last)) = (u8::try_from(span.first), u8::try_from(span.last)) else {
+            return Ok(None);
+        };
+        if last < first {
+            return Ok(None);
+        }
+        for byte in first..=last {
+            bytes.insert(byte)?;
+        }
+    }
+    let mut list = Vec::new(alloc);
+    for byte in &bytes {
+        list.push(*byte)?;
+    }
+    Ok(Some(list))
 }
 
 /// A number, or a range of two.

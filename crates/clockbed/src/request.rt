@@ -3,7 +3,7 @@ ghost use Rattle.std.specs.Prelude.{IfErr};
 ghost use Rattle.commands.specs.Faults.{IsOfCommandLine};
 
 use crate::exec_words::{CaseFault, exec_options};
-use crate::mail::{MailFault, mail_in};
+use crate::mail::{MailFault, bytes_in, mail_in};
 use crate::words::{
     DEFAULT_LOADERS, DEFAULT_LOADS, DEFAULT_MEMORY, DEFAULT_NODES, DEFAULT_PULSES, DEFAULT_STATES,
     DEFAULT_WORKERS, Helps, MOST_STATES, command_line,
@@ -198,13 +198,36 @@ fn sweep_options(options: &ArgMatches<'_>) -> Option<SweepOptions> {
     })
 }
 
-fn explore_options(alloc: Global, options: &ArgMatches<'_>) -> Result<ExploreOptions, MailFault> {
+/// The bytes of memories at the start, where that may be any.
+fn start_bytes(alloc: Global, options: &ArgMatches<'_>) -> Result<Option<Vec<u8>>, OptionsFault> {
+    let start = options.get_str("start").unwrap_or("zero");
+    match (start, options.get_str("bytes")) {
+        ("zero", None) => Ok(None),
+        ("zero", Some(_)) => Err(OptionsFault::Reason("--bytes goes with --start any")),
+        ("any", None) => Err(OptionsFault::Reason("--start any needs --bytes LIST")),
+        ("any", Some(text)) => match bytes_in(alloc, text) {
+            Ok(Some(bytes)) => Ok(Some(bytes)),
+            Ok(None) => Err(OptionsFault::Reason(
+                "the bytes are a list such as 0,254..255: numbers below 256, and ranges of them that rise",
+            )),
+            Err(_) => Err(OptionsFault::Memory),
+        },
+        _ => Err(OptionsFault::Reason("--start is zero or any")),
+    }
+}
+
+fn explore_options(
+    alloc: Global,
+    options: &ArgMatches<'_>,
+) -> Result<ExploreOptions, OptionsFault> {
     let mail = match options.get_str("mail") {
         Some(text) => Some(mail_in(alloc, text)?),
         None => None,
     };
+    let bytes = start_bytes(alloc, options)?;
     Ok(ExploreOptions {
         mail,
+        bytes,
         states: options.get_one::<u32>("states").unwrap_or(DEFAULT_STATES),
         depth: options.get_one::<u32>("depth").unwrap_or(MOST_STATES),
     })

@@ -235,6 +235,16 @@ fn explore<'a>(alloc: Global, helps: &'a Helps) -> Result<Command<'a>, AllocErro
     let mail = Arg::new(alloc, "mail").long("mail").value_name("LIST").help(
         "What liars may send beside nothing: numbers below 4294967296, as 0..7,9 [default: 0 to the modulus]",
     );
+    let start = Arg::new(alloc, "start")
+        .long("start")
+        .value_name("zero|any")
+        .help("Where it begins: memories of zeros and no mail, or any of --bytes [default: zero]");
+    let bytes = Arg::new(alloc, "bytes")
+        .long("bytes")
+        .value_name("LIST")
+        .help(
+            "The first eight bytes of each memory at --start any, with any mail: numbers below 256, as 0,254..255",
+        );
     let states = count_option(alloc, "states", helps.states.as_str(), MOST_STATES);
     let depth = count_option(alloc, "depth", helps.depth.as_str(), MOST_STATES);
     Command::new(alloc, "explore")
@@ -243,6 +253,8 @@ fn explore<'a>(alloc: Global, helps: &'a Helps) -> Result<Command<'a>, AllocErro
             "Example: clockbed explore --mail 0..7 examples/three_part.toml\nPage: docs/EXPLORE.md",
         )
         .arg(mail)?
+        .arg(start)?
+        .arg(bytes)?
         .arg(states)?
         .arg(depth)?
         .arg(file(alloc))

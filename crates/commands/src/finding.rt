@@ -1,6 +1,6 @@
 //! What `explore` answers to the scenario that it read, and the line that says it.
-ghost use Rattle.std.specs.Prelude.{◌≡◌, ◌++◌, IfOk, OnOk, Some, string_bytes};
-ghost use Rattle.commands.specs.Explore.{mail_text, nodes_text, recovery_text, span_text, spans_text, tried_text, unfit_name};
+ghost use Rattle.std.specs.Prelude.{◌≡◌, ◌++◌, IfOk, OnOk, Some, option_map, string_bytes};
+ghost use Rattle.commands.specs.Explore.{mail_text, nodes_text, recovery_text, span_text, spans_text, start_text, tried_text, unfit_name};
 
 use crate::ending::Ending;
 use crate::request::MailSpan;
@@ -30,6 +30,8 @@ pub struct Tried {
     pub liars: Vec<u32>,
     /// The numbers that they send.
     pub mail: Vec<MailSpan>,
+    /// The bytes of memories at the start, where it isn't at zero.
+    pub bytes: Option<Vec<u8>>,
 }
 
 /// Why nothing is explored, or what was found.
@@ -44,10 +46,11 @@ pub enum Finding {
         tried: Tried,
         recovery: Recovery,
     },
-    /// Some clocks part in this pulse.
+    /// Some clocks part in this pulse, as the scenario of this text shows.
     Parts {
         pulse: u64,
         states: u64,
+        shown: String,
     },
     Unfinished {
         states: u64,
@@ -110,6 +113,17 @@ fn add_nodes(alloc: Global, text: &mut String, nodes: &[u32]) -> Result<(), Allo
     Ok(())
 }
 
+/// Adds the bytes, each after a blank.
+fn add_bytes(alloc: Global, text: &mut String, bytes: &[u8]) -> Result<(), AllocError>
+    ensures { OnOk result (string_bytes text.new ≡ string_bytes text.old ++ nodes_text bytes.now) }
+{
+    for byte in bytes {
+        let part = format!(in alloc; " {byte}")?;
+        text.push_str(part.as_str())?;
+    }
+    Ok(())
+}
+
 /// Adds the spans, each after a blank.
 fn add_spans(alloc: Global, text: &mut String, mail: &[MailSpan]) -> Result<(), AllocError>
     ensures { OnOk result (string_bytes text.new ≡ string_bytes text.old ++ spans_text mail.now) }
@@ -135,12 +149,27 @@ fn mail_line(alloc: Global, tried: &Tried) -> Result<String, AllocError>
     format!(in alloc; "{nodes}: none{spans}")
 }
 
-/// The coins and the mail that were tried.
+/// The bytes of memories at the start, where it isn't at zero.
+fn start_line(alloc: Global, bytes: &Option<Vec<u8>>) -> Result<String, AllocError>
+    ensures { IfOk result (λ text. string_bytes text ≡ start_text (option_map (λ v. v.items) bytes.now)) }
+{
+    match bytes {
+        None => Ok(String::new(alloc)),
+        Some(bytes) => {
+            let mut text = String::from_str(alloc, ", any start of bytes")?;
+            add_bytes(alloc, &mut text, bytes)?;
+            Ok(text)
+        }
+    }
+}
+
+/// The coins, the mail and the starts that were tried.
 fn tried_line(alloc: Global, tried: &Tried) -> Result<String, AllocError>
-    ensures { IfOk result (λ text. string_bytes text ≡ tried_text tried.now.liars.items tried.now.mail.items) }
+    ensures { IfOk result (λ text. string_bytes text ≡ tried_text tried.now) }
 {
     let mail = mail_line(alloc, tried)?;
-    format!(in alloc; "coins 0 1, mail of nodes{mail}")
+    let start = start_line(alloc, &tried.bytes)?;
+    format!(in alloc; "coins 0 1, mail of nodes{mail}{start}")
 }
 
 /// How the clocks come into step.
@@ -151,8 +180,7 @@ fn recovery_line(alloc: Global, recovery: Recovery) -> Result<String, AllocError
         Recovery::InStep { pulses } => {
             format!(in alloc; "in step at the latest after {pulses} pulses")
         }
-        Recovery::Luck { pulses } => format!(
-            in alloc;
+        Recovery::Luck { pulses } => format!(in alloc;
             "luck needed: from each state some coins lead into step, within {pulses} pulses"
         ),
         Recovery::HeldOff => format!(in alloc; "a liar can hold them off for ever"),
@@ -160,7 +188,7 @@ fn recovery_line(alloc: Global, recovery: Recovery) -> Result<String, AllocError
 }
 
 impl Finding {
-    ghost use Rattle.commands.specs.Explore.{finding_line, finding_text};
+    ghost use Rattle.commands.specs.Explore.{finding_line, finding_text, shown_of};
 
     /// The line or two that say it, without their end.
     fn line(&self, alloc: Global) -> Result<String, AllocError>
@@ -177,21 +205,35 @@ impl Finding {
             } => {
                 let tried = tried_line(alloc, tried)?;
                 let recovery = recovery_line(alloc, *recovery)?;
-                format!(in alloc; "never parts: {states} states, {moves} moves, {tried}\n{recovery}")
+                format!(in alloc;
+                    "never parts: {states} states, {moves} moves, {tried}\n{recovery}"
+                )
             }
-            Finding::Parts { pulse, states } => {
-                format!(in alloc; "parts in pulse {pulse} ({states} states)")
-            }
+            Finding::Parts { pulse, states, .. } => format!(in alloc;
+                "parts in pulse {pulse} ({states} states): a scenario that shows it follows"
+            ),
             Finding::Unfinished { states } => format!(in alloc; "not finished: {states} states"),
         }
     }
 
-    /// The same with its end.
+    /// The scenario that shows it, where there is one.
+    fn shown(&self) -> &str
+        ensures { result.now ≡ shown_of self.now }
+    {
+        match self {
+            Finding::Parts { shown, .. } => shown.as_str(),
+            Finding::Refused(_) | Finding::Unfit(_) => "",
+            Finding::Never { .. } | Finding::Unfinished { .. } => "",
+        }
+    }
+
+    /// The line or two with their end, and what follows them.
     pub fn text(&self, alloc: Global) -> Result<String, AllocError>
         ensures { IfOk result (λ text. string_bytes text ≡ finding_text self.now) }
     {
         let mut text = self.line(alloc)?;
         text.push_str("\n")?;
+        text.push_str(self.shown())?;
         Ok(text)
     }
 }

@@ -21,6 +21,7 @@ mod output;
 pub mod perform;
 pub mod request;
 mod run;
+mod shown;
 mod stress;
 mod sweep;
 mod traced;

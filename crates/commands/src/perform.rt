@@ -96,7 +96,7 @@ fn carry_out<T: Threads + Wait + Sync, R: Read, W: Write>(
         Request::Lines(options) => lines(rt, alloc, *options, reader, out),
         Request::Stress(options) => stress(rt, alloc, *options, out),
         Request::Sweep(options) => sweep(rt, alloc, *options, reader, out),
-        Request::Explore(options) => explore(alloc, options, reader, out),
+        Request::Explore(options) => explore(rt, alloc, options, reader, out),
         Request::Help { text } => write_whole(out, text.as_bytes(), Ending::Done),
     }
 }

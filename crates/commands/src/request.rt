@@ -83,6 +83,9 @@ pub struct MailSpan {
 pub struct ExploreOptions {
     /// The numbers that a liar may send: 0 to the modulus, where none are named.
     pub mail: Option<Vec<MailSpan>>,
+    /// What the first eight bytes of a memory can be at the start, with any mail; zeros and no mail, where none are
+    /// named.
+    pub bytes: Option<Vec<u8>>,
     /// The most states.
     pub states: u32,
     /// The last pulse whose moves are tried.
