@@ -1,5 +1,5 @@
 -- Beside Faults: what proofs and private contracts alone cite.
-use Rattle.std.specs.Prelude.{ℕ, ◌+◌, ◌<◌, min, List, length, take, Option, Some, None}
+use Rattle.std.specs.Prelude.{◌≡◌, ℕ, ◌+◌, ◌<◌, min, List, length, take, Option, Some, None}
 use Rattle.std.specs.Io.KnownBytes.{Appends}
 use Rattle.bench_engine.specs.declared.event.RunRefusal.{RunRefusal}
 use Rattle.bench_engine.specs.declared.event.RunRefusal.TheVariants as refusals
