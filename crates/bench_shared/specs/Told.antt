@@ -1,4 +1,5 @@
--- What a close of a shared bench tells: no clause can name the bench behind the lock, but each can say that there is one.
+-- What a close of a shared bench tells: no clause can name the bench behind the lock, but each can say that there is
+-- one.
 use Rattle.std.specs.Prelude.{◌≡◌, ℕ, ◌+◌, ◌-◌, ◌*◌, ◌<◌, not, IsTrue, List, Some, count_by, length, slice_get, All}
 use Rattle.bench_core.specs.Setup.{Setup, HasRuleClock}
 use Rattle.bench_core.specs.State.{State}
