@@ -23,7 +23,7 @@ fi
 # A repository of its own: the gate of this one is to see nothing of it.
 driver=$room/crates/bench_driver
 mkdir -p "$driver/src"
-crates=(bpf_insn node_env value_range bpf_machine bpf_asm bpf_verify bpf_run clock_nodes bench_core)
+crates=(bpf_insn node_env value_range bpf_machine bpf_asm bpf_record bpf_verify bpf_run clock_nodes bench_core)
 for crate in "${crates[@]}"; do
   rm -rf "$room/crates/$crate"/{src,specs,proofs}
   mkdir -p "$room/crates/$crate"

@@ -17,7 +17,7 @@ fi
 # A repository of its own: the gate of this one is to see nothing of it.
 driver=$room/crates/run_driver
 mkdir -p "$driver/src"
-for crate in bpf_insn node_env bpf_machine value_range bpf_verify bpf_run; do
+for crate in bpf_insn node_env bpf_machine value_range bpf_record bpf_verify bpf_run; do
   rm -rf "$room/crates/$crate"/{src,specs,proofs}
   mkdir -p "$room/crates/$crate"
   cp -R "$here/../crates/$crate"/{src,specs,proofs} "$room/crates/$crate/"
@@ -28,7 +28,7 @@ for crate in bpf_insn node_env bpf_machine value_range bpf_verify bpf_run; do
   fi
 done
 cp "$here/run_driver.rt.txt" "$driver/src/main.rt"
-grep -E '^(bpf_insn|node_env|bpf_machine|value_range|bpf_verify|bpf_run):' "$here/../crates.txt" > "$room/crates.txt"
+grep -E '^(bpf_insn|node_env|bpf_machine|value_range|bpf_record|bpf_verify|bpf_run):' "$here/../crates.txt" > "$room/crates.txt"
 echo 'run_driver: bpf_insn node_env bpf_verify bpf_run' >> "$room/crates.txt"
 cc -O2 -Wno-override-init -o "$room/in_c" "$here/run.c"
 

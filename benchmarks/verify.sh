@@ -17,7 +17,7 @@ fi
 # A repository of its own: the gate of this one is to see nothing of it.
 driver=$room/crates/verify_driver
 mkdir -p "$driver/src"
-for crate in bpf_insn node_env value_range bpf_verify; do
+for crate in bpf_insn node_env value_range bpf_record bpf_verify; do
   rm -rf "$room/crates/$crate"/{src,specs,proofs}
   mkdir -p "$room/crates/$crate"
   cp -R "$here/../crates/$crate"/{src,specs,proofs} "$room/crates/$crate/"
@@ -32,7 +32,8 @@ cat > "$room/crates.txt" <<'END'
 bpf_insn:
 node_env:
 value_range: bpf_insn
-bpf_verify: bpf_insn node_env value_range
+bpf_record: bpf_insn node_env
+bpf_verify: bpf_insn node_env value_range bpf_record
 verify_driver: bpf_insn node_env bpf_verify
 END
 cc -O2 -o "$room/in_c" "$here/verify.c"

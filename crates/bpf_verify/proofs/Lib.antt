@@ -8,5 +8,4 @@ pub mod LengthLaws
 pub mod RulesGrow
 pub mod OutcomesGrow
 pub mod VerdictLaws
-pub mod RecordLaws
 pub mod ProperLaws

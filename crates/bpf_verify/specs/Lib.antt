@@ -6,5 +6,4 @@ pub mod Paths
 pub mod Accepted
 pub mod Refusals
 pub mod Findings
-pub mod Records
 pub mod inner

@@ -2,7 +2,6 @@
 pub mod Lengths
 pub mod Marks
 pub mod Parts
-pub mod Records
 pub mod Rows
 pub mod VerifiedParts
 pub mod Walk

@@ -1,8 +1,6 @@
 //! Accepts a program before it is loaded, and tells the longest path through it (docs/VERIFIER.md).
 #![tactic(auto)]
 
-mod code;
-mod codes;
 mod findings;
 mod kind;
 mod known;
@@ -10,20 +8,17 @@ mod laws;
 mod longest;
 mod marks;
 mod outcomes;
-mod records;
 mod refusal;
 mod rule;
 mod rules;
 mod verified;
 mod walk;
 
-pub use code::Code;
 pub use findings::{Findings, Verdict, explain};
 pub use kind::Kind;
 pub use known::{Known, REGISTERS};
 pub use laws::{more_keeps_rules, one_verdict};
 pub use outcomes::alu_kind;
-pub use records::Record;
 pub use refusal::VerifyError;
 pub use rule::Rule;
 pub use rules::{

@@ -7,10 +7,10 @@ ghost use Rattle.bpf_verify.specs.Typable.{Typable};
 ghost use Rattle.bpf_verify.specs.Paths.{IsLongestPath};
 
 use crate::longest::longest;
-use crate::records::{Record, records_of};
 use crate::refusal::VerifyError;
 use crate::walk::walk;
 use bpf_insn::{Program, encode};
+use bpf_record::{Record, records_of};
 use node_env::Shape;
 use std::alloc::{AllocError, Global};
 use std::marker::Model;
@@ -113,7 +113,7 @@ impl VerifiedProgram {
     ghost use Rattle.bpf_verify.specs.Accepted.{IsVerified};
     ghost use Rattle.bpf_verify.specs.Typable.{Typable};
     ghost use Rattle.bpf_verify.specs.Paths.{IsLongestPath};
-    ghost use Rattle.bpf_verify.specs.Records.{AreRecords};
+    ghost use Rattle.bpf_record.specs.Records.{AreRecords};
 
     /// The greatest number of instructions that a run can take: that of the longest path from slot 0.
     pub fn budget(&self) -> u32

@@ -4,7 +4,7 @@ use Rattle.std.specs.Arc.{arc_value}
 use Rattle.bpf_insn.specs.Programs.{image_of}
 use Rattle.bpf_verify.specs.declared.verified.VerifiedProgram.TheInside.{Inside}
 use Rattle.bpf_verify.specs.Accepted.{Accepted}
-use Rattle.bpf_verify.specs.Records.{AreRecords}
+use Rattle.bpf_record.specs.Records.{AreRecords}
 
 abbrev pub accepted_of : Inside → Accepted
 accepted_of v = record { program = (arc_value v.shared).program; shape = v.shape; budget = v.budget }
