@@ -1,37 +1,20 @@
 -- Where the program stands that a refusal is of.
-use Rattle.std.proofs.Common.{◌≡◌, ℕ, zero, suc, ◌<◌, List, [], ◌∷◌, length, get_or, arith, refl, ap, sym, subst, ◌∙◌}
-use Rattle.std.specs.Prelude.{Option, Some, IsSomeAnd, codes}
-use Rattle.toml.specs.declared.value.Value.{Value}
-use Rattle.toml.specs.View.{items_view, view}
-use Rattle.toml.specs.Data.{Data, array, Members, get_member}
+use Rattle.std.proofs.Common.{◌≡◌, ℕ, List, sym, subst}
+use Rattle.std.specs.Prelude.{Option, Some, None, IsSomeAnd, codes}
+use Rattle.toml.specs.Data.{Data, array, table, Members, get_member}
 use Rattle.bpf_insn.specs.declared.forms.Insn.{Insn}
 use Rattle.scenario_text.specs.declared.refusal.Place.{Place}
 use Rattle.scenario_text.specs.declared.refusal.Place.TheVariants as places
 use Rattle.scenario_text.specs.declared.refusal.ScenarioError.{ScenarioError}
 use Rattle.scenario_text.specs.declared.scenario.Frame.{Frame}
-use Rattle.scenario_text.specs.Broken.{BrokenAt, BrokenIn, BrokenLoad, BrokenText, StandsAt, item_at}
-use Rattle.scenario_text.specs.Drafts.{LoadDraft}
+use Rattle.scenario_text.specs.Broken.{BrokenAt, BrokenIn, BrokenLoad, BrokenText, item_at}
+use Rattle.scenario_text.specs.Drafts.{Draft}
 use Rattle.scenario_text.specs.Faults.{Refuses}
+use Rattle.scenario_text.specs.inner.Arrays.{StandsIn}
 use Rattle.scenario_text.specs.Tables.{IsTable, MayBeArray}
-use Rattle.scenario_text.specs.Spelling.{HasClock, HasFrame, SpelledLoad, SpellsNothing, rule_of}
+use Rattle.scenario_text.specs.Spelling.{HasClock, HasFrame, Spelled, SpellsNothing, rule_of}
 use Rattle.scenario_text.specs.Views.{extent_of}
-use Rattle.scenario_text.proofs.FrameLemmas.{no_loads, one_frame, refuses_more}
-
-item_is : (vs : List Value) (i : ℕ) (d : Value) → i < length vs → item_at (items_view vs) i ≡ Some (view (get_or vs i d))
-item_is [] i d within = absurd (omega arith)
-item_is (v ∷ vs) zero d within = refl
-item_is (v ∷ vs) (suc i) d within = item_is vs i d (omega arith)
-
--- the next item of an array
-pub next_broken : (f : Frame) (c : Option (List Insn)) (vs whole : List Value) (i : ℕ) (v : Value) → i < length vs
-    → get_or vs i v ≡ v → vs ≡ whole → (p : Place) (slot : ℕ)
-    → (p ≡ places.Load i) × IsTable (BrokenLoad f c) (view v) slot → BrokenIn f c (Some (array (items_view whole))) p slot
-next_broken f c vs whole i v within found same p slot is =
-    let item : item_at (items_view whole) i ≡ Some (view v) =
-    ap (λ (ws : List Value). item_at (items_view ws) i) (sym same) ∙ (item_is vs i v within ∙ ap (λ w. Some (view w)) found) in
-    let stands : StandsAt (IsTable (BrokenLoad f c)) (Some (array (items_view whole))) i slot =
-    subst (λ (o : Option Data). IsSomeAnd o (λ value. IsTable (BrokenLoad f c) value slot)) (sym item) is.1 in
-    subst (λ (q : Place). BrokenIn f c (Some (array (items_view whole))) q slot) (sym is.0) stands
+use Rattle.scenario_text.proofs.FrameLemmas.{no_entries, one_frame, refuses_more}
 
 broken_at : (ms : Members) (f : Frame) (c : Option (List Insn)) → HasFrame ms f → HasClock (rule_of f) ms c
     → (p : Place) (slot : ℕ) → BrokenIn f c (get_member (codes "load") ms) p slot → BrokenAt ms p slot
@@ -41,19 +24,42 @@ broken_at ms f c has clock (places.Unload index) slot is = absurd is
 broken_at ms f c has clock (places.Corrupt index) slot is = absurd is
 broken_at ms f c has clock (places.Coin index) slot is = absurd is
 
--- a refusal of the loads that the table has is one of the table
-pub loads_refused : (ms : Members) (f g : Frame) (c : Option (List Insn)) (o : Option Data) (e : ScenarioError)
-    → HasFrame ms f → HasClock (rule_of f) ms c → g ≡ f → o ≡ get_member (codes "load") ms
-    → Refuses e ((ls : List LoadDraft) → MayBeArray (IsTable (SpelledLoad g c)) o ls → ⊥) (BrokenIn g c o)
+-- a load whose program is refused is one of the table
+pub load_broken : (ms : Members) (f : Frame) (c : Option (List Insn)) → HasFrame ms f → HasClock (rule_of f) ms c
+    → (p : Place) (slot : ℕ) → StandsIn places.Load (IsTable (BrokenLoad f c)) (get_member (codes "load") ms) p slot
+    → BrokenAt ms p slot
+load_broken ms f c has clock p slot is =
+    broken_at ms f c has clock p slot
+    (subst (λ (q : Place). BrokenIn f c (get_member (codes "load") ms) q slot) (sym is.1) is.2)
+
+-- no program of the other entries is refused
+none_broken_at : (o : Option Data) (index slot : ℕ)
+    → IsSomeAnd o (λ value. IsTable (λ (ms : Members) (slot : ℕ). ⊥) value slot) → ⊥
+none_broken_at None index slot is = is
+none_broken_at (Some (table ms)) index slot is = is
+none_broken_at (Some _) index slot is = is
+
+pub none_broken : (ms : Members) (place : ℕ → Place) (o : Option Data) (p : Place) (slot : ℕ)
+    → StandsIn place (IsTable (λ (ms : Members) (slot : ℕ). ⊥)) o p slot → BrokenAt ms p slot
+none_broken ms place None p slot is = absurd is.2
+none_broken ms place (Some (array items)) p slot is = absurd (none_broken_at (item_at items is.0) is.0 slot is.2)
+none_broken ms place (Some _) p slot is = absurd is.2
+
+-- a refusal of the entries that the table has is one of the table
+pub entries_refused : {A : Type 0} (reads : Frame → Option (List Insn) → Members → A → Type 0)
+    (breaks : Frame → Option (List Insn) → Members → ℕ → Type 0) (place : ℕ → Place) (key : List ℕ) (of : Draft → List A)
+    (ms : Members) (f : Frame) (c : Option (List Insn)) (o : Option Data) (e : ScenarioError)
+    → HasFrame ms f → HasClock (rule_of f) ms c → o ≡ get_member key ms
+    → ((d : Draft) → Spelled ms d → MayBeArray (IsTable (reads d.frame d.clock)) (get_member key ms) (of d))
+    → ((p : Place) (slot : ℕ) → StandsIn place (IsTable (breaks f c)) (get_member key ms) p slot → BrokenAt ms p slot)
+    → Refuses e ((xs : List A) → MayBeArray (IsTable (reads f c)) o xs → ⊥) (StandsIn place (IsTable (breaks f c)) o)
     → Refuses e (SpellsNothing ms) (BrokenAt ms)
-loads_refused ms f g c o e has clock same held refused =
-    let P : Frame → Option Data → Type 0 = λ h p. (ls : List LoadDraft) → MayBeArray (IsTable (SpelledLoad h c)) p ls
-    → ⊥ in
-    refuses_more e (P g o) (SpellsNothing ms) (BrokenIn g c o) (BrokenAt ms)
-    (λ none. no_loads ms f c has clock (subst (λ h. P h (get_member (codes "load") ms)) same (subst (P g) held none)))
-    (λ p slot is. broken_at ms f c has clock p slot
-    (subst (λ (h : Frame). BrokenIn h c (get_member (codes "load") ms) p slot) same
-    (subst (λ (q : Option Data). BrokenIn g c q p slot) held is))) refused
+entries_refused {A} reads breaks place key of ms f c o e has clock held there breaks_there refused =
+    let P : Option Data → Type 0 = λ p. (xs : List A) → MayBeArray (IsTable (reads f c)) p xs → ⊥ in
+    let Q : Option Data → Place → ℕ → Type 0 = λ q. StandsIn place (IsTable (breaks f c)) q in
+    refuses_more e (P o) (SpellsNothing ms) (Q o) (BrokenAt ms)
+    (λ none. no_entries reads (get_member key ms) of ms f c has clock there (subst P held none))
+    (λ p slot is. breaks_there p slot (subst (λ (q : Option Data). Q q p slot) held is)) refused
 
 -- a refusal of the clock is one of the table
 pub clock_refused : (ms : Members) (f : Frame) (e : ScenarioError) → HasFrame ms f

@@ -26,32 +26,6 @@ each_of_all P (x ∷ xs) all = (all 0 x (omega arith), each_of_all P xs (λ k d 
 
 -- ---- what the arrays of a table say of the entries
 
-each_read : {A B : Type 0} (reads : Data → A → Type 0) (P : A → Type 0) (view : B → A)
-    → ((value : Data) (x : A) → reads value x → P x)
-    → (values : Items) (xs : List B) → ReadsEach reads values (map view xs) → Each (λ x. P (view x)) xs
-each_read reads P view leads no_items [] read = tt
-each_read reads P view leads no_items (x ∷ xs) read = absurd read
-each_read reads P view leads (item value values) [] read = tt
-each_read reads P view leads (item value values) (x ∷ xs) read =
-    (leads value (view x) read.0, each_read reads P view leads values xs read.1)
-
-each_of_none : {A B : Type 0} (P : B → Type 0) (view : B → A) (xs : List B) → map view xs ≡ [] → Each P xs
-each_of_none P view [] none = tt
-each_of_none P view (x ∷ xs) none = absurd (cc)
-
-each_entry : {A B : Type 0} (reads : Data → A → Type 0) (P : A → Type 0) (view : B → A)
-    → ((value : Data) (x : A) → reads value x → P x)
-    → (o : Option Data) (xs : List B) → MayBeArray reads o (map view xs) → Each (λ x. P (view x)) xs
-each_entry reads P view leads None xs read = each_of_none (λ x. P (view x)) view xs read
-each_entry reads P view leads (Some (array values)) xs read = each_read reads P view leads values xs read
-each_entry reads P view leads (Some (string t)) xs read = absurd read
-each_entry reads P view leads (Some (integer n)) xs read = absurd read
-each_entry reads P view leads (Some (float x)) xs read = absurd read
-each_entry reads P view leads (Some (boolean b)) xs read = absurd read
-each_entry reads P view leads (Some (datetime d)) xs read = absurd read
-each_entry reads P view leads (Some (table ms)) xs read = absurd read
-
--- the same with no view
 each_plain : {A : Type 0} (reads : Data → A → Type 0) (P : A → Type 0) → ((value : Data) (x : A) → reads value x → P x)
     → (values : Items) (xs : List A) → ReadsEach reads values xs → Each P xs
 each_plain reads P leads no_items [] read = tt
@@ -71,6 +45,17 @@ each_listed reads P leads (Some (float x)) xs read = absurd read
 each_listed reads P leads (Some (boolean b)) xs read = absurd read
 each_listed reads P leads (Some (datetime d)) xs read = absurd read
 each_listed reads P leads (Some (table ms)) xs read = absurd read
+
+each_of_map : {A B : Type 0} (P : A → Type 0) (view : B → A) (xs : List B) → Each P (map view xs)
+    → Each (λ x. P (view x)) xs
+each_of_map P view [] each = tt
+each_of_map P view (x ∷ xs) each = (each.0, each_of_map P view xs each.1)
+
+-- the same of the data of entries
+each_entry : {A B : Type 0} (reads : Data → A → Type 0) (P : A → Type 0) (view : B → A)
+    → ((value : Data) (x : A) → reads value x → P x)
+    → (o : Option Data) (xs : List B) → MayBeArray reads o (map view xs) → Each (λ x. P (view x)) xs
+each_entry reads P view leads o xs read = each_of_map P view xs (each_listed reads P leads o (map view xs) read)
 
 each_number : (high : ℕ) (o : Option Data) (xs : List ℕ) → IsArray (IsNumber 0 high) o xs → Each (λ n. n ≤ high) xs
 each_number high None xs read = absurd read

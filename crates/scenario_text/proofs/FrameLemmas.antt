@@ -1,7 +1,7 @@
 -- A key holds one number at most.
 use Rattle.std.proofs.Common.{◌≡◌, ◌≤◌, ℕ, arith, ◌-◌, ◌%◌, List, ap, sym, subst, ◌∙◌, inl, inr}
 use Rattle.std.specs.Prelude.{true, false, ◌==◌, if◌then◌else◌, pos, Option, Some, None, codes, MatchOption, IfErr, Result, Ok, Err}
-use Rattle.toml.specs.Data.{Data, integer, Members, get_member}
+use Rattle.toml.specs.Data.{Data, integer, Members}
 use Rattle.bpf_insn.specs.declared.forms.Insn.{Insn}
 use Rattle.scenario_text.specs.declared.scenario.Frame.{Frame}
 use Rattle.scenario_text.specs.declared.refusal.ScenarioError.{ScenarioError}
@@ -9,12 +9,10 @@ use Rattle.scenario_text.specs.declared.refusal.ScenarioError.TheVariants as err
 use Rattle.scenario_text.specs.declared.refusal.Place.{Place}
 use Rattle.scenario_text.specs.Faults.{Excludes, Refuses}
 use Rattle.scenario_text.specs.inner.Faults.{IsOfSpelling}
-use Rattle.scenario_text.specs.declared.scenario.Unload.{Unload}
-use Rattle.scenario_text.specs.declared.scenario.CoinEntry.{CoinEntry}
-use Rattle.scenario_text.specs.Drafts.{LoadDraft, CorruptDraft}
+use Rattle.scenario_text.specs.Drafts.{Draft}
 use Rattle.scenario_text.specs.Tables.{HasNumber, MayBeArray, IsTable}
 use Rattle.scenario_text.proofs.ClockLemmas.{one_clock}
-use Rattle.scenario_text.specs.Spelling.{HasVersion, HasFrame, HasClock, rule_of, most_nodes, SpelledLoad, SpelledUnload, SpelledCorrupt, SpelledCoin, SpellsNothing}
+use Rattle.scenario_text.specs.Spelling.{HasVersion, HasFrame, HasClock, rule_of, most_nodes, Spelled, SpellsNothing}
 use Rattle.scenario_text.specs.declared.limits.TheConstants.{FIRST_VERSION, FIRST_MAX_NODES}
 use Rattle.clock_nodes.specs.Rule.{IsRule}
 use Rattle.node_env.specs.Env.{IsExtent}
@@ -128,38 +126,17 @@ one_frame ms f g a b = λ k. record {
   pulses = one_number ms (codes "pulses") _ _ _ _ f.pulses g.pulses a.pulses b.pulses k;
 }
 
--- what the frame that was read has no entries for has no spelling
-pub no_loads : (ms : Members) (f : Frame) (c : Option (List Insn)) → HasFrame ms f → HasClock (rule_of f) ms c
-    → ((loads : List LoadDraft) → MayBeArray (IsTable (SpelledLoad f c)) (get_member (codes "load") ms) loads → ⊥)
-    → SpellsNothing ms
-no_loads ms f c has clock none d spelled =
+-- what the frame and the clock that were read have no entries for has no spelling
+pub no_entries : {A : Type 0} (reads : Frame → Option (List Insn) → Members → A → Type 0) (o : Option Data)
+    (of : Draft → List A) (ms : Members) (f : Frame) (c : Option (List Insn)) → HasFrame ms f → HasClock (rule_of f) ms c
+    → ((d : Draft) → Spelled ms d → MayBeArray (IsTable (reads d.frame d.clock)) o (of d))
+    → ((xs : List A) → MayBeArray (IsTable (reads f c)) o xs → ⊥) → SpellsNothing ms
+no_entries reads o of ms f c has clock there none d spelled =
     let same = one_frame ms d.frame f spelled.frame has in
-    let framed = subst (λ g. MayBeArray (IsTable (SpelledLoad g d.clock)) (get_member (codes "load") ms) d.loads)
-    same spelled.loads in
+    let framed = subst (λ g. MayBeArray (IsTable (reads g d.clock)) o (of d)) same (there d spelled) in
     let mine = subst (λ g. HasClock (rule_of g) ms d.clock) same spelled.clock in
-    none d.loads (subst (λ k. MayBeArray (IsTable (SpelledLoad f k)) (get_member (codes "load") ms) d.loads)
+    none (of d) (subst (λ k. MayBeArray (IsTable (reads f k)) o (of d))
     (one_clock (rule_of f) ms d.clock c mine clock) framed)
-
-pub no_unloads : (ms : Members) (f : Frame) → HasFrame ms f
-    → ((us : List Unload) → MayBeArray (IsTable (SpelledUnload f)) (get_member (codes "unload") ms) us → ⊥)
-    → SpellsNothing ms
-no_unloads ms f has none d spelled =
-    none d.unloads (subst (λ g. MayBeArray (IsTable (SpelledUnload g)) (get_member (codes "unload") ms) d.unloads)
-    (one_frame ms d.frame f spelled.frame has) spelled.unloads)
-
-pub no_corruptions : (ms : Members) (f : Frame) → HasFrame ms f
-    → ((cs : List CorruptDraft) → MayBeArray (IsTable (SpelledCorrupt f)) (get_member (codes "corrupt") ms) cs → ⊥)
-    → SpellsNothing ms
-no_corruptions ms f has none d spelled =
-    none d.corruptions (subst (λ g. MayBeArray (IsTable (SpelledCorrupt g))
-    (get_member (codes "corrupt") ms) d.corruptions) (one_frame ms d.frame f spelled.frame has) spelled.corruptions)
-
-pub no_entries : (ms : Members) (f : Frame) → HasFrame ms f
-    → ((es : List CoinEntry) → MayBeArray (IsTable (SpelledCoin f)) (get_member (codes "coin") ms) es → ⊥)
-    → SpellsNothing ms
-no_entries ms f has none d spelled =
-    none d.entries (subst (λ g. MayBeArray (IsTable (SpelledCoin g)) (get_member (codes "coin") ms) d.entries)
-    (one_frame ms d.frame f spelled.frame has) spelled.entries)
 
 pub refused_more : {A : Type 0} (r : Result A ScenarioError) (less more : Type 0) → (less → more)
     → IfErr r (λ e. Excludes e less) → IfErr r (λ e. Excludes e more)

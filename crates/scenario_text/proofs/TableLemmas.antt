@@ -1,13 +1,14 @@
 -- The keys of a table and the items of an array, as the code has them and as their data has them.
 use Rattle.std.proofs.Common.{◌≡◌, ℕ, zero, suc, ◌+◌, ◌<◌, ◌≤◌, Bool, true, List, [], ◌∷◌, ◌++◌, length, map, get_or, take, arith, refl, add-one, ap, ap₂, subst, sym, ◌∙◌}
 use Rattle.std.proofs.Math.Seq.{take-suc}
-use Rattle.std.specs.Prelude.{String, codes, Option, Some, None, string_bytes, ◌&&◌, is_some}
+use Rattle.std.specs.Prelude.{String, codes, IsSomeAnd, Option, Some, None, string_bytes, ◌&&◌, is_some}
 use Rattle.std.specs.BTreeMap.{BTreeMap, keys}
 use Rattle.std.specs.List.{list_all}
 use Rattle.std.specs.declared.alloc.Global.{Global}
 use Rattle.toml.specs.declared.value.Value.{Value}
 use Rattle.toml.specs.View.{items_view, members_view, table_view, view}
 use Rattle.toml.specs.Data.{Data, as_integer, array, table, get_member, Items, no_items, item, Members}
+use Rattle.scenario_text.specs.Broken.{StandsAt, item_at}
 use Rattle.scenario_text.specs.Tables.{knows, ReadsEach, IsArray, MayBeArray, IsTable, IsNumber}
 use Rattle.scenario_text.specs.declared.scenario.Frame.{Frame}
 use Rattle.bpf_insn.specs.declared.forms.Insn.{Insn}
@@ -60,6 +61,19 @@ pub next_unread : {A : Type 0} (reads : Data → A → Type 0) (vs whole : List 
 next_unread reads vs whole i v within found same silent xs read =
     reads_none reads vs i v xs within (λ x is. silent x (subst (λ w. reads (view w) x) found is))
     (subst (λ ws. ReadsEach reads (items_view ws) xs) (sym same) read)
+
+item_is : (vs : List Value) (i : ℕ) (d : Value) → i < length vs → item_at (items_view vs) i ≡ Some (view (get_or vs i d))
+item_is [] i d within = absurd (omega arith)
+item_is (v ∷ vs) zero d within = refl
+item_is (v ∷ vs) (suc i) d within = item_is vs i d (omega arith)
+
+-- what holds of the next item of an array holds of the item at its place
+pub next_stands : {A : Type 0} (reads : Data → A → Type 0) (vs whole : List Value) (i : ℕ) (v : Value) → i < length vs
+    → get_or vs i v ≡ v → vs ≡ whole → (x : A) → reads (view v) x → StandsAt reads (Some (array (items_view whole))) i x
+next_stands reads vs whole i v within found same x is =
+    let item : item_at (items_view whole) i ≡ Some (view v) =
+    ap (λ (ws : List Value). item_at (items_view ws) i) (sym same) ∙ (item_is vs i v within ∙ ap (λ w. Some (view w)) found) in
+    subst (λ (o : Option Data). IsSomeAnd o (λ value. reads value x)) (sym item) is
 
 -- as many as there are items
 pub reads_length : {A : Type 0} (reads : Data → A → Type 0) (vs : List Value) (xs : List A)

@@ -1,17 +1,12 @@
 -- What is spelled, and its arrays.
-use Rattle.std.proofs.Common.{◌≡◌, true, arith, List, subst}
+use Rattle.std.proofs.Common.{◌≡◌, true, arith, List, map, subst}
 use Rattle.std.specs.Prelude.{codes, Option}
+use Rattle.std.proofs.lemmas.List.{map-id}
 use Rattle.toml.specs.Data.{Data, Members, get_member}
-use Rattle.scenario_text.specs.declared.refusal.ScenarioError.{ScenarioError}
-use Rattle.scenario_text.specs.declared.scenario.Frame.{Frame}
-use Rattle.scenario_text.specs.declared.scenario.Unload.{Unload}
-use Rattle.scenario_text.specs.declared.scenario.CoinEntry.{CoinEntry}
 use Rattle.scenario_text.specs.inner.Arrays.{HasArrays}
-use Rattle.scenario_text.specs.Drafts.{CorruptDraft, Draft}
-use Rattle.scenario_text.specs.Faults.{Excludes}
+use Rattle.scenario_text.specs.Drafts.{Draft}
 use Rattle.scenario_text.specs.Tables.{knows, IsTable, MayBeArray}
 use Rattle.scenario_text.specs.Spelling.{HasFrame, HasCoins, HasKey, HasClock, Spelled, SpelledLoad, SpelledUnload, SpelledCorrupt, SpelledCoin, SpellsNothing, has_clock_key, is_top_key, rule_of}
-use Rattle.scenario_text.proofs.FrameLemmas.{excludes_more, no_unloads, no_corruptions, no_entries}
 use Rattle.scenario_text.proofs.TableLemmas.{tables_read, entries_read, loads_read}
 
 -- a table that spells a scenario has its arrays
@@ -64,26 +59,8 @@ spelled_whole ms d known frame coins key clock loads unloads corruptions entries
       coin_entries = omega arith;
     }
 
--- ---- where the array of the frame that was read has no reading, nothing is spelled
-
-pub unloads_excluded : (ms : Members) (f : Frame) (o : Option Data) (e : ScenarioError) → HasFrame ms f
-    → o ≡ get_member (codes "unload") ms
-    → Excludes e ((us : List Unload) → MayBeArray (IsTable (SpelledUnload f)) o us → ⊥) → Excludes e (SpellsNothing ms)
-unloads_excluded ms f o e has held excluded =
-    let P : Option Data → Type 0 = λ p. (us : List Unload) → MayBeArray (IsTable (SpelledUnload f)) p us → ⊥ in
-    excludes_more e (P o) (SpellsNothing ms) (λ none. no_unloads ms f has (subst P held none)) excluded
-
-pub corruptions_excluded : (ms : Members) (f : Frame) (o : Option Data) (e : ScenarioError) → HasFrame ms f
-    → o ≡ get_member (codes "corrupt") ms
-    → Excludes e ((cs : List CorruptDraft) → MayBeArray (IsTable (SpelledCorrupt f)) o cs → ⊥)
-    → Excludes e (SpellsNothing ms)
-corruptions_excluded ms f o e has held excluded =
-    let P : Option Data → Type 0 = λ p. (cs : List CorruptDraft) → MayBeArray (IsTable (SpelledCorrupt f)) p cs → ⊥ in
-    excludes_more e (P o) (SpellsNothing ms) (λ none. no_corruptions ms f has (subst P held none)) excluded
-
-pub entries_excluded : (ms : Members) (f : Frame) (o : Option Data) (e : ScenarioError) → HasFrame ms f
-    → o ≡ get_member (codes "coin") ms
-    → Excludes e ((es : List CoinEntry) → MayBeArray (IsTable (SpelledCoin f)) o es → ⊥) → Excludes e (SpellsNothing ms)
-entries_excluded ms f o e has held excluded =
-    let P : Option Data → Type 0 = λ p. (es : List CoinEntry) → MayBeArray (IsTable (SpelledCoin f)) p es → ⊥ in
-    excludes_more e (P o) (SpellsNothing ms) (λ none. no_entries ms f has (subst P held none)) excluded
+-- entries that are their own data
+pub plain_entries : {A : Type 0} (reads : Data → A → Type 0) (o p : Option Data) (xs : List A) → o ≡ p
+    → MayBeArray reads o (map (λ x. x) xs) → MayBeArray reads p xs
+plain_entries reads o p xs held read =
+    subst (λ q. MayBeArray reads q xs) held (subst (MayBeArray reads o) (map-id xs) read)

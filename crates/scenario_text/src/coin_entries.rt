@@ -1,22 +1,21 @@
 //! The entries `[[coin]]`.
-ghost use Rattle.std.specs.Prelude.{◌≡◌, ◌≤◌, ◌<◌, ◌^◌, List, IfOk, IfErr, MatchResult, string_bytes, option_map};
+ghost use Rattle.std.specs.Prelude.{◌≡◌, string_bytes};
 ghost use Rattle.std.specs.BTreeMap.{keys};
 ghost use Rattle.std.specs.List.{list_all};
-ghost use Rattle.toml.specs.Data.{array as array_data};
-ghost use Rattle.toml.specs.View.{array_view, table_view, view};
+ghost use Rattle.toml.specs.View.{table_view};
+ghost use Rattle.scenario_text.specs.declared.refusal.Place.TheVariants.{Coin as CoinAt};
 ghost use Rattle.scenario_text.specs.declared.scenario.CoinEntry.{CoinEntry as CoinEntryValue};
-ghost use Rattle.scenario_text.specs.Faults.{Excludes};
-ghost use Rattle.scenario_text.specs.inner.Faults.{IsOfSpelling};
-ghost use Rattle.scenario_text.specs.Tables.{knows, MayBeArray, ReadsEach, IsTable};
+ghost use Rattle.scenario_text.specs.Tables.{knows};
 ghost use Rattle.scenario_text.specs.Spelling.{is_coin_key, SpelledCoin};
 
+use crate::entries::Entry;
 use crate::refusal::{Place, ScenarioError};
-use crate::scenario::{CoinEntry, Frame};
+use crate::scenario::CoinEntry;
+use crate::setup::Setup;
 use crate::table::number_at;
 use crate::unloads::is_unload_key;
-use std::alloc::{AllocError, Global};
-use toml::value::Array;
-use toml::{Table, Value};
+use std::alloc::Global;
+use toml::Table;
 
 fn is_coin_key(key: &str) -> bool
     ensures { result ≡ is_coin_key key.now }
@@ -37,77 +36,39 @@ fn knows_coin_keys(table: &Table) -> bool
     has_coin_keys(table)
 }
 
-/// The entry that a table spells.
-fn coin_entry_of(frame: Frame, index: usize, table: &Table) -> Result<CoinEntry, ScenarioError>
-    requires { 1 ≤ frame.nodes }
-    ensures fault { IfErr result IsOfSpelling }
-    ensures entry { MatchResult result (SpelledCoin frame (table_view table.now))
-        (λ _. (e : CoinEntryValue) → SpelledCoin frame (table_view table.now) e → ⊥) }
-{
-    let place = Place::Coin(index);
-    if !knows_coin_keys(table) {
-        return Err(ScenarioError::UnknownKey { place });
-    }
-    let pulse = number_at(table, place, "pulse", 1, frame.pulses as u64)?;
-    let node = number_at(table, place, "node", 0, (frame.nodes - 1) as u64)?;
-    let value = number_at(table, place, "value", 0, 1)?;
-    Ok(CoinEntry {
-        pulse: pulse as u32,
-        node: node as u32,
-        value: value as u32,
-    })
-}
+impl Entry for CoinEntry {
+    ghost Draft = { CoinEntryValue };
 
-fn coin_entry_in(frame: Frame, index: usize, value: &Value) -> Result<CoinEntry, ScenarioError>
-    requires { 1 ≤ frame.nodes }
-    ensures fault { IfErr result IsOfSpelling }
-    ensures entry { MatchResult result (IsTable (SpelledCoin frame) (view value.now))
-        (λ _. (e : CoinEntryValue) → IsTable (SpelledCoin frame) (view value.now) e → ⊥) }
-{
-    let Some(table) = value.as_table() else {
-        return Err(ScenarioError::WrongKind {
-            place: Place::Top,
-            key: "coin",
-        });
-    };
-    coin_entry_of(frame, index, table)
-}
+    ghost draft_of = { λ entry. entry };
 
-fn coin_entries_in(
-    alloc: Global,
-    frame: Frame,
-    array: &Array,
-) -> Result<Vec<CoinEntry>, ScenarioError>
-    requires { 1 ≤ frame.nodes }
-    ensures entries { IfOk result (λ es. ReadsEach (IsTable (SpelledCoin frame)) (array_view array.now) es.items) }
-    ensures refused { IfErr result (λ e. Excludes e ((es : List CoinEntryValue) →
-        ReadsEach (IsTable (SpelledCoin frame)) (array_view array.now) es → ⊥)) }
-{
-    let mut entries = Vec::new(alloc);
-    for (index, value) in array.iter().enumerate() {
-        let entry = coin_entry_in(frame, index, value)?;
-        entries
-            .push(entry)
-            .map_err(|_| ScenarioError::Memory(AllocError))?;
-    }
-    Ok(entries)
-}
+    ghost spelled = { λ frame _. SpelledCoin frame };
 
-/// The entries that an array spells; no array spells none.
-pub(crate) fn coin_entries_of(
-    alloc: Global,
-    frame: Frame,
-    array: Option<&Array>,
-) -> Result<Vec<CoinEntry>, ScenarioError>
-    requires { 1 ≤ frame.nodes }
-    ensures entries { IfOk result (λ es. MayBeArray (IsTable (SpelledCoin frame))
-        (option_map (λ a. array_data (array_view a.now)) array.entry) es.items) }
-    ensures refused { IfErr result (λ e. Excludes e ((es : List CoinEntryValue)
-        → MayBeArray (IsTable (SpelledCoin frame))
-        (option_map (λ a. array_data (array_view a.now)) array.entry) es → ⊥)) }
-{
-    match array {
-        Some(array) => coin_entries_in(alloc, frame, array),
-        None => Ok(Vec::new(alloc)),
+    ghost fits = { λ _ _. Unit {0} };
+
+    ghost broken = { λ _ _ _ _. ⊥ };
+
+    ghost place = { CoinAt };
+
+    const KEY: &'static str = "coin";
+
+    fn read(
+        _alloc: Global,
+        setup: &Setup,
+        index: usize,
+        table: &Table,
+    ) -> Result<CoinEntry, ScenarioError> {
+        let place = Place::Coin(index);
+        let frame = setup.frame;
+        if !knows_coin_keys(table) {
+            return Err(ScenarioError::UnknownKey { place });
+        }
+        let pulse = number_at(table, place, "pulse", 1, frame.pulses as u64)?;
+        let node = number_at(table, place, "node", 0, (frame.nodes - 1) as u64)?;
+        let value = number_at(table, place, "value", 0, 1)?;
+        Ok(CoinEntry {
+            pulse: pulse as u32,
+            node: node as u32,
+            value: value as u32,
+        })
     }
 }

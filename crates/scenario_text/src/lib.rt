@@ -4,6 +4,7 @@
 mod arrays;
 mod coin_entries;
 mod corruptions;
+mod entries;
 pub mod laws;
 mod limits;
 mod line;

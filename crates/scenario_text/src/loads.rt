@@ -1,23 +1,24 @@
 //! The entries `[[load]]`.
-ghost use Rattle.std.specs.Prelude.{◌≡◌, ◌≤◌, ◌<◌, ◌^◌, ◌-◌, ℕ, List, Option, IfOk, IfErr, OnOk, MatchResult, Some, string_bytes, length, codes, map, option_map, All};
+ghost use Rattle.std.specs.Prelude.{◌≡◌, ℕ, List, Option, IfOk, IfErr, MatchResult, string_bytes, length, codes};
 ghost use Rattle.std.specs.BTreeMap.{keys};
 ghost use Rattle.std.specs.List.{list_all};
-ghost use Rattle.toml.specs.Data.{get_member, array as array_data};
-ghost use Rattle.toml.specs.View.{array_view, table_view, view};
+ghost use Rattle.toml.specs.Data.{get_member};
+ghost use Rattle.toml.specs.View.{table_view};
 ghost use Rattle.bpf_insn.specs.declared.forms.Insn.{Insn};
 ghost use Rattle.scenario_text.specs.declared.scenario.Kind.{Kind as KindValue};
 ghost use Rattle.scenario_text.specs.declared.scenario.Kind.TheVariants.{Asm, Say};
 ghost use Rattle.scenario_text.specs.Drafts.{LoadDraft};
 ghost use Rattle.scenario_text.specs.declared.refusal.Place.TheVariants.{Load as LoadAt};
-ghost use Rattle.scenario_text.specs.Broken.{BrokenIn, BrokenLoad, BrokenText};
+ghost use Rattle.scenario_text.specs.Broken.{BrokenLoad, BrokenText};
 ghost use Rattle.scenario_text.specs.Faults.{Excludes, Refuses};
 ghost use Rattle.scenario_text.specs.inner.Faults.{IsOfSpelling};
 ghost use Rattle.scenario_text.specs.inner.Setups.{IsSetup, own_clock};
-ghost use Rattle.scenario_text.specs.Tables.{knows, HasText, IsArray, MayBeArray, ReadsEach, IsTable};
+ghost use Rattle.scenario_text.specs.Tables.{knows, HasText, IsArray};
 ghost use Rattle.scenario_text.specs.Spelling.{is_plain_load_key, is_load_key, kind_name, IsSaid, IsProgramOf, MeansAt, SpelledLoad};
 ghost use Rattle.scenario_text.specs.Views.{load_of, extent_of, FitsFrame, FitsLoad};
 
-use crate::numbers::{integers_at, numbers_of, said_of};
+use crate::entries::Entry;
+use crate::numbers::{Said, UpTo, integers_at, items_of};
 use crate::programs::{accepted, program_in, say_program};
 use crate::refusal::{Place, ScenarioError};
 use crate::scenario::{Kind, Load};
@@ -25,9 +26,8 @@ use crate::setup::Setup;
 use crate::table::{number_at, value_at};
 use crate::top::kind_named;
 use bpf_verify::VerifiedProgram;
-use std::alloc::{AllocError, Global};
-use toml::value::Array;
-use toml::{Table, Value};
+use std::alloc::Global;
+use toml::Table;
 
 fn is_plain_load_key(key: &str) -> bool
     ensures { result ≡ is_plain_load_key key.now }
@@ -101,7 +101,7 @@ fn said_at(
             key: "values",
         });
     }
-    said_of(alloc, array, place, "values")
+    items_of(alloc, &Said, array, place, "values")
 }
 
 /// The same program once more, which its loads share.
@@ -175,90 +175,42 @@ fn program_of(
     }
 }
 
-/// The load that a table spells.
-fn load_of(alloc: Global, setup: &Setup, index: usize, table: &Table) -> Result<Load, ScenarioError>
-    requires { IsSetup setup.now }
-    ensures load { IfOk result (λ load.
-        SpelledLoad setup.now.frame (own_clock setup.now) (table_view table.now) (load_of load)) }
-    ensures fits { IfOk result (FitsLoad setup.now.frame) }
-    ensures refused { IfErr result (λ e. Refuses e ((load : LoadDraft)
-        → SpelledLoad setup.now.frame (own_clock setup.now) (table_view table.now) load → ⊥)
-        (λ p slot. (p ≡ LoadAt index) × BrokenLoad setup.now.frame (own_clock setup.now) (table_view table.now) slot)) }
-{
-    let place = Place::Load(index);
-    let frame = setup.frame;
-    let pulse = number_at(table, place, "pulse", 1, frame.pulses as u64)?;
-    let array = integers_at(table, place, "nodes")?;
-    let nodes = numbers_of(alloc, array, place, "nodes", frame.nodes - 1)?;
-    let kind = kind_at(table, index)?;
-    if !knows_load_keys(kind, table) {
-        return Err(ScenarioError::UnknownKey { place });
-    }
-    let program = program_of(alloc, setup, kind, table, index)?;
-    Ok(Load {
-        pulse: pulse as u32,
-        nodes,
-        kind,
-        program,
-    })
-}
+impl Entry for Load {
+    ghost Draft = { LoadDraft };
 
-fn load_in(alloc: Global, setup: &Setup, index: usize, value: &Value) -> Result<Load, ScenarioError>
-    requires { IsSetup setup.now }
-    ensures load { IfOk result (λ load.
-        IsTable (SpelledLoad setup.now.frame (own_clock setup.now)) (view value.now) (load_of load)) }
-    ensures fits { IfOk result (FitsLoad setup.now.frame) }
-    ensures refused { IfErr result (λ e. Refuses e ((load : LoadDraft)
-        → IsTable (SpelledLoad setup.now.frame (own_clock setup.now)) (view value.now) load → ⊥)
-        (λ p slot. (p ≡ LoadAt index)
-        × IsTable (BrokenLoad setup.now.frame (own_clock setup.now)) (view value.now) slot)) }
-{
-    let Some(table) = value.as_table() else {
-        return Err(ScenarioError::WrongKind {
-            place: Place::Top,
-            key: "load",
-        });
-    };
-    load_of(alloc, setup, index, table)
-}
+    ghost draft_of = { load_of };
 
-fn loads_in(alloc: Global, setup: &Setup, array: &Array) -> Result<Vec<Load>, ScenarioError>
-    requires { IsSetup setup.now }
-    ensures loads { IfOk result
-        (λ ls. ReadsEach (IsTable (SpelledLoad setup.now.frame (own_clock setup.now))) (array_view array.now)
-        (map load_of ls.items)) }
-    ensures fits { IfOk result (λ ls. All (FitsLoad setup.now.frame) ls.items) }
-    ensures refused { IfErr result (λ e. Refuses e ((ls : List LoadDraft) →
-        ReadsEach (IsTable (SpelledLoad setup.now.frame (own_clock setup.now))) (array_view array.now) ls → ⊥)
-        (BrokenIn setup.now.frame (own_clock setup.now) (Some (array_data (array_view array.now))))) }
-{
-    let mut loads = Vec::new(alloc);
-    for (index, value) in array.iter().enumerate() {
-        let load = load_in(alloc, setup, index, value)?;
-        loads
-            .push(load)
-            .map_err(|_| ScenarioError::Memory(AllocError))?;
-    }
-    Ok(loads)
-}
+    ghost spelled = { SpelledLoad };
 
-/// The loads that an array spells; no array spells none.
-pub(crate) fn loads_of(
-    alloc: Global,
-    setup: &Setup,
-    array: Option<&Array>,
-) -> Result<Vec<Load>, ScenarioError>
-    requires { IsSetup setup.now }
-    ensures loads { IfOk result (λ ls. MayBeArray (IsTable (SpelledLoad setup.now.frame (own_clock setup.now)))
-        (option_map (λ a. array_data (array_view a.now)) array.entry) (map load_of ls.items)) }
-    ensures fits { IfOk result (λ ls. All (FitsLoad setup.now.frame) ls.items) }
-    ensures refused { IfErr result (λ e. Refuses e ((ls : List LoadDraft)
-        → MayBeArray (IsTable (SpelledLoad setup.now.frame (own_clock setup.now)))
-        (option_map (λ a. array_data (array_view a.now)) array.entry) ls → ⊥)
-        (BrokenIn setup.now.frame (own_clock setup.now) (option_map (λ a. array_data (array_view a.now)) array.entry))) }
-{
-    match array {
-        Some(array) => loads_in(alloc, setup, array),
-        None => Ok(Vec::new(alloc)),
+    ghost fits = { FitsLoad };
+
+    ghost broken = { BrokenLoad };
+
+    ghost place = { LoadAt };
+
+    const KEY: &'static str = "load";
+
+    fn read(
+        alloc: Global,
+        setup: &Setup,
+        index: usize,
+        table: &Table,
+    ) -> Result<Load, ScenarioError> {
+        let place = Place::Load(index);
+        let frame = setup.frame;
+        let pulse = number_at(table, place, "pulse", 1, frame.pulses as u64)?;
+        let array = integers_at(table, place, "nodes")?;
+        let nodes = items_of(alloc, &UpTo(frame.nodes - 1), array, place, "nodes")?;
+        let kind = kind_at(table, index)?;
+        if !knows_load_keys(kind, table) {
+            return Err(ScenarioError::UnknownKey { place });
+        }
+        let program = program_of(alloc, setup, kind, table, index)?;
+        Ok(Load {
+            pulse: pulse as u32,
+            nodes,
+            kind,
+            program,
+        })
     }
 }

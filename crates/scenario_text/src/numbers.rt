@@ -1,7 +1,7 @@
 //! Arrays of numbers: a wrong kind of an item comes before the length, and the length before a range.
-ghost use Rattle.std.specs.Prelude.{◌≡◌, ◌≤◌, ◌<◌, ◌^◌, ℕ, IfOk, IfErr, IfSome, MatchOption, MatchResult, List, Option, Some, length, is_some};
+ghost use Rattle.std.specs.Prelude.{◌≡◌, ℕ, IfOk, IfErr, MatchOption, List, Option, Some, is_some};
 ghost use Rattle.std.specs.List.{list_all};
-ghost use Rattle.toml.specs.Data.{array as array_data, as_integer, get_member};
+ghost use Rattle.toml.specs.Data.{Data, array as array_data, as_integer, get_member};
 ghost use Rattle.toml.specs.View.{view, table_view, array_view};
 ghost use Rattle.scenario_text.specs.Faults.{Excludes};
 ghost use Rattle.scenario_text.specs.inner.Faults.{IsOfSpelling};
@@ -47,111 +47,99 @@ pub(crate) fn integers_at<'a>(
     Ok(array)
 }
 
-fn number_in(value: &Value, high: u32) -> Option<u32>
-    ensures { MatchOption result ((n : ℕ) → IsNumber 0 high (view value.now) n → ⊥) (IsNumber 0 high (view value.now)) }
-{
-    let Some(signed) = value.as_integer() else {
-        return None;
-    };
-    match u32::try_from(signed) {
-        Ok(number) if number <= high => Some(number),
-        _ => None,
+/// What each item of an array of integers is read as.
+pub(crate) trait ItemReader {
+    type Item: Drop;
+
+    /// The item is this.
+    ghost reads: { Self → Data → Self.Item → Type 0 };
+
+    fn read(&self, value: &Value) -> Option<Self::Item>
+        ensures { MatchOption result ((x : Self.Item) → reads self.now (view value.now) x → ⊥)
+            (reads self.now (view value.now)) };
+}
+
+/// A number up to this one.
+#[derive(Clone, Copy)]
+pub(crate) struct UpTo(pub(crate) u32);
+
+impl ItemReader for UpTo {
+    type Item = u32;
+
+    ghost reads = { λ most. IsNumber 0 most.0 };
+
+    fn read(&self, value: &Value) -> Option<u32> {
+        let most = self.0;
+        let Some(signed) = value.as_integer() else {
+            return None;
+        };
+        match u32::try_from(signed) {
+            Ok(number) if number <= most => Some(number),
+            _ => None,
+        }
     }
 }
 
-/// A number to be sent; the outer none is no such number.
-fn said_in(value: &Value) -> Option<Option<u32>>
-    ensures { MatchOption result ((v : Option ℕ) → IsSaid (view value.now) v → ⊥) (IsSaid (view value.now)) }
-{
-    let Some(signed) = value.as_integer() else {
-        return None;
-    };
-    if signed == -1 {
-        return Some(None);
-    }
-    match u32::try_from(signed) {
-        Ok(number) => Some(Some(number)),
-        _ => None,
+/// A byte.
+#[derive(Clone, Copy)]
+pub(crate) struct Byte;
+
+impl ItemReader for Byte {
+    type Item = u8;
+
+    ghost reads = { λ _. IsNumber 0 255 };
+
+    fn read(&self, value: &Value) -> Option<u8> {
+        let Some(signed) = value.as_integer() else {
+            return None;
+        };
+        u8::try_from(signed).ok()
     }
 }
 
-/// The numbers of an array, up to a greatest.
-pub(crate) fn numbers_of(
+/// A number to be sent, or nothing.
+#[derive(Clone, Copy)]
+pub(crate) struct Said;
+
+impl ItemReader for Said {
+    type Item = Option<u32>;
+
+    ghost reads = { λ _. IsSaid };
+
+    fn read(&self, value: &Value) -> Option<Option<u32>> {
+        let Some(signed) = value.as_integer() else {
+            return None;
+        };
+        if signed == -1 {
+            return Some(None);
+        }
+        match u32::try_from(signed) {
+            Ok(number) => Some(Some(number)),
+            _ => None,
+        }
+    }
+}
+
+/// The items of an array.
+pub(crate) fn items_of<R: ItemReader>(
     alloc: Global,
+    reader: &R,
     array: &Array,
     place: Place,
     key: &'static str,
-    high: u32,
-) -> Result<Vec<u32>, ScenarioError>
-    ensures numbers { IfOk result (λ ns. ReadsEach (IsNumber 0 high) (array_view array.now) ns.items) }
-    ensures refused { IfErr result (λ e. Excludes e ((ns : List ℕ)
-        → ReadsEach (IsNumber 0 high) (array_view array.now) ns → ⊥)) }
+) -> Result<Vec<R::Item>, ScenarioError>
+    ensures items { IfOk result (λ items. ReadsEach (R.reads reader.now) (array_view array.now) items.items) }
+    ensures refused { IfErr result (λ e. Excludes e ((items : List R.Item)
+        → ReadsEach (R.reads reader.now) (array_view array.now) items → ⊥)) }
 {
-    let mut numbers = Vec::new(alloc);
+    let mut items = Vec::new(alloc);
     for value in array.iter() {
-        let Some(number) = number_in(value, high) else {
+        let Some(item) = reader.read(value) else {
             return Err(ScenarioError::OutOfRange { place, key });
         };
-        numbers
-            .push(number)
+        items
+            .push(item)
             .map_err(|_| ScenarioError::Memory(AllocError))?;
     }
-    Ok(numbers)
-}
-
-fn byte_in(value: &Value) -> Option<u8>
-    ensures { MatchOption result ((n : ℕ) → IsNumber 0 255 (view value.now) n → ⊥) (IsNumber 0 255 (view value.now)) }
-{
-    let Some(signed) = value.as_integer() else {
-        return None;
-    };
-    match u8::try_from(signed) {
-        Ok(number) => Some(number),
-        _ => None,
-    }
-}
-
-/// The bytes of an array.
-pub(crate) fn bytes_of(
-    alloc: Global,
-    array: &Array,
-    place: Place,
-    key: &'static str,
-) -> Result<Vec<u8>, ScenarioError>
-    ensures bytes { IfOk result (λ bs. ReadsEach (IsNumber 0 255) (array_view array.now) bs.items) }
-    ensures refused { IfErr result (λ e. Excludes e ((bs : List ℕ)
-        → ReadsEach (IsNumber 0 255) (array_view array.now) bs → ⊥)) }
-{
-    let mut bytes = Vec::new(alloc);
-    for value in array.iter() {
-        let Some(number) = byte_in(value) else {
-            return Err(ScenarioError::OutOfRange { place, key });
-        };
-        bytes
-            .push(number)
-            .map_err(|_| ScenarioError::Memory(AllocError))?;
-    }
-    Ok(bytes)
-}
-
-/// What a load says, by node.
-pub(crate) fn said_of(
-    alloc: Global,
-    array: &Array,
-    place: Place,
-    key: &'static str,
-) -> Result<Vec<Option<u32>>, ScenarioError>
-    ensures said { IfOk result (λ vs. ReadsEach IsSaid (array_view array.now) vs.items) }
-    ensures refused { IfErr result (λ e. Excludes e ((vs : List (Option ℕ))
-        → ReadsEach IsSaid (array_view array.now) vs → ⊥)) }
-{
-    let mut said = Vec::new(alloc);
-    for value in array.iter() {
-        let Some(number) = said_in(value) else {
-            return Err(ScenarioError::OutOfRange { place, key });
-        };
-        said.push(number)
-            .map_err(|_| ScenarioError::Memory(AllocError))?;
-    }
-    Ok(said)
+    Ok(items)
 }

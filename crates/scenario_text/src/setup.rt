@@ -93,8 +93,8 @@ pub(crate) fn setup_at(alloc: Global, table: &Table, frame: Frame) -> Result<Set
     requires rule { IsRule frame.nodes frame.faults frame.modulus }
     ensures frame { IfOk result (λ s. s.frame ≡ frame) }
     ensures setup { IfOk result IsSetup }
-    ensures clock { IfOk result (λ s. HasClock (rule_of frame) (table_view table.now) (own_clock s)) }
-    ensures fits { IfOk result (λ s. IfSome s.own (FitsFrame frame)) }
+    ensures clock { IfOk result (λ s. HasClock (rule_of s.frame) (table_view table.now) (own_clock s)) }
+    ensures fits { IfOk result (λ s. IfSome s.own (FitsFrame s.frame)) }
     ensures refused { IfErr result (λ e. Refuses e ((clock : Option (List Insn)) →
         HasClock (rule_of frame) (table_view table.now) clock → ⊥)
         (λ p slot. (p ≡ Top) × BrokenText (table_view table.now) (codes "clock") (extent_of frame) slot)) }

@@ -1,21 +1,20 @@
 //! The entries `[[unload]]`.
-ghost use Rattle.std.specs.Prelude.{◌≡◌, ◌≤◌, ◌<◌, ◌^◌, List, IfOk, IfErr, MatchResult, string_bytes, option_map};
+ghost use Rattle.std.specs.Prelude.{◌≡◌, string_bytes};
 ghost use Rattle.std.specs.BTreeMap.{keys};
 ghost use Rattle.std.specs.List.{list_all};
-ghost use Rattle.toml.specs.Data.{array as array_data};
-ghost use Rattle.toml.specs.View.{array_view, table_view, view};
+ghost use Rattle.toml.specs.View.{table_view};
+ghost use Rattle.scenario_text.specs.declared.refusal.Place.TheVariants.{Unload as UnloadAt};
 ghost use Rattle.scenario_text.specs.declared.scenario.Unload.{Unload as UnloadValue};
-ghost use Rattle.scenario_text.specs.Faults.{Excludes};
-ghost use Rattle.scenario_text.specs.inner.Faults.{IsOfSpelling};
-ghost use Rattle.scenario_text.specs.Tables.{knows, MayBeArray, ReadsEach, IsTable};
+ghost use Rattle.scenario_text.specs.Tables.{knows};
 ghost use Rattle.scenario_text.specs.Spelling.{is_unload_key, SpelledUnload};
 
+use crate::entries::Entry;
 use crate::refusal::{Place, ScenarioError};
-use crate::scenario::{Frame, Unload};
+use crate::scenario::Unload;
+use crate::setup::Setup;
 use crate::table::number_at;
-use std::alloc::{AllocError, Global};
-use toml::value::Array;
-use toml::{Table, Value};
+use std::alloc::Global;
+use toml::Table;
 
 /// A pulse and a node, which other entries have too.
 pub(crate) fn is_unload_key(key: &str) -> bool
@@ -37,71 +36,37 @@ fn knows_unload_keys(table: &Table) -> bool
     has_unload_keys(table)
 }
 
-/// The unload that a table spells.
-fn unload_of(frame: Frame, index: usize, table: &Table) -> Result<Unload, ScenarioError>
-    requires { 1 ≤ frame.nodes }
-    ensures fault { IfErr result IsOfSpelling }
-    ensures unload { MatchResult result (SpelledUnload frame (table_view table.now))
-        (λ _. (u : UnloadValue) → SpelledUnload frame (table_view table.now) u → ⊥) }
-{
-    let place = Place::Unload(index);
-    if !knows_unload_keys(table) {
-        return Err(ScenarioError::UnknownKey { place });
-    }
-    let pulse = number_at(table, place, "pulse", 1, frame.pulses as u64)?;
-    let node = number_at(table, place, "node", 0, (frame.nodes - 1) as u64)?;
-    Ok(Unload {
-        pulse: pulse as u32,
-        node: node as u32,
-    })
-}
+impl Entry for Unload {
+    ghost Draft = { UnloadValue };
 
-fn unload_in(frame: Frame, index: usize, value: &Value) -> Result<Unload, ScenarioError>
-    requires { 1 ≤ frame.nodes }
-    ensures fault { IfErr result IsOfSpelling }
-    ensures unload { MatchResult result (IsTable (SpelledUnload frame) (view value.now))
-        (λ _. (u : UnloadValue) → IsTable (SpelledUnload frame) (view value.now) u → ⊥) }
-{
-    let Some(table) = value.as_table() else {
-        return Err(ScenarioError::WrongKind {
-            place: Place::Top,
-            key: "unload",
-        });
-    };
-    unload_of(frame, index, table)
-}
+    ghost draft_of = { λ unload. unload };
 
-fn unloads_in(alloc: Global, frame: Frame, array: &Array) -> Result<Vec<Unload>, ScenarioError>
-    requires { 1 ≤ frame.nodes }
-    ensures unloads { IfOk result (λ us. ReadsEach (IsTable (SpelledUnload frame)) (array_view array.now) us.items) }
-    ensures refused { IfErr result (λ e. Excludes e ((us : List UnloadValue) →
-        ReadsEach (IsTable (SpelledUnload frame)) (array_view array.now) us → ⊥)) }
-{
-    let mut unloads = Vec::new(alloc);
-    for (index, value) in array.iter().enumerate() {
-        let unload = unload_in(frame, index, value)?;
-        unloads
-            .push(unload)
-            .map_err(|_| ScenarioError::Memory(AllocError))?;
-    }
-    Ok(unloads)
-}
+    ghost spelled = { λ frame _. SpelledUnload frame };
 
-/// The unloads that an array spells; no array spells none.
-pub(crate) fn unloads_of(
-    alloc: Global,
-    frame: Frame,
-    array: Option<&Array>,
-) -> Result<Vec<Unload>, ScenarioError>
-    requires { 1 ≤ frame.nodes }
-    ensures unloads { IfOk result (λ us. MayBeArray (IsTable (SpelledUnload frame))
-        (option_map (λ a. array_data (array_view a.now)) array.entry) us.items) }
-    ensures refused { IfErr result (λ e. Excludes e ((us : List UnloadValue)
-        → MayBeArray (IsTable (SpelledUnload frame))
-        (option_map (λ a. array_data (array_view a.now)) array.entry) us → ⊥)) }
-{
-    match array {
-        Some(array) => unloads_in(alloc, frame, array),
-        None => Ok(Vec::new(alloc)),
+    ghost fits = { λ _ _. Unit {0} };
+
+    ghost broken = { λ _ _ _ _. ⊥ };
+
+    ghost place = { UnloadAt };
+
+    const KEY: &'static str = "unload";
+
+    fn read(
+        _alloc: Global,
+        setup: &Setup,
+        index: usize,
+        table: &Table,
+    ) -> Result<Unload, ScenarioError> {
+        let place = Place::Unload(index);
+        let frame = setup.frame;
+        if !knows_unload_keys(table) {
+            return Err(ScenarioError::UnknownKey { place });
+        }
+        let pulse = number_at(table, place, "pulse", 1, frame.pulses as u64)?;
+        let node = number_at(table, place, "node", 0, (frame.nodes - 1) as u64)?;
+        Ok(Unload {
+            pulse: pulse as u32,
+            node: node as u32,
+        })
     }
 }

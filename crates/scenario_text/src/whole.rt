@@ -10,16 +10,13 @@ ghost use Rattle.scenario_text.specs.Tables.{knows};
 ghost use Rattle.scenario_text.specs.Views.{Reads};
 
 use crate::arrays::arrays_at;
-use crate::coin_entries::coin_entries_of;
-use crate::corruptions::corruptions_of;
+use crate::entries::entries_of;
 use crate::limits::CLOCK_VERSION;
-use crate::loads::loads_of;
 use crate::refusal::{Place, ScenarioError};
 use crate::scenario::Scenario;
 use crate::setup::{Setup, setup_at};
 use crate::table::value_at;
 use crate::top::{coins_at, frame_at, key_at};
-use crate::unloads::unloads_of;
 use std::alloc::Global;
 use toml::Table;
 
@@ -96,11 +93,11 @@ pub fn scenario_of(alloc: Global, table: &Table) -> Result<Scenario, ScenarioErr
     let key = key_at(table, coins)?;
     let setup = setup_at(alloc, table, frame)?;
     let arrays = arrays_at(table)?;
-    let loads = loads_of(alloc, &setup, arrays.loads)?;
-    let unloads = unloads_of(alloc, frame, arrays.unloads)?;
-    let corruptions = corruptions_of(alloc, frame, arrays.corruptions)?;
-    let entries = coin_entries_of(alloc, frame, arrays.entries)?;
-    let Setup { own, .. } = setup;
+    let loads = entries_of(alloc, &setup, arrays.loads)?;
+    let unloads = entries_of(alloc, &setup, arrays.unloads)?;
+    let corruptions = entries_of(alloc, &setup, arrays.corruptions)?;
+    let entries = entries_of(alloc, &setup, arrays.entries)?;
+    let Setup { frame, own, .. } = setup;
     Ok(Scenario {
         version: frame.version,
         nodes: frame.nodes,

@@ -1,15 +1,15 @@
-use Rattle.std.proofs.Common.{◌≡◌, All, map, rules, subst}
+use Rattle.std.proofs.Common.{map, rules, subst, sym}
 use Rattle.std.specs.Prelude.{codes}
-use Rattle.toml.specs.Data.{get_member}
 use Rattle.toml.specs.View.{table_view}
-use Rattle.scenario_text.specs.Spelling.{SpelledLoad, SpelledUnload, SpelledCorrupt, SpelledCoin, SpellsNothing}
+use Rattle.scenario_text.specs.Spelling.{HasFrame, SpelledLoad, SpelledUnload, SpelledCorrupt, SpelledCoin, SpellsNothing}
 use Rattle.scenario_text.specs.inner.Setups.{own_clock}
 use Rattle.scenario_text.specs.Tables.{IsTable, MayBeArray}
-use Rattle.scenario_text.specs.Views.{load_of, corrupt_of, FitsLoad}
+use Rattle.scenario_text.specs.Views.{load_of, corrupt_of}
 use Rattle.scenario_text.proofs.FrameLemmas.{excludes, refuses}
-use Rattle.scenario_text.proofs.WholeLemmas.{no_arrays, spelled_whole, unloads_excluded, corruptions_excluded, entries_excluded}
-use Rattle.scenario_text.proofs.BrokenLemmas.{clock_refused, loads_refused}
-use Rattle.scenario_text.specs.Broken.{BrokenAt}
+use Rattle.scenario_text.proofs.WholeLemmas.{no_arrays, plain_entries, spelled_whole}
+use Rattle.scenario_text.proofs.BrokenLemmas.{clock_refused, entries_refused, load_broken, none_broken}
+use Rattle.scenario_text.specs.Broken.{BrokenAt, BrokenLoad}
+use Rattle.scenario_text.specs.declared.refusal.Place.TheVariants.{Load, Unload, Corrupt, Coin}
 use Rattle.scenario_text.proofs.whole.scenario_of.Goals as goal
 
 pub returns-in_err-arrays-clause-refused : goal.returns-in_err-arrays-clause-refused
@@ -28,57 +28,62 @@ returns-in_err-setup-clause-refused c =
 
 pub returns-in_err-loads-clause-refused : goal.returns-in_err-loads-clause-refused
 returns-in_err-loads-clause-refused c =
-    let all = loads_refused _ c.in_ok-frame.frame _ _ _ c.in_err-loads.field-0.0 c.in_ok-frame.ensures.frame
-    c.in_ok-setup.ensures.clock c.in_ok-setup.ensures.frame c.in_ok-arrays.ensures.loads c.in_err-loads.ensures.refused in
+    let ms = table_view c.args.table.now in
+    let f = c.in_ok-setup.setup.frame in
+    let clock = own_clock c.in_ok-setup.setup in
+    let has : HasFrame ms f = subst (HasFrame ms) (sym c.in_ok-setup.ensures.frame) c.in_ok-frame.ensures.frame in
+    let all = entries_refused SpelledLoad BrokenLoad Load (codes "load") (λ d. d.loads) ms f clock _
+    c.in_err-loads.field-0.0 has c.in_ok-setup.ensures.clock c.in_ok-arrays.ensures.loads (λ d spelled. spelled.loads)
+    (load_broken ms f clock has c.in_ok-setup.ensures.clock) c.in_err-loads.ensures.refused in
     search (rules, all)
 
 pub returns-in_err-unloads-clause-refused : goal.returns-in_err-unloads-clause-refused
 returns-in_err-unloads-clause-refused c =
     let ms = table_view c.args.table.now in
-    let all = refuses c.in_err-unloads.field-0.0 (SpellsNothing ms) (BrokenAt ms)
-    (unloads_excluded _ c.in_ok-frame.frame _ c.in_err-unloads.field-0.0 c.in_ok-frame.ensures.frame
-    c.in_ok-arrays.ensures.unloads c.in_err-unloads.ensures.refused) in
+    let f = c.in_ok-setup.setup.frame in
+    let has : HasFrame ms f = subst (HasFrame ms) (sym c.in_ok-setup.ensures.frame) c.in_ok-frame.ensures.frame in
+    let all = entries_refused (λ f _. SpelledUnload f) (λ _ _ _ _. ⊥) Unload (codes "unload") (λ d. d.unloads) ms f _ _
+    c.in_err-unloads.field-0.0 has c.in_ok-setup.ensures.clock c.in_ok-arrays.ensures.unloads
+    (λ d spelled. spelled.unloads) (none_broken ms Unload _) c.in_err-unloads.ensures.refused in
     search (rules, all)
 
 pub returns-in_err-corruptions-clause-refused : goal.returns-in_err-corruptions-clause-refused
 returns-in_err-corruptions-clause-refused c =
     let ms = table_view c.args.table.now in
-    let all = refuses c.in_err-corruptions.field-0.0 (SpellsNothing ms) (BrokenAt ms)
-    (corruptions_excluded _ c.in_ok-frame.frame _ c.in_err-corruptions.field-0.0 c.in_ok-frame.ensures.frame
-    c.in_ok-arrays.ensures.corruptions c.in_err-corruptions.ensures.refused) in
+    let f = c.in_ok-setup.setup.frame in
+    let has : HasFrame ms f = subst (HasFrame ms) (sym c.in_ok-setup.ensures.frame) c.in_ok-frame.ensures.frame in
+    let all = entries_refused (λ f _. SpelledCorrupt f) (λ _ _ _ _. ⊥) Corrupt (codes "corrupt") (λ d. d.corruptions)
+    ms f _ _ c.in_err-corruptions.field-0.0 has c.in_ok-setup.ensures.clock c.in_ok-arrays.ensures.corruptions
+    (λ d spelled. spelled.corruptions) (none_broken ms Corrupt _) c.in_err-corruptions.ensures.refused in
     search (rules, all)
 
 pub returns-in_err-entries-clause-refused : goal.returns-in_err-entries-clause-refused
 returns-in_err-entries-clause-refused c =
     let ms = table_view c.args.table.now in
-    let all = refuses c.in_err-entries.field-0.0 (SpellsNothing ms) (BrokenAt ms)
-    (entries_excluded _ c.in_ok-frame.frame _ c.in_err-entries.field-0.0 c.in_ok-frame.ensures.frame
-    c.in_ok-arrays.ensures.entries c.in_err-entries.ensures.refused) in
+    let f = c.in_ok-setup.setup.frame in
+    let has : HasFrame ms f = subst (HasFrame ms) (sym c.in_ok-setup.ensures.frame) c.in_ok-frame.ensures.frame in
+    let all = entries_refused (λ f _. SpelledCoin f) (λ _ _ _ _. ⊥) Coin (codes "coin") (λ d. d.entries) ms f _ _
+    c.in_err-entries.field-0.0 has c.in_ok-setup.ensures.clock c.in_ok-arrays.ensures.entries
+    (λ d spelled. spelled.entries) (none_broken ms Coin _) c.in_err-entries.ensures.refused in
     search (rules, all)
 
 pub returns-clause-reads : goal.returns-clause-reads
 returns-clause-reads c =
-    let frame = c.in_ok-frame.frame in
     let setup = c.in_ok-setup.setup in
-    let same : setup.frame ≡ frame = c.in_ok-setup.ensures.frame in
-    let clock = own_clock setup in
+    let f = setup.frame in
+    let ms = table_view c.args.table.now in
     let held = c.in_ok-arrays.ensures in
-    let there = get_member (codes "load") (table_view c.args.table.now) in
-    let loads = map load_of c.in_ok-loads.loads.items in
     record {
-      spelled = spelled_whole _ _ (search rules) c.in_ok-frame.ensures.frame c.in_ok-coins.ensures.coins
-          c.in_ok-key.ensures.key c.in_ok-setup.ensures.clock
-          (subst (λ f. MayBeArray (IsTable (SpelledLoad f clock)) there loads) same
-          (subst (λ o. MayBeArray (IsTable (SpelledLoad setup.frame clock)) o loads) held.loads
-          c.in_ok-loads.ensures.loads))
-          (subst (λ o. MayBeArray (IsTable (SpelledUnload frame)) o c.in_ok-unloads.unloads.items) held.unloads
-          c.in_ok-unloads.ensures.unloads)
-          (subst (λ o. MayBeArray (IsTable (SpelledCorrupt frame)) o
-          (map corrupt_of c.in_ok-corruptions.corruptions.items)) held.corruptions
-          c.in_ok-corruptions.ensures.corruptions)
-          (subst (λ o. MayBeArray (IsTable (SpelledCoin frame)) o c.in_ok-entries.entries.items) held.entries
-          c.in_ok-entries.ensures.entries)
+      spelled = spelled_whole _ _ (search rules)
+          (subst (HasFrame ms) (sym c.in_ok-setup.ensures.frame) c.in_ok-frame.ensures.frame)
+          c.in_ok-coins.ensures.coins c.in_ok-key.ensures.key c.in_ok-setup.ensures.clock
+          (subst (λ o. MayBeArray (IsTable (SpelledLoad f (own_clock setup))) o (map load_of c.in_ok-loads.loads.items))
+          held.loads c.in_ok-loads.ensures.entries)
+          (plain_entries (IsTable (SpelledUnload f)) _ _ _ held.unloads c.in_ok-unloads.ensures.entries)
+          (subst (λ o. MayBeArray (IsTable (SpelledCorrupt f)) o (map corrupt_of c.in_ok-corruptions.corruptions.items))
+          held.corruptions c.in_ok-corruptions.ensures.entries)
+          (plain_entries (IsTable (SpelledCoin f)) _ _ _ held.entries c.in_ok-entries.ensures.entries)
           held.has;
       clock = c.in_ok-setup.ensures.fits;
-      typable = subst (λ f. All (FitsLoad f) c.in_ok-loads.loads.items) same c.in_ok-loads.ensures.fits;
+      typable = c.in_ok-loads.ensures.fits;
     }

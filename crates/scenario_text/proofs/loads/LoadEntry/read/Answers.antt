@@ -14,7 +14,7 @@ use Rattle.scenario_text.specs.Tables.{HasText}
 use Rattle.scenario_text.specs.Views.{extent_of}
 use Rattle.scenario_text.proofs.FrameLemmas.{refuses_more}
 use Rattle.scenario_text.proofs.NameLemmas.{one_kind}
-use Rattle.scenario_text.proofs.loads.load_of.Goals as goal
+use Rattle.scenario_text.proofs.loads.LoadEntry.read.Goals as goal
 
 -- all of the load was read, but its program
 pub returns-in_err-program-clause-refused : goal.returns-in_err-program-clause-refused

@@ -1,11 +1,10 @@
 use Rattle.std.proofs.Common.{◌≡◌, take}
 use Rattle.toml.specs.View.{items_view}
 use Rattle.scenario_text.specs.Tables.{ReadsEach}
-use Rattle.scenario_text.specs.Spelling.{IsSaid}
-use Rattle.scenario_text.proofs.numbers.said_of.Given as goal
+use Rattle.scenario_text.proofs.numbers.items_of.Given as goal
 
 abbrev pub invariant-loop-value : goal.invariant-loop-value
-invariant-loop-value l = record {
+invariant-loop-value g l = record {
   same : l.value-items ≡ l.array.items;
-  read : ReadsEach IsSaid (items_view (take l.value-index l.value-items)) l.said.items;
+  read : ReadsEach (g.R.ItemReader.reads l.reader) (items_view (take l.value-index l.value-items)) l.items.items;
 }
