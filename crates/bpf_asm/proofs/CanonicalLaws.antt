@@ -19,15 +19,16 @@ use Rattle.bpf_insn.specs.Programs.{IsProgram}
 use Rattle.bpf_asm.specs.declared.words.Form.{Form}
 use Rattle.bpf_asm.specs.declared.words.Form.TheVariants as forms
 use Rattle.bpf_asm.specs.declared.forms.TheConstants.{FORMS}
-use Rattle.bpf_asm.specs.declared.helpers.Helper.{Helper}
-use Rattle.bpf_asm.specs.declared.helpers.Helper.TheVariants.{Id, Recv, Send, Coin}
+use Rattle.node_env.specs.declared.helper.Helper.{Helper}
+use Rattle.node_env.specs.declared.helper.Helper.TheVariants.{Id, Recv, Send, Coin}
+use Rattle.node_env.specs.Helpers.{helper_word, helper_by_word, helper_of}
 use Rattle.bpf_asm.specs.Canonical.{with_sign, operand_text, address_text, callee_text, form_in, operand_texts, after_commas, after_word, canonical_line, canonical_text}
 use Rattle.bpf_asm.specs.Meaning.{lines_in, is_map, insns_from, places_from, slot_of, before_all, Means}
 use Rattle.bpf_asm.specs.Numbers.{numeral_of, magnitude_of, in_field, wide_of}
-use Rattle.bpf_asm.specs.Operands.{option_both, immediate_of, operand_of, operand_by, helper_of, id_by, wide_number_of, offset_of, address_between, address_of, address_by, target_of, distance, one, two, three, operands_of, operands_by}
+use Rattle.bpf_asm.specs.Operands.{option_both, immediate_of, operand_of, operand_by, callee_of, id_by, wide_number_of, offset_of, address_between, address_of, address_by, target_of, distance, one, two, three, operands_of, operands_by}
 use Rattle.bpf_asm.specs.Pieces.{pieces_of, is_blank, is_word_letter, front_of, rest_of, trimmed, first_of}
 use Rattle.bpf_asm.specs.Statements.{Line, whole, jump_to, source_by, source_behind, ends_word, line_by, line_of}
-use Rattle.bpf_asm.specs.Words.{word_of, register_word, register_by_word, helper_word, helper_by_word, helper_by_number}
+use Rattle.bpf_asm.specs.Words.{word_of, register_word, register_by_word}
 use Rattle.bpf_asm.proofs.PlainLemmas.{IsPlain, plain-append, piece-mark, piece-alone, front_before, rest_behind, trimmed_behind, decimal_plain, no_digit, digit_no_blank, numeral-decimal, magnitude-decimal, number-decimal, first_digit, Within, within16, within32, in_field-written, number-signed, signed_number-sign}
 use Rattle.bpf_asm.proofs.StatementLemmas.{word_read, line_read}
 use Rattle.bpf_asm.proofs.WordLaws.{form_named, register_named, register_word_named, helper_named, helper_word_named, helper_number_named}
@@ -250,8 +251,8 @@ callee_operand : (id : ℤ) → FitsSigned w32 id → (found : Option Helper) �
 callee_operand id fits None = signed_operand 2147483647 id (omega arith) (within32 id fits)
 callee_operand id fits (Some h) = (helpers h).operand
 
-callee_read : (id : ℤ) → FitsSigned w32 id → (found : Option Helper) → helper_by_number id ≡ found
-    → helper_of (callee_text id found) ≡ Some id
+callee_read : (id : ℤ) → FitsSigned w32 id → (found : Option Helper) → helper_of id ≡ found
+    → callee_of (callee_text id found) ≡ Some id
 callee_read id fits None found =
     ap (λ o. id_by o (signed_decimal id)) (no_helper 2147483647 id (omega arith) (within32 id fits))
     ∙ immediate_read id fits
@@ -410,9 +411,9 @@ insn_reads (insn.Branch cond width dst (operands.Imm value) off) fits = branch_r
 insn_reads (insn.Branch cond width dst (operands.Reg src) off) fits = branch_reads cond width dst
     (operands.Reg src) off tt fits
 insn_reads (insn.Call id) fits =
-    ap (source_by forms.Call) (operands_one (callee_text id (helper_by_number id))
-    (callee_operand id fits (helper_by_number id)))
-    ∙ ap (option_map (λ n. whole (insn.Call n))) (callee_read id fits (helper_by_number id) refl)
+    ap (source_by forms.Call) (operands_one (callee_text id (helper_of id))
+    (callee_operand id fits (helper_of id)))
+    ∙ ap (option_map (λ n. whole (insn.Call n))) (callee_read id fits (helper_of id) refl)
 insn_reads insn.Exit fits = refl
 insn_reads (insn.Load size dst base off) fits =
     ap (source_by (forms.Load size)) (operands_two (register_word dst) (address_text base off) (registers dst).operand
@@ -517,7 +518,7 @@ insn_operands (insn.Branch cond width dst (operands.Imm value) off) fits = (
 )
 insn_operands (insn.Branch cond width dst (operands.Reg src) off) fits =
     ((registers dst).operand, ((registers src).operand, (sign_operand 32767 off (omega arith) (within16 off fits), tt)))
-insn_operands (insn.Call id) fits = (callee_operand id fits (helper_by_number id), tt)
+insn_operands (insn.Call id) fits = (callee_operand id fits (helper_of id), tt)
 insn_operands insn.Exit fits = tt
 insn_operands (insn.Load size dst base off) fits = ((registers dst).operand, (address_operand base off fits, tt))
 insn_operands (insn.LoadSx size dst base off) fits = ((registers dst).operand, (address_operand base off fits, tt))

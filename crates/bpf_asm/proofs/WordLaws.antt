@@ -18,11 +18,12 @@ use Rattle.bpf_insn.specs.declared.forms.SxSize.TheVariants as sx_sizes
 use Rattle.bpf_asm.specs.declared.words.Form.{Form}
 use Rattle.bpf_asm.specs.declared.words.Form.TheVariants as forms
 use Rattle.bpf_asm.specs.declared.forms.TheConstants.{FORMS}
-use Rattle.bpf_asm.specs.declared.helpers.Helper.{Helper}
-use Rattle.bpf_asm.specs.declared.helpers.Helper.TheVariants.{Id, Recv, Send, Coin}
-use Rattle.bpf_asm.specs.declared.helpers.TheConstants.{HELPERS}
+use Rattle.node_env.specs.declared.helper.Helper.{Helper}
+use Rattle.node_env.specs.declared.helper.Helper.TheVariants.{Id, Recv, Send, Coin}
+use Rattle.node_env.specs.declared.helper.TheConstants.{HELPERS}
+use Rattle.node_env.specs.Helpers.{helper_word, helper_number, helper_by_word, helper_of}
 use Rattle.bpf_asm.specs.declared.registers.TheConstants.{REGISTERS}
-use Rattle.bpf_asm.specs.Words.{word_of, form_of, helper_word, helper_number, helper_by_word, helper_by_number, register_word, register_by_word}
+use Rattle.bpf_asm.specs.Words.{word_of, form_of, register_word, register_by_word}
 
 -- what is found passes the test
 pub found_passes : {X : Type 0} (p : X → Bool) (xs : List X) (x : X) → find p xs ≡ Some x → p x ≡ true
@@ -140,7 +141,7 @@ helper_named Recv = refl
 helper_named Send = refl
 helper_named Coin = refl
 
-pub helper_numbered : (helper : Helper) → helper_by_number (helper_number helper) ≡ Some helper
+pub helper_numbered : (helper : Helper) → helper_of (helper_number helper) ≡ Some helper
 helper_numbered Id = refl
 helper_numbered Recv = refl
 helper_numbered Send = refl
@@ -149,7 +150,7 @@ helper_numbered Coin = refl
 same_numbers : (a b : ℤ) → int_eq a b ≡ true → a ≡ b
 same_numbers a b same = grind (arith, Decides-int_eq a b)
 
-pub helper_number_named : (number : ℤ) (helper : Helper) → helper_by_number number ≡ Some helper
+pub helper_number_named : (number : ℤ) (helper : Helper) → helper_of number ≡ Some helper
     → number ≡ helper_number helper
 helper_number_named number helper found = sym (same_numbers (helper_number helper) number
     (found_passes (λ h. int_eq (helper_number h) number) HELPERS helper found))
@@ -188,10 +189,6 @@ passes_found p test (y ∷ ys) x all found = by_tests (p y) (test y) refl all fo
 
 pub every_form : (test : Form → Bool) → list_all test FORMS ≡ true → (form : Form) → test form ≡ true
 every_form test all form = passes_found (λ f. bytes_eq (word_of f) (word_of form)) test FORMS form all (form_named form)
-
-pub every_helper : (test : Helper → Bool) → list_all test HELPERS ≡ true → (helper : Helper) → test helper ≡ true
-every_helper test all helper = passes_found (λ h. bytes_eq (helper_word h) (helper_word helper)) test HELPERS helper
-    all (helper_named helper)
 
 pub every_register : (test : Reg → Bool) → list_all test REGISTERS ≡ true → (register : Reg) → test register ≡ true
 every_register test all register = passes_found

@@ -11,8 +11,9 @@ use Rattle.bpf_insn.specs.declared.forms.Insn.{Insn}
 use Rattle.bpf_insn.specs.declared.forms.Insn.TheVariants as insns
 use Rattle.bpf_asm.specs.declared.words.Form.{Form}
 use Rattle.bpf_asm.specs.declared.words.Form.TheVariants as forms
-use Rattle.bpf_asm.specs.declared.helpers.Helper.{Helper}
-use Rattle.bpf_asm.specs.Words.{word_of, register_word, helper_word, helper_by_number}
+use Rattle.node_env.specs.declared.helper.Helper.{Helper}
+use Rattle.node_env.specs.Helpers.{helper_of, helper_word}
+use Rattle.bpf_asm.specs.Words.{word_of, register_word}
 
 -- a number with its sign always, as of distances and offsets
 abbrev pub with_sign : ℤ → List ℕ
@@ -61,7 +62,7 @@ operand_texts (insns.Swap order bits dst) = register_word dst ∷ []
 operand_texts (insns.Ja off) = with_sign off ∷ []
 operand_texts (insns.JaLong off) = with_sign off ∷ []
 operand_texts (insns.Branch cond width dst src off) = register_word dst ∷ operand_text src ∷ with_sign off ∷ []
-operand_texts (insns.Call id) = callee_text id (helper_by_number id) ∷ []
+operand_texts (insns.Call id) = callee_text id (helper_of id) ∷ []
 operand_texts insns.Exit = []
 operand_texts (insns.Load size dst base off) = register_word dst ∷ address_text base off ∷ []
 operand_texts (insns.LoadSx size dst base off) = register_word dst ∷ address_text base off ∷ []

@@ -6,13 +6,14 @@ use Rattle.std.specs.List.{list_all}
 use Rattle.bpf_insn.specs.declared.forms.Reg as registers
 use Rattle.bpf_insn.specs.declared.forms.Operand.{Operand}
 use Rattle.bpf_insn.specs.declared.forms.Operand.TheVariants.{Imm, Reg}
-use Rattle.bpf_asm.specs.declared.helpers.Helper.{Helper}
+use Rattle.node_env.specs.declared.helper.Helper.{Helper}
+use Rattle.node_env.specs.Helpers.{helper_by_word, helper_number}
 use Rattle.bpf_asm.specs.declared.numbers.TheConstants.{GREATEST_IMMEDIATE, GREATEST_OFFSET}
 use Rattle.bpf_asm.specs.declared.operands.TheConstants.{NAME_LETTERS}
 use Rattle.bpf_asm.specs.declared.operands.Address.{Address}
 use Rattle.bpf_asm.specs.Numbers.{numeral_of, magnitude_of, number_of, signed_number_of, in_field, wide_of}
 use Rattle.bpf_asm.specs.Pieces.{pieces_of, trimmed, begins_name, is_word_letter, front_of, rest_of}
-use Rattle.bpf_asm.specs.Words.{register_by_word, helper_by_word, helper_number}
+use Rattle.bpf_asm.specs.Words.{register_by_word}
 
 -- a value made of two, where both are there
 abbrev pub option_both : {A B : Type 0} → Option A → Option B → Option (A × B)
@@ -32,13 +33,13 @@ operand_by None text = option_map Imm (immediate_of text)
 abbrev pub operand_of : List ℕ → Option Operand
 operand_of text = operand_by (register_by_word text) text
 
--- the number of a helper: its word or else an immediate
+-- what a call names: a helper by its word, or else by an immediate
 abbrev pub id_by : Option Helper → List ℕ → Option ℤ
 id_by (Some helper) text = Some (helper_number helper)
 id_by None text = immediate_of text
 
-abbrev pub helper_of : List ℕ → Option ℤ
-helper_of text = id_by (helper_by_word text) text
+abbrev pub callee_of : List ℕ → Option ℤ
+callee_of text = id_by (helper_by_word text) text
 
 abbrev pub wide_number_of : List ℕ → Option ℕ
 wide_number_of text = option_and_then wide_of (number_of text)

@@ -11,7 +11,7 @@ use Rattle.bpf_asm.specs.declared.words.Form.{Form}
 use Rattle.bpf_asm.specs.declared.words.Form.TheVariants.{Alu, Neg, Movsx, Swap, Ja, JaLong, Branch, Call, Exit, Load}
 use Rattle.bpf_asm.specs.declared.words.Form.TheVariants.{LoadSx, StoreReg, StoreImm, LoadImm64}
 use Rattle.bpf_asm.specs.Operands.{Operands, one, two, three, operands_of, option_both, Target, distance, label}
-use Rattle.bpf_asm.specs.Operands.{target_of, immediate_of, operand_of, helper_of, wide_number_of}
+use Rattle.bpf_asm.specs.Operands.{target_of, immediate_of, operand_of, callee_of, wide_number_of}
 use Rattle.bpf_asm.specs.Operands.{address_of, is_name}
 use Rattle.bpf_asm.specs.Pieces.{is_blank, is_word_letter, front_of, rest_of, without_comment}
 use Rattle.bpf_asm.specs.Words.{form_of, register_by_word}
@@ -64,7 +64,7 @@ source_by Ja operands = option_map (jump_to insn.Ja) (single_by (target_of GREAT
 source_by JaLong operands = option_map (jump_to insn.JaLong) (single_by (target_of GREATEST_IMMEDIATE) operands)
 source_by (Branch cond width) operands =
     option_map (λ x. jump_to (insn.Branch cond width x.0 x.1.0) x.1.1) (condition_of operands)
-source_by Call operands = option_map (λ id. whole (insn.Call id)) (single_by helper_of operands)
+source_by Call operands = option_map (λ id. whole (insn.Call id)) (single_by callee_of operands)
 source_by Exit operands = option_map (λ x. whole insn.Exit) (single_by nothing_of operands)
 source_by (Load size) operands =
     option_map (λ x. whole (insn.Load size x.0 x.1.base x.1.off)) (pair_by register_by_word address_of operands)

@@ -1,8 +1,7 @@
 -- The words of the text and the forms that they name (docs/ASSEMBLER.md, "Words").
-use Rattle.std.specs.Prelude.{ℕ, ◌++◌, ℤ, pos, List, [], codes, Option}
+use Rattle.std.specs.Prelude.{ℕ, ◌++◌, List, [], codes, Option}
 use Rattle.std.specs.List.{find}
 use Rattle.std.specs.Str.{bytes_eq}
-use Rattle.std.specs.Ordering.{int_eq}
 use Rattle.bpf_insn.specs.declared.forms.Reg.{Reg}
 use Rattle.bpf_insn.specs.declared.forms.Reg.TheVariants.{R0, R1, R2, R3, R4, R5, R6, R7, R8, R9, R10}
 use Rattle.bpf_insn.specs.declared.forms.AluOp.{AluOp}
@@ -24,9 +23,6 @@ use Rattle.bpf_insn.specs.declared.forms.SxSize.TheVariants as sx_sizes
 use Rattle.bpf_asm.specs.declared.words.Form.{Form}
 use Rattle.bpf_asm.specs.declared.words.Form.TheVariants as forms
 use Rattle.bpf_asm.specs.declared.forms.TheConstants.{FORMS}
-use Rattle.bpf_asm.specs.declared.helpers.Helper.{Helper}
-use Rattle.bpf_asm.specs.declared.helpers.Helper.TheVariants.{Id, Recv, Send, Coin}
-use Rattle.bpf_asm.specs.declared.helpers.TheConstants.{HELPERS}
 use Rattle.bpf_asm.specs.declared.registers.TheConstants.{REGISTERS}
 
 -- ---- the parts of a word
@@ -146,28 +142,6 @@ word_of forms.LoadImm64 = codes "lddw"
 -- the form that a word names, of all forms
 abbrev pub form_of : List ℕ → Option Form
 form_of word = find (λ form. bytes_eq (word_of form) word) FORMS
-
--- ---- the helpers that have a word (docs/MACHINE.md, "Helpers")
-
-abbrev pub helper_word : Helper → List ℕ
-helper_word Id = codes "id"
-helper_word Recv = codes "recv"
-helper_word Send = codes "send"
-helper_word Coin = codes "coin"
-
-abbrev pub helper_number : Helper → ℤ
-helper_number Id = pos 1
-helper_number Recv = pos 2
-helper_number Send = pos 3
-helper_number Coin = pos 4
-
--- the helper that a word names
-abbrev pub helper_by_word : List ℕ → Option Helper
-helper_by_word word = find (λ helper. bytes_eq (helper_word helper) word) HELPERS
-
--- the helper that has a number
-abbrev pub helper_by_number : ℤ → Option Helper
-helper_by_number number = find (λ helper. int_eq (helper_number helper) number) HELPERS
 
 -- ---- the registers
 

@@ -3,7 +3,6 @@
 
 mod assembler;
 mod forms;
-mod helpers;
 mod labels;
 mod line;
 mod listing;

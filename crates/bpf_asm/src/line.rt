@@ -2,12 +2,12 @@
 
 ghost use Rattle.std.specs.Prelude.{◌≡◌, Some};
 ghost use Rattle.bpf_asm.specs.Canonical.{callee_text, form_in, canonical_line, address_text, operand_text, with_sign};
-ghost use Rattle.bpf_asm.specs.Words.{helper_by_number};
+ghost use Rattle.node_env.specs.Helpers.{helper_of};
 
-use crate::helpers::helper_by_number;
 use crate::registers::register_word;
 use crate::words::Form;
 use bpf_insn::{Insn, Operand, Reg};
+use node_env::Helper;
 use std::fmt;
 
 /// A number that is written with its sign always.
@@ -64,10 +64,10 @@ impl fmt::Display for AddressText {
 struct CalleeText(i32);
 
 impl fmt::Display for CalleeText {
-    ghost output = { λ callee. Some (callee_text callee.0 (helper_by_number callee.0)) };
+    ghost output = { λ callee. Some (callee_text callee.0 (helper_of callee.0)) };
 
     fn fmt<W: fmt::Write>(&self, f: &mut fmt::Formatter<W>) -> fmt::Result {
-        match helper_by_number(self.0) {
+        match Helper::of(self.0) {
             Some(helper) => write!(f, "{}", helper.word()),
             None => {
                 let id = self.0;

@@ -7,20 +7,20 @@ ghost use Rattle.bpf_asm.specs.declared.numbers.TheConstants.{GREATEST_IMMEDIATE
 ghost use Rattle.bpf_asm.specs.Numbers.{Written, in_field, wide_of};
 ghost use Rattle.bpf_asm.specs.inner.Numbers.{CountsSigned};
 ghost use Rattle.bpf_asm.specs.Pieces.{is_word_letter, pieces_of};
-ghost use Rattle.bpf_asm.specs.Operands.{immediate_of, operand_of, helper_of};
+ghost use Rattle.bpf_asm.specs.Operands.{immediate_of, operand_of, callee_of};
 ghost use Rattle.bpf_asm.specs.inner.Operands.{Reads, ReadsTarget, IsWithin};
 ghost use Rattle.bpf_asm.specs.Operands.{wide_number_of, offset_of, address_inside, address_of, address_between};
 ghost use Rattle.bpf_asm.specs.Operands.{starts_name, is_name, target_of, operands_of, operands_by, parts_of};
 ghost use Rattle.bpf_asm.specs.inner.Operands.{operands_in};
 ghost use Rattle.bpf_asm.specs.Words.{register_by_word};
 
-use crate::helpers::helper_by_word;
 use crate::numbers::{
     GREATEST_IMMEDIATE, GREATEST_OFFSET, Number, signed_decimal, signed_number, whole_number,
 };
 use crate::pieces::{Letters, begins_name, first_piece, split_front, trimmed};
 use crate::registers::register_by_word;
 use bpf_insn::{Operand, Reg};
+use node_env::Helper;
 
 /// The most letters of a label.
 pub const NAME_LETTERS: usize = 32;
@@ -102,9 +102,9 @@ pub fn read_operand(text: &[u8]) -> Result<Operand, Fault>
 
 /// A helper's number: its word or a number.
 pub fn read_helper(text: &[u8]) -> Result<i32, Fault>
-    ensures { Reads (helper_of text.now) result }
+    ensures { Reads (callee_of text.now) result }
 {
-    match helper_by_word(text) {
+    match Helper::named(text) {
         Some(helper) => Ok(helper.number()),
         None => read_immediate(text),
     }

@@ -6,7 +6,7 @@ ghost use Rattle.bpf_asm.specs.declared.words.Form.TheVariants as form;
 ghost use Rattle.bpf_asm.specs.declared.numbers.TheConstants.{GREATEST_IMMEDIATE, GREATEST_OFFSET};
 ghost use Rattle.bpf_asm.specs.Operands.{two, operand_of};
 ghost use Rattle.bpf_asm.specs.inner.Operands.{Reads, ReadsTarget, IsWithin, target_in, operands_in};
-ghost use Rattle.bpf_asm.specs.Operands.{address_of, immediate_of, wide_number_of, helper_of, target_of};
+ghost use Rattle.bpf_asm.specs.Operands.{address_of, immediate_of, wide_number_of, callee_of, target_of};
 ghost use Rattle.bpf_asm.specs.Pieces.{without_comment};
 ghost use Rattle.bpf_asm.specs.Statements.{single_by, pair_by, nothing_of, condition_of, whole};
 ghost use Rattle.bpf_asm.specs.inner.Statements.{ReadsCondition};
@@ -59,7 +59,7 @@ fn one_register(parts: Parts) -> Result<Reg, Fault>
 }
 
 fn one_helper(parts: Parts) -> Result<i32, Fault>
-    ensures { Reads (single_by helper_of (operands_in parts.entry)) result }
+    ensures { Reads (single_by callee_of (operands_in parts.entry)) result }
 {
     match parts {
         Parts::One(a) => read_helper(a),

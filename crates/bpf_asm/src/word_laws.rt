@@ -3,8 +3,9 @@
 ghost use Rattle.std.specs.Prelude.{◌≡◌, ℕ, ℤ, List, Some};
 ghost use Rattle.bpf_insn.specs.declared.forms.Reg.{Reg};
 ghost use Rattle.bpf_asm.specs.declared.words.Form.{Form};
-ghost use Rattle.bpf_asm.specs.declared.helpers.Helper.{Helper};
-ghost use Rattle.bpf_asm.specs.Words.{word_of, form_of, helper_word, helper_number, helper_by_word, helper_by_number};
+ghost use Rattle.node_env.specs.declared.helper.Helper.{Helper};
+ghost use Rattle.node_env.specs.Helpers.{helper_word, helper_number, helper_by_word, helper_of};
+ghost use Rattle.bpf_asm.specs.Words.{word_of, form_of};
 ghost use Rattle.bpf_asm.specs.Words.{register_word, register_by_word};
 
 /// Each form has a word of its own, and no other word names one.
@@ -16,9 +17,9 @@ pub fn one_word_each()
 /// Each helper has a word and a number of its own, and no other names one.
 pub fn one_helper_each()
     ensures by_word { (helper : Helper) → helper_by_word (helper_word helper) ≡ Some helper }
-    ensures by_number { (helper : Helper) → helper_by_number (helper_number helper) ≡ Some helper }
+    ensures by_number { (helper : Helper) → helper_of (helper_number helper) ≡ Some helper }
     ensures word { (word : List ℕ) (helper : Helper) → helper_by_word word ≡ Some helper → word ≡ helper_word helper }
-    ensures number { (number : ℤ) (helper : Helper) → helper_by_number number ≡ Some helper →
+    ensures number { (number : ℤ) (helper : Helper) → helper_of number ≡ Some helper →
         number ≡ helper_number helper }
 {}
 

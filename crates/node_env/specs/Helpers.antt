@@ -1,27 +1,38 @@
--- The numbers of the helper functions (RFC 9669 section 4.3.1; docs/MACHINE.md, "Helpers").
-use Rattle.std.specs.Prelude.{ℕ, ℤ, pos, negsuc, ◌==◌, if◌then◌else◌, Option, Some, None}
+-- The helper functions (RFC 9669 section 4.3.1; docs/MACHINE.md, "Helpers"): the number by which a call names each, its
+-- word in a text, and how many of r1 to r5 it reads.
+use Rattle.std.specs.Prelude.{ℕ, ℤ, pos, List, codes, Option, Some, None}
+use Rattle.std.specs.List.{find}
+use Rattle.std.specs.Ordering.{int_eq}
+use Rattle.std.specs.Str.{bytes_eq}
 use Rattle.node_env.specs.declared.helper.Helper.{Helper}
 use Rattle.node_env.specs.declared.helper.Helper.TheVariants.{Id, Recv, Send, Coin}
+use Rattle.node_env.specs.declared.helper.TheConstants.{HELPERS}
 
-abbrev pub numbered : ℕ → Option Helper
-numbered n =
-    if n == 1 then Some Id
-    else if n == 2 then Some Recv
-    else if n == 3 then Some Send
-    else if n == 4 then Some Coin
-    else None
+abbrev pub helper_number : Helper → ℤ
+helper_number Id = pos 1
+helper_number Recv = pos 2
+helper_number Send = pos 3
+helper_number Coin = pos 4
 
--- the helper that a call's immediate names
-abbrev pub helper_of : ℤ → Option Helper
-helper_of (pos n) = numbered n
-helper_of (negsuc n) = None
+abbrev pub helper_word : Helper → List ℕ
+helper_word Id = codes "id"
+helper_word Recv = codes "recv"
+helper_word Send = codes "send"
+helper_word Coin = codes "coin"
 
--- how many of r1 to r5 a helper reads
 abbrev pub argument_count : Helper → ℕ
 argument_count Id = 0
 argument_count Recv = 1
 argument_count Send = 2
 argument_count Coin = 0
+
+-- the helper that a call's immediate names
+abbrev pub helper_of : ℤ → Option Helper
+helper_of id = find (λ helper. int_eq (helper_number helper) id) HELPERS
+
+-- the helper that a word names
+abbrev pub helper_by_word : List ℕ → Option Helper
+helper_by_word word = find (λ helper. bytes_eq (helper_word helper) word) HELPERS
 
 abbrev pub counted : Option Helper → ℕ
 counted None = 0

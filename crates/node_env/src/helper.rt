@@ -1,6 +1,6 @@
 //! The functions that a program can call.
 ghost use Rattle.std.specs.Prelude.{◌≡◌, ◌≤◌};
-ghost use Rattle.node_env.specs.Helpers.{argument_count, arguments_of, helper_of};
+ghost use Rattle.node_env.specs.Helpers.{arguments_of};
 
 /// A helper function that a program calls by its number (RFC 9669 section 4.3.1; docs/MACHINE.md, "Helpers").
 #[derive(Clone, Copy, Debug, PartialEq, Eq)]
@@ -15,7 +15,13 @@ pub enum Helper {
     Coin,
 }
 
+/// Every helper, once.
+pub const HELPERS: [Helper; 4] = [Helper::Id, Helper::Recv, Helper::Send, Helper::Coin];
+
 impl Helper {
+    ghost use Rattle.std.specs.Prelude.{◌≡◌, ◌≤◌};
+    ghost use Rattle.node_env.specs.Helpers.{argument_count, helper_by_word, helper_number, helper_of, helper_word};
+
     /// The helper of a number, which is a call's immediate.
     pub fn of(id: i32) -> Option<Helper>
         ensures { result ≡ helper_of id }
@@ -26,6 +32,40 @@ impl Helper {
             3 => Some(Helper::Send),
             4 => Some(Helper::Coin),
             _ => None,
+        }
+    }
+
+    /// The helper that a word names.
+    pub fn named(word: &[u8]) -> Option<Helper>
+        ensures { result ≡ helper_by_word word.now }
+    {
+        HELPERS
+            .iter()
+            .copied()
+            .find(|helper| helper.word().as_bytes() == word)
+    }
+
+    /// Its number, which is the call's immediate.
+    pub fn number(self) -> i32
+        ensures { result ≡ helper_number self }
+    {
+        match self {
+            Helper::Id => 1,
+            Helper::Recv => 2,
+            Helper::Send => 3,
+            Helper::Coin => 4,
+        }
+    }
+
+    /// Its word in a text (docs/ASSEMBLER.md, "Words").
+    pub fn word(self) -> &'static str
+        ensures { result.now ≡ helper_word self }
+    {
+        match self {
+            Helper::Id => "id",
+            Helper::Recv => "recv",
+            Helper::Send => "send",
+            Helper::Coin => "coin",
         }
     }
 

@@ -10,7 +10,7 @@ mod shape;
 mod word;
 
 pub use env::{Env, NO_MAIL};
-pub use helper::{Helper, arguments_of};
+pub use helper::{HELPERS, Helper, arguments_of};
 pub use mail::Mail;
 pub use outbox::Outbox;
 pub use region::{Region, STACK_BYTES, STACK_DWORDS};

@@ -1,4 +1,4 @@
-use Rattle.std.proofs.Common.{arith, ℕ, ◌≡◌, ◌+◌, ◌*◌, length, sym, subst, get_or, slice_set}
+use Rattle.std.proofs.Common.{arith, ℕ, ◌≡◌, ◌+◌, sym, subst, get_or, slice_set}
 use Rattle.std.proofs.lemmas.List.{length-set}
 use Rattle.std.proofs.lemmas.List.Elements.{All-set}
 use Rattle.node_env.specs.inner.Slots.{IsWord}

@@ -1,4 +1,4 @@
-use Rattle.std.proofs.Common.{arith, ◌+◌, ◌*◌, ◌≡◌, ◌<◌, ◌≤◌, take, drop, sym, ◌∙◌, ap, suc, length}
+use Rattle.std.proofs.Common.{arith, ◌*◌, ◌≡◌, ◌<◌, ◌≤◌, take, drop, sym, ◌∙◌, ap, suc, length}
 use Rattle.std.proofs.Math.Nat.{mul-le-mul_right}
 use Rattle.std.proofs.lemmas.List.{length-take-le, length-drop}
 use Rattle.node_env.specs.Env.{inbox_of}
