@@ -1,9 +1,10 @@
 -- The keys of a table and the items of an array, as the code has them and as their data has them.
 use Rattle.std.proofs.Common.{◌≡◌, ℕ, zero, suc, ◌+◌, ◌<◌, ◌≤◌, Bool, true, List, [], ◌∷◌, ◌++◌, length, map, get_or, take, arith, refl, add-one, ap, ap₂, subst, sym, ◌∙◌}
 use Rattle.std.proofs.Math.Seq.{take-suc}
-use Rattle.std.specs.Prelude.{String, codes, IsSomeAnd, Option, Some, None, string_bytes, ◌&&◌, is_some}
+use Rattle.std.specs.Prelude.{String, codes, IsSomeAnd, Option, Some, None, string_bytes, ◌&&◌, ◌||◌, is_some}
 use Rattle.std.specs.BTreeMap.{BTreeMap, keys}
-use Rattle.std.specs.List.{list_all}
+use Rattle.std.specs.List.{list_all, list_any}
+use Rattle.std.specs.Str.{bytes_eq}
 use Rattle.std.specs.declared.alloc.Global.{Global}
 use Rattle.toml.specs.declared.value.Value.{Value}
 use Rattle.toml.specs.View.{items_view, members_view, table_view, view}
@@ -16,15 +17,23 @@ use Rattle.scenario_text.specs.Drafts.{LoadDraft}
 use Rattle.scenario_text.specs.inner.Arrays.{is_table, all_tables, are_tables, items_length, entry_count, loads_counted, nodes_count, count_in, counted}
 use Rattle.scenario_text.specs.Spelling.{IsSaid, SpelledLoad, load_count}
 
-entries_known : (names : List ℕ → Bool) (es : List (String Global × Value))
-    → list_all (λ k. names (string_bytes k)) (map (λ e. e.0) es) ≡ knows names (members_view es)
-entries_known names [] = refl
-entries_known names (e ∷ es) = ap (λ b. names (string_bytes e.0) && b) (entries_known names es)
+any_mapped : {A B : Type 0} (test : B → Bool) (f : A → B) (xs : List A)
+    → list_any (λ x. test (f x)) xs ≡ list_any test (map f xs)
+any_mapped test f [] = refl
+any_mapped test f (x ∷ xs) = ap (λ b. test (f x) || b) (any_mapped test f xs)
 
--- the map's keys pass a test exactly where its data's do
-pub keys_known : (names : List ℕ → Bool) (t : BTreeMap (String Global) Value)
-    → list_all (λ k. names (string_bytes k)) (keys t) ≡ knows names (table_view t)
-keys_known names t = entries_known names t.entries
+entries_known : {A : Type 0} (text : A → List ℕ) (names : List A) (es : List (String Global × Value))
+    → list_all (λ k. list_any (λ name. bytes_eq (text name) (string_bytes k)) names) (map (λ e. e.0) es)
+    ≡ knows (map text names) (members_view es)
+entries_known text names [] = refl
+entries_known text names (e ∷ es) = ap₂ (λ a b. a && b)
+    (any_mapped (λ name. bytes_eq name (string_bytes e.0)) text names) (entries_known text names es)
+
+-- the map's keys are among some names exactly where its data's are
+pub keys_known : {A : Type 0} (text : A → List ℕ) (names : List A) (t : BTreeMap (String Global) Value)
+    → list_all (λ k. list_any (λ name. bytes_eq (text name) (string_bytes k)) names) (keys t)
+    ≡ knows (map text names) (table_view t)
+keys_known text names t = entries_known text names t.entries
 
 -- one more value and what it says
 pub reads_more : {A : Type 0} (reads : Data → A → Type 0) (vs : List Value) (xs : List A) (v : Value) (x : A)

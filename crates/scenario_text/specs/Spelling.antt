@@ -1,6 +1,5 @@
 -- How a table spells a scenario (docs/SCENARIOS.md, "Keys").
-use Rattle.std.specs.Prelude.{◌≡◌, ℕ, pos, negsuc, ◌+◌, ◌-◌, ◌%◌, ◌≤◌, ◌==◌, ◌||◌, ◌&&◌, ◌⊎◌, if◌then◌else◌, Bool, true, false, List, [], ◌∷◌, codes, length, Option, Some, None}
-use Rattle.std.specs.Str.{bytes_eq}
+use Rattle.std.specs.Prelude.{◌≡◌, ℕ, pos, negsuc, ◌+◌, ◌-◌, ◌%◌, ◌≤◌, ◌==◌, ◌++◌, ◌⊎◌, if◌then◌else◌, Bool, true, false, List, [], ◌∷◌, codes, length, Option, Some, None}
 use Rattle.toml.specs.Data.{Data, string, integer, Members, get_member}
 use Rattle.bpf_insn.specs.declared.forms.Insn.{Insn}
 use Rattle.bpf_asm.specs.Meaning.{Means}
@@ -21,20 +20,11 @@ use Rattle.scenario_text.specs.declared.scenario.Frame.{Frame}
 
 -- ---- the top keys
 
-abbrev pub is_frame_key : List ℕ → Bool
-is_frame_key key =
-    bytes_eq key (codes "version") || (bytes_eq key (codes "nodes") || (bytes_eq key (codes "faults")
-    || (bytes_eq key (codes "modulus") || (bytes_eq key (codes "memory") || bytes_eq key (codes "pulses")))))
-
-abbrev pub is_array_key : List ℕ → Bool
-is_array_key key =
-    bytes_eq key (codes "load") || (bytes_eq key (codes "unload") || (bytes_eq key (codes "corrupt")
-    || bytes_eq key (codes "coin")))
-
 -- the top keys of every version
-abbrev pub is_plain_top_key : List ℕ → Bool
-is_plain_top_key key =
-    is_frame_key key || (bytes_eq key (codes "coins") || (bytes_eq key (codes "key") || is_array_key key))
+abbrev pub plain_top_keys : List (List ℕ)
+plain_top_keys =
+    codes "version" ∷ codes "nodes" ∷ codes "faults" ∷ codes "modulus" ∷ codes "memory" ∷ codes "pulses"
+    ∷ codes "coins" ∷ codes "key" ∷ codes "load" ∷ codes "unload" ∷ codes "corrupt" ∷ codes "coin" ∷ []
 
 -- whether this is the version that has the key `clock`
 abbrev pub is_clock_version : Option Data → Bool
@@ -45,8 +35,9 @@ abbrev pub has_clock_key : Members → Bool
 has_clock_key members = is_clock_version (get_member (codes "version") members)
 
 -- the top keys, where `clock` is one or isn't
-abbrev pub is_top_key : Bool → List ℕ → Bool
-is_top_key with_clock key = is_plain_top_key key || (with_clock && bytes_eq key (codes "clock"))
+abbrev pub top_keys : Bool → List (List ℕ)
+top_keys true = plain_top_keys ++ codes "clock" ∷ []
+top_keys false = plain_top_keys
 
 -- the version is the first where it isn't told
 abbrev pub HasVersion : Members → ℕ → Type 0
@@ -89,14 +80,14 @@ kind_name Say = codes "say"
 kind_name Echo = codes "echo"
 kind_name Asm = codes "asm"
 
-abbrev pub is_plain_load_key : List ℕ → Bool
-is_plain_load_key key = bytes_eq key (codes "pulse") || (bytes_eq key (codes "nodes") || bytes_eq key (codes "program"))
+abbrev pub plain_load_keys : List (List ℕ)
+plain_load_keys = codes "pulse" ∷ codes "nodes" ∷ codes "program" ∷ []
 
 -- a kind's own key is unknown with the others
-abbrev pub is_load_key : Kind → List ℕ → Bool
-is_load_key Say key = is_plain_load_key key || bytes_eq key (codes "values")
-is_load_key Asm key = is_plain_load_key key || bytes_eq key (codes "text")
-is_load_key _ key = is_plain_load_key key
+abbrev pub load_keys : Kind → List (List ℕ)
+load_keys Say = plain_load_keys ++ codes "values" ∷ []
+load_keys Asm = plain_load_keys ++ codes "text" ∷ []
+load_keys _ = plain_load_keys
 
 -- a number to be sent, or -1 for nothing
 abbrev pub IsSaid : Data → Option ℕ → Type 0
@@ -137,34 +128,34 @@ pub record SpelledLoad (f : Frame) (clock : Option (List Insn)) (members : Membe
   pub pulse : HasNumber members (codes "pulse") 1 f.pulses load.pulse
   pub nodes : IsArray (IsNumber 0 (f.nodes - 1)) (get_member (codes "nodes") members) load.nodes
   pub named : HasText members (codes "program") (kind_name load.kind)
-  pub known : knows (is_load_key load.kind) members ≡ true
+  pub known : knows (load_keys load.kind) members ≡ true
   pub program : IsProgramOf f clock load.kind members load.program
 
 -- ---- the other entries
 
-abbrev pub is_unload_key : List ℕ → Bool
-is_unload_key key = bytes_eq key (codes "pulse") || bytes_eq key (codes "node")
+abbrev pub unload_keys : List (List ℕ)
+unload_keys = codes "pulse" ∷ codes "node" ∷ []
 
 pub record SpelledUnload (f : Frame) (members : Members) (unload : Unload) : Type 0 where
-  pub known : knows is_unload_key members ≡ true
+  pub known : knows unload_keys members ≡ true
   pub pulse : HasNumber members (codes "pulse") 1 f.pulses unload.pulse
   pub node : HasNumber members (codes "node") 0 (f.nodes - 1) unload.node
 
-abbrev pub is_corrupt_key : List ℕ → Bool
-is_corrupt_key key = is_unload_key key || bytes_eq key (codes "image")
+abbrev pub corrupt_keys : List (List ℕ)
+corrupt_keys = unload_keys ++ codes "image" ∷ []
 
 pub record SpelledCorrupt (f : Frame) (members : Members) (corrupt : CorruptDraft) : Type 0 where
-  pub known : knows is_corrupt_key members ≡ true
+  pub known : knows corrupt_keys members ≡ true
   pub pulse : HasNumber members (codes "pulse") 1 f.pulses corrupt.pulse
   pub node : HasNumber members (codes "node") 0 (f.nodes - 1) corrupt.node
   pub image : IsArray (IsNumber 0 255) (get_member (codes "image") members) corrupt.image
   pub whole : length corrupt.image ≡ f.memory
 
-abbrev pub is_coin_key : List ℕ → Bool
-is_coin_key key = is_unload_key key || bytes_eq key (codes "value")
+abbrev pub coin_keys : List (List ℕ)
+coin_keys = unload_keys ++ codes "value" ∷ []
 
 pub record SpelledCoin (f : Frame) (members : Members) (entry : CoinEntry) : Type 0 where
-  pub known : knows is_coin_key members ≡ true
+  pub known : knows coin_keys members ≡ true
   pub pulse : HasNumber members (codes "pulse") 1 f.pulses entry.pulse
   pub node : HasNumber members (codes "node") 0 (f.nodes - 1) entry.node
   pub value : HasNumber members (codes "value") 0 1 entry.value
@@ -177,7 +168,7 @@ load_count [] = 0
 load_count (load ∷ loads) = length load.nodes + load_count loads
 
 pub record Spelled (members : Members) (d : Draft) : Type 0 where
-  pub known : knows (is_top_key (has_clock_key members)) members ≡ true
+  pub known : knows (top_keys (has_clock_key members)) members ≡ true
   pub frame : HasFrame members d.frame
   pub coins : HasCoins members d.coins
   pub key : HasKey members d.coins d.key

@@ -1,44 +1,22 @@
 //! The entries `[[corrupt]]`.
-ghost use Rattle.std.specs.Prelude.{◌≡◌, List, ℕ, IfOk, IfErr, string_bytes, codes, length};
-ghost use Rattle.std.specs.BTreeMap.{keys};
-ghost use Rattle.std.specs.List.{list_all};
+ghost use Rattle.std.specs.Prelude.{◌≡◌, List, ℕ, IfOk, IfErr, codes, length};
 ghost use Rattle.toml.specs.Data.{get_member};
 ghost use Rattle.toml.specs.View.{table_view};
 ghost use Rattle.scenario_text.specs.declared.refusal.Place.TheVariants.{Corrupt as CorruptAt};
 ghost use Rattle.scenario_text.specs.Drafts.{CorruptDraft};
 ghost use Rattle.scenario_text.specs.Views.{corrupt_of};
 ghost use Rattle.scenario_text.specs.Faults.{Excludes};
-ghost use Rattle.scenario_text.specs.Tables.{knows, IsArray, IsNumber};
-ghost use Rattle.scenario_text.specs.Spelling.{is_corrupt_key, SpelledCorrupt};
+ghost use Rattle.scenario_text.specs.Tables.{IsArray, IsNumber};
+ghost use Rattle.scenario_text.specs.Spelling.{SpelledCorrupt};
 
 use crate::entries::Entry;
 use crate::numbers::{Byte, integers_at, items_of};
 use crate::refusal::{Place, ScenarioError};
 use crate::scenario::Corrupt;
 use crate::setup::Setup;
-use crate::table::number_at;
-use crate::unloads::is_unload_key;
+use crate::table::{knows_keys, number_at};
 use std::alloc::Global;
 use toml::Table;
-
-fn is_corrupt_key(key: &str) -> bool
-    ensures { result ≡ is_corrupt_key key.now }
-{
-    is_unload_key(key) || key == "image"
-}
-
-fn has_corrupt_keys(table: &Table) -> bool
-    ensures { result ≡ list_all (λ key. is_corrupt_key (string_bytes key)) (keys table.now) }
-{
-    table.keys().all(|key| is_corrupt_key(key.as_str()))
-}
-
-#[tactic(auto, using(crate::proofs::TableLemmas::keys_known))]
-fn knows_corrupt_keys(table: &Table) -> bool
-    ensures { result ≡ knows is_corrupt_key (table_view table.now) }
-{
-    has_corrupt_keys(table)
-}
 
 /// The image, which has as many bytes as a node's memory.
 #[tactic(auto, using(crate::proofs::TableLemmas::reads_length))]
@@ -88,7 +66,7 @@ impl Entry for Corrupt {
     ) -> Result<Corrupt, ScenarioError> {
         let place = Place::Corrupt(index);
         let frame = setup.frame;
-        if !knows_corrupt_keys(table) {
+        if !knows_keys(table, &["pulse", "node", "image"]) {
             return Err(ScenarioError::UnknownKey { place });
         }
         let pulse = number_at(table, place, "pulse", 1, frame.pulses as u64)?;

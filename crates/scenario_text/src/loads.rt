@@ -1,7 +1,5 @@
 //! The entries `[[load]]`.
-ghost use Rattle.std.specs.Prelude.{◌≡◌, ℕ, List, Option, IfOk, IfErr, MatchResult, string_bytes, length, codes};
-ghost use Rattle.std.specs.BTreeMap.{keys};
-ghost use Rattle.std.specs.List.{list_all};
+ghost use Rattle.std.specs.Prelude.{◌≡◌, ℕ, List, Option, IfOk, IfErr, MatchResult, length, codes};
 ghost use Rattle.toml.specs.Data.{get_member};
 ghost use Rattle.toml.specs.View.{table_view};
 ghost use Rattle.bpf_insn.specs.declared.forms.Insn.{Insn};
@@ -14,7 +12,7 @@ ghost use Rattle.scenario_text.specs.Faults.{Excludes, Refuses};
 ghost use Rattle.scenario_text.specs.inner.Faults.{IsOfSpelling};
 ghost use Rattle.scenario_text.specs.inner.Setups.{IsSetup, own_clock};
 ghost use Rattle.scenario_text.specs.Tables.{knows, HasText, IsArray};
-ghost use Rattle.scenario_text.specs.Spelling.{is_plain_load_key, is_load_key, kind_name, IsSaid, IsProgramOf, MeansAt, SpelledLoad};
+ghost use Rattle.scenario_text.specs.Spelling.{load_keys, kind_name, IsSaid, IsProgramOf, MeansAt, SpelledLoad};
 ghost use Rattle.scenario_text.specs.Views.{load_of, extent_of, FitsFrame, FitsLoad};
 
 use crate::entries::Entry;
@@ -23,39 +21,20 @@ use crate::programs::{accepted, program_in, say_program};
 use crate::refusal::{Place, ScenarioError};
 use crate::scenario::{Kind, Load};
 use crate::setup::Setup;
-use crate::table::{number_at, value_at};
+use crate::table::{knows_keys, number_at, value_at};
 use crate::top::kind_named;
 use bpf_verify::VerifiedProgram;
 use std::alloc::Global;
 use toml::Table;
 
-fn is_plain_load_key(key: &str) -> bool
-    ensures { result ≡ is_plain_load_key key.now }
-{
-    key == "pulse" || key == "nodes" || key == "program"
-}
-
-fn is_load_key(kind: Kind, key: &str) -> bool
-    ensures { result ≡ is_load_key kind key.now }
+fn knows_load_keys(kind: Kind, table: &Table) -> bool
+    ensures { result ≡ knows (load_keys kind) (table_view table.now) }
 {
     match kind {
-        Kind::Clock | Kind::Echo => is_plain_load_key(key),
-        Kind::Say => is_plain_load_key(key) || key == "values",
-        Kind::Asm => is_plain_load_key(key) || key == "text",
+        Kind::Clock | Kind::Echo => knows_keys(table, &["pulse", "nodes", "program"]),
+        Kind::Say => knows_keys(table, &["pulse", "nodes", "program", "values"]),
+        Kind::Asm => knows_keys(table, &["pulse", "nodes", "program", "text"]),
     }
-}
-
-fn has_load_keys(kind: Kind, table: &Table) -> bool
-    ensures { result ≡ list_all (λ key. is_load_key kind (string_bytes key)) (keys table.now) }
-{
-    table.keys().all(|key| is_load_key(kind, key.as_str()))
-}
-
-#[tactic(auto, using(crate::proofs::TableLemmas::keys_known))]
-fn knows_load_keys(kind: Kind, table: &Table) -> bool
-    ensures { result ≡ knows (is_load_key kind) (table_view table.now) }
-{
-    has_load_keys(kind, table)
 }
 
 /// The kind that a load's table names.

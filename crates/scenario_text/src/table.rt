@@ -1,11 +1,13 @@
 //! What the keys of a table hold.
-ghost use Rattle.std.specs.Prelude.{◌≡◌, ◌≤◌, ◌^◌, ◌<◌, ℕ, List, Some, IfErr, MatchResult, IfOk, map, option_map, is_ok, is_some};
-ghost use Rattle.std.specs.List.{list_all};
+ghost use Rattle.std.specs.Prelude.{◌≡◌, ◌≤◌, ◌^◌, ◌<◌, ℕ, List, Some, IfErr, MatchResult, IfOk, map, option_map, is_ok, is_some, string_bytes};
+ghost use Rattle.std.specs.BTreeMap.{keys};
+ghost use Rattle.std.specs.List.{list_all, list_any};
+ghost use Rattle.std.specs.Str.{bytes_eq};
 ghost use Rattle.toml.specs.Data.{get_member, array as array_data};
 ghost use Rattle.toml.specs.View.{view, table_view, array_view};
 ghost use Rattle.scenario_text.specs.inner.Arrays.{are_tables, is_table, all_tables};
 ghost use Rattle.scenario_text.specs.inner.Faults.{IsOfSpelling};
-ghost use Rattle.scenario_text.specs.Tables.{HasNumber};
+ghost use Rattle.scenario_text.specs.Tables.{HasNumber, knows};
 
 use crate::refusal::{Place, ScenarioError};
 use toml::value::Array;
@@ -16,6 +18,27 @@ pub(crate) fn value_at<'a>(table: &'a Table, key: &str) -> Option<&'a Value>
     ensures { option_map (λ v. view v.now) result ≡ get_member key.now (table_view table.now) }
 {
     table.get(key)
+}
+
+fn is_one_of(names: &[&str], key: &str) -> bool
+    ensures { result ≡ list_any (λ name. bytes_eq name.now key.now) names.now }
+{
+    names.iter().any(|name| *name == key)
+}
+
+fn has_keys(table: &Table, names: &[&str]) -> bool
+    ensures { result ≡ list_all (λ key. list_any (λ name. bytes_eq name.now (string_bytes key)) names.now)
+        (keys table.now) }
+{
+    table.keys().all(|key| is_one_of(names, key.as_str()))
+}
+
+/// Whether each key of the table is one of these.
+#[tactic(auto, using(crate::proofs::TableLemmas::keys_known))]
+pub(crate) fn knows_keys(table: &Table, names: &[&str]) -> bool
+    ensures { result ≡ knows (map (λ name. name.now) names.now) (table_view table.now) }
+{
+    has_keys(table, names)
 }
 
 /// The number under a key that has to be there, in its range.

@@ -1,11 +1,9 @@
 //! A whole table.
-ghost use Rattle.std.specs.Prelude.{◌≡◌, IfOk, IfErr, string_bytes};
-ghost use Rattle.std.specs.BTreeMap.{keys};
-ghost use Rattle.std.specs.List.{list_all};
+ghost use Rattle.std.specs.Prelude.{◌≡◌, IfOk, IfErr};
 ghost use Rattle.toml.specs.View.{table_view};
 ghost use Rattle.scenario_text.specs.Broken.{BrokenAt};
 ghost use Rattle.scenario_text.specs.Faults.{Refuses};
-ghost use Rattle.scenario_text.specs.Spelling.{SpellsNothing, has_clock_key, is_array_key, is_frame_key, is_plain_top_key, is_top_key};
+ghost use Rattle.scenario_text.specs.Spelling.{SpellsNothing, has_clock_key, top_keys};
 ghost use Rattle.scenario_text.specs.Tables.{knows};
 ghost use Rattle.scenario_text.specs.Views.{Reads};
 
@@ -15,33 +13,10 @@ use crate::limits::CLOCK_VERSION;
 use crate::refusal::{Place, ScenarioError};
 use crate::scenario::Scenario;
 use crate::setup::{Setup, setup_at};
-use crate::table::value_at;
+use crate::table::{knows_keys, value_at};
 use crate::top::{coins_at, frame_at, key_at};
 use std::alloc::Global;
 use toml::Table;
-
-fn is_array_key(key: &str) -> bool
-    ensures { result ≡ is_array_key key.now }
-{
-    key == "load" || key == "unload" || key == "corrupt" || key == "coin"
-}
-
-fn is_frame_key(key: &str) -> bool
-    ensures { result ≡ is_frame_key key.now }
-{
-    key == "version"
-        || key == "nodes"
-        || key == "faults"
-        || key == "modulus"
-        || key == "memory"
-        || key == "pulses"
-}
-
-fn is_plain_top_key(key: &str) -> bool
-    ensures { result ≡ is_plain_top_key key.now }
-{
-    is_frame_key(key) || key == "coins" || key == "key" || is_array_key(key)
-}
 
 /// Whether the key `clock` is known: the version is the one that has it.
 fn has_clock_key(table: &Table) -> bool
@@ -59,21 +34,30 @@ fn has_clock_key(table: &Table) -> bool
     }
 }
 
-fn is_top_key(with_clock: bool, key: &str) -> bool
-    ensures { result ≡ is_top_key with_clock key.now }
-{
-    is_plain_top_key(key) || with_clock && key == "clock"
-}
-
 fn has_top_keys(table: &Table, with_clock: bool) -> bool
-    ensures { result ≡ list_all (λ key. is_top_key with_clock (string_bytes key)) (keys table.now) }
+    ensures { result ≡ knows (top_keys with_clock) (table_view table.now) }
 {
-    table.keys().all(|key| is_top_key(with_clock, key.as_str()))
+    if with_clock {
+        knows_keys(
+            table,
+            &[
+                "version", "nodes", "faults", "modulus", "memory", "pulses", "coins", "key",
+                "load", "unload", "corrupt", "coin", "clock",
+            ],
+        )
+    } else {
+        knows_keys(
+            table,
+            &[
+                "version", "nodes", "faults", "modulus", "memory", "pulses", "coins", "key",
+                "load", "unload", "corrupt", "coin",
+            ],
+        )
+    }
 }
 
-#[tactic(auto, using(crate::proofs::TableLemmas::keys_known))]
 fn knows_top_keys(table: &Table) -> bool
-    ensures { result ≡ knows (is_top_key (has_clock_key (table_view table.now))) (table_view table.now) }
+    ensures { result ≡ knows (top_keys (has_clock_key (table_view table.now))) (table_view table.now) }
 {
     has_top_keys(table, has_clock_key(table))
 }
