@@ -17,6 +17,7 @@ mod refusal;
 mod row;
 mod steps;
 mod task;
+mod task_lists;
 
 pub use actor::Actor;
 pub use bench::{Bench, are_coins, misfit};

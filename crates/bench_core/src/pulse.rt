@@ -10,7 +10,7 @@ ghost use Rattle.bench_core.specs.Tasks.{tasks_from};
 use crate::clock_program::ClockProgram;
 use crate::entry::Entry;
 use crate::node::{NodeSlot, apply_all, copied};
-use crate::task::NodeTask;
+use crate::task::{NodeDone, NodeTask};
 use clock_nodes::ClockRule;
 use node_env::{Env, Mail, Shape};
 use std::alloc::{AllocError, Global};
@@ -27,19 +27,26 @@ pub(crate) struct OpenPulse<'a> {
     pub(crate) opening: u32,
 }
 
-/// A task for each loaded node, in node order.
-fn tasks(alloc: Global, pulse: &OpenPulse) -> Result<Vec<NodeTask>, AllocError>
+/// A task for each loaded node, in node order, in the lists of earlier results as far as there are any.
+fn tasks(
+    alloc: Global,
+    pulse: &OpenPulse,
+    earlier: &mut Vec<NodeDone>,
+) -> Result<Vec<NodeTask>, AllocError>
     requires { PartsFit pulse.now }
     ensures { IfOk result (λ tasks. tasks.items ≡ tasks_by pulse.now) }
 {
-    let mut tasks = Vec::new(alloc);
     let count = pulse.shape.nodes();
+    let mut tasks = Vec::with_capacity(alloc, count as usize)?;
     for node in 0..count {
         let slot = &pulse.nodes[node as usize];
         if let Some(program) = &slot.program {
             let coin = pulse.coins[node as usize];
             let env = Env::with_mail(alloc, pulse.shape, node, pulse.mail, coin)?;
-            tasks.push(NodeTask::of(alloc, pulse.opening, node, program, env, &slot.memory)?)?;
+            let memory = slot.memory.as_slice();
+            let lists = earlier.pop();
+            let task = NodeTask::of(alloc, pulse.opening, node, program, env, memory, lists)?;
+            tasks.push(task)?;
         }
     }
     Ok(tasks)
@@ -55,12 +62,13 @@ pub(crate) struct Prepared {
     pub(crate) entry_coins: Vec<u32>,
 }
 
-/// The nodes of a pulse after the staged changes of these entries, and their tasks.
+/// The nodes of a pulse after the staged changes of these entries, and their tasks, in the lists of earlier results.
 pub(crate) fn prepare(
     alloc: Global,
     pulse: &OpenPulse,
     flags: &[bool],
     staged: &[Entry],
+    earlier: &mut Vec<NodeDone>,
 ) -> Result<Prepared, AllocError>
     requires count { length pulse.now.nodes.now ≡ pulse.now.shape.nodes }
     requires within { All (λ c. node_of c < pulse.now.shape.nodes) (staged_of (map entry_of staged.now)) }
@@ -89,7 +97,7 @@ pub(crate) fn prepare(
         coins: pulse.coins,
         opening: pulse.opening,
     };
-    let tasks = tasks(alloc, &next)?;
+    let tasks = tasks(alloc, &next, earlier)?;
     let kept_coins = Vec::from_slice(alloc, pulse.coins)?;
     let entry_coins = Vec::from_slice(alloc, pulse.coins)?;
     Ok(Prepared {

@@ -2,6 +2,7 @@
 
 ghost use Rattle.std.specs.Prelude.{◌≡◌, ◌↔◌, ◌<◌, IfOk, IsTrue, length};
 
+use crate::task_lists::TaskLists;
 use bpf_run::Room;
 use bpf_verify::VerifiedProgram;
 use node_env::{Env, Mail, Outbox, Shape};
@@ -46,7 +47,7 @@ impl NodeTask {
     ghost use Rattle.std.specs.Prelude.{◌≤◌};
     ghost use Rattle.bench_core.specs.Tasks.{IsEnd};
 
-    /// The task of a node, with room for its result.
+    /// The task of a node, with room for its result: in the lists of an earlier result, where there is one.
     pub(crate) fn of(
         alloc: Global,
         opening: u32,
@@ -54,6 +55,7 @@ impl NodeTask {
         program: &VerifiedProgram,
         env: Env,
         memory: &[u8],
+        earlier: Option<NodeDone>,
     ) -> Result<NodeTask, AllocError>
         requires shape { program.now.shape ≡ env.shape }
         requires memory { length memory.now ≡ env.shape.memory }
@@ -66,9 +68,12 @@ impl NodeTask {
         }) }
     {
         let program = program.copy()?;
-        let before = Vec::from_slice(alloc, memory)?;
-        let after = Vec::from_slice(alloc, memory)?;
-        let outbox = Outbox::new(alloc, env.shape())?;
+        let lists = TaskLists::of(alloc, env.shape(), earlier)?;
+        let TaskLists {
+            before,
+            after,
+            outbox,
+        } = lists.with_memory(memory)?;
         Ok(NodeTask {
             opening,
             node,
@@ -192,6 +197,21 @@ impl NodeDone {
         ensures { result ≡ self.now.end.steps }
     {
         self.steps
+    }
+
+    /// Its lists, where it is no longer wanted.
+    pub(crate) fn into_lists(self) -> TaskLists {
+        let NodeDone {
+            before,
+            after,
+            outbox,
+            ..
+        } = self;
+        TaskLists {
+            before,
+            after,
+            outbox,
+        }
     }
 
     /// Whether its input is that of its node in an opening of this number.

@@ -132,7 +132,7 @@ tell-told-requires-clause-small c =
 
 -- ---- the bench at the end
 
-closing_end : (c : goal.After-drop-dones) → ClosesNodes c.self.inside c.in-Some.coins c.args.dones.items c.in-Ok.found
+closing_end : (c : goal.After-drop-self-inside-2) → ClosesNodes c.self.inside c.in-Some.coins c.args.dones.items c.in-Ok.found
     c.close_nodes.new.nodes c.close_nodes.new.mail
 closing_end c =
     closes_nodes c.self.inside c.in-Some.coins c.deref.result.now c.deref-2.result.now c.deref-3.result.now
@@ -143,7 +143,7 @@ closing_end c =
     (c.deref_mut.ensures.value, c.deref-5.ensures.value, c.deref-6.ensures.value, c.nodes-count.ensures.value)
     (c.close_nodes.auto.nodes, c.close_nodes.ensures.mail, c.close_nodes.ensures.left)
 
-abbrev closed_bench : goal.After-drop-dones → Inside
+abbrev closed_bench : goal.After-drop-self-inside-2 → Inside
 closed_bench c = record c.self.inside {
   nodes = with_items c.self.inside.nodes c.close_nodes.new.nodes;
   mail = c.swap.new.x;
@@ -151,9 +151,10 @@ closed_bench c = record c.self.inside {
   closed = c.self.inside.closed + 1;
   coins = None;
   history = c.add.new.history;
+  earlier = c.args.dones;
 }
 
-record Ends (c : goal.After-drop-dones) : Type 0 where
+record Ends (c : goal.After-drop-self-inside-2) : Type 0 where
   settled : both_marked c.in-Ok-make_room.room.settled.items c.deref-7.result.now
       ≡ settled_flags c.self.inside.nodes.items (closed_bench c).nodes.items
   row : c.tell-told.result.row ≡ row_from c.self.inside.rule.modulus (c.self.inside.closed + 1)
@@ -161,7 +162,7 @@ record Ends (c : goal.After-drop-dones) : Type 0 where
   entered : c.add.new.history.items ≡ c.self.inside.history.items ++ Closed c.tell-told.result.row ∷ []
   advances : Advances (view_of c.self.inside) (ClosedValue c.tell-told.result.row) (view_of (closed_bench c))
 
-ends : (c : goal.After-drop-dones) → ClosesNodes c.self.inside c.in-Some.coins c.args.dones.items c.in-Ok.found
+ends : (c : goal.After-drop-self-inside-2) → ClosesNodes c.self.inside c.in-Some.coins c.args.dones.items c.in-Ok.found
     c.close_nodes.new.nodes c.close_nodes.new.mail → Ends c
 ends c x =
     let b = c.self.inside in
@@ -186,7 +187,7 @@ ends c x =
           refl;
     }
 
-record_is : (c : goal.After-drop-dones) → ClosesNodes c.self.inside c.in-Some.coins c.args.dones.items c.in-Ok.found
+record_is : (c : goal.After-drop-self-inside-2) → ClosesNodes c.self.inside c.in-Some.coins c.args.dones.items c.in-Ok.found
     c.close_nodes.new.nodes c.close_nodes.new.mail → Ends c
     → IsRecord (view_of c.self.inside).setup (view_of c.self.inside).state (view_of (closed_bench c)).state
     c.tell-told.result

@@ -57,6 +57,7 @@ invariant_of-self-in-Ok c =
       opened = b.opened + 1;
       staged_from = c.len-entries.result;
       history = c.add.new.history;
+      earlier = c.prepare-prepared.new.earlier;
     } in
     let opens : Opens b b' c.args.coins.now next.entry_coins = record {
       fit = search rules;
@@ -96,6 +97,7 @@ returns-else-is_err-clause-ok c =
       opened = b.opened + 1;
       staged_from = c.len-entries.result;
       history = c.add.new.history;
+      earlier = c.prepare-prepared.new.earlier;
     } in
     let opens : Opens b b' c.args.coins.now next.entry_coins = record {
       fit = search rules;
@@ -128,6 +130,7 @@ returns-else-is_err-clause-tasks c =
       opened = b.opened + 1;
       staged_from = c.len-entries.result;
       history = c.add.new.history;
+      earlier = c.prepare-prepared.new.earlier;
     } in
     let opens : Opens b b' c.args.coins.now next.entry_coins = record {
       fit = search rules;
