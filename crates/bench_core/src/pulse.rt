@@ -1,10 +1,10 @@
 //! An open pulse, and the tasks that it hands out.
-ghost use Rattle.std.specs.Prelude.{◌≡◌, ◌<◌, All, IfOk, length, map};
+ghost use Rattle.std.specs.Prelude.{◌≡◌, ◌<◌, [], false, All, IfOk, length, map};
 ghost use Rattle.bench_core.specs.State.{all_applied, node_of, AreCoins};
 ghost use Rattle.bench_core.specs.inner.Nodes.{KnowsClock, FitsShape};
 ghost use Rattle.bench_core.specs.inner.Replay.{staged_of};
 ghost use Rattle.bench_core.specs.Views.{entry_of};
-ghost use Rattle.bench_core.specs.inner.OpenPulse.{setup_in, PartsFit, tasks_by};
+ghost use Rattle.bench_core.specs.inner.OpenPulse.{setup_in, PartsFit, flags_left, nodes_left, tasks_by};
 ghost use Rattle.bench_core.specs.Tasks.{tasks_from};
 
 use crate::clock_program::ClockProgram;
@@ -52,11 +52,73 @@ fn tasks(
     Ok(tasks)
 }
 
+/// Nodes after changes, and of each whether its program has the instructions of the clock.
+#[derive(Drop)]
+pub(crate) struct Changed {
+    nodes: Vec<NodeSlot>,
+    flags: Vec<bool>,
+}
+
+/// Puts changed nodes in the place of those before.
+pub(crate) fn put(nodes: &mut Vec<NodeSlot>, flags: &mut Vec<bool>, changed: Option<Changed>)
+    ensures nodes { nodes.new.items ≡ nodes_left changed nodes.old.items }
+    ensures flags { flags.new.items ≡ flags_left changed flags.old.items }
+{
+    if let Some(changed) = changed {
+        *nodes = changed.nodes;
+        *flags = changed.flags;
+    }
+}
+
+/// Whether any of these entries stages a change.
+fn any_staged(entries: &[Entry]) -> bool
+    ensures { result ≡ false → staged_of (map entry_of entries.now) ≡ [] }
+{
+    for entry in entries {
+        if let Entry::Staged { .. } = entry {
+            return true;
+        }
+    }
+    false
+}
+
+/// The nodes of a pulse after the staged changes of these entries, where there are any.
+fn make_changed(
+    alloc: Global,
+    pulse: &OpenPulse,
+    flags: &[bool],
+    staged: &[Entry],
+) -> Result<Option<Changed>, AllocError>
+    requires within { All (λ c. node_of c < length pulse.now.nodes.now) (staged_of (map entry_of staged.now)) }
+    requires flags { KnowsClock pulse.now.clock.now pulse.now.nodes.now flags.now }
+    ensures nodes { IfOk result (λ changed. nodes_left changed pulse.now.nodes.now
+        ≡ all_applied pulse.now.nodes.now (staged_of (map entry_of staged.now))) }
+    ensures flags { IfOk result (λ changed. KnowsClock pulse.now.clock.now
+        (nodes_left changed pulse.now.nodes.now) (flags_left changed flags.now)) }
+{
+    if !any_staged(staged) {
+        return Ok(None);
+    }
+    let mut nodes = copied(alloc, pulse.nodes)?;
+    let mut flags = Vec::from_slice(alloc, flags)?;
+    apply_all(alloc, pulse.clock, &mut nodes, &mut flags, staged)?;
+    Ok(Some(Changed { nodes, flags }))
+}
+
+/// The nodes that changes leave of these.
+fn left<'a>(changed: &'a Option<Changed>, nodes: &'a [NodeSlot]) -> &'a [NodeSlot]
+    ensures { result.now ≡ nodes_left changed.now nodes.now }
+{
+    match changed {
+        Some(changed) => &changed.nodes,
+        None => nodes,
+    }
+}
+
 /// What opening a pulse comes to, before the bench is changed.
 #[derive(Drop)]
 pub(crate) struct Prepared {
-    pub(crate) nodes: Vec<NodeSlot>,
-    pub(crate) flags: Vec<bool>,
+    pub(crate) changed: Option<Changed>,
     pub(crate) tasks: Vec<NodeTask>,
     pub(crate) kept_coins: Vec<u32>,
     pub(crate) entry_coins: Vec<u32>,
@@ -77,22 +139,22 @@ pub(crate) fn prepare(
     requires mail { length pulse.now.mail.now ≡ pulse.now.shape.nodes }
     requires coins { AreCoins pulse.now.shape pulse.now.coins.now }
     requires flags { KnowsClock pulse.now.clock.now pulse.now.nodes.now flags.now }
-    ensures nodes { IfOk result (λ p.
-        p.nodes.items ≡ all_applied pulse.now.nodes.now (staged_of (map entry_of staged.now))) }
-    ensures flags { IfOk result (λ p. KnowsClock pulse.now.clock.now p.nodes.items p.flags.items) }
+    ensures nodes { IfOk result (λ p. nodes_left p.changed pulse.now.nodes.now
+        ≡ all_applied pulse.now.nodes.now (staged_of (map entry_of staged.now))) }
+    ensures flags { IfOk result (λ p. KnowsClock pulse.now.clock.now
+        (nodes_left p.changed pulse.now.nodes.now) (flags_left p.changed flags.now)) }
     ensures tasks { IfOk result (λ p. p.tasks.items
-        ≡ tasks_from (setup_in pulse.now) pulse.now.mail.now pulse.now.coins.now pulse.now.opening 0 p.nodes.items) }
+        ≡ tasks_from (setup_in pulse.now) pulse.now.mail.now pulse.now.coins.now pulse.now.opening 0
+        (nodes_left p.changed pulse.now.nodes.now)) }
     ensures kept { IfOk result (λ p. p.kept_coins.items ≡ pulse.now.coins.now) }
     ensures entry { IfOk result (λ p. p.entry_coins.items ≡ pulse.now.coins.now) }
 {
-    let mut nodes = copied(alloc, pulse.nodes)?;
-    let mut flags = Vec::from_slice(alloc, flags)?;
-    apply_all(alloc, pulse.clock, &mut nodes, &mut flags, staged)?;
+    let changed = make_changed(alloc, pulse, flags, staged)?;
     let next = OpenPulse {
         shape: pulse.shape,
         rule: pulse.rule,
         clock: pulse.clock,
-        nodes: &nodes,
+        nodes: left(&changed, pulse.nodes),
         mail: pulse.mail,
         coins: pulse.coins,
         opening: pulse.opening,
@@ -101,8 +163,7 @@ pub(crate) fn prepare(
     let kept_coins = Vec::from_slice(alloc, pulse.coins)?;
     let entry_coins = Vec::from_slice(alloc, pulse.coins)?;
     Ok(Prepared {
-        nodes,
-        flags,
+        changed,
         tasks,
         kept_coins,
         entry_coins,

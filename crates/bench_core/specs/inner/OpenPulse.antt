@@ -1,8 +1,9 @@
 -- An open pulse, as the code holds it.
-use Rattle.std.specs.Prelude.{◌≡◌, List, length, All}
+use Rattle.std.specs.Prelude.{◌≡◌, Bool, Option, Some, None, List, length, All}
+use Rattle.bench_core.specs.declared.pulse.Changed.{Changed}
 use Rattle.bench_core.specs.declared.pulse.OpenPulse.{OpenPulse}
 use Rattle.bench_core.specs.Setup.{Setup}
-use Rattle.bench_core.specs.State.{AreCoins}
+use Rattle.bench_core.specs.State.{Node, AreCoins}
 use Rattle.bench_core.specs.inner.Nodes.{FitsShape}
 use Rattle.bench_core.specs.Tasks.{Task, tasks_from, IsHanded}
 use Rattle.bench_core.specs.Views.{setup_with}
@@ -23,3 +24,12 @@ tasks_by p = tasks_from (setup_in p) p.mail.now p.coins.now p.opening 0 p.nodes.
 -- what it handed out
 abbrev pub HandedBy : OpenPulse → Task → Type 0
 HandedBy p = IsHanded (setup_in p) p.nodes.now p.mail.now p.coins.now p.opening
+
+-- the nodes that changes leave of these, and what is known of them
+abbrev pub nodes_left : Option Changed → List Node → List Node
+nodes_left None nodes = nodes
+nodes_left (Some changed) nodes = changed.nodes.items
+
+abbrev pub flags_left : Option Changed → List Bool → List Bool
+flags_left None flags = flags
+flags_left (Some changed) flags = changed.flags.items

@@ -1,9 +1,11 @@
-use Rattle.std.proofs.Common.{ℕ, Some, refl, ◌++◌, ◌∷◌, [], vec_len, vec_capacity, ◌≡◌, ◌≤◌, ◌+◌, length, ap, ◌∙◌, arith, rules}
+use Rattle.std.proofs.Common.{ℕ, Some, refl, sym, ◌++◌, ◌∷◌, [], vec_len, vec_capacity, ◌≡◌, ◌≤◌, ◌+◌, length, ap, ◌∙◌, arith, rules}
 use Rattle.std.proofs.lemmas.List.{length-map}
 use Rattle.bench_core.specs.Replay.{Opened as OpenedValue}
 use Rattle.bench_core.specs.Tasks.{tasks_from}
 use Rattle.bench_core.specs.Views.{entry_of}
 use Rattle.bench_core.specs.inner.Kept.{view_of}
+use Rattle.bench_core.specs.inner.Nodes.{KnowsClock}
+use Rattle.bench_core.specs.inner.OpenPulse.{nodes_left}
 use Rattle.bench_core.specs.declared.entry.Entry.TheVariants.{Opened}
 use Rattle.bench_core.proofs.Opening.{sound_of, staged_slice, staged_within, nodes_after, openings_le, Opens, opened_advances, tasks_made}
 use Rattle.bench_core.proofs.Kept.{kept_step, as_seen, length_push, places_seen}
@@ -51,8 +53,8 @@ invariant_of-self-in-Ok c =
     ∙ ap (λ es. es ++ Opened next.entry_coins ∷ []) c.reserve.ensures.items in
     let at_end : c.len-entries.result ≡ length c.add.new.history.items = omega arith in
     let b' = record b {
-      nodes = next.nodes;
-      flags = next.flags;
+      nodes = c.put.new.nodes;
+      flags = c.put.new.flags;
       coins = Some next.kept_coins;
       opened = b.opened + 1;
       staged_from = c.len-entries.result;
@@ -62,12 +64,13 @@ invariant_of-self-in-Ok c =
     let opens : Opens b b' c.args.coins.now next.entry_coins = record {
       fit = search rules;
       shut = search rules;
-      nodes = c.in-Ok.ensures.nodes ∙ rw (
-        c.deref.ensures.value,
-        c.deref-2.ensures.value,
-        staged_slice b.history.items
-            b.staged_from,
-      ) refl;
+      nodes = c.put.ensures.nodes ∙ (ap (nodes_left next.changed) (sym c.deref.ensures.value)
+          ∙ (c.in-Ok.ensures.nodes ∙ rw (
+            c.deref.ensures.value,
+            c.deref-2.ensures.value,
+            staged_slice b.history.items
+                b.staged_from,
+          ) refl));
       kept = ap Some c.in-Ok.ensures.kept;
       enters = c.in-Ok.ensures.entry;
       history = is;
@@ -78,7 +81,10 @@ invariant_of-self-in-Ok c =
     let longer = length_push b.history.items c.add.new.history.items (Opened next.entry_coins) is in
     let ok : vec_len c.reserve.new.self + 2 ≤ vec_capacity c.reserve.new.self = search rules in
     let places = places_seen b' in
-    kept_step b b' (OpenedValue c.args.coins.now) kept tt advances kept.same c.in-Ok.ensures.flags kept.spare
+    let flags : KnowsClock b.clock c.put.new.nodes.items c.put.new.flags.items = rw
+    (c.put.ensures.nodes, c.put.ensures.flags, sym c.deref.ensures.value, sym c.deref-3.ensures.value)
+    c.in-Ok.ensures.flags in
+    kept_step b b' (OpenedValue c.args.coins.now) kept tt advances kept.same flags kept.spare
     (omega arith) (λ h. omega arith) (omega (arith, at_end))
     (omega (arith, longer, places))
     (omega (arith, longer, places, c.add.ensures.capacity, c.reserve.ensures.len, ok))
@@ -91,8 +97,8 @@ returns-else-is_err-clause-ok c =
     ∙ ap (λ es. es ++ Opened next.entry_coins ∷ []) c.reserve.ensures.items in
     let at_end : c.len-entries.result ≡ length c.add.new.history.items = omega arith in
     let b' = record b {
-      nodes = next.nodes;
-      flags = next.flags;
+      nodes = c.put.new.nodes;
+      flags = c.put.new.flags;
       coins = Some next.kept_coins;
       opened = b.opened + 1;
       staged_from = c.len-entries.result;
@@ -102,12 +108,13 @@ returns-else-is_err-clause-ok c =
     let opens : Opens b b' c.args.coins.now next.entry_coins = record {
       fit = search rules;
       shut = search rules;
-      nodes = c.in-Ok.ensures.nodes ∙ rw (
-        c.deref.ensures.value,
-        c.deref-2.ensures.value,
-        staged_slice b.history.items
-            b.staged_from,
-      ) refl;
+      nodes = c.put.ensures.nodes ∙ (ap (nodes_left next.changed) (sym c.deref.ensures.value)
+          ∙ (c.in-Ok.ensures.nodes ∙ rw (
+            c.deref.ensures.value,
+            c.deref-2.ensures.value,
+            staged_slice b.history.items
+                b.staged_from,
+          ) refl));
       kept = ap Some c.in-Ok.ensures.kept;
       enters = c.in-Ok.ensures.entry;
       history = is;
@@ -124,8 +131,8 @@ returns-else-is_err-clause-tasks c =
     ∙ ap (λ es. es ++ Opened next.entry_coins ∷ []) c.reserve.ensures.items in
     let at_end : c.len-entries.result ≡ length c.add.new.history.items = omega arith in
     let b' = record b {
-      nodes = next.nodes;
-      flags = next.flags;
+      nodes = c.put.new.nodes;
+      flags = c.put.new.flags;
       coins = Some next.kept_coins;
       opened = b.opened + 1;
       staged_from = c.len-entries.result;
@@ -135,17 +142,22 @@ returns-else-is_err-clause-tasks c =
     let opens : Opens b b' c.args.coins.now next.entry_coins = record {
       fit = search rules;
       shut = search rules;
-      nodes = c.in-Ok.ensures.nodes ∙ rw (
-        c.deref.ensures.value,
-        c.deref-2.ensures.value,
-        staged_slice b.history.items
-            b.staged_from,
-      ) refl;
+      nodes = c.put.ensures.nodes ∙ (ap (nodes_left next.changed) (sym c.deref.ensures.value)
+          ∙ (c.in-Ok.ensures.nodes ∙ rw (
+            c.deref.ensures.value,
+            c.deref-2.ensures.value,
+            staged_slice b.history.items
+                b.staged_from,
+          ) refl));
       kept = ap Some c.in-Ok.ensures.kept;
       enters = c.in-Ok.ensures.entry;
       history = is;
       from = at_end;
     } in
     let advances = opened_advances b b' c.args.coins.now next.entry_coins opens refl refl refl refl refl in
-    c.in-Ok.ensures.tasks ∙ (ap (λ (n : ℕ). tasks_from (view_of b).setup b.mail c.args.coins.now n 0 next.nodes.items)
-    c.self.invariant.opened ∙ tasks_made (view_of b) (view_of b') c.args.coins.now advances)
+    let left : nodes_left next.changed c.deref.result.now ≡ c.put.new.nodes.items = ap (nodes_left next.changed)
+    c.deref.ensures.value ∙ sym c.put.ensures.nodes in
+    c.in-Ok.ensures.tasks
+    ∙ (ap (tasks_from (view_of b).setup b.mail c.args.coins.now b.opened 0) left
+    ∙ (ap (λ (n : ℕ). tasks_from (view_of b).setup b.mail c.args.coins.now n 0 c.put.new.nodes.items)
+    c.self.invariant.opened ∙ tasks_made (view_of b) (view_of b') c.args.coins.now advances))
