@@ -184,6 +184,7 @@ fn recovery_line(alloc: Global, recovery: Recovery) -> Result<String, AllocError
             "luck needed: from each state some coins lead into step, within {pulses} pulses"
         ),
         Recovery::HeldOff => format!(in alloc; "a liar can hold them off for ever"),
+        Recovery::Unknown => format!(in alloc; "not known how they come into step"),
     }
 }
 
