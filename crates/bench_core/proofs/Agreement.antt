@@ -5,15 +5,15 @@ use Rattle.std.proofs.lemmas.Bool.{cases_eq, and_parts, cond_both, eqb-true, eq-
 use Rattle.std.proofs.lemmas.Bool.Decides.{nat_tests}
 use Rattle.std.proofs.lemmas.List.{get_or_default}
 use Rattle.std.proofs.lemmas.List.Elements.{All-head, All-tail, All-nil, All-cons, All-weaker, All-filter, All-contains, filter_passes}
-use Rattle.clock_nodes.specs.Rule.{is_mail, support}
+use Rattle.clock_nodes.specs.Rule.{is_mail, support, quorum_of}
 use Rattle.clock_nodes.specs.Rule.{pair_from}
 use Rattle.clock_nodes.specs.Rule.{clock_of, mark_of, clock_below, pair_after}
-use Rattle.bench_core.specs.Setup.{Setup, IsSetup, HasRuleClock, quorum}
-use Rattle.bench_core.specs.State.{Node, State, new_state, no_node, node_at, row_at, setting_at}
+use Rattle.bench_core.specs.Setup.{Setup, IsSetup, HasRuleClock, rule_of}
+use Rattle.bench_core.specs.State.{Node, State, new_state, no_node, node_at, mail_from, setting_at}
 use Rattle.node_env.specs.Env.{inbox_of}
 use Rattle.bench_core.specs.Pulse.{Pulse}
 use Rattle.bench_core.specs.Settled.{settled_flags, settled_clocks, clocks_where, moving_clocks, value_of}
-use Rattle.bench_core.specs.Replay.{Entry, Staged, Opened, Closed, Abandoned, Run}
+use Rattle.bench_core.specs.Replay.{Entry, Staged, Opened, Closed, Abandoned, Leads}
 use Rattle.bench_core.specs.StepList.{entries_of}
 use Rattle.bench_core.specs.Laws.{ClocksAgree, StepsAgree, PairMovesOn, RuleClockBelow, ran_to_pair, IsQuiet}
 use Rattle.bench_core.proofs.Counting.{came, support_came, two_values, enough_came, some_passes}
@@ -85,16 +85,16 @@ flag_before (x ∷ xs) (y ∷ ys) (suc k) h = flag_before xs ys k h
 -- a node that moved to a clock that is not 0 had enough mails of the clock before it
 supported : (s : Setup) (b b' : State) (c : ℕ) → IsSetup s → HasRuleClock s → Sound s b → (p : Pulse s b b')
     → (h : At s.modulus b.nodes b'.nodes c) → c ≢ 0
-    → quorum s ≤ came (c - 1) h.node b.mail
+    → quorum_of (rule_of s) ≤ came (c - 1) h.node b.mail
 supported s b b' c ok own sound p h ne =
     let lt : h.node < s.shape.nodes = omega (arith, h.within, sound.nodes) in
     let ran = ran_pulse s b b' h.node ok own sound p lt h.after in
     let same : (pair_after s.faults s.modulus (setting_at s b.mail p.coins h.node) (node_at b.nodes h.node).memory).0
     ≡ c = sym ran.clock ∙ (sym ran.told ∙ h.clock) in
     let many = ran.moved.enough (λ z. ne (sym same ∙ z)) in
-    let many_c : quorum s ≤ support (inbox_of h.node b.mail) (c - 1) s.shape.nodes = subst
-    (λ (n : ℕ). quorum s ≤ support (inbox_of h.node b.mail) (n - 1) s.shape.nodes) same many in
-    subst (λ (n : ℕ). quorum s ≤ n) (support_came (c - 1) h.node s.shape.nodes b.mail sound.mail) many_c
+    let many_c : quorum_of (rule_of s) ≤ support (inbox_of h.node b.mail) (c - 1) s.shape.nodes = subst
+    (λ (n : ℕ). quorum_of (rule_of s) ≤ support (inbox_of h.node b.mail) (n - 1) s.shape.nodes) same many in
+    subst (λ (n : ℕ). quorum_of (rule_of s) ≤ n) (support_came (c - 1) h.node s.shape.nodes b.mail sound.mail) many_c
 
 pub agreement : ClocksAgree
 agreement s history b b' ok own replay p few c d inc ind =
@@ -133,7 +133,7 @@ rule_clock_below s history b b' i ok own replay p lt marked =
 -- ---- the pair moves on
 
 -- entries that close no pulse keep the mail
-quiet_mail : (s : Setup) (b : State) (es : List Entry) (c : State) → Run s b es c → All IsQuiet es → c.mail ≡ b.mail
+quiet_mail : (s : Setup) (b : State) (es : List Entry) (c : State) → Leads s b es c → All IsQuiet es → c.mail ≡ b.mail
 quiet_mail s b [] c h quiet = ap (λ (x : State). x.mail) h
 quiet_mail s b (Staged actor change ∷ es) c h quiet = quiet_mail s h.0 es c h.2 (All-tail IsQuiet _ es quiet)
     ∙ ap (λ (x : State). x.mail) h.1.1
@@ -158,15 +158,15 @@ pair_moves s history between b b' c c' clock i ok own replay p many run quiet q 
     let same_mail = quiet_mail s b' between c run quiet in
     let came_i = enough_came (ran_to_pair clock 1) i clock b'.nodes b'.mail (sound'.mail ∙ sym sound'.nodes)
     (λ k d l h. sent_clock sound sound' k d l h) in
-    let came_c : quorum s ≤ came clock i b'.mail = omega (arith, came_i, many) in
-    let came_same : quorum s ≤ came clock i c.mail = subst (λ m. quorum s ≤ came clock i m) (sym same_mail) came_c in
-    let support_c : quorum s ≤ support (inbox_of i c.mail) clock s.shape.nodes = subst (λ (n : ℕ). quorum s ≤ n)
+    let came_c : quorum_of (rule_of s) ≤ came clock i b'.mail = omega (arith, came_i, many) in
+    let came_same : quorum_of (rule_of s) ≤ came clock i c.mail = subst (λ m. quorum_of (rule_of s) ≤ came clock i m) (sym same_mail) came_c in
+    let support_c : quorum_of (rule_of s) ≤ support (inbox_of i c.mail) clock s.shape.nodes = subst (λ (n : ℕ). quorum_of (rule_of s) ≤ n)
     (sym (support_came clock i s.shape.nodes c.mail sound_c.mail)) came_same in
     let small = clock_small sound sound' (omega (arith, many, ok.faults)) in
     let ran_c = ran_pulse s c c' i ok own sound_c q lt marked in
-    let next = next_pair (quorum s) s.modulus clock (slice_index q.coins i)
+    let next = next_pair (quorum_of (rule_of s)) s.modulus clock (slice_index q.coins i)
     (λ v. support (inbox_of i c.mail) v s.shape.nodes) ok.least small support_c in
-    let from = λ (a l : ℕ). pair_from (quorum s) s.modulus
+    let from = λ (a l : ℕ). pair_from (quorum_of (rule_of s)) s.modulus
     (support (inbox_of i c.mail) (clock_below s.modulus a) s.shape.nodes) (clock_below s.modulus a) l
     (slice_index q.coins i) in
     let memory = (node_at c.nodes i).memory in
@@ -175,7 +175,7 @@ pair_moves s history between b b' c c' clock i ok own replay p many run quiet q 
     (ran_c.clock ∙ ap (λ (n : ℕ × ℕ). n.0) pair, ran_c.last ∙ ap (λ (n : ℕ × ℕ). n.1) pair)
   where
     sent_clock : Sound s b → Sound s b' → (k : ℕ) (d : Node) → k < length b'.nodes
-        → ran_to_pair clock 1 (get_or b'.nodes k d) ≡ true → is_mail clock (get (row_at b'.mail k) i) ≡ true
+        → ran_to_pair clock 1 (get_or b'.nodes k d) ≡ true → is_mail clock (get (mail_from b'.mail k) i) ≡ true
     sent_clock sound sound' k d l h =
         let within : k < s.shape.nodes = omega (arith, l, sound'.nodes) in
         let same_node : get_or b'.nodes k d ≡ node_at b'.nodes k = get_or_default b'.nodes k d no_node l in
@@ -183,7 +183,7 @@ pair_moves s history between b b' c c' clock i ok own replay p many run quiet q 
         let ran = ran_pulse s b b' k ok own sound p within parts.0 in
         ap (is_mail clock) (ran.sent i lt ∙ ap (λ (n : ℕ). Some n) parts.1) ∙ eq-eqb clock clock refl
 
-    clock_small : Sound s b → Sound s b' → 0 < quorum s → clock < s.modulus
+    clock_small : Sound s b → Sound s b' → 0 < quorum_of (rule_of s) → clock < s.modulus
     clock_small sound sound' pos =
         let found = some_passes (ran_to_pair clock 1) b'.nodes (omega (arith, many, pos)) in
         let k = found.1.0 in

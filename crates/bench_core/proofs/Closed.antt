@@ -21,15 +21,16 @@ use Rattle.bench_core.specs.Setup.{Setup, IsSetup}
 use Rattle.bench_core.specs.declared.refusal.CloseError.{CloseError}
 use Rattle.bench_core.specs.declared.refusal.CloseError.TheVariants as closing
 use Rattle.bench_core.specs.Refusals.{IsCloseRefusal}
-use Rattle.bench_core.specs.State.{State, Node, no_node, node_at, setting_at, AreCoins}
+use Rattle.bench_core.specs.State.{State, Node, no_node, node_at, setting_at, AreCoins, coins_of}
 use Rattle.bench_core.specs.Pulse.{Pulse}
-use Rattle.bench_core.specs.Settled.{Row, PulseTold, IsRecord, IsSteps, RanTo, row_of, row_from, settled_flags, clocks_where, told_clock}
+use Rattle.bench_core.specs.Settled.{settled_flags, clocks_where}
+use Rattle.bench_core.specs.Told.{Row, PulseTold, IsRecord, IsSteps, RanTo, row_of, row_from, told_clock}
 use Rattle.bench_core.specs.Replay.{Entry as EntryValue, Closed as ClosedValue, Replays, BenchValue, Advances, places_of}
 use Rattle.bench_core.specs.inner.Replay.{staged_of}
 use Rattle.bench_core.specs.Tasks.{Task, Done, IsEnd, IsHanded, IsResultOf, IsExact, HandedOut}
 use Rattle.bench_core.specs.inner.Nodes.{KnowsClock}
 use Rattle.bench_core.specs.declared.found.Found.{Found}
-use Rattle.bench_core.specs.declared.found.Found.TheVariants.{Nothing, Once, Again}
+use Rattle.bench_core.specs.declared.found.Found.TheVariants.{Missing, At, Twice}
 use Rattle.bench_core.specs.inner.Found.{found_at, IsFound, FitsNode, RefusesResults, AreLeft}
 use Rattle.bench_core.specs.inner.Told.{both_marked, IsMostSteps}
 use Rattle.bench_core.specs.Views.{entry_of}
@@ -90,14 +91,14 @@ few_steps : (s : Setup) (b : State) (coins : List ℕ) (opening i : ℕ) (dones 
     (end : End) → length b.nodes ≡ s.shape.nodes
     → AreSorted s b.nodes b.mail coins opening dones found → All (λ d. d.end.steps ≤ k) dones → RanTo s b coins i end
     → (f : Found) → found_at found i ≡ f → end.steps ≤ k
-few_steps s b coins opening i dones found k end whole sorted most ran Nothing e =
+few_steps s b coins opening i dones found k end whole sorted most ran Missing e =
     let none = subst (IsFound (IsHanded s b.nodes b.mail coins opening) dones i) e (sorted.each i) in
     absurd (sorted.exact.none_missing i (record {
       within = omega (arith, ran.node, whole);
       loaded = ap is_some ran.loaded;
       none = none;
     }))
-few_steps s b coins opening i dones found k end whole sorted most ran (Once place) e =
+few_steps s b coins opening i dones found k end whole sorted most ran (At place) e =
     let at = (subst (IsFound (IsHanded s b.nodes b.mail coins opening) dones i) e (sorted.each i)).0 in
     let within = slice_get_within dones place at.one at.at in
     let is = get_or_from_slice_get dones place at.one at.one at.at in
@@ -106,7 +107,7 @@ few_steps s b coins opening i dones found k end whole sorted most ran (Once plac
     let same = one_end s b coins i end at.one.end ran
     (ran_of s b coins opening i at.one at.result.0 at.result.1 ends) in
     subst (λ (x : End). x.steps ≤ k) (sym same) few
-few_steps s b coins opening i dones found k end whole sorted most ran Again e =
+few_steps s b coins opening i dones found k end whole sorted most ran Twice e =
     absurd (sorted.exact.none_twice i (subst (IsFound (IsHanded s b.nodes b.mail coins opening) dones i) e
     (sorted.each i)))
 
@@ -185,7 +186,7 @@ pub record Tells (s : Setup) (b b' : State) (r : PulseTold) : Type 0 where
   pub row : r.row ≡ row_from s.modulus b'.closed (settled_flags b.nodes b'.nodes) b'.nodes
   pub clocks : r.clocks ≡ map told_clock b'.nodes
   pub settled : r.settled ≡ settled_flags b.nodes b'.nodes
-  pub steps : IsSteps s b (unwrap_or b.coins []) r.steps
+  pub steps : IsSteps s b (coins_of b) r.steps
   pub agree : IsTrue r.agree ↔ (r.row.common ≢ CLOCKS_DIFFER)
 
 pub is_record : (s : Setup) (history : List EntryValue) (b b' : State) (r : PulseTold) → IsSetup s
@@ -246,17 +247,17 @@ sorted_at s xs ys mail cs coins opening ds dones found e f g each ends exact =
     (subst (λ (ns : List Done). AreSorted s xs mail cs opening ns found) g
     (record { each = each; ends = ends; exact = exact })))
 
-pub coins_of : (s : Setup) (o : Option (Vec ℕ Global)) (coins : Vec ℕ Global) → o ≡ Some coins
+pub coins_fit : (s : Setup) (o : Option (Vec ℕ Global)) (coins : Vec ℕ Global) → o ≡ Some coins
     → IfSome (option_map (λ v. v.items) o) (AreCoins s.shape) → AreCoins s.shape coins.items
-coins_of s o coins is h = subst (λ (o : Option (Vec ℕ Global)). IfSome (option_map (λ v. v.items) o) (AreCoins s.shape)) is h
+coins_fit s o coins is h = subst (λ (o : Option (Vec ℕ Global)). IfSome (option_map (λ v. v.items) o) (AreCoins s.shape)) is h
 
 -- each result that was found has the size of its node
 fits_node : (s : Setup) (b : State) (coins : List ℕ) (opening i : ℕ) (dones : List Done) (found : List Found)
     → Sound s b
     → AreSorted s b.nodes b.mail coins opening dones found → i < s.shape.nodes → (f : Found) → found_at found i ≡ f
     → FitsNode s.shape.nodes dones (node_at b.nodes i) f
-fits_node s b coins opening i dones found sound sorted lt Nothing e = tt
-fits_node s b coins opening i dones found sound sorted lt (Once place) e =
+fits_node s b coins opening i dones found sound sorted lt Missing e = tt
+fits_node s b coins opening i dones found sound sorted lt (At place) e =
     let at = (subst (IsFound (IsHanded s b.nodes b.mail coins opening) dones i) e (sorted.each i)).0 in
     let is = get_or_from_slice_get dones place at.one at.one at.at in
     let ends : IsEnd at.one = subst IsEnd is (sorted.ends place at.one (slice_get_within dones place at.one at.at)) in
@@ -268,7 +269,7 @@ fits_node s b coins opening i dones found sound sorted lt (Once place) e =
     let left = any_run_leaves ran.program.program (setting_at s b.mail coins i)
     (node_at b.nodes i).memory at.one.end whole.length whole.bytes ran.run in
     (at.one, at.at, left.memory ∙ sym whole.length, ap (λ (t : Task). t.setting.shape.nodes) task)
-fits_node s b coins opening i dones found sound sorted lt Again e = tt
+fits_node s b coins opening i dones found sound sorted lt Twice e = tt
 
 pub all_fit_nodes : (b : Inside) (coins : Vec ℕ Global) (dones : List Done) (found : List Found) → IsKept b
     → AreSorted (view_of b).setup b.nodes.items b.mail coins.items (b.opened - 1) dones found

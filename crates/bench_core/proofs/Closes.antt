@@ -15,7 +15,7 @@ use Rattle.bpf_verify.specs.Accepted.{Accepted, IsVerified}
 use Rattle.bpf_verify.specs.Typable.{Typable}
 use Rattle.bpf_run.proofs.Runs.{run_ends}
 use Rattle.bench_core.specs.Setup.{Setup, IsSetup}
-use Rattle.bench_core.specs.State.{Node, State, IsMemory, no_node, node_at, row_at, setting_at}
+use Rattle.bench_core.specs.State.{Node, State, IsMemory, no_node, node_at, mail_from, setting_at}
 use Rattle.bench_core.specs.Pulse.{RunsClock, Runs, Rests, NodePulse, Pulse}
 use Rattle.bench_core.specs.Headline.{EachCloses}
 use Rattle.bench_core.proofs.Acceptance.{HasAccepted, accepted_replay, program_is}
@@ -173,9 +173,9 @@ closed_pulse s b coins ok sound has is_open =
             let inside : i < length parts.items = omega (arith, lt, parts.count, sound.nodes) in
             let node : node_at nodes i ≡ (get_or parts.items i none).0 = get_map
             (λ (y : Part). y.0) parts.items i none no_node inside in
-            let row : row_at mail i ≡ (get_or parts.items i none).1 = get_map
+            let row : mail_from mail i ≡ (get_or parts.items i none).1 = get_map
             (λ (y : Part). y.1) parts.items i none empty inside in
-            subst (λ (y : Node). NodePulse s (setting_at s b.mail coins i) (node_at b.nodes i) y (row_at mail i))
+            subst (λ (y : Node). NodePulse s (setting_at s b.mail coins i) (node_at b.nodes i) y (mail_from mail i))
             (sym node)
             (subst (λ (r : FinMap nat_cmp ℕ). NodePulse s (setting_at s b.mail coins i) (node_at b.nodes i)
             (get_or parts.items i none).0 r) (sym row)

@@ -6,11 +6,11 @@ use Rattle.std.specs.Prelude.{option_map}
 use Rattle.std.proofs.lemmas.Bool.{cases_eq}
 use Rattle.std.proofs.lemmas.Option.{same_Some, none-some, slice_get_within, get_or_from_slice_get}
 use Rattle.bench_core.specs.declared.found.Found.{Found}
-use Rattle.bench_core.specs.declared.found.Found.TheVariants.{Nothing, Once, Again}
+use Rattle.bench_core.specs.declared.found.Found.TheVariants.{Missing, At, Twice}
 use Rattle.bpf_machine.specs.Run.{CompleteRun}
 use Rattle.bpf_verify.specs.Accepted.{Accepted}
 use Rattle.bench_core.specs.Setup.{Setup}
-use Rattle.bench_core.specs.State.{State, Node, no_node, node_at, row_at, setting_at}
+use Rattle.bench_core.specs.State.{State, Node, no_node, node_at, mail_from, setting_at}
 use Rattle.bench_core.specs.Pulse.{RunsClock, Runs, Rests, NodePulse, Pulse}
 use Rattle.bench_core.specs.Tasks.{Task, Done, task_at, IsEnd, IsHanded, IsResultOf, IsExact}
 use Rattle.bench_core.specs.inner.Nodes.{KnowsClock}
@@ -28,24 +28,24 @@ left_more dones flags old found nodes mail n y row lt lt' before here i within =
       | inl e ↦
           let node : node_at (slice_set nodes n y) i ≡ y = ap (node_at (slice_set nodes n y)) e
           ∙ get_or-set_same nodes n y no_node lt in
-          let sent : row_at (slice_set mail n row) i ≡ row = ap (row_at (slice_set mail n row)) e
+          let sent : mail_from (slice_set mail n row) i ≡ row = ap (mail_from (slice_set mail n row)) e
           ∙ get_or-set_same mail n row empty lt' in
-          subst (λ (z : Node). P i z (row_at (slice_set mail n row) i)) (sym node)
+          subst (λ (z : Node). P i z (mail_from (slice_set mail n row) i)) (sym node)
           (subst (P i y) (sym sent) (subst (λ (k : ℕ). P k y row) (sym e) here))
       | inr ne ↦
-          subst (λ (z : Node). P i z (row_at (slice_set mail n row) i)) (sym (get_or-set_other nodes n i y no_node ne))
+          subst (λ (z : Node). P i z (mail_from (slice_set mail n row) i)) (sym (get_or-set_other nodes n i y no_node ne))
           (subst (P i (node_at nodes i)) (sym (get_or-set_other mail n i row empty ne)) (before i (omega arith)))
     ]
 
 pub once_left : (dones : List Done) (flag : Bool) (x y : Node) (row : FinMap nat_cmp ℕ) (f : Found) (place : ℕ)
-    (done : Done) → f ≡ Once place → slice_get dones place ≡ Some done
+    (done : Done) → f ≡ At place → slice_get dones place ≡ Some done
     → y ≡ record { program = x.program; memory = done.end.memory; mark = flag } → row ≡ done.end.sent
     → IsLeft dones flag x y row f
 once_left dones flag x y row f place done e at node sent = subst (IsLeft dones flag x y row) (sym e)
     (done, at, node, sent)
 
-pub rest_left : (dones : List Done) (flag : Bool) (x y : Node) (row : FinMap nat_cmp ℕ) (f : Found) → (f ≡ Nothing)
-    ⊎ (f ≡ Again)
+pub rest_left : (dones : List Done) (flag : Bool) (x y : Node) (row : FinMap nat_cmp ℕ) (f : Found) → (f ≡ Missing)
+    ⊎ (f ≡ Twice)
     → y ≡ record { program = x.program; memory = x.memory; mark = false } → row ≡ empty → IsLeft dones flag x y row f
 rest_left dones flag x y row f either node sent =
     elim either [
@@ -105,10 +105,10 @@ node_ran : (s : Setup) (xs : List Node) (mail : List (FinMap nat_cmp ℕ)) (coin
     → (node_at xs i).program ≡ Some p
     → (IsTrue flag ↔ RunsClock s p) → IsLeft dones flag (node_at xs i) y row f
     → (y.program ≡ (node_at xs i).program) × Runs s p (setting_at s mail coins i) (node_at xs i) y row
-node_ran s xs mail coins opening i dones found p flag y row Nothing e sorted lt has knows left =
+node_ran s xs mail coins opening i dones found p flag y row Missing e sorted lt has knows left =
     let none = subst (IsFound (IsHanded s xs mail coins opening) dones i) e (sorted.each i) in
     absurd (sorted.exact.none_missing i (record { within = lt; loaded = ap is_some has; none = none }))
-node_ran s xs mail coins opening i dones found p flag y row (Once k) e sorted lt has knows left =
+node_ran s xs mail coins opening i dones found p flag y row (At k) e sorted lt has knows left =
     let x = node_at xs i in
     let env = setting_at s mail coins i in
     let at = (subst (IsFound (IsHanded s xs mail coins opening) dones i) e (sorted.each i)).0 in
@@ -131,7 +131,7 @@ node_ran s xs mail coins opening i dones found p flag y row (Once k) e sorted lt
         mark = subst (λ (b : Bool). IsTrue b ↔ RunsClock s p) (sym mark) knows;
       },
     )
-node_ran s xs mail coins opening i dones found p flag y row Again e sorted lt has knows left =
+node_ran s xs mail coins opening i dones found p flag y row Twice e sorted lt has knows left =
     absurd (sorted.exact.none_twice i (subst (IsFound (IsHanded s xs mail coins opening) dones i) e (sorted.each i)))
 
 -- a node that rested
@@ -139,7 +139,7 @@ node_rested : (s : Setup) (xs : List Node) (mail : List (FinMap nat_cmp ℕ)) (c
     (dones : List Done) (found : List Found) (flag : Bool) (y : Node) (row : FinMap nat_cmp ℕ)
     → (f : Found) → found_at found i ≡ f → AreSorted s xs mail coins opening dones found → (node_at xs i).program ≡ None
     → IsLeft dones flag (node_at xs i) y row f → (y.program ≡ (node_at xs i).program) × Rests (node_at xs i) y row
-node_rested s xs mail coins opening i dones found flag y row Nothing e sorted has left = (
+node_rested s xs mail coins opening i dones found flag y row Missing e sorted has left = (
   ap (λ (z : Node). z.program) left.0,
   record {
     memory = ap (λ (z : Node). z.memory) left.0;
@@ -147,10 +147,10 @@ node_rested s xs mail coins opening i dones found flag y row Nothing e sorted ha
     mark = ap (λ (z : Node). z.mark) left.0;
   },
 )
-node_rested s xs mail coins opening i dones found flag y row (Once k) e sorted has left =
+node_rested s xs mail coins opening i dones found flag y row (At k) e sorted has left =
     let at = (subst (IsFound (IsHanded s xs mail coins opening) dones i) e (sorted.each i)).0 in
     absurd (none_handed s xs mail coins opening i at.one.task has at.result.0 at.result.1)
-node_rested s xs mail coins opening i dones found flag y row Again e sorted has left =
+node_rested s xs mail coins opening i dones found flag y row Twice e sorted has left =
     absurd (sorted.exact.none_twice i (subst (IsFound (IsHanded s xs mail coins opening) dones i) e (sorted.each i)))
 
 pub node_closed : (s : Setup) (xs : List Node) (mail : List (FinMap nat_cmp ℕ)) (coins : List ℕ) (opening i : ℕ)
@@ -201,7 +201,7 @@ pulse_closed s b coins opening dones flags found nodes mail is_open sorted knows
       is_open = is_open;
       nodes = count;
       mail = rows;
-      each = λ i lt. node_closed s b.nodes b.mail coins opening i dones flags found (node_at nodes i) (row_at mail i)
+      each = λ i lt. node_closed s b.nodes b.mail coins opening i dones flags found (node_at nodes i) (mail_from mail i)
           (node_at b.nodes i).program refl sorted knows lt (left i lt);
       closed = refl;
       staged = refl;

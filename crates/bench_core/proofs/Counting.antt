@@ -10,7 +10,7 @@ use Rattle.node_env.specs.Env.{AreNumbers}
 use Rattle.node_env.proofs.Slots.{get-map_of, get-map_of_past}
 use Rattle.clock_nodes.specs.Rule.{is_mail, support}
 use Rattle.node_env.specs.Env.{inbox_of}
-use Rattle.bench_core.specs.State.{row_at}
+use Rattle.bench_core.specs.State.{mail_from}
 
 -- one unit, where the test holds
 abbrev pub unit_of : Bool → ℕ
@@ -32,11 +32,11 @@ get_map f (x ∷ xs) zero d e lt = refl
 get_map f (x ∷ xs) (suc j) d e lt = get_map f xs j d e (omega arith)
 
 get_inbox : (i j : ℕ) (rows : List (FinMap nat_cmp ℕ)) → j < length rows
-    → get (inbox_of i rows) j ≡ get (row_at rows j) i
+    → get (inbox_of i rows) j ≡ get (mail_from rows j) i
 get_inbox i j rows lt = get-map_of (map (λ row. get row i) rows) j ∙ get_map (λ row. get row i) rows j empty None lt
 
 pub inbox_numbers : (n i : ℕ) (rows : List (FinMap nat_cmp ℕ)) → length rows ≡ n
-    → ((k : ℕ) → k < n → AreNumbers n (row_at rows k)) → AreNumbers n (inbox_of i rows)
+    → ((k : ℕ) → k < n → AreNumbers n (mail_from rows k)) → AreNumbers n (inbox_of i rows)
 inbox_numbers n i rows e small j v h =
     elim (cases_lt j (length rows)) [
       | inl lt ↦ let within : j < n = omega (arith, lt, e) in
@@ -83,7 +83,7 @@ pub support_came : (v i n : ℕ) (rows : List (FinMap nat_cmp ℕ)) → length r
 support_came v i n rows e =
     subst (λ k. support (inbox_of i rows) v k ≡ came v i rows) e
     (support_sum (inbox_of i rows) v (length rows)
-    ∙ (sum_same (λ j. is_mail v (get (inbox_of i rows) j)) (λ j. is_mail v (get (row_at rows j) i)) (length rows)
+    ∙ (sum_same (λ j. is_mail v (get (inbox_of i rows) j)) (λ j. is_mail v (get (mail_from rows j) i)) (length rows)
     (λ j lt. ap (is_mail v) (get_inbox i j rows lt))
     ∙ sum_rows (λ row. is_mail v (get row i)) rows empty))
 
@@ -109,7 +109,7 @@ one_row n i j v w row lt lt' apart false one =
 -- the senders of v to i and those of w to j are no more than the senders and the ones that are not settled
 pub two_values : (n i j v w : ℕ) (rows : List (FinMap nat_cmp ℕ)) (flags : List Bool) → length flags ≡ length rows
     → i < n → j < n → v ≢ w
-    → ((k : ℕ) → k < length rows → get_or flags k false ≡ true → SentOne n (row_at rows k))
+    → ((k : ℕ) → k < length rows → get_or flags k false ≡ true → SentOne n (mail_from rows k))
     → came v i rows + came w j rows ≤ length rows + count_by not flags
 two_values n i j v w [] [] e lt lt' apart one = omega arith
 two_values n i j v w [] (f ∷ flags) e lt lt' apart one = absurd (omega arith)
@@ -134,7 +134,7 @@ below_unit false b h = omega arith
 -- each node counted in p has sent v to the receiver
 pub enough_came : {X : Type 0} (p : X → Bool) (i v : ℕ) (xs : List X) (rows : List (FinMap nat_cmp ℕ))
     → length rows ≡ length xs
-    → ((k : ℕ) (d : X) → k < length xs → p (get_or xs k d) ≡ true → is_mail v (get (row_at rows k) i) ≡ true)
+    → ((k : ℕ) (d : X) → k < length xs → p (get_or xs k d) ≡ true → is_mail v (get (mail_from rows k) i) ≡ true)
     → count_by p xs ≤ came v i rows
 enough_came p i v [] rows e sent = omega arith
 enough_came p i v (x ∷ xs) [] e sent = absurd (omega arith)

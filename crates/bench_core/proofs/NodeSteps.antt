@@ -4,8 +4,8 @@ use Rattle.std.specs.Prelude.{IsNone, unwrap_or, [], ◌-◌}
 use Rattle.std.proofs.lemmas.List.Elements.{All-contains, All-weaker}
 use Rattle.bpf_machine.specs.Run.{End}
 use Rattle.bench_core.specs.Setup.{Setup}
-use Rattle.bench_core.specs.State.{State, node_at}
-use Rattle.bench_core.specs.Settled.{AreSteps, RanTo}
+use Rattle.bench_core.specs.State.{State, node_at, coins_of}
+use Rattle.bench_core.specs.Told.{AreSteps, RanTo}
 use Rattle.bench_core.specs.Replay.{BenchValue, openings}
 use Rattle.bench_core.specs.Tasks.{Done, IsHanded, IsResultOf, IsExact, HandedOut}
 use Rattle.bench_core.specs.inner.Steps.{Took, TookAt}
@@ -45,11 +45,11 @@ rested_steps s b coins opening i k dones exact (inr none) rests = none.1
 pub are_steps : (b : BenchValue) (dones : List Done) (steps : List ℕ) → length b.state.nodes ≡ b.setup.shape.nodes
     → IsExact (HandedOut b) b.state.nodes dones → length steps ≡ b.setup.shape.nodes
     → ((i : ℕ) → i < b.setup.shape.nodes → TookAt dones i (get_or steps i 0))
-    → AreSteps b.setup b.state (unwrap_or b.state.coins []) steps
+    → AreSteps b.setup b.state (coins_of b.state) steps
 are_steps b dones steps whole exact count each = record {
   nodes = count;
-  ran = λ i end ran. ran_steps b.setup b.state (unwrap_or b.state.coins []) (openings b.history - 1) i (get_or steps i 0)
+  ran = λ i end ran. ran_steps b.setup b.state (coins_of b.state) (openings b.history - 1) i (get_or steps i 0)
       dones end whole exact (each i ran.node) ran;
-  rested = λ i within rests. rested_steps b.setup b.state (unwrap_or b.state.coins []) (openings b.history - 1) i
+  rested = λ i within rests. rested_steps b.setup b.state (coins_of b.state) (openings b.history - 1) i
       (get_or steps i 0) dones exact (each i within) rests;
 }

@@ -8,7 +8,7 @@ use Rattle.bench_core.specs.declared.bench.Bench.TheInside.{Inside}
 use Rattle.bench_core.specs.declared.entry.Entry.{Entry}
 use Rattle.bench_core.specs.declared.entry.Entry.TheVariants.{Opened}
 use Rattle.bench_core.specs.Setup.{Setup}
-use Rattle.bench_core.specs.State.{State, Change, Load, Unload, Corrupt, no_node, node_of, all_applied, opened_state, IsChange, AreCoins}
+use Rattle.bench_core.specs.State.{State, Change, Load, Unload, Corrupt, no_node, node_of, all_applied, opened_state, IsChange, AreCoins, coins_of}
 use Rattle.bench_core.specs.Replay.{Entry as EntryValue, Staged, Opened as OpenedValue, Closed, Abandoned, BenchValue, Advances, openings}
 use Rattle.bench_core.specs.inner.Replay.{staged_of}
 use Rattle.bench_core.specs.Tasks.{tasks_of, tasks_from}
@@ -93,7 +93,7 @@ pub tasks_made : (b b' : BenchValue) (coins : List ℕ) → Advances b (OpenedVa
     → tasks_from b.setup b.state.mail coins (openings b.history) 0 b'.state.nodes ≡ tasks_of b'
 tasks_made b b' coins h =
     let mail : b'.state.mail ≡ b.state.mail = ap (λ (x : State). x.mail) h.step.2 in
-    let is_open : unwrap_or b'.state.coins [] ≡ coins = ap (λ (x : State). unwrap_or x.coins []) h.step.2 in
+    let is_open : coins_of b'.state ≡ coins = ap (λ (x : State). unwrap_or x.coins []) h.step.2 in
     let number : openings b'.history - 1 ≡ openings b.history =
     let e = ap openings h.history ∙ openings_push b.history (OpenedValue coins) in omega (arith, e) in
     rw (h.setup, mail, is_open, number) refl

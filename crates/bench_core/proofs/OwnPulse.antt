@@ -8,12 +8,12 @@ use Rattle.std.proofs.Math.Nat.{mod-add-mod, mod-eq_of_lt}
 use Rattle.node_env.specs.Env.{Setting, inbox_of}
 use Rattle.bpf_machine.specs.Run.{CompleteRun}
 use Rattle.bpf_verify.specs.Accepted.{Accepted}
-use Rattle.clock_nodes.specs.Rule.{clock_of, mark_of}
-use Rattle.bench_core.specs.Setup.{Setup, quorum}
-use Rattle.bench_core.specs.State.{Node, State, new_state, node_at, row_at, setting_at}
+use Rattle.clock_nodes.specs.Rule.{clock_of, mark_of, quorum_of}
+use Rattle.bench_core.specs.Setup.{Setup, rule_of}
+use Rattle.bench_core.specs.State.{Node, State, new_state, node_at, mail_from, setting_at}
 use Rattle.bench_core.specs.Pulse.{RunsClock, Runs, Rests, NodePulse, Pulse}
-use Rattle.bench_core.specs.Settled.{row_of}
-use Rattle.bench_core.specs.Replay.{Entry, Closed, Run, Replays}
+use Rattle.bench_core.specs.Told.{row_of}
+use Rattle.bench_core.specs.Replay.{Entry, Closed, Leads, Replays}
 use Rattle.bench_core.specs.Laws.{OnlyItsOwn, OnlyItsOwnFor, SameNode, PairMovesOnFor, SharePair, IsIn, ran_to_pair, coin_at}
 use Rattle.bench_core.proofs.Replays.{one_node, run_push}
 use Rattle.bench_core.proofs.Counting.{unit_of, count_cons}
@@ -49,11 +49,11 @@ only_its_own s b b' c c' i h g inbox coin lt below program memory =
     let same_env : setting_at s c.mail g.coins i ≡ env = ap
     (λ (m : FinMap nat_cmp ℕ). let e : Setting = record { shape = s.shape; id = i; inbox = m; coin = slice_index g.coins i } in e) inbox
     ∙ ap (λ (k : ℕ). let e : Setting = record { shape = s.shape; id = i; inbox = inbox_of i b.mail; coin = k } in e) same_coin in
-    let at_env = subst (λ (e : Setting). NodePulse s e z (node_at c'.nodes i) (row_at c'.mail i)) same_env other in
-    let at_program = subst (λ (o : Option Accepted). MatchOption o (Rests z (node_at c'.nodes i) (row_at c'.mail i))
-    (λ p. Runs s p env z (node_at c'.nodes i) (row_at c'.mail i))) program at_env.1 in
-    let at_memory = part_of s env z x (node_at c'.nodes i) (row_at c'.mail i) x.program (sym memory) at_program in
-    one_node s env x (node_at c'.nodes i) (node_at b'.nodes i) (row_at c'.mail i) (row_at b'.mail i) x.program
+    let at_env = subst (λ (e : Setting). NodePulse s e z (node_at c'.nodes i) (mail_from c'.mail i)) same_env other in
+    let at_program = subst (λ (o : Option Accepted). MatchOption o (Rests z (node_at c'.nodes i) (mail_from c'.mail i))
+    (λ p. Runs s p env z (node_at c'.nodes i) (mail_from c'.mail i))) program at_env.1 in
+    let at_memory = part_of s env z x (node_at c'.nodes i) (mail_from c'.mail i) x.program (sym memory) at_program in
+    one_node s env x (node_at c'.nodes i) (node_at b'.nodes i) (mail_from c'.mail i) (mail_from b'.mail i) x.program
     (other.0 ∙ (program ∙ sym mine.0)) at_memory mine.1
 
 pub only_its_own_for : OnlyItsOwnFor
@@ -75,9 +75,9 @@ only_its_own_for s i (suc k) b b' c c' same h =
 
 -- ---- a shared pair for any number of pulses
 
-run_append : (s : Setup) (b : State) (es fs : List Entry) (mid b' : State) → Run s b es mid → Run s mid fs b'
-    → Run s b (es ++ fs) b'
-run_append s b [] fs mid b' h g = subst (λ (x : State). Run s x fs b') h g
+run_append : (s : Setup) (b : State) (es fs : List Entry) (mid b' : State) → Leads s b es mid → Leads s mid fs b'
+    → Leads s b (es ++ fs) b'
+run_append s b [] fs mid b' h g = subst (λ (x : State). Leads s x fs b') h g
 run_append s b (e ∷ es) fs mid b' h g = (h.0, h.1, run_append s h.0 es fs mid b' h.2 g)
 
 -- each of the group passes
@@ -128,8 +128,8 @@ runs_on s b0 b c c' i sound0 sound p q lt marked same =
     let within' : i < length c.nodes = rw sound.nodes lt in
     let first = p.each i within in
     let ran = program_of_mark s (setting_at s b0.mail p.coins i) (node_at b0.nodes i) (node_at b.nodes i)
-    (row_at b.mail i) (node_at b0.nodes i).program refl first.1 marked in
-    mark_of_run s (setting_at s c.mail q.coins i) (node_at c.nodes i) (node_at c'.nodes i) (row_at c'.mail i)
+    (mail_from b.mail i) (node_at b0.nodes i).program refl first.1 marked in
+    mark_of_run s (setting_at s c.mail q.coins i) (node_at c.nodes i) (node_at c'.nodes i) (mail_from c'.mail i)
     (node_at c.nodes i).program ran.program (same ∙ (first.0 ∙ ran.loaded)) ran.clock (q.each i within').1
 
 pub pair_moves_for : PairMovesOnFor
@@ -155,7 +155,7 @@ pair_moves_for s history b0 b b' group clock (suc k) ok own replay p count many 
     let replay_c : Replays s ((history ++ Closed (row_of s b0 b) ∷ []) ++ es) c = run_append s (new_state s)
     (history ++ Closed (row_of s b0 b) ∷ []) es b c closed alone.run in
     let sound_c = sound_replay s ((history ++ Closed (row_of s b0 b) ∷ []) ++ es) c ok replay_c in
-    let came : quorum s ≤ count_by (ran_to_pair clock 1) b.nodes =
+    let came : quorum_of (rule_of s) ≤ count_by (ran_to_pair clock 1) b.nodes =
     let passes = group_passes (ran_to_pair clock 1) group b.nodes (count ∙ sym sound_b.nodes)
     (λ i l in_group. let has = share i (omega (arith, l, sound_b.nodes)) in_group in
     pair_passes clock (node_at b.nodes i) has.0 has.1 has.2) in omega (arith, passes, many) in

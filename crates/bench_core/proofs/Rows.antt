@@ -11,8 +11,9 @@ use Rattle.bench_core.specs.declared.limits.TheConstants.{CLOCKS_DIFFER}
 use Rattle.bench_core.specs.Setup.{Setup, IsSetup}
 use Rattle.bench_core.specs.State.{Node, State, new_state, node_at}
 use Rattle.bench_core.specs.Pulse.{Pulse}
-use Rattle.bench_core.specs.Settled.{settled_flags, settled_clocks, clocks_where, moving_clocks, common_of, value_of}
-use Rattle.bench_core.specs.Replay.{Entry, Staged, Opened, Closed, Abandoned, Step, Run}
+use Rattle.bench_core.specs.Settled.{settled_flags, settled_clocks, clocks_where, moving_clocks, value_of}
+use Rattle.bench_core.specs.Told.{common_of}
+use Rattle.bench_core.specs.Replay.{Entry, Staged, Opened, Closed, Abandoned, Step, Leads}
 use Rattle.bench_core.specs.Laws.{RowsFit, RowsTell}
 use Rattle.bench_core.proofs.Sound.{Sound, sound_replay}
 use Rattle.bench_core.proofs.Rules.{clock_below_modulus}
@@ -49,7 +50,7 @@ step_weight s b Abandoned b' h =
     let coins : open_of b'.coins ≡ 0 = ap (λ (x : State). open_of x.coins) h.1 in
     omega (arith, closed, coins)
 
-run_weight : (s : Setup) (b : State) (es : List Entry) (b' : State) → Run s b es b' → weight b' ≤ weight b + length es
+run_weight : (s : Setup) (b : State) (es : List Entry) (b' : State) → Leads s b es b' → weight b' ≤ weight b + length es
 run_weight s b [] b' h = let e : weight b' ≡ weight b = ap weight h in omega (arith, e)
 run_weight s b (e ∷ es) b' h = omega (arith, step_weight s b e h.0 h.1, run_weight s h.0 es b' h.2)
 

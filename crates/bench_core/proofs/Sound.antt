@@ -9,15 +9,16 @@ use Rattle.node_env.specs.Env.{Extent, Setting, IsSetting, AreNumbers}
 use Rattle.bpf_insn.specs.declared.forms.Insn.{Insn}
 use Rattle.bpf_machine.specs.Run.{CompleteRun}
 use Rattle.bpf_verify.specs.Accepted.{Accepted}
-use Rattle.clock_nodes.specs.Rule.{support}
+use Rattle.clock_nodes.specs.Rule.{support, quorum_of}
 use Rattle.clock_nodes.specs.Rule.{clock_of, mark_of, pair_after, with_pair}
 use Rattle.clock_nodes.proofs.Bytes.{clock_written, mark_written}
 use Rattle.clock_nodes.proofs.ClockRuns.{clock_ends_so}
-use Rattle.bench_core.specs.Setup.{Setup, IsSetup, HasRuleClock, quorum, clock_listing}
-use Rattle.bench_core.specs.State.{Node, Change, Load, Unload, Corrupt, State, no_node, node_at, row_at, setting_at, new_node, new_state, IsMemory, IsChange, AreCoins, applied, all_applied, opened_state, staged_state, abandoned_state}
+use Rattle.bench_core.specs.Setup.{Setup, IsSetup, HasRuleClock, rule_of}
+use Rattle.clock_nodes.specs.Listings.{clock_listing}
+use Rattle.bench_core.specs.State.{Node, Change, Load, Unload, Corrupt, State, no_node, node_at, mail_from, setting_at, new_node, new_state, IsMemory, IsChange, AreCoins, applied, all_applied, opened_state, staged_state, abandoned_state}
 use Rattle.bench_core.specs.Pulse.{Runs, Rests, Pulse}
 use Rattle.bench_core.specs.Settled.{value_of}
-use Rattle.bench_core.specs.Replay.{Entry, Staged, Opened, Closed, Abandoned, Step, Run}
+use Rattle.bench_core.specs.Replay.{Entry, Staged, Opened, Closed, Abandoned, Step, Leads}
 use Rattle.bench_core.proofs.AnyRuns.{any_run_leaves}
 use Rattle.bench_core.proofs.Counting.{SentOne, inbox_numbers}
 use Rattle.bench_core.proofs.Rules.{IsMoved, moved_after, clock_below_same}
@@ -29,10 +30,10 @@ IsShaped shape p = p.shape ≡ shape
 pub record Sound (s : Setup) (b : State) : Type 0 where
   pub nodes : length b.nodes ≡ s.shape.nodes
   pub mail : length b.mail ≡ s.shape.nodes
-  pub rows : (i : ℕ) → i < s.shape.nodes → AreNumbers s.shape.nodes (row_at b.mail i)
+  pub rows : (i : ℕ) → i < s.shape.nodes → AreNumbers s.shape.nodes (mail_from b.mail i)
   pub memories : (i : ℕ) → i < s.shape.nodes → IsMemory s.shape (node_at b.nodes i).memory
   pub programs : (i : ℕ) → i < s.shape.nodes → IfSome (node_at b.nodes i).program (IsShaped s.shape)
-  pub sent : HasRuleClock s → (i : ℕ) → i < s.shape.nodes → IsTrue (node_at b.nodes i).mark → SentOne s.shape.nodes (row_at b.mail i)
+  pub sent : HasRuleClock s → (i : ℕ) → i < s.shape.nodes → IsTrue (node_at b.nodes i).mark → SentOne s.shape.nodes (mail_from b.mail i)
   pub staged : All (IsChange s.shape) b.staged
   pub coins : IfSome b.coins (AreCoins s.shape)
 
@@ -177,7 +178,7 @@ pub record RanClock (s : Setup) (env : Setting) (before after : Node) (row : Fin
   pub clock : clock_of after.memory ≡ (pair_after s.faults s.modulus env before.memory).0
   pub told : value_of s.modulus after.memory ≡ clock_of after.memory
   pub last : mark_of after.memory ≡ (pair_after s.faults s.modulus env before.memory).1
-  pub moved : IsMoved (quorum s) s.modulus (λ v. support env.inbox v s.shape.nodes)
+  pub moved : IsMoved (quorum_of (rule_of s)) s.modulus (λ v. support env.inbox v s.shape.nodes)
       (pair_after s.faults s.modulus env before.memory)
   pub sent : (j : ℕ) → j < s.shape.nodes → get row j ≡ Some (clock_of after.memory)
 
@@ -189,12 +190,12 @@ node_ran s mail coins i x y row ok own is whole None h marked = absurd (cc (h.ma
 node_ran s mail coins i x y row ok own is whole (Some p) h marked =
     let env = setting_at s mail coins i in
     let pair = pair_after s.faults s.modulus env x.memory in
-    let run : CompleteRun (clock_listing s) env x.memory h.end = subst
+    let run : CompleteRun (clock_listing (rule_of s)) env x.memory h.end = subst
     (λ (l : List Insn). CompleteRun l env x.memory h.end) (h.mark.0 marked ∙ own) h.run in
     let ends = clock_ends_so (record { nodes = s.shape.nodes; faults = s.faults; modulus = s.modulus }) s.shape
     (record { some = ok.extent.some; few = ok.extent.few; allowed = ok.faults; least = ok.least; most = ok.most }) refl
     env x.memory h.end (record { extent = refl; setting = is; length = whole.length; bytes = whole.bytes }) run in
-    let moved = moved_after (quorum s) s.modulus (clock_of x.memory) (mark_of x.memory) (slice_index coins i)
+    let moved = moved_after (quorum_of (rule_of s)) s.modulus (clock_of x.memory) (mark_of x.memory) (slice_index coins i)
     (λ v. support env.inbox v s.shape.nodes) ok.least is.coin in
     let left : y.memory ≡ with_pair pair x.memory = h.memory ∙ ends.memory in
     let clock : clock_of y.memory ≡ pair.0 = ap clock_of left
@@ -216,10 +217,10 @@ node_ran s mail coins i x y row ok own is whole (Some p) h marked =
 
 pub ran_pulse : (s : Setup) (b b' : State) (i : ℕ) → IsSetup s → HasRuleClock s → Sound s b → (p : Pulse s b b') → i < s.shape.nodes
     → IsTrue (node_at b'.nodes i).mark
-    → RanClock s (setting_at s b.mail p.coins i) (node_at b.nodes i) (node_at b'.nodes i) (row_at b'.mail i)
+    → RanClock s (setting_at s b.mail p.coins i) (node_at b.nodes i) (node_at b'.nodes i) (mail_from b'.mail i)
 ran_pulse s b b' i ok own sound p lt marked =
     let within : i < length b.nodes = rw sound.nodes lt in
-    node_ran s b.mail p.coins i (node_at b.nodes i) (node_at b'.nodes i) (row_at b'.mail i) ok own
+    node_ran s b.mail p.coins i (node_at b.nodes i) (node_at b'.nodes i) (mail_from b'.mail i) ok own
     (is_setting s b p.coins i ok sound p.is_open lt) (sound.memories i lt) (node_at b.nodes i).program
     (p.each i within).1 marked
 
@@ -239,7 +240,7 @@ pub sound_pulse : (s : Setup) (b b' : State) → IsSetup s → Sound s b → Pul
 sound_pulse s b b' ok sound p =
     let within = λ (i : ℕ) (lt : i < s.shape.nodes). let w : i < length b.nodes = rw sound.nodes lt in w in
     let left = λ (i : ℕ) (lt : i < s.shape.nodes).
-    node_left s b.mail p.coins i (node_at b.nodes i) (node_at b'.nodes i) (row_at b'.mail i)
+    node_left s b.mail p.coins i (node_at b.nodes i) (node_at b'.nodes i) (mail_from b'.mail i)
     (sound.memories i lt) (node_at b.nodes i).program (p.each i (within i lt)).1 in
     record {
       nodes = p.nodes ∙ sound.nodes;
@@ -259,11 +260,11 @@ sound_step s b (Opened coins) b' ok sound h = subst (Sound s) (sym h.2) (sound_o
 sound_step s b (Closed row) b' ok sound h = sound_pulse s b b' ok sound h.0
 sound_step s b Abandoned b' ok sound h = subst (Sound s) (sym h.1) (sound_abandoned s b sound)
 
-pub sound_run : (s : Setup) (b : State) (es : List Entry) (b' : State) → IsSetup s → Sound s b → Run s b es b'
+pub sound_run : (s : Setup) (b : State) (es : List Entry) (b' : State) → IsSetup s → Sound s b → Leads s b es b'
     → Sound s b'
 sound_run s b [] b' ok sound h = subst (Sound s) (sym h) sound
 sound_run s b (e ∷ es) b' ok sound h = sound_run s h.0 es b' ok (sound_step s b e h.0 ok sound h.1) h.2
 
-pub sound_replay : (s : Setup) (history : List Entry) (b : State) → IsSetup s → Run s (new_state s) history b
+pub sound_replay : (s : Setup) (history : List Entry) (b : State) → IsSetup s → Leads s (new_state s) history b
     → Sound s b
 sound_replay s history b ok h = sound_run s (new_state s) history b ok (sound_new s) h

@@ -7,7 +7,7 @@ use Rattle.std.proofs.lemmas.List.Sums.{sum_by-cons}
 use Rattle.std.proofs.lemmas.List.Elements.{All-head, All-tail, All-nil, All-cons, All-weaker}
 use Rattle.clock_nodes.specs.declared.rule.TheConstants.{MOST_MODULUS}
 use Rattle.bench_core.specs.declared.limits.TheConstants.{CLOCKS_DIFFER}
-use Rattle.bench_core.specs.Settled.{common_of}
+use Rattle.bench_core.specs.Told.{common_of}
 use Rattle.bench_core.specs.inner.Told.{joined_of, joined_all}
 
 abbrev pub moving : List ℕ → List ℕ

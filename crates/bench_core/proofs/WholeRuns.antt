@@ -12,7 +12,7 @@ use Rattle.bpf_verify.specs.Accepted.{Accepted, IsVerified}
 use Rattle.bpf_verify.specs.Typable.{Typable}
 use Rattle.bpf_run.proofs.Runs.{within_longest, run_ends}
 use Rattle.bench_core.specs.Setup.{Setup, IsSetup}
-use Rattle.bench_core.specs.State.{State, new_state, node_at, row_at, setting_at}
+use Rattle.bench_core.specs.State.{State, new_state, node_at, mail_from, setting_at, coins_of}
 use Rattle.bench_core.specs.Pulse.{Runs, Rests, Pulse}
 use Rattle.bench_core.specs.StepList.{entries_of}
 use Rattle.bench_core.specs.Headline.{EveryRun, EachEnds, IsWhole}
@@ -45,11 +45,11 @@ whole_run s b b' i p ok sound has pulse lt loaded =
     let fit : IsVerified p = program_is b i p has loaded in
     let shape : IsShaped s.shape p = subst (λ (o : Option Accepted). IfSome o (IsShaped s.shape)) loaded
     (sound.programs i lt) in
-    let runs : Runs s p env (node_at b.nodes i) (node_at b'.nodes i) (row_at b'.mail i) =
-    subst (λ (o : Option Accepted). MatchOption o (Rests (node_at b.nodes i) (node_at b'.nodes i) (row_at b'.mail i))
-    (λ q. Runs s q env (node_at b.nodes i) (node_at b'.nodes i) (row_at b'.mail i))) loaded
+    let runs : Runs s p env (node_at b.nodes i) (node_at b'.nodes i) (mail_from b'.mail i) =
+    subst (λ (o : Option Accepted). MatchOption o (Rests (node_at b.nodes i) (node_at b'.nodes i) (mail_from b'.mail i))
+    (λ q. Runs s q env (node_at b.nodes i) (node_at b'.nodes i) (mail_from b'.mail i))) loaded
     (pulse.each i within).1 in
-    let coins : unwrap_or b.coins [] ≡ pulse.coins = ap (λ (o : Option (List ℕ)). unwrap_or o []) pulse.is_open in
+    let coins : coins_of b ≡ pulse.coins = ap (λ (o : Option (List ℕ)). unwrap_or o []) pulse.is_open in
     let is = is_setting s b pulse.coins i ok sound pulse.is_open lt in
     let whole = sound.memories i lt in
     let typable : Typable p.program env.shape = subst (Typable p.program) shape fit.typable in (

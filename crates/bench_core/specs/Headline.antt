@@ -5,23 +5,23 @@ use Rattle.bpf_machine.specs.Run.{CompleteRun, End, HasNoSuccessor, RunsTo}
 use Rattle.bpf_verify.specs.Accepted.{Accepted}
 use Rattle.bpf_verify.specs.Paths.{IsLongestPath}
 use Rattle.bench_core.specs.Setup.{Setup, IsSetup}
-use Rattle.bench_core.specs.State.{State, new_state, node_at, row_at, setting_at}
+use Rattle.bench_core.specs.State.{State, new_state, node_at, mail_from, setting_at, coins_of}
 use Rattle.bench_core.specs.Pulse.{Pulse}
-use Rattle.bench_core.specs.Settled.{RanTo}
+use Rattle.bench_core.specs.Told.{RanTo}
 use Rattle.bench_core.specs.Replay.{Entry, Replays, StagesAccepted}
 use Rattle.bench_core.specs.StepList.{Act, Performs, entries_of}
 
 -- a loaded node's run in a closed pulse: a complete run, of at most the announced number of instructions, which leaves
 -- the node's memory and its outgoing mail. It is never stuck: each state that is reached has a next one
 pub record IsWhole (s : Setup) (b b' : State) (i : ℕ) (p : Accepted) (end : End) : Type 0 where
-  pub run : CompleteRun p.program (setting_at s b.mail (unwrap_or b.coins []) i) (node_at b.nodes i).memory end
+  pub run : CompleteRun p.program (setting_at s b.mail (coins_of b) i) (node_at b.nodes i).memory end
   pub unstuck : (count : ℕ) (state : MachineState)
-      → RunsTo p.program (setting_at s b.mail (unwrap_or b.coins []) i) (node_at b.nodes i).memory count state
-      → HasNoSuccessor p.program (setting_at s b.mail (unwrap_or b.coins []) i) state → ⊥
+      → RunsTo p.program (setting_at s b.mail (coins_of b) i) (node_at b.nodes i).memory count state
+      → HasNoSuccessor p.program (setting_at s b.mail (coins_of b) i) state → ⊥
   pub within : end.steps ≤ p.budget
   pub announced : IsLongestPath p.program p.budget
   pub memory : (node_at b'.nodes i).memory ≡ end.memory
-  pub sends : row_at b'.mail i ≡ end.sent
+  pub sends : mail_from b'.mail i ≡ end.sent
 
 -- over every list of steps that stages accepted programs
 abbrev pub EveryRun : Type 0

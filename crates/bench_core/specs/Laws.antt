@@ -1,17 +1,18 @@
 -- What else holds of every run of the pulse machine.
 use Rattle.std.specs.Prelude.{◌≡◌, ◌≢◌, ◌↔◌, ℕ, zero, suc, false, get_or, slice_index, ◌+◌, ◌*◌, ◌%◌, ◌<◌, ◌≤◌, Bool, ◌&&◌, ◌==◌, IsTrue, IsSome, Some, List, length, count_by, All, slice_get, unwrap_or, []}
 use Rattle.node_env.specs.Env.{inbox_of}
-use Rattle.clock_nodes.specs.Rule.{clock_of, mark_of}
+use Rattle.clock_nodes.specs.Rule.{clock_of, mark_of, quorum_of}
 use Rattle.bpf_machine.specs.Run.{End}
 use Rattle.bench_core.specs.declared.limits.TheConstants.{MOST_ENTRIES, CLOCKS_DIFFER}
 use Rattle.bench_core.specs.declared.refusal.StageError.{StageError}
 use Rattle.bench_core.specs.declared.refusal.OpenError.{OpenError}
 use Rattle.bench_core.specs.declared.refusal.CloseError.{CloseError}
-use Rattle.bench_core.specs.Setup.{Setup, IsSetup, HasRuleClock, quorum}
-use Rattle.bench_core.specs.State.{Change, Node, State, new_state, node_at, row_at}
+use Rattle.bench_core.specs.Setup.{Setup, IsSetup, HasRuleClock, rule_of}
+use Rattle.bench_core.specs.State.{Change, Node, State, new_state, node_at, mail_from, coins_of}
 use Rattle.bench_core.specs.Pulse.{Pulse}
-use Rattle.bench_core.specs.Settled.{Row, IsRow, row_of, value_of, RanTo, faulty_count, Agree}
-use Rattle.bench_core.specs.Replay.{Entry, Staged, Closed, Run, Replays, BenchValue, Advances, rows_of}
+use Rattle.bench_core.specs.Settled.{value_of, faulty_count, Agree}
+use Rattle.bench_core.specs.Told.{Row, IsRow, row_of, RanTo}
+use Rattle.bench_core.specs.Replay.{Entry, Staged, Closed, Leads, Replays, BenchValue, Advances, rows_of}
 use Rattle.bench_core.specs.StepList.{Act, Locked, Ran, Performs, entries_of}
 use Rattle.bench_core.specs.Tasks.{Done, tasks_of, HandedOut, RanEach, IsExact}
 use Rattle.bench_core.specs.Refusals.{IsStageRefusal, IsOpenRefusal, IsCloseRefusal}
@@ -28,7 +29,7 @@ AdvancesReplay = (old new : BenchValue) (entry : Entry) → Replays old.setup ol
 -- what any list of steps does is what its entries do
 abbrev pub StepsAreEntries : Type 0
 StepsAreEntries = (s : Setup) (b : State) (acts : List Act) (b' : State) → Performs s b acts b'
-    → Run s b (entries_of acts) b'
+    → Leads s b (entries_of acts) b'
 
 -- within an open pulse: runs of nodes, and changes that are staged
 abbrev pub IsWithinPulse : Act → Type 0
@@ -73,8 +74,8 @@ IsQuiet _ = Unit {0}
 abbrev pub PairMovesOn : Type 0
 PairMovesOn = (s : Setup) (history between : List Entry) (b b' c c' : State) (clock i : ℕ) → IsSetup s
     → HasRuleClock s
-    → Replays s history b → Pulse s b b' → quorum s ≤ count_by (ran_to_pair clock 1) b'.nodes
-    → Run s b' between c → All IsQuiet between → Pulse s c c'
+    → Replays s history b → Pulse s b b' → quorum_of (rule_of s) ≤ count_by (ran_to_pair clock 1) b'.nodes
+    → Leads s b' between c → All IsQuiet between → Pulse s c c'
     → i < s.shape.nodes → IsTrue (node_at c'.nodes i).mark → clock_of (node_at c.nodes i).memory ≡ clock
     → mark_of (node_at c.nodes i).memory ≡ 1
     → (clock_of (node_at c'.nodes i).memory ≡ (clock + 1) % s.modulus) × (mark_of (node_at c'.nodes i).memory ≡ 1)
@@ -91,7 +92,7 @@ SharePair s group clock b = (i : ℕ) → i < s.shape.nodes → IsIn group i
 
 -- entries that close no pulse, and after which these nodes have the program and the memory that they had
 pub record LeavesAlone (s : Setup) (group : List Bool) (b : State) (es : List Entry) (c : State) : Type 0 where
-  pub run : Run s b es c
+  pub run : Leads s b es c
   pub quiet : All IsQuiet es
   pub program : (i : ℕ) → i < s.shape.nodes → IsIn group i
       → (node_at c.nodes i).program ≡ (node_at b.nodes i).program
@@ -109,14 +110,14 @@ Rounds s group (suc k) b b' = (es : List Entry) × (c : State) × (mid : State) 
 abbrev pub PairMovesOnFor : Type 0
 PairMovesOnFor = (s : Setup) (history : List Entry) (b0 b b' : State) (group : List Bool) (clock k : ℕ) → IsSetup s
     → HasRuleClock s → Replays s history b0 → Pulse s b0 b
-    → length group ≡ s.shape.nodes → quorum s ≤ count_by (λ x. x) group
+    → length group ≡ s.shape.nodes → quorum_of (rule_of s) ≤ count_by (λ x. x) group
     → SharePair s group clock b → Rounds s group k b b' → SharePair s group ((clock + k) % s.modulus) b'
 
 -- ---- a node's own
 
 -- the coin of a node in an open pulse
 abbrev pub coin_at : State → ℕ → ℕ
-coin_at b i = slice_index (unwrap_or b.coins []) i
+coin_at b i = slice_index (coins_of b) i
 
 -- what a closed pulse makes of a node and its mail is by its own program, memory and coin and by the mail that came to
 -- it: two pulses in which these are equal give equal results, whatever all other nodes run, hold and send elsewhere
@@ -126,7 +127,7 @@ OnlyItsOwn = (s : Setup) (b b' c c' : State) (i : ℕ) → Pulse s b b' → Puls
     → i < length b.nodes → i < length c.nodes
     → (node_at c.nodes i).program ≡ (node_at b.nodes i).program
     → (node_at c.nodes i).memory ≡ (node_at b.nodes i).memory
-    → (node_at c'.nodes i ≡ node_at b'.nodes i) × (row_at c'.mail i ≡ row_at b'.mail i)
+    → (node_at c'.nodes i ≡ node_at b'.nodes i) × (mail_from c'.mail i ≡ mail_from b'.mail i)
 
 -- node i has the same program and the same memory in both
 abbrev pub SameNode : ℕ → State → State → Type 0

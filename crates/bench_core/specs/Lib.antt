@@ -3,6 +3,7 @@ pub mod Setup
 pub mod State
 pub mod Pulse
 pub mod Settled
+pub mod Told
 pub mod Replay
 pub mod StepList
 pub mod Tasks

@@ -6,7 +6,7 @@ use Rattle.bench_core.specs.Setup.{Setup}
 use Rattle.bpf_verify.specs.Accepted.{IsVerified}
 use Rattle.bench_core.specs.State.{Change, Load, Unload, Corrupt, IsChange, AreCoins, State, new_state, staged_state, opened_state, abandoned_state}
 use Rattle.bench_core.specs.Pulse.{Pulse}
-use Rattle.bench_core.specs.Settled.{Row, row_of}
+use Rattle.bench_core.specs.Told.{Row, row_of}
 
 pub data Entry : Type 0 where
   Staged : (actor : Actor) (change : Change) → Entry
@@ -21,13 +21,13 @@ Step s b (Closed row) b' = Pulse s b b' × (row ≡ row_of s b b')
 Step s b Abandoned b' = IsSome b.coins × (b' ≡ abandoned_state b)
 
 -- the entries lead from one state to the other
-abbrev pub Run : Setup → State → List Entry → State → Type 0
-Run s b [] b' = b' ≡ b
-Run s b (e ∷ es) b' = (mid : State) × Step s b e mid × Run s mid es b'
+abbrev pub Leads : Setup → State → List Entry → State → Type 0
+Leads s b [] b' = b' ≡ b
+Leads s b (e ∷ es) b' = (mid : State) × Step s b e mid × Leads s mid es b'
 
 -- the state is where a new bench comes by these entries
 abbrev pub Replays : Setup → List Entry → State → Type 0
-Replays s history b = Run s (new_state s) history b
+Replays s history b = Leads s (new_state s) history b
 
 -- a program that is loaded is accepted for its shape, and its announced count is its longest path
 abbrev pub LoadsAccepted : Change → Type 0

@@ -3,7 +3,8 @@ use Rattle.std.specs.Prelude.{◌≡◌, ℕ, ◌-◌, ◌<◌, ◌≤◌, List}
 use Rattle.node_env.specs.Env.{Extent, IsExtent}
 use Rattle.bpf_insn.specs.declared.forms.Insn.{Insn}
 use Rattle.bpf_insn.specs.Programs.{IsProgram}
-use Rattle.clock_nodes.specs.Listings.{listing}
+use Rattle.clock_nodes.specs.Rule.{Rule}
+use Rattle.clock_nodes.specs.Listings.{clock_listing}
 use Rattle.clock_nodes.specs.declared.rule.TheConstants.{LEAST_MODULUS, MOST_MODULUS}
 
 -- the shape of its nodes, the rule of their clocks, and the instructions that count as their clock
@@ -20,14 +21,10 @@ pub record IsSetup (s : Setup) : Type 0 where
   pub most : s.modulus ≤ MOST_MODULUS
   pub clock : IsProgram s.clock
 
--- how many mails support a clock
-abbrev pub quorum : Setup → ℕ
-quorum s = s.shape.nodes - s.faults
-
--- the instructions of the clock program of the rule
-abbrev pub clock_listing : Setup → List Insn
-clock_listing s = listing s.shape.nodes (quorum s) s.modulus
+-- the rule of the clocks of its nodes
+abbrev pub rule_of : Setup → Rule
+rule_of s = record { nodes = s.shape.nodes; faults = s.faults; modulus = s.modulus }
 
 -- the clock of the bench is the one of its rule: of this clock agreement is a theorem
 abbrev pub HasRuleClock : Setup → Type 0
-HasRuleClock s = s.clock ≡ clock_listing s
+HasRuleClock s = s.clock ≡ clock_listing (rule_of s)

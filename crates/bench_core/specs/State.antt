@@ -1,8 +1,8 @@
 -- The states of a bench, and its steps but for a closed pulse.
-use Rattle.std.specs.Prelude.{◌≡◌, ℕ, ◌<◌, Bool, false, Option, Some, None, List, [], ◌∷◌, ◌++◌, length, get_or, slice_set, slice_index, replicate, All}
+use Rattle.std.specs.Prelude.{unwrap_or, ◌≡◌, ℕ, ◌<◌, Bool, false, Option, Some, None, List, [], ◌∷◌, ◌++◌, length, get_or, slice_set, slice_index, replicate, All}
 use Rattle.std.specs.Ordering.{nat_cmp}
 use Rattle.std.specs.FinMap.{FinMap, empty}
-use Rattle.node_env.specs.Env.{Extent, Setting, inbox_of}
+use Rattle.node_env.specs.Env.{Extent, Setting, setting_of}
 use Rattle.bpf_verify.specs.Accepted.{Accepted}
 use Rattle.bench_core.specs.Setup.{Setup}
 
@@ -32,6 +32,10 @@ pub record State : Type 0 where
   pub staged : List Change
   pub coins : Option (List ℕ)
 
+-- those of the open pulse, none where none is open
+abbrev pub coins_of : State → List ℕ
+coins_of b = unwrap_or b.coins []
+
 abbrev pub no_node : Node
 no_node = record { program = None; memory = []; mark = false }
 
@@ -39,12 +43,12 @@ abbrev pub node_at : List Node → ℕ → Node
 node_at nodes i = get_or nodes i no_node
 
 -- what the sender sent
-abbrev pub row_at : List (FinMap nat_cmp ℕ) → ℕ → FinMap nat_cmp ℕ
-row_at mail i = get_or mail i empty
+abbrev pub mail_from : List (FinMap nat_cmp ℕ) → ℕ → FinMap nat_cmp ℕ
+mail_from mail i = get_or mail i empty
 
 -- what node i sees in a pulse with this mail and these coins
 abbrev pub setting_at : Setup → List (FinMap nat_cmp ℕ) → List ℕ → ℕ → Setting
-setting_at s mail coins i = record { shape = s.shape; id = i; inbox = inbox_of i mail; coin = slice_index coins i }
+setting_at s mail coins i = setting_of s.shape i mail (slice_index coins i)
 
 -- no programs, memories zero, no mail
 abbrev pub new_node : Setup → Node

@@ -48,12 +48,12 @@ pub(crate) fn close_nodes(
         let place = node as usize;
         let slot = &mut nodes[place];
         match found[place] {
-            Found::Once(at) => {
+            Found::At(at) => {
                 let done = &dones[at];
                 slot.take_result(done, flags[place]);
                 mail.fill(node, done.outbox());
             }
-            Found::Nothing | Found::Again => {
+            Found::Missing | Found::Twice => {
                 slot.rest();
                 mail.clear(node);
             }

@@ -20,7 +20,7 @@ mod task;
 mod task_lists;
 
 pub use actor::Actor;
-pub use bench::{Bench, are_coins, misfit};
+pub use bench::{Bench, are_coins, stage_error};
 pub use change::Change;
 pub use clock_program::ClockProgram;
 pub use entry::Entry;

@@ -2,7 +2,8 @@
 ghost use Rattle.std.specs.Prelude.{◌≡◌, ◌≢◌, ◌↔◌, ◌<◌, ◌≤◌, All, IfOk, IsTrue, length, map};
 ghost use Rattle.clock_nodes.specs.declared.rule.TheConstants.{MOST_MODULUS};
 ghost use Rattle.bench_core.specs.declared.limits.TheConstants.{MOST_COUNTED, MOST_PULSES};
-ghost use Rattle.bench_core.specs.Settled.{clocks_where, row_from, told_clock};
+ghost use Rattle.bench_core.specs.Settled.{clocks_where};
+ghost use Rattle.bench_core.specs.Told.{row_from, told_clock};
 ghost use Rattle.bench_core.specs.inner.Told.{both_marked, joined_of, IsMostSteps};
 
 use crate::limits::CLOCKS_DIFFER;
@@ -27,7 +28,7 @@ pub struct PulseRecord {
 }
 
 impl Model for PulseRecord {
-    ghost use Rattle.bench_core.specs.Settled.{PulseTold};
+    ghost use Rattle.bench_core.specs.Told.{PulseTold};
 
     ghost Value = { PulseTold };
 

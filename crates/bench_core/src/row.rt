@@ -15,7 +15,7 @@ pub struct Row {
 }
 
 impl Model for Row {
-    ghost use Rattle.bench_core.specs.Settled.{Row as RowValue, IsRow};
+    ghost use Rattle.bench_core.specs.Told.{Row as RowValue, IsRow};
 
     ghost Value = { RowValue };
 

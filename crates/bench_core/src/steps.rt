@@ -1,6 +1,7 @@
 //! How many instructions each node ran in a pulse.
 ghost use Rattle.std.specs.Prelude.{◌≡◌, [], IfOk, slice_set, unwrap_or};
-ghost use Rattle.bench_core.specs.Settled.{AreSteps};
+ghost use Rattle.bench_core.specs.Told.{AreSteps};
+ghost use Rattle.bench_core.specs.State.{coins_of};
 ghost use Rattle.bench_core.specs.Tasks.{HandedOut, IsEnd, IsExact};
 
 use crate::bench::Bench;
@@ -27,7 +28,7 @@ pub fn steps_by_node(
 ) -> Result<Vec<u32>, AllocError>
     requires { IsExact (HandedOut bench.now) bench.now.state.nodes dones.now }
     ensures { IfOk result (λ steps. AreSteps bench.now.setup bench.now.state
-        (unwrap_or bench.now.state.coins []) steps.items) }
+        (coins_of bench.now.state) steps.items) }
 {
     let _history = bench.history(); // brings its replay
     let nodes = bench.shape().nodes();

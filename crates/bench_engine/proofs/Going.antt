@@ -6,7 +6,7 @@ use Rattle.std.proofs.lemmas.Option.{get_or_from_slice_get, none-some, same_Some
 use Rattle.std.proofs.Math.Seq.{take-append_seam}
 use Rattle.bench_core.specs.Setup.{Setup, IsSetup}
 use Rattle.bench_core.specs.State.{Node, State, new_state, no_node, node_at}
-use Rattle.bench_core.specs.Settled.{PulseTold}
+use Rattle.bench_core.specs.Told.{PulseTold}
 use Rattle.bench_core.specs.Replay.{Advances, BenchValue, Opened, Replays}
 use Rattle.bench_core.specs.Refusals.{IsCloseRefusal}
 use Rattle.bench_core.specs.declared.refusal.CloseError.{CloseError}

@@ -2,8 +2,9 @@
 use Rattle.std.proofs.Common.{◌≡◌, ℕ, ◌+◌, ◌≤◌, List, [], ◌∷◌, map, arith, refl, ap, ap₂, sym, subst, ◌∙◌, inl, inr, true, false, Bool}
 use Rattle.std.specs.Prelude.{◌↔◌, IsTrue, unwrap_or}
 use Rattle.bench_core.specs.Setup.{Setup}
-use Rattle.bench_core.specs.State.{State, new_state, opened_state, staged_state}
-use Rattle.bench_core.specs.Settled.{Agree, IsRecord, IsSteps, PulseTold}
+use Rattle.bench_core.specs.State.{State, new_state, opened_state, staged_state, coins_of}
+use Rattle.bench_core.specs.Settled.{Agree}
+use Rattle.bench_core.specs.Told.{IsRecord, IsSteps, PulseTold}
 use Rattle.bench_core.proofs.Replays.{one_pulse}
 use Rattle.bench_engine.specs.Events.{Event, Stage}
 use Rattle.bench_engine.specs.Events.{Pulse as PulseEvent}
@@ -37,7 +38,7 @@ same_told r q row clocks settled steps agree =
 one_record : (s : Setup) (b b' : State) (r q : PulseTold) → IsRecord s b b' r → IsRecord s b b' q → r ≡ q
 one_record s b b' r q h g =
     same_told r q (h.row ∙ sym g.row) (h.clocks ∙ sym g.clocks) (h.settled ∙ sym g.settled)
-    (one_steps s b (unwrap_or b.coins []) r.steps q.steps h.steps g.steps)
+    (one_steps s b (coins_of b) r.steps q.steps h.steps g.steps)
     (same_truth (Agree s b b') r.agree q.agree h.agree g.agree)
 
 one_going : (s : Setup) (b : State) (n : ℕ) (es : List Event) (rs qs : List PulseTold) (left other : State)

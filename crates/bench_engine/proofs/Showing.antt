@@ -5,7 +5,7 @@ use Rattle.std.proofs.lemmas.List.{length-map, map-append}
 use Rattle.std.proofs.Math.Seq.{take-append_seam}
 use Rattle.bench_core.specs.Setup.{Setup, IsSetup}
 use Rattle.bench_core.specs.State.{State, new_state, opened_state}
-use Rattle.bench_core.specs.Settled.{PulseTold, IsRecord, AreSteps}
+use Rattle.bench_core.specs.Told.{PulseTold, IsRecord, AreSteps}
 use Rattle.bench_core.specs.Pulse.{Pulse}
 use Rattle.bench_core.specs.Replay.{Advances, BenchValue, Opened, Replays}
 use Rattle.bench_core.specs.Tasks.{Task, Done, HandedOut, IsExact, RanEach, tasks_of}

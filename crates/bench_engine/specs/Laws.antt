@@ -1,7 +1,7 @@
 -- What holds of every run of a list of events (docs/SCENARIOS.md, "Runs").
 use Rattle.std.specs.Prelude.{◌≡◌, ℕ, List}
 use Rattle.bench_core.specs.Setup.{Setup}
-use Rattle.bench_core.specs.Settled.{PulseTold}
+use Rattle.bench_core.specs.Told.{PulseTold}
 use Rattle.bench_engine.specs.Events.{Event}
 use Rattle.bench_engine.specs.Runs.{IsRun}
 

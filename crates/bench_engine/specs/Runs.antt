@@ -5,7 +5,7 @@ use Rattle.bench_core.specs.declared.refusal.StageError.TheVariants as stage
 use Rattle.bench_core.specs.Setup.{Setup}
 use Rattle.bench_core.specs.State.{State, new_state, staged_state, opened_state, IsChange, AreCoins}
 use Rattle.bench_core.specs.Pulse.{Pulse}
-use Rattle.bench_core.specs.Settled.{PulseTold, IsRecord}
+use Rattle.bench_core.specs.Told.{PulseTold, IsRecord}
 use Rattle.bench_core.specs.Refusals.{IsMisfit}
 use Rattle.bench_engine.specs.Events.{Event, Stage}
 use Rattle.bench_engine.specs.Events.{Pulse as PulseEvent}

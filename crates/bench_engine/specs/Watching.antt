@@ -4,7 +4,7 @@ use Rattle.bench_core.specs.declared.limits.TheConstants.{MOST_ENTRIES}
 use Rattle.bench_core.specs.Setup.{Setup}
 use Rattle.bench_core.specs.State.{State, new_state, staged_state, opened_state, IsChange, AreCoins}
 use Rattle.bench_core.specs.Pulse.{Pulse}
-use Rattle.bench_core.specs.Settled.{PulseTold, IsRecord, AreSteps}
+use Rattle.bench_core.specs.Told.{PulseTold, IsRecord, AreSteps}
 use Rattle.bench_engine.specs.Events.{Event, Stage}
 use Rattle.bench_engine.specs.Events.{Pulse as PulseEvent}
 use Rattle.bench_engine.specs.Runs.{IsFault}

@@ -2,7 +2,7 @@
 ghost use Rattle.std.specs.Prelude.{◌≡◌, ◌≢◌, ◌≤◌, ◌∷◌, [], true, None, IfOk, IfErr, OnOk, length, map};
 ghost use Rattle.bench_core.specs.declared.limits.TheConstants.{MOST_ENTRIES};
 ghost use Rattle.bench_core.specs.declared.refusal.CloseError.TheVariants as CloseError;
-ghost use Rattle.bench_core.specs.Settled.{AreSteps};
+ghost use Rattle.bench_core.specs.Told.{AreSteps};
 ghost use Rattle.bench_core.specs.State.{new_state, opened_state};
 ghost use Rattle.bench_core.specs.Views.{change_of, setup_of};
 ghost use Rattle.bench_engine.specs.declared.event.RunRefusal.TheVariants.{GateShut, Memory, NoThread};
@@ -21,7 +21,7 @@ use crate::tasks::run_tasks;
 use crate::watched::run_events_watched;
 use crate::watcher::{Nobody, WatchFault};
 use bench_core::{
-    Actor, Bench, Change, CloseError, OpenError, PulseRecord, StageError, are_coins, misfit,
+    Actor, Bench, Change, CloseError, OpenError, PulseRecord, StageError, are_coins, stage_error,
     steps_by_node,
 };
 use clock_nodes::ClockRule;
@@ -147,7 +147,7 @@ fn refusal_of(shape: Shape, _rule: ClockRule, event: &Event) -> RunRefusal
     ensures alone { result ≢ NoThread }
 {
     match event {
-        Event::Stage(change) => match misfit(shape, change) {
+        Event::Stage(change) => match stage_error(shape, change) {
             Some(StageError::BadNode) => RunRefusal::BadNode,
             Some(StageError::OtherShape) => RunRefusal::OtherShape,
             Some(StageError::BadImage) => RunRefusal::BadImage,

@@ -3,7 +3,7 @@ use Rattle.std.proofs.Common.{◌≡◌, ℕ, zero, suc, ◌+◌, ◌-◌, ◌<�
 use Rattle.std.specs.Prelude.{◌↔◌, Option, Some, None, is_some, slice_get, unwrap_or}
 use Rattle.std.proofs.lemmas.Bool.{cases_lt}
 use Rattle.std.proofs.lemmas.List.{drop_all, drop-drop, length-drop, take_all}
-use Rattle.bench_core.specs.Settled.{PulseTold}
+use Rattle.bench_core.specs.Told.{PulseTold}
 use Rattle.bench_scenario.specs.Verdicts.{first_clock, are_one, counting}
 use Rattle.bench_scenario.specs.InStep.{HasClock, HaveOne, EachWentOn, InStepFrom, IsInStepSince}
 use Rattle.bench_scenario.specs.inner.InStep.{Begins, StaysFrom, StaysSince}

@@ -4,7 +4,7 @@ use Rattle.std.specs.Prelude.{◌≢◌}
 use Rattle.std.proofs.lemmas.List.{length-map}
 use Rattle.node_env.specs.Env.{Extent}
 use Rattle.bench_core.specs.Setup.{Setup}
-use Rattle.bench_core.specs.Settled.{PulseTold}
+use Rattle.bench_core.specs.Told.{PulseTold}
 use Rattle.bench_engine.specs.Events.{Event}
 use Rattle.bench_engine.specs.declared.event.RunRefusal.{RunRefusal}
 use Rattle.bench_engine.specs.declared.event.RunRefusal.TheVariants as refusals

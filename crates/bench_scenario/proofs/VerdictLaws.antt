@@ -3,7 +3,7 @@ use Rattle.std.proofs.Common.{◌≡◌, ℕ, zero, suc, ◌+◌, ◌%◌, ◌<�
 use Rattle.std.specs.Prelude.{Option, Some, None, if◌then◌else◌, nat_lt, slice_get}
 use Rattle.std.specs.List.{list_all}
 use Rattle.std.proofs.lemmas.Bool.{and_from, and_parts, eq-eqb, eqb-true, lt-ltb, ltb-true}
-use Rattle.bench_core.specs.Settled.{PulseTold}
+use Rattle.bench_core.specs.Told.{PulseTold}
 use Rattle.bench_scenario.specs.declared.verdicts.TheConstants.{FEWEST}
 use Rattle.bench_scenario.specs.Verdicts.{told_clocks, settled_in, first_clock, is_clock, are_one, counts_on, joined, counting}
 use Rattle.bench_scenario.specs.Laws.{SettledWith, OwnAgrees, Counts, CountsNothing}

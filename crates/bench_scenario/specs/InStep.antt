@@ -1,7 +1,7 @@
 -- From which pulse on a run is in step: all nodes that ran the clock have one clock, and each goes on by one
 -- (docs/INSIDE.md, "In step").
 use Rattle.std.specs.Prelude.{◌≡◌, ℕ, suc, ◌+◌, ◌%◌, ◌<◌, List, Option, Some, None, drop, length, slice_get}
-use Rattle.bench_core.specs.Settled.{PulseTold}
+use Rattle.bench_core.specs.Told.{PulseTold}
 
 -- the node ran the clock in this pulse, which left it at this clock
 abbrev pub HasClock : PulseTold → ℕ → ℕ → Type 0

@@ -1,6 +1,6 @@
 -- What the verdicts of a report say of the records (docs/SCENARIOS.md, "Verdicts").
 use Rattle.std.specs.Prelude.{◌≡◌, ◌↔◌, ℕ, ◌+◌, ◌%◌, ◌<◌, Bool, true, IsTrue, Some, None, slice_get}
-use Rattle.bench_core.specs.Settled.{PulseTold}
+use Rattle.bench_core.specs.Told.{PulseTold}
 use Rattle.bench_scenario.specs.Verdicts.{agreement, counting, settled_in}
 
 -- the node is settled in this pulse, with this clock

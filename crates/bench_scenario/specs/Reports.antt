@@ -2,7 +2,7 @@
 use Rattle.std.specs.Prelude.{ℕ, ◌==◌, nat_lt, if◌then◌else◌, is_some, Bool, true, false, List, [], ◌∷◌, ◌++◌, length, count_by, flat_map, codes, Option, Some, None, unwrap_or}
 use Rattle.std.specs.List.{list_all}
 use Rattle.std.specs.Fmt.{decimal}
-use Rattle.bench_core.specs.Settled.{PulseTold}
+use Rattle.bench_core.specs.Told.{PulseTold}
 use Rattle.scenario_text.specs.declared.limits.TheConstants.{FIRST_VERSION, CLOCK_VERSION}
 use Rattle.scenario_text.specs.declared.scenario.Frame.{Frame}
 use Rattle.bench_scenario.specs.declared.verdicts.Judged.{Judged}

@@ -1,7 +1,7 @@
 -- What a report judges of closed pulses (docs/SCENARIOS.md, "Verdicts").
 use Rattle.std.specs.Prelude.{ℕ, ◌+◌, ◌%◌, ◌==◌, ◌&&◌, nat_lt, if◌then◌else◌, Bool, true, List, [], ◌∷◌, Option, Some, None}
 use Rattle.std.specs.List.{list_all}
-use Rattle.bench_core.specs.Settled.{PulseTold}
+use Rattle.bench_core.specs.Told.{PulseTold}
 use Rattle.bench_scenario.specs.declared.verdicts.TheConstants.{FEWEST}
 use Rattle.bench_scenario.specs.declared.verdicts.Judged.{Judged}
 

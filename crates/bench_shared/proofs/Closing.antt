@@ -2,7 +2,7 @@
 use Rattle.std.proofs.Common.{◌≡◌, ℕ, ◌-◌, List, [], ◌∷◌, ◌++◌, length, Some, None, All, refl, sym, ap, ◌∙◌, subst, arith, length-append}
 use Rattle.std.specs.Prelude.{Option, slice_get}
 use Rattle.bench_core.specs.Setup.{Setup}
-use Rattle.bench_core.specs.Settled.{PulseTold, IsRecord}
+use Rattle.bench_core.specs.Told.{PulseTold, IsRecord}
 use Rattle.bench_core.specs.Replay.{Advances, BenchValue, Staged, Opened, Closed, Abandoned, Replays, StagesAccepted}
 use Rattle.bench_shared.specs.Passes.{Placed, OneMore}
 use Rattle.bench_shared.specs.Told.{OpenedLast, TellsClose}

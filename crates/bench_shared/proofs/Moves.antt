@@ -5,7 +5,7 @@ use mathlib.Core.Option.{some, none, some-ne-none, some-injective}
 use lib.ListN.{get_elem?}
 use Rattle.atomic_table.specs.Table.{Me, keeps, step, opening, Allows, Splits, Joins}
 use Rattle.atomic_table.proofs.Lists.{at_set, at_snoc, set_again}
-use Rattle.bench_core.specs.Settled.{Row, IsRow}
+use Rattle.bench_core.specs.Told.{Row, IsRow}
 use Rattle.bench_shared.specs.Rows.{InOrder, StartsWith}
 use Rattle.bench_shared.specs.inner.Rows.{word_of, word_at, word_of_last}
 use Rattle.bench_shared.specs.inner.Boards.{engine, watcher, hearing, Fits, Kept, Posts, Looks, Compares}

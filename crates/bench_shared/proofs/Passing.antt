@@ -3,7 +3,7 @@ use Rattle.std.proofs.Common.{◌≡◌, ◌+◌, ℕ, List, [], ◌∷◌, ◌+
 use Rattle.std.specs.Prelude.{◌-◌, ◌<◌, Some, option_map, get_or, slice_get}
 use Rattle.std.proofs.lemmas.List.{map-append, length-map}
 use Rattle.std.proofs.lemmas.Option.{slice_get-map, slice_get-get_or}
-use Rattle.bench_core.specs.Settled.{Row}
+use Rattle.bench_core.specs.Told.{Row}
 use Rattle.bench_core.specs.Replay.{Entry, Opened, rows_of}
 use Rattle.bench_core.specs.Views.{entry_of}
 use Rattle.bench_shared.specs.Passes.{Placed, OneMore, entry_in, rows_in}

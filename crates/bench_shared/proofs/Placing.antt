@@ -6,7 +6,7 @@ use Rattle.std.specs.Prelude.{◌↔◌, IsTrue}
 use Rattle.bench_core.specs.declared.actor.Actor.{Actor}
 use Rattle.bench_core.specs.declared.actor.Actor.TheVariants.{Loader, Engine}
 use Rattle.bench_core.specs.declared.entry.Entry.{Entry as CodeEntry}
-use Rattle.bench_core.specs.Settled.{Row}
+use Rattle.bench_core.specs.Told.{Row}
 use Rattle.bench_core.specs.Replay.{Entry, Staged, Opened, Closed, Abandoned, rows_of}
 use Rattle.bench_core.specs.Views.{entry_of}
 use Rattle.bench_shared.specs.Passes.{Placed, rows_in}

@@ -2,7 +2,7 @@
 use Rattle.std.proofs.Common.{◌≡◌, ◌+◌, ℕ, List, [], ◌∷◌, ◌++◌, length, Option, Some, None, refl, sym, ap, ◌∙◌, subst, arith}
 use mathlib.Core.Option.{none}
 use Rattle.atomic_table.specs.Table.{Me, step}
-use Rattle.bench_core.specs.Settled.{Row, IsRow}
+use Rattle.bench_core.specs.Told.{Row, IsRow}
 use Rattle.bench_shared.specs.Rows.{last_row, InOrder, StartsWith}
 use Rattle.bench_shared.specs.inner.Rows.{word_of, word_at, word_of_last, pulse_of}
 use Rattle.bench_shared.specs.inner.Boards.{engine, watcher, Posts, Looks}

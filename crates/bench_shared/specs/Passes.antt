@@ -1,7 +1,7 @@
 -- What contracts see of a pass: its receipts, each an entry that was put into the history and its place there.
 use Rattle.std.specs.Prelude.{◌≡◌, ℕ, List, [], ◌∷◌, ◌++◌, map, Option, Some, slice_get}
 use Rattle.atomic_table.specs.Seated.{TableId}
-use Rattle.bench_core.specs.Settled.{Row}
+use Rattle.bench_core.specs.Told.{Row}
 use Rattle.bench_core.specs.Replay.{Entry, rows_of}
 
 -- a place in the history, from 0, and the entry there

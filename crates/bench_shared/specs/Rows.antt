@@ -1,6 +1,6 @@
 -- Rows as words, and the rows of pulses 1, 2, 3 and so on.
 use Rattle.std.specs.Prelude.{◌≡◌, ℕ, ◌+◌, ◌++◌, List, [], ◌∷◌, Option, Some, None}
-use Rattle.bench_core.specs.Settled.{Row, IsRow}
+use Rattle.bench_core.specs.Told.{Row, IsRow}
 
 abbrev pub last_row : List Row → Option Row
 last_row [] = None

@@ -4,7 +4,7 @@ use Rattle.std.specs.Prelude.{◌≡◌, ℕ, ◌+◌, ◌-◌, ◌*◌, ◌<◌
 use Rattle.bench_core.specs.Setup.{Setup, HasRuleClock}
 use Rattle.bench_core.specs.State.{State}
 use Rattle.bench_core.specs.Pulse.{Pulse}
-use Rattle.bench_core.specs.Settled.{PulseTold, IsRecord}
+use Rattle.bench_core.specs.Told.{PulseTold, IsRecord}
 use Rattle.bench_core.specs.Replay.{Entry, Opened, Replays, StagesAccepted}
 use Rattle.bench_shared.specs.Passes.{Placed}
 

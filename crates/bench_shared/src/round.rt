@@ -1,7 +1,7 @@
 //! What lies under the lock.
 ghost use Rattle.std.specs.Prelude.{◌≡◌, ◌+◌, ◌<◌, ℕ, List, [], length, map, All, IfOk, IfErr};
 ghost use Rattle.std.specs.Prelude.{IsTrue, OnOk, OnErr, Some};
-ghost use Rattle.bench_core.specs.Settled.{IsRow, IsRecord};
+ghost use Rattle.bench_core.specs.Told.{IsRow, IsRecord};
 ghost use Rattle.bench_core.specs.Replay.{Advances, Staged, Opened, Closed, Abandoned, rows_of};
 ghost use Rattle.bench_core.specs.Replay.{Replays, StagesAccepted};
 ghost use Rattle.bench_core.specs.Refusals.{IsStageRefusal, IsOpenRefusal};

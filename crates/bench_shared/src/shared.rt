@@ -16,7 +16,7 @@ use crate::passes::{EnginePass, LoaderPass, Receipt};
 use crate::round::Round;
 use bench_core::{
     Actor, Bench, Change, ClockProgram, CloseError, Entry, NodeDone, NodeTask, OpenError,
-    PulseRecord, StageError, are_coins, misfit,
+    PulseRecord, StageError, are_coins, stage_error,
 };
 use bpf_insn::Program;
 use bpf_verify::VerifiedProgram;
@@ -210,7 +210,7 @@ impl<B: Ledger, C: Ledger> SharedBench<B, C> {
         ensures unchanged { OnErr result (pass.new ≡ pass.old) }
         ensures handed_back { IfErr result (λ e. e.0 ≡ change) }
     {
-        match misfit(self.shape, &change) {
+        match stage_error(self.shape, &change) {
             Some(refusal) => return Err((change, refusal)),
             None => {}
         }

@@ -1,6 +1,6 @@
 //! A row as one word of 64 bits. The word 0 is no row.
 ghost use Rattle.std.specs.Prelude.{◌≡◌, None, Some};
-ghost use Rattle.bench_core.specs.Settled.{Row as RowValue, IsRow};
+ghost use Rattle.bench_core.specs.Told.{Row as RowValue, IsRow};
 ghost use Rattle.bench_shared.specs.inner.Rows.{short_of, word_of};
 
 use bench_core::{CLOCKS_DIFFER, MOST_COUNTED, MOST_PULSES, Row};

@@ -6,7 +6,7 @@ use Rattle.std.proofs.KnownBytes.{Appends-nil, Appends-trans}
 use Rattle.std.proofs.lemmas.List.{flat_map_more, take_all}
 use Rattle.bench_core.specs.Setup.{Setup}
 use Rattle.bench_core.specs.State.{State, new_state, staged_state}
-use Rattle.bench_core.specs.Settled.{PulseTold}
+use Rattle.bench_core.specs.Told.{PulseTold}
 use Rattle.bench_engine.specs.Events.{Event, Stage}
 use Rattle.bench_engine.specs.Events.{Pulse as PulseEvent}
 use Rattle.bench_engine.specs.Runs.{IsRun}

@@ -1,7 +1,7 @@
 //! What a bench keeps, node by node.
 ghost use Rattle.std.specs.Prelude.{◌≡◌, ◌<◌, IfOk, length};
 ghost use Rattle.serde_json.specs.View.{view};
-ghost use Rattle.bench_core.specs.State.{node_at, row_at};
+ghost use Rattle.bench_core.specs.State.{node_at, mail_from};
 ghost use Rattle.run_lines.specs.Data.{memory_data, ran_data, sent_data};
 ghost use Rattle.run_lines.specs.Values.{list_data};
 
@@ -67,7 +67,7 @@ pub(crate) fn memories(alloc: Global, bench: &Bench) -> Result<Value, AllocError
 /// What a node sent, by receiver.
 fn sent_by(alloc: Global, mail: &Mail, sender: u32) -> Result<Value, AllocError>
     requires { sender < length mail.now }
-    ensures { IfOk result (λ v. view v ≡ sent_data (length mail.now) (row_at mail.now sender)) }
+    ensures { IfOk result (λ v. view v ≡ sent_data (length mail.now) (mail_from mail.now sender)) }
 {
     let mut values = Vec::new(alloc);
     for receiver in 0..mail.nodes() {

@@ -1,6 +1,6 @@
 -- One event of a run, as the engine's parts tell it.
 use Rattle.std.specs.Prelude.{◌≡◌, ◌+◌, List, [], ◌∷◌, length, None}
-use Rattle.bench_core.specs.Settled.{PulseTold}
+use Rattle.bench_core.specs.Told.{PulseTold}
 use Rattle.bench_core.specs.Replay.{BenchValue}
 use Rattle.bench_engine.specs.Events.{Event}
 use Rattle.bench_engine.specs.Runs.{Goes, entries_after}

@@ -1,6 +1,6 @@
 -- One event of a run that is watched.
 use Rattle.std.specs.Prelude.{◌≡◌, ◌+◌, ◌-◌, ℕ, List, [], ◌∷◌, ◌++◌, Option, length, map, slice_get, None}
-use Rattle.bench_core.specs.Settled.{PulseTold}
+use Rattle.bench_core.specs.Told.{PulseTold}
 use Rattle.bench_core.specs.Replay.{BenchValue}
 use Rattle.bench_engine.specs.Events.{Event}
 use Rattle.bench_engine.specs.Runs.{IsRefusalOf, entries_after}

@@ -1,6 +1,6 @@
 -- Beside InStep: what proofs and private contracts alone cite.
 use Rattle.std.specs.Prelude.{◌≡◌, ℕ, suc, ◌+◌, ◌<◌, List, [], ◌∷◌, Option, Some, None, drop, length, slice_get}
-use Rattle.bench_core.specs.Settled.{PulseTold}
+use Rattle.bench_core.specs.Told.{PulseTold}
 use Rattle.bench_scenario.specs.InStep.{EachWentOn, HaveOne}
 
 -- all have one clock in the first record, and went on from it to the second, where there is one

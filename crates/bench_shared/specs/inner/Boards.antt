@@ -3,7 +3,7 @@ use Rattle.std.specs.Prelude.{◌≡◌, ℕ, ◌++◌, List, [], ◌∷◌, tru
 use mathlib.Core.Option.{some}
 use lib.ListN.{get_elem?}
 use Rattle.atomic_table.specs.Table.{State, Me, Step}
-use Rattle.bench_core.specs.Settled.{Row, IsRow}
+use Rattle.bench_core.specs.Told.{Row, IsRow}
 use Rattle.bench_shared.specs.Rows.{InOrder, StartsWith}
 use Rattle.bench_shared.specs.inner.Rows.{word_of, word_at}
 use Rattle.bench_shared.specs.declared.rule.View.{View}

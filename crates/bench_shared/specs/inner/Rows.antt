@@ -1,7 +1,7 @@
 -- Beside Rows: what proofs and private contracts alone cite.
 use Rattle.std.specs.Prelude.{ℕ, ◌+◌, ◌*◌, List, Option, Some, None, if◌then◌else◌, nat_lt}
 use Rattle.clock_nodes.specs.declared.rule.TheConstants.{MOST_MODULUS}
-use Rattle.bench_core.specs.Settled.{Row}
+use Rattle.bench_core.specs.Told.{Row}
 use Rattle.bench_shared.specs.declared.word.TheConstants.{ZERO_UNIT, COMMON_UNIT, PULSE_UNIT}
 use Rattle.bench_shared.specs.Rows.{last_row}
 

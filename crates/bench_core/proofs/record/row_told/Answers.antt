@@ -4,7 +4,8 @@ use Rattle.std.proofs.lemmas.List.Elements.{All-head}
 use Rattle.std.proofs.lemmas.List.{drop_more, drop_all}
 use Rattle.clock_nodes.specs.declared.rule.TheConstants.{MOST_MODULUS}
 use Rattle.bench_core.specs.State.{Node}
-use Rattle.bench_core.specs.Settled.{Row, clocks_where, common_of, value_of}
+use Rattle.bench_core.specs.Settled.{clocks_where, value_of}
+use Rattle.bench_core.specs.Told.{Row, common_of}
 use Rattle.bench_core.specs.inner.Told.{joined_of, joined_all}
 use Rattle.bench_core.proofs.Tallies.{Tally, moving, tally_no, tally_zero, tally_other, joined_range, joined_common, moving_small}
 use Rattle.bench_core.proofs.record.row_told.Goals as goal

@@ -1,7 +1,7 @@
 use Rattle.std.proofs.Common.{◌<◌, None, length, ap, ◌∙◌, arith}
 use Rattle.std.proofs.lemmas.List.{get_or_read}
 use Rattle.bench_core.specs.State.{no_node, node_at}
-use Rattle.bench_core.specs.Settled.{told_clock}
+use Rattle.bench_core.specs.Told.{told_clock}
 use Rattle.bench_core.proofs.Telling.{set_more, map_by_place}
 use Rattle.bench_core.proofs.record.tell_clocks.Goals as goal
 

@@ -1,6 +1,6 @@
 use Rattle.std.proofs.Common.{◌≡◌, ◌<◌, ℕ, None, get_or}
 use Rattle.bench_core.specs.State.{node_at}
-use Rattle.bench_core.specs.Settled.{told_clock}
+use Rattle.bench_core.specs.Told.{told_clock}
 use Rattle.bench_core.proofs.record.tell_clocks.Given as goal
 
 abbrev pub invariant-loop-i : goal.invariant-loop-i

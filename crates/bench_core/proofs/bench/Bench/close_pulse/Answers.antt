@@ -7,7 +7,8 @@ use Rattle.bench_core.specs.declared.entry.Entry.TheVariants.{Closed}
 use Rattle.bench_core.specs.State.{Node, node_at}
 use Rattle.bench_core.specs.Setup.{HasRuleClock}
 use Rattle.bench_core.specs.Pulse.{Pulse}
-use Rattle.bench_core.specs.Settled.{Row, PulseTold, IsRecord, row_from, settled_flags, faulty_count, told_clock}
+use Rattle.bench_core.specs.Settled.{settled_flags, faulty_count}
+use Rattle.bench_core.specs.Told.{Row, PulseTold, IsRecord, row_from, told_clock}
 use Rattle.bench_core.specs.Headline.{IsWhole}
 use Rattle.bench_core.specs.inner.Nodes.{KnowsClock}
 use Rattle.bpf_machine.specs.Run.{End}
@@ -23,7 +24,7 @@ use Rattle.bench_core.proofs.Replays.{rows_count}
 use Rattle.bench_core.proofs.Agreement.{agreement}
 use Rattle.bench_core.proofs.WholeRuns.{whole_run}
 use Rattle.bench_core.proofs.Opening.{sound_of, accepted_of, all_fit}
-use Rattle.bench_core.proofs.Closed.{knows_after, steps_told, small_clocks, enough_memory, few_pulses, is_record, closed_advances, sorted_at, coins_of, all_fit_nodes, ClosesNodes, closes_nodes, refuses_at}
+use Rattle.bench_core.proofs.Closed.{knows_after, steps_told, small_clocks, enough_memory, few_pulses, is_record, closed_advances, sorted_at, coins_fit, all_fit_nodes, ClosesNodes, closes_nodes, refuses_at}
 use Rattle.bench_core.proofs.bench.Bench.close_pulse.Goals as goal
 
 pub sort_results-requires : goal.sort_results-requires
@@ -34,7 +35,7 @@ sort_results-requires c =
       count = rw c.deref.ensures.value sound.nodes;
       nodes = rw c.deref.ensures.value (all_fit (view_of b).setup (view_of b).state sound);
       mail = sound.mail;
-      coins = rw c.deref-2.ensures.value (coins_of (view_of b).setup b.coins c.in-Some.coins c.in-Some.is sound.coins);
+      coins = rw c.deref-2.ensures.value (coins_fit (view_of b).setup b.coins c.in-Some.coins c.in-Some.is sound.coins);
     }
 
 pub returns-in-Err-clause-refusal : goal.returns-in-Err-clause-refusal

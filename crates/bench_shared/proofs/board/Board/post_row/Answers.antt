@@ -1,5 +1,5 @@
 use Rattle.std.proofs.Common.{◌+◌, [], ◌∷◌, ◌++◌, length, length-append, sym, ap, ◌∙◌, arith}
-use Rattle.bench_core.specs.Settled.{Row}
+use Rattle.bench_core.specs.Told.{Row}
 use Rattle.bench_shared.specs.Seats.{SeatView}
 use Rattle.bench_shared.proofs.Moves.{posts}
 use Rattle.bench_shared.proofs.Telling.{posted}

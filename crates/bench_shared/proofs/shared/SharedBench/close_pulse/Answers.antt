@@ -2,7 +2,7 @@ use Rattle.std.proofs.Common.{List, ◌++◌, ◌∷◌, [], length, sym, ap, �
 use Rattle.bench_shared.specs.Rows.{InOrder}
 use Rattle.std.specs.Prelude.{option_to_list}
 use Rattle.bench_core.specs.Replay.{Closed}
-use Rattle.bench_core.specs.Settled.{Row, PulseTold}
+use Rattle.bench_core.specs.Told.{Row, PulseTold}
 use Rattle.bench_core.specs.Setup.{Setup}
 use Rattle.bench_shared.specs.Passes.{EngineView, Placed}
 use Rattle.bench_shared.specs.Receipts.{all_placed}
