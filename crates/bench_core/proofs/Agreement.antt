@@ -159,8 +159,10 @@ pair_moves s history between b b' c c' clock i ok own replay p many run quiet q 
     let came_i = enough_came (ran_to_pair clock 1) i clock b'.nodes b'.mail (sound'.mail ∙ sym sound'.nodes)
     (λ k d l h. sent_clock sound sound' k d l h) in
     let came_c : quorum_of (rule_of s) ≤ came clock i b'.mail = omega (arith, came_i, many) in
-    let came_same : quorum_of (rule_of s) ≤ came clock i c.mail = subst (λ m. quorum_of (rule_of s) ≤ came clock i m) (sym same_mail) came_c in
-    let support_c : quorum_of (rule_of s) ≤ support (inbox_of i c.mail) clock s.shape.nodes = subst (λ (n : ℕ). quorum_of (rule_of s) ≤ n)
+    let came_same : quorum_of (rule_of s) ≤ came clock i c.mail = subst
+    (λ m. quorum_of (rule_of s) ≤ came clock i m) (sym same_mail) came_c in
+    let support_c : quorum_of (rule_of s) ≤ support (inbox_of i c.mail) clock s.shape.nodes = subst
+    (λ (n : ℕ). quorum_of (rule_of s) ≤ n)
     (sym (support_came clock i s.shape.nodes c.mail sound_c.mail)) came_same in
     let small = clock_small sound sound' (omega (arith, many, ok.faults)) in
     let ran_c = ran_pulse s c c' i ok own sound_c q lt marked in

@@ -249,7 +249,8 @@ sorted_at s xs ys mail cs coins opening ds dones found e f g each ends exact =
 
 pub coins_fit : (s : Setup) (o : Option (Vec ℕ Global)) (coins : Vec ℕ Global) → o ≡ Some coins
     → IfSome (option_map (λ v. v.items) o) (AreCoins s.shape) → AreCoins s.shape coins.items
-coins_fit s o coins is h = subst (λ (o : Option (Vec ℕ Global)). IfSome (option_map (λ v. v.items) o) (AreCoins s.shape)) is h
+coins_fit s o coins is h =
+    subst (λ (o : Option (Vec ℕ Global)). IfSome (option_map (λ v. v.items) o) (AreCoins s.shape)) is h
 
 -- each result that was found has the size of its node
 fits_node : (s : Setup) (b : State) (coins : List ℕ) (opening i : ℕ) (dones : List Done) (found : List Found)

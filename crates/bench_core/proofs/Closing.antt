@@ -33,7 +33,8 @@ left_more dones flags old found nodes mail n y row lt lt' before here i within =
           subst (λ (z : Node). P i z (mail_from (slice_set mail n row) i)) (sym node)
           (subst (P i y) (sym sent) (subst (λ (k : ℕ). P k y row) (sym e) here))
       | inr ne ↦
-          subst (λ (z : Node). P i z (mail_from (slice_set mail n row) i)) (sym (get_or-set_other nodes n i y no_node ne))
+          subst (λ (z : Node). P i z (mail_from (slice_set mail n row) i))
+          (sym (get_or-set_other nodes n i y no_node ne))
           (subst (P i (node_at nodes i)) (sym (get_or-set_other mail n i row empty ne)) (before i (omega arith)))
     ]
 

@@ -33,7 +33,8 @@ pub record Sound (s : Setup) (b : State) : Type 0 where
   pub rows : (i : ℕ) → i < s.shape.nodes → AreNumbers s.shape.nodes (mail_from b.mail i)
   pub memories : (i : ℕ) → i < s.shape.nodes → IsMemory s.shape (node_at b.nodes i).memory
   pub programs : (i : ℕ) → i < s.shape.nodes → IfSome (node_at b.nodes i).program (IsShaped s.shape)
-  pub sent : HasRuleClock s → (i : ℕ) → i < s.shape.nodes → IsTrue (node_at b.nodes i).mark → SentOne s.shape.nodes (mail_from b.mail i)
+  pub sent : HasRuleClock s → (i : ℕ) → i < s.shape.nodes → IsTrue (node_at b.nodes i).mark
+      → SentOne s.shape.nodes (mail_from b.mail i)
   pub staged : All (IsChange s.shape) b.staged
   pub coins : IfSome b.coins (AreCoins s.shape)
 
@@ -195,7 +196,8 @@ node_ran s mail coins i x y row ok own is whole (Some p) h marked =
     let ends = clock_ends_so (record { nodes = s.shape.nodes; faults = s.faults; modulus = s.modulus }) s.shape
     (record { some = ok.extent.some; few = ok.extent.few; allowed = ok.faults; least = ok.least; most = ok.most }) refl
     env x.memory h.end (record { extent = refl; setting = is; length = whole.length; bytes = whole.bytes }) run in
-    let moved = moved_after (quorum_of (rule_of s)) s.modulus (clock_of x.memory) (mark_of x.memory) (slice_index coins i)
+    let moved = moved_after (quorum_of (rule_of s)) s.modulus (clock_of x.memory) (mark_of x.memory)
+    (slice_index coins i)
     (λ v. support env.inbox v s.shape.nodes) ok.least is.coin in
     let left : y.memory ≡ with_pair pair x.memory = h.memory ∙ ends.memory in
     let clock : clock_of y.memory ≡ pair.0 = ap clock_of left

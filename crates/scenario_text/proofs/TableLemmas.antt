@@ -71,7 +71,8 @@ next_unread reads vs whole i v within found same silent xs read =
     reads_none reads vs i v xs within (λ x is. silent x (subst (λ w. reads (view w) x) found is))
     (subst (λ ws. ReadsEach reads (items_view ws) xs) (sym same) read)
 
-item_is : (vs : List Value) (i : ℕ) (d : Value) → i < length vs → item_at (items_view vs) i ≡ Some (view (get_or vs i d))
+item_is : (vs : List Value) (i : ℕ) (d : Value) → i < length vs
+    → item_at (items_view vs) i ≡ Some (view (get_or vs i d))
 item_is [] i d within = absurd (omega arith)
 item_is (v ∷ vs) zero d within = refl
 item_is (v ∷ vs) (suc i) d within = item_is vs i d (omega arith)
@@ -81,7 +82,8 @@ pub next_stands : {A : Type 0} (reads : Data → A → Type 0) (vs whole : List 
     → get_or vs i v ≡ v → vs ≡ whole → (x : A) → reads (view v) x → StandsAt reads (Some (array (items_view whole))) i x
 next_stands reads vs whole i v within found same x is =
     let item : item_at (items_view whole) i ≡ Some (view v) =
-    ap (λ (ws : List Value). item_at (items_view ws) i) (sym same) ∙ (item_is vs i v within ∙ ap (λ w. Some (view w)) found) in
+    ap (λ (ws : List Value). item_at (items_view ws) i) (sym same)
+    ∙ (item_is vs i v within ∙ ap (λ w. Some (view w)) found) in
     subst (λ (o : Option Data). IsSomeAnd o (λ value. reads value x)) (sym item) is
 
 -- as many as there are items

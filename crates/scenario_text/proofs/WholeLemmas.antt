@@ -31,7 +31,8 @@ pub no_arrays : (ms : Members) → (HasArrays ms → ⊥) → SpellsNothing ms
 no_arrays ms none d spelled = none (spelled_arrays ms d spelled)
 
 -- what is read of all keys is spelled, where the arrays aren't too long
-pub spelled_whole : (ms : Members) (d : Draft) → knows (top_keys (has_clock_key ms)) ms ≡ true → HasFrame ms d.frame → HasCoins ms d.coins
+pub spelled_whole : (ms : Members) (d : Draft) → knows (top_keys (has_clock_key ms)) ms ≡ true
+    → HasFrame ms d.frame → HasCoins ms d.coins
     → HasKey ms d.coins d.key → HasClock (rule_of d.frame) ms d.clock
     → MayBeArray (IsTable (SpelledLoad d.frame d.clock)) (get_member (codes "load") ms) d.loads
     → MayBeArray (IsTable (SpelledUnload d.frame)) (get_member (codes "unload") ms) d.unloads

@@ -133,8 +133,9 @@ tell-told-requires-clause-small c =
 
 -- ---- the bench at the end
 
-closing_end : (c : goal.After-drop-self-inside-2) → ClosesNodes c.self.inside c.in-Some.coins c.args.dones.items c.in-Ok.found
-    c.close_nodes.new.nodes c.close_nodes.new.mail
+closing_end : (c : goal.After-drop-self-inside-2)
+    → ClosesNodes c.self.inside c.in-Some.coins c.args.dones.items c.in-Ok.found c.close_nodes.new.nodes
+    c.close_nodes.new.mail
 closing_end c =
     closes_nodes c.self.inside c.in-Some.coins c.deref.result.now c.deref-2.result.now c.deref-3.result.now
     c.deref_mut.result.now c.deref-5.result.now c.deref-6.result.now c.args.dones.items c.in-Ok.found
@@ -163,8 +164,9 @@ record Ends (c : goal.After-drop-self-inside-2) : Type 0 where
   entered : c.add.new.history.items ≡ c.self.inside.history.items ++ Closed c.tell-told.result.row ∷ []
   advances : Advances (view_of c.self.inside) (ClosedValue c.tell-told.result.row) (view_of (closed_bench c))
 
-ends : (c : goal.After-drop-self-inside-2) → ClosesNodes c.self.inside c.in-Some.coins c.args.dones.items c.in-Ok.found
-    c.close_nodes.new.nodes c.close_nodes.new.mail → Ends c
+ends : (c : goal.After-drop-self-inside-2)
+    → ClosesNodes c.self.inside c.in-Some.coins c.args.dones.items c.in-Ok.found c.close_nodes.new.nodes
+    c.close_nodes.new.mail → Ends c
 ends c x =
     let b = c.self.inside in
     let b' = closed_bench c in
@@ -188,8 +190,9 @@ ends c x =
           refl;
     }
 
-record_is : (c : goal.After-drop-self-inside-2) → ClosesNodes c.self.inside c.in-Some.coins c.args.dones.items c.in-Ok.found
-    c.close_nodes.new.nodes c.close_nodes.new.mail → Ends c
+record_is : (c : goal.After-drop-self-inside-2)
+    → ClosesNodes c.self.inside c.in-Some.coins c.args.dones.items c.in-Ok.found c.close_nodes.new.nodes
+    c.close_nodes.new.mail → Ends c
     → IsRecord (view_of c.self.inside).setup (view_of c.self.inside).state (view_of (closed_bench c)).state
     c.tell-told.result
 record_is c x e =
