@@ -39,12 +39,14 @@ pub struct Tried {
 pub enum Finding {
     Refused(ScenarioError),
     Unfit(Unfit),
-    /// No run parts the clocks, where this was tried; and how they come into step.
+    /// No run parts the clocks, where this was tried; and how they come into step, with the text of a scenario where
+    /// liars can hold them off and one was made.
     Never {
         states: u64,
         moves: u64,
         tried: Tried,
         recovery: Recovery,
+        shown: Option<String>,
     },
     /// Some clocks part in this pulse, as the scenario of this text shows.
     Parts {
@@ -173,8 +175,8 @@ fn tried_line(alloc: Global, tried: &Tried) -> Result<String, AllocError>
 }
 
 /// How the clocks come into step.
-fn recovery_line(alloc: Global, recovery: Recovery) -> Result<String, AllocError>
-    ensures { IfOk result (λ text. string_bytes text ≡ recovery_text recovery) }
+fn recovery_line(alloc: Global, recovery: &Recovery) -> Result<String, AllocError>
+    ensures { IfOk result (λ text. string_bytes text ≡ recovery_text recovery.now) }
 {
     match recovery {
         Recovery::InStep { pulses } => {
@@ -183,7 +185,7 @@ fn recovery_line(alloc: Global, recovery: Recovery) -> Result<String, AllocError
         Recovery::Luck { pulses } => format!(in alloc;
             "luck needed: from each state some coins lead into step, within {pulses} pulses"
         ),
-        Recovery::HeldOff => format!(in alloc; "a liar can hold them off for ever"),
+        Recovery::HeldOff { .. } => format!(in alloc; "a liar can hold them off for ever"),
         Recovery::Unknown => format!(in alloc; "not known how they come into step"),
     }
 }
@@ -203,9 +205,10 @@ impl Finding {
                 moves,
                 tried,
                 recovery,
+                ..
             } => {
                 let tried = tried_line(alloc, tried)?;
-                let recovery = recovery_line(alloc, *recovery)?;
+                let recovery = recovery_line(alloc, recovery)?;
                 format!(in alloc;
                     "never parts: {states} states, {moves} moves, {tried}\n{recovery}"
                 )
@@ -223,8 +226,11 @@ impl Finding {
     {
         match self {
             Finding::Parts { shown, .. } => shown.as_str(),
-            Finding::Refused(_) | Finding::Unfit(_) => "",
-            Finding::Never { .. } | Finding::Unfinished { .. } => "",
+            Finding::Never { shown, .. } => match shown {
+                Some(shown) => shown.as_str(),
+                None => "",
+            },
+            Finding::Refused(_) | Finding::Unfit(_) | Finding::Unfinished { .. } => "",
         }
     }
 
