@@ -11,6 +11,7 @@ use crate::clock_program::ClockProgram;
 use crate::entry::Entry;
 use crate::node::{NodeSlot, apply_all, copied};
 use crate::task::{NodeDone, NodeTask};
+use crate::task_lists::TaskLists;
 use clock_nodes::ClockRule;
 use node_env::{Env, Mail, Shape};
 use std::alloc::{AllocError, Global};
@@ -42,10 +43,10 @@ fn tasks(
         let slot = &pulse.nodes[node as usize];
         if let Some(program) = &slot.program {
             let coin = pulse.coins[node as usize];
-            let env = Env::with_mail(alloc, pulse.shape, node, pulse.mail, coin)?;
+            let TaskLists { inbox, results } = TaskLists::of(alloc, pulse.shape, earlier.pop())?;
+            let env = Env::with_mail_in(inbox, pulse.shape, node, pulse.mail, coin)?;
             let memory = slot.memory.as_slice();
-            let lists = earlier.pop();
-            let task = NodeTask::of(alloc, pulse.opening, node, program, env, memory, lists)?;
+            let task = NodeTask::of(pulse.opening, node, program, env, memory, results)?;
             tasks.push(task)?;
         }
     }

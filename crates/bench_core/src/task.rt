@@ -2,7 +2,7 @@
 
 ghost use Rattle.std.specs.Prelude.{◌≡◌, ◌↔◌, ◌<◌, IfOk, IsTrue, length};
 
-use crate::task_lists::TaskLists;
+use crate::task_lists::{ResultLists, TaskLists};
 use bpf_run::Room;
 use bpf_verify::VerifiedProgram;
 use node_env::{Env, Mail, Outbox, Shape};
@@ -47,18 +47,18 @@ impl NodeTask {
     ghost use Rattle.std.specs.Prelude.{◌≤◌};
     ghost use Rattle.bench_core.specs.Tasks.{IsEnd};
 
-    /// The task of a node, with room for its result: in the lists of an earlier result, where there is one.
+    /// The task of a node, with these lists as room for its result.
     pub(crate) fn of(
-        alloc: Global,
         opening: u32,
         node: u32,
         program: &VerifiedProgram,
         env: Env,
         memory: &[u8],
-        earlier: Option<NodeDone>,
+        lists: ResultLists,
     ) -> Result<NodeTask, AllocError>
         requires shape { program.now.shape ≡ env.shape }
         requires memory { length memory.now ≡ env.shape.memory }
+        requires lists { lists.outbox.nodes ≡ env.shape.nodes }
         ensures { IfOk result (λ t. t ≡ record {
           opening = opening;
           node = node;
@@ -68,8 +68,7 @@ impl NodeTask {
         }) }
     {
         let program = program.copy()?;
-        let lists = TaskLists::of(alloc, env.shape(), earlier)?;
-        let TaskLists {
+        let ResultLists {
             before,
             after,
             outbox,
@@ -200,17 +199,21 @@ impl NodeDone {
     }
 
     /// Its lists, where it is no longer wanted.
-    pub(crate) fn into_lists(self) -> TaskLists {
+    pub(crate) fn into_lists(self, alloc: Global) -> TaskLists {
         let NodeDone {
+            env,
             before,
             after,
             outbox,
             ..
         } = self;
         TaskLists {
-            before,
-            after,
-            outbox,
+            inbox: env.into_inbox_room(alloc),
+            results: ResultLists {
+                before,
+                after,
+                outbox,
+            },
         }
     }
 

@@ -2,12 +2,19 @@
 ghost use Rattle.std.specs.Prelude.{◌≡◌, IfOk, OnOk};
 
 use crate::task::NodeDone;
-use node_env::{Outbox, Shape};
+use node_env::{InboxRoom, Outbox, Shape};
 use std::alloc::{AllocError, Global};
 
-/// The lists that a task and its result have: the memory before and after the run, and what is sent.
+/// The lists that a task and its result have.
 #[derive(Drop)]
 pub(crate) struct TaskLists {
+    pub(crate) inbox: InboxRoom,
+    pub(crate) results: ResultLists,
+}
+
+/// The memory before and after the run, and what is sent.
+#[derive(Drop)]
+pub(crate) struct ResultLists {
     pub(crate) before: Vec<u8>,
     pub(crate) after: Vec<u8>,
     pub(crate) outbox: Outbox,
@@ -16,13 +23,16 @@ pub(crate) struct TaskLists {
 impl TaskLists {
     /// New lists.
     fn new(alloc: Global, shape: Shape) -> Result<TaskLists, AllocError>
-        ensures { IfOk result (λ lists. lists.outbox.nodes ≡ shape.nodes) }
+        ensures { IfOk result (λ lists. lists.results.outbox.nodes ≡ shape.nodes) }
     {
         let outbox = Outbox::new(alloc, shape)?;
         Ok(TaskLists {
-            before: Vec::new(alloc),
-            after: Vec::new(alloc),
-            outbox,
+            inbox: InboxRoom::new(alloc),
+            results: ResultLists {
+                before: Vec::new(alloc),
+                after: Vec::new(alloc),
+                outbox,
+            },
         })
     }
 
@@ -32,33 +42,35 @@ impl TaskLists {
         shape: Shape,
         earlier: Option<NodeDone>,
     ) -> Result<TaskLists, AllocError>
-        ensures { IfOk result (λ lists. lists.outbox.nodes ≡ shape.nodes) }
+        ensures { IfOk result (λ lists. lists.results.outbox.nodes ≡ shape.nodes) }
     {
         let Some(done) = earlier else {
             return TaskLists::new(alloc, shape);
         };
-        let lists = done.into_lists();
-        if lists.outbox.nodes() == shape.nodes() {
+        let lists = done.into_lists(alloc);
+        if lists.results.outbox.nodes() == shape.nodes() {
             Ok(lists)
         } else {
             TaskLists::new(alloc, shape)
         }
     }
+}
 
+impl ResultLists {
     /// With this memory before the run, and room for the one after it.
-    pub(crate) fn with_memory(self, memory: &[u8]) -> Result<TaskLists, AllocError>
+    pub(crate) fn with_memory(self, memory: &[u8]) -> Result<ResultLists, AllocError>
         ensures before { IfOk result (λ lists. lists.before.items ≡ memory.now) }
         ensures after { IfOk result (λ lists. lists.after.items ≡ memory.now) }
         ensures outbox { IfOk result (λ lists. lists.outbox ≡ self.outbox) }
     {
-        let TaskLists {
+        let ResultLists {
             mut before,
             mut after,
             outbox,
         } = self;
         refill(&mut before, memory)?;
         refill(&mut after, memory)?;
-        Ok(TaskLists {
+        Ok(ResultLists {
             before,
             after,
             outbox,

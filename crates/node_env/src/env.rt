@@ -40,6 +40,21 @@ impl Inbox {
     }
 }
 
+/// The list of an inbox that is no longer wanted, which another is put in.
+#[derive(Drop)]
+pub struct InboxRoom {
+    words: Vec<u64>,
+}
+
+impl InboxRoom {
+    /// An empty list.
+    pub fn new(alloc: Global) -> InboxRoom {
+        InboxRoom {
+            words: Vec::new(alloc),
+        }
+    }
+}
+
 /// What one node sees in a pulse: the shape, its own number, the mail from each node in the last closed pulse, and
 /// the coin.
 #[derive(Drop)]
@@ -116,13 +131,39 @@ impl Env {
         requires coin { coin < 2 }
         ensures { IfOk result (λ env. env ≡ setting_of shape id mail.now coin) }
     {
-        let words = Vec::from_slice(alloc, mail.words_to(id))?;
+        Env::with_mail_in(InboxRoom::new(alloc), shape, id, mail, coin)
+    }
+
+    /// As `with_mail`, in the list of an inbox that is no longer wanted.
+    pub fn with_mail_in(
+        room: InboxRoom,
+        shape: Shape,
+        id: u32,
+        mail: &Mail,
+        coin: u32,
+    ) -> Result<Env, AllocError>
+        requires id { id < shape.nodes }
+        requires mail { length mail.now ≡ shape.nodes }
+        requires coin { coin < 2 }
+        ensures { IfOk result (λ env. env ≡ setting_of shape id mail.now coin) }
+    {
+        let mut words = room.words;
+        words.clear();
+        words.extend_from_slice(mail.words_to(id))?;
         Ok(Env {
             shape,
             id,
             inbox: Inbox::Words(words),
             coin,
         })
+    }
+
+    /// The list of its inbox, where it is no longer wanted: an empty one, where the inbox was made of slots.
+    pub fn into_inbox_room(self, alloc: Global) -> InboxRoom {
+        match self.inbox {
+            Inbox::Words(words) => InboxRoom { words },
+            Inbox::Slots(_) => InboxRoom::new(alloc),
+        }
     }
 
     /// The shape: how many nodes there are, and how much memory each has.

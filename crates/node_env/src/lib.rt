@@ -9,7 +9,7 @@ mod region;
 mod shape;
 mod word;
 
-pub use env::{Env, NO_MAIL};
+pub use env::{Env, InboxRoom, NO_MAIL};
 pub use helper::{HELPERS, Helper, arguments_of};
 pub use mail::Mail;
 pub use outbox::Outbox;
