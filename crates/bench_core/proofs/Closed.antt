@@ -351,3 +351,24 @@ refuses_at b v coins xs cs ds dones e kept view is nodes same given h =
     (IsHanded (view_of b).setup b.nodes.items b.mail (unwrap_or (view_of b).state.coins []) (n - 1)) b.nodes.items
     dones e) kept.opened at'' in
     subst (λ (w : BenchValue). IsCloseRefusal w dones e) view (refuses (view_of b) dones e (ap is_some open_coins) last)
+
+-- results that close the bench's pulse, of lists that are its own
+pub exact_at : (b : Inside) (v : BenchValue) (coins : Vec ℕ Global) (xs : List Node) (cs : List ℕ)
+    (ds dones : List Done) → IsKept b → view_of b ≡ v → b.coins ≡ Some coins
+    → xs ≡ b.nodes.items → cs ≡ coins.items → ds ≡ dones
+    → IsExact (HandedOut v) v.state.nodes dones
+    → IsExact (IsHanded (view_of b).setup xs b.mail cs (b.opened - 1)) xs ds
+exact_at b v coins xs cs ds dones kept view is nodes same given h =
+    let open_coins : (view_of b).state.coins ≡ Some coins.items = ap
+    (λ (o : Option (Vec ℕ Global)). option_map (λ v. v.items) o) is in
+    let mine : unwrap_or (view_of b).state.coins [] ≡ coins.items = ap
+    (λ (o : Option (List ℕ)). unwrap_or o []) open_coins in
+    let at = subst (λ (w : BenchValue). IsExact (HandedOut w) w.state.nodes dones) (sym view) h in
+    let at' = subst (λ (n : ℕ). IsExact
+    (IsHanded (view_of b).setup b.nodes.items b.mail (unwrap_or (view_of b).state.coins []) (n - 1)) b.nodes.items
+    dones) (sym kept.opened) at in
+    let at'' = subst (λ (ns : List ℕ). IsExact
+    (IsHanded (view_of b).setup b.nodes.items b.mail ns (b.opened - 1)) b.nodes.items dones) (mine ∙ sym same) at' in
+    let last = subst (λ (ns : List Node). IsExact
+    (IsHanded (view_of b).setup ns b.mail cs (b.opened - 1)) ns dones) (sym nodes) at'' in
+    subst (λ (ns : List Done). IsExact (IsHanded (view_of b).setup xs b.mail cs (b.opened - 1)) xs ns) (sym given) last

@@ -1,6 +1,6 @@
 -- How many instructions each node ran, by its result.
 use Rattle.std.proofs.Common.{◌≡◌, ◌≢◌, ℕ, ◌<◌, List, length, get_or, is_some, inl, inr, sym, ap, ◌∙◌, arith}
-use Rattle.std.specs.Prelude.{IsNone, unwrap_or, [], ◌-◌}
+use Rattle.std.specs.Prelude.{IsNone, ◌-◌}
 use Rattle.std.proofs.lemmas.List.Elements.{All-contains, All-weaker}
 use Rattle.bpf_machine.specs.Run.{End}
 use Rattle.bench_core.specs.Setup.{Setup}

@@ -1,5 +1,5 @@
 -- What holds of each run of an accepted program, and of each pulse that they make.
-use Rattle.std.specs.Prelude.{◌≡◌, ℕ, ◌<◌, ◌≤◌, IsSome, Some, List, All, unwrap_or, []}
+use Rattle.std.specs.Prelude.{◌≡◌, ℕ, ◌<◌, ◌≤◌, IsSome, Some, List, All}
 use Rattle.bpf_machine.specs.Machine.{MachineState}
 use Rattle.bpf_machine.specs.Run.{CompleteRun, End, HasNoSuccessor, RunsTo}
 use Rattle.bpf_verify.specs.Accepted.{Accepted}

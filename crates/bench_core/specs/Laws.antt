@@ -1,5 +1,5 @@
 -- What else holds of every run of the pulse machine.
-use Rattle.std.specs.Prelude.{◌≡◌, ◌≢◌, ◌↔◌, ℕ, zero, suc, false, get_or, slice_index, ◌+◌, ◌*◌, ◌%◌, ◌<◌, ◌≤◌, Bool, ◌&&◌, ◌==◌, IsTrue, IsSome, Some, List, length, count_by, All, slice_get, unwrap_or, []}
+use Rattle.std.specs.Prelude.{◌≡◌, ◌≢◌, ◌↔◌, ℕ, zero, suc, false, get_or, slice_index, ◌+◌, ◌*◌, ◌%◌, ◌<◌, ◌≤◌, Bool, ◌&&◌, ◌==◌, IsTrue, IsSome, Some, List, length, count_by, All, slice_get}
 use Rattle.node_env.specs.Env.{inbox_of}
 use Rattle.clock_nodes.specs.Rule.{clock_of, mark_of, quorum_of}
 use Rattle.bpf_machine.specs.Run.{End}

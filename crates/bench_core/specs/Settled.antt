@@ -1,13 +1,8 @@
 -- Which nodes are settled after a closed pulse, and what their clocks say.
-use Rattle.std.specs.Prelude.{◌≡◌, ℕ, ◌<◌, ◌≤◌, ◌⊎◌, Bool, not, ◌&&◌, ◌==◌, if◌then◌else◌, ◌↔◌, IsTrue, IsNone, Option, Some, None, List, [], ◌∷◌, map, filter, count_by, length, slice_index, Contains, unwrap_or}
-use Rattle.std.specs.List.{list_all}
+use Rattle.std.specs.Prelude.{◌≡◌, ℕ, Bool, not, ◌&&◌, ◌==◌, if◌then◌else◌, List, [], ◌∷◌, filter, count_by, Contains}
 use Rattle.clock_nodes.specs.Rule.{clock_of, clock_below}
-use Rattle.bpf_machine.specs.Run.{CompleteRun, End}
-use Rattle.bpf_verify.specs.Accepted.{Accepted}
-use Rattle.clock_nodes.specs.declared.rule.TheConstants.{MOST_MODULUS}
-use Rattle.bench_core.specs.declared.limits.TheConstants.{MOST_PULSES, CLOCKS_DIFFER, MOST_COUNTED}
 use Rattle.bench_core.specs.Setup.{Setup}
-use Rattle.bench_core.specs.State.{Node, State, node_at, setting_at}
+use Rattle.bench_core.specs.State.{Node, State}
 
 -- node by node: it ran the clock program in this closed pulse and in the one before
 abbrev pub settled_flags : List Node → List Node → List Bool

@@ -1,14 +1,14 @@
 -- What is told of a closed pulse.
-use Rattle.std.specs.Prelude.{◌≡◌, ℕ, ◌<◌, ◌≤◌, ◌⊎◌, Bool, not, ◌&&◌, ◌==◌, if◌then◌else◌, ◌↔◌, IsTrue, IsNone, Option, Some, None, List, [], ◌∷◌, map, filter, count_by, length, slice_index, Contains, unwrap_or}
+use Rattle.std.specs.Prelude.{◌≡◌, ℕ, ◌<◌, ◌≤◌, ◌⊎◌, Bool, not, ◌==◌, if◌then◌else◌, ◌↔◌, IsTrue, IsNone, Option, Some, None, List, [], ◌∷◌, map, filter, count_by, length, slice_index}
 use Rattle.std.specs.List.{list_all}
-use Rattle.clock_nodes.specs.Rule.{clock_of, clock_below}
+use Rattle.clock_nodes.specs.Rule.{clock_of}
 use Rattle.bpf_machine.specs.Run.{CompleteRun, End}
 use Rattle.bpf_verify.specs.Accepted.{Accepted}
 use Rattle.clock_nodes.specs.declared.rule.TheConstants.{MOST_MODULUS}
 use Rattle.bench_core.specs.declared.limits.TheConstants.{MOST_PULSES, CLOCKS_DIFFER, MOST_COUNTED}
 use Rattle.bench_core.specs.Setup.{Setup}
 use Rattle.bench_core.specs.State.{Node, State, node_at, setting_at, coins_of}
-use Rattle.bench_core.specs.Settled.{settled_flags, value_of, clocks_where, Agree}
+use Rattle.bench_core.specs.Settled.{settled_flags, clocks_where, Agree}
 
 pub record Row : Type 0 where
   pub pulse : ℕ

@@ -1,18 +1,13 @@
 -- Events done one after the other, and their faults.
 use Rattle.std.proofs.Common.{◌≡◌, ℕ, ◌+◌, ◌<◌, ◌≤◌, List, [], ◌∷◌, ◌++◌, length, map, take, get_or, Some, refl, sym, ap, ◌∙◌, subst, arith, length-append}
-use Rattle.std.specs.Prelude.{slice_get, Option, IsSome, IsNone, None}
+use Rattle.std.specs.Prelude.{slice_get}
 use Rattle.std.proofs.lemmas.List.{length-map, map-append, map_more, take_all}
-use Rattle.std.proofs.lemmas.Option.{get_or_from_slice_get, none-some, same_Some, slice_get_past, slice_get_within}
+use Rattle.std.proofs.lemmas.Option.{none-some, same_Some, slice_get_past}
 use Rattle.std.proofs.Math.Seq.{take-append_seam}
-use Rattle.bench_core.specs.Setup.{Setup, IsSetup}
+use Rattle.bench_core.specs.Setup.{Setup}
 use Rattle.bench_core.specs.State.{Node, State, new_state, no_node, node_at}
 use Rattle.bench_core.specs.Told.{PulseTold}
-use Rattle.bench_core.specs.Replay.{Advances, BenchValue, Opened, Replays}
-use Rattle.bench_core.specs.Refusals.{IsCloseRefusal}
-use Rattle.bench_core.specs.declared.refusal.CloseError.{CloseError}
-use Rattle.bench_core.specs.declared.refusal.CloseError.TheVariants as closing
-use Rattle.bench_core.specs.Tasks.{Task, Done, HandedOut, IsExact, RanEach, tasks_of}
-use Rattle.bench_core.proofs.Results.{results_fit}
+use Rattle.bench_core.specs.Replay.{BenchValue}
 use Rattle.bench_engine.specs.declared.event.Event.{Event as EventCode}
 use Rattle.bench_engine.specs.Events.{Event, Stage, event_of}
 use Rattle.bench_engine.specs.Events.{Pulse as PulseEvent}
@@ -105,23 +100,6 @@ is_fault s es before k e refusals.NoThread rs b front here few goes refused =
 is_fault s es before k e refusals.GateShut rs b front here few goes refused =
     first_refused s es before k e refusals.GateShut rs b front here goes refused
 
--- a close of results of all tasks fails only for want of memory
-pub only_memory : (b : BenchValue) (dones : List Done) (e : CloseError) → IsSome b.state.coins
-    → IsExact (HandedOut b) b.state.nodes dones → IsCloseRefusal b dones e → e ≡ closing.Memory
-only_memory b dones closing.NotOpen now exact refusal = absurd (not_both b.state.coins now refusal)
-  where
-    not_both : (o : Option (List ℕ)) → IsSome o → IsNone o → ⊥
-    not_both None some none = absurd cc
-    not_both (Some x) some none = absurd cc
-only_memory b dones (closing.Missing i) now exact refusal = absurd (exact.none_missing i refusal.1.0)
-only_memory b dones (closing.Twice i) now exact refusal = absurd (exact.none_twice i refusal.2.0)
-only_memory b dones (closing.Stranger i) now exact refusal =
-    let s = refusal.3 in
-    let low : s.place < length dones = slice_get_within dones s.place s.one s.at in
-    let same : get_or dones s.place s.one ≡ s.one = get_or_from_slice_get dones s.place s.one s.one s.at in
-    absurd (s.stranger (subst (λ (d : Done). HandedOut b d.task) same (exact.no_stranger s.place s.one low)))
-only_memory b dones closing.Memory now exact refusal = refl
-
 -- ---- memories
 
 pub memories_more : (nodes : List Node) (memories : List (List ℕ)) (i : ℕ) (memory : List ℕ) → i < length nodes
@@ -129,17 +107,6 @@ pub memories_more : (nodes : List Node) (memories : List (List ℕ)) (i : ℕ) (
     → memory ≡ (node_at nodes i).memory → memories ++ memory ∷ [] ≡ map (λ x. x.memory) (take (i + 1) nodes)
 memories_more nodes memories i memory low before here =
     rw (before, here) (sym (map_more (λ (x : Node). x.memory) nodes i no_node low))
-
--- ---- what a close refuses of results of its opening
-
-pub closes_for_memory : (old new : BenchValue) (coins : List ℕ) (tasks : List Task) (dones : List Done)
-    (e : CloseError) → Advances old (Opened coins) new → IsSetup new.setup
-    → Replays new.setup new.history new.state → tasks ≡ tasks_of new → RanEach tasks dones → IsCloseRefusal new dones e
-    → e ≡ closing.Memory
-closes_for_memory old new coins tasks dones e opens ok replays given ran refusal =
-    let now : IsSome new.state.coins = subst IsSome (sym (ap (λ (b : State). b.coins) opens.step.2)) refl in
-    only_memory new dones e now (results_fit new dones ok replays now (subst (λ ts. RanEach ts dones) given ran))
-    refusal
 
 -- ---- the loop over the events
 

@@ -1,6 +1,6 @@
 -- A list of events has one run.
 use Rattle.std.proofs.Common.{◌≡◌, ℕ, ◌+◌, ◌≤◌, List, [], ◌∷◌, map, arith, refl, ap, ap₂, sym, subst, ◌∙◌, inl, inr, true, false, Bool}
-use Rattle.std.specs.Prelude.{◌↔◌, IsTrue, unwrap_or}
+use Rattle.std.specs.Prelude.{◌↔◌, IsTrue}
 use Rattle.bench_core.specs.Setup.{Setup}
 use Rattle.bench_core.specs.State.{State, new_state, opened_state, staged_state, coins_of}
 use Rattle.bench_core.specs.Settled.{Agree}

@@ -1,7 +1,6 @@
 //! The run of a list of events on a bench of its own.
 ghost use Rattle.std.specs.Prelude.{◌≡◌, ◌≢◌, ◌≤◌, ◌∷◌, [], true, None, IfOk, IfErr, OnOk, length, map};
 ghost use Rattle.bench_core.specs.declared.limits.TheConstants.{MOST_ENTRIES};
-ghost use Rattle.bench_core.specs.declared.refusal.CloseError.TheVariants as CloseError;
 ghost use Rattle.bench_core.specs.Told.{AreSteps};
 ghost use Rattle.bench_core.specs.State.{new_state, opened_state};
 ghost use Rattle.bench_core.specs.Views.{change_of, setup_of};
@@ -21,8 +20,7 @@ use crate::tasks::run_tasks;
 use crate::watched::run_events_watched;
 use crate::watcher::{Nobody, WatchFault};
 use bench_core::{
-    Actor, Bench, Change, CloseError, OpenError, PulseRecord, StageError, are_coins, stage_error,
-    steps_by_node,
+    Actor, Bench, Change, OpenError, PulseRecord, StageError, are_coins, stage_error, steps_by_node,
 };
 use clock_nodes::ClockRule;
 use node_env::Shape;
@@ -90,9 +88,9 @@ pub(crate) fn pulse<R: Threads + Wait + Sync, G: Gate + Sync>(
     let Ok(steps) = steps_by_node(alloc, bench, &dones) else {
         return Err(RunRefusal::Memory);
     };
-    match bench.close_pulse(alloc, dones) {
+    match bench.close_own(alloc, dones) {
         Ok(told) => Ok(Closed { told, steps }),
-        Err((_, error)) => Err(of_close(error)),
+        Err(_) => Err(RunRefusal::Memory),
     }
 }
 
@@ -106,20 +104,6 @@ fn of_work(error: WorkError) -> RunRefusal
         WorkError::NoThread => RunRefusal::NoThread,
         WorkError::GateShut => RunRefusal::GateShut,
         WorkError::Memory => RunRefusal::Memory,
-    }
-}
-
-/// A close of results of all tasks fails only for want of memory.
-fn of_close(error: CloseError) -> RunRefusal
-    requires { error ≡ CloseError.Memory }
-    ensures { result ≡ Memory }
-{
-    match error {
-        CloseError::Memory => RunRefusal::Memory,
-        CloseError::NotOpen => unreachable!(),
-        CloseError::Missing(_) => unreachable!(),
-        CloseError::Twice(_) => unreachable!(),
-        CloseError::Stranger(_) => unreachable!(),
     }
 }
 
