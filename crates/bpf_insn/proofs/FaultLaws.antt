@@ -68,6 +68,7 @@ wide_byte (opcode.StoreReg size) e = absurd cc
 
 not_truncated : (bytes : List ℕ) (o : Opcode) → 8 ≤ length bytes → opcode_at (slice_index bytes 0) ≡ Some o
     → 8 * opcode_slots o ≤ length bytes → FaultHolds Truncated bytes → ⊥
+unfolding opcode_at
 not_truncated bytes o eight first whole h =
     elim (cases_eq (slice_index bytes 0) 0x18) [
       | inl e ↦
@@ -145,6 +146,7 @@ stands o bytes s spelled = record { offset = spelled.fits.offset; imm = spelled.
 not_stray : (bytes : List ℕ) (o : Opcode) (s : Slot) (high : ℕ) → opcode_at (slice_index bytes 0) ≡ Some o
     → slot_at o bytes ≡ Ok s → has_stray_field s ≡ false → Second (is_wide o) bytes high
     → FaultHolds NonZeroField bytes → ⊥
+unfolding opcode_at
 not_stray bytes o s high first read clean second h =
     elim h [
       | inl t ↦
@@ -347,6 +349,7 @@ below_both false n lt = lt
 
 not_cut_short : (bytes : List ℕ) → 8 ≤ length bytes → opcode_at (slice_index bytes 0) ≡ None
     → FaultHolds Truncated bytes → ⊥
+unfolding opcode_at
 not_cut_short bytes eight none h =
     elim (cases_eq (slice_index bytes 0) 0x18) [
       | inl e ↦ let wide : Some opcode.LoadImm64 ≡ None = sym (ap opcode_at e) ∙ none in absurd cc

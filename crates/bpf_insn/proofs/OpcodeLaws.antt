@@ -1,6 +1,6 @@
 -- The opcode of a byte is the one that is spelled so.
 use Rattle.std.proofs.Common.{◌≡◌, ℕ, ◌<◌, ◌≤◌, Bool, true, Option, Some, None, refl, sym, ap, ◌∙◌, arith}
-use Rattle.std.specs.Prelude.{◌==◌, ◌&&◌, ◌≢◌, ◌/◌, bit_and, if◌then◌else◌, IfSome, IfNone}
+use Rattle.std.specs.Prelude.{◌==◌, ◌&&◌, ◌≢◌, ◌/◌, bit_and, if◌then◌else◌, IfSome, IfNone, slice_index_or}
 use Rattle.std.proofs.lemmas.Bool.{agree_below_at, eqb-true, ne_eqb}
 use Rattle.bpf_insn.specs.declared.forms.Reg.{Reg}
 use Rattle.bpf_insn.specs.declared.forms.Reg.TheVariants.{R0, R1, R2, R3, R4, R5, R6, R7, R8, R9, R10}
@@ -16,24 +16,11 @@ use Rattle.bpf_insn.specs.declared.forms.Order.TheVariants as orders
 use Rattle.bpf_insn.specs.Registers.{register_number}
 use Rattle.bpf_insn.specs.inner.Registers.{register_at}
 use Rattle.bpf_insn.specs.Opcodes.{opcode_byte}
-use Rattle.bpf_insn.specs.inner.Reading.{alu_at, jump_at, size_at, load_at}
+use Rattle.bpf_insn.specs.declared.opcode_table.TheConstants.{OPCODES}
 
-abbrev pub opcode_at : ℕ → Option Opcode
-opcode_at byte =
-    let source = if bit_and byte 8 == 0 then source.Imm else source.Reg in
-    let code = byte / 16 in
-    let mode = byte / 32 in
-    let size = bit_and (byte / 8) 3 in
-    let class = bit_and byte 7 in
-    if class == 0 && byte == 0x18 then Some LoadImm64
-    else if class == 1 then load_at mode size
-    else if class == 2 && mode == 3 then Some (StoreImm (size_at size))
-    else if class == 3 && mode == 3 then Some (StoreReg (size_at size))
-    else if class == 4 then alu_at W32 code source
-    else if class == 5 then jump_at W64 code source
-    else if class == 6 then jump_at W32 code source
-    else if class == 7 then alu_at W64 code source
-    else None
+-- what the table has of a byte
+unfoldable pub opcode_at : ℕ → Option Opcode
+opcode_at byte = slice_index_or OPCODES byte None
 
 abbrev is_of : ℕ → Option Opcode → Bool
 is_of byte None = true
@@ -41,6 +28,7 @@ is_of byte (Some o) = opcode_byte o == byte
 
 -- an opcode that is read is spelled so
 pub opcode_takes : (byte : ℕ) (o : Opcode) → byte < 256 → opcode_at byte ≡ Some o → opcode_byte o ≡ byte
+unfolding opcode_at
 opcode_takes byte o lt e =
     let test : is_of byte (opcode_at byte) ≡ true = agree_below_at (λ b. is_of b (opcode_at b))
     (λ b. true) 256 byte refl lt in
@@ -48,6 +36,7 @@ opcode_takes byte o lt e =
 
 -- an opcode is read again
 pub opcode_again : (o : Opcode) → opcode_at (opcode_byte o) ≡ Some o
+unfolding opcode_at
 opcode_again (Alu Add W32 source.Imm) = refl
 opcode_again (Alu Add W32 source.Reg) = refl
 opcode_again (Alu Add W64 source.Imm) = refl

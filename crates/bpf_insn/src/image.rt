@@ -68,6 +68,7 @@ impl From<AllocError> for ImageError {
 }
 
 /// The instruction at the front, and what follows it.
+#[inline(always)]
 fn next(bytes: &[u8]) -> Result<(Insn, &[u8]), SlotFault>
     requires { 0 < length bytes.now }
     ensures first { IfOk result (λ x. IsFirst bytes.now x.0) }

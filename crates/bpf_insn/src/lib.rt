@@ -9,6 +9,7 @@ mod image;
 mod laws;
 mod listing;
 mod opcode;
+mod opcode_table;
 mod operands;
 mod same;
 mod slot;

@@ -7,9 +7,9 @@ ghost use Rattle.bpf_insn.specs.inner.Opcodes.{is_wide};
 ghost use Rattle.bpf_insn.specs.inner.Opcodes.{opcode_slots};
 ghost use Rattle.bpf_insn.specs.Arithmetic.{movsx_width};
 ghost use Rattle.bpf_insn.specs.Encoding.{code_of, source_of, slot_of};
-ghost use Rattle.bpf_insn.specs.inner.Reading.{alu_code_at, alu_at, cond_at, jump_at, size_at, sx_size_at, load_at};
 
 use crate::forms::{AluOp, Cond, Insn, MovsxKind, Operand, Order, Size, SxSize, Width};
+use crate::opcode_table::OPCODES;
 
 /// The code of an operation of two operands.
 #[derive(Clone, Copy, Debug, PartialEq, Eq)]
@@ -124,26 +124,6 @@ impl AluCode {
         }
     }
 
-    fn at(number: u8) -> Option<AluCode>
-        ensures { result ≡ alu_code_at number }
-    {
-        match number {
-            0 => Some(AluCode::Add),
-            1 => Some(AluCode::Sub),
-            2 => Some(AluCode::Mul),
-            3 => Some(AluCode::Div),
-            4 => Some(AluCode::Or),
-            5 => Some(AluCode::And),
-            6 => Some(AluCode::Lsh),
-            7 => Some(AluCode::Rsh),
-            9 => Some(AluCode::Mod),
-            0xa => Some(AluCode::Xor),
-            0xb => Some(AluCode::Mov),
-            0xc => Some(AluCode::Arsh),
-            _ => None,
-        }
-    }
-
     fn number(self) -> u8
         ensures value { result ≡ alu_number self }
         ensures in_range { result < 16 }
@@ -209,25 +189,6 @@ impl Source {
     }
 }
 
-fn cond_code_of(number: u8) -> Option<Cond>
-    ensures { result ≡ cond_at number }
-{
-    match number {
-        1 => Some(Cond::Eq),
-        2 => Some(Cond::Gt),
-        3 => Some(Cond::Ge),
-        4 => Some(Cond::Set),
-        5 => Some(Cond::Ne),
-        6 => Some(Cond::Sgt),
-        7 => Some(Cond::Sge),
-        0xa => Some(Cond::Lt),
-        0xb => Some(Cond::Le),
-        0xc => Some(Cond::Slt),
-        0xd => Some(Cond::Sle),
-        _ => None,
-    }
-}
-
 fn cond_code(cond: Cond) -> u8
     ensures value { result ≡ cond_number cond }
     ensures in_range { result < 16 }
@@ -247,18 +208,6 @@ fn cond_code(cond: Cond) -> u8
     }
 }
 
-/// The size in bits 3 and 4.
-fn size_of_bits(bits: u8) -> Size
-    ensures { result ≡ size_at bits }
-{
-    match bits {
-        0 => Size::W,
-        1 => Size::H,
-        2 => Size::B,
-        _ => Size::Dw,
-    }
-}
-
 fn size_code(size: Size) -> u8
     ensures value { result ≡ size_bits size }
     ensures in_range { result ≤ 24 }
@@ -268,17 +217,6 @@ fn size_code(size: Size) -> u8
         Size::H => 8,
         Size::B => 16,
         Size::Dw => 24,
-    }
-}
-
-fn sx_size_of_bits(bits: u8) -> Option<SxSize>
-    ensures { result ≡ sx_size_at bits }
-{
-    match bits {
-        0 => Some(SxSize::W),
-        1 => Some(SxSize::H),
-        2 => Some(SxSize::B),
-        _ => None,
     }
 }
 
@@ -332,63 +270,6 @@ fn order_code(order: Order) -> u8
     }
 }
 
-fn alu_opcode(width: Width, code: u8, source: Source) -> Option<Opcode>
-    ensures { result ≡ alu_at width code source }
-{
-    match (code, width, source) {
-        (8, _, Source::Imm) => Some(Opcode::Neg { width }),
-        (8, _, Source::Reg) => None,
-        (0xd, Width::W32, Source::Imm) => Some(Opcode::Swap { order: Order::Le }),
-        (0xd, Width::W32, Source::Reg) => Some(Opcode::Swap { order: Order::Be }),
-        (0xd, Width::W64, Source::Imm) => Some(Opcode::Swap {
-            order: Order::Always,
-        }),
-        (0xd, Width::W64, Source::Reg) => None,
-        _ => match AluCode::at(code) {
-            Some(code) => Some(Opcode::Alu {
-                code,
-                width,
-                source,
-            }),
-            None => None,
-        },
-    }
-}
-
-fn jump_opcode(width: Width, code: u8, source: Source) -> Option<Opcode>
-    ensures { result ≡ jump_at width code source }
-{
-    match (code, width, source) {
-        (0, Width::W64, Source::Imm) => Some(Opcode::Ja),
-        (0, Width::W32, Source::Imm) => Some(Opcode::JaLong),
-        (8, Width::W64, Source::Imm) => Some(Opcode::Call),
-        (9, Width::W64, Source::Imm) => Some(Opcode::Exit),
-        _ => match cond_code_of(code) {
-            Some(cond) => Some(Opcode::Branch {
-                cond,
-                width,
-                source,
-            }),
-            None => None,
-        },
-    }
-}
-
-fn load_opcode(mode: u8, size: u8) -> Option<Opcode>
-    ensures { result ≡ load_at mode size }
-{
-    match mode {
-        3 => Some(Opcode::Load {
-            size: size_of_bits(size),
-        }),
-        4 => match sx_size_of_bits(size) {
-            Some(size) => Some(Opcode::LoadSx { size }),
-            None => None,
-        },
-        _ => None,
-    }
-}
-
 impl Opcode {
     ghost use Rattle.std.specs.Prelude.{◌≡◌, ◌≢◌, IfSome, IfNone};
     ghost use Rattle.bpf_insn.specs.declared.opcode.Opcode.{Opcode};
@@ -397,34 +278,11 @@ impl Opcode {
     ghost use Rattle.bpf_insn.specs.Encoding.{slot_of};
 
     /// The opcode that a byte stands for, and none where no opcode has that byte.
-    #[tactic(auto, using(crate::proofs::OpcodeLaws::opcode_some, crate::proofs::OpcodeLaws::opcode_none))]
     pub(crate) fn of(byte: u8) -> Option<Opcode>
         ensures some { IfSome result (λ opcode. opcode_byte opcode ≡ byte) }
         ensures none { IfNone result ((opcode : Opcode) → opcode_byte opcode ≢ byte) }
     {
-        let source = if byte & 8 == 0 {
-            Source::Imm
-        } else {
-            Source::Reg
-        };
-        let code = byte >> 4;
-        let mode = byte >> 5;
-        let size = (byte >> 3) & 3;
-        match byte & 7 {
-            0 if byte == 0x18 => Some(Opcode::LoadImm64),
-            1 => load_opcode(mode, size),
-            2 if mode == 3 => Some(Opcode::StoreImm {
-                size: size_of_bits(size),
-            }),
-            3 if mode == 3 => Some(Opcode::StoreReg {
-                size: size_of_bits(size),
-            }),
-            4 => alu_opcode(Width::W32, code, source),
-            5 => jump_opcode(Width::W64, code, source),
-            6 => jump_opcode(Width::W32, code, source),
-            7 => alu_opcode(Width::W64, code, source),
-            _ => None,
-        }
+        OPCODES[usize::from(byte)]
     }
 
     /// The opcode of an instruction.
