@@ -35,7 +35,7 @@ use Rattle.bpf_insn.specs.inner.Opcodes.{is_wide, opcode_slots}
 use Rattle.bpf_insn.specs.Arithmetic.{movsx_width}
 use Rattle.bpf_insn.specs.Encoding.{code_of, offset_of, extended_bits, swapped_bits, slot_of, second_slot, has_stray_field, InRange, slots_taken}
 use Rattle.bpf_insn.specs.inner.Encoding.{high_of}
-use Rattle.bpf_insn.specs.inner.Reading.{op_at, operand_at, kind_at, extension_by, move_at, swap_bits_at, swap_by, form_at}
+use Rattle.bpf_insn.specs.inner.Reading.{unsigned_op, op_at, operand_at, kind_at, extension_by, move_at, swap_bits_at, swap_by, form_at}
 use Rattle.bpf_insn.proofs.OpcodeLaws.{number_once}
 use Rattle.bpf_insn.proofs.SlotLaws.{SlotFits, done, ok_is}
 
@@ -104,6 +104,20 @@ same_slot : {p p' : Opcode} {d d' s s' : Reg} {o o' i i' : ℤ} → p' ≡ p →
 same_slot h p q r t = rw (h, p, q, r, t) refl
 
 -- ---- arithmetic
+
+pub unsigned_is : (code : AluCode) (offset : ℤ) → cast_unsigned w16 offset ≡ 0 → unsigned_op code ≡ op_at code offset
+unsigned_is Add offset none = refl
+unsigned_is Sub offset none = refl
+unsigned_is Mul offset none = refl
+unsigned_is Div offset none = rw (eq-eqb (cast_unsigned w16 offset) 0 none) refl
+unsigned_is Or offset none = refl
+unsigned_is And offset none = refl
+unsigned_is Lsh offset none = refl
+unsigned_is Rsh offset none = refl
+unsigned_is Mod offset none = rw (eq-eqb (cast_unsigned w16 offset) 0 none) refl
+unsigned_is Xor offset none = refl
+unsigned_is Mov offset none = refl
+unsigned_is Arsh offset none = refl
 
 -- the operation is of its code and its offset
 pub record IsOp (code : AluCode) (offset : ℤ) : Type 0 where

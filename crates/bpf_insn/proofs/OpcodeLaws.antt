@@ -1,5 +1,5 @@
 -- The opcode of a byte is the one that is spelled so.
-use Rattle.std.proofs.Common.{◌≡◌, ℕ, ◌<◌, ◌≤◌, Bool, true, Option, Some, None, refl, sym, ap, ◌∙◌, arith}
+use Rattle.std.proofs.Common.{◌≡◌, ℕ, ◌<◌, ◌≤◌, Bool, true, false, Option, Some, None, refl, sym, ap, ◌∙◌, arith}
 use Rattle.std.specs.Prelude.{◌==◌, ◌&&◌, ◌≢◌, ◌/◌, bit_and, if◌then◌else◌, IfSome, IfNone, slice_index_or}
 use Rattle.std.proofs.lemmas.Bool.{agree_below_at, eqb-true, ne_eqb}
 use Rattle.bpf_insn.specs.declared.forms.Reg.{Reg}
@@ -15,7 +15,9 @@ use Rattle.bpf_insn.specs.declared.forms.SxSize.TheVariants as sx_sizes
 use Rattle.bpf_insn.specs.declared.forms.Order.TheVariants as orders
 use Rattle.bpf_insn.specs.Registers.{register_number}
 use Rattle.bpf_insn.specs.inner.Registers.{register_at}
-use Rattle.bpf_insn.specs.Opcodes.{opcode_byte}
+use Rattle.bpf_insn.specs.Opcodes.{opcode_byte, is_stray}
+use Rattle.bpf_insn.specs.declared.opcode.FieldUse.{FieldUse}
+use Rattle.bpf_insn.specs.declared.opcode.FieldUse.TheVariants.{Zero, ZeroOrOne, Any}
 use Rattle.bpf_insn.specs.declared.opcode_table.TheConstants.{OPCODES}
 
 -- what the table has of a byte
@@ -175,6 +177,12 @@ opcode_is byte None lt some none = by_answer (opcode_at byte) refl
     by_answer : (read : Option Opcode) → opcode_at byte ≡ read → None ≡ read
     by_answer None e = refl
     by_answer (Some p) e = absurd (none p (opcode_takes byte p lt e))
+
+-- a field may hold no bits, whatever its use
+pub none_is_stray : (field : FieldUse) → is_stray field 0 ≡ false
+none_is_stray Zero = refl
+none_is_stray ZeroOrOne = refl
+none_is_stray Any = refl
 
 -- ---- registers
 

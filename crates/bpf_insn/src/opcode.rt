@@ -91,12 +91,17 @@ pub struct Uses {
 }
 
 impl FieldUse {
-    /// Whether a field may not hold these bits.
+    /// Whether a field may not hold these bits. Most fields that are looked at hold none.
+    #[tactic(auto, using(crate::proofs::OpcodeLaws::none_is_stray))]
+    #[inline(always)]
     pub(crate) fn is_stray(self, bits: u32) -> bool
         ensures { result ≡ is_stray self bits }
     {
+        if bits == 0 {
+            return false;
+        }
         match self {
-            FieldUse::Zero => bits != 0,
+            FieldUse::Zero => true,
             FieldUse::ZeroOrOne => bits > 1,
             FieldUse::Any => false,
         }

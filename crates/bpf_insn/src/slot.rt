@@ -3,7 +3,7 @@
 ghost use Rattle.std.specs.Prelude.{◌≡◌, ◌<◌, ◌≤◌, ◌*◌, length, IfOk, IfErr};
 ghost use Rattle.bpf_insn.specs.inner.Opcodes.{is_wide, opcode_slots};
 ghost use Rattle.bpf_insn.specs.inner.Registers.{register_at};
-ghost use Rattle.bpf_insn.specs.inner.Reading.{found, unless, slot_at, high_at, op_at, operand_at, kind_at, move_at};
+ghost use Rattle.bpf_insn.specs.inner.Reading.{found, unless, slot_at, high_at, unsigned_op, op_at, operand_at, kind_at, move_at};
 ghost use Rattle.bpf_insn.specs.inner.Reading.{alu_insn_at, swap_bits_at, swap_by, form_at};
 ghost use Rattle.bpf_insn.specs.Images.{IsFaultAt};
 ghost use Rattle.bpf_insn.specs.inner.Images.{IsFirst};
@@ -268,24 +268,47 @@ fn high_half(opcode: Opcode, bytes: &[u8]) -> Result<u32, SlotFault>
     Ok(u32::from_le_bytes([bytes[12], bytes[13], bytes[14], bytes[15]]))
 }
 
-fn alu_op(code: AluCode, offset: i16) -> AluOp
-    ensures { result ≡ op_at code offset }
+/// The operation of a code where the offset is 0.
+fn unsigned_op(code: AluCode) -> AluOp
+    ensures { result ≡ unsigned_op code }
 {
     match code {
         AluCode::Add => AluOp::Add,
         AluCode::Sub => AluOp::Sub,
         AluCode::Mul => AluOp::Mul,
-        AluCode::Div if offset == 0 => AluOp::Div,
-        AluCode::Div => AluOp::Sdiv,
+        AluCode::Div => AluOp::Div,
         AluCode::Or => AluOp::Or,
         AluCode::And => AluOp::And,
         AluCode::Lsh => AluOp::Lsh,
         AluCode::Rsh => AluOp::Rsh,
-        AluCode::Mod if offset == 0 => AluOp::Mod,
-        AluCode::Mod => AluOp::Smod,
+        AluCode::Mod => AluOp::Mod,
         AluCode::Xor => AluOp::Xor,
         AluCode::Mov => AluOp::Mov,
         AluCode::Arsh => AluOp::Arsh,
+    }
+}
+
+
+#[tactic(auto, using(crate::proofs::FormLaws::unsigned_is))]
+fn alu_op(code: AluCode, offset: i16) -> AluOp
+    ensures { result ≡ op_at code offset }
+{
+    if offset == 0 {
+        return unsigned_op(code);
+    }
+    match code {
+        AluCode::Div => AluOp::Sdiv,
+        AluCode::Mod => AluOp::Smod,
+        AluCode::Add
+        | AluCode::Sub
+        | AluCode::Mul
+        | AluCode::Or
+        | AluCode::And
+        | AluCode::Lsh
+        | AluCode::Rsh
+        | AluCode::Xor
+        | AluCode::Mov
+        | AluCode::Arsh => unsigned_op(code),
     }
 }
 
@@ -429,6 +452,7 @@ fn store_reg_insn(size: Size, slot: Slot) -> Insn
 
 /// The instruction of a slot. Each form asks for a clean slot by itself: a test before the match would be compiled to a
 /// second match.
+#[inline(always)]
 fn insn_of(slot: Slot, high: u32) -> Result<Insn, SlotFault>
     ensures { result ≡ unless (has_stray_field slot) SlotFault.NonZeroField (form_at slot.opcode slot high) }
 {
@@ -470,6 +494,7 @@ fn insn_of(slot: Slot, high: u32) -> Result<Insn, SlotFault>
 }
 
 /// The instruction whose spelling begins the bytes, or the lowest fault that holds there.
+#[inline(always)]
 pub(crate) fn front(bytes: &[u8]) -> Result<Insn, SlotFault>
     requires { 0 < length bytes.now }
     ensures insn { IfOk result (λ insn. IsFirst bytes.now insn) }

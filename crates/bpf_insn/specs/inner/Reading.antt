@@ -80,6 +80,21 @@ high_at true bytes =
     then Ok (number_at bytes 12)
     else Err NonZeroField
 
+-- the operation of a code where the offset is 0
+abbrev pub unsigned_op : AluCode → AluOp
+unsigned_op Add = ops.Add
+unsigned_op Sub = ops.Sub
+unsigned_op Mul = ops.Mul
+unsigned_op Div = ops.Div
+unsigned_op Or = ops.Or
+unsigned_op And = ops.And
+unsigned_op Lsh = ops.Lsh
+unsigned_op Rsh = ops.Rsh
+unsigned_op Mod = ops.Mod
+unsigned_op Xor = ops.Xor
+unsigned_op Mov = ops.Mov
+unsigned_op Arsh = ops.Arsh
+
 -- the operation of a code, and of an offset that is 0 or 1
 abbrev pub op_at : AluCode → ℤ → AluOp
 op_at Add offset = ops.Add
