@@ -15,7 +15,7 @@ use Rattle.bpf_insn.specs.inner.Opcodes.{is_wide, opcode_slots}
 use Rattle.bpf_insn.specs.Encoding.{slot_bytes, slot_of, second_slot, spelling, has_stray_field, InRange, slots_taken}
 use Rattle.bpf_insn.specs.inner.Encoding.{high_of}
 use Rattle.bpf_insn.specs.inner.Images.{IsFirst}
-use Rattle.bpf_insn.specs.inner.Reading.{found, unless, slot_at, high_at, form_at, ◌>>=◌}
+use Rattle.bpf_insn.specs.inner.Reading.{found, unless, slot_at, high_at, form_at, after_opcode, ◌>>=◌}
 use Rattle.bpf_insn.proofs.OpcodeLaws.{opcode_at, opcode_takes, opcode_again}
 use Rattle.bpf_insn.proofs.SlotLaws.{IsBytes, IsLong, long, long_from, bind_ok, ok_is, done, found_ok, slot_takes, slot_again, four_bytes}
 use Rattle.bpf_insn.proofs.FormLaws.{high_bytes, form_takes, form_again, slot_fits, no_stray_field, second_is, size_is, high_fits}
@@ -25,10 +25,7 @@ unfoldable pub front_at : List ℕ → Result Insn SlotFault
 front_at bytes =
     unless (nat_lt (length bytes) 8) Truncated do
       opcode ← found UnknownOpcode (opcode_at (slice_index bytes 0))
-      unless (nat_lt (length bytes) (8 * opcode_slots opcode)) Truncated do
-        s ← slot_at opcode bytes
-        high ← high_at (is_wide opcode) bytes
-        unless (has_stray_field s) NonZeroField (form_at s.opcode s high)
+      after_opcode opcode bytes
 
 pub unless_ok : {A : Type 0} (b : Bool) (d : SlotFault) (next : Result A SlotFault) (y : A) → unless b d next ≡ Ok y
     → (b ≡ false) × (next ≡ Ok y)

@@ -1,14 +1,14 @@
 //! Images of programs: their instructions as bytes (RFC 9669, section 3; docs/INSTRUCTIONS.md).
 
 ghost use Rattle.std.specs.Prelude.{◌≡◌, ◌≢◌, ◌<◌, ◌≤◌, ◌*◌, ◌++◌, ℕ, List, [], length, drop, IfOk, IfErr, OnOk};
-ghost use Rattle.std.specs.Prelude.{MatchResult};
+ghost use Rattle.std.specs.Prelude.{MatchResult, false};
 ghost use Rattle.std.specs.List.{flat_map};
 ghost use Rattle.bpf_insn.specs.declared.forms.Insn.{Insn};
 ghost use Rattle.bpf_insn.specs.declared.listing.TheConstants.{MAX_SLOTS};
 ghost use Rattle.bpf_insn.specs.Encoding.{slots_taken, spelling};
 ghost use Rattle.bpf_insn.specs.Programs.{IsProgram, image_of};
 ghost use Rattle.bpf_insn.specs.inner.Programs.{layout, slots_by, spelling_at};
-ghost use Rattle.bpf_insn.specs.Images.{IsFaultAt, IsImage, RefusesImage};
+ghost use Rattle.bpf_insn.specs.Images.{IsFaultAt, RefusesImage};
 ghost use Rattle.bpf_insn.specs.inner.Images.{IsFirst};
 
 use crate::forms::Insn;
@@ -81,66 +81,27 @@ fn next(bytes: &[u8]) -> Result<(Insn, &[u8]), SlotFault>
     Ok((insn, rest))
 }
 
-/// Reads all of the bytes, and keeps nothing: so a fault is told where memory is short too.
-fn scan(bytes: &[u8]) -> Result<(), ImageError>
-    requires some { 0 < length bytes.now }
-    requires few { length bytes.now ≤ 8 * MAX_SLOTS }
-    ensures image { OnOk result (IsImage bytes.now) }
-    ensures fault { IfErr result (RefusesImage bytes.now) }
-{
-    let mut count: u32 = 0;
-    let mut rest = bytes;
-    while !rest.is_empty() {
-        match next(rest) {
-            Ok((insn, after)) => {
-                count += insn.slots() as u32;
-                rest = after;
-            }
-            Err(fault) => return Err(ImageError::at(fault, count)),
-        }
-    }
-    Ok(())
-}
-
-/// The refusal of bytes for which memory was short: their fault, where they have one.
-fn short_of_memory(bytes: &[u8]) -> ImageError
-    requires some { 0 < length bytes.now }
-    requires few { length bytes.now ≤ 8 * MAX_SLOTS }
-    ensures { RefusesImage bytes.now result }
-{
-    match scan(bytes) {
-        Ok(()) => ImageError::Memory,
-        Err(error) => error,
-    }
-}
-
-/// Room for the slots of these bytes.
-fn room_for(alloc: Global, bytes: &[u8]) -> Result<Vec<Option<Insn>>, ImageError>
-    requires some { 0 < length bytes.now }
-    requires few { length bytes.now ≤ 8 * MAX_SLOTS }
-    ensures empty { IfOk result (λ slots. slots.items ≡ []) }
-    ensures refusal { IfErr result (RefusesImage bytes.now) }
+/// Room for the slots of these bytes, and whether memory was short.
+fn room_for(alloc: Global, bytes: &[u8]) -> (Vec<Option<Insn>>, bool)
+    ensures { result.0.items ≡ [] }
 {
     match Vec::with_capacity(alloc, bytes.len() / 8) {
-        Ok(slots) => Ok(slots),
-        Err(_) => Err(short_of_memory(bytes)),
+        Ok(slots) => (slots, false),
+        Err(_) => (Vec::new(alloc), true),
     }
 }
 
-/// Adds the slots of an instruction that these bytes hold.
-fn keep(slots: &mut Vec<Option<Insn>>, insn: Insn, bytes: &[u8]) -> Result<(), ImageError>
-    requires some { 0 < length bytes.now }
-    requires few { length bytes.now ≤ 8 * MAX_SLOTS }
-    ensures kept { OnOk result (slots.new.items ≡ slots.old.items ++ slots_by insn) }
-    ensures refusal { IfErr result (RefusesImage bytes.now) }
+/// Adds the slots of an instruction unless memory was short, and says whether it was or is.
+#[inline(always)]
+fn keep(slots: &mut Vec<Option<Insn>>, insn: Insn, short: bool) -> bool
+    ensures before { result ≡ false → short ≡ false }
+    ensures kept { result ≡ false → slots.new.items ≡ slots.old.items ++ slots_by insn }
 {
-    match push_slots(slots, insn) {
-        Ok(()) => Ok(()),
-        Err(_) => Err(short_of_memory(bytes)),
-    }
+    short || push_slots(slots, insn).is_err()
 }
 
-/// The slots of the program whose image these bytes are.
+/// The slots of the program whose image these bytes are. Where memory is short the rest is read, and not kept: so a
+/// fault is told there too.
 fn slots_in(alloc: Global, bytes: &[u8]) -> Result<Vec<Option<Insn>>, ImageError>
     requires some { 0 < length bytes.now }
     requires few { length bytes.now ≤ 8 * MAX_SLOTS }
@@ -148,18 +109,21 @@ fn slots_in(alloc: Global, bytes: &[u8]) -> Result<Vec<Option<Insn>>, ImageError
         (bytes.now ≡ image_of program) × (slots.items ≡ layout program)) }
     ensures refusal { IfErr result (RefusesImage bytes.now) }
 {
-    let mut slots = room_for(alloc, bytes)?;
+    let (mut slots, mut short) = room_for(alloc, bytes);
     let mut slot: u32 = 0;
     let mut rest = bytes;
     while !rest.is_empty() {
         match next(rest) {
             Ok((insn, after)) => {
                 slot += insn.slots() as u32;
-                keep(&mut slots, insn, bytes)?;
+                short = keep(&mut slots, insn, short);
                 rest = after;
             }
             Err(fault) => return Err(ImageError::at(fault, slot)),
         }
+    }
+    if short {
+        return Err(ImageError::Memory);
     }
     Ok(slots)
 }

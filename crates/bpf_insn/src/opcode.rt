@@ -2,7 +2,8 @@
 
 ghost use Rattle.std.specs.Prelude.{◌≡◌, ◌<◌, ◌≤◌};
 ghost use Rattle.bpf_insn.specs.Opcodes.{alu_class, jump_class, alu_number, source_bit, cond_number, size_bits};
-ghost use Rattle.bpf_insn.specs.Opcodes.{sx_size_bits, order_byte, opcode_byte, offset_use, uses_of, is_stray};
+ghost use Rattle.bpf_insn.specs.Opcodes.{sx_size_bits, order_byte, opcode_byte, offset_use, is_stray};
+ghost use Rattle.bpf_insn.specs.inner.Opcodes.{allowing};
 ghost use Rattle.bpf_insn.specs.inner.Opcodes.{is_wide};
 ghost use Rattle.bpf_insn.specs.inner.Opcodes.{opcode_slots};
 ghost use Rattle.bpf_insn.specs.Arithmetic.{movsx_width};
@@ -90,6 +91,19 @@ pub struct Uses {
     pub imm: FieldUse,
 }
 
+/// What the fields of a slot may hold, in their order.
+#[inline(always)]
+pub(crate) fn allowing(dst: FieldUse, src: FieldUse, offset: FieldUse, imm: FieldUse) -> Uses
+    ensures { result ≡ allowing dst src offset imm }
+{
+    Uses {
+        dst,
+        src,
+        offset,
+        imm,
+    }
+}
+
 impl FieldUse {
     /// Whether a field may not hold these bits. Most fields that are looked at hold none.
     #[tactic(auto, using(crate::proofs::OpcodeLaws::none_is_stray))]
@@ -150,7 +164,7 @@ impl AluCode {
     }
 
     /// What the offset may hold.
-    fn offset_use(self, source: Source) -> FieldUse
+    pub(crate) fn offset_use(self, source: Source) -> FieldUse
         ensures { result ≡ offset_use self source }
     {
         match self {
@@ -278,7 +292,7 @@ fn order_code(order: Order) -> u8
 impl Opcode {
     ghost use Rattle.std.specs.Prelude.{◌≡◌, ◌≢◌, IfSome, IfNone};
     ghost use Rattle.bpf_insn.specs.declared.opcode.Opcode.{Opcode};
-    ghost use Rattle.bpf_insn.specs.Opcodes.{opcode_byte, uses_of};
+    ghost use Rattle.bpf_insn.specs.Opcodes.{opcode_byte};
     ghost use Rattle.bpf_insn.specs.inner.Opcodes.{is_wide, opcode_slots};
     ghost use Rattle.bpf_insn.specs.Encoding.{slot_of};
 
@@ -326,39 +340,6 @@ impl Opcode {
             Insn::StoreReg { size, .. } => Opcode::StoreReg { size },
             Insn::StoreImm { size, .. } => Opcode::StoreImm { size },
             Insn::LoadImm64 { .. } => Opcode::LoadImm64,
-        }
-    }
-
-    /// What its fields may hold.
-    pub(crate) fn uses(self) -> Uses
-        ensures { result ≡ uses_of self }
-    {
-        use FieldUse::{Any, Zero};
-        let uses = |dst, src, offset, imm| Uses {
-            dst,
-            src,
-            offset,
-            imm,
-        };
-        match self {
-            Opcode::Alu { code, source, .. } => match source {
-                Source::Imm => uses(Any, Zero, code.offset_use(source), Any),
-                Source::Reg => uses(Any, Any, code.offset_use(source), Zero),
-            },
-            Opcode::Neg { .. } => uses(Any, Zero, Zero, Zero),
-            Opcode::Swap { .. } => uses(Any, Zero, Zero, Any),
-            Opcode::Ja => uses(Zero, Zero, Any, Zero),
-            Opcode::JaLong => uses(Zero, Zero, Zero, Any),
-            Opcode::Branch { source, .. } => match source {
-                Source::Imm => uses(Any, Zero, Any, Any),
-                Source::Reg => uses(Any, Any, Any, Zero),
-            },
-            Opcode::Call => uses(Zero, Zero, Zero, Any),
-            Opcode::Exit => uses(Zero, Zero, Zero, Zero),
-            Opcode::LoadImm64 => uses(Any, Zero, Zero, Any),
-            Opcode::Load { .. } | Opcode::LoadSx { .. } => uses(Any, Any, Any, Zero),
-            Opcode::StoreImm { .. } => uses(Any, Zero, Any, Any),
-            Opcode::StoreReg { .. } => uses(Any, Any, Any, Zero),
         }
     }
 

@@ -1,10 +1,10 @@
 //! Slots: the eight bytes at the front of an instruction.
 
-ghost use Rattle.std.specs.Prelude.{◌≡◌, ◌<◌, ◌≤◌, ◌*◌, length, IfOk, IfErr};
-ghost use Rattle.bpf_insn.specs.inner.Opcodes.{is_wide, opcode_slots};
+ghost use Rattle.std.specs.Prelude.{◌≡◌, ◌<◌, ◌≤◌, length, Ok, IfOk, IfErr, true, false};
+ghost use Rattle.bpf_insn.specs.inner.Opcodes.{is_wide};
 ghost use Rattle.bpf_insn.specs.inner.Registers.{register_at};
 ghost use Rattle.bpf_insn.specs.inner.Reading.{found, unless, slot_at, high_at, unsigned_op, op_at, operand_at, kind_at, move_at};
-ghost use Rattle.bpf_insn.specs.inner.Reading.{alu_insn_at, swap_bits_at, swap_by, form_at};
+ghost use Rattle.bpf_insn.specs.inner.Reading.{alu_insn_at, swap_bits_at, swap_by, form_at, after_opcode};
 ghost use Rattle.bpf_insn.specs.Images.{IsFaultAt};
 ghost use Rattle.bpf_insn.specs.inner.Images.{IsFirst};
 ghost use Rattle.bpf_insn.specs.Encoding.{has_stray_field, slot_of, register_in, immediate_in, offset_of};
@@ -13,7 +13,8 @@ ghost use Rattle.bpf_insn.specs.Encoding.{extended_bits, swapped_bits};
 use crate::forms::{
     AluOp, Cond, Insn, MovsxKind, Operand, Order, Reg, Size, SwapBits, SxSize, Width,
 };
-use crate::opcode::{AluCode, Opcode, Source};
+use crate::opcode::FieldUse::{Any, Zero};
+use crate::opcode::{AluCode, Opcode, Source, Uses, allowing};
 
 /// The fields of a slot.
 #[derive(Clone, Copy, Debug, PartialEq, Eq)]
@@ -38,6 +39,7 @@ pub enum SlotFault {
 impl Slot {
     ghost use Rattle.std.specs.Prelude.{◌≡◌, IfOk, IfErr, true, false};
     ghost use Rattle.bpf_insn.specs.declared.slot.SlotFault.TheVariants as SlotFault;
+    ghost use Rattle.bpf_insn.specs.Opcodes.{uses_of};
     ghost use Rattle.bpf_insn.specs.Encoding.{slot_bytes, has_stray_field, slot_of};
 
     /// The slot as bytes.
@@ -61,23 +63,25 @@ impl Slot {
 
     /// Whether some field holds what it may not.
     #[inline(always)]
-    pub(crate) fn has_stray_field(self) -> bool
+    fn has_stray_field(self, uses: Uses) -> bool
+        requires { uses ≡ uses_of self.opcode }
         ensures { result ≡ has_stray_field self }
     {
-        let uses = self.opcode.uses();
         uses.dst.is_stray(u32::from(self.dst.number()))
             || uses.src.is_stray(u32::from(self.src.number()))
             || uses.offset.is_stray(u32::from(self.offset.cast_unsigned()))
             || uses.imm.is_stray(self.imm.cast_unsigned())
     }
 
-    /// Itself, where no field holds what it may not.
+    /// Itself, where no field holds what it may not. Each form says what its own fields may hold: to ask the opcode
+    /// would be a second match.
     #[inline(always)]
-    fn clean(self) -> Result<Slot, SlotFault>
+    fn clean(self, uses: Uses) -> Result<Slot, SlotFault>
+        requires { uses ≡ uses_of self.opcode }
         ensures same { IfOk result (λ slot. (slot ≡ self) × (has_stray_field self ≡ false)) }
         ensures stray { IfErr result (λ fault. (has_stray_field self ≡ true) × (fault ≡ SlotFault.NonZeroField)) }
     {
-        if self.has_stray_field() {
+        if self.has_stray_field(uses) {
             return Err(SlotFault::NonZeroField);
         }
         Ok(self)
@@ -231,6 +235,7 @@ fn swap_field(bits: SwapBits) -> i32
     }
 }
 
+#[inline(always)]
 fn register(number: u8) -> Result<Reg, SlotFault>
     ensures { result ≡ found SlotFault.BadRegister (register_at number) }
 {
@@ -239,9 +244,11 @@ fn register(number: u8) -> Result<Reg, SlotFault>
 
 /// The fields behind the opcode.
 #[tactic(auto, unfolding(crate::specs::inner::Reading::slot_at))]
+#[inline(always)]
 fn slot_of_bytes(opcode: Opcode, bytes: &[u8]) -> Result<Slot, SlotFault>
     requires { 8 ≤ length bytes.now }
-    ensures { result ≡ slot_at opcode bytes.now }
+    ensures slot { result ≡ slot_at opcode bytes.now }
+    ensures opcode { IfOk result (λ slot. slot.opcode ≡ opcode) }
 {
     let dst = register(bytes[1] & 15)?;
     let src = register(bytes[1] >> 4)?;
@@ -255,13 +262,11 @@ fn slot_of_bytes(opcode: Opcode, bytes: &[u8]) -> Result<Slot, SlotFault>
 }
 
 /// The high half of a wide instruction.
-fn high_half(opcode: Opcode, bytes: &[u8]) -> Result<u32, SlotFault>
-    requires { 8 * opcode_slots opcode ≤ length bytes.now }
-    ensures { result ≡ high_at (is_wide opcode) bytes.now }
+#[inline(always)]
+fn high_half(bytes: &[u8]) -> Result<u32, SlotFault>
+    requires { 16 ≤ length bytes.now }
+    ensures { result ≡ high_at true bytes.now }
 {
-    if !opcode.is_wide() {
-        return Ok(0);
-    }
     if u32::from_le_bytes([bytes[8], bytes[9], bytes[10], bytes[11]]) != 0 {
         return Err(SlotFault::NonZeroField);
     }
@@ -269,6 +274,7 @@ fn high_half(opcode: Opcode, bytes: &[u8]) -> Result<u32, SlotFault>
 }
 
 /// The operation of a code where the offset is 0.
+#[inline(always)]
 fn unsigned_op(code: AluCode) -> AluOp
     ensures { result ≡ unsigned_op code }
 {
@@ -288,8 +294,8 @@ fn unsigned_op(code: AluCode) -> AluOp
     }
 }
 
-
 #[tactic(auto, using(crate::proofs::FormLaws::unsigned_is))]
+#[inline(always)]
 fn alu_op(code: AluCode, offset: i16) -> AluOp
     ensures { result ≡ op_at code offset }
 {
@@ -312,15 +318,7 @@ fn alu_op(code: AluCode, offset: i16) -> AluOp
     }
 }
 
-fn operand(source: Source, slot: Slot) -> Operand
-    ensures { result ≡ operand_at source slot }
-{
-    match source {
-        Source::Imm => Operand::Imm(slot.imm),
-        Source::Reg => Operand::Reg(slot.src),
-    }
-}
-
+#[inline(always)]
 fn extension(width: Width, offset: i16) -> Option<MovsxKind>
     ensures { result ≡ kind_at width offset }
 {
@@ -335,6 +333,7 @@ fn extension(width: Width, offset: i16) -> Option<MovsxKind>
 }
 
 /// A move from a register, of all bits or of the low ones.
+#[inline(always)]
 fn move_of(width: Width, slot: Slot) -> Result<Insn, SlotFault>
     ensures { result ≡ move_at width slot }
 {
@@ -356,20 +355,45 @@ fn move_of(width: Width, slot: Slot) -> Result<Insn, SlotFault>
     }
 }
 
-fn alu_insn(code: AluCode, width: Width, source: Source, slot: Slot) -> Result<Insn, SlotFault>
-    ensures { result ≡ alu_insn_at code width source slot }
+/// An operation with an immediate.
+#[inline(always)]
+fn alu_by_imm(code: AluCode, width: Width, slot: Slot) -> Result<Insn, SlotFault>
+    requires { slot.opcode ≡ Opcode.Alu code width Source.Imm }
+    ensures { result ≡ unless (has_stray_field slot) SlotFault.NonZeroField (alu_insn_at code width Source.Imm slot) }
 {
-    if let (AluCode::Mov, Source::Reg) = (code, source) {
+    let Slot {
+        dst,
+        offset,
+        imm,
+        ..
+    } = slot.clean(allowing(Any, Zero, code.offset_use(Source::Imm), Any))?;
+    Ok(Insn::Alu {
+        op: alu_op(code, offset),
+        width,
+        dst,
+        src: Operand::Imm(imm),
+    })
+}
+
+/// An operation with a register.
+#[inline(always)]
+fn alu_by_reg(code: AluCode, width: Width, slot: Slot) -> Result<Insn, SlotFault>
+    requires { slot.opcode ≡ Opcode.Alu code width Source.Reg }
+    ensures { result ≡ unless (has_stray_field slot) SlotFault.NonZeroField (alu_insn_at code width Source.Reg slot) }
+{
+    let slot = slot.clean(allowing(Any, Any, code.offset_use(Source::Reg), Zero))?;
+    if let AluCode::Mov = code {
         return move_of(width, slot);
     }
     Ok(Insn::Alu {
         op: alu_op(code, slot.offset),
         width,
         dst: slot.dst,
-        src: operand(source, slot),
+        src: Operand::Reg(slot.src),
     })
 }
 
+#[inline(always)]
 fn swap_bits(imm: i32) -> Option<SwapBits>
     ensures { result ≡ swap_bits_at imm }
 {
@@ -381,6 +405,7 @@ fn swap_bits(imm: i32) -> Option<SwapBits>
     }
 }
 
+#[inline(always)]
 fn swap_insn(order: Order, slot: Slot) -> Result<Insn, SlotFault>
     ensures { result ≡ swap_by order slot (swap_bits_at slot.imm) }
 {
@@ -394,18 +419,32 @@ fn swap_insn(order: Order, slot: Slot) -> Result<Insn, SlotFault>
     }
 }
 
-fn branch_insn(cond: Cond, width: Width, source: Source, slot: Slot) -> Insn
-    ensures { result ≡ Insn.Branch cond width slot.dst (operand_at source slot) slot.offset }
+#[inline(always)]
+fn branch_insn(cond: Cond, width: Width, source: Source, slot: Slot) -> Result<Insn, SlotFault>
+    requires { slot.opcode ≡ Opcode.Branch cond width source }
+    ensures { result ≡ unless (has_stray_field slot) SlotFault.NonZeroField
+        (Ok (Insn.Branch cond width slot.dst (operand_at source slot) slot.offset)) }
 {
-    Insn::Branch {
+    let (slot, src) = match source {
+        Source::Imm => (
+            slot.clean(allowing(Any, Zero, Any, Any))?,
+            Operand::Imm(slot.imm),
+        ),
+        Source::Reg => (
+            slot.clean(allowing(Any, Any, Any, Zero))?,
+            Operand::Reg(slot.src),
+        ),
+    };
+    Ok(Insn::Branch {
         cond,
         width,
         dst: slot.dst,
-        src: operand(source, slot),
+        src,
         off: slot.offset,
-    }
+    })
 }
 
+#[inline(always)]
 fn load_insn(size: Size, slot: Slot) -> Insn
     ensures { result ≡ Insn.Load size slot.dst slot.src slot.offset }
 {
@@ -417,6 +456,7 @@ fn load_insn(size: Size, slot: Slot) -> Insn
     }
 }
 
+#[inline(always)]
 fn load_sx_insn(size: SxSize, slot: Slot) -> Insn
     ensures { result ≡ Insn.LoadSx size slot.dst slot.src slot.offset }
 {
@@ -428,6 +468,7 @@ fn load_sx_insn(size: SxSize, slot: Slot) -> Insn
     }
 }
 
+#[inline(always)]
 fn store_imm_insn(size: Size, slot: Slot) -> Insn
     ensures { result ≡ Insn.StoreImm size slot.dst slot.offset slot.imm }
 {
@@ -439,6 +480,7 @@ fn store_imm_insn(size: Size, slot: Slot) -> Insn
     }
 }
 
+#[inline(always)]
 fn store_reg_insn(size: Size, slot: Slot) -> Insn
     ensures { result ≡ Insn.StoreReg size slot.dst slot.offset slot.src }
 {
@@ -450,47 +492,83 @@ fn store_reg_insn(size: Size, slot: Slot) -> Insn
     }
 }
 
-/// The instruction of a slot. Each form asks for a clean slot by itself: a test before the match would be compiled to a
-/// second match.
+/// The instruction of a slot that is one by itself.
 #[inline(always)]
-fn insn_of(slot: Slot, high: u32) -> Result<Insn, SlotFault>
-    ensures { result ≡ unless (has_stray_field slot) SlotFault.NonZeroField (form_at slot.opcode slot high) }
+fn insn_of(slot: Slot) -> Result<Insn, SlotFault>
+    requires { is_wide slot.opcode ≡ false }
+    ensures { result ≡ unless (has_stray_field slot) SlotFault.NonZeroField (form_at slot.opcode slot 0) }
 {
     match slot.opcode {
         Opcode::Alu {
             code,
             width,
-            source,
-        } => alu_insn(code, width, source, slot.clean()?),
+            source: Source::Imm,
+        } => alu_by_imm(code, width, slot),
+        Opcode::Alu {
+            code,
+            width,
+            source: Source::Reg,
+        } => alu_by_reg(code, width, slot),
         Opcode::Neg { width } => Ok(Insn::Neg {
             width,
-            dst: slot.clean()?.dst,
+            dst: slot.clean(allowing(Any, Zero, Zero, Zero))?.dst,
         }),
-        Opcode::Swap { order } => swap_insn(order, slot.clean()?),
+        Opcode::Swap { order } => swap_insn(order, slot.clean(allowing(Any, Zero, Zero, Any))?),
         Opcode::Ja => Ok(Insn::Ja {
-            off: slot.clean()?.offset,
+            off: slot.clean(allowing(Zero, Zero, Any, Zero))?.offset,
         }),
         Opcode::JaLong => Ok(Insn::JaLong {
-            off: slot.clean()?.imm,
+            off: slot.clean(allowing(Zero, Zero, Zero, Any))?.imm,
         }),
         Opcode::Branch {
             cond,
             width,
             source,
-        } => Ok(branch_insn(cond, width, source, slot.clean()?)),
+        } => branch_insn(cond, width, source, slot),
         Opcode::Call => Ok(Insn::Call {
-            id: slot.clean()?.imm,
+            id: slot.clean(allowing(Zero, Zero, Zero, Any))?.imm,
         }),
-        Opcode::Exit => slot.clean().map(|_| Insn::Exit),
-        Opcode::LoadImm64 => Ok(Insn::LoadImm64 {
-            dst: slot.clean()?.dst,
-            value: (u64::from(high) << 32) + u64::from(slot.imm.cast_unsigned()),
-        }),
-        Opcode::Load { size } => Ok(load_insn(size, slot.clean()?)),
-        Opcode::LoadSx { size } => Ok(load_sx_insn(size, slot.clean()?)),
-        Opcode::StoreImm { size } => Ok(store_imm_insn(size, slot.clean()?)),
-        Opcode::StoreReg { size } => Ok(store_reg_insn(size, slot.clean()?)),
+        Opcode::Exit => slot.clean(allowing(Zero, Zero, Zero, Zero)).map(|_| Insn::Exit),
+        Opcode::LoadImm64 => unreachable!(),
+        Opcode::Load { size } => Ok(load_insn(size, slot.clean(allowing(Any, Any, Any, Zero))?)),
+        Opcode::LoadSx { size } => Ok(load_sx_insn(size, slot.clean(allowing(Any, Any, Any, Zero))?)),
+        Opcode::StoreImm { size } => Ok(store_imm_insn(
+            size,
+            slot.clean(allowing(Any, Zero, Any, Any))?,
+        )),
+        Opcode::StoreReg { size } => Ok(store_reg_insn(
+            size,
+            slot.clean(allowing(Any, Any, Any, Zero))?,
+        )),
     }
+}
+
+/// The instruction of two slots.
+#[tactic(auto, unfolding(crate::specs::inner::Reading::slot_at))]
+fn wide_insn(bytes: &[u8]) -> Result<Insn, SlotFault>
+    requires { 8 ≤ length bytes.now }
+    ensures { result ≡ after_opcode Opcode.LoadImm64 bytes.now }
+{
+    if bytes.len() < 16 {
+        return Err(SlotFault::Truncated);
+    }
+    let slot = slot_of_bytes(Opcode::LoadImm64, bytes)?;
+    let high = high_half(bytes)?;
+    let Slot { dst, imm, .. } = slot.clean(allowing(Any, Zero, Zero, Any))?;
+    Ok(Insn::LoadImm64 {
+        dst,
+        value: (u64::from(high) << 32) + u64::from(imm.cast_unsigned()),
+    })
+}
+
+/// The instruction of an opcode that takes one slot.
+#[inline(always)]
+fn narrow_insn(opcode: Opcode, bytes: &[u8]) -> Result<Insn, SlotFault>
+    requires narrow { is_wide opcode ≡ false }
+    requires whole { 8 ≤ length bytes.now }
+    ensures { result ≡ after_opcode opcode bytes.now }
+{
+    insn_of(slot_of_bytes(opcode, bytes)?)
 }
 
 /// The instruction whose spelling begins the bytes, or the lowest fault that holds there.
@@ -504,10 +582,8 @@ pub(crate) fn front(bytes: &[u8]) -> Result<Insn, SlotFault>
         return Err(SlotFault::Truncated);
     }
     let opcode = Opcode::of(bytes[0]).ok_or(SlotFault::UnknownOpcode)?;
-    if bytes.len() < 8 * opcode.slots() {
-        return Err(SlotFault::Truncated);
+    match opcode {
+        Opcode::LoadImm64 => wide_insn(bytes),
+        _ => narrow_insn(opcode, bytes),
     }
-    let slot = slot_of_bytes(opcode, bytes)?;
-    let high = high_half(opcode, bytes)?;
-    insn_of(slot, high)
 }

@@ -1,7 +1,13 @@
 -- Beside Opcodes: what proofs and private contracts alone cite.
 use Rattle.std.specs.Prelude.{ℕ, Bool, true, false, if◌then◌else◌}
+use Rattle.bpf_insn.specs.declared.opcode.FieldUse.{FieldUse}
+use Rattle.bpf_insn.specs.declared.opcode.Uses.{Uses}
 use Rattle.bpf_insn.specs.declared.opcode.Opcode.{Opcode}
 use Rattle.bpf_insn.specs.declared.opcode.Opcode.TheVariants as opcode
+
+-- what the fields of a slot may hold, in their order
+abbrev pub allowing : FieldUse → FieldUse → FieldUse → FieldUse → Uses
+allowing dst src offset imm = record { dst = dst; src = src; offset = offset; imm = imm }
 
 -- takes two slots (3.2 "Wide Instruction Encoding")
 abbrev pub is_wide : Opcode → Bool

@@ -1,7 +1,7 @@
 -- What the parts of the decoder give: each word here is in the contract of a private function alone. The reader of an
 -- instruction (`front`) and `decode` say what they do in the words of Images and Encoding.
 use Rattle.std.specs.Prelude.{ℕ, ◌+◌, ◌*◌, ◌^◌, ◌/◌, ◌==◌, if◌then◌else◌, Bool, true, false, bit_and, ℤ, Option, Some}
-use Rattle.std.specs.Prelude.{None, Result, Ok, Err, List, [], ◌∷◌, slice_index}
+use Rattle.std.specs.Prelude.{None, Result, Ok, Err, List, [], ◌∷◌, length, nat_lt, slice_index}
 use Rattle.std.specs.Int.{w16, w32, cast_signed, cast_unsigned, from_le_bytes}
 use Rattle.bpf_insn.specs.declared.forms.Reg.{Reg}
 use Rattle.bpf_insn.specs.declared.forms.Width.{Width}
@@ -33,7 +33,9 @@ use Rattle.bpf_insn.specs.declared.opcode.Opcode.{Opcode}
 use Rattle.bpf_insn.specs.declared.opcode.Opcode.TheVariants as opcode
 use Rattle.bpf_insn.specs.declared.slot.Slot.{Slot}
 use Rattle.bpf_insn.specs.declared.slot.SlotFault.{SlotFault}
-use Rattle.bpf_insn.specs.declared.slot.SlotFault.TheVariants.{BadRegister, NonZeroField, BadWidth}
+use Rattle.bpf_insn.specs.declared.slot.SlotFault.TheVariants.{Truncated, BadRegister, NonZeroField, BadWidth}
+use Rattle.bpf_insn.specs.Encoding.{has_stray_field}
+use Rattle.bpf_insn.specs.inner.Opcodes.{is_wide, opcode_slots}
 use Rattle.bpf_insn.specs.inner.Registers.{register_at}
 
 -- ---- slots
@@ -170,3 +172,11 @@ form_at (opcode.StoreReg size) s high = Ok (insn.StoreReg size s.dst s.offset s.
 -- goes on unless the test says that there is a fault
 abbrev pub unless : {A : Type 0} → Bool → SlotFault → Result A SlotFault → Result A SlotFault
 unless test fault next = if test then Err fault else next
+
+-- the instruction whose opcode has been read
+abbrev pub after_opcode : Opcode → List ℕ → Result Insn SlotFault
+after_opcode opcode bytes =
+    unless (nat_lt (length bytes) (8 * opcode_slots opcode)) Truncated do
+      s ← slot_at opcode bytes
+      high ← high_at (is_wide opcode) bytes
+      unless (has_stray_field s) NonZeroField (form_at s.opcode s high)
