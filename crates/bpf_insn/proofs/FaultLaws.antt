@@ -30,7 +30,8 @@ use Rattle.bpf_insn.specs.Images.{StandsAt, FaultHolds, IsFaultAt, fault_number,
 use Rattle.bpf_insn.specs.inner.Images.{IsFirst}
 use Rattle.bpf_insn.proofs.OpcodeLaws.{opcode_at, opcode_takes, opcode_again, number_small}
 use Rattle.bpf_insn.proofs.SlotLaws.{IsBytes, Spells, ok_is, found_ok, slot_takes, slot_again}
-use Rattle.bpf_insn.proofs.FormLaws.{IsClean, clean_from, slot_with, high_bytes}
+use Rattle.bpf_insn.specs.inner.Encoding.{slot_with}
+use Rattle.bpf_insn.proofs.FormLaws.{IsClean, clean_from, high_bytes}
 use Rattle.bpf_insn.proofs.FrontLaws.{front_at, front_takes, Second, second_takes, front_again}
 
 -- ---- where a step failed

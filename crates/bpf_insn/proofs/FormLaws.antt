@@ -34,7 +34,7 @@ use Rattle.bpf_insn.specs.Opcodes.{offset_use, uses_of, is_stray}
 use Rattle.bpf_insn.specs.inner.Opcodes.{is_wide, opcode_slots}
 use Rattle.bpf_insn.specs.Arithmetic.{movsx_width}
 use Rattle.bpf_insn.specs.Encoding.{code_of, offset_of, extended_bits, swapped_bits, slot_of, second_slot, has_stray_field, InRange, slots_taken}
-use Rattle.bpf_insn.specs.inner.Encoding.{high_of}
+use Rattle.bpf_insn.specs.inner.Encoding.{slot_with, high_of}
 use Rattle.bpf_insn.specs.inner.Reading.{unsigned_op, op_at, operand_at, kind_at, extension_by, move_at, swap_bits_at, swap_by, form_at}
 use Rattle.bpf_insn.proofs.OpcodeLaws.{number_once}
 use Rattle.bpf_insn.proofs.SlotLaws.{SlotFits, done, ok_is}
@@ -95,9 +95,6 @@ pub record Makes (s : Slot) (high : ℕ) (i : Insn) : Type 0 where
   pub second : second_slot i ≡ high_bytes (is_wide s.opcode) high
   pub range : InRange i
   pub size : slots_taken i ≡ opcode_slots s.opcode
-
-abbrev pub slot_with : Opcode → Reg → Reg → ℤ → ℤ → Slot
-slot_with opcode dst src offset imm = record { opcode = opcode; dst = dst; src = src; offset = offset; imm = imm }
 
 same_slot : {p p' : Opcode} {d d' s s' : Reg} {o o' i i' : ℤ} → p' ≡ p → d' ≡ d → s' ≡ s → o' ≡ o → i' ≡ i
     → slot_with p d s o i ≡ slot_with p' d' s' o' i'

@@ -4,12 +4,10 @@ ghost use Rattle.std.specs.Prelude.{◌≡◌, ◌<◌, ◌≤◌};
 ghost use Rattle.bpf_insn.specs.Opcodes.{alu_class, jump_class, alu_number, source_bit, cond_number, size_bits};
 ghost use Rattle.bpf_insn.specs.Opcodes.{sx_size_bits, order_byte, opcode_byte, offset_use, is_stray};
 ghost use Rattle.bpf_insn.specs.inner.Opcodes.{allowing};
-ghost use Rattle.bpf_insn.specs.inner.Opcodes.{is_wide};
-ghost use Rattle.bpf_insn.specs.inner.Opcodes.{opcode_slots};
 ghost use Rattle.bpf_insn.specs.Arithmetic.{movsx_width};
-ghost use Rattle.bpf_insn.specs.Encoding.{code_of, source_of, slot_of};
+ghost use Rattle.bpf_insn.specs.Encoding.{code_of, source_of};
 
-use crate::forms::{AluOp, Cond, Insn, MovsxKind, Operand, Order, Size, SxSize, Width};
+use crate::forms::{AluOp, Cond, MovsxKind, Operand, Order, Size, SxSize, Width};
 use crate::opcode_table::OPCODES;
 
 /// The code of an operation of two operands.
@@ -188,7 +186,7 @@ impl AluCode {
 
 impl Source {
     /// Where an operand is.
-    fn of(operand: Operand) -> Source
+    pub(crate) fn of(operand: Operand) -> Source
         ensures { result ≡ source_of operand }
     {
         match operand {
@@ -270,7 +268,8 @@ fn jump_class_of(width: Width) -> u8
     }
 }
 
-fn extension_width(kind: MovsxKind) -> Width
+/// The width that a move extends to.
+pub(crate) fn extension_width(kind: MovsxKind) -> Width
     ensures { result ≡ movsx_width kind }
 {
     match kind {
@@ -293,8 +292,6 @@ impl Opcode {
     ghost use Rattle.std.specs.Prelude.{◌≡◌, ◌≢◌, IfSome, IfNone};
     ghost use Rattle.bpf_insn.specs.declared.opcode.Opcode.{Opcode};
     ghost use Rattle.bpf_insn.specs.Opcodes.{opcode_byte};
-    ghost use Rattle.bpf_insn.specs.inner.Opcodes.{is_wide, opcode_slots};
-    ghost use Rattle.bpf_insn.specs.Encoding.{slot_of};
 
     /// The opcode that a byte stands for, and none where no opcode has that byte.
     pub(crate) fn of(byte: u8) -> Option<Opcode>
@@ -302,73 +299,6 @@ impl Opcode {
         ensures none { IfNone result ((opcode : Opcode) → opcode_byte opcode ≢ byte) }
     {
         OPCODES[usize::from(byte)]
-    }
-
-    /// The opcode of an instruction.
-    pub(crate) fn of_insn(insn: Insn) -> Opcode
-        ensures { result ≡ (slot_of insn).opcode }
-    {
-        match insn {
-            Insn::Alu { op, width, src, .. } => Opcode::Alu {
-                code: AluCode::of(op),
-                width,
-                source: Source::of(src),
-            },
-            Insn::Neg { width, .. } => Opcode::Neg { width },
-            Insn::Movsx { kind, .. } => Opcode::Alu {
-                code: AluCode::Mov,
-                width: extension_width(kind),
-                source: Source::Reg,
-            },
-            Insn::Swap { order, .. } => Opcode::Swap { order },
-            Insn::Ja { .. } => Opcode::Ja,
-            Insn::JaLong { .. } => Opcode::JaLong,
-            Insn::Branch {
-                cond,
-                width,
-                src,
-                ..
-            } => Opcode::Branch {
-                cond,
-                width,
-                source: Source::of(src),
-            },
-            Insn::Call { .. } => Opcode::Call,
-            Insn::Exit => Opcode::Exit,
-            Insn::Load { size, .. } => Opcode::Load { size },
-            Insn::LoadSx { size, .. } => Opcode::LoadSx { size },
-            Insn::StoreReg { size, .. } => Opcode::StoreReg { size },
-            Insn::StoreImm { size, .. } => Opcode::StoreImm { size },
-            Insn::LoadImm64 { .. } => Opcode::LoadImm64,
-        }
-    }
-
-    /// Whether it takes two slots.
-    pub(crate) fn is_wide(self) -> bool
-        ensures { result ≡ is_wide self }
-    {
-        match self {
-            Opcode::LoadImm64 => true,
-            Opcode::Alu { .. }
-            | Opcode::Neg { .. }
-            | Opcode::Swap { .. }
-            | Opcode::Ja
-            | Opcode::JaLong
-            | Opcode::Branch { .. }
-            | Opcode::Call
-            | Opcode::Exit
-            | Opcode::Load { .. }
-            | Opcode::LoadSx { .. }
-            | Opcode::StoreImm { .. }
-            | Opcode::StoreReg { .. } => false,
-        }
-    }
-
-    /// The slots that it takes.
-    pub(crate) fn slots(self) -> usize
-        ensures { result ≡ opcode_slots self }
-    {
-        if self.is_wide() { 2 } else { 1 }
     }
 
     /// The byte that stands for it.

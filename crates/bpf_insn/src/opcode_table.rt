@@ -23,8 +23,9 @@ macro_rules! branch {
     };
 }
 
-/// What each byte stands for: eight bytes of one code and source in each row, one of each class.
+/// What each byte stands for. Eight stand together, one of each class: they have the high five bits in common.
 pub(crate) static OPCODES: [Option<Opcode>; 256] = [
+    // 0x00
     None,
     None,
     None,
@@ -33,6 +34,7 @@ pub(crate) static OPCODES: [Option<Opcode>; 256] = [
     Some(Opcode::Ja),
     Some(Opcode::JaLong),
     alu!(Add, W64, Imm),
+    // 0x08
     None,
     None,
     None,
@@ -41,6 +43,7 @@ pub(crate) static OPCODES: [Option<Opcode>; 256] = [
     None,
     None,
     alu!(Add, W64, Reg),
+    // 0x10
     None,
     None,
     None,
@@ -49,6 +52,7 @@ pub(crate) static OPCODES: [Option<Opcode>; 256] = [
     branch!(Eq, W64, Imm),
     branch!(Eq, W32, Imm),
     alu!(Sub, W64, Imm),
+    // 0x18
     Some(Opcode::LoadImm64),
     None,
     None,
@@ -57,6 +61,7 @@ pub(crate) static OPCODES: [Option<Opcode>; 256] = [
     branch!(Eq, W64, Reg),
     branch!(Eq, W32, Reg),
     alu!(Sub, W64, Reg),
+    // 0x20
     None,
     None,
     None,
@@ -65,6 +70,7 @@ pub(crate) static OPCODES: [Option<Opcode>; 256] = [
     branch!(Gt, W64, Imm),
     branch!(Gt, W32, Imm),
     alu!(Mul, W64, Imm),
+    // 0x28
     None,
     None,
     None,
@@ -73,6 +79,7 @@ pub(crate) static OPCODES: [Option<Opcode>; 256] = [
     branch!(Gt, W64, Reg),
     branch!(Gt, W32, Reg),
     alu!(Mul, W64, Reg),
+    // 0x30
     None,
     None,
     None,
@@ -81,6 +88,7 @@ pub(crate) static OPCODES: [Option<Opcode>; 256] = [
     branch!(Ge, W64, Imm),
     branch!(Ge, W32, Imm),
     alu!(Div, W64, Imm),
+    // 0x38
     None,
     None,
     None,
@@ -89,6 +97,7 @@ pub(crate) static OPCODES: [Option<Opcode>; 256] = [
     branch!(Ge, W64, Reg),
     branch!(Ge, W32, Reg),
     alu!(Div, W64, Reg),
+    // 0x40
     None,
     None,
     None,
@@ -97,6 +106,7 @@ pub(crate) static OPCODES: [Option<Opcode>; 256] = [
     branch!(Set, W64, Imm),
     branch!(Set, W32, Imm),
     alu!(Or, W64, Imm),
+    // 0x48
     None,
     None,
     None,
@@ -105,6 +115,7 @@ pub(crate) static OPCODES: [Option<Opcode>; 256] = [
     branch!(Set, W64, Reg),
     branch!(Set, W32, Reg),
     alu!(Or, W64, Reg),
+    // 0x50
     None,
     None,
     None,
@@ -113,6 +124,7 @@ pub(crate) static OPCODES: [Option<Opcode>; 256] = [
     branch!(Ne, W64, Imm),
     branch!(Ne, W32, Imm),
     alu!(And, W64, Imm),
+    // 0x58
     None,
     None,
     None,
@@ -121,6 +133,7 @@ pub(crate) static OPCODES: [Option<Opcode>; 256] = [
     branch!(Ne, W64, Reg),
     branch!(Ne, W32, Reg),
     alu!(And, W64, Reg),
+    // 0x60
     None,
     Some(Opcode::Load { size: Size::W }),
     Some(Opcode::StoreImm { size: Size::W }),
@@ -129,6 +142,7 @@ pub(crate) static OPCODES: [Option<Opcode>; 256] = [
     branch!(Sgt, W64, Imm),
     branch!(Sgt, W32, Imm),
     alu!(Lsh, W64, Imm),
+    // 0x68
     None,
     Some(Opcode::Load { size: Size::H }),
     Some(Opcode::StoreImm { size: Size::H }),
@@ -137,6 +151,7 @@ pub(crate) static OPCODES: [Option<Opcode>; 256] = [
     branch!(Sgt, W64, Reg),
     branch!(Sgt, W32, Reg),
     alu!(Lsh, W64, Reg),
+    // 0x70
     None,
     Some(Opcode::Load { size: Size::B }),
     Some(Opcode::StoreImm { size: Size::B }),
@@ -145,6 +160,7 @@ pub(crate) static OPCODES: [Option<Opcode>; 256] = [
     branch!(Sge, W64, Imm),
     branch!(Sge, W32, Imm),
     alu!(Rsh, W64, Imm),
+    // 0x78
     None,
     Some(Opcode::Load { size: Size::Dw }),
     Some(Opcode::StoreImm { size: Size::Dw }),
@@ -153,6 +169,7 @@ pub(crate) static OPCODES: [Option<Opcode>; 256] = [
     branch!(Sge, W64, Reg),
     branch!(Sge, W32, Reg),
     alu!(Rsh, W64, Reg),
+    // 0x80
     None,
     Some(Opcode::LoadSx { size: SxSize::W }),
     None,
@@ -161,6 +178,7 @@ pub(crate) static OPCODES: [Option<Opcode>; 256] = [
     Some(Opcode::Call),
     None,
     Some(Opcode::Neg { width: Width::W64 }),
+    // 0x88
     None,
     Some(Opcode::LoadSx { size: SxSize::H }),
     None,
@@ -169,6 +187,7 @@ pub(crate) static OPCODES: [Option<Opcode>; 256] = [
     None,
     None,
     None,
+    // 0x90
     None,
     Some(Opcode::LoadSx { size: SxSize::B }),
     None,
@@ -177,6 +196,7 @@ pub(crate) static OPCODES: [Option<Opcode>; 256] = [
     Some(Opcode::Exit),
     None,
     alu!(Mod, W64, Imm),
+    // 0x98
     None,
     None,
     None,
@@ -185,6 +205,7 @@ pub(crate) static OPCODES: [Option<Opcode>; 256] = [
     None,
     None,
     alu!(Mod, W64, Reg),
+    // 0xa0
     None,
     None,
     None,
@@ -193,6 +214,7 @@ pub(crate) static OPCODES: [Option<Opcode>; 256] = [
     branch!(Lt, W64, Imm),
     branch!(Lt, W32, Imm),
     alu!(Xor, W64, Imm),
+    // 0xa8
     None,
     None,
     None,
@@ -201,6 +223,7 @@ pub(crate) static OPCODES: [Option<Opcode>; 256] = [
     branch!(Lt, W64, Reg),
     branch!(Lt, W32, Reg),
     alu!(Xor, W64, Reg),
+    // 0xb0
     None,
     None,
     None,
@@ -209,6 +232,7 @@ pub(crate) static OPCODES: [Option<Opcode>; 256] = [
     branch!(Le, W64, Imm),
     branch!(Le, W32, Imm),
     alu!(Mov, W64, Imm),
+    // 0xb8
     None,
     None,
     None,
@@ -217,6 +241,7 @@ pub(crate) static OPCODES: [Option<Opcode>; 256] = [
     branch!(Le, W64, Reg),
     branch!(Le, W32, Reg),
     alu!(Mov, W64, Reg),
+    // 0xc0
     None,
     None,
     None,
@@ -225,6 +250,7 @@ pub(crate) static OPCODES: [Option<Opcode>; 256] = [
     branch!(Slt, W64, Imm),
     branch!(Slt, W32, Imm),
     alu!(Arsh, W64, Imm),
+    // 0xc8
     None,
     None,
     None,
@@ -233,6 +259,7 @@ pub(crate) static OPCODES: [Option<Opcode>; 256] = [
     branch!(Slt, W64, Reg),
     branch!(Slt, W32, Reg),
     alu!(Arsh, W64, Reg),
+    // 0xd0
     None,
     None,
     None,
@@ -243,6 +270,7 @@ pub(crate) static OPCODES: [Option<Opcode>; 256] = [
     Some(Opcode::Swap {
         order: Order::Always,
     }),
+    // 0xd8
     None,
     None,
     None,
@@ -251,6 +279,7 @@ pub(crate) static OPCODES: [Option<Opcode>; 256] = [
     branch!(Sle, W64, Reg),
     branch!(Sle, W32, Reg),
     None,
+    // 0xe0
     None,
     None,
     None,
@@ -259,6 +288,7 @@ pub(crate) static OPCODES: [Option<Opcode>; 256] = [
     None,
     None,
     None,
+    // 0xe8
     None,
     None,
     None,
@@ -267,6 +297,7 @@ pub(crate) static OPCODES: [Option<Opcode>; 256] = [
     None,
     None,
     None,
+    // 0xf0
     None,
     None,
     None,
@@ -275,6 +306,7 @@ pub(crate) static OPCODES: [Option<Opcode>; 256] = [
     None,
     None,
     None,
+    // 0xf8
     None,
     None,
     None,

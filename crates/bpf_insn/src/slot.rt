@@ -5,6 +5,8 @@ ghost use Rattle.bpf_insn.specs.inner.Opcodes.{is_wide};
 ghost use Rattle.bpf_insn.specs.inner.Registers.{register_at};
 ghost use Rattle.bpf_insn.specs.inner.Reading.{found, unless, slot_at, high_at, unsigned_op, op_at, operand_at, kind_at, move_at};
 ghost use Rattle.bpf_insn.specs.inner.Reading.{alu_insn_at, swap_bits_at, swap_by, form_at, after_opcode};
+ghost use Rattle.bpf_insn.specs.inner.Encoding.{slot_with};
+ghost use Rattle.bpf_insn.specs.declared.forms.Reg.TheVariants.{R0};
 ghost use Rattle.bpf_insn.specs.Images.{IsFaultAt};
 ghost use Rattle.bpf_insn.specs.inner.Images.{IsFirst};
 ghost use Rattle.bpf_insn.specs.Encoding.{has_stray_field, slot_of, register_in, immediate_in, offset_of};
@@ -14,7 +16,7 @@ use crate::forms::{
     AluOp, Cond, Insn, MovsxKind, Operand, Order, Reg, Size, SwapBits, SxSize, Width,
 };
 use crate::opcode::FieldUse::{Any, Zero};
-use crate::opcode::{AluCode, Opcode, Source, Uses, allowing};
+use crate::opcode::{AluCode, Opcode, Source, Uses, allowing, extension_width};
 
 /// The fields of a slot.
 #[derive(Clone, Copy, Debug, PartialEq, Eq)]
@@ -88,93 +90,131 @@ impl Slot {
     }
 
     /// The first slot of an instruction.
+    #[inline(always)]
     pub(crate) fn of(insn: Insn) -> Slot
         ensures { result ≡ slot_of insn }
     {
-        Slot {
-            opcode: Opcode::of_insn(insn),
-            dst: dst_field(insn),
-            src: src_field(insn),
-            offset: offset_field(insn),
-            imm: imm_field(insn),
+        match insn {
+            Insn::Alu {
+                op,
+                width,
+                dst,
+                src,
+            } => alu_slot(op, width, dst, src),
+            Insn::Neg { width, dst } => slot_with(Opcode::Neg { width }, dst, Reg::R0, 0, 0),
+            Insn::Movsx { kind, dst, src } => movsx_slot(kind, dst, src),
+            Insn::Swap { order, bits, dst } => slot_with(
+                Opcode::Swap { order },
+                dst,
+                Reg::R0,
+                0,
+                swap_field(bits),
+            ),
+            Insn::Ja { off } => slot_with(Opcode::Ja, Reg::R0, Reg::R0, off, 0),
+            Insn::JaLong { off } => slot_with(Opcode::JaLong, Reg::R0, Reg::R0, 0, off),
+            Insn::Branch {
+                cond,
+                width,
+                dst,
+                src,
+                off,
+            } => branch_slot(cond, width, dst, src, off),
+            Insn::Call { id } => slot_with(Opcode::Call, Reg::R0, Reg::R0, 0, id),
+            Insn::Exit => slot_with(Opcode::Exit, Reg::R0, Reg::R0, 0, 0),
+            Insn::Load {
+                size,
+                dst,
+                base,
+                off,
+            } => slot_with(Opcode::Load { size }, dst, base, off, 0),
+            Insn::LoadSx {
+                size,
+                dst,
+                base,
+                off,
+            } => slot_with(Opcode::LoadSx { size }, dst, base, off, 0),
+            Insn::StoreReg {
+                size,
+                base,
+                off,
+                src,
+            } => slot_with(Opcode::StoreReg { size }, base, src, off, 0),
+            Insn::StoreImm {
+                size,
+                base,
+                off,
+                imm,
+            } => slot_with(Opcode::StoreImm { size }, base, Reg::R0, off, imm),
+            Insn::LoadImm64 { dst, value } => slot_with(
+                Opcode::LoadImm64,
+                dst,
+                Reg::R0,
+                0,
+                low_half(value),
+            ),
         }
     }
 }
 
-fn dst_field(insn: Insn) -> Reg
-    ensures { result ≡ (slot_of insn).dst }
+#[inline(always)]
+fn slot_with(opcode: Opcode, dst: Reg, src: Reg, offset: i16, imm: i32) -> Slot
+    ensures { result ≡ slot_with opcode dst src offset imm }
 {
-    match insn {
-        Insn::Alu { dst, .. }
-        | Insn::Neg { dst, .. }
-        | Insn::Movsx { dst, .. }
-        | Insn::Swap { dst, .. }
-        | Insn::Branch { dst, .. }
-        | Insn::Load { dst, .. }
-        | Insn::LoadSx { dst, .. }
-        | Insn::LoadImm64 { dst, .. } => dst,
-        Insn::StoreReg { base, .. } | Insn::StoreImm { base, .. } => base,
-        Insn::Ja { .. } | Insn::JaLong { .. } | Insn::Call { .. } | Insn::Exit => Reg::R0,
+    Slot {
+        opcode,
+        dst,
+        src,
+        offset,
+        imm,
     }
 }
 
-fn src_field(insn: Insn) -> Reg
-    ensures { result ≡ (slot_of insn).src }
+#[inline(always)]
+fn alu_slot(op: AluOp, width: Width, dst: Reg, src: Operand) -> Slot
+    ensures { result ≡ slot_of (Insn.Alu op width dst src) }
 {
-    match insn {
-        Insn::Alu { src, .. } | Insn::Branch { src, .. } => register_field(src),
-        Insn::Movsx { src, .. } | Insn::StoreReg { src, .. } => src,
-        Insn::Load { base, .. } | Insn::LoadSx { base, .. } => base,
-        Insn::Neg { .. }
-        | Insn::Swap { .. }
-        | Insn::Ja { .. }
-        | Insn::JaLong { .. }
-        | Insn::Call { .. }
-        | Insn::Exit
-        | Insn::StoreImm { .. }
-        | Insn::LoadImm64 { .. } => Reg::R0,
-    }
+    let opcode = Opcode::Alu {
+        code: AluCode::of(op),
+        width,
+        source: Source::of(src),
+    };
+    slot_with(
+        opcode,
+        dst,
+        register_field(src),
+        operation_field(op),
+        immediate_field(src),
+    )
 }
 
-fn offset_field(insn: Insn) -> i16
-    ensures { result ≡ (slot_of insn).offset }
+#[inline(always)]
+fn movsx_slot(kind: MovsxKind, dst: Reg, src: Reg) -> Slot
+    ensures { result ≡ slot_of (Insn.Movsx kind dst src) }
 {
-    match insn {
-        Insn::Alu { op, .. } => operation_field(op),
-        Insn::Movsx { kind, .. } => extension_field(kind),
-        Insn::Ja { off }
-        | Insn::Branch { off, .. }
-        | Insn::Load { off, .. }
-        | Insn::LoadSx { off, .. }
-        | Insn::StoreReg { off, .. }
-        | Insn::StoreImm { off, .. } => off,
-        Insn::Neg { .. }
-        | Insn::Swap { .. }
-        | Insn::JaLong { .. }
-        | Insn::Call { .. }
-        | Insn::Exit
-        | Insn::LoadImm64 { .. } => 0,
-    }
+    let opcode = Opcode::Alu {
+        code: AluCode::Mov,
+        width: extension_width(kind),
+        source: Source::Reg,
+    };
+    slot_with(opcode, dst, src, extension_field(kind), 0)
 }
 
-fn imm_field(insn: Insn) -> i32
-    ensures { result ≡ (slot_of insn).imm }
+#[inline(always)]
+fn branch_slot(cond: Cond, width: Width, dst: Reg, src: Operand, off: i16) -> Slot
+    ensures { result ≡ slot_of (Insn.Branch cond width dst src off) }
 {
-    match insn {
-        Insn::Alu { src, .. } | Insn::Branch { src, .. } => immediate_field(src),
-        Insn::Swap { bits, .. } => swap_field(bits),
-        Insn::JaLong { off } => off,
-        Insn::Call { id } => id,
-        Insn::StoreImm { imm, .. } => imm,
-        Insn::LoadImm64 { value, .. } => ((value & 0xffff_ffff) as u32).cast_signed(),
-        Insn::Neg { .. }
-        | Insn::Movsx { .. }
-        | Insn::Ja { .. }
-        | Insn::Exit
-        | Insn::Load { .. }
-        | Insn::LoadSx { .. }
-        | Insn::StoreReg { .. } => 0,
-    }
+    let opcode = Opcode::Branch {
+        cond,
+        width,
+        source: Source::of(src),
+    };
+    slot_with(opcode, dst, register_field(src), off, immediate_field(src))
+}
+
+fn low_half(value: u64) -> i32
+    ensures { result ≡ (slot_of (Insn.LoadImm64 R0 value)).imm }
+{
+    ((value & 0xffff_ffff) as u32).cast_signed()
 }
 
 fn register_field(operand: Operand) -> Reg
@@ -394,6 +434,17 @@ fn alu_by_reg(code: AluCode, width: Width, slot: Slot) -> Result<Insn, SlotFault
 }
 
 #[inline(always)]
+fn alu_insn(code: AluCode, width: Width, source: Source, slot: Slot) -> Result<Insn, SlotFault>
+    requires { slot.opcode ≡ Opcode.Alu code width source }
+    ensures { result ≡ unless (has_stray_field slot) SlotFault.NonZeroField (alu_insn_at code width source slot) }
+{
+    match source {
+        Source::Imm => alu_by_imm(code, width, slot),
+        Source::Reg => alu_by_reg(code, width, slot),
+    }
+}
+
+#[inline(always)]
 fn swap_bits(imm: i32) -> Option<SwapBits>
     ensures { result ≡ swap_bits_at imm }
 {
@@ -445,51 +496,63 @@ fn branch_insn(cond: Cond, width: Width, source: Source, slot: Slot) -> Result<I
 }
 
 #[inline(always)]
-fn load_insn(size: Size, slot: Slot) -> Insn
-    ensures { result ≡ Insn.Load size slot.dst slot.src slot.offset }
+fn load_insn(size: Size, slot: Slot) -> Result<Insn, SlotFault>
+    requires { slot.opcode ≡ Opcode.Load size }
+    ensures { result ≡ unless (has_stray_field slot) SlotFault.NonZeroField
+        (Ok (Insn.Load size slot.dst slot.src slot.offset)) }
 {
-    Insn::Load {
+    let slot = slot.clean(allowing(Any, Any, Any, Zero))?;
+    Ok(Insn::Load {
         size,
         dst: slot.dst,
         base: slot.src,
         off: slot.offset,
-    }
+    })
 }
 
 #[inline(always)]
-fn load_sx_insn(size: SxSize, slot: Slot) -> Insn
-    ensures { result ≡ Insn.LoadSx size slot.dst slot.src slot.offset }
+fn load_sx_insn(size: SxSize, slot: Slot) -> Result<Insn, SlotFault>
+    requires { slot.opcode ≡ Opcode.LoadSx size }
+    ensures { result ≡ unless (has_stray_field slot) SlotFault.NonZeroField
+        (Ok (Insn.LoadSx size slot.dst slot.src slot.offset)) }
 {
-    Insn::LoadSx {
+    let slot = slot.clean(allowing(Any, Any, Any, Zero))?;
+    Ok(Insn::LoadSx {
         size,
         dst: slot.dst,
         base: slot.src,
         off: slot.offset,
-    }
+    })
 }
 
 #[inline(always)]
-fn store_imm_insn(size: Size, slot: Slot) -> Insn
-    ensures { result ≡ Insn.StoreImm size slot.dst slot.offset slot.imm }
+fn store_imm_insn(size: Size, slot: Slot) -> Result<Insn, SlotFault>
+    requires { slot.opcode ≡ Opcode.StoreImm size }
+    ensures { result ≡ unless (has_stray_field slot) SlotFault.NonZeroField
+        (Ok (Insn.StoreImm size slot.dst slot.offset slot.imm)) }
 {
-    Insn::StoreImm {
+    let slot = slot.clean(allowing(Any, Zero, Any, Any))?;
+    Ok(Insn::StoreImm {
         size,
         base: slot.dst,
         off: slot.offset,
         imm: slot.imm,
-    }
+    })
 }
 
 #[inline(always)]
-fn store_reg_insn(size: Size, slot: Slot) -> Insn
-    ensures { result ≡ Insn.StoreReg size slot.dst slot.offset slot.src }
+fn store_reg_insn(size: Size, slot: Slot) -> Result<Insn, SlotFault>
+    requires { slot.opcode ≡ Opcode.StoreReg size }
+    ensures { result ≡ unless (has_stray_field slot) SlotFault.NonZeroField
+        (Ok (Insn.StoreReg size slot.dst slot.offset slot.src)) }
 {
-    Insn::StoreReg {
+    let slot = slot.clean(allowing(Any, Any, Any, Zero))?;
+    Ok(Insn::StoreReg {
         size,
         base: slot.dst,
         off: slot.offset,
         src: slot.src,
-    }
+    })
 }
 
 /// The instruction of a slot that is one by itself.
@@ -502,13 +565,8 @@ fn insn_of(slot: Slot) -> Result<Insn, SlotFault>
         Opcode::Alu {
             code,
             width,
-            source: Source::Imm,
-        } => alu_by_imm(code, width, slot),
-        Opcode::Alu {
-            code,
-            width,
-            source: Source::Reg,
-        } => alu_by_reg(code, width, slot),
+            source,
+        } => alu_insn(code, width, source, slot),
         Opcode::Neg { width } => Ok(Insn::Neg {
             width,
             dst: slot.clean(allowing(Any, Zero, Zero, Zero))?.dst,
@@ -528,18 +586,14 @@ fn insn_of(slot: Slot) -> Result<Insn, SlotFault>
         Opcode::Call => Ok(Insn::Call {
             id: slot.clean(allowing(Zero, Zero, Zero, Any))?.imm,
         }),
-        Opcode::Exit => slot.clean(allowing(Zero, Zero, Zero, Zero)).map(|_| Insn::Exit),
+        Opcode::Exit => slot
+            .clean(allowing(Zero, Zero, Zero, Zero))
+            .map(|_| Insn::Exit),
         Opcode::LoadImm64 => unreachable!(),
-        Opcode::Load { size } => Ok(load_insn(size, slot.clean(allowing(Any, Any, Any, Zero))?)),
-        Opcode::LoadSx { size } => Ok(load_sx_insn(size, slot.clean(allowing(Any, Any, Any, Zero))?)),
-        Opcode::StoreImm { size } => Ok(store_imm_insn(
-            size,
-            slot.clean(allowing(Any, Zero, Any, Any))?,
-        )),
-        Opcode::StoreReg { size } => Ok(store_reg_insn(
-            size,
-            slot.clean(allowing(Any, Any, Any, Zero))?,
-        )),
+        Opcode::Load { size } => load_insn(size, slot),
+        Opcode::LoadSx { size } => load_sx_insn(size, slot),
+        Opcode::StoreImm { size } => store_imm_insn(size, slot),
+        Opcode::StoreReg { size } => store_reg_insn(size, slot),
     }
 }
 

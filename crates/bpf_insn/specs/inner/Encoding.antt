@@ -1,8 +1,15 @@
 -- Beside Encoding: what proofs and private contracts alone cite.
-use Rattle.std.specs.Prelude.{ℕ, ◌^◌, ◌/◌}
+use Rattle.std.specs.Prelude.{ℕ, ◌^◌, ◌/◌, ℤ}
+use Rattle.bpf_insn.specs.declared.forms.Reg.{Reg}
+use Rattle.bpf_insn.specs.declared.opcode.Opcode.{Opcode}
+use Rattle.bpf_insn.specs.declared.slot.Slot.{Slot}
 use Rattle.bpf_insn.specs.declared.forms.Insn.{Insn}
 use Rattle.bpf_insn.specs.declared.forms.Insn.TheVariants.{Alu, Neg, Movsx, Swap, Ja, JaLong, Branch, Call, Exit, Load}
 use Rattle.bpf_insn.specs.declared.forms.Insn.TheVariants.{LoadSx, StoreReg, StoreImm, LoadImm64}
+
+-- the slot of these fields
+abbrev pub slot_with : Opcode → Reg → Reg → ℤ → ℤ → Slot
+slot_with opcode dst src offset imm = record { opcode = opcode; dst = dst; src = src; offset = offset; imm = imm }
 
 -- the high half of a wide instruction's value
 abbrev pub high_of : Insn → ℕ
