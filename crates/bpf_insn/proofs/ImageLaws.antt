@@ -2,7 +2,8 @@
 use Rattle.std.proofs.Common.{◌≡◌, ℕ, ◌+◌, ◌*◌, ◌<◌, ◌≤◌, true, false, List, [], ◌∷◌, ◌++◌, length, drop, refl, sym, ap, ◌∙◌, append_assoc, arith, inl, inr}
 use Rattle.std.specs.List.{AllByRecursion}
 use Rattle.std.proofs.lemmas.List.{length-append, drop_at, get_or-drop, append-nil}
-use Rattle.std.specs.Prelude.{◌==◌}
+use Rattle.std.specs.Prelude.{◌==◌, ◌↔◌, Bool}
+use Rattle.std.specs.Bool.{Decides, IsTrue}
 use Rattle.std.proofs.lemmas.Bool.{cases_order, eqb-true, eqb-false}
 use Rattle.bpf_insn.specs.declared.forms.Insn.{Insn}
 use Rattle.bpf_insn.specs.declared.slot.SlotFault.{SlotFault}
@@ -42,6 +43,19 @@ image_once (i ∷ p) (j ∷ q) rp rq e =
     let rest = image_once p q rp.1 rq.1 first.1 in
     let head = first.0 in
     cc
+
+-- programs in the ranges of their types are the same where their images are
+same_image : (left right : List Insn) → IsProgram left → IsProgram right → image_of left ≡ image_of right → left ≡ right
+same_image left right p q e = image_once left right p.in_range q.in_range e
+
+-- what a comparison of two images tells of their programs
+pub told_by_images : (r : Bool) (xs ys : List ℕ) (left right : List Insn) → Decides r (xs ≡ ys) → xs ≡ image_of left
+    → ys ≡ image_of right
+    → IsProgram left → IsProgram right → IsTrue r ↔ (left ≡ right)
+told_by_images true xs ys left right d m t p q =
+    ((λ told. same_image left right p q (sym m ∙ d.0 refl ∙ t)), (λ same. grind arith))
+told_by_images false xs ys left right d m t p q =
+    ((λ told. grind (arith, told)), (λ same. grind (arith, d.1 (m ∙ ap image_of same ∙ sym t))))
 
 -- bytes with a fault are no image
 pub fault_apart : (before p : List Insn) (rest : List ℕ) (f : SlotFault) → AllByRecursion InRange before

@@ -2,18 +2,17 @@
 
 ghost use Rattle.std.specs.Prelude.{◌≡◌, ◌≢◌, ◌<◌, ◌≤◌, ◌*◌, ◌++◌, ℕ, List, [], length, drop, IfOk, IfErr, OnOk};
 ghost use Rattle.std.specs.Prelude.{MatchResult, false};
-ghost use Rattle.std.specs.List.{flat_map};
 ghost use Rattle.bpf_insn.specs.declared.forms.Insn.{Insn};
 ghost use Rattle.bpf_insn.specs.declared.listing.TheConstants.{MAX_SLOTS};
-ghost use Rattle.bpf_insn.specs.Encoding.{slots_taken, spelling};
+ghost use Rattle.bpf_insn.specs.Encoding.{slots_taken};
 ghost use Rattle.bpf_insn.specs.Programs.{IsProgram, image_of};
-ghost use Rattle.bpf_insn.specs.inner.Programs.{layout, slots_by, spelling_at};
+ghost use Rattle.bpf_insn.specs.inner.Programs.{layout, slots_by};
 ghost use Rattle.bpf_insn.specs.Images.{IsFaultAt, RefusesImage};
 ghost use Rattle.bpf_insn.specs.inner.Images.{IsFirst};
 
 use crate::forms::Insn;
 use crate::listing::{MAX_SLOTS, Program, push_slots};
-use crate::slot::{Slot, SlotFault, front};
+use crate::slot::{SlotFault, front};
 use std::alloc::{AllocError, Global};
 
 /// Why bytes are not decoded. `Empty` and `TooLong` come first, then the lowest slot is named, and then the first
@@ -138,9 +137,11 @@ fn program_in(alloc: Global, bytes: &[u8]) -> Result<Program, ImageError>
     if bytes.len() > 8 * MAX_SLOTS {
         return Err(ImageError::TooLong);
     }
-    Ok(Program {
-        slots: slots_in(alloc, bytes)?,
-    })
+    let slots = slots_in(alloc, bytes)?;
+    let Ok(image) = Vec::from_slice(alloc, bytes) else {
+        return Err(ImageError::Memory);
+    };
+    Ok(Program { slots, image })
 }
 
 /// The program of an image. A fault is told where memory is short too.
@@ -156,55 +157,10 @@ pub fn decode(alloc: Global, bytes: &[u8]) -> Result<Program, ImageError>
     program_in(alloc, bytes)
 }
 
-/// Adds the spelling of an instruction.
-fn push_spelling(image: &mut Vec<u8>, insn: Insn) -> Result<(), AllocError>
-    ensures { OnOk result (image.new.items ≡ image.old.items ++ spelling insn) }
-{
-    image.extend_from_slice(&Slot::of(insn).bytes())?;
-    match insn {
-        Insn::LoadImm64 { value, .. } => {
-            image.extend_from_slice(&[0; 4])?;
-            image.extend_from_slice(&((value >> 32) as u32).to_le_bytes())
-        }
-        Insn::Alu { .. }
-        | Insn::Neg { .. }
-        | Insn::Movsx { .. }
-        | Insn::Swap { .. }
-        | Insn::Ja { .. }
-        | Insn::JaLong { .. }
-        | Insn::Branch { .. }
-        | Insn::Call { .. }
-        | Insn::Exit
-        | Insn::Load { .. }
-        | Insn::LoadSx { .. }
-        | Insn::StoreReg { .. }
-        | Insn::StoreImm { .. } => Ok(()),
-    }
-}
-
-fn push_found(image: &mut Vec<u8>, found: Option<Insn>) -> Result<(), AllocError>
-    ensures { OnOk result (image.new.items ≡ image.old.items ++ spelling_at found) }
-{
-    match found {
-        Some(insn) => push_spelling(image, insn),
-        None => Ok(()),
-    }
-}
-
-fn spell_slots(alloc: Global, slots: &[Option<Insn>]) -> Result<Vec<u8>, AllocError>
-    ensures { IfOk result (λ bytes. bytes.items ≡ flat_map spelling_at slots.now) }
-{
-    let mut image = Vec::with_capacity(alloc, slots.len().saturating_mul(8))?;
-    for found in slots {
-        push_found(&mut image, *found)?;
-    }
-    Ok(image)
-}
-
 /// The image of a program: the spellings of its instructions in order. Fails only for want of memory.
 pub fn encode(alloc: Global, program: &Program) -> Result<Vec<u8>, AllocError>
     ensures image { IfOk result (λ bytes. bytes.items ≡ image_of program.now) }
     ensures program { IsProgram program.now }
 {
-    spell_slots(alloc, &program.slots)
+    Vec::from_slice(alloc, program.image())
 }

@@ -11,8 +11,8 @@ mod listing;
 mod opcode;
 mod opcode_table;
 mod operands;
-mod same;
 mod slot;
+mod spelling;
 
 pub use arithmetic::{alu, holds, movsx, neg, swap};
 pub use arithmetic_laws::{least_by_minus_one, low_bits_decide, results_fit, swap_twice};

@@ -9,7 +9,7 @@ ghost use Rattle.bpf_insn.specs.Programs.{slots_of, IsProgram, RefusesInsns};
 ghost use Rattle.bpf_insn.specs.inner.Programs.{slots_by, layout, inner};
 
 use crate::forms::Insn;
-use crate::same::same_slots;
+use crate::spelling::spell_slots;
 use std::alloc::{AllocError, Global};
 use std::marker::Model;
 
@@ -20,18 +20,22 @@ pub const MAX_SLOTS: usize = 2048;
 #[derive(Drop)]
 pub struct Program {
     pub(crate) slots: Vec<Option<Insn>>,
+    /// Its bytes, by which it is compared.
+    pub(crate) image: Vec<u8>,
 }
 
 impl Model for Program {
     ghost use Rattle.std.specs.Prelude.{List};
     ghost use Rattle.bpf_insn.specs.declared.forms.Insn.{Insn};
+    ghost use Rattle.std.specs.Prelude.{◌≡◌};
+    ghost use Rattle.bpf_insn.specs.Programs.{image_of};
     ghost use Rattle.bpf_insn.specs.inner.Programs.{insns_in, IsLaidOut};
 
     ghost Value = { List Insn };
 
     ghost view = { λ p. insns_in p.slots.items };
 
-    ghost invariant = { λ p. IsLaidOut p.slots.items };
+    ghost invariant = { λ p. IsLaidOut p.slots.items × (p.image.items ≡ image_of (insns_in p.slots.items)) };
 }
 
 /// Why instructions are no program.
@@ -105,6 +109,16 @@ fn find(slots: &[Option<Insn>], slot: usize) -> Option<&Insn>
     }
 }
 
+/// The program with these instructions, which take so many slots.
+fn with_image(alloc: Global, insns: &[Insn], count: usize) -> Result<Program, AllocError>
+    requires { IsProgram insns.now }
+    ensures { IfOk result (λ p. p ≡ insns.now) }
+{
+    let slots = lay_out(alloc, insns, count)?;
+    let image = spell_slots(alloc, &slots)?;
+    Ok(Program { slots, image })
+}
+
 /// The program with these instructions. A refusal hands them back; `Memory` comes last.
 pub fn program_of(alloc: Global, insns: Vec<Insn>) -> Result<Program, (Vec<Insn>, ProgramError)>
     ensures program { IfOk result (λ p. (p ≡ insns.items) × IsProgram p) }
@@ -117,8 +131,8 @@ pub fn program_of(alloc: Global, insns: Vec<Insn>) -> Result<Program, (Vec<Insn>
     let Some(count) = count_slots(&insns) else {
         return Err((insns, ProgramError::TooLong));
     };
-    match lay_out(alloc, &insns, count) {
-        Ok(slots) => Ok(Program { slots }),
+    match with_image(alloc, &insns, count) {
+        Ok(program) => Ok(program),
         Err(_) => Err((insns, ProgramError::Memory)),
     }
 }
@@ -127,7 +141,7 @@ impl Program {
     ghost use Rattle.std.specs.Prelude.{◌≡◌};
     ghost use Rattle.std.specs.Prelude.{IfOk, IfSome, IsSome, IsTrue, ◌↔◌, ◌+◌, ◌≤◌, option_map};
     ghost use Rattle.bpf_insn.specs.Encoding.{slots_taken};
-    ghost use Rattle.bpf_insn.specs.Programs.{insn_at, slots_of, IsProgram};
+    ghost use Rattle.bpf_insn.specs.Programs.{image_of, insn_at, slots_of, IsProgram};
 
     /// The number of its slots: a wide instruction has two.
     #[inline(always)]
@@ -159,11 +173,20 @@ impl Program {
         find(&self.slots, slot as usize)
     }
 
-    /// Whether the other program has the same instructions.
+    /// Its image, as [`encode`](crate::encode) gives it.
+    pub fn image(&self) -> &[u8]
+        ensures image { result.now ≡ image_of self.now }
+        ensures program { IsProgram self.now }
+    {
+        &self.image
+    }
+
+    /// Whether the other program has the same instructions. Images are compared.
     pub fn same(&self, other: &Program) -> bool
         ensures { IsTrue result ↔ (self.now ≡ other.now) }
     {
-        same_slots(&self.slots, &other.slots)
+        let same = self.image() == other.image();
+        same
     }
 
     /// A program with the same instructions. Fails only for want of memory.
@@ -172,6 +195,7 @@ impl Program {
     {
         Ok(Program {
             slots: Vec::from_slice(alloc, &self.slots)?,
+            image: Vec::from_slice(alloc, &self.image)?,
         })
     }
 }

@@ -1,13 +1,9 @@
 -- What is told of a program is told once.
 use Rattle.std.proofs.Common.{◌≡◌, ℕ, suc, ◌≤◌, List, inl, inr, arith, refl}
 use Rattle.std.proofs.lemmas.Bool.{cases_lt}
-use Rattle.std.specs.Bool.{Decides, IsTrue}
-use Rattle.std.specs.Prelude.{◌↔◌, Bool, true, false}
-use Rattle.std.proofs.Common.{sym, ap, ◌∙◌}
 use Rattle.node_env.specs.Env.{Extent}
 use Rattle.bpf_insn.specs.declared.forms.Insn.{Insn}
-use Rattle.bpf_insn.specs.Programs.{IsProgram, image_of, slots_of}
-use Rattle.bpf_insn.proofs.ImageLaws.{image_once}
+use Rattle.bpf_insn.specs.Programs.{slots_of}
 use Rattle.bpf_verify.specs.Typable.{TypableBelow, Typable}
 use Rattle.bpf_verify.specs.Paths.{IsLongestPath}
 use Rattle.bpf_verify.specs.Accepted.{IsFirstBroken, IsRefusal}
@@ -57,16 +53,3 @@ one_longest program count other p q =
     let a = q.most p.reached.0 p.reached.1 p.reached.3 in
     let b = p.most q.reached.0 q.reached.1 q.reached.3 in
     omega (arith, a, b, p.reached.2, q.reached.2)
-
--- programs in the ranges of their types are the same where their images are
-same_image : (left right : List Insn) → IsProgram left → IsProgram right → image_of left ≡ image_of right → left ≡ right
-same_image left right p q e = image_once left right p.in_range q.in_range e
-
--- what a comparison of two images tells of their programs
-pub told_by_images : (r : Bool) (xs ys : List ℕ) (left right : List Insn) → Decides r (xs ≡ ys) → xs ≡ image_of left
-    → ys ≡ image_of right
-    → IsProgram left → IsProgram right → IsTrue r ↔ (left ≡ right)
-told_by_images true xs ys left right d m t p q =
-    ((λ told. same_image left right p q (sym m ∙ d.0 refl ∙ t)), (λ same. grind arith))
-told_by_images false xs ys left right d m t p q =
-    ((λ told. grind (arith, told)), (λ same. grind (arith, d.1 (m ∙ ap image_of same ∙ sym t))))

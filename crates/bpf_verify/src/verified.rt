@@ -9,7 +9,7 @@ ghost use Rattle.bpf_verify.specs.Paths.{IsLongestPath};
 use crate::longest::longest;
 use crate::refusal::VerifyError;
 use crate::walk::walk;
-use bpf_insn::{Program, encode};
+use bpf_insn::Program;
 use bpf_record::{Record, records_of};
 use node_env::Shape;
 use std::alloc::{AllocError, Global};
@@ -20,16 +20,15 @@ use std::sync::Arc;
 /// and `copy` make one, and copies share their instructions and records.
 #[derive(Drop)]
 pub struct VerifiedProgram {
-    shared: Arc<Imaged, Global>,
+    shared: Arc<Recorded, Global>,
     shape: Shape,
     budget: u32,
 }
 
-/// A program with its image, by which it is compared, and its records, by which it is run.
+/// A program with its records, by which it is run.
 #[derive(Drop)]
-struct Imaged {
+struct Recorded {
     program: Program,
-    image: Vec<u8>,
     records: Vec<Record>,
 }
 
@@ -38,11 +37,11 @@ impl Model for VerifiedProgram {
 
     ghost Value = { Accepted };
 
-    ghost use Rattle.bpf_verify.specs.inner.VerifiedParts.{accepted_of, HasImage, HasRecords};
+    ghost use Rattle.bpf_verify.specs.inner.VerifiedParts.{accepted_of, HasRecords};
 
     ghost view = { accepted_of };
 
-    ghost invariant = { λ v. IsVerified (accepted_of v) × HasImage v × HasRecords v };
+    ghost invariant = { λ v. IsVerified (accepted_of v) × HasRecords v };
 }
 
 /// The announced count of a program that would be accepted, with no accepted program made: the verdict alone. It refuses
@@ -93,12 +92,11 @@ fn accepted(
     ensures accepted { IfOk result (λ v. (v.program ≡ program.now) × (v.shape ≡ shape)) }
     ensures longest { IfOk result (λ v. IsLongestPath program.now v.budget) }
 {
-    let imaged = Imaged {
-        image: encode(alloc, program)?,
+    let recorded = Recorded {
         records: records_of(alloc, program)?,
         program: program.copy(alloc)?,
     };
-    let Ok(shared) = Arc::new(alloc, imaged) else {
+    let Ok(shared) = Arc::new(alloc, recorded) else {
         return Err(AllocError);
     };
     Ok(VerifiedProgram {
@@ -135,7 +133,7 @@ impl VerifiedProgram {
         ensures value { result.now ≡ self.now.program }
         ensures verified { IsVerified self.now }
     {
-        let shared: &Imaged = &self.shared;
+        let shared: &Recorded = &self.shared;
         &shared.program
     }
 
@@ -145,19 +143,8 @@ impl VerifiedProgram {
         ensures records { AreRecords self.now.program result.now }
         ensures verified { IsVerified self.now }
     {
-        let shared: &Imaged = &self.shared;
+        let shared: &Recorded = &self.shared;
         &shared.records
-    }
-
-    /// Whether the programs' images are equal.
-    #[tactic(auto, using(crate::proofs::VerdictLaws::told_by_images))]
-    fn same_image(&self, other: &VerifiedProgram) -> bool
-        ensures { IsTrue result ↔ (self.now.program ≡ other.now.program) }
-    {
-        let mine: &Imaged = &self.shared;
-        let theirs: &Imaged = &other.shared;
-        let same = mine.image.as_slice() == theirs.image.as_slice();
-        same
     }
 
     /// Whether the other is the same program, accepted for the same shape: then its budget is the same too. Images are
@@ -167,8 +154,8 @@ impl VerifiedProgram {
         ensures parts { IsTrue result ↔ ((self.now.program ≡ other.now.program) × (self.now.shape ≡ other.now.shape)) }
         ensures equal { IsTrue result ↔ (self.now ≡ other.now) }
     {
-        let (_mine, _theirs) = (self.program(), other.program());
-        let same = self.shape() == other.shape() && self.same_image(other);
+        let (mine, theirs) = (self.program(), other.program());
+        let same = self.shape() == other.shape() && mine.same(theirs);
         same
     }
 

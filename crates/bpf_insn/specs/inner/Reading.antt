@@ -16,14 +16,7 @@ use Rattle.bpf_insn.specs.declared.forms.MovsxKind.{MovsxKind}
 use Rattle.bpf_insn.specs.declared.forms.MovsxKind.TheVariants as kinds
 use Rattle.bpf_insn.specs.declared.forms.SwapBits.{SwapBits}
 use Rattle.bpf_insn.specs.declared.forms.SwapBits.TheVariants as swaps
-use Rattle.bpf_insn.specs.declared.forms.Cond.{Cond}
-use Rattle.bpf_insn.specs.declared.forms.Cond.TheVariants as conds
-use Rattle.bpf_insn.specs.declared.forms.Size.{Size}
-use Rattle.bpf_insn.specs.declared.forms.Size.TheVariants as sizes
-use Rattle.bpf_insn.specs.declared.forms.SxSize.{SxSize}
-use Rattle.bpf_insn.specs.declared.forms.SxSize.TheVariants as sx_sizes
 use Rattle.bpf_insn.specs.declared.forms.Order.{Order}
-use Rattle.bpf_insn.specs.declared.forms.Order.TheVariants as orders
 use Rattle.bpf_insn.specs.declared.opcode.AluCode.{AluCode}
 use Rattle.bpf_insn.specs.declared.opcode.AluCode.TheVariants.{Add, Sub, Mul, Div, Or, And, Lsh, Rsh, Mod, Xor, Mov}
 use Rattle.bpf_insn.specs.declared.opcode.AluCode.TheVariants.{Arsh}

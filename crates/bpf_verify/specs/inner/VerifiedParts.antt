@@ -1,7 +1,5 @@
 -- An accepted program, from its parts.
-use Rattle.std.specs.Prelude.{◌≡◌}
 use Rattle.std.specs.Arc.{arc_value}
-use Rattle.bpf_insn.specs.Programs.{image_of}
 use Rattle.bpf_verify.specs.declared.verified.VerifiedProgram.TheInside.{Inside}
 use Rattle.bpf_verify.specs.Accepted.{Accepted}
 use Rattle.bpf_record.specs.Records.{AreRecords}
@@ -9,10 +7,6 @@ use Rattle.bpf_record.specs.Records.{AreRecords}
 abbrev pub accepted_of : Inside → Accepted
 accepted_of v = record { program = (arc_value v.shared).program; shape = v.shape; budget = v.budget }
 
--- beside the program stands its image
-abbrev pub HasImage : Inside → Type 0
-HasImage v = (arc_value v.shared).image.items ≡ image_of (arc_value v.shared).program
-
--- and its records
+-- beside the program stand its records
 abbrev pub HasRecords : Inside → Type 0
 HasRecords v = AreRecords (arc_value v.shared).program (arc_value v.shared).records.items

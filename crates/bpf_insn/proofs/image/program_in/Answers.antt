@@ -6,11 +6,14 @@ use Rattle.bpf_insn.proofs.image.program_in.Goals as goal
 
 pub invariant_of-result : goal.invariant_of-result
 invariant_of-result c =
-    let read = c.in_ok-slots_in.ensures.program in
-    is_laid_out read.0 c.in_ok-slots_in.field-0.items read.1 read.3
+    let read = c.in_ok-slots.ensures.program in
+    let same = ap insns_in read.3 ∙ insns_in-layout read.0 in (
+      is_laid_out read.0 c.in_ok-slots.slots.items read.1 read.3,
+      c.in-Ok.ensures.items ∙ (read.2 ∙ ap image_of (sym same)),
+    )
 
 pub returns-clause-program : goal.returns-clause-program
 returns-clause-program c =
-    let read = c.in_ok-slots_in.ensures.program in
+    let read = c.in_ok-slots.ensures.program in
     let same = ap insns_in read.3 ∙ insns_in-layout read.0 in
     (rw same read.1, read.2 ∙ ap image_of (sym same))

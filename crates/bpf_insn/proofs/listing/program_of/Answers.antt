@@ -6,8 +6,7 @@ use Rattle.std.proofs.lemmas.Bool.{eqb-false}
 use Rattle.bpf_insn.specs.declared.listing.TheConstants.{MAX_SLOTS}
 use Rattle.bpf_insn.specs.Encoding.{InRange}
 use Rattle.bpf_insn.specs.Programs.{IsProgram, slots_of}
-use Rattle.bpf_insn.specs.inner.Programs.{layout, insns_in}
-use Rattle.bpf_insn.proofs.LayoutLaws.{insns_in-layout, is_laid_out, is_program}
+use Rattle.bpf_insn.proofs.LayoutLaws.{is_program}
 use Rattle.bpf_insn.proofs.listing.program_of.Goals as goal
 use Rattle.bpf_insn.proofs.listing.program_of.Goals.{In-Some}
 
@@ -19,14 +18,12 @@ is_one c =
     (λ none. eqb-false (vec_len c.args.insns) 0 (sym c.if-is_empty.ensures) (c.args.insns.ok.0 ∙ ap length none))
     (subst (λ (p : List Insn). slots_of p ≤ MAX_SLOTS) value (omega (arith, c.in-Some.ensures.some)))
 
-pub invariant_of-result : goal.invariant_of-result
-invariant_of-result c =
-    is_laid_out c.args.insns.items c.in-Ok.slots.items (is_one (goal.at.invariant_of-result c).In-Some)
-    (c.in-Ok.ensures ∙ ap layout c.deref-2.ensures.value)
+pub with_image-requires : goal.with_image-requires
+with_image-requires c = rw c.deref-2.ensures.value (is_one (goal.at.with_image-requires c).In-Some)
 
 pub returns-in-Ok-clause-program : goal.returns-in-Ok-clause-program
 returns-in-Ok-clause-program c =
-    let same = ap insns_in (c.in-Ok.ensures ∙ ap layout c.deref-2.ensures.value) ∙ insns_in-layout c.args.insns.items in
+    let same = c.in-Ok.ensures ∙ c.deref-2.ensures.value in
     (same, rw same (is_one (goal.at.returns-in-Ok-clause-program c).In-Some))
 
 pub returns-in-Err-clause-refusal : goal.returns-in-Err-clause-refusal

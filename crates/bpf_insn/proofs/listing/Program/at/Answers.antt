@@ -9,7 +9,7 @@ use Rattle.bpf_insn.proofs.listing.Program.at.Goals as goal
 pub returns-clause-found : goal.returns-clause-found
 returns-clause-found c =
     c.find.ensures ∙ ap (λ (s : List (Option Insn)). inner (slice_get s c.args.slot)) c.deref.ensures.value
-    ∙ slot_is c.self.inside.slots.items c.args.slot c.self.invariant
+    ∙ slot_is c.self.inside.slots.items c.args.slot c.self.invariant.0
     ∙ ap (λ (p : List Insn). insn_at p c.args.slot) c.self.view_is
 
 pub returns-clause-within : goal.returns-clause-within
@@ -17,4 +17,4 @@ returns-clause-within c = mapped_within (λ insn. insn.now) c.find.result c.args
     (returns-clause-found c)
 
 pub returns-clause-program : goal.returns-clause-program
-returns-clause-program c = subst IsProgram c.self.view_is c.self.invariant.program
+returns-clause-program c = subst IsProgram c.self.view_is c.self.invariant.0.program

@@ -10,16 +10,16 @@ pub overflow_cast-result : goal.overflow_cast-result
 overflow_cast-result c =
     omega (
       arith,
-      slot_total c.self.inside.slots.items c.self.invariant,
-      c.self.invariant.program.few_slots,
+      slot_total c.self.inside.slots.items c.self.invariant.0,
+      c.self.invariant.0.program.few_slots,
       c.self.inside.slots.ok.0,
     )
 
 pub returns-clause-count : goal.returns-clause-count
 returns-clause-count c =
-    c.len.ensures ∙ c.self.inside.slots.ok.0 ∙ slot_total c.self.inside.slots.items c.self.invariant
+    c.len.ensures ∙ c.self.inside.slots.ok.0 ∙ slot_total c.self.inside.slots.items c.self.invariant.0
     ∙ ap slots_of c.self.view_is
 
 pub returns-clause-first : goal.returns-clause-first
 returns-clause-first c = subst (λ (p : List Insn). IsSome (insn_at p 0)) c.self.view_is
-    (first_slot (insns_in c.self.inside.slots.items) c.self.invariant.program)
+    (first_slot (insns_in c.self.inside.slots.items) c.self.invariant.0.program)
