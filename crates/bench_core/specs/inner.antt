@@ -1,5 +1,4 @@
 -- What proofs and private contracts alone cite.
-pub mod ClockImages
 pub mod Found
 pub mod Kept
 pub mod Nodes
