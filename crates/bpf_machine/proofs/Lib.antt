@@ -9,6 +9,7 @@ pub mod TrapTable
 pub mod Stuck
 pub mod OneRun
 pub mod RunSteps
+pub mod GoesOn
 pub mod SoundParts
 pub mod SoundLaws
 pub mod Ends

@@ -13,9 +13,8 @@ mod word;
 pub use bytes::{number_in, put_number};
 pub use laws::{leaves_sound, one_run, runs_compose, stays_sound, stuck_by_traps};
 pub use node_env::Region;
-pub use run::run_checked;
+pub use run::{run_checked, step};
 pub use state::State;
-pub use turn::step;
 pub use word::{Outcome, TrapKind, Turn, Word};
 
 #[cfg(test)]

@@ -7,7 +7,6 @@ ghost use Rattle.bpf_insn.specs.Encoding.{slots_taken};
 ghost use Rattle.bpf_machine.specs.Machine.{state_of};
 ghost use Rattle.bpf_machine.specs.Step.{advance, begins, next_slot, result_of_exit, step};
 ghost use Rattle.bpf_machine.specs.inner.Parts.{Comes, Does, jump};
-ghost use Rattle.bpf_machine.specs.Run.{Turns};
 
 use crate::alu::{alu, load_immediate, movsx, neg, swap};
 use crate::bytes::{load, load_extended, store_immediate, store_register};
@@ -187,8 +186,9 @@ fn result_of_exit(state: &State) -> Result<u64, TrapKind>
     number(word, TrapKind::ExitNotNumber)
 }
 
+/// What the instruction at the state's slot does. At the end of the run and at a trap nothing changes.
 #[inline(always)]
-fn turn(
+pub(crate) fn turn(
     program: &Program,
     env: &Env,
     state: &mut State,
@@ -212,22 +212,4 @@ fn turn(
             Err(kind) => Turn::Trap(kind),
         },
     }
-}
-
-/// Runs the instruction at the state's slot. At the end of the run and at a trap nothing changes.
-/// `memory` is the node's, and `outbox` has a slot for each node.
-pub fn step(
-    program: &Program,
-    env: &Env,
-    state: &mut State,
-    memory: &mut [u8],
-    outbox: &mut Outbox,
-) -> Turn
-    requires memory { length memory.old ≡ env.now.shape.memory }
-    requires nodes { outbox.old.nodes ≡ env.now.shape.nodes }
-    ensures turns { Turns program.now env.now (state_of state.old memory.old outbox.old.sent)
-        (state_of state.new memory.new outbox.new.sent) result }
-    ensures nodes { outbox.new.nodes ≡ outbox.old.nodes }
-{
-    turn(program, env, state, memory, outbox)
 }

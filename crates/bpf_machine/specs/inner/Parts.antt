@@ -1,5 +1,5 @@
 -- What the parts of the interpreter give.
-use Rattle.std.specs.Prelude.{◌≡◌, ◌≤◌, ◌+◌, ℕ, ℤ, List, Result, Ok, Err}
+use Rattle.std.specs.Prelude.{◌≡◌, ◌<◌, ◌≤◌, ◌+◌, ℕ, ℤ, List, Result, Ok, Err}
 use Rattle.node_env.specs.declared.region.TheConstants.{STACK_BYTES}
 use Rattle.node_env.specs.Env.{Setting}
 use Rattle.node_env.specs.declared.region.Region.{Region}
@@ -12,6 +12,7 @@ use Rattle.bpf_machine.specs.declared.word.TrapKind.TheVariants.{BadJump}
 use Rattle.bpf_machine.specs.declared.word.Turn.{Turn}
 use Rattle.bpf_machine.specs.declared.word.Turn.TheVariants as turn
 use Rattle.bpf_machine.specs.Machine.{MachineState, Phase, Running, Ended}
+use Rattle.bpf_machine.specs.Run.{Leads, Turns}
 use Rattle.bpf_machine.specs.Step.{◌>>=◌, Bytes, begins, needed, place, stored}
 
 -- a part that goes on has made what is given, and one that traps has changed nothing
@@ -24,6 +25,16 @@ abbrev pub Comes : Result Phase TrapKind → MachineState → MachineState → T
 Comes given old new turn.Next = given ≡ Ok (Running new)
 Comes given old new (turn.Ended r0) = (given ≡ Ok (Ended old.memory old.sent r0)) × (new ≡ old)
 Comes given old new (turn.Trap trap) = (given ≡ Err trap) × (new ≡ old)
+
+-- a run that goes on from a state with that much fuel: that many steps lead to the new one, which is the state where
+-- the fuel ran out, or else that in which it ends or is stuck
+abbrev pub WentOn : List Insn → Setting → ℕ → MachineState → MachineState → ℕ → Turn → Type 0
+WentOn program env fuel old new taken turn.Next =
+    (taken ≡ fuel) × Leads program env taken (Running old) (Running new)
+WentOn program env fuel old new taken (turn.Ended r0) =
+    (taken < fuel) × Leads program env taken (Running old) (Running new) × Turns program env new new (turn.Ended r0)
+WentOn program env fuel old new taken (turn.Trap kind) =
+    (taken < fuel) × Leads program env taken (Running old) (Running new) × Turns program env new new (turn.Trap kind)
 
 -- a region, where there is that much memory, has this many bytes
 abbrev pub HasBytes : ℕ → Region → ℕ → Type 0
