@@ -4,6 +4,7 @@ mod EventLemmas
 mod FitLemmas
 mod InStepLemmas
 mod ListLemmas
+mod RowLemmas
 pub mod RunLemmas
 mod StreamLemmas
 mod VerdictLaws

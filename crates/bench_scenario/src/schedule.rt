@@ -1,8 +1,10 @@
-//! The events of a scenario.
-ghost use Rattle.std.specs.Prelude.{◌≡◌, ◌++◌, ◌≤◌, IfOk, OnOk, flat_map, map};
-ghost use Rattle.bench_engine.specs.Events.{event_of};
-ghost use Rattle.bench_scenario.specs.Coins.{keyed};
-ghost use Rattle.bench_scenario.specs.Events.{changes_at, corrupt_events, events_at, events_of, load_events, unload_events};
+//! The events of a scenario. Each change is put once into the row of its pulse, and then the rows are joined.
+
+ghost use Rattle.std.specs.Prelude.{◌≡◌, ◌++◌, ◌∷◌, [], ℕ, ◌≤◌, IfOk, OnOk, flat_map, get_or, length, map};
+ghost use Rattle.bench_engine.specs.Events.{Pulse, event_of};
+ghost use Rattle.bench_scenario.specs.Coins.{coins_of, keyed};
+ghost use Rattle.bench_scenario.specs.Events.{corrupt_events, events_of, load_events, unload_events};
+ghost use Rattle.bench_scenario.specs.inner.Rows.{AreChanges, Grew, of_pulse, told};
 
 use crate::coins::coins_of;
 use bench_core::Change;
@@ -10,102 +12,113 @@ use bench_engine::Event;
 use scenario_text::{Corrupt, Load, Scenario, Unload};
 use std::alloc::{AllocError, Global};
 
-fn add_load(
-    alloc: Global,
-    events: &mut Vec<Event>,
-    load: &Load,
-    pulse: u32,
-) -> Result<(), AllocError>
-    ensures { OnOk result (map event_of events.new.items ≡ map event_of events.old.items
-        ++ load_events pulse load.now) }
+/// Puts an event at the end of the row of this pulse. There is no row of pulse 0, and none past the last.
+fn put(rows: &mut Vec<Vec<Event>>, pulse: u32, event: Event) -> Result<(), AllocError>
+    ensures { OnOk result (Grew (told (λ r. r.items) rows.old.items) (told (λ r. r.items) rows.new.items)
+        (of_pulse pulse (event_of event ∷ []))) }
 {
-    if load.pulse != pulse {
+    if pulse == 0 {
         return Ok(());
     }
+    let place = (pulse - 1) as usize;
+    if place >= rows.len() {
+        return Ok(());
+    }
+    let row = &mut rows[place];
+    row.push(event)?;
+    Ok(())
+}
+
+fn put_load(rows: &mut Vec<Vec<Event>>, load: &Load) -> Result<(), AllocError>
+    ensures { OnOk result (Grew (told (λ r. r.items) rows.old.items) (told (λ r. r.items) rows.new.items)
+        (λ p. load_events p load.now)) }
+{
     for node in &load.nodes {
         let program = load.program.copy()?;
-        events.push(Event::Stage(Change::Load {
+        let change = Change::Load {
             node: *node,
             program,
-        }))?;
+        };
+        put(rows, load.pulse, Event::Stage(change))?;
     }
     Ok(())
 }
 
-fn add_loads(
-    alloc: Global,
-    events: &mut Vec<Event>,
-    loads: &[Load],
-    pulse: u32,
-) -> Result<(), AllocError>
-    ensures { OnOk result (map event_of events.new.items ≡ map event_of events.old.items
-        ++ flat_map (load_events pulse) loads.now) }
+fn put_loads(rows: &mut Vec<Vec<Event>>, loads: &[Load]) -> Result<(), AllocError>
+    ensures { OnOk result (Grew (told (λ r. r.items) rows.old.items) (told (λ r. r.items) rows.new.items)
+        (λ p. flat_map (load_events p) loads.now)) }
 {
     for load in loads {
-        add_load(alloc, events, load, pulse)?;
+        put_load(rows, load)?;
     }
     Ok(())
 }
 
-fn add_unloads(events: &mut Vec<Event>, unloads: &[Unload], pulse: u32) -> Result<(), AllocError>
-    ensures { OnOk result (map event_of events.new.items ≡ map event_of events.old.items
-        ++ flat_map (unload_events pulse) unloads.now) }
+fn put_unloads(rows: &mut Vec<Vec<Event>>, unloads: &[Unload]) -> Result<(), AllocError>
+    ensures { OnOk result (Grew (told (λ r. r.items) rows.old.items) (told (λ r. r.items) rows.new.items)
+        (λ p. flat_map (unload_events p) unloads.now)) }
 {
     for unload in unloads {
-        if unload.pulse == pulse {
-            events.push(Event::Stage(Change::Unload { node: unload.node }))?;
-        }
+        let change = Change::Unload { node: unload.node };
+        put(rows, unload.pulse, Event::Stage(change))?;
     }
     Ok(())
 }
 
-fn add_corruptions(
+fn put_corruptions(
     alloc: Global,
-    events: &mut Vec<Event>,
+    rows: &mut Vec<Vec<Event>>,
     corruptions: &[Corrupt],
-    pulse: u32,
 ) -> Result<(), AllocError>
-    ensures { OnOk result (map event_of events.new.items ≡ map event_of events.old.items
-        ++ flat_map (corrupt_events pulse) corruptions.now) }
+    ensures { OnOk result (Grew (told (λ r. r.items) rows.old.items) (told (λ r. r.items) rows.new.items)
+        (λ p. flat_map (corrupt_events p) corruptions.now)) }
 {
     for corruption in corruptions {
-        if corruption.pulse == pulse {
-            let image = Vec::from_slice(alloc, &corruption.image)?;
-            events.push(Event::Stage(Change::Corrupt {
-                node: corruption.node,
-                image,
-            }))?;
-        }
+        let image = Vec::from_slice(alloc, &corruption.image)?;
+        let change = Change::Corrupt {
+            node: corruption.node,
+            image,
+        };
+        put(rows, corruption.pulse, Event::Stage(change))?;
     }
     Ok(())
 }
 
-fn add_changes(
-    alloc: Global,
-    events: &mut Vec<Event>,
-    scenario: &Scenario,
-    pulse: u32,
-) -> Result<(), AllocError>
-    ensures { OnOk result (map event_of events.new.items ≡ map event_of events.old.items
-        ++ changes_at scenario.now pulse) }
+fn empty_rows(alloc: Global, pulses: u32) -> Result<Vec<Vec<Event>>, AllocError>
+    ensures count { IfOk result (λ rows. length (told (λ r. r.items) rows.items) ≡ pulses) }
+    ensures none { IfOk result (λ rows. (k : ℕ) → get_or (told (λ r. r.items) rows.items) k [] ≡ []) }
 {
-    add_loads(alloc, events, scenario.loads.as_slice(), pulse)?;
-    add_unloads(events, scenario.unloads.as_slice(), pulse)?;
-    add_corruptions(alloc, events, scenario.corruptions.as_slice(), pulse)
+    let mut rows = Vec::new(alloc);
+    for _pulse in 0..pulses {
+        rows.push(Vec::new(alloc))?;
+    }
+    Ok(rows)
+}
+
+/// What is staged before each pulse: its loads, unloads and corruptions, each in order.
+fn changes(alloc: Global, scenario: &Scenario) -> Result<Vec<Vec<Event>>, AllocError>
+    ensures { IfOk result (λ rows. AreChanges scenario.now (told (λ r. r.items) rows.items) 0) }
+{
+    let mut rows = empty_rows(alloc, scenario.pulses)?;
+    put_loads(&mut rows, scenario.loads.as_slice())?;
+    put_unloads(&mut rows, scenario.unloads.as_slice())?;
+    put_corruptions(alloc, &mut rows, scenario.corruptions.as_slice())?;
+    Ok(rows)
 }
 
 fn add_events(
     alloc: Global,
     events: &mut Vec<Event>,
+    row: &mut Vec<Event>,
     scenario: &Scenario,
     key: u64,
     pulse: u32,
 ) -> Result<(), AllocError>
     requires { 1 ≤ pulse }
     ensures { OnOk result (map event_of events.new.items ≡ map event_of events.old.items
-        ++ events_at (keyed scenario.now key) pulse) }
+        ++ (map event_of row.old.items ++ Pulse (coins_of (keyed scenario.now key) pulse) ∷ [])) }
 {
-    add_changes(alloc, events, scenario, pulse)?;
+    events.append(row)?;
     let coins = coins_of(alloc, scenario, key, pulse)?;
     events.push(Event::Pulse(coins))?;
     Ok(())
@@ -127,9 +140,11 @@ pub(crate) fn events_with_key(
 ) -> Result<Vec<Event>, AllocError>
     ensures { IfOk result (λ es. map event_of es.items ≡ events_of (keyed scenario.now key)) }
 {
+    let mut rows = changes(alloc, scenario)?;
     let mut events = Vec::new(alloc);
     for before in 0..scenario.pulses {
-        add_events(alloc, &mut events, scenario, key, before + 1)?;
+        let row = &mut rows[before as usize];
+        add_events(alloc, &mut events, row, scenario, key, before + 1)?;
     }
     Ok(events)
 }
