@@ -29,7 +29,8 @@ OwnAgrees = (modulus : ℕ) (r : PulseTold) (verdict : Bool) → agreement true 
 -- a clock counts exactly where all nodes that are settled in both pulses went on by one, and none did where none stayed
 abbrev pub Counts : Type 0
 Counts = (modulus : ℕ) (before after : PulseTold) (verdict : Bool)
-    → counting modulus (settled_in before) (settled_in after) ≡ Some verdict → (IsTrue verdict ↔ AllCount modulus before after)
+    → counting modulus (settled_in before) (settled_in after) ≡ Some verdict
+    → (IsTrue verdict ↔ AllCount modulus before after)
 
 abbrev pub CountsNothing : Type 0
 CountsNothing = (modulus : ℕ) (before after : PulseTold)

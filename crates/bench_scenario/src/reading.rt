@@ -23,7 +23,8 @@ pub enum TextFault {
 /// calls of `read`.
 pub fn read_scenario<R: Read>(alloc: Global, reader: &mut R) -> Result<Scenario, TextFault>
     ensures taken { TakesAtMost MOST_BYTES (R.remaining reader.old) (R.remaining reader.new) }
-    ensures scenario { IfSome (R.remaining reader.old) (λ text. MatchResult result (ReadsText text) (IsDueOfText text)) }
+    ensures scenario { IfSome (R.remaining reader.old)
+        (λ text. MatchResult result (ReadsText text) (IsDueOfText text)) }
     ensures reads { IfOk result (λ s. (text : List ℕ) × ReadsText text s) }
 {
     let bytes = match read_at_most(alloc, reader, MOST_BYTES, MOST_CALLS) {

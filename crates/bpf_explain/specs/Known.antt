@@ -55,7 +55,8 @@ written_fact first end (Some byte) = facts.MayLack byte
 -- the double word that is taken whole is of a kind; where nothing is known of it, whether its bytes are written
 abbrev pub taken_fact : AbstractState → ℕ → ℕ → Bool → Fact
 taken_fact A first end whole = if whole && not (is_unset_kind (A.entries (dword_of first)))
-    then facts.Holds first (end - 1) (A.entries (dword_of first)) else written_fact first end (first_unwritten A first end)
+    then facts.Holds first (end - 1) (A.entries (dword_of first))
+    else written_fact first end (first_unwritten A first end)
 
 abbrev pub taken_facts : AbstractState → Bool → Option (ℕ × ℕ) → List Fact
 taken_facts A whole None = []

@@ -74,8 +74,8 @@ pointer_operand A dst (operand.Reg src) = if is_pointer_kind (kind_of A src) the
 
 abbrev pub place_text : Extent → Region → ℕ → List ℕ
 place_text shape region place = codes "the place may be "
-    ++ (decimal place ++ (codes ", and the " ++ (region_word region ++ (codes " has " ++ (decimal (region_size shape region)
-    ++ codes " bytes")))))
+    ++ (decimal place ++ (codes ", and the " ++ (region_word region
+    ++ (codes " has " ++ (decimal (region_size shape region) ++ codes " bytes")))))
 
 -- by what comes of an operation: a pointer that may be moved too far, or none
 abbrev pub result_text : Extent → Reg → Kind → List ℕ

@@ -23,7 +23,8 @@ line_part (Some line) = codes "line " ++ (decimal line ++ codes " ")
 -- the instruction at a slot, with its line where there is one
 abbrev pub row_text : Option ℕ → ℕ → Insn → List Fact → List ℕ
 row_text line slot insn facts =
-    line_part line ++ (codes "slot " ++ (decimal slot ++ (codes " " ++ (canonical_line insn ++ (remark facts ++ codes "\n")))))
+    line_part line ++ (codes "slot " ++ (decimal slot
+    ++ (codes " " ++ (canonical_line insn ++ (remark facts ++ codes "\n")))))
 
 abbrev pub insns_in : Option Insn → List Insn
 insns_in None = []

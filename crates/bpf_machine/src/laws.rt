@@ -55,5 +55,6 @@ pub fn runs_compose()
 /// What a complete run leaves: memory of the shape's length, bytes, and numbers of 32 bits sent to nodes of the shape.
 pub fn leaves_sound()
     ensures { (program : List Insn) (env : Setting) (memory : List ℕ) (end : End) → IsProgram program → IsSetting env →
-        length memory ≡ env.shape.memory → All (λ byte. byte < 256) memory → CompleteRun program env memory end → IsSoundEnd env end }
+        length memory ≡ env.shape.memory → All (λ byte. byte < 256) memory → CompleteRun program env memory end →
+        IsSoundEnd env end }
 {}

@@ -44,8 +44,8 @@ impl Model for VerifiedProgram {
     ghost invariant = { λ v. IsVerified (accepted_of v) × HasRecords v };
 }
 
-/// The announced count of a program that would be accepted, with no accepted program made: the verdict alone. It refuses
-/// what [`verify`] refuses, and tells the same.
+/// The announced count of a program that would be accepted, with no accepted program made: the verdict alone. It
+/// refuses what [`verify`] refuses, and tells the same.
 #[tactic(auto, using(crate::proofs::VerdictLaws::typable_refusal))]
 pub fn judge(alloc: Global, program: &Program, shape: Shape) -> Result<u32, VerifyError>
     ensures typable { OnOk result (Typable program.now shape) }

@@ -40,7 +40,8 @@ abbrev pub LeavesLined : Bool → Option (List ℕ) → Option (List ℕ) → Sc
 LeavesLined check old new s span (Ok ending) =
     (agrees : Bool) × (ending ≡ lined_ending check agrees) × LeavesLines old new s span (Ok agrees)
 LeavesLined check old new s span (Err (faults.Write after)) = Breaks old new s span after
-LeavesLined check old new s span (Err faults.Memory) = Keeps old new ⊎ ((events : ℕ) × LeavesFront old new s span events)
+LeavesLined check old new s span (Err faults.Memory) =
+    Keeps old new ⊎ ((events : ℕ) × LeavesFront old new s span events)
 LeavesLined check old new s span (Err faults.Thread) =
     (event : ℕ) × IsFault (bench_of s) (events_of s) event NoThread × LeavesFront old new s span event
 LeavesLined check old new s span (Err (faults.CommandLine said)) =

@@ -23,8 +23,8 @@ pub const TEXT_BYTES: usize = 1 << 20;
 /// The most calls of `read`.
 pub const TEXT_CALLS: usize = 2 * TEXT_BYTES;
 
-/// Writes the image of the program that the text means that is read, or the text's listing, or the line that refuses it.
-/// A text of more than [`TEXT_BYTES`] is a fault of reading.
+/// Writes the image of the program that the text means that is read, or the text's listing, or the line that refuses
+/// it. A text of more than [`TEXT_BYTES`] is a fault of reading.
 pub fn asm<R: Read, W: Write>(
     alloc: Global,
     list: bool,

@@ -6,7 +6,8 @@ use Rattle.bench_scenario.specs.declared.summary.RunSummary.{RunSummary}
 
 -- the names of the fields, which are the first line
 abbrev pub names : List (List ℕ)
-names = codes "key" ∷ codes "agreed" ∷ codes "of" ∷ codes "first_disagreement" ∷ codes "in_step_since" ∷ codes "steps" ∷ []
+names =
+    codes "key" ∷ codes "agreed" ∷ codes "of" ∷ codes "first_disagreement" ∷ codes "in_step_since" ∷ codes "steps" ∷ []
 
 -- nothing is an empty field
 abbrev pub number_text : Option ℕ → List ℕ

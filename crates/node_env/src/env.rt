@@ -87,8 +87,8 @@ fn slot_fits(slot: Option<u32>)
     ensures { IsSlot slot }
 {}
 
-/// Says the same of each slot. It reads each: of a list of options no call brings what it doesn't read, as one of a list
-/// of bytes does.
+/// Says the same of each slot. It reads each: of a list of options no call brings what it doesn't read, as one of a
+/// list of bytes does.
 fn slots_fit(slots: &[Option<u32>])
     ensures { All IsSlot slots.now }
 {

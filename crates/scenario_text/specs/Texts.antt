@@ -19,8 +19,8 @@ IsDocument text members = (length text ≤ MAX_TEXT) × IsUtf8 text × (parse_do
 abbrev pub ReadsText : List ℕ → Scenario → Type 0
 ReadsText text s = (members : Members) × IsDocument text members × Reads members s
 
--- `TooLong` and `NotToml` are decided by the bytes, `NotAccepted` by a program of the document, and the other six by the
--- spelling. Want of memory is no refusal
+-- `TooLong` and `NotToml` are decided by the bytes, `NotAccepted` by a program of the document, and the other six by
+-- the spelling. Want of memory is no refusal
 abbrev pub IsDue : List ℕ → ScenarioError → Type 0
 IsDue text errors.TooLong = MAX_TEXT < length text
 IsDue text errors.NotToml = (length text ≤ MAX_TEXT) × (IsUtf8 text → parse_document text ≡ None)

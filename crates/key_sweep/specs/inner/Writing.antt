@@ -8,7 +8,8 @@ use Rattle.key_sweep.specs.declared.sweeping.SweepFault.TheVariants as faults
 -- the fault of a write, which left the front of these bytes, of which so many were written before
 abbrev pub IsFront : Option (List ℕ) → Option (List ℕ) → ℕ → List ℕ → SweepFault → Type 0
 IsFront old new before bytes (faults.Write written) =
-    (taken : ℕ) × (taken < length bytes) × (written ≡ min (before + taken) MOST_TOLD) × Appends old new (take taken bytes)
+    (taken : ℕ) × (taken < length bytes) × (written ≡ min (before + taken) MOST_TOLD)
+    × Appends old new (take taken bytes)
 IsFront old new before bytes faults.Read = ⊥
 IsFront old new before bytes (faults.Refused error) = ⊥
 IsFront old new before bytes faults.NoKey = ⊥
