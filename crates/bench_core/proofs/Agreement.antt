@@ -46,7 +46,8 @@ all_at m (x ∷ xs) (y ∷ ys) =
     (clocks_where m (settled_flags xs ys) ys) (all_at m xs ys) in
     cond_both (x.mark && y.mark) (value_of m y.memory ∷ clocks_where m (settled_flags xs ys) ys)
     (clocks_where m (settled_flags xs ys) ys) (All (At m (x ∷ xs) (y ∷ ys)))
-    (λ e. All-cons (At m (x ∷ xs) (y ∷ ys)) (value_of m y.memory) (clocks_where m (settled_flags xs ys) ys) (first e) rest)
+    (λ e. All-cons (At m (x ∷ xs) (y ∷ ys)) (value_of m y.memory) (clocks_where m (settled_flags xs ys) ys)
+    (first e) rest)
     (λ e. rest)
   where
     first : (x.mark && y.mark) ≡ true → At m (x ∷ xs) (y ∷ ys) (value_of m y.memory)
@@ -59,7 +60,8 @@ all_at m (x ∷ xs) (y ∷ ys) =
     }
 
 -- a clock that settled nodes have and that is not 0
-found_at : (s : Setup) (b b' : State) (c : ℕ) → Contains (moving_clocks s b b') c → At s.modulus b.nodes b'.nodes c × (c ≢ 0)
+found_at : (s : Setup) (b b' : State) (c : ℕ) → Contains (moving_clocks s b b') c
+    → At s.modulus b.nodes b'.nodes c × (c ≢ 0)
 found_at s b b' c h =
     let clocks = settled_clocks s b b' in
     let test = λ (n : ℕ). not (n == 0) in

@@ -208,7 +208,8 @@ pub closed_advances : (b b' : Inside) (row : Row) → IsKept b
     → Pulse (view_of b).setup (view_of b).state (closed_state (view_of b).state b'.nodes.items b'.mail)
     → row ≡ row_from b.rule.modulus (b.closed + 1) (settled_flags b.nodes.items b'.nodes.items) b'.nodes.items
     → b'.history.items ≡ b.history.items ++ Closed row ∷ []
-    → b'.shape ≡ b.shape → b'.rule ≡ b.rule → b'.clock ≡ b.clock → b'.closed ≡ b.closed + 1 → b'.staged_from ≡ b.staged_from
+    → b'.shape ≡ b.shape → b'.rule ≡ b.rule → b'.clock ≡ b.clock → b'.closed ≡ b.closed + 1
+    → b'.staged_from ≡ b.staged_from
     → b'.coins ≡ None
     → Advances (view_of b) (ClosedValue row) (view_of b')
 closed_advances b b' row kept pulse tells is shape rule clock closed from over =

@@ -39,7 +39,8 @@ took_more dones n d steps more among ends i within before =
       | inr other ↦
           let kept : get_or (slice_set steps d.task.node d.end.steps) i 0 ≡ get_or steps i 0 =
           get_or-set_other steps d.task.node i d.end.steps 0 other in
-          subst (TookIn dones (n + 1) i) (sym kept) (took_on dones n d i (get_or steps i 0) more (λ e. other (sym e)) before)
+          subst (TookIn dones (n + 1) i) (sym kept)
+          (took_on dones n d i (get_or steps i 0) more (λ e. other (sym e)) before)
     ]
 
 -- after all results

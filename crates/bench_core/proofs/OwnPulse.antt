@@ -47,8 +47,10 @@ only_its_own s b b' c c' i h g inbox coin lt below program memory =
     (λ (o : Option (List ℕ)). slice_index (unwrap_or o []) i) g.is_open in
     let same_coin : slice_index g.coins i ≡ slice_index h.coins i = sym gcoin ∙ (coin ∙ hcoin) in
     let same_env : setting_at s c.mail g.coins i ≡ env = ap
-    (λ (m : FinMap nat_cmp ℕ). let e : Setting = record { shape = s.shape; id = i; inbox = m; coin = slice_index g.coins i } in e) inbox
-    ∙ ap (λ (k : ℕ). let e : Setting = record { shape = s.shape; id = i; inbox = inbox_of i b.mail; coin = k } in e) same_coin in
+    (λ (m : FinMap nat_cmp ℕ). let e : Setting =
+    record { shape = s.shape; id = i; inbox = m; coin = slice_index g.coins i } in e) inbox
+    ∙ ap (λ (k : ℕ). let e : Setting = record { shape = s.shape; id = i; inbox = inbox_of i b.mail; coin = k } in e)
+    same_coin in
     let at_env = subst (λ (e : Setting). NodePulse s e z (node_at c'.nodes i) (mail_from c'.mail i)) same_env other in
     let at_program = subst (λ (o : Option Accepted). MatchOption o (Rests z (node_at c'.nodes i) (mail_from c'.mail i))
     (λ p. Runs s p env z (node_at c'.nodes i) (mail_from c'.mail i))) program at_env.1 in
@@ -69,7 +71,8 @@ only_its_own_for s i (suc k) b b' c c' same h =
     let both = h.6 in
     let program : (node_at z.nodes i).program ≡ (node_at x.nodes i).program = keep_z.0 ∙ (same.0 ∙ sym keep_x.0) in
     let memory : (node_at z.nodes i).memory ≡ (node_at x.nodes i).memory = keep_z.1 ∙ (same.1 ∙ sym keep_x.1) in
-    let next = only_its_own s x y z w i both.left both.right both.mail both.coin both.within both.below program memory in
+    let next = only_its_own s x y z w i both.left both.right both.mail both.coin both.within both.below program
+    memory in
     only_its_own_for s i k y b' w c'
     (ap (λ (n : Node). n.program) next.0, ap (λ (n : Node). n.memory) next.0) h.7
 
@@ -168,5 +171,6 @@ pair_moves_for s history b0 b b' group clock (suc k) ok own replay p count many 
     let rest = pair_moves_for s ((history ++ Closed (row_of s b0 b) ∷ []) ++ es) c mid b' group
     ((clock + 1) % s.modulus) k ok own replay_c q count many next rounds.5 in
     let number : ((clock + 1) % s.modulus + k) % s.modulus ≡ (clock + suc k) % s.modulus = mod-add-mod
-    (clock + 1) s.modulus k ∙ ap (λ (n : ℕ). n % s.modulus) (let e : clock + 1 + k ≡ clock + suc k = omega arith in e) in
+    (clock + 1) s.modulus k ∙ ap (λ (n : ℕ). n % s.modulus) (let e : clock + 1 + k ≡ clock + suc k =
+    omega arith in e) in
     subst (λ (n : ℕ). SharePair s group n b') number rest

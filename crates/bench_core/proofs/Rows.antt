@@ -58,7 +58,8 @@ run_weight s b (e ∷ es) b' h = omega (arith, step_weight s b e h.0 h.1, run_we
 
 pub clocks_small : (s : Setup) (b b' : State) → IsSetup s → Sound s b → Pulse s b b'
     → All (λ c. c < MOST_MODULUS) (settled_clocks s b b')
-clocks_small s b b' ok sound p = All-weaker (At s.modulus b.nodes b'.nodes) (λ c. c < MOST_MODULUS) small (settled_clocks s b b')
+clocks_small s b b' ok sound p = All-weaker (At s.modulus b.nodes b'.nodes) (λ c. c < MOST_MODULUS) small
+    (settled_clocks s b b')
     (all_at s.modulus b.nodes b'.nodes)
   where
     small : (c : ℕ) → At s.modulus b.nodes b'.nodes c → c < MOST_MODULUS
@@ -96,7 +97,13 @@ rows_fit s history b b' ok replay p room =
       last = omega (arith, p.closed, weighs, is_open, room);
       common = common_small (moving_clocks s b b')
           (All-filter (λ c. not (c == 0)) (λ c. c < MOST_MODULUS) clocks (clocks_small s b b' ok sound p));
-      zeros = omega (arith, count_by-le-length (λ c. c == 0) clocks, clocks_few s.modulus flags b'.nodes, few, ok.extent.few);
+      zeros = omega (
+        arith,
+        count_by-le-length (λ c. c == 0) clocks,
+        clocks_few s.modulus flags b'.nodes,
+        few,
+        ok.extent.few,
+      );
       settled = omega (arith, count_by-le-length (λ x. x) flags, few, ok.extent.few);
     }
 

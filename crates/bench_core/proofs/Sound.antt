@@ -104,12 +104,14 @@ pub length-all_applied : (cs : List Change) (nodes : List Node) → length (all_
 length-all_applied [] nodes = refl
 length-all_applied (c ∷ cs) nodes = length-all_applied cs (applied nodes c) ∙ length-applied c nodes
 
-pub keeps_all : (s : Setup) (cs : List Change) (nodes : List Node) (i : ℕ) → All (IsChange s.shape) cs → i < length nodes
+pub keeps_all : (s : Setup) (cs : List Change) (nodes : List Node) (i : ℕ) → All (IsChange s.shape) cs
+    → i < length nodes
     → Keeps s (node_at nodes i) (node_at (all_applied nodes cs) i)
 keeps_all s [] nodes i fit lt = keeps_self s (node_at nodes i)
 keeps_all s (c ∷ cs) nodes i fit lt =
     let first = keeps_applied s c nodes i (All-head (IsChange s.shape) c cs fit) lt in
-    let rest = keeps_all s cs (applied nodes c) i (All-tail (IsChange s.shape) c cs fit) (rw (length-applied c nodes) lt) in
+    let rest = keeps_all s cs (applied nodes c) i (All-tail (IsChange s.shape) c cs fit)
+    (rw (length-applied c nodes) lt) in
     record {
       mark = rest.mark ∙ first.mark;
       memory = λ h. rest.memory (first.memory h);
@@ -217,7 +219,8 @@ node_ran s mail coins i x y row ok own is whole (Some p) h marked =
     small_mark : (c : ℕ) → c < 2 → c < 2 ^ 32
     small_mark c h = omega arith
 
-pub ran_pulse : (s : Setup) (b b' : State) (i : ℕ) → IsSetup s → HasRuleClock s → Sound s b → (p : Pulse s b b') → i < s.shape.nodes
+pub ran_pulse : (s : Setup) (b b' : State) (i : ℕ) → IsSetup s → HasRuleClock s → Sound s b → (p : Pulse s b b')
+    → i < s.shape.nodes
     → IsTrue (node_at b'.nodes i).mark
     → RanClock s (setting_at s b.mail p.coins i) (node_at b.nodes i) (node_at b'.nodes i) (mail_from b'.mail i)
 ran_pulse s b b' i ok own sound p lt marked =
@@ -231,8 +234,10 @@ node_left : (s : Setup) (mail : List (FinMap nat_cmp ℕ)) (coins : List ℕ) (i
     → IsMemory s.shape x.memory
     → (o : Option Accepted) → MatchOption o (Rests x y row) (λ p. Runs s p (setting_at s mail coins i) x y row)
     → IsMemory s.shape y.memory × AreNumbers s.shape.nodes row
-node_left s mail coins i x y row whole None h =
-    (subst (IsMemory s.shape) (sym h.memory) whole, subst (AreNumbers s.shape.nodes) (sym h.sends) (no_numbers s.shape.nodes))
+node_left s mail coins i x y row whole None h = (
+  subst (IsMemory s.shape) (sym h.memory) whole,
+  subst (AreNumbers s.shape.nodes) (sym h.sends) (no_numbers s.shape.nodes),
+)
 node_left s mail coins i x y row whole (Some p) h =
     let left = any_run_leaves p.program (setting_at s mail coins i) x.memory h.end whole.length whole.bytes h.run in
     let memory : IsMemory s.shape h.end.memory = record { length = left.memory; bytes = left.memory_bytes } in
@@ -251,7 +256,10 @@ sound_pulse s b b' ok sound p =
       memories = λ i lt. (left i lt).0;
       programs = λ i lt. subst (λ (o : Option Accepted). IfSome o (IsShaped s.shape)) (sym (p.each i (within i lt)).0)
           (sound.programs i lt);
-      sent = λ own i lt marked. (clock_of (node_at b'.nodes i).memory, (ran_pulse s b b' i ok own sound p lt marked).sent);
+      sent = λ own i lt marked. (
+        clock_of (node_at b'.nodes i).memory,
+        (ran_pulse s b b' i ok own sound p lt marked).sent,
+      );
       staged = subst (λ cs. All (IsChange s.shape) cs) (sym p.staged) sound.staged;
       coins = subst (λ (o : Option (List ℕ)). IfSome o (AreCoins s.shape)) (sym p.over) tt;
     }

@@ -23,7 +23,8 @@ use Rattle.bench_core.proofs.Replays.{steps_are_entries}
 -- a state on the way to an end has a next one
 on_the_way : (program : List Insn) (env : Setting) (count steps : ℕ) (x : Phase) (s : MachineState) (m : List ℕ)
     (out : FinMap nat_cmp ℕ) (r0 : ℕ)
-    → Leads program env count x (Running s) → Leads program env steps x (Ended m out r0) → HasNoSuccessor program env s → ⊥
+    → Leads program env count x (Running s) → Leads program env steps x (Ended m out r0) → HasNoSuccessor program env s
+    → ⊥
 on_the_way program env zero zero x s m out r0 h g last = absurd cc
 on_the_way program env zero (suc steps) x s m out r0 h g last =
     last g.0 (subst (λ (p : Phase). Steps program env p g.0) (sym h) g.1)

@@ -150,7 +150,8 @@ given_at f (x ∷ xs) (suc i) old new a low at is =
 
 pub numbered_none : {H : Type 0} (number : H → ℕ) (hs : List H) → hs ≡ [] → AreNumbered (map number hs)
 unfolding AreNumbered
-numbered_none number hs none k worker at = absurd (none-some worker (ap (λ l. slice_get (map number l) k) (sym none) ∙ at))
+numbered_none number hs none k worker at =
+    absurd (none-some worker (ap (λ l. slice_get (map number l) k) (sym none) ∙ at))
 
 pub numbered_push : {H : Type 0} (number : H → ℕ) (hs : List H) (h : H) (now : List H) → now ≡ hs ++ h ∷ []
     → number h ≡ length hs → AreNumbered (map number hs) → AreNumbered (map number now)

@@ -155,17 +155,18 @@ pub pulse_watched : {K S : Type 0} (T : K → S → Seen → K → S → Type 0)
     → now ≡ kept ++ told ∷ [] → kept ≡ before
     → T k o (record { coins = coins; after = new.state; told = told; earlier = last; steps = took }) k1 o1
     → IsWatched T old before k o (PulseEvent coins) new now k1 o1
-pulse_watched T old new before kept now coins steps took told last k k1 o o1 goes are same is more as_before says = record {
-  xs = record { coins = coins; after = new.state; told = told; earlier = last_of before; steps = steps } ∷ [];
-  goes = pulse_seen old new before coins told steps goes are;
-  records = more ∙ ap (λ rs. rs ++ told ∷ []) as_before;
-  watches = (
-    k1,
-    o1,
-    told_so T k k1 o o1 coins steps took new.state told (last_of before) last same is says,
-    (refl, refl),
-  );
-}
+pulse_watched T old new before kept now coins steps took told last k k1 o o1 goes are same is more as_before says =
+    record {
+      xs = record { coins = coins; after = new.state; told = told; earlier = last_of before; steps = steps } ∷ [];
+      goes = pulse_seen old new before coins told steps goes are;
+      records = more ∙ ap (λ rs. rs ++ told ∷ []) as_before;
+      watches = (
+        k1,
+        o1,
+        told_so T k k1 o o1 coins steps took new.state told (last_of before) last same is says,
+        (refl, refl),
+      );
+    }
 
 -- ---- the loop over the events
 
@@ -194,7 +195,8 @@ shown_next : (s : Setup) (old new : BenchValue) (done : List EventCode) (x : Eve
     → GoesSeen old records (event_of x) more new
     → Shows s (new_state s) 0 None (map event_of (done ++ x ∷ [])) (xs ++ more) new.state
 shown_next s old new done x records xs more same count is shows goes =
-    let mapped : map event_of (done ++ x ∷ []) ≡ map event_of done ++ event_of x ∷ [] = map-append event_of done (x ∷ []) in
+    let mapped : map event_of (done ++ x ∷ []) ≡ map event_of done ++ event_of x ∷ [] =
+    map-append event_of done (x ∷ []) in
     let step : Shows s old.state (length old.history) (last_of records) (event_of x ∷ []) more new.state =
     subst (λ (t : Setup). Shows t old.state (length old.history) (last_of records) (event_of x ∷ []) more new.state)
     same goes.shows in
@@ -208,7 +210,8 @@ pub kept_seen : {K S : Type 0} (T : K → S → Seen → K → S → Type 0) (s 
     → IsKeptSeen T s done records old k o k1 o1 → IsWatched T old records k1 o1 (event_of x) new more k2 o2
     → IsKeptSeen T s (done ++ x ∷ []) more new k o k2 o2
 kept_seen T s old new done x records more k k1 k2 o o1 o2 kept watched =
-    let mapped : map event_of (done ++ x ∷ []) ≡ map event_of done ++ event_of x ∷ [] = map-append event_of done (x ∷ []) in
+    let mapped : map event_of (done ++ x ∷ []) ≡ map event_of done ++ event_of x ∷ [] =
+    map-append event_of done (x ∷ []) in
     record {
       setup = watched.goes.setup ∙ kept.setup;
       closed = watched.goes.closed;
@@ -254,7 +257,8 @@ shown_before T s all done rest records b k k1 o o1 place stands at kept =
 
 -- the watcher stopped the run at the pulse of this event
 pub stopped_here : {K S : Type 0} (T E : K → S → Seen → K → S → Type 0) (s : Setup) (all done rest : List EventCode)
-    (x : EventCode) (records : List PulseTold) (old new : BenchValue) (k k1 k2 : K) (o o1 o2 : S) (place : ℕ) (here : Seen)
+    (x : EventCode) (records : List PulseTold) (old new : BenchValue) (k k1 k2 : K) (o o1 o2 : S) (place : ℕ)
+    (here : Seen)
     → all ≡ done ++ (x ∷ rest) → place ≡ length done → IsKeptSeen T s done records old k o k1 o1
     → GoesSeen old records (event_of x) (here ∷ []) new → E k1 o1 here k2 o2
     → StoppedAt T E s (map event_of all) place k o k2 o2
@@ -291,11 +295,13 @@ run_shown T s all done records b k k1 o o1 left whole kept memories = record {
 
 -- an event that isn't done ends the run
 ends_by : {K S : Type 0} (T E : K → S → Seen → K → S → Type 0) (s : Setup) (all done rest : List EventCode)
-    (x : EventCode) (records : List PulseTold) (old new : BenchValue) (k k1 k2 : K) (o o1 o2 : S) (place : ℕ) (halt : Halt)
+    (x : EventCode) (records : List PulseTold) (old new : BenchValue) (k k1 k2 : K) (o o1 o2 : S) (place : ℕ)
+    (halt : Halt)
     → all ≡ done ++ (x ∷ rest) → place ≡ length done → IsKeptSeen T s done records old k o k1 o1
     → IsHalted E old records k1 o1 (event_of x) new k2 o2 halt
     → EndsAt T E s (map event_of all) k o k2 o2 (fault_at halt place)
-ends_by {K} {S} T E s all done rest x records old new k k1 k2 o o1 o2 place (halts.Refused refusal) stands at kept halted =
+ends_by {K} {S} T E s all done rest x records old new k k1 k2 o o1 o2 place
+    (halts.Refused refusal) stands at kept halted =
     let before = shown_before T s all done (x ∷ rest) records old k k1 o o1 place stands at kept in (
       fault_here s old all done rest x place refusal records stands at kept.setup kept.count
           (kept_goes T s done records old k k1 o o1 kept) halted.0,
@@ -307,7 +313,8 @@ ends_by T E s all done rest x records old new k k1 k2 o o1 o2 place halts.Stoppe
     stopped_here T E s all done rest x records old new k k1 k2 o o1 o2 place halted.0 stands at kept halted.1 halted.2
 
 pub ends_here : {K S : Type 0} (T E : K → S → Seen → K → S → Type 0) (s : Setup) (all done rest : List EventCode)
-    (x : EventCode) (records : List PulseTold) (old new : BenchValue) (k k1 k2 : K) (o o1 o2 : S) (place : ℕ) (halt : Halt)
+    (x : EventCode) (records : List PulseTold) (old new : BenchValue) (k k1 k2 : K) (o o1 o2 : S) (place : ℕ)
+    (halt : Halt)
     (fault : WatchFault) → fault ≡ fault_at halt place → all ≡ done ++ (x ∷ rest) → place ≡ length done
     → IsKeptSeen T s done records old k o k1 o1 → IsHalted E old records k1 o1 (event_of x) new k2 o2 halt
     → EndsAt T E s (map event_of all) k o k2 o2 fault
@@ -334,7 +341,8 @@ pub fault_of_run : {K S : Type 0} (T E : K → S → Seen → K → S → Type 0
     (o o1 : S) (fault : WatchFault) (run : RunFault) → fault ≡ faults.Run run → EndsAt T E s es k o k1 o1 fault
     → IsFault s es run.event run.fault
 fault_of_run T E s es k k1 o o1 fault run is ends =
-    let here : EndsAt T E s es k o k1 o1 (faults.Run run) = subst (λ (f : WatchFault). EndsAt T E s es k o k1 o1 f) is ends in
+    let here : EndsAt T E s es k o k1 o1 (faults.Run run) =
+    subst (λ (f : WatchFault). EndsAt T E s es k o k1 o1 f) is ends in
     here.0
 
 pub not_of_run : (fault : WatchFault) (run : RunFault) (refusal : RunRefusal) → fault ≡ faults.Run run

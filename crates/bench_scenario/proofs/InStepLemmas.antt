@@ -25,7 +25,8 @@ have_one m r (Some c) e some one =
       },
     )
 
-first_of : (m : ℕ) (r : PulseTold) (c : ℕ) → HaveOne m r c → (f : Option ℕ) → first_clock r.clocks ≡ f → is_some f ≡ true
+first_of : (m : ℕ) (r : PulseTold) (c : ℕ) → HaveOne m r c → (f : Option ℕ) → first_clock r.clocks ≡ f
+    → is_some f ≡ true
 first_of m r c have None e = absurd (none_there r.clocks e have.some.0 c have.some.1)
 first_of m r c have (Some f) e = refl
 
@@ -38,7 +39,8 @@ one_of_record m r c have =
     ))
 
 -- what is answered of a pulse whose nodes have a first clock, and of one whose nodes have none
-pub one_told : (m : ℕ) (r : PulseTold) (clocks : List (Option ℕ)) (first : Option ℕ) (there answer : Bool) → clocks ≡ r.clocks
+pub one_told : (m : ℕ) (r : PulseTold) (clocks : List (Option ℕ)) (first : Option ℕ) (there answer : Bool)
+    → clocks ≡ r.clocks
     → first ≡ first_clock clocks → there ≡ is_some first → there ≡ true → answer ≡ are_one m clocks (first_clock clocks)
     → IsTrue answer ↔ ((c : ℕ) × HaveOne m r c)
 one_told m r clocks first there answer same is some is_some_first one = (
@@ -66,7 +68,8 @@ went_by m before after c (Some v) have told = (
 )
 
 -- what is answered of two pulses, of the first of which all nodes have one clock
-pub went_told : (m : ℕ) (before after : PulseTold) (c : ℕ) (ones others : List (Option ℕ)) (v : Option Bool) (answer : Bool)
+pub went_told : (m : ℕ) (before after : PulseTold) (c : ℕ) (ones others : List (Option ℕ)) (v : Option Bool)
+    (answer : Bool)
     → HaveOne m before c → ones ≡ before.clocks → others ≡ after.clocks → v ≡ counting m ones others
     → answer ≡ unwrap_or v true → IsTrue answer ↔ EachWentOn m before after
 went_told m before after c ones others v answer have one other is told =

@@ -57,7 +57,8 @@ due_whole bytes text (errors.OutOfRange place key) is due = due_when bytes text
     (errors.OutOfRange place key) is due.1.0 due
 due_whole bytes text (errors.UnknownProgram load) is due = due_when bytes text
     (errors.UnknownProgram load) is due.1.0 due
-due_whole bytes text (errors.BadText place key error) is due = due_when bytes text (errors.BadText place key error) is due.1.0 due
+due_whole bytes text (errors.BadText place key error) is due =
+    due_when bytes text (errors.BadText place key error) is due.1.0 due
 due_whole bytes text (errors.NotAccepted place key slot rule) is due = due_when bytes text
     (errors.NotAccepted place key slot rule) is due.1.0 due
 due_whole bytes text (errors.Memory gone) is due = due
@@ -130,7 +131,8 @@ front_left (Some text) old new bytes slice line told agrees written taken same w
 
 -- a report without what is answered of it
 pub plain_left : (known old new : Option (List ℕ)) (agrees : Bool)
-    → IfSome known (λ text. LeavesJudged old new text (Ok agrees)) → IfSome known (λ text. LeavesReport old new text (Ok tt))
+    → IfSome known (λ text. LeavesJudged old new text (Ok agrees))
+    → IfSome known (λ text. LeavesReport old new text (Ok tt))
 plain_left None old new agrees left = tt
 plain_left (Some text) old new agrees left = (left.0, left.1.told, left.2)
 

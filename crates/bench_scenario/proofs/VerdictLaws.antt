@@ -62,7 +62,8 @@ all_are f (None ∷ clocks) e zero c has = absurd cc
 all_are f (k ∷ clocks) e (suc i) c has =
     all_are f clocks (and_parts (is_clock f k) (list_all (is_clock f) clocks) e).1 i c has
 
-are_all : (f : ℕ) (clocks : List (Option ℕ)) → ((i c : ℕ) → Has clocks i c → c ≡ f) → list_all (is_clock f) clocks ≡ true
+are_all : (f : ℕ) (clocks : List (Option ℕ)) → ((i c : ℕ) → Has clocks i c → c ≡ f)
+    → list_all (is_clock f) clocks ≡ true
 are_all f [] each = refl
 are_all f (Some k ∷ clocks) each =
     and_from (k == f) (list_all (is_clock f) clocks) (eq-eqb k f (each 0 k refl))
@@ -194,7 +195,8 @@ tells modulus (b ∷ before) [] = λ i c d has other. cc
 tells modulus (Some b ∷ before) (Some a ∷ after) =
     joins modulus b a before after (counting modulus before after) (tells modulus before after)
 tells modulus (Some b ∷ before) (None ∷ after) =
-    skips modulus (Some b) None before after (counting modulus before after) (λ c d e f. cc) (tells modulus before after)
+    skips modulus (Some b) None before after (counting modulus before after) (λ c d e f. cc)
+    (tells modulus before after)
 tells modulus (None ∷ before) (a ∷ after) =
     skips modulus None a before after (counting modulus before after) (λ c d e f. cc) (tells modulus before after)
 

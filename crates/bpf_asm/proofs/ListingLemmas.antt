@@ -71,7 +71,8 @@ shorter_left (c ∷ cs) (Some rest) some shorter = shorter
 
 abbrev pub rows_left : List ℕ → ℕ → ℕ → List ℕ → List ℕ
 rows_left image number slot rest =
-    flat_map (λ l. line_row l (bytes_at image l.slot l.slots)) (listed_from number slot (without_empty_end (lines_of rest)))
+    flat_map (λ l. line_row l (bytes_at image l.slot l.slots))
+    (listed_from number slot (without_empty_end (lines_of rest)))
 
 -- a row more, of a line whose instruction has these bytes
 pub next_row : (image text line all old new bytes : List ℕ) (behind : Option (Bor (List ℕ))) (number slot slots : ℕ)
@@ -184,7 +185,8 @@ rows_more : (row : ℕ → List ℕ) (a n : ℕ)
     → flat_map row (range_with_len a (suc n)) ≡ flat_map row (range_with_len a n) ++ row (a + n)
 rows_more row a zero = append-nil (row a) ∙ ap row (sym (add-zero a))
 rows_more row a (suc n) =
-    let later : flat_map row (range_with_len (a + 1) (suc n)) ≡ flat_map row (range_with_len (a + 1) n) ++ row (a + 1 + n)
+    let later : flat_map row (range_with_len (a + 1) (suc n)) ≡ flat_map row (range_with_len (a + 1) n)
+    ++ row (a + 1 + n)
     = rows_more row (a + 1) n in
     ap (λ rest. row a ++ rest) later
     ∙ ap (λ k. row a ++ (flat_map row (range_with_len (a + 1) n) ++ row k)) (same_place a n)

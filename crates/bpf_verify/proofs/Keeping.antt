@@ -166,7 +166,8 @@ types_alike program shape end table other some same types =
 pub keeps_done : (program : List Insn) (shape : Extent) (slot : ℕ) (come : Option AbstractState) (rows : Table)
     → IsSome (insn_at program 0) → Keeps program shape slot come rows → IsStop program slot
     → insn_at program slot ≡ None → Types program shape (slots_of program) rows
-keeps_done program shape slot come rows first keeps (inl begins) none = absurd (apart (insn_at program slot) none begins)
+keeps_done program shape slot come rows first keeps (inl begins) none =
+    absurd (apart (insn_at program slot) none begins)
   where
     apart : (o : Option Insn) → o ≡ None → IsSome o → ⊥
     apart None e some = absurd cc

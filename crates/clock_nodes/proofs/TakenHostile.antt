@@ -210,11 +210,13 @@ echo_sounds program rest shape table base j n As few lt stands marks begun there
     let s0 = sound_on program shape table (base + 0) _ (base + 1) _ nothing _ (naming shape) refl refl refl
     (omega arith) (begin 1 _ refl) (At 1 _ refl) (to_naming shape _ in_range) is_nothing (keeps_own _ _ _ refl) in
     let s1 = sound_on program shape table (base + 1) _ (base + 2) _ (naming shape) _ hearing refl refl refl
-    (omega arith) (begin 2 _ refl) (At 2 _ refl) (to_hearing _ still_word) (is_naming shape) (keeps_own _ _ _ (rw one_of refl)) in
+    (omega arith) (begin 2 _ refl) (At 2 _ refl) (to_hearing _ still_word) (is_naming shape)
+    (keeps_own _ _ _ (rw one_of refl)) in
     let s2 = sound_on program shape table (base + 2) _ (base + 3) _ hearing _ holding refl refl refl (omega arith)
     (begin 3 _ refl) (At 3 _ refl) (to_holding _ still_word) is_hearing (keeps_own _ _ _ refl) in
     let s3 = sound_on program shape table (base + 3) _ (base + 4) _ holding _ (saying shape) refl refl refl
-    (omega arith) (begin 4 _ refl) (At 4 _ refl) (to_saying shape _ in_range still_word) is_holding (keeps_own _ _ _ refl) in
+    (omega arith) (begin 4 _ refl) (At 4 _ refl) (to_saying shape _ in_range still_word) is_holding
+    (keeps_own _ _ _ refl) in
     let s4 = sound_on program shape table (base + 4) _ (base + 5) _ (saying shape) _ nothing refl refl refl
     (omega arith) begun there (to_nothing _) (is_saying shape) (keeps_own _ _ _ (rw one_of refl)) in (
       (nothing, At 0 _ refl, s0),

@@ -135,8 +135,10 @@ wants_whole bytes text (Err (faults.CommandLine said)) taken wants = tt
 
 -- ---- run --json
 
-json_whole : (check : Bool) (old new : Option (List ℕ)) (bytes text : List ℕ) (span : Span) (ended : Result Ending Fault)
-    → bytes ≡ take MOST_BYTES text → LeavesJson check old new bytes span ended → LeavesJson check old new text span ended
+json_whole : (check : Bool) (old new : Option (List ℕ)) (bytes text : List ℕ) (span : Span)
+    (ended : Result Ending Fault)
+    → bytes ≡ take MOST_BYTES text → LeavesJson check old new bytes span ended
+    → LeavesJson check old new text span ended
 json_whole check old new bytes text span ended taken (inl told) =
     inl (told.0, reads_whole bytes text told.0 taken told.1, told.2)
 json_whole check old new bytes text span ended taken (inr (inl refused)) =

@@ -28,7 +28,8 @@ pub case_run : (asked : ExecOptions) (program : List Insn) (shape : Extent) (env
     → RunAnswers program (case_setting (asked_extent asked.shape) asked.case)
     (case_memory (asked_extent asked.shape) asked.case) asked.fuel left sent outcome
 case_run asked program shape env memory left sent outcome at run there begins =
-    subst (λ (s : Extent). RunAnswers program (case_setting s asked.case) (case_memory s asked.case) asked.fuel left sent
+    subst (λ (s : Extent). RunAnswers program (case_setting s asked.case)
+    (case_memory s asked.case) asked.fuel left sent
     outcome) at
     (subst (λ (l : List ℕ). RunAnswers program (case_setting shape asked.case) l asked.fuel left sent outcome) begins
     (subst (λ (e : Setting). RunAnswers program e memory asked.fuel left sent outcome) there run))

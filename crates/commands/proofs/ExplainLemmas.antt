@@ -22,7 +22,8 @@ use Rattle.commands.specs.Explained.{Explanation, explanation, explained_text, v
 abbrev seen : Told → Explanation
 seen told = explanation (string_bytes told.text) told.ending
 
-pub program_told : (asked : ExplainOptions) (lines : List ℕ) (program : List Insn) (shape : Extent) (findings : Findings)
+pub program_told : (asked : ExplainOptions) (lines : List ℕ) (program : List Insn) (shape : Extent)
+    (findings : Findings)
     (text : List ℕ) (ending : Ending) → shape ≡ asked_extent asked.shape → AreFindings program shape findings
     → text ≡ explained_text program shape findings lines asked.detail
     → ending ≡ verdict_ending (verdict_in program findings.verdict)
@@ -52,7 +53,8 @@ image_refused asked most refusal left (Err fault) read told = tt
 image_refused asked most refusal None (Ok t) read told = tt
 image_refused asked most refusal (Some input) (Ok t) read told = inl (refusal, read, told)
 
-pub read_told : (asked : ExplainOptions) (bytes lines : List ℕ) (program : List Insn) (read : Result (List Insn) TextError)
+pub read_told : (asked : ExplainOptions) (bytes lines : List ℕ) (program : List Insn)
+    (read : Result (List Insn) TextError)
     (result : Result Told Fault) → read ≡ Ok program → lines ≡ instruction_lines bytes
     → IfOk result (λ told. ExplainsProgram asked lines program (seen told))
     → IfOk result (λ told. ExplainsRead asked bytes read (seen told))

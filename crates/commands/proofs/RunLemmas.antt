@@ -56,6 +56,7 @@ refused_scenario (Some text) old mid new check error (Ok given) left wrote =
 refused_scenario (Some text) old mid new check error (Err (faults.Write after)) left wrote =
     (Refusal error, left.0, wrote.0, kept_appends old mid new _ left.1 wrote.1)
 refused_scenario (Some text) old mid new check error (Err faults.Read) left wrote = absurd wrote
-refused_scenario (Some text) old mid new check error (Err faults.Memory) left wrote = kept_twice old mid new left.1 wrote
+refused_scenario (Some text) old mid new check error (Err faults.Memory) left wrote =
+    kept_twice old mid new left.1 wrote
 refused_scenario (Some text) old mid new check error (Err faults.Thread) left wrote = absurd wrote
 refused_scenario (Some text) old mid new check error (Err (faults.CommandLine said)) left wrote = absurd wrote

@@ -128,7 +128,8 @@ names_broken old new s keys top (faults.Refused error) is front = absurd front
 names_broken old new s keys top faults.NoKey is front = absurd front
 names_broken old new s keys top faults.Memory is front = absurd front
 
-told_so : (old new : Option (List ℕ)) (s : Scenario) (keys : Span) (fault : SweepFault) (result : Result (Unit {0}) SweepFault)
+told_so : (old new : Option (List ℕ)) (s : Scenario) (keys : Span) (fault : SweepFault)
+    (result : Result (Unit {0}) SweepFault)
     → LeavesLines old new s keys (Err fault) → IsErrAnd result (λ e. e ≡ fault) → LeavesLines old new s keys result
 told_so old new s keys fault (Ok done) left is = absurd is
 told_so old new s keys fault (Err e) left is = subst (λ x. LeavesLines old new s keys (Err x)) (sym is) left
@@ -155,17 +156,20 @@ swept_more old now new s first next past told after rows ms at swept each is lef
       number = omega (arith, before, number, length-append swept.text rows);
     }
 
-pub all_swept : (old now : Option (List ℕ)) (s : Scenario) (keys : Span) (next told : ℕ) → Swept old now s keys.first next told
+pub all_swept : (old now : Option (List ℕ)) (s : Scenario) (keys : Span) (next told : ℕ)
+    → Swept old now s keys.first next told
     → keys.first ≤ keys.last → next ≡ keys.last + 1 → LeavesLines old now s keys (Ok tt)
 all_swept old now s keys next told swept order at = (
   swept.text,
   (let place = swept.place in
-      subst (λ n. Lines s keys.first n swept.text) (let e : swept.count ≡ count_of keys = omega (arith, place, order, at) in e)
+      subst (λ n. Lines s keys.first n swept.text) (let e : swept.count ≡ count_of keys =
+      omega (arith, place, order, at) in e)
       swept.lines),
   swept.left,
 )
 
-pub some_swept : (old now : Option (List ℕ)) (s : Scenario) (keys : Span) (next told : ℕ) → Swept old now s keys.first next told
+pub some_swept : (old now : Option (List ℕ)) (s : Scenario) (keys : Span) (next told : ℕ)
+    → Swept old now s keys.first next told
     → next ≤ keys.last → LeavesLines old now s keys (Err faults.Memory)
 some_swept old now s keys next told swept before = inr (record {
   told = swept.text;

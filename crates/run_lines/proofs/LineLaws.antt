@@ -33,7 +33,8 @@ use Rattle.run_lines.proofs.ToldLemmas.{get_with_others, list_back, list_told, n
 apart : (name other : List ℕ) → bytes_eq name other ≡ false → name ≡ other → ⊥
 apart name other differ same = true≢false (sym ((bytes_eq-Decides name other).1 same) ∙ differ)
 
-other_names : (b : Bool) (name : List ℕ) (a c : Data) → bytes_eq name (codes "agree") ≡ false → bytes_eq name (codes "counts") ≡ false
+other_names : (b : Bool) (name : List ℕ) (a c : Data) → bytes_eq name (codes "agree") ≡ false
+    → bytes_eq name (codes "counts") ≡ false
     → AllByRecursion (λ (m : Member). name ≡ m.0 → ⊥)
     ((codes "agree", a) ∷ (if b then (codes "counts", c) ∷ [] else []))
 other_names true name a c first second =

@@ -87,7 +87,8 @@ breaks_more old now new s span text more n written lines told off =
 
 -- the pulses but the last are shown by fewer events
 shows_fewer : (s : Setup) (b b' : State) (n : ℕ) (earlier : Option PulseTold) (es : List Event) (xs : List Seen)
-    (x : Seen) → Shows s b n earlier es (xs ++ x ∷ []) b' → (m : ℕ) × (mid : State) × Shows s b n earlier (take m es) xs mid
+    (x : Seen) → Shows s b n earlier es (xs ++ x ∷ []) b'
+    → (m : ℕ) × (mid : State) × Shows s b n earlier (take m es) xs mid
 shows_fewer s b b' n earlier [] [] x shows = let none = shows.0 in absurd cc
 shows_fewer s b b' n earlier [] (y ∷ xs) x shows = let none = shows.0 in absurd cc
 shows_fewer s b b' n earlier (Stage c ∷ es) xs x shows =
@@ -152,7 +153,8 @@ stands_all contents old s span seen (x ∷ xs) k k' o o' stands watches =
 -- ---- how it ends
 
 told_so : (old new : Option (List ℕ)) (s : Scenario) (span : Span) (fault : LinesFault)
-    (result : Result Bool LinesFault) → LeavesLines old new s span (Err fault) → IsErrAnd result (λ e. e ≡ fault) → LeavesLines old new s span result
+    (result : Result Bool LinesFault) → LeavesLines old new s span (Err fault) → IsErrAnd result (λ e. e ≡ fault)
+    → LeavesLines old new s span result
 told_so old new s span fault (Ok agrees) left is = absurd is
 told_so old new s span fault (Err e) left is = subst (λ f. LeavesLines old new s span (Err f)) (sym is) left
 
@@ -271,7 +273,8 @@ ends_early contents old s span k k' o o' (watched.Stopped event) fault stands en
 -- ---- the last line
 
 last_broken : (old new : Option (List ℕ)) (s : Scenario) (before : ℕ) (rs : List PulseTold) (m : RunSummary)
-    (fault : LinesFault) → IsSummary (frame_of s) (is_some s.clock) rs m → IsLineFault old new before (last_line m) fault
+    (fault : LinesFault) → IsSummary (frame_of s) (is_some s.clock) rs m
+    → IsLineFault old new before (last_line m) fault
     → IsEnd old new s before rs (Err fault)
 last_broken old new s before rs m (faults.Write written) summed off = (m, summed, off)
 last_broken old new s before rs m faults.Memory summed kept = kept

@@ -22,7 +22,8 @@ whole_as levels d e same plain = ap has_float same ∙ plain.whole
 pub flat_as : (levels : ℕ) (d e : Data) → levels ≤ max_depth → e ≡ d → IsPlain levels d → depth e ≤ max_depth
 flat_as levels d e few same plain =
     let flat = plain.flat in
-    subst (λ x. depth x ≤ max_depth) (sym same) (let shallow : depth d ≤ max_depth = omega (arith, flat, few) in shallow)
+    subst (λ x. depth x ≤ max_depth) (sym same) (let shallow : depth d ≤ max_depth =
+    omega (arith, flat, few) in shallow)
 
 record ArePlain (levels : ℕ) (ms : Members) : Type 0 where
   whole : members_have_float ms ≡ false

@@ -47,7 +47,8 @@ none_broken ms place (Some _) p slot is = absurd is.2
 
 -- a refusal of the entries that the table has is one of the table
 pub entries_refused : {A : Type 0} (reads : Frame → Option (List Insn) → Members → A → Type 0)
-    (breaks : Frame → Option (List Insn) → Members → ℕ → Type 0) (place : ℕ → Place) (key : List ℕ) (of : Draft → List A)
+    (breaks : Frame → Option (List Insn) → Members → ℕ → Type 0) (place : ℕ → Place) (key : List ℕ)
+    (of : Draft → List A)
     (ms : Members) (f : Frame) (c : Option (List Insn)) (o : Option Data) (e : ScenarioError)
     → HasFrame ms f → HasClock (rule_of f) ms c → o ≡ get_member key ms
     → ((d : Draft) → Spelled ms d → MayBeArray (IsTable (reads d.frame d.clock)) (get_member key ms) (of d))

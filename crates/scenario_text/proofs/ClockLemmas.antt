@@ -30,7 +30,8 @@ not_both rule ms p plain own =
       | inr means ↦ own.1 (one_meaning (get_member (codes "clock") ms) p (clock_listing rule) own.0 means)
     ]
 
-pub one_clock : (rule : Rule) (ms : Members) (a b : Option (List Insn)) → HasClock rule ms a → HasClock rule ms b → a ≡ b
+pub one_clock : (rule : Rule) (ms : Members) (a b : Option (List Insn)) → HasClock rule ms a → HasClock rule ms b
+    → a ≡ b
 one_clock rule ms None None first second = refl
 one_clock rule ms None (Some q) first second = absurd (not_both rule ms q first second)
 one_clock rule ms (Some p) None first second = absurd (not_both rule ms p second first)

@@ -84,7 +84,8 @@ excludes_more (errors.NotAccepted place key slot rule) less more leads excluded 
 excludes_more (errors.Memory _) less more leads excluded = tt
 
 -- who accepts no program refuses for the spelling alone
-pub refuses : (e : ScenarioError) (none : Type 0) (broken : Place → ℕ → Type 0) → Excludes e none → Refuses e none broken
+pub refuses : (e : ScenarioError) (none : Type 0) (broken : Place → ℕ → Type 0) → Excludes e none
+    → Refuses e none broken
 refuses errors.TooLong none broken excluded = excluded
 refuses errors.NotToml none broken excluded = excluded
 refuses (errors.UnknownKey place) none broken excluded = excluded
@@ -112,7 +113,8 @@ refuses_more (errors.WrongKind place key) less more here there leads moves refus
 refuses_more (errors.OutOfRange place key) less more here there leads moves refused = leads refused
 refuses_more (errors.UnknownProgram load) less more here there leads moves refused = leads refused
 refuses_more (errors.BadText place key error) less more here there leads moves refused = leads refused
-refuses_more (errors.NotAccepted place key slot rule) less more here there leads moves refused = moves place slot refused
+refuses_more (errors.NotAccepted place key slot rule) less more here there leads moves refused =
+    moves place slot refused
 refuses_more (errors.Memory _) less more here there leads moves refused = tt
 
 -- a table has one frame at most
@@ -128,7 +130,8 @@ one_frame ms f g a b = λ k. record {
 
 -- what the frame and the clock that were read have no entries for has no spelling
 pub no_entries : {A : Type 0} (reads : Frame → Option (List Insn) → Members → A → Type 0) (o : Option Data)
-    (of : Draft → List A) (ms : Members) (f : Frame) (c : Option (List Insn)) → HasFrame ms f → HasClock (rule_of f) ms c
+    (of : Draft → List A) (ms : Members) (f : Frame) (c : Option (List Insn)) → HasFrame ms f
+    → HasClock (rule_of f) ms c
     → ((d : Draft) → Spelled ms d → MayBeArray (IsTable (reads d.frame d.clock)) o (of d))
     → ((xs : List A) → MayBeArray (IsTable (reads f c)) o xs → ⊥) → SpellsNothing ms
 no_entries reads o of ms f c has clock there none d spelled =

@@ -114,7 +114,8 @@ load_unread ms s index slot f c has clock stands reads =
     let same = one_frame ms g f reads.spelled.frame has in
     let mine = subst (λ (h : Frame). HasClock (rule_of h) ms d) same reads.spelled.clock in
     let both = one_clock (rule_of f) ms d c mine clock in
-    let spelled = subst (λ (k : Option (List Insn)). MayBeArray (IsTable (SpelledLoad f k)) o (map load_of s.loads.items))
+    let spelled = subst (λ (k : Option (List Insn)). MayBeArray (IsTable (SpelledLoad f k)) o
+    (map load_of s.loads.items))
     both (subst (λ (h : Frame). MayBeArray (IsTable (SpelledLoad h d)) o (map load_of s.loads.items)) same
     reads.spelled.loads) in
     let fits = subst (λ (h : Frame). Each (FitsLoad h) s.loads.items) same

@@ -33,7 +33,8 @@ loop-i-preserved c =
     let front : drop i settled ≡ f ∷ flags = drop_more settled i false lt in
     let front' : drop i nodes ≡ Y ∷ rest = drop_more nodes i Y c.loop-i-test.true
     ∙ ap (λ (n : Node). n ∷ rest) (sym c.index-nodes-i.is) in
-    let t1 = subst (λ (xs : List Bool). Tally xs (clocks_where c.args.modulus xs (drop i nodes)) m z s C Z S) front inv.tally in
+    let t1 = subst (λ (xs : List Bool). Tally xs (clocks_where c.args.modulus xs (drop i nodes)) m z s C Z S) front
+    inv.tally in
     let t2 : Tally (f ∷ flags) (cond f (value_of c.args.modulus Y.memory ∷ cl) cl) m z s C Z S = subst
     (λ (ys : List Node). Tally (f ∷ flags) (clocks_where c.args.modulus (f ∷ flags) ys) m z s C Z S) front' t1 in
     let at = λ (b : Bool) (e : f ≡ b). subst (λ (b : Bool). Tally (b ∷ flags)

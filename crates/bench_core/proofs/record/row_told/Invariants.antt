@@ -11,7 +11,8 @@ invariant-loop-i l =
     let flags = drop l.i l.settled in
     let all = clocks_where l.modulus l.settled l.nodes in
     record {
-      tally : Tally flags (clocks_where l.modulus flags (drop l.i l.nodes)) l.common l.zeros l.count (joined_all 0 (moving all))
+      tally : Tally flags (clocks_where l.modulus flags (drop l.i l.nodes)) l.common l.zeros l.count
+          (joined_all 0 (moving all))
           (count_by (λ c. c == 0) all) (count_by (λ x. x) l.settled);
       few : l.count ≤ l.i;
       few_zeros : l.zeros ≤ l.i;

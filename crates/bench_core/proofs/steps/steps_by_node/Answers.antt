@@ -9,7 +9,8 @@ use Rattle.bench_core.proofs.steps.steps_by_node.Goals as goal
 pub loop-done-init : goal.loop-done-init
 loop-done-init c =
     let nodes = c.nodes-nodes.result in
-    let zeros : c.in_ok-steps.steps.items ≡ replicate nodes 0 = c.in_ok-steps.ensures.items_if_clones_equal (λ y e. e) in
+    let zeros : c.in_ok-steps.steps.items ≡ replicate nodes 0 =
+    c.in_ok-steps.ensures.items_if_clones_equal (λ y e. e) in
     record {
       count = ap length zeros ∙ length-replicate nodes 0;
       each = λ i within. rw zeros (took_none c.args.dones.now nodes i within);

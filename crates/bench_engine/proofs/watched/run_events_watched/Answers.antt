@@ -37,7 +37,8 @@ returns-in-Err-clause-ends g c =
     ends_here g.K.Watcher.tells g.K.Watcher.stops c.args.bench.setup c.args.events.items c.loop-event.yielded
     (into_iter_items c.next.new.self) c.in-Some.event c.loop-event.records.items c.loop-event.bench c.apply.new.bench
     c.args.watcher.now c.loop-event.watcher c.apply.new.watcher c.args.sink.now c.loop-event.sink c.apply.new.sink
-    c.loop-event.place c.in-Err.halt c.at.result c.at.ensures (i.rest ∙ ap (λ later. c.loop-event.yielded ++ later) c.in-Some.ensures.steps.0)
+    c.loop-event.place c.in-Err.halt c.at.result c.at.ensures (i.rest
+    ∙ ap (λ later. c.loop-event.yielded ++ later) c.in-Some.ensures.steps.0)
     i.place i.kept c.in-Err.ensures.halt
 
 pub returns-in-Err-clause-open : goal.returns-in-Err-clause-open
@@ -57,7 +58,8 @@ returns-in-Ok-memories_of-clause-run g c =
     let none : rest.items ≡ [] = nil_from_length rest.items (omega (arith, c.in-None.ensures.steps.0, rest.ok.0)) in
     let done = c.loop-event.yielded in
     let whole = i.rest ∙ ap (λ later. done ++ later) none ∙ append-nil done in
-    run_shown g.K.Watcher.tells c.args.bench.setup c.args.events.items done c.loop-event.records.items c.loop-event.bench
+    run_shown g.K.Watcher.tells c.args.bench.setup c.args.events.items done c.loop-event.records.items
+    c.loop-event.bench
     c.args.watcher.now c.loop-event.watcher c.args.sink.now c.loop-event.sink _ whole i.kept
     c.in-Ok-memories_of.ensures
 
@@ -73,6 +75,7 @@ returns-clause-ends g c =
           (kept_goes g.K.Watcher.tells c.args.bench.setup done c.loop-event.records.items c.loop-event.bench
           c.args.watcher.now c.loop-event.watcher c.args.sink.now c.loop-event.sink i.kept),
       shown_before g.K.Watcher.tells c.args.bench.setup c.args.events.items done [] c.loop-event.records.items
-          c.loop-event.bench c.args.watcher.now c.loop-event.watcher c.args.sink.now c.loop-event.sink c.loop-event.place
+          c.loop-event.bench c.args.watcher.now c.loop-event.watcher c.args.sink.now c.loop-event.sink
+          c.loop-event.place
           (whole ∙ sym (append-nil done)) i.place i.kept,
     )

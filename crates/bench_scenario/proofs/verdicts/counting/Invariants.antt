@@ -5,4 +5,5 @@ use Rattle.bench_scenario.proofs.verdicts.counting.Given as goal
 -- the verdict so far and that of what is still to come are the whole
 abbrev pub invariant-loop-node : goal.invariant-loop-node
 invariant-loop-node l =
-    joined l.verdict (counting l.modulus (drop l.node l.before) (drop l.node l.after)) ≡ counting l.modulus l.before l.after
+    joined l.verdict (counting l.modulus (drop l.node l.before) (drop l.node l.after))
+    ≡ counting l.modulus l.before l.after

@@ -7,7 +7,8 @@ loop-rest-preserved c =
     let some = some_bytes c.loop-rest.rest.now _ c.is_empty.ensures c.loop-rest-test.true in
     let behind = c.first_piece.result.1 in
     let shorter : length c.left_of-rest.result.now < length c.loop-rest.rest.now =
-    shorter_by _ _ _ c.left_of-rest.ensures (shorter_left c.loop-rest.rest.now behind some c.first_piece.ensures.shorter) in
+    shorter_by _ _ _ c.left_of-rest.ensures
+    (shorter_left c.loop-rest.rest.now behind some c.first_piece.ensures.shorter) in
     let taken = same_slots _ _ c.first_piece.result.0.now c.slots_in-slots.ensures c.read_line.ensures in
     let few = few_slots _ _ c.slots_in-slots.ensures in
     record {

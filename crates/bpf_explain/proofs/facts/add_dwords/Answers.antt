@@ -7,16 +7,19 @@ use Rattle.bpf_explain.proofs.Listing.{told_none, told_more, told_all}
 use Rattle.bpf_explain.proofs.facts.add_dwords.Goals as goal
 
 pub loop-number-init : goal.loop-number-init
-loop-number-init c = told_none (λ number. known_dword number ((abstract_of c.args.known.now).entries number)) (string_bytes c.args.told.now)
+loop-number-init c = told_none (λ number. known_dword number ((abstract_of c.args.known.now).entries number))
+    (string_bytes c.args.told.now)
 
 pub loop-number-preserved : goal.loop-number-preserved
 loop-number-preserved c =
-    told_more (λ number. known_dword number ((abstract_of c.args.known.now).entries number)) c.loop-number.number (string_bytes c.args.told.now)
+    told_more (λ number. known_dword number ((abstract_of c.args.known.now).entries number)) c.loop-number.number
+    (string_bytes c.args.told.now)
     (string_bytes c.loop-number.told) (string_bytes c.add_dword.new.told) c.loop-number.invariant
     c.in_ok-add_dword.ensures
 
 pub returns : goal.returns
 returns c =
-    told_all (λ number. known_dword number ((abstract_of c.args.known.now).entries number)) c.loop-number.number STACK_DWORDS (string_bytes c.args.told.now)
+    told_all (λ number. known_dword number ((abstract_of c.args.known.now).entries number)) c.loop-number.number
+    STACK_DWORDS (string_bytes c.args.told.now)
     (string_bytes c.loop-number.told)
     (omega (arith, c.loop-number-test.false, c.loop-number.auto.number-end)) c.loop-number.invariant

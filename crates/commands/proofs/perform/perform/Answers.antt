@@ -41,7 +41,8 @@ returns-clause-performed g c = record {
         w.in-Some.bytes w.as_slice.result.now (g.W.Write.contents c.args.out.now)
         (g.W.Write.contents w.carry_out_of-ended.new.out) (g.W.Write.contents c.match-input.out)
         w.carry_out_of-ended.result _ c.in-Ok.ensures.front w.in-Some.is w.as_slice.ensures.value
-        w.carry_out_of-ended.ensures (ap (λ o. g.W.Write.contents o) (sym w.out-is)) (sym w.ended-is ∙ c.in-Err-ended.is)
+        w.carry_out_of-ended.ensures (ap (λ o. g.W.Write.contents o) (sym w.out-is)) (sym w.ended-is
+        ∙ c.in-Err-ended.is)
     | in-None w ↦ unfound_end c.args.request.now (g.R.Read.remaining c.args.reader.now) _ c.in-Ok.input
         (g.W.Write.contents c.args.out.now) (g.W.Write.contents w.carry_out-ended.new.out)
         (g.W.Write.contents c.match-input.out) w.carry_out-ended.result _ c.in-Ok.ensures.unread w.in-None.is

@@ -6,7 +6,8 @@ use Rattle.key_sweep.proofs.sweeping.write_keys.Given as goal
 abbrev pub invariant-loop-next : goal.invariant-loop-next
 invariant-loop-next g l =
     record {
-      swept : Swept (g.W.Write.contents l.fn.writer) (g.W.Write.contents l.writer) l.scenario l.fn.keys.first l.next l.told;
+      swept : Swept (g.W.Write.contents l.fn.writer)
+          (g.W.Write.contents l.writer) l.scenario l.fn.keys.first l.next l.told;
       past : l.past ≡ l.fn.keys.last + 1;
       within : l.next ≤ l.past;
     }

@@ -29,7 +29,8 @@ returns g c =
     c.in_ok-written.ensures.told c.new-writer.ensures.scenario c.new-writer.ensures.span
     c.new-writer.ensures.written in
     record {
-      left = ends_whole contents old (contents c.write_last.new.out) s c.args.span _ _ c.written.result c.new-writer.result
+      left = ends_whole contents old (contents c.write_last.new.out) s c.args.span _ _ c.written.result
+          c.new-writer.result
           c.run_watched.new.watcher c.write_first.new.out c.run_watched.new.sink c.write_last.result stands
           c.in-Ok.ensures.run c.in-Ok.ensures.watched c.written.ensures c.write_last.ensures;
     }

@@ -26,7 +26,8 @@ returns-in_err-entry-clause-refused g c =
     let One : Type 0 = (x : g.E.Entry.Draft) → reads (view v) x → ⊥ in
     let None : Type 0 = (xs : List g.E.Entry.Draft) → ReadsEach reads (array_view c.args.array.now) xs → ⊥ in
     let here : Place → ℕ → Type 0 = λ p slot. (p ≡ g.E.Entry.place i) × breaks (view v) slot in
-    let there : Place → ℕ → Type 0 = StandsIn g.E.Entry.place breaks (Some (array_data (array_view c.args.array.now))) in
+    let there : Place → ℕ → Type 0 = StandsIn g.E.Entry.place breaks
+    (Some (array_data (array_view c.args.array.now))) in
     let all = refuses_more c.in_err-entry.field-0.0 One None here there
     (next_unread reads items _ i v within (search rules) c.loop-index.invariant.same)
     (λ p slot is. (i, is.0, next_stands breaks items _ i v within (search rules) c.loop-index.invariant.same slot is.1))

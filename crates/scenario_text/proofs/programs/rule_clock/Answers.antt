@@ -6,4 +6,5 @@ use Rattle.scenario_text.proofs.programs.rule_clock.Goals as goal
 
 pub taken-requires : goal.taken-requires
 taken-requires c =
-    subst (λ (p : List Insn). Typable p c.args.shape) (sym c.in_ok-listing.ensures.listing) (clock_typable _ _ c.requires.rule c.requires.extent c.requires.nodes)
+    subst (λ (p : List Insn). Typable p c.args.shape) (sym c.in_ok-listing.ensures.listing)
+    (clock_typable _ _ c.requires.rule c.requires.extent c.requires.nodes)

@@ -6,4 +6,5 @@ use Rattle.scenario_text.proofs.programs.say_program.Goals as goal
 
 pub taken-requires : goal.taken-requires
 taken-requires c =
-    subst (λ (p : List Insn). Typable p c.args.shape) (sym c.in_ok-listing.ensures.listing) (say_typable _ _ c.requires.extent c.requires.values)
+    subst (λ (p : List Insn). Typable p c.args.shape) (sym c.in_ok-listing.ensures.listing)
+    (say_typable _ _ c.requires.extent c.requires.values)

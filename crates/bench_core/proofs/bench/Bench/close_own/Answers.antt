@@ -58,7 +58,8 @@ close_nodes-requires-clause-fits c =
     let b = c.self.inside in
     let sorted = sorted_at (view_of b).setup c.deref.result.now b.nodes.items b.mail c.deref-2.result.now
     c.in-Some.coins.items (b.opened - 1) c.deref-3.result.now c.args.dones.items c.place_results-found.result
-    c.deref.ensures.value c.deref-2.ensures.value c.deref-3.ensures.value c.place_results-found.ensures.found c.place_results-found.ensures.ends
+    c.deref.ensures.value c.deref-2.ensures.value c.deref-3.ensures.value c.place_results-found.ensures.found
+    c.place_results-found.ensures.ends
     (exact_at c.self.inside c.args.self.now c.in-Some.coins c.deref.result.now c.deref-2.result.now
     c.deref-3.result.now c.args.dones.items c.self.invariant c.self.view_is c.in-Some.is
     c.deref.ensures.value c.deref-2.ensures.value c.deref-3.ensures.value c.requires.exact) in
@@ -67,7 +68,8 @@ close_nodes-requires-clause-fits c =
 
 -- ---- the nodes are closed
 
-closing : (c : goal.After-swap) → ClosesNodes c.self.inside c.in-Some.coins c.args.dones.items c.place_results-found.result
+closing : (c : goal.After-swap) → ClosesNodes c.self.inside c.in-Some.coins c.args.dones.items
+    c.place_results-found.result
     c.close_nodes.new.nodes c.close_nodes.new.mail
 closing c =
     closes_nodes c.self.inside c.in-Some.coins c.deref.result.now c.deref-2.result.now c.deref-3.result.now
@@ -92,7 +94,8 @@ overflow_add-number c =
 
 -- ---- what is told of them
 
-closing_told : (c : goal.After-deref-8) → ClosesNodes c.self.inside c.in-Some.coins c.args.dones.items c.place_results-found.result
+closing_told : (c : goal.After-deref-8)
+    → ClosesNodes c.self.inside c.in-Some.coins c.args.dones.items c.place_results-found.result
     c.close_nodes.new.nodes c.close_nodes.new.mail
 closing_told c =
     closes_nodes c.self.inside c.in-Some.coins c.deref.result.now c.deref-2.result.now c.deref-3.result.now
@@ -223,7 +226,8 @@ record_is c x e =
       clocks = c.tell-told.ensures.clocks ∙ ap (map told_clock) c.deref-7.ensures.value;
       settled = c.tell-told.ensures.settled ∙ e.settled;
       steps = rw coins (steps_told (view_of b).setup (view_of b).state c.in-Some.coins.items
-          (b.opened - 1) c.args.dones.items c.place_results-found.result c.tell-told.result.steps (sound_of b kept).nodes x.sorted
+          (b.opened - 1) c.args.dones.items c.place_results-found.result c.tell-told.result.steps
+          (sound_of b kept).nodes x.sorted
           steps);
       agree = c.tell-told.ensures.agree;
     })

@@ -56,7 +56,8 @@ returns-clause-told g c =
       held.0,
       subst (λ (l : List Placed). OpenedLast l held.0)
           (ap all_placed c.deref.ensures.value ∙ ap (λ (v : EngineView). v.receipts) c.pass.view_is) held.1,
-      tells_close c.args.self.now.setup c.deref_mut-round.result.now.bench c.close.new.self.bench held.0 c.in_ok-place.told
+      tells_close c.args.self.now.setup c.deref_mut-round.result.now.bench c.close.new.self.bench held.0
+          c.in_ok-place.told
           setup e.replays e.accepted held.2 e.ok e.told,
     )
 

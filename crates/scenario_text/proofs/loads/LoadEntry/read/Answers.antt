@@ -44,7 +44,8 @@ returns-in_err-program-clause-refused c =
     × BrokenText ms (codes "text") (extent_of f) slot in
     let there : Place → ℕ → Type 0 = λ p slot. (p ≡ places.Load c.args.index) × BrokenLoad f clock ms slot in
     let leads : none → no_load = λ silent load is. silent load.program
-    (subst (λ (k : Kind). IsProgramOf f clock k ms load.program) (one_kind ms load.kind kind is.named named) is.program) in
+    (subst (λ (k : Kind). IsProgramOf f clock k ms load.program)
+    (one_kind ms load.kind kind is.named named) is.program) in
     let all = refuses_more c.in_err-program.field-0.0 none no_load here there leads
     (λ p slot is. (
       is.0,
