@@ -1,3 +1,2 @@
 mod benches;
-mod own;
 mod pulses;

@@ -25,6 +25,3 @@ pub use schedule::events;
 pub use summary::{RunSummary, summary_of};
 pub use verdicts::{Judged, agreement, counting, told_clocks};
 pub use watched::{WatchedFault, run_watched};
-
-#[cfg(test)]
-mod tests;

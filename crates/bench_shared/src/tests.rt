@@ -3,4 +3,3 @@ mod boards;
 mod ends;
 mod refusals;
 mod results;
-mod threads;

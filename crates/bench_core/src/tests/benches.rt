@@ -4,7 +4,7 @@ ghost use Rattle.std.specs.Prelude.{◌≡◌, ◌<◌, IfOk, length};
 use crate::{Actor, Bench, Change, CloseError, NodeDone, NodeTask, PulseRecord, Row};
 use bpf_insn::Program;
 use bpf_verify::{VerifiedProgram, verify};
-use clock_nodes::{ClockRule, dolev_welch, echo, say};
+use clock_nodes::{ClockRule, dolev_welch, say};
 use node_env::Shape;
 use std::alloc::{AllocError, Global};
 use std::process::Abort;
@@ -41,19 +41,11 @@ pub fn saying(alloc: Global, bench: &Bench, number: u32) -> Result<VerifiedProgr
     accepted(alloc, &program, shape)
 }
 
-/// A program that sends each node what it sent.
-pub fn echoing(alloc: Global, bench: &Bench) -> Result<VerifiedProgram, Fail> {
-    let program = echo(alloc, bench.shape())?;
-    accepted(alloc, &program, bench.shape())
-}
-
 /// A change to stage: which program is loaded, or the clock and the mark of a memory.
 #[derive(Clone, Copy)]
 pub enum Plan {
     Clock(u32),
     Say(u32, u32),
-    Echo(u32),
-    Unload(u32),
     Corrupt(u32, u8, u8),
 }
 
@@ -65,8 +57,6 @@ pub fn change_of(alloc: Global, bench: &Bench, plan: Plan) -> Result<Change, Fai
     match plan {
         Plan::Clock(node) => Ok(load(node, clock(alloc, bench)?)),
         Plan::Say(node, number) => Ok(load(node, saying(alloc, bench, number)?)),
-        Plan::Echo(node) => Ok(load(node, echoing(alloc, bench)?)),
-        Plan::Unload(node) => Ok(Change::Unload { node }),
         Plan::Corrupt(node, clock, mark) => {
             let image = [clock, 0, 0, 0, mark, 0, 0, 0].to_vec(alloc)?;
             Ok(Change::Corrupt { node, image })

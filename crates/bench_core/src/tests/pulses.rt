@@ -1,7 +1,7 @@
 //! Closed and abandoned pulses.
 use super::benches::{
-    Plan, abandoned_pulse, assert_clocks, assert_mail, assert_told, bench_of, clock, clocks_of,
-    close, open, pulse, refused_close, run_all, stage,
+    Plan, abandoned_pulse, assert_clocks, assert_mail, assert_told, bench_of, clocks_of, close,
+    open, pulse, refused_close, run_all, stage,
 };
 use crate::{CLOCKS_DIFFER, CloseError};
 use std::test::Fail;
@@ -60,16 +60,6 @@ fn one_node_counts(rt: HostRuntime) -> Result<(), Fail> {
 }
 
 #[test]
-fn its_clock_has_34_slots(rt: HostRuntime) -> Result<(), Fail> {
-    let program = clock(rt.alloc(), &bench_of(rt.alloc(), 1, 0, 2)?)?;
-    assert_eq!(rt;
-        (program.program().slot_count(), program.budget()),
-        (34, 24)
-    );
-    Ok(())
-}
-
-#[test]
 fn an_abandoned_pulse_keeps_its_changes(rt: HostRuntime) -> Result<(), Fail> {
     let alloc = rt.alloc();
     let mut bench = bench_of(alloc, 4, 1, 8)?;
@@ -81,36 +71,6 @@ fn an_abandoned_pulse_keeps_its_changes(rt: HostRuntime) -> Result<(), Fail> {
     let (_, refusal) = refused_close(alloc, &mut bench, Vec::new(alloc))?;
     assert_eq!(rt; refusal, CloseError::NotOpen);
     assert_eq!(rt; bench.abandon(), Err(CloseError::NotOpen));
-    Ok(())
-}
-
-#[test]
-fn clocks_agree_after_a_corruption(rt: HostRuntime) -> Result<(), Fail> {
-    let alloc = rt.alloc();
-    let mut bench = clocks_of(alloc, 4, 1, 8)?;
-    for clock in 0..3 {
-        pulse(alloc, &mut bench, &[1; 4])?;
-        assert_clocks(&rt, &bench, &[clock; 4]);
-    }
-    stage(alloc, &mut bench, Plan::Corrupt(3, 5, 1))?;
-    let record = pulse(alloc, &mut bench, &[1; 4])?;
-    let clocks = [Some(3), Some(3), Some(3), Some(0)];
-    assert_told(&rt, &record, [4, 3, 1, 4], &clocks, &[true; 4]);
-    assert!(rt; record.agree);
-    Ok(())
-}
-
-#[test]
-fn an_unloaded_node_is_not_settled(rt: HostRuntime) -> Result<(), Fail> {
-    let alloc = rt.alloc();
-    let mut bench = clocks_of(alloc, 2, 1, 8)?;
-    for _ in 0..2 {
-        pulse(alloc, &mut bench, &[0; 2])?;
-    }
-    stage(alloc, &mut bench, Plan::Unload(1))?;
-    let record = pulse(alloc, &mut bench, &[1; 2])?;
-    assert_told(&rt, &record, [3, 1, 0, 1], &[Some(1), None], &[true, false]);
-    assert_mail(&rt, alloc, &bench, &[Some(1), Some(1), None, None])?;
     Ok(())
 }
 

@@ -1,9 +1,10 @@
 //! Results of another bench on a shared one.
-ghost use Rattle.std.specs.Prelude.{◌≡◌, ◌+◌, None};
+ghost use Rattle.std.specs.Prelude.{◌≡◌, ◌+◌, None, OnOk};
 
-use crate::SharedBench;
 use crate::tests::benches::{NODES, ONES, clock, load_all, open, plan};
+use crate::{EnginePass, SharedBench};
 use bench_core::{Actor, Bench, Change, CloseError, NodeDone, NodeTask};
+use bpf_verify::VerifiedProgram;
 use std::alloc::Global;
 use std::marker::Brand;
 use std::sync::Wait;
@@ -19,20 +20,28 @@ fn run_all(alloc: Global, tasks: Vec<NodeTask>) -> Result<Vec<NodeDone>, Fail> {
     Ok(dones)
 }
 
-/// The last node's result in the first pulse of four clocks with these coins, on a bench of its own.
-fn last_result(alloc: Global, coins: &[u32]) -> Result<NodeDone, Fail> {
+/// Stages a load on a bench of its own.
+fn stage_load(bench: &mut Bench, node: u32, program: VerifiedProgram) -> Result<(), Fail> {
+    match bench.stage(Actor::Loader(0), Change::Load { node, program }) {
+        Ok(()) => Ok(()),
+        Err(_refused) => Err("not staged")?,
+    }
+}
+
+/// A bench of its own, each of whose nodes has the clock staged.
+fn four_clocks(alloc: Global) -> Result<Bench, Fail> {
     let (shape, rule) = plan(16)?;
     let program = clock(alloc, shape, rule)?;
     let mut bench = Bench::new(alloc, shape, rule)?;
     for node in 0..NODES {
-        let program = program.copy()?;
-        if bench
-            .stage(Actor::Loader(0), Change::Load { node, program })
-            .is_err()
-        {
-            Err("not staged")?;
-        }
+        stage_load(&mut bench, node, program.copy()?)?;
     }
+    Ok(bench)
+}
+
+/// The last node's result in its first pulse with these coins.
+fn last_result(alloc: Global, coins: &[u32]) -> Result<NodeDone, Fail> {
+    let mut bench = four_clocks(alloc)?;
     let Ok(tasks) = bench.open_pulse(alloc, coins) else {
         return Err("not opened")?;
     };
@@ -40,8 +49,49 @@ fn last_result(alloc: Global, coins: &[u32]) -> Result<NodeDone, Fail> {
     Ok(dones.pop().ok_or("no result")?)
 }
 
-/// Why a shared bench refuses the results of its pulse with one more: first with one that its own last node's is equal
-/// to, then with one of a pulse with other coins. And whether it takes its own alone then.
+/// The refusal of a close with one result more, and the results without it.
+fn refused_with<B: Ledger, C: Ledger, R: Wait>(
+    rt: &R,
+    alloc: Global,
+    shared: &SharedBench<B, C>,
+    engine: &mut EnginePass<B, C>,
+    mut dones: Vec<NodeDone>,
+    more: NodeDone,
+) -> Result<(Vec<NodeDone>, CloseError), Fail>
+    requires { engine.old.owed ≡ None }
+    ensures { OnOk result (engine.new.owed ≡ None) }
+{
+    dones.push(more)?;
+    match shared.close_pulse(rt, alloc, engine, dones) {
+        Ok(_taken) => Err("closed")?,
+        Err((mut dones, refusal)) => {
+            let _more = dones.pop();
+            Ok((dones, refusal))
+        }
+    }
+}
+
+/// Why a pulse isn't closed by its results with one more: first with one that its own last node's is equal to, then with
+/// one of a pulse with other coins. And whether it is by its own alone then.
+fn answers<B: Ledger, C: Ledger, R: Wait>(
+    rt: &R,
+    alloc: Global,
+    shared: &SharedBench<B, C>,
+    engine: &mut EnginePass<B, C>,
+) -> Result<([CloseError; 2], bool), Fail>
+    requires { engine.old.owed ≡ None }
+{
+    let tasks = open(rt, alloc, shared, engine).ok_or("not opened")?;
+    let dones = run_all(alloc, tasks)?;
+    let equal = last_result(alloc, &ONES)?;
+    let (dones, twice) = refused_with(rt, alloc, shared, engine, dones, equal)?;
+    let other = last_result(alloc, &[0; 4])?;
+    let (dones, stranger) = refused_with(rt, alloc, shared, engine, dones, other)?;
+    let closed = shared.close_pulse(rt, alloc, engine, dones).is_ok();
+    Ok(([twice, stranger], closed))
+}
+
+/// The answers of a bench of four clocks.
 fn with_one_more<B: Ledger, C: Ledger, R: Wait>(
     rt: &R,
     alloc: Global,
@@ -57,20 +107,7 @@ fn with_one_more<B: Ledger, C: Ledger, R: Wait>(
         alloc, entries, closes, shape, rule, 1, 0,
     )?;
     load_all(rt, alloc, &shared, &mut loaders[0], &program)?;
-    let tasks = open(rt, alloc, &shared, &mut engine).ok_or("not opened")?;
-    let mut dones = run_all(alloc, tasks)?;
-    dones.push(last_result(alloc, &ONES)?)?;
-    let Err((mut dones, twice)) = shared.close_pulse(rt, alloc, &mut engine, dones) else {
-        return Err("closed with a result twice")?;
-    };
-    let _equal = dones.pop();
-    dones.push(last_result(alloc, &[0; 4])?)?;
-    let Err((mut dones, stranger)) = shared.close_pulse(rt, alloc, &mut engine, dones) else {
-        return Err("closed with a stranger")?;
-    };
-    let _other = dones.pop();
-    let closed = shared.close_pulse(rt, alloc, &mut engine, dones).is_ok();
-    Ok(([twice, stranger], closed))
+    answers(rt, alloc, &shared, &mut engine)
 }
 
 /// A close that tells `Twice` and `Stranger` as `NotOpen` keeps every clause, and fails here.
