@@ -5,7 +5,7 @@ ghost use Rattle.bench_scenario.specs.Reports.{is_yes, judged_head, judged_last,
 ghost use Rattle.bench_scenario.specs.Reports.{value_text, values_text, verdict_text, rule_or_own};
 ghost use Rattle.scenario_text.specs.Views.{frame_of};
 
-use crate::printing::{add, add_counts, add_front, add_number};
+use crate::printing::{add, add_counts, add_front, add_told};
 use crate::verdicts::{Judged, judged_of};
 use bench_core::PulseRecord;
 use scenario_text::Scenario;
@@ -19,8 +19,7 @@ fn add_value(report: &mut String, modulus: u32, clock: Option<u32>) -> Result<()
         None => add(report, " -"),
         Some(clock) => {
             if clock < modulus {
-                add(report, " ")?;
-                add_number(report, clock)
+                add_told(report, clock)
             } else {
                 add(report, " !")
             }

@@ -1,5 +1,5 @@
 //! The report of a run.
-ghost use Rattle.std.specs.Prelude.{◌≡◌, true, unwrap_or, ◌++◌, IfOk, OnOk, is_some, string_bytes, codes, count_by, length};
+ghost use Rattle.std.specs.Prelude.{◌≡◌, true, unwrap_or, ◌++◌, IfOk, OnOk, IfSome, is_some, string_bytes, codes, count_by, length};
 ghost use Rattle.std.specs.List.{list_all};
 ghost use Rattle.std.specs.Fmt.{decimal};
 ghost use Rattle.bench_scenario.specs.Reports.{report_of, plain_report, all_agree, clock_text, clocks_text, record_line, record_lines, shape_text, last_line, head_line, yes_or_no};
@@ -27,15 +27,45 @@ pub(crate) fn add_number(report: &mut String, number: u32) -> Result<(), AllocEr
     add(report, digits.format(number))
 }
 
+/// A clock of one digit, as most are, with the space before it.
+#[tactic(auto, using(std::proofs::lemmas::Fmt::decimal_digit))]
+fn short_clock(clock: u32) -> Option<&'static str>
+    ensures { IfSome result (λ text. text.now ≡ clock_text (Some clock)) }
+{
+    match clock {
+        0 => Some(" 0"),
+        1 => Some(" 1"),
+        2 => Some(" 2"),
+        3 => Some(" 3"),
+        4 => Some(" 4"),
+        5 => Some(" 5"),
+        6 => Some(" 6"),
+        7 => Some(" 7"),
+        8 => Some(" 8"),
+        9 => Some(" 9"),
+        _ => None,
+    }
+}
+
+/// A clock that is told, with the space before it.
+pub(crate) fn add_told(report: &mut String, clock: u32) -> Result<(), AllocError>
+    ensures { OnOk result (string_bytes report.new ≡ string_bytes report.old ++ clock_text (Some clock)) }
+{
+    match short_clock(clock) {
+        Some(text) => add(report, text),
+        None => {
+            add(report, " ")?;
+            add_number(report, clock)
+        }
+    }
+}
+
 fn add_clock(report: &mut String, clock: Option<u32>) -> Result<(), AllocError>
     ensures { OnOk result (string_bytes report.new ≡ string_bytes report.old ++ clock_text clock) }
 {
     match clock {
         None => add(report, " -"),
-        Some(clock) => {
-            add(report, " ")?;
-            add_number(report, clock)
-        }
+        Some(clock) => add_told(report, clock),
     }
 }
 
