@@ -34,6 +34,3 @@ pub use refusal::{CloseError, OpenError, StageError};
 pub use row::Row;
 pub use steps::steps_by_node;
 pub use task::{NodeDone, NodeTask};
-
-#[cfg(test)]
-mod tests;

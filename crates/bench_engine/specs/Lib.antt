@@ -1,6 +1,2 @@
-pub mod Events
-pub mod Laws
 pub mod Pulses
-pub mod Runs
-pub mod Watching
 pub mod inner

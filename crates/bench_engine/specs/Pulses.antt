@@ -5,8 +5,8 @@ use Rattle.bench_core.specs.State.{AreCoins}
 use Rattle.bench_core.specs.declared.refusal.CloseError.TheVariants.{NotOpen, Missing, Twice, Stranger, Memory}
 use Rattle.bench_shared.specs.Passes.{Placed, entry_in}
 use Rattle.bench_shared.specs.Plans.{Plan, IsPlanOpenRefusal}
-use Rattle.bench_engine.specs.declared.refusal.EngineError.{EngineError}
-use Rattle.bench_engine.specs.declared.refusal.EngineError.TheVariants.{Open, Work, Close}
+use Rattle.bench_engine.specs.declared.engine_error.EngineError.{EngineError}
+use Rattle.bench_engine.specs.declared.engine_error.EngineError.TheVariants.{Open, Work, Close}
 
 -- receipts more, for these entries
 abbrev pub Adds : List Placed → List Entry → List Placed → Type 0

@@ -1,5 +1,2 @@
 -- What proofs and private contracts alone cite.
-pub mod Batches
-pub mod Going
 pub mod Pulses
-pub mod Watching

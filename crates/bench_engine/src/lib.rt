@@ -1,28 +1,12 @@
-//! Runs of lists of events on a bench (docs/SCENARIOS.md, "Runs").
+//! Pulses of a shared bench, and the runs of `bench_workers` (docs/THREADS.md).
 #![tactic(auto)]
 
-mod batch;
-mod deal;
-mod engine;
-mod event;
-mod gate;
-pub mod laws;
-mod refusal;
+mod engine_error;
 mod shared_pulse;
-mod tasks;
-mod waiting;
-mod watched;
-mod watcher;
-mod workers;
 
-pub use engine::{run_events, run_events_on};
-pub use event::{Event, Run, RunFault, RunRefusal};
-pub use gate::{Gate, Open};
-pub use refusal::{EngineError, WorkError};
+pub use bench_workers::{
+    Event, Gate, MOST_WORKERS, Open, Run, RunFault, RunRefusal, Shown, Stop, WatchFault, Watcher,
+    WorkError, laws, run_events, run_events_on, run_events_watched,
+};
+pub use engine_error::EngineError;
 pub use shared_pulse::pulse;
-pub use tasks::MOST_WORKERS;
-pub use watched::run_events_watched;
-pub use watcher::{Shown, Stop, WatchFault, Watcher};
-
-#[cfg(test)]
-mod tests;

@@ -4,8 +4,8 @@ use Rattle.std.specs.Prelude.{Bool, ◌==◌, if◌then◌else◌, true, false, 
 use Rattle.std.proofs.lemmas.Bool.Decides.{nat_tests}
 use Rattle.std.proofs.lemmas.Bool.{cases_eq}
 use Rattle.bench_core.specs.State.{Change, Load as LoadChange}
-use Rattle.bench_engine.specs.Events.{Event, Stage, Pulse}
-use Rattle.bench_engine.specs.Runs.{entries_after}
+use Rattle.bench_workers.specs.Events.{Event, Stage, Pulse}
+use Rattle.bench_workers.specs.Runs.{entries_after}
 use Rattle.bpf_verify.specs.Accepted.{Accepted}
 use Rattle.scenario_text.specs.declared.scenario.Load.{Load}
 use Rattle.scenario_text.specs.declared.scenario.Unload.{Unload}

@@ -5,7 +5,7 @@ use Rattle.std.proofs.lemmas.List.Elements.{All-append}
 use Rattle.bpf_verify.specs.Accepted.{Accepted}
 use Rattle.bench_core.specs.State.{AreCoins, Load as LoadChange, Unload as UnloadChange, Corrupt as CorruptChange}
 use Rattle.bench_core.specs.Setup.{Setup}
-use Rattle.bench_engine.specs.Events.{Event, Stage, Pulse}
+use Rattle.bench_workers.specs.Events.{Event, Stage, Pulse}
 use Rattle.scenario_text.specs.declared.scenario.Coins.{Coins}
 use Rattle.scenario_text.specs.declared.scenario.Coins.TheVariants.{Zeros, Ones, Chacha}
 use Rattle.scenario_text.specs.declared.scenario.CoinEntry.{CoinEntry}

@@ -6,10 +6,10 @@ use Rattle.bench_core.specs.declared.refusal.StageError.TheVariants as stage
 use Rattle.bench_core.specs.Setup.{Setup}
 use Rattle.bench_core.specs.State.{AreCoins}
 use Rattle.bench_core.specs.Refusals.{IsMisfit}
-use Rattle.bench_engine.specs.Events.{Event, Stage, Pulse}
-use Rattle.bench_engine.specs.declared.event.RunRefusal.{RunRefusal}
-use Rattle.bench_engine.specs.declared.event.RunRefusal.TheVariants as refusals
-use Rattle.bench_engine.specs.Runs.{IsFault, IsFirstRefused, IsRefusalOf, entries_after}
+use Rattle.bench_workers.specs.Events.{Event, Stage, Pulse}
+use Rattle.bench_workers.specs.declared.event.RunRefusal.{RunRefusal}
+use Rattle.bench_workers.specs.declared.event.RunRefusal.TheVariants as refusals
+use Rattle.bench_workers.specs.Runs.{IsFault, IsFirstRefused, IsRefusalOf, entries_after}
 use Rattle.scenario_text.proofs.EntryLemmas.{Each}
 use Rattle.bench_scenario.specs.Runs.{IsMemoryOrThread}
 

@@ -4,8 +4,8 @@ use Rattle.std.specs.Prelude.{◌==◌, if◌then◌else◌, flat_map, get_or, s
 use Rattle.std.proofs.lemmas.Bool.{cond-false, cond-true, eqb-false, eqb-true}
 use Rattle.std.proofs.lemmas.List.{append-nil, get_or-map, length-map, map-append}
 use Rattle.bench_core.specs.State.{Load as LoadChange}
-use Rattle.bench_engine.specs.Events.{Event, Pulse, Stage, event_of}
-use Rattle.bench_engine.specs.declared.event.Event.{Event as EventCode}
+use Rattle.bench_workers.specs.Events.{Event, Pulse, Stage, event_of}
+use Rattle.bench_workers.specs.declared.event.Event.{Event as EventCode}
 use Rattle.scenario_text.specs.declared.scenario.Load.{Load}
 use Rattle.scenario_text.specs.declared.scenario.Scenario.{Scenario}
 use Rattle.bench_scenario.specs.Coins.{coins_of, keyed}

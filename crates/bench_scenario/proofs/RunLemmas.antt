@@ -5,10 +5,10 @@ use Rattle.std.proofs.lemmas.List.{length-map}
 use Rattle.node_env.specs.Env.{Extent}
 use Rattle.bench_core.specs.Setup.{Setup}
 use Rattle.bench_core.specs.Told.{PulseTold}
-use Rattle.bench_engine.specs.Events.{Event}
-use Rattle.bench_engine.specs.declared.event.RunRefusal.{RunRefusal}
-use Rattle.bench_engine.specs.declared.event.RunRefusal.TheVariants as refusals
-use Rattle.bench_engine.specs.Runs.{IsFault, IsRun}
+use Rattle.bench_workers.specs.Events.{Event}
+use Rattle.bench_workers.specs.declared.event.RunRefusal.{RunRefusal}
+use Rattle.bench_workers.specs.declared.event.RunRefusal.TheVariants as refusals
+use Rattle.bench_workers.specs.Runs.{IsFault, IsRun}
 use Rattle.scenario_text.specs.declared.scenario.Scenario.{Scenario}
 use Rattle.scenario_text.specs.Texts.{ReadsText}
 use Rattle.scenario_text.specs.Views.{corrupt_of, extent_of, frame_of}

@@ -1,11 +1,11 @@
 -- What a watched run shows is of the scenario's own bench and events.
 use Rattle.std.proofs.Common.{◌≡◌, ℕ, List, subst}
 use Rattle.bench_core.specs.Setup.{Setup}
-use Rattle.bench_engine.specs.Events.{Event}
-use Rattle.bench_engine.specs.Watching.{EndsAt, Seen}
-use Rattle.bench_engine.specs.declared.event.RunFault.{RunFault}
-use Rattle.bench_engine.specs.declared.watcher.WatchFault.{WatchFault}
-use Rattle.bench_engine.specs.declared.watcher.WatchFault.TheVariants.{Run}
+use Rattle.bench_workers.specs.Events.{Event}
+use Rattle.bench_workers.specs.Watching.{EndsAt, Seen}
+use Rattle.bench_workers.specs.declared.event.RunFault.{RunFault}
+use Rattle.bench_workers.specs.declared.watcher.WatchFault.{WatchFault}
+use Rattle.bench_workers.specs.declared.watcher.WatchFault.TheVariants.{Run}
 use Rattle.scenario_text.specs.declared.scenario.Scenario.{Scenario}
 use Rattle.bench_scenario.specs.Events.{events_of}
 use Rattle.bench_scenario.specs.Runs.{bench_of}

@@ -1,7 +1,7 @@
 -- The events of a scenario, in order (docs/SCENARIOS.md, "What is done").
 use Rattle.std.specs.Prelude.{ℕ, zero, suc, ◌==◌, if◌then◌else◌, List, [], ◌∷◌, ◌++◌, map, flat_map}
 use Rattle.bench_core.specs.State.{Load as LoadChange, Unload as UnloadChange, Corrupt as CorruptChange}
-use Rattle.bench_engine.specs.Events.{Event, Stage, Pulse}
+use Rattle.bench_workers.specs.Events.{Event, Stage, Pulse}
 use Rattle.scenario_text.specs.declared.scenario.Load.{Load}
 use Rattle.scenario_text.specs.declared.scenario.Unload.{Unload}
 use Rattle.scenario_text.specs.declared.scenario.Corrupt.{Corrupt}

@@ -4,9 +4,9 @@ use Rattle.std.specs.Io.KnownBytes.{Appends, Keeps}
 use Rattle.bench_core.specs.Setup.{Setup}
 use Rattle.bench_core.specs.Told.{PulseTold}
 use Rattle.bench_core.specs.Views.{setup_with}
-use Rattle.bench_engine.specs.declared.event.RunRefusal.{RunRefusal}
-use Rattle.bench_engine.specs.declared.event.RunRefusal.TheVariants as refusals
-use Rattle.bench_engine.specs.Runs.{IsFault, IsRun}
+use Rattle.bench_workers.specs.declared.event.RunRefusal.{RunRefusal}
+use Rattle.bench_workers.specs.declared.event.RunRefusal.TheVariants as refusals
+use Rattle.bench_workers.specs.Runs.{IsFault, IsRun}
 use Rattle.scenario_text.specs.declared.scenario.Scenario.{Scenario}
 use Rattle.scenario_text.specs.Spelling.{clock_insns, rule_of}
 use Rattle.scenario_text.specs.Texts.{IsDue, ReadsText}

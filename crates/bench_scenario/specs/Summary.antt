@@ -1,4 +1,4 @@
--- What a run comes to, in numbers (docs/SWEEP.md, "The lines").
+-- What a run comes to, in numbers (docs/LUCK.md, "The lines").
 use Rattle.std.specs.Prelude.{◌≡◌, ℕ, ◌+◌, ◌==◌, if◌then◌else◌, is_some, Bool, false, not, max, List, [], ◌∷◌, map, count_by, Option, Some, None}
 use Rattle.bench_core.specs.Told.{PulseTold}
 use Rattle.scenario_text.specs.declared.limits.TheConstants.{CLOCK_VERSION}

@@ -1,7 +1,7 @@
 -- How the run of a scenario before a watcher ends early (docs/INSIDE.md, "The run").
 use Rattle.std.specs.Prelude.{◌≡◌, List, take}
-use Rattle.bench_engine.specs.Runs.{IsFault}
-use Rattle.bench_engine.specs.Watching.{Seen, StoppedAt, Watched}
+use Rattle.bench_workers.specs.Runs.{IsFault}
+use Rattle.bench_workers.specs.Watching.{Seen, StoppedAt, Watched}
 use Rattle.scenario_text.specs.declared.scenario.Scenario.{Scenario}
 use Rattle.bench_scenario.specs.declared.watched.WatchedFault.{WatchedFault}
 use Rattle.bench_scenario.specs.declared.watched.WatchedFault.TheVariants as faults

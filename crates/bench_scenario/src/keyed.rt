@@ -1,7 +1,7 @@
 //! The run of a scenario with another key.
 ghost use Rattle.std.specs.Prelude.{◌≡◌, ℕ, List, IfOk, map};
-ghost use Rattle.bench_engine.specs.declared.event.RunRefusal.TheVariants.{Memory};
-ghost use Rattle.bench_engine.specs.Runs.{IsRun};
+ghost use Rattle.bench_workers.specs.declared.event.RunRefusal.TheVariants.{Memory};
+ghost use Rattle.bench_workers.specs.Runs.{IsRun};
 ghost use Rattle.scenario_text.specs.Texts.{ReadsText};
 ghost use Rattle.bench_scenario.specs.Coins.{keyed};
 ghost use Rattle.bench_scenario.specs.Events.{events_of};
@@ -9,7 +9,7 @@ ghost use Rattle.bench_scenario.specs.Runs.{bench_of};
 
 use crate::run::bench_for;
 use crate::schedule::events_with_key;
-use bench_engine::{Open, Run, RunRefusal, run_events_on};
+use bench_workers::{Open, Run, RunRefusal, run_events_on};
 use scenario_text::Scenario;
 use std::alloc::{AllocError, Global};
 use std::sync::Wait;

@@ -8,7 +8,7 @@ ghost use Rattle.scenario_text.specs.Views.{frame_of};
 use crate::judged::judged_report;
 use crate::verdicts::{Judged, judged_of};
 use bench_core::PulseRecord;
-use bench_engine::Run;
+use bench_workers::Run;
 use itoa::Buffer;
 use scenario_text::{CLOCK_VERSION, FIRST_VERSION, Scenario};
 use std::alloc::{AllocError, Global};

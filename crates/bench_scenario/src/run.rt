@@ -10,7 +10,7 @@ use crate::paying::paying_workers;
 use crate::printing::{all_agree, report};
 use crate::schedule::events;
 use bench_core::Bench;
-use bench_engine::{MOST_WORKERS, Open, RunFault, run_events_on};
+use bench_workers::{MOST_WORKERS, Open, RunFault, run_events_on};
 use clock_nodes::ClockRule;
 use node_env::Shape;
 use scenario_text::{MAX_TEXT, Scenario, ScenarioError, scenario_in};

@@ -1,14 +1,14 @@
 //! The events of a scenario. Each change is put once into the row of its pulse, and then the rows are joined.
 
 ghost use Rattle.std.specs.Prelude.{◌≡◌, ◌++◌, ◌∷◌, [], ℕ, ◌≤◌, IfOk, OnOk, flat_map, get_or, length, map};
-ghost use Rattle.bench_engine.specs.Events.{Pulse, event_of};
+ghost use Rattle.bench_workers.specs.Events.{Pulse, event_of};
 ghost use Rattle.bench_scenario.specs.Coins.{coins_of, keyed};
 ghost use Rattle.bench_scenario.specs.Events.{corrupt_events, events_of, load_events, unload_events};
 ghost use Rattle.bench_scenario.specs.inner.Rows.{AreChanges, Grew, of_pulse, told};
 
 use crate::coins::coins_of;
 use bench_core::Change;
-use bench_engine::Event;
+use bench_workers::Event;
 use scenario_text::{Corrupt, Load, Scenario, Unload};
 use std::alloc::{AllocError, Global};
 

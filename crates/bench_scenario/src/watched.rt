@@ -1,7 +1,7 @@
 //! The run of a scenario before a watcher.
 ghost use Rattle.std.specs.Prelude.{◌≡◌, ◌≤◌, ℕ, List, IfErr, IfOk, map};
-ghost use Rattle.bench_engine.specs.Runs.{IsRun};
-ghost use Rattle.bench_engine.specs.Watching.{Seen, Watched};
+ghost use Rattle.bench_workers.specs.Runs.{IsRun};
+ghost use Rattle.bench_workers.specs.Watching.{Seen, Watched};
 ghost use Rattle.scenario_text.specs.Texts.{ReadsText};
 ghost use Rattle.bench_scenario.specs.Events.{events_of};
 ghost use Rattle.bench_scenario.specs.Runs.{bench_of};
@@ -10,7 +10,7 @@ ghost use Rattle.bench_scenario.specs.Watching.{EndsAt};
 use crate::paying::paying_workers;
 use crate::run::bench_for;
 use crate::schedule::events;
-use bench_engine::{MOST_WORKERS, Open, Run, RunFault, WatchFault, Watcher, run_events_watched};
+use bench_workers::{MOST_WORKERS, Open, Run, RunFault, WatchFault, Watcher, run_events_watched};
 use scenario_text::Scenario;
 use std::alloc::Global;
 use std::sync::Wait;

@@ -13,6 +13,3 @@ pub use board::{Board, WatchPass};
 pub use finish::Finished;
 pub use passes::{EnginePass, LoaderPass, Receipt};
 pub use shared::{MOST_LOADERS, MOST_WATCHERS, SharedBench};
-
-#[cfg(test)]
-mod tests;

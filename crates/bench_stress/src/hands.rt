@@ -4,7 +4,7 @@ ghost use Rattle.std.specs.Prelude.{◌≡◌, ◌+◌, ◌≤◌, None, All, If
 ghost use Rattle.bench_core.specs.Replay.{StagesAccepted};
 ghost use Rattle.bench_shared.specs.Ends.{HasReplay};
 ghost use Rattle.bench_shared.specs.declared.shared.TheConstants.{MOST_LOADERS};
-ghost use Rattle.bench_engine.specs.declared.tasks.TheConstants.{MOST_WORKERS};
+ghost use Rattle.bench_workers.specs.declared.tasks.TheConstants.{MOST_WORKERS};
 ghost use Rattle.bench_stress.specs.Stressed.{HasEntries, nearest, stressed_setup};
 
 use crate::loaders::{Programs, accept_both, begin, join_all};

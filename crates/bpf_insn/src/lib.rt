@@ -26,6 +26,3 @@ pub use operands::{
     Access, MOST_ARGUMENTS, Reads, access_of, call_of, is_exit, load_of, registers_read, written_by,
 };
 pub use slot::{Slot, SlotFault};
-
-#[cfg(test)]
-mod tests;

@@ -16,6 +16,3 @@ pub use node_env::Region;
 pub use run::{run_checked, step};
 pub use state::State;
 pub use word::{Outcome, TrapKind, Turn, Word};
-
-#[cfg(test)]
-mod tests;

@@ -25,6 +25,3 @@ pub use rules::{
     bytes_taken, is_astray, is_pointer, is_unset, moved, operand_kind, registers_of, takes_dword,
 };
 pub use verified::{VerifiedProgram, judge, verify};
-
-#[cfg(test)]
-mod tests;

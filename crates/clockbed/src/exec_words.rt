@@ -1,18 +1,11 @@
-//! The words of `exec`.
+//! What the words of `exec` ask for.
 
 use crate::request::shape_options;
-use crate::words::{Helps, file, with_shape};
-use clap::{Arg, ArgAction, ArgMatches, Command, value_parser};
+use clap::ArgMatches;
+use command_words::DEFAULT_FUEL;
 use commands::request::{Case, ExecOptions, ShapeOptions};
 use hex::FromHexError;
-use node_env::MAX_NODES;
-use std::alloc::{AllocError, Global};
-
-/// The fuel of a run for which none is named.
-pub(crate) const DEFAULT_FUEL: u64 = 1_000_000;
-
-/// The most fuel that can be named.
-pub(crate) const MOST_FUEL: i64 = 1_000_000_000;
+use std::alloc::Global;
 
 /// Why the values of options make no case.
 #[derive(Clone, Copy)]
@@ -21,63 +14,6 @@ pub(crate) enum CaseFault {
     Mail,
     Contents,
     Memory,
-}
-
-/// The command `exec` with its options.
-pub(crate) fn exec<'a>(alloc: Global, helps: &'a Helps) -> Result<Command<'a>, AllocError> {
-    let command = Command::new(alloc, "exec")
-        .about("Runs the program of an image")
-        .after_help(
-            "Example: clockbed exec --memory 8 --show examples/seven.bpf\nPage: docs/COMMANDS.md",
-        );
-    let fuel = Arg::new(alloc, "fuel")
-        .long("fuel")
-        .value_name("STEPS")
-        .help(helps.fuel.as_str())
-        .value_parser(value_parser!(u64).range(0..=MOST_FUEL));
-    let show = Arg::new(alloc, "show")
-        .long("show")
-        .help("Prints the memory and what was sent too")
-        .action(ArgAction::SetTrue);
-    let trace = Arg::new(alloc, "trace")
-        .long("trace")
-        .help("Prints each step of the run")
-        .action(ArgAction::SetTrue);
-    let command = with_shape(alloc, command, helps)?.arg(fuel)?;
-    with_case(alloc, command, helps)?
-        .arg(show)?
-        .arg(trace)?
-        .arg(file(alloc))
-}
-
-/// Adds the options that say the case.
-fn with_case<'a>(
-    alloc: Global,
-    command: Command<'a>,
-    helps: &'a Helps,
-) -> Result<Command<'a>, AllocError> {
-    let id = Arg::new(alloc, "id")
-        .long("id")
-        .value_name("NODE")
-        .help(helps.id.as_str())
-        .value_parser(value_parser!(u32).range(0..=i64::from(MAX_NODES) - 1));
-    let mail = Arg::new(alloc, "mail")
-        .long("mail")
-        .value_name("LIST")
-        .help(
-            "The mail from each node: numbers below 4294967296, or - for none, with commas between",
-        )
-        .allow_hyphen_values(true);
-    let coin = Arg::new(alloc, "coin")
-        .long("coin")
-        .value_name("BIT")
-        .help("The coin, 0 or 1 [default: 0]")
-        .value_parser(value_parser!(u32).range(0..=1));
-    let contents = Arg::new(alloc, "contents")
-        .long("contents")
-        .value_name("HEX")
-        .help("The first bytes of the memory, two digits each; the others are 0");
-    command.arg(id)?.arg(mail)?.arg(coin)?.arg(contents)
 }
 
 /// What `exec` is asked for, where the values make a case of the shape.

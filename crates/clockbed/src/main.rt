@@ -7,7 +7,6 @@ mod mail;
 mod progress;
 mod request;
 mod source;
-mod words;
 
 use crate::command::command;
 use crate::progress::Progress;

@@ -4,12 +4,12 @@ ghost use Rattle.commands.specs.Faults.{IsOfCommandLine};
 
 use crate::exec_words::{CaseFault, exec_options};
 use crate::mail::{MailFault, bytes_in, mail_in};
-use crate::words::{
+use clap::error::ErrorKind;
+use clap::{ArgMatches, Error};
+use command_words::{
     DEFAULT_LOADERS, DEFAULT_LOADS, DEFAULT_MEMORY, DEFAULT_NODES, DEFAULT_PULSES, DEFAULT_STATES,
     DEFAULT_WORKERS, Helps, MOST_STATES, command_line,
 };
-use clap::error::ErrorKind;
-use clap::{ArgMatches, Error};
 use commands::Fault;
 use commands::request::{
     Detail, ExplainOptions, ExploreOptions, LinesOptions, Request, RunOptions, ShapeOptions,

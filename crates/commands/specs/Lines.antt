@@ -2,8 +2,8 @@
 use Rattle.std.specs.Prelude.{◌≡◌, ◌⊎◌, ◌<◌, ℕ, Bool, not, ◌&&◌, if◌then◌else◌, List, ◌++◌, codes, string_bytes, Option, Result, Ok, Err}
 use Rattle.std.specs.Fmt.{decimal}
 use Rattle.std.specs.Io.KnownBytes.{Keeps}
-use Rattle.bench_engine.specs.declared.event.RunRefusal.TheVariants.{NoThread}
-use Rattle.bench_engine.specs.Runs.{IsFault}
+use Rattle.bench_workers.specs.declared.event.RunRefusal.TheVariants.{NoThread}
+use Rattle.bench_workers.specs.Runs.{IsFault}
 use Rattle.scenario_text.specs.declared.refusal.ScenarioError.{ScenarioError}
 use Rattle.scenario_text.specs.declared.scenario.Scenario.{Scenario}
 use Rattle.scenario_text.specs.Lines.{refusal_line}

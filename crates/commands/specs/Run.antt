@@ -1,6 +1,6 @@
 -- What `run` leaves on its output (docs/COMMANDS.md, "What run prints").
 use Rattle.std.specs.Prelude.{ℕ, Bool, not, ◌&&◌, if◌then◌else◌, List, ◌++◌, codes, Option, Result, Err}
-use Rattle.bench_engine.specs.declared.event.RunRefusal.TheVariants.{NoThread}
+use Rattle.bench_workers.specs.declared.event.RunRefusal.TheVariants.{NoThread}
 use Rattle.scenario_text.specs.declared.refusal.ScenarioError.{ScenarioError}
 use Rattle.scenario_text.specs.Lines.{refusal_line}
 use Rattle.scenario_text.specs.Texts.{IsDue}

@@ -2,7 +2,7 @@
 use Rattle.std.specs.Prelude.{◌≡◌, ◌≢◌, ◌⊎◌, ℕ, ◌+◌, ◌-◌, ◌^◌, ◌<◌, ◌≤◌, is_some, min, List, length, take, slice_get, Option, Some, Result, Ok, Err}
 use Rattle.std.specs.Io.KnownBytes.{Appends, Keeps}
 use Rattle.bench_core.specs.Told.{PulseTold}
-use Rattle.bench_engine.specs.Runs.{IsRun}
+use Rattle.bench_workers.specs.Runs.{IsRun}
 use Rattle.scenario_text.specs.declared.scenario.Coins.TheVariants.{Chacha}
 use Rattle.scenario_text.specs.declared.scenario.Scenario.{Scenario}
 use Rattle.scenario_text.specs.Texts.{IsDue, ReadsText}

@@ -15,6 +15,3 @@ pub use mail::Mail;
 pub use outbox::Outbox;
 pub use region::{Region, STACK_BYTES, STACK_DWORDS};
 pub use shape::{MAX_MEMORY, MAX_NODES, MEMORY_UNIT, Shape};
-
-#[cfg(test)]
-mod tests;

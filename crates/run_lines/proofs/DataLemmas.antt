@@ -6,7 +6,7 @@ use Rattle.std.specs.Ordering.{nat_cmp}
 use Rattle.std.specs.FinMap.{FinMap, get}
 use Rattle.serde_json.specs.Data.{boolean, null, string}
 use Rattle.bench_core.specs.State.{Node}
-use Rattle.bench_engine.specs.Watching.{Seen}
+use Rattle.bench_workers.specs.Watching.{Seen}
 use Rattle.scenario_text.specs.declared.limits.TheConstants.{CLOCK_VERSION}
 use Rattle.scenario_text.specs.declared.scenario.Frame.{Frame}
 use Rattle.bench_scenario.specs.Coins.{places_below}

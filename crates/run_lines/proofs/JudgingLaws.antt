@@ -4,9 +4,9 @@ use Rattle.std.specs.Prelude.{Bool, true, false, Option, Some, None, ifâ—Œthenâ—
 use Rattle.bench_core.specs.Told.{PulseTold}
 use Rattle.bench_core.specs.Setup.{Setup}
 use Rattle.bench_core.specs.State.{State, new_state, staged_state}
-use Rattle.bench_engine.specs.Events.{Event, Stage}
-use Rattle.bench_engine.specs.Events.{Pulse as PulseEvent}
-use Rattle.bench_engine.specs.Watching.{Seen, Shows}
+use Rattle.bench_workers.specs.Events.{Event, Stage}
+use Rattle.bench_workers.specs.Events.{Pulse as PulseEvent}
+use Rattle.bench_workers.specs.Watching.{Seen, Shows}
 use Rattle.scenario_text.specs.declared.limits.TheConstants.{CLOCK_VERSION}
 use Rattle.scenario_text.specs.declared.scenario.Frame.{Frame}
 use Rattle.bench_scenario.specs.Verdicts.{agreement, counting, judged_after, judged_of, settled_in}

@@ -15,7 +15,7 @@ use Rattle.serde_json.specs.Read.{read}
 use Rattle.serde_json.specs.View.{items_of}
 use Rattle.serde_json.specs.Written.{compact_text}
 use Rattle.bench_core.specs.State.{Node}
-use Rattle.bench_engine.specs.Watching.{Seen}
+use Rattle.bench_workers.specs.Watching.{Seen}
 use Rattle.scenario_text.specs.declared.limits.TheConstants.{CLOCK_VERSION}
 use Rattle.scenario_text.specs.declared.scenario.Frame.{Frame}
 use Rattle.bench_scenario.specs.Coins.{places_below}

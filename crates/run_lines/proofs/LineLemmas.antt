@@ -7,10 +7,10 @@ use Rattle.std.proofs.lemmas.List.{flat_map_more, take_all}
 use Rattle.bench_core.specs.Setup.{Setup}
 use Rattle.bench_core.specs.State.{State, new_state, staged_state}
 use Rattle.bench_core.specs.Told.{PulseTold}
-use Rattle.bench_engine.specs.Events.{Event, Stage}
-use Rattle.bench_engine.specs.Events.{Pulse as PulseEvent}
-use Rattle.bench_engine.specs.Runs.{IsRun}
-use Rattle.bench_engine.specs.Watching.{Seen, Shows, StoppedAt, Watched, Watches}
+use Rattle.bench_workers.specs.Events.{Event, Stage}
+use Rattle.bench_workers.specs.Events.{Pulse as PulseEvent}
+use Rattle.bench_workers.specs.Runs.{IsRun}
+use Rattle.bench_workers.specs.Watching.{Seen, Shows, StoppedAt, Watched, Watches}
 use Rattle.scenario_text.specs.declared.scenario.Scenario.{Scenario}
 use Rattle.scenario_text.specs.Views.{frame_of}
 use Rattle.bench_scenario.specs.Events.{events_of}

@@ -6,7 +6,7 @@ use Rattle.hex.specs.Hex.{encode_lower}
 use Rattle.serde_json.specs.Data.{Data, null, boolean, string}
 use Rattle.serde_json.specs.Written.{compact_text}
 use Rattle.bench_core.specs.State.{Node}
-use Rattle.bench_engine.specs.Watching.{Seen}
+use Rattle.bench_workers.specs.Watching.{Seen}
 use Rattle.scenario_text.specs.declared.limits.TheConstants.{CLOCK_VERSION}
 use Rattle.scenario_text.specs.declared.scenario.Frame.{Frame}
 use Rattle.scenario_text.specs.declared.scenario.Kind.{Kind}

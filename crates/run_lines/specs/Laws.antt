@@ -7,8 +7,8 @@ use Rattle.serde_json.specs.Written.{compact_text}
 use Rattle.node_env.specs.Env.{AreNumbers}
 use Rattle.bench_core.specs.Setup.{Setup}
 use Rattle.bench_core.specs.State.{State, new_state}
-use Rattle.bench_engine.specs.Events.{Event}
-use Rattle.bench_engine.specs.Watching.{Seen, Shows}
+use Rattle.bench_workers.specs.Events.{Event}
+use Rattle.bench_workers.specs.Watching.{Seen, Shows}
 use Rattle.scenario_text.specs.declared.scenario.Frame.{Frame}
 use Rattle.bench_scenario.specs.Coins.{places_below}
 use Rattle.bench_scenario.specs.Summary.{agreements}

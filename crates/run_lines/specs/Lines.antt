@@ -1,6 +1,6 @@
 -- The lines of a run, one after the other (docs/INSIDE.md, "The lines").
 use Rattle.std.specs.Prelude.{ℕ, if◌then◌else◌, is_some, List, [], ◌++◌, flat_map}
-use Rattle.bench_engine.specs.Watching.{Seen}
+use Rattle.bench_workers.specs.Watching.{Seen}
 use Rattle.scenario_text.specs.declared.scenario.Scenario.{Scenario}
 use Rattle.scenario_text.specs.Views.{frame_of}
 use Rattle.bench_scenario.specs.declared.summary.RunSummary.{RunSummary}

@@ -2,9 +2,9 @@
 use Rattle.std.specs.Prelude.{◌≡◌, ◌⊎◌, ℕ, ◌-◌, ◌^◌, ◌<◌, is_some, min, Bool, List, length, map, take, Option, None, Result, Ok, Err}
 use Rattle.std.specs.Io.KnownBytes.{Appends, Keeps}
 use Rattle.bench_core.specs.State.{State, new_state}
-use Rattle.bench_engine.specs.Events.{Event}
-use Rattle.bench_engine.specs.Runs.{IsFault, IsRun}
-use Rattle.bench_engine.specs.Watching.{Seen, Shows}
+use Rattle.bench_workers.specs.Events.{Event}
+use Rattle.bench_workers.specs.Runs.{IsFault, IsRun}
+use Rattle.bench_workers.specs.Watching.{Seen, Shows}
 use Rattle.scenario_text.specs.declared.scenario.Scenario.{Scenario}
 use Rattle.scenario_text.specs.Views.{frame_of}
 use Rattle.bench_scenario.specs.declared.summary.RunSummary.{RunSummary}

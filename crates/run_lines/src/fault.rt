@@ -1,5 +1,5 @@
 //! Why a run wasn't told whole.
-use bench_engine::RunFault;
+use bench_workers::RunFault;
 use thiserror::Error;
 
 /// Why not all lines of a run were written.

@@ -2,7 +2,7 @@
 ghost use Rattle.std.specs.Prelude.{◌≡◌, ◌∷◌, [], IfOk, OnOk, codes, is_some, length, option_copied, string_bytes};
 ghost use Rattle.serde_json.specs.Data.{boolean};
 ghost use Rattle.serde_json.specs.View.{members_view, view};
-ghost use Rattle.bench_engine.specs.Watching.{seen_of};
+ghost use Rattle.bench_workers.specs.Watching.{seen_of};
 ghost use Rattle.scenario_text.specs.Views.{frame_of};
 ghost use Rattle.run_lines.specs.Data.{line_of, memory_data, pulse_data, ran_data, sent_data, staged_data, verdict_members};
 ghost use Rattle.run_lines.specs.Judging.{agree_of, counts_of};
@@ -15,8 +15,8 @@ use crate::staged::staged;
 use crate::text::line_of;
 use crate::values::{flags, numbers, numbers_or_null, verdict_or_null};
 use bench_core::PulseRecord;
-use bench_engine::Shown;
 use bench_scenario::{agreement, counting, told_clocks};
+use bench_workers::Shown;
 use scenario_text::{CLOCK_VERSION, Scenario};
 use serde_json::{Map, Value, put};
 use std::alloc::{AllocError, Global};

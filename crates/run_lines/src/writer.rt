@@ -1,14 +1,14 @@
 //! The watcher of a run that writes its lines.
 ghost use Rattle.std.specs.Prelude.{◌≡◌, IfErr, IfOk};
-ghost use Rattle.bench_engine.specs.Watching.{seen_of};
+ghost use Rattle.bench_workers.specs.Watching.{seen_of};
 ghost use Rattle.run_lines.specs.inner.Writing.{Adds, IsLineFault, IsReason};
 ghost use Rattle.run_lines.specs.Lines.{line_within};
 
 use crate::fault::LinesFault;
 use crate::pulse_lines::pulse_line;
 use crate::span::PulseSpan;
-use bench_engine::{Shown, Stop, Watcher};
 use bench_scenario::WatchedFault;
+use bench_workers::{Shown, Stop, Watcher};
 use scenario_text::Scenario;
 use std::alloc::Global;
 use std::io::Write;

@@ -1,4 +1,4 @@
--- What a bounded read takes (docs/COMMANDS.md, "Reading and writing").
+-- What a bounded read takes (docs/COMMANDS.md, "What exec, dis and verify read").
 use Rattle.std.specs.Prelude.{ℕ, ◌≤◌, List, length, Option}
 use Rattle.std.specs.Io.KnownBytes.{Consumes}
 

@@ -128,12 +128,16 @@ fn clocks(alloc: Global, four: &Four) -> Result<Bench, Stop> {
 
 /// Loads the clock into each node of a new bench, and closes a pulse.
 fn close_first(alloc: Global, four: &Four, bench: &mut Bench) -> Result<(), Stop> {
-    let program = accepted_clock(alloc, four)?;
-    let _ended = stage_each(alloc, bench, Kind::Load, &program)?;
-    let tasks = opened(bench.open_pulse(alloc, &ONES))?;
-    let dones = results(alloc, tasks, false)?;
+    load_each(alloc, four, bench)?;
+    let dones = all_done(alloc, bench, false)?;
     let record = closed(bench.close_pulse(alloc, dones))?;
     expect(is_row(&record, ROWS[0]), Wrong::Answer)
+}
+
+fn load_each(alloc: Global, four: &Four, bench: &mut Bench) -> Result<(), Stop> {
+    let program = accepted_clock(alloc, four)?;
+    let _ended = stage_each(alloc, bench, Kind::Load, &program)?;
+    Ok(())
 }
 
 /// Openings, one after the other, so that the history grows at one: each applies what is staged.
@@ -149,19 +153,28 @@ pub fn opens(alloc: Global) -> Result<Ended, Stop> {
     Ok(ended)
 }
 
-/// Opens a pulse, which hands out a task for each node, and abandons it.
+/// Opens a pulse and abandons it.
 fn open(alloc: Global, bench: &mut Bench) -> Result<Ended, Stop> {
-    let before = Shown::of(alloc, bench)?;
-    let (tasks, ended) = match bench.open_pulse(alloc, &ONES) {
-        Err(OpenError::Memory) => {
-            expect(before.is(bench), Wrong::Changed)?;
-            (opened(bench.open_pulse(alloc, &ONES))?, Ended::AfterRefusal)
-        }
-        first => (opened(first)?, Ended::AtOnce),
-    };
-    expect(tasks.len() == NODES as usize, Wrong::Answer)?;
+    let ended = open_stubbornly(alloc, bench)?;
     expect(bench.is_open(), Wrong::Answer)?;
     expect(bench.abandon().is_ok(), Wrong::Refusal)?;
+    Ok(ended)
+}
+
+/// Opens a pulse, which hands out a task for each node.
+fn open_stubbornly(alloc: Global, bench: &mut Bench) -> Result<Ended, Stop> {
+    let before = Shown::of(alloc, bench)?;
+    match bench.open_pulse(alloc, &ONES) {
+        Err(OpenError::Memory) => {}
+        first => return has_each_task(first, Ended::AtOnce),
+    }
+    expect(before.is(bench), Wrong::Changed)?;
+    has_each_task(bench.open_pulse(alloc, &ONES), Ended::AfterRefusal)
+}
+
+fn has_each_task(tasks: Result<Vec<NodeTask>, OpenError>, ended: Ended) -> Result<Ended, Stop> {
+    let tasks = opened(tasks)?;
+    expect(tasks.len() == NODES as usize, Wrong::Answer)?;
     Ok(ended)
 }
 
@@ -192,19 +205,35 @@ pub fn results(
 /// A close takes the very list that it refused.
 pub fn closes(alloc: Global, reversed: bool) -> Result<Ended, Stop> {
     let mut bench = clocks(alloc, &four_nodes())?;
-    let tasks = opened(bench.open_pulse(alloc, &ONES))?;
-    let dones = results(alloc, tasks, reversed)?;
-    let before = Shown::of(alloc, &bench)?;
-    let (record, ended) = match bench.close_pulse(alloc, dones) {
-        Err((back, CloseError::Memory)) => {
-            expect(before.is(&bench), Wrong::Changed)?;
-            (closed(bench.close_pulse(alloc, back))?, Ended::AfterRefusal)
-        }
-        first => (closed(first)?, Ended::AtOnce),
-    };
-    expect(is_row(&record, ROWS[1]), Wrong::Answer)?;
+    let dones = all_done(alloc, &mut bench, reversed)?;
+    let ended = close_stubbornly(alloc, &mut bench, dones)?;
     expect(!bench.is_open(), Wrong::Answer)?;
     expect(all_sent_one(&bench), Wrong::Answer)?;
+    Ok(ended)
+}
+
+/// Opens a pulse and runs its tasks.
+fn all_done(alloc: Global, bench: &mut Bench, reversed: bool) -> Result<Vec<NodeDone>, Stop> {
+    let tasks = opened(bench.open_pulse(alloc, &ONES))?;
+    Ok(results(alloc, tasks, reversed)?)
+}
+
+fn close_stubbornly(alloc: Global, bench: &mut Bench, dones: Vec<NodeDone>) -> Result<Ended, Stop> {
+    let before = Shown::of(alloc, bench)?;
+    let back = match bench.close_pulse(alloc, dones) {
+        Err((back, CloseError::Memory)) => back,
+        first => return has_second_row(first, Ended::AtOnce),
+    };
+    expect(before.is(bench), Wrong::Changed)?;
+    has_second_row(bench.close_pulse(alloc, back), Ended::AfterRefusal)
+}
+
+fn has_second_row(
+    record: Result<PulseRecord, (Vec<NodeDone>, CloseError)>,
+    ended: Ended,
+) -> Result<Ended, Stop> {
+    let record = closed(record)?;
+    expect(is_row(&record, ROWS[1]), Wrong::Answer)?;
     Ok(ended)
 }
 

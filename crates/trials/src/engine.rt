@@ -1,6 +1,6 @@
 //! Pulses on workers, and runs of events.
 ghost use Rattle.std.specs.Prelude.{◌≡◌, ◌≤◌, None, IfOk};
-ghost use Rattle.bench_engine.specs.declared.tasks.TheConstants.{MOST_WORKERS};
+ghost use Rattle.bench_workers.specs.declared.tasks.TheConstants.{MOST_WORKERS};
 
 use crate::four::{Four, MEMORY, NODES, ONES, PULSES, ROWS, accepted_clock, four_nodes, is_row};
 use crate::shown::Received;

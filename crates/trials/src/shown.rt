@@ -17,18 +17,10 @@ pub struct Shown {
 
 impl Shown {
     pub fn of(alloc: Global, bench: &Bench) -> Result<Shown, AllocError> {
-        let mut history = Vec::new(alloc);
-        for entry in bench.history() {
-            history.push(copy_of(alloc, entry)?)?;
-        }
-        let mut memories = Vec::new(alloc);
-        let mut clocks = Vec::new(alloc);
-        let mut mail = Vec::new(alloc);
-        for node in 0..bench.shape().nodes() {
-            memories.push(Vec::from_slice(alloc, bench.memory(node))?)?;
-            clocks.push(bench.clock(node))?;
-            mail.push(bench.mail().inbox(alloc, node)?)?;
-        }
+        let history = history_of(alloc, bench)?;
+        let memories = memories_of(alloc, bench)?;
+        let clocks = clocks_of(alloc, bench)?;
+        let mail = mail_of(alloc, bench)?;
         Ok(Shown {
             history,
             memories,
@@ -89,6 +81,38 @@ impl Shown {
         }
         true
     }
+}
+
+fn history_of(alloc: Global, bench: &Bench) -> Result<Vec<Entry>, AllocError> {
+    let mut history = Vec::new(alloc);
+    for entry in bench.history() {
+        history.push(copy_of(alloc, entry)?)?;
+    }
+    Ok(history)
+}
+
+fn memories_of(alloc: Global, bench: &Bench) -> Result<Vec<Vec<u8>>, AllocError> {
+    let mut memories = Vec::new(alloc);
+    for node in 0..bench.shape().nodes() {
+        memories.push(Vec::from_slice(alloc, bench.memory(node))?)?;
+    }
+    Ok(memories)
+}
+
+fn clocks_of(alloc: Global, bench: &Bench) -> Result<Vec<u32>, AllocError> {
+    let mut clocks = Vec::new(alloc);
+    for node in 0..bench.shape().nodes() {
+        clocks.push(bench.clock(node))?;
+    }
+    Ok(clocks)
+}
+
+fn mail_of(alloc: Global, bench: &Bench) -> Result<Vec<Vec<Option<u32>>>, AllocError> {
+    let mut mail = Vec::new(alloc);
+    for node in 0..bench.shape().nodes() {
+        mail.push(bench.mail().inbox(alloc, node)?)?;
+    }
+    Ok(mail)
 }
 
 /// What a pass has received.

@@ -1,6 +1,6 @@
 -- Beside Pulses: what proofs and private contracts alone cite.
-use Rattle.bench_engine.specs.declared.refusal.EngineError.{EngineError}
-use Rattle.bench_engine.specs.declared.refusal.EngineError.TheVariants.{Open, Work, Close}
+use Rattle.bench_engine.specs.declared.engine_error.EngineError.{EngineError}
+use Rattle.bench_engine.specs.declared.engine_error.EngineError.TheVariants.{Open, Work, Close}
 
 -- a refusal past the opening
 abbrev pub IsLater : EngineError → Type 0

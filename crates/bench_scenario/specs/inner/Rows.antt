@@ -1,7 +1,7 @@
 -- The rows into which the changes of a scenario are put, one of each pulse (docs/SCENARIOS.md, "What is done").
 use Rattle.std.specs.Prelude.{◌≡◌, ℕ, zero, suc, ◌==◌, ◌<◌, if◌then◌else◌, List, [], ◌++◌, get_or, length, map}
-use Rattle.bench_engine.specs.Events.{Event, event_of}
-use Rattle.bench_engine.specs.declared.event.Event.{Event as EventCode}
+use Rattle.bench_workers.specs.Events.{Event, event_of}
+use Rattle.bench_workers.specs.declared.event.Event.{Event as EventCode}
 use Rattle.scenario_text.specs.declared.scenario.Scenario.{Scenario}
 use Rattle.bench_scenario.specs.Events.{changes_at}
 

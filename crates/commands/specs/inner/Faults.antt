@@ -1,8 +1,8 @@
 -- Beside Faults: what proofs and private contracts alone cite.
 use Rattle.std.specs.Prelude.{◌≡◌, ℕ, ◌+◌, ◌<◌, min, List, length, take, Option, Some, None}
 use Rattle.std.specs.Io.KnownBytes.{Appends}
-use Rattle.bench_engine.specs.declared.event.RunRefusal.{RunRefusal}
-use Rattle.bench_engine.specs.declared.event.RunRefusal.TheVariants as refusals
+use Rattle.bench_workers.specs.declared.event.RunRefusal.{RunRefusal}
+use Rattle.bench_workers.specs.declared.event.RunRefusal.TheVariants as refusals
 use Rattle.bench_stress.specs.declared.stop.Stop.{Stop}
 use Rattle.bench_stress.specs.declared.stop.Stop.TheVariants as stops
 use Rattle.run_trace.specs.Traces.{MOST_TOLD}

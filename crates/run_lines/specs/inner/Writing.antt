@@ -2,7 +2,7 @@
 use Rattle.std.specs.Prelude.{◌≡◌, ℕ, ◌+◌, ◌<◌, is_some, min, Bool, IfSome, List, length, take, Option, Some, Result, Ok, Err}
 use Rattle.std.specs.Io.KnownBytes.{Appends, Keeps}
 use Rattle.bench_core.specs.Told.{PulseTold}
-use Rattle.bench_engine.specs.Watching.{Seen}
+use Rattle.bench_workers.specs.Watching.{Seen}
 use Rattle.scenario_text.specs.declared.scenario.Scenario.{Scenario}
 use Rattle.scenario_text.specs.Views.{frame_of}
 use Rattle.bench_scenario.specs.declared.summary.RunSummary.{RunSummary}

@@ -1,6 +1,6 @@
 use Rattle.std.proofs.Common.{◌≡◌, ◌∙◌, ap, map, subst}
 use Rattle.std.specs.Prelude.{IfOk}
-use Rattle.bench_engine.specs.Events.{event_of}
+use Rattle.bench_workers.specs.Events.{event_of}
 use Rattle.bench_scenario.specs.Coins.{keyed}
 use Rattle.bench_scenario.specs.Events.{events_of}
 use Rattle.bench_scenario.proofs.EventLemmas.{own_events}

@@ -1,5 +1,5 @@
 use Rattle.std.proofs.Common.{map}
-use Rattle.bench_engine.specs.Events.{event_of}
+use Rattle.bench_workers.specs.Events.{event_of}
 use Rattle.bench_scenario.proofs.RowLemmas.{one_pulse_more, one_taken, row_of}
 use Rattle.bench_scenario.proofs.schedule.events_with_key.Goals as goal
 

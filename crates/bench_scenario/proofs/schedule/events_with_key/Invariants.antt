@@ -1,5 +1,5 @@
 use Rattle.std.proofs.Common.{◌≡◌, map}
-use Rattle.bench_engine.specs.Events.{event_of}
+use Rattle.bench_workers.specs.Events.{event_of}
 use Rattle.bench_scenario.specs.Coins.{keyed}
 use Rattle.bench_scenario.specs.Events.{events_to}
 use Rattle.bench_scenario.specs.inner.Rows.{AreChanges, told}

@@ -1,7 +1,7 @@
 use Rattle.std.proofs.Common.{[], ◌∷◌, arith, drop}
 use Rattle.std.proofs.lemmas.List.{drop_all}
 use Rattle.bench_core.specs.State.{Load as LoadChange}
-use Rattle.bench_engine.specs.Events.{Stage}
+use Rattle.bench_workers.specs.Events.{Stage}
 use Rattle.bench_scenario.specs.inner.Rows.{of_pulse}
 use Rattle.bench_scenario.proofs.RowLemmas.{all_added, nodes_added}
 use Rattle.bench_scenario.proofs.schedule.put_load.Goals as goal

@@ -1,7 +1,7 @@
 use Rattle.std.proofs.Common.{[], ◌∷◌, drop}
 use Rattle.std.specs.Prelude.{flat_map}
 use Rattle.bench_core.specs.State.{Load as LoadChange}
-use Rattle.bench_engine.specs.Events.{Stage}
+use Rattle.bench_workers.specs.Events.{Stage}
 use Rattle.bench_scenario.specs.inner.Rows.{Adds, of_pulse, told}
 use Rattle.bench_scenario.proofs.schedule.put_load.Given as goal
 

@@ -1,6 +1,6 @@
 use Rattle.std.proofs.Common.{refl, subst}
-use Rattle.bench_engine.specs.Watching.{IsNot}
-use Rattle.bench_engine.specs.declared.event.RunRefusal.TheVariants.{GateShut}
+use Rattle.bench_workers.specs.Watching.{IsNot}
+use Rattle.bench_workers.specs.declared.event.RunRefusal.TheVariants.{GateShut}
 use Rattle.bench_scenario.proofs.RunLemmas.{fault_due}
 use Rattle.bench_scenario.proofs.WatchLemmas.{ends_met}
 use Rattle.bench_scenario.proofs.watched.run_watched.Goals as goal

@@ -1,6 +1,6 @@
 use Rattle.std.proofs.Common.{arith}
 use Rattle.std.specs.Prelude.{is_some}
-use Rattle.bench_engine.specs.Watching.{seen_of}
+use Rattle.bench_workers.specs.Watching.{seen_of}
 use Rattle.scenario_text.specs.Views.{frame_of}
 use Rattle.run_lines.specs.Staged.{staged_at}
 use Rattle.run_lines.proofs.DataLemmas.{plain_pulse}

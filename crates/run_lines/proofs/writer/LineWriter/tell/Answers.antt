@@ -1,5 +1,5 @@
 use Rattle.std.proofs.Common.{◌≤◌, ◌∙◌, ap, arith, sym}
-use Rattle.bench_engine.specs.Watching.{seen_of}
+use Rattle.bench_workers.specs.Watching.{seen_of}
 use Rattle.run_lines.proofs.LineLemmas.{none_told}
 use Rattle.run_lines.specs.Spans.{is_within}
 use Rattle.run_lines.specs.Telling.{MOST_TOLD}

@@ -1,0 +1,5 @@
+//! The tests of `bench_core`.
+#![tactic(auto)]
+
+#[cfg(test)]
+mod tests;

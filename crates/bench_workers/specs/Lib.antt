@@ -1,0 +1,5 @@
+pub mod Events
+pub mod Laws
+pub mod Runs
+pub mod Watching
+pub mod inner

@@ -1,0 +1,192 @@
+//! The run of a list of events before a watcher.
+ghost use Rattle.std.specs.Prelude.{◌≡◌, ◌≢◌, ◌≤◌, ◌<◌, ◌++◌, ◌∷◌, [], List, true, None, IfOk, IfErr, OnOk, length, map, vec_len, vec_capacity};
+ghost use Rattle.bench_core.specs.declared.limits.TheConstants.{MOST_ENTRIES};
+ghost use Rattle.bench_core.specs.State.{new_state};
+ghost use Rattle.bench_workers.specs.declared.event.RunRefusal.TheVariants.{GateShut, NoThread};
+ghost use Rattle.bench_workers.specs.declared.tasks.TheConstants.{MOST_WORKERS};
+ghost use Rattle.bench_workers.specs.declared.watched.Halt.TheVariants.{Refused};
+ghost use Rattle.bench_workers.specs.Events.{Pulse, event_of};
+ghost use Rattle.bench_workers.specs.Runs.{IsRun};
+ghost use Rattle.bench_workers.specs.Watching.{EndsAt, IsNot, Seen, Watched};
+ghost use Rattle.bench_workers.specs.inner.Watching.{IsHalted, IsWatched};
+
+use crate::engine::{memories_of, pulse, stage};
+use crate::event::{Event, Run, RunFault, RunRefusal};
+use crate::gate::Gate;
+use crate::watcher::{Shown, Stop, WatchFault, Watcher};
+use bench_core::{Bench, PulseRecord};
+use std::alloc::Global;
+use std::sync::Wait;
+use std::thread::Threads;
+
+/// Why an event isn't done: it is refused, or the watcher stopped the run.
+#[derive(Clone, Copy, Debug, PartialEq, Eq)]
+pub(crate) enum Halt {
+    Refused(RunRefusal),
+    Stopped,
+}
+
+impl Halt {
+    ghost use Rattle.std.specs.Prelude.{◌≡◌};
+    ghost use Rattle.bench_workers.specs.inner.Watching.{fault_at};
+
+    /// The fault of a run that halted at this event.
+    fn at(self, event: u32) -> WatchFault
+        ensures { result ≡ fault_at self event }
+    {
+        match self {
+            Halt::Refused(fault) => WatchFault::Run(RunFault { event, fault }),
+            Halt::Stopped => WatchFault::Stopped(event),
+        }
+    }
+}
+
+/// Puts a record where there is room.
+fn keep(records: &mut Vec<PulseRecord>, told: PulseRecord)
+    requires { vec_len records.old < vec_capacity records.old }
+    ensures { records.new.items ≡ records.old.items ++ told ∷ [] }
+{
+    records.push(told).unwrap();
+}
+
+/// Runs a pulse, shows it and keeps its record.
+fn show_pulse<R: Threads + Wait + Sync, G: Gate + Sync, S, K: Watcher<S>>(
+    rt: &R,
+    alloc: Global,
+    gate: &G,
+    workers: u32,
+    bench: &mut Bench,
+    records: &mut Vec<PulseRecord>,
+    coins: &[u32],
+    watcher: &mut K,
+    sink: &mut S,
+) -> Result<(), Halt>
+    requires some { 1 ≤ workers }
+    requires few { workers ≤ MOST_WORKERS }
+    requires closed { bench.old.state.coins ≡ None }
+    ensures ok { OnOk result (IsWatched K.tells bench.old records.old.items watcher.old sink.old (Pulse coins.now)
+        bench.new records.new.items watcher.new sink.new) }
+    ensures halt { IfErr result (IsHalted K.stops bench.old records.old.items watcher.old sink.old (Pulse coins.now)
+        bench.new watcher.new sink.new) }
+    ensures open { G.always gate.now ≡ true → IfErr result (λ e. e ≢ Refused GateShut) }
+    ensures alone { workers ≡ 1 → IfErr result (λ e. e ≢ Refused NoThread) }
+{
+    let closed = match pulse(rt, alloc, gate, workers, bench, coins) {
+        Ok(closed) => closed,
+        Err(refusal) => return Err(Halt::Refused(refusal)),
+    };
+    if records.reserve(1).is_err() {
+        return Err(Halt::Refused(RunRefusal::Memory));
+    }
+    let earlier = records.last();
+    let shown = Shown {
+        bench,
+        coins,
+        told: &closed.told,
+        earlier,
+        steps: &closed.steps,
+    };
+    match watcher.see(sink, &shown) {
+        Ok(()) => {
+            keep(records, closed.told);
+            Ok(())
+        }
+        Err(Stop) => Err(Halt::Stopped),
+    }
+}
+
+/// Does one event, shows its pulse and keeps the record.
+fn apply<R: Threads + Wait + Sync, G: Gate + Sync, S, K: Watcher<S>>(
+    rt: &R,
+    alloc: Global,
+    gate: &G,
+    workers: u32,
+    bench: &mut Bench,
+    records: &mut Vec<PulseRecord>,
+    event: Event,
+    watcher: &mut K,
+    sink: &mut S,
+) -> Result<(), Halt>
+    requires some { 1 ≤ workers }
+    requires few { workers ≤ MOST_WORKERS }
+    requires closed { bench.old.state.coins ≡ None }
+    ensures ok { OnOk result (IsWatched K.tells bench.old records.old.items watcher.old sink.old (event_of event)
+        bench.new records.new.items watcher.new sink.new) }
+    ensures few { OnOk result (length bench.new.history ≤ MOST_ENTRIES) }
+    ensures halt { IfErr result (IsHalted K.stops bench.old records.old.items watcher.old sink.old (event_of event)
+        bench.new watcher.new sink.new) }
+    ensures open { G.always gate.now ≡ true → IfErr result (λ e. e ≢ Refused GateShut) }
+    ensures alone { workers ≡ 1 → IfErr result (λ e. e ≢ Refused NoThread) }
+{
+    match event {
+        Event::Stage(change) => {
+            if let Err(refusal) = stage(bench, change) {
+                return Err(Halt::Refused(refusal));
+            }
+            let _few = bench.history();
+            Ok(())
+        }
+        Event::Pulse(coins) => {
+            show_pulse(
+                rt, alloc, gate, workers, bench, records, &coins, watcher, sink,
+            )?;
+            let _few = bench.history();
+            Ok(())
+        }
+    }
+}
+
+/// As `run_events_on`, before a watcher that is shown each closed pulse, and may stop the run.
+pub fn run_events_watched<R: Threads + Wait + Sync, G: Gate + Sync, S, K: Watcher<S>>(
+    rt: &R,
+    alloc: Global,
+    gate: &G,
+    workers: u32,
+    bench: Bench,
+    events: Vec<Event>,
+    watcher: &mut K,
+    sink: &mut S,
+) -> Result<Run, WatchFault>
+    requires some { 1 ≤ workers }
+    requires few { workers ≤ MOST_WORKERS }
+    requires state { bench.state ≡ new_state bench.setup }
+    requires history { bench.history ≡ [] }
+    ensures run { IfOk result (λ run. IsRun bench.setup (map event_of events.items) run.records.items
+        (map (λ memory. memory.items) run.memories.items)) }
+    ensures watched { IfOk result (λ run. (xs : List Seen) × (run.records.items ≡ map (λ x. x.told) xs)
+        × Watched K.tells bench.setup (map event_of events.items) watcher.old sink.old xs watcher.new sink.new) }
+    ensures ends { IfErr result (EndsAt K.tells K.stops bench.setup (map event_of events.items) watcher.old sink.old
+        watcher.new sink.new) }
+    ensures open { G.always gate.now ≡ true → IfErr result (IsNot GateShut) }
+    ensures alone { workers ≡ 1 → IfErr result (IsNot NoThread) }
+{
+    let fault = RunRefusal::Memory;
+    let nodes = bench.shape().nodes();
+    let mut bench = bench;
+    let mut records = Vec::new(alloc);
+    let mut place = 0;
+    for event in events {
+        match apply(
+            rt,
+            alloc,
+            gate,
+            workers,
+            &mut bench,
+            &mut records,
+            event,
+            watcher,
+            sink,
+        ) {
+            Ok(()) => place += 1,
+            Err(halt) => return Err(halt.at(place)),
+        }
+    }
+    let _history = bench.history();
+    match memories_of(alloc, &bench, nodes) {
+        Ok(memories) => Ok(Run { records, memories }),
+        Err(_) => Err(WatchFault::Run(RunFault {
+            event: place,
+            fault,
+        })),
+    }
+}

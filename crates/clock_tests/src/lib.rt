@@ -1,0 +1,5 @@
+//! The tests of `clock_nodes`.
+#![tactic(auto)]
+
+#[cfg(test)]
+mod tests;

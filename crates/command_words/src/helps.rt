@@ -1,0 +1,118 @@
+//! The ranges and defaults of the options, and the help that names them.
+
+use bench_shared::MOST_LOADERS;
+use bench_workers::MOST_WORKERS;
+use key_sweep::{MOST_KEY, MOST_SWEEPERS};
+use node_env::{MAX_MEMORY, MAX_NODES, MEMORY_UNIT};
+use std::fmt::InlineText;
+
+/// The number of nodes where none is named.
+pub const DEFAULT_NODES: u32 = 4;
+
+/// The bytes of memory where none are named.
+pub const DEFAULT_MEMORY: u32 = 16;
+
+/// The fuel of a run for which none is named.
+pub const DEFAULT_FUEL: u64 = 1_000_000;
+
+/// The most fuel that can be named.
+pub(crate) const MOST_FUEL: i64 = 1_000_000_000;
+
+/// The workers of a pulse for which none are named.
+pub const DEFAULT_WORKERS: u32 = 2;
+
+/// The loaders of a stressed bench for which none are named.
+pub const DEFAULT_LOADERS: u32 = 2;
+
+/// The loads of each loader where none are named, and the most that can be named.
+pub const DEFAULT_LOADS: u32 = 8;
+
+pub(crate) const MOST_LOADS: u32 = 100;
+
+/// The pulses of a stressed bench for which none are named, and the most that can be named.
+pub const DEFAULT_PULSES: u32 = 8;
+
+pub(crate) const MOST_PULSES: u32 = 1_000;
+
+/// The most states that are explored where none are named, and the most that can be named.
+pub const DEFAULT_STATES: u32 = 1_000_000;
+
+/// The most states and the last pulse of an exploration that can be named.
+pub const MOST_STATES: u32 = 1_000_000_000;
+
+const HELP_BYTES: usize = 96;
+
+type Help = InlineText<HELP_BYTES>;
+
+/// The help of the options that take a number, with its range and its default.
+#[derive(Drop)]
+pub struct Helps {
+    pub(crate) nodes: Help,
+    pub(crate) memory: Help,
+    pub(crate) fuel: Help,
+    pub(crate) id: Help,
+    pub(crate) most_workers: Help,
+    pub(crate) workers: Help,
+    pub(crate) sweepers: Help,
+    pub(crate) loaders: Help,
+    pub(crate) loads: Help,
+    pub(crate) pulses: Help,
+    pub(crate) states: Help,
+    pub(crate) depth: Help,
+    pub(crate) keys: Help,
+}
+
+impl Helps {
+    /// Returns the help of each option.
+    pub fn new() -> Helps {
+        Helps {
+            nodes: numbers("The number of nodes", 1, MAX_NODES, DEFAULT_NODES),
+            memory: memory_help(),
+            fuel: Help::of(format_args!(
+                "The most steps of the run, 0 to {MOST_FUEL} [default: {DEFAULT_FUEL}]"
+            )),
+            id: numbers("Which node the program is", 0, MAX_NODES - 1, 0),
+            most_workers: numbers(
+                "The most workers of a long pulse",
+                1,
+                MOST_WORKERS,
+                DEFAULT_WORKERS,
+            ),
+            workers: numbers("The workers of a pulse", 1, MOST_WORKERS, DEFAULT_WORKERS),
+            sweepers: Help::of(format_args!(
+                "The workers that run whole scenarios, 1 to {MOST_SWEEPERS} [default: the processors]"
+            )),
+            loaders: numbers(
+                "The loaders, each in a thread",
+                1,
+                MOST_LOADERS,
+                DEFAULT_LOADERS,
+            ),
+            loads: numbers("The loads of each loader", 1, MOST_LOADS, DEFAULT_LOADS),
+            pulses: numbers("The pulses of the engine", 1, MOST_PULSES, DEFAULT_PULSES),
+            states: numbers(
+                "The most states that are seen",
+                1,
+                MOST_STATES,
+                DEFAULT_STATES,
+            ),
+            depth: Help::of(format_args!(
+                "The last pulse that is explored, 1 to {MOST_STATES} [default: all]"
+            )),
+            keys: Help::of(format_args!(
+                "The keys of the coins, both ends among them, 0 to {MOST_KEY}"
+            )),
+        }
+    }
+}
+
+/// Returns the help of an option that takes a number of a range.
+fn numbers(what: &str, least: u32, most: u32, default: u32) -> Help {
+    Help::of(format_args!("{what}, {least} to {most} [default: {default}]"))
+}
+
+fn memory_help() -> Help {
+    Help::of(format_args!(
+        "The bytes of a node's memory, {MEMORY_UNIT} to {MAX_MEMORY} by {MEMORY_UNIT} [default: {DEFAULT_MEMORY}]"
+    ))
+}

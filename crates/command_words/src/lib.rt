@@ -1,0 +1,13 @@
+//! The words of the command line, with their help: the commands of `clockbed` and their options, as `clap` reads them.
+#![tactic(auto)]
+
+mod building;
+mod helps;
+mod options;
+mod words;
+
+pub use helps::{
+    DEFAULT_FUEL, DEFAULT_LOADERS, DEFAULT_LOADS, DEFAULT_MEMORY, DEFAULT_NODES, DEFAULT_PULSES,
+    DEFAULT_STATES, DEFAULT_WORKERS, Helps, MOST_STATES,
+};
+pub use words::command_line;

@@ -1,0 +1,249 @@
+//! The commands and their arguments.
+
+use crate::building::Building;
+use crate::helps::{Helps, MOST_FUEL, MOST_LOADS, MOST_PULSES, MOST_STATES};
+use crate::options::{count_option, file, flag, pulse_option, text_option, within};
+use bench_shared::MOST_LOADERS;
+use bench_workers::MOST_WORKERS;
+use clap::{Arg, Command, value_parser};
+use key_sweep::MOST_SWEEPERS;
+use node_env::{MAX_MEMORY, MAX_NODES, MEMORY_UNIT};
+use std::alloc::{AllocError, Global};
+
+const VERSION: &str = "1.1.0";
+
+/// The help of `--list`.
+const LIST: &str = "Prints the slot and the bytes of each instruction beside its line";
+
+/// Returns the command line of `clockbed`, whose options have these helps.
+pub fn command_line<'a>(alloc: Global, helps: &'a Helps) -> Result<Command<'a>, AllocError> {
+    clockbed(alloc)
+        .subcommand(exec(alloc, helps))
+        .subcommand(asm(alloc))
+        .subcommand(dis(alloc))
+        .subcommand(verify(alloc, helps))
+        .subcommand(run(alloc, helps))
+        .subcommand(stress(alloc, helps))
+        .subcommand(sweep(alloc, helps))
+        .subcommand(explore(alloc, helps))
+        .made()
+}
+
+/// The program without its commands.
+fn clockbed<'a>(alloc: Global) -> Building<'a> {
+    Building::of(
+        Command::new(alloc, "clockbed")
+            .about("A testbed for Byzantine clock synchronisation")
+            .version(VERSION)
+            .after_help("Example: clockbed run examples/four_clocks.toml\nPage: docs/COMMANDS.md")
+            .subcommand_required(true),
+    )
+}
+
+/// The command `asm`.
+fn asm<'a>(alloc: Global) -> Building<'a> {
+    Building::named(
+        alloc,
+        "asm",
+        "Prints the image of an assembler text",
+        "Example: clockbed asm program.s > program.bpf\nPage: docs/ASSEMBLER.md",
+    )
+    .arg(flag(alloc, "list", LIST))
+    .arg(file(alloc))
+}
+
+/// The command `dis`.
+fn dis<'a>(alloc: Global) -> Building<'a> {
+    Building::named(
+        alloc,
+        "dis",
+        "Prints an image as assembler text",
+        "Example: clockbed dis examples/seven.bpf\nPage: docs/ASSEMBLER.md",
+    )
+    .arg(flag(alloc, "list", LIST))
+    .arg(file(alloc))
+}
+
+/// The command `verify` with its options.
+fn verify<'a>(alloc: Global, helps: &'a Helps) -> Building<'a> {
+    let verify = Building::named(
+        alloc,
+        "verify",
+        "Accepts or refuses the program of an image",
+        "Example: clockbed verify --memory 8 examples/seven.bpf\nPage: docs/VERIFIER.md",
+    );
+    with_shape(alloc, verify, helps)
+        .arg(flag(alloc, "text", "Reads an assembler text"))
+        .arg(flag(
+            alloc,
+            "explain",
+            "Prints what is known at each slot, and why a rule is broken",
+        ))
+        .made_arg(flag(alloc, "all", "Prints all that is known at each slot").requires_arg(
+            "explain",
+        ))
+        .arg(file(alloc))
+}
+
+/// The command `run` with its options.
+fn run<'a>(alloc: Global, helps: &'a Helps) -> Building<'a> {
+    let run = Building::named(
+        alloc,
+        "run",
+        "Prints the report of a scenario",
+        "Example: clockbed run --check examples/four_clocks.toml\nPage: docs/SCENARIOS.md",
+    )
+    .arg(count_option(alloc, "workers", helps.most_workers.as_str(), MOST_WORKERS))
+    .arg(flag(
+        alloc,
+        "check",
+        "Ends with status 3 where a pulse doesn't agree",
+    ))
+    .arg(flag(
+        alloc,
+        "json",
+        "Prints a line of JSON for each pulse, with all that the bed knows",
+    ));
+    with_span(alloc, run).arg(file(alloc))
+}
+
+/// Adds the options that ask for a span of pulses.
+fn with_span<'a>(alloc: Global, command: Building<'a>) -> Building<'a> {
+    command
+        .made_arg(pulse_option(
+            alloc,
+            "from",
+            "The first pulse of the JSON lines, from 1 on [default: 1]",
+        ))
+        .made_arg(pulse_option(
+            alloc,
+            "until",
+            "The last pulse of the JSON lines, from --from on [default: the scenario's]",
+        ))
+}
+
+/// The command `explore` with its options.
+fn explore<'a>(alloc: Global, helps: &'a Helps) -> Building<'a> {
+    let explore = Building::named(
+        alloc,
+        "explore",
+        "Explores all coins and all messages of --mail on a small bench",
+        "Example: clockbed explore examples/explore/three_nodes.toml\nPage: docs/EXPLORE.md",
+    );
+    with_states(alloc, explore)
+        .arg(count_option(alloc, "states", helps.states.as_str(), MOST_STATES))
+        .arg(count_option(alloc, "depth", helps.depth.as_str(), MOST_STATES))
+        .arg(file(alloc))
+}
+
+/// Adds the options that say which states there are: messages and initial memories.
+fn with_states<'a>(alloc: Global, command: Building<'a>) -> Building<'a> {
+    command
+        .arg(text_option(
+            alloc,
+            "mail",
+            "LIST",
+            "Messages that Byzantine nodes may send beside none: numbers below 4294967296, as 0..7,9 [default: 0 to the modulus]",
+        ))
+        .arg(text_option(
+            alloc,
+            "start",
+            "zero|any",
+            "Where it begins: memories of zeros and no mail, or any of --bytes [default: zero]",
+        ))
+        .arg(text_option(
+            alloc,
+            "bytes",
+            "LIST",
+            "The first eight bytes of each memory at --start any, with any mail: numbers below 256, as 0,254..255",
+        ))
+}
+
+/// The command `sweep` with its options.
+fn sweep<'a>(alloc: Global, helps: &'a Helps) -> Building<'a> {
+    Building::named(
+        alloc,
+        "sweep",
+        "Runs a scenario with each key, and prints CSV",
+        "Example: clockbed sweep --keys 1..100 examples/chacha.toml\nPage: docs/LUCK.md",
+    )
+    .arg(text_option(alloc, "keys", "FIRST..LAST", helps.keys.as_str()).required(true))
+    .arg(count_option(alloc, "workers", helps.sweepers.as_str(), MOST_SWEEPERS))
+    .arg(file(alloc))
+}
+
+/// The command `stress` with its options.
+fn stress<'a>(alloc: Global, helps: &'a Helps) -> Building<'a> {
+    Building::named(
+        alloc,
+        "stress",
+        "Lets many threads work on one bench, and checks its history",
+        "Example: clockbed stress --loaders 4 --pulses 100\nPage: docs/THREADS.md",
+    )
+    .arg(count_option(alloc, "loaders", helps.loaders.as_str(), MOST_LOADERS))
+    .arg(count_option(alloc, "loads", helps.loads.as_str(), MOST_LOADS))
+    .arg(count_option(alloc, "pulses", helps.pulses.as_str(), MOST_PULSES))
+    .arg(count_option(alloc, "workers", helps.workers.as_str(), MOST_WORKERS))
+}
+
+/// The command `exec` with its options.
+fn exec<'a>(alloc: Global, helps: &'a Helps) -> Building<'a> {
+    let exec = Building::named(
+        alloc,
+        "exec",
+        "Runs the program of an image",
+        "Example: clockbed exec --memory 8 --show examples/seven.bpf\nPage: docs/COMMANDS.md",
+    );
+    let exec = with_shape(alloc, exec, helps).arg(fuel_option(alloc, helps.fuel.as_str()));
+    with_case(alloc, exec, helps)
+        .arg(flag(alloc, "show", "Prints the memory and what was sent too"))
+        .arg(flag(alloc, "trace", "Prints each step of the run"))
+        .arg(file(alloc))
+}
+
+/// The option for the most steps of a run.
+fn fuel_option<'a>(alloc: Global, help: &'a str) -> Arg<'a> {
+    text_option(alloc, "fuel", "STEPS", help).value_parser(value_parser!(u64).range(0..=MOST_FUEL))
+}
+
+/// Adds the options that ask for a shape.
+fn with_shape<'a>(alloc: Global, command: Building<'a>, helps: &'a Helps) -> Building<'a> {
+    let memory = helps.memory.as_str();
+    command
+        .arg(count_option(alloc, "nodes", helps.nodes.as_str(), MAX_NODES))
+        .arg(within(
+            text_option(alloc, "memory", "BYTES", memory),
+            MEMORY_UNIT,
+            MAX_MEMORY,
+        ))
+}
+
+/// Adds the options that say the case.
+fn with_case<'a>(alloc: Global, command: Building<'a>, helps: &'a Helps) -> Building<'a> {
+    let id = helps.id.as_str();
+    command
+        .arg(within(text_option(alloc, "id", "NODE", id), 0, MAX_NODES - 1))
+        .arg(mail_option(alloc))
+        .arg(within(
+            text_option(alloc, "coin", "BIT", "The coin, 0 or 1 [default: 0]"),
+            0,
+            1,
+        ))
+        .arg(text_option(
+            alloc,
+            "contents",
+            "HEX",
+            "The first bytes of the memory, two digits each; the others are 0",
+        ))
+}
+
+/// The option for the mail of a case, which may begin with a dash.
+fn mail_option<'a>(alloc: Global) -> Arg<'a> {
+    text_option(
+        alloc,
+        "mail",
+        "LIST",
+        "The mail from each node: numbers below 4294967296, or - for none, with commas between",
+    )
+    .allow_hyphen_values(true)
+}

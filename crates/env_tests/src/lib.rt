@@ -1,0 +1,5 @@
+//! The tests of `node_env`.
+#![tactic(auto)]
+
+#[cfg(test)]
+mod tests;

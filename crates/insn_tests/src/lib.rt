@@ -1,0 +1,5 @@
+//! The tests of `bpf_insn`.
+#![tactic(auto)]
+
+#[cfg(test)]
+mod tests;

@@ -1,0 +1,5 @@
+//! The tests of `bpf_machine`.
+#![tactic(auto)]
+
+#[cfg(test)]
+mod tests;

@@ -1,0 +1,5 @@
+//! The tests of `bench_shared`.
+#![tactic(auto)]
+
+#[cfg(test)]
+mod tests;
