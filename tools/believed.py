@@ -3,8 +3,9 @@
 
     tools/believed.py [NAME ..]
 
-With no names, those of the clauses `headline` and `replays` (README.md, "What is proved"). A definition is a paragraph
-of a file of specs/, with its comment; specs/inner/ is cited by proofs and private contracts alone, and counted apart.
+With no names, those of the clauses `headline` and `replays` (README.md, "What is proved"), and once more with that of
+the clause `accepted`. A definition is a paragraph of a file of specs/, with its comment; specs/inner/ is cited by proofs
+and private contracts alone, and counted apart.
 """
 
 import re
@@ -13,6 +14,7 @@ from pathlib import Path
 
 ROOT = Path(__file__).resolve().parent.parent
 HEADLINE = ["IsWhole", "node_at", "Accepted", "End", "Replays"]
+ACCEPTED = [*HEADLINE, "StagesAccepted"]
 NAME = re.compile(r"^(?:(?:abbrev|unfoldable|pub|record|data) )*([^\s:({\[]+)\s*[:({]")
 IMPORT = re.compile(r"use (Rattle\.[\w.]+)\.\{(.*)\}")
 WORD = re.compile(r"[^\s(){}\[\],;.]+")
@@ -72,12 +74,23 @@ def reached(read, names):
     return found
 
 
-def main():
+def believed_lines():
+    """The lines of all definitions: those that public contracts reach, and those apart."""
     files = list(ROOT.glob("crates/*/specs/**/*.antt"))
     count = lambda some: sum(len(it.read_text(encoding="utf-8").splitlines()) for it in some)
-    print(f"{count(it for it in files if not is_apart(it))} lines, and {count(it for it in files if is_apart(it))} apart")
-    found = reached(modules(), sys.argv[1:] or HEADLINE)
-    print(f"{len(found)} definitions, {sum(map(len, found.values()))} lines: {' '.join(sys.argv[1:] or HEADLINE)}")
+    return count(it for it in files if not is_apart(it)), count(it for it in files if is_apart(it))
+
+
+def reached_lines(names):
+    """How many definitions these names reach, and their lines."""
+    found = reached(modules(), names)
+    return len(found), sum(map(len, found.values()))
+
+
+def main():
+    print("{} lines, and {} apart".format(*believed_lines()))
+    for names in [sys.argv[1:]] if sys.argv[1:] else [HEADLINE, ACCEPTED]:
+        print("{} definitions, {} lines: {}".format(*reached_lines(names), " ".join(names)))
 
 
 if __name__ == "__main__":

@@ -11,6 +11,7 @@ A comment in the line above the block changes that:
 import difflib
 import os
 import re
+import signal
 import subprocess
 import sys
 
@@ -41,17 +42,18 @@ def is_left_out(mark):
 
 def fault_of(commands, wanted):
     """Says how the commands don't do what stands below them, or nothing."""
+    ran = subprocess.Popen(
+        ["bash", "-c", commands],
+        stdin=subprocess.DEVNULL,
+        stdout=subprocess.PIPE,
+        stderr=subprocess.STDOUT,
+        start_new_session=True,
+    )
     try:
-        ran = subprocess.run(
-            ["bash", "-c", commands],
-            stdin=subprocess.DEVNULL,
-            stdout=subprocess.PIPE,
-            stderr=subprocess.STDOUT,
-            timeout=SECONDS,
-        )
+        wrote = ran.communicate(timeout=SECONDS)[0].decode(errors="replace")
     except subprocess.TimeoutExpired:
+        os.killpg(ran.pid, signal.SIGKILL)
         return f"not done after {SECONDS} seconds"
-    wrote = ran.stdout.decode(errors="replace")
     if wanted is None and ran.returncode:
         return f"status {ran.returncode}: {wrote}"
     if wrote == (wanted or ""):

@@ -1,0 +1,100 @@
+#!/usr/bin/env python3
+"""Runs a command, and then prints the processor minutes that its checks took, by crate: tools/gate_minutes.py rt ci
+
+A row has the crate, the minutes of its proof, of its tests and of its must-fail edits, and how many edits it has. The
+tool looks at the command's processes twice a second. A check is told by its command line: a proof of a crate, one with
+its tests, or one of an edit (with the proof that a crate's edits begin with). Exits with the command's status.
+"""
+import os
+import pathlib
+import re
+import resource
+import subprocess
+import sys
+import time
+
+TOP = pathlib.Path(__file__).resolve().parent.parent
+CRATE = re.compile(r"--crate-name\0(\w+)\0")
+TICKS = os.sysconf("SC_CLK_TCK")
+KINDS = ("proof", "tests", "edits")
+SECONDS_BETWEEN = 0.5
+
+
+def kind_of(words):
+    """A library is proved by a build, so that a check of one tries an edit."""
+    if "\0--test\0" in f"{words}\0":
+        return "tests"
+    is_edit = "\0--incremental\0" in words or "\0check\0" in words and "\0src/lib.rt\0" in words
+    return "edits" if is_edit else "proof"
+
+
+def fields_of(process):
+    """The fields of a process from the third on, as proc(5) lists them."""
+    return (process / "stat").read_text(encoding="utf-8", errors="replace").rpartition(")")[2].split()
+
+
+def is_below(process, ancestor):
+    """Returns true if the process descends from the other."""
+    number = int(process.name)
+    while number > 1 and number != ancestor:
+        number = int(fields_of(pathlib.Path("/proc") / str(number))[1])
+    return number == ancestor
+
+
+def check_of(process, ancestor):
+    """The crate and the kind of the check that a process below the other is, and its seconds so far, or None."""
+    try:
+        words = (process / "cmdline").read_bytes().decode(errors="replace")
+        found = CRATE.search(words)
+        if not found or not is_below(process, ancestor):
+            return None
+        # Its own ticks, and those of its children that it waited for.
+        return found[1], kind_of(words), sum(int(it) for it in fields_of(process)[11:15]) / TICKS
+    except OSError:
+        return None
+
+
+def watch(job):
+    """The seconds of each check, by its process, crate and kind."""
+    seen = {}
+    while job.poll() is None:
+        for process in pathlib.Path("/proc").glob("[0-9]*"):
+            check = check_of(process, job.pid)
+            if check:
+                seen[process.name, check[0], check[1]] = check[2]
+        time.sleep(SECONDS_BETWEEN)
+    return seen
+
+
+def edits_of(crate):
+    return len(list((TOP / "crates" / crate / "must-fail").glob("*.edit")))
+
+
+def cell(minutes):
+    return f"{minutes:.1f}" if minutes else "none"
+
+
+def print_table(seen):
+    """Prints the rows of docs/DEVELOPING.md ("Minutes by crate")."""
+    minutes = {}
+    for (_, crate, kind), seconds in seen.items():
+        minutes.setdefault(crate, dict.fromkeys(KINDS, 0.0))[kind] += seconds / 60
+    for crate, row in sorted(minutes.items(), key=lambda it: -sum(it[1].values())):
+        print(f"| `{crate}` |", *(f"{cell(row[kind])} |" for kind in KINDS), f"{edits_of(crate) or 'none'} |")
+    sums = (f"{kind} {sum(row[kind] for row in minutes.values()):.0f}" for kind in KINDS)
+    print("gate_minutes: processor minutes:", ", ".join(sums))
+
+
+def main(words):
+    began = time.monotonic()
+    with subprocess.Popen(words) as job:
+        seen = watch(job)
+    print_table(seen)
+    used = resource.getrusage(resource.RUSAGE_CHILDREN)
+    processor, clock = (used.ru_utime + used.ru_stime) / 60, (time.monotonic() - began) / 60
+    print(f"gate_minutes: {' '.join(words)} took {processor:.1f} minutes of processor time, {clock:.1f} by the clock")
+    return job.returncode
+
+
+if __name__ == "__main__":
+    sys.exit(main(sys.argv[1:]) if sys.argv[1:] else __doc__)
