@@ -1,9 +1,11 @@
 #!/usr/bin/env python3
 """Makes a page that plays a run: ./clockbed run --json < SCENARIO | tools/play.py > PAGE.html
 
-The page is one file and loads nothing from elsewhere: open it in a browser. It shows a pulse, with its mail as arrows
-and what each node has, and goes on and back by keys. tools/play.html is what it is made of.
+The page is one file and loads nothing from elsewhere: open it in a browser. It shows a pulse, with its messages as
+arrows and what each node has, and goes on and back by keys. It opens at the pulse that its address names (#pulse=9),
+otherwise at the first pulse that violates agreement. tools/play.html is its template.
 """
+import argparse
 import pathlib
 import sys
 
@@ -21,10 +23,12 @@ def page(text):
 
 
 def main():
+    argparse.ArgumentParser(description=__doc__, formatter_class=argparse.RawDescriptionHelpFormatter).parse_args()
     try:
         sys.stdout.write(page(sys.stdin.read()))
     except NoReport as why:
-        print(f"play: {why}", file=sys.stderr)
+        print(f"play: standard input isn't the lines of a run ({why})", file=sys.stderr)
+        print("play: usage: ./clockbed run --json < SCENARIO | tools/play.py > PAGE.html", file=sys.stderr)
         return 1
     return 0
 

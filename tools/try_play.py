@@ -20,6 +20,8 @@ from play import page
 
 TOP = pathlib.Path(__file__).resolve().parent.parent
 BUILT = TOP / "crates/clockbed/out/clockbed"
+# In pulse 9 of examples/splitter.toml node 0 has clock 1, which itself, node 2 and the Byzantine node sent it.
+SUPPORT = "Support of 1: 3 of the 3 that the rule asks."
 KEYS = {"ArrowRight": 39, "ArrowLeft": 37, "Home": 36, "End": 35, "ArrowDown": 40, " ": 32, "m": 77}
 
 
@@ -140,11 +142,14 @@ class Trial:
 
 def play(trial, browser, picture):
     trial.stands_at("the beginning", 1)
+    trial.equal("the address", browser.value("location.hash"), "#pulse=1")
     browser.press("ArrowLeft")
     trial.stands_at("left of the first pulse", 1)
     browser.press("ArrowRight", 8)
     trial.stands_at("right, eight times", 9)
     trial.memory_is("the node at the beginning", 9, 0)
+    trial.equal("its support", browser.value("document.getElementById('support').textContent"), SUPPORT)
+    trial.equal("the address of pulse 9", browser.value("location.hash"), "#pulse=9")
     if picture:
         browser.picture(picture)
     browser.click("#bed .node[data-node='2'] circle")
@@ -170,12 +175,32 @@ def play(trial, browser, picture):
     trial.stands_at("playing for 1.8 seconds", 3)
     browser.click("#on")
     trial.stands_at("a click on the button >", 4)
+    browser.value("location.hash = '#pulse=12'")
+    time.sleep(0.3)
+    trial.stands_at("another address", 12)
+
+
+def opens_at_the_violation(trial, browser, room, program):
+    """A run that violates agreement opens there; other texts are told what is expected."""
+    scenario = (TOP / "examples/three_part.toml").read_bytes()
+    (room / "parted.html").write_text(page(lines_of(program, scenario)), encoding="utf-8")
+    browser.ask("Page.navigate", url=(room / "parted.html").as_uri())
+    time.sleep(0.5)
+    trial.equal("a violation", browser.value("document.getElementById('where').textContent"), "pulse 3 of 3")
+    for words, status, part in ([], 1, "run --json"), (["--help"], 0, "play.py"):
+        done = subprocess.run([TOP / "tools/play.py", *words], input="?", capture_output=True, text=True, check=False)
+        trial.equal(f"play.py {words}", (done.returncode, part in done.stdout + done.stderr), (status, True))
+
+
+def lines_of(program, scenario):
+    done = subprocess.run([program, "run", "--json"], input=scenario, capture_output=True, check=True)
+    return done.stdout.decode()
 
 
 def main():
     program = os.path.realpath(os.environ.get("CLOCKBED_PROGRAM", BUILT))
     scenario = (TOP / "examples/splitter.toml").read_bytes()
-    lines = subprocess.run([program, "run", "--json"], input=scenario, capture_output=True, check=True).stdout.decode()
+    lines = lines_of(program, scenario)
     pulses = [json.loads(it) for it in lines.splitlines()[1:-1]]
     room = pathlib.Path(tempfile.mkdtemp())
     (room / "page.html").write_text(page(lines), encoding="utf-8")
@@ -183,6 +208,7 @@ def main():
     try:
         trial = Trial(browser, pulses)
         play(trial, browser, sys.argv[1] if len(sys.argv) > 1 else None)
+        opens_at_the_violation(trial, browser, room, program)
         asked = [it["params"]["request"]["url"] for it in browser.events if it["method"] == "Network.requestWillBeSent"]
         trial.equal("what the page loads", [it for it in asked if not it.startswith("file:")], [])
         thrown = [it for it in browser.events if it["method"] == "Runtime.exceptionThrown"]

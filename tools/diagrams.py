@@ -1,0 +1,351 @@
+#!/usr/bin/env python3
+"""Draws the diagrams of docs/ as SVG: tools/diagrams.py [--check]
+
+It writes docs/pictures/*.svg. With --check it writes nothing. It then fails if a file there isn't what it would write,
+is missing, or isn't one of its own. Clocks and messages are those of examples/two_faced.report and of
+examples/splitter_of_three.report.
+"""
+import re
+import sys
+from typing import NamedTuple
+from xml.sax.saxutils import escape
+
+sys.dont_write_bytecode = True
+from built_program import TOP
+
+FOLDER = TOP / "docs" / "pictures"
+INK, GREY, PALE, WHITE, RED = "#222222", "#777777", "#f1f1f1", "#ffffff", "#c8102e"
+BLUE, ORANGE, GREEN = "#1f6fb4", "#b86e00", "#2f7d4f"
+LIGHT = {BLUE: "#d9eafa", ORANGE: "#fdecc8", GREEN: "#d8f0e0", RED: "#f8d7dc", GREY: PALE, INK: WHITE}
+ARROWED = (INK, GREY, RED, BLUE, ORANGE, GREEN)
+HEAD = 'viewBox="0 0 8 8" refX="8" refY="4" markerWidth="7" markerHeight="7" orient="auto"'
+WIDTH = 760
+DASH = "5 4"
+# a box with rounder corners lets what is under it shine through
+ROUND = 20
+
+
+class Style(NamedTuple):
+    """How a line, a box or a text looks."""
+
+    colour: str = INK
+    dash: str = ""
+    size: int = 13
+    anchor: str = "middle"
+    weight: str = "normal"
+
+
+PLAIN = Style()
+SMALL = Style(size=12)
+LEFT = Style(anchor="start")
+TITLE = Style(size=14, weight="bold")
+
+
+class Canvas:
+    """The parts of an SVG, in the order in which they are drawn."""
+
+    def __init__(self, high, title):
+        self.high, self.title, self.parts = high, title, []
+
+    def add(self, part):
+        self.parts.append(part)
+
+    def text(self, at, words, style=PLAIN):
+        self.add(
+            f'<text x="{at[0]}" y="{at[1]}" fill="{style.colour}" font-size="{style.size}" text-anchor="{style.anchor}"'
+            f' font-weight="{style.weight}">{escape(words)}</text>'
+        )
+
+    def lines(self, at, rows, style=PLAIN):
+        for number, words in enumerate(rows):
+            self.text((at[0], at[1] + 17 * number), words, style)
+
+    def path(self, data, style=PLAIN, has_arrow=True):
+        dash = f' stroke-dasharray="{style.dash}"' if style.dash else ""
+        arrow = f' marker-end="url(#a{ARROWED.index(style.colour)})"' if has_arrow else ""
+        self.add(f'<path d="{data}" fill="none" stroke="{style.colour}" stroke-width="1.5"{dash}{arrow}/>')
+
+    def arrow(self, begin, end, style=PLAIN):
+        self.path(f"M{begin[0]} {begin[1]}L{end[0]} {end[1]}", style)
+
+    def line(self, begin, end, style=PLAIN):
+        self.path(f"M{begin[0]} {begin[1]}L{end[0]} {end[1]}", style, has_arrow=False)
+
+    def box(self, corner, size, style=PLAIN, radius=4):
+        look = ' fill-opacity="0.7"' if radius > ROUND else ""
+        dash = f' stroke-dasharray="{style.dash}"' if style.dash else ""
+        self.add(
+            f'<rect x="{corner[0]}" y="{corner[1]}" width="{size[0]}" height="{size[1]}" rx="{radius}"'
+            f' fill="{LIGHT[style.colour]}"{look} stroke="{style.colour}" stroke-width="1.5"{dash}/>'
+        )
+
+    def named_box(self, corner, size, words, style=PLAIN):
+        self.box(corner, size, style)
+        self.text((corner[0] + size[0] / 2, corner[1] + size[1] / 2 + 4), words, style)
+
+    def circle(self, at, words, style=PLAIN, radius=20):
+        self.add(
+            f'<circle cx="{at[0]}" cy="{at[1]}" r="{radius}" fill="{LIGHT[style.colour]}" stroke="{style.colour}"'
+            ' stroke-width="1.5"/>'
+        )
+        self.text((at[0], at[1] + 5), words, style)
+
+    def svg(self):
+        heads = "".join(
+            f'<marker id="a{number}" {HEAD}><path d="M0 0L8 4L0 8z" fill="{colour}"/></marker>'
+            for number, colour in enumerate(ARROWED)
+        )
+        size = f'width="{WIDTH}" height="{self.high}" viewBox="0 0 {WIDTH} {self.high}"'
+        head = f'<svg xmlns="http://www.w3.org/2000/svg" {size} font-family="sans-serif">'
+        ground = f'<rect width="{WIDTH}" height="{self.high}" fill="{WHITE}"/>'
+        title = f"<title>{escape(self.title)}</title>"
+        return "\n".join([head, title, f"<defs>{heads}</defs>", ground, *self.parts, "</svg>\n"])
+
+
+def clocks_of(example):
+    """The clocks of each pulse of an example's report, as they are written."""
+    report = (TOP / "examples" / f"{example}.report").read_text(encoding="utf-8")
+    return {int(pulse): told.split() for pulse, told in re.findall(r"^pulse (\d+) clocks (.*) settled", report, re.M)}
+
+
+# ---- two quorums
+
+APART, SENDERS = 80, 150
+FOUR_AGREE = (
+    "Correct node 1 is in both quorums, and",
+    "sends one number to all: c − 1 = d − 1.",
+    "So c = d, whatever node 3 sends.",
+)
+
+
+class Panel(NamedTuple):
+    """Senders in a row, the last of them Byzantine, and two quorums: those from the left and those from the right."""
+
+    left: int
+    order: tuple
+    size: int
+    heads: tuple
+    tails: tuple
+
+
+def draw_panel(canvas, panel, title, result):
+    nodes = len(panel.order)
+    wide = APART * panel.size - 16
+    right = panel.left + APART * (nodes - panel.size)
+    canvas.text((panel.left + APART * nodes / 2 - 8, 28), title, TITLE)
+    canvas.box((panel.left, SENDERS - 44), (wide, 80), Style(BLUE), radius=30)
+    canvas.box((right, SENDERS - 36), (wide, 80), Style(ORANGE), radius=30)
+    canvas.lines((panel.left, SENDERS - 72), panel.heads, Style(BLUE, anchor="start"))
+    canvas.lines((right + wide, SENDERS + 64), panel.tails, Style(ORANGE, anchor="end"))
+    for place, node in enumerate(panel.order):
+        is_byzantine = node == nodes - 1
+        canvas.circle((panel.left + 32 + APART * place, SENDERS), str(node), Style(RED if is_byzantine else INK))
+    canvas.lines((panel.left, SENDERS + 122), result, LEFT)
+
+
+def quorums():
+    canvas = Canvas(330, "Two quorums: with n = 4 a correct node is in both, with n = 3 it need not be")
+    at_0, at_1, _ = clocks_of("splitter_of_three")[6]
+    four = Panel(
+        20,
+        (0, 1, 3, 2),
+        3,
+        ("these three sent c − 1", "to a node with new clock c"),
+        ("these three sent d − 1", "to a node with new clock d"),
+    )
+    draw_panel(canvas, four, "n = 4, f = 1: a quorum is 3", FOUR_AGREE)
+    before_0, before_1 = int(at_0) - 1, int(at_1) - 1
+    three = Panel(
+        450,
+        (0, 2, 1),
+        2,
+        (f"these two sent {before_0}", f"to node 0: new clock {at_0}"),
+        (f"these two sent {before_1}", f"to node 1: new clock {at_1}"),
+    )
+    violated = (
+        "Only Byzantine node 2 is in both quorums.",
+        f"It sends {before_0} to node 0 and {before_1} to node 1:",
+        f"clocks {at_0} and {at_1} violate agreement.",
+    )
+    draw_panel(canvas, three, "n = 3, f = 1: a quorum is 2", violated)
+    canvas.line((400, 20), (400, 310), Style(GREY, DASH))
+    return canvas
+
+
+# ---- the automaton of (clock, mark)
+
+FIRST, SECOND, GAP, LAST, WRAPPED, UNMARKED = (300, 110), (430, 110), (540, 110), (660, 110), (480, 225), (90, 165)
+STATE = 30
+
+
+def draw_counting(canvas):
+    canvas.box((225, 50), (515, 225), Style(GREY, DASH), radius=14)
+    canvas.text((482, 72), "counting: mark 1", Style(GREY))
+    for at, words in ((FIRST, "1, 1"), (SECOND, "2, 1"), (LAST, "M−1, 1"), (WRAPPED, "0, 1")):
+        canvas.circle(at, words, Style(BLUE), STATE)
+    canvas.text((GAP[0], GAP[1] + 4), "…", TITLE)
+    for begin, end in ((FIRST, SECOND), (SECOND, GAP), (GAP, LAST)):
+        room = STATE if end is not GAP else 12
+        canvas.arrow((begin[0] + (STATE if begin is not GAP else 12), begin[1]), (end[0] - room - 1, end[1]))
+    canvas.path(f"M{LAST[0]} {LAST[1] + STATE}Q{LAST[0]} {WRAPPED[1]} {WRAPPED[0] + STATE + 1} {WRAPPED[1]}")
+    canvas.path(f"M{WRAPPED[0] - STATE} {WRAPPED[1]}Q{FIRST[0]} {WRAPPED[1]} {FIRST[0]} {FIRST[1] + STATE + 1}")
+    canvas.text((482, 165), "each solid arrow in this box: supported", SMALL)
+
+
+def clock_automaton():
+    canvas = Canvas(330, "The automaton of (clock, mark): a supported clock counts on, all others fall back to (0, 0)")
+    draw_counting(canvas)
+    x, y = UNMARKED
+    canvas.circle(UNMARKED, "0, 0", Style(RED), STATE)
+    canvas.text((x, y + 52), "mark 0", Style(GREY))
+    canvas.path(f"M{x - 14} {y - 27}C{x - 50} {y - 95} {x + 50} {y - 95} {x + 14} {y - 28}")
+    canvas.lines((x, y - 100), ("supported and coin 0,", "or not supported"), SMALL)
+    canvas.arrow((x + 29, y - 10), (FIRST[0] - STATE - 1, FIRST[1] + 8))
+    canvas.lines((172, 108), ("supported", "and coin 1"), SMALL)
+    canvas.arrow((225, 205), (x + 25, y + 19), Style(RED, DASH))
+    canvas.text((170, 226), "not supported", Style(RED, size=12))
+    canvas.text((20, 306), "supported: at least n − f nodes sent the node its own clock value.", LEFT)
+    return canvas
+
+
+# ---- two pulses
+
+EXAMPLE, PULSES = "two_faced", (2, 3)
+BYZANTINE_SENDS = ("0", "1", "0", "-")
+LANES = (110, 170, 230, 290)
+OPENS, SPAN = {2: 100, 3: 480}, 200
+
+
+def sent_by(clocks, sender):
+    """What a node sends to each receiver: its new clock, or what the Byzantine node says."""
+    return BYZANTINE_SENDS if clocks[sender] == "-" else (clocks[sender],) * len(LANES)
+
+
+def inbox_of(clocks, receiver):
+    return " ".join(sent_by(clocks, sender)[receiver] for sender in range(len(LANES)))
+
+
+def draw_pulse(canvas, pulse, before, after):
+    left = OPENS[pulse]
+    canvas.box((left, 62), (SPAN, 265), Style(GREY), radius=0)
+    canvas.text((left + SPAN / 2, 56), f"pulse {pulse}", TITLE)
+    canvas.text((left, 345), "open", SMALL)
+    canvas.text((left + SPAN, 345), "close", SMALL)
+    for node, y in enumerate(LANES):
+        is_byzantine = after[node] == "-"
+        canvas.text((left + 12, y - 8), f"in {inbox_of(before, node)}", Style(size=12, anchor="start"))
+        look = Style(RED if is_byzantine else BLUE, size=12)
+        canvas.named_box((left + 78, y - 13), (72, 26), "adversary" if is_byzantine else "clock", look)
+        canvas.line((left, y), (left + 78, y), Style(GREY))
+        canvas.line((left + 150, y), (left + SPAN, y), Style(GREY))
+        if not is_byzantine:
+            canvas.circle((left + SPAN - 22, y), after[node], Style(BLUE), 12)
+
+
+def draw_messages(canvas, clocks, begin, end):
+    for sender, y in enumerate(LANES):
+        for receiver, number in enumerate(sent_by(clocks, sender)):
+            if number != "-":
+                look = Style(RED if clocks[sender] == "-" else GREY, DASH if number == "0" else "")
+                canvas.arrow((begin, y), (end - 1, LANES[receiver]), look)
+
+
+def two_pulses():
+    canvas = Canvas(410, "Two pulses as a space-time diagram, with the messages between them")
+    clocks = clocks_of(EXAMPLE)
+    for node, y in enumerate(LANES):
+        canvas.text((16, y + 4), f"node {node}", LEFT)
+        canvas.arrow((OPENS[3] + SPAN, y), (WIDTH - 10, y), Style(GREY))
+        canvas.arrow((68, y), (OPENS[2] - 1, y), Style(GREY))
+    for pulse in PULSES:
+        draw_pulse(canvas, pulse, clocks[pulse - 1], clocks[pulse])
+    draw_messages(canvas, clocks[2], OPENS[2] + SPAN, OPENS[3])
+    canvas.text((390, 20), "staged: corrupt node 0, clock 0", Style(ORANGE))
+    canvas.path(f"M390 28L390 44L{OPENS[3]} 44L{OPENS[3]} {LANES[0] - 6}", Style(ORANGE))
+    canvas.text((16, 375), "in 1 1 0 0: the messages from nodes 0 to 3 that the node reads.", LEFT)
+    canvas.text((16, 395), "Arrows: solid for a message of 1, dashed for 0; red from the Byzantine node.", LEFT)
+    return canvas
+
+
+# ---- a pulse among threads
+
+ACTORS = ("loader 0", "loader 1", "bench under lock", "engine", "worker 0", "worker 1", "board", "watcher 0")
+ACTOR = {name: 50 + 46 * number for number, name in enumerate(ACTORS)}
+ENTRIES = (
+    (170, "loader 0", "Staged", "load", ORANGE),
+    (255, "engine", "Opened", "open_pulse", BLUE),
+    (345, "loader 1", "Staged", "load", GREEN),
+    (480, "engine", "Closed", "close_pulse", BLUE),
+)
+
+
+def draw_entry(canvas, place, entry):
+    x, actor, name, call, colour = entry
+    begin, bench = ACTOR[actor], ACTOR["bench under lock"]
+    down = begin < bench
+    canvas.named_box((x - 36, bench - 12), (72, 24), f"{place} {name}", Style(colour, size=12))
+    canvas.arrow((x, begin), (x, bench - 13 if down else bench + 13), Style(colour))
+    at, anchor = ((x - 6, begin - 6), "end") if down else ((x - 6, begin + 17), "middle")
+    canvas.text(at, call, Style(colour, size=12, anchor=anchor))
+    canvas.text((x + 6, begin - 6), f"receipt {place}", Style(colour, size=12, anchor="start"))
+
+
+def draw_workers(canvas):
+    engine = ACTOR["engine"]
+    for actor, tasks in (("worker 0", "tasks 0, 2"), ("worker 1", "tasks 1, 3")):
+        y = ACTOR[actor]
+        canvas.named_box((300, y - 12), (100, 24), tasks, Style(INK, size=12))
+        canvas.path(f"M286 {engine}L286 {y}L299 {y}", Style(GREY))
+        canvas.path(f"M400 {y}L424 {y}L424 {engine + 2}", Style(GREY))
+    canvas.text((432, engine + 60), "results", Style(GREY, size=12, anchor="start"))
+
+
+def draw_posting(canvas):
+    board, watcher = ACTOR["board"], ACTOR["watcher 0"]
+    canvas.arrow((560, ACTOR["engine"]), (560, board - 13), Style(BLUE))
+    canvas.text((566, ACTOR["engine"] + 17), "post", Style(BLUE, size=12, anchor="start"))
+    canvas.named_box((530, board - 12), (60, 24), "row 1", Style(BLUE, size=12))
+    canvas.arrow((620, board), (620, watcher - 2), Style(INK))
+    canvas.text((626, watcher - 8), "look: row 1", Style(size=12, anchor="start"))
+
+
+def threads():
+    canvas = Canvas(450, "One pulse among threads: calls under the lock add entries to one linear history")
+    for name, y in ACTOR.items():
+        canvas.text((12, y + 4), name, LEFT)
+        canvas.line((124, y), (WIDTH - 12, y), Style(GREY, "" if name == "bench under lock" else "2 4"))
+    for place, entry in enumerate(ENTRIES):
+        draw_entry(canvas, place, entry)
+    draw_workers(canvas)
+    draw_posting(canvas)
+    canvas.named_box((654, ACTOR["bench under lock"] - 12), (84, 24), "finish", Style(INK, size=12))
+    canvas.text((12, 412), "Time runs to the right. The history is 0 Staged, 1 Opened, 2 Staged, 3 Closed.", LEFT)
+    canvas.text((12, 432), "Entry 2 takes effect at the next opening: the open pulse doesn't see it.", LEFT)
+    return canvas
+
+
+PICTURES = {"quorums": quorums, "clock_automaton": clock_automaton, "two_pulses": two_pulses, "threads": threads}
+
+
+def faults(drawn):
+    for path, svg in drawn.items():
+        if not path.is_file() or path.read_text(encoding="utf-8") != svg:
+            yield f"{path.relative_to(TOP)} isn't what tools/diagrams.py draws"
+    for path in sorted(set(FOLDER.glob("*")) - set(drawn)):
+        yield f"{path.relative_to(TOP)} isn't a picture of tools/diagrams.py"
+
+
+def main():
+    drawn = {FOLDER / f"{name}.svg": draw().svg() for name, draw in PICTURES.items()}
+    if sys.argv[1:] == ["--check"]:
+        found = list(faults(drawn))
+        print("\n".join([*found, f"diagrams: {len(drawn)} pictures, {len(found)} faults"]))
+        return 1 if found else 0
+    FOLDER.mkdir(exist_ok=True)
+    for path, svg in drawn.items():
+        path.write_text(svg, encoding="utf-8")
+    return 0
+
+
+if __name__ == "__main__":
+    sys.exit(main())
