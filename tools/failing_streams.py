@@ -9,6 +9,7 @@ here.
 import concurrent.futures
 import dataclasses
 import os
+import select
 import subprocess
 import sys
 import tempfile
@@ -76,6 +77,11 @@ class Clockbed:
         """Runs the program with a standard output whose reader is gone."""
         reader, writer = os.pipe()
         os.close(reader)
+        # Until it runs its program, a process that another thread starts has the reader too: wait until none has it.
+        gone = select.poll()
+        gone.register(writer, select.POLLERR)
+        while not gone.poll():
+            pass
         ran = subprocess.run(self.line(words), input=given, stdout=writer, stderr=subprocess.PIPE, check=False)
         os.close(writer)
         return Ran(ran.returncode, b"", ran.stderr)
