@@ -170,6 +170,119 @@ def same_attack():
     return canvas
 
 
+# ---- the path of a clock of your own
+
+STEPS = (
+    ("write", ("the rule first,", "then its text"), INK),
+    ("verify", ("each run ends", "within K steps"), GREEN),
+    ("run", ("the report", "of this run"), BLUE),
+    ("attack", ("the report", "of this attack"), BLUE),
+    ("explore", ("all attacks", "on this bench"), GREEN),
+    ("sweep", ("a line", "for each seed"), BLUE),
+)
+STEP_WIDE, STEP_GAP = 106, 18
+
+
+def own_clock():
+    canvas = Canvas(208, "From an idea to answers: write, verify, run, attack, explore, sweep")
+    lefts = [16 + (STEP_WIDE + STEP_GAP) * number for number in range(len(STEPS))]
+    for left, (name, answer, colour) in zip(lefts, STEPS):
+        canvas.named_box((left, 60), (STEP_WIDE, 34), name, Style(colour, size=14, weight="bold"))
+        canvas.lines((left + STEP_WIDE / 2, 116), answer, Style(colour, size=12))
+        if left is not lefts[-1]:
+            canvas.arrow((left + STEP_WIDE, 77), (left + STEP_WIDE + STEP_GAP - 1, 77), Style(GREY))
+    begin, end = lefts[4] + STEP_WIDE / 2, lefts[0] + STEP_WIDE / 2
+    canvas.path(f"M{begin} 60L{begin} 34L{end} 34L{end} 59", Style(RED))
+    canvas.text(((begin + end) / 2, 26), "a counterexample: change the rule", Style(RED, size=12))
+    canvas.text((16, 172), "Green: proved of all runs, or of all runs of one bench within the limits of explore.", LEFT)
+    canvas.text((16, 192), "Blue: a fact about one run, or about one run for each seed.", LEFT)
+    return canvas
+
+
+# ---- two ways through the states
+
+STATE_WIDE, STATES_Y = 34, 96
+
+
+def clocks_below(line):
+    """The correct clocks of each pulse in the report that docs/EXPLORE.md shows below a line, where there are any."""
+    page = (TOP / "docs" / "EXPLORE.md").read_text(encoding="utf-8")
+    report = page[page.index(line) :].partition("```")[0]
+    return re.findall(r"^pulse \d+ clocks (\d[\d ]*\d) ", report, re.M)
+
+
+def draw_state(canvas, x, clocks, style):
+    canvas.circle((x, STATES_Y), clocks, style, STATE_WIDE)
+
+
+def draw_violation(canvas):
+    states = clocks_below("parts in pulse 3")
+    canvas.text((16, 28), "A violation of agreement", Style(size=14, weight="bold", anchor="start"))
+    canvas.arrow((20, STATES_Y), (54, STATES_Y), Style(GREY))
+    for number, clocks in enumerate(states):
+        x = 90 + 125 * number
+        is_last = number == len(states) - 1
+        draw_state(canvas, x, clocks, Style(RED if is_last else INK))
+        if not is_last:
+            canvas.arrow((x + STATE_WIDE, STATES_Y), (x + 125 - STATE_WIDE - 1, STATES_Y), Style(GREY))
+            canvas.text((x + 62, STATES_Y - 10), f"pulse {number + 2}", Style(GREY, size=12))
+
+
+def draw_lasso(canvas):
+    first, second, again = clocks_below("# pulses 3 to 4 come again")
+    assert first == again
+    canvas.text((440, 28), "Synchronisation prevented for ever", Style(size=14, weight="bold", anchor="start"))
+    canvas.arrow((440, STATES_Y), (484, STATES_Y), Style(GREY))
+    draw_state(canvas, 520, first, PLAIN)
+    draw_state(canvas, 680, second, PLAIN)
+    for side, begin, end, pulse in ((-1, 545, 655, 3), (1, 655, 545, 4)):
+        y = STATES_Y + 23 * side
+        canvas.path(f"M{begin} {y}Q600 {STATES_Y + 64 * side} {end} {y}", Style(ORANGE))
+        canvas.text((600, STATES_Y + 4 + 56 * side), f"pulse {pulse}", Style(ORANGE, size=12))
+
+
+def two_ways():
+    canvas = Canvas(206, "Two answers of explore as paths through states: a violation of agreement, and a repetition")
+    draw_violation(canvas)
+    draw_lasso(canvas)
+    canvas.line((415, 16), (415, 150), Style(GREY, DASH))
+    canvas.text((16, 172), "Circle: a state, shown by the clocks of the correct nodes. Arrow: a transition.", LEFT)
+    canvas.text((16, 192), "Left: two clocks differ. Right: two pulses repeat, and neither is synchronised.", LEFT)
+    return canvas
+
+
+# ---- from a scenario to a report
+
+PROVED, TESTED, ASSUMED = GREEN, BLUE, ORANGE
+STAGES = (
+    ("words, file", "clap, std", TESTED),
+    ("TOML table", "crate toml", ASSUMED),
+    ("scenario", "scenario_of", PROVED),
+    ("events", "events", PROVED),
+    ("run", "run_events", PROVED),
+    ("report", "report", PROVED),
+    ("terminal", "std", TESTED),
+)
+STAGE_WIDE, STAGE_GAP = 88, 18
+
+
+def report_path():
+    canvas = Canvas(182, "From a scenario to a report: what is proved, what is tested and what is assumed")
+    for number, (name, by, colour) in enumerate(STAGES):
+        left = 18 + (STAGE_WIDE + STAGE_GAP) * number
+        canvas.named_box((left, 30), (STAGE_WIDE, 36), name, Style(colour))
+        canvas.text((left + STAGE_WIDE / 2, 86), by, Style(colour, size=12))
+        if number:
+            canvas.arrow((left - STAGE_GAP, 48), (left - 1, 48), Style(GREY))
+    coins = 18 + (STAGE_WIDE + STAGE_GAP) * 3 + STAGE_WIDE / 2
+    canvas.text((coins, 132), "coins of a seed: crate rand_chacha", Style(ASSUMED, size=12))
+    canvas.arrow((coins, 118), (coins, 93), Style(ASSUMED))
+    for left, (words, colour) in zip((18, 120, 218), (("proved", PROVED), ("tested", TESTED), ("assumed", ASSUMED))):
+        canvas.box((left, 150), (14, 14), Style(colour), radius=3)
+        canvas.text((left + 22, 162), words, Style(colour, anchor="start"))
+    return canvas
+
+
 # ---- two quorums
 
 APART, SENDERS = 80, 150
@@ -386,128 +499,15 @@ def threads():
     return canvas
 
 
-# ---- the path of a clock of your own
-
-STEPS = (
-    ("write", ("the rule first,", "then its text"), INK),
-    ("verify", ("each run ends", "within K steps"), GREEN),
-    ("run", ("the report", "of this run"), BLUE),
-    ("attack", ("the report", "of this attack"), BLUE),
-    ("explore", ("all attacks", "on this bench"), GREEN),
-    ("sweep", ("a line", "for each seed"), BLUE),
-)
-STEP_WIDE, STEP_GAP = 106, 18
-
-
-def own_clock():
-    canvas = Canvas(208, "From an idea to answers: write, verify, run, attack, explore, sweep")
-    lefts = [16 + (STEP_WIDE + STEP_GAP) * number for number in range(len(STEPS))]
-    for left, (name, answer, colour) in zip(lefts, STEPS):
-        canvas.named_box((left, 60), (STEP_WIDE, 34), name, Style(colour, size=14, weight="bold"))
-        canvas.lines((left + STEP_WIDE / 2, 116), answer, Style(colour, size=12))
-        if left is not lefts[-1]:
-            canvas.arrow((left + STEP_WIDE, 77), (left + STEP_WIDE + STEP_GAP - 1, 77), Style(GREY))
-    begin, end = lefts[4] + STEP_WIDE / 2, lefts[0] + STEP_WIDE / 2
-    canvas.path(f"M{begin} 60L{begin} 34L{end} 34L{end} 59", Style(RED))
-    canvas.text(((begin + end) / 2, 26), "a counterexample: change the rule", Style(RED, size=12))
-    canvas.text((16, 172), "Green: proved of all runs, or of all runs of one bench within the limits of explore.", LEFT)
-    canvas.text((16, 192), "Blue: a fact about one run, or about one run for each seed.", LEFT)
-    return canvas
-
-
-# ---- two ways through the states
-
-STATE_WIDE, STATES_Y = 34, 96
-
-
-def clocks_below(line):
-    """The correct clocks of each pulse in the report that docs/EXPLORE.md shows below a line, where there are any."""
-    page = (TOP / "docs" / "EXPLORE.md").read_text(encoding="utf-8")
-    report = page[page.index(line) :].partition("```")[0]
-    return re.findall(r"^pulse \d+ clocks (\d[\d ]*\d) ", report, re.M)
-
-
-def draw_state(canvas, x, clocks, style):
-    canvas.circle((x, STATES_Y), clocks, style, STATE_WIDE)
-
-
-def draw_violation(canvas):
-    states = clocks_below("parts in pulse 3")
-    canvas.text((16, 28), "A violation of agreement", Style(size=14, weight="bold", anchor="start"))
-    canvas.arrow((20, STATES_Y), (54, STATES_Y), Style(GREY))
-    for number, clocks in enumerate(states):
-        x = 90 + 125 * number
-        is_last = number == len(states) - 1
-        draw_state(canvas, x, clocks, Style(RED if is_last else INK))
-        if not is_last:
-            canvas.arrow((x + STATE_WIDE, STATES_Y), (x + 125 - STATE_WIDE - 1, STATES_Y), Style(GREY))
-            canvas.text((x + 62, STATES_Y - 10), f"pulse {number + 2}", Style(GREY, size=12))
-
-
-def draw_lasso(canvas):
-    first, second, again = clocks_below("# pulses 3 to 4 come again")
-    assert first == again
-    canvas.text((440, 28), "Synchronisation prevented for ever", Style(size=14, weight="bold", anchor="start"))
-    canvas.arrow((440, STATES_Y), (484, STATES_Y), Style(GREY))
-    draw_state(canvas, 520, first, PLAIN)
-    draw_state(canvas, 680, second, PLAIN)
-    for side, begin, end, pulse in ((-1, 545, 655, 3), (1, 655, 545, 4)):
-        y = STATES_Y + 23 * side
-        canvas.path(f"M{begin} {y}Q600 {STATES_Y + 64 * side} {end} {y}", Style(ORANGE))
-        canvas.text((600, STATES_Y + 4 + 56 * side), f"pulse {pulse}", Style(ORANGE, size=12))
-
-
-def two_ways():
-    canvas = Canvas(206, "Two answers of explore as paths through states: a violation of agreement, and a repetition")
-    draw_violation(canvas)
-    draw_lasso(canvas)
-    canvas.line((415, 16), (415, 150), Style(GREY, DASH))
-    canvas.text((16, 172), "Circle: a state, shown by the clocks of the correct nodes. Arrow: a transition.", LEFT)
-    canvas.text((16, 192), "Left: two clocks differ. Right: two pulses repeat, and neither is synchronised.", LEFT)
-    return canvas
-
-
-# ---- from a scenario to a report
-
-PROVED, TESTED, ASSUMED = GREEN, BLUE, ORANGE
-STAGES = (
-    ("words, file", "clap, std", TESTED),
-    ("TOML table", "crate toml", ASSUMED),
-    ("scenario", "scenario_of", PROVED),
-    ("events", "events", PROVED),
-    ("run", "run_events", PROVED),
-    ("report", "report", PROVED),
-    ("terminal", "std", TESTED),
-)
-STAGE_WIDE, STAGE_GAP = 88, 18
-
-
-def report_path():
-    canvas = Canvas(182, "From a scenario to a report: what is proved, what is tested and what is assumed")
-    for number, (name, by, colour) in enumerate(STAGES):
-        left = 18 + (STAGE_WIDE + STAGE_GAP) * number
-        canvas.named_box((left, 30), (STAGE_WIDE, 36), name, Style(colour))
-        canvas.text((left + STAGE_WIDE / 2, 86), by, Style(colour, size=12))
-        if number:
-            canvas.arrow((left - STAGE_GAP, 48), (left - 1, 48), Style(GREY))
-    coins = 18 + (STAGE_WIDE + STAGE_GAP) * 3 + STAGE_WIDE / 2
-    canvas.text((coins, 132), "coins of a seed: crate rand_chacha", Style(ASSUMED, size=12))
-    canvas.arrow((coins, 118), (coins, 93), Style(ASSUMED))
-    for left, (words, colour) in zip((18, 120, 218), (("proved", PROVED), ("tested", TESTED), ("assumed", ASSUMED))):
-        canvas.box((left, 150), (14, 14), Style(colour), radius=3)
-        canvas.text((left + 22, 162), words, Style(colour, anchor="start"))
-    return canvas
-
-
 PICTURES = {
     "same_attack": same_attack,
+    "own_clock": own_clock,
+    "two_ways": two_ways,
+    "report_path": report_path,
     "quorums": quorums,
     "clock_automaton": clock_automaton,
     "two_pulses": two_pulses,
     "threads": threads,
-    "own_clock": own_clock,
-    "two_ways": two_ways,
-    "report_path": report_path,
 }
 
 
