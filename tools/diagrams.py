@@ -211,7 +211,7 @@ def clocks_below(line):
     return re.findall(r"^pulse \d+ clocks (\d[\d ]*\d) ", report, re.M)
 
 
-def draw_state(canvas, x, clocks, style):
+def draw_clocks_at(canvas, x, clocks, style):
     canvas.circle((x, STATES_Y), clocks, style, STATE_WIDE)
 
 
@@ -222,7 +222,7 @@ def draw_violation(canvas):
     for number, clocks in enumerate(states):
         x = 90 + 125 * number
         is_last = number == len(states) - 1
-        draw_state(canvas, x, clocks, Style(RED if is_last else INK))
+        draw_clocks_at(canvas, x, clocks, Style(RED if is_last else INK))
         if not is_last:
             canvas.arrow((x + STATE_WIDE, STATES_Y), (x + 125 - STATE_WIDE - 1, STATES_Y), Style(GREY))
             canvas.text((x + 62, STATES_Y - 10), f"pulse {number + 2}", Style(GREY, size=12))
@@ -233,8 +233,8 @@ def draw_lasso(canvas):
     assert first == again
     canvas.text((440, 28), "Synchronisation prevented for ever", Style(size=14, weight="bold", anchor="start"))
     canvas.arrow((440, STATES_Y), (484, STATES_Y), Style(GREY))
-    draw_state(canvas, 520, first, PLAIN)
-    draw_state(canvas, 680, second, PLAIN)
+    draw_clocks_at(canvas, 520, first, PLAIN)
+    draw_clocks_at(canvas, 680, second, PLAIN)
     for side, begin, end, pulse in ((-1, 545, 655, 3), (1, 655, 545, 4)):
         y = STATES_Y + 23 * side
         canvas.path(f"M{begin} {y}Q600 {STATES_Y + 64 * side} {end} {y}", Style(ORANGE))
