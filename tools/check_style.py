@@ -17,7 +17,10 @@ from built_program import TOP
 PAGES = [TOP / "README.md", *sorted(TOP.glob("docs/*.md"))]
 LIMITED = [
     f"docs/{name}.md"
-    for name in ("MODEL", "GLOSSARY", "THEOREMS", "TRUST", "COMPATIBILITY", "CLOCK", "PULSE", "THREADS", "RUNNER")
+    for name in (
+        *("MODEL", "GLOSSARY", "THEOREMS", "TRUST", "COMPATIBILITY", "CLOCK", "PULSE", "THREADS", "RUNNER"),
+        *("DECISIONS",),
+    )
 ]
 MOST_WORDS = 25
 MOST_TURNS = 1.0
