@@ -19,7 +19,7 @@ LIMITED = [
     f"docs/{name}.md"
     for name in (
         *("MODEL", "GLOSSARY", "THEOREMS", "TRUST", "COMPATIBILITY", "CLOCK", "PULSE", "THREADS", "RUNNER"),
-        *("DECISIONS", "CLAIMS", "TESTED"),
+        *("DECISIONS", "CLAIMS", "TESTED", "COMMANDS", "SCENARIOS", "OUTPUT", "INSIDE"),
     )
 ]
 MOST_WORDS = 25
