@@ -20,6 +20,7 @@ LIMITED = [
     for name in (
         *("MODEL", "GLOSSARY", "THEOREMS", "TRUST", "COMPATIBILITY", "CLOCK", "PULSE", "THREADS", "RUNNER"),
         *("DECISIONS", "CLAIMS", "TESTED", "COMMANDS", "SCENARIOS", "OUTPUT", "INSIDE"),
+        *("VERIFIER", "RANGES"),
     )
 ]
 MOST_WORDS = 25
