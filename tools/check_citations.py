@@ -134,7 +134,7 @@ def quoted_counts():
     for names in sorted(counted_names()):
         command = re.escape(f"`tools/believed.py {names}`: ")
         yield "*", rf"{command}{NUMBER} definitions, {NUMBER} lines", {reached_lines(names.split())}
-    yield "*", rf"{NUMBER} lines to be believed and {NUMBER} apart", {believed_lines()}
+    yield "*", rf"{NUMBER} lines of trusted definitions and {NUMBER} apart", {believed_lines()}
     for crate in crates():
         yield "docs/DEVELOPING.md", rf"\| `{crate}` \|(?: [\w.]+ \|){{3}} {NUMBER} \|", {(edits_of(crate),)}
     for table in ("encodings", "results", "fields"):

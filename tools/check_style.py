@@ -20,7 +20,7 @@ LIMITED = [
     for name in (
         *("MODEL", "GLOSSARY", "THEOREMS", "TRUST", "COMPATIBILITY", "CLOCK", "PULSE", "THREADS", "RUNNER"),
         *("DECISIONS", "CLAIMS", "TESTED", "COMMANDS", "SCENARIOS", "OUTPUT", "INSIDE"),
-        *("VERIFIER", "RANGES"),
+        *("VERIFIER", "RANGES", "ARCHITECTURE", "DEVELOPING"),
     )
 ]
 MOST_WORDS = 25

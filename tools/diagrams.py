@@ -3,7 +3,7 @@
 
 It writes docs/pictures/*.svg. With --check it writes nothing. It then fails if a file there isn't what it would write,
 is missing, or isn't one of its own. Clocks and messages are those of examples/two_faced.report and of
-examples/splitter_of_three.report.
+examples/splitter_of_three.report, and the crates are those of crates.txt.
 """
 import re
 import sys
@@ -11,6 +11,7 @@ from typing import NamedTuple
 from xml.sax.saxutils import escape
 
 sys.dont_write_bytecode = True
+import layers
 from built_program import TOP
 
 FOLDER = TOP / "docs" / "pictures"
@@ -324,7 +325,74 @@ def threads():
     return canvas
 
 
-PICTURES = {"quorums": quorums, "clock_automaton": clock_automaton, "two_pulses": two_pulses, "threads": threads}
+# ---- the crates
+
+# crates of the gate alone, and libraries that come with the toolchain, which have no line in crates.txt
+LEFT_OUT = re.compile(r".*_tests|trials")
+AREAS = (
+    (BLUE, "BPF: instructions, machine, verifier, runner", ("bpf_", "node_env", "value_range")),
+    (ORANGE, "clocks, bench, threads", ("bench_", "clock_")),
+    (GREEN, "scenarios and output", ("scenario_", "run_", "key_sweep", "stream_io")),
+    (INK, "commands and programs", ("",)),
+)
+CRATE, ROOM, ROW, LANE = (92, 26), 98, 60, 16
+
+
+def crates_with_uses():
+    """The crates of the program, each with the crates of this repository that it uses."""
+    text = re.sub(r"#.*", "", (TOP / "crates.txt").read_text(encoding="utf-8"))
+    found = {name: used.split() for name, used in re.findall(r"^(\w+):(.*)$", text, re.M)}
+    return {
+        name: [it for it in used if it in found and not LEFT_OUT.fullmatch(it)]
+        for name, used in found.items()
+        if not LEFT_OUT.fullmatch(name)
+    }
+
+
+def crate_style(name):
+    """The look of a crate: of `bench_scenario`, which writes reports, as of other output."""
+    name = name.replace("bench_scenario", "scenario_")
+    colour = next(colour for colour, _, heads in AREAS if name.startswith(heads))
+    return Style(colour, size=11)
+
+
+def draw_route(canvas, route, at):
+    """A line from a crate down to one that it uses, round the boxes of the rows between."""
+    data = f"M{at[route[0]][0]:.0f} {at[route[0]][1] + CRATE[1] / 2:.0f}"
+    for upper, lower in zip(route, route[1:]):
+        (x, y), (to_x, to_y) = at[upper], at[lower]
+        begin, end = y + CRATE[1] / 2, to_y - CRATE[1] / 2
+        middle = (begin + end) / 2
+        data += f"C{x:.0f} {middle:.0f} {to_x:.0f} {middle:.0f} {to_x:.0f} {end:.0f}"
+        if isinstance(lower, layers.Pass):
+            data += f"V{to_y + CRATE[1] / 2:.0f}"
+    canvas.path(data, Style(GREY))
+
+
+def crates():
+    rows, along, routes = layers.layout(
+        crates_with_uses(), lambda it: LANE if isinstance(it, layers.Pass) else ROOM, WIDTH - 20
+    )
+    high = ROW * len(rows)
+    canvas = Canvas(high + 40, "The crates in layers: each is above the crates that it uses")
+    at = {it: (along[it] + 10, high - ROW * number - 30) for number, row in enumerate(rows) for it in row}
+    for route in routes:
+        draw_route(canvas, route, at)
+    for name in crates_with_uses():
+        x, y = at[name]
+        canvas.named_box((round(x - CRATE[0] / 2), y - CRATE[1] // 2), CRATE, name, crate_style(name))
+    for number, (colour, words, _) in enumerate(AREAS):
+        canvas.text((16 + 190 * number + (90 if number else 0), high + 24), words, Style(colour, size=12, anchor="start"))
+    return canvas
+
+
+PICTURES = {
+    "quorums": quorums,
+    "clock_automaton": clock_automaton,
+    "two_pulses": two_pulses,
+    "threads": threads,
+    "crates": crates,
+}
 
 
 def faults(drawn):
