@@ -386,12 +386,39 @@ def crates():
     return canvas
 
 
+# ---- a branch and its join
+
+STATE_BOX = (230, 50)
+
+
+def draw_state(canvas, corner, words, known, colour):
+    canvas.box(corner, STATE_BOX, Style(colour))
+    canvas.lines((corner[0] + STATE_BOX[0] / 2, corner[1] + 21), (words, known), Style(colour))
+
+
+def join():
+    """The program is the one of docs/VERIFIER.md ("Abstract states")."""
+    canvas = Canvas(318, "A branch and its join: what is known of r0 and r2 before each instruction")
+    draw_state(canvas, (265, 14), "slot 1: jgt r2, 0, +1", "r0 = 1, r2 = 0..3", INK)
+    draw_state(canvas, (480, 124), "slot 2: mov64 r0, 16", "r0 = 1, r2 = 0", ORANGE)
+    draw_state(canvas, (265, 234), "slot 3: add64 r1, r0", "r0 = 1..16, r2 = 0..3", GREEN)
+    canvas.path("M310 64C310 150 310 150 310 233", Style(BLUE))
+    canvas.lines((298, 130), ("the condition holds:", "r0 = 1, r2 = 1..3"), Style(BLUE, anchor="end"))
+    canvas.path("M450 64C450 110 595 80 595 123", Style(ORANGE))
+    canvas.text((610, 92), "it doesn't hold", Style(ORANGE, anchor="start"))
+    canvas.path("M595 174C595 215 450 190 450 233", Style(ORANGE))
+    canvas.text((610, 206), "r0 = 16, r2 = 0", Style(ORANGE, anchor="start"))
+    canvas.text((380, 306), "the join: the least ranges around both", Style(GREEN))
+    return canvas
+
+
 PICTURES = {
     "quorums": quorums,
     "clock_automaton": clock_automaton,
     "two_pulses": two_pulses,
     "threads": threads,
     "crates": crates,
+    "join": join,
 }
 
 
