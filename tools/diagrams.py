@@ -3,7 +3,7 @@
 
 It writes docs/pictures/*.svg. With --check it writes nothing. It then fails if a file there isn't what it would write,
 is missing, or isn't one of its own. Clocks and messages are those of examples/two_faced.report and of
-examples/splitter_of_three.report, and the crates are those of crates.txt.
+examples/splitter_of_three.report, the crates are those of crates.txt, and the steps of the gate those of .ci/run.
 """
 import re
 import sys
@@ -412,6 +412,50 @@ def join():
     return canvas
 
 
+# ---- the gate
+
+# The parts of .ci/run: the script with which each begins, its name, and what it shows.
+PARTS = (
+    ("mistakes.py --read", "repository", "citations, counts, style, pictures; no way round the prover", INK),
+    ("gate_minutes.py", "rt ci", "every proof from nothing, must-fail edits, tests, stored runs", GREEN),
+    ("mistakes.py --share", "seeded bugs", "a share of them: the prover rejects each", GREEN),
+    ("check_vectors.py", "built program", "outside answers, rows, certificates, lines of runs", BLUE),
+    ("check_pages.sh", "pages, archive", "every command line, the archive alone, pictures, the lab", BLUE),
+    ("refusals.py memory", "failures", "memory, threads and streams fail, one request after the other", ORANGE),
+)
+PART_HIGH, SCRIPT_LEFT, MOST_LETTERS = 76, 190, 84
+
+
+def parts_of_gate():
+    """The steps of each part, in the order of .ci/run."""
+    steps = re.findall(r"^step (?:tools/)?(.+)$", (TOP / ".ci/run").read_text(encoding="utf-8"), re.M)
+    begins = [next(at for at, step in enumerate(steps) if step.startswith(part[0])) for part in PARTS]
+    return [steps[begin:end] for begin, end in zip(begins, [*begins[1:], len(steps)])]
+
+
+def script_lines(steps):
+    """The names of steps, as lines that fit beside their part."""
+    lines = [""]
+    for step in steps:
+        name = re.sub(r' "\$.*|\.(py|sh)\b', "", step)
+        if len(lines[-1]) + len(name) > MOST_LETTERS:
+            lines.append("")
+        lines[-1] += f", {name}" if lines[-1] else name
+    return lines
+
+
+def gate():
+    canvas = Canvas(PART_HIGH * len(PARTS) + 10, "The gate: six parts, one after the other, each with its scripts")
+    for number, ((_, name, shows, colour), steps) in enumerate(zip(PARTS, parts_of_gate())):
+        y = 10 + PART_HIGH * number
+        canvas.named_box((16, y), (150, 40), name, Style(colour, size=14, weight="bold"))
+        canvas.text((SCRIPT_LEFT, y + 14), shows, Style(colour, anchor="start"))
+        canvas.lines((SCRIPT_LEFT, y + 33), script_lines(steps), Style(GREY, size=12, anchor="start"))
+        if number:
+            canvas.arrow((91, y - PART_HIGH + 40), (91, y - 1), Style(GREY))
+    return canvas
+
+
 PICTURES = {
     "quorums": quorums,
     "clock_automaton": clock_automaton,
@@ -419,6 +463,7 @@ PICTURES = {
     "threads": threads,
     "crates": crates,
     "join": join,
+    "gate": gate,
 }
 
 
