@@ -330,12 +330,12 @@ def threads():
 # crates of the gate alone, and libraries that come with the toolchain, which have no line in crates.txt
 LEFT_OUT = re.compile(r".*_tests|trials")
 AREAS = (
-    (BLUE, "BPF: instructions, machine, verifier, runner", ("bpf_", "node_env", "value_range")),
+    (BLUE, "machine, verifier, runner", ("bpf_", "node_env", "value_range")),
     (ORANGE, "clocks, bench, threads", ("bench_", "clock_")),
     (GREEN, "scenarios and output", ("scenario_", "run_", "key_sweep", "stream_io")),
     (INK, "commands and programs", ("",)),
 )
-CRATE, ROOM, ROW, LANE = (92, 26), 98, 60, 16
+CRATE, ROOM, ROW, LANE = (96, 26), 101, 60, 15
 
 
 def crates_with_uses():
@@ -382,7 +382,7 @@ def crates():
         x, y = at[name]
         canvas.named_box((round(x - CRATE[0] / 2), y - CRATE[1] // 2), CRATE, name, crate_style(name))
     for number, (colour, words, _) in enumerate(AREAS):
-        canvas.text((16 + 190 * number + (90 if number else 0), high + 24), words, Style(colour, size=12, anchor="start"))
+        canvas.text((24 + 188 * number, high + 24), words, Style(colour, anchor="start"))
     return canvas
 
 
