@@ -3,7 +3,8 @@
 
 It writes docs/pictures/*.svg. With --check it writes nothing. It then fails if a file there isn't what it would write,
 is missing, or isn't one of its own. Clocks, verdicts and messages are those of the reports of examples/two_faced,
-examples/splitter and examples/splitter_of_three, and those that docs/EXPLORE.md shows.
+examples/splitter and examples/splitter_of_three, and those that docs/EXPLORE.md shows. The crates are those of
+crates.txt, and the steps of the gate those of .ci/run.
 """
 import re
 import sys
@@ -11,6 +12,7 @@ from typing import NamedTuple
 from xml.sax.saxutils import escape
 
 sys.dont_write_bytecode = True
+import layers
 from built_program import TOP
 
 FOLDER = TOP / "docs" / "pictures"
@@ -499,6 +501,137 @@ def threads():
     return canvas
 
 
+# ---- the crates
+
+# crates of the gate alone, and libraries that come with the toolchain, which have no line in crates.txt
+LEFT_OUT = re.compile(r".*_tests|trials")
+AREAS = (
+    (BLUE, "machine, verifier, runner", ("bpf_", "node_env", "value_range")),
+    (ORANGE, "clocks, bench, threads", ("bench_", "clock_")),
+    (GREEN, "scenarios and output", ("scenario_", "run_", "key_sweep", "stream_io")),
+    (INK, "commands and programs", ("",)),
+)
+CRATE, ROOM, ROW, LANE = (96, 26), 101, 60, 15
+
+
+def crates_with_uses():
+    """The crates of the program, each with the crates of this repository that it uses."""
+    text = re.sub(r"#.*", "", (TOP / "crates.txt").read_text(encoding="utf-8"))
+    found = {name: used.split() for name, used in re.findall(r"^(\w+):(.*)$", text, re.M)}
+    return {
+        name: [it for it in used if it in found and not LEFT_OUT.fullmatch(it)]
+        for name, used in found.items()
+        if not LEFT_OUT.fullmatch(name)
+    }
+
+
+def crate_style(name):
+    """The look of a crate: of `bench_scenario`, which writes reports, as of other output."""
+    name = name.replace("bench_scenario", "scenario_")
+    colour = next(colour for colour, _, heads in AREAS if name.startswith(heads))
+    return Style(colour, size=11)
+
+
+def draw_route(canvas, route, at):
+    """A line from a crate down to one that it uses, round the boxes of the rows between."""
+    data = f"M{at[route[0]][0]:.0f} {at[route[0]][1] + CRATE[1] / 2:.0f}"
+    for upper, lower in zip(route, route[1:]):
+        (x, y), (to_x, to_y) = at[upper], at[lower]
+        begin, end = y + CRATE[1] / 2, to_y - CRATE[1] / 2
+        middle = (begin + end) / 2
+        data += f"C{x:.0f} {middle:.0f} {to_x:.0f} {middle:.0f} {to_x:.0f} {end:.0f}"
+        if isinstance(lower, layers.Pass):
+            data += f"V{to_y + CRATE[1] / 2:.0f}"
+    canvas.path(data, Style(GREY))
+
+
+def crates():
+    rows, along, routes = layers.layout(
+        crates_with_uses(), lambda it: LANE if isinstance(it, layers.Pass) else ROOM, WIDTH - 20
+    )
+    high = ROW * len(rows)
+    canvas = Canvas(high + 40, "The crates in layers: each is above the crates that it uses")
+    at = {it: (along[it] + 10, high - ROW * number - 30) for number, row in enumerate(rows) for it in row}
+    for route in routes:
+        draw_route(canvas, route, at)
+    for name in crates_with_uses():
+        x, y = at[name]
+        canvas.named_box((round(x - CRATE[0] / 2), y - CRATE[1] // 2), CRATE, name, crate_style(name))
+    for number, (colour, words, _) in enumerate(AREAS):
+        canvas.text((24 + 188 * number, high + 24), words, Style(colour, anchor="start"))
+    return canvas
+
+
+# ---- a branch and its join
+
+STATE_BOX = (230, 50)
+
+
+def draw_state(canvas, corner, words, known, colour):
+    canvas.box(corner, STATE_BOX, Style(colour))
+    canvas.lines((corner[0] + STATE_BOX[0] / 2, corner[1] + 21), (words, known), Style(colour))
+
+
+def join():
+    """The program is the one of docs/VERIFIER.md ("Abstract states")."""
+    canvas = Canvas(318, "A branch and its join: what is known of r0 and r2 before each instruction")
+    draw_state(canvas, (265, 14), "slot 1: jgt r2, 0, +1", "r0 = 1, r2 = 0..3", INK)
+    draw_state(canvas, (480, 124), "slot 2: mov64 r0, 16", "r0 = 1, r2 = 0", ORANGE)
+    draw_state(canvas, (265, 234), "slot 3: add64 r1, r0", "r0 = 1..16, r2 = 0..3", GREEN)
+    canvas.path("M310 64C310 150 310 150 310 233", Style(BLUE))
+    canvas.lines((298, 130), ("the condition holds:", "r0 = 1, r2 = 1..3"), Style(BLUE, anchor="end"))
+    canvas.path("M450 64C450 110 595 80 595 123", Style(ORANGE))
+    canvas.text((610, 92), "it doesn't hold", Style(ORANGE, anchor="start"))
+    canvas.path("M595 174C595 215 450 190 450 233", Style(ORANGE))
+    canvas.text((610, 206), "r0 = 16, r2 = 0", Style(ORANGE, anchor="start"))
+    canvas.text((380, 306), "the join: the least ranges around both", Style(GREEN))
+    return canvas
+
+
+# ---- the gate
+
+# The parts of .ci/run: the script with which each begins, its name, and what it shows.
+PARTS = (
+    ("mistakes.py --read", "repository", "citations, counts, style, pictures; no way round the prover", INK),
+    ("gate_minutes.py", "rt ci", "every proof from nothing, must-fail edits, tests, stored runs", GREEN),
+    ("mistakes.py --share", "seeded bugs", "a share of them: the prover rejects each", GREEN),
+    ("check_vectors.py", "built program", "outside answers, rows, certificates, lines of runs", BLUE),
+    ("check_pages.sh", "pages, archive", "every command line, the archive alone, pictures, the lab", BLUE),
+    ("refusals.py memory", "failures", "memory, threads and streams fail, one request after the other", ORANGE),
+)
+PART_HIGH, SCRIPT_LEFT, MOST_LETTERS = 76, 190, 84
+
+
+def parts_of_gate():
+    """The steps of each part, in the order of .ci/run."""
+    steps = re.findall(r"^step (?:tools/)?(.+)$", (TOP / ".ci/run").read_text(encoding="utf-8"), re.M)
+    begins = [next(at for at, step in enumerate(steps) if step.startswith(part[0])) for part in PARTS]
+    return [steps[begin:end] for begin, end in zip(begins, [*begins[1:], len(steps)])]
+
+
+def script_lines(steps):
+    """The names of steps, as lines that fit beside their part."""
+    lines = [""]
+    for step in steps:
+        name = re.sub(r' "\$.*|\.(py|sh)\b', "", step)
+        if len(lines[-1]) + len(name) > MOST_LETTERS:
+            lines.append("")
+        lines[-1] += f", {name}" if lines[-1] else name
+    return lines
+
+
+def gate():
+    canvas = Canvas(PART_HIGH * len(PARTS) + 10, "The gate: six parts, one after the other, each with its scripts")
+    for number, ((_, name, shows, colour), steps) in enumerate(zip(PARTS, parts_of_gate())):
+        y = 10 + PART_HIGH * number
+        canvas.named_box((16, y), (150, 40), name, Style(colour, size=14, weight="bold"))
+        canvas.text((SCRIPT_LEFT, y + 14), shows, Style(colour, anchor="start"))
+        canvas.lines((SCRIPT_LEFT, y + 33), script_lines(steps), Style(GREY, size=12, anchor="start"))
+        if number:
+            canvas.arrow((91, y - PART_HIGH + 40), (91, y - 1), Style(GREY))
+    return canvas
+
+
 PICTURES = {
     "same_attack": same_attack,
     "own_clock": own_clock,
@@ -508,6 +641,9 @@ PICTURES = {
     "clock_automaton": clock_automaton,
     "two_pulses": two_pulses,
     "threads": threads,
+    "crates": crates,
+    "join": join,
+    "gate": gate,
 }
 
 
