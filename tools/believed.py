@@ -3,7 +3,7 @@
 
     tools/believed.py [NAME ..]
 
-With no names, those of the clauses `headline` and `replays` (README.md, "What is proved"), and once more with that of
+With no names, those of the clauses `headline` and `replays` (theorem 1 of docs/THEOREMS.md), and once more with that of
 the clause `accepted`. A definition is a paragraph of a file of specs/, with its comment; specs/inner/ is cited by proofs
 and private contracts alone, and counted apart.
 """

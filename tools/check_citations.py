@@ -4,7 +4,8 @@
 Each page that the crates, the scripts and the pages name is there, with the heading that is named beside it, as in
 docs/VERIFIER.md ("Rules"). Each source that a page names is there. The toolchain that pages name is that of `rt version`
 (left out without `rt`). Each count that a page quotes is the one that the files give (tools/believed.py and below), and
-each limit of docs/GLOSSARY.md is the constant's value.
+each limit of docs/GLOSSARY.md is the constant's value. Each call or type and each clause that docs/CLAIMS.md and
+docs/THEOREMS.md name as a contract is in the sources of the crate.
 """
 import re
 import shutil
@@ -31,6 +32,12 @@ COUNTED = re.compile(r"`tools/believed\.py ((?:[^\s`]+ )*[^\s`]+)`: ")
 LIMIT = re.compile(r"^\| `([A-Z_]+)` \| ([\d,]+) \| `(\w+)` \|", re.M)
 CONSTANT = re.compile(r"\bconst ([A-Z_]+): \w+ = ([^;]+);")
 CONSTANT_NAME = re.compile(r"\b[A-Z][A-Z_]+\b")
+QUOTED = r"`\w+`(?:(?:, | and )`\w+`)*"
+CLAIM = re.compile(rf"({QUOTED})(?:: ({QUOTED}))?(?: \(({QUOTED})\))?")
+CELL = re.compile(r"^\|[^|\n]*\|[^|\n]*\| ([^|\n]+) \|$", re.M)
+CONTRACT = re.compile(r"^- \*\*Contract\*\*: (.*?)^- ", re.M | re.S)
+GROUP = re.compile(rf"({QUOTED})(?: of `[\w/]+`)? \(({QUOTED})\)")
+DECLARED = re.compile(r"\b(fn|struct|enum|trait|ensures) (\w+)")
 
 
 def read(path):
@@ -127,7 +134,7 @@ def quoted_counts():
     for names in sorted(counted_names()):
         command = re.escape(f"`tools/believed.py {names}`: ")
         yield "*", rf"{command}{NUMBER} definitions, {NUMBER} lines", {reached_lines(names.split())}
-    yield "*", rf"{NUMBER} lines to be believed and {NUMBER} apart", {believed_lines()}
+    yield "*", rf"{NUMBER} lines of trusted definitions and {NUMBER} apart", {believed_lines()}
     for crate in crates():
         yield "docs/DEVELOPING.md", rf"\| `{crate}` \|(?: [\w.]+ \|){{3}} {NUMBER} \|", {(edits_of(crate),)}
     for table in ("encodings", "results", "fields"):
@@ -198,12 +205,82 @@ def limit_faults():
     print(f"check_citations: {len(limits)} limits")
 
 
+# ---- contracts
+
+
+def declared_in(crate):
+    """The calls and types of a crate, each with the names of its clauses."""
+    found, call = {}, None
+    for path in sorted((TOP / "crates" / crate / "src").rglob("*.rt")):
+        for kind, name in DECLARED.findall(re.sub(r"//.*", "", read(path))):
+            if kind == "ensures":
+                found[call].add(name)
+            else:
+                call = name
+                found.setdefault(name, set())
+    return found
+
+
+def names_in(text):
+    return re.findall(r"`(\w+)`", text or "")
+
+
+def claims_of(section):
+    """What the tables of a section name: calls or types, their clauses, and definitions."""
+    for cell in CELL.findall(section):
+        for item in cell.split("; "):
+            if claim := CLAIM.fullmatch(item):
+                yield tuple(map(names_in, claim.groups()))
+
+
+def theorems_of(section):
+    for text in CONTRACT.findall(section):
+        for calls, clauses in GROUP.findall(joined(text)):
+            yield names_in(calls), names_in(clauses), []
+
+
+def sections_of(page):
+    return re.split(r"^(?=## )", read(TOP / page), flags=re.M)[1:]
+
+
+def contracts():
+    """Each contract that the two pages name: the page, the crates that may have it, and what it names."""
+    for section in sections_of("docs/CLAIMS.md"):
+        for claim in claims_of(section):
+            yield "docs/CLAIMS.md", names_in(section.split("\n")[0]), claim
+    for section in sections_of("docs/THEOREMS.md"):
+        for claim in theorems_of(section):
+            yield "docs/THEOREMS.md", re.findall(r"`crates/(\w+)", section), claim
+
+
+def contract_faults():
+    declared = {crate: declared_in(crate) for crate in crates()}
+    defined = {name for module in modules().values() for name in module.definitions}
+    pairs = 0
+    for page, among, (calls, clauses, definitions) in contracts():
+        has = {call: set().union(*(declared[it].get(call, set()) for it in among)) for call in calls}
+        pairs += len(calls) * max(len(clauses), 1)
+        for call in calls:
+            if not any(call in declared[it] for it in among):
+                yield f"{page}: {' and '.join(among)} have no {call}"
+            elif clauses and not has[call] & set(clauses):
+                yield f"{page}: {call} has no clause {', '.join(clauses)}"
+        for clause in clauses:
+            if not any(clause in it for it in has.values()):
+                yield f"{page}: no clause of {', '.join(calls)} is {clause}"
+        for name in definitions:
+            if name not in defined:
+                yield f"{page}: no definition is {name}"
+    print(f"check_citations: {pairs} contracts that pages name")
+
+
 def main():
     sources, scripts = files(COMMENTED), files(SCRIPTS)
     found = [it for path in PAGES for it in page_faults(path)]
     for path in [*sources, *scripts]:
         found += named_faults(path, joined(MARKER.sub("", read(path))))
     found += [*source_faults(sources), *toolchain_faults(), *count_faults(), *name_faults(), *limit_faults()]
+    found += contract_faults()
     for it in found:
         print(it)
     print(f"check_citations: {len(PAGES)} pages, {len(sources) + len(scripts)} other files: {len(found)} faults")

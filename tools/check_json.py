@@ -4,7 +4,7 @@
     tools/check_json.py [PROGRAM]
 
 Of each example and each outside scenario (vectors/scenarios.txt) the report is derived from the lines, and must be what
-`run` prints; and what one line tells must fit what the lines around it tell (docs/INSIDE.md, "The lines").
+`run` prints; and what one line tells must fit what the lines around it tell (docs/OUTPUT.md, "JSON lines").
 """
 import json
 import sys

@@ -16,8 +16,15 @@ from built_program import TOP
 
 PAGES = [TOP / "README.md", *sorted(TOP.glob("docs/*.md"))]
 LIMITED = [
-    f"docs/{name}.md"
-    for name in ("MODEL", "GLOSSARY", "THEOREMS", "TRUST", "COMPATIBILITY", "CLOCK", "PULSE", "THREADS", "RUNNER")
+    "README.md",
+    *(
+        f"docs/{name}.md"
+        for name in """
+        MODEL GLOSSARY THEOREMS TRUST COMPATIBILITY CLOCK PULSE THREADS RUNNER
+        TUTORIAL EXERCISES OWN_CLOCK GALLERY NODES_IN_C EXPLORE LUCK LAB
+        DECISIONS CLAIMS TESTED COMMANDS SCENARIOS OUTPUT INSIDE VERIFIER RANGES ARCHITECTURE DEVELOPING
+        """.split()
+    ),
 ]
 MOST_WORDS = 25
 MOST_TURNS = 1.0

@@ -187,7 +187,7 @@ def table_of(lines):
     return table, verdict
 
 
-# ---- ranges (docs/VERIFIER.md, "Arithmetic on ranges")
+# ---- ranges (docs/RANGES.md, "Arithmetic on ranges")
 
 
 def result(op, width, x, y):

@@ -2,8 +2,9 @@
 """Draws the diagrams of docs/ as SVG: tools/diagrams.py [--check]
 
 It writes docs/pictures/*.svg. With --check it writes nothing. It then fails if a file there isn't what it would write,
-is missing, or isn't one of its own. Clocks and messages are those of examples/two_faced.report and of
-examples/splitter_of_three.report.
+is missing, or isn't one of its own. Clocks, verdicts and messages are those of the reports of examples/two_faced,
+examples/splitter and examples/splitter_of_three, and those that docs/EXPLORE.md shows. The crates are those of
+crates.txt, and the steps of the gate those of .ci/run.
 """
 import re
 import sys
@@ -11,6 +12,7 @@ from typing import NamedTuple
 from xml.sax.saxutils import escape
 
 sys.dont_write_bytecode = True
+import layers
 from built_program import TOP
 
 FOLDER = TOP / "docs" / "pictures"
@@ -106,6 +108,181 @@ def clocks_of(example):
     """The clocks of each pulse of an example's report, as they are written."""
     report = (TOP / "examples" / f"{example}.report").read_text(encoding="utf-8")
     return {int(pulse): told.split() for pulse, told in re.findall(r"^pulse (\d+) clocks (.*) settled", report, re.M)}
+
+
+def violations_of(example):
+    """The pulses of an example's report in which agreement is violated."""
+    report = (TOP / "examples" / f"{example}.report").read_text(encoding="utf-8")
+    return {int(pulse) for pulse in re.findall(r"^pulse (\d+) .* agree no$", report, re.M)}
+
+
+# ---- one attack on two benches
+
+CELL, CELL_HIGH, CELLS_LEFT = 26, 24, 118
+
+
+def cell_look(row, clock, is_violated):
+    """White for a clock of 0, red if agreement is violated, green if all correct clocks are equal, otherwise blue."""
+    if clock == "0":
+        return SMALL
+    if is_violated:
+        return Style(RED, size=12, weight="bold")
+    return Style(GREEN if len({it for it in row if it != "-"}) == 1 else BLUE, size=12)
+
+
+def draw_cells(canvas, top, example):
+    rows, violated = clocks_of(example), violations_of(example)
+    for pulse, row in rows.items():
+        x = CELLS_LEFT + CELL * (pulse - 1)
+        canvas.text((x + CELL / 2, top), str(pulse), Style(GREY, size=12))
+        for node, clock in enumerate(row):
+            if clock != "-":
+                corner = (x + 1, top + 8 + (CELL_HIGH + 3) * node)
+                canvas.named_box(corner, (CELL - 2, CELL_HIGH), clock, cell_look(row, clock, pulse in violated))
+
+
+def draw_bench(canvas, top, example, title):
+    """A bench whose last node is Byzantine: a row for each node, a column for each pulse."""
+    rows = clocks_of(example)
+    byzantine = len(rows[1]) - 1
+    canvas.text((14, top), title, Style(size=14, weight="bold", anchor="start"))
+    canvas.text((CELLS_LEFT - 8, top + 24), "pulse", Style(GREY, size=12, anchor="end"))
+    draw_cells(canvas, top + 24, example)
+    for node in range(byzantine + 1):
+        y = top + 32 + (CELL_HIGH + 3) * node
+        name = f"node {node}" if node < byzantine else "Byzantine node"
+        canvas.text((CELLS_LEFT - 8, y + 16), name, Style(size=12, anchor="end"))
+    canvas.named_box(
+        (CELLS_LEFT + 1, top + 32 + (CELL_HIGH + 3) * byzantine),
+        (CELL * len(rows) - 2, CELL_HIGH),
+        "sends one node its next value, and 0 to the others",
+        Style(INK, DASH, size=12),
+    )
+
+
+def same_attack():
+    canvas = Canvas(360, "One Byzantine program: with three nodes agreement is violated, with four it only delays")
+    three, four = "splitter_of_three", "splitter"
+    pulses = " and ".join(map(str, sorted(violations_of(three))))
+    draw_bench(canvas, 28, three, f"n = 3, f = 1: agreement is violated in pulses {pulses}")
+    start = next(pulse for pulse, row in clocks_of(four).items() if set(row) == {"1", "-"})
+    assert not violations_of(four)
+    draw_bench(canvas, 178, four, f"n = 4, f = 1: agreement holds, and the clocks start together in pulse {start}")
+    canvas.text((14, 345), "White: 0 agrees with every clock. Red: agreement is violated. Green: all correct clocks are equal.", LEFT)
+    return canvas
+
+
+# ---- the path of a clock of your own
+
+STEPS = (
+    ("write", ("the rule first,", "then its text"), INK),
+    ("verify", ("each run ends", "within K steps"), GREEN),
+    ("run", ("the report", "of this run"), BLUE),
+    ("attack", ("the report", "of this attack"), BLUE),
+    ("explore", ("all attacks", "on this bench"), GREEN),
+    ("sweep", ("a line", "for each seed"), BLUE),
+)
+STEP_WIDE, STEP_GAP = 106, 18
+
+
+def own_clock():
+    canvas = Canvas(208, "From an idea to answers: write, verify, run, attack, explore, sweep")
+    lefts = [16 + (STEP_WIDE + STEP_GAP) * number for number in range(len(STEPS))]
+    for left, (name, answer, colour) in zip(lefts, STEPS):
+        canvas.named_box((left, 60), (STEP_WIDE, 34), name, Style(colour, size=14, weight="bold"))
+        canvas.lines((left + STEP_WIDE / 2, 116), answer, Style(colour, size=12))
+        if left is not lefts[-1]:
+            canvas.arrow((left + STEP_WIDE, 77), (left + STEP_WIDE + STEP_GAP - 1, 77), Style(GREY))
+    begin, end = lefts[4] + STEP_WIDE / 2, lefts[0] + STEP_WIDE / 2
+    canvas.path(f"M{begin} 60L{begin} 34L{end} 34L{end} 59", Style(RED))
+    canvas.text(((begin + end) / 2, 26), "a counterexample: change the rule", Style(RED, size=12))
+    canvas.text((16, 172), "Green: proved of all runs, or of all runs of one bench within the limits of explore.", LEFT)
+    canvas.text((16, 192), "Blue: a fact about one run, or about one run for each seed.", LEFT)
+    return canvas
+
+
+# ---- two ways through the states
+
+STATE_WIDE, STATES_Y = 34, 96
+
+
+def clocks_below(line):
+    """The correct clocks of each pulse in the report that docs/EXPLORE.md shows below a line, where there are any."""
+    page = (TOP / "docs" / "EXPLORE.md").read_text(encoding="utf-8")
+    report = page[page.index(line) :].partition("```")[0]
+    return re.findall(r"^pulse \d+ clocks (\d[\d ]*\d) ", report, re.M)
+
+
+def draw_clocks_at(canvas, x, clocks, style):
+    canvas.circle((x, STATES_Y), clocks, style, STATE_WIDE)
+
+
+def draw_violation(canvas):
+    states = clocks_below("parts in pulse 3")
+    canvas.text((16, 28), "A violation of agreement", Style(size=14, weight="bold", anchor="start"))
+    canvas.arrow((20, STATES_Y), (54, STATES_Y), Style(GREY))
+    for number, clocks in enumerate(states):
+        x = 90 + 125 * number
+        is_last = number == len(states) - 1
+        draw_clocks_at(canvas, x, clocks, Style(RED if is_last else INK))
+        if not is_last:
+            canvas.arrow((x + STATE_WIDE, STATES_Y), (x + 125 - STATE_WIDE - 1, STATES_Y), Style(GREY))
+            canvas.text((x + 62, STATES_Y - 10), f"pulse {number + 2}", Style(GREY, size=12))
+
+
+def draw_lasso(canvas):
+    first, second, again = clocks_below("# pulses 3 to 4 come again")
+    assert first == again
+    canvas.text((440, 28), "Synchronisation prevented for ever", Style(size=14, weight="bold", anchor="start"))
+    canvas.arrow((440, STATES_Y), (484, STATES_Y), Style(GREY))
+    draw_clocks_at(canvas, 520, first, PLAIN)
+    draw_clocks_at(canvas, 680, second, PLAIN)
+    for side, begin, end, pulse in ((-1, 545, 655, 3), (1, 655, 545, 4)):
+        y = STATES_Y + 23 * side
+        canvas.path(f"M{begin} {y}Q600 {STATES_Y + 64 * side} {end} {y}", Style(ORANGE))
+        canvas.text((600, STATES_Y + 4 + 56 * side), f"pulse {pulse}", Style(ORANGE, size=12))
+
+
+def two_ways():
+    canvas = Canvas(206, "Two answers of explore as paths through states: a violation of agreement, and a repetition")
+    draw_violation(canvas)
+    draw_lasso(canvas)
+    canvas.line((415, 16), (415, 150), Style(GREY, DASH))
+    canvas.text((16, 172), "Circle: a state, shown by the clocks of the correct nodes. Arrow: a transition.", LEFT)
+    canvas.text((16, 192), "Left: two clocks differ. Right: two pulses repeat, and neither is synchronised.", LEFT)
+    return canvas
+
+
+# ---- from a scenario to a report
+
+PROVED, TESTED, ASSUMED = GREEN, BLUE, ORANGE
+STAGES = (
+    ("words, file", "clap, std", TESTED),
+    ("TOML table", "crate toml", ASSUMED),
+    ("scenario", "scenario_of", PROVED),
+    ("events", "events", PROVED),
+    ("run", "run_events", PROVED),
+    ("report", "report", PROVED),
+    ("terminal", "std", TESTED),
+)
+STAGE_WIDE, STAGE_GAP = 88, 18
+
+
+def report_path():
+    canvas = Canvas(182, "From a scenario to a report: what is proved, what is tested and what is assumed")
+    for number, (name, by, colour) in enumerate(STAGES):
+        left = 18 + (STAGE_WIDE + STAGE_GAP) * number
+        canvas.named_box((left, 30), (STAGE_WIDE, 36), name, Style(colour))
+        canvas.text((left + STAGE_WIDE / 2, 86), by, Style(colour, size=12))
+        if number:
+            canvas.arrow((left - STAGE_GAP, 48), (left - 1, 48), Style(GREY))
+    coins = 18 + (STAGE_WIDE + STAGE_GAP) * 3 + STAGE_WIDE / 2
+    canvas.text((coins, 132), "coins of a seed: crate rand_chacha", Style(ASSUMED, size=12))
+    canvas.arrow((coins, 118), (coins, 93), Style(ASSUMED))
+    for left, (words, colour) in zip((18, 120, 218), (("proved", PROVED), ("tested", TESTED), ("assumed", ASSUMED))):
+        canvas.box((left, 150), (14, 14), Style(colour), radius=3)
+        canvas.text((left + 22, 162), words, Style(colour, anchor="start"))
+    return canvas
 
 
 # ---- two quorums
@@ -324,7 +501,150 @@ def threads():
     return canvas
 
 
-PICTURES = {"quorums": quorums, "clock_automaton": clock_automaton, "two_pulses": two_pulses, "threads": threads}
+# ---- the crates
+
+# crates of the gate alone, and libraries that come with the toolchain, which have no line in crates.txt
+LEFT_OUT = re.compile(r".*_tests|trials")
+AREAS = (
+    (BLUE, "machine, verifier, runner", ("bpf_", "node_env", "value_range")),
+    (ORANGE, "clocks, bench, threads", ("bench_", "clock_")),
+    (GREEN, "scenarios and output", ("scenario_", "run_", "key_sweep", "stream_io")),
+    (INK, "commands and programs", ("",)),
+)
+CRATE, ROOM, ROW, LANE = (96, 26), 101, 60, 15
+
+
+def crates_with_uses():
+    """The crates of the program, each with the crates of this repository that it uses."""
+    text = re.sub(r"#.*", "", (TOP / "crates.txt").read_text(encoding="utf-8"))
+    found = {name: used.split() for name, used in re.findall(r"^(\w+):(.*)$", text, re.M)}
+    return {
+        name: [it for it in used if it in found and not LEFT_OUT.fullmatch(it)]
+        for name, used in found.items()
+        if not LEFT_OUT.fullmatch(name)
+    }
+
+
+def crate_style(name):
+    """The look of a crate: of `bench_scenario`, which writes reports, as of other output."""
+    name = name.replace("bench_scenario", "scenario_")
+    colour = next(colour for colour, _, heads in AREAS if name.startswith(heads))
+    return Style(colour, size=11)
+
+
+def draw_route(canvas, route, at):
+    """A line from a crate down to one that it uses, round the boxes of the rows between."""
+    data = f"M{at[route[0]][0]:.0f} {at[route[0]][1] + CRATE[1] / 2:.0f}"
+    for upper, lower in zip(route, route[1:]):
+        (x, y), (to_x, to_y) = at[upper], at[lower]
+        begin, end = y + CRATE[1] / 2, to_y - CRATE[1] / 2
+        middle = (begin + end) / 2
+        data += f"C{x:.0f} {middle:.0f} {to_x:.0f} {middle:.0f} {to_x:.0f} {end:.0f}"
+        if isinstance(lower, layers.Pass):
+            data += f"V{to_y + CRATE[1] / 2:.0f}"
+    canvas.path(data, Style(GREY))
+
+
+def crates():
+    rows, along, routes = layers.layout(
+        crates_with_uses(), lambda it: LANE if isinstance(it, layers.Pass) else ROOM, WIDTH - 20
+    )
+    high = ROW * len(rows)
+    canvas = Canvas(high + 40, "The crates in layers: each is above the crates that it uses")
+    at = {it: (along[it] + 10, high - ROW * number - 30) for number, row in enumerate(rows) for it in row}
+    for route in routes:
+        draw_route(canvas, route, at)
+    for name in crates_with_uses():
+        x, y = at[name]
+        canvas.named_box((round(x - CRATE[0] / 2), y - CRATE[1] // 2), CRATE, name, crate_style(name))
+    for number, (colour, words, _) in enumerate(AREAS):
+        canvas.text((24 + 188 * number, high + 24), words, Style(colour, anchor="start"))
+    return canvas
+
+
+# ---- a branch and its join
+
+STATE_BOX = (230, 50)
+
+
+def draw_state(canvas, corner, words, known, colour):
+    canvas.box(corner, STATE_BOX, Style(colour))
+    canvas.lines((corner[0] + STATE_BOX[0] / 2, corner[1] + 21), (words, known), Style(colour))
+
+
+def join():
+    """The program is the one of docs/VERIFIER.md ("Abstract states")."""
+    canvas = Canvas(318, "A branch and its join: what is known of r0 and r2 before each instruction")
+    draw_state(canvas, (265, 14), "slot 1: jgt r2, 0, +1", "r0 = 1, r2 = 0..3", INK)
+    draw_state(canvas, (480, 124), "slot 2: mov64 r0, 16", "r0 = 1, r2 = 0", ORANGE)
+    draw_state(canvas, (265, 234), "slot 3: add64 r1, r0", "r0 = 1..16, r2 = 0..3", GREEN)
+    canvas.path("M310 64C310 150 310 150 310 233", Style(BLUE))
+    canvas.lines((298, 130), ("the condition holds:", "r0 = 1, r2 = 1..3"), Style(BLUE, anchor="end"))
+    canvas.path("M450 64C450 110 595 80 595 123", Style(ORANGE))
+    canvas.text((610, 92), "it doesn't hold", Style(ORANGE, anchor="start"))
+    canvas.path("M595 174C595 215 450 190 450 233", Style(ORANGE))
+    canvas.text((610, 206), "r0 = 16, r2 = 0", Style(ORANGE, anchor="start"))
+    canvas.text((380, 306), "the join: the least ranges around both", Style(GREEN))
+    return canvas
+
+
+# ---- the gate
+
+# The parts of .ci/run: the script with which each begins, its name, and what it shows.
+PARTS = (
+    ("mistakes.py --read", "repository", "citations, counts, style, pictures; no way round the prover", INK),
+    ("gate_minutes.py", "rt ci", "every proof from nothing, must-fail edits, tests, stored runs", GREEN),
+    ("mistakes.py --share", "seeded bugs", "a share of them: the prover rejects each", GREEN),
+    ("check_vectors.py", "built program", "outside answers, rows, certificates, lines of runs", BLUE),
+    ("check_pages.sh", "pages, archive", "every command line, the archive alone, pictures, the lab", BLUE),
+    ("refusals.py memory", "failures", "memory, threads and streams fail, one request after the other", ORANGE),
+)
+PART_HIGH, SCRIPT_LEFT, MOST_LETTERS = 76, 190, 84
+
+
+def parts_of_gate():
+    """The steps of each part, in the order of .ci/run."""
+    steps = re.findall(r"^step (?:tools/)?(.+)$", (TOP / ".ci/run").read_text(encoding="utf-8"), re.M)
+    begins = [next(at for at, step in enumerate(steps) if step.startswith(part[0])) for part in PARTS]
+    return [steps[begin:end] for begin, end in zip(begins, [*begins[1:], len(steps)])]
+
+
+def script_lines(steps):
+    """The names of steps, as lines that fit beside their part."""
+    lines = [""]
+    for step in steps:
+        name = re.sub(r' "\$.*|\.(py|sh)\b', "", step)
+        if len(lines[-1]) + len(name) > MOST_LETTERS:
+            lines.append("")
+        lines[-1] += f", {name}" if lines[-1] else name
+    return lines
+
+
+def gate():
+    canvas = Canvas(PART_HIGH * len(PARTS) + 10, "The gate: six parts, one after the other, each with its scripts")
+    for number, ((_, name, shows, colour), steps) in enumerate(zip(PARTS, parts_of_gate())):
+        y = 10 + PART_HIGH * number
+        canvas.named_box((16, y), (150, 40), name, Style(colour, size=14, weight="bold"))
+        canvas.text((SCRIPT_LEFT, y + 14), shows, Style(colour, anchor="start"))
+        canvas.lines((SCRIPT_LEFT, y + 33), script_lines(steps), Style(GREY, size=12, anchor="start"))
+        if number:
+            canvas.arrow((91, y - PART_HIGH + 40), (91, y - 1), Style(GREY))
+    return canvas
+
+
+PICTURES = {
+    "same_attack": same_attack,
+    "own_clock": own_clock,
+    "two_ways": two_ways,
+    "report_path": report_path,
+    "quorums": quorums,
+    "clock_automaton": clock_automaton,
+    "two_pulses": two_pulses,
+    "threads": threads,
+    "crates": crates,
+    "join": join,
+    "gate": gate,
+}
 
 
 def faults(drawn):
