@@ -1,9 +1,12 @@
 -- The steps of the instructions that rules become, and runs one after the other.
-use Rattle.std.proofs.Common.{◌≡◌, ℕ, zero, suc, ◌+◌, ◌^◌, ◌<◌, ◌≤◌, ◌==◌, true, false, List, Some, Ok, pos, refl, arith, subst}
+use Rattle.std.proofs.Common.{◌≡◌, ℕ, zero, suc, ◌+◌, ◌%◌, ◌^◌, ◌<◌, ◌≤◌, ◌==◌, nat_le, true, false, List, Some, Ok, ℤ, pos, ◌+ℤ◌, refl, arith, subst}
+use Rattle.std.specs.Int.{w64, cast_unsigned}
 use Rattle.std.specs.FinMap.{get}
+use Rattle.node_env.specs.declared.region.Region.TheVariants.{Mem}
 use Rattle.node_env.specs.Env.{Setting}
+use Rattle.bpf_insn.specs.declared.forms.Size.TheVariants as size
 use Rattle.bpf_insn.specs.declared.forms.Reg.{Reg}
-use Rattle.bpf_insn.specs.declared.forms.Reg.TheVariants.{R0, R1}
+use Rattle.bpf_insn.specs.declared.forms.Reg.TheVariants.{R0}
 use Rattle.bpf_insn.specs.declared.forms.Width.TheVariants.{W32}
 use Rattle.bpf_insn.specs.declared.forms.AluOp.TheVariants.{Add}
 use Rattle.bpf_insn.specs.declared.forms.Cond.{Cond}
@@ -15,11 +18,11 @@ use Rattle.bpf_insn.specs.Registers.{register_number}
 use Rattle.bpf_insn.specs.Arithmetic.{holds}
 use Rattle.bpf_insn.specs.Programs.{insn_at}
 use Rattle.bpf_insn.specs.Edges.{BeginsAt}
-use Rattle.bpf_machine.specs.declared.word.Word.TheVariants.{Num}
+use Rattle.bpf_machine.specs.declared.word.Word.TheVariants.{Num, Ptr}
 use Rattle.bpf_machine.specs.Machine.{MachineState, Phase, Running}
 use Rattle.bpf_machine.specs.Step.{operand_of, step}
 use Rattle.bpf_machine.specs.Run.{Leads}
-use Rattle.clock_nodes.proofs.Forms.{put, at, called}
+use Rattle.clock_nodes.proofs.Forms.{put, at, called, storing}
 use Rattle.rule_nodes.specs.declared.syntax.Operation.{Operation}
 use Rattle.rule_nodes.specs.declared.syntax.Operation.TheVariants.{Sum, Difference, Product, Quotient, Remainder}
 use Rattle.rule_nodes.specs.Meaning.{apply}
@@ -45,16 +48,21 @@ module _ (program : List Insn) (env : Setting) where
       let same = moved v small in
       rw (here, next, there, e, free, same) refl
 
-  pub operates : (op : Operation) (s : MachineState) (to a b : ℕ)
-      → insn_at program s.frame.slot ≡ Some (i.Alu (alu_of op) W32 R0 (operand.Reg R1)) → s.frame.slot + 1 ≡ to
-      → BeginsAt program to → get s.frame.registers 0 ≡ Some (Num a) → get s.frame.registers 1 ≡ Some (Num b)
-      → a < 2 ^ 32 → b < 2 ^ 32
+  pub operates : (op : Operation) (s : MachineState) (to a b raw : ℕ) (src : Operand)
+      → insn_at program s.frame.slot ≡ Some (i.Alu (alu_of op) W32 R0 src) → s.frame.slot + 1 ≡ to
+      → BeginsAt program to → get s.frame.registers 0 ≡ Some (Num a) → operand_of s.frame src ≡ Ok (Num raw)
+      → raw % 2 ^ 32 ≡ b → a < 2 ^ 32 → b < 2 ^ 32
       → step program env s ≡ Ok (Running (put s to R0 (Num (apply op a b))))
-  operates Sum s to a b here next there e f g h = let r = results Sum a b g h in rw (here, next, there, e, f, r) refl
-  operates Difference s to a b here next there e f g h = let r = results Difference a b g h in rw (here, next, there, e, f, r) refl
-  operates Product s to a b here next there e f g h = let r = results Product a b g h in rw (here, next, there, e, f, r) refl
-  operates Quotient s to a b here next there e f g h = let r = results Quotient a b g h in rw (here, next, there, e, f, r) refl
-  operates Remainder s to a b here next there e f g h = let r = results Remainder a b g h in rw (here, next, there, e, f, r) refl
+  operates Sum s to a b raw src here next there e f l g h =
+      let r = results Sum a b raw g h l in rw (here, next, there, e, f, r) refl
+  operates Difference s to a b raw src here next there e f l g h =
+      let r = results Difference a b raw g h l in rw (here, next, there, e, f, r) refl
+  operates Product s to a b raw src here next there e f l g h =
+      let r = results Product a b raw g h l in rw (here, next, there, e, f, r) refl
+  operates Quotient s to a b raw src here next there e f l g h =
+      let r = results Quotient a b raw g h l in rw (here, next, there, e, f, r) refl
+  operates Remainder s to a b raw src here next there e f l g h =
+      let r = results Remainder a b raw g h l in rw (here, next, there, e, f, r) refl
 
   -- one more
   pub counts : (s : MachineState) (to : ℕ) (dst : Reg) (c : ℕ)
@@ -84,6 +92,13 @@ module _ (program : List Insn) (env : Setting) where
   pub numbers : (s : MachineState) (to : ℕ) → insn_at program s.frame.slot ≡ Some (i.Call (pos 1))
       → s.frame.slot + 1 ≡ to → BeginsAt program to → step program env s ≡ Ok (Running (called s to env.id))
   numbers s to here next there = rw (here, next, there) refl
+
+  pub stores_number : (s : MachineState) (to : ℕ) (base : Reg) (off imm : ℤ) (k : ℕ)
+      → insn_at program s.frame.slot ≡ Some (i.StoreImm size.W base off imm) → s.frame.slot + 1 ≡ to → BeginsAt program to
+      → get s.frame.registers (register_number base) ≡ Some (Ptr Mem 0) → pos 0 +ℤ off ≡ pos k
+      → nat_le (k + 4) env.shape.memory ≡ true
+      → step program env s ≡ Ok (Running (storing s to k (cast_unsigned w64 imm)))
+  stores_number s to base off imm k here next there e where_ inside = rw (here, next, there, e, where_, inside) refl
 
   -- ---- runs
 

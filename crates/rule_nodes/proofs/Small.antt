@@ -2,7 +2,7 @@
 use Rattle.std.proofs.Common.{◌≡◌, ℕ, zero, suc, ◌-◌, ◌/◌, ◌%◌, ◌^◌, ◌<◌, ◌==◌, nat_lt, nat_le, Bool, true, false, not, negsuc, refl, sym, ap, ◌∙◌, arith, inl, inr}
 use Rattle.std.proofs.Math.Nat.{mod-eq_of_lt}
 use Rattle.std.specs.Int.{w32, w64, cast_signed, cast_unsigned}
-use Rattle.std.proofs.lemmas.Bool.{cases_lt, ne_eqb, lt-ltb, le-ltb, le-leb, lt-leb}
+use Rattle.std.proofs.lemmas.Bool.{cases_lt, cases_eq, eq-eqb, ne_eqb, lt-ltb, le-ltb, le-leb, lt-leb}
 use Rattle.std.proofs.lemmas.Int.{to_z_pos}
 use Rattle.bpf_insn.specs.declared.forms.Width.TheVariants.{W32}
 use Rattle.bpf_insn.specs.declared.forms.AluOp.TheVariants.{Mov}
@@ -14,7 +14,7 @@ use Rattle.rule_nodes.specs.declared.syntax.Comparison.TheVariants.{Equal, NotEq
 use Rattle.rule_nodes.specs.declared.syntax.Operator.{Operator}
 use Rattle.rule_nodes.specs.declared.syntax.Operator.TheVariants.{Compute, Compare}
 use Rattle.rule_nodes.specs.Meaning.{apply, compare, number_of, truth, operate}
-use Rattle.rule_nodes.specs.Code.{alu_of, cond_of, opposite, jump_on}
+use Rattle.rule_nodes.specs.Code.{alu_of, cond_of, opposite, mirror, jump_on}
 
 pub low : (v : ℕ) → v < 2 ^ 32 → v % 2 ^ 32 ≡ v
 low v h = mod-eq_of_lt h
@@ -26,6 +26,16 @@ moved v h = let e = low v h in rw (e, e) refl
 -- 32 bits that are read as signed and extended are the number again
 pub said : (v : ℕ) → v < 2 ^ 32 → alu_result Mov W32 0 (cast_unsigned w64 (cast_signed w32 v)) ≡ v
 said v small =
+    elim (cases_lt v (2 ^ 31)) [
+      | inl less ↦ rw (to_z_pos w32 v less) (omega (arith, small))
+      | inr above ↦
+          let below : cast_signed w32 v ≡ negsuc (2 ^ 32 - suc v) = rw (le-ltb v (2 ^ 31) above) refl in
+          rw below (omega (arith, small, above))
+    ]
+
+-- the low 32 bits of an immediate
+pub imm_low : (v : ℕ) → v < 2 ^ 32 → cast_unsigned w64 (cast_signed w32 v) % 2 ^ 32 ≡ v
+imm_low v small =
     elim (cases_lt v (2 ^ 31)) [
       | inl less ↦ rw (to_z_pos w32 v less) (omega (arith, small))
       | inr above ↦
@@ -50,30 +60,48 @@ apply_small Quotient a (suc b) f g = rw (ne_eqb (suc b) 0 (λ e. omega arith)) (
 apply_small Remainder a zero f g = f
 apply_small Remainder a (suc b) f g = rw (ne_eqb (suc b) 0 (λ e. omega arith)) (rest_small a b f)
 
-pub results : (op : Operation) (a b : ℕ) → a < 2 ^ 32 → b < 2 ^ 32 → alu_result (alu_of op) W32 a b ≡ apply op a b
-results Sum a b f g = let e = low a f in let h = low b g in rw (e, h) refl
-results Difference a b f g = let e = low a f in let h = low b g in rw (e, h) refl
-results Product a b f g = let e = low a f in let h = low b g in rw (e, h) refl
-results Quotient a b f g =
+-- of the right number only the low 32 bits count
+pub results : (op : Operation) (a b raw : ℕ) → a < 2 ^ 32 → b < 2 ^ 32 → raw % 2 ^ 32 ≡ b
+    → alu_result (alu_of op) W32 a raw ≡ apply op a b
+results Sum a b raw f g h = let e = low a f in rw (e, h) refl
+results Difference a b raw f g h = let e = low a f in rw (e, h) refl
+results Product a b raw f g h = let e = low a f in rw (e, h) refl
+results Quotient a b raw f g h =
     let e = low a f in
-    let h = low b g in
     let k : apply Quotient a b % 2 ^ 32 ≡ apply Quotient a b = low (apply Quotient a b) (apply_small Quotient a b f g) in
     rw (e, h) k
-results Remainder a b f g =
+results Remainder a b raw f g h =
     let e = low a f in
-    let h = low b g in
     let k : apply Remainder a b % 2 ^ 32 ≡ apply Remainder a b = low (apply Remainder a b) (apply_small Remainder a b f g) in
     rw (e, h) k
 
 -- ---- conditions
 
+pub compared_low : (r : Comparison) (a b raw : ℕ) → a < 2 ^ 32 → raw % 2 ^ 32 ≡ b
+    → holds (cond_of r) W32 a raw ≡ compare r a b
+compared_low Equal a b raw f h = let e = low a f in rw (e, h) refl
+compared_low NotEqual a b raw f h = let e = low a f in rw (e, h) refl
+compared_low Less a b raw f h = let e = low a f in rw (e, h) refl
+compared_low AtMost a b raw f h = let e = low a f in rw (e, h) refl
+compared_low Greater a b raw f h = let e = low a f in rw (e, h) refl
+compared_low AtLeast a b raw f h = let e = low a f in rw (e, h) refl
+
 pub compared : (r : Comparison) (a b : ℕ) → a < 2 ^ 32 → b < 2 ^ 32 → holds (cond_of r) W32 a b ≡ compare r a b
-compared Equal a b f g = let e = low a f in let h = low b g in rw (e, h) refl
-compared NotEqual a b f g = let e = low a f in let h = low b g in rw (e, h) refl
-compared Less a b f g = let e = low a f in let h = low b g in rw (e, h) refl
-compared AtMost a b f g = let e = low a f in let h = low b g in rw (e, h) refl
-compared Greater a b f g = let e = low a f in let h = low b g in rw (e, h) refl
-compared AtLeast a b f g = let e = low a f in let h = low b g in rw (e, h) refl
+compared r a b f g = compared_low r a b b f (low b g)
+
+same_sides : (a b : ℕ) → (b == a) ≡ (a == b)
+same_sides a b = elim (cases_eq a b) [
+  | inl e ↦ eq-eqb b a (sym e) ∙ sym (eq-eqb a b e)
+  | inr h ↦ ne_eqb b a (λ e. h (sym e)) ∙ sym (ne_eqb a b h)
+]
+
+pub mirrored : (r : Comparison) (a b : ℕ) → compare (mirror r) b a ≡ compare r a b
+mirrored Equal a b = same_sides a b
+mirrored NotEqual a b = ap not (same_sides a b)
+mirrored Less a b = refl
+mirrored AtMost a b = refl
+mirrored Greater a b = refl
+mirrored AtLeast a b = refl
 
 pub not_not : (b : Bool) → b ≡ not (not b)
 not_not true = refl
@@ -112,11 +140,11 @@ pub operate_small : (o : Operator) (a b : ℕ) → a < 2 ^ 32 → b < 2 ^ 32 →
 operate_small (Compute op) a b f g = apply_small op a b f g
 operate_small (Compare r) a b f g = number_small (compare r a b)
 
-pub jump_compared : (when : Bool) (r : Comparison) (a b : ℕ) → a < 2 ^ 32 → b < 2 ^ 32
-    → holds (cond_of (jump_on when r)) W32 a b ≡ taken when (number_of (compare r a b))
-jump_compared true r a b f g = compared r a b f g ∙ sym (truth_of (compare r a b))
-jump_compared false r a b f g =
-    compared (opposite r) a b f g ∙ opposed r a b ∙ sym (ap not (truth_of (compare r a b)))
+pub jump_compared : (when : Bool) (r : Comparison) (a b raw : ℕ) → a < 2 ^ 32 → raw % 2 ^ 32 ≡ b
+    → holds (cond_of (jump_on when r)) W32 a raw ≡ taken when (number_of (compare r a b))
+jump_compared true r a b raw f h = compared_low r a b raw f h ∙ sym (truth_of (compare r a b))
+jump_compared false r a b raw f h =
+    compared_low (opposite r) a b raw f h ∙ opposed r a b ∙ sym (ap not (truth_of (compare r a b)))
 
 pub jump_by_zero : (when : Bool) (v : ℕ) → v < 2 ^ 32 → holds (cond_of (jump_on when NotEqual)) W32 v 0 ≡ taken when v
 jump_by_zero true v f = compared NotEqual v 0 f (omega arith)

@@ -1,7 +1,8 @@
 -- The runs of terms.
-use Rattle.std.proofs.Common.{◌≡◌, ◌≢◌, ℕ, zero, suc, ◌+◌, ◌*◌, ◌^◌, ◌<◌, ◌≤◌, ◌==◌, Bool, true, false, not, cond, if◌then◌else◌, ◌&&◌, ◌||◌, ◌⊎◌, nat_lt, List, [], ◌∷◌, ◌++◌, length, Some, Ok, All, pos, slice_index, slice_get, refl, sym, ap, ◌∙◌, arith, subst, inl, inr, length-append}
+use Rattle.std.proofs.Common.{◌≡◌, ◌≢◌, ℕ, zero, suc, ◌+◌, ◌%◌, ◌*◌, ◌^◌, ◌<◌, ◌≤◌, ◌==◌, Bool, true, false, not, cond, if◌then◌else◌, ◌&&◌, ◌||◌, ◌⊎◌, nat_lt, List, [], ◌∷◌, ◌++◌, length, Some, Ok, All, pos, slice_index, slice_get, refl, sym, ap, ◌∙◌, arith, subst, inl, inr, length-append}
+use Rattle.std.specs.Int.{w32, w64, cast_signed, cast_unsigned}
 use Rattle.std.specs.FinMap.{get}
-use Rattle.std.proofs.lemmas.Bool.{cases_Bool, ne_eqb, ltb-true, le-leb, cond-true, cond-false, and_parts, or_cases}
+use Rattle.std.proofs.lemmas.Bool.{cases_Bool, ne_eqb, ltb-true, le-leb, cond-true, cond-false, and_parts}
 use Rattle.std.proofs.lemmas.List.Elements.{All-get_or, All-push}
 use Rattle.node_env.specs.Env.{Setting, received}
 use Rattle.bpf_insn.specs.declared.forms.Reg.{Reg}
@@ -22,7 +23,7 @@ use Rattle.bpf_machine.specs.declared.word.Word.TheVariants.{Num}
 use Rattle.bpf_machine.specs.Machine.{MachineState, Running}
 use Rattle.bpf_machine.specs.Step.{operand_of, number_at, step}
 use Rattle.clock_nodes.proofs.Places.{Stands}
-use Rattle.clock_nodes.proofs.Forms.{put_same, put_other, put, at, called, goes, tosses, receives, loads}
+use Rattle.clock_nodes.proofs.Forms.{put_same, put_other, put, at, called, goes, tosses, receives, loads, moves}
 use Rattle.clock_nodes.proofs.Counting.{received_fits}
 use Rattle.rule_nodes.specs.declared.syntax.Sizes.{Sizes}
 use Rattle.rule_nodes.specs.declared.syntax.Operation.{Operation}
@@ -34,13 +35,15 @@ use Rattle.rule_nodes.specs.declared.syntax.Connective.{Connective}
 use Rattle.rule_nodes.specs.declared.syntax.Connective.TheVariants.{And, Or}
 use Rattle.rule_nodes.specs.declared.syntax.Purpose.{Purpose}
 use Rattle.rule_nodes.specs.declared.syntax.Purpose.TheVariants.{Value, Jump}
+use Rattle.rule_nodes.specs.declared.syntax.Source.{Source}
+use Rattle.rule_nodes.specs.declared.syntax.Source.TheVariants.{Constant, FromLocal, FromWord, Computed}
 use Rattle.rule_nodes.specs.declared.syntax.Term.{Term}
 use Rattle.rule_nodes.specs.declared.syntax.Term.TheVariants.{Number, Nodes, Faults, Modulus, Me, Coin, LoopNode, Local, Word, Message', Binary', Logical', Not', Choice', Count'}
 use Rattle.rule_nodes.specs.Meaning.{NodeState, value, word_at, apply, compare, number_of, truth, operate, combine, message_from, count_below}
-use Rattle.rule_nodes.specs.Operands.{is_constant, is_fetched, is_operand, constant_number}
+use Rattle.rule_nodes.specs.Operands.{is_constant, is_fetched, is_operand, constant_number, depth_behind, fetched_source, source_of}
 use Rattle.rule_nodes.specs.Fits.{HasPlace, Fits}
-use Rattle.rule_nodes.specs.Code.{place, set_number, copy, alu_of, cond_of, jump_on, jump_by, jump_at, truth_code, by_value, by_test, two_code, fetch_code, second_code, pair_code, by_operator, choice_code, decides, both_far, both_code, message_code, count_codes, count_code, term_code}
-use Rattle.rule_nodes.proofs.Small.{apply_small, operate_small, taken, compared, truth_of, jump_compared, jump_by_zero, not_not}
+use Rattle.rule_nodes.specs.Code.{place, set_number, copy, alu_of, cond_of, jump_on, jump_by, jump_at, truth_code, by_value, by_test, two_code, get_code, operand_code, load_code, jump_place, by_operator, left_code, binary_code, choice_code, decides, both_far, both_code, message_code, message_by, mirror, set_node, count_codes, count_code, term_code}
+use Rattle.rule_nodes.proofs.Small.{low, imm_low, mirrored, apply_small, operate_small, taken, compared, truth_of, jump_compared, jump_by_zero, not_not}
 use Rattle.rule_nodes.proofs.Words.{word_loaded, word_small}
 use Rattle.rule_nodes.proofs.Forms.{sets_number, copies, operates, counts, passes, jumps, numbers, Reaches, stays, once, chain, further}
 use Rattle.rule_nodes.proofs.States.{stands_front, stands_back, place_number, Same, same_self, same_then, same_less, same_at, same_put, same_call, Alike, same_alike, free_place, Holds, still_holds, IsSized}
@@ -75,6 +78,88 @@ pub record HasTwo (d : ℕ) (s : MachineState) (a b : ℕ) (t : MachineState) : 
   pub r1 : get t.frame.registers 1 ≡ Some (Num b)
   pub left : a < 2 ^ 32
   pub right : b < 2 ^ 32
+
+-- and this one where an operand says
+pub record HasPair (src : Operand) (d : ℕ) (s : MachineState) (a b : ℕ) (t : MachineState) : Type 0 where
+  pub same : Same d s t
+  pub r0 : get t.frame.registers 0 ≡ Some (Num a)
+  pub raw : ℕ
+  pub other : operand_of t.frame src ≡ Ok (Num raw)
+  pub low_bits : raw % 2 ^ 32 ≡ b
+  pub left : a < 2 ^ 32
+  pub right : b < 2 ^ 32
+
+has_pair : (d : ℕ) (s : MachineState) (a b : ℕ) (t : MachineState) → HasTwo d s a b t
+    → HasPair (operand.Reg R1) d s a b t
+has_pair d s a b t h = let e = h.r1 in record {
+  same = h.same;
+  r0 = h.r0;
+  raw = b;
+  other = rw e refl;
+  low_bits = low b h.right;
+  left = h.left;
+  right = h.right;
+}
+
+-- a source has this number
+abbrev pub IsAt : Sizes → ℕ → NodeState → Source → ℕ → Type 0
+IsAt z lets u (Constant c) v = (c ≡ v) × (c < 2 ^ 32)
+IsAt z lets u (FromLocal k) v = (k < lets) × (u.locals k ≡ v)
+IsAt z lets u (FromWord k) v = (4 * k + 4 ≤ z.memory) × (word_at k u.memory ≡ v)
+IsAt z lets u Computed v = Unit {0}
+
+abbrev pub is_found : Source → Bool
+is_found (Constant c) = true
+is_found (FromLocal k) = true
+is_found (FromWord k) = true
+is_found Computed = false
+
+has_less : (d e v : ℕ) (s t : MachineState) → d ≤ e → Has e s v t → Has d s v t
+has_less d e v s t le h = record {
+  same = record {
+    registers = λ k a b. h.same.registers k a (omega (arith, b, le));
+    memory = h.same.memory;
+    sent = h.same.sent;
+  };
+  r0 = h.r0;
+  small = h.small;
+}
+
+-- the number of an operand is found, and of any other term it is computed
+fetched_same : (t : Term) → is_found (fetched_source t) ≡ is_fetched t
+fetched_same (Local k) = refl
+fetched_same (Word k) = refl
+fetched_same t = refl
+
+pub found_same : (t : Term) (z : Sizes) (J : List ℕ) → is_found (source_of t z J) ≡ is_operand t
+found_same t z J =
+    let c = Constant (constant_number t z J) in
+    elim (cases_Bool (is_constant t)) [
+      | inl so ↦
+          let operand : is_operand t ≡ true = rw so refl in
+          ap is_found (cond-true (is_constant t) c (fetched_source t) so) ∙ sym operand
+      | inr other ↦
+          let operand : is_operand t ≡ is_fetched t = rw other refl in
+          ap is_found (cond-false (is_constant t) c (fetched_source t) other) ∙ fetched_same t ∙ sym operand
+    ]
+
+pub behind_more : (steady : Bool) (d : ℕ) → d ≤ depth_behind steady d
+behind_more true d = omega arith
+behind_more false d = omega arith
+
+pub behind_few : (steady : Bool) (d : ℕ) → d ≤ 3 → HasPlace steady d → depth_behind steady d ≤ 3
+behind_few true d few free = few
+behind_few false d few free = omega (arith, free)
+
+pub free_beside : (a b : Bool) (d : ℕ) → a ≡ false → b ≡ false → HasPlace (a || b) d
+    → (d < 3) × (depth_behind a d ≡ d + 1)
+free_beside false false d e f free = (free, refl)
+free_beside true b d e f free = absurd (let no : true ≡ false = e in cc)
+free_beside false true d e f free = absurd (let no : true ≡ false = f in cc)
+
+pub same_depth : (a : Bool) (d : ℕ) → a ≡ true → depth_behind a d ≡ d
+same_depth true d e = refl
+same_depth false d e = absurd (let no : false ≡ true = e in cc)
 
 -- r0 is free
 r0_free : (d k : ℕ) → 5 < k → k < 7 + d → k ≢ 0
@@ -597,35 +682,31 @@ module _ (program : List Insn) (env : Setting) (last : ℕ) (solid : (k : ℕ) �
       let codes = count_codes d test n in
       let last_one = copy R0 (place d) ∷ [] in
       let len : length (codes ++ last_one) ≡ length codes + 1 = length-append codes last_one in
-      let s1 = put s (s.frame.slot + 1) R0 (Num 0) in
-      let s2 = put s1 (s.frame.slot + 1 + 1) (place d) (Num 0) in
-      let e1 : step program env s ≡ Ok (Running s1) = sets_number program env s (s.frame.slot + 1) R0 0 stands.0 refl
-      (solid _ (omega (arith, len, fits))) (omega arith) refl in
-      let e2 : step program env s1 ≡ Ok (Running s2) = copies program env s1 (s.frame.slot + 1 + 1) (place d) R0 0
-      stands.1.0 refl (solid _ (omega (arith, len, fits))) (put_same s.frame.registers 0 (Num 0)) (omega arith) writable in
-      let same1 : Same d s s1 = same_put d s s (s.frame.slot + 1) R0 (Num 0) (r0_free d) (same_self d s) in
-      let same2 : Same d s s2 = same_put d s s1 (s.frame.slot + 1 + 1) (place d) (Num 0)
-      (free_place d d small (omega arith)) same1 in
-      let start : get s2.frame.registers (7 + d) ≡ Some (Num 0) = ap (get s2.frame.registers) (sym number)
-      ∙ put_same s1.frame.registers p (Num 0) in
-      let c = counts_run d n test holds s2 n small few (omega arith)
-      (stands_front program s2.frame.slot codes last_one stands.1.1) (omega (arith, len, fits)) start
-      (λ j t lt same. each j t lt (same_then d s s2 t same2 same)) in
+      let s1 = put s (s.frame.slot + 1) (place d) (Num 0) in
+      let e1 : step program env s ≡ Ok (Running s1) = sets_number program env s (s.frame.slot + 1) (place d) 0 stands.0 refl
+      (solid _ (omega (arith, len, fits))) (omega arith) writable in
+      let same1 : Same d s s1 = same_put d s s (s.frame.slot + 1) (place d) (Num 0) (free_place d d small (omega arith))
+      (same_self d s) in
+      let start : get s1.frame.registers (7 + d) ≡ Some (Num 0) = ap (get s1.frame.registers) (sym number)
+      ∙ put_same s.frame.registers p (Num 0) in
+      let c = counts_run d n test holds s1 n small few (omega arith)
+      (stands_front program s1.frame.slot codes last_one stands.1) (omega (arith, len, fits)) start
+      (λ j t lt same. each j t lt (same_then d s s1 t same1 same)) in
       let w = c.new in
       let v = count_below n holds in
-      let there = here_is w _ last_one c.slot (stands_back program s2.frame.slot codes last_one stands.1.1) in
+      let there = here_is w _ last_one c.slot (stands_back program s1.frame.slot codes last_one stands.1) in
       let w1 = put w (w.frame.slot + 1) R0 (Num v) in
       let small_v : v < 2 ^ 32 = omega (arith, c.fact.few, few) in
       let e3 : step program env w ≡ Ok (Running w1) = copies program env w (w.frame.slot + 1) R0 (place d) v there.0 refl
       (solid _ (omega (arith, len, fits, c.slot))) (ap (get w.frame.registers) number ∙ c.fact.place) small_v refl in
-      let run1 = further program env s s1 s2 1 2 (once program env s s1 e1) e2 (omega arith) in
-      let run2 = chain program env s s2 w 2 (length codes) (2 + length codes) run1 c.run (omega arith) in
+      let run1 = chain program env s s1 w 1 (length codes) (1 + length codes) (once program env s s1 e1) c.run
+      (omega arith) in
       record {
         new = w1;
-        run = further program env s w w1 (2 + length codes) (length (count_code d n test)) run2 e3 (omega (arith, len));
+        run = further program env s w w1 (1 + length codes) (length (count_code d n test)) run1 e3 (omega (arith, len));
         slot = omega (arith, len, c.slot);
         fact = record {
-          same = same_put d s w (w.frame.slot + 1) R0 (Num v) (r0_free d) (same_then d s s2 w same2 c.fact.same);
+          same = same_put d s w (w.frame.slot + 1) R0 (Num v) (r0_free d) (same_then d s s1 w same1 c.fact.same);
           r0 = put_same w.frame.registers 0 (Num v);
           small = small_v;
         };
@@ -668,23 +749,23 @@ module _ (program : List Insn) (env : Setting) (last : ℕ) (solid : (k : ℕ) �
         };
       }
 
-  binary_runs : (op : Operation) (d a b : ℕ) (code : List Insn) (s : MachineState)
-      → Stands program s.frame.slot (code ++ i.Alu (alu_of op) W32 R0 (operand.Reg R1) ∷ [])
-      → s.frame.slot + length (code ++ i.Alu (alu_of op) W32 R0 (operand.Reg R1) ∷ []) ≤ last
+  operation_runs : (op : Operation) (src : Operand) (d a b : ℕ) (code : List Insn) (s : MachineState)
+      → Stands program s.frame.slot (code ++ i.Alu (alu_of op) W32 R0 src ∷ [])
+      → s.frame.slot + length (code ++ i.Alu (alu_of op) W32 R0 src ∷ []) ≤ last
       → (Stands program s.frame.slot code → s.frame.slot + length code ≤ last
-      → Gets s (s.frame.slot + length code) (length code) (HasTwo d s a b))
-      → Gets s (s.frame.slot + length (code ++ i.Alu (alu_of op) W32 R0 (operand.Reg R1) ∷ []))
-      (length (code ++ i.Alu (alu_of op) W32 R0 (operand.Reg R1) ∷ [])) (Has d s (apply op a b))
-  binary_runs op d a b code s stands le two =
-      let act = i.Alu (alu_of op) W32 R0 (operand.Reg R1) ∷ [] in
+      → Gets s (s.frame.slot + length code) (length code) (HasPair src d s a b))
+      → Gets s (s.frame.slot + length (code ++ i.Alu (alu_of op) W32 R0 src ∷ []))
+      (length (code ++ i.Alu (alu_of op) W32 R0 src ∷ [])) (Has d s (apply op a b))
+  operation_runs op src d a b code s stands le two =
+      let act = i.Alu (alu_of op) W32 R0 src ∷ [] in
       let len : length (code ++ act) ≡ length code + 1 = length-append code act in
       let c = two (stands_front program s.frame.slot code act stands) (omega (arith, len, le)) in
       let t = c.new in
       let there = here_is t _ act c.slot (stands_back program s.frame.slot code act stands) in
       let v = apply op a b in
       let t1 = put t (t.frame.slot + 1) R0 (Num v) in
-      let e : step program env t ≡ Ok (Running t1) = operates program env op t (t.frame.slot + 1) a b there.0 refl
-      (solid _ (omega (arith, len, le, c.slot))) c.fact.r0 c.fact.r1 c.fact.left c.fact.right in
+      let e : step program env t ≡ Ok (Running t1) = operates program env op t (t.frame.slot + 1) a b c.fact.raw src there.0
+      refl (solid _ (omega (arith, len, le, c.slot))) c.fact.r0 c.fact.other c.fact.low_bits c.fact.left c.fact.right in
       record {
         new = t1;
         run = further program env s t t1 (length code) (length (code ++ act)) c.run e (omega (arith, len));
@@ -696,35 +777,35 @@ module _ (program : List Insn) (env : Setting) (last : ℕ) (solid : (k : ℕ) �
         };
       }
 
-  compare_runs : (r : Comparison) (d a b : ℕ) (code : List Insn) (s : MachineState)
+  compare_runs : (r : Comparison) (src : Operand) (d a b : ℕ) (code : List Insn) (s : MachineState)
       → (Stands program s.frame.slot code → s.frame.slot + length code ≤ last
-      → Gets s (s.frame.slot + length code) (length code) (HasTwo d s a b))
-      → TestRuns (λ when far. code ++ jump_by (jump_on when r) far ∷ []) d (number_of (compare r a b)) s
-  compare_runs r d a b code s two when far stands le =
-      let jump = jump_by (jump_on when r) far ∷ [] in
+      → Gets s (s.frame.slot + length code) (length code) (HasPair src d s a b))
+      → TestRuns (λ when far. code ++ jump_by (jump_on when r) src far ∷ []) d (number_of (compare r a b)) s
+  compare_runs r src d a b code s two when far stands le =
+      let jump = jump_by (jump_on when r) src far ∷ [] in
       let len : length (code ++ jump) ≡ length code + 1 = length-append code jump in
       let c = two (stands_front program s.frame.slot code jump stands) (omega (arith, len, le)) in
       let t = c.new in
       let there = here_is t _ jump c.slot (stands_back program s.frame.slot code jump stands) in
       let hit = taken when (number_of (compare r a b)) in
-      let end = branch_runs d s t (length code) far (cond_of (jump_on when r)) R0 (operand.Reg R1) a b hit c.run c.fact.same
-      there.0 c.fact.r0 (rw c.fact.r1 refl) (jump_compared when r a b c.fact.left c.fact.right)
+      let end = branch_runs d s t (length code) far (cond_of (jump_on when r)) R0 src a c.fact.raw hit c.run c.fact.same
+      there.0 c.fact.r0 c.fact.other (jump_compared when r a b c.fact.raw c.fact.left c.fact.low_bits)
       (omega (arith, len, le, c.slot)) in
       gets s _ _ _ _ (Same d s) (Same d s) (omega (arith, len, c.slot)) (omega (arith, len)) (λ t h. h) end
 
-  operator_runs : (o : Operator) (purpose : Purpose) (d a b : ℕ) (code : List Insn) (s : MachineState)
-      → Stands program s.frame.slot (by_operator o purpose code)
-      → s.frame.slot + length (by_operator o purpose code) + beyond purpose ≤ last
+  operator_runs : (o : Operator) (src : Operand) (purpose : Purpose) (d a b : ℕ) (code : List Insn) (s : MachineState)
+      → Stands program s.frame.slot (by_operator o src purpose code)
+      → s.frame.slot + length (by_operator o src purpose code) + beyond purpose ≤ last
       → (Stands program s.frame.slot code → s.frame.slot + length code ≤ last
-      → Gets s (s.frame.slot + length code) (length code) (HasTwo d s a b))
-      → Reached purpose d s (s.frame.slot + length (by_operator o purpose code)) (length (by_operator o purpose code))
-      (operate o a b)
-  operator_runs (Compute op) purpose d a b code s stands le two =
-      by_value_runs purpose (code ++ i.Alu (alu_of op) W32 R0 (operand.Reg R1) ∷ []) d (apply op a b) s stands le
-      (λ st l. binary_runs op d a b code s st l two)
-  operator_runs (Compare r) purpose d a b code s stands le two =
-      by_test_runs purpose (λ when far. code ++ jump_by (jump_on when r) far ∷ []) d (compare r a b) s stands le
-      (compare_runs r d a b code s two)
+      → Gets s (s.frame.slot + length code) (length code) (HasPair src d s a b))
+      → Reached purpose d s (s.frame.slot + length (by_operator o src purpose code))
+      (length (by_operator o src purpose code)) (operate o a b)
+  operator_runs (Compute op) src purpose d a b code s stands le two =
+      by_value_runs purpose (code ++ i.Alu (alu_of op) W32 R0 src ∷ []) d (apply op a b) s stands le
+      (λ st l. operation_runs op src d a b code s st l two)
+  operator_runs (Compare r) src purpose d a b code s stands le two =
+      by_test_runs purpose (λ when far. code ++ jump_by (jump_on when r) src far ∷ []) d (compare r a b) s stands le
+      (compare_runs r src d a b code s two)
 
   pub nodes_few : (z : Sizes) → IsSized z env → z.nodes < 2 ^ 31
   nodes_few z sized = omega (arith, sized.nodes, sized.setting.extent.few)
@@ -756,67 +837,71 @@ module _ (program : List Insn) (env : Setting) (last : ℕ) (solid : (k : ℕ) �
       let parts = and_parts (is_constant a) (is_constant b) e in
       operate_small o (constant_number a z J) (constant_number b z J)
       (constant_small a z J lets d parts.0 sized nodes fits.1)
-      (constant_small b z J lets (d + 1) parts.1 sized nodes fits.2)
+      (constant_small b z J lets (depth_behind (is_operand a) d) parts.1 sized nodes fits.2)
   constant_small t z J lets d e sized nodes fits = absurd (let no : false ≡ true = e in cc)
 
-  -- an operand goes into r1
-  record Fetched (t : MachineState) (v : ℕ) : Type 0 where
-    fetched : step program env t ≡ Ok (Running (put t (t.frame.slot + 1) R1 (Num v)))
-    small : v < 2 ^ 32
+  -- ---- where numbers are found
 
-  fetch_steps : (b : Term) (z : Sizes) (J : List ℕ) (d lets : ℕ) (u : NodeState) (t : MachineState) → is_fetched b ≡ true
-      → IsSized z env → lets ≤ 3 → Fits b z (length J) lets d → Holds env lets u t
-      → insn_at program t.frame.slot ≡ Some (fetch_code b) → t.frame.slot + 1 ≤ last → Fetched t (value b z env J u)
-  fetch_steps (Local k) z J d lets u t e sized few fits h here le =
-      let number : register_number (place k) ≡ 7 + k = place_number k (omega (arith, fits, few)) in
-      record {
-        fetched = copies program env t (t.frame.slot + 1) R1 (place k) (u.locals k) here refl (solid _ le)
-            (ap (get t.frame.registers) number ∙ h.locals k fits) (h.small k fits) refl;
-        small = h.small k fits;
-      }
-  fetch_steps (Word k) z J d lets u t e sized few fits h here le =
-      let v = word_at k u.memory in
-      let inside : 4 * k + 4 ≤ env.shape.memory = omega (arith, fits, sized.memory) in
+  fetched_is : (t : Term) (z : Sizes) (J : List ℕ) (lets d : ℕ) (u : NodeState) → Fits t z (length J) lets d
+      → IsAt z lets u (fetched_source t) (value t z env J u)
+  fetched_is (Local k) z J lets d u fits = (fits, refl)
+  fetched_is (Word k) z J lets d u fits = (fits, refl)
+  fetched_is t z J lets d u fits = tt
+
+  pub source_is : (t : Term) (z : Sizes) (J : List ℕ) (lets d : ℕ) (u : NodeState) → IsSized z env
+      → All (λ j. j < z.nodes) J → Fits t z (length J) lets d → IsAt z lets u (source_of t z J) (value t z env J u)
+  source_is t z J lets d u sized nodes fits =
+      let c = Constant (constant_number t z J) in
+      let P : Source → Type 0 = λ x. IsAt z lets u x (value t z env J u) in
+      elim (cases_Bool (is_constant t)) [
+        | inl so ↦ subst P (sym (cond-true (is_constant t) c (fetched_source t) so))
+            (constant_is t z J u so, constant_small t z J lets d so sized nodes fits)
+        | inr other ↦ subst P (sym (cond-false (is_constant t) c (fetched_source t) other))
+            (fetched_is t z J lets d u fits)
+      ]
+
+  -- a found number goes into a register
+  pub record Fetched (dst : Reg) (t : MachineState) (v : ℕ) : Type 0 where
+    pub fetched : step program env t ≡ Ok (Running (put t (t.frame.slot + 1) dst (Num v)))
+    pub small : v < 2 ^ 32
+
+  pub get_steps : (dst : Reg) (x : Source) (z : Sizes) (lets v : ℕ) (u : NodeState) (t : MachineState)
+      → (register_number dst == 10) ≡ false → is_found x ≡ true → IsAt z lets u x v → IsSized z env → lets ≤ 3
+      → Holds env lets u t → insn_at program t.frame.slot ≡ Some (get_code dst x) → t.frame.slot + 1 ≤ last
+      → Fetched dst t v
+  get_steps dst (Constant c) z lets v u t free found is sized few h here le =
+      subst (λ (x : ℕ). Fetched dst t x) is.0 (record {
+        fetched = sets_number program env t (t.frame.slot + 1) dst c here refl (solid _ le) is.1 free;
+        small = is.1;
+      })
+  get_steps dst (FromLocal k) z lets v u t free found is sized few h here le =
+      let number : register_number (place k) ≡ 7 + k = place_number k (omega (arith, is.0, few)) in
+      subst (λ (x : ℕ). Fetched dst t x) is.1 (record {
+        fetched = copies program env t (t.frame.slot + 1) dst (place k) (u.locals k) here refl (solid _ le)
+            (ap (get t.frame.registers) number ∙ h.locals k is.0) (h.small k is.0) free;
+        small = h.small k is.0;
+      })
+  get_steps dst (FromWord k) z lets v u t free found is sized few h here le =
+      let w = word_at k u.memory in
+      let inside : 4 * k + 4 ≤ env.shape.memory = omega (arith, is.0, sized.memory) in
       let room : 4 * k + 4 ≤ length u.memory = omega (arith, inside, h.room) in
-      let read : number_at (slice_get t.memory) (4 * k) 4 ≡ Ok v =
+      let read : number_at (slice_get t.memory) (4 * k) 4 ≡ Ok w =
       ap (λ (m : List ℕ). number_at (slice_get m) (4 * k) 4) h.memory ∙ word_loaded k u.memory room in
       let zero_off : 0 + 4 * k ≡ 4 * k = omega arith in
-      record {
-        fetched = loads program env t (t.frame.slot + 1) R1 R6 (pos (4 * k)) (4 * k) v here refl (solid _ le) h.r6 refl
+      subst (λ (x : ℕ). Fetched dst t x) is.1 (record {
+        fetched = loads program env t (t.frame.slot + 1) dst R6 (pos (4 * k)) (4 * k) w here refl (solid _ le) h.r6 free
             (ap pos zero_off) (le-leb (4 * k + 4) env.shape.memory inside) read;
         small = word_small k u.memory room h.bytes;
-      }
-  fetch_steps b z J d lets u t e sized few fits h here le = absurd (let no : false ≡ true = e in cc)
-
-  second_steps : (b : Term) (z : Sizes) (J : List ℕ) (d lets : ℕ) (u : NodeState) (t : MachineState) → is_operand b ≡ true
-      → IsSized z env → All (λ j. j < z.nodes) J → lets ≤ 3 → Fits b z (length J) lets d → Holds env lets u t
-      → insn_at program t.frame.slot ≡ Some (second_code b z J) → t.frame.slot + 1 ≤ last → Fetched t (value b z env J u)
-  second_steps b z J d lets u t e sized nodes few fits h here le = elim (cases_Bool (is_constant b)) [
-    | inl so ↦
-        let is : value b z env J u ≡ constant_number b z J = sym (constant_is b z J u so) in
-        let small = constant_small b z J lets d so sized nodes fits in
-        let there : insn_at program t.frame.slot ≡ Some (set_number R1 (constant_number b z J)) = here
-        ∙ ap Some (cond-true (is_constant b) (set_number R1 (constant_number b z J)) (fetch_code b) so) in
-        subst (λ (x : ℕ). Fetched t x) (sym is) (record {
-          fetched = sets_number program env t (t.frame.slot + 1) R1 (constant_number b z J) there refl (solid _ le) small refl;
-          small = small;
-        })
-    | inr other ↦
-        let there : insn_at program t.frame.slot ≡ Some (fetch_code b) = here
-        ∙ ap Some (cond-false (is_constant b) (set_number R1 (constant_number b z J)) (fetch_code b) other) in
-        let f : is_fetched b ≡ true = elim (or_cases (is_constant b) (is_fetched b) e) [
-          | inl x ↦ absurd (let no : false ≡ true = sym other ∙ x in cc)
-          | inr x ↦ x
-        ] in
-        fetch_steps b z J d lets u t f sized few fits h there le
-  ]
+      })
+  get_steps dst Computed z lets v u t free found is sized few h here le = absurd (let no : false ≡ true = found in cc)
 
   -- the left number in r0, and the operand in r1
   operand_runs : (d : ℕ) (left : List Insn) (insn : Insn) (s : MachineState) (a b : ℕ)
       → Stands program s.frame.slot (left ++ insn ∷ []) → s.frame.slot + length (left ++ insn ∷ []) ≤ last
       → (Stands program s.frame.slot left → s.frame.slot + length left ≤ last
       → Gets s (s.frame.slot + length left) (length left) (Has d s a))
-      → ((t : MachineState) → Same d s t → insn_at program t.frame.slot ≡ Some insn → t.frame.slot + 1 ≤ last → Fetched t b)
+      → ((t : MachineState) → Same d s t → insn_at program t.frame.slot ≡ Some insn → t.frame.slot + 1 ≤ last
+      → Fetched R1 t b)
       → Gets s (s.frame.slot + length (left ++ insn ∷ [])) (length (left ++ insn ∷ [])) (HasTwo d s a b)
   operand_runs d left insn s a b stands le first second =
       let len : length (left ++ insn ∷ []) ≡ length left + 1 = length-append left (insn ∷ []) in
@@ -838,21 +923,186 @@ module _ (program : List Insn) (env : Setting) (last : ℕ) (solid : (k : ℕ) �
         };
       }
 
-  pair_runs : (simple : Bool) (insn : Insn) (d : ℕ) (left right : List Insn) (s : MachineState) (a b : ℕ)
-      → HasPlace simple d → Stands program s.frame.slot (pair_code simple insn d left right)
-      → s.frame.slot + length (pair_code simple insn d left right) ≤ last
+  -- the left number in r0, and the found one where its operand says
+  loaded_runs : (y : Source) (z : Sizes) (d lets a b : ℕ) (u : NodeState) (left : List Insn) (s : MachineState)
+      → is_found y ≡ true → IsAt z lets u y b → IsSized z env → lets ≤ 3 → lets ≤ d → Holds env lets u s
+      → Stands program s.frame.slot (left ++ load_code y) → s.frame.slot + length (left ++ load_code y) ≤ last
+      → (Stands program s.frame.slot left → s.frame.slot + length left ≤ last
+      → Gets s (s.frame.slot + length left) (length left) (Has d s a))
+      → Gets s (s.frame.slot + length (left ++ load_code y)) (length (left ++ load_code y))
+      (HasPair (operand_code y) d s a b)
+  loaded_runs (Constant c) z d lets a b u left s found is sized few le h stands room first =
+      let len : length (left ++ []) ≡ length left + 0 = length-append left [] in
+      let P = HasPair (operand_code (Constant c)) d s a b in
+      gets s _ _ _ _ (Has d s a) P (omega (arith, len)) (omega (arith, len))
+      (λ t k. record {
+        same = k.same;
+        r0 = k.r0;
+        raw = cast_unsigned w64 (cast_signed w32 c);
+        other = refl;
+        low_bits = imm_low c is.1 ∙ is.0;
+        left = k.small;
+        right = subst (λ (x : ℕ). x < 2 ^ 32) is.0 is.1;
+      }) (first (stands_front program s.frame.slot left [] stands) (omega (arith, len, room)))
+  loaded_runs (FromLocal j) z d lets a b u left s found is sized few le h stands room first =
+      let len : length (left ++ []) ≡ length left + 0 = length-append left [] in
+      let number : register_number (place j) ≡ 7 + j = place_number j (omega (arith, is.0, few)) in
+      let P = HasPair (operand_code (FromLocal j)) d s a b in
+      gets s _ _ _ _ (Has d s a) P (omega (arith, len)) (omega (arith, len))
+      (λ t k.
+      let h1 = still_holds env lets d u s t le h k.same in
+      let e : get t.frame.registers (register_number (place j)) ≡ Some (Num (u.locals j)) =
+      ap (get t.frame.registers) number ∙ h1.locals j is.0 in
+      record {
+        same = k.same;
+        r0 = k.r0;
+        raw = u.locals j;
+        other = rw e refl;
+        low_bits = low (u.locals j) (h.small j is.0) ∙ is.1;
+        left = k.small;
+        right = subst (λ (x : ℕ). x < 2 ^ 32) is.1 (h.small j is.0);
+      }) (first (stands_front program s.frame.slot left [] stands) (omega (arith, len, room)))
+  loaded_runs (FromWord j) z d lets a b u left s found is sized few le h stands room first =
+      gets s _ _ _ _ (HasTwo d s a b) (HasPair (operand.Reg R1) d s a b) refl (omega arith) (λ t k. has_pair d s a b t k)
+      (operand_runs d left (get_code R1 (FromWord j)) s a b stands room first
+      (λ t same here l. get_steps R1 (FromWord j) z lets b u t refl refl is sized few (still_holds env lets d u s t le h same)
+      here l))
+  loaded_runs Computed z d lets a b u left s found is sized few le h stands room first =
+      absurd (let no : false ≡ true = found in cc)
+
+  -- the right number is computed into r0, and the left one is found
+  turned_runs : (x : Source) (z : Sizes) (d lets a b : ℕ) (u : NodeState) (right : List Insn) (s : MachineState)
+      → is_found x ≡ true → IsAt z lets u x a → IsSized z env → lets ≤ 3 → lets ≤ d → Holds env lets u s
+      → Stands program s.frame.slot (right ++ (copy R1 R0 ∷ get_code R0 x ∷ []))
+      → s.frame.slot + length (right ++ (copy R1 R0 ∷ get_code R0 x ∷ [])) ≤ last
+      → (Stands program s.frame.slot right → s.frame.slot + length right ≤ last
+      → Gets s (s.frame.slot + length right) (length right) (Has d s b))
+      → Gets s (s.frame.slot + length (right ++ (copy R1 R0 ∷ get_code R0 x ∷ [])))
+      (length (right ++ (copy R1 R0 ∷ get_code R0 x ∷ []))) (HasPair (operand.Reg R1) d s a b)
+  turned_runs x z d lets a b u right s found is sized few le h stands room first =
+      let back = copy R1 R0 ∷ get_code R0 x ∷ [] in
+      let len : length (right ++ back) ≡ length right + 2 = length-append right back in
+      let c = first (stands_front program s.frame.slot right back stands) (omega (arith, len, room)) in
+      let t = c.new in
+      let there = here_is t _ back c.slot (stands_back program s.frame.slot right back stands) in
+      let t1 = put t (t.frame.slot + 1) R1 (Num b) in
+      let e1 : step program env t ≡ Ok (Running t1) = copies program env t (t.frame.slot + 1) R1 R0 b there.0 refl
+      (solid _ (omega (arith, len, room, c.slot))) c.fact.r0 c.fact.small refl in
+      let same1 : Same d s t1 = same_put d s t (t.frame.slot + 1) R1 (Num b) (r1_free d) c.fact.same in
+      let g = get_steps R0 x z lets a u t1 refl found is sized few (still_holds env lets d u s t1 le h same1) there.1.0
+      (omega (arith, len, room, c.slot)) in
+      let t2 = put t1 (t.frame.slot + 1 + 1) R0 (Num a) in
+      let run1 = further program env s t t1 (length right) (length right + 1) c.run e1 (omega arith) in
+      let two : HasTwo d s a b t2 = record {
+        same = same_put d s t1 (t.frame.slot + 1 + 1) R0 (Num a) (r0_free d) same1;
+        r0 = put_same t1.frame.registers 0 (Num a);
+        r1 = put_other t1.frame.registers 0 (Num a) 1 (λ e. omega arith) ∙ put_same t.frame.registers 1 (Num b);
+        left = g.small;
+        right = c.fact.small;
+      } in
+      record {
+        new = t2;
+        run = further program env s t1 t2 (length right + 1) (length (right ++ back)) run1 g.fetched (omega (arith, len));
+        slot = omega (arith, len, c.slot);
+        fact = has_pair d s a b t2 two;
+      }
+
+  left_runs : (o : Operator) (x : Source) (purpose : Purpose) (z : Sizes) (d lets a b : ℕ) (u : NodeState)
+      (right : List Insn) (s : MachineState) → is_found x ≡ true → IsAt z lets u x a → IsSized z env → lets ≤ 3
+      → lets ≤ d → Holds env lets u s → Stands program s.frame.slot (left_code o x purpose right)
+      → s.frame.slot + length (left_code o x purpose right) + beyond purpose ≤ last
+      → (Stands program s.frame.slot right → s.frame.slot + length right ≤ last
+      → Gets s (s.frame.slot + length right) (length right) (Has d s b))
+      → Reached purpose d s (s.frame.slot + length (left_code o x purpose right)) (length (left_code o x purpose right))
+      (operate o a b)
+  left_runs (Compute op) x purpose z d lets a b u right s found is sized few le h stands room first =
+      operator_runs (Compute op) (operand.Reg R1) purpose d a b (right ++ (copy R1 R0 ∷ get_code R0 x ∷ [])) s stands room
+      (λ st l. turned_runs x z d lets a b u right s found is sized few le h st l first)
+  left_runs (Compare r) x purpose z d lets a b u right s found is sized few le h stands room first =
+      let code = left_code (Compare r) x purpose right in
+      let same : operate (Compare (mirror r)) b a ≡ operate (Compare r) a b = ap number_of (mirrored r a b) in
+      subst (λ (v : ℕ). Reached purpose d s (s.frame.slot + length code) (length code) v) same
+      (operator_runs (Compare (mirror r)) (operand_code x) purpose d b a (right ++ load_code x) s stands room
+      (λ st l. loaded_runs x z d lets b a u right s found is sized few le h st l first))
+
+  right_runs : (o : Operator) (y : Source) (purpose : Purpose) (z : Sizes) (d lets a b : ℕ) (u : NodeState)
+      (left : List Insn) (s : MachineState) → is_found y ≡ true → IsAt z lets u y b → IsSized z env → lets ≤ 3
+      → lets ≤ d → Holds env lets u s
+      → Stands program s.frame.slot (by_operator o (operand_code y) purpose (left ++ load_code y))
+      → s.frame.slot + length (by_operator o (operand_code y) purpose (left ++ load_code y)) + beyond purpose ≤ last
+      → (Stands program s.frame.slot left → s.frame.slot + length left ≤ last
+      → Gets s (s.frame.slot + length left) (length left) (Has d s a))
+      → Reached purpose d s (s.frame.slot + length (by_operator o (operand_code y) purpose (left ++ load_code y)))
+      (length (by_operator o (operand_code y) purpose (left ++ load_code y))) (operate o a b)
+  right_runs o y purpose z d lets a b u left s found is sized few le h stands room first =
+      operator_runs o (operand_code y) purpose d a b (left ++ load_code y) s stands room
+      (λ st l. loaded_runs y z d lets a b u left s found is sized few le h st l first)
+
+  place_test_runs : (r : Comparison) (k c : ℕ) (z : Sizes) (d lets a b : ℕ) (u : NodeState) (s : MachineState)
+      → IsAt z lets u (Constant c) b → IsAt z lets u (FromLocal k) a → lets ≤ 3 → Holds env lets u s
+      → TestRuns (λ when far. jump_place k (jump_on when r) c far ∷ []) d (number_of (compare r a b)) s
+  place_test_runs r k c z d lets a b u s at_y at_x few h when far stands room =
+      let raw = cast_unsigned w64 (cast_signed w32 c) in
+      let number : register_number (place k) ≡ 7 + k = place_number k (omega (arith, at_x.0, few)) in
+      let from : get s.frame.registers (register_number (place k)) ≡ Some (Num a) = ap (get s.frame.registers) number
+      ∙ h.locals k at_x.0 ∙ ap (λ n. Some (Num n)) at_x.1 in
+      let small : a < 2 ^ 32 = subst (λ (n : ℕ). n < 2 ^ 32) at_x.1 (h.small k at_x.0) in
+      let hit = taken when (number_of (compare r a b)) in
+      let end = branch_runs d s s 0 far (cond_of (jump_on when r)) (place k) (operand.Imm (cast_signed w32 c)) a raw hit
+      (stays program env s) (same_self d s) stands.0 from refl
+      (jump_compared when r a b raw small (imm_low c at_y.1 ∙ at_y.0)) room in
+      gets s _ _ _ _ (Same d s) (Same d s) refl (omega arith) (λ t h. h) end
+
+  -- the right number is computed at a depth of its own
+  sides_run : (y x : Source) (o : Operator) (purpose : Purpose) (z : Sizes) (d deep lets a b : ℕ) (u : NodeState)
+      (left right : List Insn) (s : MachineState) → IsAt z lets u y b → IsAt z lets u x a → IsSized z env → lets ≤ 3
+      → lets ≤ d → d ≤ deep → (is_found x ≡ false → is_found y ≡ false → (d < 3) × (deep ≡ d + 1)) → Holds env lets u s
+      → Stands program s.frame.slot (binary_code y x o d purpose left right)
+      → s.frame.slot + length (binary_code y x o d purpose left right) + beyond purpose ≤ last
       → (Stands program s.frame.slot left → s.frame.slot + length left ≤ last
       → Gets s (s.frame.slot + length left) (length left) (Has d s a))
       → ((t : MachineState) → Same d s t → Stands program t.frame.slot right → t.frame.slot + length right ≤ last
-      → Gets t (t.frame.slot + length right) (length right) (Has (d + 1) t b))
-      → ((t : MachineState) → simple ≡ true → Same d s t → insn_at program t.frame.slot ≡ Some insn
-      → t.frame.slot + 1 ≤ last → Fetched t b)
-      → Gets s (s.frame.slot + length (pair_code simple insn d left right)) (length (pair_code simple insn d left right))
-      (HasTwo d s a b)
-  pair_runs true insn d left right s a b few stands le first second third =
-      operand_runs d left insn s a b stands le first (λ t same here room. third t refl same here room)
-  pair_runs false insn d left right s a b few stands le first second third =
-      two_runs d left right s a b few stands le first second
+      → Gets t (t.frame.slot + length right) (length right) (Has deep t b))
+      → Reached purpose d s (s.frame.slot + length (binary_code y x o d purpose left right))
+      (length (binary_code y x o d purpose left right)) (operate o a b)
+  sides_run (Constant c) (FromLocal k) (Compare r) purpose z d deep lets a b u left right s at_y at_x sized few le more free h
+      stands room first second =
+      by_test_runs purpose (λ when far. jump_place k (jump_on when r) c far ∷ []) d (compare r a b) s stands room
+      (place_test_runs r k c z d lets a b u s at_y at_x few h)
+  sides_run (Constant c) (FromLocal k) (Compute op) purpose z d deep lets a b u left right s at_y at_x sized few le more free h
+      stands room first second =
+      right_runs (Compute op) (Constant c) purpose z d lets a b u left s refl at_y sized few le h stands room first
+  sides_run (Constant c) (Constant e) o purpose z d deep lets a b u left right s at_y at_x sized few le more free h stands room
+      first second = right_runs o (Constant c) purpose z d lets a b u left s refl at_y sized few le h stands room first
+  sides_run (Constant c) (FromWord k) o purpose z d deep lets a b u left right s at_y at_x sized few le more free h stands room
+      first second = right_runs o (Constant c) purpose z d lets a b u left s refl at_y sized few le h stands room first
+  sides_run (Constant c) Computed o purpose z d deep lets a b u left right s at_y at_x sized few le more free h stands room
+      first second = right_runs o (Constant c) purpose z d lets a b u left s refl at_y sized few le h stands room first
+  sides_run (FromLocal k) x o purpose z d deep lets a b u left right s at_y at_x sized few le more free h stands room first
+      second = right_runs o (FromLocal k) purpose z d lets a b u left s refl at_y sized few le h stands room first
+  sides_run (FromWord k) x o purpose z d deep lets a b u left right s at_y at_x sized few le more free h stands room first
+      second = right_runs o (FromWord k) purpose z d lets a b u left s refl at_y sized few le h stands room first
+  sides_run Computed (Constant c) o purpose z d deep lets a b u left right s at_y at_x sized few le more free h stands room
+      first second = left_runs o (Constant c) purpose z d lets a b u right s refl at_x sized few le h stands room
+      (λ st l. gets s _ _ _ _ (Has deep s b) (Has d s b) refl (omega arith) (λ t k. has_less d deep b s t more k)
+      (second s (same_self d s) st l))
+  sides_run Computed (FromLocal k) o purpose z d deep lets a b u left right s at_y at_x sized few le more free h stands room
+      first second = left_runs o (FromLocal k) purpose z d lets a b u right s refl at_x sized few le h stands room
+      (λ st l. gets s _ _ _ _ (Has deep s b) (Has d s b) refl (omega arith) (λ t q. has_less d deep b s t more q)
+      (second s (same_self d s) st l))
+  sides_run Computed (FromWord k) o purpose z d deep lets a b u left right s at_y at_x sized few le more free h stands room
+      first second = left_runs o (FromWord k) purpose z d lets a b u right s refl at_x sized few le h stands room
+      (λ st l. gets s _ _ _ _ (Has deep s b) (Has d s b) refl (omega arith) (λ t q. has_less d deep b s t more q)
+      (second s (same_self d s) st l))
+  sides_run Computed Computed o purpose z d deep lets a b u left right s at_y at_x sized few le more free h stands room
+      first second =
+      let deeper = free refl refl in
+      operator_runs o (operand.Reg R1) purpose d a b (two_code d left right) s stands room
+      (λ st l. gets s _ _ _ _ (HasTwo d s a b) (HasPair (operand.Reg R1) d s a b) refl (omega arith)
+      (λ t k. has_pair d s a b t k)
+      (two_runs d left right s a b deeper.0 st l first
+      (λ t same st2 l2. gets t _ _ _ _ (Has deep t b) (Has (d + 1) t b) refl (omega arith)
+      (λ w k. has_less (d + 1) deep b t w (omega (arith, deeper.1)) k) (second t same st2 l2))))
 
   landing_not : (when : Bool) (v far : ℕ) → landing (not when) v far ≡ landing when (number_of (not (truth v))) far
   landing_not true v far = ap (λ (b : Bool). hop b far) (sym (truth_of (not (truth v))))
@@ -867,6 +1117,89 @@ module _ (program : List Insn) (env : Setting) (last : ℕ) (solid : (k : ℕ) �
 
   has_at : (d v : ℕ) (s t : MachineState) (to : ℕ) → Has d s v t → Has d s v (at t to)
   has_at d v s t to h = record { same = same_at d s t to h.same; r0 = h.r0; small = h.small }
+
+  -- ---- messages, by where the node's number is found
+
+  known_node_runs : (z : Sizes) (d j : ℕ) (s : MachineState) → IsSized z env → j < z.nodes
+      → Stands program s.frame.slot (set_node R1 j ∷ i.Call (pos 2) ∷ []) → s.frame.slot + 2 ≤ last
+      → Gets s (s.frame.slot + 2) 2 (Has d s (received env j))
+  known_node_runs z d j s sized lt stands room =
+      let s1 = put s (s.frame.slot + 1) R1 (Num j) in
+      let s2 = called s1 (s.frame.slot + 1 + 1) (received env j) in
+      let e1 : step program env s ≡ Ok (Running s1) = moves program env s (s.frame.slot + 1) R1 (operand.Imm (pos j)) (Num j)
+      stands.0 refl (solid _ (omega (arith, room))) refl refl in
+      let e2 : step program env s1 ≡ Ok (Running s2) = receives program env s1 (s.frame.slot + 1 + 1) j stands.1.0 refl
+      (solid _ (omega (arith, room))) (put_same s.frame.registers 1 (Num j)) (omega (arith, lt, sized.nodes)) in
+      record {
+        new = s2;
+        run = further program env s s1 s2 1 2 (once program env s s1 e1) e2 (omega arith);
+        slot = omega arith;
+        fact = record {
+          same = same_call d s s1 (s.frame.slot + 1 + 1) (received env j)
+              (same_put d s s (s.frame.slot + 1) R1 (Num j) (r1_free d) (same_self d s));
+          r0 = put_same _ 0 (Num (received env j));
+          small = received_fits env j sized.setting;
+        };
+      }
+
+  -- as constants are compiled
+  node_of_constant : (z : Sizes) (d j : ℕ) (code : List Insn) (s : MachineState) → IsSized z env
+      → Stands program s.frame.slot (message_by (Constant j) z.nodes code)
+      → s.frame.slot + length (message_by (Constant j) z.nodes code) ≤ last
+      → Gets s (s.frame.slot + length (message_by (Constant j) z.nodes code))
+      (length (message_by (Constant j) z.nodes code)) (Has d s (message_from z env j))
+  node_of_constant z d j code s sized stands room =
+      let known = set_node R1 j ∷ i.Call (pos 2) ∷ [] in
+      let none = set_number R0 4294967295 ∷ [] in
+      let P : List Insn → Type 0 = λ c. Stands program s.frame.slot c → s.frame.slot + length c ≤ last
+      → Gets s (s.frame.slot + length c) (length c) (Has d s (message_from z env j)) in
+      let whole : P (message_by (Constant j) z.nodes code) = elim (cases_Bool (nat_lt j z.nodes)) [
+        | inl so ↦
+            let is : received env j ≡ message_from z env j = rw so refl in
+            subst P (sym (cond-true (nat_lt j z.nodes) known none so))
+            (λ st l. subst (λ (v : ℕ). Gets s (s.frame.slot + 2) 2 (Has d s v)) is
+            (known_node_runs z d j s sized (ltb-true j z.nodes so) st l))
+        | inr other ↦
+            let is : 4294967295 ≡ message_from z env j = rw other refl in
+            subst P (sym (cond-false (nat_lt j z.nodes) known none other))
+            (λ st l. subst (λ (v : ℕ). Gets s (s.frame.slot + 1) 1 (Has d s v)) is
+            (number_runs d 4294967295 s (omega arith) st l))
+      ] in
+      whole stands room
+
+  some_node_runs : (z : Sizes) (d x : ℕ) (code : List Insn) (s : MachineState) → IsSized z env
+      → Stands program s.frame.slot (code ++ message_code z.nodes)
+      → s.frame.slot + length (code ++ message_code z.nodes) ≤ last
+      → (Stands program s.frame.slot code → s.frame.slot + length code ≤ last
+      → Gets s (s.frame.slot + length code) (length code) (Has d s x))
+      → Gets s (s.frame.slot + length (code ++ message_code z.nodes)) (length (code ++ message_code z.nodes))
+      (Has d s (message_from z env x))
+  some_node_runs z d x code s sized stands room first =
+      let back = message_code z.nodes in
+      let len : length (code ++ back) ≡ length code + 5 = length-append code back in
+      let c = first (stands_front program s.frame.slot code back stands) (omega (arith, len, room)) in
+      let there = here_is c.new _ back c.slot (stands_back program s.frame.slot code back stands) in
+      let g = message_runs z d x s c.new (length code) sized c.run c.fact there (omega (arith, len, room, c.slot)) in
+      gets s _ _ _ _ (Has d s (message_from z env x)) (Has d s (message_from z env x)) (omega (arith, len, c.slot))
+      (omega (arith, len)) (λ t k. k) g
+
+  message_by_runs : (y : Source) (z : Sizes) (d lets x : ℕ) (u : NodeState) (code : List Insn) (s : MachineState)
+      → IsAt z lets u y x → IsSized z env → Stands program s.frame.slot (message_by y z.nodes code)
+      → s.frame.slot + length (message_by y z.nodes code) ≤ last
+      → (Stands program s.frame.slot code → s.frame.slot + length code ≤ last
+      → Gets s (s.frame.slot + length code) (length code) (Has d s x))
+      → Gets s (s.frame.slot + length (message_by y z.nodes code)) (length (message_by y z.nodes code))
+      (Has d s (message_from z env x))
+  message_by_runs (Constant j) z d lets x u code s is sized stands room first =
+      let n = length (message_by (Constant j) z.nodes code) in
+      subst (λ (v : ℕ). Gets s (s.frame.slot + n) n (Has d s (message_from z env v))) is.0
+      (node_of_constant z d j code s sized stands room)
+  message_by_runs (FromLocal k) z d lets x u code s is sized stands room first =
+      some_node_runs z d x code s sized stands room first
+  message_by_runs (FromWord k) z d lets x u code s is sized stands room first =
+      some_node_runs z d x code s sized stands room first
+  message_by_runs Computed z d lets x u code s is sized stands room first =
+      some_node_runs z d x code s sized stands room first
 
   -- ---- terms
 
@@ -910,29 +1243,24 @@ module _ (program : List Insn) (env : Setting) (last : ℕ) (solid : (k : ℕ) �
       (λ st l. load_runs d lets k u s (omega (arith, fits, sized.memory)) h st l)
   term_runs (Message' p a) z J d lets purpose u s sized nodes few le fits h stands room =
       let code = term_code a z J d Value in
-      let back = message_code z.nodes in
       let x = value a z env J u in
-      let len : length (code ++ back) ≡ length code + 5 = length-append code back in
-      by_value_runs purpose (code ++ back) d (message_from z env x) s stands room
-      (λ st l.
-      let c = term_runs a z J d lets Value u s sized nodes few le fits h
-      (stands_front program s.frame.slot code back st) (omega (arith, len, l)) in
-      let there = here_is c.new _ back c.slot (stands_back program s.frame.slot code back st) in
-      let g = message_runs z d x s c.new (length code) sized c.run c.fact there (omega (arith, len, l, c.slot)) in
-      gets s _ _ _ _ (Has d s (message_from z env x)) (Has d s (message_from z env x)) (omega (arith, len, c.slot))
-      (omega (arith, len)) (λ t k. k) g)
+      by_value_runs purpose (message_by (source_of a z J) z.nodes code) d (message_from z env x) s stands room
+      (λ st l. message_by_runs (source_of a z J) z d lets x u code s (source_is a z J lets d u sized nodes fits) sized st l
+      (λ st2 l2. term_runs a z J d lets Value u s sized nodes few le fits h st2 (omega (arith, l2))))
   term_runs (Binary' o p a q b) z J d lets purpose u s sized nodes few le fits h stands room =
+      let deep = depth_behind (is_operand a) d in
       let ca = term_code a z J d Value in
-      let cb = term_code b z J (d + 1) Value in
+      let cb = term_code b z J deep Value in
       let va = value a z env J u in
       let vb = value b z env J u in
-      operator_runs o purpose d va vb (pair_code (is_operand b) (second_code b z J) d ca cb) s stands room
-      (λ st2 l2. pair_runs (is_operand b) (second_code b z J) d ca cb s va vb fits.0 st2 l2
-      (λ st3 l3. term_runs a z J d lets Value u s sized nodes few le fits.1 h st3 (omega (arith, l3)))
-      (λ t same st3 l3. term_runs b z J (d + 1) lets Value u t sized nodes few (omega (arith, le)) fits.2
-      (still_holds env lets d u s t le h same) st3 (omega (arith, l3)))
-      (λ t e same here l3. second_steps b z J (d + 1) lets u t e sized nodes few fits.2
-      (still_holds env lets d u s t le h same) here l3))
+      let more : d ≤ deep = behind_more (is_operand a) d in
+      sides_run (source_of b z J) (source_of a z J) o purpose z d deep lets va vb u ca cb s
+      (source_is b z J lets deep u sized nodes fits.2) (source_is a z J lets d u sized nodes fits.1) sized few le more
+      (λ e f. free_beside (is_operand a) (is_operand b) d (sym (found_same a z J) ∙ e) (sym (found_same b z J) ∙ f) fits.0) h
+      stands room
+      (λ st2 l2. term_runs a z J d lets Value u s sized nodes few le fits.1 h st2 (omega (arith, l2)))
+      (λ t same st2 l2. term_runs b z J deep lets Value u t sized nodes few (omega (arith, le, more)) fits.2
+      (still_holds env lets d u s t le h same) st2 (omega (arith, l2)))
   term_runs (Logical' c p a q b) z J d lets purpose u s sized nodes few le fits h stands room =
       let va = value a z env J u in
       let vb = value b z env J u in

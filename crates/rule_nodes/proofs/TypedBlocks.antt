@@ -1,23 +1,27 @@
 -- The code of statements, and of whole rules, is typed.
-use Rattle.std.proofs.Common.{◌≡◌, ℕ, zero, suc, ◌+◌, ◌-◌, ◌*◌, ◌^◌, ◌%◌, ◌<◌, ◌≤◌, nat_lt, Bool, true, false, List, [], ◌∷◌, ◌++◌, length, Some, pos, slice_get, refl, arith, subst, length-append}
-use Rattle.std.proofs.Math.Nat.{mod-eq_of_lt}
-use Rattle.std.specs.Int.{w64, cast_unsigned}
-use Rattle.std.proofs.lemmas.Bool.{lt-ltb, le-ltb}
+use Rattle.std.proofs.Common.{◌≡◌, ℕ, zero, suc, ◌+◌, ◌-◌, ◌*◌, ◌^◌, ◌%◌, ◌<◌, ◌≤◌, ◌==◌, nat_lt, Bool, true, false, ◌||◌, List, [], ◌∷◌, ◌++◌, length, Some, None, pos, slice_get, refl, sym, ap, ◌∙◌, arith, subst, length-append}
+use Rattle.std.specs.Int.{w32, w64, cast_signed, cast_unsigned}
+use Rattle.std.proofs.lemmas.Bool.{lt-ltb, le-ltb, ne_eqb}
 use Rattle.node_env.specs.Env.{Extent, IsExtent}
 use Rattle.bpf_insn.specs.declared.forms.Reg.TheVariants.{R0, R1, R2, R6}
-use Rattle.bpf_insn.specs.declared.forms.Width.TheVariants.{W64}
+use Rattle.bpf_insn.specs.declared.forms.Width.TheVariants.{W32, W64}
 use Rattle.bpf_insn.specs.declared.forms.Size.TheVariants as size
 use Rattle.bpf_insn.specs.declared.forms.AluOp.TheVariants.{Mov}
 use Rattle.bpf_insn.specs.declared.forms.Operand.TheVariants as operand
 use Rattle.bpf_insn.specs.declared.forms.Insn.{Insn}
 use Rattle.bpf_insn.specs.declared.forms.Insn.TheVariants as i
-use Rattle.bpf_insn.specs.Edges.{BeginsAt}
-use Rattle.value_range.specs.Span.{just}
-use Rattle.bpf_verify.specs.declared.kind.Kind.TheVariants.{Unset}
-use Rattle.bpf_verify.specs.States.{AbstractState, IsContainedIn, IsProper, entry_state}
+use Rattle.bpf_insn.specs.declared.edges.Way.TheVariants.{Onward, Jumping}
+use Rattle.bpf_insn.specs.Registers.{register_number}
+use Rattle.bpf_insn.specs.Edges.{BeginsAt, target}
+use Rattle.value_range.specs.Results.{alu_of as range_of}
+use Rattle.value_range.specs.Span.{Span, just, full_of}
+use Rattle.bpf_verify.specs.declared.kind.Kind.{Kind}
+use Rattle.bpf_verify.specs.declared.kind.Kind.TheVariants.{Unset, Number}
+use Rattle.bpf_verify.specs.States.{AbstractState, IsKindIn, IsContainedIn, IsProper, entry_state, kind_of, is_unset_kind, is_pointer_kind}
+use Rattle.bpf_verify.specs.Outcomes.{outcome, with_kind, of_number_kind}
 use Rattle.bpf_verify.specs.Typable.{Table, IsCovered, Typable}
 use Rattle.bpf_verify.proofs.StateLaws.{kind_in_itself, contained_in_itself, contained_further}
-use Rattle.clock_nodes.proofs.Taken.{state, proper, within, covered, keeps_own, sound_end, Sound, Sounds, marks_whole, typed}
+use Rattle.clock_nodes.proofs.Taken.{state, proper, within, covered, KeepsOwn, keeps_own, sound_end, Sound, Sounds, marks_whole, typed}
 use Rattle.rule_nodes.specs.declared.syntax.Sizes.{Sizes}
 use Rattle.rule_nodes.specs.declared.syntax.Comparison.TheVariants.{AtLeast}
 use Rattle.rule_nodes.specs.declared.syntax.Purpose.TheVariants.{Value, Jump}
@@ -25,17 +29,21 @@ use Rattle.rule_nodes.specs.declared.syntax.Target.{Target}
 use Rattle.rule_nodes.specs.declared.syntax.Target.TheVariants.{ToLocal, ToWord}
 use Rattle.rule_nodes.specs.declared.syntax.Assignment.{Assignment}
 use Rattle.rule_nodes.specs.declared.syntax.Assignment.TheVariants.{One, Also'}
+use Rattle.rule_nodes.specs.declared.syntax.Source.{Source}
+use Rattle.rule_nodes.specs.declared.syntax.Source.TheVariants.{Constant, FromLocal, FromWord, Computed}
 use Rattle.rule_nodes.specs.declared.syntax.Term.{Term}
 use Rattle.rule_nodes.specs.declared.syntax.Statement.{Statement}
 use Rattle.rule_nodes.specs.declared.syntax.Statement.TheVariants.{Nothing, Then', Let', Assign, If', For', SendAll, SendTo}
-use Rattle.rule_nodes.specs.Operands.{is_steady, depth_behind}
+use Rattle.rule_nodes.specs.Operands.{is_operand, is_steady, depth_behind, source_of}
 use Rattle.rule_nodes.specs.Fits.{HasPlace, Fits, TargetFits, AssignmentFits, BlockFits}
-use Rattle.rule_nodes.specs.Code.{place, copy, set_node, cond_of, jump_at, term_code, assign_code, also_code, assignment_code, send_code, send_codes, send_to_code, each_code, block_code, tail_code, rule_code}
-use Rattle.rule_nodes.proofs.Typing.{memory_place, word, known, plain, valued, proper_known, some_word, into, Typing, typed_then, typed_as, typed_none, one_on, one_fork, fetch_typed, keep_typed, AllSound, seen}
+use Rattle.rule_nodes.specs.Code.{place, copy, set_node, cond_of, jump_at, term_code, assign_code, set_code, given_code, also_code, assignment_code, get_code, set_number, send_code, send_codes, send_all_code, send_to_code, each_code, block_code, tail_code, rule_code}
+use Rattle.rule_nodes.proofs.Typing.{memory_place, word, known, plain, valued, proper_known, some_word, into, short, Typing, typed_then, typed_as, typed_none, one_on, one_fork, fetch_typed, keep_typed, AllSound, seen}
 use Rattle.rule_nodes.proofs.Whole.{all_begin, rule_length, ones_rule}
 use Rattle.rule_nodes.specs.Ends.{AreSizes}
-use Rattle.rule_nodes.proofs.Blocks.{behind_more, behind_few}
-use Rattle.rule_nodes.proofs.TypedTerms.{known_less, covers_less, left_imm, typed_seq, typed_at, choice_typed, some_node, proper_node, node_in_r0, not_above_node, name_typed, term_typed}
+use Rattle.rule_nodes.proofs.States.{place_number}
+use Rattle.rule_nodes.proofs.TermRuns.{behind_more, behind_few, is_found, found_same}
+use Rattle.rule_nodes.proofs.Blocks.{computed_place}
+use Rattle.rule_nodes.proofs.TypedTerms.{known_less, covers_less, left_imm, typed_seq, typed_at, choice_typed, some_node, proper_node, node_in_r0, not_above_node, name_typed, node_typed, load_typed, placed_in, place_word, IsThere, source_there, term_typed}
 
 module _ (program : List Insn) (shape : Extent) (last : ℕ) (solid : (k : ℕ) → k ≤ last → BeginsAt program k) where
   abbrev T : ℕ → List Insn → (Table → Type 0) → (Table → Type 0) → Type 0
@@ -87,28 +95,200 @@ module _ (program : List Insn) (shape : Extent) (last : ℕ) (solid : (k : ℕ) 
   assign_typed (ToLocal k) lets d slot below few fits le = change_typed k d slot (omega (arith, fits, below)) few le
   assign_typed (ToWord k) lets d slot below few fits le = store_typed d k slot fits le
 
+  -- ---- found numbers to their targets
+
+  -- an instruction that puts a number of 32 bits into a place, and keeps all other rules by itself
+  place_typed : (k d slot : ℕ) (insn : Insn) (K : Kind) → k < 3 → target insn slot Onward ≡ Some (slot + 1)
+      → target insn slot Jumping ≡ None → outcome shape insn (plain d) Onward ≡ Some (with_kind (plain d) (place k) K)
+      → IsKindIn K word → KeepsOwn shape insn (plain d) → slot + 1 ≤ last
+      → T slot (insn ∷ []) (C (plain d) slot) (C (plain d) (slot + 1))
+  place_typed k d slot insn K lt on off out inside own le =
+      one_on program shape last solid slot insn (plain d) (with_kind (plain d) (place k) K) (plain d) on off out
+      (placed_in k d K lt inside) (proper_known d Unset Unset Unset tt tt tt) own le
+
+  writable : (k : ℕ) → k < 3 → (register_number (place k) == 10) ≡ false
+  writable k lt = ap (λ (n : ℕ). n == 10) (place_number k lt) ∙ ne_eqb (7 + k) 10 (λ e. omega (arith, e, lt))
+
+  into_place : (x : Source) (k d lets slot : ℕ) → is_found x ≡ true → IsThere x lets shape.memory → lets ≤ d → d ≤ 3
+      → k < 3 → slot + 1 ≤ last
+      → T slot (get_code (place k) x ∷ []) (C (plain d) slot) (C (plain d) (slot + 1))
+  into_place (Constant c) k d lets slot found there below few lt le =
+      let x = cast_unsigned w64 (cast_signed w32 c) % 2 ^ 32 in
+      place_typed k d slot (set_number (place k) c) (Number (range_of Mov W32 (just x) (just x))) lt refl refl refl (short x)
+      (record {
+        forward = refl;
+        known = refl;
+        set = refl;
+        frame = writable k lt;
+        pointer = refl;
+        region = refl;
+        stack = refl;
+        argument = refl;
+        exit = refl;
+        base = refl;
+      }) le
+  into_place (FromLocal j) k d lets slot found there below few lt le =
+      let e : kind_of (plain d) (place j) ≡ word = place_word j d (omega (arith, there, below)) few in
+      let same = λ (n : Span). range_of Mov W32 n n in
+      place_typed k d slot (copy (place k) (place j)) (of_number_kind same (kind_of (plain d) (place j))) lt refl refl refl
+      (full_of 32, ap (of_number_kind same) e, record { low = omega arith; high = omega arith })
+      (record {
+        forward = refl;
+        known = refl;
+        set = ap (λ (q : Kind). is_unset_kind q || false) e;
+        frame = writable k lt;
+        pointer = ap is_pointer_kind e;
+        region = refl;
+        stack = refl;
+        argument = refl;
+        exit = refl;
+        base = refl;
+      }) le
+  into_place (FromWord j) k d lets slot found there below few lt le =
+      let room : nat_lt shape.memory (0 + 4 * j + 4) ≡ false = le-ltb shape.memory (0 + 4 * j + 4) (omega (arith, there)) in
+      place_typed k d slot (get_code (place k) (FromWord j)) word lt refl refl refl (kind_in_itself word)
+      (record {
+        forward = refl;
+        known = refl;
+        set = refl;
+        frame = writable k lt;
+        pointer = rw room refl;
+        region = rw room refl;
+        stack = refl;
+        argument = refl;
+        exit = refl;
+        base = refl;
+      }) le
+  into_place Computed k d lets slot found there below few lt le = absurd (let no : false ≡ true = found in cc)
+
+  number_stored : (d k v slot : ℕ) → 4 * k + 4 ≤ shape.memory → slot + 1 ≤ last
+      → T slot (i.StoreImm size.W R6 (pos (4 * k)) (cast_signed w32 v) ∷ []) (C (plain d) slot) (C (plain d) (slot + 1))
+  number_stored d k v slot inside le =
+      let room : nat_lt shape.memory (0 + 4 * k + 4) ≡ false = le-ltb shape.memory (0 + 4 * k + 4) (omega (arith, inside)) in
+      one_on program shape last solid slot (i.StoreImm size.W R6 (pos (4 * k)) (cast_signed w32 v)) (plain d) _ (plain d)
+      refl refl refl (into _ d Unset Unset Unset tt tt tt refl refl refl refl)
+      (proper_known d Unset Unset Unset tt tt tt) (keeps_own _ _ _ (rw room refl)) le
+
+  place_stored : (j d k slot : ℕ) → j < d → d ≤ 3 → 4 * k + 4 ≤ shape.memory → slot + 1 ≤ last
+      → T slot (i.StoreReg size.W R6 (pos (4 * k)) (place j) ∷ []) (C (plain d) slot) (C (plain d) (slot + 1))
+  place_stored zero zero k slot lt few inside le = absurd (omega (arith, lt))
+  place_stored (suc j) zero k slot lt few inside le = absurd (omega (arith, lt))
+  place_stored (suc j) (suc zero) k slot lt few inside le = absurd (omega (arith, lt))
+  place_stored (suc (suc j)) (suc (suc zero)) k slot lt few inside le = absurd (omega (arith, lt))
+  place_stored (suc (suc (suc j))) (suc (suc (suc zero))) k slot lt few inside le = absurd (omega (arith, lt))
+  place_stored j (suc (suc (suc (suc d)))) k slot lt few inside le = absurd (omega (arith, few))
+  place_stored zero (suc zero) k slot lt few inside le =
+      let room : nat_lt shape.memory (0 + 4 * k + 4) ≡ false = le-ltb shape.memory (0 + 4 * k + 4) (omega (arith, inside)) in
+      one_on program shape last solid slot (i.StoreReg size.W R6 (pos (4 * k)) (place 0)) (plain 1) _ (plain 1)
+      refl refl refl (into _ 1 Unset Unset Unset tt tt tt refl refl refl refl)
+      (proper_known 1 Unset Unset Unset tt tt tt) (keeps_own _ _ _ (rw room refl)) le
+  place_stored zero (suc (suc zero)) k slot lt few inside le =
+      let room : nat_lt shape.memory (0 + 4 * k + 4) ≡ false = le-ltb shape.memory (0 + 4 * k + 4) (omega (arith, inside)) in
+      one_on program shape last solid slot (i.StoreReg size.W R6 (pos (4 * k)) (place 0)) (plain 2) _ (plain 2)
+      refl refl refl (into _ 2 Unset Unset Unset tt tt tt refl refl refl refl)
+      (proper_known 2 Unset Unset Unset tt tt tt) (keeps_own _ _ _ (rw room refl)) le
+  place_stored zero (suc (suc (suc zero))) k slot lt few inside le =
+      let room : nat_lt shape.memory (0 + 4 * k + 4) ≡ false = le-ltb shape.memory (0 + 4 * k + 4) (omega (arith, inside)) in
+      one_on program shape last solid slot (i.StoreReg size.W R6 (pos (4 * k)) (place 0)) (plain 3) _ (plain 3)
+      refl refl refl (into _ 3 Unset Unset Unset tt tt tt refl refl refl refl)
+      (proper_known 3 Unset Unset Unset tt tt tt) (keeps_own _ _ _ (rw room refl)) le
+  place_stored (suc zero) (suc (suc zero)) k slot lt few inside le =
+      let room : nat_lt shape.memory (0 + 4 * k + 4) ≡ false = le-ltb shape.memory (0 + 4 * k + 4) (omega (arith, inside)) in
+      one_on program shape last solid slot (i.StoreReg size.W R6 (pos (4 * k)) (place 1)) (plain 2) _ (plain 2)
+      refl refl refl (into _ 2 Unset Unset Unset tt tt tt refl refl refl refl)
+      (proper_known 2 Unset Unset Unset tt tt tt) (keeps_own _ _ _ (rw room refl)) le
+  place_stored (suc zero) (suc (suc (suc zero))) k slot lt few inside le =
+      let room : nat_lt shape.memory (0 + 4 * k + 4) ≡ false = le-ltb shape.memory (0 + 4 * k + 4) (omega (arith, inside)) in
+      one_on program shape last solid slot (i.StoreReg size.W R6 (pos (4 * k)) (place 1)) (plain 3) _ (plain 3)
+      refl refl refl (into _ 3 Unset Unset Unset tt tt tt refl refl refl refl)
+      (proper_known 3 Unset Unset Unset tt tt tt) (keeps_own _ _ _ (rw room refl)) le
+  place_stored (suc (suc zero)) (suc (suc (suc zero))) k slot lt few inside le =
+      let room : nat_lt shape.memory (0 + 4 * k + 4) ≡ false = le-ltb shape.memory (0 + 4 * k + 4) (omega (arith, inside)) in
+      one_on program shape last solid slot (i.StoreReg size.W R6 (pos (4 * k)) (place 2)) (plain 3) _ (plain 3)
+      refl refl refl (into _ 3 Unset Unset Unset tt tt tt refl refl refl refl)
+      (proper_known 3 Unset Unset Unset tt tt tt) (keeps_own _ _ _ (rw room refl)) le
+
+  set_typed : (target : Target) (x : Source) (d lets slot : ℕ) → is_found x ≡ true → IsThere x lets shape.memory
+      → lets ≤ d → d ≤ 3 → TargetFits target shape.memory lets → slot + length (set_code target x) ≤ last
+      → T slot (set_code target x) (C (plain d) slot) (C (plain d) (slot + length (set_code target x)))
+  set_typed (ToLocal k) x d lets slot found there below few fits le =
+      into_place x k d lets slot found there below few (omega (arith, fits, below, few)) le
+  set_typed (ToWord k) (Constant c) d lets slot found there below few fits le = number_stored d k c slot fits le
+  set_typed (ToWord k) (FromLocal j) d lets slot found there below few fits le =
+      place_stored j d k slot (omega (arith, there, below)) few fits le
+  set_typed (ToWord k) (FromWord j) d lets slot found there below few fits le =
+      let p1 = slot + 1 in
+      let set = assign_code (ToWord k) ∷ [] in
+      let a = load_typed program shape last solid d j slot there (omega (arith, le)) in
+      let e : p1 + 1 ≡ slot + 2 = omega arith in
+      let b = typed_at program shape last solid p1 (p1 + 1) (slot + 2) set (C (valued d) p1) (plain d) e
+      (store_typed d k p1 fits (omega (arith, le))) in
+      typed_seq program shape last solid slot p1 (get_code R0 (FromWord j) ∷ []) set (C (plain d) slot) (C (valued d) p1)
+      (C (plain d) (slot + 2)) refl a b
+  set_typed (ToWord k) Computed d lets slot found there below few fits le = absurd (let no : false ≡ true = found in cc)
+
   -- ---- sending
 
-  -- place d into r2
-  pass_typed : (d slot : ℕ) → d < 3 → slot + 1 ≤ last
-      → T slot (copy R2 (place d) ∷ []) (C (known (d + 1) Unset (some_node program shape last solid) Unset) slot)
-      (C (known (d + 1) Unset (some_node program shape last solid) word) (slot + 1))
-  pass_typed zero slot lt le =
+  -- a place into r2
+  pass_typed : (k d slot : ℕ) → k < d → d ≤ 3 → slot + 1 ≤ last
+      → T slot (copy R2 (place k) ∷ []) (C (known d Unset (some_node program shape last solid) Unset) slot)
+      (C (known d Unset (some_node program shape last solid) word) (slot + 1))
+  pass_typed zero zero slot lt few le = absurd (omega (arith, lt))
+  pass_typed (suc k) zero slot lt few le = absurd (omega (arith, lt))
+  pass_typed (suc k) (suc zero) slot lt few le = absurd (omega (arith, lt))
+  pass_typed (suc (suc k)) (suc (suc zero)) slot lt few le = absurd (omega (arith, lt))
+  pass_typed (suc (suc (suc k))) (suc (suc (suc zero))) slot lt few le = absurd (omega (arith, lt))
+  pass_typed k (suc (suc (suc (suc d)))) slot lt few le = absurd (omega (arith, few))
+  pass_typed zero (suc zero) slot lt few le =
       let N = some_node program shape last solid in
       one_on program shape last solid slot (copy R2 (place 0)) (known 1 Unset N Unset) _ (known 1 Unset N word) refl refl refl
       (into _ 1 Unset N word tt (kind_in_itself N) (kind_in_itself word) refl refl refl refl)
       (proper_known 1 Unset N Unset tt (proper_node program shape last solid) tt) (keeps_own _ _ _ refl) le
-  pass_typed (suc zero) slot lt le =
+  pass_typed zero (suc (suc zero)) slot lt few le =
+      let N = some_node program shape last solid in
+      one_on program shape last solid slot (copy R2 (place 0)) (known 2 Unset N Unset) _ (known 2 Unset N word) refl refl refl
+      (into _ 2 Unset N word tt (kind_in_itself N) (kind_in_itself word) refl refl refl refl)
+      (proper_known 2 Unset N Unset tt (proper_node program shape last solid) tt) (keeps_own _ _ _ refl) le
+  pass_typed zero (suc (suc (suc zero))) slot lt few le =
+      let N = some_node program shape last solid in
+      one_on program shape last solid slot (copy R2 (place 0)) (known 3 Unset N Unset) _ (known 3 Unset N word) refl refl refl
+      (into _ 3 Unset N word tt (kind_in_itself N) (kind_in_itself word) refl refl refl refl)
+      (proper_known 3 Unset N Unset tt (proper_node program shape last solid) tt) (keeps_own _ _ _ refl) le
+  pass_typed (suc zero) (suc (suc zero)) slot lt few le =
       let N = some_node program shape last solid in
       one_on program shape last solid slot (copy R2 (place 1)) (known 2 Unset N Unset) _ (known 2 Unset N word) refl refl refl
       (into _ 2 Unset N word tt (kind_in_itself N) (kind_in_itself word) refl refl refl refl)
       (proper_known 2 Unset N Unset tt (proper_node program shape last solid) tt) (keeps_own _ _ _ refl) le
-  pass_typed (suc (suc zero)) slot lt le =
+  pass_typed (suc zero) (suc (suc (suc zero))) slot lt few le =
+      let N = some_node program shape last solid in
+      one_on program shape last solid slot (copy R2 (place 1)) (known 3 Unset N Unset) _ (known 3 Unset N word) refl refl refl
+      (into _ 3 Unset N word tt (kind_in_itself N) (kind_in_itself word) refl refl refl refl)
+      (proper_known 3 Unset N Unset tt (proper_node program shape last solid) tt) (keeps_own _ _ _ refl) le
+  pass_typed (suc (suc zero)) (suc (suc (suc zero))) slot lt few le =
       let N = some_node program shape last solid in
       one_on program shape last solid slot (copy R2 (place 2)) (known 3 Unset N Unset) _ (known 3 Unset N word) refl refl refl
       (into _ 3 Unset N word tt (kind_in_itself N) (kind_in_itself word) refl refl refl refl)
       (proper_known 3 Unset N Unset tt (proper_node program shape last solid) tt) (keeps_own _ _ _ refl) le
-  pass_typed (suc (suc (suc d))) slot lt le = absurd (omega (arith, lt))
+
+  -- a found number into r2
+  get_typed : (x : Source) (d lets slot : ℕ) → is_found x ≡ true → IsThere x lets shape.memory → lets ≤ d → d ≤ 3
+      → slot + 1 ≤ last
+      → T slot (get_code R2 x ∷ []) (C (known d Unset (some_node program shape last solid) Unset) slot)
+      (C (known d Unset (some_node program shape last solid) word) (slot + 1))
+  get_typed (Constant c) d lets slot found there below few le =
+      let N = some_node program shape last solid in
+      one_on program shape last solid slot (set_number R2 c) (known d Unset N Unset) _ (known d Unset N word) refl refl refl
+      (into _ d Unset N word tt (kind_in_itself N) (short (cast_unsigned w64 (cast_signed w32 c) % 2 ^ 32))
+      refl refl refl refl) (proper_known d Unset N Unset tt (proper_node program shape last solid) tt)
+      (keeps_own _ _ _ refl) le
+  get_typed (FromLocal k) d lets slot found there below few le = pass_typed k d slot (omega (arith, there, below)) few le
+  get_typed (FromWord k) d lets slot found there below few le =
+      let N = some_node program shape last solid in
+      let room : nat_lt shape.memory (0 + 4 * k + 4) ≡ false = le-ltb shape.memory (0 + 4 * k + 4) (omega (arith, there)) in
+      one_on program shape last solid slot (get_code R2 (FromWord k)) (known d Unset N Unset) _ (known d Unset N word)
+      refl refl refl (into _ d Unset N word tt (kind_in_itself N) (kind_in_itself word) refl refl refl refl)
+      (proper_known d Unset N Unset tt (proper_node program shape last solid) tt) (keeps_own _ _ _ (rw room refl)) le
+  get_typed Computed d lets slot found there below few le = absurd (let no : false ≡ true = found in cc)
 
   send_typed : (d slot : ℕ) → 1 ≤ shape.nodes → slot + 1 ≤ last
       → T slot (i.Call (pos 3) ∷ []) (C (known d Unset (some_node program shape last solid) word) slot) (C (plain d) (slot + 1))
@@ -119,41 +299,34 @@ module _ (program : List Insn) (shape : Extent) (last : ℕ) (solid : (k : ℕ) 
       (into _ d Unset Unset Unset tt tt tt refl refl refl refl)
       (proper_known d Unset N word tt (proper_node program shape last solid) some_word) (keeps_own _ _ _ (rw one_of refl)) le
 
-  node_typed : (d j slot : ℕ) → j < shape.nodes → shape.nodes ≤ 64 → slot + 1 ≤ last
-      → T slot (set_node R1 j ∷ []) (C (plain d) slot) (C (known d Unset (some_node program shape last solid) Unset) (slot + 1))
-  node_typed d j slot lt few le =
-      let N = some_node program shape last solid in
-      let imm : cast_unsigned w64 (pos j) % 2 ^ 64 ≡ j = mod-eq_of_lt (omega (arith, lt, few)) in
-      one_on program shape last solid slot (set_node R1 j) (plain d) _ (known d Unset N Unset) refl refl refl
-      (into _ d Unset N Unset tt
-      (just (cast_unsigned w64 (pos j) % 2 ^ 64), refl, record { low = omega arith; high = omega (arith, lt, imm) }) tt
-      refl refl refl refl) (proper_known d Unset Unset Unset tt tt tt) (keeps_own _ _ _ refl) le
+  -- r1 has a node's number: a found number goes there
+  hand_typed : (x : Source) (d lets slot : ℕ) → is_found x ≡ true → IsThere x lets shape.memory → lets ≤ d → d ≤ 3
+      → 1 ≤ shape.nodes → slot + 2 ≤ last
+      → T slot (get_code R2 x ∷ i.Call (pos 3) ∷ []) (C (known d Unset (some_node program shape last solid) Unset) slot)
+      (C (plain d) (slot + 1 + 1))
+  hand_typed x d lets slot found there below few some le = typed_seq program shape last solid slot (slot + 1)
+      (get_code R2 x ∷ []) (i.Call (pos 3) ∷ []) _ _ _ refl (get_typed x d lets slot found there below few (omega (arith, le)))
+      (send_typed d (slot + 1) some (omega (arith, le)))
 
-  -- r1 has a node's number: place d goes there
-  hand_typed : (d slot : ℕ) → d < 3 → 1 ≤ shape.nodes → slot + 2 ≤ last
-      → T slot (copy R2 (place d) ∷ i.Call (pos 3) ∷ []) (C (known (d + 1) Unset (some_node program shape last solid) Unset) slot)
-      (C (plain (d + 1)) (slot + 1 + 1))
-  hand_typed d slot small some le = typed_seq program shape last solid slot (slot + 1) (copy R2 (place d) ∷ [])
-      (i.Call (pos 3) ∷ []) _ _ _ refl (pass_typed d slot small (omega (arith, le)))
-      (send_typed (d + 1) (slot + 1) some (omega (arith, le)))
-
-  sends_typed : (d slot n : ℕ) → d < 3 → n ≤ shape.nodes → shape.nodes ≤ 64 → slot + length (send_codes d n) ≤ last
-      → T slot (send_codes d n) (C (plain (d + 1)) slot) (C (plain (d + 1)) (slot + length (send_codes d n)))
-  sends_typed d slot zero small le few room =
+  sends_typed : (x : Source) (d lets slot n : ℕ) → is_found x ≡ true → IsThere x lets shape.memory → lets ≤ d → d ≤ 3
+      → n ≤ shape.nodes → shape.nodes ≤ 64 → slot + length (send_codes x n) ≤ last
+      → T slot (send_codes x n) (C (plain d) slot) (C (plain d) (slot + length (send_codes x n)))
+  sends_typed x d lets slot zero found there below few le most room =
       let e : slot ≡ slot + 0 = omega arith in
-      typed_at program shape last solid slot slot (slot + 0) [] (C (plain (d + 1)) slot) (plain (d + 1)) e
-      (typed_none program shape last solid slot (C (plain (d + 1)) slot))
-  sends_typed d slot (suc n) small le few room =
-      let front = send_codes d n in
-      let back = send_code d n in
-      let S = plain (d + 1) in
+      typed_at program shape last solid slot slot (slot + 0) [] (C (plain d) slot) (plain d) e
+      (typed_none program shape last solid slot (C (plain d) slot))
+  sends_typed x d lets slot (suc n) found there below few le most room =
+      let front = send_codes x n in
+      let back = send_code x n in
+      let S = plain d in
+      let hand = get_code R2 x ∷ i.Call (pos 3) ∷ [] in
       let len : length (front ++ back) ≡ length front + 3 = length-append front back in
       let p1 = slot + length front in
-      let f = sends_typed d slot n small (omega (arith, le)) few (omega (arith, len, room)) in
-      let a = node_typed (d + 1) n p1 (omega (arith, le)) few (omega (arith, len, room)) in
-      let b = hand_typed d (p1 + 1) small (omega (arith, le)) (omega (arith, len, room)) in
-      let ab = typed_seq program shape last solid p1 (p1 + 1) (set_node R1 n ∷ []) (copy R2 (place d) ∷ i.Call (pos 3) ∷ [])
-      (C S p1) (C (known (d + 1) Unset (some_node program shape last solid) Unset) (p1 + 1)) (C S (p1 + 1 + 1 + 1)) refl a b in
+      let f = sends_typed x d lets slot n found there below few (omega (arith, le)) most (omega (arith, len, room)) in
+      let a = node_typed program shape last solid d n p1 (omega (arith, le)) most (omega (arith, len, room)) in
+      let b = hand_typed x d lets (p1 + 1) found there below few (omega (arith, le)) (omega (arith, len, room)) in
+      let ab = typed_seq program shape last solid p1 (p1 + 1) (set_node R1 n ∷ []) hand (C S p1)
+      (C (known d Unset (some_node program shape last solid) Unset) (p1 + 1)) (C S (p1 + 1 + 1 + 1)) refl a b in
       let e : p1 + 1 + 1 + 1 ≡ slot + length (front ++ back) = omega (arith, len) in
       typed_at program shape last solid slot (p1 + 1 + 1 + 1) (slot + length (front ++ back)) (front ++ back) (C S slot) S e
       (typed_seq program shape last solid slot p1 front back (C S slot) (C S p1) (C S (p1 + 1 + 1 + 1)) refl f ab)
@@ -176,7 +349,8 @@ module _ (program : List Insn) (shape : Extent) (last : ℕ) (solid : (k : ℕ) 
       let a = name_typed program shape last solid (d + 1) p1 (omega (arith, same, few)) (omega (arith, le)) in
       let e1 : p2 + 1 + 1 ≡ end = omega arith in
       let b = typed_at program shape last solid p2 (p2 + 1 + 1) end (copy R2 (place d) ∷ i.Call (pos 3) ∷ [])
-      (C (known (d + 1) Unset N Unset) p2) S e1 (hand_typed d p2 small (omega (arith, same, some)) (omega (arith, le))) in
+      (C (known (d + 1) Unset N Unset) p2) S e1 (hand_typed (FromLocal d) (d + 1) (d + 1) p2 refl (omega arith) (omega arith) (omega (arith, small)) (omega (arith, same, some))
+      (omega (arith, le))) in
       let ab = typed_seq program shape last solid p1 p2 (copy R1 R0 ∷ []) (copy R2 (place d) ∷ i.Call (pos 3) ∷ []) (C A p1)
       (C (known (d + 1) Unset N Unset) p2) (C S end) refl a b in
       let e2 : end ≡ slot + 1 + 3 = omega arith in
@@ -236,31 +410,48 @@ module _ (program : List Insn) (shape : Extent) (last : ℕ) (solid : (k : ℕ) 
       (C (plain d) end) refl b c1 in
       typed_seq program shape last solid slot p1 code back (C (plain d) slot) (C (valued d) p1) (C (plain d) end) refl a bc
 
-  also_typed : (steady : Bool) (e : Term) (target : Target) (first : List Insn) (z : Sizes) (J : List ℕ) (d lets slot : ℕ)
-      → z.nodes ≡ shape.nodes → 1 ≤ z.nodes → z.nodes ≤ 64 → z.memory ≡ shape.memory → lets ≤ d → d ≤ 3
-      → TargetFits target z.memory lets → Fits e z (length J) lets d → HasPlace steady d
-      → slot + length (also_code steady d (term_code e z J d Value) first (assign_code target)) ≤ last
-      → ((to : ℕ) → to + length first ≤ last → BlockTyped (depth_behind steady d) to first)
-      → BlockTyped d slot (also_code steady d (term_code e z J d Value) first (assign_code target))
-  also_typed true e target first z J d lets slot same some few room below small ours fits free le before =
+  given_typed : (x : Source) (target : Target) (e : Term) (z : Sizes) (J : List ℕ) (d lets slot : ℕ)
+      → IsThere x lets shape.memory → z.nodes ≡ shape.nodes → 1 ≤ z.nodes → z.nodes ≤ 64 → z.memory ≡ shape.memory
+      → lets ≤ d → d ≤ 3 → TargetFits target z.memory lets → Fits e z (length J) lets d
+      → slot + length (given_code x target (term_code e z J d Value)) ≤ last
+      → BlockTyped d slot (given_code x target (term_code e z J d Value))
+  given_typed (Constant c) target e z J d lets slot there same some few room below small ours fits le =
+      set_typed target (Constant c) d lets slot refl there below small (subst (λ (m : ℕ). TargetFits target m lets) room ours) le
+  given_typed (FromLocal k) target e z J d lets slot there same some few room below small ours fits le =
+      set_typed target (FromLocal k) d lets slot refl there below small (subst (λ (m : ℕ). TargetFits target m lets) room ours) le
+  given_typed (FromWord k) target e z J d lets slot there same some few room below small ours fits le =
+      set_typed target (FromWord k) d lets slot refl there below small (subst (λ (m : ℕ). TargetFits target m lets) room ours) le
+  given_typed Computed target e z J d lets slot there same some few room below small ours fits le =
       let code = term_code e z J d Value in
       let set = assign_code target ∷ [] in
-      let rest = code ++ set in
-      let len : length (first ++ rest) ≡ length first + (length code + 1) = omega
-      (arith, length-append first rest, length-append code set) in
-      let p1 = slot + length first in
-      let p2 = p1 + length code in
-      let end = slot + length (first ++ rest) in
+      let len : length (code ++ set) ≡ length code + 1 = length-append code set in
+      let p1 = slot + length code in
+      let eq : p1 + 1 ≡ slot + length (code ++ set) = omega (arith, len) in
       let target_fits = subst (λ (m : ℕ). TargetFits target m lets) room ours in
+      typed_at program shape last solid slot (p1 + 1) (slot + length (code ++ set)) (code ++ set) (C (plain d) slot)
+      (plain d) eq
+      (typed_seq program shape last solid slot p1 code set (C (plain d) slot) (C (valued d) p1) (C (plain d) (p1 + 1)) refl
+      (term_typed program shape last solid e z J d lets Value slot same some few room below small fits
+      (omega (arith, len, le)))
+      (assign_typed target lets d p1 below small target_fits (omega (arith, len, le))))
+
+  also_typed : (steady : Bool) (x : Source) (e : Term) (target : Target) (first : List Insn) (z : Sizes) (J : List ℕ)
+      (d lets slot : ℕ) → IsThere x lets shape.memory → z.nodes ≡ shape.nodes → 1 ≤ z.nodes → z.nodes ≤ 64
+      → z.memory ≡ shape.memory → lets ≤ d → d ≤ 3 → TargetFits target z.memory lets → Fits e z (length J) lets d
+      → HasPlace steady d → slot + length (also_code steady d x target (term_code e z J d Value) first) ≤ last
+      → ((to : ℕ) → to + length first ≤ last → BlockTyped (depth_behind steady d) to first)
+      → BlockTyped d slot (also_code steady d x target (term_code e z J d Value) first)
+  also_typed true x e target first z J d lets slot there same some few room below small ours fits free le before =
+      let rest = given_code x target (term_code e z J d Value) in
+      let len : length (first ++ rest) ≡ length first + length rest = length-append first rest in
+      let p1 = slot + length first in
+      let end = slot + length (first ++ rest) in
+      let eq : p1 + length rest ≡ end = omega (arith, len) in
       let a = before slot (omega (arith, len, le)) in
-      let b = term_typed program shape last solid e z J d lets Value p1 same some few room below small fits
-      (omega (arith, len, le)) in
-      let eq : p2 + 1 ≡ end = omega (arith, len) in
-      let c = typed_at program shape last solid p2 (p2 + 1) end set (C (valued d) p2) (plain d) eq
-      (assign_typed target lets d p2 below small target_fits (omega (arith, len, le))) in
-      let bc = typed_seq program shape last solid p1 p2 code set (C (plain d) p1) (C (valued d) p2) (C (plain d) end) refl b c in
-      typed_seq program shape last solid slot p1 first rest (C (plain d) slot) (C (plain d) p1) (C (plain d) end) refl a bc
-  also_typed false e target first z J d lets slot same some few room below small ours fits free le before =
+      let b = typed_at program shape last solid p1 (p1 + length rest) end rest (C (plain d) p1) (plain d) eq
+      (given_typed x target e z J d lets p1 there same some few room below small ours fits (omega (arith, len, le))) in
+      typed_seq program shape last solid slot p1 first rest (C (plain d) slot) (C (plain d) p1) (C (plain d) end) refl a b
+  also_typed false x e target first z J d lets slot there same some few room below small ours fits free le before =
       let code = term_code e z J d Value in
       let set = assign_code target ∷ [] in
       let back = copy R0 (place d) ∷ set in
@@ -297,25 +488,33 @@ module _ (program : List Insn) (shape : Extent) (last : ℕ) (solid : (k : ℕ) 
       → z.nodes ≤ 64 → z.memory ≡ shape.memory → lets ≤ d → d ≤ 3 → AssignmentFits a z (length J) lets d
       → slot + length (assignment_code a z J d) ≤ last → BlockTyped d slot (assignment_code a z J d)
   assignment_typed (One target e) z J d lets slot same some few room below small fits le =
-      let code = term_code e z J d Value in
-      let set = assign_code target ∷ [] in
-      let len : length (code ++ set) ≡ length code + 1 = length-append code set in
-      let p1 = slot + length code in
-      let eq : p1 + 1 ≡ slot + length (code ++ set) = omega (arith, len) in
-      let target_fits = subst (λ (m : ℕ). TargetFits target m lets) room fits.0 in
-      typed_at program shape last solid slot (p1 + 1) (slot + length (code ++ set)) (code ++ set) (C (plain d) slot)
-      (plain d) eq
-      (typed_seq program shape last solid slot p1 code set (C (plain d) slot) (C (valued d) p1) (C (plain d) (p1 + 1)) refl
-      (term_typed program shape last solid e z J d lets Value slot same some few room below small fits.1
-      (omega (arith, len, le)))
-      (assign_typed target lets d p1 below small target_fits (omega (arith, len, le))))
+      let there = subst (λ (m : ℕ). IsThere (source_of e z J) lets m) room (source_there e z J (length J) lets d fits.1) in
+      given_typed (source_of e z J) target e z J d lets slot there same some few room below small fits.0 fits.1 le
   assignment_typed (Also' p front target e) z J d lets slot same some few room below small fits le =
       let behind = depth_behind (is_steady e) d in
       let more : d ≤ behind = behind_more (is_steady e) d in
-      also_typed (is_steady e) e target (assignment_code front z J behind) z J d lets slot same some few room below small
-      fits.0 fits.1 fits.2 le
+      let there = subst (λ (m : ℕ). IsThere (source_of e z J) lets m) room (source_there e z J (length J) lets d fits.1) in
+      also_typed (is_steady e) (source_of e z J) e target (assignment_code front z J behind) z J d lets slot there same some
+      few room below small fits.0 fits.1 fits.2 le
       (λ to l. assignment_typed front z J behind lets to same some few room (omega (arith, below, more))
       (behind_few (is_steady e) d small fits.2) fits.3 l)
+
+  send_all_typed : (x : Source) (e : Term) (z : Sizes) (J : List ℕ) (d slot : ℕ) → IsThere x d shape.memory
+      → z.nodes ≡ shape.nodes → 1 ≤ z.nodes → z.nodes ≤ 64 → z.memory ≡ shape.memory → d ≤ 3
+      → (is_found x ≡ false → d < 3) → Fits e z (length J) d d
+      → slot + length (send_all_code x d z.nodes (term_code e z J d Value)) ≤ last
+      → BlockTyped d slot (send_all_code x d z.nodes (term_code e z J d Value))
+  send_all_typed (Constant c) e z J d slot there same some few room small free fits le =
+      sends_typed (Constant c) d d slot z.nodes refl there (omega arith) small (omega (arith, same)) (omega (arith, same, few)) le
+  send_all_typed (FromLocal k) e z J d slot there same some few room small free fits le =
+      sends_typed (FromLocal k) d d slot z.nodes refl there (omega arith) small (omega (arith, same)) (omega (arith, same, few)) le
+  send_all_typed (FromWord k) e z J d slot there same some few room small free fits le =
+      sends_typed (FromWord k) d d slot z.nodes refl there (omega arith) small (omega (arith, same)) (omega (arith, same, few)) le
+  send_all_typed Computed e z J d slot there same some few room small free fits le =
+      let deep : d < 3 = free refl in
+      stored_typed e z J d slot (send_codes (FromLocal d) z.nodes) same some few room deep fits le
+      (λ to l. sends_typed (FromLocal d) (d + 1) (d + 1) to z.nodes refl (omega arith) (omega arith) (omega (arith, deep))
+      (omega (arith, same)) (omega (arith, same, few)) l)
 
   pub block_typed : (b : Statement) (z : Sizes) (J : List ℕ) (d slot : ℕ) → z.nodes ≡ shape.nodes → 1 ≤ z.nodes
       → z.nodes ≤ 64 → z.memory ≡ shape.memory → d ≤ 3 → BlockFits b z (length J) d
@@ -354,8 +553,10 @@ module _ (program : List Insn) (shape : Extent) (last : ℕ) (solid : (k : ℕ) 
       block_typed body z (J ++ j ∷ []) d to same some few room small
       (subst (λ (n : ℕ). BlockFits body z n d) more fits) l)
   block_typed (SendAll e) z J d slot same some few room small fits le =
-      stored_typed e z J d slot (send_codes d z.nodes) same some few room fits.0 fits.1 le
-      (λ to l. sends_typed d to z.nodes fits.0 (omega (arith, same)) (omega (arith, same, few)) l)
+      let memory = λ (x : Source) (there : IsThere x d z.memory). subst (λ (m : ℕ). IsThere x d m) room there in
+      send_all_typed (source_of e z J) e z J d slot
+      (memory (source_of e z J) (source_there e z J (length J) d d fits.1)) same some few room small
+      (λ q. computed_place (is_operand e) d (sym (found_same e z J) ∙ q) fits.0) fits.1 le
   block_typed (SendTo e k) z J d slot same some few room small fits le =
       let code = term_code k z J (d + 1) Value in
       let back = send_to_code d z.nodes in

@@ -1,44 +1,52 @@
 -- The code of terms is typed.
-use Rattle.std.proofs.Common.{◌≡◌, ℕ, zero, suc, ◌+◌, ◌-◌, ◌*◌, ◌^◌, ◌%◌, ◌<◌, ◌≤◌, nat_lt, Bool, true, false, not, min, ◌⊎◌, List, [], ◌∷◌, ◌++◌, length, Option, Some, None, pos, slice_index, refl, sym, ap, ◌∙◌, arith, subst, inl, inr, length-append}
+use Rattle.std.proofs.Common.{◌≡◌, ℕ, zero, suc, ◌+◌, ◌-◌, ◌*◌, ◌^◌, ◌%◌, ◌<◌, ◌≤◌, nat_lt, Bool, true, false, not, ◌||◌, if◌then◌else◌, min, ◌⊎◌, List, [], ◌∷◌, ◌++◌, length, Option, Some, None, ℤ, pos, slice_index, refl, sym, ap, ◌∙◌, arith, subst, inl, inr, length-append}
 use Rattle.std.proofs.lemmas.Option.{same_Some, none-some}
-use Rattle.std.proofs.lemmas.Bool.{cases_lt, lt-ltb, le-ltb, ne_eqb, cases_Bool, or_cases, cond-true, cond-false}
+use Rattle.std.proofs.lemmas.Bool.{cases_lt, lt-ltb, le-ltb, ltb-true, ne_eqb, cases_Bool, cond-true, cond-false}
 use Rattle.std.proofs.Math.Nat.{mod-eq_of_lt}
 use Rattle.std.specs.Int.{w32, w64, cast_signed, cast_unsigned}
 use Rattle.node_env.specs.Env.{Extent}
 use Rattle.bpf_insn.specs.declared.forms.Reg.TheVariants.{R0, R1, R6}
 use Rattle.bpf_insn.specs.declared.forms.Width.TheVariants.{W32}
 use Rattle.bpf_insn.specs.declared.forms.Size.TheVariants as size
-use Rattle.bpf_insn.specs.declared.forms.AluOp.TheVariants.{Add, Mov}
+use Rattle.bpf_insn.specs.declared.forms.AluOp.TheVariants.{Add, Sub, Mul, Div, Mod, Mov}
+use Rattle.bpf_insn.specs.declared.forms.AluOp.{AluOp}
+use Rattle.bpf_insn.specs.declared.forms.Operand.{Operand}
+use Rattle.bpf_insn.specs.Operands.{operand_reads}
 use Rattle.bpf_insn.specs.declared.forms.Cond.TheVariants.{Lt, Ge}
 use Rattle.bpf_insn.specs.declared.forms.Operand.TheVariants as operand
 use Rattle.bpf_insn.specs.declared.forms.Insn.{Insn}
 use Rattle.bpf_insn.specs.declared.forms.Insn.TheVariants as i
 use Rattle.bpf_insn.specs.Edges.{BeginsAt}
-use Rattle.value_range.specs.Span.{Span, span, just, full_of}
+use Rattle.value_range.specs.Span.{Span, span, just, full_of, IsInside, HasMembers}
+use Rattle.value_range.proofs.Growing.{alu_grows}
 use Rattle.value_range.specs.Results.{alu_of as range_of}
-use Rattle.value_range.specs.Conditions.{less, branch_of}
+use Rattle.value_range.specs.Conditions.{less, branch_of, ArePairsInside}
+use Rattle.value_range.proofs.GrowingPairs.{branch_grows}
 use Rattle.bpf_verify.specs.declared.kind.Kind.{Kind}
 use Rattle.bpf_verify.specs.declared.kind.Kind.TheVariants.{Unset, Number}
-use Rattle.bpf_verify.specs.States.{AbstractState, IsKindIn, IsContainedIn, IsProper, IsProperKind}
-use Rattle.bpf_verify.specs.Outcomes.{refined_by}
+use Rattle.bpf_verify.specs.States.{AbstractState, IsKindIn, IsContainedIn, IsProper, IsProperKind, is_pointer_kind, is_unset_kind, kind_of}
+use Rattle.bpf_verify.specs.Rules.{operand_kind, some_unset}
+use Rattle.bpf_verify.specs.Outcomes.{refined_by, branch_outcome, of_number_kind, with_kind}
 use Rattle.bpf_verify.specs.Typable.{Table, IsCovered}
 use Rattle.bpf_verify.proofs.StateLaws.{kind_in_itself, contained_further}
-use Rattle.clock_nodes.proofs.Taken.{within, covered, keeps_own}
+use Rattle.clock_nodes.proofs.Taken.{within, covered, keeps_own, KeepsOwn}
 use Rattle.rule_nodes.specs.declared.syntax.Sizes.{Sizes}
 use Rattle.rule_nodes.specs.declared.syntax.Operation.{Operation}
 use Rattle.rule_nodes.specs.declared.syntax.Operation.TheVariants.{Sum, Difference, Product, Quotient, Remainder}
 use Rattle.rule_nodes.specs.declared.syntax.Comparison.{Comparison}
-use Rattle.rule_nodes.specs.declared.syntax.Comparison.TheVariants.{NotEqual, Less}
+use Rattle.rule_nodes.specs.declared.syntax.Comparison.TheVariants.{Equal, NotEqual, Less, AtMost, Greater, AtLeast}
 use Rattle.rule_nodes.specs.declared.syntax.Operator.{Operator}
 use Rattle.rule_nodes.specs.declared.syntax.Operator.TheVariants.{Compute, Compare}
 use Rattle.rule_nodes.specs.declared.syntax.Purpose.{Purpose}
 use Rattle.rule_nodes.specs.declared.syntax.Purpose.TheVariants.{Value, Jump}
+use Rattle.rule_nodes.specs.declared.syntax.Source.{Source}
+use Rattle.rule_nodes.specs.declared.syntax.Source.TheVariants.{Constant, FromLocal, FromWord, Computed}
 use Rattle.rule_nodes.specs.declared.syntax.Term.{Term}
 use Rattle.rule_nodes.specs.declared.syntax.Term.TheVariants.{Number as Numeral, Nodes, Faults, Modulus, Me, Coin, LoopNode, Local, Word, Message', Binary', Logical', Not', Choice', Count'}
-use Rattle.rule_nodes.specs.Operands.{is_constant, is_fetched, is_operand, constant_number}
-use Rattle.rule_nodes.specs.Fits.{HasPlace, Fits}
-use Rattle.rule_nodes.specs.Code.{place, set_number, copy, alu_of, cond_of, jump_on, jump_by, jump_at, truth_code, by_value, by_test, two_code, fetch_code, second_code, pair_code, by_operator, choice_code, decides, both_far, both_code, message_code, count_codes, count_code, term_code}
-use Rattle.rule_nodes.proofs.TermRuns.{beyond}
+use Rattle.rule_nodes.specs.Operands.{is_constant, is_operand, constant_number, depth_behind, fetched_source, source_of}
+use Rattle.rule_nodes.specs.Fits.{Fits}
+use Rattle.rule_nodes.specs.Code.{place, set_number, copy, alu_of, cond_of, jump_on, jump_by, jump_at, truth_code, by_value, by_test, two_code, get_code, operand_code, load_code, jump_place, by_operator, left_code, binary_code, message_by, mirror, set_node, choice_code, decides, both_far, both_code, message_code, count_codes, count_code, term_code}
+use Rattle.rule_nodes.proofs.TermRuns.{beyond, is_found, found_same, behind_more, free_beside, same_depth}
 use Rattle.rule_nodes.proofs.Typing.{memory_place, word, held, known, plain, valued, proper_known, some_word, into, short, seen, Typing, typed_then, typed_as, typed_none, one_on, one_jump, one_fork, number_typed, fetch_typed, keep_typed, second_typed}
 
 held_less : (k d : ℕ) → IsKindIn (held k (d + 1)) (held k d)
@@ -69,6 +77,294 @@ left_reg : (d : ℕ) (found : Option (Span × Span)) (C : AbstractState)
 left_reg d None C e = absurd (none-some C e)
 left_reg d (Some pair) C e = subst (λ (x : AbstractState). IsContainedIn x (plain d)) (same_Some _ C e)
     (into _ d Unset Unset Unset tt tt tt refl refl refl refl)
+
+-- a source is in scope, or in the memory
+abbrev pub IsThere : Source → ℕ → ℕ → Type 0
+IsThere (Constant c) lets memory = Unit {0}
+IsThere (FromLocal k) lets memory = k < lets
+IsThere (FromWord k) lets memory = 4 * k + 4 ≤ memory
+IsThere Computed lets memory = Unit {0}
+
+fetched_there : (t : Term) (z : Sizes) (loops lets d : ℕ) → Fits t z loops lets d
+    → IsThere (fetched_source t) lets z.memory
+fetched_there (Local k) z loops lets d fits = fits
+fetched_there (Word k) z loops lets d fits = fits
+fetched_there t z loops lets d fits = tt
+
+pub source_there : (t : Term) (z : Sizes) (J : List ℕ) (loops lets d : ℕ) → Fits t z loops lets d
+    → IsThere (source_of t z J) lets z.memory
+source_there t z J loops lets d fits =
+    let c = Constant (constant_number t z J) in
+    let P : Source → Type 0 = λ x. IsThere x lets z.memory in
+    elim (cases_Bool (is_constant t)) [
+      | inl so ↦ subst P (sym (cond-true (is_constant t) c (fetched_source t) so)) tt
+      | inr other ↦ subst P (sym (cond-false (is_constant t) c (fetched_source t) other))
+          (fetched_there t z loops lets d fits)
+    ]
+
+-- what r1 holds beside r0
+abbrev pub r1_kind : Source → Kind
+r1_kind (Constant c) = Unset
+r1_kind (FromLocal k) = Unset
+r1_kind (FromWord k) = word
+r1_kind Computed = word
+
+abbrev pub paired : Source → ℕ → AbstractState
+paired y d = known d word (r1_kind y) Unset
+
+proper_paired : (y : Source) (d : ℕ) → IsProper (paired y d)
+proper_paired (Constant c) d = proper_known d word Unset Unset some_word tt tt
+proper_paired (FromLocal k) d = proper_known d word Unset Unset some_word tt tt
+proper_paired (FromWord k) d = proper_known d word word Unset some_word some_word tt
+proper_paired Computed d = proper_known d word word Unset some_word some_word tt
+
+-- a number of 32 bits into a place
+in_held : (k d : ℕ) (K : Kind) → IsKindIn K word → IsKindIn K (held k d)
+in_held k d K h = by (nat_lt k d)
+  where
+    by : (b : Bool) → IsKindIn K (if b then word else Unset)
+    by true = h
+    by false = tt
+
+pub placed_in : (k d : ℕ) (K : Kind) → k < 3 → IsKindIn K word → IsContainedIn (with_kind (plain d) (place k) K) (plain d)
+placed_in zero d K lt h = within _ Unset Unset Unset memory_place (held 0 d) (held 1 d) (held 2 d) tt tt tt
+    (kind_in_itself memory_place) (in_held 0 d K h) (kind_in_itself (held 1 d)) (kind_in_itself (held 2 d))
+placed_in (suc zero) d K lt h = within _ Unset Unset Unset memory_place (held 0 d) (held 1 d) (held 2 d) tt tt tt
+    (kind_in_itself memory_place) (kind_in_itself (held 0 d)) (in_held 1 d K h) (kind_in_itself (held 2 d))
+placed_in (suc (suc zero)) d K lt h = within _ Unset Unset Unset memory_place (held 0 d) (held 1 d) (held 2 d) tt tt tt
+    (kind_in_itself memory_place) (kind_in_itself (held 0 d)) (kind_in_itself (held 1 d)) (in_held 2 d K h)
+placed_in (suc (suc (suc k))) d K lt h = absurd (omega (arith, lt))
+
+-- what is known of a place in use
+pub place_word : (k d : ℕ) → k < d → d ≤ 3 → kind_of (plain d) (place k) ≡ word
+place_word zero zero lt few = absurd (omega (arith, lt))
+place_word (suc k) zero lt few = absurd (omega (arith, lt))
+place_word (suc k) (suc zero) lt few = absurd (omega (arith, lt))
+place_word (suc (suc k)) (suc (suc zero)) lt few = absurd (omega (arith, lt))
+place_word (suc (suc (suc k))) (suc (suc (suc zero))) lt few = absurd (omega (arith, lt))
+place_word k (suc (suc (suc (suc d)))) lt few = absurd (omega (arith, few))
+place_word zero (suc zero) lt few = refl
+place_word zero (suc (suc zero)) lt few = refl
+place_word zero (suc (suc (suc zero))) lt few = refl
+place_word (suc zero) (suc (suc zero)) lt few = refl
+place_word (suc zero) (suc (suc (suc zero))) lt few = refl
+place_word (suc (suc zero)) (suc (suc (suc zero))) lt few = refl
+
+-- an operand is a number of 32 bits
+record OperandIs (src : Operand) (A : AbstractState) : Type 0 where
+  range : Span
+  kind : operand_kind W32 src A ≡ Number range
+  set : some_unset A (operand_reads src) ≡ false
+  ordered : HasMembers range
+  inside : IsInside range (full_of 32)
+
+word_inside : IsInside (full_of 32) (full_of 32)
+word_inside = record { low = omega arith; high = omega arith }
+
+place_is : (k d : ℕ) → k < d → d ≤ 3 → OperandIs (operand.Reg (place k)) (valued d)
+place_is zero zero lt few = absurd (omega (arith, lt))
+place_is (suc k) zero lt few = absurd (omega (arith, lt))
+place_is (suc k) (suc zero) lt few = absurd (omega (arith, lt))
+place_is (suc (suc k)) (suc (suc zero)) lt few = absurd (omega (arith, lt))
+place_is (suc (suc (suc k))) (suc (suc (suc zero))) lt few = absurd (omega (arith, lt))
+place_is k (suc (suc (suc (suc d)))) lt few = absurd (omega (arith, few))
+place_is zero (suc zero) lt few =
+    record { range = full_of 32; kind = refl; set = refl; ordered = some_word; inside = word_inside }
+place_is zero (suc (suc zero)) lt few =
+    record { range = full_of 32; kind = refl; set = refl; ordered = some_word; inside = word_inside }
+place_is zero (suc (suc (suc zero))) lt few =
+    record { range = full_of 32; kind = refl; set = refl; ordered = some_word; inside = word_inside }
+place_is (suc zero) (suc (suc zero)) lt few =
+    record { range = full_of 32; kind = refl; set = refl; ordered = some_word; inside = word_inside }
+place_is (suc zero) (suc (suc (suc zero))) lt few =
+    record { range = full_of 32; kind = refl; set = refl; ordered = some_word; inside = word_inside }
+place_is (suc (suc zero)) (suc (suc (suc zero))) lt few =
+    record { range = full_of 32; kind = refl; set = refl; ordered = some_word; inside = word_inside }
+
+operand_is : (y : Source) (d lets memory : ℕ) → IsThere y lets memory → lets ≤ d → d ≤ 3
+    → OperandIs (operand_code y) (paired y d)
+operand_is (Constant c) d lets memory there below few = record {
+  range = just (cast_unsigned w64 (cast_signed w32 c) % 2 ^ 32);
+  kind = refl;
+  set = refl;
+  ordered = record { ordered = omega arith };
+  inside = record { low = omega arith; high = omega arith };
+}
+operand_is (FromLocal k) d lets memory there below few = place_is k d (omega (arith, there, below)) few
+operand_is (FromWord k) d lets memory there below few =
+    record { range = full_of 32; kind = refl; set = refl; ordered = some_word; inside = word_inside }
+operand_is Computed d lets memory there below few =
+    record { range = full_of 32; kind = refl; set = refl; ordered = some_word; inside = word_inside }
+
+-- the result of an operation on a number of 32 bits and an operand is one
+word_result : (op : AluOp) (k : Kind) (s : Span) → k ≡ Number s → HasMembers s → IsInside s (full_of 32)
+    → range_of op W32 (full_of 32) (full_of 32) ≡ full_of 32
+    → IsKindIn (of_number_kind (range_of op W32 (full_of 32)) k) word
+word_result op k s e ordered inside same = (
+  range_of op W32 (full_of 32) s,
+  ap (of_number_kind (range_of op W32 (full_of 32))) e,
+  subst (λ (x : Span). IsInside (range_of op W32 (full_of 32) s) x) same
+      (alu_grows op W32 (full_of 32) s (full_of 32) (full_of 32) (record { ordered = omega arith }) ordered word_inside inside),
+)
+
+-- what a comparison of two numbers of 32 bits leaves of the second
+branch_inside : (r : Comparison) (taken : Bool) (pair : Span × Span)
+    → branch_of (cond_of r) W32 (full_of 32) (full_of 32) taken ≡ Some pair → IsInside pair.1 (full_of 32)
+branch_inside Equal true pair e = subst (λ (p : Span × Span). IsInside p.1 (full_of 32)) (same_Some _ pair e)
+    (record { low = omega arith; high = omega arith })
+branch_inside Equal false pair e = subst (λ (p : Span × Span). IsInside p.1 (full_of 32)) (same_Some _ pair e)
+    (record { low = omega arith; high = omega arith })
+branch_inside NotEqual true pair e = subst (λ (p : Span × Span). IsInside p.1 (full_of 32)) (same_Some _ pair e)
+    (record { low = omega arith; high = omega arith })
+branch_inside NotEqual false pair e = subst (λ (p : Span × Span). IsInside p.1 (full_of 32)) (same_Some _ pair e)
+    (record { low = omega arith; high = omega arith })
+branch_inside Less true pair e = subst (λ (p : Span × Span). IsInside p.1 (full_of 32)) (same_Some _ pair e)
+    (record { low = omega arith; high = omega arith })
+branch_inside Less false pair e = subst (λ (p : Span × Span). IsInside p.1 (full_of 32)) (same_Some _ pair e)
+    (record { low = omega arith; high = omega arith })
+branch_inside AtMost true pair e = subst (λ (p : Span × Span). IsInside p.1 (full_of 32)) (same_Some _ pair e)
+    (record { low = omega arith; high = omega arith })
+branch_inside AtMost false pair e = subst (λ (p : Span × Span). IsInside p.1 (full_of 32)) (same_Some _ pair e)
+    (record { low = omega arith; high = omega arith })
+branch_inside Greater true pair e = subst (λ (p : Span × Span). IsInside p.1 (full_of 32)) (same_Some _ pair e)
+    (record { low = omega arith; high = omega arith })
+branch_inside Greater false pair e = subst (λ (p : Span × Span). IsInside p.1 (full_of 32)) (same_Some _ pair e)
+    (record { low = omega arith; high = omega arith })
+branch_inside AtLeast true pair e = subst (λ (p : Span × Span). IsInside p.1 (full_of 32)) (same_Some _ pair e)
+    (record { low = omega arith; high = omega arith })
+branch_inside AtLeast false pair e = subst (λ (p : Span × Span). IsInside p.1 (full_of 32)) (same_Some _ pair e)
+    (record { low = omega arith; high = omega arith })
+
+-- and of the first, beside one number
+inside_further : (a b : Span) → IsInside a b → IsInside b (full_of 32) → IsInside a (full_of 32)
+inside_further a b h g = record { low = omega (arith, h.low, g.low); high = omega (arith, h.high, g.high) }
+
+branch_first : (r : Comparison) (taken : Bool) (n : ℕ) (pair : Span × Span) → n < 2 ^ 32
+    → branch_of (cond_of r) W32 (full_of 32) (just n) taken ≡ Some pair → IsInside pair.0 (full_of 32)
+branch_first Equal true n pair small e =
+    let all = subst (λ (found : Option (Span × Span)). ArePairsInside found (branch_of (cond_of Equal) W32 (full_of 32)
+    (full_of 32) true)) e (branch_grows (cond_of Equal) W32 (full_of 32) (just n) (full_of 32) (full_of 32) true some_word
+    (record { ordered = omega arith }) word_inside (record { low = omega arith; high = omega (arith, small) })) in
+    inside_further pair.0 _ all.0 (record { low = omega arith; high = omega arith })
+branch_first Equal false n pair small e =
+    let all = subst (λ (found : Option (Span × Span)). ArePairsInside found (branch_of (cond_of Equal) W32 (full_of 32)
+    (full_of 32) false)) e (branch_grows (cond_of Equal) W32 (full_of 32) (just n) (full_of 32) (full_of 32) false some_word
+    (record { ordered = omega arith }) word_inside (record { low = omega arith; high = omega (arith, small) })) in
+    inside_further pair.0 _ all.0 (record { low = omega arith; high = omega arith })
+branch_first NotEqual true n pair small e =
+    let all = subst (λ (found : Option (Span × Span)). ArePairsInside found (branch_of (cond_of NotEqual) W32 (full_of 32)
+    (full_of 32) true)) e (branch_grows (cond_of NotEqual) W32 (full_of 32) (just n) (full_of 32) (full_of 32) true some_word
+    (record { ordered = omega arith }) word_inside (record { low = omega arith; high = omega (arith, small) })) in
+    inside_further pair.0 _ all.0 (record { low = omega arith; high = omega arith })
+branch_first NotEqual false n pair small e =
+    let all = subst (λ (found : Option (Span × Span)). ArePairsInside found (branch_of (cond_of NotEqual) W32 (full_of 32)
+    (full_of 32) false)) e (branch_grows (cond_of NotEqual) W32 (full_of 32) (just n) (full_of 32) (full_of 32) false some_word
+    (record { ordered = omega arith }) word_inside (record { low = omega arith; high = omega (arith, small) })) in
+    inside_further pair.0 _ all.0 (record { low = omega arith; high = omega arith })
+branch_first Less true n pair small e =
+    let all = subst (λ (found : Option (Span × Span)). ArePairsInside found (branch_of (cond_of Less) W32 (full_of 32)
+    (full_of 32) true)) e (branch_grows (cond_of Less) W32 (full_of 32) (just n) (full_of 32) (full_of 32) true some_word
+    (record { ordered = omega arith }) word_inside (record { low = omega arith; high = omega (arith, small) })) in
+    inside_further pair.0 _ all.0 (record { low = omega arith; high = omega arith })
+branch_first Less false n pair small e =
+    let all = subst (λ (found : Option (Span × Span)). ArePairsInside found (branch_of (cond_of Less) W32 (full_of 32)
+    (full_of 32) false)) e (branch_grows (cond_of Less) W32 (full_of 32) (just n) (full_of 32) (full_of 32) false some_word
+    (record { ordered = omega arith }) word_inside (record { low = omega arith; high = omega (arith, small) })) in
+    inside_further pair.0 _ all.0 (record { low = omega arith; high = omega arith })
+branch_first AtMost true n pair small e =
+    let all = subst (λ (found : Option (Span × Span)). ArePairsInside found (branch_of (cond_of AtMost) W32 (full_of 32)
+    (full_of 32) true)) e (branch_grows (cond_of AtMost) W32 (full_of 32) (just n) (full_of 32) (full_of 32) true some_word
+    (record { ordered = omega arith }) word_inside (record { low = omega arith; high = omega (arith, small) })) in
+    inside_further pair.0 _ all.0 (record { low = omega arith; high = omega arith })
+branch_first AtMost false n pair small e =
+    let all = subst (λ (found : Option (Span × Span)). ArePairsInside found (branch_of (cond_of AtMost) W32 (full_of 32)
+    (full_of 32) false)) e (branch_grows (cond_of AtMost) W32 (full_of 32) (just n) (full_of 32) (full_of 32) false some_word
+    (record { ordered = omega arith }) word_inside (record { low = omega arith; high = omega (arith, small) })) in
+    inside_further pair.0 _ all.0 (record { low = omega arith; high = omega arith })
+branch_first Greater true n pair small e =
+    let all = subst (λ (found : Option (Span × Span)). ArePairsInside found (branch_of (cond_of Greater) W32 (full_of 32)
+    (full_of 32) true)) e (branch_grows (cond_of Greater) W32 (full_of 32) (just n) (full_of 32) (full_of 32) true some_word
+    (record { ordered = omega arith }) word_inside (record { low = omega arith; high = omega (arith, small) })) in
+    inside_further pair.0 _ all.0 (record { low = omega arith; high = omega arith })
+branch_first Greater false n pair small e =
+    let all = subst (λ (found : Option (Span × Span)). ArePairsInside found (branch_of (cond_of Greater) W32 (full_of 32)
+    (full_of 32) false)) e (branch_grows (cond_of Greater) W32 (full_of 32) (just n) (full_of 32) (full_of 32) false some_word
+    (record { ordered = omega arith }) word_inside (record { low = omega arith; high = omega (arith, small) })) in
+    inside_further pair.0 _ all.0 (record { low = omega arith; high = omega arith })
+branch_first AtLeast true n pair small e =
+    let all = subst (λ (found : Option (Span × Span)). ArePairsInside found (branch_of (cond_of AtLeast) W32 (full_of 32)
+    (full_of 32) true)) e (branch_grows (cond_of AtLeast) W32 (full_of 32) (just n) (full_of 32) (full_of 32) true some_word
+    (record { ordered = omega arith }) word_inside (record { low = omega arith; high = omega (arith, small) })) in
+    inside_further pair.0 _ all.0 (record { low = omega arith; high = omega arith })
+branch_first AtLeast false n pair small e =
+    let all = subst (λ (found : Option (Span × Span)). ArePairsInside found (branch_of (cond_of AtLeast) W32 (full_of 32)
+    (full_of 32) false)) e (branch_grows (cond_of AtLeast) W32 (full_of 32) (just n) (full_of 32) (full_of 32) false some_word
+    (record { ordered = omega arith }) word_inside (record { low = omega arith; high = omega (arith, small) })) in
+    inside_further pair.0 _ all.0 (record { low = omega arith; high = omega arith })
+
+left_place : (r : Comparison) (taken : Bool) (k d n : ℕ) (v : ℤ) (K : Kind) (C : AbstractState) → k < 3 → n < 2 ^ 32
+    → K ≡ word
+    → branch_outcome (plain d) (cond_of r) W32 (place k) (operand.Imm v) taken K (Number (just n)) ≡ Some C
+    → IsContainedIn C (plain d)
+left_place r taken k d n v K C lt small e q =
+    let h = subst (λ (x : Kind). branch_outcome (plain d) (cond_of r) W32 (place k) (operand.Imm v) taken x
+    (Number (just n)) ≡ Some C) e q in
+    by (branch_of (cond_of r) W32 (full_of 32) (just n) taken) refl h
+  where
+    by : (found : Option (Span × Span)) → branch_of (cond_of r) W32 (full_of 32) (just n) taken ≡ found
+        → refined_by (plain d) (place k) (operand.Imm v) found ≡ Some C → IsContainedIn C (plain d)
+    by None f h = absurd (none-some C h)
+    by (Some pair) f h = subst (λ (x : AbstractState). IsContainedIn x (plain d)) (same_Some _ C h)
+        (placed_in k d (Number pair.0) lt (pair.0, refl, branch_first r taken n pair small f))
+
+-- what a comparison of r0 and a place leaves, at depth 1, 2 and 3
+left_0_1 : (found : Option (Span × Span)) (C : AbstractState)
+    → ((pair : Span × Span) → found ≡ Some pair → IsInside pair.1 (full_of 32))
+    → refined_by (valued 1) R0 (operand.Reg (place 0)) found ≡ Some C → IsContainedIn C (plain 1)
+left_0_1 None C h e = absurd (none-some C e)
+left_0_1 (Some pair) C h e = subst (λ (x : AbstractState). IsContainedIn x (plain 1)) (same_Some _ C e)
+    (within _ Unset Unset Unset memory_place word Unset Unset tt tt tt (kind_in_itself memory_place)
+    (pair.1, refl, h pair refl) tt tt)
+
+left_0_2 : (found : Option (Span × Span)) (C : AbstractState)
+    → ((pair : Span × Span) → found ≡ Some pair → IsInside pair.1 (full_of 32))
+    → refined_by (valued 2) R0 (operand.Reg (place 0)) found ≡ Some C → IsContainedIn C (plain 2)
+left_0_2 None C h e = absurd (none-some C e)
+left_0_2 (Some pair) C h e = subst (λ (x : AbstractState). IsContainedIn x (plain 2)) (same_Some _ C e)
+    (within _ Unset Unset Unset memory_place word word Unset tt tt tt (kind_in_itself memory_place)
+    (pair.1, refl, h pair refl) (kind_in_itself word) tt)
+
+left_0_3 : (found : Option (Span × Span)) (C : AbstractState)
+    → ((pair : Span × Span) → found ≡ Some pair → IsInside pair.1 (full_of 32))
+    → refined_by (valued 3) R0 (operand.Reg (place 0)) found ≡ Some C → IsContainedIn C (plain 3)
+left_0_3 None C h e = absurd (none-some C e)
+left_0_3 (Some pair) C h e = subst (λ (x : AbstractState). IsContainedIn x (plain 3)) (same_Some _ C e)
+    (within _ Unset Unset Unset memory_place word word word tt tt tt (kind_in_itself memory_place)
+    (pair.1, refl, h pair refl) (kind_in_itself word) (kind_in_itself word))
+
+left_1_2 : (found : Option (Span × Span)) (C : AbstractState)
+    → ((pair : Span × Span) → found ≡ Some pair → IsInside pair.1 (full_of 32))
+    → refined_by (valued 2) R0 (operand.Reg (place 1)) found ≡ Some C → IsContainedIn C (plain 2)
+left_1_2 None C h e = absurd (none-some C e)
+left_1_2 (Some pair) C h e = subst (λ (x : AbstractState). IsContainedIn x (plain 2)) (same_Some _ C e)
+    (within _ Unset Unset Unset memory_place word word Unset tt tt tt (kind_in_itself memory_place)
+    (kind_in_itself word) (pair.1, refl, h pair refl) tt)
+
+left_1_3 : (found : Option (Span × Span)) (C : AbstractState)
+    → ((pair : Span × Span) → found ≡ Some pair → IsInside pair.1 (full_of 32))
+    → refined_by (valued 3) R0 (operand.Reg (place 1)) found ≡ Some C → IsContainedIn C (plain 3)
+left_1_3 None C h e = absurd (none-some C e)
+left_1_3 (Some pair) C h e = subst (λ (x : AbstractState). IsContainedIn x (plain 3)) (same_Some _ C e)
+    (within _ Unset Unset Unset memory_place word word word tt tt tt (kind_in_itself memory_place)
+    (kind_in_itself word) (pair.1, refl, h pair refl) (kind_in_itself word))
+
+left_2_3 : (found : Option (Span × Span)) (C : AbstractState)
+    → ((pair : Span × Span) → found ≡ Some pair → IsInside pair.1 (full_of 32))
+    → refined_by (valued 3) R0 (operand.Reg (place 2)) found ≡ Some C → IsContainedIn C (plain 3)
+left_2_3 None C h e = absurd (none-some C e)
+left_2_3 (Some pair) C h e = subst (λ (x : AbstractState). IsContainedIn x (plain 3)) (same_Some _ C e)
+    (within _ Unset Unset Unset memory_place word word word tt tt tt (kind_in_itself memory_place)
+    (kind_in_itself word) (kind_in_itself word) (pair.1, refl, h pair refl))
 
 module _ (program : List Insn) (shape : Extent) (last : ℕ) (solid : (k : ℕ) → k ≤ last → BeginsAt program k) where
   abbrev T : ℕ → List Insn → (Table → Type 0) → (Table → Type 0) → Type 0
@@ -184,40 +480,9 @@ module _ (program : List Insn) (shape : Extent) (last : ℕ) (solid : (k : ℕ) 
       (C (known d word word Unset) end) refl b csf in
       typed_seq slot p1 left rest (C (plain d) slot) (C (valued d) p1) (C (known d word word Unset) end) refl a bcsf
 
-  -- an operand into r1
-  fetch_one : (k d slot : ℕ) → k < d → d ≤ 3 → slot + 1 ≤ last
-      → T slot (copy R1 (place k) ∷ []) (C (valued d) slot) (C (known d word word Unset) (slot + 1))
-  fetch_one zero zero slot lt few le = absurd (omega (arith, lt))
-  fetch_one (suc k) zero slot lt few le = absurd (omega (arith, lt))
-  fetch_one (suc k) (suc zero) slot lt few le = absurd (omega (arith, lt))
-  fetch_one (suc (suc k)) (suc (suc zero)) slot lt few le = absurd (omega (arith, lt))
-  fetch_one (suc (suc (suc k))) (suc (suc (suc zero))) slot lt few le = absurd (omega (arith, lt))
-  fetch_one k (suc (suc (suc (suc d)))) slot lt few le = absurd (omega (arith, few))
-  fetch_one zero (suc zero) slot lt few le = one_on program shape last solid slot (copy R1 (place 0)) (valued 1) _
-      (known 1 word word Unset) refl refl refl
-      (into _ 1 word word Unset (kind_in_itself word) (kind_in_itself word) tt refl refl refl refl)
-      (proper_known 1 word Unset Unset some_word tt tt) (keeps_own _ _ _ refl) le
-  fetch_one zero (suc (suc zero)) slot lt few le = one_on program shape last solid slot (copy R1 (place 0)) (valued 2) _
-      (known 2 word word Unset) refl refl refl
-      (into _ 2 word word Unset (kind_in_itself word) (kind_in_itself word) tt refl refl refl refl)
-      (proper_known 2 word Unset Unset some_word tt tt) (keeps_own _ _ _ refl) le
-  fetch_one zero (suc (suc (suc zero))) slot lt few le = one_on program shape last solid slot (copy R1 (place 0)) (valued 3) _
-      (known 3 word word Unset) refl refl refl
-      (into _ 3 word word Unset (kind_in_itself word) (kind_in_itself word) tt refl refl refl refl)
-      (proper_known 3 word Unset Unset some_word tt tt) (keeps_own _ _ _ refl) le
-  fetch_one (suc zero) (suc (suc zero)) slot lt few le = one_on program shape last solid slot (copy R1 (place 1)) (valued 2) _
-      (known 2 word word Unset) refl refl refl
-      (into _ 2 word word Unset (kind_in_itself word) (kind_in_itself word) tt refl refl refl refl)
-      (proper_known 2 word Unset Unset some_word tt tt) (keeps_own _ _ _ refl) le
-  fetch_one (suc zero) (suc (suc (suc zero))) slot lt few le = one_on program shape last solid slot (copy R1 (place 1)) (valued 3) _
-      (known 3 word word Unset) refl refl refl
-      (into _ 3 word word Unset (kind_in_itself word) (kind_in_itself word) tt refl refl refl refl)
-      (proper_known 3 word Unset Unset some_word tt tt) (keeps_own _ _ _ refl) le
-  fetch_one (suc (suc zero)) (suc (suc (suc zero))) slot lt few le = one_on program shape last solid slot (copy R1 (place 2)) (valued 3) _
-      (known 3 word word Unset) refl refl refl
-      (into _ 3 word word Unset (kind_in_itself word) (kind_in_itself word) tt refl refl refl refl)
-      (proper_known 3 word Unset Unset some_word tt tt) (keeps_own _ _ _ refl) le
+  -- ---- found numbers
 
+  -- into r1, beside r0
   load_one : (d k slot : ℕ) → 4 * k + 4 ≤ shape.memory → slot + 1 ≤ last
       → T slot (i.Load size.W R1 R6 (pos (4 * k)) ∷ []) (C (valued d) slot) (C (known d word word Unset) (slot + 1))
   load_one d k slot inside le =
@@ -226,116 +491,333 @@ module _ (program : List Insn) (shape : Extent) (last : ℕ) (solid : (k : ℕ) 
       refl refl refl (into _ d word word Unset (kind_in_itself word) (kind_in_itself word) tt refl refl refl refl)
       (proper_known d word Unset Unset some_word tt tt) (keeps_own _ _ _ (rw room refl)) le
 
-  number_one : (d v slot : ℕ) → slot + 1 ≤ last
-      → T slot (set_number R1 v ∷ []) (C (valued d) slot) (C (known d word word Unset) (slot + 1))
-  number_one d v slot le = one_on program shape last solid slot (set_number R1 v) (valued d) _ (known d word word Unset)
-      refl refl refl
-      (into _ d word word Unset (kind_in_itself word) (short (cast_unsigned w64 (cast_signed w32 v) % 2 ^ 32)) tt
-      refl refl refl refl) (proper_known d word Unset Unset some_word tt tt) (keeps_own _ _ _ refl) le
+  -- into r0, beside r1
+  get_typed : (x : Source) (d lets slot : ℕ) → is_found x ≡ true → IsThere x lets shape.memory → lets ≤ d → d ≤ 3
+      → slot + 1 ≤ last
+      → T slot (get_code R0 x ∷ []) (C (known d Unset word Unset) slot) (C (known d word word Unset) (slot + 1))
+  get_typed (Constant c) d lets slot found there below few le =
+      one_on program shape last solid slot (set_number R0 c) (known d Unset word Unset) _ (known d word word Unset) refl refl refl
+      (into _ d word word Unset (short (cast_unsigned w64 (cast_signed w32 c) % 2 ^ 32)) (kind_in_itself word) tt
+      refl refl refl refl) (proper_known d Unset word Unset tt some_word tt) (keeps_own _ _ _ refl) le
+  get_typed (FromLocal k) d lets slot found there below few le =
+      fetch_typed program shape last solid k d word slot (omega (arith, there, below)) few some_word le
+  get_typed (FromWord k) d lets slot found there below few le =
+      let room : nat_lt shape.memory (0 + 4 * k + 4) ≡ false = le-ltb shape.memory (0 + 4 * k + 4) (omega (arith, there)) in
+      one_on program shape last solid slot (get_code R0 (FromWord k)) (known d Unset word Unset) _ (known d word word Unset)
+      refl refl refl (into _ d word word Unset (kind_in_itself word) (kind_in_itself word) tt refl refl refl refl)
+      (proper_known d Unset word Unset tt some_word tt) (keeps_own _ _ _ (rw room refl)) le
+  get_typed Computed d lets slot found there below few le = absurd (let no : false ≡ true = found in cc)
 
-  fetched_typed : (b : Term) (z : Sizes) (J : List ℕ) (d lets slot : ℕ) → is_fetched b ≡ true → z.memory ≡ shape.memory
-      → lets ≤ d → d ≤ 3 → Fits b z (length J) lets (d + 1) → slot + 1 ≤ last
-      → T slot (fetch_code b ∷ []) (C (valued d) slot) (C (known d word word Unset) (slot + 1))
-  fetched_typed (Local k) z J d lets slot e room below small fits le = fetch_one k d slot (omega (arith, fits, below)) small le
-  fetched_typed (Word k) z J d lets slot e room below small fits le = load_one d k slot (omega (arith, fits, room)) le
-  fetched_typed b z J d lets slot e room below small fits le = absurd (let no : false ≡ true = e in cc)
-
-  operand_typed : (b : Term) (z : Sizes) (J : List ℕ) (d lets slot : ℕ) → is_operand b ≡ true → z.memory ≡ shape.memory
-      → lets ≤ d → d ≤ 3 → Fits b z (length J) lets (d + 1) → slot + 1 ≤ last
-      → T slot (second_code b z J ∷ []) (C (valued d) slot) (C (known d word word Unset) (slot + 1))
-  operand_typed b z J d lets slot e room below small fits le =
-      let number = set_number R1 (constant_number b z J) in
-      let P : Insn → Type 0 = λ insn. T slot (insn ∷ []) (C (valued d) slot) (C (known d word word Unset) (slot + 1)) in
-      elim (cases_Bool (is_constant b)) [
-        | inl so ↦ subst P (sym (cond-true (is_constant b) number (fetch_code b) so))
-            (number_one d (constant_number b z J) slot le)
-        | inr other ↦
-            let f : is_fetched b ≡ true = elim (or_cases (is_constant b) (is_fetched b) e) [
-              | inl x ↦ absurd (let no : false ≡ true = sym other ∙ x in cc)
-              | inr x ↦ x
-            ] in
-            subst P (sym (cond-false (is_constant b) number (fetch_code b) other))
-            (fetched_typed b z J d lets slot f room below small fits le)
-      ]
-
-  pair_typed : (b : Term) (z : Sizes) (J : List ℕ) (simple : Bool) (d lets slot : ℕ) (left right : List Insn)
-      → is_operand b ≡ simple → z.memory ≡ shape.memory → lets ≤ d → d ≤ 3 → Fits b z (length J) lets (d + 1)
-      → HasPlace simple d → slot + length (pair_code simple (second_code b z J) d left right) ≤ last
+  -- as an operand, behind the number in r0
+  unloaded_typed : (d slot : ℕ) (left : List Insn) → slot + length (left ++ []) ≤ last
       → (slot + length left ≤ last → TermTyped Value d slot left)
-      → ((to : ℕ) → d < 3 → to + length right ≤ last → TermTyped Value (d + 1) to right)
-      → T slot (pair_code simple (second_code b z J) d left right) (C (plain d) slot)
-      (C (known d word word Unset) (slot + length (pair_code simple (second_code b z J) d left right)))
-  pair_typed b z J true d lets slot left right same room below small fits place le first second =
-      let insn = second_code b z J in
-      let len : length (left ++ insn ∷ []) ≡ length left + 1 = length-append left (insn ∷ []) in
+      → T slot (left ++ []) (C (plain d) slot) (C (valued d) (slot + length (left ++ [])))
+  unloaded_typed d slot left le first =
+      let len : length (left ++ []) ≡ length left + 0 = length-append left [] in
       let p1 = slot + length left in
-      let e : p1 + 1 ≡ slot + length (left ++ insn ∷ []) = omega (arith, len) in
-      typed_at slot (p1 + 1) (slot + length (left ++ insn ∷ [])) (left ++ insn ∷ []) (C (plain d) slot)
-      (known d word word Unset) e
-      (typed_seq slot p1 left (insn ∷ []) (C (plain d) slot) (C (valued d) p1) (C (known d word word Unset) (p1 + 1)) refl
-      (first (omega (arith, len, le)))
-      (operand_typed b z J d lets p1 same room below small fits (omega (arith, len, le))))
-  pair_typed b z J false d lets slot left right same room below small fits place le first second =
-      two_typed d slot left right place le first (λ to l. second to place l)
+      let e : p1 ≡ slot + length (left ++ []) = omega (arith, len) in
+      typed_at slot p1 (slot + length (left ++ [])) (left ++ []) (C (plain d) slot) (valued d) e
+      (typed_seq slot p1 left [] (C (plain d) slot) (C (valued d) p1) (C (valued d) p1) refl (first (omega (arith, len, le)))
+      (typed_none program shape last solid p1 (C (valued d) p1)))
 
-  op_typed : (op : Operation) (d slot : ℕ) → slot + 1 ≤ last
-      → T slot (i.Alu (alu_of op) W32 R0 (operand.Reg R1) ∷ []) (C (known d word word Unset) slot) (C (valued d) (slot + 1))
-  op_typed Sum d slot le = one_on program shape last solid slot (i.Alu (alu_of Sum) W32 R0 (operand.Reg R1))
-      (known d word word Unset) _ (valued d) refl refl refl
-      (into _ d word Unset Unset (kind_in_itself word) tt tt refl refl refl refl)
-      (proper_known d word word Unset some_word some_word tt) (keeps_own _ _ _ refl) le
-  op_typed Difference d slot le = one_on program shape last solid slot (i.Alu (alu_of Difference) W32 R0 (operand.Reg R1))
-      (known d word word Unset) _ (valued d) refl refl refl
-      (into _ d word Unset Unset (kind_in_itself word) tt tt refl refl refl refl)
-      (proper_known d word word Unset some_word some_word tt) (keeps_own _ _ _ refl) le
-  op_typed Product d slot le = one_on program shape last solid slot (i.Alu (alu_of Product) W32 R0 (operand.Reg R1))
-      (known d word word Unset) _ (valued d) refl refl refl
-      (into _ d word Unset Unset (kind_in_itself word) tt tt refl refl refl refl)
-      (proper_known d word word Unset some_word some_word tt) (keeps_own _ _ _ refl) le
-  op_typed Quotient d slot le = one_on program shape last solid slot (i.Alu (alu_of Quotient) W32 R0 (operand.Reg R1))
-      (known d word word Unset) _ (valued d) refl refl refl
-      (into _ d word Unset Unset (kind_in_itself word) tt tt refl refl refl refl)
-      (proper_known d word word Unset some_word some_word tt) (keeps_own _ _ _ refl) le
-  op_typed Remainder d slot le = one_on program shape last solid slot (i.Alu (alu_of Remainder) W32 R0 (operand.Reg R1))
-      (known d word word Unset) _ (valued d) refl refl refl
-      (into _ d word Unset Unset (kind_in_itself word) tt tt refl refl refl refl)
-      (proper_known d word word Unset some_word some_word tt) (keeps_own _ _ _ refl) le
+  loaded_typed : (y : Source) (d lets slot : ℕ) (left : List Insn) → is_found y ≡ true → IsThere y lets shape.memory
+      → slot + length (left ++ load_code y) ≤ last → (slot + length left ≤ last → TermTyped Value d slot left)
+      → T slot (left ++ load_code y) (C (plain d) slot) (C (paired y d) (slot + length (left ++ load_code y)))
+  loaded_typed (Constant c) d lets slot left found there le first = unloaded_typed d slot left le first
+  loaded_typed (FromLocal k) d lets slot left found there le first = unloaded_typed d slot left le first
+  loaded_typed (FromWord k) d lets slot left found there le first =
+      let load = get_code R1 (FromWord k) ∷ [] in
+      let len : length (left ++ load) ≡ length left + 1 = length-append left load in
+      let p1 = slot + length left in
+      let e : p1 + 1 ≡ slot + length (left ++ load) = omega (arith, len) in
+      typed_at slot (p1 + 1) (slot + length (left ++ load)) (left ++ load) (C (plain d) slot) (known d word word Unset) e
+      (typed_seq slot p1 left load (C (plain d) slot) (C (valued d) p1) (C (known d word word Unset) (p1 + 1)) refl
+      (first (omega (arith, len, le))) (load_one d k p1 there (omega (arith, len, le))))
+  loaded_typed Computed d lets slot left found there le first = absurd (let no : false ≡ true = found in cc)
 
-  compare_typed : (r : Comparison) (d slot far : ℕ) → slot + 1 + far ≤ last
-      → T slot (jump_by r far ∷ []) (C (known d word word Unset) slot)
+  -- ---- operators
+
+  alu_keeps : (op : Operation) (src : Operand) (d : ℕ) (k1 : Kind) → OperandIs src (known d word k1 Unset)
+      → KeepsOwn shape (i.Alu (alu_of op) W32 R0 src) (known d word k1 Unset)
+  alu_keeps Sum src d k1 q = record {
+    forward = refl;
+    known = refl;
+    set = q.set;
+    frame = refl;
+    pointer = ap is_pointer_kind q.kind;
+    region = refl;
+    stack = refl;
+    argument = refl;
+    exit = refl;
+    base = refl;
+  }
+  alu_keeps Difference src d k1 q = record {
+    forward = refl;
+    known = refl;
+    set = q.set;
+    frame = refl;
+    pointer = ap is_pointer_kind q.kind;
+    region = refl;
+    stack = refl;
+    argument = refl;
+    exit = refl;
+    base = refl;
+  }
+  alu_keeps Product src d k1 q = record {
+    forward = refl;
+    known = refl;
+    set = q.set;
+    frame = refl;
+    pointer = ap is_pointer_kind q.kind;
+    region = refl;
+    stack = refl;
+    argument = refl;
+    exit = refl;
+    base = refl;
+  }
+  alu_keeps Quotient src d k1 q = record {
+    forward = refl;
+    known = refl;
+    set = q.set;
+    frame = refl;
+    pointer = ap is_pointer_kind q.kind;
+    region = refl;
+    stack = refl;
+    argument = refl;
+    exit = refl;
+    base = refl;
+  }
+  alu_keeps Remainder src d k1 q = record {
+    forward = refl;
+    known = refl;
+    set = q.set;
+    frame = refl;
+    pointer = ap is_pointer_kind q.kind;
+    region = refl;
+    stack = refl;
+    argument = refl;
+    exit = refl;
+    base = refl;
+  }
+
+  alu_typed : (op : Operation) (src : Operand) (d : ℕ) (k1 : Kind) (slot : ℕ) → OperandIs src (known d word k1 Unset)
+      → IsProper (known d word k1 Unset) → slot + 1 ≤ last
+      → T slot (i.Alu (alu_of op) W32 R0 src ∷ []) (C (known d word k1 Unset) slot) (C (valued d) (slot + 1))
+  alu_typed Sum src d k1 slot q is le = one_on program shape last solid slot (i.Alu (alu_of Sum) W32 R0 src)
+      (known d word k1 Unset) _ (valued d) refl refl refl
+      (into _ d word Unset Unset (word_result Add _ q.range q.kind q.ordered q.inside refl) tt tt refl refl refl refl) is
+      (alu_keeps Sum src d k1 q) le
+  alu_typed Difference src d k1 slot q is le = one_on program shape last solid slot (i.Alu (alu_of Difference) W32 R0 src)
+      (known d word k1 Unset) _ (valued d) refl refl refl
+      (into _ d word Unset Unset (word_result Sub _ q.range q.kind q.ordered q.inside refl) tt tt refl refl refl refl) is
+      (alu_keeps Difference src d k1 q) le
+  alu_typed Product src d k1 slot q is le = one_on program shape last solid slot (i.Alu (alu_of Product) W32 R0 src)
+      (known d word k1 Unset) _ (valued d) refl refl refl
+      (into _ d word Unset Unset (word_result Mul _ q.range q.kind q.ordered q.inside refl) tt tt refl refl refl refl) is
+      (alu_keeps Product src d k1 q) le
+  alu_typed Quotient src d k1 slot q is le = one_on program shape last solid slot (i.Alu (alu_of Quotient) W32 R0 src)
+      (known d word k1 Unset) _ (valued d) refl refl refl
+      (into _ d word Unset Unset (word_result Div _ q.range q.kind q.ordered q.inside refl) tt tt refl refl refl refl) is
+      (alu_keeps Quotient src d k1 q) le
+  alu_typed Remainder src d k1 slot q is le = one_on program shape last solid slot (i.Alu (alu_of Remainder) W32 R0 src)
+      (known d word k1 Unset) _ (valued d) refl refl refl
+      (into _ d word Unset Unset (word_result Mod _ q.range q.kind q.ordered q.inside refl) tt tt refl refl refl refl) is
+      (alu_keeps Remainder src d k1 q) le
+
+  -- r0 beside a place
+  place_fork : (r : Comparison) (k d slot far : ℕ) → k < d → d ≤ 3 → slot + 1 + far ≤ last
+      → T slot (jump_by r (operand.Reg (place k)) far ∷ []) (C (valued d) slot)
       (λ table. C (plain d) (slot + 1) table × C (plain d) (slot + 1 + far) table)
-  compare_typed r d slot far le = one_fork program shape last solid slot far (cond_of r) R0 (operand.Reg R1)
+  place_fork r zero zero slot far lt few le = absurd (omega (arith, lt))
+  place_fork r (suc k) zero slot far lt few le = absurd (omega (arith, lt))
+  place_fork r (suc k) (suc zero) slot far lt few le = absurd (omega (arith, lt))
+  place_fork r (suc (suc k)) (suc (suc zero)) slot far lt few le = absurd (omega (arith, lt))
+  place_fork r (suc (suc (suc k))) (suc (suc (suc zero))) slot far lt few le = absurd (omega (arith, lt))
+  place_fork r k (suc (suc (suc (suc d)))) slot far lt few le = absurd (omega (arith, few))
+  place_fork r zero (suc zero) slot far lt few le = one_fork program shape last solid slot far (cond_of r) R0
+      (operand.Reg (place 0)) (valued 1) (plain 1) (plain 1)
+      (λ x e. left_0_1 _ x (λ pair f. branch_inside r false pair f) e)
+      (λ x e. left_0_1 _ x (λ pair f. branch_inside r true pair f) e)
+      (proper_known 1 word Unset Unset some_word tt tt) (keeps_own _ _ _ refl) le
+  place_fork r zero (suc (suc zero)) slot far lt few le = one_fork program shape last solid slot far (cond_of r) R0
+      (operand.Reg (place 0)) (valued 2) (plain 2) (plain 2)
+      (λ x e. left_0_2 _ x (λ pair f. branch_inside r false pair f) e)
+      (λ x e. left_0_2 _ x (λ pair f. branch_inside r true pair f) e)
+      (proper_known 2 word Unset Unset some_word tt tt) (keeps_own _ _ _ refl) le
+  place_fork r zero (suc (suc (suc zero))) slot far lt few le = one_fork program shape last solid slot far (cond_of r) R0
+      (operand.Reg (place 0)) (valued 3) (plain 3) (plain 3)
+      (λ x e. left_0_3 _ x (λ pair f. branch_inside r false pair f) e)
+      (λ x e. left_0_3 _ x (λ pair f. branch_inside r true pair f) e)
+      (proper_known 3 word Unset Unset some_word tt tt) (keeps_own _ _ _ refl) le
+  place_fork r (suc zero) (suc (suc zero)) slot far lt few le = one_fork program shape last solid slot far (cond_of r) R0
+      (operand.Reg (place 1)) (valued 2) (plain 2) (plain 2)
+      (λ x e. left_1_2 _ x (λ pair f. branch_inside r false pair f) e)
+      (λ x e. left_1_2 _ x (λ pair f. branch_inside r true pair f) e)
+      (proper_known 2 word Unset Unset some_word tt tt) (keeps_own _ _ _ refl) le
+  place_fork r (suc zero) (suc (suc (suc zero))) slot far lt few le = one_fork program shape last solid slot far (cond_of r) R0
+      (operand.Reg (place 1)) (valued 3) (plain 3) (plain 3)
+      (λ x e. left_1_3 _ x (λ pair f. branch_inside r false pair f) e)
+      (λ x e. left_1_3 _ x (λ pair f. branch_inside r true pair f) e)
+      (proper_known 3 word Unset Unset some_word tt tt) (keeps_own _ _ _ refl) le
+  place_fork r (suc (suc zero)) (suc (suc (suc zero))) slot far lt few le = one_fork program shape last solid slot far (cond_of r) R0
+      (operand.Reg (place 2)) (valued 3) (plain 3) (plain 3)
+      (λ x e. left_2_3 _ x (λ pair f. branch_inside r false pair f) e)
+      (λ x e. left_2_3 _ x (λ pair f. branch_inside r true pair f) e)
+      (proper_known 3 word Unset Unset some_word tt tt) (keeps_own _ _ _ refl) le
+
+  reg_fork : (r : Comparison) (d slot far : ℕ) → slot + 1 + far ≤ last
+      → T slot (jump_by r (operand.Reg R1) far ∷ []) (C (known d word word Unset) slot)
+      (λ table. C (plain d) (slot + 1) table × C (plain d) (slot + 1 + far) table)
+  reg_fork r d slot far le = one_fork program shape last solid slot far (cond_of r) R0 (operand.Reg R1)
       (known d word word Unset) (plain d) (plain d) (λ x e. left_reg d _ x e) (λ x e. left_reg d _ x e)
       (proper_known d word word Unset some_word some_word tt) (keeps_own _ _ _ refl) le
 
-  operator_typed : (o : Operator) (purpose : Purpose) (d slot : ℕ) (code : List Insn)
-      → slot + length (by_operator o purpose code) + beyond purpose ≤ last
-      → (slot + length code ≤ last → T slot code (C (plain d) slot) (C (known d word word Unset) (slot + length code)))
-      → TermTyped purpose d slot (by_operator o purpose code)
-  operator_typed (Compute op) purpose d slot code le two =
-      let act = i.Alu (alu_of op) W32 R0 (operand.Reg R1) ∷ [] in
+  compare_typed : (r : Comparison) (y : Source) (d lets slot far : ℕ) → IsThere y lets shape.memory → lets ≤ d → d ≤ 3
+      → slot + 1 + far ≤ last
+      → T slot (jump_by r (operand_code y) far ∷ []) (C (paired y d) slot)
+      (λ table. C (plain d) (slot + 1) table × C (plain d) (slot + 1 + far) table)
+  compare_typed r (Constant c) d lets slot far there below few le =
+      one_fork program shape last solid slot far (cond_of r) R0 (operand_code (Constant c)) (valued d) (plain d) (plain d)
+      (λ x e. left_imm d (cast_signed w32 c) _ x e) (λ x e. left_imm d (cast_signed w32 c) _ x e)
+      (proper_known d word Unset Unset some_word tt tt) (keeps_own _ _ _ refl) le
+  compare_typed r (FromLocal k) d lets slot far there below few le =
+      place_fork r k d slot far (omega (arith, there, below)) few le
+  compare_typed r (FromWord k) d lets slot far there below few le = reg_fork r d slot far le
+  compare_typed r Computed d lets slot far there below few le = reg_fork r d slot far le
+
+  operator_typed : (o : Operator) (y : Source) (purpose : Purpose) (d lets slot : ℕ) (code : List Insn)
+      → IsThere y lets shape.memory → lets ≤ d → d ≤ 3
+      → slot + length (by_operator o (operand_code y) purpose code) + beyond purpose ≤ last
+      → (slot + length code ≤ last → T slot code (C (plain d) slot) (C (paired y d) (slot + length code)))
+      → TermTyped purpose d slot (by_operator o (operand_code y) purpose code)
+  operator_typed (Compute op) y purpose d lets slot code there below few le two =
+      let act = i.Alu (alu_of op) W32 R0 (operand_code y) ∷ [] in
       let len : length (code ++ act) ≡ length code + 1 = length-append code act in
       by_value_typed purpose d slot (code ++ act) le
       (λ l.
       let p1 = slot + length code in
       let e : p1 + 1 ≡ slot + length (code ++ act) = omega (arith, len) in
-      let b1 = typed_at p1 (p1 + 1) (slot + length (code ++ act)) act (C (known d word word Unset) p1) (valued d) e
-      (op_typed op d p1 (omega (arith, len, l))) in
-      typed_seq slot p1 code act (C (plain d) slot) (C (known d word word Unset) p1)
-      (C (valued d) (slot + length (code ++ act))) refl (two (omega (arith, len, l))) b1)
-  operator_typed (Compare r) purpose d slot code le two =
-      by_test_typed purpose d slot (λ when far. code ++ jump_by (jump_on when r) far ∷ []) le
+      let b1 = typed_at p1 (p1 + 1) (slot + length (code ++ act)) act (C (paired y d) p1) (valued d) e
+      (alu_typed op (operand_code y) d (r1_kind y) p1 (operand_is y d lets shape.memory there below few)
+      (proper_paired y d) (omega (arith, len, l))) in
+      typed_seq slot p1 code act (C (plain d) slot) (C (paired y d) p1) (C (valued d) (slot + length (code ++ act))) refl
+      (two (omega (arith, len, l))) b1)
+  operator_typed (Compare r) y purpose d lets slot code there below few le two =
+      by_test_typed purpose d slot (λ when far. code ++ jump_by (jump_on when r) (operand_code y) far ∷ []) le
       (λ when far l.
-      let jump = jump_by (jump_on when r) far ∷ [] in
+      let jump = jump_by (jump_on when r) (operand_code y) far ∷ [] in
       let len : length (code ++ jump) ≡ length code + 1 = length-append code jump in
       let p1 = slot + length code in
       let e : p1 + 1 ≡ slot + length (code ++ jump) = omega (arith, len) in
-      let b1 = subst (λ (n : ℕ). T p1 jump (C (known d word word Unset) p1)
+      let b1 = subst (λ (n : ℕ). T p1 jump (C (paired y d) p1)
       (λ table. C (plain d) n table × C (plain d) (n + far) table)) e
-      (compare_typed (jump_on when r) d p1 far (omega (arith, len, l))) in
-      typed_seq slot p1 code jump (C (plain d) slot) (C (known d word word Unset) p1)
+      (compare_typed (jump_on when r) y d lets p1 far there below few (omega (arith, len, l))) in
+      typed_seq slot p1 code jump (C (plain d) slot) (C (paired y d) p1)
       (λ table. C (plain d) (slot + length (code ++ jump)) table × C (plain d) (slot + length (code ++ jump) + far) table) refl
       (two (omega (arith, len, l))) b1)
+
+  left_typed : (o : Operator) (x : Source) (purpose : Purpose) (d lets slot : ℕ) (right : List Insn) → is_found x ≡ true
+      → IsThere x lets shape.memory → lets ≤ d → d ≤ 3
+      → slot + length (left_code o x purpose right) + beyond purpose ≤ last
+      → (slot + length right ≤ last → TermTyped Value d slot right)
+      → TermTyped purpose d slot (left_code o x purpose right)
+  left_typed (Compute op) x purpose d lets slot right found there below few le first =
+      let get = get_code R0 x ∷ [] in
+      let back = copy R1 R0 ∷ get in
+      operator_typed (Compute op) Computed purpose d lets slot (right ++ back) tt below few le
+      (λ l.
+      let len : length (right ++ back) ≡ length right + 2 = length-append right back in
+      let p1 = slot + length right in
+      let p2 = p1 + 1 in
+      let end = slot + length (right ++ back) in
+      let e : p2 + 1 ≡ end = omega (arith, len) in
+      let a = first (omega (arith, len, l)) in
+      let b = second_typed program shape last solid d p1 (omega (arith, len, l)) in
+      let c = typed_at p2 (p2 + 1) end get (C (known d Unset word Unset) p2) (known d word word Unset) e
+      (get_typed x d lets p2 found there below few (omega (arith, len, l))) in
+      let bc = typed_seq p1 p2 (copy R1 R0 ∷ []) get (C (valued d) p1) (C (known d Unset word Unset) p2)
+      (C (known d word word Unset) end) refl b c in
+      typed_seq slot p1 right back (C (plain d) slot) (C (valued d) p1) (C (known d word word Unset) end) refl a bc)
+  left_typed (Compare r) x purpose d lets slot right found there below few le first =
+      operator_typed (Compare (mirror r)) x purpose d lets slot (right ++ load_code x) there below few le
+      (λ l. loaded_typed x d lets slot right found there l first)
+
+  right_typed : (o : Operator) (y : Source) (purpose : Purpose) (d lets slot : ℕ) (left : List Insn) → is_found y ≡ true
+      → IsThere y lets shape.memory → lets ≤ d → d ≤ 3
+      → slot + length (by_operator o (operand_code y) purpose (left ++ load_code y)) + beyond purpose ≤ last
+      → (slot + length left ≤ last → TermTyped Value d slot left)
+      → TermTyped purpose d slot (by_operator o (operand_code y) purpose (left ++ load_code y))
+  right_typed o y purpose d lets slot left found there below few le first =
+      operator_typed o y purpose d lets slot (left ++ load_code y) there below few le
+      (λ l. loaded_typed y d lets slot left found there l first)
+
+  -- a local beside a constant
+  place_test_typed : (r : Comparison) (k c d slot far : ℕ) → k < d → d ≤ 3 → slot + 1 + far ≤ last
+      → T slot (jump_place k r c far ∷ []) (C (plain d) slot)
+      (λ table. C (plain d) (slot + 1) table × C (plain d) (slot + 1 + far) table)
+  place_test_typed r k c d slot far lt few le =
+      let v = cast_signed w32 c in
+      let n = cast_unsigned w64 v % 2 ^ 32 in
+      let e : kind_of (plain d) (place k) ≡ word = place_word k d lt few in
+      let small : n < 2 ^ 32 = omega arith in
+      let own : KeepsOwn shape (jump_place k r c far) (plain d) = record {
+        forward = refl;
+        known = refl;
+        set = ap (λ (q : Kind). is_unset_kind q || false) e;
+        frame = refl;
+        pointer = ap (λ (q : Kind). is_pointer_kind q || false) e;
+        region = refl;
+        stack = refl;
+        argument = refl;
+        exit = refl;
+        base = refl;
+      } in
+      one_fork program shape last solid slot far (cond_of r) (place k) (operand.Imm v) (plain d) (plain d) (plain d)
+      (λ x q. left_place r false k d n v (kind_of (plain d) (place k)) x (omega (arith, lt, few)) small e q)
+      (λ x q. left_place r true k d n v (kind_of (plain d) (place k)) x (omega (arith, lt, few)) small e q)
+      (proper_known d Unset Unset Unset tt tt tt) own le
+
+  sides_typed : (y x : Source) (o : Operator) (purpose : Purpose) (d deep lets slot : ℕ) (left right : List Insn)
+      → IsThere y lets shape.memory → IsThere x lets shape.memory → lets ≤ d → d ≤ 3 → (is_found x ≡ true → deep ≡ d)
+      → (is_found x ≡ false → is_found y ≡ false → (d < 3) × (deep ≡ d + 1))
+      → slot + length (binary_code y x o d purpose left right) + beyond purpose ≤ last
+      → (slot + length left ≤ last → TermTyped Value d slot left)
+      → ((to : ℕ) → deep ≤ 3 → to + length right ≤ last → TermTyped Value deep to right)
+      → TermTyped purpose d slot (binary_code y x o d purpose left right)
+  sides_typed (Constant c) (FromLocal k) (Compare r) purpose d deep lets slot left right at_y at_x below few same free le
+      first second =
+      by_test_typed purpose d slot (λ when far. jump_place k (jump_on when r) c far ∷ []) le
+      (λ when far l. place_test_typed (jump_on when r) k c d slot far (omega (arith, at_x, below)) few (omega (arith, l)))
+  sides_typed (Constant c) (FromLocal k) (Compute op) purpose d deep lets slot left right at_y at_x below few same free le
+      first second = right_typed (Compute op) (Constant c) purpose d lets slot left refl at_y below few le first
+  sides_typed (Constant c) (Constant e) o purpose d deep lets slot left right at_y at_x below few same free le first second =
+      right_typed o (Constant c) purpose d lets slot left refl at_y below few le first
+  sides_typed (Constant c) (FromWord k) o purpose d deep lets slot left right at_y at_x below few same free le first second =
+      right_typed o (Constant c) purpose d lets slot left refl at_y below few le first
+  sides_typed (Constant c) Computed o purpose d deep lets slot left right at_y at_x below few same free le first second =
+      right_typed o (Constant c) purpose d lets slot left refl at_y below few le first
+  sides_typed (FromLocal k) x o purpose d deep lets slot left right at_y at_x below few same free le first second =
+      right_typed o (FromLocal k) purpose d lets slot left refl at_y below few le first
+  sides_typed (FromWord k) x o purpose d deep lets slot left right at_y at_x below few same free le first second =
+      right_typed o (FromWord k) purpose d lets slot left refl at_y below few le first
+  sides_typed Computed (Constant c) o purpose d deep lets slot left right at_y at_x below few same free le first second =
+      let e : deep ≡ d = same refl in
+      left_typed o (Constant c) purpose d lets slot right refl at_x below few le
+      (λ l. subst (λ (n : ℕ). TermTyped Value n slot right) e (second slot (omega (arith, e, few)) l))
+  sides_typed Computed (FromLocal k) o purpose d deep lets slot left right at_y at_x below few same free le first second =
+      let e : deep ≡ d = same refl in
+      left_typed o (FromLocal k) purpose d lets slot right refl at_x below few le
+      (λ l. subst (λ (n : ℕ). TermTyped Value n slot right) e (second slot (omega (arith, e, few)) l))
+  sides_typed Computed (FromWord k) o purpose d deep lets slot left right at_y at_x below few same free le first second =
+      let e : deep ≡ d = same refl in
+      left_typed o (FromWord k) purpose d lets slot right refl at_x below few le
+      (λ l. subst (λ (n : ℕ). TermTyped Value n slot right) e (second slot (omega (arith, e, few)) l))
+  sides_typed Computed Computed o purpose d deep lets slot left right at_y at_x below few same free le first second =
+      let deeper = free refl refl in
+      operator_typed o Computed purpose d lets slot (two_code d left right) tt below few le
+      (λ l. two_typed d slot left right deeper.0 l first
+      (λ to k. subst (λ (n : ℕ). TermTyped Value n to right) deeper.1
+      (second to (omega (arith, deeper.0, deeper.1)) k)))
 
   -- ---- choices and conditions of two
 
@@ -455,6 +937,26 @@ module _ (program : List Insn) (shape : Extent) (last : ℕ) (solid : (k : ℕ) 
       typed_at slot (p2 + 1) (slot + length (front ++ back)) (front ++ back) (C S slot) S e
       (typed_seq slot p1 front back (C S slot) (C S p1) (C S (p2 + 1)) refl f ta1)
 
+  -- 0 into the next place
+  begin_typed : (d slot : ℕ) → d < 3 → slot + 1 ≤ last
+      → T slot (set_number (place d) 0 ∷ []) (C (plain d) slot) (C (plain (d + 1)) (slot + 1))
+  begin_typed zero slot lt le = one_on program shape last solid slot (set_number (place 0) 0) (plain 0) _ (plain 1)
+      refl refl refl
+      (within _ Unset Unset Unset memory_place word Unset Unset tt tt tt (kind_in_itself memory_place)
+      (short (cast_unsigned w64 (cast_signed w32 0) % 2 ^ 32)) tt tt)
+      (proper_known 0 Unset Unset Unset tt tt tt) (keeps_own _ _ _ refl) le
+  begin_typed (suc zero) slot lt le = one_on program shape last solid slot (set_number (place 1) 0) (plain 1) _ (plain 2)
+      refl refl refl
+      (within _ Unset Unset Unset memory_place word word Unset tt tt tt (kind_in_itself memory_place)
+      (kind_in_itself word) (short (cast_unsigned w64 (cast_signed w32 0) % 2 ^ 32)) tt)
+      (proper_known 1 Unset Unset Unset tt tt tt) (keeps_own _ _ _ refl) le
+  begin_typed (suc (suc zero)) slot lt le = one_on program shape last solid slot (set_number (place 2) 0) (plain 2) _ (plain 3)
+      refl refl refl
+      (within _ Unset Unset Unset memory_place word word word tt tt tt (kind_in_itself memory_place)
+      (kind_in_itself word) (kind_in_itself word) (short (cast_unsigned w64 (cast_signed w32 0) % 2 ^ 32)))
+      (proper_known 2 Unset Unset Unset tt tt tt) (keeps_own _ _ _ refl) le
+  begin_typed (suc (suc (suc d))) slot lt le = absurd (omega (arith, lt))
+
   count_typed : (d slot n : ℕ) (test : ℕ → List Insn) → d < 3 → slot + length (count_code d n test) ≤ last
       → ((j to : ℕ) → to + length (test j) + 1 ≤ last → TermTyped (Jump false 1) (d + 1) to (test j))
       → TermTyped Value d slot (count_code d n test)
@@ -462,12 +964,10 @@ module _ (program : List Insn) (shape : Extent) (last : ℕ) (solid : (k : ℕ) 
       let codes = count_codes d test n in
       let last_one = copy R0 (place d) ∷ [] in
       let len : length (codes ++ last_one) ≡ length codes + 1 = length-append codes last_one in
-      let p1 = slot + 1 in
-      let p2 = p1 + 1 in
+      let p2 = slot + 1 in
       let p3 = p2 + length codes in
       let end = slot + length (count_code d n test) in
-      let a = number_typed program shape last solid d 0 slot (omega (arith, len, le)) in
-      let b = keep_typed program shape last solid d p1 small (omega (arith, len, le)) in
+      let b = begin_typed d slot small (omega (arith, len, le)) in
       let c = counts_typed d p2 n test small (omega (arith, len, le)) each in
       let f = fetch_typed program shape last solid d (d + 1) Unset p3 (omega arith) (omega (arith, small)) tt
       (omega (arith, len, le)) in
@@ -477,10 +977,8 @@ module _ (program : List Insn) (shape : Extent) (last : ℕ) (solid : (k : ℕ) 
       (C (plain (d + 1)) p3) (C (valued d) end) (λ table h. h)
       (λ table h. covers_less table (valued (d + 1)) (valued d) end (known_less d word Unset Unset) h) f1 in
       let cf = typed_seq p2 p3 codes last_one (C (plain (d + 1)) p2) (C (plain (d + 1)) p3) (C (valued d) end) refl c f2 in
-      let bcf = typed_seq p1 p2 (copy (place d) R0 ∷ []) (codes ++ last_one) (C (valued d) p1) (C (plain (d + 1)) p2)
-      (C (valued d) end) refl b cf in
-      typed_seq slot p1 (set_number R0 0 ∷ []) (copy (place d) R0 ∷ (codes ++ last_one)) (C (plain d) slot) (C (valued d) p1)
-      (C (valued d) end) refl a bcf
+      typed_seq slot p2 (set_number (place d) 0 ∷ []) (codes ++ last_one) (C (plain d) slot) (C (plain (d + 1)) p2)
+      (C (valued d) end) refl b cf
 
   -- ---- calls, loads, the mail
 
@@ -496,7 +994,7 @@ module _ (program : List Insn) (shape : Extent) (last : ℕ) (solid : (k : ℕ) 
       (into _ d word Unset Unset (span 0 1, refl, record { low = omega arith; high = omega arith }) tt tt
       refl refl refl refl) (proper_known d Unset Unset Unset tt tt tt) (keeps_own _ _ _ refl) le
 
-  load_typed : (d k slot : ℕ) → 4 * k + 4 ≤ shape.memory → slot + 1 ≤ last
+  pub load_typed : (d k slot : ℕ) → 4 * k + 4 ≤ shape.memory → slot + 1 ≤ last
       → T slot (i.Load size.W R0 R6 (pos (4 * k)) ∷ []) (C (plain d) slot) (C (valued d) (slot + 1))
   load_typed d k slot inside le =
       let room : nat_lt shape.memory (0 + 4 * k + 4) ≡ false = le-ltb shape.memory (0 + 4 * k + 4) (omega (arith, inside)) in
@@ -607,6 +1105,54 @@ module _ (program : List Insn) (shape : Extent) (last : ℕ) (solid : (k : ℕ) 
       (λ table. C V slot table × (C (plain d) p1 table × (C V p2 table × C N p3 table))) (C V end) (C V slot) (C V end)
       (λ table h. h.0) (λ table h. h) all
 
+  -- a known node's number into r1
+  pub node_typed : (d j slot : ℕ) → j < shape.nodes → shape.nodes ≤ 64 → slot + 1 ≤ last
+      → T slot (set_node R1 j ∷ []) (C (plain d) slot) (C (known d Unset some_node Unset) (slot + 1))
+  node_typed d j slot lt few le =
+      let imm : cast_unsigned w64 (pos j) % 2 ^ 64 ≡ j = mod-eq_of_lt (omega (arith, lt, few)) in
+      one_on program shape last solid slot (set_node R1 j) (plain d) _ (known d Unset some_node Unset) refl refl refl
+      (into _ d Unset some_node Unset tt
+      (just (cast_unsigned w64 (pos j) % 2 ^ 64), refl, record { low = omega arith; high = omega (arith, lt, imm) }) tt
+      refl refl refl refl) (proper_known d Unset Unset Unset tt tt tt) (keeps_own _ _ _ refl) le
+
+  some_node_typed : (d n slot : ℕ) (code : List Insn) → n ≡ shape.nodes → 1 ≤ n → n ≤ 64
+      → slot + length (code ++ message_code n) ≤ last → (slot + length code ≤ last → TermTyped Value d slot code)
+      → TermTyped Value d slot (code ++ message_code n)
+  some_node_typed d n slot code same some few le first =
+      let back = message_code n in
+      let len : length (code ++ back) ≡ length code + 5 = length-append code back in
+      let p1 = slot + length code in
+      let e : p1 + 5 ≡ slot + length (code ++ back) = omega (arith, len) in
+      let b1 = typed_at p1 (p1 + 5) (slot + length (code ++ back)) back (C (valued d) p1) (valued d) e
+      (message_typed d n p1 same some few (omega (arith, len, le))) in
+      typed_seq slot p1 code back (C (plain d) slot) (C (valued d) p1) (C (valued d) (slot + length (code ++ back))) refl
+      (first (omega (arith, len, le))) b1
+
+  message_by_typed : (y : Source) (d n slot : ℕ) (code : List Insn) → n ≡ shape.nodes → 1 ≤ n → n ≤ 64
+      → slot + length (message_by y n code) ≤ last → (slot + length code ≤ last → TermTyped Value d slot code)
+      → TermTyped Value d slot (message_by y n code)
+  message_by_typed (Constant j) d n slot code same some few le first =
+      let known_node = set_node R1 j ∷ i.Call (pos 2) ∷ [] in
+      let none = set_number R0 4294967295 ∷ [] in
+      let P : List Insn → Type 0 = λ c. slot + length c ≤ last → TermTyped Value d slot c in
+      let whole : P (message_by (Constant j) n code) = elim (cases_Bool (nat_lt j n)) [
+        | inl so ↦ subst P (sym (cond-true (nat_lt j n) known_node none so))
+            (λ l.
+            let a = node_typed d j slot (omega (arith, ltb-true j n so, same)) (omega (arith, same, few)) (omega (arith, l)) in
+            let e : slot + 1 + 1 ≡ slot + 2 = omega arith in
+            let b = typed_at (slot + 1) (slot + 1 + 1) (slot + 2) (i.Call (pos 2) ∷ [])
+            (C (known d Unset some_node Unset) (slot + 1)) (valued d) e
+            (recv_typed d (slot + 1) (omega (arith, same, some)) (omega (arith, l))) in
+            typed_seq slot (slot + 1) (set_node R1 j ∷ []) (i.Call (pos 2) ∷ []) (C (plain d) slot)
+            (C (known d Unset some_node Unset) (slot + 1)) (C (valued d) (slot + 2)) refl a b)
+        | inr other ↦ subst P (sym (cond-false (nat_lt j n) known_node none other))
+            (λ l. number_typed program shape last solid d 4294967295 slot l)
+      ] in
+      whole le
+  message_by_typed (FromLocal k) d n slot code same some few le first = some_node_typed d n slot code same some few le first
+  message_by_typed (FromWord k) d n slot code same some few le first = some_node_typed d n slot code same some few le first
+  message_by_typed Computed d n slot code same some few le first = some_node_typed d n slot code same some few le first
+
   -- ---- terms
 
   pub term_typed : (t : Term) (z : Sizes) (J : List ℕ) (d lets : ℕ) (purpose : Purpose) (slot : ℕ)
@@ -639,25 +1185,21 @@ module _ (program : List Insn) (shape : Extent) (last : ℕ) (solid : (k : ℕ) 
       (λ l. load_typed d k slot (omega (arith, fits, room)) l)
   term_typed (Message' p a) z J d lets purpose slot same some few room below small fits le =
       let code = term_code a z J d Value in
-      let back = message_code z.nodes in
-      let len : length (code ++ back) ≡ length code + 5 = length-append code back in
-      by_value_typed purpose d slot (code ++ back) le
-      (λ l.
-      let p1 = slot + length code in
-      let e : p1 + 5 ≡ slot + length (code ++ back) = omega (arith, len) in
-      let a1 = term_typed a z J d lets Value slot same some few room below small fits (omega (arith, len, l)) in
-      let b1 = typed_at p1 (p1 + 5) (slot + length (code ++ back)) back (C (valued d) p1) (valued d) e
-      (message_typed d z.nodes p1 same some few (omega (arith, len, l))) in
-      typed_seq slot p1 code back (C (plain d) slot) (C (valued d) p1) (C (valued d) (slot + length (code ++ back))) refl
-      a1 b1)
+      by_value_typed purpose d slot (message_by (source_of a z J) z.nodes code) le
+      (λ l. message_by_typed (source_of a z J) d z.nodes slot code same some few l
+      (λ k. term_typed a z J d lets Value slot same some few room below small fits (omega (arith, k))))
   term_typed (Binary' o p a q b) z J d lets purpose slot same some few room below small fits le =
-      let ca = term_code a z J d Value in
-      let cb = term_code b z J (d + 1) Value in
-      operator_typed o purpose d slot (pair_code (is_operand b) (second_code b z J) d ca cb) le
-      (λ l. pair_typed b z J (is_operand b) d lets slot ca cb refl room below small fits.2 fits.0 l
+      let deep = depth_behind (is_operand a) d in
+      let more : d ≤ deep = behind_more (is_operand a) d in
+      let memory = λ (y : Source) (there : IsThere y lets z.memory). subst (λ (m : ℕ). IsThere y lets m) room there in
+      sides_typed (source_of b z J) (source_of a z J) o purpose d deep lets slot (term_code a z J d Value)
+      (term_code b z J deep Value) (memory (source_of b z J) (source_there b z J (length J) lets deep fits.2))
+      (memory (source_of a z J) (source_there a z J (length J) lets d fits.1)) below small
+      (λ e. same_depth (is_operand a) d (sym (found_same a z J) ∙ e))
+      (λ e f. free_beside (is_operand a) (is_operand b) d (sym (found_same a z J) ∙ e) (sym (found_same b z J) ∙ f) fits.0) le
       (λ k. term_typed a z J d lets Value slot same some few room below small fits.1 (omega (arith, k)))
-      (λ to deep k. term_typed b z J (d + 1) lets Value to same some few room (omega (arith, below)) (omega (arith, deep))
-      fits.2 (omega (arith, k))))
+      (λ to few_deep k. term_typed b z J deep lets Value to same some few room (omega (arith, below, more)) few_deep fits.2
+      (omega (arith, k)))
   term_typed (Logical' c p a q b) z J d lets purpose slot same some few room below small fits le =
       let left = λ (w : Bool) (g : ℕ). term_code a z J d (Jump w g) in
       by_test_typed purpose d slot (λ when far. both_code (decides c) when far left (term_code b z J d (Jump when far))) le

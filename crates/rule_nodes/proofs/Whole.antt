@@ -1,11 +1,13 @@
 -- The run of a whole rule.
-use Rattle.std.proofs.Common.{◌≡◌, ℕ, zero, suc, ◌+◌, ◌<◌, ◌≤◌, Bool, true, false, not, if◌then◌else◌, List, [], ◌∷◌, ◌++◌, length, Some, Ok, All, pos, slice_get, slice_index_or, refl, sym, ap, ◌∙◌, arith, length-append}
+use Rattle.std.proofs.Common.{◌≡◌, ℕ, zero, suc, ◌+◌, ◌<◌, ◌≤◌, Bool, true, false, not, if◌then◌else◌, nat_lt, List, [], ◌∷◌, ◌++◌, length, Some, Ok, All, pos, slice_get, slice_index_or, refl, sym, ap, ◌∙◌, arith, length-append}
 use Rattle.std.proofs.lemmas.List.Elements.{All-nil}
 use Rattle.std.proofs.lemmas.Option.{slice_get-get_or}
 use Rattle.std.specs.FinMap.{get}
 use Rattle.node_env.specs.declared.region.Region.TheVariants.{Mem}
 use Rattle.node_env.specs.Env.{Extent, Setting}
-use Rattle.bpf_insn.specs.declared.forms.Reg.TheVariants.{R0, R1, R6}
+use Rattle.bpf_insn.specs.declared.forms.Reg.TheVariants.{R0, R1, R2, R6}
+use Rattle.bpf_insn.specs.declared.forms.Reg.{Reg}
+use Rattle.bpf_insn.specs.declared.forms.Operand.{Operand}
 use Rattle.bpf_insn.specs.declared.forms.Operand.TheVariants as operand
 use Rattle.bpf_insn.specs.declared.forms.Insn.{Insn}
 use Rattle.bpf_insn.specs.declared.forms.Insn.TheVariants as i
@@ -27,14 +29,16 @@ use Rattle.rule_nodes.specs.declared.syntax.Target.{Target}
 use Rattle.rule_nodes.specs.declared.syntax.Target.TheVariants.{ToLocal, ToWord}
 use Rattle.rule_nodes.specs.declared.syntax.Assignment.{Assignment}
 use Rattle.rule_nodes.specs.declared.syntax.Assignment.TheVariants.{One, Also'}
+use Rattle.rule_nodes.specs.declared.syntax.Source.{Source}
+use Rattle.rule_nodes.specs.declared.syntax.Source.TheVariants.{Constant, FromLocal, FromWord, Computed}
 use Rattle.rule_nodes.specs.declared.syntax.Term.{Term}
 use Rattle.rule_nodes.specs.declared.syntax.Term.TheVariants.{Number, Nodes, Faults, Modulus, Me, Coin, LoopNode, Local, Word, Message', Binary', Logical', Not', Choice', Count'}
 use Rattle.rule_nodes.specs.declared.syntax.Statement.{Statement}
 use Rattle.rule_nodes.specs.declared.syntax.Statement.TheVariants.{Nothing, Then', Let', Assign, If', For', SendAll, SendTo}
 use Rattle.rule_nodes.specs.Meaning.{initial_state}
-use Rattle.rule_nodes.specs.Operands.{is_constant, is_operand, constant_number, is_steady, depth_behind}
+use Rattle.rule_nodes.specs.Operands.{is_operand, is_steady, depth_behind, source_of}
 use Rattle.rule_nodes.specs.Fits.{BlockFits}
-use Rattle.rule_nodes.specs.Code.{set_number, fetch_code, second_code, pair_code, truth_code, by_value, by_test, by_operator, two_code, choice_code, decides, both_far, both_code, jump_on, jump_by, message_code, count_codes, term_code, assign_code, also_code, assignment_code, send_codes, send_to_code, each_code, block_code, tail_code, rule_code}
+use Rattle.rule_nodes.specs.Code.{place, set_number, set_node, get_code, operand_code, load_code, left_code, binary_code, mirror, message_by, copy, truth_code, by_value, by_test, by_operator, two_code, choice_code, decides, both_far, both_code, jump_on, jump_by, jump_place, message_code, count_codes, term_code, assign_code, set_code, given_code, also_code, assignment_code, send_codes, send_all_code, send_to_code, each_code, block_code, tail_code, rule_code}
 use Rattle.rule_nodes.specs.Ends.{AreSizes, IsRuleEnd}
 use Rattle.rule_nodes.proofs.Forms.{leads_add, once, chain, further}
 use Rattle.rule_nodes.proofs.States.{stands_front, stands_back, Holds, IsSized}
@@ -55,24 +59,64 @@ ones_test (Jump when far) test h = h when far
 ones_two : (d : ℕ) (a b : List Insn) → Ones a → Ones b → Ones (two_code d a b)
 ones_two d a b h g = ones_append a _ h (refl, ones_append b _ g (refl, (refl, tt)))
 
-ones_pair : (b : Term) (z : Sizes) (J : List ℕ) (simple : Bool) (d : ℕ) (left right : List Insn) → Ones left → Ones right
-    → Ones (pair_code simple (second_code b z J) d left right)
-ones_pair b z J true d left right h g = ones_append left _ h (by (is_constant b), tt)
+ones_operator : (o : Operator) (src : Operand) (purpose : Purpose) (code : List Insn) → Ones code
+    → Ones (by_operator o src purpose code)
+ones_operator (Compute op) src purpose code h = ones_value purpose _ (ones_append code _ h (refl, tt))
+ones_operator (Compare r) src purpose code h = ones_test purpose (λ when far. code ++ jump_by (jump_on when r) src far ∷ [])
+    (λ when far. ones_append code (jump_by (jump_on when r) src far ∷ []) h (refl, tt))
+
+ones_load : (y : Source) → Ones (load_code y)
+ones_load (Constant c) = tt
+ones_load (FromLocal k) = tt
+ones_load (FromWord k) = (refl, tt)
+ones_load Computed = tt
+
+takes_one : (dst : Reg) (x : Source) → slots_taken (get_code dst x) ≡ 1
+takes_one dst (Constant c) = refl
+takes_one dst (FromLocal k) = refl
+takes_one dst (FromWord k) = refl
+takes_one dst Computed = refl
+
+ones_left : (o : Operator) (x : Source) (purpose : Purpose) (right : List Insn) → Ones right
+    → Ones (left_code o x purpose right)
+ones_left (Compute op) x purpose right h =
+    ones_operator (Compute op) (operand.Reg R1) purpose (right ++ (copy R1 R0 ∷ get_code R0 x ∷ []))
+    (ones_append right _ h (refl, (takes_one R0 x, tt)))
+ones_left (Compare r) x purpose right h =
+    ones_operator (Compare (mirror r)) (operand_code x) purpose (right ++ load_code x) (ones_append right _ h (ones_load x))
+
+ones_right : (o : Operator) (y : Source) (purpose : Purpose) (left : List Insn) → Ones left
+    → Ones (by_operator o (operand_code y) purpose (left ++ load_code y))
+ones_right o y purpose left h =
+    ones_operator o (operand_code y) purpose (left ++ load_code y) (ones_append left _ h (ones_load y))
+
+ones_binary : (y x : Source) (o : Operator) (d : ℕ) (purpose : Purpose) (left right : List Insn) → Ones left → Ones right
+    → Ones (binary_code y x o d purpose left right)
+ones_binary (Constant c) (FromLocal k) (Compare r) d purpose left right h g =
+    ones_test purpose (λ when far. jump_place k (jump_on when r) c far ∷ []) (λ when far. (refl, tt))
+ones_binary (Constant c) (FromLocal k) (Compute op) d purpose left right h g =
+    ones_right (Compute op) (Constant c) purpose left h
+ones_binary (Constant c) (Constant b) o d purpose left right h g = ones_right o (Constant c) purpose left h
+ones_binary (Constant c) (FromWord k) o d purpose left right h g = ones_right o (Constant c) purpose left h
+ones_binary (Constant c) Computed o d purpose left right h g = ones_right o (Constant c) purpose left h
+ones_binary (FromLocal k) x o d purpose left right h g = ones_right o (FromLocal k) purpose left h
+ones_binary (FromWord k) x o d purpose left right h g = ones_right o (FromWord k) purpose left h
+ones_binary Computed (Constant c) o d purpose left right h g = ones_left o (Constant c) purpose right g
+ones_binary Computed (FromLocal k) o d purpose left right h g = ones_left o (FromLocal k) purpose right g
+ones_binary Computed (FromWord k) o d purpose left right h g = ones_left o (FromWord k) purpose right g
+ones_binary Computed Computed o d purpose left right h g =
+    ones_operator o (operand.Reg R1) purpose (two_code d left right) (ones_two d left right h g)
+
+ones_message : (y : Source) (n : ℕ) (code : List Insn) → Ones code → Ones (message_by y n code)
+ones_message (Constant j) n code h = by (nat_lt j n)
   where
-    fetch : (t : Term) → slots_taken (fetch_code t) ≡ 1
-    fetch (Local k) = refl
-    fetch (Word k) = refl
-    fetch t = refl
-
-    by : (constant : Bool) → slots_taken (if constant then set_number R1 (constant_number b z J) else fetch_code b) ≡ 1
-    by true = refl
-    by false = fetch b
-ones_pair b z J false d left right h g = ones_two d left right h g
-
-ones_operator : (o : Operator) (purpose : Purpose) (code : List Insn) → Ones code → Ones (by_operator o purpose code)
-ones_operator (Compute op) purpose code h = ones_value purpose _ (ones_append code _ h (refl, tt))
-ones_operator (Compare r) purpose code h = ones_test purpose (λ when far. code ++ jump_by (jump_on when r) far ∷ [])
-    (λ when far. ones_append code (jump_by (jump_on when r) far ∷ []) h (refl, tt))
+    by : (known : Bool)
+        → Ones (if known then set_node R1 j ∷ i.Call (pos 2) ∷ [] else set_number R0 4294967295 ∷ [])
+    by true = (refl, (refl, tt))
+    by false = (refl, tt)
+ones_message (FromLocal k) n code h = ones_append code (message_code n) h (refl, (refl, (refl, (refl, (refl, tt)))))
+ones_message (FromWord k) n code h = ones_append code (message_code n) h (refl, (refl, (refl, (refl, (refl, tt)))))
+ones_message Computed n code h = ones_append code (message_code n) h (refl, (refl, (refl, (refl, (refl, tt)))))
 
 ones_choice : (test : ℕ → List Insn) (a b : List Insn) → ((far : ℕ) → Ones (test far)) → Ones a → Ones b
     → Ones (choice_code test a b)
@@ -94,11 +138,11 @@ ones_term (LoopNode k) z J d purpose = ones_value purpose _ (refl, tt)
 ones_term (Local k) z J d purpose = ones_value purpose _ (refl, tt)
 ones_term (Word k) z J d purpose = ones_value purpose _ (refl, tt)
 ones_term (Message' p a) z J d purpose = ones_value purpose _
-    (ones_append (term_code a z J d Value) (message_code z.nodes) (ones_term a z J d Value)
-    (refl, (refl, (refl, (refl, (refl, tt))))))
-ones_term (Binary' o p a q b) z J d purpose = ones_operator o purpose
-    (pair_code (is_operand b) (second_code b z J) d (term_code a z J d Value) (term_code b z J (d + 1) Value))
-    (ones_pair b z J (is_operand b) d _ _ (ones_term a z J d Value) (ones_term b z J (d + 1) Value))
+    (ones_message (source_of a z J) z.nodes (term_code a z J d Value) (ones_term a z J d Value))
+ones_term (Binary' o p a q b) z J d purpose =
+    ones_binary (source_of b z J) (source_of a z J) o d purpose (term_code a z J d Value)
+    (term_code b z J (depth_behind (is_operand a) d) Value) (ones_term a z J d Value)
+    (ones_term b z J (depth_behind (is_operand a) d) Value)
 ones_term (Logical' c p a q b) z J d purpose =
     let left = λ (w : Bool) (g : ℕ). term_code a z J d (Jump w g) in
     ones_test purpose (λ when far. both_code (decides c) when far left (term_code b z J d (Jump when far))) (λ when far.
@@ -111,32 +155,49 @@ ones_term (Choice' p t q a r b) z J d purpose = ones_value purpose _
     (ones_term a z J d Value) (ones_term b z J d Value))
 ones_term (Count' p t) z J d purpose = ones_value purpose _ (
   refl,
-  (
-    refl,
-    ones_append (count_codes d (λ j. term_code t z (J ++ j ∷ []) (d + 1) (Jump false 1)) z.nodes) _
-        (ones_counts d (λ j. term_code t z (J ++ j ∷ []) (d + 1) (Jump false 1)) z.nodes
-        (λ j. ones_term t z (J ++ j ∷ []) (d + 1) (Jump false 1))) (refl, tt),
-  ),
+  ones_append (count_codes d (λ j. term_code t z (J ++ j ∷ []) (d + 1) (Jump false 1)) z.nodes) _
+      (ones_counts d (λ j. term_code t z (J ++ j ∷ []) (d + 1) (Jump false 1)) z.nodes
+      (λ j. ones_term t z (J ++ j ∷ []) (d + 1) (Jump false 1))) (refl, tt),
 )
 
 ones_assign : (target : Target) → Ones (assign_code target ∷ [])
 ones_assign (ToLocal k) = (refl, tt)
 ones_assign (ToWord k) = (refl, tt)
 
-ones_also : (steady : Bool) (d : ℕ) (code first : List Insn) (target : Target) → Ones code → Ones first
-    → Ones (also_code steady d code first (assign_code target))
-ones_also true d code first target h g = ones_append first _ g (ones_append code _ h (ones_assign target))
-ones_also false d code first target h g = ones_append code _ h (refl, ones_append first _ g (refl, ones_assign target))
+ones_set : (target : Target) (x : Source) → Ones (set_code target x)
+ones_set (ToLocal k) x = (takes_one (place k) x, tt)
+ones_set (ToWord k) (Constant c) = (refl, tt)
+ones_set (ToWord k) (FromLocal j) = (refl, tt)
+ones_set (ToWord k) (FromWord j) = (refl, (refl, tt))
+ones_set (ToWord k) Computed = (refl, (refl, tt))
+
+ones_given : (x : Source) (target : Target) (code : List Insn) → Ones code → Ones (given_code x target code)
+ones_given (Constant c) target code h = ones_set target (Constant c)
+ones_given (FromLocal k) target code h = ones_set target (FromLocal k)
+ones_given (FromWord k) target code h = ones_set target (FromWord k)
+ones_given Computed target code h = ones_append code _ h (ones_assign target)
+
+ones_also : (steady : Bool) (d : ℕ) (x : Source) (target : Target) (code first : List Insn) → Ones code → Ones first
+    → Ones (also_code steady d x target code first)
+ones_also true d x target code first h g = ones_append first _ g (ones_given x target code h)
+ones_also false d x target code first h g = ones_append code _ h (refl, ones_append first _ g (refl, ones_assign target))
 
 ones_assignment : (a : Assignment) (z : Sizes) (J : List ℕ) (d : ℕ) → Ones (assignment_code a z J d)
-ones_assignment (One target e) z J d = ones_append (term_code e z J d Value) _ (ones_term e z J d Value) (ones_assign target)
-ones_assignment (Also' p front target e) z J d = ones_also (is_steady e) d (term_code e z J d Value)
-    (assignment_code front z J (depth_behind (is_steady e) d)) target (ones_term e z J d Value)
+ones_assignment (One target e) z J d = ones_given (source_of e z J) target (term_code e z J d Value)
+    (ones_term e z J d Value)
+ones_assignment (Also' p front target e) z J d = ones_also (is_steady e) d (source_of e z J) target
+    (term_code e z J d Value) (assignment_code front z J (depth_behind (is_steady e) d)) (ones_term e z J d Value)
     (ones_assignment front z J (depth_behind (is_steady e) d))
 
-ones_sends : (d n : ℕ) → Ones (send_codes d n)
-ones_sends d zero = tt
-ones_sends d (suc n) = ones_append (send_codes d n) _ (ones_sends d n) (refl, (refl, (refl, tt)))
+ones_sends : (x : Source) (n : ℕ) → Ones (send_codes x n)
+ones_sends x zero = tt
+ones_sends x (suc n) = ones_append (send_codes x n) _ (ones_sends x n) (refl, (takes_one R2 x, (refl, tt)))
+
+ones_send_all : (x : Source) (d n : ℕ) (code : List Insn) → Ones code → Ones (send_all_code x d n code)
+ones_send_all (Constant c) d n code h = ones_sends (Constant c) n
+ones_send_all (FromLocal k) d n code h = ones_sends (FromLocal k) n
+ones_send_all (FromWord k) d n code h = ones_sends (FromWord k) n
+ones_send_all Computed d n code h = ones_append code _ h (refl, ones_sends (FromLocal d) n)
 
 ones_each : (body : ℕ → List Insn) (n : ℕ) → ((j : ℕ) → Ones (body j)) → Ones (each_code body n)
 ones_each body zero h = tt
@@ -152,8 +213,8 @@ ones_block (If' t p a q b) z J d = ones_choice (λ far. term_code t z J d (Jump 
     (λ far. ones_term t z J d (Jump false far)) (ones_block a z J d) (ones_block b z J d)
 ones_block (For' p body) z J d = ones_each (λ j. block_code body z (J ++ j ∷ []) d) z.nodes
     (λ j. ones_block body z (J ++ j ∷ []) d)
-ones_block (SendAll e) z J d = ones_append (term_code e z J d Value) _ (ones_term e z J d Value)
-    (refl, ones_sends d z.nodes)
+ones_block (SendAll e) z J d = ones_send_all (source_of e z J) d z.nodes (term_code e z J d Value)
+    (ones_term e z J d Value)
 ones_block (SendTo e k) z J d = ones_append (term_code e z J d Value) _ (ones_term e z J d Value) (
   refl,
   ones_append (term_code k z J (d + 1) Value) (send_to_code d z.nodes) (ones_term k z J (d + 1) Value)

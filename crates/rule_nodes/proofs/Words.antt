@@ -38,6 +38,15 @@ word_stored k v m =
     let d2 : v / 256 / 256 ≡ v / 65536 = omega arith in
     rw (p3, p2, p1, d3, d2) refl
 
+-- of a number that is stored only the low 32 bits count
+pub word_low : (k raw v : ℕ) (m : List ℕ) → raw % 2 ^ 32 ≡ v → with_word k raw m ≡ with_word k v m
+word_low k raw v m h =
+    let e0 : raw % 256 ≡ v % 256 = omega (arith, h) in
+    let e1 : raw / 256 % 256 ≡ v / 256 % 256 = omega (arith, h) in
+    let e2 : raw / 65536 % 256 ≡ v / 65536 % 256 = omega (arith, h) in
+    let e3 : raw / 16777216 % 256 ≡ v / 16777216 % 256 = omega (arith, h) in
+    rw (e0, e1, e2, e3) refl
+
 pub word_length : (k v : ℕ) (m : List ℕ) → length (with_word k v m) ≡ length m
 word_length k v m =
     let m0 = slice_set m (4 * k) (v % 256) in

@@ -1,6 +1,6 @@
 -- The instructions of a rule. r6 has the memory's place, r0 the number just computed, r1 and r2 are scratch; place k is
 -- r7, r8, r9 for k = 0, 1, 2. At depth d the places below d are in use.
-use Rattle.std.specs.Prelude.{ℕ, zero, suc, ◌+◌, ◌*◌, pos, Bool, true, false, not, if◌then◌else◌, List, [], ◌∷◌, ◌++◌, length, slice_index}
+use Rattle.std.specs.Prelude.{ℕ, zero, suc, ◌+◌, ◌*◌, pos, Bool, true, false, not, nat_lt, if◌then◌else◌, List, [], ◌∷◌, ◌++◌, length, slice_index}
 use Rattle.std.specs.Int.{w32, cast_signed}
 use Rattle.bpf_insn.specs.declared.forms.Reg as regs
 use Rattle.bpf_insn.specs.declared.forms.Reg.TheVariants.{R0, R1, R2, R6, R7, R8, R9}
@@ -10,10 +10,11 @@ use Rattle.bpf_insn.specs.declared.forms.AluOp.{AluOp}
 use Rattle.bpf_insn.specs.declared.forms.AluOp.TheVariants.{Add, Sub, Mul, Div, Mod, Mov}
 use Rattle.bpf_insn.specs.declared.forms.Cond.{Cond}
 use Rattle.bpf_insn.specs.declared.forms.Cond.TheVariants as conds
+use Rattle.bpf_insn.specs.declared.forms.Operand.{Operand}
 use Rattle.bpf_insn.specs.declared.forms.Operand.TheVariants.{Imm, Reg}
 use Rattle.bpf_insn.specs.declared.forms.Insn.{Insn}
-use Rattle.bpf_insn.specs.declared.forms.Insn.TheVariants.{Alu, Branch, Ja, Call, Exit, Load, StoreReg}
-use Rattle.rule_nodes.specs.Operands.{is_constant, is_operand, constant_number, is_steady, depth_behind}
+use Rattle.bpf_insn.specs.declared.forms.Insn.TheVariants.{Alu, Branch, Ja, Call, Exit, Load, StoreReg, StoreImm}
+use Rattle.rule_nodes.specs.Operands.{is_operand, is_steady, depth_behind, source_of}
 use Rattle.rule_nodes.specs.declared.syntax.Sizes.{Sizes}
 use Rattle.rule_nodes.specs.declared.syntax.Operation.{Operation}
 use Rattle.rule_nodes.specs.declared.syntax.Operation.TheVariants.{Sum, Difference, Product, Quotient, Remainder}
@@ -29,6 +30,8 @@ use Rattle.rule_nodes.specs.declared.syntax.Assignment.{Assignment}
 use Rattle.rule_nodes.specs.declared.syntax.Assignment.TheVariants.{One, Also'}
 use Rattle.rule_nodes.specs.declared.syntax.Purpose.{Purpose}
 use Rattle.rule_nodes.specs.declared.syntax.Purpose.TheVariants.{Value, Jump}
+use Rattle.rule_nodes.specs.declared.syntax.Source.{Source}
+use Rattle.rule_nodes.specs.declared.syntax.Source.TheVariants.{Constant, FromLocal, FromWord, Computed}
 use Rattle.rule_nodes.specs.declared.syntax.Term.{Term}
 use Rattle.rule_nodes.specs.declared.syntax.Term.TheVariants.{Number, Nodes, Faults, Modulus, Me, Coin, LoopNode, Local, Word, Message', Binary', Logical', Not', Choice', Count'}
 use Rattle.rule_nodes.specs.declared.syntax.Statement.{Statement}
@@ -75,13 +78,22 @@ opposite AtMost = Greater
 opposite Greater = AtMost
 opposite AtLeast = Less
 
--- the relation for a jump where it holds, or where it doesn't
+-- the same comparison with its sides changed over
+abbrev pub mirror : Comparison → Comparison
+mirror Equal = Equal
+mirror NotEqual = NotEqual
+mirror Less = Greater
+mirror AtMost = AtLeast
+mirror Greater = Less
+mirror AtLeast = AtMost
+
+-- the comparison for a jump that is taken if it holds, or if it doesn't
 abbrev pub jump_on : Bool → Comparison → Comparison
 jump_on when r = if when then r else opposite r
 
--- a jump by what r0 and r1 are
-abbrev pub jump_by : Comparison → ℕ → Insn
-jump_by r far = Branch (cond_of r) W32 R0 (Reg R1) (pos far)
+-- a jump by what r0 and an operand are
+abbrev pub jump_by : Comparison → Operand → ℕ → Insn
+jump_by r src far = Branch (cond_of r) W32 R0 src (pos far)
 
 -- a jump by what r0 is beside a number
 abbrev pub jump_at : Comparison → ℕ → ℕ → Insn
@@ -120,24 +132,47 @@ by_test purpose test = behind_test purpose (test (when_of purpose) (far_of purpo
 abbrev pub two_code : ℕ → List Insn → List Insn → List Insn
 two_code d left right = left ++ (copy (place d) R0 ∷ (right ++ copy R1 R0 ∷ copy R0 (place d) ∷ []))
 
--- the one instruction that puts an operand into r1
-abbrev pub fetch_code : Term → Insn
-fetch_code (Local k) = copy R1 (place k)
-fetch_code (Word k) = Load size.W R1 R6 (pos (4 * k))
-fetch_code _ = copy R1 R0
+-- the instruction that puts a found number into a register
+abbrev pub get_code : regs.Reg → Source → Insn
+get_code dst (Constant v) = set_number dst v
+get_code dst (FromLocal k) = copy dst (place k)
+get_code dst (FromWord k) = Load size.W dst R6 (pos (4 * k))
+get_code dst Computed = copy dst R0
 
-abbrev pub second_code : Term → Sizes → List ℕ → Insn
-second_code t z J = if is_constant t then set_number R1 (constant_number t z J) else fetch_code t
+-- how a found number is the operand of an instruction: a word is loaded into r1 first
+abbrev pub operand_code : Source → Operand
+operand_code (Constant v) = Imm (cast_signed w32 v)
+operand_code (FromLocal k) = Reg (place k)
+operand_code (FromWord k) = Reg R1
+operand_code Computed = Reg R1
 
--- the left number into r0 and the right one into r1, where the right one is an operand or isn't
-abbrev pub pair_code : Bool → Insn → ℕ → List Insn → List Insn → List Insn
-pair_code true insn d left right = left ++ insn ∷ []
-pair_code false insn d left right = two_code d left right
+abbrev pub load_code : Source → List Insn
+load_code (FromWord k) = get_code R1 (FromWord k) ∷ []
+load_code _ = []
 
--- an operation on r0 and r1 gives a number, and a comparison of them is a test
-abbrev pub by_operator : Operator → Purpose → List Insn → List Insn
-by_operator (Compute op) purpose code = by_value purpose (code ++ Alu (alu_of op) W32 R0 (Reg R1) ∷ [])
-by_operator (Compare r) purpose code = by_test purpose (λ when far. code ++ jump_by (jump_on when r) far ∷ [])
+-- an operation on r0 and an operand gives a number, and a comparison of them is a test
+abbrev pub by_operator : Operator → Operand → Purpose → List Insn → List Insn
+by_operator (Compute op) src purpose code = by_value purpose (code ++ Alu (alu_of op) W32 R0 src ∷ [])
+by_operator (Compare r) src purpose code = by_test purpose (λ when far. code ++ jump_by (jump_on when r) src far ∷ [])
+
+-- the left number is found and the right one is computed: a comparison is turned round
+abbrev pub left_code : Operator → Source → Purpose → List Insn → List Insn
+left_code (Compute op) x purpose right =
+    by_operator (Compute op) (Reg R1) purpose (right ++ (copy R1 R0 ∷ get_code R0 x ∷ []))
+left_code (Compare r) x purpose right =
+    by_operator (Compare (mirror r)) (operand_code x) purpose (right ++ load_code x)
+
+-- a jump by what a local and a constant are, where the local stands
+abbrev pub jump_place : ℕ → Comparison → ℕ → ℕ → Insn
+jump_place k r v far = Branch (cond_of r) W32 (place k) (Imm (cast_signed w32 v)) (pos far)
+
+-- by where the right number y and the left number x are found
+abbrev pub binary_code : Source → Source → Operator → ℕ → Purpose → List Insn → List Insn → List Insn
+binary_code (Constant c) (FromLocal k) (Compare r) d purpose left right =
+    by_test purpose (λ when far. jump_place k (jump_on when r) c far ∷ [])
+binary_code Computed Computed o d purpose left right = by_operator o (Reg R1) purpose (two_code d left right)
+binary_code Computed x o d purpose left right = left_code o x purpose right
+binary_code y x o d purpose left right = by_operator o (operand_code y) purpose (left ++ load_code y)
 
 -- a test that skips the first, and the first skips the second
 abbrev pub choice_code : (ℕ → List Insn) → List Insn → List Insn → List Insn
@@ -156,8 +191,15 @@ both_far alone when n far =
 abbrev pub both_code : Bool → Bool → ℕ → (Bool → ℕ → List Insn) → List Insn → List Insn
 both_code alone when far left right = left alone (both_far alone when (length right) far) ++ right
 
+-- the last message from the node in r0
 abbrev pub message_code : ℕ → List Insn
 message_code n = jump_at Less n 2 ∷ set_number R0 4294967295 ∷ Ja (pos 2) ∷ copy R1 R0 ∷ Call (pos 2) ∷ []
+
+-- the last message from a node by where its number is found: a constant needs no test
+abbrev pub message_by : Source → ℕ → List Insn → List Insn
+message_by (Constant j) n code =
+    if nat_lt j n then set_node R1 j ∷ Call (pos 2) ∷ [] else set_number R0 4294967295 ∷ []
+message_by _ n code = code ++ message_code n
 
 -- one more in place d for each node below n at which the test doesn't jump
 abbrev pub count_codes : ℕ → (ℕ → List Insn) → ℕ → List Insn
@@ -165,7 +207,7 @@ count_codes d test zero = []
 count_codes d test (suc n) = count_codes d test n ++ (test n ++ Alu Add W32 (place d) (Imm (pos 1)) ∷ [])
 
 abbrev pub count_code : ℕ → ℕ → (ℕ → List Insn) → List Insn
-count_code d n test = set_number R0 0 ∷ copy (place d) R0 ∷ (count_codes d test n ++ copy R0 (place d) ∷ [])
+count_code d n test = set_number (place d) 0 ∷ (count_codes d test n ++ copy R0 (place d) ∷ [])
 
 -- of a term at depth d
 abbrev pub term_code : Term → Sizes → List ℕ → ℕ → Purpose → List Insn
@@ -178,9 +220,10 @@ term_code Coin z J d purpose = by_value purpose (Call (pos 4) ∷ [])
 term_code (LoopNode i) z J d purpose = by_value purpose (set_number R0 (slice_index J i) ∷ [])
 term_code (Local k) z J d purpose = by_value purpose (copy R0 (place k) ∷ [])
 term_code (Word k) z J d purpose = by_value purpose (Load size.W R0 R6 (pos (4 * k)) ∷ [])
-term_code (Message' p a) z J d purpose = by_value purpose (term_code a z J d Value ++ message_code z.nodes)
-term_code (Binary' o p a q b) z J d purpose = by_operator o purpose
-    (pair_code (is_operand b) (second_code b z J) d (term_code a z J d Value) (term_code b z J (d + 1) Value))
+term_code (Message' p a) z J d purpose = by_value purpose (message_by (source_of a z J) z.nodes (term_code a z J d Value))
+term_code (Binary' o p a q b) z J d purpose =
+    binary_code (source_of b z J) (source_of a z J) o d purpose (term_code a z J d Value)
+    (term_code b z J (depth_behind (is_operand a) d) Value)
 term_code (Logical' c p a q b) z J d purpose = by_test purpose (λ when far.
     both_code (decides c) when far (λ w g. term_code a z J d (Jump w g)) (term_code b z J d (Jump when far)))
 term_code (Not' p a) z J d purpose = by_test purpose (λ when far. term_code a z J d (Jump (not when) far))
@@ -195,25 +238,44 @@ abbrev pub assign_code : Target → Insn
 assign_code (ToLocal k) = copy (place k) R0
 assign_code (ToWord k) = StoreReg size.W R6 (pos (4 * k)) R0
 
--- a steady number is computed behind the targets before; any other number before them, and kept in place d
-abbrev pub also_code : Bool → ℕ → List Insn → List Insn → Insn → List Insn
-also_code true d code first set = first ++ (code ++ set ∷ [])
-also_code false d code first set = code ++ (copy (place d) R0 ∷ (first ++ copy R0 (place d) ∷ set ∷ []))
+-- sets a target to a found number
+abbrev pub set_code : Target → Source → List Insn
+set_code (ToLocal k) x = get_code (place k) x ∷ []
+set_code (ToWord k) (Constant v) = StoreImm size.W R6 (pos (4 * k)) (cast_signed w32 v) ∷ []
+set_code (ToWord k) (FromLocal j) = StoreReg size.W R6 (pos (4 * k)) (place j) ∷ []
+set_code (ToWord k) x = get_code R0 x ∷ assign_code (ToWord k) ∷ []
+
+-- sets a target to a number, by where that is found
+abbrev pub given_code : Source → Target → List Insn → List Insn
+given_code Computed target code = code ++ assign_code target ∷ []
+given_code x target code = set_code target x
+
+-- a steady number is found or computed behind the targets before; any other number before them, and kept in place d
+abbrev pub also_code : Bool → ℕ → Source → Target → List Insn → List Insn → List Insn
+also_code true d x target code first = first ++ given_code x target code
+also_code false d x target code first =
+    code ++ (copy (place d) R0 ∷ (first ++ copy R0 (place d) ∷ assign_code target ∷ []))
 
 -- of an assignment at depth d
 abbrev pub assignment_code : Assignment → Sizes → List ℕ → ℕ → List Insn
-assignment_code (One target e) z J d = term_code e z J d Value ++ assign_code target ∷ []
+assignment_code (One target e) z J d = given_code (source_of e z J) target (term_code e z J d Value)
 assignment_code (Also' p front target e) z J d =
-    also_code (is_steady e) d (term_code e z J d Value) (assignment_code front z J (depth_behind (is_steady e) d))
-    (assign_code target)
+    also_code (is_steady e) d (source_of e z J) target (term_code e z J d Value)
+    (assignment_code front z J (depth_behind (is_steady e) d))
 
-abbrev pub send_code : ℕ → ℕ → List Insn
-send_code d j = set_node R1 j ∷ copy R2 (place d) ∷ Call (pos 3) ∷ []
+-- a found number to a node
+abbrev pub send_code : Source → ℕ → List Insn
+send_code x j = set_node R1 j ∷ get_code R2 x ∷ Call (pos 3) ∷ []
 
--- the number in place d to each node below n, from 0 on
-abbrev pub send_codes : ℕ → ℕ → List Insn
-send_codes d zero = []
-send_codes d (suc n) = send_codes d n ++ send_code d n
+-- to each node below n, from 0 on
+abbrev pub send_codes : Source → ℕ → List Insn
+send_codes x zero = []
+send_codes x (suc n) = send_codes x n ++ send_code x n
+
+-- a computed number is sent from place d
+abbrev pub send_all_code : Source → ℕ → ℕ → List Insn → List Insn
+send_all_code Computed d n code = code ++ (copy (place d) R0 ∷ send_codes (FromLocal d) n)
+send_all_code x d n code = send_codes x n
 
 abbrev pub send_to_code : ℕ → ℕ → List Insn
 send_to_code d n = jump_at AtLeast n 3 ∷ copy R1 R0 ∷ copy R2 (place d) ∷ Call (pos 3) ∷ []
@@ -231,7 +293,7 @@ block_code (Assign a) z J d = assignment_code a z J d
 block_code (If' t p a q b) z J d =
     choice_code (λ far. term_code t z J d (Jump false far)) (block_code a z J d) (block_code b z J d)
 block_code (For' p body) z J d = each_code (λ j. block_code body z (J ++ j ∷ []) d) z.nodes
-block_code (SendAll e) z J d = term_code e z J d Value ++ (copy (place d) R0 ∷ send_codes d z.nodes)
+block_code (SendAll e) z J d = send_all_code (source_of e z J) d z.nodes (term_code e z J d Value)
 block_code (SendTo e k) z J d = term_code e z J d Value
     ++ (copy (place d) R0 ∷ (term_code k z J (d + 1) Value ++ send_to_code d z.nodes))
 

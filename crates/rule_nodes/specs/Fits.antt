@@ -1,6 +1,6 @@
 -- What a rule needs to be compiled: its numbers have 32 bits, its names are in scope, its words are in the memory, and
 -- it needs no more places than there are.
-use Rattle.std.specs.Prelude.{ℕ, ◌+◌, ◌*◌, ◌^◌, ◌<◌, ◌≤◌, Bool, true, false}
+use Rattle.std.specs.Prelude.{ℕ, ◌+◌, ◌*◌, ◌^◌, ◌<◌, ◌≤◌, Bool, true, false, ◌||◌}
 use Rattle.rule_nodes.specs.declared.syntax.Sizes.{Sizes}
 use Rattle.rule_nodes.specs.declared.syntax.Target.{Target}
 use Rattle.rule_nodes.specs.declared.syntax.Target.TheVariants.{ToLocal, ToWord}
@@ -12,7 +12,7 @@ use Rattle.rule_nodes.specs.declared.syntax.Statement.{Statement}
 use Rattle.rule_nodes.specs.declared.syntax.Statement.TheVariants.{Nothing, Then', Let', Assign, If', For', SendAll, SendTo}
 use Rattle.rule_nodes.specs.Operands.{is_operand, is_steady, depth_behind}
 
--- a right side that is no operand needs a further place, and so does a number that isn't steady
+-- two sides need a further place if neither is an operand, and so do some other numbers
 abbrev pub HasPlace : Bool → ℕ → Type 0
 HasPlace true d = Unit {0}
 HasPlace false d = d < 3
@@ -29,7 +29,9 @@ Fits (LoopNode i) z loops lets d = i < loops
 Fits (Local k) z loops lets d = k < lets
 Fits (Word k) z loops lets d = 4 * k + 4 ≤ z.memory
 Fits (Message' p a) z loops lets d = Fits a z loops lets d
-Fits (Binary' o p a q b) z loops lets d = HasPlace (is_operand b) d × Fits a z loops lets d × Fits b z loops lets (d + 1)
+Fits (Binary' o p a q b) z loops lets d =
+    HasPlace (is_operand a || is_operand b) d × Fits a z loops lets d
+    × Fits b z loops lets (depth_behind (is_operand a) d)
 Fits (Logical' c p a q b) z loops lets d = Fits a z loops lets d × Fits b z loops lets d
 Fits (Not' p a) z loops lets d = Fits a z loops lets d
 Fits (Choice' p t q a r b) z loops lets d = Fits t z loops lets d × Fits a z loops lets d × Fits b z loops lets d
@@ -53,5 +55,5 @@ BlockFits (Let' e p rest) z loops d = (d < 3) × Fits e z loops d d × BlockFits
 BlockFits (Assign a) z loops d = AssignmentFits a z loops d d
 BlockFits (If' t p a q b) z loops d = Fits t z loops d d × BlockFits a z loops d × BlockFits b z loops d
 BlockFits (For' p body) z loops d = BlockFits body z (loops + 1) d
-BlockFits (SendAll e) z loops d = (d < 3) × Fits e z loops d d
+BlockFits (SendAll e) z loops d = HasPlace (is_operand e) d × Fits e z loops d d
 BlockFits (SendTo e k) z loops d = (d < 3) × Fits e z loops d d × Fits k z loops d (d + 1)

@@ -1,6 +1,8 @@
--- The terms that need no code of their own: constants, and operands, which one instruction fetches.
+-- The terms whose numbers are found without code of their own: constants, locals and words.
 use Rattle.std.specs.Prelude.{ℕ, Bool, true, false, ◌&&◌, ◌||◌, ◌+◌, if◌then◌else◌, List, slice_index}
 use Rattle.rule_nodes.specs.declared.syntax.Sizes.{Sizes}
+use Rattle.rule_nodes.specs.declared.syntax.Source.{Source}
+use Rattle.rule_nodes.specs.declared.syntax.Source.TheVariants.{Constant, FromLocal, FromWord, Computed}
 use Rattle.rule_nodes.specs.declared.syntax.Term.{Term}
 use Rattle.rule_nodes.specs.declared.syntax.Term.TheVariants.{Number, Nodes, Faults, Modulus, Me, Coin, LoopNode, Local, Word, Binary'}
 use Rattle.rule_nodes.specs.Meaning.{operate}
@@ -46,3 +48,13 @@ constant_number Modulus z J = z.modulus
 constant_number (LoopNode i) z J = slice_index J i
 constant_number (Binary' o p a q b) z J = operate o (constant_number a z J) (constant_number b z J)
 constant_number _ z J = 0
+
+-- ---- where a number is found
+
+abbrev pub fetched_source : Term → Source
+fetched_source (Local k) = FromLocal k
+fetched_source (Word k) = FromWord k
+fetched_source _ = Computed
+
+abbrev pub source_of : Term → Sizes → List ℕ → Source
+source_of t z J = if is_constant t then Constant (constant_number t z J) else fetched_source t

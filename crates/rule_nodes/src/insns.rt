@@ -1,7 +1,8 @@
 //! The instructions that the code of rules is made of.
 ghost use Rattle.std.specs.Prelude.{◌≡◌, ◌≤◌, ◌<◌, ◌+◌, ◌*◌, pos, length, IfOk, IsTrue, ◌↔◌};
+ghost use Rattle.bpf_insn.specs.declared.forms.Reg.TheVariants.{R1};
 ghost use Rattle.bpf_insn.specs.declared.forms.Insn.TheVariants as i;
-ghost use Rattle.rule_nodes.specs.Code.{place, set_number, copy, alu_of, cond_of, opposite, jump_on, jump_by, jump_at};
+ghost use Rattle.rule_nodes.specs.Code.{place, set_number, copy, alu_of, cond_of, opposite, mirror, jump_on, jump_by, jump_place, jump_at, set_node};
 
 use crate::errors::CompileError;
 use crate::syntax::{Comparison, Operation};
@@ -50,6 +51,19 @@ pub fn copy_of(dst: Reg, src: Reg) -> Insn
     }
 }
 
+/// The number of a node, into r1.
+pub fn set_node_of(node: u32) -> Insn
+    requires { node < 64 }
+    ensures { result ≡ set_node R1 node }
+{
+    Insn::Alu {
+        op: AluOp::Mov,
+        width: Width::W64,
+        dst: Reg::R1,
+        src: Operand::Imm(node as i32),
+    }
+}
+
 pub fn operation_of(op: Operation) -> AluOp
     ensures { result ≡ alu_of op }
 {
@@ -88,6 +102,20 @@ fn opposite_of(comparison: Comparison) -> Comparison
     }
 }
 
+/// The same comparison with its sides changed over.
+pub fn mirror_of(comparison: Comparison) -> Comparison
+    ensures { result ≡ mirror comparison }
+{
+    match comparison {
+        Comparison::Equal => Comparison::Equal,
+        Comparison::NotEqual => Comparison::NotEqual,
+        Comparison::Less => Comparison::Greater,
+        Comparison::AtMost => Comparison::AtLeast,
+        Comparison::Greater => Comparison::Less,
+        Comparison::AtLeast => Comparison::AtMost,
+    }
+}
+
 /// The comparison of a jump that is taken if this one holds, or if it doesn't.
 pub fn jump_on_of(when: bool, comparison: Comparison) -> Comparison
     ensures { result ≡ jump_on when comparison }
@@ -109,15 +137,33 @@ fn distance(far: usize) -> Result<i16, CompileError>
     Ok(far as i16)
 }
 
-/// A jump by what r0 is beside r1.
-pub fn jump_by_of(comparison: Comparison, far: usize) -> Result<Insn, CompileError>
-    ensures { IfOk result (λ x. x ≡ jump_by comparison far) }
+/// A jump by what r0 is beside an operand.
+pub fn jump_by_of(comparison: Comparison, src: Operand, far: usize) -> Result<Insn, CompileError>
+    ensures { IfOk result (λ x. x ≡ jump_by comparison src far) }
 {
     Ok(Insn::Branch {
         cond: condition_of(comparison),
         width: Width::W32,
         dst: Reg::R0,
-        src: Operand::Reg(Reg::R1),
+        src,
+        off: distance(far)?,
+    })
+}
+
+/// A jump by what a local and a constant are, where the local stands.
+pub fn jump_place_of(
+    k: u32,
+    comparison: Comparison,
+    v: u32,
+    far: usize,
+) -> Result<Insn, CompileError>
+    ensures { IfOk result (λ x. x ≡ jump_place k comparison v far) }
+{
+    Ok(Insn::Branch {
+        cond: condition_of(comparison),
+        width: Width::W32,
+        dst: place_of(k),
+        src: Operand::Imm(v.cast_signed()),
         off: distance(far)?,
     })
 }

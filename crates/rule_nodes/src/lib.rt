@@ -2,6 +2,7 @@
 #![tactic(auto)]
 
 mod assignments;
+mod binary;
 mod compile;
 mod errors;
 mod insns;
@@ -16,6 +17,6 @@ pub use compile::compile_rule;
 pub use errors::CompileError;
 pub use laws::{rule_ends, rule_is_taken};
 pub use syntax::{
-    Assignment, Comparison, Connective, Operation, Operator, Purpose, Sizes, Statement, Target,
-    Term,
+    Assignment, Comparison, Connective, Operation, Operator, Purpose, Sizes, Source, Statement,
+    Target, Term,
 };

@@ -1,14 +1,15 @@
-//! Constants, and operands: locals and words of the memory.
-ghost use Rattle.std.specs.Prelude.{◌≡◌, ◌≤◌, slice_index, IfOk};
+//! Where numbers are found: constants, locals and words of the memory.
+ghost use Rattle.std.specs.Prelude.{◌≡◌, ◌++◌, ◌||◌, slice_index, IfOk};
 ghost use Rattle.rule_nodes.specs.Meaning.{apply, compare, operate};
-ghost use Rattle.rule_nodes.specs.Operands.{is_constant, is_operand, constant_number};
+ghost use Rattle.rule_nodes.specs.Operands.{is_constant, is_operand, constant_number, depth_behind, fetched_source, source_of};
 ghost use Rattle.rule_nodes.specs.Fits.{HasPlace};
-ghost use Rattle.rule_nodes.specs.Code.{fetch_code, second_code};
+ghost use Rattle.rule_nodes.specs.Code.{get_code, operand_code, load_code};
 
 use crate::errors::CompileError;
 use crate::insns::{copy_of, place_of, set_number_of, word_offset};
-use crate::syntax::{Comparison, Operation, Operator, Sizes, Term};
-use bpf_insn::{Insn, Reg, Size};
+use crate::parts::joined;
+use crate::syntax::{Comparison, Operation, Operator, Sizes, Source, Term};
+use bpf_insn::{Insn, Operand, Reg, Size};
 
 fn apply_of(op: Operation, a: u32, b: u32) -> u32
     ensures { result ≡ apply op a b }
@@ -90,51 +91,93 @@ fn constant_of(t: &Term, sizes: Sizes, loops: &[u32]) -> u32
     }
 }
 
-fn fetch_of(t: &Term) -> Result<Insn, CompileError>
-    ensures { IfOk result (λ x. x ≡ fetch_code t.now) }
+fn fetched(t: &Term) -> Source
+    ensures { result ≡ fetched_source t.now }
 {
     match t {
-        Term::Local(k) => Ok(copy_of(Reg::R1, place_of(*k))),
-        Term::Word(k) => Ok(Insn::Load {
-            size: Size::W,
-            dst: Reg::R1,
-            base: Reg::R6,
-            off: word_offset(*k)?,
-        }),
-        _ => Ok(copy_of(Reg::R1, Reg::R0)),
+        Term::Local(k) => Source::FromLocal(*k),
+        Term::Word(k) => Source::FromWord(*k),
+        _ => Source::Computed,
     }
 }
 
-/// The instruction that puts an operand into r1.
-pub fn second_of(t: &Term, sizes: Sizes, loops: &[u32]) -> Result<Insn, CompileError>
-    ensures { IfOk result (λ x. x ≡ second_code t.now sizes loops.now) }
+/// Returns where the number of a term is found.
+pub fn source(t: &Term, sizes: Sizes, loops: &[u32]) -> Source
+    ensures { result ≡ source_of t.now sizes loops.now }
 {
     if is_constant_of(t) {
-        Ok(set_number_of(Reg::R1, constant_of(t, sizes, loops)))
+        Source::Constant(constant_of(t, sizes, loops))
     } else {
-        fetch_of(t)
+        fetched(t)
     }
 }
 
-/// Returns true if a right side is an operand. Fails if it isn't one and there is no place for the left side.
-pub fn right_side(right: &Term, depth: u32) -> Result<bool, CompileError>
-    ensures operand { IfOk result (λ simple. simple ≡ is_operand right.now) }
-    ensures place { IfOk result (λ _. HasPlace (is_operand right.now) depth) }
-    ensures deep { IfOk result (λ _. depth ≤ 255) }
+/// The instruction that puts a found number into a register.
+pub fn get_of(dst: Reg, source: Source) -> Result<Insn, CompileError>
+    ensures { IfOk result (λ x. x ≡ get_code dst source) }
 {
-    let simple = is_operand_of(right);
-    room_for(simple, depth)?;
-    Ok(simple)
+    match source {
+        Source::Constant(v) => Ok(set_number_of(dst, v)),
+        Source::FromLocal(k) => Ok(copy_of(dst, place_of(k))),
+        Source::FromWord(k) => Ok(Insn::Load {
+            size: Size::W,
+            dst,
+            base: Reg::R6,
+            off: word_offset(k)?,
+        }),
+        Source::Computed => Ok(copy_of(dst, Reg::R0)),
+    }
 }
 
-/// Fails if the left side needs a place, and there is none.
-fn room_for(simple: bool, depth: u32) -> Result<(), CompileError>
-    ensures place { IfOk result (λ _. HasPlace simple depth) }
-    ensures deep { IfOk result (λ _. depth ≤ 255) }
+/// A found number as the operand of an instruction.
+pub fn operand_of(source: Source) -> Operand
+    ensures { result ≡ operand_code source }
 {
+    match source {
+        Source::Constant(v) => Operand::Imm(v.cast_signed()),
+        Source::FromLocal(k) => Operand::Reg(place_of(k)),
+        Source::FromWord(_) | Source::Computed => Operand::Reg(Reg::R1),
+    }
+}
+
+/// The code, and the load of a word that is an operand.
+pub fn with_load(code: Vec<Insn>, source: Source) -> Result<Vec<Insn>, CompileError>
+    ensures { IfOk result (λ c. c.items ≡ code.items ++ load_code source) }
+{
+    match source {
+        Source::FromWord(_) => joined(code, &[get_of(Reg::R1, source)?]),
+        Source::Constant(_) => joined(code, &[]),
+        Source::FromLocal(_) => joined(code, &[]),
+        Source::Computed => joined(code, &[]),
+    }
+}
+
+/// The depth of the right side. Fails if neither side is an operand and there is no place for the left one.
+pub fn right_depth(left: &Term, right: &Term, depth: u32) -> Result<u32, CompileError>
+    ensures depth { IfOk result (λ d. d ≡ depth_behind (is_operand left.now) depth) }
+    ensures place { IfOk result (λ _. HasPlace (is_operand left.now || is_operand right.now) depth) }
+{
+    let found = is_operand_of(left);
+    room_for(found || is_operand_of(right), depth)?;
+    depth_beside(found, depth)
+}
+
+fn depth_beside(found: bool, depth: u32) -> Result<u32, CompileError>
+    ensures { IfOk result (λ d. d ≡ depth_behind found depth) }
+{
+    if found {
+        return Ok(depth);
+    }
     if depth > 255 {
         return Err(CompileError::NoRoom);
     }
+    Ok(depth + 1)
+}
+
+/// Fails if a place is needed, and there is none.
+pub fn room_for(simple: bool, depth: u32) -> Result<(), CompileError>
+    ensures { IfOk result (λ _. HasPlace simple depth) }
+{
     if simple {
         return Ok(());
     }

@@ -6,13 +6,14 @@ ghost use Rattle.bpf_insn.specs.declared.forms.Reg.TheVariants.{R0};
 ghost use Rattle.bpf_insn.specs.declared.forms.Operand.TheVariants as operand;
 ghost use Rattle.bpf_insn.specs.declared.forms.Insn.TheVariants as i;
 ghost use Rattle.rule_nodes.specs.declared.syntax.Purpose.TheVariants.{Jump};
-ghost use Rattle.rule_nodes.specs.Code.{place, set_number, copy, when_of, far_of, behind_test, by_value, by_operator, two_code, pair_code, message_code, decides, both_far};
+ghost use Rattle.rule_nodes.specs.declared.syntax.Source.TheVariants.{Constant};
+ghost use Rattle.rule_nodes.specs.Code.{place, set_number, copy, when_of, far_of, behind_test, by_value, two_code, message_code, message_by, decides, both_far};
 
 use crate::errors::CompileError;
 use crate::insns::{
-    copy_of, jump_at_of, jump_by_of, jump_on_of, operation_of, place_of, set_number_of, skip_of,
+    copy_of, jump_at_of, jump_on_of, place_of, set_node_of, set_number_of, skip_of,
 };
-use crate::syntax::{Comparison, Connective, Operator, Purpose};
+use crate::syntax::{Comparison, Connective, Purpose, Source};
 use bpf_insn::{AluOp, Insn, MAX_SLOTS, Operand, Reg, Width};
 use node_env::NO_MAIL;
 use std::alloc::Global;
@@ -49,7 +50,7 @@ pub fn by_value_of(code: Vec<Insn>, purpose: Purpose) -> Result<Vec<Insn>, Compi
     }
 }
 
-fn when_for(purpose: Purpose) -> bool
+pub fn when_for(purpose: Purpose) -> bool
     ensures { result ≡ when_of purpose }
 {
     match purpose {
@@ -58,7 +59,7 @@ fn when_for(purpose: Purpose) -> bool
     }
 }
 
-fn far_for(purpose: Purpose) -> usize
+pub fn far_for(purpose: Purpose) -> usize
     ensures { result ≡ far_of purpose }
 {
     match purpose {
@@ -100,56 +101,14 @@ pub fn behind_test_of(code: Vec<Insn>, purpose: Purpose) -> Result<Vec<Insn>, Co
 
 // ---- two sides
 
-fn two_of(depth: u32, left: Vec<Insn>, right: &[Insn]) -> Result<Vec<Insn>, CompileError>
+/// The left number into r0 and the right one into r1.
+pub fn two_of(depth: u32, left: Vec<Insn>, right: &[Insn]) -> Result<Vec<Insn>, CompileError>
     ensures { IfOk result (λ c. c.items ≡ two_code depth left.items right.now) }
 {
     let place = place_of(depth);
     let kept = joined(left, &[copy_of(place, Reg::R0)])?;
     let both = joined(kept, right)?;
     joined(both, &[copy_of(Reg::R1, Reg::R0), copy_of(Reg::R0, place)])
-}
-
-/// The left number into r0 and the right one into r1, by one instruction if the right side is an operand.
-pub fn pair_of(
-    simple: bool,
-    second: Insn,
-    depth: u32,
-    left: Vec<Insn>,
-    right: &[Insn],
-) -> Result<Vec<Insn>, CompileError>
-    ensures { IfOk result (λ c. c.items ≡ pair_code simple second depth left.items right.now) }
-{
-    if simple {
-        joined(left, &[second])
-    } else {
-        two_of(depth, left, right)
-    }
-}
-
-/// What an operator makes of r0 and r1, for a purpose.
-pub fn by_operator_of(
-    operator: Operator,
-    code: Vec<Insn>,
-    purpose: Purpose,
-) -> Result<Vec<Insn>, CompileError>
-    ensures { IfOk result (λ c. c.items ≡ by_operator operator purpose code.items) }
-{
-    match operator {
-        Operator::Compute(op) => {
-            let act = Insn::Alu {
-                op: operation_of(op),
-                width: Width::W32,
-                dst: Reg::R0,
-                src: Operand::Reg(Reg::R1),
-            };
-            by_value_of(joined(code, &[act])?, purpose)
-        }
-        Operator::Compare(comparison) => {
-            let on = jump_on_of(when_for(purpose), comparison);
-            let jump = jump_by_of(on, far_for(purpose))?;
-            behind_test_of(joined(code, &[jump])?, purpose)
-        }
-    }
 }
 
 fn decides_of(connective: Connective) -> bool
@@ -208,7 +167,7 @@ pub fn chosen(test: Vec<Insn>, first: &[Insn], second: &[Insn]) -> Result<Vec<In
 // ---- messages and counts
 
 /// The last message from the node in r0.
-pub fn message_of(nodes: u32) -> Result<[Insn; 5], CompileError>
+fn message_of(nodes: u32) -> Result<[Insn; 5], CompileError>
     requires { nodes ≤ 64 }
     ensures { IfOk result (λ c. c ≡ message_code nodes) }
 {
@@ -219,6 +178,35 @@ pub fn message_of(nodes: u32) -> Result<[Insn; 5], CompileError>
         copy_of(Reg::R1, Reg::R0),
         Insn::Call { id: 2 },
     ])
+}
+
+/// The last message from a node whose number is found or computed.
+pub fn message_by_of(
+    alloc: Global,
+    source: Source,
+    nodes: u32,
+    code: Vec<Insn>,
+) -> Result<Vec<Insn>, CompileError>
+    requires { nodes ≤ 64 }
+    ensures { IfOk result (λ c. c.items ≡ message_by source nodes code.items) }
+{
+    match source {
+        Source::Constant(node) => message_from_node(alloc, node, nodes),
+        Source::FromLocal(_) => joined(code, &message_of(nodes)?),
+        Source::FromWord(_) => joined(code, &message_of(nodes)?),
+        Source::Computed => joined(code, &message_of(nodes)?),
+    }
+}
+
+fn message_from_node(alloc: Global, node: u32, nodes: u32) -> Result<Vec<Insn>, CompileError>
+    requires { nodes ≤ 64 }
+    ensures { IfOk result (λ c. c.items ≡ message_by (Constant node) nodes []) }
+{
+    if node < nodes {
+        joined(Vec::new(alloc), &[set_node_of(node), Insn::Call { id: 2 }])
+    } else {
+        single(alloc, set_number_of(Reg::R0, NO_MAIL))
+    }
 }
 
 /// The nodes of the loops around, with one more.
@@ -247,12 +235,9 @@ pub fn counted(counts: Vec<Insn>, test: &[Insn], place: Reg) -> Result<Vec<Insn>
 
 /// The count in a place, from 0 on, and then in r0.
 pub fn count_of(alloc: Global, place: Reg, counts: &[Insn]) -> Result<Vec<Insn>, CompileError>
-    ensures { IfOk result (λ c. c.items ≡ set_number R0 0 ∷ copy place R0 ∷ (counts.now ++ copy R0 place ∷ [])) }
+    ensures { IfOk result (λ c. c.items ≡ set_number place 0 ∷ (counts.now ++ copy R0 place ∷ [])) }
 {
-    let head = joined(
-        Vec::new(alloc),
-        &[set_number_of(Reg::R0, 0), copy_of(place, Reg::R0)],
-    )?;
+    let head = single(alloc, set_number_of(place, 0))?;
     let all = joined(head, counts)?;
     joined(all, &[copy_of(Reg::R0, place)])
 }

@@ -1,44 +1,38 @@
 //! The code of statements.
-ghost use Rattle.std.specs.Prelude.{◌≡◌, ◌≤◌, ◌<◌, ◌++◌, ◌∷◌, length, IfOk};
-ghost use Rattle.bpf_insn.specs.declared.forms.Reg.TheVariants.{R0};
+ghost use Rattle.std.specs.Prelude.{◌≡◌, ◌≤◌, ◌<◌, ◌++◌, [], ◌∷◌, pos, length, IfOk};
+ghost use Rattle.bpf_insn.specs.declared.forms.Reg.TheVariants.{R0, R1};
+ghost use Rattle.bpf_insn.specs.declared.forms.Insn.TheVariants as i;
 ghost use Rattle.rule_nodes.specs.declared.syntax.Statement.TheVariants.{SendAll, SendTo};
 ghost use Rattle.rule_nodes.specs.Fits.{BlockFits};
-ghost use Rattle.rule_nodes.specs.Code.{place, copy, send_code, send_codes, send_to_code, block_code};
+ghost use Rattle.rule_nodes.specs.Code.{place, copy, set_node, send_codes, send_all_code, send_to_code, block_code};
 
 use crate::assignments::assignment;
 use crate::errors::CompileError;
-use crate::insns::{copy_of, free_place, jump_at_of, place_of};
+use crate::insns::{copy_of, free_place, jump_at_of, place_of, set_node_of};
+use crate::operands::{get_of, is_operand_of, room_for, source};
 use crate::parts::{chosen, joined, skip_test, within};
-use crate::syntax::{Comparison, Purpose, Sizes, Statement, Term};
+use crate::syntax::{Comparison, Purpose, Sizes, Source, Statement, Term};
 use crate::terms::term;
-use bpf_insn::{AluOp, Insn, Operand, Reg, Width};
+use bpf_insn::{Insn, Reg};
 use std::alloc::Global;
 
-/// The number in a place to a node.
-fn send_of(depth: u32, node: u32) -> [Insn; 3]
+/// A found number to a node.
+fn send_of(node: u32, get: Insn) -> [Insn; 3]
     requires { node < 64 }
-    ensures { result ≡ send_code depth node }
+    ensures { result ≡ set_node R1 node ∷ get ∷ i.Call (pos 3) ∷ [] }
 {
-    [
-        Insn::Alu {
-            op: AluOp::Mov,
-            width: Width::W64,
-            dst: Reg::R1,
-            src: Operand::Imm(node as i32),
-        },
-        copy_of(Reg::R2, place_of(depth)),
-        Insn::Call { id: 3 },
-    ]
+    [set_node_of(node), get, Insn::Call { id: 3 }]
 }
 
-/// The number in a place to each node.
-fn sends_of(alloc: Global, depth: u32, nodes: u32) -> Result<Vec<Insn>, CompileError>
+/// A found number to each node.
+fn sends_of(alloc: Global, source: Source, nodes: u32) -> Result<Vec<Insn>, CompileError>
     requires { nodes ≤ 64 }
-    ensures { IfOk result (λ c. c.items ≡ send_codes depth nodes) }
+    ensures { IfOk result (λ c. c.items ≡ send_codes source nodes) }
 {
     let mut sends = Vec::new(alloc);
     for node in 0..nodes {
-        sends = joined(sends, &send_of(depth, node))?;
+        let get = get_of(Reg::R2, source)?;
+        sends = joined(sends, &send_of(node, get))?;
     }
     Ok(sends)
 }
@@ -76,10 +70,31 @@ fn send_all(
     ensures code { IfOk result (λ c. c.items ≡ block_code (SendAll e.now) sizes loops.now depth) }
     ensures fits { IfOk result (λ _. BlockFits (SendAll e.now) sizes (length loops.now) depth) }
 {
-    free_place(depth)?;
-    let sends = sends_of(alloc, depth, sizes.nodes)?;
+    room_for(is_operand_of(e), depth)?;
     let value = term(alloc, e, sizes, loops, depth, depth, Purpose::Value)?;
-    stored(value, depth, &sends)
+    send_all_of(alloc, source(e, sizes, loops), depth, sizes.nodes, value)
+}
+
+/// To each node a number that is found, or that the code computes.
+fn send_all_of(
+    alloc: Global,
+    source: Source,
+    depth: u32,
+    nodes: u32,
+    code: Vec<Insn>,
+) -> Result<Vec<Insn>, CompileError>
+    requires { nodes ≤ 64 }
+    ensures { IfOk result (λ c. c.items ≡ send_all_code source depth nodes code.items) }
+{
+    match source {
+        Source::Computed => {
+            let sends = sends_of(alloc, Source::FromLocal(depth), nodes)?;
+            stored(code, depth, &sends)
+        }
+        Source::Constant(_) => sends_of(alloc, source, nodes),
+        Source::FromLocal(_) => sends_of(alloc, source, nodes),
+        Source::FromWord(_) => sends_of(alloc, source, nodes),
+    }
 }
 
 fn send_to(

@@ -103,3 +103,12 @@ pub enum Purpose {
     Value,
     Jump(bool, usize),
 }
+
+/// Where the number of a term is found: it is a constant, a local or a word, or else it is computed.
+#[derive(Clone, Copy, Debug, PartialEq, Eq)]
+pub enum Source {
+    Constant(u32),
+    FromLocal(u32),
+    FromWord(u32),
+    Computed,
+}

@@ -1,18 +1,28 @@
 //! The code of terms.
-ghost use Rattle.std.specs.Prelude.{◌≡◌, ◌≤◌, length, IfOk};
+ghost use Rattle.std.specs.Prelude.{◌≡◌, ◌≤◌, [], ◌∷◌, length, IfOk};
+ghost use Rattle.bpf_insn.specs.declared.forms.Reg.TheVariants.{R0};
+ghost use Rattle.rule_nodes.specs.Operands.{source_of};
 ghost use Rattle.rule_nodes.specs.Fits.{Fits};
-ghost use Rattle.rule_nodes.specs.Code.{term_code};
+ghost use Rattle.rule_nodes.specs.Code.{set_number, by_value, message_by, term_code};
 
+use crate::binary::binary_of;
 use crate::errors::CompileError;
 use crate::insns::{copy_of, free_place, has_word, place_of, set_number_of, word_offset};
-use crate::operands::{right_side, second_of};
+use crate::operands::{right_depth, source};
 use crate::parts::{
-    behind_test_of, by_operator_of, by_value_of, chosen, count_of, counted, first_test, joined,
-    message_of, opposite_test, pair_of, single, skip_test, test_of, within,
+    behind_test_of, by_value_of, chosen, count_of, counted, first_test, joined, message_by_of,
+    opposite_test, single, skip_test, test_of, within,
 };
 use crate::syntax::{Purpose, Sizes, Term};
 use bpf_insn::{Insn, Reg, Size};
 use std::alloc::Global;
+
+/// The code of a constant.
+fn number(alloc: Global, v: u32, purpose: Purpose) -> Result<Vec<Insn>, CompileError>
+    ensures { IfOk result (λ c. c.items ≡ by_value purpose (set_number R0 v ∷ [])) }
+{
+    by_value_of(single(alloc, set_number_of(Reg::R0, v))?, purpose)
+}
 
 /// The code of a term without parts; a term with parts is for [`term`].
 fn leaf(
@@ -28,16 +38,10 @@ fn leaf(
     ensures fits { IfOk result (λ _. Fits t.now sizes (length loops.now) lets depth) }
 {
     match t {
-        Term::Number(v) => by_value_of(single(alloc, set_number_of(Reg::R0, *v))?, purpose),
-        Term::Nodes => by_value_of(single(alloc, set_number_of(Reg::R0, sizes.nodes))?, purpose),
-        Term::Faults => by_value_of(
-            single(alloc, set_number_of(Reg::R0, sizes.faults))?,
-            purpose,
-        ),
-        Term::Modulus => by_value_of(
-            single(alloc, set_number_of(Reg::R0, sizes.modulus))?,
-            purpose,
-        ),
+        Term::Number(v) => number(alloc, *v, purpose),
+        Term::Nodes => number(alloc, sizes.nodes, purpose),
+        Term::Faults => number(alloc, sizes.faults, purpose),
+        Term::Modulus => number(alloc, sizes.modulus, purpose),
         Term::Me => by_value_of(single(alloc, Insn::Call { id: 1 })?, purpose),
         Term::Coin => by_value_of(single(alloc, Insn::Call { id: 4 })?, purpose),
         Term::LoopNode(k) => {
@@ -45,10 +49,7 @@ fn leaf(
             if level >= loops.len() {
                 return Err(CompileError::NoRoom);
             }
-            by_value_of(
-                single(alloc, set_number_of(Reg::R0, loops[level]))?,
-                purpose,
-            )
+            number(alloc, loops[level], purpose)
         }
         Term::Local(k) => {
             if *k >= lets {
@@ -72,6 +73,23 @@ fn leaf(
     }
 }
 
+/// The last message from the node that a term names.
+fn message(
+    alloc: Global,
+    node: &Term,
+    sizes: Sizes,
+    loops: &[u32],
+    code: Vec<Insn>,
+    purpose: Purpose,
+) -> Result<Vec<Insn>, CompileError>
+    requires { sizes.nodes ≤ 64 }
+    ensures { IfOk result (λ c. c.items ≡
+        by_value purpose (message_by (source_of node.now sizes loops.now) sizes.nodes code.items)) }
+{
+    let from = source(node, sizes, loops);
+    by_value_of(message_by_of(alloc, from, sizes.nodes, code)?, purpose)
+}
+
 /// The code of a term at a depth, with so many lets in scope.
 pub fn term(
     alloc: Global,
@@ -90,14 +108,13 @@ pub fn term(
     match t {
         Term::Message(a) => {
             let index = term(alloc, a, sizes, loops, lets, depth, Purpose::Value)?;
-            by_value_of(joined(index, &message_of(sizes.nodes)?)?, purpose)
+            message(alloc, a, sizes, loops, index, purpose)
         }
-        Term::Binary(operator, a, b) => {
-            let simple = right_side(b, depth)?;
-            let right = term(alloc, b, sizes, loops, lets, depth + 1, Purpose::Value)?;
+        Term::Binary(op, a, b) => {
+            let behind = right_depth(a, b, depth)?;
+            let right = term(alloc, b, sizes, loops, lets, behind, Purpose::Value)?;
             let left = term(alloc, a, sizes, loops, lets, depth, Purpose::Value)?;
-            let pair = pair_of(simple, second_of(b, sizes, loops)?, depth, left, &right)?;
-            by_operator_of(*operator, pair, purpose)
+            binary_of(alloc, *op, a, b, sizes, loops, depth, left, right, purpose)
         }
         Term::Logical(connective, a, b) => {
             let right = term(alloc, b, sizes, loops, lets, depth, test_of(purpose))?;
@@ -106,10 +123,8 @@ pub fn term(
             behind_test_of(joined(left, &right)?, purpose)
         }
         Term::Not(a) => {
-            behind_test_of(
-                term(alloc, a, sizes, loops, lets, depth, opposite_test(purpose))?,
-                purpose,
-            )
+            let code = term(alloc, a, sizes, loops, lets, depth, opposite_test(purpose))?;
+            behind_test_of(code, purpose)
         }
         Term::Choice(c, a, b) => {
             let second = term(alloc, b, sizes, loops, lets, depth, Purpose::Value)?;
