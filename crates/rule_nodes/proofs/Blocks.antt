@@ -1,5 +1,5 @@
 -- The runs of statements.
-use Rattle.std.proofs.Common.{◌≡◌, ◌≢◌, ℕ, zero, suc, ◌+◌, ◌*◌, ◌%◌, ◌^◌, ◌<◌, ◌≤◌, ◌==◌, Bool, true, false, cond, if◌then◌else◌, nat_lt, nat_le, List, [], ◌∷◌, ◌++◌, length, Some, Ok, All, pos, slice_set, refl, sym, ap, ◌∙◌, arith, subst, inl, inr, length-append}
+use Rattle.std.proofs.Common.{◌≡◌, ◌≢◌, ℕ, zero, suc, ◌+◌, ◌*◌, ◌%◌, ◌^◌, ◌<◌, ◌≤◌, ◌==◌, Bool, true, false, if◌then◌else◌, nat_lt, nat_le, List, [], ◌∷◌, ◌++◌, length, Some, Ok, All, pos, slice_set, refl, sym, ap, ◌∙◌, arith, subst, inl, inr, length-append}
 use Rattle.std.specs.Int.{w32, w64, cast_signed, cast_unsigned}
 use Rattle.std.specs.FinMap.{get, insert}
 use Rattle.std.proofs.lemmas.Bool.{cases_Bool, cases_eq, eq-eqb, ne_eqb, ltb-true, ltb-false, le-leb, lt-leb, cond-true, cond-false, or_cases}
@@ -83,7 +83,8 @@ holds_less env d u s h = record {
   bytes = h.bytes;
 }
 
-holds_at : (env : Setting) (d : ℕ) (u : NodeState) (s : MachineState) (to : ℕ) → Holds env d u s → Holds env d u (at s to)
+holds_at : (env : Setting) (d : ℕ) (u : NodeState) (s : MachineState) (to : ℕ) → Holds env d u s
+    → Holds env d u (at s to)
 holds_at env d u s to h = record {
   r6 = h.r6;
   locals = h.locals;
@@ -261,13 +262,14 @@ module _ (program : List Insn) (env : Setting) (last : ℕ) (solid : (k : ℕ) �
       let t = c.new in
       let there = here_is program env last solid t _ back c.slot (stands_back program s.frame.slot code back stands) in
       let t1 = put t (t.frame.slot + 1) (place k) (Num v) in
-      let e1 : step program env t ≡ Ok (Running t1) = copies program env t (t.frame.slot + 1) (place k) R0 v there.0 refl
-      (solid _ (omega (arith, len, room, c.slot))) c.fact.r0 c.fact.small writable in
+      let e1 : step program env t ≡ Ok (Running t1) = copies program env t (t.frame.slot + 1)
+      (place k) R0 v there.0 refl (solid _ (omega (arith, len, room, c.slot))) c.fact.r0 c.fact.small writable in
       let g = next t (t.frame.slot + 1) c.fact there.1 (omega (arith, len, room, c.slot)) in
       record {
         new = g.new;
         run = chain program env s t1 g.new (length code + 1) (length rest) (length (code ++ back))
-            (further program env s t t1 (length code) (length code + 1) c.run e1 (omega arith)) g.run (omega (arith, len));
+            (further program env s t t1 (length code) (length code + 1) c.run e1 (omega arith)) g.run
+            (omega (arith, len));
         slot = omega (arith, len, c.slot, g.slot);
         fact = g.fact;
       }
@@ -301,12 +303,14 @@ module _ (program : List Insn) (env : Setting) (last : ℕ) (solid : (k : ℕ) �
       let m1 = t1.frame.registers in
       let near1 : Near s0 t1 = near_put s0 t (t.frame.slot + 1) m R1 (omega arith) c.fact.near in
       let near2 : Near s0 t2 = near_put s0 t1 (t.frame.slot + 1 + 1) v R2 (omega arith) near1 in
-      let to1 : get t2.frame.registers 1 ≡ Some (Num m) = put_other m1 2 (Num v) 1 (λ e. omega arith) ∙ put_same m0 1 (Num m) in
-      let e1 : step program env t ≡ Ok (Running t1) = moves program env t (t.frame.slot + 1) R1 (operand.Imm (pos m)) (Num m)
-      there.0 refl (solid _ (omega (arith, len, room, c.slot))) refl refl in
+      let to1 : get t2.frame.registers 1 ≡ Some (Num m) = put_other m1 2 (Num v) 1 (λ e. omega arith)
+      ∙ put_same m0 1 (Num m) in
+      let e1 : step program env t ≡ Ok (Running t1) = moves program env t (t.frame.slot + 1) R1
+      (operand.Imm (pos m)) (Num m) there.0 refl (solid _ (omega (arith, len, room, c.slot))) refl refl in
       let g = fetch t1 near1 there.1.0 (omega (arith, len, room, c.slot)) in
-      let e3 : step program env t2 ≡ Ok (Running t3) = sends program env t2 (t.frame.slot + 1 + 1 + 1) m v there.1.1.0 refl
-      (solid _ (omega (arith, len, room, c.slot))) to1 (put_same m1 2 (Num v)) (omega (arith, le)) fits in
+      let e3 : step program env t2 ≡ Ok (Running t3) = sends program env t2 (t.frame.slot + 1 + 1 + 1) m v
+      there.1.1.0 refl (solid _ (omega (arith, len, room, c.slot))) to1 (put_same m1 2 (Num v))
+      (omega (arith, le)) fits in
       let n = length front in
       let run1 = further program env s t t1 n (n + 1) c.run e1 (omega arith) in
       let run2 = further program env s t1 t2 (n + 1) (n + 2) run1 g.fetched (omega arith) in
@@ -331,11 +335,13 @@ module _ (program : List Insn) (env : Setting) (last : ℕ) (solid : (k : ℕ) �
   found_sends x z lets v u s found is sized few h stands room =
       let small : v < 2 ^ 32 = found_small env x z lets v u s found is sized.memory h in
       let end = sent_below z.nodes v u in
-      gets program env last solid s _ _ _ _ (Sending env lets end s) (Holds env lets end) refl (omega arith) (λ t k. k.holds)
+      gets program env last solid s _ _ _ _ (Sending env lets end s) (Holds env lets end) refl (omega arith)
+      (λ t k. k.holds)
       (sends_run x lets v z.nodes u s s small (omega (arith, sized.nodes)) (near_self s) h stands room
       (λ t near here l.
       let w : NodeState = record { locals = u.locals; memory = u.memory; sent = t.sent } in
-      get_steps program env last solid R2 x z lets v w t refl found (same_at_source x z lets v u w refl refl is) sized few
+      get_steps program env last solid R2 x z lets v w t refl found
+      (same_at_source x z lets v u w refl refl is) sized few
       (near_holds env lets u s t near h) here l))
 
   -- behind the value in place d and the receiver in r0
@@ -386,7 +392,8 @@ module _ (program : List Insn) (env : Setting) (last : ℕ) (solid : (k : ℕ) �
             record {
               new = w3;
               run = further program env t w2 w3 3 4
-                  (further program env t w1 w2 2 3 (further program env t w w1 1 2 c.run e1 (omega arith)) e2 (omega arith))
+                  (further program env t w1 w2 2 3 (further program env t w w1 1 2 c.run e1 (omega arith)) e2
+                  (omega arith))
                   e3 (omega arith);
               slot = omega (arith, slot);
               fact = subst (λ (y : NodeState). Holds env d y w3) (sym (cond-true (nat_lt x n) (with_sent x v u) u so))
@@ -400,14 +407,16 @@ module _ (program : List Insn) (env : Setting) (last : ℕ) (solid : (k : ℕ) �
               new = w;
               run = chain program env t w w 1 0 4 c.run (stays program env w) (omega arith);
               slot = omega (arith, c.slot, hit);
-              fact = subst (λ (y : NodeState). Holds env d y w) (sym (cond-false (nat_lt x n) (with_sent x v u) u other)) holds;
+              fact = subst (λ (y : NodeState). Holds env d y w)
+                  (sym (cond-false (nat_lt x n) (with_sent x v u) u other)) holds;
             }
       ]
 
   -- ---- loops
 
-  each_runs : (d n m : ℕ) (body : ℕ → List Insn) (act : ℕ → NodeState → NodeState) (u : NodeState) (s : MachineState) → m ≤ n
-      → Holds env d u s → Stands program s.frame.slot (each_code body m) → s.frame.slot + length (each_code body m) ≤ last
+  each_runs : (d n m : ℕ) (body : ℕ → List Insn) (act : ℕ → NodeState → NodeState) (u : NodeState)
+      (s : MachineState) → m ≤ n → Holds env d u s → Stands program s.frame.slot (each_code body m)
+      → s.frame.slot + length (each_code body m) ≤ last
       → ((j : ℕ) (w : NodeState) (t : MachineState) → j < n → Holds env d w t → Stands program t.frame.slot (body j)
       → t.frame.slot + length (body j) ≤ last → Leads t (body j) (Holds env d (act j w)))
       → Leads s (each_code body m) (Holds env d (each_below m act u))
@@ -423,7 +432,8 @@ module _ (program : List Insn) (env : Setting) (last : ℕ) (solid : (k : ℕ) �
       let len : length (front ++ back) ≡ length front + length back = length-append front back in
       let c = each_runs d n m body act u s (omega (arith, le)) h (stands_front program s.frame.slot front back stands)
       (omega (arith, len, room)) each in
-      let there = here_is program env last solid c.new _ back c.slot (stands_back program s.frame.slot front back stands) in
+      let there = here_is program env last solid c.new _ back c.slot
+      (stands_back program s.frame.slot front back stands) in
       let g = each m (each_below m act u) c.new (omega (arith, le)) c.fact there (omega (arith, len, room, c.slot)) in
       record {
         new = g.new;
@@ -445,8 +455,8 @@ module _ (program : List Insn) (env : Setting) (last : ℕ) (solid : (k : ℕ) �
       let writable : (p == 10) ≡ false = ap (λ (n : ℕ). n == 10) number
       ∙ ne_eqb (7 + k) 10 (λ e. omega (arith, e, fits, le, few)) in
       let t1 = put t (t.frame.slot + 1) (place k) (Num v) in
-      let e1 : step program env t ≡ Ok (Running t1) = copies program env t (t.frame.slot + 1) (place k) R0 v stands.0 refl
-      (solid _ room) r0 small writable in
+      let e1 : step program env t ≡ Ok (Running t1) = copies program env t (t.frame.slot + 1)
+      (place k) R0 v stands.0 refl (solid _ room) r0 small writable in
       record {
         new = t1;
         run = once program env t t1 e1;
@@ -461,8 +471,8 @@ module _ (program : List Insn) (env : Setting) (last : ℕ) (solid : (k : ℕ) �
   assign_runs (ToWord k) z lets d v u t sized le few fits r0 small h stands room =
       let zero_off : 0 + 4 * k ≡ 4 * k = omega arith in
       let t1 = storing t (t.frame.slot + 1) (4 * k) v in
-      let e1 : step program env t ≡ Ok (Running t1) = stores program env t (t.frame.slot + 1) R6 R0 (pos (4 * k)) (4 * k) v
-      stands.0 refl (solid _ room) h.r6 r0 (ap pos zero_off)
+      let e1 : step program env t ≡ Ok (Running t1) = stores program env t (t.frame.slot + 1) R6 R0
+      (pos (4 * k)) (4 * k) v stands.0 refl (solid _ room) h.r6 r0 (ap pos zero_off)
       (le-leb (4 * k + 4) env.shape.memory (omega (arith, fits, sized.memory))) in
       record {
         new = t1;
@@ -499,8 +509,8 @@ module _ (program : List Insn) (env : Setting) (last : ℕ) (solid : (k : ℕ) �
       let number : p ≡ 7 + k = place_number k (omega (arith, fits, le, few)) in
       let writable : (p == 10) ≡ false = ap (λ (n : ℕ). n == 10) number
       ∙ ne_eqb (7 + k) 10 (λ e. omega (arith, e, fits, le, few)) in
-      let g = get_steps program env last solid (place k) x z lets v u s writable found is sized (omega (arith, le, few)) h
-      stands.0 room in
+      let g = get_steps program env last solid (place k) x z lets v u s writable found is sized
+      (omega (arith, le, few)) h stands.0 room in
       let s1 = put s (s.frame.slot + 1) (place k) (Num v) in
       record {
         new = s1;
@@ -546,8 +556,8 @@ module _ (program : List Insn) (env : Setting) (last : ℕ) (solid : (k : ℕ) �
         fact = record { holds = holds_word env lets k v u s (s.frame.slot + 1) h; kept = λ i from below. refl };
       }
   set_runs (ToWord k) (FromWord j) z lets d v u s found is sized le few fits h stands room =
-      let g = get_steps program env last solid R0 (FromWord j) z lets v u s refl found is sized (omega (arith, le, few)) h
-      stands.0 (omega (arith, room)) in
+      let g = get_steps program env last solid R0 (FromWord j) z lets v u s refl found is sized
+      (omega (arith, le, few)) h stands.0 (omega (arith, room)) in
       let s1 = put s (s.frame.slot + 1) R0 (Num v) in
       let a = assign_runs (ToWord k) z lets d v u s1 sized le few fits (put_same s.frame.registers 0 (Num v)) g.small
       (holds_put env lets u s (s.frame.slot + 1) v R0 (omega arith) h) stands.1 (omega (arith, room)) in
@@ -606,7 +616,8 @@ module _ (program : List Insn) (env : Setting) (last : ℕ) (solid : (k : ℕ) �
       → d ≤ 3 → TargetFits target z.memory lets → Fits e z (length J) lets d → HasPlace steady d → Holds env lets u s
       → Stands program s.frame.slot (also_code steady d x target (term_code e z J d Value) first)
       → s.frame.slot + length (also_code steady d x target (term_code e z J d Value) first) ≤ last
-      → ((t : MachineState) → Holds env lets u t → Stands program t.frame.slot first → t.frame.slot + length first ≤ last
+      → ((t : MachineState) → Holds env lets u t → Stands program t.frame.slot first
+      → t.frame.slot + length first ≤ last
       → Leads t first (Assigned env lets (depth_behind steady d) w t))
       → Leads s (also_code steady d x target (term_code e z J d Value) first)
       (Assigned env lets d (assigned target (value e z env J u) w) s)
@@ -615,7 +626,8 @@ module _ (program : List Insn) (env : Setting) (last : ℕ) (solid : (k : ℕ) �
       let len : length (first ++ rest) ≡ length first + length rest = length-append first rest in
       let f = before s h (stands_front program s.frame.slot first rest stands) (omega (arith, len, room)) in
       let t = f.new in
-      let at_rest = here_is program env last solid t _ rest f.slot (stands_back program s.frame.slot first rest stands) in
+      let at_rest = here_is program env last solid t _ rest f.slot
+      (stands_back program s.frame.slot first rest stands) in
       let g = given_runs x target e z J d lets w t at_w sized nodes le few ours fits f.fact.holds at_rest
       (omega (arith, len, room, f.slot)) in
       let same : value e z env J w ≡ value e z env J u = steady_is e z J w u steady in
@@ -643,20 +655,24 @@ module _ (program : List Insn) (env : Setting) (last : ℕ) (solid : (k : ℕ) �
       let c = term_runs program env last solid e z J d lets Value u s sized nodes (omega (arith, le, few)) le fits h
       (stands_front program s.frame.slot code rest stands) (omega (arith, len, room)) in
       let t = c.new in
-      let at_rest = here_is program env last solid t _ rest c.slot (stands_back program s.frame.slot code rest stands) in
+      let at_rest = here_is program env last solid t _ rest c.slot
+      (stands_back program s.frame.slot code rest stands) in
       let t1 = put t (t.frame.slot + 1) (place d) (Num v) in
-      let e1 : step program env t ≡ Ok (Running t1) = copies program env t (t.frame.slot + 1) (place d) R0 v at_rest.0 refl
-      (solid _ (omega (arith, len, room, c.slot))) c.fact.r0 c.fact.small writable in
+      let e1 : step program env t ≡ Ok (Running t1) = copies program env t (t.frame.slot + 1)
+      (place d) R0 v at_rest.0 refl (solid _ (omega (arith, len, room, c.slot))) c.fact.r0 c.fact.small writable in
       let h1 : Holds env lets u t1 = holds_free env lets d v u t (t.frame.slot + 1) le free
       (still_holds env lets d u s t le h c.fact.same) in
-      let f = before t1 h1 (stands_front program t1.frame.slot first back at_rest.1) (omega (arith, len, room, c.slot)) in
+      let f = before t1 h1 (stands_front program t1.frame.slot first back at_rest.1)
+      (omega (arith, len, room, c.slot)) in
       let x = f.new in
-      let at_back = here_is program env last solid x _ back f.slot (stands_back program t1.frame.slot first back at_rest.1) in
+      let at_back = here_is program env last solid x _ back f.slot
+      (stands_back program t1.frame.slot first back at_rest.1) in
       let kept : get x.frame.registers p ≡ Some (Num v) = ap (get x.frame.registers) number
-      ∙ f.fact.kept d le (omega arith) ∙ ap (get t1.frame.registers) (sym number) ∙ put_same t.frame.registers p (Num v) in
+      ∙ f.fact.kept d le (omega arith) ∙ ap (get t1.frame.registers) (sym number)
+      ∙ put_same t.frame.registers p (Num v) in
       let x1 = put x (x.frame.slot + 1) R0 (Num v) in
-      let e2 : step program env x ≡ Ok (Running x1) = copies program env x (x.frame.slot + 1) R0 (place d) v at_back.0 refl
-      (solid _ (omega (arith, len, room, c.slot, f.slot))) kept c.fact.small refl in
+      let e2 : step program env x ≡ Ok (Running x1) = copies program env x (x.frame.slot + 1) R0
+      (place d) v at_back.0 refl (solid _ (omega (arith, len, room, c.slot, f.slot))) kept c.fact.small refl in
       let g = assign_runs target z lets d v w x1 sized le few ours (put_same x.frame.registers 0 (Num v)) c.fact.small
       (holds_put env lets w x (x.frame.slot + 1) v R0 (omega arith) f.fact.holds) at_back.1
       (omega (arith, len, room, c.slot, f.slot)) in
@@ -685,7 +701,8 @@ module _ (program : List Insn) (env : Setting) (last : ℕ) (solid : (k : ℕ) �
       → s.frame.slot + length (assignment_code a z J d) ≤ last
       → Leads s (assignment_code a z J d) (Assigned env lets d (all_assigned a z env J u) s)
   assignment_runs (One target e) z J d lets u s sized nodes le few fits h stands room =
-      given_runs (source_of e z J) target e z J d lets u s (source_is program env last solid e z J lets d u sized nodes fits.1)
+      given_runs (source_of e z J) target e z J d lets u s (source_is program env last solid e z J lets d u
+      sized nodes fits.1)
       sized nodes le few fits.0 fits.1 h stands room
   assignment_runs (Also' p front target e) z J d lets u s sized nodes le few fits h stands room =
       let behind = depth_behind (is_steady e) d in
@@ -693,11 +710,13 @@ module _ (program : List Insn) (env : Setting) (last : ℕ) (solid : (k : ℕ) �
       let more : d ≤ behind = behind_more (is_steady e) d in
       let deep : behind ≤ 3 = behind_few (is_steady e) d few fits.2 in
       also_runs (is_steady e) (source_of e z J) e target (assignment_code front z J behind) z J d lets u w s refl
-      (source_is program env last solid e z J lets d w sized nodes fits.1) sized nodes le few fits.0 fits.1 fits.2 h stands room
+      (source_is program env last solid e z J lets d w sized nodes fits.1) sized nodes le few fits.0 fits.1
+      fits.2 h stands room
       (λ t k st l. assignment_runs front z J behind lets u t sized nodes (omega (arith, le, more)) deep fits.3 k st l)
 
   send_all_runs : (x : Source) (e : Term) (z : Sizes) (J : List ℕ) (d : ℕ) (u : NodeState) (s : MachineState)
-      → IsAt z d u x (value e z env J u) → IsSized z env → All (λ j. j < z.nodes) J → d ≤ 3 → (is_found x ≡ false → d < 3) → Fits e z (length J) d d → Holds env d u s
+      → IsAt z d u x (value e z env J u) → IsSized z env → All (λ j. j < z.nodes) J → d ≤ 3 →
+      (is_found x ≡ false → d < 3) → Fits e z (length J) d d → Holds env d u s
       → Stands program s.frame.slot (send_all_code x d z.nodes (term_code e z J d Value))
       → s.frame.slot + length (send_all_code x d z.nodes (term_code e z J d Value)) ≤ last
       → Leads s (send_all_code x d z.nodes (term_code e z J d Value))
@@ -721,7 +740,8 @@ module _ (program : List Insn) (env : Setting) (last : ℕ) (solid : (k : ℕ) �
       let h2 : Holds env d u t1 = holds_free env d d v u t to (omega arith) deep h1 in
       let kept : get t1.frame.registers (7 + d) ≡ Some (Num v) = ap (get t1.frame.registers) (sym number)
       ∙ put_same t.frame.registers (register_number (place d)) (Num v) in
-      gets program env last solid t1 _ _ _ _ (Sending env d end t1) (Holds env d end) refl (omega arith) (λ x k. k.holds)
+      gets program env last solid t1 _ _ _ _ (Sending env d end t1) (Holds env d end) refl (omega arith)
+      (λ x k. k.holds)
       (sends_run (FromLocal d) d v z.nodes u t1 t1 has.small (omega (arith, sized.nodes)) (near_self t1) h2 st l
       (λ x near here l2. record {
         fetched = copies program env x (x.frame.slot + 1) R2 (place d) v here refl (solid _ l2)
@@ -745,7 +765,8 @@ module _ (program : List Insn) (env : Setting) (last : ℕ) (solid : (k : ℕ) �
       let len : length (front ++ back) ≡ length front + length back = length-append front back in
       let c = block_runs a z J d u s sized nodes few fits.0 h (stands_front program s.frame.slot front back stands)
       (omega (arith, len, room)) in
-      let there = here_is program env last solid c.new _ back c.slot (stands_back program s.frame.slot front back stands) in
+      let there = here_is program env last solid c.new _ back c.slot
+      (stands_back program s.frame.slot front back stands) in
       let g = block_runs b z J d (after a z env d J u) c.new sized nodes few fits.1 c.fact there
       (omega (arith, len, room, c.slot)) in
       record {
@@ -771,7 +792,8 @@ module _ (program : List Insn) (env : Setting) (last : ℕ) (solid : (k : ℕ) �
       (block_runs rest z J (d + 1) u1 t1 sized nodes (omega (arith, fits.0)) fits.2 h2 st l))
   block_runs (Assign a) z J d u s sized nodes few fits h stands room =
       let end = all_assigned a z env J u in
-      gets program env last solid s _ _ _ _ (Assigned env d d end s) (Holds env d end) refl (omega arith) (λ x k. k.holds)
+      gets program env last solid s _ _ _ _ (Assigned env d d end s) (Holds env d end) refl (omega arith)
+      (λ x k. k.holds)
       (assignment_runs a z J d d u s sized nodes (omega arith) few fits h stands room)
   block_runs (If' t p a q b) z J d u s sized nodes few fits h stands room =
       let ca = block_code a z J d in
@@ -780,8 +802,10 @@ module _ (program : List Insn) (env : Setting) (last : ℕ) (solid : (k : ℕ) �
       let ua = after a z env d J u in
       let ub = after b z env d J u in
       let end = if truth v then ua else ub in
-      choice_runs program env last solid (λ far. term_code t z J d (Jump false far)) ca cb d v s (Holds env d end) stands room
-      (λ far st l. term_runs program env last solid t z J d d (Jump false far) u s sized nodes few (omega arith) fits.0 h st l)
+      choice_runs program env last solid (λ far. term_code t z J d (Jump false far)) ca cb d v s
+      (Holds env d end) stands room
+      (λ far st l. term_runs program env last solid t z J d d (Jump false far) u s sized nodes few
+      (omega arith) fits.0 h st l)
       (λ w same e st l. gets program env last solid w _ _ _ _ (Holds env d ua) (Holds env d end) refl (omega arith)
       (λ x k. subst (λ (y : NodeState). Holds env d y x) (sym (cond-true (truth v) ua ub e)) k)
       (block_runs a z J d u w sized nodes few fits.1 (still_holds env d d u s w (omega arith) h same) st l))
@@ -790,7 +814,8 @@ module _ (program : List Insn) (env : Setting) (last : ℕ) (solid : (k : ℕ) �
       (block_runs b z J d u w sized nodes few fits.2 (still_holds env d d u s w (omega arith) h same) st l))
       (λ x to k. holds_at env d end x to k)
   block_runs (For' p body) z J d u s sized nodes few fits h stands room =
-      each_runs d z.nodes z.nodes (λ j. block_code body z (J ++ j ∷ []) d) (λ j w. after body z env d (J ++ j ∷ []) w) u s
+      each_runs d z.nodes z.nodes (λ j. block_code body z (J ++ j ∷ []) d)
+      (λ j w. after body z env d (J ++ j ∷ []) w) u s
       (omega arith) h stands room
       (λ j w t lt k st l.
       let more : length J + 1 ≡ length (J ++ j ∷ []) = omega (arith, length-append J (j ∷ [])) in

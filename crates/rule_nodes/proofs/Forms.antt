@@ -94,7 +94,8 @@ module _ (program : List Insn) (env : Setting) where
   numbers s to here next there = rw (here, next, there) refl
 
   pub stores_number : (s : MachineState) (to : ℕ) (base : Reg) (off imm : ℤ) (k : ℕ)
-      → insn_at program s.frame.slot ≡ Some (i.StoreImm size.W base off imm) → s.frame.slot + 1 ≡ to → BeginsAt program to
+      → insn_at program s.frame.slot ≡ Some (i.StoreImm size.W base off imm) → s.frame.slot + 1 ≡ to
+      → BeginsAt program to
       → get s.frame.registers (register_number base) ≡ Some (Ptr Mem 0) → pos 0 +ℤ off ≡ pos k
       → nat_le (k + 4) env.shape.memory ≡ true
       → step program env s ≡ Ok (Running (storing s to k (cast_unsigned w64 imm)))

@@ -68,11 +68,13 @@ results Difference a b raw f g h = let e = low a f in rw (e, h) refl
 results Product a b raw f g h = let e = low a f in rw (e, h) refl
 results Quotient a b raw f g h =
     let e = low a f in
-    let k : apply Quotient a b % 2 ^ 32 ≡ apply Quotient a b = low (apply Quotient a b) (apply_small Quotient a b f g) in
+    let k : apply Quotient a b % 2 ^ 32 ≡ apply Quotient a b = low (apply Quotient a b)
+    (apply_small Quotient a b f g) in
     rw (e, h) k
 results Remainder a b raw f g h =
     let e = low a f in
-    let k : apply Remainder a b % 2 ^ 32 ≡ apply Remainder a b = low (apply Remainder a b) (apply_small Remainder a b f g) in
+    let k : apply Remainder a b % 2 ^ 32 ≡ apply Remainder a b = low (apply Remainder a b)
+    (apply_small Remainder a b f g) in
     rw (e, h) k
 
 -- ---- conditions

@@ -1,5 +1,5 @@
 -- The runs of terms.
-use Rattle.std.proofs.Common.{◌≡◌, ◌≢◌, ℕ, zero, suc, ◌+◌, ◌%◌, ◌*◌, ◌^◌, ◌<◌, ◌≤◌, ◌==◌, Bool, true, false, not, cond, if◌then◌else◌, ◌&&◌, ◌||◌, ◌⊎◌, nat_lt, List, [], ◌∷◌, ◌++◌, length, Some, Ok, All, pos, slice_index, slice_get, refl, sym, ap, ◌∙◌, arith, subst, inl, inr, length-append}
+use Rattle.std.proofs.Common.{◌≡◌, ◌≢◌, ℕ, zero, suc, ◌+◌, ◌%◌, ◌*◌, ◌^◌, ◌<◌, ◌≤◌, ◌==◌, Bool, true, false, not, if◌then◌else◌, ◌&&◌, ◌||◌, ◌⊎◌, nat_lt, List, [], ◌∷◌, ◌++◌, length, Some, Ok, All, pos, slice_index, slice_get, refl, sym, ap, ◌∙◌, arith, subst, inl, inr, length-append}
 use Rattle.std.specs.Int.{w32, w64, cast_signed, cast_unsigned}
 use Rattle.std.specs.FinMap.{get}
 use Rattle.std.proofs.lemmas.Bool.{cases_Bool, ne_eqb, ltb-true, le-leb, cond-true, cond-false, and_parts}
@@ -195,7 +195,8 @@ module _ (program : List Insn) (env : Setting) (last : ℕ) (solid : (k : ℕ) �
       → s.frame.slot + 1 ≤ last → Gets s (s.frame.slot + 1) 1 (Has d s v)
   number_runs d v s small stands le = record {
     new = put s (s.frame.slot + 1) R0 (Num v);
-    run = once program env s _ (sets_number program env s (s.frame.slot + 1) R0 v stands.0 refl (solid _ le) small refl);
+    run = once program env s _ (sets_number program env s (s.frame.slot + 1) R0 v stands.0 refl
+        (solid _ le) small refl);
     slot = refl;
     fact = record {
       same = same_put d s s (s.frame.slot + 1) R0 (Num v) (r0_free d) (same_self d s);
@@ -209,7 +210,8 @@ module _ (program : List Insn) (env : Setting) (last : ℕ) (solid : (k : ℕ) �
       → s.frame.slot + 1 ≤ last → Gets s (s.frame.slot + 1) 1 (Has d s v)
   copy_runs d v s src small e stands le = record {
     new = put s (s.frame.slot + 1) R0 (Num v);
-    run = once program env s _ (copies program env s (s.frame.slot + 1) R0 src v stands.0 refl (solid _ le) e small refl);
+    run = once program env s _ (copies program env s (s.frame.slot + 1) R0 src v stands.0 refl
+        (solid _ le) e small refl);
     slot = refl;
     fact = record {
       same = same_put d s s (s.frame.slot + 1) R0 (Num v) (r0_free d) (same_self d s);
@@ -335,7 +337,8 @@ module _ (program : List Insn) (env : Setting) (last : ℕ) (solid : (k : ℕ) �
       let c = run false 2 (stands_front program s.frame.slot code truth_code stands) (omega (arith, len, le)) in
       let end = truth_runs d b s c.new (s.frame.slot + length code) (length code) c.run c.fact c.slot
       (stands_back program s.frame.slot code truth_code stands) (omega (arith, len, le)) in
-      gets s _ _ _ _ (Has d s (number_of b)) (Has d s (number_of b)) (omega (arith, len)) (omega (arith, len)) (λ t h. h) end
+      gets s _ _ _ _ (Has d s (number_of b)) (Has d s (number_of b)) (omega (arith, len)) (omega (arith, len))
+      (λ t h. h) end
   by_test_runs (Jump when far) test d b s stands le run = run when far stands le
 
   -- ---- two numbers
@@ -363,7 +366,8 @@ module _ (program : List Insn) (env : Setting) (last : ℕ) (solid : (k : ℕ) �
       refl (solid _ (omega (arith, len, le, c.slot))) c.fact.r0 c.fact.small free in
       let same1 : Same d s t1 = same_put d s t (t.frame.slot + 1) (place d) (Num a) (free_place d d few (omega arith))
       c.fact.same in
-      let g = second t1 same1 (stands_front program t1.frame.slot right back at_rest.1) (omega (arith, len, le, c.slot)) in
+      let g = second t1 same1 (stands_front program t1.frame.slot right back at_rest.1)
+      (omega (arith, len, le, c.slot)) in
       let w = g.new in
       let at_back = here_is w _ back g.slot (stands_back program t1.frame.slot right back at_rest.1) in
       let kept : get w.frame.registers p ≡ Some (Num a) = g.fact.same.registers p (omega arith) (omega arith)
@@ -422,13 +426,15 @@ module _ (program : List Insn) (env : Setting) (last : ℕ) (solid : (k : ℕ) �
             let none : landing false v far ≡ 0 = rw so refl in
             let slot : c.new.frame.slot ≡ s.frame.slot + length code = omega (arith, c.slot, none) in
             let there = here_is c.new _ rest slot after in
-            let g = first c.new c.fact so (stands_front program c.new.frame.slot a skip there) (omega (arith, len, le, slot)) in
+            let g = first c.new c.fact so (stands_front program c.new.frame.slot a skip there)
+            (omega (arith, len, le, slot)) in
             let t = g.new in
             let end = t.frame.slot + 1 + length b in
             let jump = here_is t _ skip g.slot (stands_back program c.new.frame.slot a skip there) in
             let e : step program env t ≡ Ok (Running (at t end)) = goes program env t end (length b) jump.0 refl
             (solid _ (omega (arith, len, le, slot, g.slot))) in
-            let run = chain program env s c.new t (length code) (length a) (length code + length a) c.run g.run (omega arith) in
+            let run = chain program env s c.new t (length code) (length a) (length code + length a) c.run g.run
+            (omega arith) in
             record {
               new = at t end;
               run = further program env s t (at t end) _ (length (code ++ rest)) run e (omega (arith, len));
@@ -565,7 +571,8 @@ module _ (program : List Insn) (env : Setting) (last : ℕ) (solid : (k : ℕ) �
         | inr other ↦
             let miss : hop (nat_lt x n) 2 ≡ 0 = rw other refl in
             let slot : w.frame.slot ≡ t.frame.slot + 1 = omega (arith, c.slot, miss) in
-            let there = here_is w _ (set_number R0 4294967295 ∷ i.Ja (pos 2) ∷ []) slot (stands.1.0, (stands.1.1.0, tt)) in
+            let there = here_is w _ (set_number R0 4294967295 ∷ i.Ja (pos 2) ∷ []) slot
+            (stands.1.0, (stands.1.1.0, tt)) in
             let w1 = put w (w.frame.slot + 1) R0 (Num 4294967295) in
             let w2 = at w1 (w.frame.slot + 1 + 1 + 2) in
             let e1 : step program env w ≡ Ok (Running w1) = sets_number program env w (w.frame.slot + 1) R0 4294967295
@@ -618,8 +625,8 @@ module _ (program : List Insn) (env : Setting) (last : ℕ) (solid : (k : ℕ) �
       let back = test m ++ add in
       let len : length (front ++ back) ≡ length front + (length (test m) + 1) = omega
       (arith, length-append front back, length-append (test m) add) in
-      let c = counts_run d n test holds s m small few (omega (arith, le)) (stands_front program s.frame.slot front back stands)
-      (omega (arith, len, fits)) start each in
+      let c = counts_run d n test holds s m small few (omega (arith, le))
+      (stands_front program s.frame.slot front back stands) (omega (arith, len, fits)) start each in
       let t = c.new in
       let at_back = here_is t _ back c.slot (stands_back program s.frame.slot front back stands) in
       let g = each m t (omega (arith, le)) c.fact.same (stands_front program t.frame.slot (test m) add at_back)
@@ -646,7 +653,8 @@ module _ (program : List Insn) (env : Setting) (last : ℕ) (solid : (k : ℕ) �
               run = further program env s w w1 _ (length (front ++ back)) run e1 (omega (arith, len));
               slot = omega (arith, len, slot, c.slot);
               fact = record {
-                same = same_put d s w (w.frame.slot + 1) (place d) (Num (v + 1)) (free_place d d small (omega arith)) same;
+                same = same_put d s w (w.frame.slot + 1) (place d) (Num (v + 1))
+                    (free_place d d small (omega arith)) same;
                 place = ap (get w1.frame.registers) (sym number) ∙ put_same w.frame.registers p (Num (v + 1))
                     ∙ ap (λ x. Some (Num x)) one;
                 few = omega (arith, c.fact.few, one);
@@ -674,7 +682,8 @@ module _ (program : List Insn) (env : Setting) (last : ℕ) (solid : (k : ℕ) �
       → ((j : ℕ) (t : MachineState) → j < n → Same d s t → Stands program t.frame.slot (test j)
       → t.frame.slot + length (test j) + 1 ≤ last
       → Gets t (t.frame.slot + length (test j) + landing false (holds j) 1) (length (test j)) (Same (d + 1) t))
-      → Gets s (s.frame.slot + length (count_code d n test)) (length (count_code d n test)) (Has d s (count_below n holds))
+      → Gets s (s.frame.slot + length (count_code d n test)) (length (count_code d n test))
+      (Has d s (count_below n holds))
   count_runs d n test holds s small few stands fits each =
       let p = register_number (place d) in
       let number : p ≡ 7 + d = place_number d small in
@@ -683,8 +692,8 @@ module _ (program : List Insn) (env : Setting) (last : ℕ) (solid : (k : ℕ) �
       let last_one = copy R0 (place d) ∷ [] in
       let len : length (codes ++ last_one) ≡ length codes + 1 = length-append codes last_one in
       let s1 = put s (s.frame.slot + 1) (place d) (Num 0) in
-      let e1 : step program env s ≡ Ok (Running s1) = sets_number program env s (s.frame.slot + 1) (place d) 0 stands.0 refl
-      (solid _ (omega (arith, len, fits))) (omega arith) writable in
+      let e1 : step program env s ≡ Ok (Running s1) = sets_number program env s (s.frame.slot + 1)
+      (place d) 0 stands.0 refl (solid _ (omega (arith, len, fits))) (omega arith) writable in
       let same1 : Same d s s1 = same_put d s s (s.frame.slot + 1) (place d) (Num 0) (free_place d d small (omega arith))
       (same_self d s) in
       let start : get s1.frame.registers (7 + d) ≡ Some (Num 0) = ap (get s1.frame.registers) (sym number)
@@ -697,8 +706,9 @@ module _ (program : List Insn) (env : Setting) (last : ℕ) (solid : (k : ℕ) �
       let there = here_is w _ last_one c.slot (stands_back program s1.frame.slot codes last_one stands.1) in
       let w1 = put w (w.frame.slot + 1) R0 (Num v) in
       let small_v : v < 2 ^ 32 = omega (arith, c.fact.few, few) in
-      let e3 : step program env w ≡ Ok (Running w1) = copies program env w (w.frame.slot + 1) R0 (place d) v there.0 refl
-      (solid _ (omega (arith, len, fits, c.slot))) (ap (get w.frame.registers) number ∙ c.fact.place) small_v refl in
+      let e3 : step program env w ≡ Ok (Running w1) = copies program env w (w.frame.slot + 1) R0
+      (place d) v there.0 refl (solid _ (omega (arith, len, fits, c.slot))) (ap (get w.frame.registers) number
+      ∙ c.fact.place) small_v refl in
       let run1 = chain program env s s1 w 1 (length codes) (1 + length codes) (once program env s s1 e1) c.run
       (omega arith) in
       record {
@@ -715,7 +725,8 @@ module _ (program : List Insn) (env : Setting) (last : ℕ) (solid : (k : ℕ) �
   -- ---- the forms of terms
 
   call_runs : (d answer : ℕ) (s : MachineState) → answer < 2 ^ 32
-      → step program env s ≡ Ok (Running (called s (s.frame.slot + 1) answer)) → Gets s (s.frame.slot + 1) 1 (Has d s answer)
+      → step program env s ≡ Ok (Running (called s (s.frame.slot + 1) answer)) → Gets s (s.frame.slot + 1) 1
+      (Has d s answer)
   call_runs d answer s small e = record {
     new = called s (s.frame.slot + 1) answer;
     run = once program env s _ e;
@@ -764,8 +775,9 @@ module _ (program : List Insn) (env : Setting) (last : ℕ) (solid : (k : ℕ) �
       let there = here_is t _ act c.slot (stands_back program s.frame.slot code act stands) in
       let v = apply op a b in
       let t1 = put t (t.frame.slot + 1) R0 (Num v) in
-      let e : step program env t ≡ Ok (Running t1) = operates program env op t (t.frame.slot + 1) a b c.fact.raw src there.0
-      refl (solid _ (omega (arith, len, le, c.slot))) c.fact.r0 c.fact.other c.fact.low_bits c.fact.left c.fact.right in
+      let e : step program env t ≡ Ok (Running t1) = operates program env op t (t.frame.slot + 1) a b
+      c.fact.raw src there.0 refl (solid _ (omega (arith, len, le, c.slot))) c.fact.r0 c.fact.other c.fact.low_bits
+      c.fact.left c.fact.right in
       record {
         new = t1;
         run = further program env s t t1 (length code) (length (code ++ act)) c.run e (omega (arith, len));
@@ -912,7 +924,8 @@ module _ (program : List Insn) (env : Setting) (last : ℕ) (solid : (k : ℕ) �
       let t1 = put t (t.frame.slot + 1) R1 (Num b) in
       record {
         new = t1;
-        run = further program env s t t1 (length left) (length (left ++ insn ∷ [])) c.run f.fetched (omega (arith, len));
+        run = further program env s t t1 (length left) (length (left ++ insn ∷ [])) c.run f.fetched
+            (omega (arith, len));
         slot = omega (arith, len, c.slot);
         fact = record {
           same = same_put d s t (t.frame.slot + 1) R1 (Num b) (r1_free d) c.fact.same;
@@ -963,9 +976,11 @@ module _ (program : List Insn) (env : Setting) (last : ℕ) (solid : (k : ℕ) �
         right = subst (λ (x : ℕ). x < 2 ^ 32) is.1 (h.small j is.0);
       }) (first (stands_front program s.frame.slot left [] stands) (omega (arith, len, room)))
   loaded_runs (FromWord j) z d lets a b u left s found is sized few le h stands room first =
-      gets s _ _ _ _ (HasTwo d s a b) (HasPair (operand.Reg R1) d s a b) refl (omega arith) (λ t k. has_pair d s a b t k)
+      gets s _ _ _ _ (HasTwo d s a b) (HasPair (operand.Reg R1) d s a b) refl (omega arith)
+      (λ t k. has_pair d s a b t k)
       (operand_runs d left (get_code R1 (FromWord j)) s a b stands room first
-      (λ t same here l. get_steps R1 (FromWord j) z lets b u t refl refl is sized few (still_holds env lets d u s t le h same)
+      (λ t same here l. get_steps R1 (FromWord j) z lets b u t refl refl is sized few
+      (still_holds env lets d u s t le h same)
       here l))
   loaded_runs Computed z d lets a b u left s found is sized few le h stands room first =
       absurd (let no : false ≡ true = found in cc)
@@ -1002,7 +1017,8 @@ module _ (program : List Insn) (env : Setting) (last : ℕ) (solid : (k : ℕ) �
       } in
       record {
         new = t2;
-        run = further program env s t1 t2 (length right + 1) (length (right ++ back)) run1 g.fetched (omega (arith, len));
+        run = further program env s t1 t2 (length right + 1) (length (right ++ back)) run1 g.fetched
+            (omega (arith, len));
         slot = omega (arith, len, c.slot);
         fact = has_pair d s a b t2 two;
       }
@@ -1016,7 +1032,8 @@ module _ (program : List Insn) (env : Setting) (last : ℕ) (solid : (k : ℕ) �
       → Reached purpose d s (s.frame.slot + length (left_code o x purpose right)) (length (left_code o x purpose right))
       (operate o a b)
   left_runs (Compute op) x purpose z d lets a b u right s found is sized few le h stands room first =
-      operator_runs (Compute op) (operand.Reg R1) purpose d a b (right ++ (copy R1 R0 ∷ get_code R0 x ∷ [])) s stands room
+      operator_runs (Compute op) (operand.Reg R1) purpose d a b
+      (right ++ (copy R1 R0 ∷ get_code R0 x ∷ [])) s stands room
       (λ st l. turned_runs x z d lets a b u right s found is sized few le h st l first)
   left_runs (Compare r) x purpose z d lets a b u right s found is sized few le h stands room first =
       let code = left_code (Compare r) x purpose right in
@@ -1065,33 +1082,41 @@ module _ (program : List Insn) (env : Setting) (last : ℕ) (solid : (k : ℕ) �
       → Gets t (t.frame.slot + length right) (length right) (Has deep t b))
       → Reached purpose d s (s.frame.slot + length (binary_code y x o d purpose left right))
       (length (binary_code y x o d purpose left right)) (operate o a b)
-  sides_run (Constant c) (FromLocal k) (Compare r) purpose z d deep lets a b u left right s at_y at_x sized few le more free h
-      stands room first second =
+  sides_run (Constant c) (FromLocal k) (Compare r) purpose z d deep lets a b u left right s at_y at_x sized few
+      le more free h stands room first second =
       by_test_runs purpose (λ when far. jump_place k (jump_on when r) c far ∷ []) d (compare r a b) s stands room
       (place_test_runs r k c z d lets a b u s at_y at_x few h)
-  sides_run (Constant c) (FromLocal k) (Compute op) purpose z d deep lets a b u left right s at_y at_x sized few le more free h
-      stands room first second =
+  sides_run (Constant c) (FromLocal k) (Compute op) purpose z d deep lets a b u left right s at_y at_x sized few
+      le more free h stands room first second =
       right_runs (Compute op) (Constant c) purpose z d lets a b u left s refl at_y sized few le h stands room first
-  sides_run (Constant c) (Constant e) o purpose z d deep lets a b u left right s at_y at_x sized few le more free h stands room
-      first second = right_runs o (Constant c) purpose z d lets a b u left s refl at_y sized few le h stands room first
-  sides_run (Constant c) (FromWord k) o purpose z d deep lets a b u left right s at_y at_x sized few le more free h stands room
-      first second = right_runs o (Constant c) purpose z d lets a b u left s refl at_y sized few le h stands room first
-  sides_run (Constant c) Computed o purpose z d deep lets a b u left right s at_y at_x sized few le more free h stands room
-      first second = right_runs o (Constant c) purpose z d lets a b u left s refl at_y sized few le h stands room first
-  sides_run (FromLocal k) x o purpose z d deep lets a b u left right s at_y at_x sized few le more free h stands room first
+  sides_run (Constant c) (Constant e) o purpose z d deep lets a b u left right s at_y at_x sized few le more
+      free h stands room first second = right_runs o (Constant c) purpose z d lets a b u left s refl at_y sized few le h
+      stands room first
+  sides_run (Constant c) (FromWord k) o purpose z d deep lets a b u left right s at_y at_x sized few le more
+      free h stands room first second = right_runs o (Constant c) purpose z d lets a b u left s refl at_y sized few le h
+      stands room first
+  sides_run (Constant c) Computed o purpose z d deep lets a b u left right s at_y at_x sized few le more
+      free h stands room first second = right_runs o (Constant c) purpose z d lets a b u left s refl at_y sized few le h
+      stands room first
+  sides_run (FromLocal k) x o purpose z d deep lets a b u left right s at_y at_x sized few le more free h
+      stands room first
       second = right_runs o (FromLocal k) purpose z d lets a b u left s refl at_y sized few le h stands room first
-  sides_run (FromWord k) x o purpose z d deep lets a b u left right s at_y at_x sized few le more free h stands room first
+  sides_run (FromWord k) x o purpose z d deep lets a b u left right s at_y at_x sized few le more free h
+      stands room first
       second = right_runs o (FromWord k) purpose z d lets a b u left s refl at_y sized few le h stands room first
-  sides_run Computed (Constant c) o purpose z d deep lets a b u left right s at_y at_x sized few le more free h stands room
-      first second = left_runs o (Constant c) purpose z d lets a b u right s refl at_x sized few le h stands room
+  sides_run Computed (Constant c) o purpose z d deep lets a b u left right s at_y at_x sized few le more
+      free h stands room first second = left_runs o (Constant c) purpose z d lets a b u right s refl at_x sized few
+      le h stands room
       (λ st l. gets s _ _ _ _ (Has deep s b) (Has d s b) refl (omega arith) (λ t k. has_less d deep b s t more k)
       (second s (same_self d s) st l))
-  sides_run Computed (FromLocal k) o purpose z d deep lets a b u left right s at_y at_x sized few le more free h stands room
-      first second = left_runs o (FromLocal k) purpose z d lets a b u right s refl at_x sized few le h stands room
+  sides_run Computed (FromLocal k) o purpose z d deep lets a b u left right s at_y at_x sized few le more
+      free h stands room first second = left_runs o (FromLocal k) purpose z d lets a b u right s refl at_x sized few
+      le h stands room
       (λ st l. gets s _ _ _ _ (Has deep s b) (Has d s b) refl (omega arith) (λ t q. has_less d deep b s t more q)
       (second s (same_self d s) st l))
-  sides_run Computed (FromWord k) o purpose z d deep lets a b u left right s at_y at_x sized few le more free h stands room
-      first second = left_runs o (FromWord k) purpose z d lets a b u right s refl at_x sized few le h stands room
+  sides_run Computed (FromWord k) o purpose z d deep lets a b u left right s at_y at_x sized few le more
+      free h stands room first second = left_runs o (FromWord k) purpose z d lets a b u right s refl at_x sized few
+      le h stands room
       (λ st l. gets s _ _ _ _ (Has deep s b) (Has d s b) refl (omega arith) (λ t q. has_less d deep b s t more q)
       (second s (same_self d s) st l))
   sides_run Computed Computed o purpose z d deep lets a b u left right s at_y at_x sized few le more free h stands room
@@ -1126,8 +1151,8 @@ module _ (program : List Insn) (env : Setting) (last : ℕ) (solid : (k : ℕ) �
   known_node_runs z d j s sized lt stands room =
       let s1 = put s (s.frame.slot + 1) R1 (Num j) in
       let s2 = called s1 (s.frame.slot + 1 + 1) (received env j) in
-      let e1 : step program env s ≡ Ok (Running s1) = moves program env s (s.frame.slot + 1) R1 (operand.Imm (pos j)) (Num j)
-      stands.0 refl (solid _ (omega (arith, room))) refl refl in
+      let e1 : step program env s ≡ Ok (Running s1) = moves program env s (s.frame.slot + 1) R1
+      (operand.Imm (pos j)) (Num j) stands.0 refl (solid _ (omega (arith, room))) refl refl in
       let e2 : step program env s1 ≡ Ok (Running s2) = receives program env s1 (s.frame.slot + 1 + 1) j stands.1.0 refl
       (solid _ (omega (arith, room))) (put_same s.frame.registers 1 (Num j)) (omega (arith, lt, sized.nodes)) in
       record {
@@ -1203,8 +1228,9 @@ module _ (program : List Insn) (env : Setting) (last : ℕ) (solid : (k : ℕ) �
 
   -- ---- terms
 
-  pub term_runs : (t : Term) (z : Sizes) (J : List ℕ) (d lets : ℕ) (purpose : Purpose) (u : NodeState) (s : MachineState)
-      → IsSized z env → All (λ j. j < z.nodes) J → lets ≤ 3 → lets ≤ d → Fits t z (length J) lets d → Holds env lets u s
+  pub term_runs : (t : Term) (z : Sizes) (J : List ℕ) (d lets : ℕ) (purpose : Purpose) (u : NodeState)
+      (s : MachineState) → IsSized z env → All (λ j. j < z.nodes) J → lets ≤ 3 → lets ≤ d → Fits t z (length J) lets d
+      → Holds env lets u s
       → Stands program s.frame.slot (term_code t z J d purpose)
       → s.frame.slot + length (term_code t z J d purpose) + beyond purpose ≤ last
       → Reached purpose d s (s.frame.slot + length (term_code t z J d purpose)) (length (term_code t z J d purpose))
@@ -1245,7 +1271,8 @@ module _ (program : List Insn) (env : Setting) (last : ℕ) (solid : (k : ℕ) �
       let code = term_code a z J d Value in
       let x = value a z env J u in
       by_value_runs purpose (message_by (source_of a z J) z.nodes code) d (message_from z env x) s stands room
-      (λ st l. message_by_runs (source_of a z J) z d lets x u code s (source_is a z J lets d u sized nodes fits) sized st l
+      (λ st l. message_by_runs (source_of a z J) z d lets x u code s
+      (source_is a z J lets d u sized nodes fits) sized st l
       (λ st2 l2. term_runs a z J d lets Value u s sized nodes few le fits h st2 (omega (arith, l2))))
   term_runs (Binary' o p a q b) z J d lets purpose u s sized nodes few le fits h stands room =
       let deep = depth_behind (is_operand a) d in
@@ -1256,7 +1283,8 @@ module _ (program : List Insn) (env : Setting) (last : ℕ) (solid : (k : ℕ) �
       let more : d ≤ deep = behind_more (is_operand a) d in
       sides_run (source_of b z J) (source_of a z J) o purpose z d deep lets va vb u ca cb s
       (source_is b z J lets deep u sized nodes fits.2) (source_is a z J lets d u sized nodes fits.1) sized few le more
-      (λ e f. free_beside (is_operand a) (is_operand b) d (sym (found_same a z J) ∙ e) (sym (found_same b z J) ∙ f) fits.0) h
+      (λ e f. free_beside (is_operand a) (is_operand b) d (sym (found_same a z J) ∙ e)
+      (sym (found_same b z J) ∙ f) fits.0) h
       stands room
       (λ st2 l2. term_runs a z J d lets Value u s sized nodes few le fits.1 h st2 (omega (arith, l2)))
       (λ t same st2 l2. term_runs b z J deep lets Value u t sized nodes few (omega (arith, le, more)) fits.2
@@ -1266,9 +1294,11 @@ module _ (program : List Insn) (env : Setting) (last : ℕ) (solid : (k : ℕ) �
       let vb = value b z env J u in
       let left = λ (w : Bool) (g : ℕ). term_code a z J d (Jump w g) in
       let v = combine c (truth va) (truth vb) in
-      by_test_runs purpose (λ when far. both_code (decides c) when far left (term_code b z J d (Jump when far))) d v s stands
+      by_test_runs purpose (λ when far. both_code (decides c) when far left
+      (term_code b z J d (Jump when far))) d v s stands
       room
-      (λ when far st l. both_runs (decides c) when far left (term_code b z J d (Jump when far)) d va vb (number_of v) s st l
+      (λ when far st l. both_runs (decides c) when far left (term_code b z J d (Jump when far)) d va vb
+      (number_of v) s st l
       (λ w g st2 l2. term_runs a z J d lets (Jump w g) u s sized nodes few le fits.0 h st2 l2)
       (λ t same st2 l2. term_runs b z J d lets (Jump when far) u t sized nodes few le fits.1
       (still_holds env lets d u s t le h same) st2 l2)

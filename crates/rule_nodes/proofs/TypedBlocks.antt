@@ -57,7 +57,8 @@ module _ (program : List Insn) (shape : Extent) (last : ℕ) (solid : (k : ℕ) 
   store_typed : (d k slot : ℕ) → 4 * k + 4 ≤ shape.memory → slot + 1 ≤ last
       → T slot (i.StoreReg size.W R6 (pos (4 * k)) R0 ∷ []) (C (valued d) slot) (C (plain d) (slot + 1))
   store_typed d k slot inside le =
-      let room : nat_lt shape.memory (0 + 4 * k + 4) ≡ false = le-ltb shape.memory (0 + 4 * k + 4) (omega (arith, inside)) in
+      let room : nat_lt shape.memory (0 + 4 * k + 4) ≡ false = le-ltb shape.memory (0 + 4 * k + 4)
+      (omega (arith, inside)) in
       one_on program shape last solid slot (i.StoreReg size.W R6 (pos (4 * k)) R0) (valued d) _ (plain d) refl refl refl
       (into _ d Unset Unset Unset tt tt tt refl refl refl refl)
       (proper_known d word Unset Unset some_word tt tt) (keeps_own _ _ _ (rw room refl)) le
@@ -71,23 +72,28 @@ module _ (program : List Insn) (shape : Extent) (last : ℕ) (solid : (k : ℕ) 
   change_typed (suc (suc k)) (suc (suc zero)) slot lt few le = absurd (omega (arith, lt))
   change_typed (suc (suc (suc k))) (suc (suc (suc zero))) slot lt few le = absurd (omega (arith, lt))
   change_typed k (suc (suc (suc (suc d)))) slot lt few le = absurd (omega (arith, few))
-  change_typed zero (suc zero) slot lt few le = one_on program shape last solid slot (copy (place 0) R0) (valued 1) _ (plain 1)
-      refl refl refl (into _ 1 Unset Unset Unset tt tt tt refl refl refl refl)
+  change_typed zero (suc zero) slot lt few le = one_on program shape last solid slot (copy (place 0) R0)
+      (valued 1) _ (plain 1) refl refl refl (into _ 1 Unset Unset Unset tt tt tt refl refl refl refl)
       (proper_known 1 word Unset Unset some_word tt tt) (keeps_own _ _ _ refl) le
-  change_typed zero (suc (suc zero)) slot lt few le = one_on program shape last solid slot (copy (place 0) R0) (valued 2) _
-      (plain 2) refl refl refl (into _ 2 Unset Unset Unset tt tt tt refl refl refl refl)
+  change_typed zero (suc (suc zero)) slot lt few le = one_on program shape last solid slot
+      (copy (place 0) R0) (valued 2) _ (plain 2) refl refl refl
+      (into _ 2 Unset Unset Unset tt tt tt refl refl refl refl)
       (proper_known 2 word Unset Unset some_word tt tt) (keeps_own _ _ _ refl) le
-  change_typed zero (suc (suc (suc zero))) slot lt few le = one_on program shape last solid slot (copy (place 0) R0) (valued 3) _
-      (plain 3) refl refl refl (into _ 3 Unset Unset Unset tt tt tt refl refl refl refl)
+  change_typed zero (suc (suc (suc zero))) slot lt few le = one_on program shape last solid slot
+      (copy (place 0) R0) (valued 3) _ (plain 3) refl refl refl
+      (into _ 3 Unset Unset Unset tt tt tt refl refl refl refl)
       (proper_known 3 word Unset Unset some_word tt tt) (keeps_own _ _ _ refl) le
-  change_typed (suc zero) (suc (suc zero)) slot lt few le = one_on program shape last solid slot (copy (place 1) R0) (valued 2) _
-      (plain 2) refl refl refl (into _ 2 Unset Unset Unset tt tt tt refl refl refl refl)
+  change_typed (suc zero) (suc (suc zero)) slot lt few le = one_on program shape last solid slot
+      (copy (place 1) R0) (valued 2) _ (plain 2) refl refl refl
+      (into _ 2 Unset Unset Unset tt tt tt refl refl refl refl)
       (proper_known 2 word Unset Unset some_word tt tt) (keeps_own _ _ _ refl) le
-  change_typed (suc zero) (suc (suc (suc zero))) slot lt few le = one_on program shape last solid slot (copy (place 1) R0)
-      (valued 3) _ (plain 3) refl refl refl (into _ 3 Unset Unset Unset tt tt tt refl refl refl refl)
+  change_typed (suc zero) (suc (suc (suc zero))) slot lt few le = one_on program shape last solid slot
+      (copy (place 1) R0) (valued 3) _ (plain 3) refl refl refl
+      (into _ 3 Unset Unset Unset tt tt tt refl refl refl refl)
       (proper_known 3 word Unset Unset some_word tt tt) (keeps_own _ _ _ refl) le
   change_typed (suc (suc zero)) (suc (suc (suc zero))) slot lt few le = one_on program shape last solid slot
-      (copy (place 2) R0) (valued 3) _ (plain 3) refl refl refl (into _ 3 Unset Unset Unset tt tt tt refl refl refl refl)
+      (copy (place 2) R0) (valued 3) _ (plain 3) refl refl refl
+      (into _ 3 Unset Unset Unset tt tt tt refl refl refl refl)
       (proper_known 3 word Unset Unset some_word tt tt) (keeps_own _ _ _ refl) le
 
   assign_typed : (target : Target) (lets d slot : ℕ) → lets ≤ d → d ≤ 3 → TargetFits target shape.memory lets
@@ -114,7 +120,8 @@ module _ (program : List Insn) (shape : Extent) (last : ℕ) (solid : (k : ℕ) 
       → T slot (get_code (place k) x ∷ []) (C (plain d) slot) (C (plain d) (slot + 1))
   into_place (Constant c) k d lets slot found there below few lt le =
       let x = cast_unsigned w64 (cast_signed w32 c) % 2 ^ 32 in
-      place_typed k d slot (set_number (place k) c) (Number (range_of Mov W32 (just x) (just x))) lt refl refl refl (short x)
+      place_typed k d slot (set_number (place k) c) (Number (range_of Mov W32 (just x) (just x))) lt refl refl
+      refl (short x)
       (record {
         forward = refl;
         known = refl;
@@ -130,7 +137,8 @@ module _ (program : List Insn) (shape : Extent) (last : ℕ) (solid : (k : ℕ) 
   into_place (FromLocal j) k d lets slot found there below few lt le =
       let e : kind_of (plain d) (place j) ≡ word = place_word j d (omega (arith, there, below)) few in
       let same = λ (n : Span). range_of Mov W32 n n in
-      place_typed k d slot (copy (place k) (place j)) (of_number_kind same (kind_of (plain d) (place j))) lt refl refl refl
+      place_typed k d slot (copy (place k) (place j)) (of_number_kind same (kind_of (plain d) (place j))) lt
+      refl refl refl
       (full_of 32, ap (of_number_kind same) e, record { low = omega arith; high = omega arith })
       (record {
         forward = refl;
@@ -145,7 +153,8 @@ module _ (program : List Insn) (shape : Extent) (last : ℕ) (solid : (k : ℕ) 
         base = refl;
       }) le
   into_place (FromWord j) k d lets slot found there below few lt le =
-      let room : nat_lt shape.memory (0 + 4 * j + 4) ≡ false = le-ltb shape.memory (0 + 4 * j + 4) (omega (arith, there)) in
+      let room : nat_lt shape.memory (0 + 4 * j + 4) ≡ false = le-ltb shape.memory (0 + 4 * j + 4)
+      (omega (arith, there)) in
       place_typed k d slot (get_code (place k) (FromWord j)) word lt refl refl refl (kind_in_itself word)
       (record {
         forward = refl;
@@ -164,8 +173,10 @@ module _ (program : List Insn) (shape : Extent) (last : ℕ) (solid : (k : ℕ) 
   number_stored : (d k v slot : ℕ) → 4 * k + 4 ≤ shape.memory → slot + 1 ≤ last
       → T slot (i.StoreImm size.W R6 (pos (4 * k)) (cast_signed w32 v) ∷ []) (C (plain d) slot) (C (plain d) (slot + 1))
   number_stored d k v slot inside le =
-      let room : nat_lt shape.memory (0 + 4 * k + 4) ≡ false = le-ltb shape.memory (0 + 4 * k + 4) (omega (arith, inside)) in
-      one_on program shape last solid slot (i.StoreImm size.W R6 (pos (4 * k)) (cast_signed w32 v)) (plain d) _ (plain d)
+      let room : nat_lt shape.memory (0 + 4 * k + 4) ≡ false = le-ltb shape.memory (0 + 4 * k + 4)
+      (omega (arith, inside)) in
+      one_on program shape last solid slot (i.StoreImm size.W R6 (pos (4 * k)) (cast_signed w32 v))
+      (plain d) _ (plain d)
       refl refl refl (into _ d Unset Unset Unset tt tt tt refl refl refl refl)
       (proper_known d Unset Unset Unset tt tt tt) (keeps_own _ _ _ (rw room refl)) le
 
@@ -178,32 +189,38 @@ module _ (program : List Insn) (shape : Extent) (last : ℕ) (solid : (k : ℕ) 
   place_stored (suc (suc (suc j))) (suc (suc (suc zero))) k slot lt few inside le = absurd (omega (arith, lt))
   place_stored j (suc (suc (suc (suc d)))) k slot lt few inside le = absurd (omega (arith, few))
   place_stored zero (suc zero) k slot lt few inside le =
-      let room : nat_lt shape.memory (0 + 4 * k + 4) ≡ false = le-ltb shape.memory (0 + 4 * k + 4) (omega (arith, inside)) in
+      let room : nat_lt shape.memory (0 + 4 * k + 4) ≡ false = le-ltb shape.memory (0 + 4 * k + 4)
+      (omega (arith, inside)) in
       one_on program shape last solid slot (i.StoreReg size.W R6 (pos (4 * k)) (place 0)) (plain 1) _ (plain 1)
       refl refl refl (into _ 1 Unset Unset Unset tt tt tt refl refl refl refl)
       (proper_known 1 Unset Unset Unset tt tt tt) (keeps_own _ _ _ (rw room refl)) le
   place_stored zero (suc (suc zero)) k slot lt few inside le =
-      let room : nat_lt shape.memory (0 + 4 * k + 4) ≡ false = le-ltb shape.memory (0 + 4 * k + 4) (omega (arith, inside)) in
+      let room : nat_lt shape.memory (0 + 4 * k + 4) ≡ false = le-ltb shape.memory (0 + 4 * k + 4)
+      (omega (arith, inside)) in
       one_on program shape last solid slot (i.StoreReg size.W R6 (pos (4 * k)) (place 0)) (plain 2) _ (plain 2)
       refl refl refl (into _ 2 Unset Unset Unset tt tt tt refl refl refl refl)
       (proper_known 2 Unset Unset Unset tt tt tt) (keeps_own _ _ _ (rw room refl)) le
   place_stored zero (suc (suc (suc zero))) k slot lt few inside le =
-      let room : nat_lt shape.memory (0 + 4 * k + 4) ≡ false = le-ltb shape.memory (0 + 4 * k + 4) (omega (arith, inside)) in
+      let room : nat_lt shape.memory (0 + 4 * k + 4) ≡ false = le-ltb shape.memory (0 + 4 * k + 4)
+      (omega (arith, inside)) in
       one_on program shape last solid slot (i.StoreReg size.W R6 (pos (4 * k)) (place 0)) (plain 3) _ (plain 3)
       refl refl refl (into _ 3 Unset Unset Unset tt tt tt refl refl refl refl)
       (proper_known 3 Unset Unset Unset tt tt tt) (keeps_own _ _ _ (rw room refl)) le
   place_stored (suc zero) (suc (suc zero)) k slot lt few inside le =
-      let room : nat_lt shape.memory (0 + 4 * k + 4) ≡ false = le-ltb shape.memory (0 + 4 * k + 4) (omega (arith, inside)) in
+      let room : nat_lt shape.memory (0 + 4 * k + 4) ≡ false = le-ltb shape.memory (0 + 4 * k + 4)
+      (omega (arith, inside)) in
       one_on program shape last solid slot (i.StoreReg size.W R6 (pos (4 * k)) (place 1)) (plain 2) _ (plain 2)
       refl refl refl (into _ 2 Unset Unset Unset tt tt tt refl refl refl refl)
       (proper_known 2 Unset Unset Unset tt tt tt) (keeps_own _ _ _ (rw room refl)) le
   place_stored (suc zero) (suc (suc (suc zero))) k slot lt few inside le =
-      let room : nat_lt shape.memory (0 + 4 * k + 4) ≡ false = le-ltb shape.memory (0 + 4 * k + 4) (omega (arith, inside)) in
+      let room : nat_lt shape.memory (0 + 4 * k + 4) ≡ false = le-ltb shape.memory (0 + 4 * k + 4)
+      (omega (arith, inside)) in
       one_on program shape last solid slot (i.StoreReg size.W R6 (pos (4 * k)) (place 1)) (plain 3) _ (plain 3)
       refl refl refl (into _ 3 Unset Unset Unset tt tt tt refl refl refl refl)
       (proper_known 3 Unset Unset Unset tt tt tt) (keeps_own _ _ _ (rw room refl)) le
   place_stored (suc (suc zero)) (suc (suc (suc zero))) k slot lt few inside le =
-      let room : nat_lt shape.memory (0 + 4 * k + 4) ≡ false = le-ltb shape.memory (0 + 4 * k + 4) (omega (arith, inside)) in
+      let room : nat_lt shape.memory (0 + 4 * k + 4) ≡ false = le-ltb shape.memory (0 + 4 * k + 4)
+      (omega (arith, inside)) in
       one_on program shape last solid slot (i.StoreReg size.W R6 (pos (4 * k)) (place 2)) (plain 3) _ (plain 3)
       refl refl refl (into _ 3 Unset Unset Unset tt tt tt refl refl refl refl)
       (proper_known 3 Unset Unset Unset tt tt tt) (keeps_own _ _ _ (rw room refl)) le
@@ -223,7 +240,8 @@ module _ (program : List Insn) (shape : Extent) (last : ℕ) (solid : (k : ℕ) 
       let e : p1 + 1 ≡ slot + 2 = omega arith in
       let b = typed_at program shape last solid p1 (p1 + 1) (slot + 2) set (C (valued d) p1) (plain d) e
       (store_typed d k p1 fits (omega (arith, le))) in
-      typed_seq program shape last solid slot p1 (get_code R0 (FromWord j) ∷ []) set (C (plain d) slot) (C (valued d) p1)
+      typed_seq program shape last solid slot p1 (get_code R0 (FromWord j) ∷ []) set (C (plain d) slot)
+      (C (valued d) p1)
       (C (plain d) (slot + 2)) refl a b
   set_typed (ToWord k) Computed d lets slot found there below few fits le = absurd (let no : false ≡ true = found in cc)
 
@@ -241,32 +259,38 @@ module _ (program : List Insn) (shape : Extent) (last : ℕ) (solid : (k : ℕ) 
   pass_typed k (suc (suc (suc (suc d)))) slot lt few le = absurd (omega (arith, few))
   pass_typed zero (suc zero) slot lt few le =
       let N = some_node program shape last solid in
-      one_on program shape last solid slot (copy R2 (place 0)) (known 1 Unset N Unset) _ (known 1 Unset N word) refl refl refl
+      one_on program shape last solid slot (copy R2 (place 0)) (known 1 Unset N Unset) _ (known 1 Unset N word)
+      refl refl refl
       (into _ 1 Unset N word tt (kind_in_itself N) (kind_in_itself word) refl refl refl refl)
       (proper_known 1 Unset N Unset tt (proper_node program shape last solid) tt) (keeps_own _ _ _ refl) le
   pass_typed zero (suc (suc zero)) slot lt few le =
       let N = some_node program shape last solid in
-      one_on program shape last solid slot (copy R2 (place 0)) (known 2 Unset N Unset) _ (known 2 Unset N word) refl refl refl
+      one_on program shape last solid slot (copy R2 (place 0)) (known 2 Unset N Unset) _ (known 2 Unset N word)
+      refl refl refl
       (into _ 2 Unset N word tt (kind_in_itself N) (kind_in_itself word) refl refl refl refl)
       (proper_known 2 Unset N Unset tt (proper_node program shape last solid) tt) (keeps_own _ _ _ refl) le
   pass_typed zero (suc (suc (suc zero))) slot lt few le =
       let N = some_node program shape last solid in
-      one_on program shape last solid slot (copy R2 (place 0)) (known 3 Unset N Unset) _ (known 3 Unset N word) refl refl refl
+      one_on program shape last solid slot (copy R2 (place 0)) (known 3 Unset N Unset) _ (known 3 Unset N word)
+      refl refl refl
       (into _ 3 Unset N word tt (kind_in_itself N) (kind_in_itself word) refl refl refl refl)
       (proper_known 3 Unset N Unset tt (proper_node program shape last solid) tt) (keeps_own _ _ _ refl) le
   pass_typed (suc zero) (suc (suc zero)) slot lt few le =
       let N = some_node program shape last solid in
-      one_on program shape last solid slot (copy R2 (place 1)) (known 2 Unset N Unset) _ (known 2 Unset N word) refl refl refl
+      one_on program shape last solid slot (copy R2 (place 1)) (known 2 Unset N Unset) _ (known 2 Unset N word)
+      refl refl refl
       (into _ 2 Unset N word tt (kind_in_itself N) (kind_in_itself word) refl refl refl refl)
       (proper_known 2 Unset N Unset tt (proper_node program shape last solid) tt) (keeps_own _ _ _ refl) le
   pass_typed (suc zero) (suc (suc (suc zero))) slot lt few le =
       let N = some_node program shape last solid in
-      one_on program shape last solid slot (copy R2 (place 1)) (known 3 Unset N Unset) _ (known 3 Unset N word) refl refl refl
+      one_on program shape last solid slot (copy R2 (place 1)) (known 3 Unset N Unset) _ (known 3 Unset N word)
+      refl refl refl
       (into _ 3 Unset N word tt (kind_in_itself N) (kind_in_itself word) refl refl refl refl)
       (proper_known 3 Unset N Unset tt (proper_node program shape last solid) tt) (keeps_own _ _ _ refl) le
   pass_typed (suc (suc zero)) (suc (suc (suc zero))) slot lt few le =
       let N = some_node program shape last solid in
-      one_on program shape last solid slot (copy R2 (place 2)) (known 3 Unset N Unset) _ (known 3 Unset N word) refl refl refl
+      one_on program shape last solid slot (copy R2 (place 2)) (known 3 Unset N Unset) _ (known 3 Unset N word)
+      refl refl refl
       (into _ 3 Unset N word tt (kind_in_itself N) (kind_in_itself word) refl refl refl refl)
       (proper_known 3 Unset N Unset tt (proper_node program shape last solid) tt) (keeps_own _ _ _ refl) le
 
@@ -277,27 +301,33 @@ module _ (program : List Insn) (shape : Extent) (last : ℕ) (solid : (k : ℕ) 
       (C (known d Unset (some_node program shape last solid) word) (slot + 1))
   get_typed (Constant c) d lets slot found there below few le =
       let N = some_node program shape last solid in
-      one_on program shape last solid slot (set_number R2 c) (known d Unset N Unset) _ (known d Unset N word) refl refl refl
+      one_on program shape last solid slot (set_number R2 c) (known d Unset N Unset) _ (known d Unset N word)
+      refl refl refl
       (into _ d Unset N word tt (kind_in_itself N) (short (cast_unsigned w64 (cast_signed w32 c) % 2 ^ 32))
       refl refl refl refl) (proper_known d Unset N Unset tt (proper_node program shape last solid) tt)
       (keeps_own _ _ _ refl) le
-  get_typed (FromLocal k) d lets slot found there below few le = pass_typed k d slot (omega (arith, there, below)) few le
+  get_typed (FromLocal k) d lets slot found there below few le = pass_typed k d slot
+      (omega (arith, there, below)) few le
   get_typed (FromWord k) d lets slot found there below few le =
       let N = some_node program shape last solid in
-      let room : nat_lt shape.memory (0 + 4 * k + 4) ≡ false = le-ltb shape.memory (0 + 4 * k + 4) (omega (arith, there)) in
+      let room : nat_lt shape.memory (0 + 4 * k + 4) ≡ false = le-ltb shape.memory (0 + 4 * k + 4)
+      (omega (arith, there)) in
       one_on program shape last solid slot (get_code R2 (FromWord k)) (known d Unset N Unset) _ (known d Unset N word)
       refl refl refl (into _ d Unset N word tt (kind_in_itself N) (kind_in_itself word) refl refl refl refl)
       (proper_known d Unset N Unset tt (proper_node program shape last solid) tt) (keeps_own _ _ _ (rw room refl)) le
   get_typed Computed d lets slot found there below few le = absurd (let no : false ≡ true = found in cc)
 
   send_typed : (d slot : ℕ) → 1 ≤ shape.nodes → slot + 1 ≤ last
-      → T slot (i.Call (pos 3) ∷ []) (C (known d Unset (some_node program shape last solid) word) slot) (C (plain d) (slot + 1))
+      → T slot (i.Call (pos 3) ∷ []) (C (known d Unset (some_node program shape last solid) word) slot)
+      (C (plain d) (slot + 1))
   send_typed d slot some le =
       let N = some_node program shape last solid in
-      let one_of : nat_lt (shape.nodes - 1) shape.nodes ≡ true = lt-ltb (shape.nodes - 1) shape.nodes (omega (arith, some)) in
+      let one_of : nat_lt (shape.nodes - 1) shape.nodes ≡ true = lt-ltb (shape.nodes - 1) shape.nodes
+      (omega (arith, some)) in
       one_on program shape last solid slot (i.Call (pos 3)) (known d Unset N word) _ (plain d) refl refl refl
       (into _ d Unset Unset Unset tt tt tt refl refl refl refl)
-      (proper_known d Unset N word tt (proper_node program shape last solid) some_word) (keeps_own _ _ _ (rw one_of refl)) le
+      (proper_known d Unset N word tt (proper_node program shape last solid) some_word)
+      (keeps_own _ _ _ (rw one_of refl)) le
 
   -- r1 has a node's number: a found number goes there
   hand_typed : (x : Source) (d lets slot : ℕ) → is_found x ≡ true → IsThere x lets shape.memory → lets ≤ d → d ≤ 3
@@ -305,7 +335,8 @@ module _ (program : List Insn) (shape : Extent) (last : ℕ) (solid : (k : ℕ) 
       → T slot (get_code R2 x ∷ i.Call (pos 3) ∷ []) (C (known d Unset (some_node program shape last solid) Unset) slot)
       (C (plain d) (slot + 1 + 1))
   hand_typed x d lets slot found there below few some le = typed_seq program shape last solid slot (slot + 1)
-      (get_code R2 x ∷ []) (i.Call (pos 3) ∷ []) _ _ _ refl (get_typed x d lets slot found there below few (omega (arith, le)))
+      (get_code R2 x ∷ []) (i.Call (pos 3) ∷ []) _ _ _ refl (get_typed x d lets slot found there below few
+      (omega (arith, le)))
       (send_typed d (slot + 1) some (omega (arith, le)))
 
   sends_typed : (x : Source) (d lets slot n : ℕ) → is_found x ≡ true → IsThere x lets shape.memory → lets ≤ d → d ≤ 3
@@ -328,7 +359,8 @@ module _ (program : List Insn) (shape : Extent) (last : ℕ) (solid : (k : ℕ) 
       let ab = typed_seq program shape last solid p1 (p1 + 1) (set_node R1 n ∷ []) hand (C S p1)
       (C (known d Unset (some_node program shape last solid) Unset) (p1 + 1)) (C S (p1 + 1 + 1 + 1)) refl a b in
       let e : p1 + 1 + 1 + 1 ≡ slot + length (front ++ back) = omega (arith, len) in
-      typed_at program shape last solid slot (p1 + 1 + 1 + 1) (slot + length (front ++ back)) (front ++ back) (C S slot) S e
+      typed_at program shape last solid slot (p1 + 1 + 1 + 1) (slot + length (front ++ back)) (front ++ back)
+      (C S slot) S e
       (typed_seq program shape last solid slot p1 front back (C S slot) (C S p1) (C S (p1 + 1 + 1 + 1)) refl f ab)
 
   send_to_typed : (d n slot : ℕ) → d < 3 → n ≡ shape.nodes → 1 ≤ n → n ≤ 64 → slot + 4 ≤ last
@@ -349,16 +381,18 @@ module _ (program : List Insn) (shape : Extent) (last : ℕ) (solid : (k : ℕ) 
       let a = name_typed program shape last solid (d + 1) p1 (omega (arith, same, few)) (omega (arith, le)) in
       let e1 : p2 + 1 + 1 ≡ end = omega arith in
       let b = typed_at program shape last solid p2 (p2 + 1 + 1) end (copy R2 (place d) ∷ i.Call (pos 3) ∷ [])
-      (C (known (d + 1) Unset N Unset) p2) S e1 (hand_typed (FromLocal d) (d + 1) (d + 1) p2 refl (omega arith) (omega arith) (omega (arith, small)) (omega (arith, same, some))
+      (C (known (d + 1) Unset N Unset) p2) S e1 (hand_typed (FromLocal d) (d + 1) (d + 1) p2 refl (omega arith)
+      (omega arith) (omega (arith, small)) (omega (arith, same, some))
       (omega (arith, le))) in
-      let ab = typed_seq program shape last solid p1 p2 (copy R1 R0 ∷ []) (copy R2 (place d) ∷ i.Call (pos 3) ∷ []) (C A p1)
-      (C (known (d + 1) Unset N Unset) p2) (C S end) refl a b in
+      let ab = typed_seq program shape last solid p1 p2 (copy R1 R0 ∷ []) (copy R2 (place d) ∷ i.Call
+      (pos 3) ∷ []) (C A p1) (C (known (d + 1) Unset N Unset) p2) (C S end) refl a b in
       let e2 : end ≡ slot + 1 + 3 = omega arith in
       let all = typed_then program shape last solid slot p1 (jump_at AtLeast n 3 ∷ [])
       (copy R1 R0 ∷ copy R2 (place d) ∷ i.Call (pos 3) ∷ []) (C V slot)
       (λ table. C A p1 table × C S (p1 + 3) table) (C A p1) (C S end) refl f ab
       (λ table o asks. (o, subst (λ (k : ℕ). C S k table) e2 asks)) in
-      typed_as program shape last solid slot (send_to_code d n) (λ table. C V slot table × C A p1 table) (C S end) (C V slot)
+      typed_as program shape last solid slot (send_to_code d n) (λ table. C V slot table × C A p1 table)
+      (C S end) (C V slot)
       (C S end) (λ table h. h.0) (λ table h. h) all
 
   -- ---- statements
@@ -397,18 +431,19 @@ module _ (program : List Insn) (shape : Extent) (last : ℕ) (solid : (k : ℕ) 
       let p1 = slot + length code in
       let p2 = p1 + 1 in
       let end = slot + length (code ++ back) in
-      let a = term_typed program shape last solid e z J d d Value slot same some few room (omega arith) (omega (arith, small)) fits
-      (omega (arith, len, le)) in
+      let a = term_typed program shape last solid e z J d d Value slot same some few room (omega arith)
+      (omega (arith, small)) fits (omega (arith, len, le)) in
       let b = keep_typed program shape last solid d p1 small (omega (arith, len, le)) in
       let eq : p2 + length rest ≡ end = omega (arith, len) in
       let c = typed_at program shape last solid p2 (p2 + length rest) end rest (C (plain (d + 1)) p2) (plain (d + 1)) eq
       (next p2 (omega (arith, len, le))) in
-      let c1 = typed_as program shape last solid p2 rest (C (plain (d + 1)) p2) (C (plain (d + 1)) end) (C (plain (d + 1)) p2)
-      (C (plain d) end) (λ table h. h)
+      let c1 = typed_as program shape last solid p2 rest (C (plain (d + 1)) p2) (C (plain (d + 1)) end)
+      (C (plain (d + 1)) p2) (C (plain d) end) (λ table h. h)
       (λ table h. covers_less table (plain (d + 1)) (plain d) end (known_less d Unset Unset Unset) h) c in
-      let bc = typed_seq program shape last solid p1 p2 (copy (place d) R0 ∷ []) rest (C (valued d) p1) (C (plain (d + 1)) p2)
-      (C (plain d) end) refl b c1 in
-      typed_seq program shape last solid slot p1 code back (C (plain d) slot) (C (valued d) p1) (C (plain d) end) refl a bc
+      let bc = typed_seq program shape last solid p1 p2 (copy (place d) R0 ∷ []) rest (C (valued d) p1)
+      (C (plain (d + 1)) p2) (C (plain d) end) refl b c1 in
+      typed_seq program shape last solid slot p1 code back (C (plain d) slot) (C (valued d) p1)
+      (C (plain d) end) refl a bc
 
   given_typed : (x : Source) (target : Target) (e : Term) (z : Sizes) (J : List ℕ) (d lets slot : ℕ)
       → IsThere x lets shape.memory → z.nodes ≡ shape.nodes → 1 ≤ z.nodes → z.nodes ≤ 64 → z.memory ≡ shape.memory
@@ -416,11 +451,14 @@ module _ (program : List Insn) (shape : Extent) (last : ℕ) (solid : (k : ℕ) 
       → slot + length (given_code x target (term_code e z J d Value)) ≤ last
       → BlockTyped d slot (given_code x target (term_code e z J d Value))
   given_typed (Constant c) target e z J d lets slot there same some few room below small ours fits le =
-      set_typed target (Constant c) d lets slot refl there below small (subst (λ (m : ℕ). TargetFits target m lets) room ours) le
+      set_typed target (Constant c) d lets slot refl there below small
+      (subst (λ (m : ℕ). TargetFits target m lets) room ours) le
   given_typed (FromLocal k) target e z J d lets slot there same some few room below small ours fits le =
-      set_typed target (FromLocal k) d lets slot refl there below small (subst (λ (m : ℕ). TargetFits target m lets) room ours) le
+      set_typed target (FromLocal k) d lets slot refl there below small
+      (subst (λ (m : ℕ). TargetFits target m lets) room ours) le
   given_typed (FromWord k) target e z J d lets slot there same some few room below small ours fits le =
-      set_typed target (FromWord k) d lets slot refl there below small (subst (λ (m : ℕ). TargetFits target m lets) room ours) le
+      set_typed target (FromWord k) d lets slot refl there below small
+      (subst (λ (m : ℕ). TargetFits target m lets) room ours) le
   given_typed Computed target e z J d lets slot there same some few room below small ours fits le =
       let code = term_code e z J d Value in
       let set = assign_code target ∷ [] in
@@ -430,7 +468,8 @@ module _ (program : List Insn) (shape : Extent) (last : ℕ) (solid : (k : ℕ) 
       let target_fits = subst (λ (m : ℕ). TargetFits target m lets) room ours in
       typed_at program shape last solid slot (p1 + 1) (slot + length (code ++ set)) (code ++ set) (C (plain d) slot)
       (plain d) eq
-      (typed_seq program shape last solid slot p1 code set (C (plain d) slot) (C (valued d) p1) (C (plain d) (p1 + 1)) refl
+      (typed_seq program shape last solid slot p1 code set (C (plain d) slot) (C (valued d) p1)
+      (C (plain d) (p1 + 1)) refl
       (term_typed program shape last solid e z J d lets Value slot same some few room below small fits
       (omega (arith, len, le)))
       (assign_typed target lets d p1 below small target_fits (omega (arith, len, le))))
@@ -450,7 +489,8 @@ module _ (program : List Insn) (shape : Extent) (last : ℕ) (solid : (k : ℕ) 
       let a = before slot (omega (arith, len, le)) in
       let b = typed_at program shape last solid p1 (p1 + length rest) end rest (C (plain d) p1) (plain d) eq
       (given_typed x target e z J d lets p1 there same some few room below small ours fits (omega (arith, len, le))) in
-      typed_seq program shape last solid slot p1 first rest (C (plain d) slot) (C (plain d) p1) (C (plain d) end) refl a b
+      typed_seq program shape last solid slot p1 first rest (C (plain d) slot) (C (plain d) p1)
+      (C (plain d) end) refl a b
   also_typed false x e target first z J d lets slot there same some few room below small ours fits free le before =
       let code = term_code e z J d Value in
       let set = assign_code target ∷ [] in
@@ -474,27 +514,32 @@ module _ (program : List Insn) (shape : Extent) (last : ℕ) (solid : (k : ℕ) 
       (omega (arith, len, le)) in
       let eq : p4 + 1 ≡ end = omega (arith, len) in
       let g = typed_at program shape last solid p4 (p4 + 1) end set (C V p4) S eq
-      (assign_typed target lets (d + 1) p4 (omega (arith, below)) (omega (arith, free)) target_fits (omega (arith, len, le))) in
+      (assign_typed target lets (d + 1) p4 (omega (arith, below)) (omega (arith, free)) target_fits
+      (omega (arith, len, le))) in
       let g1 = typed_as program shape last solid p4 set (C V p4) (C S end) (C V p4) (C (plain d) end) (λ table h. h)
       (λ table h. covers_less table S (plain d) end (known_less d Unset Unset Unset) h) g in
-      let fg = typed_seq program shape last solid p3 p4 (copy R0 (place d) ∷ []) set (C S p3) (C V p4) (C (plain d) end) refl
-      f g1 in
+      let fg = typed_seq program shape last solid p3 p4 (copy R0 (place d) ∷ []) set (C S p3) (C V p4)
+      (C (plain d) end) refl f g1 in
       let cfg = typed_seq program shape last solid p2 p3 first back (C S p2) (C S p3) (C (plain d) end) refl c fg in
-      let bcfg = typed_seq program shape last solid p1 p2 (copy (place d) R0 ∷ []) (first ++ back) (C (valued d) p1) (C S p2)
-      (C (plain d) end) refl b cfg in
-      typed_seq program shape last solid slot p1 code rest (C (plain d) slot) (C (valued d) p1) (C (plain d) end) refl a bcfg
+      let bcfg = typed_seq program shape last solid p1 p2 (copy (place d) R0 ∷ []) (first ++ back)
+      (C (valued d) p1) (C S p2) (C (plain d) end) refl b cfg in
+      typed_seq program shape last solid slot p1 code rest (C (plain d) slot) (C (valued d) p1)
+      (C (plain d) end) refl a bcfg
 
   assignment_typed : (a : Assignment) (z : Sizes) (J : List ℕ) (d lets slot : ℕ) → z.nodes ≡ shape.nodes → 1 ≤ z.nodes
       → z.nodes ≤ 64 → z.memory ≡ shape.memory → lets ≤ d → d ≤ 3 → AssignmentFits a z (length J) lets d
       → slot + length (assignment_code a z J d) ≤ last → BlockTyped d slot (assignment_code a z J d)
   assignment_typed (One target e) z J d lets slot same some few room below small fits le =
-      let there = subst (λ (m : ℕ). IsThere (source_of e z J) lets m) room (source_there e z J (length J) lets d fits.1) in
+      let there = subst (λ (m : ℕ). IsThere (source_of e z J) lets m) room
+      (source_there e z J (length J) lets d fits.1) in
       given_typed (source_of e z J) target e z J d lets slot there same some few room below small fits.0 fits.1 le
   assignment_typed (Also' p front target e) z J d lets slot same some few room below small fits le =
       let behind = depth_behind (is_steady e) d in
       let more : d ≤ behind = behind_more (is_steady e) d in
-      let there = subst (λ (m : ℕ). IsThere (source_of e z J) lets m) room (source_there e z J (length J) lets d fits.1) in
-      also_typed (is_steady e) (source_of e z J) e target (assignment_code front z J behind) z J d lets slot there same some
+      let there = subst (λ (m : ℕ). IsThere (source_of e z J) lets m) room
+      (source_there e z J (length J) lets d fits.1) in
+      also_typed (is_steady e) (source_of e z J) e target (assignment_code front z J behind) z J d lets slot
+      there same some
       few room below small fits.0 fits.1 fits.2 le
       (λ to l. assignment_typed front z J behind lets to same some few room (omega (arith, below, more))
       (behind_few (is_steady e) d small fits.2) fits.3 l)
@@ -505,15 +550,19 @@ module _ (program : List Insn) (shape : Extent) (last : ℕ) (solid : (k : ℕ) 
       → slot + length (send_all_code x d z.nodes (term_code e z J d Value)) ≤ last
       → BlockTyped d slot (send_all_code x d z.nodes (term_code e z J d Value))
   send_all_typed (Constant c) e z J d slot there same some few room small free fits le =
-      sends_typed (Constant c) d d slot z.nodes refl there (omega arith) small (omega (arith, same)) (omega (arith, same, few)) le
+      sends_typed (Constant c) d d slot z.nodes refl there (omega arith) small (omega (arith, same))
+      (omega (arith, same, few)) le
   send_all_typed (FromLocal k) e z J d slot there same some few room small free fits le =
-      sends_typed (FromLocal k) d d slot z.nodes refl there (omega arith) small (omega (arith, same)) (omega (arith, same, few)) le
+      sends_typed (FromLocal k) d d slot z.nodes refl there (omega arith) small (omega (arith, same))
+      (omega (arith, same, few)) le
   send_all_typed (FromWord k) e z J d slot there same some few room small free fits le =
-      sends_typed (FromWord k) d d slot z.nodes refl there (omega arith) small (omega (arith, same)) (omega (arith, same, few)) le
+      sends_typed (FromWord k) d d slot z.nodes refl there (omega arith) small (omega (arith, same))
+      (omega (arith, same, few)) le
   send_all_typed Computed e z J d slot there same some few room small free fits le =
       let deep : d < 3 = free refl in
       stored_typed e z J d slot (send_codes (FromLocal d) z.nodes) same some few room deep fits le
-      (λ to l. sends_typed (FromLocal d) (d + 1) (d + 1) to z.nodes refl (omega arith) (omega arith) (omega (arith, deep))
+      (λ to l. sends_typed (FromLocal d) (d + 1) (d + 1) to z.nodes refl (omega arith) (omega arith)
+      (omega (arith, deep))
       (omega (arith, same)) (omega (arith, same, few)) l)
 
   pub block_typed : (b : Statement) (z : Sizes) (J : List ℕ) (d slot : ℕ) → z.nodes ≡ shape.nodes → 1 ≤ z.nodes
@@ -541,9 +590,11 @@ module _ (program : List Insn) (shape : Extent) (last : ℕ) (solid : (k : ℕ) 
   block_typed (Assign a) z J d slot same some few room small fits le =
       assignment_typed a z J d d slot same some few room (omega arith) small fits le
   block_typed (If' t p a q b) z J d slot same some few room small fits le =
-      choice_typed program shape last solid d slot (plain d) (λ far. term_code t z J d (Jump false far)) (block_code a z J d)
+      choice_typed program shape last solid d slot (plain d) (λ far. term_code t z J d (Jump false far))
+      (block_code a z J d)
       (block_code b z J d) (proper_known d Unset Unset Unset tt tt tt) le
-      (λ far l. term_typed program shape last solid t z J d d (Jump false far) slot same some few room (omega arith) small fits.0 l)
+      (λ far l. term_typed program shape last solid t z J d d (Jump false far) slot same some few room
+      (omega arith) small fits.0 l)
       (λ to l. block_typed a z J d to same some few room small fits.1 l)
       (λ to l. block_typed b z J d to same some few room small fits.2 l)
   block_typed (For' p body) z J d slot same some few room small fits le =
@@ -569,7 +620,8 @@ module _ (program : List Insn) (shape : Extent) (last : ℕ) (solid : (k : ℕ) 
       (plain (d + 1)) eq
       (typed_seq program shape last solid to p1 code back (C (plain (d + 1)) to) (C (valued (d + 1)) p1)
       (C (plain (d + 1)) (p1 + 4)) refl
-      (term_typed program shape last solid k z J (d + 1) d Value to same some few room (omega arith) (omega (arith, fits.0))
+      (term_typed program shape last solid k z J (d + 1) d Value to same some few room (omega arith)
+      (omega (arith, fits.0))
       fits.2 (omega (arith, len, l)))
       (send_to_typed d z.nodes p1 fits.0 same some few (omega (arith, len, l)))))
 
@@ -579,7 +631,8 @@ module _ (program : List Insn) (shape : Extent) (last : ℕ) (solid : (k : ℕ) 
   at_entry = state Unset memory_place Unset Unset Unset Unset Unset
 
   proper_entry : IsProper at_entry
-  proper_entry = proper Unset memory_place Unset Unset Unset Unset Unset tt (record { ordered = omega arith }) tt tt tt tt tt
+  proper_entry = proper Unset memory_place Unset Unset Unset Unset Unset tt (record { ordered = omega arith })
+      tt tt tt tt tt
 
   head_typed : (slot : ℕ) → slot + 1 ≤ last
       → T slot (i.Alu Mov W64 R6 (operand.Reg R1) ∷ []) (C at_entry slot) (C (plain 0) (slot + 1))
@@ -588,9 +641,10 @@ module _ (program : List Insn) (shape : Extent) (last : ℕ) (solid : (k : ℕ) 
 
   zero_typed : (slot : ℕ) → slot + 1 ≤ last
       → T slot (i.Alu Mov W64 R0 (operand.Imm (pos 0)) ∷ []) (C (plain 0) slot) (C (valued 0) (slot + 1))
-  zero_typed slot le = one_on program shape last solid slot (i.Alu Mov W64 R0 (operand.Imm (pos 0))) (plain 0) _ (valued 0)
-      refl refl refl
-      (into _ 0 word Unset Unset (just 0, refl, record { low = omega arith; high = omega arith }) tt tt refl refl refl refl)
+  zero_typed slot le = one_on program shape last solid slot (i.Alu Mov W64 R0 (operand.Imm (pos 0)))
+      (plain 0) _ (valued 0) refl refl refl
+      (into _ 0 word Unset Unset (just 0, refl, record { low = omega arith; high = omega arith }) tt tt refl
+      refl refl refl)
       (proper_known 0 Unset Unset Unset tt tt tt) (keeps_own _ _ _ refl) le
 
   exit_typed : (slot : ℕ) → T slot (i.Exit ∷ []) (C (valued 0) slot) (λ table. Unit {0})
@@ -599,8 +653,10 @@ module _ (program : List Insn) (shape : Extent) (last : ℕ) (solid : (k : ℕ) 
     long = refl;
     works = λ table marks asks.
         let sound = sound_end program shape table slot i.Exit (valued 0) refl refl
-        (proper_known 0 word Unset Unset some_word tt tt) (keeps_own _ _ _ refl) in
-        (covered table (valued 0) (valued 0) slot marks.0 (contained_in_itself (valued 0)), ((valued 0, marks.0, sound), tt));
+        (proper_known 0 word Unset Unset some_word tt tt) (keeps_own _ _ _ refl) in (
+          covered table (valued 0) (valued 0) slot marks.0 (contained_in_itself (valued 0)),
+          ((valued 0, marks.0, sound), tt),
+        );
   }
 
   pub whole_typed : (rule : Statement) (z : Sizes) → z.nodes ≡ shape.nodes → 1 ≤ z.nodes → z.nodes ≤ 64
@@ -612,10 +668,11 @@ module _ (program : List Insn) (shape : Extent) (last : ℕ) (solid : (k : ℕ) 
       let a = head_typed 0 (omega (arith, le)) in
       let b = block_typed rule z [] 0 1 same some few room (omega arith) fits (omega (arith, le)) in
       let c = zero_typed p2 (omega (arith, le)) in
-      let ce = typed_seq program shape last solid p2 (p2 + 1) (i.Alu Mov W64 R0 (operand.Imm (pos 0)) ∷ []) (i.Exit ∷ [])
-      (C (plain 0) p2) (C (valued 0) (p2 + 1)) (λ table. Unit {0}) refl c (exit_typed (p2 + 1)) in
-      let bce = typed_seq program shape last solid 1 p2 code tail_code (C (plain 0) 1) (C (plain 0) p2) (λ table. Unit {0}) refl
-      b ce in
+      let ce = typed_seq program shape last solid p2 (p2 + 1)
+      (i.Alu Mov W64 R0 (operand.Imm (pos 0)) ∷ []) (i.Exit ∷ []) (C (plain 0) p2) (C (valued 0) (p2 + 1))
+      (λ table. Unit {0}) refl c (exit_typed (p2 + 1)) in
+      let bce = typed_seq program shape last solid 1 p2 code tail_code (C (plain 0) 1) (C (plain 0) p2)
+      (λ table. Unit {0}) refl b ce in
       typed_seq program shape last solid 0 1 (i.Alu Mov W64 R6 (operand.Reg R1) ∷ []) (code ++ tail_code) (C at_entry 0)
       (C (plain 0) 1) (λ table. Unit {0}) refl a bce
 
@@ -629,8 +686,8 @@ module _ (program : List Insn) (shape : Extent) (last : ℕ) (solid : (k : ℕ) 
         sounds_of table (suc k) is (subst (λ (s : ℕ). AllSound program shape last solid table s is) f h.1),
       )
 
-pub rule_typable : (rule : Statement) (z : Sizes) (shape : Extent) → AreSizes z shape → IsExtent shape.nodes shape.memory
-    → BlockFits rule z 0 0 → Typable (rule_code rule z) shape
+pub rule_typable : (rule : Statement) (z : Sizes) (shape : Extent) → AreSizes z shape
+    → IsExtent shape.nodes shape.memory → BlockFits rule z 0 0 → Typable (rule_code rule z) shape
 rule_typable rule z shape sizes extent fits =
     let p = rule_code rule z in
     let ones = ones_rule rule z in
@@ -643,7 +700,8 @@ rule_typable rule z shape sizes extent fits =
     let w = t.works table (marks_whole t.states) tt in
     let first = seen table (at_entry p shape last solid) 0 w.0 in
     let start : IsContainedIn (entry_state shape) (at_entry p shape last solid) =
-    within (entry_state shape) Unset memory_place Unset Unset Unset Unset Unset tt (kind_in_itself memory_place) tt tt tt tt tt in
+    within (entry_state shape) Unset memory_place Unset Unset Unset Unset Unset tt (kind_in_itself memory_place) tt
+    tt tt tt tt in
     typed p shape t.states first.there ones first.stands
     (contained_further (entry_state shape) (at_entry p shape last solid) first.there start first.inside)
     (sounds_of p shape last solid table 0 p w.1)

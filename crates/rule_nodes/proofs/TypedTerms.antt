@@ -126,7 +126,8 @@ in_held k d K h = by (nat_lt k d)
     by true = h
     by false = tt
 
-pub placed_in : (k d : ℕ) (K : Kind) → k < 3 → IsKindIn K word → IsContainedIn (with_kind (plain d) (place k) K) (plain d)
+pub placed_in : (k d : ℕ) (K : Kind) → k < 3 → IsKindIn K word → IsContainedIn
+    (with_kind (plain d) (place k) K) (plain d)
 placed_in zero d K lt h = within _ Unset Unset Unset memory_place (held 0 d) (held 1 d) (held 2 d) tt tt tt
     (kind_in_itself memory_place) (in_held 0 d K h) (kind_in_itself (held 1 d)) (kind_in_itself (held 2 d))
 placed_in (suc zero) d K lt h = within _ Unset Unset Unset memory_place (held 0 d) (held 1 d) (held 2 d) tt tt tt
@@ -204,7 +205,8 @@ word_result op k s e ordered inside same = (
   range_of op W32 (full_of 32) s,
   ap (of_number_kind (range_of op W32 (full_of 32))) e,
   subst (λ (x : Span). IsInside (range_of op W32 (full_of 32) s) x) same
-      (alu_grows op W32 (full_of 32) s (full_of 32) (full_of 32) (record { ordered = omega arith }) ordered word_inside inside),
+      (alu_grows op W32 (full_of 32) s (full_of 32) (full_of 32) (record { ordered = omega arith }) ordered
+      word_inside inside),
 )
 
 -- what a comparison of two numbers of 32 bits leaves of the second
@@ -243,62 +245,74 @@ branch_first : (r : Comparison) (taken : Bool) (n : ℕ) (pair : Span × Span) �
     → branch_of (cond_of r) W32 (full_of 32) (just n) taken ≡ Some pair → IsInside pair.0 (full_of 32)
 branch_first Equal true n pair small e =
     let all = subst (λ (found : Option (Span × Span)). ArePairsInside found (branch_of (cond_of Equal) W32 (full_of 32)
-    (full_of 32) true)) e (branch_grows (cond_of Equal) W32 (full_of 32) (just n) (full_of 32) (full_of 32) true some_word
+    (full_of 32) true)) e (branch_grows (cond_of Equal) W32 (full_of 32) (just n) (full_of 32)
+    (full_of 32) true some_word
     (record { ordered = omega arith }) word_inside (record { low = omega arith; high = omega (arith, small) })) in
     inside_further pair.0 _ all.0 (record { low = omega arith; high = omega arith })
 branch_first Equal false n pair small e =
     let all = subst (λ (found : Option (Span × Span)). ArePairsInside found (branch_of (cond_of Equal) W32 (full_of 32)
-    (full_of 32) false)) e (branch_grows (cond_of Equal) W32 (full_of 32) (just n) (full_of 32) (full_of 32) false some_word
+    (full_of 32) false)) e (branch_grows (cond_of Equal) W32 (full_of 32) (just n) (full_of 32)
+    (full_of 32) false some_word
     (record { ordered = omega arith }) word_inside (record { low = omega arith; high = omega (arith, small) })) in
     inside_further pair.0 _ all.0 (record { low = omega arith; high = omega arith })
 branch_first NotEqual true n pair small e =
-    let all = subst (λ (found : Option (Span × Span)). ArePairsInside found (branch_of (cond_of NotEqual) W32 (full_of 32)
-    (full_of 32) true)) e (branch_grows (cond_of NotEqual) W32 (full_of 32) (just n) (full_of 32) (full_of 32) true some_word
+    let all = subst (λ (found : Option (Span × Span)). ArePairsInside found
+    (branch_of (cond_of NotEqual) W32 (full_of 32) (full_of 32) true)) e (branch_grows (cond_of NotEqual) W32
+    (full_of 32) (just n) (full_of 32) (full_of 32) true some_word
     (record { ordered = omega arith }) word_inside (record { low = omega arith; high = omega (arith, small) })) in
     inside_further pair.0 _ all.0 (record { low = omega arith; high = omega arith })
 branch_first NotEqual false n pair small e =
-    let all = subst (λ (found : Option (Span × Span)). ArePairsInside found (branch_of (cond_of NotEqual) W32 (full_of 32)
-    (full_of 32) false)) e (branch_grows (cond_of NotEqual) W32 (full_of 32) (just n) (full_of 32) (full_of 32) false some_word
+    let all = subst (λ (found : Option (Span × Span)). ArePairsInside found
+    (branch_of (cond_of NotEqual) W32 (full_of 32) (full_of 32) false)) e (branch_grows (cond_of NotEqual) W32
+    (full_of 32) (just n) (full_of 32) (full_of 32) false some_word
     (record { ordered = omega arith }) word_inside (record { low = omega arith; high = omega (arith, small) })) in
     inside_further pair.0 _ all.0 (record { low = omega arith; high = omega arith })
 branch_first Less true n pair small e =
     let all = subst (λ (found : Option (Span × Span)). ArePairsInside found (branch_of (cond_of Less) W32 (full_of 32)
-    (full_of 32) true)) e (branch_grows (cond_of Less) W32 (full_of 32) (just n) (full_of 32) (full_of 32) true some_word
+    (full_of 32) true)) e (branch_grows (cond_of Less) W32 (full_of 32) (just n) (full_of 32)
+    (full_of 32) true some_word
     (record { ordered = omega arith }) word_inside (record { low = omega arith; high = omega (arith, small) })) in
     inside_further pair.0 _ all.0 (record { low = omega arith; high = omega arith })
 branch_first Less false n pair small e =
     let all = subst (λ (found : Option (Span × Span)). ArePairsInside found (branch_of (cond_of Less) W32 (full_of 32)
-    (full_of 32) false)) e (branch_grows (cond_of Less) W32 (full_of 32) (just n) (full_of 32) (full_of 32) false some_word
+    (full_of 32) false)) e (branch_grows (cond_of Less) W32 (full_of 32) (just n) (full_of 32)
+    (full_of 32) false some_word
     (record { ordered = omega arith }) word_inside (record { low = omega arith; high = omega (arith, small) })) in
     inside_further pair.0 _ all.0 (record { low = omega arith; high = omega arith })
 branch_first AtMost true n pair small e =
     let all = subst (λ (found : Option (Span × Span)). ArePairsInside found (branch_of (cond_of AtMost) W32 (full_of 32)
-    (full_of 32) true)) e (branch_grows (cond_of AtMost) W32 (full_of 32) (just n) (full_of 32) (full_of 32) true some_word
+    (full_of 32) true)) e (branch_grows (cond_of AtMost) W32 (full_of 32) (just n) (full_of 32)
+    (full_of 32) true some_word
     (record { ordered = omega arith }) word_inside (record { low = omega arith; high = omega (arith, small) })) in
     inside_further pair.0 _ all.0 (record { low = omega arith; high = omega arith })
 branch_first AtMost false n pair small e =
     let all = subst (λ (found : Option (Span × Span)). ArePairsInside found (branch_of (cond_of AtMost) W32 (full_of 32)
-    (full_of 32) false)) e (branch_grows (cond_of AtMost) W32 (full_of 32) (just n) (full_of 32) (full_of 32) false some_word
+    (full_of 32) false)) e (branch_grows (cond_of AtMost) W32 (full_of 32) (just n) (full_of 32)
+    (full_of 32) false some_word
     (record { ordered = omega arith }) word_inside (record { low = omega arith; high = omega (arith, small) })) in
     inside_further pair.0 _ all.0 (record { low = omega arith; high = omega arith })
 branch_first Greater true n pair small e =
-    let all = subst (λ (found : Option (Span × Span)). ArePairsInside found (branch_of (cond_of Greater) W32 (full_of 32)
-    (full_of 32) true)) e (branch_grows (cond_of Greater) W32 (full_of 32) (just n) (full_of 32) (full_of 32) true some_word
+    let all = subst (λ (found : Option (Span × Span)). ArePairsInside found
+    (branch_of (cond_of Greater) W32 (full_of 32) (full_of 32) true)) e (branch_grows (cond_of Greater) W32 (full_of 32)
+    (just n) (full_of 32) (full_of 32) true some_word
     (record { ordered = omega arith }) word_inside (record { low = omega arith; high = omega (arith, small) })) in
     inside_further pair.0 _ all.0 (record { low = omega arith; high = omega arith })
 branch_first Greater false n pair small e =
-    let all = subst (λ (found : Option (Span × Span)). ArePairsInside found (branch_of (cond_of Greater) W32 (full_of 32)
-    (full_of 32) false)) e (branch_grows (cond_of Greater) W32 (full_of 32) (just n) (full_of 32) (full_of 32) false some_word
+    let all = subst (λ (found : Option (Span × Span)). ArePairsInside found
+    (branch_of (cond_of Greater) W32 (full_of 32) (full_of 32) false)) e (branch_grows (cond_of Greater) W32
+    (full_of 32) (just n) (full_of 32) (full_of 32) false some_word
     (record { ordered = omega arith }) word_inside (record { low = omega arith; high = omega (arith, small) })) in
     inside_further pair.0 _ all.0 (record { low = omega arith; high = omega arith })
 branch_first AtLeast true n pair small e =
-    let all = subst (λ (found : Option (Span × Span)). ArePairsInside found (branch_of (cond_of AtLeast) W32 (full_of 32)
-    (full_of 32) true)) e (branch_grows (cond_of AtLeast) W32 (full_of 32) (just n) (full_of 32) (full_of 32) true some_word
+    let all = subst (λ (found : Option (Span × Span)). ArePairsInside found
+    (branch_of (cond_of AtLeast) W32 (full_of 32) (full_of 32) true)) e (branch_grows (cond_of AtLeast) W32 (full_of 32)
+    (just n) (full_of 32) (full_of 32) true some_word
     (record { ordered = omega arith }) word_inside (record { low = omega arith; high = omega (arith, small) })) in
     inside_further pair.0 _ all.0 (record { low = omega arith; high = omega arith })
 branch_first AtLeast false n pair small e =
-    let all = subst (λ (found : Option (Span × Span)). ArePairsInside found (branch_of (cond_of AtLeast) W32 (full_of 32)
-    (full_of 32) false)) e (branch_grows (cond_of AtLeast) W32 (full_of 32) (just n) (full_of 32) (full_of 32) false some_word
+    let all = subst (λ (found : Option (Span × Span)). ArePairsInside found
+    (branch_of (cond_of AtLeast) W32 (full_of 32) (full_of 32) false)) e (branch_grows (cond_of AtLeast) W32
+    (full_of 32) (just n) (full_of 32) (full_of 32) false some_word
     (record { ordered = omega arith }) word_inside (record { low = omega arith; high = omega (arith, small) })) in
     inside_further pair.0 _ all.0 (record { low = omega arith; high = omega arith })
 
@@ -377,7 +391,8 @@ module _ (program : List Insn) (shape : Extent) (last : ℕ) (solid : (k : ℕ) 
   pub typed_seq : (slot to : ℕ) (xs ys : List Insn) (O M A : Table → Type 0) → slot + length xs ≡ to → T slot xs O M
       → T to ys M A → T slot (xs ++ ys) O A
   typed_seq slot to xs ys O M A e t1 t2 =
-      typed_as program shape last solid slot (xs ++ ys) (λ table. O table × M table) A O A (λ table h. h.0) (λ table h. h)
+      typed_as program shape last solid slot (xs ++ ys) (λ table. O table × M table) A O A (λ table h. h.0)
+      (λ table h. h)
       (typed_then program shape last solid slot to xs ys O M M A e t1 t2 (λ table m a. m))
 
   pub typed_at : (slot to to2 : ℕ) (code : List Insn) (O : Table → Type 0) (A : AbstractState) → to ≡ to2
@@ -400,12 +415,13 @@ module _ (program : List Insn) (shape : Extent) (last : ℕ) (solid : (k : ℕ) 
       let j = jump_at (jump_on when NotEqual) 0 far in
       let len : length (code ++ j ∷ []) ≡ length code + 1 = length-append code (j ∷ []) in
       let to = slot + length code in
-      let f = one_fork program shape last solid to far (cond_of (jump_on when NotEqual)) R0 (operand.Imm (pos 0)) (valued d)
-      (plain d) (plain d) (λ x e. left_imm d (pos 0) _ x e) (λ x e. left_imm d (pos 0) _ x e)
+      let f = one_fork program shape last solid to far (cond_of (jump_on when NotEqual)) R0
+      (operand.Imm (pos 0)) (valued d) (plain d) (plain d) (λ x e. left_imm d (pos 0) _ x e)
+      (λ x e. left_imm d (pos 0) _ x e)
       (proper_known d word Unset Unset some_word tt tt) (keeps_own _ _ _ refl) (omega (arith, len, le)) in
       let e : to + 1 ≡ slot + length (code ++ j ∷ []) = omega (arith, len) in
-      let g = subst (λ (n : ℕ). T to (j ∷ []) (C (valued d) to) (λ table. C (plain d) n table × C (plain d) (n + far) table))
-      e f in
+      let g = subst (λ (n : ℕ). T to (j ∷ []) (C (valued d) to) (λ table. C (plain d) n table × C (plain d)
+      (n + far) table)) e f in
       typed_seq slot to code (j ∷ []) (C (plain d) slot) (C (valued d) to) _ refl (t (omega (arith, len, le))) g
 
   -- the number of a test
@@ -413,28 +429,34 @@ module _ (program : List Insn) (shape : Extent) (last : ℕ) (solid : (k : ℕ) 
       → T slot truth_code (λ table. C (plain d) slot table × C (plain d) (slot + 2) table) (C (valued d) (slot + 3))
   truth_typed d slot le =
       let a = number_typed program shape last solid d 1 slot (omega (arith, le)) in
-      let b = one_jump program shape last solid (slot + 1) 1 (valued d) (proper_known d word Unset Unset some_word tt tt)
-      (omega (arith, le)) in
+      let b = one_jump program shape last solid (slot + 1) 1 (valued d)
+      (proper_known d word Unset Unset some_word tt tt) (omega (arith, le)) in
       let c = number_typed program shape last solid d 0 (slot + 2) (omega (arith, le)) in
       let e1 : slot + 1 + 1 + 1 ≡ slot + 3 = omega arith in
       let e2 : slot + 2 + 1 ≡ slot + 3 = omega arith in
-      let b1 = typed_at (slot + 1) (slot + 1 + 1 + 1) (slot + 3) (i.Ja (pos 1) ∷ []) (C (valued d) (slot + 1)) (valued d) e1 b in
-      let c1 = typed_at (slot + 2) (slot + 2 + 1) (slot + 3) (set_number R0 0 ∷ []) (C (plain d) (slot + 2)) (valued d) e2 c in
+      let b1 = typed_at (slot + 1) (slot + 1 + 1 + 1) (slot + 3) (i.Ja (pos 1) ∷ []) (C (valued d) (slot + 1))
+      (valued d) e1 b in
+      let c1 = typed_at (slot + 2) (slot + 2 + 1) (slot + 3) (set_number R0 0 ∷ []) (C (plain d) (slot + 2))
+      (valued d) e2 c in
       let bc = typed_then program shape last solid (slot + 1) (slot + 2) (i.Ja (pos 1) ∷ []) (set_number R0 0 ∷ [])
-      (C (valued d) (slot + 1)) (C (valued d) (slot + 3)) (C (plain d) (slot + 2)) (C (valued d) (slot + 3)) (omega arith)
+      (C (valued d) (slot + 1)) (C (valued d) (slot + 3)) (C (plain d) (slot + 2))
+      (C (valued d) (slot + 3)) (omega arith)
       b1 c1 (λ table o asks. asks) in
       let abc = typed_then program shape last solid slot (slot + 1) (set_number R0 1 ∷ [])
       (i.Ja (pos 1) ∷ set_number R0 0 ∷ []) (C (plain d) slot) (C (valued d) (slot + 1))
       (λ table. C (valued d) (slot + 1) table × C (plain d) (slot + 2) table) (C (valued d) (slot + 3)) refl a bc
       (λ table o asks. o.0) in
       typed_as program shape last solid slot truth_code
-      (λ table. C (plain d) slot table × (C (valued d) (slot + 1) table × C (plain d) (slot + 2) table)) (C (valued d) (slot + 3))
-      (λ table. C (plain d) slot table × C (plain d) (slot + 2) table) (C (valued d) (slot + 3)) (λ table h. (h.0, h.1.1))
+      (λ table. C (plain d) slot table × (C (valued d) (slot + 1) table × C (plain d) (slot + 2) table))
+      (C (valued d) (slot + 3))
+      (λ table. C (plain d) slot table × C (plain d) (slot + 2) table) (C (valued d) (slot + 3))
+      (λ table h. (h.0, h.1.1))
       (λ table h. h) abc
 
   by_test_typed : (purpose : Purpose) (d slot : ℕ) (test : Bool → ℕ → List Insn)
       → slot + length (by_test purpose test) + beyond purpose ≤ last
-      → ((when : Bool) (far : ℕ) → slot + length (test when far) + far ≤ last → TermTyped (Jump when far) d slot (test when far))
+      → ((when : Bool) (far : ℕ) → slot + length (test when far) + far ≤ last → TermTyped (Jump when far) d slot
+      (test when far))
       → TermTyped purpose d slot (by_test purpose test)
   by_test_typed Value d slot test le t =
       let code = test false 2 in
@@ -449,7 +471,8 @@ module _ (program : List Insn) (shape : Extent) (last : ℕ) (solid : (k : ℕ) 
   two_typed : (d slot : ℕ) (left right : List Insn) → d < 3 → slot + length (two_code d left right) ≤ last
       → (slot + length left ≤ last → TermTyped Value d slot left)
       → ((to : ℕ) → to + length right ≤ last → TermTyped Value (d + 1) to right)
-      → T slot (two_code d left right) (C (plain d) slot) (C (known d word word Unset) (slot + length (two_code d left right)))
+      → T slot (two_code d left right) (C (plain d) slot) (C (known d word word Unset)
+      (slot + length (two_code d left right)))
   two_typed d slot left right few le first second =
       let back = copy R1 R0 ∷ copy R0 (place d) ∷ [] in
       let rest = copy (place d) R0 ∷ (right ++ back) in
@@ -474,8 +497,8 @@ module _ (program : List Insn) (shape : Extent) (last : ℕ) (solid : (k : ℕ) 
       (λ table h. covers_less table both (known d word word Unset) end (known_less d word word Unset) h) f1 in
       let sf = typed_seq p3 p4 (copy R1 R0 ∷ []) (copy R0 (place d) ∷ []) (C (valued (d + 1)) p3)
       (C (known (d + 1) Unset word Unset) p4) (C (known d word word Unset) end) refl s f2 in
-      let csf = typed_seq p2 p3 right back (C (plain (d + 1)) p2) (C (valued (d + 1)) p3) (C (known d word word Unset) end)
-      refl c sf in
+      let csf = typed_seq p2 p3 right back (C (plain (d + 1)) p2) (C (valued (d + 1)) p3)
+      (C (known d word word Unset) end) refl c sf in
       let bcsf = typed_seq p1 p2 (copy (place d) R0 ∷ []) (right ++ back) (C (valued d) p1) (C (plain (d + 1)) p2)
       (C (known d word word Unset) end) refl b csf in
       typed_seq slot p1 left rest (C (plain d) slot) (C (valued d) p1) (C (known d word word Unset) end) refl a bcsf
@@ -486,7 +509,8 @@ module _ (program : List Insn) (shape : Extent) (last : ℕ) (solid : (k : ℕ) 
   load_one : (d k slot : ℕ) → 4 * k + 4 ≤ shape.memory → slot + 1 ≤ last
       → T slot (i.Load size.W R1 R6 (pos (4 * k)) ∷ []) (C (valued d) slot) (C (known d word word Unset) (slot + 1))
   load_one d k slot inside le =
-      let room : nat_lt shape.memory (0 + 4 * k + 4) ≡ false = le-ltb shape.memory (0 + 4 * k + 4) (omega (arith, inside)) in
+      let room : nat_lt shape.memory (0 + 4 * k + 4) ≡ false = le-ltb shape.memory (0 + 4 * k + 4)
+      (omega (arith, inside)) in
       one_on program shape last solid slot (i.Load size.W R1 R6 (pos (4 * k))) (valued d) _ (known d word word Unset)
       refl refl refl (into _ d word word Unset (kind_in_itself word) (kind_in_itself word) tt refl refl refl refl)
       (proper_known d word Unset Unset some_word tt tt) (keeps_own _ _ _ (rw room refl)) le
@@ -496,14 +520,17 @@ module _ (program : List Insn) (shape : Extent) (last : ℕ) (solid : (k : ℕ) 
       → slot + 1 ≤ last
       → T slot (get_code R0 x ∷ []) (C (known d Unset word Unset) slot) (C (known d word word Unset) (slot + 1))
   get_typed (Constant c) d lets slot found there below few le =
-      one_on program shape last solid slot (set_number R0 c) (known d Unset word Unset) _ (known d word word Unset) refl refl refl
+      one_on program shape last solid slot (set_number R0 c) (known d Unset word Unset) _ (known d word word Unset)
+      refl refl refl
       (into _ d word word Unset (short (cast_unsigned w64 (cast_signed w32 c) % 2 ^ 32)) (kind_in_itself word) tt
       refl refl refl refl) (proper_known d Unset word Unset tt some_word tt) (keeps_own _ _ _ refl) le
   get_typed (FromLocal k) d lets slot found there below few le =
       fetch_typed program shape last solid k d word slot (omega (arith, there, below)) few some_word le
   get_typed (FromWord k) d lets slot found there below few le =
-      let room : nat_lt shape.memory (0 + 4 * k + 4) ≡ false = le-ltb shape.memory (0 + 4 * k + 4) (omega (arith, there)) in
-      one_on program shape last solid slot (get_code R0 (FromWord k)) (known d Unset word Unset) _ (known d word word Unset)
+      let room : nat_lt shape.memory (0 + 4 * k + 4) ≡ false = le-ltb shape.memory (0 + 4 * k + 4)
+      (omega (arith, there)) in
+      one_on program shape last solid slot (get_code R0 (FromWord k)) (known d Unset word Unset) _
+      (known d word word Unset)
       refl refl refl (into _ d word word Unset (kind_in_itself word) (kind_in_itself word) tt refl refl refl refl)
       (proper_known d Unset word Unset tt some_word tt) (keeps_own _ _ _ (rw room refl)) le
   get_typed Computed d lets slot found there below few le = absurd (let no : false ≡ true = found in cc)
@@ -517,7 +544,8 @@ module _ (program : List Insn) (shape : Extent) (last : ℕ) (solid : (k : ℕ) 
       let p1 = slot + length left in
       let e : p1 ≡ slot + length (left ++ []) = omega (arith, len) in
       typed_at slot p1 (slot + length (left ++ [])) (left ++ []) (C (plain d) slot) (valued d) e
-      (typed_seq slot p1 left [] (C (plain d) slot) (C (valued d) p1) (C (valued d) p1) refl (first (omega (arith, len, le)))
+      (typed_seq slot p1 left [] (C (plain d) slot) (C (valued d) p1) (C (valued d) p1) refl
+      (first (omega (arith, len, le)))
       (typed_none program shape last solid p1 (C (valued d) p1)))
 
   loaded_typed : (y : Source) (d lets slot : ℕ) (left : List Insn) → is_found y ≡ true → IsThere y lets shape.memory
@@ -530,7 +558,8 @@ module _ (program : List Insn) (shape : Extent) (last : ℕ) (solid : (k : ℕ) 
       let len : length (left ++ load) ≡ length left + 1 = length-append left load in
       let p1 = slot + length left in
       let e : p1 + 1 ≡ slot + length (left ++ load) = omega (arith, len) in
-      typed_at slot (p1 + 1) (slot + length (left ++ load)) (left ++ load) (C (plain d) slot) (known d word word Unset) e
+      typed_at slot (p1 + 1) (slot + length (left ++ load)) (left ++ load) (C (plain d) slot)
+      (known d word word Unset) e
       (typed_seq slot p1 left load (C (plain d) slot) (C (valued d) p1) (C (known d word word Unset) (p1 + 1)) refl
       (first (omega (arith, len, le))) (load_one d k p1 there (omega (arith, len, le))))
   loaded_typed Computed d lets slot left found there le first = absurd (let no : false ≡ true = found in cc)
@@ -605,23 +634,28 @@ module _ (program : List Insn) (shape : Extent) (last : ℕ) (solid : (k : ℕ) 
       → T slot (i.Alu (alu_of op) W32 R0 src ∷ []) (C (known d word k1 Unset) slot) (C (valued d) (slot + 1))
   alu_typed Sum src d k1 slot q is le = one_on program shape last solid slot (i.Alu (alu_of Sum) W32 R0 src)
       (known d word k1 Unset) _ (valued d) refl refl refl
-      (into _ d word Unset Unset (word_result Add _ q.range q.kind q.ordered q.inside refl) tt tt refl refl refl refl) is
+      (into _ d word Unset Unset (word_result Add _ q.range q.kind q.ordered q.inside refl) tt tt refl
+      refl refl refl) is
       (alu_keeps Sum src d k1 q) le
-  alu_typed Difference src d k1 slot q is le = one_on program shape last solid slot (i.Alu (alu_of Difference) W32 R0 src)
-      (known d word k1 Unset) _ (valued d) refl refl refl
-      (into _ d word Unset Unset (word_result Sub _ q.range q.kind q.ordered q.inside refl) tt tt refl refl refl refl) is
+  alu_typed Difference src d k1 slot q is le = one_on program shape last solid slot
+      (i.Alu (alu_of Difference) W32 R0 src) (known d word k1 Unset) _ (valued d) refl refl refl
+      (into _ d word Unset Unset (word_result Sub _ q.range q.kind q.ordered q.inside refl) tt tt refl
+      refl refl refl) is
       (alu_keeps Difference src d k1 q) le
   alu_typed Product src d k1 slot q is le = one_on program shape last solid slot (i.Alu (alu_of Product) W32 R0 src)
       (known d word k1 Unset) _ (valued d) refl refl refl
-      (into _ d word Unset Unset (word_result Mul _ q.range q.kind q.ordered q.inside refl) tt tt refl refl refl refl) is
+      (into _ d word Unset Unset (word_result Mul _ q.range q.kind q.ordered q.inside refl) tt tt refl
+      refl refl refl) is
       (alu_keeps Product src d k1 q) le
   alu_typed Quotient src d k1 slot q is le = one_on program shape last solid slot (i.Alu (alu_of Quotient) W32 R0 src)
       (known d word k1 Unset) _ (valued d) refl refl refl
-      (into _ d word Unset Unset (word_result Div _ q.range q.kind q.ordered q.inside refl) tt tt refl refl refl refl) is
+      (into _ d word Unset Unset (word_result Div _ q.range q.kind q.ordered q.inside refl) tt tt refl
+      refl refl refl) is
       (alu_keeps Quotient src d k1 q) le
   alu_typed Remainder src d k1 slot q is le = one_on program shape last solid slot (i.Alu (alu_of Remainder) W32 R0 src)
       (known d word k1 Unset) _ (valued d) refl refl refl
-      (into _ d word Unset Unset (word_result Mod _ q.range q.kind q.ordered q.inside refl) tt tt refl refl refl refl) is
+      (into _ d word Unset Unset (word_result Mod _ q.range q.kind q.ordered q.inside refl) tt tt refl
+      refl refl refl) is
       (alu_keeps Remainder src d k1 q) le
 
   -- r0 beside a place
@@ -644,23 +678,23 @@ module _ (program : List Insn) (shape : Extent) (last : ℕ) (solid : (k : ℕ) 
       (λ x e. left_0_2 _ x (λ pair f. branch_inside r false pair f) e)
       (λ x e. left_0_2 _ x (λ pair f. branch_inside r true pair f) e)
       (proper_known 2 word Unset Unset some_word tt tt) (keeps_own _ _ _ refl) le
-  place_fork r zero (suc (suc (suc zero))) slot far lt few le = one_fork program shape last solid slot far (cond_of r) R0
-      (operand.Reg (place 0)) (valued 3) (plain 3) (plain 3)
+  place_fork r zero (suc (suc (suc zero))) slot far lt few le = one_fork program shape last solid slot far
+      (cond_of r) R0 (operand.Reg (place 0)) (valued 3) (plain 3) (plain 3)
       (λ x e. left_0_3 _ x (λ pair f. branch_inside r false pair f) e)
       (λ x e. left_0_3 _ x (λ pair f. branch_inside r true pair f) e)
       (proper_known 3 word Unset Unset some_word tt tt) (keeps_own _ _ _ refl) le
-  place_fork r (suc zero) (suc (suc zero)) slot far lt few le = one_fork program shape last solid slot far (cond_of r) R0
-      (operand.Reg (place 1)) (valued 2) (plain 2) (plain 2)
+  place_fork r (suc zero) (suc (suc zero)) slot far lt few le = one_fork program shape last solid slot far
+      (cond_of r) R0 (operand.Reg (place 1)) (valued 2) (plain 2) (plain 2)
       (λ x e. left_1_2 _ x (λ pair f. branch_inside r false pair f) e)
       (λ x e. left_1_2 _ x (λ pair f. branch_inside r true pair f) e)
       (proper_known 2 word Unset Unset some_word tt tt) (keeps_own _ _ _ refl) le
-  place_fork r (suc zero) (suc (suc (suc zero))) slot far lt few le = one_fork program shape last solid slot far (cond_of r) R0
-      (operand.Reg (place 1)) (valued 3) (plain 3) (plain 3)
+  place_fork r (suc zero) (suc (suc (suc zero))) slot far lt few le = one_fork program shape last solid slot far
+      (cond_of r) R0 (operand.Reg (place 1)) (valued 3) (plain 3) (plain 3)
       (λ x e. left_1_3 _ x (λ pair f. branch_inside r false pair f) e)
       (λ x e. left_1_3 _ x (λ pair f. branch_inside r true pair f) e)
       (proper_known 3 word Unset Unset some_word tt tt) (keeps_own _ _ _ refl) le
-  place_fork r (suc (suc zero)) (suc (suc (suc zero))) slot far lt few le = one_fork program shape last solid slot far (cond_of r) R0
-      (operand.Reg (place 2)) (valued 3) (plain 3) (plain 3)
+  place_fork r (suc (suc zero)) (suc (suc (suc zero))) slot far lt few le = one_fork program shape last solid slot far
+      (cond_of r) R0 (operand.Reg (place 2)) (valued 3) (plain 3) (plain 3)
       (λ x e. left_2_3 _ x (λ pair f. branch_inside r false pair f) e)
       (λ x e. left_2_3 _ x (λ pair f. branch_inside r true pair f) e)
       (proper_known 3 word Unset Unset some_word tt tt) (keeps_own _ _ _ refl) le
@@ -677,7 +711,8 @@ module _ (program : List Insn) (shape : Extent) (last : ℕ) (solid : (k : ℕ) 
       → T slot (jump_by r (operand_code y) far ∷ []) (C (paired y d) slot)
       (λ table. C (plain d) (slot + 1) table × C (plain d) (slot + 1 + far) table)
   compare_typed r (Constant c) d lets slot far there below few le =
-      one_fork program shape last solid slot far (cond_of r) R0 (operand_code (Constant c)) (valued d) (plain d) (plain d)
+      one_fork program shape last solid slot far (cond_of r) R0 (operand_code (Constant c)) (valued d)
+      (plain d) (plain d)
       (λ x e. left_imm d (cast_signed w32 c) _ x e) (λ x e. left_imm d (cast_signed w32 c) _ x e)
       (proper_known d word Unset Unset some_word tt tt) (keeps_own _ _ _ refl) le
   compare_typed r (FromLocal k) d lets slot far there below few le =
@@ -700,7 +735,8 @@ module _ (program : List Insn) (shape : Extent) (last : ℕ) (solid : (k : ℕ) 
       let b1 = typed_at p1 (p1 + 1) (slot + length (code ++ act)) act (C (paired y d) p1) (valued d) e
       (alu_typed op (operand_code y) d (r1_kind y) p1 (operand_is y d lets shape.memory there below few)
       (proper_paired y d) (omega (arith, len, l))) in
-      typed_seq slot p1 code act (C (plain d) slot) (C (paired y d) p1) (C (valued d) (slot + length (code ++ act))) refl
+      typed_seq slot p1 code act (C (plain d) slot) (C (paired y d) p1)
+      (C (valued d) (slot + length (code ++ act))) refl
       (two (omega (arith, len, l))) b1)
   operator_typed (Compare r) y purpose d lets slot code there below few le two =
       by_test_typed purpose d slot (λ when far. code ++ jump_by (jump_on when r) (operand_code y) far ∷ []) le
@@ -713,7 +749,8 @@ module _ (program : List Insn) (shape : Extent) (last : ℕ) (solid : (k : ℕ) 
       (λ table. C (plain d) n table × C (plain d) (n + far) table)) e
       (compare_typed (jump_on when r) y d lets p1 far there below few (omega (arith, len, l))) in
       typed_seq slot p1 code jump (C (plain d) slot) (C (paired y d) p1)
-      (λ table. C (plain d) (slot + length (code ++ jump)) table × C (plain d) (slot + length (code ++ jump) + far) table) refl
+      (λ table. C (plain d) (slot + length (code ++ jump)) table × C (plain d)
+      (slot + length (code ++ jump) + far) table) refl
       (two (omega (arith, len, l))) b1)
 
   left_typed : (o : Operator) (x : Source) (purpose : Purpose) (d lets slot : ℕ) (right : List Insn) → is_found x ≡ true
@@ -784,31 +821,39 @@ module _ (program : List Insn) (shape : Extent) (last : ℕ) (solid : (k : ℕ) 
       → (slot + length left ≤ last → TermTyped Value d slot left)
       → ((to : ℕ) → deep ≤ 3 → to + length right ≤ last → TermTyped Value deep to right)
       → TermTyped purpose d slot (binary_code y x o d purpose left right)
-  sides_typed (Constant c) (FromLocal k) (Compare r) purpose d deep lets slot left right at_y at_x below few same free le
-      first second =
+  sides_typed (Constant c) (FromLocal k) (Compare r) purpose d deep lets slot left right at_y at_x below
+      few same free le first second =
       by_test_typed purpose d slot (λ when far. jump_place k (jump_on when r) c far ∷ []) le
-      (λ when far l. place_test_typed (jump_on when r) k c d slot far (omega (arith, at_x, below)) few (omega (arith, l)))
-  sides_typed (Constant c) (FromLocal k) (Compute op) purpose d deep lets slot left right at_y at_x below few same free le
-      first second = right_typed (Compute op) (Constant c) purpose d lets slot left refl at_y below few le first
-  sides_typed (Constant c) (Constant e) o purpose d deep lets slot left right at_y at_x below few same free le first second =
+      (λ when far l. place_test_typed (jump_on when r) k c d slot far (omega (arith, at_x, below)) few
+      (omega (arith, l)))
+  sides_typed (Constant c) (FromLocal k) (Compute op) purpose d deep lets slot left right at_y at_x below
+      few same free le first second = right_typed (Compute op) (Constant c) purpose d lets slot left refl at_y
+      below few le first
+  sides_typed (Constant c) (Constant e) o purpose d deep lets slot left right at_y at_x below few same free le
+      first second =
       right_typed o (Constant c) purpose d lets slot left refl at_y below few le first
-  sides_typed (Constant c) (FromWord k) o purpose d deep lets slot left right at_y at_x below few same free le first second =
+  sides_typed (Constant c) (FromWord k) o purpose d deep lets slot left right at_y at_x below few same free le
+      first second =
       right_typed o (Constant c) purpose d lets slot left refl at_y below few le first
-  sides_typed (Constant c) Computed o purpose d deep lets slot left right at_y at_x below few same free le first second =
+  sides_typed (Constant c) Computed o purpose d deep lets slot left right at_y at_x below few same free le
+      first second =
       right_typed o (Constant c) purpose d lets slot left refl at_y below few le first
   sides_typed (FromLocal k) x o purpose d deep lets slot left right at_y at_x below few same free le first second =
       right_typed o (FromLocal k) purpose d lets slot left refl at_y below few le first
   sides_typed (FromWord k) x o purpose d deep lets slot left right at_y at_x below few same free le first second =
       right_typed o (FromWord k) purpose d lets slot left refl at_y below few le first
-  sides_typed Computed (Constant c) o purpose d deep lets slot left right at_y at_x below few same free le first second =
+  sides_typed Computed (Constant c) o purpose d deep lets slot left right at_y at_x below few same free le
+      first second =
       let e : deep ≡ d = same refl in
       left_typed o (Constant c) purpose d lets slot right refl at_x below few le
       (λ l. subst (λ (n : ℕ). TermTyped Value n slot right) e (second slot (omega (arith, e, few)) l))
-  sides_typed Computed (FromLocal k) o purpose d deep lets slot left right at_y at_x below few same free le first second =
+  sides_typed Computed (FromLocal k) o purpose d deep lets slot left right at_y at_x below few same free le
+      first second =
       let e : deep ≡ d = same refl in
       left_typed o (FromLocal k) purpose d lets slot right refl at_x below few le
       (λ l. subst (λ (n : ℕ). TermTyped Value n slot right) e (second slot (omega (arith, e, few)) l))
-  sides_typed Computed (FromWord k) o purpose d deep lets slot left right at_y at_x below few same free le first second =
+  sides_typed Computed (FromWord k) o purpose d deep lets slot left right at_y at_x below few same free le
+      first second =
       let e : deep ≡ d = same refl in
       left_typed o (FromWord k) purpose d lets slot right refl at_x below few le
       (λ l. subst (λ (n : ℕ). TermTyped Value n slot right) e (second slot (omega (arith, e, few)) l))
@@ -844,8 +889,8 @@ module _ (program : List Insn) (shape : Extent) (last : ℕ) (solid : (k : ℕ) 
       let tb = typed_at p3 (p3 + length b) end b (C (plain d) p3) M e1 (second p3 (omega (arith, len, le))) in
       let j = typed_at p2 (p2 + 1 + length b) end (i.Ja (pos (length b)) ∷ []) (C M p2) M e1
       (one_jump program shape last solid p2 (length b) M is (omega (arith, len, le))) in
-      let jb = typed_then program shape last solid p2 p3 (i.Ja (pos (length b)) ∷ []) b (C M p2) (C M end) (C (plain d) p3)
-      (C M end) refl j tb (λ table o asks. asks) in
+      let jb = typed_then program shape last solid p2 p3 (i.Ja (pos (length b)) ∷ []) b (C M p2) (C M end)
+      (C (plain d) p3) (C M end) refl j tb (λ table o asks. asks) in
       let ajb = typed_then program shape last solid p1 p2 a skip (C (plain d) p1) (C M p2)
       (λ table. C M p2 table × C (plain d) p3 table) (C M end) refl ta jb (λ table o asks. o.0) in
       let e2 : p3 ≡ p1 + far = omega arith in
@@ -880,10 +925,11 @@ module _ (program : List Insn) (shape : Extent) (last : ℕ) (solid : (k : ℕ) 
         | inr h ↦ omega arith
       ] in
       let a = first alone w (omega (arith, len, le, small)) in
-      let b = subst (λ (n : ℕ). T p1 right (C (plain d) p1) (λ table. C (plain d) n table × C (plain d) (n + far) table)) e
-      (second p1 (omega (arith, len, le))) in
+      let b = subst (λ (n : ℕ). T p1 right (C (plain d) p1) (λ table. C (plain d) n table × C (plain d)
+      (n + far) table)) e (second p1 (omega (arith, len, le))) in
       let link : (table : Table) → C (plain d) p1 table → C (plain d) end table × C (plain d) (end + far) table
-      → C (plain d) p1 table × C (plain d) (p1 + w) table = λ table o asks. elim (either_far alone when (length right) far) [
+      → C (plain d) p1 table × C (plain d) (p1 + w) table = λ table o asks. elim
+      (either_far alone when (length right) far) [
         | inl h ↦ let g : end + far ≡ p1 + w = omega (arith, e, h) in
             (o, subst (λ (n : ℕ). C (plain d) n table) g asks.1)
         | inr h ↦ let g : end ≡ p1 + w = omega (arith, e, h) in (o, subst (λ (n : ℕ). C (plain d) n table) g asks.0)
@@ -898,21 +944,24 @@ module _ (program : List Insn) (shape : Extent) (last : ℕ) (solid : (k : ℕ) 
   -- ---- counts
 
   add_typed : (d slot : ℕ) → d < 3 → slot + 1 ≤ last
-      → T slot (i.Alu Add W32 (place d) (operand.Imm (pos 1)) ∷ []) (C (plain (d + 1)) slot) (C (plain (d + 1)) (slot + 1))
+      → T slot (i.Alu Add W32 (place d) (operand.Imm (pos 1)) ∷ []) (C (plain (d + 1)) slot)
+      (C (plain (d + 1)) (slot + 1))
   add_typed zero slot lt le = one_on program shape last solid slot (i.Alu Add W32 (place 0) (operand.Imm (pos 1)))
       (plain 1) _ (plain 1) refl refl refl (into _ 1 Unset Unset Unset tt tt tt refl refl refl refl)
       (proper_known 1 Unset Unset Unset tt tt tt) (keeps_own _ _ _ refl) le
   add_typed (suc zero) slot lt le = one_on program shape last solid slot (i.Alu Add W32 (place 1) (operand.Imm (pos 1)))
       (plain 2) _ (plain 2) refl refl refl (into _ 2 Unset Unset Unset tt tt tt refl refl refl refl)
       (proper_known 2 Unset Unset Unset tt tt tt) (keeps_own _ _ _ refl) le
-  add_typed (suc (suc zero)) slot lt le = one_on program shape last solid slot (i.Alu Add W32 (place 2) (operand.Imm (pos 1)))
-      (plain 3) _ (plain 3) refl refl refl (into _ 3 Unset Unset Unset tt tt tt refl refl refl refl)
+  add_typed (suc (suc zero)) slot lt le = one_on program shape last solid slot
+      (i.Alu Add W32 (place 2) (operand.Imm (pos 1))) (plain 3) _ (plain 3) refl refl refl
+      (into _ 3 Unset Unset Unset tt tt tt refl refl refl refl)
       (proper_known 3 Unset Unset Unset tt tt tt) (keeps_own _ _ _ refl) le
   add_typed (suc (suc (suc d))) slot lt le = absurd (omega (arith, lt))
 
   counts_typed : (d slot n : ℕ) (test : ℕ → List Insn) → d < 3 → slot + length (count_codes d test n) ≤ last
       → ((j to : ℕ) → to + length (test j) + 1 ≤ last → TermTyped (Jump false 1) (d + 1) to (test j))
-      → T slot (count_codes d test n) (C (plain (d + 1)) slot) (C (plain (d + 1)) (slot + length (count_codes d test n)))
+      → T slot (count_codes d test n) (C (plain (d + 1)) slot)
+      (C (plain (d + 1)) (slot + length (count_codes d test n)))
   counts_typed d slot zero test small le each =
       let e : slot ≡ slot + 0 = omega arith in
       typed_at slot slot (slot + 0) [] (C (plain (d + 1)) slot) (plain (d + 1)) e
@@ -929,8 +978,8 @@ module _ (program : List Insn) (shape : Extent) (last : ℕ) (solid : (k : ℕ) 
       let f = counts_typed d slot n test small (omega (arith, len, le)) each in
       let t = each n p1 (omega (arith, len, le)) in
       let a = add_typed d p2 small (omega (arith, len, le)) in
-      let ta = typed_then program shape last solid p1 p2 (test n) add (C S p1) (λ table. C S p2 table × C S (p2 + 1) table)
-      (C S p2) (C S (p2 + 1)) refl t a (λ table o asks. (o, asks)) in
+      let ta = typed_then program shape last solid p1 p2 (test n) add (C S p1) (λ table. C S p2 table × C S
+      (p2 + 1) table) (C S p2) (C S (p2 + 1)) refl t a (λ table o asks. (o, asks)) in
       let ta1 = typed_as program shape last solid p1 back (λ table. C S p1 table × C S p2 table) (C S (p2 + 1)) (C S p1)
       (C S (p2 + 1)) (λ table h. h.0) (λ table h. h) ta in
       let e : p2 + 1 ≡ slot + length (front ++ back) = omega (arith, len) in
@@ -945,13 +994,13 @@ module _ (program : List Insn) (shape : Extent) (last : ℕ) (solid : (k : ℕ) 
       (within _ Unset Unset Unset memory_place word Unset Unset tt tt tt (kind_in_itself memory_place)
       (short (cast_unsigned w64 (cast_signed w32 0) % 2 ^ 32)) tt tt)
       (proper_known 0 Unset Unset Unset tt tt tt) (keeps_own _ _ _ refl) le
-  begin_typed (suc zero) slot lt le = one_on program shape last solid slot (set_number (place 1) 0) (plain 1) _ (plain 2)
-      refl refl refl
+  begin_typed (suc zero) slot lt le = one_on program shape last solid slot (set_number (place 1) 0)
+      (plain 1) _ (plain 2) refl refl refl
       (within _ Unset Unset Unset memory_place word word Unset tt tt tt (kind_in_itself memory_place)
       (kind_in_itself word) (short (cast_unsigned w64 (cast_signed w32 0) % 2 ^ 32)) tt)
       (proper_known 1 Unset Unset Unset tt tt tt) (keeps_own _ _ _ refl) le
-  begin_typed (suc (suc zero)) slot lt le = one_on program shape last solid slot (set_number (place 2) 0) (plain 2) _ (plain 3)
-      refl refl refl
+  begin_typed (suc (suc zero)) slot lt le = one_on program shape last solid slot (set_number (place 2) 0)
+      (plain 2) _ (plain 3) refl refl refl
       (within _ Unset Unset Unset memory_place word word word tt tt tt (kind_in_itself memory_place)
       (kind_in_itself word) (kind_in_itself word) (short (cast_unsigned w64 (cast_signed w32 0) % 2 ^ 32)))
       (proper_known 2 Unset Unset Unset tt tt tt) (keeps_own _ _ _ refl) le
@@ -976,7 +1025,8 @@ module _ (program : List Insn) (shape : Extent) (last : ℕ) (solid : (k : ℕ) 
       let f2 = typed_as program shape last solid p3 last_one (C (plain (d + 1)) p3) (C (valued (d + 1)) end)
       (C (plain (d + 1)) p3) (C (valued d) end) (λ table h. h)
       (λ table h. covers_less table (valued (d + 1)) (valued d) end (known_less d word Unset Unset) h) f1 in
-      let cf = typed_seq p2 p3 codes last_one (C (plain (d + 1)) p2) (C (plain (d + 1)) p3) (C (valued d) end) refl c f2 in
+      let cf = typed_seq p2 p3 codes last_one (C (plain (d + 1)) p2) (C (plain (d + 1)) p3)
+      (C (valued d) end) refl c f2 in
       typed_seq slot p2 (set_number (place d) 0 ∷ []) (codes ++ last_one) (C (plain d) slot) (C (plain (d + 1)) p2)
       (C (valued d) end) refl b cf
 
@@ -985,7 +1035,15 @@ module _ (program : List Insn) (shape : Extent) (last : ℕ) (solid : (k : ℕ) 
   me_typed : (d slot : ℕ) → shape.nodes ≤ 64 → slot + 1 ≤ last
       → T slot (i.Call (pos 1) ∷ []) (C (plain d) slot) (C (valued d) (slot + 1))
   me_typed d slot few le = one_on program shape last solid slot (i.Call (pos 1)) (plain d) _ (valued d) refl refl refl
-      (into _ d word Unset Unset (span 0 (shape.nodes - 1), refl, record { low = omega arith; high = omega (arith, few) }) tt tt
+      (into _ d word Unset Unset (
+        span 0 (shape.nodes - 1),
+        refl,
+        record {
+          low = omega arith;
+          high = omega
+              (arith, few);
+        },
+      ) tt tt
       refl refl refl refl) (proper_known d Unset Unset Unset tt tt tt) (keeps_own _ _ _ refl) le
 
   coin_typed : (d slot : ℕ) → slot + 1 ≤ last
@@ -997,7 +1055,8 @@ module _ (program : List Insn) (shape : Extent) (last : ℕ) (solid : (k : ℕ) 
   pub load_typed : (d k slot : ℕ) → 4 * k + 4 ≤ shape.memory → slot + 1 ≤ last
       → T slot (i.Load size.W R0 R6 (pos (4 * k)) ∷ []) (C (plain d) slot) (C (valued d) (slot + 1))
   load_typed d k slot inside le =
-      let room : nat_lt shape.memory (0 + 4 * k + 4) ≡ false = le-ltb shape.memory (0 + 4 * k + 4) (omega (arith, inside)) in
+      let room : nat_lt shape.memory (0 + 4 * k + 4) ≡ false = le-ltb shape.memory (0 + 4 * k + 4)
+      (omega (arith, inside)) in
       one_on program shape last solid slot (i.Load size.W R0 R6 (pos (4 * k))) (plain d) _ (valued d) refl refl refl
       (into _ d word Unset Unset (kind_in_itself word) tt tt refl refl refl refl)
       (proper_known d Unset Unset Unset tt tt tt) (keeps_own _ _ _ (rw room refl)) le
@@ -1064,7 +1123,8 @@ module _ (program : List Insn) (shape : Extent) (last : ℕ) (solid : (k : ℕ) 
   recv_typed : (d slot : ℕ) → 1 ≤ shape.nodes → slot + 1 ≤ last
       → T slot (i.Call (pos 2) ∷ []) (C (known d Unset some_node Unset) slot) (C (valued d) (slot + 1))
   recv_typed d slot some le =
-      let one_of : nat_lt (shape.nodes - 1) shape.nodes ≡ true = lt-ltb (shape.nodes - 1) shape.nodes (omega (arith, some)) in
+      let one_of : nat_lt (shape.nodes - 1) shape.nodes ≡ true = lt-ltb (shape.nodes - 1) shape.nodes
+      (omega (arith, some)) in
       one_on program shape last solid slot (i.Call (pos 2)) (known d Unset some_node Unset) _ (valued d) refl refl refl
       (into _ d word Unset Unset (kind_in_itself word) tt tt refl refl refl refl)
       (proper_known d Unset some_node Unset tt proper_node tt) (keeps_own _ _ _ (rw one_of refl)) le
@@ -1084,14 +1144,15 @@ module _ (program : List Insn) (shape : Extent) (last : ℕ) (solid : (k : ℕ) 
       (proper_known d word Unset Unset some_word tt tt) (keeps_own _ _ _ refl) (omega (arith, le)) in
       let a = number_typed program shape last solid d 4294967295 p1 (omega (arith, le)) in
       let j = typed_at p2 (p2 + 1 + 2) end (i.Ja (pos 2) ∷ []) (C V p2) V (omega arith)
-      (one_jump program shape last solid p2 2 V (proper_known d word Unset Unset some_word tt tt) (omega (arith, le))) in
+      (one_jump program shape last solid p2 2 V (proper_known d word Unset Unset some_word tt tt)
+      (omega (arith, le))) in
       let c = name_typed d p3 (omega (arith, same, few)) (omega (arith, le)) in
       let r = typed_at p4 (p4 + 1) end (i.Call (pos 2) ∷ []) (C (known d Unset some_node Unset) p4) V (omega arith)
       (recv_typed d p4 (omega (arith, same, some)) (omega (arith, le))) in
       let cr = typed_seq p3 p4 (copy R1 R0 ∷ []) (i.Call (pos 2) ∷ []) (C N p3) (C (known d Unset some_node Unset) p4)
       (C V end) refl c r in
-      let jcr = typed_then program shape last solid p2 p3 (i.Ja (pos 2) ∷ []) (copy R1 R0 ∷ i.Call (pos 2) ∷ []) (C V p2)
-      (C V end) (C N p3) (C V end) refl j cr (λ table o asks. asks) in
+      let jcr = typed_then program shape last solid p2 p3 (i.Ja (pos 2) ∷ [])
+      (copy R1 R0 ∷ i.Call (pos 2) ∷ []) (C V p2) (C V end) (C N p3) (C V end) refl j cr (λ table o asks. asks) in
       let ajcr = typed_then program shape last solid p1 p2 (set_number R0 4294967295 ∷ [])
       (i.Ja (pos 2) ∷ copy R1 R0 ∷ i.Call (pos 2) ∷ []) (C (plain d) p1) (C V p2) (λ table. C V p2 table × C N p3 table)
       (C V end) refl a jcr (λ table o asks. o.0) in
@@ -1125,7 +1186,8 @@ module _ (program : List Insn) (shape : Extent) (last : ℕ) (solid : (k : ℕ) 
       let e : p1 + 5 ≡ slot + length (code ++ back) = omega (arith, len) in
       let b1 = typed_at p1 (p1 + 5) (slot + length (code ++ back)) back (C (valued d) p1) (valued d) e
       (message_typed d n p1 same some few (omega (arith, len, le))) in
-      typed_seq slot p1 code back (C (plain d) slot) (C (valued d) p1) (C (valued d) (slot + length (code ++ back))) refl
+      typed_seq slot p1 code back (C (plain d) slot) (C (valued d) p1)
+      (C (valued d) (slot + length (code ++ back))) refl
       (first (omega (arith, len, le))) b1
 
   message_by_typed : (y : Source) (d n slot : ℕ) (code : List Insn) → n ≡ shape.nodes → 1 ≤ n → n ≤ 64
@@ -1138,7 +1200,8 @@ module _ (program : List Insn) (shape : Extent) (last : ℕ) (solid : (k : ℕ) 
       let whole : P (message_by (Constant j) n code) = elim (cases_Bool (nat_lt j n)) [
         | inl so ↦ subst P (sym (cond-true (nat_lt j n) known_node none so))
             (λ l.
-            let a = node_typed d j slot (omega (arith, ltb-true j n so, same)) (omega (arith, same, few)) (omega (arith, l)) in
+            let a = node_typed d j slot (omega (arith, ltb-true j n so, same)) (omega (arith, same, few))
+            (omega (arith, l)) in
             let e : slot + 1 + 1 ≡ slot + 2 = omega arith in
             let b = typed_at (slot + 1) (slot + 1 + 1) (slot + 2) (i.Call (pos 2) ∷ [])
             (C (known d Unset some_node Unset) (slot + 1)) (valued d) e
@@ -1149,8 +1212,10 @@ module _ (program : List Insn) (shape : Extent) (last : ℕ) (solid : (k : ℕ) 
             (λ l. number_typed program shape last solid d 4294967295 slot l)
       ] in
       whole le
-  message_by_typed (FromLocal k) d n slot code same some few le first = some_node_typed d n slot code same some few le first
-  message_by_typed (FromWord k) d n slot code same some few le first = some_node_typed d n slot code same some few le first
+  message_by_typed (FromLocal k) d n slot code same some few le first = some_node_typed d n slot code same
+      some few le first
+  message_by_typed (FromWord k) d n slot code same some few le first = some_node_typed d n slot code same
+      some few le first
   message_by_typed Computed d n slot code same some few le first = some_node_typed d n slot code same some few le first
 
   -- ---- terms
@@ -1196,13 +1261,16 @@ module _ (program : List Insn) (shape : Extent) (last : ℕ) (solid : (k : ℕ) 
       (term_code b z J deep Value) (memory (source_of b z J) (source_there b z J (length J) lets deep fits.2))
       (memory (source_of a z J) (source_there a z J (length J) lets d fits.1)) below small
       (λ e. same_depth (is_operand a) d (sym (found_same a z J) ∙ e))
-      (λ e f. free_beside (is_operand a) (is_operand b) d (sym (found_same a z J) ∙ e) (sym (found_same b z J) ∙ f) fits.0) le
+      (λ e f. free_beside (is_operand a) (is_operand b) d (sym (found_same a z J) ∙ e)
+      (sym (found_same b z J) ∙ f) fits.0) le
       (λ k. term_typed a z J d lets Value slot same some few room below small fits.1 (omega (arith, k)))
-      (λ to few_deep k. term_typed b z J deep lets Value to same some few room (omega (arith, below, more)) few_deep fits.2
+      (λ to few_deep k. term_typed b z J deep lets Value to same some few room (omega (arith, below, more))
+      few_deep fits.2
       (omega (arith, k)))
   term_typed (Logical' c p a q b) z J d lets purpose slot same some few room below small fits le =
       let left = λ (w : Bool) (g : ℕ). term_code a z J d (Jump w g) in
-      by_test_typed purpose d slot (λ when far. both_code (decides c) when far left (term_code b z J d (Jump when far))) le
+      by_test_typed purpose d slot (λ when far. both_code (decides c) when far left
+      (term_code b z J d (Jump when far))) le
       (λ when far l. both_typed (decides c) when far d slot left (term_code b z J d (Jump when far)) l
       (λ w g k. term_typed a z J d lets (Jump w g) slot same some few room below small fits.0 k)
       (λ to k. term_typed b z J d lets (Jump when far) to same some few room below small fits.1 k))

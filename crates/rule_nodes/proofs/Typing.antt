@@ -1,5 +1,5 @@
 -- How the code of a part is typed: what it offers to those that lead to it, and what it asks of where it leads.
-use Rattle.std.proofs.Common.{◌≡◌, ℕ, zero, suc, ◌+◌, ◌-◌, ◌^◌, ◌%◌, ◌<◌, ◌≤◌, nat_lt, Bool, true, false, if◌then◌else◌, List, [], ◌∷◌, ◌++◌, length, Option, Some, None, pos, refl, sym, arith, subst, length-append}
+use Rattle.std.proofs.Common.{◌≡◌, ℕ, zero, suc, ◌+◌, ◌^◌, ◌%◌, ◌<◌, ◌≤◌, nat_lt, Bool, true, false, if◌then◌else◌, List, [], ◌∷◌, ◌++◌, length, Option, Some, None, pos, refl, sym, arith, subst, length-append}
 use Rattle.std.specs.Int.{w32, w64, cast_signed, cast_unsigned}
 use Rattle.std.proofs.lemmas.Bool.{eq-eqb}
 use Rattle.node_env.specs.declared.region.Region.TheVariants.{Mem}
@@ -186,8 +186,10 @@ module _ (program : List Insn) (shape : Extent) (last : ℕ) (solid : (k : ℕ) 
   }
 
   pub one_fork : (slot far : ℕ) (cond : Cond) (dst : Reg) (src : Operand) (A M N : AbstractState)
-      → ((C : AbstractState) → outcome shape (i.Branch cond W32 dst src (pos far)) A Onward ≡ Some C → IsContainedIn C M)
-      → ((C : AbstractState) → outcome shape (i.Branch cond W32 dst src (pos far)) A Jumping ≡ Some C → IsContainedIn C N)
+      → ((C : AbstractState) → outcome shape (i.Branch cond W32 dst src (pos far)) A Onward ≡ Some C
+      → IsContainedIn C M)
+      → ((C : AbstractState) → outcome shape (i.Branch cond W32 dst src (pos far)) A Jumping ≡ Some C
+      → IsContainedIn C N)
       → IsProper A → KeepsOwn shape (i.Branch cond W32 dst src (pos far)) A → slot + 1 + far ≤ last
       → Typing slot (i.Branch cond W32 dst src (pos far) ∷ []) (Covers A slot)
       (λ table. Covers M (slot + 1) table × Covers N (slot + 1 + far) table)
@@ -215,7 +217,8 @@ module _ (program : List Insn) (shape : Extent) (last : ℕ) (solid : (k : ℕ) 
 
   -- a place into r0
   pub fetch_typed : (k d : ℕ) (k1 : Kind) (slot : ℕ) → k < d → d ≤ 3 → IsProperKind k1 → slot + 1 ≤ last
-      → Typing slot (copy R0 (place k) ∷ []) (Covers (known d Unset k1 Unset) slot) (Covers (known d word k1 Unset) (slot + 1))
+      → Typing slot (copy R0 (place k) ∷ []) (Covers (known d Unset k1 Unset) slot)
+      (Covers (known d word k1 Unset) (slot + 1))
   fetch_typed zero zero k1 slot lt few is le = absurd (omega (arith, lt))
   fetch_typed (suc k) zero k1 slot lt few is le = absurd (omega (arith, lt))
   fetch_typed (suc k) (suc zero) k1 slot lt few is le = absurd (omega (arith, lt))
@@ -230,12 +233,12 @@ module _ (program : List Insn) (shape : Extent) (last : ℕ) (solid : (k : ℕ) 
       (known 2 word k1 Unset) refl refl refl
       (into _ 2 word k1 Unset (kind_in_itself word) (kind_in_itself k1) tt refl refl refl refl)
       (proper_known 2 Unset k1 Unset tt is tt) (keeps_own _ _ _ refl) le
-  fetch_typed zero (suc (suc (suc zero))) k1 slot lt few is le = one_on slot (copy R0 (place 0)) (known 3 Unset k1 Unset) _
-      (known 3 word k1 Unset) refl refl refl
+  fetch_typed zero (suc (suc (suc zero))) k1 slot lt few is le = one_on slot (copy R0 (place 0))
+      (known 3 Unset k1 Unset) _ (known 3 word k1 Unset) refl refl refl
       (into _ 3 word k1 Unset (kind_in_itself word) (kind_in_itself k1) tt refl refl refl refl)
       (proper_known 3 Unset k1 Unset tt is tt) (keeps_own _ _ _ refl) le
-  fetch_typed (suc zero) (suc (suc zero)) k1 slot lt few is le = one_on slot (copy R0 (place 1)) (known 2 Unset k1 Unset) _
-      (known 2 word k1 Unset) refl refl refl
+  fetch_typed (suc zero) (suc (suc zero)) k1 slot lt few is le = one_on slot (copy R0 (place 1))
+      (known 2 Unset k1 Unset) _ (known 2 word k1 Unset) refl refl refl
       (into _ 2 word k1 Unset (kind_in_itself word) (kind_in_itself k1) tt refl refl refl refl)
       (proper_known 2 Unset k1 Unset tt is tt) (keeps_own _ _ _ refl) le
   fetch_typed (suc zero) (suc (suc (suc zero))) k1 slot lt few is le = one_on slot (copy R0 (place 1))

@@ -1,5 +1,5 @@
 -- The run of a whole rule.
-use Rattle.std.proofs.Common.{◌≡◌, ℕ, zero, suc, ◌+◌, ◌<◌, ◌≤◌, Bool, true, false, not, if◌then◌else◌, nat_lt, List, [], ◌∷◌, ◌++◌, length, Some, Ok, All, pos, slice_get, slice_index_or, refl, sym, ap, ◌∙◌, arith, length-append}
+use Rattle.std.proofs.Common.{◌≡◌, ℕ, zero, suc, ◌+◌, ◌<◌, ◌≤◌, Bool, true, false, not, if◌then◌else◌, nat_lt, List, [], ◌∷◌, ◌++◌, length, Some, Ok, pos, slice_index_or, refl, sym, ap, ◌∙◌, arith, length-append}
 use Rattle.std.proofs.lemmas.List.Elements.{All-nil}
 use Rattle.std.proofs.lemmas.Option.{slice_get-get_or}
 use Rattle.std.specs.FinMap.{get}
@@ -62,8 +62,8 @@ ones_two d a b h g = ones_append a _ h (refl, ones_append b _ g (refl, (refl, tt
 ones_operator : (o : Operator) (src : Operand) (purpose : Purpose) (code : List Insn) → Ones code
     → Ones (by_operator o src purpose code)
 ones_operator (Compute op) src purpose code h = ones_value purpose _ (ones_append code _ h (refl, tt))
-ones_operator (Compare r) src purpose code h = ones_test purpose (λ when far. code ++ jump_by (jump_on when r) src far ∷ [])
-    (λ when far. ones_append code (jump_by (jump_on when r) src far ∷ []) h (refl, tt))
+ones_operator (Compare r) src purpose code h = ones_test purpose (λ when far. code ++ jump_by
+    (jump_on when r) src far ∷ []) (λ when far. ones_append code (jump_by (jump_on when r) src far ∷ []) h (refl, tt))
 
 ones_load : (y : Source) → Ones (load_code y)
 ones_load (Constant c) = tt
@@ -83,15 +83,16 @@ ones_left (Compute op) x purpose right h =
     ones_operator (Compute op) (operand.Reg R1) purpose (right ++ (copy R1 R0 ∷ get_code R0 x ∷ []))
     (ones_append right _ h (refl, (takes_one R0 x, tt)))
 ones_left (Compare r) x purpose right h =
-    ones_operator (Compare (mirror r)) (operand_code x) purpose (right ++ load_code x) (ones_append right _ h (ones_load x))
+    ones_operator (Compare (mirror r)) (operand_code x) purpose (right ++ load_code x)
+    (ones_append right _ h (ones_load x))
 
 ones_right : (o : Operator) (y : Source) (purpose : Purpose) (left : List Insn) → Ones left
     → Ones (by_operator o (operand_code y) purpose (left ++ load_code y))
 ones_right o y purpose left h =
     ones_operator o (operand_code y) purpose (left ++ load_code y) (ones_append left _ h (ones_load y))
 
-ones_binary : (y x : Source) (o : Operator) (d : ℕ) (purpose : Purpose) (left right : List Insn) → Ones left → Ones right
-    → Ones (binary_code y x o d purpose left right)
+ones_binary : (y x : Source) (o : Operator) (d : ℕ) (purpose : Purpose) (left right : List Insn)
+    → Ones left → Ones right → Ones (binary_code y x o d purpose left right)
 ones_binary (Constant c) (FromLocal k) (Compare r) d purpose left right h g =
     ones_test purpose (λ when far. jump_place k (jump_on when r) c far ∷ []) (λ when far. (refl, tt))
 ones_binary (Constant c) (FromLocal k) (Compute op) d purpose left right h g =
@@ -180,7 +181,11 @@ ones_given Computed target code h = ones_append code _ h (ones_assign target)
 ones_also : (steady : Bool) (d : ℕ) (x : Source) (target : Target) (code first : List Insn) → Ones code → Ones first
     → Ones (also_code steady d x target code first)
 ones_also true d x target code first h g = ones_append first _ g (ones_given x target code h)
-ones_also false d x target code first h g = ones_append code _ h (refl, ones_append first _ g (refl, ones_assign target))
+ones_also false d x target code first h g = ones_append code _ h (
+  refl,
+  ones_append first _ g
+      (refl, ones_assign target),
+)
 
 ones_assignment : (a : Assignment) (z : Sizes) (J : List ℕ) (d : ℕ) → Ones (assignment_code a z J d)
 ones_assignment (One target e) z J d = ones_given (source_of e z J) target (term_code e z J d Value)
@@ -205,7 +210,8 @@ ones_each body (suc n) h = ones_append (each_code body n) (body n) (ones_each bo
 
 ones_block : (b : Statement) (z : Sizes) (J : List ℕ) (d : ℕ) → Ones (block_code b z J d)
 ones_block Nothing z J d = tt
-ones_block (Then' p a q b) z J d = ones_append (block_code a z J d) (block_code b z J d) (ones_block a z J d) (ones_block b z J d)
+ones_block (Then' p a q b) z J d = ones_append (block_code a z J d) (block_code b z J d) (ones_block a z J d)
+    (ones_block b z J d)
 ones_block (Let' e p rest) z J d = ones_append (term_code e z J d Value) _ (ones_term e z J d Value)
     (refl, ones_block rest z J (d + 1))
 ones_block (Assign a) z J d = ones_assignment a z J d
@@ -271,8 +277,8 @@ rule_has_end rule z shape env memory sizes fits start =
     let t = c.new in
     let there = here_is p env last solid t _ tail_code c.slot (stands_back p 1 code tail_code stands.1) in
     let t1 = put t (t.frame.slot + 1) R0 (Num 0) in
-    let e2 : step p env t ≡ Ok (Running t1) = moves p env t (t.frame.slot + 1) R0 (operand.Imm (pos 0)) (Num 0) there.0 refl
-    (solid (t.frame.slot + 1) (omega (arith, c.slot))) refl refl in
+    let e2 : step p env t ≡ Ok (Running t1) = moves p env t (t.frame.slot + 1) R0 (operand.Imm (pos 0))
+    (Num 0) there.0 refl (solid (t.frame.slot + 1) (omega (arith, c.slot))) refl refl in
     let e3 : step p env t1 ≡ Ok (Ended t.memory t.sent 0) = exits p env t1 0 there.1.0
     (put_same t.frame.registers 0 (Num 0)) in
     let run1 = chain p env s s1 t 1 (length code) (1 + length code) (once p env s s1 e1) c.run (omega arith) in

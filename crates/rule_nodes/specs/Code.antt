@@ -220,7 +220,8 @@ term_code Coin z J d purpose = by_value purpose (Call (pos 4) ∷ [])
 term_code (LoopNode i) z J d purpose = by_value purpose (set_number R0 (slice_index J i) ∷ [])
 term_code (Local k) z J d purpose = by_value purpose (copy R0 (place k) ∷ [])
 term_code (Word k) z J d purpose = by_value purpose (Load size.W R0 R6 (pos (4 * k)) ∷ [])
-term_code (Message' p a) z J d purpose = by_value purpose (message_by (source_of a z J) z.nodes (term_code a z J d Value))
+term_code (Message' p a) z J d purpose = by_value purpose (message_by (source_of a z J) z.nodes
+    (term_code a z J d Value))
 term_code (Binary' o p a q b) z J d purpose =
     binary_code (source_of b z J) (source_of a z J) o d purpose (term_code a z J d Value)
     (term_code b z J (depth_behind (is_operand a) d) Value)

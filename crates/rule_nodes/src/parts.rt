@@ -221,7 +221,8 @@ pub fn within(alloc: Global, loops: &[u32], node: u32) -> Result<Vec<u32>, Compi
 
 /// One more test, and one more in a place if it doesn't jump.
 pub fn counted(counts: Vec<Insn>, test: &[Insn], place: Reg) -> Result<Vec<Insn>, CompileError>
-    ensures { IfOk result (λ c. c.items ≡ counts.items ++ (test.now ++ i.Alu Add W32 place (operand.Imm (pos 1)) ∷ [])) }
+    ensures { IfOk result (λ c. c.items ≡
+        counts.items ++ (test.now ++ i.Alu Add W32 place (operand.Imm (pos 1)) ∷ [])) }
 {
     let add = Insn::Alu {
         op: AluOp::Add,
