@@ -344,7 +344,7 @@ module _ (program : List Insn) (env : Setting) (last : ℕ) (solid : (k : ℕ) �
       (same_at_source x z lets v u w refl refl is) sized few
       (near_holds env lets u s t near h) here l))
 
-  -- behind the value in place d and the receiver in r0
+  -- with the number in place d and the receiver in r0
   send_to_runs : (d v x : ℕ) (z : Sizes) (u : NodeState) (t : MachineState) → IsSized z env → d < 3 → v < 2 ^ 32
       → x < 2 ^ 32 → Keeps env d u v t → get t.frame.registers 0 ≡ Some (Num x)
       → Stands program t.frame.slot (send_to_code d z.nodes) → t.frame.slot + 4 ≤ last

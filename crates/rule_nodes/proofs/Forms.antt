@@ -113,7 +113,7 @@ module _ (program : List Insn) (env : Setting) where
       let same : suc (k + l) ≡ suc k + l = omega arith in
       subst (λ (n : ℕ). Leads program env n s u) same rest
 
-  -- in at most so many steps
+  -- in at most `limit` steps
   pub record Reaches (s t : MachineState) (limit : ℕ) : Type 0 where
     pub count : ℕ
     pub leads : Leads program env count (Running s) (Running t)

@@ -51,7 +51,7 @@ use Rattle.rule_nodes.proofs.States.{stands_front, stands_back, place_number, Sa
 abbrev pub hop : Bool → ℕ → ℕ
 hop hit far = if hit then far else 0
 
--- how far behind its end a test leads
+-- how far beyond its end a test leads
 abbrev pub landing : Bool → ℕ → ℕ → ℕ
 landing when v far = hop (taken when v) far
 
@@ -169,7 +169,7 @@ r1_free : (d k : ℕ) → 5 < k → k < 7 + d → k ≢ 1
 r1_free d k a b e = omega arith
 
 module _ (program : List Insn) (env : Setting) (last : ℕ) (solid : (k : ℕ) → k ≤ last → BeginsAt program k) where
-  -- the state leads, in at most so many steps, to one at this slot of which that is so
+  -- the state leads, in at most `limit` steps, to a state at this slot with this property
   pub record Gets (s : MachineState) (to limit : ℕ) (P : MachineState → Type 0) : Type 0 where
     pub new : MachineState
     pub run : Reaches program env s new limit
@@ -220,7 +220,7 @@ module _ (program : List Insn) (env : Setting) (last : ℕ) (solid : (k : ℕ) �
     };
   }
 
-  -- a jump by a condition, behind a run
+  -- a jump by a condition, after a run
   pub branch_leads : (s t : MachineState) (k far : ℕ) (test : Cond) (dst : Reg) (src : Operand) (a b : ℕ) (hit : Bool)
       → Reaches program env s t k → insn_at program t.frame.slot ≡ Some (i.Branch test W32 dst src (pos far))
       → get t.frame.registers (register_number dst) ≡ Some (Num a) → operand_of t.frame src ≡ Ok (Num b)
@@ -281,7 +281,7 @@ module _ (program : List Insn) (env : Setting) (last : ℕ) (solid : (k : ℕ) �
       (omega (arith, len, le, c.slot)) in
       gets s _ _ _ _ (Same d s) (Same d s) (omega (arith, len, c.slot)) (omega (arith, len)) (λ t h. h) end
 
-  -- a test of which each jump is known
+  -- the runs of a test, for each jump
   abbrev pub TestRuns : (Bool → ℕ → List Insn) → ℕ → ℕ → MachineState → Type 0
   TestRuns test d v s = (when : Bool) (far : ℕ) → Stands program s.frame.slot (test when far)
       → s.frame.slot + length (test when far) + far ≤ last

@@ -387,7 +387,7 @@ module _ (program : List Insn) (shape : Extent) (last : ℕ) (solid : (k : ℕ) 
   abbrev C : AbstractState → ℕ → Table → Type 0
   C A to table = IsCovered table A to
 
-  -- one part behind the other, which offers what the first asks
+  -- one part after the other, which offers what the first asks
   pub typed_seq : (slot to : ℕ) (xs ys : List Insn) (O M A : Table → Type 0) → slot + length xs ≡ to → T slot xs O M
       → T to ys M A → T slot (xs ++ ys) O A
   typed_seq slot to xs ys O M A e t1 t2 =
@@ -535,7 +535,7 @@ module _ (program : List Insn) (shape : Extent) (last : ℕ) (solid : (k : ℕ) 
       (proper_known d Unset word Unset tt some_word tt) (keeps_own _ _ _ (rw room refl)) le
   get_typed Computed d lets slot found there below few le = absurd (let no : false ≡ true = found in cc)
 
-  -- as an operand, behind the number in r0
+  -- as an operand, after the number in r0
   unloaded_typed : (d slot : ℕ) (left : List Insn) → slot + length (left ++ []) ≤ last
       → (slot + length left ≤ last → TermTyped Value d slot left)
       → T slot (left ++ []) (C (plain d) slot) (C (valued d) (slot + length (left ++ [])))

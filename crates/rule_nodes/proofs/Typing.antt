@@ -128,7 +128,7 @@ module _ (program : List Insn) (shape : Extent) (last : ℕ) (solid : (k : ℕ) 
       let e : slot + 1 + length As ≡ slot + length (A ∷ As) = omega arith in
       subst (λ (n : ℕ). Marked table n Bs) e (marked_back table (slot + 1) As Bs h.1)
 
-  -- one part behind the other
+  -- one part after the other
   pub typed_then : (slot to : ℕ) (xs ys : List Insn) (O1 A1 O2 A2 : Table → Type 0) → slot + length xs ≡ to
       → Typing slot xs O1 A1 → Typing to ys O2 A2 → ((table : Table) → O2 table → A2 table → A1 table)
       → Typing slot (xs ++ ys) (λ table. O1 table × O2 table) A2

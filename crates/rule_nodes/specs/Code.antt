@@ -101,7 +101,7 @@ jump_at r v far = Branch (cond_of r) W32 R0 (Imm (pos v)) (pos far)
 
 -- ---- terms
 
--- behind a test that jumps 2 where it doesn't hold
+-- after a test that jumps 2 if it doesn't hold: 1, or 0
 abbrev pub truth_code : List Insn
 truth_code = set_number R0 1 ∷ Ja (pos 1) ∷ set_number R0 0 ∷ []
 
@@ -119,7 +119,7 @@ abbrev pub far_of : Purpose → ℕ
 far_of Value = 2
 far_of (Jump when far) = far
 
--- and what stands behind it
+-- what comes after the test
 abbrev pub behind_test : Purpose → List Insn → List Insn
 behind_test Value code = code ++ truth_code
 behind_test (Jump when far) code = code
@@ -162,7 +162,7 @@ left_code (Compute op) x purpose right =
 left_code (Compare r) x purpose right =
     by_operator (Compare (mirror r)) (operand_code x) purpose (right ++ load_code x)
 
--- a jump by what a local and a constant are, where the local stands
+-- a jump that compares a local in its place with a constant
 abbrev pub jump_place : ℕ → Comparison → ℕ → ℕ → Insn
 jump_place k r v far = Branch (cond_of r) W32 (place k) (Imm (cast_signed w32 v)) (pos far)
 
@@ -195,7 +195,7 @@ both_code alone when far left right = left alone (both_far alone when (length ri
 abbrev pub message_code : ℕ → List Insn
 message_code n = jump_at Less n 2 ∷ set_number R0 4294967295 ∷ Ja (pos 2) ∷ copy R1 R0 ∷ Call (pos 2) ∷ []
 
--- the last message from a node by where its number is found: a constant needs no test
+-- the last message from a node, by where the node's number is found: a constant needs no test
 abbrev pub message_by : Source → ℕ → List Insn → List Insn
 message_by (Constant j) n code =
     if nat_lt j n then set_node R1 j ∷ Call (pos 2) ∷ [] else set_number R0 4294967295 ∷ []
@@ -251,7 +251,7 @@ abbrev pub given_code : Source → Target → List Insn → List Insn
 given_code Computed target code = code ++ assign_code target ∷ []
 given_code x target code = set_code target x
 
--- a steady number is found or computed behind the targets before; any other number before them, and kept in place d
+-- a steady number comes after the targets before; any other number comes before them, and is kept in place d
 abbrev pub also_code : Bool → ℕ → Source → Target → List Insn → List Insn → List Insn
 also_code true d x target code first = first ++ given_code x target code
 also_code false d x target code first =

@@ -12,12 +12,12 @@ use Rattle.rule_nodes.specs.declared.syntax.Statement.{Statement}
 use Rattle.rule_nodes.specs.declared.syntax.Statement.TheVariants.{Nothing, Then', Let', Assign, If', For', SendAll, SendTo}
 use Rattle.rule_nodes.specs.Operands.{is_operand, is_steady, depth_behind}
 
--- two sides need a further place if neither is an operand, and so do some other numbers
+-- two computed sides need a place for the left one; so does a computed number that is sent or assigned with others
 abbrev pub HasPlace : Bool → ℕ → Type 0
 HasPlace true d = Unit {0}
 HasPlace false d = d < 3
 
--- of a term at depth d, with so many loops around it and so many lets in scope
+-- a term at depth d, in a number of loops and with a number of lets in scope
 abbrev pub Fits : Term → Sizes → ℕ → ℕ → ℕ → Type 0
 Fits (Number v) z loops lets d = v < 2 ^ 32
 Fits Nodes z loops lets d = Unit {0}
@@ -47,7 +47,7 @@ AssignmentFits (Also' p front target e) z loops lets d =
     TargetFits target z.memory lets × Fits e z loops lets d × HasPlace (is_steady e) d
     × AssignmentFits front z loops lets (depth_behind (is_steady e) d)
 
--- of a statement with so many loops around it and d lets in scope
+-- a statement in a number of loops, with d lets in scope
 abbrev pub BlockFits : Statement → Sizes → ℕ → ℕ → Type 0
 BlockFits Nothing z loops d = Unit {0}
 BlockFits (Then' p a q b) z loops d = BlockFits a z loops d × BlockFits b z loops d

@@ -17,7 +17,7 @@ use crate::terms::term;
 use bpf_insn::{Insn, Reg, Size};
 use std::alloc::Global;
 
-/// The instruction that sets a word to the number in a register.
+/// Returns the instruction that sets a word to the number in a register.
 fn store_of(k: u32, src: Reg) -> Result<Insn, CompileError>
     ensures { IfOk result (λ x. x ≡ i.StoreReg size.W R6 (pos (4 * k)) src) }
 {
@@ -29,7 +29,7 @@ fn store_of(k: u32, src: Reg) -> Result<Insn, CompileError>
     })
 }
 
-/// The instruction that sets a target to the number in r0.
+/// Returns the instruction that sets a target to the number in r0.
 fn assign_of(target: Target, lets: u32, memory: u32) -> Result<Insn, CompileError>
     ensures code { IfOk result (λ x. x ≡ assign_code target) }
     ensures fits { IfOk result (λ _. TargetFits target memory lets) }
@@ -60,7 +60,7 @@ fn is_steady_of(t: &Term) -> bool
     }
 }
 
-/// The depth while the other targets are set. Fails if a number needs a place, and there is none.
+/// Returns the depth while the other targets are set. Fails if a number needs a place, and there is none.
 fn depth_behind_of(steady: bool, depth: u32) -> Result<u32, CompileError>
     ensures depth { IfOk result (λ d. d ≡ depth_behind steady depth) }
     ensures place { IfOk result (λ _. HasPlace steady depth) }
@@ -74,7 +74,7 @@ fn depth_behind_of(steady: bool, depth: u32) -> Result<u32, CompileError>
     Ok(depth + 1)
 }
 
-/// Sets a word to a found number.
+/// Returns the code that sets a word to a found number.
 fn set_word(alloc: Global, k: u32, source: Source) -> Result<Vec<Insn>, CompileError>
     ensures { IfOk result (λ c. c.items ≡ set_code (ToWord k) source) }
 {
@@ -100,7 +100,7 @@ fn set_word(alloc: Global, k: u32, source: Source) -> Result<Vec<Insn>, CompileE
     }
 }
 
-/// Sets a target to a found number.
+/// Returns the code that sets a target to a found number.
 fn set_of(alloc: Global, target: Target, source: Source) -> Result<Vec<Insn>, CompileError>
     ensures { IfOk result (λ c. c.items ≡ set_code target source) }
 {
@@ -110,7 +110,7 @@ fn set_of(alloc: Global, target: Target, source: Source) -> Result<Vec<Insn>, Co
     }
 }
 
-/// Sets a target to a number that is found, or that the code computes.
+/// Returns the code that sets a target to a number that is found, or that the code computes.
 fn given(
     alloc: Global,
     source: Source,
@@ -129,7 +129,7 @@ fn given(
     }
 }
 
-/// The number kept in a place, the targets before, and then this target.
+/// Returns the code that keeps a number in a place, sets the targets before, and then sets this one.
 fn kept(depth: u32, set: Insn, code: Vec<Insn>, first: Vec<Insn>) -> Result<Vec<Insn>, CompileError>
     ensures { IfOk result (λ c. c.items ≡
         code.items ++ (copy (place depth) R0 ∷ (first.items ++ copy R0 (place depth) ∷ set ∷ []))) }
@@ -140,7 +140,7 @@ fn kept(depth: u32, set: Insn, code: Vec<Insn>, first: Vec<Insn>) -> Result<Vec<
     joined(held, &others)
 }
 
-/// The code of an assignment at a depth, with so many lets in scope.
+/// Returns the code of an assignment at a depth, with `lets` lets in scope.
 pub fn assignment(
     alloc: Global,
     a: &Assignment,
@@ -172,7 +172,7 @@ pub fn assignment(
     }
 }
 
-/// A steady number behind the targets before, or any other number before them.
+/// Returns the code of a steady number after the targets before, or of any other number before them.
 fn also_of(
     alloc: Global,
     steady: bool,

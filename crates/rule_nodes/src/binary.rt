@@ -12,7 +12,7 @@ use crate::syntax::{Operator, Purpose, Sizes, Source, Term};
 use bpf_insn::{Insn, Operand, Reg, Width};
 use std::alloc::Global;
 
-/// What an operator makes of r0 and an operand, for a purpose.
+/// Returns the code of an operator on r0 and an operand, for a purpose.
 fn by_operator_of(
     operator: Operator,
     src: Operand,
@@ -39,7 +39,7 @@ fn by_operator_of(
     }
 }
 
-/// The right number is found.
+/// Returns the code of an operator whose right number is found.
 fn right_found(
     operator: Operator,
     y: Source,
@@ -51,7 +51,7 @@ fn right_found(
     by_operator_of(operator, operand_of(y), with_load(left, y)?, purpose)
 }
 
-/// The left number is found, and the right one is computed.
+/// Returns the code of an operator whose left number is found and whose right one is computed.
 fn left_found(
     operator: Operator,
     x: Source,
@@ -71,7 +71,7 @@ fn left_found(
     }
 }
 
-/// The right number is computed.
+/// Returns the code of an operator whose right number is computed.
 fn right_computed(
     operator: Operator,
     x: Source,
@@ -93,7 +93,7 @@ fn right_computed(
     }
 }
 
-/// A local beside a constant.
+/// Returns the code of an operator between a local and a constant.
 fn local_beside(
     alloc: Global,
     operator: Operator,
@@ -114,7 +114,7 @@ fn local_beside(
     }
 }
 
-/// The right number is a constant.
+/// Returns the code of an operator whose right number is a constant.
 fn beside_constant(
     alloc: Global,
     operator: Operator,
@@ -153,7 +153,7 @@ fn by_sources(
     }
 }
 
-/// The code of an operator between two terms, of the code of either side.
+/// Returns the code of an operator between two terms, from the code of either side.
 pub fn binary_of(
     alloc: Global,
     operator: Operator,

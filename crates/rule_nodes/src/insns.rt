@@ -18,7 +18,7 @@ pub fn place_of(k: u32) -> Reg
     }
 }
 
-/// The place at a depth, if there is one.
+/// Returns the place at a depth, if there is one.
 pub fn free_place(depth: u32) -> Result<Reg, CompileError>
     ensures code { IfOk result (λ p. p ≡ place depth) }
     ensures free { IfOk result (λ _. depth < 3) }
@@ -51,7 +51,7 @@ pub fn copy_of(dst: Reg, src: Reg) -> Insn
     }
 }
 
-/// The number of a node, into r1.
+/// Returns the instruction that puts a node's number into r1.
 pub fn set_node_of(node: u32) -> Insn
     requires { node < 64 }
     ensures { result ≡ set_node R1 node }
@@ -102,7 +102,7 @@ fn opposite_of(comparison: Comparison) -> Comparison
     }
 }
 
-/// The same comparison with its sides changed over.
+/// Returns the same comparison with its sides changed over.
 pub fn mirror_of(comparison: Comparison) -> Comparison
     ensures { result ≡ mirror comparison }
 {
@@ -116,7 +116,7 @@ pub fn mirror_of(comparison: Comparison) -> Comparison
     }
 }
 
-/// The comparison of a jump that is taken if this one holds, or if it doesn't.
+/// Returns the comparison of a jump that is taken if this one holds, or if it doesn't.
 pub fn jump_on_of(when: bool, comparison: Comparison) -> Comparison
     ensures { result ≡ jump_on when comparison }
 {
@@ -127,7 +127,7 @@ pub fn jump_on_of(when: bool, comparison: Comparison) -> Comparison
     }
 }
 
-/// The distance of a jump.
+/// Returns the distance of a jump. Fails if it is more than `MAX_SLOTS`.
 fn distance(far: usize) -> Result<i16, CompileError>
     ensures { IfOk result (λ d. d ≡ pos far) }
 {
@@ -137,7 +137,7 @@ fn distance(far: usize) -> Result<i16, CompileError>
     Ok(far as i16)
 }
 
-/// A jump by what r0 is beside an operand.
+/// Returns a jump that compares r0 with an operand.
 pub fn jump_by_of(comparison: Comparison, src: Operand, far: usize) -> Result<Insn, CompileError>
     ensures { IfOk result (λ x. x ≡ jump_by comparison src far) }
 {
@@ -150,7 +150,7 @@ pub fn jump_by_of(comparison: Comparison, src: Operand, far: usize) -> Result<In
     })
 }
 
-/// A jump by what a local and a constant are, where the local stands.
+/// Returns a jump that compares a local in its place with a constant.
 pub fn jump_place_of(
     k: u32,
     comparison: Comparison,
@@ -168,7 +168,7 @@ pub fn jump_place_of(
     })
 }
 
-/// A jump by what r0 is beside a small number.
+/// Returns a jump that compares r0 with a small number.
 pub fn jump_at_of(comparison: Comparison, v: u32, far: usize) -> Result<Insn, CompileError>
     requires { v ≤ 64 }
     ensures { IfOk result (λ x. x ≡ jump_at comparison v far) }
@@ -182,7 +182,7 @@ pub fn jump_at_of(comparison: Comparison, v: u32, far: usize) -> Result<Insn, Co
     })
 }
 
-/// A jump over these instructions.
+/// Returns a jump over these instructions.
 pub fn skip_of(code: &[Insn]) -> Result<Insn, CompileError>
     ensures { IfOk result (λ x. x ≡ i.Ja (pos (length code.now))) }
 {

@@ -112,7 +112,7 @@ pub fn source(t: &Term, sizes: Sizes, loops: &[u32]) -> Source
     }
 }
 
-/// The instruction that puts a found number into a register.
+/// Returns the instruction that puts a found number into a register.
 pub fn get_of(dst: Reg, source: Source) -> Result<Insn, CompileError>
     ensures { IfOk result (λ x. x ≡ get_code dst source) }
 {
@@ -129,7 +129,7 @@ pub fn get_of(dst: Reg, source: Source) -> Result<Insn, CompileError>
     }
 }
 
-/// A found number as the operand of an instruction.
+/// Returns a found number as the operand of an instruction.
 pub fn operand_of(source: Source) -> Operand
     ensures { result ≡ operand_code source }
 {
@@ -140,7 +140,7 @@ pub fn operand_of(source: Source) -> Operand
     }
 }
 
-/// The code, and the load of a word that is an operand.
+/// Returns the code, with the load of a word that is an operand.
 pub fn with_load(code: Vec<Insn>, source: Source) -> Result<Vec<Insn>, CompileError>
     ensures { IfOk result (λ c. c.items ≡ code.items ++ load_code source) }
 {
@@ -152,7 +152,7 @@ pub fn with_load(code: Vec<Insn>, source: Source) -> Result<Vec<Insn>, CompileEr
     }
 }
 
-/// The depth of the right side. Fails if neither side is an operand and there is no place for the left one.
+/// Returns the depth of the right side. Fails if neither side is an operand and there is no place for the left one.
 pub fn right_depth(left: &Term, right: &Term, depth: u32) -> Result<u32, CompileError>
     ensures depth { IfOk result (λ d. d ≡ depth_behind (is_operand left.now) depth) }
     ensures place { IfOk result (λ _. HasPlace (is_operand left.now || is_operand right.now) depth) }

@@ -18,7 +18,7 @@ use bpf_insn::{AluOp, Insn, MAX_SLOTS, Operand, Reg, Width};
 use node_env::NO_MAIL;
 use std::alloc::Global;
 
-/// The first and then the second.
+/// Appends the second code to the first. Fails if the first has more than `MAX_SLOTS` instructions.
 pub fn joined(mut first: Vec<Insn>, second: &[Insn]) -> Result<Vec<Insn>, CompileError>
     ensures { IfOk result (λ c. c.items ≡ first.items ++ second.now) }
 {
@@ -37,7 +37,7 @@ pub fn single(alloc: Global, insn: Insn) -> Result<Vec<Insn>, CompileError>
 
 // ---- purposes
 
-/// The code of a number, for a purpose.
+/// Returns the code of a number, for a purpose.
 pub fn by_value_of(code: Vec<Insn>, purpose: Purpose) -> Result<Vec<Insn>, CompileError>
     ensures { IfOk result (λ c. c.items ≡ by_value purpose code.items) }
 {
@@ -68,21 +68,21 @@ pub fn far_for(purpose: Purpose) -> usize
     }
 }
 
-/// The jump of a test that is made for a purpose.
+/// Returns the jump of a test that is made for a purpose.
 pub fn test_of(purpose: Purpose) -> Purpose
     ensures { result ≡ Jump (when_of purpose) (far_of purpose) }
 {
     Purpose::Jump(when_for(purpose), far_for(purpose))
 }
 
-/// The jump of the opposite test.
+/// Returns the jump of the opposite test.
 pub fn opposite_test(purpose: Purpose) -> Purpose
     ensures { result ≡ Jump (not (when_of purpose)) (far_of purpose) }
 {
     Purpose::Jump(!when_for(purpose), far_for(purpose))
 }
 
-/// The code of a test, and what stands behind it for a purpose.
+/// Returns the code of a test, and what comes after it for a purpose.
 pub fn behind_test_of(code: Vec<Insn>, purpose: Purpose) -> Result<Vec<Insn>, CompileError>
     ensures { IfOk result (λ c. c.items ≡ behind_test purpose code.items) }
 {
@@ -101,7 +101,7 @@ pub fn behind_test_of(code: Vec<Insn>, purpose: Purpose) -> Result<Vec<Insn>, Co
 
 // ---- two sides
 
-/// The left number into r0 and the right one into r1.
+/// Returns the code that puts the left number into r0 and the right one into r1.
 pub fn two_of(depth: u32, left: Vec<Insn>, right: &[Insn]) -> Result<Vec<Insn>, CompileError>
     ensures { IfOk result (λ c. c.items ≡ two_code depth left.items right.now) }
 {
@@ -129,7 +129,7 @@ fn both_far_of(alone: bool, when: bool, n: usize, far: usize) -> Result<usize, C
     if alone == when { Ok(n + far) } else { Ok(n) }
 }
 
-/// The jump of the first of two conditions, over the code of the second or beyond it.
+/// Returns the jump of the first of two conditions, over the code of the second or beyond it.
 pub fn first_test(
     connective: Connective,
     second: &[Insn],
@@ -145,7 +145,7 @@ pub fn first_test(
 
 // ---- choices
 
-/// The jump over these instructions and one more, if a test doesn't hold.
+/// Returns the jump over these instructions and one more if a test doesn't hold.
 pub fn skip_test(code: &[Insn]) -> Result<Purpose, CompileError>
     ensures { IfOk result (λ p. p ≡ Jump false (length code.now + 1)) }
 {
@@ -155,7 +155,7 @@ pub fn skip_test(code: &[Insn]) -> Result<Purpose, CompileError>
     Ok(Purpose::Jump(false, code.len() + 1))
 }
 
-/// A test, what stands there if it holds, and what stands there if it doesn't.
+/// Returns a test, the code for the case that it holds, and the code for the case that it doesn't.
 pub fn chosen(test: Vec<Insn>, first: &[Insn], second: &[Insn]) -> Result<Vec<Insn>, CompileError>
     ensures { IfOk result (λ c. c.items ≡ test.items ++ (first.now ++ i.Ja (pos (length second.now)) ∷ second.now)) }
 {
@@ -166,7 +166,7 @@ pub fn chosen(test: Vec<Insn>, first: &[Insn], second: &[Insn]) -> Result<Vec<In
 
 // ---- messages and counts
 
-/// The last message from the node in r0.
+/// Returns the code that asks for the last message from the node in r0.
 fn message_of(nodes: u32) -> Result<[Insn; 5], CompileError>
     requires { nodes ≤ 64 }
     ensures { IfOk result (λ c. c ≡ message_code nodes) }
@@ -180,7 +180,7 @@ fn message_of(nodes: u32) -> Result<[Insn; 5], CompileError>
     ])
 }
 
-/// The last message from a node whose number is found or computed.
+/// Returns the code that asks for the last message from a node whose number is found or computed.
 pub fn message_by_of(
     alloc: Global,
     source: Source,
@@ -209,7 +209,7 @@ fn message_from_node(alloc: Global, node: u32, nodes: u32) -> Result<Vec<Insn>, 
     }
 }
 
-/// The nodes of the loops around, with one more.
+/// Returns the nodes of the loops around, with one more.
 pub fn within(alloc: Global, loops: &[u32], node: u32) -> Result<Vec<u32>, CompileError>
     ensures { IfOk result (λ v. v.items ≡ loops.now ++ node ∷ []) }
 {
@@ -219,7 +219,7 @@ pub fn within(alloc: Global, loops: &[u32], node: u32) -> Result<Vec<u32>, Compi
     Ok(inner)
 }
 
-/// One more test, and one more in a place if it doesn't jump.
+/// Appends one more test, which adds 1 in a place if it doesn't jump.
 pub fn counted(counts: Vec<Insn>, test: &[Insn], place: Reg) -> Result<Vec<Insn>, CompileError>
     ensures { IfOk result (λ c. c.items ≡
         counts.items ++ (test.now ++ i.Alu Add W32 place (operand.Imm (pos 1)) ∷ [])) }
@@ -234,7 +234,7 @@ pub fn counted(counts: Vec<Insn>, test: &[Insn], place: Reg) -> Result<Vec<Insn>
     joined(tested, &[add])
 }
 
-/// The count in a place, from 0 on, and then in r0.
+/// Returns the code that counts in a place, from 0 on, and puts the count into r0.
 pub fn count_of(alloc: Global, place: Reg, counts: &[Insn]) -> Result<Vec<Insn>, CompileError>
     ensures { IfOk result (λ c. c.items ≡ set_number place 0 ∷ (counts.now ++ copy R0 place ∷ [])) }
 {

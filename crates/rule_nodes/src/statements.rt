@@ -16,7 +16,7 @@ use crate::terms::term;
 use bpf_insn::{Insn, Reg};
 use std::alloc::Global;
 
-/// A found number to a node.
+/// Returns the code that sends a found number to a node.
 fn send_of(node: u32, get: Insn) -> [Insn; 3]
     requires { node < 64 }
     ensures { result ≡ set_node R1 node ∷ get ∷ i.Call (pos 3) ∷ [] }
@@ -24,7 +24,7 @@ fn send_of(node: u32, get: Insn) -> [Insn; 3]
     [set_node_of(node), get, Insn::Call { id: 3 }]
 }
 
-/// A found number to each node.
+/// Returns the code that sends a found number to each node.
 fn sends_of(alloc: Global, source: Source, nodes: u32) -> Result<Vec<Insn>, CompileError>
     requires { nodes ≤ 64 }
     ensures { IfOk result (λ c. c.items ≡ send_codes source nodes) }
@@ -37,7 +37,7 @@ fn sends_of(alloc: Global, source: Source, nodes: u32) -> Result<Vec<Insn>, Comp
     Ok(sends)
 }
 
-/// The number in a place to the node in r0.
+/// Returns the code that sends the number in a place to the node in r0.
 fn send_to_of(depth: u32, nodes: u32) -> Result<[Insn; 4], CompileError>
     requires { nodes ≤ 64 }
     ensures { IfOk result (λ c. c ≡ send_to_code depth nodes) }
@@ -50,7 +50,7 @@ fn send_to_of(depth: u32, nodes: u32) -> Result<[Insn; 4], CompileError>
     ])
 }
 
-/// The code of a number, its copy into a place, and what follows.
+/// Returns the code of a number, its copy into a place, and what follows.
 fn stored(code: Vec<Insn>, depth: u32, rest: &[Insn]) -> Result<Vec<Insn>, CompileError>
     ensures { IfOk result (λ c. c.items ≡ code.items ++ (copy (place depth) R0 ∷ rest.now)) }
 {
@@ -75,7 +75,7 @@ fn send_all(
     send_all_of(alloc, source(e, sizes, loops), depth, sizes.nodes, value)
 }
 
-/// To each node a number that is found, or that the code computes.
+/// Returns the code that sends each node a number that is found, or that the code computes.
 fn send_all_of(
     alloc: Global,
     source: Source,
@@ -117,7 +117,7 @@ fn send_to(
     stored(value, depth, &send)
 }
 
-/// The code of a statement, with so many lets in scope.
+/// Returns the code of a statement, with `depth` lets in scope.
 pub fn block(
     alloc: Global,
     statement: &Statement,

@@ -104,7 +104,7 @@ pub enum Purpose {
     Jump(bool, usize),
 }
 
-/// Where the number of a term is found: it is a constant, a local or a word, or else it is computed.
+/// Where the number of a term is found: it is a constant, a local or a word; otherwise it is computed.
 #[derive(Clone, Copy, Debug, PartialEq, Eq)]
 pub enum Source {
     Constant(u32),

@@ -17,14 +17,14 @@ use crate::syntax::{Purpose, Sizes, Term};
 use bpf_insn::{Insn, Reg, Size};
 use std::alloc::Global;
 
-/// The code of a constant.
+/// Returns the code of a constant.
 fn number(alloc: Global, v: u32, purpose: Purpose) -> Result<Vec<Insn>, CompileError>
     ensures { IfOk result (λ c. c.items ≡ by_value purpose (set_number R0 v ∷ [])) }
 {
     by_value_of(single(alloc, set_number_of(Reg::R0, v))?, purpose)
 }
 
-/// The code of a term without parts; a term with parts is for [`term`].
+/// Returns the code of a term without parts; a term with parts is for [`term`].
 fn leaf(
     alloc: Global,
     t: &Term,
@@ -73,7 +73,7 @@ fn leaf(
     }
 }
 
-/// The last message from the node that a term names.
+/// Returns the code that asks for the last message from the node that a term names.
 fn message(
     alloc: Global,
     node: &Term,
@@ -90,7 +90,7 @@ fn message(
     by_value_of(message_by_of(alloc, from, sizes.nodes, code)?, purpose)
 }
 
-/// The code of a term at a depth, with so many lets in scope.
+/// Returns the code of a term at a depth, with `lets` lets in scope.
 pub fn term(
     alloc: Global,
     t: &Term,
