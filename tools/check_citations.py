@@ -59,8 +59,9 @@ def headings(path):
 
 
 def page_at(name, path):
-    """The file that a page's name means, beside the file that names it, or at the top, or in docs/."""
-    places = [path.parent / name, TOP / name, TOP / "docs" / name]
+    """The file that a page's name means, beside the page that names it, or at the top, or in docs/."""
+    beside = [path.parent / name] if path.suffix == ".md" else []
+    places = [*beside, TOP / name, TOP / "docs" / name]
     return next((it.resolve() for it in places if it.is_file()), None)
 
 

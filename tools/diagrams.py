@@ -3,7 +3,7 @@
 
 It writes docs/pictures/*.svg. With --check it writes nothing. It then fails if a file there isn't what it would write,
 is missing, or isn't one of its own. Clocks, verdicts and messages are those of the reports of examples/two_faced,
-examples/splitter and examples/splitter_of_three, and those that docs/EXPLORE.md shows. The crates are those of
+examples/splitter and examples/splitter_of_three, and those that docs/EXPLORE.md shows; the crates are those of
 crates.txt, and the steps of the gate those of .ci/run.
 """
 import re

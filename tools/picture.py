@@ -9,7 +9,7 @@ and is one rectangle. docs/GALLERY.md tells how to read the rest.
 """
 import math
 import sys
-from typing import List, NamedTuple, Optional
+from typing import List, NamedTuple
 
 sys.dont_write_bytecode = True
 from readings import PAST, UNTOLD, NoReport, contradicts, read_run

@@ -1,0 +1,857 @@
+-- The runs of statements.
+use Rattle.std.proofs.Common.{◌≡◌, ◌≢◌, ℕ, zero, suc, ◌+◌, ◌*◌, ◌%◌, ◌^◌, ◌<◌, ◌≤◌, ◌==◌, Bool, true, false, if◌then◌else◌, nat_lt, nat_le, List, [], ◌∷◌, ◌++◌, length, Some, Ok, All, pos, slice_set, refl, sym, ap, ◌∙◌, arith, subst, inl, inr, length-append}
+use Rattle.std.specs.Int.{w32, w64, cast_signed, cast_unsigned}
+use Rattle.std.specs.FinMap.{get, insert}
+use Rattle.std.proofs.lemmas.Bool.{cases_Bool, cases_eq, eq-eqb, ne_eqb, ltb-true, ltb-false, le-leb, lt-leb, cond-true, cond-false, or_cases}
+use Rattle.std.proofs.lemmas.List.Elements.{All-push}
+use Rattle.node_env.specs.Env.{Setting}
+use Rattle.bpf_insn.specs.declared.forms.Reg.{Reg}
+use Rattle.bpf_insn.specs.declared.forms.Reg.TheVariants.{R0, R1, R2, R6}
+use Rattle.bpf_insn.specs.declared.forms.Operand.TheVariants as operand
+use Rattle.bpf_insn.specs.declared.forms.Insn.{Insn}
+use Rattle.bpf_insn.specs.declared.forms.Insn.TheVariants as i
+use Rattle.bpf_insn.specs.Registers.{register_number}
+use Rattle.bpf_insn.specs.Programs.{insn_at}
+use Rattle.bpf_insn.specs.Edges.{BeginsAt}
+use Rattle.bpf_machine.specs.declared.word.Word.TheVariants.{Num}
+use Rattle.bpf_machine.specs.Machine.{MachineState, Running}
+use Rattle.bpf_machine.specs.Step.{step, with_number}
+use Rattle.clock_nodes.proofs.Places.{Stands}
+use Rattle.clock_nodes.proofs.Forms.{put_same, put_other, call_keeps, put, at, sending, storing, moves, sends, stores}
+use Rattle.rule_nodes.specs.declared.syntax.Sizes.{Sizes}
+use Rattle.rule_nodes.specs.declared.syntax.Comparison.TheVariants.{AtLeast}
+use Rattle.rule_nodes.specs.declared.syntax.Purpose.TheVariants.{Value, Jump}
+use Rattle.rule_nodes.specs.declared.syntax.Target.{Target}
+use Rattle.rule_nodes.specs.declared.syntax.Target.TheVariants.{ToLocal, ToWord}
+use Rattle.rule_nodes.specs.declared.syntax.Assignment.{Assignment}
+use Rattle.rule_nodes.specs.declared.syntax.Assignment.TheVariants.{One, Also'}
+use Rattle.rule_nodes.specs.declared.syntax.Source.{Source}
+use Rattle.rule_nodes.specs.declared.syntax.Source.TheVariants.{Constant, FromLocal, FromWord, Computed}
+use Rattle.rule_nodes.specs.declared.syntax.Term.{Term}
+use Rattle.rule_nodes.specs.declared.syntax.Term.TheVariants.{Me, Coin}
+use Rattle.rule_nodes.specs.declared.syntax.Statement.{Statement}
+use Rattle.rule_nodes.specs.declared.syntax.Statement.TheVariants.{Nothing, Then', Let', Assign, If', For', SendAll, SendTo}
+use Rattle.rule_nodes.specs.Meaning.{NodeState, value, word_at, truth, with_local, assigned, all_assigned, with_sent, sent_below, each_below, after}
+use Rattle.rule_nodes.specs.Operands.{is_constant, is_operand, is_asked, is_steady, depth_behind, source_of}
+use Rattle.rule_nodes.specs.Fits.{HasPlace, Fits, TargetFits, AssignmentFits, BlockFits}
+use Rattle.rule_nodes.specs.Code.{place, copy, cond_of, term_code, assign_code, set_code, given_code, also_code, assignment_code, get_code, send_code, send_codes, send_all_code, send_to_code, each_code, block_code}
+use Rattle.rule_nodes.proofs.Small.{compared, imm_low}
+use Rattle.rule_nodes.proofs.Forms.{copies, stores_number, stays, once, chain, further}
+use Rattle.rule_nodes.proofs.Words.{word_small, word_stored, word_low, word_length, word_bytes}
+use Rattle.rule_nodes.proofs.States.{stands_front, stands_back, place_number, Holds, still_holds, IsSized}
+use Rattle.rule_nodes.proofs.TermRuns.{hop, behind_more, behind_few, IsAt, is_found, found_same, source_is, Fetched, get_steps, Has, Gets, gets, here_is, branch_leads, choice_runs, constant_is, term_runs, nodes_few}
+
+-- ---- what holds after a write
+
+pub holds_local : (env : Setting) (d e k v : ℕ) (u : NodeState) (s : MachineState) (to : ℕ) → k < 3
+    → ((j : ℕ) → j < e → j ≢ k → j < d) → v < 2 ^ 32 → Holds env d u s
+    → Holds env e (with_local k v u) (put s to (place k) (Num v))
+holds_local env d e k v u s to small below fits h =
+    let p = register_number (place k) in
+    let number : p ≡ 7 + k = place_number k small in
+    let m = s.frame.registers in
+    record {
+      r6 = put_other m p (Num v) 6 (λ e. omega arith) ∙ h.r6;
+      locals = λ j lt. elim (cases_eq j k) [
+        | inl same ↦
+            let there : 7 + j ≡ p = omega (arith, same, number) in
+            let is : v ≡ (with_local k v u).locals j = rw (eq-eqb j k same) refl in
+            ap (get (insert m p (Num v))) there ∙ put_same m p (Num v) ∙ ap (λ x. Some (Num x)) is
+        | inr other ↦
+            let is : u.locals j ≡ (with_local k v u).locals j = rw (ne_eqb j k other) refl in
+            put_other m p (Num v) (7 + j) (λ e. other (omega (arith, e, number))) ∙ h.locals j (below j lt other)
+            ∙ ap (λ x. Some (Num x)) is
+      ];
+      small = λ j lt. elim (cases_eq j k) [
+        | inl same ↦ rw (eq-eqb j k same) fits
+        | inr other ↦ rw (ne_eqb j k other) (h.small j (below j lt other))
+      ];
+      memory = h.memory;
+      sent = h.sent;
+      room = h.room;
+      bytes = h.bytes;
+    }
+
+pub holds_less : (env : Setting) (d : ℕ) (u : NodeState) (s : MachineState) → Holds env (d + 1) u s → Holds env d u s
+holds_less env d u s h = record {
+  r6 = h.r6;
+  locals = λ k lt. h.locals k (omega arith);
+  small = λ k lt. h.small k (omega arith);
+  memory = h.memory;
+  sent = h.sent;
+  room = h.room;
+  bytes = h.bytes;
+}
+
+holds_at : (env : Setting) (d : ℕ) (u : NodeState) (s : MachineState) (to : ℕ) → Holds env d u s
+    → Holds env d u (at s to)
+holds_at env d u s to h = record {
+  r6 = h.r6;
+  locals = h.locals;
+  small = h.small;
+  memory = h.memory;
+  sent = h.sent;
+  room = h.room;
+  bytes = h.bytes;
+}
+
+holds_word : (env : Setting) (d k v : ℕ) (u : NodeState) (s : MachineState) (to : ℕ) → Holds env d u s
+    → Holds env d (assigned (ToWord k) v u) (storing s to (4 * k) v)
+holds_word env d k v u s to h = record {
+  r6 = h.r6;
+  locals = h.locals;
+  small = h.small;
+  memory = ap (λ m. with_number slice_set m (4 * k) 4 v) h.memory ∙ word_stored k v u.memory;
+  sent = h.sent;
+  room = word_length k v u.memory ∙ h.room;
+  bytes = word_bytes k v u.memory h.bytes;
+}
+
+-- a number of which the low 32 bits are the word
+holds_low : (env : Setting) (d k v raw : ℕ) (u : NodeState) (s : MachineState) (to : ℕ) → raw % 2 ^ 32 ≡ v
+    → Holds env d u s → Holds env d (assigned (ToWord k) v u) (storing s to (4 * k) raw)
+holds_low env d k v raw u s to low h = record {
+  r6 = h.r6;
+  locals = h.locals;
+  small = h.small;
+  memory = ap (λ m. with_number slice_set m (4 * k) 4 raw) h.memory ∙ word_stored k raw u.memory
+      ∙ word_low k raw v u.memory low;
+  sent = h.sent;
+  room = word_length k v u.memory ∙ h.room;
+  bytes = word_bytes k v u.memory h.bytes;
+}
+
+-- place d is free
+holds_free : (env : Setting) (lets d v : ℕ) (u : NodeState) (s : MachineState) (to : ℕ) → lets ≤ d → d < 3
+    → Holds env lets u s → Holds env lets u (put s to (place d) (Num v))
+holds_free env lets d v u s to le small h =
+    let p = register_number (place d) in
+    let number : p ≡ 7 + d = place_number d small in
+    let m = s.frame.registers in
+    record {
+      r6 = put_other m p (Num v) 6 (λ e. omega arith) ∙ h.r6;
+      locals = λ k lt. put_other m p (Num v) (7 + k) (λ e. omega arith) ∙ h.locals k lt;
+      small = h.small;
+      memory = h.memory;
+      sent = h.sent;
+      room = h.room;
+      bytes = h.bytes;
+    }
+
+-- a register below r6 is free
+holds_put : (env : Setting) (d : ℕ) (u : NodeState) (s : MachineState) (to v : ℕ) (dst : Reg) → register_number dst < 6
+    → Holds env d u s → Holds env d u (put s to dst (Num v))
+holds_put env d u s to v dst low h =
+    let p = register_number dst in
+    let m = s.frame.registers in
+    record {
+      r6 = put_other m p (Num v) 6 (λ e. omega (arith, e, low)) ∙ h.r6;
+      locals = λ k lt. put_other m p (Num v) (7 + k) (λ e. omega (arith, e, low)) ∙ h.locals k lt;
+      small = h.small;
+      memory = h.memory;
+      sent = h.sent;
+      room = h.room;
+      bytes = h.bytes;
+    }
+
+holds_sent : (env : Setting) (d j v : ℕ) (u : NodeState) (s : MachineState) (to : ℕ) → Holds env d u s
+    → Holds env d (with_sent j v u) (sending s to j v)
+holds_sent env d j v u s to h = record {
+  r6 = call_keeps s.frame 0 6 (omega arith) ∙ h.r6;
+  locals = λ k lt. call_keeps s.frame 0 (7 + k) (omega arith) ∙ h.locals k lt;
+  small = h.small;
+  memory = h.memory;
+  sent = ap (λ m. insert m j v) h.sent;
+  room = h.room;
+  bytes = h.bytes;
+}
+
+-- the registers from r6 on and the memory are alike
+pub record Near (s t : MachineState) : Type 0 where
+  pub registers : (k : ℕ) → 5 < k → get t.frame.registers k ≡ get s.frame.registers k
+  pub memory : t.memory ≡ s.memory
+
+near_self : (s : MachineState) → Near s s
+near_self s = record { registers = λ k a. refl; memory = refl }
+
+near_put : (s t : MachineState) (to v : ℕ) (dst : Reg) → register_number dst < 6 → Near s t
+    → Near s (put t to dst (Num v))
+near_put s t to v dst low h = record {
+  registers = λ k a. put_other t.frame.registers (register_number dst) (Num v) k (λ e. omega (arith, e, low, a))
+      ∙ h.registers k a;
+  memory = h.memory;
+}
+
+near_sent : (s t : MachineState) (to j v : ℕ) → Near s t → Near s (sending t to j v)
+near_sent s t to j v h = record {
+  registers = λ k a. call_keeps t.frame 0 k a ∙ h.registers k a;
+  memory = h.memory;
+}
+
+near_holds : (env : Setting) (lets : ℕ) (u : NodeState) (s t : MachineState) → Near s t → Holds env lets u s
+    → Holds env lets (record { locals = u.locals; memory = u.memory; sent = t.sent }) t
+near_holds env lets u s t near h = record {
+  r6 = near.registers 6 (omega arith) ∙ h.r6;
+  locals = λ k lt. near.registers (7 + k) (omega arith) ∙ h.locals k lt;
+  small = h.small;
+  memory = near.memory ∙ h.memory;
+  sent = refl;
+  room = h.room;
+  bytes = h.bytes;
+}
+
+-- where a number is found depends on locals and memory alone
+same_at_source : (x : Source) (z : Sizes) (lets v : ℕ) (u w : NodeState) → w.locals ≡ u.locals → w.memory ≡ u.memory
+    → IsAt z lets u x v → IsAt z lets w x v
+same_at_source (Constant c) z lets v u w e f is = is
+same_at_source (FromLocal k) z lets v u w e f is = (is.0, ap (λ (g : ℕ → ℕ). g k) e ∙ is.1)
+same_at_source (FromWord k) z lets v u w e f is = (is.0, ap (word_at k) f ∙ is.1)
+same_at_source Computed z lets v u w e f is = tt
+
+found_small : (env : Setting) (x : Source) (z : Sizes) (lets v : ℕ) (u : NodeState) (s : MachineState)
+    → is_found x ≡ true → IsAt z lets u x v → z.memory ≡ env.shape.memory → Holds env lets u s → v < 2 ^ 32
+found_small env (Constant c) z lets v u s found is memory h = subst (λ (n : ℕ). n < 2 ^ 32) is.0 is.1
+found_small env (FromLocal k) z lets v u s found is memory h = subst (λ (n : ℕ). n < 2 ^ 32) is.1 (h.small k is.0)
+found_small env (FromWord k) z lets v u s found is memory h = subst (λ (n : ℕ). n < 2 ^ 32) is.1
+    (word_small k u.memory (omega (arith, is.0, memory, h.room)) h.bytes)
+found_small env Computed z lets v u s found is memory h = absurd (let no : false ≡ true = found in cc)
+
+pub computed_place : (found : Bool) (d : ℕ) → found ≡ false → HasPlace found d → d < 3
+computed_place true d e free = absurd (let no : true ≡ false = e in cc)
+computed_place false d e free = free
+
+-- of a state, while a number is sent
+pub record Sending (env : Setting) (lets : ℕ) (u : NodeState) (s t : MachineState) : Type 0 where
+  pub holds : Holds env lets u t
+  pub near : Near s t
+
+-- a state with this number in place d besides
+pub record Keeps (env : Setting) (d : ℕ) (u : NodeState) (v : ℕ) (t : MachineState) : Type 0 where
+  pub holds : Holds env d u t
+  pub place : get t.frame.registers (7 + d) ≡ Some (Num v)
+
+-- a state of this rule state, in which the places from lets up to d are as they were
+pub record Assigned (env : Setting) (lets d : ℕ) (u : NodeState) (s t : MachineState) : Type 0 where
+  pub holds : Holds env lets u t
+  pub kept : (k : ℕ) → lets ≤ k → k < d → get t.frame.registers (7 + k) ≡ get s.frame.registers (7 + k)
+
+module _ (program : List Insn) (env : Setting) (last : ℕ) (solid : (k : ℕ) → k ≤ last → BeginsAt program k) where
+  abbrev Leads : MachineState → List Insn → (MachineState → Type 0) → Type 0
+  Leads s code P = Gets program env last solid s (s.frame.slot + length code) (length code) P
+
+  -- ---- a number into a place
+
+  -- the value, and its copy into place k
+  stored_runs : (e : Term) (z : Sizes) (J : List ℕ) (d k : ℕ) (rest : List Insn) (u : NodeState) (s : MachineState)
+      (P : MachineState → Type 0) → IsSized z env → All (λ j. j < z.nodes) J → d ≤ 3 → k < 3 → Fits e z (length J) d d
+      → Holds env d u s → Stands program s.frame.slot (term_code e z J d Value ++ (copy (place k) R0 ∷ rest))
+      → s.frame.slot + length (term_code e z J d Value ++ (copy (place k) R0 ∷ rest)) ≤ last
+      → ((t : MachineState) (to : ℕ) → Has d s (value e z env J u) t → Stands program to rest → to + length rest ≤ last
+      → Leads (put t to (place k) (Num (value e z env J u))) rest P)
+      → Leads s (term_code e z J d Value ++ (copy (place k) R0 ∷ rest)) P
+  stored_runs e z J d k rest u s P sized nodes few small fits h stands room next =
+      let v = value e z env J u in
+      let code = term_code e z J d Value in
+      let back = copy (place k) R0 ∷ rest in
+      let number : register_number (place k) ≡ 7 + k = place_number k small in
+      let writable : (register_number (place k) == 10) ≡ false = ap (λ (n : ℕ). n == 10) number
+      ∙ ne_eqb (7 + k) 10 (λ e. omega arith) in
+      let len : length (code ++ back) ≡ length code + (1 + length rest) = omega (arith, length-append code back) in
+      let c = term_runs program env last solid e z J d d Value u s sized nodes few (omega arith) fits h
+      (stands_front program s.frame.slot code back stands) (omega (arith, len, room)) in
+      let t = c.new in
+      let there = here_is program env last solid t _ back c.slot (stands_back program s.frame.slot code back stands) in
+      let t1 = put t (t.frame.slot + 1) (place k) (Num v) in
+      let e1 : step program env t ≡ Ok (Running t1) = copies program env t (t.frame.slot + 1)
+      (place k) R0 v there.0 refl (solid _ (omega (arith, len, room, c.slot))) c.fact.r0 c.fact.small writable in
+      let g = next t (t.frame.slot + 1) c.fact there.1 (omega (arith, len, room, c.slot)) in
+      record {
+        new = g.new;
+        run = chain program env s t1 g.new (length code + 1) (length rest) (length (code ++ back))
+            (further program env s t t1 (length code) (length code + 1) c.run e1 (omega arith)) g.run
+            (omega (arith, len));
+        slot = omega (arith, len, c.slot, g.slot);
+        fact = g.fact;
+      }
+
+  -- ---- sending
+
+  sends_run : (x : Source) (lets v m : ℕ) (u : NodeState) (s s0 : MachineState) → v < 2 ^ 32 → m ≤ env.shape.nodes
+      → Near s0 s → Holds env lets u s → Stands program s.frame.slot (send_codes x m)
+      → s.frame.slot + length (send_codes x m) ≤ last
+      → ((t : MachineState) → Near s0 t → insn_at program t.frame.slot ≡ Some (get_code R2 x) → t.frame.slot + 1 ≤ last
+      → Fetched program env last solid R2 t v)
+      → Leads s (send_codes x m) (Sending env lets (sent_below m v u) s0)
+  sends_run x lets v zero u s s0 fits le near h stands room fetch = record {
+    new = s;
+    run = stays program env s;
+    slot = omega arith;
+    fact = record { holds = h; near = near };
+  }
+  sends_run x lets v (suc m) u s s0 fits le near h stands room fetch =
+      let front = send_codes x m in
+      let back = send_code x m in
+      let len : length (front ++ back) ≡ length front + 3 = length-append front back in
+      let c = sends_run x lets v m u s s0 fits (omega (arith, le)) near h
+      (stands_front program s.frame.slot front back stands) (omega (arith, len, room)) fetch in
+      let t = c.new in
+      let there = here_is program env last solid t _ back c.slot (stands_back program s.frame.slot front back stands) in
+      let t1 = put t (t.frame.slot + 1) R1 (Num m) in
+      let t2 = put t1 (t.frame.slot + 1 + 1) R2 (Num v) in
+      let t3 = sending t2 (t.frame.slot + 1 + 1 + 1) m v in
+      let m0 = t.frame.registers in
+      let m1 = t1.frame.registers in
+      let near1 : Near s0 t1 = near_put s0 t (t.frame.slot + 1) m R1 (omega arith) c.fact.near in
+      let near2 : Near s0 t2 = near_put s0 t1 (t.frame.slot + 1 + 1) v R2 (omega arith) near1 in
+      let to1 : get t2.frame.registers 1 ≡ Some (Num m) = put_other m1 2 (Num v) 1 (λ e. omega arith)
+      ∙ put_same m0 1 (Num m) in
+      let e1 : step program env t ≡ Ok (Running t1) = moves program env t (t.frame.slot + 1) R1
+      (operand.Imm (pos m)) (Num m) there.0 refl (solid _ (omega (arith, len, room, c.slot))) refl refl in
+      let g = fetch t1 near1 there.1.0 (omega (arith, len, room, c.slot)) in
+      let e3 : step program env t2 ≡ Ok (Running t3) = sends program env t2 (t.frame.slot + 1 + 1 + 1) m v
+      there.1.1.0 refl (solid _ (omega (arith, len, room, c.slot))) to1 (put_same m1 2 (Num v))
+      (omega (arith, le)) fits in
+      let n = length front in
+      let run1 = further program env s t t1 n (n + 1) c.run e1 (omega arith) in
+      let run2 = further program env s t1 t2 (n + 1) (n + 2) run1 g.fetched (omega arith) in
+      let u1 = sent_below m v u in
+      record {
+        new = t3;
+        run = further program env s t2 t3 (n + 2) (length (front ++ back)) run2 e3 (omega (arith, len));
+        slot = omega (arith, len, c.slot);
+        fact = record {
+          holds = holds_sent env lets m v u1 t2 (t.frame.slot + 1 + 1 + 1)
+              (holds_put env lets u1 t1 (t.frame.slot + 1 + 1) v R2 (omega arith)
+              (holds_put env lets u1 t (t.frame.slot + 1) m R1 (omega arith) c.fact.holds));
+          near = near_sent s0 t2 (t.frame.slot + 1 + 1 + 1) m v near2;
+        };
+      }
+
+  -- a found number
+  found_sends : (x : Source) (z : Sizes) (lets v : ℕ) (u : NodeState) (s : MachineState) → is_found x ≡ true
+      → IsAt z lets u x v → IsSized z env → lets ≤ 3 → Holds env lets u s
+      → Stands program s.frame.slot (send_codes x z.nodes) → s.frame.slot + length (send_codes x z.nodes) ≤ last
+      → Leads s (send_codes x z.nodes) (Holds env lets (sent_below z.nodes v u))
+  found_sends x z lets v u s found is sized few h stands room =
+      let small : v < 2 ^ 32 = found_small env x z lets v u s found is sized.memory h in
+      let end = sent_below z.nodes v u in
+      gets program env last solid s _ _ _ _ (Sending env lets end s) (Holds env lets end) refl (omega arith)
+      (λ t k. k.holds)
+      (sends_run x lets v z.nodes u s s small (omega (arith, sized.nodes)) (near_self s) h stands room
+      (λ t near here l.
+      let w : NodeState = record { locals = u.locals; memory = u.memory; sent = t.sent } in
+      get_steps program env last solid R2 x z lets v w t refl found
+      (same_at_source x z lets v u w refl refl is) sized few
+      (near_holds env lets u s t near h) here l))
+
+  -- with the number in place d and the receiver in r0
+  send_to_runs : (d v x : ℕ) (z : Sizes) (u : NodeState) (t : MachineState) → IsSized z env → d < 3 → v < 2 ^ 32
+      → x < 2 ^ 32 → Keeps env d u v t → get t.frame.registers 0 ≡ Some (Num x)
+      → Stands program t.frame.slot (send_to_code d z.nodes) → t.frame.slot + 4 ≤ last
+      → Gets program env last solid t (t.frame.slot + 4) 4
+      (Holds env d (if nat_lt x z.nodes then with_sent x v u else u))
+  send_to_runs d v x z u t sized small fits x_fits k r0 stands room =
+      let n = z.nodes in
+      let few : n < 2 ^ 32 = omega (arith, nodes_few program env last solid z sized) in
+      let c = branch_leads program env last solid t t 0 3 (cond_of AtLeast) R0 (operand.Imm (pos n)) x n (nat_le n x)
+      (stays program env t) stands.0 r0 refl (compared AtLeast x n x_fits few) (omega (arith, room)) in
+      let w = c.new in
+      let number : register_number (place d) ≡ 7 + d = place_number d small in
+      let holds : Holds env d u w = record {
+        r6 = ap (λ m. get m 6) c.fact.registers ∙ k.holds.r6;
+        locals = λ j lt. ap (λ m. get m (7 + j)) c.fact.registers ∙ k.holds.locals j lt;
+        small = k.holds.small;
+        memory = c.fact.memory ∙ k.holds.memory;
+        sent = c.fact.sent ∙ k.holds.sent;
+        room = k.holds.room;
+        bytes = k.holds.bytes;
+      } in
+      elim (cases_Bool (nat_lt x n)) [
+        | inl so ↦
+            let miss : hop (nat_le n x) 3 ≡ 0 = rw (lt-leb n x (ltb-true x n so)) refl in
+            let slot : w.frame.slot ≡ t.frame.slot + 1 = omega (arith, c.slot, miss) in
+            let there = here_is program env last solid w _ (copy R1 R0 ∷ copy R2 (place d) ∷ i.Call (pos 3) ∷ []) slot
+            stands.1 in
+            let m0 = w.frame.registers in
+            let w1 = put w (w.frame.slot + 1) R1 (Num x) in
+            let m1 = w1.frame.registers in
+            let w2 = put w1 (w.frame.slot + 1 + 1) R2 (Num v) in
+            let w3 = sending w2 (w.frame.slot + 1 + 1 + 1) x v in
+            let from0 : get m0 0 ≡ Some (Num x) = ap (λ m. get m 0) c.fact.registers ∙ r0 in
+            let from : get m1 (register_number (place d)) ≡ Some (Num v) = ap (get m1) number
+            ∙ put_other m0 1 (Num x) (7 + d) (λ e. omega arith) ∙ ap (λ m. get m (7 + d)) c.fact.registers ∙ k.place in
+            let to1 : get w2.frame.registers 1 ≡ Some (Num x) = put_other m1 2 (Num v) 1 (λ e. omega arith)
+            ∙ put_same m0 1 (Num x) in
+            let e1 : step program env w ≡ Ok (Running w1) = copies program env w (w.frame.slot + 1) R1 R0 x there.0 refl
+            (solid _ (omega (arith, room, slot))) from0 x_fits refl in
+            let e2 : step program env w1 ≡ Ok (Running w2) = copies program env w1 (w.frame.slot + 1 + 1) R2 (place d) v
+            there.1.0 refl (solid _ (omega (arith, room, slot))) from fits refl in
+            let e3 : step program env w2 ≡ Ok (Running w3) = sends program env w2 (w.frame.slot + 1 + 1 + 1) x v
+            there.1.1.0 refl (solid _ (omega (arith, room, slot))) to1 (put_same m1 2 (Num v))
+            (omega (arith, ltb-true x n so, sized.nodes)) fits in
+            record {
+              new = w3;
+              run = further program env t w2 w3 3 4
+                  (further program env t w1 w2 2 3 (further program env t w w1 1 2 c.run e1 (omega arith)) e2
+                  (omega arith))
+                  e3 (omega arith);
+              slot = omega (arith, slot);
+              fact = subst (λ (y : NodeState). Holds env d y w3) (sym (cond-true (nat_lt x n) (with_sent x v u) u so))
+                  (holds_sent env d x v u w2 (w.frame.slot + 1 + 1 + 1)
+                  (holds_put env d u w1 (w.frame.slot + 1 + 1) v R2 (omega arith)
+                  (holds_put env d u w (w.frame.slot + 1) x R1 (omega arith) holds)));
+            }
+        | inr other ↦
+            let hit : hop (nat_le n x) 3 ≡ 3 = rw (le-leb n x (ltb-false x n other)) refl in
+            record {
+              new = w;
+              run = chain program env t w w 1 0 4 c.run (stays program env w) (omega arith);
+              slot = omega (arith, c.slot, hit);
+              fact = subst (λ (y : NodeState). Holds env d y w)
+                  (sym (cond-false (nat_lt x n) (with_sent x v u) u other)) holds;
+            }
+      ]
+
+  -- ---- loops
+
+  each_runs : (d n m : ℕ) (body : ℕ → List Insn) (act : ℕ → NodeState → NodeState) (u : NodeState)
+      (s : MachineState) → m ≤ n → Holds env d u s → Stands program s.frame.slot (each_code body m)
+      → s.frame.slot + length (each_code body m) ≤ last
+      → ((j : ℕ) (w : NodeState) (t : MachineState) → j < n → Holds env d w t → Stands program t.frame.slot (body j)
+      → t.frame.slot + length (body j) ≤ last → Leads t (body j) (Holds env d (act j w)))
+      → Leads s (each_code body m) (Holds env d (each_below m act u))
+  each_runs d n zero body act u s le h stands room each = record {
+    new = s;
+    run = stays program env s;
+    slot = omega arith;
+    fact = h;
+  }
+  each_runs d n (suc m) body act u s le h stands room each =
+      let front = each_code body m in
+      let back = body m in
+      let len : length (front ++ back) ≡ length front + length back = length-append front back in
+      let c = each_runs d n m body act u s (omega (arith, le)) h (stands_front program s.frame.slot front back stands)
+      (omega (arith, len, room)) each in
+      let there = here_is program env last solid c.new _ back c.slot
+      (stands_back program s.frame.slot front back stands) in
+      let g = each m (each_below m act u) c.new (omega (arith, le)) c.fact there (omega (arith, len, room, c.slot)) in
+      record {
+        new = g.new;
+        run = chain program env s c.new g.new (length front) (length back) (length (front ++ back)) c.run g.run
+            (omega (arith, len));
+        slot = omega (arith, len, c.slot, g.slot);
+        fact = g.fact;
+      }
+
+  -- ---- statements
+
+  assign_runs : (target : Target) (z : Sizes) (lets d v : ℕ) (u : NodeState) (t : MachineState) → IsSized z env
+      → lets ≤ d → d ≤ 3 → TargetFits target z.memory lets → get t.frame.registers 0 ≡ Some (Num v) → v < 2 ^ 32
+      → Holds env lets u t → Stands program t.frame.slot (assign_code target ∷ []) → t.frame.slot + 1 ≤ last
+      → Gets program env last solid t (t.frame.slot + 1) 1 (Assigned env lets d (assigned target v u) t)
+  assign_runs (ToLocal k) z lets d v u t sized le few fits r0 small h stands room =
+      let p = register_number (place k) in
+      let number : p ≡ 7 + k = place_number k (omega (arith, fits, le, few)) in
+      let writable : (p == 10) ≡ false = ap (λ (n : ℕ). n == 10) number
+      ∙ ne_eqb (7 + k) 10 (λ e. omega (arith, e, fits, le, few)) in
+      let t1 = put t (t.frame.slot + 1) (place k) (Num v) in
+      let e1 : step program env t ≡ Ok (Running t1) = copies program env t (t.frame.slot + 1)
+      (place k) R0 v stands.0 refl (solid _ room) r0 small writable in
+      record {
+        new = t1;
+        run = once program env t t1 e1;
+        slot = refl;
+        fact = record {
+          holds = holds_local env lets lets k v u t (t.frame.slot + 1) (omega (arith, fits, le, few)) (λ j lt other. lt)
+              small h;
+          kept = λ j from below. put_other t.frame.registers p (Num v) (7 + j)
+              (λ e. omega (arith, e, number, from, fits));
+        };
+      }
+  assign_runs (ToWord k) z lets d v u t sized le few fits r0 small h stands room =
+      let zero_off : 0 + 4 * k ≡ 4 * k = omega arith in
+      let t1 = storing t (t.frame.slot + 1) (4 * k) v in
+      let e1 : step program env t ≡ Ok (Running t1) = stores program env t (t.frame.slot + 1) R6 R0
+      (pos (4 * k)) (4 * k) v stands.0 refl (solid _ room) h.r6 r0 (ap pos zero_off)
+      (le-leb (4 * k + 4) env.shape.memory (omega (arith, fits, sized.memory))) in
+      record {
+        new = t1;
+        run = once program env t t1 e1;
+        slot = refl;
+        fact = record {
+          holds = holds_word env lets k v u t (t.frame.slot + 1) h;
+          kept = λ j from below. refl;
+        };
+      }
+
+  asked_is : (t : Term) (z : Sizes) (J : List ℕ) (u w : NodeState) → is_asked t ≡ true
+      → value t z env J u ≡ value t z env J w
+  asked_is Me z J u w e = refl
+  asked_is Coin z J u w e = refl
+  asked_is t z J u w e = absurd (let no : false ≡ true = e in cc)
+
+  steady_is : (t : Term) (z : Sizes) (J : List ℕ) (u w : NodeState) → is_steady t ≡ true
+      → value t z env J u ≡ value t z env J w
+  steady_is t z J u w e = elim (or_cases (is_constant t) (is_asked t) e) [
+    | inl x ↦ sym (constant_is program env last solid t z J u x) ∙ constant_is program env last solid t z J w x
+    | inr x ↦ asked_is t z J u w x
+  ]
+
+  -- ---- found numbers to their targets
+
+  set_runs : (target : Target) (x : Source) (z : Sizes) (lets d v : ℕ) (u : NodeState) (s : MachineState)
+      → is_found x ≡ true → IsAt z lets u x v → IsSized z env → lets ≤ d → d ≤ 3 → TargetFits target z.memory lets
+      → Holds env lets u s → Stands program s.frame.slot (set_code target x)
+      → s.frame.slot + length (set_code target x) ≤ last
+      → Leads s (set_code target x) (Assigned env lets d (assigned target v u) s)
+  set_runs (ToLocal k) x z lets d v u s found is sized le few fits h stands room =
+      let p = register_number (place k) in
+      let number : p ≡ 7 + k = place_number k (omega (arith, fits, le, few)) in
+      let writable : (p == 10) ≡ false = ap (λ (n : ℕ). n == 10) number
+      ∙ ne_eqb (7 + k) 10 (λ e. omega (arith, e, fits, le, few)) in
+      let g = get_steps program env last solid (place k) x z lets v u s writable found is sized
+      (omega (arith, le, few)) h stands.0 room in
+      let s1 = put s (s.frame.slot + 1) (place k) (Num v) in
+      record {
+        new = s1;
+        run = once program env s s1 g.fetched;
+        slot = refl;
+        fact = record {
+          holds = holds_local env lets lets k v u s (s.frame.slot + 1) (omega (arith, fits, le, few)) (λ j lt other. lt)
+              g.small h;
+          kept = λ j from below. put_other s.frame.registers p (Num v) (7 + j)
+              (λ e. omega (arith, e, number, from, fits));
+        };
+      }
+  set_runs (ToWord k) (Constant c) z lets d v u s found is sized le few fits h stands room =
+      let zero_off : 0 + 4 * k ≡ 4 * k = omega arith in
+      let raw = cast_unsigned w64 (cast_signed w32 c) in
+      let s1 = storing s (s.frame.slot + 1) (4 * k) raw in
+      let low : raw % 2 ^ 32 ≡ v = imm_low c is.1 ∙ is.0 in
+      let e1 : step program env s ≡ Ok (Running s1) = stores_number program env s (s.frame.slot + 1) R6 (pos (4 * k))
+      (cast_signed w32 c) (4 * k) stands.0 refl (solid _ room) h.r6 (ap pos zero_off)
+      (le-leb (4 * k + 4) env.shape.memory (omega (arith, fits, sized.memory))) in
+      record {
+        new = s1;
+        run = once program env s s1 e1;
+        slot = refl;
+        fact = record {
+          holds = holds_low env lets k v raw u s (s.frame.slot + 1) low h;
+          kept = λ j from below. refl;
+        };
+      }
+  set_runs (ToWord k) (FromLocal j) z lets d v u s found is sized le few fits h stands room =
+      let zero_off : 0 + 4 * k ≡ 4 * k = omega arith in
+      let number : register_number (place j) ≡ 7 + j = place_number j (omega (arith, is.0, le, few)) in
+      let from : get s.frame.registers (register_number (place j)) ≡ Some (Num v) = ap (get s.frame.registers) number
+      ∙ h.locals j is.0 ∙ ap (λ n. Some (Num n)) is.1 in
+      let s1 = storing s (s.frame.slot + 1) (4 * k) v in
+      let e1 : step program env s ≡ Ok (Running s1) = stores program env s (s.frame.slot + 1) R6 (place j) (pos (4 * k))
+      (4 * k) v stands.0 refl (solid _ room) h.r6 from (ap pos zero_off)
+      (le-leb (4 * k + 4) env.shape.memory (omega (arith, fits, sized.memory))) in
+      record {
+        new = s1;
+        run = once program env s s1 e1;
+        slot = refl;
+        fact = record { holds = holds_word env lets k v u s (s.frame.slot + 1) h; kept = λ i from below. refl };
+      }
+  set_runs (ToWord k) (FromWord j) z lets d v u s found is sized le few fits h stands room =
+      let g = get_steps program env last solid R0 (FromWord j) z lets v u s refl found is sized
+      (omega (arith, le, few)) h stands.0 (omega (arith, room)) in
+      let s1 = put s (s.frame.slot + 1) R0 (Num v) in
+      let a = assign_runs (ToWord k) z lets d v u s1 sized le few fits (put_same s.frame.registers 0 (Num v)) g.small
+      (holds_put env lets u s (s.frame.slot + 1) v R0 (omega arith) h) stands.1 (omega (arith, room)) in
+      record {
+        new = a.new;
+        run = chain program env s s1 a.new 1 1 2 (once program env s s1 g.fetched) a.run (omega arith);
+        slot = omega (arith, a.slot);
+        fact = record {
+          holds = a.fact.holds;
+          kept = λ i from below. a.fact.kept i from below
+              ∙ put_other s.frame.registers 0 (Num v) (7 + i) (λ q. omega (arith, q));
+        };
+      }
+  set_runs (ToWord k) Computed z lets d v u s found is sized le few fits h stands room =
+      absurd (let no : false ≡ true = found in cc)
+
+  given_runs : (x : Source) (target : Target) (e : Term) (z : Sizes) (J : List ℕ) (d lets : ℕ) (u : NodeState)
+      (s : MachineState) → IsAt z lets u x (value e z env J u) → IsSized z env → All (λ j. j < z.nodes) J → lets ≤ d
+      → d ≤ 3 → TargetFits target z.memory lets → Fits e z (length J) lets d → Holds env lets u s
+      → Stands program s.frame.slot (given_code x target (term_code e z J d Value))
+      → s.frame.slot + length (given_code x target (term_code e z J d Value)) ≤ last
+      → Leads s (given_code x target (term_code e z J d Value))
+      (Assigned env lets d (assigned target (value e z env J u) u) s)
+  given_runs (Constant c) target e z J d lets u s is sized nodes le few ours fits h stands room =
+      set_runs target (Constant c) z lets d (value e z env J u) u s refl is sized le few ours h stands room
+  given_runs (FromLocal k) target e z J d lets u s is sized nodes le few ours fits h stands room =
+      set_runs target (FromLocal k) z lets d (value e z env J u) u s refl is sized le few ours h stands room
+  given_runs (FromWord k) target e z J d lets u s is sized nodes le few ours fits h stands room =
+      set_runs target (FromWord k) z lets d (value e z env J u) u s refl is sized le few ours h stands room
+  given_runs Computed target e z J d lets u s is sized nodes le few ours fits h stands room =
+      let v = value e z env J u in
+      let code = term_code e z J d Value in
+      let back = assign_code target ∷ [] in
+      let len : length (code ++ back) ≡ length code + 1 = length-append code back in
+      let c = term_runs program env last solid e z J d lets Value u s sized nodes (omega (arith, le, few)) le fits h
+      (stands_front program s.frame.slot code back stands) (omega (arith, len, room)) in
+      let t = c.new in
+      let there = here_is program env last solid t _ back c.slot (stands_back program s.frame.slot code back stands) in
+      let g = assign_runs target z lets d v u t sized le few ours c.fact.r0 c.fact.small
+      (still_holds env lets d u s t le h c.fact.same) there (omega (arith, len, room, c.slot)) in
+      record {
+        new = g.new;
+        run = chain program env s t g.new (length code) 1 (length (code ++ back)) c.run g.run (omega (arith, len));
+        slot = omega (arith, len, c.slot, g.slot);
+        fact = record {
+          holds = g.fact.holds;
+          kept = λ k from below. g.fact.kept k from below
+              ∙ c.fact.same.registers (7 + k) (omega arith) (omega (arith, below));
+        };
+      }
+
+  -- the targets before lead to w
+  also_runs : (steady : Bool) (x : Source) (e : Term) (target : Target) (first : List Insn) (z : Sizes) (J : List ℕ)
+      (d lets : ℕ) (u w : NodeState) (s : MachineState) → is_steady e ≡ steady → IsAt z lets w x (value e z env J w)
+      → IsSized z env → All (λ j. j < z.nodes) J → lets ≤ d
+      → d ≤ 3 → TargetFits target z.memory lets → Fits e z (length J) lets d → HasPlace steady d → Holds env lets u s
+      → Stands program s.frame.slot (also_code steady d x target (term_code e z J d Value) first)
+      → s.frame.slot + length (also_code steady d x target (term_code e z J d Value) first) ≤ last
+      → ((t : MachineState) → Holds env lets u t → Stands program t.frame.slot first
+      → t.frame.slot + length first ≤ last
+      → Leads t first (Assigned env lets (depth_behind steady d) w t))
+      → Leads s (also_code steady d x target (term_code e z J d Value) first)
+      (Assigned env lets d (assigned target (value e z env J u) w) s)
+  also_runs true x e target first z J d lets u w s steady at_w sized nodes le few ours fits free h stands room before =
+      let rest = given_code x target (term_code e z J d Value) in
+      let len : length (first ++ rest) ≡ length first + length rest = length-append first rest in
+      let f = before s h (stands_front program s.frame.slot first rest stands) (omega (arith, len, room)) in
+      let t = f.new in
+      let at_rest = here_is program env last solid t _ rest f.slot
+      (stands_back program s.frame.slot first rest stands) in
+      let g = given_runs x target e z J d lets w t at_w sized nodes le few ours fits f.fact.holds at_rest
+      (omega (arith, len, room, f.slot)) in
+      let same : value e z env J w ≡ value e z env J u = steady_is e z J w u steady in
+      record {
+        new = g.new;
+        run = chain program env s t g.new (length first) (length rest) (length (first ++ rest)) f.run g.run
+            (omega (arith, len));
+        slot = omega (arith, len, f.slot, g.slot);
+        fact = record {
+          holds = subst (λ (n : ℕ). Holds env lets (assigned target n w) g.new) same g.fact.holds;
+          kept = λ k from below. g.fact.kept k from below ∙ f.fact.kept k from below;
+        };
+      }
+  also_runs false y e target first z J d lets u w s steady at_w sized nodes le few ours fits free h stands room before =
+      let v = value e z env J u in
+      let p = register_number (place d) in
+      let number : p ≡ 7 + d = place_number d free in
+      let writable : (p == 10) ≡ false = ap (λ (n : ℕ). n == 10) number
+      ∙ ne_eqb (7 + d) 10 (λ q. omega (arith, q, free)) in
+      let code = term_code e z J d Value in
+      let back = copy R0 (place d) ∷ assign_code target ∷ [] in
+      let rest = copy (place d) R0 ∷ (first ++ back) in
+      let len : length (code ++ rest) ≡ length code + (1 + (length first + 2)) = omega
+      (arith, length-append code rest, length-append first back) in
+      let c = term_runs program env last solid e z J d lets Value u s sized nodes (omega (arith, le, few)) le fits h
+      (stands_front program s.frame.slot code rest stands) (omega (arith, len, room)) in
+      let t = c.new in
+      let at_rest = here_is program env last solid t _ rest c.slot
+      (stands_back program s.frame.slot code rest stands) in
+      let t1 = put t (t.frame.slot + 1) (place d) (Num v) in
+      let e1 : step program env t ≡ Ok (Running t1) = copies program env t (t.frame.slot + 1)
+      (place d) R0 v at_rest.0 refl (solid _ (omega (arith, len, room, c.slot))) c.fact.r0 c.fact.small writable in
+      let h1 : Holds env lets u t1 = holds_free env lets d v u t (t.frame.slot + 1) le free
+      (still_holds env lets d u s t le h c.fact.same) in
+      let f = before t1 h1 (stands_front program t1.frame.slot first back at_rest.1)
+      (omega (arith, len, room, c.slot)) in
+      let x = f.new in
+      let at_back = here_is program env last solid x _ back f.slot
+      (stands_back program t1.frame.slot first back at_rest.1) in
+      let kept : get x.frame.registers p ≡ Some (Num v) = ap (get x.frame.registers) number
+      ∙ f.fact.kept d le (omega arith) ∙ ap (get t1.frame.registers) (sym number)
+      ∙ put_same t.frame.registers p (Num v) in
+      let x1 = put x (x.frame.slot + 1) R0 (Num v) in
+      let e2 : step program env x ≡ Ok (Running x1) = copies program env x (x.frame.slot + 1) R0
+      (place d) v at_back.0 refl (solid _ (omega (arith, len, room, c.slot, f.slot))) kept c.fact.small refl in
+      let g = assign_runs target z lets d v w x1 sized le few ours (put_same x.frame.registers 0 (Num v)) c.fact.small
+      (holds_put env lets w x (x.frame.slot + 1) v R0 (omega arith) f.fact.holds) at_back.1
+      (omega (arith, len, room, c.slot, f.slot)) in
+      let n = length code in
+      let run1 = further program env s t t1 n (n + 1) c.run e1 (omega arith) in
+      let run2 = chain program env s t1 x (n + 1) (length first) (n + 1 + length first) run1 f.run (omega arith) in
+      let run3 = further program env s x x1 (n + 1 + length first) (n + 1 + length first + 1) run2 e2 (omega arith) in
+      record {
+        new = g.new;
+        run = chain program env s x1 g.new (n + 1 + length first + 1) 1 (length (code ++ rest)) run3 g.run
+            (omega (arith, len));
+        slot = omega (arith, len, c.slot, f.slot, g.slot);
+        fact = record {
+          holds = g.fact.holds;
+          kept = λ k from below. g.fact.kept k from below
+              ∙ put_other x.frame.registers 0 (Num v) (7 + k) (λ q. omega (arith, q))
+              ∙ f.fact.kept k from (omega (arith, below))
+              ∙ put_other t.frame.registers p (Num v) (7 + k) (λ q. omega (arith, q, number, below))
+              ∙ c.fact.same.registers (7 + k) (omega arith) (omega (arith, below));
+        };
+      }
+
+  assignment_runs : (a : Assignment) (z : Sizes) (J : List ℕ) (d lets : ℕ) (u : NodeState) (s : MachineState)
+      → IsSized z env → All (λ j. j < z.nodes) J → lets ≤ d → d ≤ 3 → AssignmentFits a z (length J) lets d
+      → Holds env lets u s → Stands program s.frame.slot (assignment_code a z J d)
+      → s.frame.slot + length (assignment_code a z J d) ≤ last
+      → Leads s (assignment_code a z J d) (Assigned env lets d (all_assigned a z env J u) s)
+  assignment_runs (One target e) z J d lets u s sized nodes le few fits h stands room =
+      given_runs (source_of e z J) target e z J d lets u s (source_is program env last solid e z J lets d u
+      sized nodes fits.1)
+      sized nodes le few fits.0 fits.1 h stands room
+  assignment_runs (Also' p front target e) z J d lets u s sized nodes le few fits h stands room =
+      let behind = depth_behind (is_steady e) d in
+      let w = all_assigned front z env J u in
+      let more : d ≤ behind = behind_more (is_steady e) d in
+      let deep : behind ≤ 3 = behind_few (is_steady e) d few fits.2 in
+      also_runs (is_steady e) (source_of e z J) e target (assignment_code front z J behind) z J d lets u w s refl
+      (source_is program env last solid e z J lets d w sized nodes fits.1) sized nodes le few fits.0 fits.1
+      fits.2 h stands room
+      (λ t k st l. assignment_runs front z J behind lets u t sized nodes (omega (arith, le, more)) deep fits.3 k st l)
+
+  send_all_runs : (x : Source) (e : Term) (z : Sizes) (J : List ℕ) (d : ℕ) (u : NodeState) (s : MachineState)
+      → IsAt z d u x (value e z env J u) → IsSized z env → All (λ j. j < z.nodes) J → d ≤ 3 →
+      (is_found x ≡ false → d < 3) → Fits e z (length J) d d → Holds env d u s
+      → Stands program s.frame.slot (send_all_code x d z.nodes (term_code e z J d Value))
+      → s.frame.slot + length (send_all_code x d z.nodes (term_code e z J d Value)) ≤ last
+      → Leads s (send_all_code x d z.nodes (term_code e z J d Value))
+      (Holds env d (sent_below z.nodes (value e z env J u) u))
+  send_all_runs (Constant c) e z J d u s is sized nodes few free fits h stands room =
+      found_sends (Constant c) z d (value e z env J u) u s refl is sized few h stands room
+  send_all_runs (FromLocal k) e z J d u s is sized nodes few free fits h stands room =
+      found_sends (FromLocal k) z d (value e z env J u) u s refl is sized few h stands room
+  send_all_runs (FromWord k) e z J d u s is sized nodes few free fits h stands room =
+      found_sends (FromWord k) z d (value e z env J u) u s refl is sized few h stands room
+  send_all_runs Computed e z J d u s is sized nodes few free fits h stands room =
+      let v = value e z env J u in
+      let codes = send_codes (FromLocal d) z.nodes in
+      let end = sent_below z.nodes v u in
+      let deep : d < 3 = free refl in
+      let number : register_number (place d) ≡ 7 + d = place_number d deep in
+      stored_runs e z J d d codes u s (Holds env d end) sized nodes few deep fits h stands room
+      (λ t to has st l.
+      let t1 = put t to (place d) (Num v) in
+      let h1 = still_holds env d d u s t (omega arith) h has.same in
+      let h2 : Holds env d u t1 = holds_free env d d v u t to (omega arith) deep h1 in
+      let kept : get t1.frame.registers (7 + d) ≡ Some (Num v) = ap (get t1.frame.registers) (sym number)
+      ∙ put_same t.frame.registers (register_number (place d)) (Num v) in
+      gets program env last solid t1 _ _ _ _ (Sending env d end t1) (Holds env d end) refl (omega arith)
+      (λ x k. k.holds)
+      (sends_run (FromLocal d) d v z.nodes u t1 t1 has.small (omega (arith, sized.nodes)) (near_self t1) h2 st l
+      (λ x near here l2. record {
+        fetched = copies program env x (x.frame.slot + 1) R2 (place d) v here refl (solid _ l2)
+            (ap (get x.frame.registers) number ∙ near.registers (7 + d) (omega arith) ∙ kept) has.small refl;
+        small = has.small;
+      })))
+
+  pub block_runs : (b : Statement) (z : Sizes) (J : List ℕ) (d : ℕ) (u : NodeState) (s : MachineState) → IsSized z env
+      → All (λ j. j < z.nodes) J → d ≤ 3 → BlockFits b z (length J) d → Holds env d u s
+      → Stands program s.frame.slot (block_code b z J d) → s.frame.slot + length (block_code b z J d) ≤ last
+      → Leads s (block_code b z J d) (Holds env d (after b z env d J u))
+  block_runs Nothing z J d u s sized nodes few fits h stands room = record {
+    new = s;
+    run = stays program env s;
+    slot = omega arith;
+    fact = h;
+  }
+  block_runs (Then' p a q b) z J d u s sized nodes few fits h stands room =
+      let front = block_code a z J d in
+      let back = block_code b z J d in
+      let len : length (front ++ back) ≡ length front + length back = length-append front back in
+      let c = block_runs a z J d u s sized nodes few fits.0 h (stands_front program s.frame.slot front back stands)
+      (omega (arith, len, room)) in
+      let there = here_is program env last solid c.new _ back c.slot
+      (stands_back program s.frame.slot front back stands) in
+      let g = block_runs b z J d (after a z env d J u) c.new sized nodes few fits.1 c.fact there
+      (omega (arith, len, room, c.slot)) in
+      record {
+        new = g.new;
+        run = chain program env s c.new g.new (length front) (length back) (length (front ++ back)) c.run g.run
+            (omega (arith, len));
+        slot = omega (arith, len, c.slot, g.slot);
+        fact = g.fact;
+      }
+  block_runs (Let' e p rest) z J d u s sized nodes few fits h stands room =
+      let v = value e z env J u in
+      let u1 = with_local d v u in
+      let code = block_code rest z J (d + 1) in
+      let end = after rest z env (d + 1) J u1 in
+      stored_runs e z J d d code u s (Holds env d end) sized nodes few fits.0 fits.1 h stands room
+      (λ t to has st l.
+      let t1 = put t to (place d) (Num v) in
+      let h1 = still_holds env d d u s t (omega arith) h has.same in
+      let h2 : Holds env (d + 1) u1 t1 = holds_local env d (d + 1) d v u t to fits.0 (λ j lt other. omega arith)
+      has.small h1 in
+      gets program env last solid t1 _ _ _ _ (Holds env (d + 1) end) (Holds env d end) refl (omega arith)
+      (λ x k. holds_less env d end x k)
+      (block_runs rest z J (d + 1) u1 t1 sized nodes (omega (arith, fits.0)) fits.2 h2 st l))
+  block_runs (Assign a) z J d u s sized nodes few fits h stands room =
+      let end = all_assigned a z env J u in
+      gets program env last solid s _ _ _ _ (Assigned env d d end s) (Holds env d end) refl (omega arith)
+      (λ x k. k.holds)
+      (assignment_runs a z J d d u s sized nodes (omega arith) few fits h stands room)
+  block_runs (If' t p a q b) z J d u s sized nodes few fits h stands room =
+      let ca = block_code a z J d in
+      let cb = block_code b z J d in
+      let v = value t z env J u in
+      let ua = after a z env d J u in
+      let ub = after b z env d J u in
+      let end = if truth v then ua else ub in
+      choice_runs program env last solid (λ far. term_code t z J d (Jump false far)) ca cb d v s
+      (Holds env d end) stands room
+      (λ far st l. term_runs program env last solid t z J d d (Jump false far) u s sized nodes few
+      (omega arith) fits.0 h st l)
+      (λ w same e st l. gets program env last solid w _ _ _ _ (Holds env d ua) (Holds env d end) refl (omega arith)
+      (λ x k. subst (λ (y : NodeState). Holds env d y x) (sym (cond-true (truth v) ua ub e)) k)
+      (block_runs a z J d u w sized nodes few fits.1 (still_holds env d d u s w (omega arith) h same) st l))
+      (λ w same e st l. gets program env last solid w _ _ _ _ (Holds env d ub) (Holds env d end) refl (omega arith)
+      (λ x k. subst (λ (y : NodeState). Holds env d y x) (sym (cond-false (truth v) ua ub e)) k)
+      (block_runs b z J d u w sized nodes few fits.2 (still_holds env d d u s w (omega arith) h same) st l))
+      (λ x to k. holds_at env d end x to k)
+  block_runs (For' p body) z J d u s sized nodes few fits h stands room =
+      each_runs d z.nodes z.nodes (λ j. block_code body z (J ++ j ∷ []) d)
+      (λ j w. after body z env d (J ++ j ∷ []) w) u s
+      (omega arith) h stands room
+      (λ j w t lt k st l.
+      let more : length J + 1 ≡ length (J ++ j ∷ []) = omega (arith, length-append J (j ∷ [])) in
+      block_runs body z (J ++ j ∷ []) d w t sized (All-push (λ i. i < z.nodes) J j nodes lt) few
+      (subst (λ (n : ℕ). BlockFits body z n d) more fits) k st l)
+  block_runs (SendAll e) z J d u s sized nodes few fits h stands room =
+      let v = value e z env J u in
+      send_all_runs (source_of e z J) e z J d u s (source_is program env last solid e z J d d u sized nodes fits.1)
+      sized nodes few
+      (λ q. computed_place (is_operand e) d (sym (found_same e z J) ∙ q) fits.0) fits.1 h stands room
+  block_runs (SendTo e k) z J d u s sized nodes few fits h stands room =
+      let v = value e z env J u in
+      let x = value k z env J u in
+      let code = term_code k z J (d + 1) Value in
+      let back = send_to_code d z.nodes in
+      let end = if nat_lt x z.nodes then with_sent x v u else u in
+      let number : register_number (place d) ≡ 7 + d = place_number d fits.0 in
+      let len : length (code ++ back) ≡ length code + 4 = length-append code back in
+      stored_runs e z J d d (code ++ back) u s (Holds env d end) sized nodes few fits.0 fits.1 h stands room
+      (λ t to has st l.
+      let t1 = put t to (place d) (Num v) in
+      let h1 = still_holds env d d u s t (omega arith) h has.same in
+      let h2 : Holds env d u t1 = holds_free env d d v u t to (omega arith) fits.0 h1 in
+      let c = term_runs program env last solid k z J (d + 1) d Value u t1 sized nodes few (omega arith) fits.2 h2
+      (stands_front program to code back st) (omega (arith, len, l)) in
+      let w = c.new in
+      let there = here_is program env last solid w _ back c.slot (stands_back program to code back st) in
+      let kept : get w.frame.registers (7 + d) ≡ Some (Num v) =
+      c.fact.same.registers (7 + d) (omega arith) (omega arith) ∙ ap (get t1.frame.registers) (sym number)
+      ∙ put_same t.frame.registers (register_number (place d)) (Num v) in
+      let h3 = still_holds env d (d + 1) u t1 w (omega arith) h2 c.fact.same in
+      let g = send_to_runs d v x z u w sized fits.0 has.small c.fact.small (record { holds = h3; place = kept })
+      c.fact.r0 there (omega (arith, len, l, c.slot)) in
+      record {
+        new = g.new;
+        run = chain program env t1 w g.new (length code) 4 (length (code ++ back)) c.run g.run (omega (arith, len));
+        slot = omega (arith, len, c.slot, g.slot);
+        fact = g.fact;
+      })

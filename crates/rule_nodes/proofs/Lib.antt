@@ -1,0 +1,11 @@
+pub mod Small
+pub mod Forms
+pub mod States
+pub mod Words
+pub mod TermRuns
+pub mod Blocks
+pub mod Whole
+pub mod Loops
+pub mod Typing
+pub mod TypedTerms
+pub mod TypedBlocks

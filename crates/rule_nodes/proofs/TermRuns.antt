@@ -1,0 +1,1339 @@
+-- The runs of terms.
+use Rattle.std.proofs.Common.{◌≡◌, ◌≢◌, ℕ, zero, suc, ◌+◌, ◌%◌, ◌*◌, ◌^◌, ◌<◌, ◌≤◌, ◌==◌, Bool, true, false, not, if◌then◌else◌, ◌&&◌, ◌||◌, ◌⊎◌, nat_lt, List, [], ◌∷◌, ◌++◌, length, Some, Ok, All, pos, slice_index, slice_get, refl, sym, ap, ◌∙◌, arith, subst, inl, inr, length-append}
+use Rattle.std.specs.Int.{w32, w64, cast_signed, cast_unsigned}
+use Rattle.std.specs.FinMap.{get}
+use Rattle.std.proofs.lemmas.Bool.{cases_Bool, ne_eqb, ltb-true, le-leb, cond-true, cond-false, and_parts}
+use Rattle.std.proofs.lemmas.List.Elements.{All-get_or, All-push}
+use Rattle.node_env.specs.Env.{Setting, received}
+use Rattle.bpf_insn.specs.declared.forms.Reg.{Reg}
+use Rattle.bpf_insn.specs.declared.forms.Reg.TheVariants.{R0, R1, R6}
+use Rattle.bpf_insn.specs.declared.forms.Width.TheVariants.{W32}
+use Rattle.bpf_insn.specs.declared.forms.AluOp.TheVariants.{Add}
+use Rattle.bpf_insn.specs.declared.forms.Size.TheVariants as size
+use Rattle.bpf_insn.specs.declared.forms.Cond.{Cond}
+use Rattle.bpf_insn.specs.declared.forms.Operand.{Operand}
+use Rattle.bpf_insn.specs.declared.forms.Operand.TheVariants as operand
+use Rattle.bpf_insn.specs.declared.forms.Insn.{Insn}
+use Rattle.bpf_insn.specs.declared.forms.Insn.TheVariants as i
+use Rattle.bpf_insn.specs.Registers.{register_number}
+use Rattle.bpf_insn.specs.Arithmetic.{holds}
+use Rattle.bpf_insn.specs.Programs.{insn_at}
+use Rattle.bpf_insn.specs.Edges.{BeginsAt}
+use Rattle.bpf_machine.specs.declared.word.Word.TheVariants.{Num}
+use Rattle.bpf_machine.specs.Machine.{MachineState, Running}
+use Rattle.bpf_machine.specs.Step.{operand_of, number_at, step}
+use Rattle.clock_nodes.proofs.Places.{Stands}
+use Rattle.clock_nodes.proofs.Forms.{put_same, put_other, put, at, called, goes, tosses, receives, loads, moves}
+use Rattle.clock_nodes.proofs.Counting.{received_fits}
+use Rattle.rule_nodes.specs.declared.syntax.Sizes.{Sizes}
+use Rattle.rule_nodes.specs.declared.syntax.Operation.{Operation}
+use Rattle.rule_nodes.specs.declared.syntax.Comparison.{Comparison}
+use Rattle.rule_nodes.specs.declared.syntax.Comparison.TheVariants.{NotEqual, Less}
+use Rattle.rule_nodes.specs.declared.syntax.Operator.{Operator}
+use Rattle.rule_nodes.specs.declared.syntax.Operator.TheVariants.{Compute, Compare}
+use Rattle.rule_nodes.specs.declared.syntax.Connective.{Connective}
+use Rattle.rule_nodes.specs.declared.syntax.Connective.TheVariants.{And, Or}
+use Rattle.rule_nodes.specs.declared.syntax.Purpose.{Purpose}
+use Rattle.rule_nodes.specs.declared.syntax.Purpose.TheVariants.{Value, Jump}
+use Rattle.rule_nodes.specs.declared.syntax.Source.{Source}
+use Rattle.rule_nodes.specs.declared.syntax.Source.TheVariants.{Constant, FromLocal, FromWord, Computed}
+use Rattle.rule_nodes.specs.declared.syntax.Term.{Term}
+use Rattle.rule_nodes.specs.declared.syntax.Term.TheVariants.{Number, Nodes, Faults, Modulus, Me, Coin, LoopNode, Local, Word, Message', Binary', Logical', Not', Choice', Count'}
+use Rattle.rule_nodes.specs.Meaning.{NodeState, value, word_at, apply, compare, number_of, truth, operate, combine, message_from, count_below}
+use Rattle.rule_nodes.specs.Operands.{is_constant, is_fetched, is_operand, constant_number, depth_behind, fetched_source, source_of}
+use Rattle.rule_nodes.specs.Fits.{HasPlace, Fits}
+use Rattle.rule_nodes.specs.Code.{place, set_number, copy, alu_of, cond_of, jump_on, jump_by, jump_at, truth_code, by_value, by_test, two_code, get_code, operand_code, load_code, jump_place, by_operator, left_code, binary_code, choice_code, decides, both_far, both_code, message_code, message_by, mirror, set_node, count_codes, count_code, term_code}
+use Rattle.rule_nodes.proofs.Small.{low, imm_low, mirrored, apply_small, operate_small, taken, compared, truth_of, jump_compared, jump_by_zero, not_not}
+use Rattle.rule_nodes.proofs.Words.{word_loaded, word_small}
+use Rattle.rule_nodes.proofs.Forms.{sets_number, copies, operates, counts, passes, jumps, numbers, Reaches, stays, once, chain, further}
+use Rattle.rule_nodes.proofs.States.{stands_front, stands_back, place_number, Same, same_self, same_then, same_less, same_at, same_put, same_call, Alike, same_alike, free_place, Holds, still_holds, IsSized}
+
+abbrev pub hop : Bool → ℕ → ℕ
+hop hit far = if hit then far else 0
+
+-- how far beyond its end a test leads
+abbrev pub landing : Bool → ℕ → ℕ → ℕ
+landing when v far = hop (taken when v) far
+
+pub landing_small : (when : Bool) (v far : ℕ) → landing when v far ≤ far
+landing_small when v far = elim (cases_Bool (taken when v)) [
+  | inl e ↦ rw e (omega arith)
+  | inr e ↦ rw e (omega arith)
+]
+
+abbrev pub beyond : Purpose → ℕ
+beyond Value = 0
+beyond (Jump when far) = far
+
+-- a state with this number in r0
+pub record Has (d : ℕ) (s : MachineState) (v : ℕ) (t : MachineState) : Type 0 where
+  pub same : Same d s t
+  pub r0 : get t.frame.registers 0 ≡ Some (Num v)
+  pub small : v < 2 ^ 32
+
+-- and this one in r1
+pub record HasTwo (d : ℕ) (s : MachineState) (a b : ℕ) (t : MachineState) : Type 0 where
+  pub same : Same d s t
+  pub r0 : get t.frame.registers 0 ≡ Some (Num a)
+  pub r1 : get t.frame.registers 1 ≡ Some (Num b)
+  pub left : a < 2 ^ 32
+  pub right : b < 2 ^ 32
+
+-- and this one where an operand says
+pub record HasPair (src : Operand) (d : ℕ) (s : MachineState) (a b : ℕ) (t : MachineState) : Type 0 where
+  pub same : Same d s t
+  pub r0 : get t.frame.registers 0 ≡ Some (Num a)
+  pub raw : ℕ
+  pub other : operand_of t.frame src ≡ Ok (Num raw)
+  pub low_bits : raw % 2 ^ 32 ≡ b
+  pub left : a < 2 ^ 32
+  pub right : b < 2 ^ 32
+
+has_pair : (d : ℕ) (s : MachineState) (a b : ℕ) (t : MachineState) → HasTwo d s a b t
+    → HasPair (operand.Reg R1) d s a b t
+has_pair d s a b t h = let e = h.r1 in record {
+  same = h.same;
+  r0 = h.r0;
+  raw = b;
+  other = rw e refl;
+  low_bits = low b h.right;
+  left = h.left;
+  right = h.right;
+}
+
+-- a source has this number
+abbrev pub IsAt : Sizes → ℕ → NodeState → Source → ℕ → Type 0
+IsAt z lets u (Constant c) v = (c ≡ v) × (c < 2 ^ 32)
+IsAt z lets u (FromLocal k) v = (k < lets) × (u.locals k ≡ v)
+IsAt z lets u (FromWord k) v = (4 * k + 4 ≤ z.memory) × (word_at k u.memory ≡ v)
+IsAt z lets u Computed v = Unit {0}
+
+abbrev pub is_found : Source → Bool
+is_found (Constant c) = true
+is_found (FromLocal k) = true
+is_found (FromWord k) = true
+is_found Computed = false
+
+has_less : (d e v : ℕ) (s t : MachineState) → d ≤ e → Has e s v t → Has d s v t
+has_less d e v s t le h = record {
+  same = record {
+    registers = λ k a b. h.same.registers k a (omega (arith, b, le));
+    memory = h.same.memory;
+    sent = h.same.sent;
+  };
+  r0 = h.r0;
+  small = h.small;
+}
+
+-- the number of an operand is found, and of any other term it is computed
+fetched_same : (t : Term) → is_found (fetched_source t) ≡ is_fetched t
+fetched_same (Local k) = refl
+fetched_same (Word k) = refl
+fetched_same t = refl
+
+pub found_same : (t : Term) (z : Sizes) (J : List ℕ) → is_found (source_of t z J) ≡ is_operand t
+found_same t z J =
+    let c = Constant (constant_number t z J) in
+    elim (cases_Bool (is_constant t)) [
+      | inl so ↦
+          let operand : is_operand t ≡ true = rw so refl in
+          ap is_found (cond-true (is_constant t) c (fetched_source t) so) ∙ sym operand
+      | inr other ↦
+          let operand : is_operand t ≡ is_fetched t = rw other refl in
+          ap is_found (cond-false (is_constant t) c (fetched_source t) other) ∙ fetched_same t ∙ sym operand
+    ]
+
+pub behind_more : (steady : Bool) (d : ℕ) → d ≤ depth_behind steady d
+behind_more true d = omega arith
+behind_more false d = omega arith
+
+pub behind_few : (steady : Bool) (d : ℕ) → d ≤ 3 → HasPlace steady d → depth_behind steady d ≤ 3
+behind_few true d few free = few
+behind_few false d few free = omega (arith, free)
+
+pub free_beside : (a b : Bool) (d : ℕ) → a ≡ false → b ≡ false → HasPlace (a || b) d
+    → (d < 3) × (depth_behind a d ≡ d + 1)
+free_beside false false d e f free = (free, refl)
+free_beside true b d e f free = absurd (let no : true ≡ false = e in cc)
+free_beside false true d e f free = absurd (let no : true ≡ false = f in cc)
+
+pub same_depth : (a : Bool) (d : ℕ) → a ≡ true → depth_behind a d ≡ d
+same_depth true d e = refl
+same_depth false d e = absurd (let no : false ≡ true = e in cc)
+
+-- r0 is free
+r0_free : (d k : ℕ) → 5 < k → k < 7 + d → k ≢ 0
+r0_free d k a b e = omega arith
+
+r1_free : (d k : ℕ) → 5 < k → k < 7 + d → k ≢ 1
+r1_free d k a b e = omega arith
+
+module _ (program : List Insn) (env : Setting) (last : ℕ) (solid : (k : ℕ) → k ≤ last → BeginsAt program k) where
+  -- the state leads, in at most `limit` steps, to a state at this slot with this property
+  pub record Gets (s : MachineState) (to limit : ℕ) (P : MachineState → Type 0) : Type 0 where
+    pub new : MachineState
+    pub run : Reaches program env s new limit
+    pub slot : new.frame.slot ≡ to
+    pub fact : P new
+
+  pub gets : (s : MachineState) (to to2 limit limit2 : ℕ) (P Q : MachineState → Type 0) → to ≡ to2 → limit ≤ limit2
+      → ((t : MachineState) → P t → Q t) → Gets s to limit P → Gets s to2 limit2 Q
+  gets s to to2 limit limit2 P Q e le f g = record {
+    new = g.new;
+    run = chain program env s g.new g.new limit 0 limit2 g.run (stays program env g.new) (omega arith);
+    slot = g.slot ∙ e;
+    fact = f g.new g.fact;
+  }
+
+  pub here_is : (t : MachineState) (to : ℕ) (code : List Insn) → t.frame.slot ≡ to → Stands program to code
+      → Stands program t.frame.slot code
+  here_is t to code e h = subst (λ (n : ℕ). Stands program n code) (sym e) h
+
+  -- ---- one instruction
+
+  pub number_runs : (d v : ℕ) (s : MachineState) → v < 2 ^ 32 → Stands program s.frame.slot (set_number R0 v ∷ [])
+      → s.frame.slot + 1 ≤ last → Gets s (s.frame.slot + 1) 1 (Has d s v)
+  number_runs d v s small stands le = record {
+    new = put s (s.frame.slot + 1) R0 (Num v);
+    run = once program env s _ (sets_number program env s (s.frame.slot + 1) R0 v stands.0 refl
+        (solid _ le) small refl);
+    slot = refl;
+    fact = record {
+      same = same_put d s s (s.frame.slot + 1) R0 (Num v) (r0_free d) (same_self d s);
+      r0 = put_same s.frame.registers 0 (Num v);
+      small = small;
+    };
+  }
+
+  pub copy_runs : (d v : ℕ) (s : MachineState) (src : Reg) → v < 2 ^ 32
+      → get s.frame.registers (register_number src) ≡ Some (Num v) → Stands program s.frame.slot (copy R0 src ∷ [])
+      → s.frame.slot + 1 ≤ last → Gets s (s.frame.slot + 1) 1 (Has d s v)
+  copy_runs d v s src small e stands le = record {
+    new = put s (s.frame.slot + 1) R0 (Num v);
+    run = once program env s _ (copies program env s (s.frame.slot + 1) R0 src v stands.0 refl
+        (solid _ le) e small refl);
+    slot = refl;
+    fact = record {
+      same = same_put d s s (s.frame.slot + 1) R0 (Num v) (r0_free d) (same_self d s);
+      r0 = put_same s.frame.registers 0 (Num v);
+      small = small;
+    };
+  }
+
+  -- a jump by a condition, after a run
+  pub branch_leads : (s t : MachineState) (k far : ℕ) (test : Cond) (dst : Reg) (src : Operand) (a b : ℕ) (hit : Bool)
+      → Reaches program env s t k → insn_at program t.frame.slot ≡ Some (i.Branch test W32 dst src (pos far))
+      → get t.frame.registers (register_number dst) ≡ Some (Num a) → operand_of t.frame src ≡ Ok (Num b)
+      → holds test W32 a b ≡ hit → t.frame.slot + 1 + far ≤ last
+      → Gets s (t.frame.slot + 1 + hop hit far) (k + 1) (Alike t)
+  branch_leads s t k far test dst src a b true run here e f h le =
+      let to = t.frame.slot + 1 + far in
+      let one : step program env t ≡ Ok (Running (at t to)) = jumps program env t to test dst src far a b here refl
+      (solid to le) e f h in
+      record {
+        new = at t to;
+        run = further program env s t (at t to) k (k + 1) run one (omega arith);
+        slot = refl;
+        fact = record { registers = refl; memory = refl; sent = refl };
+      }
+  branch_leads s t k far test dst src a b false run here e f h le =
+      let to = t.frame.slot + 1 in
+      let one : step program env t ≡ Ok (Running (at t to)) = passes program env t to test dst src far a b here refl
+      (solid to (omega (arith, le))) e f h in
+      record {
+        new = at t to;
+        run = further program env s t (at t to) k (k + 1) run one (omega arith);
+        slot = omega arith;
+        fact = record { registers = refl; memory = refl; sent = refl };
+      }
+
+  pub branch_runs : (d : ℕ) (s t : MachineState) (k far : ℕ) (test : Cond) (dst : Reg) (src : Operand) (a b : ℕ)
+      (hit : Bool) → Reaches program env s t k → Same d s t
+      → insn_at program t.frame.slot ≡ Some (i.Branch test W32 dst src (pos far))
+      → get t.frame.registers (register_number dst) ≡ Some (Num a) → operand_of t.frame src ≡ Ok (Num b)
+      → holds test W32 a b ≡ hit → t.frame.slot + 1 + far ≤ last
+      → Gets s (t.frame.slot + 1 + hop hit far) (k + 1) (Same d s)
+  branch_runs d s t k far test dst src a b hit run same here e f h le =
+      gets s _ _ _ _ (Alike t) (Same d s) refl (omega arith) (λ u alike. same_alike d s t u same alike)
+      (branch_leads s t k far test dst src a b hit run here e f h le)
+
+  -- ---- what a term is computed for
+
+  abbrev pub Reached : Purpose → ℕ → MachineState → ℕ → ℕ → ℕ → Type 0
+  Reached Value d s behind limit v = Gets s behind limit (Has d s v)
+  Reached (Jump when far) d s behind limit v = Gets s (behind + landing when v far) limit (Same d s)
+
+  pub by_value_runs : (purpose : Purpose) (code : List Insn) (d v : ℕ) (s : MachineState)
+      → Stands program s.frame.slot (by_value purpose code)
+      → s.frame.slot + length (by_value purpose code) + beyond purpose ≤ last
+      → (Stands program s.frame.slot code → s.frame.slot + length code ≤ last
+      → Gets s (s.frame.slot + length code) (length code) (Has d s v))
+      → Reached purpose d s (s.frame.slot + length (by_value purpose code)) (length (by_value purpose code)) v
+  by_value_runs Value code d v s stands le run = run stands (omega (arith, le))
+  by_value_runs (Jump when far) code d v s stands le run =
+      let j = jump_at (jump_on when NotEqual) 0 far in
+      let len : length (code ++ j ∷ []) ≡ length code + 1 = length-append code (j ∷ []) in
+      let c = run (stands_front program s.frame.slot code (j ∷ []) stands) (omega (arith, len, le)) in
+      let here : insn_at program c.new.frame.slot ≡ Some j = ap (insn_at program) c.slot
+      ∙ (stands_back program s.frame.slot code (j ∷ []) stands).0 in
+      let end = branch_runs d s c.new (length code) far (cond_of (jump_on when NotEqual)) R0 (operand.Imm (pos 0)) v 0
+      (taken when v) c.run c.fact.same here c.fact.r0 refl (jump_by_zero when v c.fact.small)
+      (omega (arith, len, le, c.slot)) in
+      gets s _ _ _ _ (Same d s) (Same d s) (omega (arith, len, c.slot)) (omega (arith, len)) (λ t h. h) end
+
+  -- the runs of a test, for each jump
+  abbrev pub TestRuns : (Bool → ℕ → List Insn) → ℕ → ℕ → MachineState → Type 0
+  TestRuns test d v s = (when : Bool) (far : ℕ) → Stands program s.frame.slot (test when far)
+      → s.frame.slot + length (test when far) + far ≤ last
+      → Gets s (s.frame.slot + length (test when far) + landing when v far) (length (test when far)) (Same d s)
+
+  -- the number of a test, from its two ends
+  truth_runs : (d : ℕ) (b : Bool) (s t : MachineState) (to limit : ℕ) → Reaches program env s t limit → Same d s t
+      → t.frame.slot ≡ to + landing false (number_of b) 2 → Stands program to truth_code → to + 3 ≤ last
+      → Gets s (to + 3) (limit + 3) (Has d s (number_of b))
+  truth_runs d true s t to limit run same e stands le =
+      let here : t.frame.slot ≡ to = omega (arith, e) in
+      let t1 = put t (to + 1) R0 (Num 1) in
+      let t2 = at t1 (to + 3) in
+      let e1 : step program env t ≡ Ok (Running t1) = sets_number program env t (to + 1) R0 1
+      (ap (insn_at program) here ∙ stands.0) (omega (arith, here)) (solid _ (omega (arith, le))) (omega arith) refl in
+      let e2 : step program env t1 ≡ Ok (Running t2) = goes program env t1 (to + 3) 1 stands.1.0
+      (omega arith) (solid _ le) in
+      record {
+        new = t2;
+        run = further program env s t1 t2 (limit + 1) (limit + 3)
+            (further program env s t t1 limit (limit + 1) run e1 (omega arith)) e2 (omega arith);
+        slot = refl;
+        fact = record {
+          same = same_at d s t1 (to + 3) (same_put d s t (to + 1) R0 (Num 1) (r0_free d) same);
+          r0 = put_same t.frame.registers 0 (Num 1);
+          small = omega arith;
+        };
+      }
+  truth_runs d false s t to limit run same e stands le =
+      let here : t.frame.slot ≡ to + 1 + 1 = omega (arith, e) in
+      let t1 = put t (to + 3) R0 (Num 0) in
+      let e1 : step program env t ≡ Ok (Running t1) = sets_number program env t (to + 3) R0 0
+      (ap (insn_at program) here ∙ stands.1.1.0) (omega (arith, here)) (solid _ le) (omega arith) refl in
+      record {
+        new = t1;
+        run = further program env s t t1 limit (limit + 3) run e1 (omega arith);
+        slot = refl;
+        fact = record {
+          same = same_put d s t (to + 3) R0 (Num 0) (r0_free d) same;
+          r0 = put_same t.frame.registers 0 (Num 0);
+          small = omega arith;
+        };
+      }
+
+  pub by_test_runs : (purpose : Purpose) (test : Bool → ℕ → List Insn) (d : ℕ) (b : Bool) (s : MachineState)
+      → Stands program s.frame.slot (by_test purpose test)
+      → s.frame.slot + length (by_test purpose test) + beyond purpose ≤ last
+      → TestRuns test d (number_of b) s
+      → Reached purpose d s (s.frame.slot + length (by_test purpose test)) (length (by_test purpose test)) (number_of b)
+  by_test_runs Value test d b s stands le run =
+      let code = test false 2 in
+      let len : length (code ++ truth_code) ≡ length code + 3 = length-append code truth_code in
+      let c = run false 2 (stands_front program s.frame.slot code truth_code stands) (omega (arith, len, le)) in
+      let end = truth_runs d b s c.new (s.frame.slot + length code) (length code) c.run c.fact c.slot
+      (stands_back program s.frame.slot code truth_code stands) (omega (arith, len, le)) in
+      gets s _ _ _ _ (Has d s (number_of b)) (Has d s (number_of b)) (omega (arith, len)) (omega (arith, len))
+      (λ t h. h) end
+  by_test_runs (Jump when far) test d b s stands le run = run when far stands le
+
+  -- ---- two numbers
+
+  pub two_runs : (d : ℕ) (left right : List Insn) (s : MachineState) (a b : ℕ) → d < 3
+      → Stands program s.frame.slot (two_code d left right) → s.frame.slot + length (two_code d left right) ≤ last
+      → (Stands program s.frame.slot left → s.frame.slot + length left ≤ last
+      → Gets s (s.frame.slot + length left) (length left) (Has d s a))
+      → ((t : MachineState) → Same d s t → Stands program t.frame.slot right → t.frame.slot + length right ≤ last
+      → Gets t (t.frame.slot + length right) (length right) (Has (d + 1) t b))
+      → Gets s (s.frame.slot + length (two_code d left right)) (length (two_code d left right)) (HasTwo d s a b)
+  two_runs d left right s a b few stands le first second =
+      let p = register_number (place d) in
+      let number : p ≡ 7 + d = place_number d few in
+      let free : (p == 10) ≡ false = ap (λ (n : ℕ). n == 10) number ∙ ne_eqb (7 + d) 10 (λ e. omega arith) in
+      let back = copy R1 R0 ∷ copy R0 (place d) ∷ [] in
+      let rest = copy (place d) R0 ∷ (right ++ back) in
+      let len : length (left ++ rest) ≡ length left + (1 + (length right + 2)) = omega
+      (arith, length-append left rest, length-append right back) in
+      let c = first (stands_front program s.frame.slot left rest stands) (omega (arith, len, le)) in
+      let t = c.new in
+      let at_rest = here_is t _ rest c.slot (stands_back program s.frame.slot left rest stands) in
+      let t1 = put t (t.frame.slot + 1) (place d) (Num a) in
+      let e1 : step program env t ≡ Ok (Running t1) = copies program env t (t.frame.slot + 1) (place d) R0 a at_rest.0
+      refl (solid _ (omega (arith, len, le, c.slot))) c.fact.r0 c.fact.small free in
+      let same1 : Same d s t1 = same_put d s t (t.frame.slot + 1) (place d) (Num a) (free_place d d few (omega arith))
+      c.fact.same in
+      let g = second t1 same1 (stands_front program t1.frame.slot right back at_rest.1)
+      (omega (arith, len, le, c.slot)) in
+      let w = g.new in
+      let at_back = here_is w _ back g.slot (stands_back program t1.frame.slot right back at_rest.1) in
+      let kept : get w.frame.registers p ≡ Some (Num a) = g.fact.same.registers p (omega arith) (omega arith)
+      ∙ put_same t.frame.registers p (Num a) in
+      let w1 = put w (w.frame.slot + 1) R1 (Num b) in
+      let w2 = put w1 (w.frame.slot + 1 + 1) R0 (Num a) in
+      let e2 : step program env w ≡ Ok (Running w1) = copies program env w (w.frame.slot + 1) R1 R0 b at_back.0
+      refl (solid _ (omega (arith, len, le, c.slot, g.slot))) g.fact.r0 g.fact.small refl in
+      let kept1 : get w1.frame.registers p ≡ Some (Num a) = put_other w.frame.registers 1 (Num b) p (λ e. omega arith)
+      ∙ kept in
+      let e3 : step program env w1 ≡ Ok (Running w2) = copies program env w1 (w.frame.slot + 1 + 1) R0 (place d) a
+      at_back.1.0 refl (solid _ (omega (arith, len, le, c.slot, g.slot))) kept1 c.fact.small refl in
+      let run1 = further program env s t t1 (length left) (length left + 1) c.run e1 (omega arith) in
+      let run2 = chain program env s t1 w (length left + 1) (length right) (length left + 1 + length right) run1 g.run
+      (omega arith) in
+      let run3 = further program env s w w1 _ (length left + 1 + length right + 1) run2 e2 (omega arith) in
+      let run4 = further program env s w1 w2 _ (length (left ++ rest)) run3 e3 (omega (arith, len)) in
+      let same2 : Same d s w = same_then d s t1 w same1 (same_less d t1 w g.fact.same) in
+      record {
+        new = w2;
+        run = run4;
+        slot = omega (arith, len, c.slot, g.slot);
+        fact = record {
+          same = same_put d s w1 (w.frame.slot + 1 + 1) R0 (Num a) (r0_free d)
+              (same_put d s w (w.frame.slot + 1) R1 (Num b) (r1_free d) same2);
+          r0 = put_same w1.frame.registers 0 (Num a);
+          r1 = put_other w1.frame.registers 0 (Num a) 1 (λ e. omega arith) ∙ put_same w.frame.registers 1 (Num b);
+          left = c.fact.small;
+          right = g.fact.small;
+        };
+      }
+
+  -- ---- choices
+
+  pub choice_runs : (test : ℕ → List Insn) (a b : List Insn) (d v : ℕ) (s : MachineState) (P : MachineState → Type 0)
+      → Stands program s.frame.slot (choice_code test a b) → s.frame.slot + length (choice_code test a b) ≤ last
+      → ((far : ℕ) → Stands program s.frame.slot (test far) → s.frame.slot + length (test far) + far ≤ last
+      → Gets s (s.frame.slot + length (test far) + landing false v far) (length (test far)) (Same d s))
+      → ((t : MachineState) → Same d s t → truth v ≡ true → Stands program t.frame.slot a
+      → t.frame.slot + length a ≤ last → Gets t (t.frame.slot + length a) (length a) P)
+      → ((t : MachineState) → Same d s t → truth v ≡ false → Stands program t.frame.slot b
+      → t.frame.slot + length b ≤ last → Gets t (t.frame.slot + length b) (length b) P)
+      → ((t : MachineState) (to : ℕ) → P t → P (at t to))
+      → Gets s (s.frame.slot + length (choice_code test a b)) (length (choice_code test a b)) P
+  choice_runs test a b d v s P stands le tests first second blind =
+      let far = length a + 1 in
+      let code = test far in
+      let skip = i.Ja (pos (length b)) ∷ b in
+      let rest = a ++ skip in
+      let len : length (code ++ rest) ≡ length code + (length a + (1 + length b)) = omega
+      (arith, length-append code rest, length-append a skip) in
+      let c = tests far (stands_front program s.frame.slot code rest stands) (omega (arith, len, le)) in
+      let after = stands_back program s.frame.slot code rest stands in
+      elim (cases_Bool (truth v)) [
+        | inl so ↦
+            let none : landing false v far ≡ 0 = rw so refl in
+            let slot : c.new.frame.slot ≡ s.frame.slot + length code = omega (arith, c.slot, none) in
+            let there = here_is c.new _ rest slot after in
+            let g = first c.new c.fact so (stands_front program c.new.frame.slot a skip there)
+            (omega (arith, len, le, slot)) in
+            let t = g.new in
+            let end = t.frame.slot + 1 + length b in
+            let jump = here_is t _ skip g.slot (stands_back program c.new.frame.slot a skip there) in
+            let e : step program env t ≡ Ok (Running (at t end)) = goes program env t end (length b) jump.0 refl
+            (solid _ (omega (arith, len, le, slot, g.slot))) in
+            let run = chain program env s c.new t (length code) (length a) (length code + length a) c.run g.run
+            (omega arith) in
+            record {
+              new = at t end;
+              run = further program env s t (at t end) _ (length (code ++ rest)) run e (omega (arith, len));
+              slot = omega (arith, len, slot, g.slot);
+              fact = blind t end g.fact;
+            }
+        | inr other ↦
+            let all : landing false v far ≡ far = rw other refl in
+            let slot : c.new.frame.slot ≡ s.frame.slot + length code + length a + 1 = omega (arith, c.slot, all) in
+            let there = here_is c.new _ b slot (stands_back program (s.frame.slot + length code) a skip after).1 in
+            let g = second c.new c.fact other there (omega (arith, len, le, slot)) in
+            record {
+              new = g.new;
+              run = chain program env s c.new g.new (length code) (length b) (length (code ++ rest)) c.run g.run
+                  (omega (arith, len));
+              slot = omega (arith, len, slot, g.slot);
+              fact = g.fact;
+            }
+      ]
+
+  -- ---- conditions of two
+
+  landing_hit : (alone : Bool) (v far : ℕ) → truth v ≡ alone → landing alone v far ≡ far
+  landing_hit true v far e = rw e refl
+  landing_hit false v far e = rw e refl
+
+  landing_miss : (alone : Bool) (v far : ℕ) → truth v ≡ not alone → landing alone v far ≡ 0
+  landing_miss true v far e = rw e refl
+  landing_miss false v far e = rw e refl
+
+  far_decided : (alone when : Bool) (n far v : ℕ) → truth v ≡ alone → both_far alone when n far ≡ n + landing when v far
+  far_decided true true n far v e = rw e refl
+  far_decided true false n far v e = rw e (omega arith)
+  far_decided false true n far v e = rw e (omega arith)
+  far_decided false false n far v e = rw e refl
+
+  far_small : (alone when : Bool) (n far : ℕ) → both_far alone when n far ≤ n + far
+  far_small true true n far = omega arith
+  far_small true false n far = omega arith
+  far_small false true n far = omega arith
+  far_small false false n far = omega arith
+
+  landing_same : (when : Bool) (v w far : ℕ) → truth v ≡ truth w → landing when v far ≡ landing when w far
+  landing_same true v w far e = ap (λ (b : Bool). if b then far else 0) e
+  landing_same false v w far e = ap (λ (b : Bool). if not b then far else 0) e
+
+  from_not : (b : Bool) (alone : Bool) → (b ≡ alone) ⊎ (b ≡ not alone)
+  from_not true true = inl refl
+  from_not true false = inr refl
+  from_not false true = inr refl
+  from_not false false = inl refl
+
+  decided : (c : Connective) (x y : Bool) → x ≡ decides c → combine c x y ≡ decides c
+  decided And x y e = ap (λ (b : Bool). b && y) e
+  decided Or x y e = ap (λ (b : Bool). b || y) e
+
+  undecided : (c : Connective) (x y : Bool) → x ≡ not (decides c) → combine c x y ≡ y
+  undecided And x y e = ap (λ (b : Bool). b && y) e
+  undecided Or x y e = ap (λ (b : Bool). b || y) e
+
+  pub both_runs : (alone when : Bool) (far : ℕ) (left : Bool → ℕ → List Insn) (right : List Insn) (d va vb v : ℕ)
+      (s : MachineState) → Stands program s.frame.slot (both_code alone when far left right)
+      → s.frame.slot + length (both_code alone when far left right) + far ≤ last
+      → TestRuns left d va s
+      → ((t : MachineState) → Same d s t → Stands program t.frame.slot right → t.frame.slot + length right + far ≤ last
+      → Gets t (t.frame.slot + length right + landing when vb far) (length right) (Same d t))
+      → (truth va ≡ alone → truth v ≡ alone) → (truth va ≡ not alone → truth v ≡ truth vb)
+      → Gets s (s.frame.slot + length (both_code alone when far left right) + landing when v far)
+      (length (both_code alone when far left right)) (Same d s)
+  both_runs alone when far left right d va vb v s stands le first second single other =
+      let w = both_far alone when (length right) far in
+      let code = left alone w in
+      let len : length (code ++ right) ≡ length code + length right = length-append code right in
+      let w_few : w ≤ length right + far = far_small alone when (length right) far in
+      let c = first alone w (stands_front program s.frame.slot code right stands) (omega (arith, len, le, w_few)) in
+      elim (from_not (truth va) alone) [
+        | inl e ↦
+            let hit : landing alone va w ≡ w = landing_hit alone va w e in
+            let end : w ≡ length right + landing when v far = far_decided alone when (length right) far v (single e) in
+            gets s _ _ _ _ (Same d s) (Same d s) (omega (arith, len, hit, end)) (omega (arith, len)) (λ t h. h) c
+        | inr e ↦
+            let miss : landing alone va w ≡ 0 = landing_miss alone va w e in
+            let slot : c.new.frame.slot ≡ s.frame.slot + length code = omega (arith, c.slot, miss) in
+            let there = here_is c.new _ right slot (stands_back program s.frame.slot code right stands) in
+            let g = second c.new c.fact there (omega (arith, len, le, slot)) in
+            let same : landing when v far ≡ landing when vb far = landing_same when v vb far (other e) in
+            record {
+              new = g.new;
+              run = chain program env s c.new g.new (length code) (length right) (length (code ++ right)) c.run g.run
+                  (omega (arith, len));
+              slot = omega (arith, len, slot, g.slot, same);
+              fact = same_then d s c.new g.new c.fact g.fact;
+            }
+      ]
+
+  -- ---- messages
+
+  pub message_runs : (z : Sizes) (d x : ℕ) (s t : MachineState) (k : ℕ) → IsSized z env
+      → Reaches program env s t k → Has d s x t → Stands program t.frame.slot (message_code z.nodes)
+      → t.frame.slot + 5 ≤ last → Gets s (t.frame.slot + 5) (k + 5) (Has d s (message_from z env x))
+  message_runs z d x s t k sized run has stands le =
+      let n = z.nodes in
+      let few : n < 2 ^ 32 = omega (arith, sized.nodes, sized.setting.extent.few) in
+      let c = branch_leads s t k 2 (cond_of Less) R0 (operand.Imm (pos n)) x n (nat_lt x n) run stands.0 has.r0
+      refl (compared Less x n has.small few) (omega (arith, le)) in
+      let w = c.new in
+      let same : Same d s w = same_alike d s t w has.same c.fact in
+      let r0 : get w.frame.registers 0 ≡ Some (Num x) = ap (λ m. get m 0) c.fact.registers ∙ has.r0 in
+      elim (cases_Bool (nat_lt x n)) [
+        | inl so ↦
+            let hit : hop (nat_lt x n) 2 ≡ 2 = rw so refl in
+            let slot : w.frame.slot ≡ t.frame.slot + 1 + 1 + 1 = omega (arith, c.slot, hit) in
+            let there = here_is w _ (copy R1 R0 ∷ i.Call (pos 2) ∷ []) slot stands.1.1.1 in
+            let w1 = put w (w.frame.slot + 1) R1 (Num x) in
+            let w2 = called w1 (w.frame.slot + 1 + 1) (received env x) in
+            let e1 : step program env w ≡ Ok (Running w1) = copies program env w (w.frame.slot + 1) R1 R0 x there.0 refl
+            (solid _ (omega (arith, le, slot))) r0 has.small refl in
+            let e2 : step program env w1 ≡ Ok (Running w2) = receives program env w1 (w.frame.slot + 1 + 1) x there.1.0
+            refl (solid _ (omega (arith, le, slot))) (put_same w.frame.registers 1 (Num x))
+            (omega (arith, ltb-true x n so, sized.nodes)) in
+            let is : received env x ≡ message_from z env x = rw so refl in
+            record {
+              new = w2;
+              run = further program env s w1 w2 (k + 1 + 1) (k + 5)
+                  (further program env s w w1 (k + 1) (k + 1 + 1) c.run e1 (omega arith)) e2 (omega arith);
+              slot = omega (arith, slot);
+              fact = record {
+                same = same_call d s w1 (w.frame.slot + 1 + 1) (received env x)
+                    (same_put d s w (w.frame.slot + 1) R1 (Num x) (r1_free d) same);
+                r0 = put_same _ 0 (Num (received env x)) ∙ ap (λ v. Some (Num v)) is;
+                small = rw so (received_fits env x sized.setting);
+              };
+            }
+        | inr other ↦
+            let miss : hop (nat_lt x n) 2 ≡ 0 = rw other refl in
+            let slot : w.frame.slot ≡ t.frame.slot + 1 = omega (arith, c.slot, miss) in
+            let there = here_is w _ (set_number R0 4294967295 ∷ i.Ja (pos 2) ∷ []) slot
+            (stands.1.0, (stands.1.1.0, tt)) in
+            let w1 = put w (w.frame.slot + 1) R0 (Num 4294967295) in
+            let w2 = at w1 (w.frame.slot + 1 + 1 + 2) in
+            let e1 : step program env w ≡ Ok (Running w1) = sets_number program env w (w.frame.slot + 1) R0 4294967295
+            there.0 refl (solid _ (omega (arith, le, slot))) (omega arith) refl in
+            let e2 : step program env w1 ≡ Ok (Running w2) = goes program env w1 (w.frame.slot + 1 + 1 + 2) 2 there.1.0
+            refl (solid _ (omega (arith, le, slot))) in
+            let is : 4294967295 ≡ message_from z env x = rw other refl in
+            record {
+              new = w2;
+              run = further program env s w1 w2 (k + 1 + 1) (k + 5)
+                  (further program env s w w1 (k + 1) (k + 1 + 1) c.run e1 (omega arith)) e2 (omega arith);
+              slot = omega (arith, slot);
+              fact = record {
+                same = same_at d s w1 (w.frame.slot + 1 + 1 + 2)
+                    (same_put d s w (w.frame.slot + 1) R0 (Num 4294967295) (r0_free d) same);
+                r0 = put_same w.frame.registers 0 (Num 4294967295) ∙ ap (λ v. Some (Num v)) is;
+                small = rw other (omega arith);
+              };
+            }
+      ]
+
+  -- ---- counts
+
+  -- a state with this number, at most m, in place d
+  pub record Counts (d : ℕ) (s : MachineState) (m v : ℕ) (t : MachineState) : Type 0 where
+    pub same : Same d s t
+    pub place : get t.frame.registers (7 + d) ≡ Some (Num v)
+    pub few : v ≤ m
+
+  counts_run : (d n : ℕ) (test : ℕ → List Insn) (holds : ℕ → ℕ) (s : MachineState) (m : ℕ) → d < 3 → n < 2 ^ 31
+      → m ≤ n → Stands program s.frame.slot (count_codes d test m)
+      → s.frame.slot + length (count_codes d test m) ≤ last → get s.frame.registers (7 + d) ≡ Some (Num 0)
+      → ((j : ℕ) (t : MachineState) → j < n → Same d s t → Stands program t.frame.slot (test j)
+      → t.frame.slot + length (test j) + 1 ≤ last
+      → Gets t (t.frame.slot + length (test j) + landing false (holds j) 1) (length (test j)) (Same (d + 1) t))
+      → Gets s (s.frame.slot + length (count_codes d test m)) (length (count_codes d test m))
+      (Counts d s m (count_below m holds))
+  counts_run d n test holds s zero small few le stands fits start each = record {
+    new = s;
+    run = stays program env s;
+    slot = omega arith;
+    fact = record { same = same_self d s; place = start; few = omega arith };
+  }
+  counts_run d n test holds s (suc m) small few le stands fits start each =
+      let p = register_number (place d) in
+      let number : p ≡ 7 + d = place_number d small in
+      let writable : (p == 10) ≡ false = ap (λ (n : ℕ). n == 10) number ∙ ne_eqb (7 + d) 10 (λ e. omega arith) in
+      let front = count_codes d test m in
+      let add = i.Alu Add W32 (place d) (operand.Imm (pos 1)) ∷ [] in
+      let back = test m ++ add in
+      let len : length (front ++ back) ≡ length front + (length (test m) + 1) = omega
+      (arith, length-append front back, length-append (test m) add) in
+      let c = counts_run d n test holds s m small few (omega (arith, le))
+      (stands_front program s.frame.slot front back stands) (omega (arith, len, fits)) start each in
+      let t = c.new in
+      let at_back = here_is t _ back c.slot (stands_back program s.frame.slot front back stands) in
+      let g = each m t (omega (arith, le)) c.fact.same (stands_front program t.frame.slot (test m) add at_back)
+      (omega (arith, len, fits, c.slot)) in
+      let w = g.new in
+      let v = count_below m holds in
+      let kept : get w.frame.registers (7 + d) ≡ Some (Num v) = g.fact.registers (7 + d) (omega arith) (omega arith)
+      ∙ c.fact.place in
+      let same : Same d s w = same_then d s t w c.fact.same (same_less d t w g.fact) in
+      let run = chain program env s t w (length front) (length (test m)) (length front + length (test m)) c.run g.run
+      (omega arith) in
+      elim (cases_Bool (truth (holds m))) [
+        | inl so ↦
+            let none : landing false (holds m) 1 ≡ 0 = rw so refl in
+            let slot : w.frame.slot ≡ t.frame.slot + length (test m) = omega (arith, g.slot, none) in
+            let there = here_is w _ add slot (stands_back program t.frame.slot (test m) add at_back) in
+            let w1 = put w (w.frame.slot + 1) (place d) (Num (v + 1)) in
+            let old : get w.frame.registers p ≡ Some (Num v) = ap (get w.frame.registers) number ∙ kept in
+            let e1 : step program env w ≡ Ok (Running w1) = counts program env w (w.frame.slot + 1) (place d) v there.0
+            refl (solid _ (omega (arith, len, fits, slot, c.slot))) old writable (omega (arith, c.fact.few, few, le)) in
+            let one : v + 1 ≡ count_below (suc m) holds = rw so refl in
+            record {
+              new = w1;
+              run = further program env s w w1 _ (length (front ++ back)) run e1 (omega (arith, len));
+              slot = omega (arith, len, slot, c.slot);
+              fact = record {
+                same = same_put d s w (w.frame.slot + 1) (place d) (Num (v + 1))
+                    (free_place d d small (omega arith)) same;
+                place = ap (get w1.frame.registers) (sym number) ∙ put_same w.frame.registers p (Num (v + 1))
+                    ∙ ap (λ x. Some (Num x)) one;
+                few = omega (arith, c.fact.few, one);
+              };
+            }
+        | inr other ↦
+            let one : landing false (holds m) 1 ≡ 1 = rw other refl in
+            let slot : w.frame.slot ≡ t.frame.slot + length (test m) + 1 = omega (arith, g.slot, one) in
+            let none : v + 0 ≡ count_below (suc m) holds = rw other refl in
+            let stay : v ≡ count_below (suc m) holds = omega (arith, none) in
+            record {
+              new = w;
+              run = chain program env s w w _ 0 (length (front ++ back)) run (stays program env w) (omega (arith, len));
+              slot = omega (arith, len, slot, c.slot);
+              fact = record {
+                same = same;
+                place = kept ∙ ap (λ x. Some (Num x)) stay;
+                few = omega (arith, c.fact.few, stay);
+              };
+            }
+      ]
+
+  pub count_runs : (d n : ℕ) (test : ℕ → List Insn) (holds : ℕ → ℕ) (s : MachineState) → d < 3 → n < 2 ^ 31
+      → Stands program s.frame.slot (count_code d n test) → s.frame.slot + length (count_code d n test) ≤ last
+      → ((j : ℕ) (t : MachineState) → j < n → Same d s t → Stands program t.frame.slot (test j)
+      → t.frame.slot + length (test j) + 1 ≤ last
+      → Gets t (t.frame.slot + length (test j) + landing false (holds j) 1) (length (test j)) (Same (d + 1) t))
+      → Gets s (s.frame.slot + length (count_code d n test)) (length (count_code d n test))
+      (Has d s (count_below n holds))
+  count_runs d n test holds s small few stands fits each =
+      let p = register_number (place d) in
+      let number : p ≡ 7 + d = place_number d small in
+      let writable : (p == 10) ≡ false = ap (λ (n : ℕ). n == 10) number ∙ ne_eqb (7 + d) 10 (λ e. omega arith) in
+      let codes = count_codes d test n in
+      let last_one = copy R0 (place d) ∷ [] in
+      let len : length (codes ++ last_one) ≡ length codes + 1 = length-append codes last_one in
+      let s1 = put s (s.frame.slot + 1) (place d) (Num 0) in
+      let e1 : step program env s ≡ Ok (Running s1) = sets_number program env s (s.frame.slot + 1)
+      (place d) 0 stands.0 refl (solid _ (omega (arith, len, fits))) (omega arith) writable in
+      let same1 : Same d s s1 = same_put d s s (s.frame.slot + 1) (place d) (Num 0) (free_place d d small (omega arith))
+      (same_self d s) in
+      let start : get s1.frame.registers (7 + d) ≡ Some (Num 0) = ap (get s1.frame.registers) (sym number)
+      ∙ put_same s.frame.registers p (Num 0) in
+      let c = counts_run d n test holds s1 n small few (omega arith)
+      (stands_front program s1.frame.slot codes last_one stands.1) (omega (arith, len, fits)) start
+      (λ j t lt same. each j t lt (same_then d s s1 t same1 same)) in
+      let w = c.new in
+      let v = count_below n holds in
+      let there = here_is w _ last_one c.slot (stands_back program s1.frame.slot codes last_one stands.1) in
+      let w1 = put w (w.frame.slot + 1) R0 (Num v) in
+      let small_v : v < 2 ^ 32 = omega (arith, c.fact.few, few) in
+      let e3 : step program env w ≡ Ok (Running w1) = copies program env w (w.frame.slot + 1) R0
+      (place d) v there.0 refl (solid _ (omega (arith, len, fits, c.slot))) (ap (get w.frame.registers) number
+      ∙ c.fact.place) small_v refl in
+      let run1 = chain program env s s1 w 1 (length codes) (1 + length codes) (once program env s s1 e1) c.run
+      (omega arith) in
+      record {
+        new = w1;
+        run = further program env s w w1 (1 + length codes) (length (count_code d n test)) run1 e3 (omega (arith, len));
+        slot = omega (arith, len, c.slot);
+        fact = record {
+          same = same_put d s w (w.frame.slot + 1) R0 (Num v) (r0_free d) (same_then d s s1 w same1 c.fact.same);
+          r0 = put_same w.frame.registers 0 (Num v);
+          small = small_v;
+        };
+      }
+
+  -- ---- the forms of terms
+
+  call_runs : (d answer : ℕ) (s : MachineState) → answer < 2 ^ 32
+      → step program env s ≡ Ok (Running (called s (s.frame.slot + 1) answer)) → Gets s (s.frame.slot + 1) 1
+      (Has d s answer)
+  call_runs d answer s small e = record {
+    new = called s (s.frame.slot + 1) answer;
+    run = once program env s _ e;
+    slot = refl;
+    fact = record {
+      same = same_call d s s (s.frame.slot + 1) answer (same_self d s);
+      r0 = put_same _ 0 (Num answer);
+      small = small;
+    };
+  }
+
+  load_runs : (d lets k : ℕ) (u : NodeState) (s : MachineState) → 4 * k + 4 ≤ env.shape.memory → Holds env lets u s
+      → Stands program s.frame.slot (i.Load size.W R0 R6 (pos (4 * k)) ∷ []) → s.frame.slot + 1 ≤ last
+      → Gets s (s.frame.slot + 1) 1 (Has d s (word_at k u.memory))
+  load_runs d lets k u s inside h stands le =
+      let v = word_at k u.memory in
+      let room : 4 * k + 4 ≤ length u.memory = omega (arith, inside, h.room) in
+      let read : number_at (slice_get s.memory) (4 * k) 4 ≡ Ok v =
+      ap (λ (m : List ℕ). number_at (slice_get m) (4 * k) 4) h.memory ∙ word_loaded k u.memory room in
+      let zero_off : 0 + 4 * k ≡ 4 * k = omega arith in
+      let e = loads program env s (s.frame.slot + 1) R0 R6 (pos (4 * k)) (4 * k) v stands.0 refl (solid _ le) h.r6 refl
+      (ap pos zero_off) (le-leb (4 * k + 4) env.shape.memory inside) read in
+      record {
+        new = put s (s.frame.slot + 1) R0 (Num v);
+        run = once program env s _ e;
+        slot = refl;
+        fact = record {
+          same = same_put d s s (s.frame.slot + 1) R0 (Num v) (r0_free d) (same_self d s);
+          r0 = put_same s.frame.registers 0 (Num v);
+          small = word_small k u.memory room h.bytes;
+        };
+      }
+
+  operation_runs : (op : Operation) (src : Operand) (d a b : ℕ) (code : List Insn) (s : MachineState)
+      → Stands program s.frame.slot (code ++ i.Alu (alu_of op) W32 R0 src ∷ [])
+      → s.frame.slot + length (code ++ i.Alu (alu_of op) W32 R0 src ∷ []) ≤ last
+      → (Stands program s.frame.slot code → s.frame.slot + length code ≤ last
+      → Gets s (s.frame.slot + length code) (length code) (HasPair src d s a b))
+      → Gets s (s.frame.slot + length (code ++ i.Alu (alu_of op) W32 R0 src ∷ []))
+      (length (code ++ i.Alu (alu_of op) W32 R0 src ∷ [])) (Has d s (apply op a b))
+  operation_runs op src d a b code s stands le two =
+      let act = i.Alu (alu_of op) W32 R0 src ∷ [] in
+      let len : length (code ++ act) ≡ length code + 1 = length-append code act in
+      let c = two (stands_front program s.frame.slot code act stands) (omega (arith, len, le)) in
+      let t = c.new in
+      let there = here_is t _ act c.slot (stands_back program s.frame.slot code act stands) in
+      let v = apply op a b in
+      let t1 = put t (t.frame.slot + 1) R0 (Num v) in
+      let e : step program env t ≡ Ok (Running t1) = operates program env op t (t.frame.slot + 1) a b
+      c.fact.raw src there.0 refl (solid _ (omega (arith, len, le, c.slot))) c.fact.r0 c.fact.other c.fact.low_bits
+      c.fact.left c.fact.right in
+      record {
+        new = t1;
+        run = further program env s t t1 (length code) (length (code ++ act)) c.run e (omega (arith, len));
+        slot = omega (arith, len, c.slot);
+        fact = record {
+          same = same_put d s t (t.frame.slot + 1) R0 (Num v) (r0_free d) c.fact.same;
+          r0 = put_same t.frame.registers 0 (Num v);
+          small = apply_small op a b c.fact.left c.fact.right;
+        };
+      }
+
+  compare_runs : (r : Comparison) (src : Operand) (d a b : ℕ) (code : List Insn) (s : MachineState)
+      → (Stands program s.frame.slot code → s.frame.slot + length code ≤ last
+      → Gets s (s.frame.slot + length code) (length code) (HasPair src d s a b))
+      → TestRuns (λ when far. code ++ jump_by (jump_on when r) src far ∷ []) d (number_of (compare r a b)) s
+  compare_runs r src d a b code s two when far stands le =
+      let jump = jump_by (jump_on when r) src far ∷ [] in
+      let len : length (code ++ jump) ≡ length code + 1 = length-append code jump in
+      let c = two (stands_front program s.frame.slot code jump stands) (omega (arith, len, le)) in
+      let t = c.new in
+      let there = here_is t _ jump c.slot (stands_back program s.frame.slot code jump stands) in
+      let hit = taken when (number_of (compare r a b)) in
+      let end = branch_runs d s t (length code) far (cond_of (jump_on when r)) R0 src a c.fact.raw hit c.run c.fact.same
+      there.0 c.fact.r0 c.fact.other (jump_compared when r a b c.fact.raw c.fact.left c.fact.low_bits)
+      (omega (arith, len, le, c.slot)) in
+      gets s _ _ _ _ (Same d s) (Same d s) (omega (arith, len, c.slot)) (omega (arith, len)) (λ t h. h) end
+
+  operator_runs : (o : Operator) (src : Operand) (purpose : Purpose) (d a b : ℕ) (code : List Insn) (s : MachineState)
+      → Stands program s.frame.slot (by_operator o src purpose code)
+      → s.frame.slot + length (by_operator o src purpose code) + beyond purpose ≤ last
+      → (Stands program s.frame.slot code → s.frame.slot + length code ≤ last
+      → Gets s (s.frame.slot + length code) (length code) (HasPair src d s a b))
+      → Reached purpose d s (s.frame.slot + length (by_operator o src purpose code))
+      (length (by_operator o src purpose code)) (operate o a b)
+  operator_runs (Compute op) src purpose d a b code s stands le two =
+      by_value_runs purpose (code ++ i.Alu (alu_of op) W32 R0 src ∷ []) d (apply op a b) s stands le
+      (λ st l. operation_runs op src d a b code s st l two)
+  operator_runs (Compare r) src purpose d a b code s stands le two =
+      by_test_runs purpose (λ when far. code ++ jump_by (jump_on when r) src far ∷ []) d (compare r a b) s stands le
+      (compare_runs r src d a b code s two)
+
+  pub nodes_few : (z : Sizes) → IsSized z env → z.nodes < 2 ^ 31
+  nodes_few z sized = omega (arith, sized.nodes, sized.setting.extent.few)
+
+  -- ---- operands
+
+  pub constant_is : (t : Term) (z : Sizes) (J : List ℕ) (u : NodeState) → is_constant t ≡ true
+      → constant_number t z J ≡ value t z env J u
+  constant_is (Number v) z J u e = refl
+  constant_is Nodes z J u e = refl
+  constant_is Faults z J u e = refl
+  constant_is Modulus z J u e = refl
+  constant_is (LoopNode k) z J u e = refl
+  constant_is (Binary' o p a q b) z J u e =
+      let parts = and_parts (is_constant a) (is_constant b) e in
+      rw (constant_is a z J u parts.0, constant_is b z J u parts.1) refl
+  constant_is t z J u e = absurd (let no : false ≡ true = e in cc)
+
+  constant_small : (t : Term) (z : Sizes) (J : List ℕ) (lets d : ℕ) → is_constant t ≡ true → IsSized z env
+      → All (λ j. j < z.nodes) J → Fits t z (length J) lets d → constant_number t z J < 2 ^ 32
+  constant_small (Number v) z J lets d e sized nodes fits = fits
+  constant_small Nodes z J lets d e sized nodes fits = omega (arith, nodes_few z sized)
+  constant_small Faults z J lets d e sized nodes fits = sized.faults
+  constant_small Modulus z J lets d e sized nodes fits = sized.modulus
+  constant_small (LoopNode k) z J lets d e sized nodes fits =
+      let lt : slice_index J k < z.nodes = All-get_or (λ j. j < z.nodes) J k 0 fits nodes in
+      omega (arith, lt, nodes_few z sized)
+  constant_small (Binary' o p a q b) z J lets d e sized nodes fits =
+      let parts = and_parts (is_constant a) (is_constant b) e in
+      operate_small o (constant_number a z J) (constant_number b z J)
+      (constant_small a z J lets d parts.0 sized nodes fits.1)
+      (constant_small b z J lets (depth_behind (is_operand a) d) parts.1 sized nodes fits.2)
+  constant_small t z J lets d e sized nodes fits = absurd (let no : false ≡ true = e in cc)
+
+  -- ---- where numbers are found
+
+  fetched_is : (t : Term) (z : Sizes) (J : List ℕ) (lets d : ℕ) (u : NodeState) → Fits t z (length J) lets d
+      → IsAt z lets u (fetched_source t) (value t z env J u)
+  fetched_is (Local k) z J lets d u fits = (fits, refl)
+  fetched_is (Word k) z J lets d u fits = (fits, refl)
+  fetched_is t z J lets d u fits = tt
+
+  pub source_is : (t : Term) (z : Sizes) (J : List ℕ) (lets d : ℕ) (u : NodeState) → IsSized z env
+      → All (λ j. j < z.nodes) J → Fits t z (length J) lets d → IsAt z lets u (source_of t z J) (value t z env J u)
+  source_is t z J lets d u sized nodes fits =
+      let c = Constant (constant_number t z J) in
+      let P : Source → Type 0 = λ x. IsAt z lets u x (value t z env J u) in
+      elim (cases_Bool (is_constant t)) [
+        | inl so ↦ subst P (sym (cond-true (is_constant t) c (fetched_source t) so))
+            (constant_is t z J u so, constant_small t z J lets d so sized nodes fits)
+        | inr other ↦ subst P (sym (cond-false (is_constant t) c (fetched_source t) other))
+            (fetched_is t z J lets d u fits)
+      ]
+
+  -- a found number goes into a register
+  pub record Fetched (dst : Reg) (t : MachineState) (v : ℕ) : Type 0 where
+    pub fetched : step program env t ≡ Ok (Running (put t (t.frame.slot + 1) dst (Num v)))
+    pub small : v < 2 ^ 32
+
+  pub get_steps : (dst : Reg) (x : Source) (z : Sizes) (lets v : ℕ) (u : NodeState) (t : MachineState)
+      → (register_number dst == 10) ≡ false → is_found x ≡ true → IsAt z lets u x v → IsSized z env → lets ≤ 3
+      → Holds env lets u t → insn_at program t.frame.slot ≡ Some (get_code dst x) → t.frame.slot + 1 ≤ last
+      → Fetched dst t v
+  get_steps dst (Constant c) z lets v u t free found is sized few h here le =
+      subst (λ (x : ℕ). Fetched dst t x) is.0 (record {
+        fetched = sets_number program env t (t.frame.slot + 1) dst c here refl (solid _ le) is.1 free;
+        small = is.1;
+      })
+  get_steps dst (FromLocal k) z lets v u t free found is sized few h here le =
+      let number : register_number (place k) ≡ 7 + k = place_number k (omega (arith, is.0, few)) in
+      subst (λ (x : ℕ). Fetched dst t x) is.1 (record {
+        fetched = copies program env t (t.frame.slot + 1) dst (place k) (u.locals k) here refl (solid _ le)
+            (ap (get t.frame.registers) number ∙ h.locals k is.0) (h.small k is.0) free;
+        small = h.small k is.0;
+      })
+  get_steps dst (FromWord k) z lets v u t free found is sized few h here le =
+      let w = word_at k u.memory in
+      let inside : 4 * k + 4 ≤ env.shape.memory = omega (arith, is.0, sized.memory) in
+      let room : 4 * k + 4 ≤ length u.memory = omega (arith, inside, h.room) in
+      let read : number_at (slice_get t.memory) (4 * k) 4 ≡ Ok w =
+      ap (λ (m : List ℕ). number_at (slice_get m) (4 * k) 4) h.memory ∙ word_loaded k u.memory room in
+      let zero_off : 0 + 4 * k ≡ 4 * k = omega arith in
+      subst (λ (x : ℕ). Fetched dst t x) is.1 (record {
+        fetched = loads program env t (t.frame.slot + 1) dst R6 (pos (4 * k)) (4 * k) w here refl (solid _ le) h.r6 free
+            (ap pos zero_off) (le-leb (4 * k + 4) env.shape.memory inside) read;
+        small = word_small k u.memory room h.bytes;
+      })
+  get_steps dst Computed z lets v u t free found is sized few h here le = absurd (let no : false ≡ true = found in cc)
+
+  -- the left number in r0, and the operand in r1
+  operand_runs : (d : ℕ) (left : List Insn) (insn : Insn) (s : MachineState) (a b : ℕ)
+      → Stands program s.frame.slot (left ++ insn ∷ []) → s.frame.slot + length (left ++ insn ∷ []) ≤ last
+      → (Stands program s.frame.slot left → s.frame.slot + length left ≤ last
+      → Gets s (s.frame.slot + length left) (length left) (Has d s a))
+      → ((t : MachineState) → Same d s t → insn_at program t.frame.slot ≡ Some insn → t.frame.slot + 1 ≤ last
+      → Fetched R1 t b)
+      → Gets s (s.frame.slot + length (left ++ insn ∷ [])) (length (left ++ insn ∷ [])) (HasTwo d s a b)
+  operand_runs d left insn s a b stands le first second =
+      let len : length (left ++ insn ∷ []) ≡ length left + 1 = length-append left (insn ∷ []) in
+      let c = first (stands_front program s.frame.slot left (insn ∷ []) stands) (omega (arith, len, le)) in
+      let t = c.new in
+      let there = here_is t _ (insn ∷ []) c.slot (stands_back program s.frame.slot left (insn ∷ []) stands) in
+      let f = second t c.fact.same there.0 (omega (arith, len, le, c.slot)) in
+      let t1 = put t (t.frame.slot + 1) R1 (Num b) in
+      record {
+        new = t1;
+        run = further program env s t t1 (length left) (length (left ++ insn ∷ [])) c.run f.fetched
+            (omega (arith, len));
+        slot = omega (arith, len, c.slot);
+        fact = record {
+          same = same_put d s t (t.frame.slot + 1) R1 (Num b) (r1_free d) c.fact.same;
+          r0 = put_other t.frame.registers 1 (Num b) 0 (λ e. omega arith) ∙ c.fact.r0;
+          r1 = put_same t.frame.registers 1 (Num b);
+          left = c.fact.small;
+          right = f.small;
+        };
+      }
+
+  -- the left number in r0, and the found one where its operand says
+  loaded_runs : (y : Source) (z : Sizes) (d lets a b : ℕ) (u : NodeState) (left : List Insn) (s : MachineState)
+      → is_found y ≡ true → IsAt z lets u y b → IsSized z env → lets ≤ 3 → lets ≤ d → Holds env lets u s
+      → Stands program s.frame.slot (left ++ load_code y) → s.frame.slot + length (left ++ load_code y) ≤ last
+      → (Stands program s.frame.slot left → s.frame.slot + length left ≤ last
+      → Gets s (s.frame.slot + length left) (length left) (Has d s a))
+      → Gets s (s.frame.slot + length (left ++ load_code y)) (length (left ++ load_code y))
+      (HasPair (operand_code y) d s a b)
+  loaded_runs (Constant c) z d lets a b u left s found is sized few le h stands room first =
+      let len : length (left ++ []) ≡ length left + 0 = length-append left [] in
+      let P = HasPair (operand_code (Constant c)) d s a b in
+      gets s _ _ _ _ (Has d s a) P (omega (arith, len)) (omega (arith, len))
+      (λ t k. record {
+        same = k.same;
+        r0 = k.r0;
+        raw = cast_unsigned w64 (cast_signed w32 c);
+        other = refl;
+        low_bits = imm_low c is.1 ∙ is.0;
+        left = k.small;
+        right = subst (λ (x : ℕ). x < 2 ^ 32) is.0 is.1;
+      }) (first (stands_front program s.frame.slot left [] stands) (omega (arith, len, room)))
+  loaded_runs (FromLocal j) z d lets a b u left s found is sized few le h stands room first =
+      let len : length (left ++ []) ≡ length left + 0 = length-append left [] in
+      let number : register_number (place j) ≡ 7 + j = place_number j (omega (arith, is.0, few)) in
+      let P = HasPair (operand_code (FromLocal j)) d s a b in
+      gets s _ _ _ _ (Has d s a) P (omega (arith, len)) (omega (arith, len))
+      (λ t k.
+      let h1 = still_holds env lets d u s t le h k.same in
+      let e : get t.frame.registers (register_number (place j)) ≡ Some (Num (u.locals j)) =
+      ap (get t.frame.registers) number ∙ h1.locals j is.0 in
+      record {
+        same = k.same;
+        r0 = k.r0;
+        raw = u.locals j;
+        other = rw e refl;
+        low_bits = low (u.locals j) (h.small j is.0) ∙ is.1;
+        left = k.small;
+        right = subst (λ (x : ℕ). x < 2 ^ 32) is.1 (h.small j is.0);
+      }) (first (stands_front program s.frame.slot left [] stands) (omega (arith, len, room)))
+  loaded_runs (FromWord j) z d lets a b u left s found is sized few le h stands room first =
+      gets s _ _ _ _ (HasTwo d s a b) (HasPair (operand.Reg R1) d s a b) refl (omega arith)
+      (λ t k. has_pair d s a b t k)
+      (operand_runs d left (get_code R1 (FromWord j)) s a b stands room first
+      (λ t same here l. get_steps R1 (FromWord j) z lets b u t refl refl is sized few
+      (still_holds env lets d u s t le h same)
+      here l))
+  loaded_runs Computed z d lets a b u left s found is sized few le h stands room first =
+      absurd (let no : false ≡ true = found in cc)
+
+  -- the right number is computed into r0, and the left one is found
+  turned_runs : (x : Source) (z : Sizes) (d lets a b : ℕ) (u : NodeState) (right : List Insn) (s : MachineState)
+      → is_found x ≡ true → IsAt z lets u x a → IsSized z env → lets ≤ 3 → lets ≤ d → Holds env lets u s
+      → Stands program s.frame.slot (right ++ (copy R1 R0 ∷ get_code R0 x ∷ []))
+      → s.frame.slot + length (right ++ (copy R1 R0 ∷ get_code R0 x ∷ [])) ≤ last
+      → (Stands program s.frame.slot right → s.frame.slot + length right ≤ last
+      → Gets s (s.frame.slot + length right) (length right) (Has d s b))
+      → Gets s (s.frame.slot + length (right ++ (copy R1 R0 ∷ get_code R0 x ∷ [])))
+      (length (right ++ (copy R1 R0 ∷ get_code R0 x ∷ []))) (HasPair (operand.Reg R1) d s a b)
+  turned_runs x z d lets a b u right s found is sized few le h stands room first =
+      let back = copy R1 R0 ∷ get_code R0 x ∷ [] in
+      let len : length (right ++ back) ≡ length right + 2 = length-append right back in
+      let c = first (stands_front program s.frame.slot right back stands) (omega (arith, len, room)) in
+      let t = c.new in
+      let there = here_is t _ back c.slot (stands_back program s.frame.slot right back stands) in
+      let t1 = put t (t.frame.slot + 1) R1 (Num b) in
+      let e1 : step program env t ≡ Ok (Running t1) = copies program env t (t.frame.slot + 1) R1 R0 b there.0 refl
+      (solid _ (omega (arith, len, room, c.slot))) c.fact.r0 c.fact.small refl in
+      let same1 : Same d s t1 = same_put d s t (t.frame.slot + 1) R1 (Num b) (r1_free d) c.fact.same in
+      let g = get_steps R0 x z lets a u t1 refl found is sized few (still_holds env lets d u s t1 le h same1) there.1.0
+      (omega (arith, len, room, c.slot)) in
+      let t2 = put t1 (t.frame.slot + 1 + 1) R0 (Num a) in
+      let run1 = further program env s t t1 (length right) (length right + 1) c.run e1 (omega arith) in
+      let two : HasTwo d s a b t2 = record {
+        same = same_put d s t1 (t.frame.slot + 1 + 1) R0 (Num a) (r0_free d) same1;
+        r0 = put_same t1.frame.registers 0 (Num a);
+        r1 = put_other t1.frame.registers 0 (Num a) 1 (λ e. omega arith) ∙ put_same t.frame.registers 1 (Num b);
+        left = g.small;
+        right = c.fact.small;
+      } in
+      record {
+        new = t2;
+        run = further program env s t1 t2 (length right + 1) (length (right ++ back)) run1 g.fetched
+            (omega (arith, len));
+        slot = omega (arith, len, c.slot);
+        fact = has_pair d s a b t2 two;
+      }
+
+  left_runs : (o : Operator) (x : Source) (purpose : Purpose) (z : Sizes) (d lets a b : ℕ) (u : NodeState)
+      (right : List Insn) (s : MachineState) → is_found x ≡ true → IsAt z lets u x a → IsSized z env → lets ≤ 3
+      → lets ≤ d → Holds env lets u s → Stands program s.frame.slot (left_code o x purpose right)
+      → s.frame.slot + length (left_code o x purpose right) + beyond purpose ≤ last
+      → (Stands program s.frame.slot right → s.frame.slot + length right ≤ last
+      → Gets s (s.frame.slot + length right) (length right) (Has d s b))
+      → Reached purpose d s (s.frame.slot + length (left_code o x purpose right)) (length (left_code o x purpose right))
+      (operate o a b)
+  left_runs (Compute op) x purpose z d lets a b u right s found is sized few le h stands room first =
+      operator_runs (Compute op) (operand.Reg R1) purpose d a b
+      (right ++ (copy R1 R0 ∷ get_code R0 x ∷ [])) s stands room
+      (λ st l. turned_runs x z d lets a b u right s found is sized few le h st l first)
+  left_runs (Compare r) x purpose z d lets a b u right s found is sized few le h stands room first =
+      let code = left_code (Compare r) x purpose right in
+      let same : operate (Compare (mirror r)) b a ≡ operate (Compare r) a b = ap number_of (mirrored r a b) in
+      subst (λ (v : ℕ). Reached purpose d s (s.frame.slot + length code) (length code) v) same
+      (operator_runs (Compare (mirror r)) (operand_code x) purpose d b a (right ++ load_code x) s stands room
+      (λ st l. loaded_runs x z d lets b a u right s found is sized few le h st l first))
+
+  right_runs : (o : Operator) (y : Source) (purpose : Purpose) (z : Sizes) (d lets a b : ℕ) (u : NodeState)
+      (left : List Insn) (s : MachineState) → is_found y ≡ true → IsAt z lets u y b → IsSized z env → lets ≤ 3
+      → lets ≤ d → Holds env lets u s
+      → Stands program s.frame.slot (by_operator o (operand_code y) purpose (left ++ load_code y))
+      → s.frame.slot + length (by_operator o (operand_code y) purpose (left ++ load_code y)) + beyond purpose ≤ last
+      → (Stands program s.frame.slot left → s.frame.slot + length left ≤ last
+      → Gets s (s.frame.slot + length left) (length left) (Has d s a))
+      → Reached purpose d s (s.frame.slot + length (by_operator o (operand_code y) purpose (left ++ load_code y)))
+      (length (by_operator o (operand_code y) purpose (left ++ load_code y))) (operate o a b)
+  right_runs o y purpose z d lets a b u left s found is sized few le h stands room first =
+      operator_runs o (operand_code y) purpose d a b (left ++ load_code y) s stands room
+      (λ st l. loaded_runs y z d lets a b u left s found is sized few le h st l first)
+
+  place_test_runs : (r : Comparison) (k c : ℕ) (z : Sizes) (d lets a b : ℕ) (u : NodeState) (s : MachineState)
+      → IsAt z lets u (Constant c) b → IsAt z lets u (FromLocal k) a → lets ≤ 3 → Holds env lets u s
+      → TestRuns (λ when far. jump_place k (jump_on when r) c far ∷ []) d (number_of (compare r a b)) s
+  place_test_runs r k c z d lets a b u s at_y at_x few h when far stands room =
+      let raw = cast_unsigned w64 (cast_signed w32 c) in
+      let number : register_number (place k) ≡ 7 + k = place_number k (omega (arith, at_x.0, few)) in
+      let from : get s.frame.registers (register_number (place k)) ≡ Some (Num a) = ap (get s.frame.registers) number
+      ∙ h.locals k at_x.0 ∙ ap (λ n. Some (Num n)) at_x.1 in
+      let small : a < 2 ^ 32 = subst (λ (n : ℕ). n < 2 ^ 32) at_x.1 (h.small k at_x.0) in
+      let hit = taken when (number_of (compare r a b)) in
+      let end = branch_runs d s s 0 far (cond_of (jump_on when r)) (place k) (operand.Imm (cast_signed w32 c)) a raw hit
+      (stays program env s) (same_self d s) stands.0 from refl
+      (jump_compared when r a b raw small (imm_low c at_y.1 ∙ at_y.0)) room in
+      gets s _ _ _ _ (Same d s) (Same d s) refl (omega arith) (λ t h. h) end
+
+  -- the right number is computed at a depth of its own
+  sides_run : (y x : Source) (o : Operator) (purpose : Purpose) (z : Sizes) (d deep lets a b : ℕ) (u : NodeState)
+      (left right : List Insn) (s : MachineState) → IsAt z lets u y b → IsAt z lets u x a → IsSized z env → lets ≤ 3
+      → lets ≤ d → d ≤ deep → (is_found x ≡ false → is_found y ≡ false → (d < 3) × (deep ≡ d + 1)) → Holds env lets u s
+      → Stands program s.frame.slot (binary_code y x o d purpose left right)
+      → s.frame.slot + length (binary_code y x o d purpose left right) + beyond purpose ≤ last
+      → (Stands program s.frame.slot left → s.frame.slot + length left ≤ last
+      → Gets s (s.frame.slot + length left) (length left) (Has d s a))
+      → ((t : MachineState) → Same d s t → Stands program t.frame.slot right → t.frame.slot + length right ≤ last
+      → Gets t (t.frame.slot + length right) (length right) (Has deep t b))
+      → Reached purpose d s (s.frame.slot + length (binary_code y x o d purpose left right))
+      (length (binary_code y x o d purpose left right)) (operate o a b)
+  sides_run (Constant c) (FromLocal k) (Compare r) purpose z d deep lets a b u left right s at_y at_x sized few
+      le more free h stands room first second =
+      by_test_runs purpose (λ when far. jump_place k (jump_on when r) c far ∷ []) d (compare r a b) s stands room
+      (place_test_runs r k c z d lets a b u s at_y at_x few h)
+  sides_run (Constant c) (FromLocal k) (Compute op) purpose z d deep lets a b u left right s at_y at_x sized few
+      le more free h stands room first second =
+      right_runs (Compute op) (Constant c) purpose z d lets a b u left s refl at_y sized few le h stands room first
+  sides_run (Constant c) (Constant e) o purpose z d deep lets a b u left right s at_y at_x sized few le more
+      free h stands room first second = right_runs o (Constant c) purpose z d lets a b u left s refl at_y sized few le h
+      stands room first
+  sides_run (Constant c) (FromWord k) o purpose z d deep lets a b u left right s at_y at_x sized few le more
+      free h stands room first second = right_runs o (Constant c) purpose z d lets a b u left s refl at_y sized few le h
+      stands room first
+  sides_run (Constant c) Computed o purpose z d deep lets a b u left right s at_y at_x sized few le more
+      free h stands room first second = right_runs o (Constant c) purpose z d lets a b u left s refl at_y sized few le h
+      stands room first
+  sides_run (FromLocal k) x o purpose z d deep lets a b u left right s at_y at_x sized few le more free h
+      stands room first
+      second = right_runs o (FromLocal k) purpose z d lets a b u left s refl at_y sized few le h stands room first
+  sides_run (FromWord k) x o purpose z d deep lets a b u left right s at_y at_x sized few le more free h
+      stands room first
+      second = right_runs o (FromWord k) purpose z d lets a b u left s refl at_y sized few le h stands room first
+  sides_run Computed (Constant c) o purpose z d deep lets a b u left right s at_y at_x sized few le more
+      free h stands room first second = left_runs o (Constant c) purpose z d lets a b u right s refl at_x sized few
+      le h stands room
+      (λ st l. gets s _ _ _ _ (Has deep s b) (Has d s b) refl (omega arith) (λ t k. has_less d deep b s t more k)
+      (second s (same_self d s) st l))
+  sides_run Computed (FromLocal k) o purpose z d deep lets a b u left right s at_y at_x sized few le more
+      free h stands room first second = left_runs o (FromLocal k) purpose z d lets a b u right s refl at_x sized few
+      le h stands room
+      (λ st l. gets s _ _ _ _ (Has deep s b) (Has d s b) refl (omega arith) (λ t q. has_less d deep b s t more q)
+      (second s (same_self d s) st l))
+  sides_run Computed (FromWord k) o purpose z d deep lets a b u left right s at_y at_x sized few le more
+      free h stands room first second = left_runs o (FromWord k) purpose z d lets a b u right s refl at_x sized few
+      le h stands room
+      (λ st l. gets s _ _ _ _ (Has deep s b) (Has d s b) refl (omega arith) (λ t q. has_less d deep b s t more q)
+      (second s (same_self d s) st l))
+  sides_run Computed Computed o purpose z d deep lets a b u left right s at_y at_x sized few le more free h stands room
+      first second =
+      let deeper = free refl refl in
+      operator_runs o (operand.Reg R1) purpose d a b (two_code d left right) s stands room
+      (λ st l. gets s _ _ _ _ (HasTwo d s a b) (HasPair (operand.Reg R1) d s a b) refl (omega arith)
+      (λ t k. has_pair d s a b t k)
+      (two_runs d left right s a b deeper.0 st l first
+      (λ t same st2 l2. gets t _ _ _ _ (Has deep t b) (Has (d + 1) t b) refl (omega arith)
+      (λ w k. has_less (d + 1) deep b t w (omega (arith, deeper.1)) k) (second t same st2 l2))))
+
+  landing_not : (when : Bool) (v far : ℕ) → landing (not when) v far ≡ landing when (number_of (not (truth v))) far
+  landing_not true v far = ap (λ (b : Bool). hop b far) (sym (truth_of (not (truth v))))
+  landing_not false v far = ap (λ (b : Bool). hop b far) (not_not (truth v) ∙ sym (ap not (truth_of (not (truth v)))))
+
+  has_from : (d a v : ℕ) (s w t : MachineState) → Same d s w → a ≡ v → Has d w a t → Has d s v t
+  has_from d a v s w t same e h = record {
+    same = same_then d s w t same h.same;
+    r0 = h.r0 ∙ ap (λ x. Some (Num x)) e;
+    small = subst (λ (x : ℕ). x < 2 ^ 32) e h.small;
+  }
+
+  has_at : (d v : ℕ) (s t : MachineState) (to : ℕ) → Has d s v t → Has d s v (at t to)
+  has_at d v s t to h = record { same = same_at d s t to h.same; r0 = h.r0; small = h.small }
+
+  -- ---- messages, by where the node's number is found
+
+  known_node_runs : (z : Sizes) (d j : ℕ) (s : MachineState) → IsSized z env → j < z.nodes
+      → Stands program s.frame.slot (set_node R1 j ∷ i.Call (pos 2) ∷ []) → s.frame.slot + 2 ≤ last
+      → Gets s (s.frame.slot + 2) 2 (Has d s (received env j))
+  known_node_runs z d j s sized lt stands room =
+      let s1 = put s (s.frame.slot + 1) R1 (Num j) in
+      let s2 = called s1 (s.frame.slot + 1 + 1) (received env j) in
+      let e1 : step program env s ≡ Ok (Running s1) = moves program env s (s.frame.slot + 1) R1
+      (operand.Imm (pos j)) (Num j) stands.0 refl (solid _ (omega (arith, room))) refl refl in
+      let e2 : step program env s1 ≡ Ok (Running s2) = receives program env s1 (s.frame.slot + 1 + 1) j stands.1.0 refl
+      (solid _ (omega (arith, room))) (put_same s.frame.registers 1 (Num j)) (omega (arith, lt, sized.nodes)) in
+      record {
+        new = s2;
+        run = further program env s s1 s2 1 2 (once program env s s1 e1) e2 (omega arith);
+        slot = omega arith;
+        fact = record {
+          same = same_call d s s1 (s.frame.slot + 1 + 1) (received env j)
+              (same_put d s s (s.frame.slot + 1) R1 (Num j) (r1_free d) (same_self d s));
+          r0 = put_same _ 0 (Num (received env j));
+          small = received_fits env j sized.setting;
+        };
+      }
+
+  -- as constants are compiled
+  node_of_constant : (z : Sizes) (d j : ℕ) (code : List Insn) (s : MachineState) → IsSized z env
+      → Stands program s.frame.slot (message_by (Constant j) z.nodes code)
+      → s.frame.slot + length (message_by (Constant j) z.nodes code) ≤ last
+      → Gets s (s.frame.slot + length (message_by (Constant j) z.nodes code))
+      (length (message_by (Constant j) z.nodes code)) (Has d s (message_from z env j))
+  node_of_constant z d j code s sized stands room =
+      let known = set_node R1 j ∷ i.Call (pos 2) ∷ [] in
+      let none = set_number R0 4294967295 ∷ [] in
+      let P : List Insn → Type 0 = λ c. Stands program s.frame.slot c → s.frame.slot + length c ≤ last
+      → Gets s (s.frame.slot + length c) (length c) (Has d s (message_from z env j)) in
+      let whole : P (message_by (Constant j) z.nodes code) = elim (cases_Bool (nat_lt j z.nodes)) [
+        | inl so ↦
+            let is : received env j ≡ message_from z env j = rw so refl in
+            subst P (sym (cond-true (nat_lt j z.nodes) known none so))
+            (λ st l. subst (λ (v : ℕ). Gets s (s.frame.slot + 2) 2 (Has d s v)) is
+            (known_node_runs z d j s sized (ltb-true j z.nodes so) st l))
+        | inr other ↦
+            let is : 4294967295 ≡ message_from z env j = rw other refl in
+            subst P (sym (cond-false (nat_lt j z.nodes) known none other))
+            (λ st l. subst (λ (v : ℕ). Gets s (s.frame.slot + 1) 1 (Has d s v)) is
+            (number_runs d 4294967295 s (omega arith) st l))
+      ] in
+      whole stands room
+
+  some_node_runs : (z : Sizes) (d x : ℕ) (code : List Insn) (s : MachineState) → IsSized z env
+      → Stands program s.frame.slot (code ++ message_code z.nodes)
+      → s.frame.slot + length (code ++ message_code z.nodes) ≤ last
+      → (Stands program s.frame.slot code → s.frame.slot + length code ≤ last
+      → Gets s (s.frame.slot + length code) (length code) (Has d s x))
+      → Gets s (s.frame.slot + length (code ++ message_code z.nodes)) (length (code ++ message_code z.nodes))
+      (Has d s (message_from z env x))
+  some_node_runs z d x code s sized stands room first =
+      let back = message_code z.nodes in
+      let len : length (code ++ back) ≡ length code + 5 = length-append code back in
+      let c = first (stands_front program s.frame.slot code back stands) (omega (arith, len, room)) in
+      let there = here_is c.new _ back c.slot (stands_back program s.frame.slot code back stands) in
+      let g = message_runs z d x s c.new (length code) sized c.run c.fact there (omega (arith, len, room, c.slot)) in
+      gets s _ _ _ _ (Has d s (message_from z env x)) (Has d s (message_from z env x)) (omega (arith, len, c.slot))
+      (omega (arith, len)) (λ t k. k) g
+
+  message_by_runs : (y : Source) (z : Sizes) (d lets x : ℕ) (u : NodeState) (code : List Insn) (s : MachineState)
+      → IsAt z lets u y x → IsSized z env → Stands program s.frame.slot (message_by y z.nodes code)
+      → s.frame.slot + length (message_by y z.nodes code) ≤ last
+      → (Stands program s.frame.slot code → s.frame.slot + length code ≤ last
+      → Gets s (s.frame.slot + length code) (length code) (Has d s x))
+      → Gets s (s.frame.slot + length (message_by y z.nodes code)) (length (message_by y z.nodes code))
+      (Has d s (message_from z env x))
+  message_by_runs (Constant j) z d lets x u code s is sized stands room first =
+      let n = length (message_by (Constant j) z.nodes code) in
+      subst (λ (v : ℕ). Gets s (s.frame.slot + n) n (Has d s (message_from z env v))) is.0
+      (node_of_constant z d j code s sized stands room)
+  message_by_runs (FromLocal k) z d lets x u code s is sized stands room first =
+      some_node_runs z d x code s sized stands room first
+  message_by_runs (FromWord k) z d lets x u code s is sized stands room first =
+      some_node_runs z d x code s sized stands room first
+  message_by_runs Computed z d lets x u code s is sized stands room first =
+      some_node_runs z d x code s sized stands room first
+
+  -- ---- terms
+
+  pub term_runs : (t : Term) (z : Sizes) (J : List ℕ) (d lets : ℕ) (purpose : Purpose) (u : NodeState)
+      (s : MachineState) → IsSized z env → All (λ j. j < z.nodes) J → lets ≤ 3 → lets ≤ d → Fits t z (length J) lets d
+      → Holds env lets u s
+      → Stands program s.frame.slot (term_code t z J d purpose)
+      → s.frame.slot + length (term_code t z J d purpose) + beyond purpose ≤ last
+      → Reached purpose d s (s.frame.slot + length (term_code t z J d purpose)) (length (term_code t z J d purpose))
+      (value t z env J u)
+  term_runs (Number v) z J d lets purpose u s sized nodes few le fits h stands room =
+      by_value_runs purpose (set_number R0 v ∷ []) d v s stands room (λ st l. number_runs d v s fits st l)
+  term_runs Nodes z J d lets purpose u s sized nodes few le fits h stands room =
+      by_value_runs purpose (set_number R0 z.nodes ∷ []) d z.nodes s stands room
+      (λ st l. number_runs d z.nodes s (omega (arith, nodes_few z sized)) st l)
+  term_runs Faults z J d lets purpose u s sized nodes few le fits h stands room =
+      by_value_runs purpose (set_number R0 z.faults ∷ []) d z.faults s stands room
+      (λ st l. number_runs d z.faults s sized.faults st l)
+  term_runs Modulus z J d lets purpose u s sized nodes few le fits h stands room =
+      by_value_runs purpose (set_number R0 z.modulus ∷ []) d z.modulus s stands room
+      (λ st l. number_runs d z.modulus s sized.modulus st l)
+  term_runs Me z J d lets purpose u s sized nodes few le fits h stands room =
+      by_value_runs purpose (i.Call (pos 1) ∷ []) d env.id s stands room
+      (λ st l. call_runs d env.id s (omega (arith, sized.setting.id, sized.setting.extent.few))
+      (numbers program env s (s.frame.slot + 1) st.0 refl (solid _ l)))
+  term_runs Coin z J d lets purpose u s sized nodes few le fits h stands room =
+      by_value_runs purpose (i.Call (pos 4) ∷ []) d env.coin s stands room
+      (λ st l. call_runs d env.coin s (omega (arith, sized.setting.coin))
+      (tosses program env s (s.frame.slot + 1) st.0 refl (solid _ l)))
+  term_runs (LoopNode k) z J d lets purpose u s sized nodes few le fits h stands room =
+      let v = slice_index J k in
+      let lt : v < z.nodes = All-get_or (λ j. j < z.nodes) J k 0 fits nodes in
+      by_value_runs purpose (set_number R0 v ∷ []) d v s stands room
+      (λ st l. number_runs d v s (omega (arith, lt, nodes_few z sized)) st l)
+  term_runs (Local k) z J d lets purpose u s sized nodes few le fits h stands room =
+      let v = u.locals k in
+      let number : register_number (place k) ≡ 7 + k = place_number k (omega (arith, fits, few)) in
+      by_value_runs purpose (copy R0 (place k) ∷ []) d v s stands room
+      (λ st l. copy_runs d v s (place k) (h.small k fits) (ap (get s.frame.registers) number ∙ h.locals k fits) st l)
+  term_runs (Word k) z J d lets purpose u s sized nodes few le fits h stands room =
+      by_value_runs purpose (i.Load size.W R0 R6 (pos (4 * k)) ∷ []) d (word_at k u.memory) s stands room
+      (λ st l. load_runs d lets k u s (omega (arith, fits, sized.memory)) h st l)
+  term_runs (Message' p a) z J d lets purpose u s sized nodes few le fits h stands room =
+      let code = term_code a z J d Value in
+      let x = value a z env J u in
+      by_value_runs purpose (message_by (source_of a z J) z.nodes code) d (message_from z env x) s stands room
+      (λ st l. message_by_runs (source_of a z J) z d lets x u code s
+      (source_is a z J lets d u sized nodes fits) sized st l
+      (λ st2 l2. term_runs a z J d lets Value u s sized nodes few le fits h st2 (omega (arith, l2))))
+  term_runs (Binary' o p a q b) z J d lets purpose u s sized nodes few le fits h stands room =
+      let deep = depth_behind (is_operand a) d in
+      let ca = term_code a z J d Value in
+      let cb = term_code b z J deep Value in
+      let va = value a z env J u in
+      let vb = value b z env J u in
+      let more : d ≤ deep = behind_more (is_operand a) d in
+      sides_run (source_of b z J) (source_of a z J) o purpose z d deep lets va vb u ca cb s
+      (source_is b z J lets deep u sized nodes fits.2) (source_is a z J lets d u sized nodes fits.1) sized few le more
+      (λ e f. free_beside (is_operand a) (is_operand b) d (sym (found_same a z J) ∙ e)
+      (sym (found_same b z J) ∙ f) fits.0) h
+      stands room
+      (λ st2 l2. term_runs a z J d lets Value u s sized nodes few le fits.1 h st2 (omega (arith, l2)))
+      (λ t same st2 l2. term_runs b z J deep lets Value u t sized nodes few (omega (arith, le, more)) fits.2
+      (still_holds env lets d u s t le h same) st2 (omega (arith, l2)))
+  term_runs (Logical' c p a q b) z J d lets purpose u s sized nodes few le fits h stands room =
+      let va = value a z env J u in
+      let vb = value b z env J u in
+      let left = λ (w : Bool) (g : ℕ). term_code a z J d (Jump w g) in
+      let v = combine c (truth va) (truth vb) in
+      by_test_runs purpose (λ when far. both_code (decides c) when far left
+      (term_code b z J d (Jump when far))) d v s stands
+      room
+      (λ when far st l. both_runs (decides c) when far left (term_code b z J d (Jump when far)) d va vb
+      (number_of v) s st l
+      (λ w g st2 l2. term_runs a z J d lets (Jump w g) u s sized nodes few le fits.0 h st2 l2)
+      (λ t same st2 l2. term_runs b z J d lets (Jump when far) u t sized nodes few le fits.1
+      (still_holds env lets d u s t le h same) st2 l2)
+      (λ e. truth_of v ∙ decided c (truth va) (truth vb) e) (λ e. truth_of v ∙ undecided c (truth va) (truth vb) e))
+  term_runs (Not' p a) z J d lets purpose u s sized nodes few le fits h stands room =
+      let va = value a z env J u in
+      by_test_runs purpose (λ when far. term_code a z J d (Jump (not when) far)) d (not (truth va)) s stands room
+      (λ when far st l. gets s _ _ _ _ (Same d s) (Same d s) (omega (arith, landing_not when va far)) (omega arith)
+      (λ t k. k) (term_runs a z J d lets (Jump (not when) far) u s sized nodes few le fits h st l))
+  term_runs (Choice' p t q a r b) z J d lets purpose u s sized nodes few le fits h stands room =
+      let ca = term_code a z J d Value in
+      let cb = term_code b z J d Value in
+      let vt = value t z env J u in
+      let va = value a z env J u in
+      let vb = value b z env J u in
+      let v = if truth vt then va else vb in
+      by_value_runs purpose (choice_code (λ far. term_code t z J d (Jump false far)) ca cb) d v s stands room
+      (λ st l. choice_runs (λ far. term_code t z J d (Jump false far)) ca cb d vt s (Has d s v) st l
+      (λ far st2 l2. term_runs t z J d lets (Jump false far) u s sized nodes few le fits.0 h st2 l2)
+      (λ w same e st2 l2. gets w _ _ _ _ (Has d w va) (Has d s v) refl (omega arith)
+      (λ x k. has_from d va v s w x same (sym (cond-true (truth vt) va vb e)) k)
+      (term_runs a z J d lets Value u w sized nodes few le fits.1 (still_holds env lets d u s w le h same) st2
+      (omega (arith, l2))))
+      (λ w same e st2 l2. gets w _ _ _ _ (Has d w vb) (Has d s v) refl (omega arith)
+      (λ x k. has_from d vb v s w x same (sym (cond-false (truth vt) va vb e)) k)
+      (term_runs b z J d lets Value u w sized nodes few le fits.2 (still_holds env lets d u s w le h same) st2
+      (omega (arith, l2))))
+      (λ x to k. has_at d v s x to k))
+  term_runs (Count' p t) z J d lets purpose u s sized nodes few le fits h stands room =
+      let test = λ (j : ℕ). term_code t z (J ++ j ∷ []) (d + 1) (Jump false 1) in
+      let holds = λ (j : ℕ). value t z env (J ++ j ∷ []) u in
+      by_value_runs purpose (count_code d z.nodes test) d (count_below z.nodes holds) s stands room
+      (λ st l. count_runs d z.nodes test holds s fits.0 (nodes_few z sized) st l
+      (λ j w lt same st2 l2.
+      let more : length J + 1 ≡ length (J ++ j ∷ []) = omega (arith, length-append J (j ∷ [])) in
+      term_runs t z (J ++ j ∷ []) (d + 1) lets (Jump false 1) u w sized (All-push (λ i. i < z.nodes) J j nodes lt) few
+      (omega (arith, le)) (subst (λ (n : ℕ). Fits t z n lets (d + 1)) more fits.1)
+      (still_holds env lets d u s w le h same) st2 l2))

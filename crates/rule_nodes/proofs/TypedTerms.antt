@@ -1,0 +1,1296 @@
+-- The code of terms is typed.
+use Rattle.std.proofs.Common.{◌≡◌, ℕ, zero, suc, ◌+◌, ◌-◌, ◌*◌, ◌^◌, ◌%◌, ◌<◌, ◌≤◌, nat_lt, Bool, true, false, not, ◌||◌, if◌then◌else◌, min, ◌⊎◌, List, [], ◌∷◌, ◌++◌, length, Option, Some, None, ℤ, pos, slice_index, refl, sym, ap, ◌∙◌, arith, subst, inl, inr, length-append}
+use Rattle.std.proofs.lemmas.Option.{same_Some, none-some}
+use Rattle.std.proofs.lemmas.Bool.{cases_lt, lt-ltb, le-ltb, ltb-true, ne_eqb, cases_Bool, cond-true, cond-false}
+use Rattle.std.proofs.Math.Nat.{mod-eq_of_lt}
+use Rattle.std.specs.Int.{w32, w64, cast_signed, cast_unsigned}
+use Rattle.node_env.specs.Env.{Extent}
+use Rattle.bpf_insn.specs.declared.forms.Reg.TheVariants.{R0, R1, R6}
+use Rattle.bpf_insn.specs.declared.forms.Width.TheVariants.{W32}
+use Rattle.bpf_insn.specs.declared.forms.Size.TheVariants as size
+use Rattle.bpf_insn.specs.declared.forms.AluOp.TheVariants.{Add, Sub, Mul, Div, Mod, Mov}
+use Rattle.bpf_insn.specs.declared.forms.AluOp.{AluOp}
+use Rattle.bpf_insn.specs.declared.forms.Operand.{Operand}
+use Rattle.bpf_insn.specs.Operands.{operand_reads}
+use Rattle.bpf_insn.specs.declared.forms.Cond.TheVariants.{Lt, Ge}
+use Rattle.bpf_insn.specs.declared.forms.Operand.TheVariants as operand
+use Rattle.bpf_insn.specs.declared.forms.Insn.{Insn}
+use Rattle.bpf_insn.specs.declared.forms.Insn.TheVariants as i
+use Rattle.bpf_insn.specs.Edges.{BeginsAt}
+use Rattle.value_range.specs.Span.{Span, span, just, full_of, IsInside, HasMembers}
+use Rattle.value_range.proofs.Growing.{alu_grows}
+use Rattle.value_range.specs.Results.{alu_of as range_of}
+use Rattle.value_range.specs.Conditions.{less, branch_of, ArePairsInside}
+use Rattle.value_range.proofs.GrowingPairs.{branch_grows}
+use Rattle.bpf_verify.specs.declared.kind.Kind.{Kind}
+use Rattle.bpf_verify.specs.declared.kind.Kind.TheVariants.{Unset, Number}
+use Rattle.bpf_verify.specs.States.{AbstractState, IsKindIn, IsContainedIn, IsProper, IsProperKind, is_pointer_kind, is_unset_kind, kind_of}
+use Rattle.bpf_verify.specs.Rules.{operand_kind, some_unset}
+use Rattle.bpf_verify.specs.Outcomes.{refined_by, branch_outcome, of_number_kind, with_kind}
+use Rattle.bpf_verify.specs.Typable.{Table, IsCovered}
+use Rattle.bpf_verify.proofs.StateLaws.{kind_in_itself, contained_further}
+use Rattle.clock_nodes.proofs.Taken.{within, covered, keeps_own, KeepsOwn}
+use Rattle.rule_nodes.specs.declared.syntax.Sizes.{Sizes}
+use Rattle.rule_nodes.specs.declared.syntax.Operation.{Operation}
+use Rattle.rule_nodes.specs.declared.syntax.Operation.TheVariants.{Sum, Difference, Product, Quotient, Remainder}
+use Rattle.rule_nodes.specs.declared.syntax.Comparison.{Comparison}
+use Rattle.rule_nodes.specs.declared.syntax.Comparison.TheVariants.{Equal, NotEqual, Less, AtMost, Greater, AtLeast}
+use Rattle.rule_nodes.specs.declared.syntax.Operator.{Operator}
+use Rattle.rule_nodes.specs.declared.syntax.Operator.TheVariants.{Compute, Compare}
+use Rattle.rule_nodes.specs.declared.syntax.Purpose.{Purpose}
+use Rattle.rule_nodes.specs.declared.syntax.Purpose.TheVariants.{Value, Jump}
+use Rattle.rule_nodes.specs.declared.syntax.Source.{Source}
+use Rattle.rule_nodes.specs.declared.syntax.Source.TheVariants.{Constant, FromLocal, FromWord, Computed}
+use Rattle.rule_nodes.specs.declared.syntax.Term.{Term}
+use Rattle.rule_nodes.specs.declared.syntax.Term.TheVariants.{Number as Numeral, Nodes, Faults, Modulus, Me, Coin, LoopNode, Local, Word, Message', Binary', Logical', Not', Choice', Count'}
+use Rattle.rule_nodes.specs.Operands.{is_constant, is_operand, constant_number, depth_behind, fetched_source, source_of}
+use Rattle.rule_nodes.specs.Fits.{Fits}
+use Rattle.rule_nodes.specs.Code.{place, set_number, copy, alu_of, cond_of, jump_on, jump_by, jump_at, truth_code, by_value, by_test, two_code, get_code, operand_code, load_code, jump_place, by_operator, left_code, binary_code, message_by, mirror, set_node, choice_code, decides, both_far, both_code, message_code, count_codes, count_code, term_code}
+use Rattle.rule_nodes.proofs.TermRuns.{beyond, is_found, found_same, behind_more, free_beside, same_depth}
+use Rattle.rule_nodes.proofs.Typing.{memory_place, word, held, known, plain, valued, proper_known, some_word, into, short, seen, Typing, typed_then, typed_as, typed_none, one_on, one_jump, one_fork, number_typed, fetch_typed, keep_typed, second_typed}
+
+held_less : (k d : ℕ) → IsKindIn (held k (d + 1)) (held k d)
+held_less k d = elim (cases_lt k d) [
+  | inl h ↦ rw (lt-ltb k d h, lt-ltb k (d + 1) (omega arith)) (kind_in_itself word)
+  | inr h ↦ rw (le-ltb k d h) tt
+]
+
+pub known_less : (d : ℕ) (k0 k1 k2 : Kind) → IsContainedIn (known (d + 1) k0 k1 k2) (known d k0 k1 k2)
+known_less d k0 k1 k2 = within (known (d + 1) k0 k1 k2) k0 k1 k2 memory_place (held 0 d) (held 1 d) (held 2 d)
+    (kind_in_itself k0) (kind_in_itself k1) (kind_in_itself k2) (kind_in_itself memory_place) (held_less 0 d)
+    (held_less 1 d) (held_less 2 d)
+
+pub covers_less : (table : Table) (A C : AbstractState) (to : ℕ) → IsContainedIn A C → IsCovered table C to
+    → IsCovered table A to
+covers_less table A C to h g = let v = seen table C to g in
+    covered table A v.there to v.stands (contained_further A C v.there h v.inside)
+
+-- what a condition on r0 leaves
+pub left_imm : (d : ℕ) (v : _) (found : Option (Span × Span)) (C : AbstractState)
+    → refined_by (valued d) R0 (operand.Imm v) found ≡ Some C → IsContainedIn C (plain d)
+left_imm d v None C e = absurd (none-some C e)
+left_imm d v (Some pair) C e = subst (λ (x : AbstractState). IsContainedIn x (plain d)) (same_Some _ C e)
+    (into _ d Unset Unset Unset tt tt tt refl refl refl refl)
+
+left_reg : (d : ℕ) (found : Option (Span × Span)) (C : AbstractState)
+    → refined_by (known d word word Unset) R0 (operand.Reg R1) found ≡ Some C → IsContainedIn C (plain d)
+left_reg d None C e = absurd (none-some C e)
+left_reg d (Some pair) C e = subst (λ (x : AbstractState). IsContainedIn x (plain d)) (same_Some _ C e)
+    (into _ d Unset Unset Unset tt tt tt refl refl refl refl)
+
+-- a source is in scope, or in the memory
+abbrev pub IsThere : Source → ℕ → ℕ → Type 0
+IsThere (Constant c) lets memory = Unit {0}
+IsThere (FromLocal k) lets memory = k < lets
+IsThere (FromWord k) lets memory = 4 * k + 4 ≤ memory
+IsThere Computed lets memory = Unit {0}
+
+fetched_there : (t : Term) (z : Sizes) (loops lets d : ℕ) → Fits t z loops lets d
+    → IsThere (fetched_source t) lets z.memory
+fetched_there (Local k) z loops lets d fits = fits
+fetched_there (Word k) z loops lets d fits = fits
+fetched_there t z loops lets d fits = tt
+
+pub source_there : (t : Term) (z : Sizes) (J : List ℕ) (loops lets d : ℕ) → Fits t z loops lets d
+    → IsThere (source_of t z J) lets z.memory
+source_there t z J loops lets d fits =
+    let c = Constant (constant_number t z J) in
+    let P : Source → Type 0 = λ x. IsThere x lets z.memory in
+    elim (cases_Bool (is_constant t)) [
+      | inl so ↦ subst P (sym (cond-true (is_constant t) c (fetched_source t) so)) tt
+      | inr other ↦ subst P (sym (cond-false (is_constant t) c (fetched_source t) other))
+          (fetched_there t z loops lets d fits)
+    ]
+
+-- what r1 holds beside r0
+abbrev pub r1_kind : Source → Kind
+r1_kind (Constant c) = Unset
+r1_kind (FromLocal k) = Unset
+r1_kind (FromWord k) = word
+r1_kind Computed = word
+
+abbrev pub paired : Source → ℕ → AbstractState
+paired y d = known d word (r1_kind y) Unset
+
+proper_paired : (y : Source) (d : ℕ) → IsProper (paired y d)
+proper_paired (Constant c) d = proper_known d word Unset Unset some_word tt tt
+proper_paired (FromLocal k) d = proper_known d word Unset Unset some_word tt tt
+proper_paired (FromWord k) d = proper_known d word word Unset some_word some_word tt
+proper_paired Computed d = proper_known d word word Unset some_word some_word tt
+
+-- a number of 32 bits into a place
+in_held : (k d : ℕ) (K : Kind) → IsKindIn K word → IsKindIn K (held k d)
+in_held k d K h = by (nat_lt k d)
+  where
+    by : (b : Bool) → IsKindIn K (if b then word else Unset)
+    by true = h
+    by false = tt
+
+pub placed_in : (k d : ℕ) (K : Kind) → k < 3 → IsKindIn K word → IsContainedIn
+    (with_kind (plain d) (place k) K) (plain d)
+placed_in zero d K lt h = within _ Unset Unset Unset memory_place (held 0 d) (held 1 d) (held 2 d) tt tt tt
+    (kind_in_itself memory_place) (in_held 0 d K h) (kind_in_itself (held 1 d)) (kind_in_itself (held 2 d))
+placed_in (suc zero) d K lt h = within _ Unset Unset Unset memory_place (held 0 d) (held 1 d) (held 2 d) tt tt tt
+    (kind_in_itself memory_place) (kind_in_itself (held 0 d)) (in_held 1 d K h) (kind_in_itself (held 2 d))
+placed_in (suc (suc zero)) d K lt h = within _ Unset Unset Unset memory_place (held 0 d) (held 1 d) (held 2 d) tt tt tt
+    (kind_in_itself memory_place) (kind_in_itself (held 0 d)) (kind_in_itself (held 1 d)) (in_held 2 d K h)
+placed_in (suc (suc (suc k))) d K lt h = absurd (omega (arith, lt))
+
+-- what is known of a place in use
+pub place_word : (k d : ℕ) → k < d → d ≤ 3 → kind_of (plain d) (place k) ≡ word
+place_word zero zero lt few = absurd (omega (arith, lt))
+place_word (suc k) zero lt few = absurd (omega (arith, lt))
+place_word (suc k) (suc zero) lt few = absurd (omega (arith, lt))
+place_word (suc (suc k)) (suc (suc zero)) lt few = absurd (omega (arith, lt))
+place_word (suc (suc (suc k))) (suc (suc (suc zero))) lt few = absurd (omega (arith, lt))
+place_word k (suc (suc (suc (suc d)))) lt few = absurd (omega (arith, few))
+place_word zero (suc zero) lt few = refl
+place_word zero (suc (suc zero)) lt few = refl
+place_word zero (suc (suc (suc zero))) lt few = refl
+place_word (suc zero) (suc (suc zero)) lt few = refl
+place_word (suc zero) (suc (suc (suc zero))) lt few = refl
+place_word (suc (suc zero)) (suc (suc (suc zero))) lt few = refl
+
+-- an operand is a number of 32 bits
+record OperandIs (src : Operand) (A : AbstractState) : Type 0 where
+  range : Span
+  kind : operand_kind W32 src A ≡ Number range
+  set : some_unset A (operand_reads src) ≡ false
+  ordered : HasMembers range
+  inside : IsInside range (full_of 32)
+
+word_inside : IsInside (full_of 32) (full_of 32)
+word_inside = record { low = omega arith; high = omega arith }
+
+place_is : (k d : ℕ) → k < d → d ≤ 3 → OperandIs (operand.Reg (place k)) (valued d)
+place_is zero zero lt few = absurd (omega (arith, lt))
+place_is (suc k) zero lt few = absurd (omega (arith, lt))
+place_is (suc k) (suc zero) lt few = absurd (omega (arith, lt))
+place_is (suc (suc k)) (suc (suc zero)) lt few = absurd (omega (arith, lt))
+place_is (suc (suc (suc k))) (suc (suc (suc zero))) lt few = absurd (omega (arith, lt))
+place_is k (suc (suc (suc (suc d)))) lt few = absurd (omega (arith, few))
+place_is zero (suc zero) lt few =
+    record { range = full_of 32; kind = refl; set = refl; ordered = some_word; inside = word_inside }
+place_is zero (suc (suc zero)) lt few =
+    record { range = full_of 32; kind = refl; set = refl; ordered = some_word; inside = word_inside }
+place_is zero (suc (suc (suc zero))) lt few =
+    record { range = full_of 32; kind = refl; set = refl; ordered = some_word; inside = word_inside }
+place_is (suc zero) (suc (suc zero)) lt few =
+    record { range = full_of 32; kind = refl; set = refl; ordered = some_word; inside = word_inside }
+place_is (suc zero) (suc (suc (suc zero))) lt few =
+    record { range = full_of 32; kind = refl; set = refl; ordered = some_word; inside = word_inside }
+place_is (suc (suc zero)) (suc (suc (suc zero))) lt few =
+    record { range = full_of 32; kind = refl; set = refl; ordered = some_word; inside = word_inside }
+
+operand_is : (y : Source) (d lets memory : ℕ) → IsThere y lets memory → lets ≤ d → d ≤ 3
+    → OperandIs (operand_code y) (paired y d)
+operand_is (Constant c) d lets memory there below few = record {
+  range = just (cast_unsigned w64 (cast_signed w32 c) % 2 ^ 32);
+  kind = refl;
+  set = refl;
+  ordered = record { ordered = omega arith };
+  inside = record { low = omega arith; high = omega arith };
+}
+operand_is (FromLocal k) d lets memory there below few = place_is k d (omega (arith, there, below)) few
+operand_is (FromWord k) d lets memory there below few =
+    record { range = full_of 32; kind = refl; set = refl; ordered = some_word; inside = word_inside }
+operand_is Computed d lets memory there below few =
+    record { range = full_of 32; kind = refl; set = refl; ordered = some_word; inside = word_inside }
+
+-- the result of an operation on a number of 32 bits and an operand is one
+word_result : (op : AluOp) (k : Kind) (s : Span) → k ≡ Number s → HasMembers s → IsInside s (full_of 32)
+    → range_of op W32 (full_of 32) (full_of 32) ≡ full_of 32
+    → IsKindIn (of_number_kind (range_of op W32 (full_of 32)) k) word
+word_result op k s e ordered inside same = (
+  range_of op W32 (full_of 32) s,
+  ap (of_number_kind (range_of op W32 (full_of 32))) e,
+  subst (λ (x : Span). IsInside (range_of op W32 (full_of 32) s) x) same
+      (alu_grows op W32 (full_of 32) s (full_of 32) (full_of 32) (record { ordered = omega arith }) ordered
+      word_inside inside),
+)
+
+-- what a comparison of two numbers of 32 bits leaves of the second
+branch_inside : (r : Comparison) (taken : Bool) (pair : Span × Span)
+    → branch_of (cond_of r) W32 (full_of 32) (full_of 32) taken ≡ Some pair → IsInside pair.1 (full_of 32)
+branch_inside Equal true pair e = subst (λ (p : Span × Span). IsInside p.1 (full_of 32)) (same_Some _ pair e)
+    (record { low = omega arith; high = omega arith })
+branch_inside Equal false pair e = subst (λ (p : Span × Span). IsInside p.1 (full_of 32)) (same_Some _ pair e)
+    (record { low = omega arith; high = omega arith })
+branch_inside NotEqual true pair e = subst (λ (p : Span × Span). IsInside p.1 (full_of 32)) (same_Some _ pair e)
+    (record { low = omega arith; high = omega arith })
+branch_inside NotEqual false pair e = subst (λ (p : Span × Span). IsInside p.1 (full_of 32)) (same_Some _ pair e)
+    (record { low = omega arith; high = omega arith })
+branch_inside Less true pair e = subst (λ (p : Span × Span). IsInside p.1 (full_of 32)) (same_Some _ pair e)
+    (record { low = omega arith; high = omega arith })
+branch_inside Less false pair e = subst (λ (p : Span × Span). IsInside p.1 (full_of 32)) (same_Some _ pair e)
+    (record { low = omega arith; high = omega arith })
+branch_inside AtMost true pair e = subst (λ (p : Span × Span). IsInside p.1 (full_of 32)) (same_Some _ pair e)
+    (record { low = omega arith; high = omega arith })
+branch_inside AtMost false pair e = subst (λ (p : Span × Span). IsInside p.1 (full_of 32)) (same_Some _ pair e)
+    (record { low = omega arith; high = omega arith })
+branch_inside Greater true pair e = subst (λ (p : Span × Span). IsInside p.1 (full_of 32)) (same_Some _ pair e)
+    (record { low = omega arith; high = omega arith })
+branch_inside Greater false pair e = subst (λ (p : Span × Span). IsInside p.1 (full_of 32)) (same_Some _ pair e)
+    (record { low = omega arith; high = omega arith })
+branch_inside AtLeast true pair e = subst (λ (p : Span × Span). IsInside p.1 (full_of 32)) (same_Some _ pair e)
+    (record { low = omega arith; high = omega arith })
+branch_inside AtLeast false pair e = subst (λ (p : Span × Span). IsInside p.1 (full_of 32)) (same_Some _ pair e)
+    (record { low = omega arith; high = omega arith })
+
+-- and of the first, beside one number
+inside_further : (a b : Span) → IsInside a b → IsInside b (full_of 32) → IsInside a (full_of 32)
+inside_further a b h g = record { low = omega (arith, h.low, g.low); high = omega (arith, h.high, g.high) }
+
+branch_first : (r : Comparison) (taken : Bool) (n : ℕ) (pair : Span × Span) → n < 2 ^ 32
+    → branch_of (cond_of r) W32 (full_of 32) (just n) taken ≡ Some pair → IsInside pair.0 (full_of 32)
+branch_first Equal true n pair small e =
+    let all = subst (λ (found : Option (Span × Span)). ArePairsInside found (branch_of (cond_of Equal) W32 (full_of 32)
+    (full_of 32) true)) e (branch_grows (cond_of Equal) W32 (full_of 32) (just n) (full_of 32)
+    (full_of 32) true some_word
+    (record { ordered = omega arith }) word_inside (record { low = omega arith; high = omega (arith, small) })) in
+    inside_further pair.0 _ all.0 (record { low = omega arith; high = omega arith })
+branch_first Equal false n pair small e =
+    let all = subst (λ (found : Option (Span × Span)). ArePairsInside found (branch_of (cond_of Equal) W32 (full_of 32)
+    (full_of 32) false)) e (branch_grows (cond_of Equal) W32 (full_of 32) (just n) (full_of 32)
+    (full_of 32) false some_word
+    (record { ordered = omega arith }) word_inside (record { low = omega arith; high = omega (arith, small) })) in
+    inside_further pair.0 _ all.0 (record { low = omega arith; high = omega arith })
+branch_first NotEqual true n pair small e =
+    let all = subst (λ (found : Option (Span × Span)). ArePairsInside found
+    (branch_of (cond_of NotEqual) W32 (full_of 32) (full_of 32) true)) e (branch_grows (cond_of NotEqual) W32
+    (full_of 32) (just n) (full_of 32) (full_of 32) true some_word
+    (record { ordered = omega arith }) word_inside (record { low = omega arith; high = omega (arith, small) })) in
+    inside_further pair.0 _ all.0 (record { low = omega arith; high = omega arith })
+branch_first NotEqual false n pair small e =
+    let all = subst (λ (found : Option (Span × Span)). ArePairsInside found
+    (branch_of (cond_of NotEqual) W32 (full_of 32) (full_of 32) false)) e (branch_grows (cond_of NotEqual) W32
+    (full_of 32) (just n) (full_of 32) (full_of 32) false some_word
+    (record { ordered = omega arith }) word_inside (record { low = omega arith; high = omega (arith, small) })) in
+    inside_further pair.0 _ all.0 (record { low = omega arith; high = omega arith })
+branch_first Less true n pair small e =
+    let all = subst (λ (found : Option (Span × Span)). ArePairsInside found (branch_of (cond_of Less) W32 (full_of 32)
+    (full_of 32) true)) e (branch_grows (cond_of Less) W32 (full_of 32) (just n) (full_of 32)
+    (full_of 32) true some_word
+    (record { ordered = omega arith }) word_inside (record { low = omega arith; high = omega (arith, small) })) in
+    inside_further pair.0 _ all.0 (record { low = omega arith; high = omega arith })
+branch_first Less false n pair small e =
+    let all = subst (λ (found : Option (Span × Span)). ArePairsInside found (branch_of (cond_of Less) W32 (full_of 32)
+    (full_of 32) false)) e (branch_grows (cond_of Less) W32 (full_of 32) (just n) (full_of 32)
+    (full_of 32) false some_word
+    (record { ordered = omega arith }) word_inside (record { low = omega arith; high = omega (arith, small) })) in
+    inside_further pair.0 _ all.0 (record { low = omega arith; high = omega arith })
+branch_first AtMost true n pair small e =
+    let all = subst (λ (found : Option (Span × Span)). ArePairsInside found (branch_of (cond_of AtMost) W32 (full_of 32)
+    (full_of 32) true)) e (branch_grows (cond_of AtMost) W32 (full_of 32) (just n) (full_of 32)
+    (full_of 32) true some_word
+    (record { ordered = omega arith }) word_inside (record { low = omega arith; high = omega (arith, small) })) in
+    inside_further pair.0 _ all.0 (record { low = omega arith; high = omega arith })
+branch_first AtMost false n pair small e =
+    let all = subst (λ (found : Option (Span × Span)). ArePairsInside found (branch_of (cond_of AtMost) W32 (full_of 32)
+    (full_of 32) false)) e (branch_grows (cond_of AtMost) W32 (full_of 32) (just n) (full_of 32)
+    (full_of 32) false some_word
+    (record { ordered = omega arith }) word_inside (record { low = omega arith; high = omega (arith, small) })) in
+    inside_further pair.0 _ all.0 (record { low = omega arith; high = omega arith })
+branch_first Greater true n pair small e =
+    let all = subst (λ (found : Option (Span × Span)). ArePairsInside found
+    (branch_of (cond_of Greater) W32 (full_of 32) (full_of 32) true)) e (branch_grows (cond_of Greater) W32 (full_of 32)
+    (just n) (full_of 32) (full_of 32) true some_word
+    (record { ordered = omega arith }) word_inside (record { low = omega arith; high = omega (arith, small) })) in
+    inside_further pair.0 _ all.0 (record { low = omega arith; high = omega arith })
+branch_first Greater false n pair small e =
+    let all = subst (λ (found : Option (Span × Span)). ArePairsInside found
+    (branch_of (cond_of Greater) W32 (full_of 32) (full_of 32) false)) e (branch_grows (cond_of Greater) W32
+    (full_of 32) (just n) (full_of 32) (full_of 32) false some_word
+    (record { ordered = omega arith }) word_inside (record { low = omega arith; high = omega (arith, small) })) in
+    inside_further pair.0 _ all.0 (record { low = omega arith; high = omega arith })
+branch_first AtLeast true n pair small e =
+    let all = subst (λ (found : Option (Span × Span)). ArePairsInside found
+    (branch_of (cond_of AtLeast) W32 (full_of 32) (full_of 32) true)) e (branch_grows (cond_of AtLeast) W32 (full_of 32)
+    (just n) (full_of 32) (full_of 32) true some_word
+    (record { ordered = omega arith }) word_inside (record { low = omega arith; high = omega (arith, small) })) in
+    inside_further pair.0 _ all.0 (record { low = omega arith; high = omega arith })
+branch_first AtLeast false n pair small e =
+    let all = subst (λ (found : Option (Span × Span)). ArePairsInside found
+    (branch_of (cond_of AtLeast) W32 (full_of 32) (full_of 32) false)) e (branch_grows (cond_of AtLeast) W32
+    (full_of 32) (just n) (full_of 32) (full_of 32) false some_word
+    (record { ordered = omega arith }) word_inside (record { low = omega arith; high = omega (arith, small) })) in
+    inside_further pair.0 _ all.0 (record { low = omega arith; high = omega arith })
+
+left_place : (r : Comparison) (taken : Bool) (k d n : ℕ) (v : ℤ) (K : Kind) (C : AbstractState) → k < 3 → n < 2 ^ 32
+    → K ≡ word
+    → branch_outcome (plain d) (cond_of r) W32 (place k) (operand.Imm v) taken K (Number (just n)) ≡ Some C
+    → IsContainedIn C (plain d)
+left_place r taken k d n v K C lt small e q =
+    let h = subst (λ (x : Kind). branch_outcome (plain d) (cond_of r) W32 (place k) (operand.Imm v) taken x
+    (Number (just n)) ≡ Some C) e q in
+    by (branch_of (cond_of r) W32 (full_of 32) (just n) taken) refl h
+  where
+    by : (found : Option (Span × Span)) → branch_of (cond_of r) W32 (full_of 32) (just n) taken ≡ found
+        → refined_by (plain d) (place k) (operand.Imm v) found ≡ Some C → IsContainedIn C (plain d)
+    by None f h = absurd (none-some C h)
+    by (Some pair) f h = subst (λ (x : AbstractState). IsContainedIn x (plain d)) (same_Some _ C h)
+        (placed_in k d (Number pair.0) lt (pair.0, refl, branch_first r taken n pair small f))
+
+-- what a comparison of r0 and a place leaves, at depth 1, 2 and 3
+left_0_1 : (found : Option (Span × Span)) (C : AbstractState)
+    → ((pair : Span × Span) → found ≡ Some pair → IsInside pair.1 (full_of 32))
+    → refined_by (valued 1) R0 (operand.Reg (place 0)) found ≡ Some C → IsContainedIn C (plain 1)
+left_0_1 None C h e = absurd (none-some C e)
+left_0_1 (Some pair) C h e = subst (λ (x : AbstractState). IsContainedIn x (plain 1)) (same_Some _ C e)
+    (within _ Unset Unset Unset memory_place word Unset Unset tt tt tt (kind_in_itself memory_place)
+    (pair.1, refl, h pair refl) tt tt)
+
+left_0_2 : (found : Option (Span × Span)) (C : AbstractState)
+    → ((pair : Span × Span) → found ≡ Some pair → IsInside pair.1 (full_of 32))
+    → refined_by (valued 2) R0 (operand.Reg (place 0)) found ≡ Some C → IsContainedIn C (plain 2)
+left_0_2 None C h e = absurd (none-some C e)
+left_0_2 (Some pair) C h e = subst (λ (x : AbstractState). IsContainedIn x (plain 2)) (same_Some _ C e)
+    (within _ Unset Unset Unset memory_place word word Unset tt tt tt (kind_in_itself memory_place)
+    (pair.1, refl, h pair refl) (kind_in_itself word) tt)
+
+left_0_3 : (found : Option (Span × Span)) (C : AbstractState)
+    → ((pair : Span × Span) → found ≡ Some pair → IsInside pair.1 (full_of 32))
+    → refined_by (valued 3) R0 (operand.Reg (place 0)) found ≡ Some C → IsContainedIn C (plain 3)
+left_0_3 None C h e = absurd (none-some C e)
+left_0_3 (Some pair) C h e = subst (λ (x : AbstractState). IsContainedIn x (plain 3)) (same_Some _ C e)
+    (within _ Unset Unset Unset memory_place word word word tt tt tt (kind_in_itself memory_place)
+    (pair.1, refl, h pair refl) (kind_in_itself word) (kind_in_itself word))
+
+left_1_2 : (found : Option (Span × Span)) (C : AbstractState)
+    → ((pair : Span × Span) → found ≡ Some pair → IsInside pair.1 (full_of 32))
+    → refined_by (valued 2) R0 (operand.Reg (place 1)) found ≡ Some C → IsContainedIn C (plain 2)
+left_1_2 None C h e = absurd (none-some C e)
+left_1_2 (Some pair) C h e = subst (λ (x : AbstractState). IsContainedIn x (plain 2)) (same_Some _ C e)
+    (within _ Unset Unset Unset memory_place word word Unset tt tt tt (kind_in_itself memory_place)
+    (kind_in_itself word) (pair.1, refl, h pair refl) tt)
+
+left_1_3 : (found : Option (Span × Span)) (C : AbstractState)
+    → ((pair : Span × Span) → found ≡ Some pair → IsInside pair.1 (full_of 32))
+    → refined_by (valued 3) R0 (operand.Reg (place 1)) found ≡ Some C → IsContainedIn C (plain 3)
+left_1_3 None C h e = absurd (none-some C e)
+left_1_3 (Some pair) C h e = subst (λ (x : AbstractState). IsContainedIn x (plain 3)) (same_Some _ C e)
+    (within _ Unset Unset Unset memory_place word word word tt tt tt (kind_in_itself memory_place)
+    (kind_in_itself word) (pair.1, refl, h pair refl) (kind_in_itself word))
+
+left_2_3 : (found : Option (Span × Span)) (C : AbstractState)
+    → ((pair : Span × Span) → found ≡ Some pair → IsInside pair.1 (full_of 32))
+    → refined_by (valued 3) R0 (operand.Reg (place 2)) found ≡ Some C → IsContainedIn C (plain 3)
+left_2_3 None C h e = absurd (none-some C e)
+left_2_3 (Some pair) C h e = subst (λ (x : AbstractState). IsContainedIn x (plain 3)) (same_Some _ C e)
+    (within _ Unset Unset Unset memory_place word word word tt tt tt (kind_in_itself memory_place)
+    (kind_in_itself word) (kind_in_itself word) (pair.1, refl, h pair refl))
+
+module _ (program : List Insn) (shape : Extent) (last : ℕ) (solid : (k : ℕ) → k ≤ last → BeginsAt program k) where
+  abbrev T : ℕ → List Insn → (Table → Type 0) → (Table → Type 0) → Type 0
+  T slot code O A = Typing program shape last solid slot code O A
+
+  abbrev C : AbstractState → ℕ → Table → Type 0
+  C A to table = IsCovered table A to
+
+  -- one part after the other, which offers what the first asks
+  pub typed_seq : (slot to : ℕ) (xs ys : List Insn) (O M A : Table → Type 0) → slot + length xs ≡ to → T slot xs O M
+      → T to ys M A → T slot (xs ++ ys) O A
+  typed_seq slot to xs ys O M A e t1 t2 =
+      typed_as program shape last solid slot (xs ++ ys) (λ table. O table × M table) A O A (λ table h. h.0)
+      (λ table h. h)
+      (typed_then program shape last solid slot to xs ys O M M A e t1 t2 (λ table m a. m))
+
+  pub typed_at : (slot to to2 : ℕ) (code : List Insn) (O : Table → Type 0) (A : AbstractState) → to ≡ to2
+      → T slot code O (C A to) → T slot code O (C A to2)
+  typed_at slot to to2 code O A e t = subst (λ (n : ℕ). T slot code O (C A n)) e t
+
+  -- where a term leads
+  abbrev pub Exits : Purpose → ℕ → ℕ → Table → Type 0
+  Exits Value d to table = C (valued d) to table
+  Exits (Jump when far) d to table = C (plain d) to table × C (plain d) (to + far) table
+
+  abbrev TermTyped : Purpose → ℕ → ℕ → List Insn → Type 0
+  TermTyped purpose d slot code = T slot code (C (plain d) slot) (Exits purpose d (slot + length code))
+
+  by_value_typed : (purpose : Purpose) (d slot : ℕ) (code : List Insn)
+      → slot + length (by_value purpose code) + beyond purpose ≤ last
+      → (slot + length code ≤ last → TermTyped Value d slot code) → TermTyped purpose d slot (by_value purpose code)
+  by_value_typed Value d slot code le t = t (omega (arith, le))
+  by_value_typed (Jump when far) d slot code le t =
+      let j = jump_at (jump_on when NotEqual) 0 far in
+      let len : length (code ++ j ∷ []) ≡ length code + 1 = length-append code (j ∷ []) in
+      let to = slot + length code in
+      let f = one_fork program shape last solid to far (cond_of (jump_on when NotEqual)) R0
+      (operand.Imm (pos 0)) (valued d) (plain d) (plain d) (λ x e. left_imm d (pos 0) _ x e)
+      (λ x e. left_imm d (pos 0) _ x e)
+      (proper_known d word Unset Unset some_word tt tt) (keeps_own _ _ _ refl) (omega (arith, len, le)) in
+      let e : to + 1 ≡ slot + length (code ++ j ∷ []) = omega (arith, len) in
+      let g = subst (λ (n : ℕ). T to (j ∷ []) (C (valued d) to) (λ table. C (plain d) n table × C (plain d)
+      (n + far) table)) e f in
+      typed_seq slot to code (j ∷ []) (C (plain d) slot) (C (valued d) to) _ refl (t (omega (arith, len, le))) g
+
+  -- the number of a test
+  truth_typed : (d slot : ℕ) → slot + 3 ≤ last
+      → T slot truth_code (λ table. C (plain d) slot table × C (plain d) (slot + 2) table) (C (valued d) (slot + 3))
+  truth_typed d slot le =
+      let a = number_typed program shape last solid d 1 slot (omega (arith, le)) in
+      let b = one_jump program shape last solid (slot + 1) 1 (valued d)
+      (proper_known d word Unset Unset some_word tt tt) (omega (arith, le)) in
+      let c = number_typed program shape last solid d 0 (slot + 2) (omega (arith, le)) in
+      let e1 : slot + 1 + 1 + 1 ≡ slot + 3 = omega arith in
+      let e2 : slot + 2 + 1 ≡ slot + 3 = omega arith in
+      let b1 = typed_at (slot + 1) (slot + 1 + 1 + 1) (slot + 3) (i.Ja (pos 1) ∷ []) (C (valued d) (slot + 1))
+      (valued d) e1 b in
+      let c1 = typed_at (slot + 2) (slot + 2 + 1) (slot + 3) (set_number R0 0 ∷ []) (C (plain d) (slot + 2))
+      (valued d) e2 c in
+      let bc = typed_then program shape last solid (slot + 1) (slot + 2) (i.Ja (pos 1) ∷ []) (set_number R0 0 ∷ [])
+      (C (valued d) (slot + 1)) (C (valued d) (slot + 3)) (C (plain d) (slot + 2))
+      (C (valued d) (slot + 3)) (omega arith)
+      b1 c1 (λ table o asks. asks) in
+      let abc = typed_then program shape last solid slot (slot + 1) (set_number R0 1 ∷ [])
+      (i.Ja (pos 1) ∷ set_number R0 0 ∷ []) (C (plain d) slot) (C (valued d) (slot + 1))
+      (λ table. C (valued d) (slot + 1) table × C (plain d) (slot + 2) table) (C (valued d) (slot + 3)) refl a bc
+      (λ table o asks. o.0) in
+      typed_as program shape last solid slot truth_code
+      (λ table. C (plain d) slot table × (C (valued d) (slot + 1) table × C (plain d) (slot + 2) table))
+      (C (valued d) (slot + 3))
+      (λ table. C (plain d) slot table × C (plain d) (slot + 2) table) (C (valued d) (slot + 3))
+      (λ table h. (h.0, h.1.1))
+      (λ table h. h) abc
+
+  by_test_typed : (purpose : Purpose) (d slot : ℕ) (test : Bool → ℕ → List Insn)
+      → slot + length (by_test purpose test) + beyond purpose ≤ last
+      → ((when : Bool) (far : ℕ) → slot + length (test when far) + far ≤ last → TermTyped (Jump when far) d slot
+      (test when far))
+      → TermTyped purpose d slot (by_test purpose test)
+  by_test_typed Value d slot test le t =
+      let code = test false 2 in
+      let len : length (code ++ truth_code) ≡ length code + 3 = length-append code truth_code in
+      let to = slot + length code in
+      let e : to + 3 ≡ slot + length (code ++ truth_code) = omega (arith, len) in
+      typed_at slot (to + 3) (slot + length (code ++ truth_code)) (code ++ truth_code) (C (plain d) slot) (valued d) e
+      (typed_seq slot to code truth_code (C (plain d) slot) (λ table. C (plain d) to table × C (plain d) (to + 2) table)
+      (C (valued d) (to + 3)) refl (t false 2 (omega (arith, len, le))) (truth_typed d to (omega (arith, len, le))))
+  by_test_typed (Jump when far) d slot test le t = t when far le
+
+  two_typed : (d slot : ℕ) (left right : List Insn) → d < 3 → slot + length (two_code d left right) ≤ last
+      → (slot + length left ≤ last → TermTyped Value d slot left)
+      → ((to : ℕ) → to + length right ≤ last → TermTyped Value (d + 1) to right)
+      → T slot (two_code d left right) (C (plain d) slot) (C (known d word word Unset)
+      (slot + length (two_code d left right)))
+  two_typed d slot left right few le first second =
+      let back = copy R1 R0 ∷ copy R0 (place d) ∷ [] in
+      let rest = copy (place d) R0 ∷ (right ++ back) in
+      let len : length (left ++ rest) ≡ length left + (1 + (length right + 2)) = omega
+      (arith, length-append left rest, length-append right back) in
+      let p1 = slot + length left in
+      let p2 = p1 + 1 in
+      let p3 = p2 + length right in
+      let p4 = p3 + 1 in
+      let end = slot + length (left ++ rest) in
+      let both = known (d + 1) word word Unset in
+      let a = first (omega (arith, len, le)) in
+      let b = keep_typed program shape last solid d p1 few (omega (arith, len, le)) in
+      let c = second p2 (omega (arith, len, le)) in
+      let s = second_typed program shape last solid (d + 1) p3 (omega (arith, len, le)) in
+      let f = fetch_typed program shape last solid d (d + 1) word p4 (omega arith) (omega (arith, few)) some_word
+      (omega (arith, len, le)) in
+      let e : p4 + 1 ≡ end = omega (arith, len) in
+      let f1 = typed_at p4 (p4 + 1) end (copy R0 (place d) ∷ []) (C (known (d + 1) Unset word Unset) p4) both e f in
+      let f2 = typed_as program shape last solid p4 (copy R0 (place d) ∷ []) (C (known (d + 1) Unset word Unset) p4)
+      (C both end) (C (known (d + 1) Unset word Unset) p4) (C (known d word word Unset) end) (λ table h. h)
+      (λ table h. covers_less table both (known d word word Unset) end (known_less d word word Unset) h) f1 in
+      let sf = typed_seq p3 p4 (copy R1 R0 ∷ []) (copy R0 (place d) ∷ []) (C (valued (d + 1)) p3)
+      (C (known (d + 1) Unset word Unset) p4) (C (known d word word Unset) end) refl s f2 in
+      let csf = typed_seq p2 p3 right back (C (plain (d + 1)) p2) (C (valued (d + 1)) p3)
+      (C (known d word word Unset) end) refl c sf in
+      let bcsf = typed_seq p1 p2 (copy (place d) R0 ∷ []) (right ++ back) (C (valued d) p1) (C (plain (d + 1)) p2)
+      (C (known d word word Unset) end) refl b csf in
+      typed_seq slot p1 left rest (C (plain d) slot) (C (valued d) p1) (C (known d word word Unset) end) refl a bcsf
+
+  -- ---- found numbers
+
+  -- into r1, beside r0
+  load_one : (d k slot : ℕ) → 4 * k + 4 ≤ shape.memory → slot + 1 ≤ last
+      → T slot (i.Load size.W R1 R6 (pos (4 * k)) ∷ []) (C (valued d) slot) (C (known d word word Unset) (slot + 1))
+  load_one d k slot inside le =
+      let room : nat_lt shape.memory (0 + 4 * k + 4) ≡ false = le-ltb shape.memory (0 + 4 * k + 4)
+      (omega (arith, inside)) in
+      one_on program shape last solid slot (i.Load size.W R1 R6 (pos (4 * k))) (valued d) _ (known d word word Unset)
+      refl refl refl (into _ d word word Unset (kind_in_itself word) (kind_in_itself word) tt refl refl refl refl)
+      (proper_known d word Unset Unset some_word tt tt) (keeps_own _ _ _ (rw room refl)) le
+
+  -- into r0, beside r1
+  get_typed : (x : Source) (d lets slot : ℕ) → is_found x ≡ true → IsThere x lets shape.memory → lets ≤ d → d ≤ 3
+      → slot + 1 ≤ last
+      → T slot (get_code R0 x ∷ []) (C (known d Unset word Unset) slot) (C (known d word word Unset) (slot + 1))
+  get_typed (Constant c) d lets slot found there below few le =
+      one_on program shape last solid slot (set_number R0 c) (known d Unset word Unset) _ (known d word word Unset)
+      refl refl refl
+      (into _ d word word Unset (short (cast_unsigned w64 (cast_signed w32 c) % 2 ^ 32)) (kind_in_itself word) tt
+      refl refl refl refl) (proper_known d Unset word Unset tt some_word tt) (keeps_own _ _ _ refl) le
+  get_typed (FromLocal k) d lets slot found there below few le =
+      fetch_typed program shape last solid k d word slot (omega (arith, there, below)) few some_word le
+  get_typed (FromWord k) d lets slot found there below few le =
+      let room : nat_lt shape.memory (0 + 4 * k + 4) ≡ false = le-ltb shape.memory (0 + 4 * k + 4)
+      (omega (arith, there)) in
+      one_on program shape last solid slot (get_code R0 (FromWord k)) (known d Unset word Unset) _
+      (known d word word Unset)
+      refl refl refl (into _ d word word Unset (kind_in_itself word) (kind_in_itself word) tt refl refl refl refl)
+      (proper_known d Unset word Unset tt some_word tt) (keeps_own _ _ _ (rw room refl)) le
+  get_typed Computed d lets slot found there below few le = absurd (let no : false ≡ true = found in cc)
+
+  -- as an operand, after the number in r0
+  unloaded_typed : (d slot : ℕ) (left : List Insn) → slot + length (left ++ []) ≤ last
+      → (slot + length left ≤ last → TermTyped Value d slot left)
+      → T slot (left ++ []) (C (plain d) slot) (C (valued d) (slot + length (left ++ [])))
+  unloaded_typed d slot left le first =
+      let len : length (left ++ []) ≡ length left + 0 = length-append left [] in
+      let p1 = slot + length left in
+      let e : p1 ≡ slot + length (left ++ []) = omega (arith, len) in
+      typed_at slot p1 (slot + length (left ++ [])) (left ++ []) (C (plain d) slot) (valued d) e
+      (typed_seq slot p1 left [] (C (plain d) slot) (C (valued d) p1) (C (valued d) p1) refl
+      (first (omega (arith, len, le)))
+      (typed_none program shape last solid p1 (C (valued d) p1)))
+
+  loaded_typed : (y : Source) (d lets slot : ℕ) (left : List Insn) → is_found y ≡ true → IsThere y lets shape.memory
+      → slot + length (left ++ load_code y) ≤ last → (slot + length left ≤ last → TermTyped Value d slot left)
+      → T slot (left ++ load_code y) (C (plain d) slot) (C (paired y d) (slot + length (left ++ load_code y)))
+  loaded_typed (Constant c) d lets slot left found there le first = unloaded_typed d slot left le first
+  loaded_typed (FromLocal k) d lets slot left found there le first = unloaded_typed d slot left le first
+  loaded_typed (FromWord k) d lets slot left found there le first =
+      let load = get_code R1 (FromWord k) ∷ [] in
+      let len : length (left ++ load) ≡ length left + 1 = length-append left load in
+      let p1 = slot + length left in
+      let e : p1 + 1 ≡ slot + length (left ++ load) = omega (arith, len) in
+      typed_at slot (p1 + 1) (slot + length (left ++ load)) (left ++ load) (C (plain d) slot)
+      (known d word word Unset) e
+      (typed_seq slot p1 left load (C (plain d) slot) (C (valued d) p1) (C (known d word word Unset) (p1 + 1)) refl
+      (first (omega (arith, len, le))) (load_one d k p1 there (omega (arith, len, le))))
+  loaded_typed Computed d lets slot left found there le first = absurd (let no : false ≡ true = found in cc)
+
+  -- ---- operators
+
+  alu_keeps : (op : Operation) (src : Operand) (d : ℕ) (k1 : Kind) → OperandIs src (known d word k1 Unset)
+      → KeepsOwn shape (i.Alu (alu_of op) W32 R0 src) (known d word k1 Unset)
+  alu_keeps Sum src d k1 q = record {
+    forward = refl;
+    known = refl;
+    set = q.set;
+    frame = refl;
+    pointer = ap is_pointer_kind q.kind;
+    region = refl;
+    stack = refl;
+    argument = refl;
+    exit = refl;
+    base = refl;
+  }
+  alu_keeps Difference src d k1 q = record {
+    forward = refl;
+    known = refl;
+    set = q.set;
+    frame = refl;
+    pointer = ap is_pointer_kind q.kind;
+    region = refl;
+    stack = refl;
+    argument = refl;
+    exit = refl;
+    base = refl;
+  }
+  alu_keeps Product src d k1 q = record {
+    forward = refl;
+    known = refl;
+    set = q.set;
+    frame = refl;
+    pointer = ap is_pointer_kind q.kind;
+    region = refl;
+    stack = refl;
+    argument = refl;
+    exit = refl;
+    base = refl;
+  }
+  alu_keeps Quotient src d k1 q = record {
+    forward = refl;
+    known = refl;
+    set = q.set;
+    frame = refl;
+    pointer = ap is_pointer_kind q.kind;
+    region = refl;
+    stack = refl;
+    argument = refl;
+    exit = refl;
+    base = refl;
+  }
+  alu_keeps Remainder src d k1 q = record {
+    forward = refl;
+    known = refl;
+    set = q.set;
+    frame = refl;
+    pointer = ap is_pointer_kind q.kind;
+    region = refl;
+    stack = refl;
+    argument = refl;
+    exit = refl;
+    base = refl;
+  }
+
+  alu_typed : (op : Operation) (src : Operand) (d : ℕ) (k1 : Kind) (slot : ℕ) → OperandIs src (known d word k1 Unset)
+      → IsProper (known d word k1 Unset) → slot + 1 ≤ last
+      → T slot (i.Alu (alu_of op) W32 R0 src ∷ []) (C (known d word k1 Unset) slot) (C (valued d) (slot + 1))
+  alu_typed Sum src d k1 slot q is le = one_on program shape last solid slot (i.Alu (alu_of Sum) W32 R0 src)
+      (known d word k1 Unset) _ (valued d) refl refl refl
+      (into _ d word Unset Unset (word_result Add _ q.range q.kind q.ordered q.inside refl) tt tt refl
+      refl refl refl) is
+      (alu_keeps Sum src d k1 q) le
+  alu_typed Difference src d k1 slot q is le = one_on program shape last solid slot
+      (i.Alu (alu_of Difference) W32 R0 src) (known d word k1 Unset) _ (valued d) refl refl refl
+      (into _ d word Unset Unset (word_result Sub _ q.range q.kind q.ordered q.inside refl) tt tt refl
+      refl refl refl) is
+      (alu_keeps Difference src d k1 q) le
+  alu_typed Product src d k1 slot q is le = one_on program shape last solid slot (i.Alu (alu_of Product) W32 R0 src)
+      (known d word k1 Unset) _ (valued d) refl refl refl
+      (into _ d word Unset Unset (word_result Mul _ q.range q.kind q.ordered q.inside refl) tt tt refl
+      refl refl refl) is
+      (alu_keeps Product src d k1 q) le
+  alu_typed Quotient src d k1 slot q is le = one_on program shape last solid slot (i.Alu (alu_of Quotient) W32 R0 src)
+      (known d word k1 Unset) _ (valued d) refl refl refl
+      (into _ d word Unset Unset (word_result Div _ q.range q.kind q.ordered q.inside refl) tt tt refl
+      refl refl refl) is
+      (alu_keeps Quotient src d k1 q) le
+  alu_typed Remainder src d k1 slot q is le = one_on program shape last solid slot (i.Alu (alu_of Remainder) W32 R0 src)
+      (known d word k1 Unset) _ (valued d) refl refl refl
+      (into _ d word Unset Unset (word_result Mod _ q.range q.kind q.ordered q.inside refl) tt tt refl
+      refl refl refl) is
+      (alu_keeps Remainder src d k1 q) le
+
+  -- r0 beside a place
+  place_fork : (r : Comparison) (k d slot far : ℕ) → k < d → d ≤ 3 → slot + 1 + far ≤ last
+      → T slot (jump_by r (operand.Reg (place k)) far ∷ []) (C (valued d) slot)
+      (λ table. C (plain d) (slot + 1) table × C (plain d) (slot + 1 + far) table)
+  place_fork r zero zero slot far lt few le = absurd (omega (arith, lt))
+  place_fork r (suc k) zero slot far lt few le = absurd (omega (arith, lt))
+  place_fork r (suc k) (suc zero) slot far lt few le = absurd (omega (arith, lt))
+  place_fork r (suc (suc k)) (suc (suc zero)) slot far lt few le = absurd (omega (arith, lt))
+  place_fork r (suc (suc (suc k))) (suc (suc (suc zero))) slot far lt few le = absurd (omega (arith, lt))
+  place_fork r k (suc (suc (suc (suc d)))) slot far lt few le = absurd (omega (arith, few))
+  place_fork r zero (suc zero) slot far lt few le = one_fork program shape last solid slot far (cond_of r) R0
+      (operand.Reg (place 0)) (valued 1) (plain 1) (plain 1)
+      (λ x e. left_0_1 _ x (λ pair f. branch_inside r false pair f) e)
+      (λ x e. left_0_1 _ x (λ pair f. branch_inside r true pair f) e)
+      (proper_known 1 word Unset Unset some_word tt tt) (keeps_own _ _ _ refl) le
+  place_fork r zero (suc (suc zero)) slot far lt few le = one_fork program shape last solid slot far (cond_of r) R0
+      (operand.Reg (place 0)) (valued 2) (plain 2) (plain 2)
+      (λ x e. left_0_2 _ x (λ pair f. branch_inside r false pair f) e)
+      (λ x e. left_0_2 _ x (λ pair f. branch_inside r true pair f) e)
+      (proper_known 2 word Unset Unset some_word tt tt) (keeps_own _ _ _ refl) le
+  place_fork r zero (suc (suc (suc zero))) slot far lt few le = one_fork program shape last solid slot far
+      (cond_of r) R0 (operand.Reg (place 0)) (valued 3) (plain 3) (plain 3)
+      (λ x e. left_0_3 _ x (λ pair f. branch_inside r false pair f) e)
+      (λ x e. left_0_3 _ x (λ pair f. branch_inside r true pair f) e)
+      (proper_known 3 word Unset Unset some_word tt tt) (keeps_own _ _ _ refl) le
+  place_fork r (suc zero) (suc (suc zero)) slot far lt few le = one_fork program shape last solid slot far
+      (cond_of r) R0 (operand.Reg (place 1)) (valued 2) (plain 2) (plain 2)
+      (λ x e. left_1_2 _ x (λ pair f. branch_inside r false pair f) e)
+      (λ x e. left_1_2 _ x (λ pair f. branch_inside r true pair f) e)
+      (proper_known 2 word Unset Unset some_word tt tt) (keeps_own _ _ _ refl) le
+  place_fork r (suc zero) (suc (suc (suc zero))) slot far lt few le = one_fork program shape last solid slot far
+      (cond_of r) R0 (operand.Reg (place 1)) (valued 3) (plain 3) (plain 3)
+      (λ x e. left_1_3 _ x (λ pair f. branch_inside r false pair f) e)
+      (λ x e. left_1_3 _ x (λ pair f. branch_inside r true pair f) e)
+      (proper_known 3 word Unset Unset some_word tt tt) (keeps_own _ _ _ refl) le
+  place_fork r (suc (suc zero)) (suc (suc (suc zero))) slot far lt few le = one_fork program shape last solid slot far
+      (cond_of r) R0 (operand.Reg (place 2)) (valued 3) (plain 3) (plain 3)
+      (λ x e. left_2_3 _ x (λ pair f. branch_inside r false pair f) e)
+      (λ x e. left_2_3 _ x (λ pair f. branch_inside r true pair f) e)
+      (proper_known 3 word Unset Unset some_word tt tt) (keeps_own _ _ _ refl) le
+
+  reg_fork : (r : Comparison) (d slot far : ℕ) → slot + 1 + far ≤ last
+      → T slot (jump_by r (operand.Reg R1) far ∷ []) (C (known d word word Unset) slot)
+      (λ table. C (plain d) (slot + 1) table × C (plain d) (slot + 1 + far) table)
+  reg_fork r d slot far le = one_fork program shape last solid slot far (cond_of r) R0 (operand.Reg R1)
+      (known d word word Unset) (plain d) (plain d) (λ x e. left_reg d _ x e) (λ x e. left_reg d _ x e)
+      (proper_known d word word Unset some_word some_word tt) (keeps_own _ _ _ refl) le
+
+  compare_typed : (r : Comparison) (y : Source) (d lets slot far : ℕ) → IsThere y lets shape.memory → lets ≤ d → d ≤ 3
+      → slot + 1 + far ≤ last
+      → T slot (jump_by r (operand_code y) far ∷ []) (C (paired y d) slot)
+      (λ table. C (plain d) (slot + 1) table × C (plain d) (slot + 1 + far) table)
+  compare_typed r (Constant c) d lets slot far there below few le =
+      one_fork program shape last solid slot far (cond_of r) R0 (operand_code (Constant c)) (valued d)
+      (plain d) (plain d)
+      (λ x e. left_imm d (cast_signed w32 c) _ x e) (λ x e. left_imm d (cast_signed w32 c) _ x e)
+      (proper_known d word Unset Unset some_word tt tt) (keeps_own _ _ _ refl) le
+  compare_typed r (FromLocal k) d lets slot far there below few le =
+      place_fork r k d slot far (omega (arith, there, below)) few le
+  compare_typed r (FromWord k) d lets slot far there below few le = reg_fork r d slot far le
+  compare_typed r Computed d lets slot far there below few le = reg_fork r d slot far le
+
+  operator_typed : (o : Operator) (y : Source) (purpose : Purpose) (d lets slot : ℕ) (code : List Insn)
+      → IsThere y lets shape.memory → lets ≤ d → d ≤ 3
+      → slot + length (by_operator o (operand_code y) purpose code) + beyond purpose ≤ last
+      → (slot + length code ≤ last → T slot code (C (plain d) slot) (C (paired y d) (slot + length code)))
+      → TermTyped purpose d slot (by_operator o (operand_code y) purpose code)
+  operator_typed (Compute op) y purpose d lets slot code there below few le two =
+      let act = i.Alu (alu_of op) W32 R0 (operand_code y) ∷ [] in
+      let len : length (code ++ act) ≡ length code + 1 = length-append code act in
+      by_value_typed purpose d slot (code ++ act) le
+      (λ l.
+      let p1 = slot + length code in
+      let e : p1 + 1 ≡ slot + length (code ++ act) = omega (arith, len) in
+      let b1 = typed_at p1 (p1 + 1) (slot + length (code ++ act)) act (C (paired y d) p1) (valued d) e
+      (alu_typed op (operand_code y) d (r1_kind y) p1 (operand_is y d lets shape.memory there below few)
+      (proper_paired y d) (omega (arith, len, l))) in
+      typed_seq slot p1 code act (C (plain d) slot) (C (paired y d) p1)
+      (C (valued d) (slot + length (code ++ act))) refl
+      (two (omega (arith, len, l))) b1)
+  operator_typed (Compare r) y purpose d lets slot code there below few le two =
+      by_test_typed purpose d slot (λ when far. code ++ jump_by (jump_on when r) (operand_code y) far ∷ []) le
+      (λ when far l.
+      let jump = jump_by (jump_on when r) (operand_code y) far ∷ [] in
+      let len : length (code ++ jump) ≡ length code + 1 = length-append code jump in
+      let p1 = slot + length code in
+      let e : p1 + 1 ≡ slot + length (code ++ jump) = omega (arith, len) in
+      let b1 = subst (λ (n : ℕ). T p1 jump (C (paired y d) p1)
+      (λ table. C (plain d) n table × C (plain d) (n + far) table)) e
+      (compare_typed (jump_on when r) y d lets p1 far there below few (omega (arith, len, l))) in
+      typed_seq slot p1 code jump (C (plain d) slot) (C (paired y d) p1)
+      (λ table. C (plain d) (slot + length (code ++ jump)) table × C (plain d)
+      (slot + length (code ++ jump) + far) table) refl
+      (two (omega (arith, len, l))) b1)
+
+  left_typed : (o : Operator) (x : Source) (purpose : Purpose) (d lets slot : ℕ) (right : List Insn) → is_found x ≡ true
+      → IsThere x lets shape.memory → lets ≤ d → d ≤ 3
+      → slot + length (left_code o x purpose right) + beyond purpose ≤ last
+      → (slot + length right ≤ last → TermTyped Value d slot right)
+      → TermTyped purpose d slot (left_code o x purpose right)
+  left_typed (Compute op) x purpose d lets slot right found there below few le first =
+      let get = get_code R0 x ∷ [] in
+      let back = copy R1 R0 ∷ get in
+      operator_typed (Compute op) Computed purpose d lets slot (right ++ back) tt below few le
+      (λ l.
+      let len : length (right ++ back) ≡ length right + 2 = length-append right back in
+      let p1 = slot + length right in
+      let p2 = p1 + 1 in
+      let end = slot + length (right ++ back) in
+      let e : p2 + 1 ≡ end = omega (arith, len) in
+      let a = first (omega (arith, len, l)) in
+      let b = second_typed program shape last solid d p1 (omega (arith, len, l)) in
+      let c = typed_at p2 (p2 + 1) end get (C (known d Unset word Unset) p2) (known d word word Unset) e
+      (get_typed x d lets p2 found there below few (omega (arith, len, l))) in
+      let bc = typed_seq p1 p2 (copy R1 R0 ∷ []) get (C (valued d) p1) (C (known d Unset word Unset) p2)
+      (C (known d word word Unset) end) refl b c in
+      typed_seq slot p1 right back (C (plain d) slot) (C (valued d) p1) (C (known d word word Unset) end) refl a bc)
+  left_typed (Compare r) x purpose d lets slot right found there below few le first =
+      operator_typed (Compare (mirror r)) x purpose d lets slot (right ++ load_code x) there below few le
+      (λ l. loaded_typed x d lets slot right found there l first)
+
+  right_typed : (o : Operator) (y : Source) (purpose : Purpose) (d lets slot : ℕ) (left : List Insn) → is_found y ≡ true
+      → IsThere y lets shape.memory → lets ≤ d → d ≤ 3
+      → slot + length (by_operator o (operand_code y) purpose (left ++ load_code y)) + beyond purpose ≤ last
+      → (slot + length left ≤ last → TermTyped Value d slot left)
+      → TermTyped purpose d slot (by_operator o (operand_code y) purpose (left ++ load_code y))
+  right_typed o y purpose d lets slot left found there below few le first =
+      operator_typed o y purpose d lets slot (left ++ load_code y) there below few le
+      (λ l. loaded_typed y d lets slot left found there l first)
+
+  -- a local beside a constant
+  place_test_typed : (r : Comparison) (k c d slot far : ℕ) → k < d → d ≤ 3 → slot + 1 + far ≤ last
+      → T slot (jump_place k r c far ∷ []) (C (plain d) slot)
+      (λ table. C (plain d) (slot + 1) table × C (plain d) (slot + 1 + far) table)
+  place_test_typed r k c d slot far lt few le =
+      let v = cast_signed w32 c in
+      let n = cast_unsigned w64 v % 2 ^ 32 in
+      let e : kind_of (plain d) (place k) ≡ word = place_word k d lt few in
+      let small : n < 2 ^ 32 = omega arith in
+      let own : KeepsOwn shape (jump_place k r c far) (plain d) = record {
+        forward = refl;
+        known = refl;
+        set = ap (λ (q : Kind). is_unset_kind q || false) e;
+        frame = refl;
+        pointer = ap (λ (q : Kind). is_pointer_kind q || false) e;
+        region = refl;
+        stack = refl;
+        argument = refl;
+        exit = refl;
+        base = refl;
+      } in
+      one_fork program shape last solid slot far (cond_of r) (place k) (operand.Imm v) (plain d) (plain d) (plain d)
+      (λ x q. left_place r false k d n v (kind_of (plain d) (place k)) x (omega (arith, lt, few)) small e q)
+      (λ x q. left_place r true k d n v (kind_of (plain d) (place k)) x (omega (arith, lt, few)) small e q)
+      (proper_known d Unset Unset Unset tt tt tt) own le
+
+  sides_typed : (y x : Source) (o : Operator) (purpose : Purpose) (d deep lets slot : ℕ) (left right : List Insn)
+      → IsThere y lets shape.memory → IsThere x lets shape.memory → lets ≤ d → d ≤ 3 → (is_found x ≡ true → deep ≡ d)
+      → (is_found x ≡ false → is_found y ≡ false → (d < 3) × (deep ≡ d + 1))
+      → slot + length (binary_code y x o d purpose left right) + beyond purpose ≤ last
+      → (slot + length left ≤ last → TermTyped Value d slot left)
+      → ((to : ℕ) → deep ≤ 3 → to + length right ≤ last → TermTyped Value deep to right)
+      → TermTyped purpose d slot (binary_code y x o d purpose left right)
+  sides_typed (Constant c) (FromLocal k) (Compare r) purpose d deep lets slot left right at_y at_x below
+      few same free le first second =
+      by_test_typed purpose d slot (λ when far. jump_place k (jump_on when r) c far ∷ []) le
+      (λ when far l. place_test_typed (jump_on when r) k c d slot far (omega (arith, at_x, below)) few
+      (omega (arith, l)))
+  sides_typed (Constant c) (FromLocal k) (Compute op) purpose d deep lets slot left right at_y at_x below
+      few same free le first second = right_typed (Compute op) (Constant c) purpose d lets slot left refl at_y
+      below few le first
+  sides_typed (Constant c) (Constant e) o purpose d deep lets slot left right at_y at_x below few same free le
+      first second =
+      right_typed o (Constant c) purpose d lets slot left refl at_y below few le first
+  sides_typed (Constant c) (FromWord k) o purpose d deep lets slot left right at_y at_x below few same free le
+      first second =
+      right_typed o (Constant c) purpose d lets slot left refl at_y below few le first
+  sides_typed (Constant c) Computed o purpose d deep lets slot left right at_y at_x below few same free le
+      first second =
+      right_typed o (Constant c) purpose d lets slot left refl at_y below few le first
+  sides_typed (FromLocal k) x o purpose d deep lets slot left right at_y at_x below few same free le first second =
+      right_typed o (FromLocal k) purpose d lets slot left refl at_y below few le first
+  sides_typed (FromWord k) x o purpose d deep lets slot left right at_y at_x below few same free le first second =
+      right_typed o (FromWord k) purpose d lets slot left refl at_y below few le first
+  sides_typed Computed (Constant c) o purpose d deep lets slot left right at_y at_x below few same free le
+      first second =
+      let e : deep ≡ d = same refl in
+      left_typed o (Constant c) purpose d lets slot right refl at_x below few le
+      (λ l. subst (λ (n : ℕ). TermTyped Value n slot right) e (second slot (omega (arith, e, few)) l))
+  sides_typed Computed (FromLocal k) o purpose d deep lets slot left right at_y at_x below few same free le
+      first second =
+      let e : deep ≡ d = same refl in
+      left_typed o (FromLocal k) purpose d lets slot right refl at_x below few le
+      (λ l. subst (λ (n : ℕ). TermTyped Value n slot right) e (second slot (omega (arith, e, few)) l))
+  sides_typed Computed (FromWord k) o purpose d deep lets slot left right at_y at_x below few same free le
+      first second =
+      let e : deep ≡ d = same refl in
+      left_typed o (FromWord k) purpose d lets slot right refl at_x below few le
+      (λ l. subst (λ (n : ℕ). TermTyped Value n slot right) e (second slot (omega (arith, e, few)) l))
+  sides_typed Computed Computed o purpose d deep lets slot left right at_y at_x below few same free le first second =
+      let deeper = free refl refl in
+      operator_typed o Computed purpose d lets slot (two_code d left right) tt below few le
+      (λ l. two_typed d slot left right deeper.0 l first
+      (λ to k. subst (λ (n : ℕ). TermTyped Value n to right) deeper.1
+      (second to (omega (arith, deeper.0, deeper.1)) k)))
+
+  -- ---- choices and conditions of two
+
+  pub choice_typed : (d slot : ℕ) (M : AbstractState) (test : ℕ → List Insn) (a b : List Insn) → IsProper M
+      → slot + length (choice_code test a b) ≤ last
+      → ((far : ℕ) → slot + length (test far) + far ≤ last → TermTyped (Jump false far) d slot (test far))
+      → ((to : ℕ) → to + length a ≤ last → T to a (C (plain d) to) (C M (to + length a)))
+      → ((to : ℕ) → to + length b ≤ last → T to b (C (plain d) to) (C M (to + length b)))
+      → T slot (choice_code test a b) (C (plain d) slot) (C M (slot + length (choice_code test a b)))
+  choice_typed d slot M test a b is le tests first second =
+      let far = length a + 1 in
+      let code = test far in
+      let skip = i.Ja (pos (length b)) ∷ b in
+      let rest = a ++ skip in
+      let len : length (code ++ rest) ≡ length code + (length a + (1 + length b)) = omega
+      (arith, length-append code rest, length-append a skip) in
+      let p1 = slot + length code in
+      let p2 = p1 + length a in
+      let p3 = p2 + 1 in
+      let end = slot + length (code ++ rest) in
+      let t = tests far (omega (arith, len, le)) in
+      let ta = first p1 (omega (arith, len, le)) in
+      let e1 : p3 + length b ≡ end = omega (arith, len) in
+      let tb = typed_at p3 (p3 + length b) end b (C (plain d) p3) M e1 (second p3 (omega (arith, len, le))) in
+      let j = typed_at p2 (p2 + 1 + length b) end (i.Ja (pos (length b)) ∷ []) (C M p2) M e1
+      (one_jump program shape last solid p2 (length b) M is (omega (arith, len, le))) in
+      let jb = typed_then program shape last solid p2 p3 (i.Ja (pos (length b)) ∷ []) b (C M p2) (C M end)
+      (C (plain d) p3) (C M end) refl j tb (λ table o asks. asks) in
+      let ajb = typed_then program shape last solid p1 p2 a skip (C (plain d) p1) (C M p2)
+      (λ table. C M p2 table × C (plain d) p3 table) (C M end) refl ta jb (λ table o asks. o.0) in
+      let e2 : p3 ≡ p1 + far = omega arith in
+      let all = typed_then program shape last solid slot p1 code rest (C (plain d) slot)
+      (λ table. C (plain d) p1 table × C (plain d) (p1 + far) table)
+      (λ table. C (plain d) p1 table × (C M p2 table × C (plain d) p3 table)) (C M end) refl t ajb
+      (λ table o asks. (o.0, subst (λ (n : ℕ). C (plain d) n table) e2 o.1.1)) in
+      typed_as program shape last solid slot (code ++ rest)
+      (λ table. C (plain d) slot table × (C (plain d) p1 table × (C M p2 table × C (plain d) p3 table))) (C M end)
+      (C (plain d) slot) (C M end) (λ table h. h.0) (λ table h. h) all
+
+  either_far : (alone when : Bool) (n far : ℕ) → (both_far alone when n far ≡ n + far) ⊎ (both_far alone when n far ≡ n)
+  either_far true true n far = inl refl
+  either_far true false n far = inr refl
+  either_far false true n far = inr refl
+  either_far false false n far = inl refl
+
+  both_typed : (alone when : Bool) (far d slot : ℕ) (left : Bool → ℕ → List Insn) (right : List Insn)
+      → slot + length (both_code alone when far left right) + far ≤ last
+      → ((w : Bool) (g : ℕ) → slot + length (left w g) + g ≤ last → TermTyped (Jump w g) d slot (left w g))
+      → ((to : ℕ) → to + length right + far ≤ last → TermTyped (Jump when far) d to right)
+      → TermTyped (Jump when far) d slot (both_code alone when far left right)
+  both_typed alone when far d slot left right le first second =
+      let w = both_far alone when (length right) far in
+      let code = left alone w in
+      let len : length (code ++ right) ≡ length code + length right = length-append code right in
+      let p1 = slot + length code in
+      let end = slot + length (code ++ right) in
+      let e : p1 + length right ≡ end = omega (arith, len) in
+      let small : w ≤ length right + far = elim (either_far alone when (length right) far) [
+        | inl h ↦ omega arith
+        | inr h ↦ omega arith
+      ] in
+      let a = first alone w (omega (arith, len, le, small)) in
+      let b = subst (λ (n : ℕ). T p1 right (C (plain d) p1) (λ table. C (plain d) n table × C (plain d)
+      (n + far) table)) e (second p1 (omega (arith, len, le))) in
+      let link : (table : Table) → C (plain d) p1 table → C (plain d) end table × C (plain d) (end + far) table
+      → C (plain d) p1 table × C (plain d) (p1 + w) table = λ table o asks. elim
+      (either_far alone when (length right) far) [
+        | inl h ↦ let g : end + far ≡ p1 + w = omega (arith, e, h) in
+            (o, subst (λ (n : ℕ). C (plain d) n table) g asks.1)
+        | inr h ↦ let g : end ≡ p1 + w = omega (arith, e, h) in (o, subst (λ (n : ℕ). C (plain d) n table) g asks.0)
+      ] in
+      let all = typed_then program shape last solid slot p1 code right (C (plain d) slot)
+      (λ table. C (plain d) p1 table × C (plain d) (p1 + w) table) (C (plain d) p1)
+      (λ table. C (plain d) end table × C (plain d) (end + far) table) refl a b link in
+      typed_as program shape last solid slot (code ++ right) (λ table. C (plain d) slot table × C (plain d) p1 table)
+      (λ table. C (plain d) end table × C (plain d) (end + far) table) (C (plain d) slot)
+      (λ table. C (plain d) end table × C (plain d) (end + far) table) (λ table h. h.0) (λ table h. h) all
+
+  -- ---- counts
+
+  add_typed : (d slot : ℕ) → d < 3 → slot + 1 ≤ last
+      → T slot (i.Alu Add W32 (place d) (operand.Imm (pos 1)) ∷ []) (C (plain (d + 1)) slot)
+      (C (plain (d + 1)) (slot + 1))
+  add_typed zero slot lt le = one_on program shape last solid slot (i.Alu Add W32 (place 0) (operand.Imm (pos 1)))
+      (plain 1) _ (plain 1) refl refl refl (into _ 1 Unset Unset Unset tt tt tt refl refl refl refl)
+      (proper_known 1 Unset Unset Unset tt tt tt) (keeps_own _ _ _ refl) le
+  add_typed (suc zero) slot lt le = one_on program shape last solid slot (i.Alu Add W32 (place 1) (operand.Imm (pos 1)))
+      (plain 2) _ (plain 2) refl refl refl (into _ 2 Unset Unset Unset tt tt tt refl refl refl refl)
+      (proper_known 2 Unset Unset Unset tt tt tt) (keeps_own _ _ _ refl) le
+  add_typed (suc (suc zero)) slot lt le = one_on program shape last solid slot
+      (i.Alu Add W32 (place 2) (operand.Imm (pos 1))) (plain 3) _ (plain 3) refl refl refl
+      (into _ 3 Unset Unset Unset tt tt tt refl refl refl refl)
+      (proper_known 3 Unset Unset Unset tt tt tt) (keeps_own _ _ _ refl) le
+  add_typed (suc (suc (suc d))) slot lt le = absurd (omega (arith, lt))
+
+  counts_typed : (d slot n : ℕ) (test : ℕ → List Insn) → d < 3 → slot + length (count_codes d test n) ≤ last
+      → ((j to : ℕ) → to + length (test j) + 1 ≤ last → TermTyped (Jump false 1) (d + 1) to (test j))
+      → T slot (count_codes d test n) (C (plain (d + 1)) slot)
+      (C (plain (d + 1)) (slot + length (count_codes d test n)))
+  counts_typed d slot zero test small le each =
+      let e : slot ≡ slot + 0 = omega arith in
+      typed_at slot slot (slot + 0) [] (C (plain (d + 1)) slot) (plain (d + 1)) e
+      (typed_none program shape last solid slot (C (plain (d + 1)) slot))
+  counts_typed d slot (suc n) test small le each =
+      let front = count_codes d test n in
+      let add = i.Alu Add W32 (place d) (operand.Imm (pos 1)) ∷ [] in
+      let back = test n ++ add in
+      let len : length (front ++ back) ≡ length front + (length (test n) + 1) = omega
+      (arith, length-append front back, length-append (test n) add) in
+      let p1 = slot + length front in
+      let p2 = p1 + length (test n) in
+      let S = plain (d + 1) in
+      let f = counts_typed d slot n test small (omega (arith, len, le)) each in
+      let t = each n p1 (omega (arith, len, le)) in
+      let a = add_typed d p2 small (omega (arith, len, le)) in
+      let ta = typed_then program shape last solid p1 p2 (test n) add (C S p1) (λ table. C S p2 table × C S
+      (p2 + 1) table) (C S p2) (C S (p2 + 1)) refl t a (λ table o asks. (o, asks)) in
+      let ta1 = typed_as program shape last solid p1 back (λ table. C S p1 table × C S p2 table) (C S (p2 + 1)) (C S p1)
+      (C S (p2 + 1)) (λ table h. h.0) (λ table h. h) ta in
+      let e : p2 + 1 ≡ slot + length (front ++ back) = omega (arith, len) in
+      typed_at slot (p2 + 1) (slot + length (front ++ back)) (front ++ back) (C S slot) S e
+      (typed_seq slot p1 front back (C S slot) (C S p1) (C S (p2 + 1)) refl f ta1)
+
+  -- 0 into the next place
+  begin_typed : (d slot : ℕ) → d < 3 → slot + 1 ≤ last
+      → T slot (set_number (place d) 0 ∷ []) (C (plain d) slot) (C (plain (d + 1)) (slot + 1))
+  begin_typed zero slot lt le = one_on program shape last solid slot (set_number (place 0) 0) (plain 0) _ (plain 1)
+      refl refl refl
+      (within _ Unset Unset Unset memory_place word Unset Unset tt tt tt (kind_in_itself memory_place)
+      (short (cast_unsigned w64 (cast_signed w32 0) % 2 ^ 32)) tt tt)
+      (proper_known 0 Unset Unset Unset tt tt tt) (keeps_own _ _ _ refl) le
+  begin_typed (suc zero) slot lt le = one_on program shape last solid slot (set_number (place 1) 0)
+      (plain 1) _ (plain 2) refl refl refl
+      (within _ Unset Unset Unset memory_place word word Unset tt tt tt (kind_in_itself memory_place)
+      (kind_in_itself word) (short (cast_unsigned w64 (cast_signed w32 0) % 2 ^ 32)) tt)
+      (proper_known 1 Unset Unset Unset tt tt tt) (keeps_own _ _ _ refl) le
+  begin_typed (suc (suc zero)) slot lt le = one_on program shape last solid slot (set_number (place 2) 0)
+      (plain 2) _ (plain 3) refl refl refl
+      (within _ Unset Unset Unset memory_place word word word tt tt tt (kind_in_itself memory_place)
+      (kind_in_itself word) (kind_in_itself word) (short (cast_unsigned w64 (cast_signed w32 0) % 2 ^ 32)))
+      (proper_known 2 Unset Unset Unset tt tt tt) (keeps_own _ _ _ refl) le
+  begin_typed (suc (suc (suc d))) slot lt le = absurd (omega (arith, lt))
+
+  count_typed : (d slot n : ℕ) (test : ℕ → List Insn) → d < 3 → slot + length (count_code d n test) ≤ last
+      → ((j to : ℕ) → to + length (test j) + 1 ≤ last → TermTyped (Jump false 1) (d + 1) to (test j))
+      → TermTyped Value d slot (count_code d n test)
+  count_typed d slot n test small le each =
+      let codes = count_codes d test n in
+      let last_one = copy R0 (place d) ∷ [] in
+      let len : length (codes ++ last_one) ≡ length codes + 1 = length-append codes last_one in
+      let p2 = slot + 1 in
+      let p3 = p2 + length codes in
+      let end = slot + length (count_code d n test) in
+      let b = begin_typed d slot small (omega (arith, len, le)) in
+      let c = counts_typed d p2 n test small (omega (arith, len, le)) each in
+      let f = fetch_typed program shape last solid d (d + 1) Unset p3 (omega arith) (omega (arith, small)) tt
+      (omega (arith, len, le)) in
+      let e : p3 + 1 ≡ end = omega (arith, len) in
+      let f1 = typed_at p3 (p3 + 1) end last_one (C (plain (d + 1)) p3) (valued (d + 1)) e f in
+      let f2 = typed_as program shape last solid p3 last_one (C (plain (d + 1)) p3) (C (valued (d + 1)) end)
+      (C (plain (d + 1)) p3) (C (valued d) end) (λ table h. h)
+      (λ table h. covers_less table (valued (d + 1)) (valued d) end (known_less d word Unset Unset) h) f1 in
+      let cf = typed_seq p2 p3 codes last_one (C (plain (d + 1)) p2) (C (plain (d + 1)) p3)
+      (C (valued d) end) refl c f2 in
+      typed_seq slot p2 (set_number (place d) 0 ∷ []) (codes ++ last_one) (C (plain d) slot) (C (plain (d + 1)) p2)
+      (C (valued d) end) refl b cf
+
+  -- ---- calls, loads, the mail
+
+  me_typed : (d slot : ℕ) → shape.nodes ≤ 64 → slot + 1 ≤ last
+      → T slot (i.Call (pos 1) ∷ []) (C (plain d) slot) (C (valued d) (slot + 1))
+  me_typed d slot few le = one_on program shape last solid slot (i.Call (pos 1)) (plain d) _ (valued d) refl refl refl
+      (into _ d word Unset Unset (
+        span 0 (shape.nodes - 1),
+        refl,
+        record {
+          low = omega arith;
+          high = omega
+              (arith, few);
+        },
+      ) tt tt
+      refl refl refl refl) (proper_known d Unset Unset Unset tt tt tt) (keeps_own _ _ _ refl) le
+
+  coin_typed : (d slot : ℕ) → slot + 1 ≤ last
+      → T slot (i.Call (pos 4) ∷ []) (C (plain d) slot) (C (valued d) (slot + 1))
+  coin_typed d slot le = one_on program shape last solid slot (i.Call (pos 4)) (plain d) _ (valued d) refl refl refl
+      (into _ d word Unset Unset (span 0 1, refl, record { low = omega arith; high = omega arith }) tt tt
+      refl refl refl refl) (proper_known d Unset Unset Unset tt tt tt) (keeps_own _ _ _ refl) le
+
+  pub load_typed : (d k slot : ℕ) → 4 * k + 4 ≤ shape.memory → slot + 1 ≤ last
+      → T slot (i.Load size.W R0 R6 (pos (4 * k)) ∷ []) (C (plain d) slot) (C (valued d) (slot + 1))
+  load_typed d k slot inside le =
+      let room : nat_lt shape.memory (0 + 4 * k + 4) ≡ false = le-ltb shape.memory (0 + 4 * k + 4)
+      (omega (arith, inside)) in
+      one_on program shape last solid slot (i.Load size.W R0 R6 (pos (4 * k))) (plain d) _ (valued d) refl refl refl
+      (into _ d word Unset Unset (kind_in_itself word) tt tt refl refl refl refl)
+      (proper_known d Unset Unset Unset tt tt tt) (keeps_own _ _ _ (rw room refl)) le
+
+  -- a node's number in r0
+  abbrev pub some_node : Kind
+  some_node = Number (span 0 (shape.nodes - 1))
+
+  pub proper_node : IsProperKind some_node
+  proper_node = record { ordered = omega arith }
+
+  pub node_in_r0 : (d : ℕ) (v : _) (found : Option (Span × Span)) (X : AbstractState)
+      → ((pair : Span × Span) → found ≡ Some pair → IsKindIn (Number pair.0) some_node)
+      → refined_by (valued d) R0 (operand.Imm v) found ≡ Some X → IsContainedIn X (known d some_node Unset Unset)
+  node_in_r0 d v None X h e = absurd (none-some X e)
+  node_in_r0 d v (Some pair) X h e = subst (λ (x : AbstractState). IsContainedIn x (known d some_node Unset Unset))
+      (same_Some _ X e) (into _ d some_node Unset Unset (h pair refl) tt tt refl refl refl refl)
+
+  less_node : (n : ℕ) (pair : Span × Span) → n ≡ shape.nodes → n ≤ 64 → less (full_of 32) (just n) ≡ Some pair
+      → IsKindIn (Number pair.0) some_node
+  less_node n pair same few e = by (nat_lt 0 n) refl
+    where
+      by : (b : Bool) → nat_lt 0 n ≡ b → IsKindIn (Number pair.0) some_node
+      by true test =
+          let found : Some (span 0 (min (2 ^ 32 - 1) (n - 1)), _) ≡ Some pair = rw test at e in
+          let high : min (2 ^ 32 - 1) (n - 1) ≡ pair.0.hi = ap (λ (p : Span × Span). p.0.hi) (same_Some _ pair found) in
+          (pair.0, refl, record { low = omega arith; high = omega (arith, high, same, few) })
+      by false test = absurd (none-some pair (rw test at e))
+
+  imm_low : (n : ℕ) → n ≤ 64 → cast_unsigned w64 (pos n) % 2 ^ 32 ≡ n
+  imm_low n h = mod-eq_of_lt (omega (arith, h))
+
+  below_node : (n : ℕ) (pair : Span × Span) → n ≡ shape.nodes → n ≤ 64
+      → branch_of Lt W32 (full_of 32) (just (cast_unsigned w64 (pos n) % 2 ^ 32)) true ≡ Some pair
+      → IsKindIn (Number pair.0) some_node
+  below_node n pair same few e =
+      let limit = imm_low n few in
+      let fits : nat_lt n (2 ^ 32) ≡ true = lt-ltb n (2 ^ 32) (omega (arith, few)) in
+      let found : less (full_of 32) (just n) ≡ Some pair = rw (limit, fits) at e in
+      less_node n pair same few found
+
+  pub not_above_node : (n : ℕ) (pair : Span × Span) → n ≡ shape.nodes → n ≤ 64
+      → branch_of Ge W32 (full_of 32) (just (cast_unsigned w64 (pos n) % 2 ^ 32)) false ≡ Some pair
+      → IsKindIn (Number pair.0) some_node
+  not_above_node n pair same few e =
+      let limit = imm_low n few in
+      let fits : nat_lt n (2 ^ 32) ≡ true = lt-ltb n (2 ^ 32) (omega (arith, few)) in
+      let found : less (full_of 32) (just n) ≡ Some pair = rw (limit, fits) at e in
+      less_node n pair same few found
+
+  moved_node : (m : ℕ) → m < 2 ^ 32 → IsKindIn (Number (range_of Mov W32 (span 0 m) (span 0 m))) (Number (span 0 m))
+  moved_node zero h = (just _, refl, record { low = omega arith; high = omega arith })
+  moved_node (suc m) h = rw (ne_eqb 0 (suc m) (λ e. omega arith), lt-ltb (suc m) (2 ^ 32) h)
+      (kind_in_itself (Number (span 0 (suc m))))
+
+  -- a node's number from r0 into r1
+  pub name_typed : (d slot : ℕ) → shape.nodes ≤ 64 → slot + 1 ≤ last
+      → T slot (copy R1 R0 ∷ []) (C (known d some_node Unset Unset) slot) (C (known d Unset some_node Unset) (slot + 1))
+  name_typed d slot few le = one_on program shape last solid slot (copy R1 R0) (known d some_node Unset Unset) _
+      (known d Unset some_node Unset) refl refl refl
+      (into _ d Unset some_node Unset tt (moved_node (shape.nodes - 1) (omega (arith, few))) tt refl refl refl refl)
+      (proper_known d some_node Unset Unset proper_node tt tt) (keeps_own _ _ _ refl) le
+
+  recv_typed : (d slot : ℕ) → 1 ≤ shape.nodes → slot + 1 ≤ last
+      → T slot (i.Call (pos 2) ∷ []) (C (known d Unset some_node Unset) slot) (C (valued d) (slot + 1))
+  recv_typed d slot some le =
+      let one_of : nat_lt (shape.nodes - 1) shape.nodes ≡ true = lt-ltb (shape.nodes - 1) shape.nodes
+      (omega (arith, some)) in
+      one_on program shape last solid slot (i.Call (pos 2)) (known d Unset some_node Unset) _ (valued d) refl refl refl
+      (into _ d word Unset Unset (kind_in_itself word) tt tt refl refl refl refl)
+      (proper_known d Unset some_node Unset tt proper_node tt) (keeps_own _ _ _ (rw one_of refl)) le
+
+  message_typed : (d n slot : ℕ) → n ≡ shape.nodes → 1 ≤ n → n ≤ 64 → slot + 5 ≤ last
+      → T slot (message_code n) (C (valued d) slot) (C (valued d) (slot + 5))
+  message_typed d n slot same some few le =
+      let p1 = slot + 1 in
+      let p2 = p1 + 1 in
+      let p3 = p2 + 1 in
+      let p4 = p3 + 1 in
+      let end = slot + 5 in
+      let N = known d some_node Unset Unset in
+      let V = valued d in
+      let f = one_fork program shape last solid slot 2 (cond_of Less) R0 (operand.Imm (pos n)) V (plain d) N
+      (λ x e. left_imm d (pos n) _ x e) (λ x e. node_in_r0 d (pos n) _ x (λ pair g. below_node n pair same few g) e)
+      (proper_known d word Unset Unset some_word tt tt) (keeps_own _ _ _ refl) (omega (arith, le)) in
+      let a = number_typed program shape last solid d 4294967295 p1 (omega (arith, le)) in
+      let j = typed_at p2 (p2 + 1 + 2) end (i.Ja (pos 2) ∷ []) (C V p2) V (omega arith)
+      (one_jump program shape last solid p2 2 V (proper_known d word Unset Unset some_word tt tt)
+      (omega (arith, le))) in
+      let c = name_typed d p3 (omega (arith, same, few)) (omega (arith, le)) in
+      let r = typed_at p4 (p4 + 1) end (i.Call (pos 2) ∷ []) (C (known d Unset some_node Unset) p4) V (omega arith)
+      (recv_typed d p4 (omega (arith, same, some)) (omega (arith, le))) in
+      let cr = typed_seq p3 p4 (copy R1 R0 ∷ []) (i.Call (pos 2) ∷ []) (C N p3) (C (known d Unset some_node Unset) p4)
+      (C V end) refl c r in
+      let jcr = typed_then program shape last solid p2 p3 (i.Ja (pos 2) ∷ [])
+      (copy R1 R0 ∷ i.Call (pos 2) ∷ []) (C V p2) (C V end) (C N p3) (C V end) refl j cr (λ table o asks. asks) in
+      let ajcr = typed_then program shape last solid p1 p2 (set_number R0 4294967295 ∷ [])
+      (i.Ja (pos 2) ∷ copy R1 R0 ∷ i.Call (pos 2) ∷ []) (C (plain d) p1) (C V p2) (λ table. C V p2 table × C N p3 table)
+      (C V end) refl a jcr (λ table o asks. o.0) in
+      let e : p3 ≡ p1 + 2 = omega arith in
+      let all = typed_then program shape last solid slot p1 (jump_at Less n 2 ∷ [])
+      (set_number R0 4294967295 ∷ i.Ja (pos 2) ∷ copy R1 R0 ∷ i.Call (pos 2) ∷ []) (C V slot)
+      (λ table. C (plain d) p1 table × C N (p1 + 2) table)
+      (λ table. C (plain d) p1 table × (C V p2 table × C N p3 table)) (C V end) refl f ajcr
+      (λ table o asks. (o.0, subst (λ (k : ℕ). C N k table) e o.1.1)) in
+      typed_as program shape last solid slot (message_code n)
+      (λ table. C V slot table × (C (plain d) p1 table × (C V p2 table × C N p3 table))) (C V end) (C V slot) (C V end)
+      (λ table h. h.0) (λ table h. h) all
+
+  -- a known node's number into r1
+  pub node_typed : (d j slot : ℕ) → j < shape.nodes → shape.nodes ≤ 64 → slot + 1 ≤ last
+      → T slot (set_node R1 j ∷ []) (C (plain d) slot) (C (known d Unset some_node Unset) (slot + 1))
+  node_typed d j slot lt few le =
+      let imm : cast_unsigned w64 (pos j) % 2 ^ 64 ≡ j = mod-eq_of_lt (omega (arith, lt, few)) in
+      one_on program shape last solid slot (set_node R1 j) (plain d) _ (known d Unset some_node Unset) refl refl refl
+      (into _ d Unset some_node Unset tt
+      (just (cast_unsigned w64 (pos j) % 2 ^ 64), refl, record { low = omega arith; high = omega (arith, lt, imm) }) tt
+      refl refl refl refl) (proper_known d Unset Unset Unset tt tt tt) (keeps_own _ _ _ refl) le
+
+  some_node_typed : (d n slot : ℕ) (code : List Insn) → n ≡ shape.nodes → 1 ≤ n → n ≤ 64
+      → slot + length (code ++ message_code n) ≤ last → (slot + length code ≤ last → TermTyped Value d slot code)
+      → TermTyped Value d slot (code ++ message_code n)
+  some_node_typed d n slot code same some few le first =
+      let back = message_code n in
+      let len : length (code ++ back) ≡ length code + 5 = length-append code back in
+      let p1 = slot + length code in
+      let e : p1 + 5 ≡ slot + length (code ++ back) = omega (arith, len) in
+      let b1 = typed_at p1 (p1 + 5) (slot + length (code ++ back)) back (C (valued d) p1) (valued d) e
+      (message_typed d n p1 same some few (omega (arith, len, le))) in
+      typed_seq slot p1 code back (C (plain d) slot) (C (valued d) p1)
+      (C (valued d) (slot + length (code ++ back))) refl
+      (first (omega (arith, len, le))) b1
+
+  message_by_typed : (y : Source) (d n slot : ℕ) (code : List Insn) → n ≡ shape.nodes → 1 ≤ n → n ≤ 64
+      → slot + length (message_by y n code) ≤ last → (slot + length code ≤ last → TermTyped Value d slot code)
+      → TermTyped Value d slot (message_by y n code)
+  message_by_typed (Constant j) d n slot code same some few le first =
+      let known_node = set_node R1 j ∷ i.Call (pos 2) ∷ [] in
+      let none = set_number R0 4294967295 ∷ [] in
+      let P : List Insn → Type 0 = λ c. slot + length c ≤ last → TermTyped Value d slot c in
+      let whole : P (message_by (Constant j) n code) = elim (cases_Bool (nat_lt j n)) [
+        | inl so ↦ subst P (sym (cond-true (nat_lt j n) known_node none so))
+            (λ l.
+            let a = node_typed d j slot (omega (arith, ltb-true j n so, same)) (omega (arith, same, few))
+            (omega (arith, l)) in
+            let e : slot + 1 + 1 ≡ slot + 2 = omega arith in
+            let b = typed_at (slot + 1) (slot + 1 + 1) (slot + 2) (i.Call (pos 2) ∷ [])
+            (C (known d Unset some_node Unset) (slot + 1)) (valued d) e
+            (recv_typed d (slot + 1) (omega (arith, same, some)) (omega (arith, l))) in
+            typed_seq slot (slot + 1) (set_node R1 j ∷ []) (i.Call (pos 2) ∷ []) (C (plain d) slot)
+            (C (known d Unset some_node Unset) (slot + 1)) (C (valued d) (slot + 2)) refl a b)
+        | inr other ↦ subst P (sym (cond-false (nat_lt j n) known_node none other))
+            (λ l. number_typed program shape last solid d 4294967295 slot l)
+      ] in
+      whole le
+  message_by_typed (FromLocal k) d n slot code same some few le first = some_node_typed d n slot code same
+      some few le first
+  message_by_typed (FromWord k) d n slot code same some few le first = some_node_typed d n slot code same
+      some few le first
+  message_by_typed Computed d n slot code same some few le first = some_node_typed d n slot code same some few le first
+
+  -- ---- terms
+
+  pub term_typed : (t : Term) (z : Sizes) (J : List ℕ) (d lets : ℕ) (purpose : Purpose) (slot : ℕ)
+      → z.nodes ≡ shape.nodes → 1 ≤ z.nodes → z.nodes ≤ 64 → z.memory ≡ shape.memory → lets ≤ d → d ≤ 3
+      → Fits t z (length J) lets d → slot + length (term_code t z J d purpose) + beyond purpose ≤ last
+      → TermTyped purpose d slot (term_code t z J d purpose)
+  term_typed (Numeral v) z J d lets purpose slot same some few room below small fits le =
+      by_value_typed purpose d slot (set_number R0 v ∷ []) le (λ l. number_typed program shape last solid d v slot l)
+  term_typed Nodes z J d lets purpose slot same some few room below small fits le =
+      by_value_typed purpose d slot (set_number R0 z.nodes ∷ []) le
+      (λ l. number_typed program shape last solid d z.nodes slot l)
+  term_typed Faults z J d lets purpose slot same some few room below small fits le =
+      by_value_typed purpose d slot (set_number R0 z.faults ∷ []) le
+      (λ l. number_typed program shape last solid d z.faults slot l)
+  term_typed Modulus z J d lets purpose slot same some few room below small fits le =
+      by_value_typed purpose d slot (set_number R0 z.modulus ∷ []) le
+      (λ l. number_typed program shape last solid d z.modulus slot l)
+  term_typed Me z J d lets purpose slot same some few room below small fits le =
+      by_value_typed purpose d slot (i.Call (pos 1) ∷ []) le (λ l. me_typed d slot (omega (arith, same, few)) l)
+  term_typed Coin z J d lets purpose slot same some few room below small fits le =
+      by_value_typed purpose d slot (i.Call (pos 4) ∷ []) le (λ l. coin_typed d slot l)
+  term_typed (LoopNode k) z J d lets purpose slot same some few room below small fits le =
+      by_value_typed purpose d slot (set_number R0 (slice_index J k) ∷ []) le
+      (λ l. number_typed program shape last solid d (slice_index J k) slot l)
+  term_typed (Local k) z J d lets purpose slot same some few room below small fits le =
+      by_value_typed purpose d slot (copy R0 (place k) ∷ []) le
+      (λ l. fetch_typed program shape last solid k d Unset slot (omega (arith, fits, below)) small tt l)
+  term_typed (Word k) z J d lets purpose slot same some few room below small fits le =
+      by_value_typed purpose d slot (i.Load size.W R0 R6 (pos (4 * k)) ∷ []) le
+      (λ l. load_typed d k slot (omega (arith, fits, room)) l)
+  term_typed (Message' p a) z J d lets purpose slot same some few room below small fits le =
+      let code = term_code a z J d Value in
+      by_value_typed purpose d slot (message_by (source_of a z J) z.nodes code) le
+      (λ l. message_by_typed (source_of a z J) d z.nodes slot code same some few l
+      (λ k. term_typed a z J d lets Value slot same some few room below small fits (omega (arith, k))))
+  term_typed (Binary' o p a q b) z J d lets purpose slot same some few room below small fits le =
+      let deep = depth_behind (is_operand a) d in
+      let more : d ≤ deep = behind_more (is_operand a) d in
+      let memory = λ (y : Source) (there : IsThere y lets z.memory). subst (λ (m : ℕ). IsThere y lets m) room there in
+      sides_typed (source_of b z J) (source_of a z J) o purpose d deep lets slot (term_code a z J d Value)
+      (term_code b z J deep Value) (memory (source_of b z J) (source_there b z J (length J) lets deep fits.2))
+      (memory (source_of a z J) (source_there a z J (length J) lets d fits.1)) below small
+      (λ e. same_depth (is_operand a) d (sym (found_same a z J) ∙ e))
+      (λ e f. free_beside (is_operand a) (is_operand b) d (sym (found_same a z J) ∙ e)
+      (sym (found_same b z J) ∙ f) fits.0) le
+      (λ k. term_typed a z J d lets Value slot same some few room below small fits.1 (omega (arith, k)))
+      (λ to few_deep k. term_typed b z J deep lets Value to same some few room (omega (arith, below, more))
+      few_deep fits.2
+      (omega (arith, k)))
+  term_typed (Logical' c p a q b) z J d lets purpose slot same some few room below small fits le =
+      let left = λ (w : Bool) (g : ℕ). term_code a z J d (Jump w g) in
+      by_test_typed purpose d slot (λ when far. both_code (decides c) when far left
+      (term_code b z J d (Jump when far))) le
+      (λ when far l. both_typed (decides c) when far d slot left (term_code b z J d (Jump when far)) l
+      (λ w g k. term_typed a z J d lets (Jump w g) slot same some few room below small fits.0 k)
+      (λ to k. term_typed b z J d lets (Jump when far) to same some few room below small fits.1 k))
+  term_typed (Not' p a) z J d lets purpose slot same some few room below small fits le =
+      by_test_typed purpose d slot (λ when far. term_code a z J d (Jump (not when) far)) le
+      (λ when far l. term_typed a z J d lets (Jump (not when) far) slot same some few room below small fits l)
+  term_typed (Choice' p t q a r b) z J d lets purpose slot same some few room below small fits le =
+      let ca = term_code a z J d Value in
+      let cb = term_code b z J d Value in
+      by_value_typed purpose d slot (choice_code (λ far. term_code t z J d (Jump false far)) ca cb) le
+      (λ l. choice_typed d slot (valued d) (λ far. term_code t z J d (Jump false far)) ca cb
+      (proper_known d word Unset Unset some_word tt tt) l
+      (λ far k. term_typed t z J d lets (Jump false far) slot same some few room below small fits.0 k)
+      (λ to k. term_typed a z J d lets Value to same some few room below small fits.1 (omega (arith, k)))
+      (λ to k. term_typed b z J d lets Value to same some few room below small fits.2 (omega (arith, k))))
+  term_typed (Count' p t) z J d lets purpose slot same some few room below small fits le =
+      let test = λ (j : ℕ). term_code t z (J ++ j ∷ []) (d + 1) (Jump false 1) in
+      by_value_typed purpose d slot (count_code d z.nodes test) le
+      (λ l. count_typed d slot z.nodes test fits.0 l
+      (λ j to k.
+      let more : length J + 1 ≡ length (J ++ j ∷ []) = omega (arith, length-append J (j ∷ [])) in
+      term_typed t z (J ++ j ∷ []) (d + 1) lets (Jump false 1) to same some few room (omega (arith, below))
+      (omega (arith, fits.0)) (subst (λ (n : ℕ). Fits t z n lets (d + 1)) more fits.1) k))

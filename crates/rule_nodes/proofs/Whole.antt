@@ -1,0 +1,307 @@
+-- The run of a whole rule.
+use Rattle.std.proofs.Common.{◌≡◌, ℕ, zero, suc, ◌+◌, ◌<◌, ◌≤◌, Bool, true, false, not, if◌then◌else◌, nat_lt, List, [], ◌∷◌, ◌++◌, length, Some, Ok, pos, slice_index_or, refl, sym, ap, ◌∙◌, arith, length-append}
+use Rattle.std.proofs.lemmas.List.Elements.{All-nil}
+use Rattle.std.proofs.lemmas.Option.{slice_get-get_or}
+use Rattle.std.specs.FinMap.{get}
+use Rattle.node_env.specs.declared.region.Region.TheVariants.{Mem}
+use Rattle.node_env.specs.Env.{Extent, Setting}
+use Rattle.bpf_insn.specs.declared.forms.Reg.TheVariants.{R0, R1, R2, R6}
+use Rattle.bpf_insn.specs.declared.forms.Reg.{Reg}
+use Rattle.bpf_insn.specs.declared.forms.Operand.{Operand}
+use Rattle.bpf_insn.specs.declared.forms.Operand.TheVariants as operand
+use Rattle.bpf_insn.specs.declared.forms.Insn.{Insn}
+use Rattle.bpf_insn.specs.declared.forms.Insn.TheVariants as i
+use Rattle.bpf_insn.specs.Edges.{BeginsAt}
+use Rattle.bpf_insn.specs.Encoding.{slots_taken}
+use Rattle.bpf_machine.specs.declared.word.Word.TheVariants.{Num, Ptr}
+use Rattle.bpf_machine.specs.Machine.{Running, Ended, entry}
+use Rattle.bpf_machine.specs.Step.{step}
+use Rattle.clock_nodes.specs.Ends.{IsStart, HasRuns, EndsBy}
+use Rattle.clock_nodes.proofs.Places.{begins, Ones, ones_append, found, stands_whole}
+use Rattle.clock_nodes.proofs.Forms.{put_same, put, moves, exits}
+use Rattle.clock_nodes.proofs.Runs.{HasEnd, one_end}
+use Rattle.rule_nodes.specs.declared.syntax.Sizes.{Sizes}
+use Rattle.rule_nodes.specs.declared.syntax.Operator.{Operator}
+use Rattle.rule_nodes.specs.declared.syntax.Operator.TheVariants.{Compute, Compare}
+use Rattle.rule_nodes.specs.declared.syntax.Purpose.{Purpose}
+use Rattle.rule_nodes.specs.declared.syntax.Purpose.TheVariants.{Value, Jump}
+use Rattle.rule_nodes.specs.declared.syntax.Target.{Target}
+use Rattle.rule_nodes.specs.declared.syntax.Target.TheVariants.{ToLocal, ToWord}
+use Rattle.rule_nodes.specs.declared.syntax.Assignment.{Assignment}
+use Rattle.rule_nodes.specs.declared.syntax.Assignment.TheVariants.{One, Also'}
+use Rattle.rule_nodes.specs.declared.syntax.Source.{Source}
+use Rattle.rule_nodes.specs.declared.syntax.Source.TheVariants.{Constant, FromLocal, FromWord, Computed}
+use Rattle.rule_nodes.specs.declared.syntax.Term.{Term}
+use Rattle.rule_nodes.specs.declared.syntax.Term.TheVariants.{Number, Nodes, Faults, Modulus, Me, Coin, LoopNode, Local, Word, Message', Binary', Logical', Not', Choice', Count'}
+use Rattle.rule_nodes.specs.declared.syntax.Statement.{Statement}
+use Rattle.rule_nodes.specs.declared.syntax.Statement.TheVariants.{Nothing, Then', Let', Assign, If', For', SendAll, SendTo}
+use Rattle.rule_nodes.specs.Meaning.{initial_state}
+use Rattle.rule_nodes.specs.Operands.{is_operand, is_steady, depth_behind, source_of}
+use Rattle.rule_nodes.specs.Fits.{BlockFits}
+use Rattle.rule_nodes.specs.Code.{place, set_number, set_node, get_code, operand_code, load_code, left_code, binary_code, mirror, message_by, copy, truth_code, by_value, by_test, by_operator, two_code, choice_code, decides, both_far, both_code, jump_on, jump_by, jump_place, message_code, count_codes, term_code, assign_code, set_code, given_code, also_code, assignment_code, send_codes, send_all_code, send_to_code, each_code, block_code, tail_code, rule_code}
+use Rattle.rule_nodes.specs.Ends.{AreSizes, IsRuleEnd}
+use Rattle.rule_nodes.proofs.Forms.{leads_add, once, chain, further}
+use Rattle.rule_nodes.proofs.States.{stands_front, stands_back, Holds, IsSized}
+use Rattle.rule_nodes.proofs.TermRuns.{here_is}
+use Rattle.rule_nodes.proofs.Blocks.{block_runs}
+
+-- ---- each instruction takes one slot
+
+ones_value : (purpose : Purpose) (code : List Insn) → Ones code → Ones (by_value purpose code)
+ones_value Value code h = h
+ones_value (Jump when far) code h = ones_append code _ h (refl, tt)
+
+ones_test : (purpose : Purpose) (test : Bool → ℕ → List Insn) → ((when : Bool) (far : ℕ) → Ones (test when far))
+    → Ones (by_test purpose test)
+ones_test Value test h = ones_append (test false 2) truth_code (h false 2) (refl, (refl, (refl, tt)))
+ones_test (Jump when far) test h = h when far
+
+ones_two : (d : ℕ) (a b : List Insn) → Ones a → Ones b → Ones (two_code d a b)
+ones_two d a b h g = ones_append a _ h (refl, ones_append b _ g (refl, (refl, tt)))
+
+ones_operator : (o : Operator) (src : Operand) (purpose : Purpose) (code : List Insn) → Ones code
+    → Ones (by_operator o src purpose code)
+ones_operator (Compute op) src purpose code h = ones_value purpose _ (ones_append code _ h (refl, tt))
+ones_operator (Compare r) src purpose code h = ones_test purpose (λ when far. code ++ jump_by
+    (jump_on when r) src far ∷ []) (λ when far. ones_append code (jump_by (jump_on when r) src far ∷ []) h (refl, tt))
+
+ones_load : (y : Source) → Ones (load_code y)
+ones_load (Constant c) = tt
+ones_load (FromLocal k) = tt
+ones_load (FromWord k) = (refl, tt)
+ones_load Computed = tt
+
+takes_one : (dst : Reg) (x : Source) → slots_taken (get_code dst x) ≡ 1
+takes_one dst (Constant c) = refl
+takes_one dst (FromLocal k) = refl
+takes_one dst (FromWord k) = refl
+takes_one dst Computed = refl
+
+ones_left : (o : Operator) (x : Source) (purpose : Purpose) (right : List Insn) → Ones right
+    → Ones (left_code o x purpose right)
+ones_left (Compute op) x purpose right h =
+    ones_operator (Compute op) (operand.Reg R1) purpose (right ++ (copy R1 R0 ∷ get_code R0 x ∷ []))
+    (ones_append right _ h (refl, (takes_one R0 x, tt)))
+ones_left (Compare r) x purpose right h =
+    ones_operator (Compare (mirror r)) (operand_code x) purpose (right ++ load_code x)
+    (ones_append right _ h (ones_load x))
+
+ones_right : (o : Operator) (y : Source) (purpose : Purpose) (left : List Insn) → Ones left
+    → Ones (by_operator o (operand_code y) purpose (left ++ load_code y))
+ones_right o y purpose left h =
+    ones_operator o (operand_code y) purpose (left ++ load_code y) (ones_append left _ h (ones_load y))
+
+ones_binary : (y x : Source) (o : Operator) (d : ℕ) (purpose : Purpose) (left right : List Insn)
+    → Ones left → Ones right → Ones (binary_code y x o d purpose left right)
+ones_binary (Constant c) (FromLocal k) (Compare r) d purpose left right h g =
+    ones_test purpose (λ when far. jump_place k (jump_on when r) c far ∷ []) (λ when far. (refl, tt))
+ones_binary (Constant c) (FromLocal k) (Compute op) d purpose left right h g =
+    ones_right (Compute op) (Constant c) purpose left h
+ones_binary (Constant c) (Constant b) o d purpose left right h g = ones_right o (Constant c) purpose left h
+ones_binary (Constant c) (FromWord k) o d purpose left right h g = ones_right o (Constant c) purpose left h
+ones_binary (Constant c) Computed o d purpose left right h g = ones_right o (Constant c) purpose left h
+ones_binary (FromLocal k) x o d purpose left right h g = ones_right o (FromLocal k) purpose left h
+ones_binary (FromWord k) x o d purpose left right h g = ones_right o (FromWord k) purpose left h
+ones_binary Computed (Constant c) o d purpose left right h g = ones_left o (Constant c) purpose right g
+ones_binary Computed (FromLocal k) o d purpose left right h g = ones_left o (FromLocal k) purpose right g
+ones_binary Computed (FromWord k) o d purpose left right h g = ones_left o (FromWord k) purpose right g
+ones_binary Computed Computed o d purpose left right h g =
+    ones_operator o (operand.Reg R1) purpose (two_code d left right) (ones_two d left right h g)
+
+ones_message : (y : Source) (n : ℕ) (code : List Insn) → Ones code → Ones (message_by y n code)
+ones_message (Constant j) n code h = by (nat_lt j n)
+  where
+    by : (known : Bool)
+        → Ones (if known then set_node R1 j ∷ i.Call (pos 2) ∷ [] else set_number R0 4294967295 ∷ [])
+    by true = (refl, (refl, tt))
+    by false = (refl, tt)
+ones_message (FromLocal k) n code h = ones_append code (message_code n) h (refl, (refl, (refl, (refl, (refl, tt)))))
+ones_message (FromWord k) n code h = ones_append code (message_code n) h (refl, (refl, (refl, (refl, (refl, tt)))))
+ones_message Computed n code h = ones_append code (message_code n) h (refl, (refl, (refl, (refl, (refl, tt)))))
+
+ones_choice : (test : ℕ → List Insn) (a b : List Insn) → ((far : ℕ) → Ones (test far)) → Ones a → Ones b
+    → Ones (choice_code test a b)
+ones_choice test a b k h g = ones_append (test (length a + 1)) _ (k (length a + 1)) (ones_append a _ h (refl, g))
+
+ones_counts : (d : ℕ) (test : ℕ → List Insn) (n : ℕ) → ((j : ℕ) → Ones (test j)) → Ones (count_codes d test n)
+ones_counts d test zero h = tt
+ones_counts d test (suc n) h = ones_append (count_codes d test n) _ (ones_counts d test n h)
+    (ones_append (test n) _ (h n) (refl, tt))
+
+ones_term : (t : Term) (z : Sizes) (J : List ℕ) (d : ℕ) (purpose : Purpose) → Ones (term_code t z J d purpose)
+ones_term (Number v) z J d purpose = ones_value purpose _ (refl, tt)
+ones_term Nodes z J d purpose = ones_value purpose _ (refl, tt)
+ones_term Faults z J d purpose = ones_value purpose _ (refl, tt)
+ones_term Modulus z J d purpose = ones_value purpose _ (refl, tt)
+ones_term Me z J d purpose = ones_value purpose _ (refl, tt)
+ones_term Coin z J d purpose = ones_value purpose _ (refl, tt)
+ones_term (LoopNode k) z J d purpose = ones_value purpose _ (refl, tt)
+ones_term (Local k) z J d purpose = ones_value purpose _ (refl, tt)
+ones_term (Word k) z J d purpose = ones_value purpose _ (refl, tt)
+ones_term (Message' p a) z J d purpose = ones_value purpose _
+    (ones_message (source_of a z J) z.nodes (term_code a z J d Value) (ones_term a z J d Value))
+ones_term (Binary' o p a q b) z J d purpose =
+    ones_binary (source_of b z J) (source_of a z J) o d purpose (term_code a z J d Value)
+    (term_code b z J (depth_behind (is_operand a) d) Value) (ones_term a z J d Value)
+    (ones_term b z J (depth_behind (is_operand a) d) Value)
+ones_term (Logical' c p a q b) z J d purpose =
+    let left = λ (w : Bool) (g : ℕ). term_code a z J d (Jump w g) in
+    ones_test purpose (λ when far. both_code (decides c) when far left (term_code b z J d (Jump when far))) (λ when far.
+    ones_append (left (decides c) (both_far (decides c) when (length (term_code b z J d (Jump when far))) far))
+    (term_code b z J d (Jump when far)) (ones_term a z J d (Jump (decides c) _)) (ones_term b z J d (Jump when far)))
+ones_term (Not' p a) z J d purpose = ones_test purpose (λ when far. term_code a z J d (Jump (not when) far))
+    (λ when far. ones_term a z J d (Jump (not when) far))
+ones_term (Choice' p t q a r b) z J d purpose = ones_value purpose _
+    (ones_choice (λ far. term_code t z J d (Jump false far)) _ _ (λ far. ones_term t z J d (Jump false far))
+    (ones_term a z J d Value) (ones_term b z J d Value))
+ones_term (Count' p t) z J d purpose = ones_value purpose _ (
+  refl,
+  ones_append (count_codes d (λ j. term_code t z (J ++ j ∷ []) (d + 1) (Jump false 1)) z.nodes) _
+      (ones_counts d (λ j. term_code t z (J ++ j ∷ []) (d + 1) (Jump false 1)) z.nodes
+      (λ j. ones_term t z (J ++ j ∷ []) (d + 1) (Jump false 1))) (refl, tt),
+)
+
+ones_assign : (target : Target) → Ones (assign_code target ∷ [])
+ones_assign (ToLocal k) = (refl, tt)
+ones_assign (ToWord k) = (refl, tt)
+
+ones_set : (target : Target) (x : Source) → Ones (set_code target x)
+ones_set (ToLocal k) x = (takes_one (place k) x, tt)
+ones_set (ToWord k) (Constant c) = (refl, tt)
+ones_set (ToWord k) (FromLocal j) = (refl, tt)
+ones_set (ToWord k) (FromWord j) = (refl, (refl, tt))
+ones_set (ToWord k) Computed = (refl, (refl, tt))
+
+ones_given : (x : Source) (target : Target) (code : List Insn) → Ones code → Ones (given_code x target code)
+ones_given (Constant c) target code h = ones_set target (Constant c)
+ones_given (FromLocal k) target code h = ones_set target (FromLocal k)
+ones_given (FromWord k) target code h = ones_set target (FromWord k)
+ones_given Computed target code h = ones_append code _ h (ones_assign target)
+
+ones_also : (steady : Bool) (d : ℕ) (x : Source) (target : Target) (code first : List Insn) → Ones code → Ones first
+    → Ones (also_code steady d x target code first)
+ones_also true d x target code first h g = ones_append first _ g (ones_given x target code h)
+ones_also false d x target code first h g = ones_append code _ h (
+  refl,
+  ones_append first _ g
+      (refl, ones_assign target),
+)
+
+ones_assignment : (a : Assignment) (z : Sizes) (J : List ℕ) (d : ℕ) → Ones (assignment_code a z J d)
+ones_assignment (One target e) z J d = ones_given (source_of e z J) target (term_code e z J d Value)
+    (ones_term e z J d Value)
+ones_assignment (Also' p front target e) z J d = ones_also (is_steady e) d (source_of e z J) target
+    (term_code e z J d Value) (assignment_code front z J (depth_behind (is_steady e) d)) (ones_term e z J d Value)
+    (ones_assignment front z J (depth_behind (is_steady e) d))
+
+ones_sends : (x : Source) (n : ℕ) → Ones (send_codes x n)
+ones_sends x zero = tt
+ones_sends x (suc n) = ones_append (send_codes x n) _ (ones_sends x n) (refl, (takes_one R2 x, (refl, tt)))
+
+ones_send_all : (x : Source) (d n : ℕ) (code : List Insn) → Ones code → Ones (send_all_code x d n code)
+ones_send_all (Constant c) d n code h = ones_sends (Constant c) n
+ones_send_all (FromLocal k) d n code h = ones_sends (FromLocal k) n
+ones_send_all (FromWord k) d n code h = ones_sends (FromWord k) n
+ones_send_all Computed d n code h = ones_append code _ h (refl, ones_sends (FromLocal d) n)
+
+ones_each : (body : ℕ → List Insn) (n : ℕ) → ((j : ℕ) → Ones (body j)) → Ones (each_code body n)
+ones_each body zero h = tt
+ones_each body (suc n) h = ones_append (each_code body n) (body n) (ones_each body n h) (h n)
+
+ones_block : (b : Statement) (z : Sizes) (J : List ℕ) (d : ℕ) → Ones (block_code b z J d)
+ones_block Nothing z J d = tt
+ones_block (Then' p a q b) z J d = ones_append (block_code a z J d) (block_code b z J d) (ones_block a z J d)
+    (ones_block b z J d)
+ones_block (Let' e p rest) z J d = ones_append (term_code e z J d Value) _ (ones_term e z J d Value)
+    (refl, ones_block rest z J (d + 1))
+ones_block (Assign a) z J d = ones_assignment a z J d
+ones_block (If' t p a q b) z J d = ones_choice (λ far. term_code t z J d (Jump false far)) _ _
+    (λ far. ones_term t z J d (Jump false far)) (ones_block a z J d) (ones_block b z J d)
+ones_block (For' p body) z J d = ones_each (λ j. block_code body z (J ++ j ∷ []) d) z.nodes
+    (λ j. ones_block body z (J ++ j ∷ []) d)
+ones_block (SendAll e) z J d = ones_send_all (source_of e z J) d z.nodes (term_code e z J d Value)
+    (ones_term e z J d Value)
+ones_block (SendTo e k) z J d = ones_append (term_code e z J d Value) _ (ones_term e z J d Value) (
+  refl,
+  ones_append (term_code k z J (d + 1) Value) (send_to_code d z.nodes) (ones_term k z J (d + 1) Value)
+      (refl, (refl, (refl, (refl, tt)))),
+)
+
+pub ones_rule : (rule : Statement) (z : Sizes) → Ones (rule_code rule z)
+ones_rule rule z = (refl, ones_append (block_code rule z [] 0) tail_code (ones_block rule z [] 0) (refl, (refl, tt)))
+
+-- ---- the run
+
+pub rule_length : (rule : Statement) (z : Sizes) → length (rule_code rule z) ≡ 3 + length (block_code rule z [] 0)
+rule_length rule z = omega (arith, length-append (block_code rule z [] 0) tail_code)
+
+pub all_begin : (p : List Insn) → Ones p → (k : ℕ) → k < length p → BeginsAt p k
+all_begin p ones k lt = begins p k (slice_index_or p k i.Exit) (found p k ones ∙ slice_get-get_or p k i.Exit lt)
+
+rule_has_end : (rule : Statement) (z : Sizes) (shape : Extent) (env : Setting) (memory : List ℕ) → AreSizes z shape
+    → BlockFits rule z 0 0 → IsStart shape env memory
+    → HasEnd (rule_code rule z) env memory (IsRuleEnd z rule env memory)
+rule_has_end rule z shape env memory sizes fits start =
+    let p = rule_code rule z in
+    let code = block_code rule z [] 0 in
+    let ones = ones_rule rule z in
+    let long = rule_length rule z in
+    let last = length code + 2 in
+    let solid : (k : ℕ) → k ≤ last → BeginsAt p k = λ k le. all_begin p ones k (omega (arith, long)) in
+    let stands = stands_whole p ones in
+    let s = entry env memory in
+    let m = s.frame.registers in
+    let s1 = put s 1 R6 (Ptr Mem 0) in
+    let u = initial_state memory in
+    let r1 : get m 1 ≡ Some (Ptr Mem 0) = put_same _ 1 (Ptr Mem 0) in
+    let e1 : step p env s ≡ Ok (Running s1) = moves p env s 1 R6 (operand.Reg R1) (Ptr Mem 0) stands.0 refl
+    (solid 1 (omega arith)) (rw r1 refl) refl in
+    let sized : IsSized z env = record {
+      nodes = sizes.nodes ∙ ap (λ (x : Extent). x.nodes) (sym start.extent);
+      memory = sizes.memory ∙ ap (λ (x : Extent). x.memory) (sym start.extent);
+      faults = sizes.faults;
+      modulus = sizes.modulus;
+      setting = start.setting;
+    } in
+    let h : Holds env 0 u s1 = record {
+      r6 = put_same m 6 (Ptr Mem 0);
+      locals = λ k lt. absurd (omega arith);
+      small = λ k lt. absurd (omega arith);
+      memory = refl;
+      sent = refl;
+      room = start.length;
+      bytes = start.bytes;
+    } in
+    let c = block_runs p env last solid rule z [] 0 u s1 sized (All-nil (λ j. j < z.nodes)) (omega arith) fits h
+    (stands_front p 1 code tail_code stands.1) (omega arith) in
+    let t = c.new in
+    let there = here_is p env last solid t _ tail_code c.slot (stands_back p 1 code tail_code stands.1) in
+    let t1 = put t (t.frame.slot + 1) R0 (Num 0) in
+    let e2 : step p env t ≡ Ok (Running t1) = moves p env t (t.frame.slot + 1) R0 (operand.Imm (pos 0))
+    (Num 0) there.0 refl (solid (t.frame.slot + 1) (omega (arith, c.slot))) refl refl in
+    let e3 : step p env t1 ≡ Ok (Ended t.memory t.sent 0) = exits p env t1 0 there.1.0
+    (put_same t.frame.registers 0 (Num 0)) in
+    let run1 = chain p env s s1 t 1 (length code) (1 + length code) (once p env s s1 e1) c.run (omega arith) in
+    let run2 = further p env s t t1 (1 + length code) (2 + length code) run1 e2 (omega arith) in
+    record {
+      end = record { steps = run2.count + 1; memory = t.memory; sent = t.sent; r0 = 0 };
+      run = leads_add p env run2.count 1 (Running s) (Running t1) (Ended t.memory t.sent 0) run2.leads (_, e3, refl);
+      is = record {
+        memory = c.fact.memory;
+        sent = c.fact.sent;
+        r0 = refl;
+        steps = omega (arith, run2.few, long);
+      };
+    }
+
+pub rule_has_runs : (rule : Statement) (z : Sizes) (shape : Extent) → AreSizes z shape → BlockFits rule z 0 0
+    → HasRuns (rule_code rule z) shape
+rule_has_runs rule z shape sizes fits env memory start =
+    let has = rule_has_end rule z shape env memory sizes fits start in
+    (has.end, has.run)
+
+pub rule_ends_so : (rule : Statement) (z : Sizes) (shape : Extent) → AreSizes z shape → BlockFits rule z 0 0
+    → EndsBy (rule_code rule z) shape (IsRuleEnd z rule)
+rule_ends_so rule z shape sizes fits env memory end start run =
+    one_end (rule_code rule z) env memory (IsRuleEnd z rule env memory)
+    (rule_has_end rule z shape env memory sizes fits start) end run

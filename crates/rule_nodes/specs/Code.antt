@@ -1,0 +1,309 @@
+-- The instructions of a rule. r6 has the memory's place, r0 the number just computed, r1 and r2 are scratch; place k is
+-- r7, r8, r9 for k = 0, 1, 2. At depth d the places below d are in use.
+use Rattle.std.specs.Prelude.{ℕ, zero, suc, ◌+◌, ◌*◌, pos, Bool, true, false, not, nat_lt, if◌then◌else◌, List, [], ◌∷◌, ◌++◌, length, slice_index}
+use Rattle.std.specs.Int.{w32, cast_signed}
+use Rattle.bpf_insn.specs.declared.forms.Reg as regs
+use Rattle.bpf_insn.specs.declared.forms.Reg.TheVariants.{R0, R1, R2, R6, R7, R8, R9}
+use Rattle.bpf_insn.specs.declared.forms.Width.TheVariants.{W32, W64}
+use Rattle.bpf_insn.specs.declared.forms.Size.TheVariants as size
+use Rattle.bpf_insn.specs.declared.forms.AluOp.{AluOp}
+use Rattle.bpf_insn.specs.declared.forms.AluOp.TheVariants.{Add, Sub, Mul, Div, Mod, Mov}
+use Rattle.bpf_insn.specs.declared.forms.Cond.{Cond}
+use Rattle.bpf_insn.specs.declared.forms.Cond.TheVariants as conds
+use Rattle.bpf_insn.specs.declared.forms.Operand.{Operand}
+use Rattle.bpf_insn.specs.declared.forms.Operand.TheVariants.{Imm, Reg}
+use Rattle.bpf_insn.specs.declared.forms.Insn.{Insn}
+use Rattle.bpf_insn.specs.declared.forms.Insn.TheVariants.{Alu, Branch, Ja, Call, Exit, Load, StoreReg, StoreImm}
+use Rattle.rule_nodes.specs.Operands.{is_operand, is_steady, depth_behind, source_of}
+use Rattle.rule_nodes.specs.declared.syntax.Sizes.{Sizes}
+use Rattle.rule_nodes.specs.declared.syntax.Operation.{Operation}
+use Rattle.rule_nodes.specs.declared.syntax.Operation.TheVariants.{Sum, Difference, Product, Quotient, Remainder}
+use Rattle.rule_nodes.specs.declared.syntax.Comparison.{Comparison}
+use Rattle.rule_nodes.specs.declared.syntax.Comparison.TheVariants.{Equal, NotEqual, Less, AtMost, Greater, AtLeast}
+use Rattle.rule_nodes.specs.declared.syntax.Operator.{Operator}
+use Rattle.rule_nodes.specs.declared.syntax.Operator.TheVariants.{Compute, Compare}
+use Rattle.rule_nodes.specs.declared.syntax.Connective.{Connective}
+use Rattle.rule_nodes.specs.declared.syntax.Connective.TheVariants.{And, Or}
+use Rattle.rule_nodes.specs.declared.syntax.Target.{Target}
+use Rattle.rule_nodes.specs.declared.syntax.Target.TheVariants.{ToLocal, ToWord}
+use Rattle.rule_nodes.specs.declared.syntax.Assignment.{Assignment}
+use Rattle.rule_nodes.specs.declared.syntax.Assignment.TheVariants.{One, Also'}
+use Rattle.rule_nodes.specs.declared.syntax.Purpose.{Purpose}
+use Rattle.rule_nodes.specs.declared.syntax.Purpose.TheVariants.{Value, Jump}
+use Rattle.rule_nodes.specs.declared.syntax.Source.{Source}
+use Rattle.rule_nodes.specs.declared.syntax.Source.TheVariants.{Constant, FromLocal, FromWord, Computed}
+use Rattle.rule_nodes.specs.declared.syntax.Term.{Term}
+use Rattle.rule_nodes.specs.declared.syntax.Term.TheVariants.{Number, Nodes, Faults, Modulus, Me, Coin, LoopNode, Local, Word, Message', Binary', Logical', Not', Choice', Count'}
+use Rattle.rule_nodes.specs.declared.syntax.Statement.{Statement}
+use Rattle.rule_nodes.specs.declared.syntax.Statement.TheVariants.{Nothing, Then', Let', Assign, If', For', SendAll, SendTo}
+
+-- ---- instructions
+
+abbrev pub place : ℕ → regs.Reg
+place zero = R7
+place (suc zero) = R8
+place (suc (suc k)) = R9
+
+-- a number of 32 bits into a register
+abbrev pub set_number : regs.Reg → ℕ → Insn
+set_number dst v = Alu Mov W32 dst (Imm (cast_signed w32 v))
+
+-- a whole register, as a node's number
+abbrev pub set_node : regs.Reg → ℕ → Insn
+set_node dst v = Alu Mov W64 dst (Imm (pos v))
+
+abbrev pub copy : regs.Reg → regs.Reg → Insn
+copy dst src = Alu Mov W32 dst (Reg src)
+
+abbrev pub alu_of : Operation → AluOp
+alu_of Sum = Add
+alu_of Difference = Sub
+alu_of Product = Mul
+alu_of Quotient = Div
+alu_of Remainder = Mod
+
+abbrev pub cond_of : Comparison → Cond
+cond_of Equal = conds.Eq
+cond_of NotEqual = conds.Ne
+cond_of Less = conds.Lt
+cond_of AtMost = conds.Le
+cond_of Greater = conds.Gt
+cond_of AtLeast = conds.Ge
+
+abbrev pub opposite : Comparison → Comparison
+opposite Equal = NotEqual
+opposite NotEqual = Equal
+opposite Less = AtLeast
+opposite AtMost = Greater
+opposite Greater = AtMost
+opposite AtLeast = Less
+
+-- the same comparison with its sides changed over
+abbrev pub mirror : Comparison → Comparison
+mirror Equal = Equal
+mirror NotEqual = NotEqual
+mirror Less = Greater
+mirror AtMost = AtLeast
+mirror Greater = Less
+mirror AtLeast = AtMost
+
+-- the comparison for a jump that is taken if it holds, or if it doesn't
+abbrev pub jump_on : Bool → Comparison → Comparison
+jump_on when r = if when then r else opposite r
+
+-- a jump by what r0 and an operand are
+abbrev pub jump_by : Comparison → Operand → ℕ → Insn
+jump_by r src far = Branch (cond_of r) W32 R0 src (pos far)
+
+-- a jump by what r0 is beside a number
+abbrev pub jump_at : Comparison → ℕ → ℕ → Insn
+jump_at r v far = Branch (cond_of r) W32 R0 (Imm (pos v)) (pos far)
+
+-- ---- terms
+
+-- after a test that jumps 2 if it doesn't hold: 1, or 0
+abbrev pub truth_code : List Insn
+truth_code = set_number R0 1 ∷ Ja (pos 1) ∷ set_number R0 0 ∷ []
+
+-- of a term that is computed
+abbrev pub by_value : Purpose → List Insn → List Insn
+by_value Value code = code
+by_value (Jump when far) code = code ++ jump_at (jump_on when NotEqual) 0 far ∷ []
+
+-- the jump that the test of a term makes
+abbrev pub when_of : Purpose → Bool
+when_of Value = false
+when_of (Jump when far) = when
+
+abbrev pub far_of : Purpose → ℕ
+far_of Value = 2
+far_of (Jump when far) = far
+
+-- what comes after the test
+abbrev pub behind_test : Purpose → List Insn → List Insn
+behind_test Value code = code ++ truth_code
+behind_test (Jump when far) code = code
+
+-- of a term that is tested
+abbrev pub by_test : Purpose → (Bool → ℕ → List Insn) → List Insn
+by_test purpose test = behind_test purpose (test (when_of purpose) (far_of purpose))
+
+-- the left number into r0 and the right one into r1
+abbrev pub two_code : ℕ → List Insn → List Insn → List Insn
+two_code d left right = left ++ (copy (place d) R0 ∷ (right ++ copy R1 R0 ∷ copy R0 (place d) ∷ []))
+
+-- the instruction that puts a found number into a register
+abbrev pub get_code : regs.Reg → Source → Insn
+get_code dst (Constant v) = set_number dst v
+get_code dst (FromLocal k) = copy dst (place k)
+get_code dst (FromWord k) = Load size.W dst R6 (pos (4 * k))
+get_code dst Computed = copy dst R0
+
+-- how a found number is the operand of an instruction: a word is loaded into r1 first
+abbrev pub operand_code : Source → Operand
+operand_code (Constant v) = Imm (cast_signed w32 v)
+operand_code (FromLocal k) = Reg (place k)
+operand_code (FromWord k) = Reg R1
+operand_code Computed = Reg R1
+
+abbrev pub load_code : Source → List Insn
+load_code (FromWord k) = get_code R1 (FromWord k) ∷ []
+load_code _ = []
+
+-- an operation on r0 and an operand gives a number, and a comparison of them is a test
+abbrev pub by_operator : Operator → Operand → Purpose → List Insn → List Insn
+by_operator (Compute op) src purpose code = by_value purpose (code ++ Alu (alu_of op) W32 R0 src ∷ [])
+by_operator (Compare r) src purpose code = by_test purpose (λ when far. code ++ jump_by (jump_on when r) src far ∷ [])
+
+-- the left number is found and the right one is computed: a comparison is turned round
+abbrev pub left_code : Operator → Source → Purpose → List Insn → List Insn
+left_code (Compute op) x purpose right =
+    by_operator (Compute op) (Reg R1) purpose (right ++ (copy R1 R0 ∷ get_code R0 x ∷ []))
+left_code (Compare r) x purpose right =
+    by_operator (Compare (mirror r)) (operand_code x) purpose (right ++ load_code x)
+
+-- a jump that compares a local in its place with a constant
+abbrev pub jump_place : ℕ → Comparison → ℕ → ℕ → Insn
+jump_place k r v far = Branch (cond_of r) W32 (place k) (Imm (cast_signed w32 v)) (pos far)
+
+-- by where the right number y and the left number x are found
+abbrev pub binary_code : Source → Source → Operator → ℕ → Purpose → List Insn → List Insn → List Insn
+binary_code (Constant c) (FromLocal k) (Compare r) d purpose left right =
+    by_test purpose (λ when far. jump_place k (jump_on when r) c far ∷ [])
+binary_code Computed Computed o d purpose left right = by_operator o (Reg R1) purpose (two_code d left right)
+binary_code Computed x o d purpose left right = left_code o x purpose right
+binary_code y x o d purpose left right = by_operator o (operand_code y) purpose (left ++ load_code y)
+
+-- a test that skips the first, and the first skips the second
+abbrev pub choice_code : (ℕ → List Insn) → List Insn → List Insn → List Insn
+choice_code test a b = test (length a + 1) ++ (a ++ (Ja (pos (length b)) ∷ b))
+
+-- the first condition decides alone if it is this
+abbrev pub decides : Connective → Bool
+decides And = false
+decides Or = true
+
+-- how far the first condition jumps, over the n instructions of the second
+abbrev pub both_far : Bool → Bool → ℕ → ℕ → ℕ
+both_far alone when n far =
+    if alone then (if when then n + far else n) else (if when then n else n + far)
+
+abbrev pub both_code : Bool → Bool → ℕ → (Bool → ℕ → List Insn) → List Insn → List Insn
+both_code alone when far left right = left alone (both_far alone when (length right) far) ++ right
+
+-- the last message from the node in r0
+abbrev pub message_code : ℕ → List Insn
+message_code n = jump_at Less n 2 ∷ set_number R0 4294967295 ∷ Ja (pos 2) ∷ copy R1 R0 ∷ Call (pos 2) ∷ []
+
+-- the last message from a node, by where the node's number is found: a constant needs no test
+abbrev pub message_by : Source → ℕ → List Insn → List Insn
+message_by (Constant j) n code =
+    if nat_lt j n then set_node R1 j ∷ Call (pos 2) ∷ [] else set_number R0 4294967295 ∷ []
+message_by _ n code = code ++ message_code n
+
+-- one more in place d for each node below n at which the test doesn't jump
+abbrev pub count_codes : ℕ → (ℕ → List Insn) → ℕ → List Insn
+count_codes d test zero = []
+count_codes d test (suc n) = count_codes d test n ++ (test n ++ Alu Add W32 (place d) (Imm (pos 1)) ∷ [])
+
+abbrev pub count_code : ℕ → ℕ → (ℕ → List Insn) → List Insn
+count_code d n test = set_number (place d) 0 ∷ (count_codes d test n ++ copy R0 (place d) ∷ [])
+
+-- of a term at depth d
+abbrev pub term_code : Term → Sizes → List ℕ → ℕ → Purpose → List Insn
+term_code (Number v) z J d purpose = by_value purpose (set_number R0 v ∷ [])
+term_code Nodes z J d purpose = by_value purpose (set_number R0 z.nodes ∷ [])
+term_code Faults z J d purpose = by_value purpose (set_number R0 z.faults ∷ [])
+term_code Modulus z J d purpose = by_value purpose (set_number R0 z.modulus ∷ [])
+term_code Me z J d purpose = by_value purpose (Call (pos 1) ∷ [])
+term_code Coin z J d purpose = by_value purpose (Call (pos 4) ∷ [])
+term_code (LoopNode i) z J d purpose = by_value purpose (set_number R0 (slice_index J i) ∷ [])
+term_code (Local k) z J d purpose = by_value purpose (copy R0 (place k) ∷ [])
+term_code (Word k) z J d purpose = by_value purpose (Load size.W R0 R6 (pos (4 * k)) ∷ [])
+term_code (Message' p a) z J d purpose = by_value purpose (message_by (source_of a z J) z.nodes
+    (term_code a z J d Value))
+term_code (Binary' o p a q b) z J d purpose =
+    binary_code (source_of b z J) (source_of a z J) o d purpose (term_code a z J d Value)
+    (term_code b z J (depth_behind (is_operand a) d) Value)
+term_code (Logical' c p a q b) z J d purpose = by_test purpose (λ when far.
+    both_code (decides c) when far (λ w g. term_code a z J d (Jump w g)) (term_code b z J d (Jump when far)))
+term_code (Not' p a) z J d purpose = by_test purpose (λ when far. term_code a z J d (Jump (not when) far))
+term_code (Choice' p t q a r b) z J d purpose = by_value purpose
+    (choice_code (λ far. term_code t z J d (Jump false far)) (term_code a z J d Value) (term_code b z J d Value))
+term_code (Count' p t) z J d purpose = by_value purpose
+    (count_code d z.nodes (λ j. term_code t z (J ++ j ∷ []) (d + 1) (Jump false 1)))
+
+-- ---- statements
+
+abbrev pub assign_code : Target → Insn
+assign_code (ToLocal k) = copy (place k) R0
+assign_code (ToWord k) = StoreReg size.W R6 (pos (4 * k)) R0
+
+-- sets a target to a found number
+abbrev pub set_code : Target → Source → List Insn
+set_code (ToLocal k) x = get_code (place k) x ∷ []
+set_code (ToWord k) (Constant v) = StoreImm size.W R6 (pos (4 * k)) (cast_signed w32 v) ∷ []
+set_code (ToWord k) (FromLocal j) = StoreReg size.W R6 (pos (4 * k)) (place j) ∷ []
+set_code (ToWord k) x = get_code R0 x ∷ assign_code (ToWord k) ∷ []
+
+-- sets a target to a number, by where that is found
+abbrev pub given_code : Source → Target → List Insn → List Insn
+given_code Computed target code = code ++ assign_code target ∷ []
+given_code x target code = set_code target x
+
+-- a steady number comes after the targets before; any other number comes before them, and is kept in place d
+abbrev pub also_code : Bool → ℕ → Source → Target → List Insn → List Insn → List Insn
+also_code true d x target code first = first ++ given_code x target code
+also_code false d x target code first =
+    code ++ (copy (place d) R0 ∷ (first ++ copy R0 (place d) ∷ assign_code target ∷ []))
+
+-- of an assignment at depth d
+abbrev pub assignment_code : Assignment → Sizes → List ℕ → ℕ → List Insn
+assignment_code (One target e) z J d = given_code (source_of e z J) target (term_code e z J d Value)
+assignment_code (Also' p front target e) z J d =
+    also_code (is_steady e) d (source_of e z J) target (term_code e z J d Value)
+    (assignment_code front z J (depth_behind (is_steady e) d))
+
+-- a found number to a node
+abbrev pub send_code : Source → ℕ → List Insn
+send_code x j = set_node R1 j ∷ get_code R2 x ∷ Call (pos 3) ∷ []
+
+-- to each node below n, from 0 on
+abbrev pub send_codes : Source → ℕ → List Insn
+send_codes x zero = []
+send_codes x (suc n) = send_codes x n ++ send_code x n
+
+-- a computed number is sent from place d
+abbrev pub send_all_code : Source → ℕ → ℕ → List Insn → List Insn
+send_all_code Computed d n code = code ++ (copy (place d) R0 ∷ send_codes (FromLocal d) n)
+send_all_code x d n code = send_codes x n
+
+abbrev pub send_to_code : ℕ → ℕ → List Insn
+send_to_code d n = jump_at AtLeast n 3 ∷ copy R1 R0 ∷ copy R2 (place d) ∷ Call (pos 3) ∷ []
+
+abbrev pub each_code : (ℕ → List Insn) → ℕ → List Insn
+each_code body zero = []
+each_code body (suc n) = each_code body n ++ body n
+
+-- of a statement with d lets in scope
+abbrev pub block_code : Statement → Sizes → List ℕ → ℕ → List Insn
+block_code Nothing z J d = []
+block_code (Then' p a q b) z J d = block_code a z J d ++ block_code b z J d
+block_code (Let' e p rest) z J d = term_code e z J d Value ++ (copy (place d) R0 ∷ block_code rest z J (d + 1))
+block_code (Assign a) z J d = assignment_code a z J d
+block_code (If' t p a q b) z J d =
+    choice_code (λ far. term_code t z J d (Jump false far)) (block_code a z J d) (block_code b z J d)
+block_code (For' p body) z J d = each_code (λ j. block_code body z (J ++ j ∷ []) d) z.nodes
+block_code (SendAll e) z J d = send_all_code (source_of e z J) d z.nodes (term_code e z J d Value)
+block_code (SendTo e k) z J d = term_code e z J d Value
+    ++ (copy (place d) R0 ∷ (term_code k z J (d + 1) Value ++ send_to_code d z.nodes))
+
+abbrev pub head_code : List Insn
+head_code = Alu Mov W64 R6 (Reg R1) ∷ []
+
+abbrev pub tail_code : List Insn
+tail_code = Alu Mov W64 R0 (Imm (pos 0)) ∷ Exit ∷ []
+
+-- of a whole rule
+abbrev pub rule_code : Statement → Sizes → List Insn
+rule_code rule z = head_code ++ (block_code rule z [] 0 ++ tail_code)

@@ -1,0 +1,5 @@
+pub mod Meaning
+pub mod Operands
+pub mod Fits
+pub mod Code
+pub mod Ends

@@ -1,0 +1,60 @@
+-- The terms whose numbers are found without code of their own: constants, locals and words.
+use Rattle.std.specs.Prelude.{ℕ, Bool, true, false, ◌&&◌, ◌||◌, ◌+◌, if◌then◌else◌, List, slice_index}
+use Rattle.rule_nodes.specs.declared.syntax.Sizes.{Sizes}
+use Rattle.rule_nodes.specs.declared.syntax.Source.{Source}
+use Rattle.rule_nodes.specs.declared.syntax.Source.TheVariants.{Constant, FromLocal, FromWord, Computed}
+use Rattle.rule_nodes.specs.declared.syntax.Term.{Term}
+use Rattle.rule_nodes.specs.declared.syntax.Term.TheVariants.{Number, Nodes, Faults, Modulus, Me, Coin, LoopNode, Local, Word, Binary'}
+use Rattle.rule_nodes.specs.Meaning.{operate}
+
+-- a constant is a number, a size, the node of a loop, or computed of constants
+abbrev pub is_constant : Term → Bool
+is_constant (Number v) = true
+is_constant Nodes = true
+is_constant Faults = true
+is_constant Modulus = true
+is_constant (LoopNode i) = true
+is_constant (Binary' o p a q b) = is_constant a && is_constant b
+is_constant _ = false
+
+abbrev pub is_fetched : Term → Bool
+is_fetched (Local k) = true
+is_fetched (Word k) = true
+is_fetched _ = false
+
+-- an operand is a constant, a local or a word
+abbrev pub is_operand : Term → Bool
+is_operand t = is_constant t || is_fetched t
+
+abbrev pub is_asked : Term → Bool
+is_asked Me = true
+is_asked Coin = true
+is_asked _ = false
+
+-- the number of a steady term is the same whatever is assigned
+abbrev pub is_steady : Term → Bool
+is_steady t = is_constant t || is_asked t
+
+-- any other number is kept in a place while targets are set
+abbrev pub depth_behind : Bool → ℕ → ℕ
+depth_behind steady d = if steady then d else d + 1
+
+-- the number of a constant, where J has the nodes of the loops around it
+abbrev pub constant_number : Term → Sizes → List ℕ → ℕ
+constant_number (Number v) z J = v
+constant_number Nodes z J = z.nodes
+constant_number Faults z J = z.faults
+constant_number Modulus z J = z.modulus
+constant_number (LoopNode i) z J = slice_index J i
+constant_number (Binary' o p a q b) z J = operate o (constant_number a z J) (constant_number b z J)
+constant_number _ z J = 0
+
+-- ---- where a number is found
+
+abbrev pub fetched_source : Term → Source
+fetched_source (Local k) = FromLocal k
+fetched_source (Word k) = FromWord k
+fetched_source _ = Computed
+
+abbrev pub source_of : Term → Sizes → List ℕ → Source
+source_of t z J = if is_constant t then Constant (constant_number t z J) else fetched_source t

@@ -1,0 +1,195 @@
+//! The code of assignments.
+ghost use Rattle.std.specs.Prelude.{◌≡◌, ◌≤◌, ◌++◌, ◌*◌, [], ◌∷◌, pos, length, IfOk};
+ghost use Rattle.bpf_insn.specs.declared.forms.Reg.TheVariants.{R0, R6};
+ghost use Rattle.bpf_insn.specs.declared.forms.Size.TheVariants as size;
+ghost use Rattle.bpf_insn.specs.declared.forms.Insn.TheVariants as i;
+ghost use Rattle.rule_nodes.specs.declared.syntax.Target.TheVariants.{ToWord};
+ghost use Rattle.rule_nodes.specs.Operands.{is_steady, depth_behind};
+ghost use Rattle.rule_nodes.specs.Fits.{HasPlace, TargetFits, AssignmentFits};
+ghost use Rattle.rule_nodes.specs.Code.{place, copy, assign_code, set_code, given_code, also_code, assignment_code};
+
+use crate::errors::CompileError;
+use crate::insns::{copy_of, has_word, place_of, word_offset};
+use crate::operands::{get_of, is_constant_of, source};
+use crate::parts::{joined, single};
+use crate::syntax::{Assignment, Purpose, Sizes, Source, Target, Term};
+use crate::terms::term;
+use bpf_insn::{Insn, Reg, Size};
+use std::alloc::Global;
+
+/// Returns the instruction that sets a word to the number in a register.
+fn store_of(k: u32, src: Reg) -> Result<Insn, CompileError>
+    ensures { IfOk result (λ x. x ≡ i.StoreReg size.W R6 (pos (4 * k)) src) }
+{
+    Ok(Insn::StoreReg {
+        size: Size::W,
+        base: Reg::R6,
+        off: word_offset(k)?,
+        src,
+    })
+}
+
+/// Returns the instruction that sets a target to the number in r0.
+fn assign_of(target: Target, lets: u32, memory: u32) -> Result<Insn, CompileError>
+    ensures code { IfOk result (λ x. x ≡ assign_code target) }
+    ensures fits { IfOk result (λ _. TargetFits target memory lets) }
+{
+    match target {
+        Target::ToLocal(k) => {
+            if k >= lets {
+                return Err(CompileError::NoRoom);
+            }
+            Ok(copy_of(place_of(k), Reg::R0))
+        }
+        Target::ToWord(k) => {
+            if !has_word(k, memory) {
+                return Err(CompileError::NoRoom);
+            }
+            store_of(k, Reg::R0)
+        }
+    }
+}
+
+/// Returns true if no assignment changes the number of a term.
+fn is_steady_of(t: &Term) -> bool
+    ensures { result ≡ is_steady t.now }
+{
+    match t {
+        Term::Me | Term::Coin => true,
+        _ => is_constant_of(t),
+    }
+}
+
+/// Returns the depth while the other targets are set. Fails if a number needs a place, and there is none.
+fn depth_behind_of(steady: bool, depth: u32) -> Result<u32, CompileError>
+    ensures depth { IfOk result (λ d. d ≡ depth_behind steady depth) }
+    ensures place { IfOk result (λ _. HasPlace steady depth) }
+{
+    if steady {
+        return Ok(depth);
+    }
+    if depth >= 3 {
+        return Err(CompileError::NoRoom);
+    }
+    Ok(depth + 1)
+}
+
+/// Returns the code that sets a word to a found number.
+fn set_word(alloc: Global, k: u32, source: Source) -> Result<Vec<Insn>, CompileError>
+    ensures { IfOk result (λ c. c.items ≡ set_code (ToWord k) source) }
+{
+    match source {
+        Source::Constant(v) => single(
+            alloc,
+            Insn::StoreImm {
+                size: Size::W,
+                base: Reg::R6,
+                off: word_offset(k)?,
+                imm: v.cast_signed(),
+            },
+        ),
+        Source::FromLocal(j) => single(alloc, store_of(k, place_of(j))?),
+        Source::FromWord(_) => {
+            let get = get_of(Reg::R0, source)?;
+            joined(Vec::new(alloc), &[get, store_of(k, Reg::R0)?])
+        }
+        Source::Computed => {
+            let get = get_of(Reg::R0, source)?;
+            joined(Vec::new(alloc), &[get, store_of(k, Reg::R0)?])
+        }
+    }
+}
+
+/// Returns the code that sets a target to a found number.
+fn set_of(alloc: Global, target: Target, source: Source) -> Result<Vec<Insn>, CompileError>
+    ensures { IfOk result (λ c. c.items ≡ set_code target source) }
+{
+    match target {
+        Target::ToLocal(k) => single(alloc, get_of(place_of(k), source)?),
+        Target::ToWord(k) => set_word(alloc, k, source),
+    }
+}
+
+/// Returns the code that sets a target to a number that is found, or that the code computes.
+fn given(
+    alloc: Global,
+    source: Source,
+    target: Target,
+    set: Insn,
+    code: Vec<Insn>,
+) -> Result<Vec<Insn>, CompileError>
+    requires { set ≡ assign_code target }
+    ensures { IfOk result (λ c. c.items ≡ given_code source target code.items) }
+{
+    match source {
+        Source::Computed => joined(code, &[set]),
+        Source::Constant(_) => set_of(alloc, target, source),
+        Source::FromLocal(_) => set_of(alloc, target, source),
+        Source::FromWord(_) => set_of(alloc, target, source),
+    }
+}
+
+/// Returns the code that keeps a number in a place, sets the targets before, and then sets this one.
+fn kept(depth: u32, set: Insn, code: Vec<Insn>, first: Vec<Insn>) -> Result<Vec<Insn>, CompileError>
+    ensures { IfOk result (λ c. c.items ≡
+        code.items ++ (copy (place depth) R0 ∷ (first.items ++ copy R0 (place depth) ∷ set ∷ []))) }
+{
+    let place = place_of(depth);
+    let held = joined(code, &[copy_of(place, Reg::R0)])?;
+    let others = joined(first, &[copy_of(Reg::R0, place), set])?;
+    joined(held, &others)
+}
+
+/// Returns the code of an assignment at a depth, with `lets` lets in scope.
+pub fn assignment(
+    alloc: Global,
+    a: &Assignment,
+    sizes: Sizes,
+    loops: &[u32],
+    lets: u32,
+    depth: u32,
+) -> Result<Vec<Insn>, CompileError>
+    requires some { 1 ≤ sizes.nodes }
+    requires few { sizes.nodes ≤ 64 }
+    ensures code { IfOk result (λ c. c.items ≡ assignment_code a.now sizes loops.now depth) }
+    ensures fits { IfOk result (λ _. AssignmentFits a.now sizes (length loops.now) lets depth) }
+{
+    match a {
+        Assignment::One(target, e) => {
+            let set = assign_of(*target, lets, sizes.memory)?;
+            let value = term(alloc, e, sizes, loops, lets, depth, Purpose::Value)?;
+            given(alloc, source(e, sizes, loops), *target, set, value)
+        }
+        Assignment::Also(front, target, e) => {
+            let steady = is_steady_of(e);
+            let set = assign_of(*target, lets, sizes.memory)?;
+            let behind = depth_behind_of(steady, depth)?;
+            let first = assignment(alloc, front, sizes, loops, lets, behind)?;
+            let value = term(alloc, e, sizes, loops, lets, depth, Purpose::Value)?;
+            let at = source(e, sizes, loops);
+            also_of(alloc, steady, depth, at, *target, set, value, first)
+        }
+    }
+}
+
+/// Returns the code of a steady number after the targets before, or of any other number before them.
+fn also_of(
+    alloc: Global,
+    steady: bool,
+    depth: u32,
+    source: Source,
+    target: Target,
+    set: Insn,
+    code: Vec<Insn>,
+    first: Vec<Insn>,
+) -> Result<Vec<Insn>, CompileError>
+    requires { set ≡ assign_code target }
+    ensures { IfOk result (λ c. c.items ≡ also_code steady depth source target code.items first.items) }
+{
+    if steady {
+        let number = given(alloc, source, target, set, code)?;
+        joined(first, &number)
+    } else {
+        kept(depth, set, code, first)
+    }
+}

@@ -1,0 +1,175 @@
+//! The code of operators between two terms.
+ghost use Rattle.std.specs.Prelude.{◌≡◌, ◌++◌, [], IfOk};
+ghost use Rattle.rule_nodes.specs.declared.syntax.Source.TheVariants.{Constant, FromLocal, Computed};
+ghost use Rattle.rule_nodes.specs.Operands.{source_of};
+ghost use Rattle.rule_nodes.specs.Code.{operand_code, load_code, by_operator, left_code, binary_code};
+
+use crate::errors::CompileError;
+use crate::insns::{copy_of, jump_by_of, jump_on_of, jump_place_of, mirror_of, operation_of};
+use crate::operands::{get_of, operand_of, source, with_load};
+use crate::parts::{behind_test_of, by_value_of, far_for, joined, single, two_of, when_for};
+use crate::syntax::{Operator, Purpose, Sizes, Source, Term};
+use bpf_insn::{Insn, Operand, Reg, Width};
+use std::alloc::Global;
+
+/// Returns the code of an operator on r0 and an operand, for a purpose.
+fn by_operator_of(
+    operator: Operator,
+    src: Operand,
+    code: Vec<Insn>,
+    purpose: Purpose,
+) -> Result<Vec<Insn>, CompileError>
+    ensures { IfOk result (λ c. c.items ≡ by_operator operator src purpose code.items) }
+{
+    match operator {
+        Operator::Compute(op) => {
+            let act = Insn::Alu {
+                op: operation_of(op),
+                width: Width::W32,
+                dst: Reg::R0,
+                src,
+            };
+            by_value_of(joined(code, &[act])?, purpose)
+        }
+        Operator::Compare(comparison) => {
+            let on = jump_on_of(when_for(purpose), comparison);
+            let jump = jump_by_of(on, src, far_for(purpose))?;
+            behind_test_of(joined(code, &[jump])?, purpose)
+        }
+    }
+}
+
+/// Returns the code of an operator whose right number is found.
+fn right_found(
+    operator: Operator,
+    y: Source,
+    left: Vec<Insn>,
+    purpose: Purpose,
+) -> Result<Vec<Insn>, CompileError>
+    ensures { IfOk result (λ c. c.items ≡ by_operator operator (operand_code y) purpose (left.items ++ load_code y)) }
+{
+    by_operator_of(operator, operand_of(y), with_load(left, y)?, purpose)
+}
+
+/// Returns the code of an operator whose left number is found and whose right one is computed.
+fn left_found(
+    operator: Operator,
+    x: Source,
+    right: Vec<Insn>,
+    purpose: Purpose,
+) -> Result<Vec<Insn>, CompileError>
+    ensures { IfOk result (λ c. c.items ≡ left_code operator x purpose right.items) }
+{
+    match operator {
+        Operator::Compute(_) => {
+            let both = joined(right, &[copy_of(Reg::R1, Reg::R0), get_of(Reg::R0, x)?])?;
+            by_operator_of(operator, Operand::Reg(Reg::R1), both, purpose)
+        }
+        Operator::Compare(comparison) => {
+            right_found(Operator::Compare(mirror_of(comparison)), x, right, purpose)
+        }
+    }
+}
+
+/// Returns the code of an operator whose right number is computed.
+fn right_computed(
+    operator: Operator,
+    x: Source,
+    depth: u32,
+    left: Vec<Insn>,
+    right: Vec<Insn>,
+    purpose: Purpose,
+) -> Result<Vec<Insn>, CompileError>
+    ensures { IfOk result (λ c. c.items ≡ binary_code Computed x operator depth purpose left.items right.items) }
+{
+    match x {
+        Source::Computed => {
+            let both = two_of(depth, left, &right)?;
+            by_operator_of(operator, Operand::Reg(Reg::R1), both, purpose)
+        }
+        Source::Constant(_) => left_found(operator, x, right, purpose),
+        Source::FromLocal(_) => left_found(operator, x, right, purpose),
+        Source::FromWord(_) => left_found(operator, x, right, purpose),
+    }
+}
+
+/// Returns the code of an operator between a local and a constant.
+fn local_beside(
+    alloc: Global,
+    operator: Operator,
+    k: u32,
+    c: u32,
+    left: Vec<Insn>,
+    purpose: Purpose,
+) -> Result<Vec<Insn>, CompileError>
+    ensures { IfOk result (λ a. a.items ≡ binary_code (Constant c) (FromLocal k) operator 0 purpose left.items []) }
+{
+    match operator {
+        Operator::Compute(_) => right_found(operator, Source::Constant(c), left, purpose),
+        Operator::Compare(comparison) => {
+            let on = jump_on_of(when_for(purpose), comparison);
+            let jump = jump_place_of(k, on, c, far_for(purpose))?;
+            behind_test_of(single(alloc, jump)?, purpose)
+        }
+    }
+}
+
+/// Returns the code of an operator whose right number is a constant.
+fn beside_constant(
+    alloc: Global,
+    operator: Operator,
+    x: Source,
+    c: u32,
+    left: Vec<Insn>,
+    purpose: Purpose,
+) -> Result<Vec<Insn>, CompileError>
+    ensures { IfOk result (λ a. a.items ≡ binary_code (Constant c) x operator 0 purpose left.items []) }
+{
+    match x {
+        Source::FromLocal(k) => local_beside(alloc, operator, k, c, left, purpose),
+        Source::Constant(_) => right_found(operator, Source::Constant(c), left, purpose),
+        Source::FromWord(_) => right_found(operator, Source::Constant(c), left, purpose),
+        Source::Computed => right_found(operator, Source::Constant(c), left, purpose),
+    }
+}
+
+fn by_sources(
+    alloc: Global,
+    operator: Operator,
+    x: Source,
+    y: Source,
+    depth: u32,
+    left: Vec<Insn>,
+    right: Vec<Insn>,
+    purpose: Purpose,
+) -> Result<Vec<Insn>, CompileError>
+    ensures { IfOk result (λ c. c.items ≡ binary_code y x operator depth purpose left.items right.items) }
+{
+    match y {
+        Source::Computed => right_computed(operator, x, depth, left, right, purpose),
+        Source::Constant(c) => beside_constant(alloc, operator, x, c, left, purpose),
+        Source::FromLocal(_) => right_found(operator, y, left, purpose),
+        Source::FromWord(_) => right_found(operator, y, left, purpose),
+    }
+}
+
+/// Returns the code of an operator between two terms, from the code of either side.
+pub fn binary_of(
+    alloc: Global,
+    operator: Operator,
+    a: &Term,
+    b: &Term,
+    sizes: Sizes,
+    loops: &[u32],
+    depth: u32,
+    left: Vec<Insn>,
+    right: Vec<Insn>,
+    purpose: Purpose,
+) -> Result<Vec<Insn>, CompileError>
+    ensures { IfOk result (λ c. c.items ≡ binary_code (source_of b.now sizes loops.now)
+        (source_of a.now sizes loops.now) operator depth purpose left.items right.items) }
+{
+    let x = source(a, sizes, loops);
+    let y = source(b, sizes, loops);
+    by_sources(alloc, operator, x, y, depth, left, right, purpose)
+}

@@ -1,0 +1,209 @@
+//! The instructions that the code of rules is made of.
+ghost use Rattle.std.specs.Prelude.{◌≡◌, ◌≤◌, ◌<◌, ◌+◌, ◌*◌, pos, length, IfOk, IsTrue, ◌↔◌};
+ghost use Rattle.bpf_insn.specs.declared.forms.Reg.TheVariants.{R1};
+ghost use Rattle.bpf_insn.specs.declared.forms.Insn.TheVariants as i;
+ghost use Rattle.rule_nodes.specs.Code.{place, set_number, copy, alu_of, cond_of, opposite, mirror, jump_on, jump_by, jump_place, jump_at, set_node};
+
+use crate::errors::CompileError;
+use crate::syntax::{Comparison, Operation};
+use bpf_insn::{AluOp, Cond, Insn, MAX_SLOTS, Operand, Reg, Width};
+
+pub fn place_of(k: u32) -> Reg
+    ensures { result ≡ place k }
+{
+    match k {
+        0 => Reg::R7,
+        1 => Reg::R8,
+        _ => Reg::R9,
+    }
+}
+
+/// Returns the place at a depth, if there is one.
+pub fn free_place(depth: u32) -> Result<Reg, CompileError>
+    ensures code { IfOk result (λ p. p ≡ place depth) }
+    ensures free { IfOk result (λ _. depth < 3) }
+{
+    if depth >= 3 {
+        return Err(CompileError::NoRoom);
+    }
+    Ok(place_of(depth))
+}
+
+pub fn set_number_of(dst: Reg, v: u32) -> Insn
+    ensures { result ≡ set_number dst v }
+{
+    Insn::Alu {
+        op: AluOp::Mov,
+        width: Width::W32,
+        dst,
+        src: Operand::Imm(v.cast_signed()),
+    }
+}
+
+pub fn copy_of(dst: Reg, src: Reg) -> Insn
+    ensures { result ≡ copy dst src }
+{
+    Insn::Alu {
+        op: AluOp::Mov,
+        width: Width::W32,
+        dst,
+        src: Operand::Reg(src),
+    }
+}
+
+/// Returns the instruction that puts a node's number into r1.
+pub fn set_node_of(node: u32) -> Insn
+    requires { node < 64 }
+    ensures { result ≡ set_node R1 node }
+{
+    Insn::Alu {
+        op: AluOp::Mov,
+        width: Width::W64,
+        dst: Reg::R1,
+        src: Operand::Imm(node as i32),
+    }
+}
+
+pub fn operation_of(op: Operation) -> AluOp
+    ensures { result ≡ alu_of op }
+{
+    match op {
+        Operation::Sum => AluOp::Add,
+        Operation::Difference => AluOp::Sub,
+        Operation::Product => AluOp::Mul,
+        Operation::Quotient => AluOp::Div,
+        Operation::Remainder => AluOp::Mod,
+    }
+}
+
+fn condition_of(comparison: Comparison) -> Cond
+    ensures { result ≡ cond_of comparison }
+{
+    match comparison {
+        Comparison::Equal => Cond::Eq,
+        Comparison::NotEqual => Cond::Ne,
+        Comparison::Less => Cond::Lt,
+        Comparison::AtMost => Cond::Le,
+        Comparison::Greater => Cond::Gt,
+        Comparison::AtLeast => Cond::Ge,
+    }
+}
+
+fn opposite_of(comparison: Comparison) -> Comparison
+    ensures { result ≡ opposite comparison }
+{
+    match comparison {
+        Comparison::Equal => Comparison::NotEqual,
+        Comparison::NotEqual => Comparison::Equal,
+        Comparison::Less => Comparison::AtLeast,
+        Comparison::AtMost => Comparison::Greater,
+        Comparison::Greater => Comparison::AtMost,
+        Comparison::AtLeast => Comparison::Less,
+    }
+}
+
+/// Returns the same comparison with its sides changed over.
+pub fn mirror_of(comparison: Comparison) -> Comparison
+    ensures { result ≡ mirror comparison }
+{
+    match comparison {
+        Comparison::Equal => Comparison::Equal,
+        Comparison::NotEqual => Comparison::NotEqual,
+        Comparison::Less => Comparison::Greater,
+        Comparison::AtMost => Comparison::AtLeast,
+        Comparison::Greater => Comparison::Less,
+        Comparison::AtLeast => Comparison::AtMost,
+    }
+}
+
+/// Returns the comparison of a jump that is taken if this one holds, or if it doesn't.
+pub fn jump_on_of(when: bool, comparison: Comparison) -> Comparison
+    ensures { result ≡ jump_on when comparison }
+{
+    if when {
+        comparison
+    } else {
+        opposite_of(comparison)
+    }
+}
+
+/// Returns the distance of a jump. Fails if it is more than `MAX_SLOTS`.
+fn distance(far: usize) -> Result<i16, CompileError>
+    ensures { IfOk result (λ d. d ≡ pos far) }
+{
+    if far > MAX_SLOTS {
+        return Err(CompileError::TooLong);
+    }
+    Ok(far as i16)
+}
+
+/// Returns a jump that compares r0 with an operand.
+pub fn jump_by_of(comparison: Comparison, src: Operand, far: usize) -> Result<Insn, CompileError>
+    ensures { IfOk result (λ x. x ≡ jump_by comparison src far) }
+{
+    Ok(Insn::Branch {
+        cond: condition_of(comparison),
+        width: Width::W32,
+        dst: Reg::R0,
+        src,
+        off: distance(far)?,
+    })
+}
+
+/// Returns a jump that compares a local in its place with a constant.
+pub fn jump_place_of(
+    k: u32,
+    comparison: Comparison,
+    v: u32,
+    far: usize,
+) -> Result<Insn, CompileError>
+    ensures { IfOk result (λ x. x ≡ jump_place k comparison v far) }
+{
+    Ok(Insn::Branch {
+        cond: condition_of(comparison),
+        width: Width::W32,
+        dst: place_of(k),
+        src: Operand::Imm(v.cast_signed()),
+        off: distance(far)?,
+    })
+}
+
+/// Returns a jump that compares r0 with a small number.
+pub fn jump_at_of(comparison: Comparison, v: u32, far: usize) -> Result<Insn, CompileError>
+    requires { v ≤ 64 }
+    ensures { IfOk result (λ x. x ≡ jump_at comparison v far) }
+{
+    Ok(Insn::Branch {
+        cond: condition_of(comparison),
+        width: Width::W32,
+        dst: Reg::R0,
+        src: Operand::Imm(v as i32),
+        off: distance(far)?,
+    })
+}
+
+/// Returns a jump over these instructions.
+pub fn skip_of(code: &[Insn]) -> Result<Insn, CompileError>
+    ensures { IfOk result (λ x. x ≡ i.Ja (pos (length code.now))) }
+{
+    Ok(Insn::Ja {
+        off: distance(code.len())?,
+    })
+}
+
+/// Returns true if the memory has a word of this number.
+pub fn has_word(k: u32, memory: u32) -> bool
+    ensures { IsTrue result ↔ (4 * k + 4 ≤ memory) }
+{
+    memory >= 4 && k <= (memory - 4) / 4
+}
+
+/// Returns the place of a word in the memory, in bytes.
+pub fn word_offset(k: u32) -> Result<i16, CompileError>
+    ensures { IfOk result (λ off. off ≡ pos (4 * k)) }
+{
+    if k >= 64 {
+        return Err(CompileError::NoRoom);
+    }
+    Ok((4 * k) as i16)
+}

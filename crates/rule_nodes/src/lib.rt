@@ -1,0 +1,22 @@
+//! Rules: what a rule means in a pulse, and its compiler to the program of a node.
+#![tactic(auto)]
+
+mod assignments;
+mod binary;
+mod compile;
+mod errors;
+mod insns;
+mod laws;
+mod operands;
+mod parts;
+mod statements;
+mod syntax;
+mod terms;
+
+pub use compile::compile_rule;
+pub use errors::CompileError;
+pub use laws::{rule_ends, rule_is_taken};
+pub use syntax::{
+    Assignment, Comparison, Connective, Operation, Operator, Purpose, Sizes, Source, Statement,
+    Target, Term,
+};

@@ -1,0 +1,188 @@
+//! Where numbers are found: constants, locals and words of the memory.
+ghost use Rattle.std.specs.Prelude.{◌≡◌, ◌++◌, ◌||◌, slice_index, IfOk};
+ghost use Rattle.rule_nodes.specs.Meaning.{apply, compare, operate};
+ghost use Rattle.rule_nodes.specs.Operands.{is_constant, is_operand, constant_number, depth_behind, fetched_source, source_of};
+ghost use Rattle.rule_nodes.specs.Fits.{HasPlace};
+ghost use Rattle.rule_nodes.specs.Code.{get_code, operand_code, load_code};
+
+use crate::errors::CompileError;
+use crate::insns::{copy_of, place_of, set_number_of, word_offset};
+use crate::parts::joined;
+use crate::syntax::{Comparison, Operation, Operator, Sizes, Source, Term};
+use bpf_insn::{Insn, Operand, Reg, Size};
+
+fn apply_of(op: Operation, a: u32, b: u32) -> u32
+    ensures { result ≡ apply op a b }
+{
+    match op {
+        Operation::Sum => a.wrapping_add(b),
+        Operation::Difference => a.wrapping_sub(b),
+        Operation::Product => a.wrapping_mul(b),
+        Operation::Quotient => { if b == 0 { 0 } else { a / b } }
+        Operation::Remainder => { if b == 0 { a } else { a % b } }
+    }
+}
+
+fn compare_of(comparison: Comparison, a: u32, b: u32) -> bool
+    ensures { result ≡ compare comparison a b }
+{
+    match comparison {
+        Comparison::Equal => a == b,
+        Comparison::NotEqual => a != b,
+        Comparison::Less => a < b,
+        Comparison::AtMost => a <= b,
+        Comparison::Greater => a > b,
+        Comparison::AtLeast => a >= b,
+    }
+}
+
+fn operate_of(operator: Operator, a: u32, b: u32) -> u32
+    ensures { result ≡ operate operator a b }
+{
+    match operator {
+        Operator::Compute(op) => apply_of(op, a, b),
+        Operator::Compare(comparison) => { if compare_of(comparison, a, b) { 1 } else { 0 } }
+    }
+}
+
+pub fn is_constant_of(t: &Term) -> bool
+    ensures { result ≡ is_constant t.now }
+{
+    match t {
+        Term::Number(_) | Term::Nodes | Term::Faults | Term::Modulus | Term::LoopNode(_) => true,
+        Term::Binary(_, a, b) => is_constant_of(a) && is_constant_of(b),
+        _ => false,
+    }
+}
+
+pub fn is_operand_of(t: &Term) -> bool
+    ensures { result ≡ is_operand t.now }
+{
+    match t {
+        Term::Local(_) | Term::Word(_) => true,
+        _ => is_constant_of(t),
+    }
+}
+
+fn node_of(loops: &[u32], level: u32) -> u32
+    ensures { result ≡ slice_index loops.now level }
+{
+    let place = level as usize;
+    if place < loops.len() { loops[place] } else { 0 }
+}
+
+fn constant_of(t: &Term, sizes: Sizes, loops: &[u32]) -> u32
+    ensures { result ≡ constant_number t.now sizes loops.now }
+{
+    match t {
+        Term::Number(v) => *v,
+        Term::Nodes => sizes.nodes,
+        Term::Faults => sizes.faults,
+        Term::Modulus => sizes.modulus,
+        Term::LoopNode(k) => node_of(loops, *k),
+        Term::Binary(operator, a, b) => {
+            operate_of(
+                *operator,
+                constant_of(a, sizes, loops),
+                constant_of(b, sizes, loops),
+            )
+        }
+        _ => 0,
+    }
+}
+
+fn fetched(t: &Term) -> Source
+    ensures { result ≡ fetched_source t.now }
+{
+    match t {
+        Term::Local(k) => Source::FromLocal(*k),
+        Term::Word(k) => Source::FromWord(*k),
+        _ => Source::Computed,
+    }
+}
+
+/// Returns where the number of a term is found.
+pub fn source(t: &Term, sizes: Sizes, loops: &[u32]) -> Source
+    ensures { result ≡ source_of t.now sizes loops.now }
+{
+    if is_constant_of(t) {
+        Source::Constant(constant_of(t, sizes, loops))
+    } else {
+        fetched(t)
+    }
+}
+
+/// Returns the instruction that puts a found number into a register.
+pub fn get_of(dst: Reg, source: Source) -> Result<Insn, CompileError>
+    ensures { IfOk result (λ x. x ≡ get_code dst source) }
+{
+    match source {
+        Source::Constant(v) => Ok(set_number_of(dst, v)),
+        Source::FromLocal(k) => Ok(copy_of(dst, place_of(k))),
+        Source::FromWord(k) => Ok(Insn::Load {
+            size: Size::W,
+            dst,
+            base: Reg::R6,
+            off: word_offset(k)?,
+        }),
+        Source::Computed => Ok(copy_of(dst, Reg::R0)),
+    }
+}
+
+/// Returns a found number as the operand of an instruction.
+pub fn operand_of(source: Source) -> Operand
+    ensures { result ≡ operand_code source }
+{
+    match source {
+        Source::Constant(v) => Operand::Imm(v.cast_signed()),
+        Source::FromLocal(k) => Operand::Reg(place_of(k)),
+        Source::FromWord(_) | Source::Computed => Operand::Reg(Reg::R1),
+    }
+}
+
+/// Returns the code, with the load of a word that is an operand.
+pub fn with_load(code: Vec<Insn>, source: Source) -> Result<Vec<Insn>, CompileError>
+    ensures { IfOk result (λ c. c.items ≡ code.items ++ load_code source) }
+{
+    match source {
+        Source::FromWord(_) => joined(code, &[get_of(Reg::R1, source)?]),
+        Source::Constant(_) => joined(code, &[]),
+        Source::FromLocal(_) => joined(code, &[]),
+        Source::Computed => joined(code, &[]),
+    }
+}
+
+/// Returns the depth of the right side. Fails if neither side is an operand and there is no place for the left one.
+pub fn right_depth(left: &Term, right: &Term, depth: u32) -> Result<u32, CompileError>
+    ensures depth { IfOk result (λ d. d ≡ depth_behind (is_operand left.now) depth) }
+    ensures place { IfOk result (λ _. HasPlace (is_operand left.now || is_operand right.now) depth) }
+{
+    let found = is_operand_of(left);
+    room_for(found || is_operand_of(right), depth)?;
+    depth_beside(found, depth)
+}
+
+fn depth_beside(found: bool, depth: u32) -> Result<u32, CompileError>
+    ensures { IfOk result (λ d. d ≡ depth_behind found depth) }
+{
+    if found {
+        return Ok(depth);
+    }
+    if depth > 255 {
+        return Err(CompileError::NoRoom);
+    }
+    Ok(depth + 1)
+}
+
+/// Fails if a place is needed, and there is none.
+pub fn room_for(simple: bool, depth: u32) -> Result<(), CompileError>
+    ensures { IfOk result (λ _. HasPlace simple depth) }
+{
+    if simple {
+        return Ok(());
+    }
+    if depth >= 3 {
+        return Err(CompileError::NoRoom);
+    }
+    Ok(())
+}

@@ -1,0 +1,244 @@
+//! How the code of a term or a statement is put together of the code of its parts.
+ghost use Rattle.std.specs.Prelude.{◌≡◌, ◌≤◌, ◌+◌, ◌++◌, [], ◌∷◌, pos, not, false, length, IfOk};
+ghost use Rattle.bpf_insn.specs.declared.forms.Width.TheVariants.{W32};
+ghost use Rattle.bpf_insn.specs.declared.forms.AluOp.TheVariants.{Add};
+ghost use Rattle.bpf_insn.specs.declared.forms.Reg.TheVariants.{R0};
+ghost use Rattle.bpf_insn.specs.declared.forms.Operand.TheVariants as operand;
+ghost use Rattle.bpf_insn.specs.declared.forms.Insn.TheVariants as i;
+ghost use Rattle.rule_nodes.specs.declared.syntax.Purpose.TheVariants.{Jump};
+ghost use Rattle.rule_nodes.specs.declared.syntax.Source.TheVariants.{Constant};
+ghost use Rattle.rule_nodes.specs.Code.{place, set_number, copy, when_of, far_of, behind_test, by_value, two_code, message_code, message_by, decides, both_far};
+
+use crate::errors::CompileError;
+use crate::insns::{
+    copy_of, jump_at_of, jump_on_of, place_of, set_node_of, set_number_of, skip_of,
+};
+use crate::syntax::{Comparison, Connective, Purpose, Source};
+use bpf_insn::{AluOp, Insn, MAX_SLOTS, Operand, Reg, Width};
+use node_env::NO_MAIL;
+use std::alloc::Global;
+
+/// Appends the second code to the first. Fails if the first has more than `MAX_SLOTS` instructions.
+pub fn joined(mut first: Vec<Insn>, second: &[Insn]) -> Result<Vec<Insn>, CompileError>
+    ensures { IfOk result (λ c. c.items ≡ first.items ++ second.now) }
+{
+    if first.len() > MAX_SLOTS {
+        return Err(CompileError::TooLong);
+    }
+    first.extend_from_slice(second)?;
+    Ok(first)
+}
+
+pub fn single(alloc: Global, insn: Insn) -> Result<Vec<Insn>, CompileError>
+    ensures { IfOk result (λ c. c.items ≡ insn ∷ []) }
+{
+    joined(Vec::new(alloc), &[insn])
+}
+
+// ---- purposes
+
+/// Returns the code of a number, for a purpose.
+pub fn by_value_of(code: Vec<Insn>, purpose: Purpose) -> Result<Vec<Insn>, CompileError>
+    ensures { IfOk result (λ c. c.items ≡ by_value purpose code.items) }
+{
+    match purpose {
+        Purpose::Value => Ok(code),
+        Purpose::Jump(when, far) => {
+            let jump = jump_at_of(jump_on_of(when, Comparison::NotEqual), 0, far)?;
+            joined(code, &[jump])
+        }
+    }
+}
+
+pub fn when_for(purpose: Purpose) -> bool
+    ensures { result ≡ when_of purpose }
+{
+    match purpose {
+        Purpose::Value => false,
+        Purpose::Jump(when, _) => when,
+    }
+}
+
+pub fn far_for(purpose: Purpose) -> usize
+    ensures { result ≡ far_of purpose }
+{
+    match purpose {
+        Purpose::Value => 2,
+        Purpose::Jump(_, far) => far,
+    }
+}
+
+/// Returns the jump of a test that is made for a purpose.
+pub fn test_of(purpose: Purpose) -> Purpose
+    ensures { result ≡ Jump (when_of purpose) (far_of purpose) }
+{
+    Purpose::Jump(when_for(purpose), far_for(purpose))
+}
+
+/// Returns the jump of the opposite test.
+pub fn opposite_test(purpose: Purpose) -> Purpose
+    ensures { result ≡ Jump (not (when_of purpose)) (far_of purpose) }
+{
+    Purpose::Jump(!when_for(purpose), far_for(purpose))
+}
+
+/// Returns the code of a test, and what comes after it for a purpose.
+pub fn behind_test_of(code: Vec<Insn>, purpose: Purpose) -> Result<Vec<Insn>, CompileError>
+    ensures { IfOk result (λ c. c.items ≡ behind_test purpose code.items) }
+{
+    match purpose {
+        Purpose::Value => joined(
+            code,
+            &[
+                set_number_of(Reg::R0, 1),
+                Insn::Ja { off: 1 },
+                set_number_of(Reg::R0, 0),
+            ],
+        ),
+        Purpose::Jump(_, _) => Ok(code),
+    }
+}
+
+// ---- two sides
+
+/// Returns the code that puts the left number into r0 and the right one into r1.
+pub fn two_of(depth: u32, left: Vec<Insn>, right: &[Insn]) -> Result<Vec<Insn>, CompileError>
+    ensures { IfOk result (λ c. c.items ≡ two_code depth left.items right.now) }
+{
+    let place = place_of(depth);
+    let kept = joined(left, &[copy_of(place, Reg::R0)])?;
+    let both = joined(kept, right)?;
+    joined(both, &[copy_of(Reg::R1, Reg::R0), copy_of(Reg::R0, place)])
+}
+
+fn decides_of(connective: Connective) -> bool
+    ensures { result ≡ decides connective }
+{
+    match connective {
+        Connective::And => false,
+        Connective::Or => true,
+    }
+}
+
+fn both_far_of(alone: bool, when: bool, n: usize, far: usize) -> Result<usize, CompileError>
+    ensures { IfOk result (λ w. w ≡ both_far alone when n far) }
+{
+    if n > MAX_SLOTS || far > MAX_SLOTS {
+        return Err(CompileError::TooLong);
+    }
+    if alone == when { Ok(n + far) } else { Ok(n) }
+}
+
+/// Returns the jump of the first of two conditions, over the code of the second or beyond it.
+pub fn first_test(
+    connective: Connective,
+    second: &[Insn],
+    purpose: Purpose,
+) -> Result<Purpose, CompileError>
+    ensures { IfOk result (λ p. p ≡ Jump (decides connective)
+        (both_far (decides connective) (when_of purpose) (length second.now) (far_of purpose))) }
+{
+    let alone = decides_of(connective);
+    let far = both_far_of(alone, when_for(purpose), second.len(), far_for(purpose))?;
+    Ok(Purpose::Jump(alone, far))
+}
+
+// ---- choices
+
+/// Returns the jump over these instructions and one more if a test doesn't hold.
+pub fn skip_test(code: &[Insn]) -> Result<Purpose, CompileError>
+    ensures { IfOk result (λ p. p ≡ Jump false (length code.now + 1)) }
+{
+    if code.len() > MAX_SLOTS {
+        return Err(CompileError::TooLong);
+    }
+    Ok(Purpose::Jump(false, code.len() + 1))
+}
+
+/// Returns a test, the code for the case that it holds, and the code for the case that it doesn't.
+pub fn chosen(test: Vec<Insn>, first: &[Insn], second: &[Insn]) -> Result<Vec<Insn>, CompileError>
+    ensures { IfOk result (λ c. c.items ≡ test.items ++ (first.now ++ i.Ja (pos (length second.now)) ∷ second.now)) }
+{
+    let tested = joined(test, first)?;
+    let skipped = joined(tested, &[skip_of(second)?])?;
+    joined(skipped, second)
+}
+
+// ---- messages and counts
+
+/// Returns the code that asks for the last message from the node in r0.
+fn message_of(nodes: u32) -> Result<[Insn; 5], CompileError>
+    requires { nodes ≤ 64 }
+    ensures { IfOk result (λ c. c ≡ message_code nodes) }
+{
+    Ok([
+        jump_at_of(Comparison::Less, nodes, 2)?,
+        set_number_of(Reg::R0, NO_MAIL),
+        Insn::Ja { off: 2 },
+        copy_of(Reg::R1, Reg::R0),
+        Insn::Call { id: 2 },
+    ])
+}
+
+/// Returns the code that asks for the last message from a node whose number is found or computed.
+pub fn message_by_of(
+    alloc: Global,
+    source: Source,
+    nodes: u32,
+    code: Vec<Insn>,
+) -> Result<Vec<Insn>, CompileError>
+    requires { nodes ≤ 64 }
+    ensures { IfOk result (λ c. c.items ≡ message_by source nodes code.items) }
+{
+    match source {
+        Source::Constant(node) => message_from_node(alloc, node, nodes),
+        Source::FromLocal(_) => joined(code, &message_of(nodes)?),
+        Source::FromWord(_) => joined(code, &message_of(nodes)?),
+        Source::Computed => joined(code, &message_of(nodes)?),
+    }
+}
+
+fn message_from_node(alloc: Global, node: u32, nodes: u32) -> Result<Vec<Insn>, CompileError>
+    requires { nodes ≤ 64 }
+    ensures { IfOk result (λ c. c.items ≡ message_by (Constant node) nodes []) }
+{
+    if node < nodes {
+        joined(Vec::new(alloc), &[set_node_of(node), Insn::Call { id: 2 }])
+    } else {
+        single(alloc, set_number_of(Reg::R0, NO_MAIL))
+    }
+}
+
+/// Returns the nodes of the loops around, with one more.
+pub fn within(alloc: Global, loops: &[u32], node: u32) -> Result<Vec<u32>, CompileError>
+    ensures { IfOk result (λ v. v.items ≡ loops.now ++ node ∷ []) }
+{
+    let mut inner = Vec::new(alloc);
+    inner.extend_from_slice(loops)?;
+    inner.extend_from_slice(&[node])?;
+    Ok(inner)
+}
+
+/// Appends one more test, which adds 1 in a place if it doesn't jump.
+pub fn counted(counts: Vec<Insn>, test: &[Insn], place: Reg) -> Result<Vec<Insn>, CompileError>
+    ensures { IfOk result (λ c. c.items ≡
+        counts.items ++ (test.now ++ i.Alu Add W32 place (operand.Imm (pos 1)) ∷ [])) }
+{
+    let add = Insn::Alu {
+        op: AluOp::Add,
+        width: Width::W32,
+        dst: place,
+        src: Operand::Imm(1),
+    };
+    let tested = joined(counts, test)?;
+    joined(tested, &[add])
+}
+
+/// Returns the code that counts in a place, from 0 on, and puts the count into r0.
+pub fn count_of(alloc: Global, place: Reg, counts: &[Insn]) -> Result<Vec<Insn>, CompileError>
+    ensures { IfOk result (λ c. c.items ≡ set_number place 0 ∷ (counts.now ++ copy R0 place ∷ [])) }
+{
+    let head = single(alloc, set_number_of(place, 0))?;
+    let all = joined(head, counts)?;
+    joined(all, &[copy_of(Reg::R0, place)])
+}

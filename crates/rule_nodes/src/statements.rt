@@ -1,0 +1,165 @@
+//! The code of statements.
+ghost use Rattle.std.specs.Prelude.{◌≡◌, ◌≤◌, ◌<◌, ◌++◌, [], ◌∷◌, pos, length, IfOk};
+ghost use Rattle.bpf_insn.specs.declared.forms.Reg.TheVariants.{R0, R1};
+ghost use Rattle.bpf_insn.specs.declared.forms.Insn.TheVariants as i;
+ghost use Rattle.rule_nodes.specs.declared.syntax.Statement.TheVariants.{SendAll, SendTo};
+ghost use Rattle.rule_nodes.specs.Fits.{BlockFits};
+ghost use Rattle.rule_nodes.specs.Code.{place, copy, set_node, send_codes, send_all_code, send_to_code, block_code};
+
+use crate::assignments::assignment;
+use crate::errors::CompileError;
+use crate::insns::{copy_of, free_place, jump_at_of, place_of, set_node_of};
+use crate::operands::{get_of, is_operand_of, room_for, source};
+use crate::parts::{chosen, joined, skip_test, within};
+use crate::syntax::{Comparison, Purpose, Sizes, Source, Statement, Term};
+use crate::terms::term;
+use bpf_insn::{Insn, Reg};
+use std::alloc::Global;
+
+/// Returns the code that sends a found number to a node.
+fn send_of(node: u32, get: Insn) -> [Insn; 3]
+    requires { node < 64 }
+    ensures { result ≡ set_node R1 node ∷ get ∷ i.Call (pos 3) ∷ [] }
+{
+    [set_node_of(node), get, Insn::Call { id: 3 }]
+}
+
+/// Returns the code that sends a found number to each node.
+fn sends_of(alloc: Global, source: Source, nodes: u32) -> Result<Vec<Insn>, CompileError>
+    requires { nodes ≤ 64 }
+    ensures { IfOk result (λ c. c.items ≡ send_codes source nodes) }
+{
+    let mut sends = Vec::new(alloc);
+    for node in 0..nodes {
+        let get = get_of(Reg::R2, source)?;
+        sends = joined(sends, &send_of(node, get))?;
+    }
+    Ok(sends)
+}
+
+/// Returns the code that sends the number in a place to the node in r0.
+fn send_to_of(depth: u32, nodes: u32) -> Result<[Insn; 4], CompileError>
+    requires { nodes ≤ 64 }
+    ensures { IfOk result (λ c. c ≡ send_to_code depth nodes) }
+{
+    Ok([
+        jump_at_of(Comparison::AtLeast, nodes, 3)?,
+        copy_of(Reg::R1, Reg::R0),
+        copy_of(Reg::R2, place_of(depth)),
+        Insn::Call { id: 3 },
+    ])
+}
+
+/// Returns the code of a number, its copy into a place, and what follows.
+fn stored(code: Vec<Insn>, depth: u32, rest: &[Insn]) -> Result<Vec<Insn>, CompileError>
+    ensures { IfOk result (λ c. c.items ≡ code.items ++ (copy (place depth) R0 ∷ rest.now)) }
+{
+    let kept = joined(code, &[copy_of(place_of(depth), Reg::R0)])?;
+    joined(kept, rest)
+}
+
+fn send_all(
+    alloc: Global,
+    e: &Term,
+    sizes: Sizes,
+    loops: &[u32],
+    depth: u32,
+) -> Result<Vec<Insn>, CompileError>
+    requires some { 1 ≤ sizes.nodes }
+    requires few { sizes.nodes ≤ 64 }
+    ensures code { IfOk result (λ c. c.items ≡ block_code (SendAll e.now) sizes loops.now depth) }
+    ensures fits { IfOk result (λ _. BlockFits (SendAll e.now) sizes (length loops.now) depth) }
+{
+    room_for(is_operand_of(e), depth)?;
+    let value = term(alloc, e, sizes, loops, depth, depth, Purpose::Value)?;
+    send_all_of(alloc, source(e, sizes, loops), depth, sizes.nodes, value)
+}
+
+/// Returns the code that sends each node a number that is found, or that the code computes.
+fn send_all_of(
+    alloc: Global,
+    source: Source,
+    depth: u32,
+    nodes: u32,
+    code: Vec<Insn>,
+) -> Result<Vec<Insn>, CompileError>
+    requires { nodes ≤ 64 }
+    ensures { IfOk result (λ c. c.items ≡ send_all_code source depth nodes code.items) }
+{
+    match source {
+        Source::Computed => {
+            let sends = sends_of(alloc, Source::FromLocal(depth), nodes)?;
+            stored(code, depth, &sends)
+        }
+        Source::Constant(_) => sends_of(alloc, source, nodes),
+        Source::FromLocal(_) => sends_of(alloc, source, nodes),
+        Source::FromWord(_) => sends_of(alloc, source, nodes),
+    }
+}
+
+fn send_to(
+    alloc: Global,
+    e: &Term,
+    k: &Term,
+    sizes: Sizes,
+    loops: &[u32],
+    depth: u32,
+) -> Result<Vec<Insn>, CompileError>
+    requires some { 1 ≤ sizes.nodes }
+    requires few { sizes.nodes ≤ 64 }
+    ensures code { IfOk result (λ c. c.items ≡ block_code (SendTo e.now k.now) sizes loops.now depth) }
+    ensures fits { IfOk result (λ _. BlockFits (SendTo e.now k.now) sizes (length loops.now) depth) }
+{
+    free_place(depth)?;
+    let receiver = term(alloc, k, sizes, loops, depth, depth + 1, Purpose::Value)?;
+    let send = joined(receiver, &send_to_of(depth, sizes.nodes)?)?;
+    let value = term(alloc, e, sizes, loops, depth, depth, Purpose::Value)?;
+    stored(value, depth, &send)
+}
+
+/// Returns the code of a statement, with `depth` lets in scope.
+pub fn block(
+    alloc: Global,
+    statement: &Statement,
+    sizes: Sizes,
+    loops: &[u32],
+    depth: u32,
+) -> Result<Vec<Insn>, CompileError>
+    requires some { 1 ≤ sizes.nodes }
+    requires few { sizes.nodes ≤ 64 }
+    ensures code { IfOk result (λ c. c.items ≡ block_code statement.now sizes loops.now depth) }
+    ensures fits { IfOk result (λ _. BlockFits statement.now sizes (length loops.now) depth) }
+{
+    match statement {
+        Statement::Nothing => Ok(Vec::new(alloc)),
+        Statement::Then(a, b) => {
+            let second = block(alloc, b, sizes, loops, depth)?;
+            let first = block(alloc, a, sizes, loops, depth)?;
+            joined(first, &second)
+        }
+        Statement::Let(e, rest) => {
+            free_place(depth)?;
+            let behind = block(alloc, rest, sizes, loops, depth + 1)?;
+            let value = term(alloc, e, sizes, loops, depth, depth, Purpose::Value)?;
+            stored(value, depth, &behind)
+        }
+        Statement::Assign(a) => assignment(alloc, a, sizes, loops, depth, depth),
+        Statement::If(t, a, b) => {
+            let second = block(alloc, b, sizes, loops, depth)?;
+            let first = block(alloc, a, sizes, loops, depth)?;
+            let test = term(alloc, t, sizes, loops, depth, depth, skip_test(&first)?)?;
+            chosen(test, &first, &second)
+        }
+        Statement::For(body) => {
+            let mut all = Vec::new(alloc);
+            for node in 0..sizes.nodes {
+                let inner = within(alloc, loops, node)?;
+                let one = block(alloc, body, sizes, &inner, depth)?;
+                all = joined(all, &one)?;
+            }
+            Ok(all)
+        }
+        Statement::SendAll(e) => send_all(alloc, e, sizes, loops, depth),
+        Statement::SendTo(e, k) => send_to(alloc, e, k, sizes, loops, depth),
+    }
+}
