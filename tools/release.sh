@@ -20,7 +20,7 @@ room=$(mktemp -d)
 trap 'rm -rf "$room"' EXIT
 umask 022
 
-packed=(README.md CHANGELOG.md docs examples completions {benchmarks,rows,vectors}/README.md)
+packed=(README.md CHANGELOG.md CONTRIBUTING.md docs examples completions {benchmarks,rows,tools,vectors}/README.md)
 tools=(tools/{picture,play,plot,readings,built_program,own_clock,distances,check_table}.py tools/play.html 'tools/lab*')
 
 say() {
