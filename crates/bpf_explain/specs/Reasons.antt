@@ -1,5 +1,5 @@
 -- Why a rule is broken: what was known, and what the rule asks (docs/VERIFIER.md, "Asking why").
-use Rattle.std.specs.Prelude.{ℕ, ◌+◌, ◌-◌, List, [], ◌++◌, codes, Option, Some, None, ℤ, if◌then◌else◌}
+use Rattle.std.specs.Prelude.{ℕ, ◌+◌, ◌-◌, nat_lt, List, [], ◌++◌, codes, Option, Some, None, ℤ, if◌then◌else◌}
 use Rattle.std.specs.List.{find}
 use Rattle.std.specs.Fmt.{decimal, signed_decimal}
 use Rattle.node_env.specs.Env.{Extent, region_size}
@@ -28,6 +28,7 @@ use Rattle.bpf_verify.specs.Findings.{table_in}
 use Rattle.bpf_verify.specs.States.{AbstractState, kind_of, is_unset_kind, is_pointer_kind}
 use Rattle.bpf_verify.specs.Rules.{operand_kind, is_astray, may_reach, rule_name, rule_number}
 use Rattle.bpf_verify.specs.Outcomes.{alu_kind}
+use Rattle.bpf_explain.specs.declared.reasons.TheConstants.{WRAPPED}
 use Rattle.bpf_explain.specs.Facts.{region_word}
 use Rattle.bpf_explain.specs.Known.{stack_bytes, first_unwritten}
 
@@ -72,10 +73,15 @@ abbrev pub pointer_operand : AbstractState → Reg → Operand → Reg
 pointer_operand A dst (operand.Imm imm) = dst
 pointer_operand A dst (operand.Reg src) = if is_pointer_kind (kind_of A src) then src else dst
 
+abbrev pub wrapped_text : List ℕ
+wrapped_text = codes "the place may wrap below 0; sub64 moves a range of places back, and add64 of a negative number wraps"
+
+-- a place from `WRAPPED` on is a sum that may have wrapped below 0
 abbrev pub place_text : Extent → Region → ℕ → List ℕ
-place_text shape region place = codes "the place may be "
-    ++ (decimal place ++ (codes ", and the " ++ (region_word region
-    ++ (codes " has " ++ (decimal (region_size shape region) ++ codes " bytes")))))
+place_text shape region place =
+    if nat_lt place WRAPPED then codes "the place may be " ++ (decimal place ++ (codes ", and the "
+    ++ (region_word region ++ (codes " has " ++ (decimal (region_size shape region) ++ codes " bytes")))))
+    else wrapped_text
 
 -- by what comes of an operation: a pointer that may be moved too far, or none
 abbrev pub result_text : Extent → Reg → Kind → List ℕ

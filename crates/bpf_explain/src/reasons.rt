@@ -153,6 +153,9 @@ fn pointer_reason(alloc: Global, register: Reg) -> Result<String, AllocError>
     )
 }
 
+/// From this place on a sum of places has wrapped below 0.
+const WRAPPED: u64 = 1 << 63;
+
 fn place_reason(
     alloc: Global,
     shape: Shape,
@@ -161,6 +164,12 @@ fn place_reason(
 ) -> Result<String, AllocError>
     ensures { IfOk result (λ text. string_bytes text ≡ reasons.place_text shape region place) }
 {
+    if place >= WRAPPED {
+        return String::from_str(
+            alloc,
+            "the place may wrap below 0; sub64 moves a range of places back, and add64 of a negative number wraps",
+        );
+    }
     let word = region_word(region);
     let size = shape.region_size(region);
     format!(in alloc; "the place may be {place}, and the {word} has {size} bytes")

@@ -1,5 +1,5 @@
--- When what a note says is so (docs/SCENARIOS.md, "Notes"). Of a line of the file, of what is shown of a line, and of a
--- nearest key nothing is said here.
+-- When what a note says is so (docs/SCENARIOS.md, "Notes"). Nothing is promised of a line of the file, of what is shown of
+-- a line, of a nearest key and of advice.
 use Rattle.std.specs.Prelude.{◌≡◌, ℕ, List, ◌++◌, codes, Option, Some, None}
 use Rattle.toml.specs.Data.{Members}
 use Rattle.bpf_asm.specs.declared.text_error.TextError.{TextError}
@@ -34,6 +34,7 @@ IsOfLine (notes.NotToml line column message) = ⊥
 IsOfLine (notes.OfKey unknown) = ⊥
 IsOfLine (notes.OfSlot spot slot rule) = ⊥
 IsOfLine (notes.OfSlotAlone slot rule) = ⊥
+IsOfLine notes.OfNothing = ⊥
 
 -- of a fault of a text its line is told, or no line of the text
 abbrev pub IsOfFault : TextError → Note → Type 0
@@ -43,6 +44,7 @@ IsOfFault error (notes.NotToml line column message) = ⊥
 IsOfFault error (notes.OfKey unknown) = ⊥
 IsOfFault error (notes.OfSlot spot slot rule) = ⊥
 IsOfFault error (notes.OfSlotAlone slot rule) = ⊥
+IsOfFault error notes.OfNothing = ⊥
 
 -- the line of the text under this key of the file whose instruction begins at the slot
 pub record IsTextLineOfSlot (file : List ℕ) (place : Place) (key : List ℕ) (slot line : ℕ) : Type 0 where
@@ -61,11 +63,12 @@ IsOfSlot file place key slot rule (notes.NotToml line column message) = ⊥
 IsOfSlot file place key slot rule (notes.OfKey unknown) = ⊥
 IsOfSlot file place key slot rule (notes.OfLine line shown) = ⊥
 IsOfSlot file place key slot rule (notes.OfText spot) = ⊥
+IsOfSlot file place key slot rule notes.OfNothing = ⊥
 
 abbrev pub IsNoteOf : List ℕ → ScenarioError → Note → Type 0
 IsNoteOf file (errors.BadText place key error) note = IsOfFault error note
 IsNoteOf file (errors.NotAccepted place key slot rule) note = IsOfSlot file place key.now slot rule note
-IsNoteOf file errors.TooLong note = ⊥
+IsNoteOf file errors.TooLong note = Unit {0}
 IsNoteOf file (errors.Memory _) note = ⊥
 IsNoteOf file errors.NotToml note = Unit {0}
 IsNoteOf file (errors.UnknownKey place) note = Unit {0}
@@ -74,9 +77,10 @@ IsNoteOf file (errors.WrongKind place key) note = Unit {0}
 IsNoteOf file (errors.OutOfRange place key) note = Unit {0}
 IsNoteOf file (errors.UnknownProgram load) note = Unit {0}
 
--- the line tells a note on the refusal of the file
+-- the line tells a note on the refusal of the file, and behind it, as advice, what would be right
 pub record Tells (file : List ℕ) (error : ScenarioError) (line : List ℕ) : Type 0 where
   pub note : Note
+  pub advice : List ℕ
   pub is_so : IsNoteOf file error note
-  pub line_is : line ≡ codes "note: " ++ (note_words note ++ codes "\n")
+  pub line_is : line ≡ codes "note: " ++ ((note_words note ++ advice) ++ codes "\n")
   pub one_line : IsNote line

@@ -20,7 +20,7 @@ spot_words spot = line_words spot.file ++ (codes "line " ++ (decimal spot.line +
 
 abbrev pub nearest_words : Option (List ℕ) → List ℕ
 nearest_words None = []
-nearest_words (Some name) = codes "; the nearest is " ++ name
+nearest_words (Some name) = codes "; did you mean " ++ (name ++ codes "?")
 
 abbrev pub key_words : UnknownKey → List ℕ
 key_words unknown = codes "unknown key " ++ (string_bytes unknown.key
@@ -39,6 +39,7 @@ note_words (notes.OfText spot) = spot_words spot ++ string_bytes spot.shown
 note_words (notes.OfSlot spot slot rule) = spot_words spot ++ (codes "slot " ++ (decimal slot
     ++ (codes ": " ++ (string_bytes spot.shown ++ (codes ": " ++ rule_words rule)))))
 note_words (notes.OfSlotAlone slot rule) = codes "slot " ++ (decimal slot ++ (codes ": " ++ rule_words rule))
+note_words notes.OfNothing = []
 
 -- one line that begins as a note does
 pub record IsNote (line : List ℕ) : Type 0 where

@@ -1,6 +1,7 @@
 //! Notes on refused scenarios, which tell where to look: docs/SCENARIOS.md, "Notes".
 #![tactic(auto)]
 
+mod advice;
 mod finding;
 mod known;
 mod near;
@@ -11,6 +12,7 @@ mod shown;
 mod slot_line;
 mod table;
 mod toml_fault;
+mod wanted;
 
 pub use note::{Note, Spot, UnknownKey};
 pub use noting::note_on;

@@ -1,7 +1,7 @@
 //! Which known name an unknown one is near to.
 
 use std::alloc::{AllocError, Global};
-use strsim::levenshtein;
+use strsim::osa_distance;
 
 /// The longest name that is compared, in bytes.
 const LONGEST_NAME: usize = 64;
@@ -9,9 +9,10 @@ const LONGEST_NAME: usize = 64;
 /// One letter in three may be wrong.
 const LETTERS_AN_EDIT: usize = 3;
 
-/// How many edits lead from one name to the other, where these are few; equal names have none.
+/// Returns how many edits lead from one name to the other, if these are few; a swap of two letters is one. Equal names
+/// have none.
 fn edits(alloc: Global, name: &str, known: &str) -> Result<Option<usize>, AllocError> {
-    let distance = levenshtein(alloc, name, known)?;
+    let distance = osa_distance(alloc, name, known)?;
     let is_near = 0 < distance && distance <= name.len().max(known.len()) / LETTERS_AN_EDIT;
     if is_near {
         Ok(Some(distance))

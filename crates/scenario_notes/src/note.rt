@@ -61,6 +61,8 @@ pub enum Note {
         slot: u32,
         rule: Rule,
     },
+    /// No place.
+    OfNothing,
 }
 
 #[derive(Clone, Copy)]
@@ -86,7 +88,7 @@ impl fmt::Display for NearestWords {
     fn fmt<W: fmt::Write>(&self, f: &mut fmt::Formatter<W>) -> fmt::Result {
         match self.0 {
             None => Ok(()),
-            Some(name) => write!(f, "; the nearest is {name}"),
+            Some(name) => write!(f, "; did you mean {name}?"),
         }
     }
 }
@@ -166,6 +168,7 @@ impl fmt::Display for Note {
                 write!(f, "{}slot {slot}: {shown}: {rule}", SpotWords(spot))
             }
             Note::OfSlotAlone { slot, rule } => write!(f, "slot {slot}: {}", RuleWords(*rule)),
+            Note::OfNothing => Ok(()),
         }
     }
 }

@@ -1,7 +1,9 @@
 //! The note on a refusal.
-ghost use Rattle.std.specs.Prelude.{◌≡◌, IfOk, IfSome, MatchOption, None, Some, string_bytes};
+ghost use Rattle.std.specs.Prelude.{◌≡◌, ℕ, List, IfOk, IfSome, IsTrue, MatchOption, None, Some, string_bytes};
+ghost use Rattle.scenario_notes.specs.declared.note.Note.TheVariants.{OfNothing};
 ghost use Rattle.scenario_notes.specs.Told.{IsNoteOf, IsOfFault, IsOfLine, IsOfSlot, IsTextLineOfSlot, Tells, fault_line};
 
+use crate::advice::advice_on;
 use crate::finding::{Sought, find, find_in_text, line_at, without_comment};
 use crate::known::{names_at, unknown_key};
 use crate::near::nearest;
@@ -160,8 +162,8 @@ fn slot_note(
     }
 }
 
-/// What can be said of where the refusal of a file comes from.
-fn note_of(alloc: Global, file: &[u8], error: &ScenarioError) -> Result<Option<Note>, AllocError>
+/// Returns where the refusal of a file comes from: nothing where that can't be told.
+fn place_of(alloc: Global, file: &[u8], error: &ScenarioError) -> Result<Option<Note>, AllocError>
     ensures { IfOk result (λ found. IfSome found (IsNoteOf file.now error.now)) }
 {
     match error {
@@ -190,7 +192,60 @@ fn note_of(alloc: Global, file: &[u8], error: &ScenarioError) -> Result<Option<N
     }
 }
 
-/// The line of the note on the refusal of a file, with its end, where there is something to say.
+/// Returns true if advice alone, with no place, makes a note on the error.
+fn needs_no_place(error: &ScenarioError) -> bool
+    ensures { IsTrue result → (file : List ℕ) → IsNoteOf file error.now OfNothing }
+{
+    match error {
+        ScenarioError::TooLong
+        | ScenarioError::NotToml
+        | ScenarioError::UnknownKey { .. }
+        | ScenarioError::MissingKey { .. }
+        | ScenarioError::WrongKind { .. }
+        | ScenarioError::OutOfRange { .. }
+        | ScenarioError::UnknownProgram { .. } => true,
+        ScenarioError::BadText { .. }
+        | ScenarioError::NotAccepted { .. }
+        | ScenarioError::Memory(_) => false,
+    }
+}
+
+/// Returns the note on the refusal of a file, if there is something to say.
+fn note_of(alloc: Global, file: &[u8], error: &ScenarioError) -> Result<Option<Note>, AllocError>
+    ensures { IfOk result (λ found. IfSome found (IsNoteOf file.now error.now)) }
+{
+    match place_of(alloc, file, error)? {
+        Some(note) => Ok(Some(note)),
+        None => {
+            if needs_no_place(error) {
+                Ok(Some(Note::OfNothing))
+            } else {
+                Ok(None)
+            }
+        }
+    }
+}
+
+/// Returns what is said of the fix, behind the note.
+fn advice_behind(
+    alloc: Global,
+    file: &[u8],
+    note: &Note,
+    error: &ScenarioError,
+) -> Result<String, AllocError> {
+    let table = table_in(alloc, file)?;
+    let advice = advice_on(alloc, file, table.as_ref(), error)?;
+    if advice.len() == 0 {
+        return Ok(advice);
+    }
+    if let Note::OfNothing = note {
+        return Ok(advice);
+    }
+    let advice = advice.as_str();
+    format!(in alloc; "; {advice}")
+}
+
+/// Returns the line of the note on the refusal of a file, with its end, if there is something to say.
 pub fn note_on(
     alloc: Global,
     file: &[u8],
@@ -201,8 +256,9 @@ pub fn note_on(
     let Some(note) = note_of(alloc, file, error)? else {
         return Ok(None);
     };
-    let words = format!(in alloc; "{note}")?;
-    if words.as_bytes().contains(&b'\n') {
+    let advice = advice_behind(alloc, file, &note, error)?;
+    let words = format!(in alloc; "{note}{advice}")?;
+    if words.len() == 0 || words.as_bytes().contains(&b'\n') {
         return Ok(None);
     }
     let line = format!(in alloc; "note: {words}\n")?;

@@ -5,11 +5,18 @@ use std::alloc::{AllocError, Global};
 /// The most characters of a text that are shown.
 const MOST_SHOWN: usize = 120;
 
-/// The first characters of a text without the blanks at its ends; one that would move the cursor is a blank.
+/// Returns true for characters that a terminal doesn't show as they stand: controls, and those that turn the direction of
+/// writing or take no room.
+fn is_hidden(letter: char) -> bool {
+    letter.is_control()
+        || matches!(letter, '\u{ad}' | '\u{61c}' | '\u{200b}'..='\u{200f}' | '\u{2028}'..='\u{202e}' | '\u{2060}'..='\u{206f}' | '\u{feff}')
+}
+
+/// The first characters of a text without the blanks at its ends; one that is hidden is a blank.
 pub(crate) fn shown(alloc: Global, text: &str) -> Result<String, AllocError> {
     let mut line = String::new(alloc);
     for letter in text.trim().chars().take(MOST_SHOWN) {
-        let plain = if letter.is_control() { ' ' } else { letter };
+        let plain = if is_hidden(letter) { ' ' } else { letter };
         line.push(plain)?;
     }
     Ok(line)

@@ -1,0 +1,243 @@
+//! What a note says of the fix. Nothing is promised of it.
+
+use crate::finding::line_at;
+use crate::known::{names_at, unknown_key};
+use crate::near::nearest;
+use crate::shown::shown;
+use crate::table::{table_at, text_at};
+use crate::wanted::{COINS_NAMES, PROGRAM_NAMES, wanted};
+use bpf_asm::{TextError, assemble};
+use bpf_explain::reason;
+use bpf_insn::MAX_SLOTS;
+use bpf_verify::explain;
+use node_env::Shape;
+use scenario_text::{CLOCK_VERSION, MAX_TEXT, Place, ScenarioError};
+use std::alloc::{AllocError, Global};
+use toml::Table;
+
+/// The helpers that a text can name.
+const HELPER_NAMES: [&str; 4] = ["id", "recv", "send", "coin"];
+
+/// How a file in UTF-16 begins.
+const WIDE_BEGINNINGS: [&[u8]; 2] = [b"\xff\xfe", b"\xfe\xff"];
+
+/// A question for the nearest of some words, before what else is said.
+fn did_you_mean(
+    alloc: Global,
+    word: Option<&str>,
+    known: &[&'static str],
+) -> Result<String, AllocError> {
+    let Some(word) = word else {
+        return Ok(String::new(alloc));
+    };
+    match nearest(alloc, word, known)? {
+        Some(name) => format!(in alloc; "did you mean \"{name}\"? "),
+        None => Ok(String::new(alloc)),
+    }
+}
+
+/// What a key may be, which has a value that isn't right.
+fn of_value(alloc: Global, table: &Table, place: Place, key: &str) -> Result<String, AllocError> {
+    let value = match table_at(table, place) {
+        Some(entry) => entry.get(key).and_then(toml::Value::as_str),
+        None => None,
+    };
+    let question = question_on(alloc, key, value)?;
+    let words = wanted(alloc, table, place, key)?;
+    let question = question.as_str();
+    let words = words.as_str();
+    format!(in alloc; "{question}{words}")
+}
+
+/// A question for the nearest of the words that a key may have.
+fn question_on(alloc: Global, key: &str, value: Option<&str>) -> Result<String, AllocError> {
+    if key == "coins" {
+        return did_you_mean(alloc, value, &COINS_NAMES);
+    }
+    if key == "program" {
+        return did_you_mean(alloc, value, &PROGRAM_NAMES);
+    }
+    Ok(String::new(alloc))
+}
+
+/// An unknown key of the table there that may be meant by the one that is missing.
+fn meant_by<'a>(
+    alloc: Global,
+    table: &'a Table,
+    place: Place,
+    key: &'static str,
+) -> Result<Option<&'a str>, AllocError> {
+    let Some(entry) = table_at(table, place) else {
+        return Ok(None);
+    };
+    let Some(unknown) = unknown_key(entry, place) else {
+        return Ok(None);
+    };
+    match nearest(alloc, unknown, &[key])? {
+        Some(_) => Ok(Some(unknown)),
+        None => Ok(None),
+    }
+}
+
+/// What of a key is said that isn't there.
+fn of_missing(
+    alloc: Global,
+    table: &Table,
+    place: Place,
+    key: &'static str,
+) -> Result<String, AllocError> {
+    let words = wanted(alloc, table, place, key)?;
+    let words = words.as_str();
+    if place == Place::Top && key == "key" {
+        return format!(in alloc; "coins = \"chacha\" needs key: {words}");
+    }
+    match meant_by(alloc, table, place, key)? {
+        Some(unknown) => {
+            let unknown = shown(alloc, unknown)?;
+            let unknown = unknown.as_str();
+            format!(in alloc; "{key} is missing, did you mean it by {unknown}? {words}")
+        }
+        None => format!(in alloc; "{key} is missing: {words}"),
+    }
+}
+
+/// What an unknown key needs beside it.
+fn of_unknown(alloc: Global, table: &Table, place: Place) -> Result<String, AllocError> {
+    let Some(entry) = table_at(table, place) else {
+        return Ok(String::new(alloc));
+    };
+    match unknown_key(entry, place) {
+        Some(key) if names_at(place).contains(&key) => of_unlike(alloc, key),
+        _ => Ok(String::new(alloc)),
+    }
+}
+
+/// What a key needs that is known beside others alone.
+fn of_unlike(alloc: Global, key: &str) -> Result<String, AllocError> {
+    match key {
+        "clock" => format!(in alloc; "clock needs version = {CLOCK_VERSION}"),
+        "values" => String::from_str(alloc, "values goes with program = \"say\""),
+        "text" => String::from_str(alloc, "text goes with program = \"asm\""),
+        _ => Ok(String::new(alloc)),
+    }
+}
+
+/// The helper that a line of a text calls.
+fn helper_in(line: &str) -> Option<&str> {
+    let (_before, called) = line.split_once("call ")?;
+    let name = called.trim();
+    match name.split_once(' ') {
+        Some((name, _more)) => Some(name),
+        None => Some(name),
+    }
+}
+
+/// What an operand of a line may be.
+fn of_operand(alloc: Global, line: Option<&str>) -> Result<String, AllocError> {
+    let helper = match line {
+        Some(line) => helper_in(line),
+        None => None,
+    };
+    if helper.is_none() {
+        return String::from_str(alloc, "an operand is of another kind (docs/ASSEMBLER.md)");
+    }
+    let question = did_you_mean(alloc, helper, &HELPER_NAMES)?;
+    let question = question.as_str();
+    format!(in alloc; "{question}a helper is id, recv, send or coin")
+}
+
+/// What is wrong with a text.
+fn of_text(
+    alloc: Global,
+    table: &Table,
+    place: Place,
+    key: &str,
+    error: TextError,
+) -> Result<String, AllocError> {
+    match error {
+        TextError::UnknownWord(_) => {
+            String::from_str(alloc, "no instruction has this name (docs/ASSEMBLER.md)")
+        }
+        TextError::BadOperand(line) => {
+            let text = text_at(table, place, key).unwrap_or_default();
+            of_operand(alloc, line_at(text, line))
+        }
+        TextError::OutOfRange(_) => String::from_str(alloc, "a number is out of its range"),
+        TextError::UnknownLabel(_) => String::from_str(alloc, "no line has this label"),
+        TextError::LabelTwice(_) => String::from_str(alloc, "an earlier line has this label"),
+        TextError::TooLong(_) => { format!(in alloc; "a program has at most {MAX_SLOTS} slots") }
+        TextError::Empty => String::from_str(alloc, "the text has no instruction"),
+        TextError::Memory => Ok(String::new(alloc)),
+    }
+}
+
+/// The number under a key at the top.
+fn number_in(table: &Table, key: &str) -> Option<u32> {
+    let number = table.get(key).and_then(toml::Value::as_integer)?;
+    u32::try_from(number).ok()
+}
+
+/// The shape of the scenario's nodes.
+fn shape_in(table: &Table) -> Option<Shape> {
+    Shape::of(number_in(table, "nodes")?, number_in(table, "memory")?)
+}
+
+/// Why the program of a text isn't accepted: what was known, and what the rule asks.
+fn of_program(alloc: Global, table: &Table, place: Place, key: &str) -> Result<String, AllocError> {
+    let (Some(text), Some(shape)) = (text_at(table, place, key), shape_in(table)) else {
+        return Ok(String::new(alloc));
+    };
+    let program = match assemble(alloc, text.as_bytes()) {
+        Ok(program) => program,
+        Err(TextError::Memory) => return Err(AllocError),
+        Err(_) => return Ok(String::new(alloc)),
+    };
+    let findings = explain(alloc, &program, shape)?;
+    let line = reason(alloc, &program, shape, &findings)?;
+    match line.as_str().trim().split_once(": ") {
+        Some((_rule, why)) => String::from_str(alloc, why),
+        None => Ok(String::new(alloc)),
+    }
+}
+
+/// What is said of bytes that aren't TOML, beside what the parser says.
+fn of_bytes(alloc: Global, file: &[u8]) -> Result<String, AllocError> {
+    for beginning in WIDE_BEGINNINGS {
+        if file.starts_with(beginning) {
+            return String::from_str(alloc, "the file is UTF-16: save it as UTF-8");
+        }
+    }
+    Ok(String::new(alloc))
+}
+
+/// Returns what is said of the fix: nothing where it is not known.
+pub(crate) fn advice_on(
+    alloc: Global,
+    file: &[u8],
+    table: Option<&Table>,
+    error: &ScenarioError,
+) -> Result<String, AllocError> {
+    if let ScenarioError::TooLong = error {
+        return format!(in alloc; "the file has more than {MAX_TEXT} bytes");
+    }
+    let Some(table) = table else {
+        return of_bytes(alloc, file);
+    };
+    match error {
+        ScenarioError::UnknownKey { place } => of_unknown(alloc, table, *place),
+        ScenarioError::MissingKey { place, key } => of_missing(alloc, table, *place, key),
+        ScenarioError::WrongKind { place, key } | ScenarioError::OutOfRange { place, key } => {
+            of_value(alloc, table, *place, key)
+        }
+        ScenarioError::UnknownProgram { load } => {
+            of_value(alloc, table, Place::Load(*load), "program")
+        }
+        ScenarioError::BadText { place, key, error } => {
+            of_text(alloc, table, *place, key, *error)
+        }
+        ScenarioError::NotAccepted { place, key, .. } => of_program(alloc, table, *place, key),
+        ScenarioError::TooLong | ScenarioError::NotToml | ScenarioError::Memory(_) => {
+            Ok(String::new(alloc))
+        }
+    }
+}
