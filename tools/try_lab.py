@@ -612,7 +612,7 @@ def try_notes(trial, page):
     top = page.value("document.querySelector('#text .note').style.top")
     trial.equal("the place of the note", top, f"{(line - 1) * 18}px")
     trial.equal("what is said", page.texts("#rejected p"), [
-        "refused scenario UnknownKey top", f"note: line {line}: unknown key modulos; the nearest is modulus"])
+        "refused scenario UnknownKey top", f"note: line {line}: unknown key modulos; did you mean modulus?"])
     trial.holds("the last good run stays", page.is_so("document.querySelectorAll('#ring .node').length === 4"))
     trial.holds("it is named so", page.is_so("!document.getElementById('stale').hidden"))
     page.click("#to-line")
