@@ -64,7 +64,7 @@ def statuses():
 
 
 def manual(program):
-    version = answer(program, ["--version"], b"").out.decode().strip()
+    version = answer(program, ["--version"], b"").out.decode().splitlines()[0]
     about, usage, lists = parts_of(answer(program, ["--help"], b"").out.decode())
     names = [name for name, _ in lists["Commands"] if name != "help"]
     sections = {

@@ -21,7 +21,7 @@ trap 'rm -rf "$room"' EXIT
 umask 022
 
 packed=(README.md CHANGELOG.md CONTRIBUTING.md docs examples completions {benchmarks,rows,tools,vectors}/README.md)
-tools=(tools/{picture,play,plot,readings,built_program,own_clock,distances,check_table}.py tools/play.html 'tools/lab*')
+tools=(tools/{picture,play,plot,readings,built_program,own_clock,distances,check_table}.py tools/play.html tools/README.md 'tools/lab*')
 
 say() {
   echo "release: $*" >&2
@@ -71,7 +71,7 @@ pack() {
 [ -x "$program" ] || say "the program isn't built: ./clockbed --prove"
 [ -n "${CLOCKBED_PROGRAM:-}" ] || must_be_proved
 
-version=$("$program" --version)
+version=$("$program" --version | sed -n 1p)
 name=${version// /-}
 committed=$(git -C "$top" log -1 --format=%ct)
 lay_out "$room/$name"

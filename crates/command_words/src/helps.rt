@@ -66,41 +66,41 @@ impl Helps {
     /// Returns the help of each option.
     pub fn new() -> Helps {
         Helps {
-            nodes: numbers("The number of nodes", 1, MAX_NODES, DEFAULT_NODES),
+            nodes: numbers("Number of nodes", 1, MAX_NODES, DEFAULT_NODES),
             memory: memory_help(),
             fuel: Help::of(format_args!(
-                "The most steps of the run, 0 to {MOST_FUEL} [default: {DEFAULT_FUEL}]"
+                "Most steps of the run [0..={MOST_FUEL}; default: {DEFAULT_FUEL}]"
             )),
-            id: numbers("Which node the program is", 0, MAX_NODES - 1, 0),
+            id: numbers(
+                "Number of the node that runs the program",
+                0,
+                MAX_NODES - 1,
+                0,
+            ),
             most_workers: numbers(
-                "The most workers of a long pulse",
+                "Threads of a pulse, if they pay",
                 1,
                 MOST_WORKERS,
                 DEFAULT_WORKERS,
             ),
-            workers: numbers("The workers of a pulse", 1, MOST_WORKERS, DEFAULT_WORKERS),
+            workers: numbers("Threads of a pulse", 1, MOST_WORKERS, DEFAULT_WORKERS),
             sweepers: Help::of(format_args!(
-                "The workers that run whole scenarios, 1 to {MOST_SWEEPERS} [default: the processors]"
+                "Threads that run whole scenarios [1..={MOST_SWEEPERS}; default: the processors]"
             )),
             loaders: numbers(
-                "The loaders, each in a thread",
+                "Threads that load programs",
                 1,
                 MOST_LOADERS,
                 DEFAULT_LOADERS,
             ),
-            loads: numbers("The loads of each loader", 1, MOST_LOADS, DEFAULT_LOADS),
-            pulses: numbers("The pulses of the engine", 1, MOST_PULSES, DEFAULT_PULSES),
-            states: numbers(
-                "The most states that are seen",
-                1,
-                MOST_STATES,
-                DEFAULT_STATES,
-            ),
+            loads: numbers("Loads of each loader", 1, MOST_LOADS, DEFAULT_LOADS),
+            pulses: numbers("Pulses", 1, MOST_PULSES, DEFAULT_PULSES),
+            states: numbers("Most states to explore", 1, MOST_STATES, DEFAULT_STATES),
             depth: Help::of(format_args!(
-                "The last pulse that is explored, 1 to {MOST_STATES} [default: all]"
+                "Last pulse to explore [1..={MOST_STATES}; default: all]"
             )),
             keys: Help::of(format_args!(
-                "The keys of the coins, both ends among them, 0 to {MOST_KEY}"
+                "Seeds of the coins, both ends included [0..={MOST_KEY}; required]"
             )),
         }
     }
@@ -108,11 +108,11 @@ impl Helps {
 
 /// Returns the help of an option that takes a number of a range.
 fn numbers(what: &str, least: u32, most: u32, default: u32) -> Help {
-    Help::of(format_args!("{what}, {least} to {most} [default: {default}]"))
+    Help::of(format_args!("{what} [{least}..={most}; default: {default}]"))
 }
 
 fn memory_help() -> Help {
     Help::of(format_args!(
-        "The bytes of a node's memory, {MEMORY_UNIT} to {MAX_MEMORY} by {MEMORY_UNIT} [default: {DEFAULT_MEMORY}]"
+        "Node memory in bytes [{MEMORY_UNIT}..={MAX_MEMORY}, multiple of {MEMORY_UNIT}; default: {DEFAULT_MEMORY}]"
     ))
 }

@@ -4,6 +4,7 @@
 mod building;
 mod helps;
 mod options;
+mod version;
 mod words;
 
 pub use helps::{

@@ -7,7 +7,7 @@ use std::alloc::{AllocError, Global};
 pub(crate) fn file<'a>(alloc: Global) -> Arg<'a> {
     Arg::new(alloc, "file")
         .value_name("FILE")
-        .help("What is read; standard input where it is - or none")
+        .help("File to read; standard input if it is - or missing")
 }
 
 /// Returns an option without a value.

@@ -3,6 +3,7 @@
 use crate::building::Building;
 use crate::helps::{Helps, MOST_FUEL, MOST_LOADS, MOST_PULSES, MOST_STATES};
 use crate::options::{count_option, file, flag, pulse_option, text_option, within};
+use crate::version::VERSION;
 use bench_shared::MOST_LOADERS;
 use bench_workers::MOST_WORKERS;
 use clap::{Arg, Command, value_parser};
@@ -10,10 +11,8 @@ use key_sweep::MOST_SWEEPERS;
 use node_env::{MAX_MEMORY, MAX_NODES, MEMORY_UNIT};
 use std::alloc::{AllocError, Global};
 
-const VERSION: &str = "1.1.0";
-
 /// The help of `--list`.
-const LIST: &str = "Prints the slot and the bytes of each instruction beside its line";
+const LIST: &str = "Print slot and bytes of each instruction beside its line";
 
 /// Returns the command line of `clockbed`, whose options have these helps.
 pub fn command_line<'a>(alloc: Global, helps: &'a Helps) -> Result<Command<'a>, AllocError> {
@@ -33,7 +32,7 @@ pub fn command_line<'a>(alloc: Global, helps: &'a Helps) -> Result<Command<'a>, 
 fn clockbed<'a>(alloc: Global) -> Building<'a> {
     Building::of(
         Command::new(alloc, "clockbed")
-            .about("A testbed for Byzantine clock synchronisation")
+            .about("A testbed for Byzantine fault-tolerant clock synchronisation")
             .version(VERSION)
             .after_help("Example: clockbed run examples/four_clocks.toml\nPage: docs/COMMANDS.md")
             .subcommand_required(true),
@@ -45,7 +44,7 @@ fn asm<'a>(alloc: Global) -> Building<'a> {
     Building::named(
         alloc,
         "asm",
-        "Prints the image of an assembler text",
+        "Print the image of an assembler text",
         "Example: clockbed asm program.s > program.bpf\nPage: docs/ASSEMBLER.md",
     )
     .arg(flag(alloc, "list", LIST))
@@ -57,7 +56,7 @@ fn dis<'a>(alloc: Global) -> Building<'a> {
     Building::named(
         alloc,
         "dis",
-        "Prints an image as assembler text",
+        "Print an image as assembler text",
         "Example: clockbed dis examples/seven.bpf\nPage: docs/ASSEMBLER.md",
     )
     .arg(flag(alloc, "list", LIST))
@@ -69,19 +68,22 @@ fn verify<'a>(alloc: Global, helps: &'a Helps) -> Building<'a> {
     let verify = Building::named(
         alloc,
         "verify",
-        "Accepts or refuses the program of an image",
+        "Accept or reject the program of an image",
         "Example: clockbed verify --memory 8 examples/seven.bpf\nPage: docs/VERIFIER.md",
     );
     with_shape(alloc, verify, helps)
-        .arg(flag(alloc, "text", "Reads an assembler text"))
+        .arg(flag(alloc, "text", "Read an assembler text in place of an image"))
         .arg(flag(
             alloc,
             "explain",
-            "Prints what is known at each slot, and why a rule is broken",
+            "Print what is known at each slot, and why a rule is broken",
         ))
-        .made_arg(flag(alloc, "all", "Prints all that is known at each slot").requires_arg(
-            "explain",
-        ))
+        .made_arg(flag(
+            alloc,
+            "all",
+            "Print all that is known at each slot; needs --explain",
+        )
+        .requires_arg("explain"))
         .arg(file(alloc))
 }
 
@@ -90,19 +92,19 @@ fn run<'a>(alloc: Global, helps: &'a Helps) -> Building<'a> {
     let run = Building::named(
         alloc,
         "run",
-        "Prints the report of a scenario",
+        "Print the report of a scenario",
         "Example: clockbed run --check examples/four_clocks.toml\nPage: docs/SCENARIOS.md",
     )
     .arg(count_option(alloc, "workers", helps.most_workers.as_str(), MOST_WORKERS))
     .arg(flag(
         alloc,
         "check",
-        "Ends with status 3 where a pulse doesn't agree",
+        "End with status 3 if a pulse violates agreement",
     ))
     .arg(flag(
         alloc,
         "json",
-        "Prints a line of JSON for each pulse, with all that the bed knows",
+        "Print a line of JSON for each pulse, with its whole state",
     ));
     with_span(alloc, run).arg(file(alloc))
 }
@@ -113,12 +115,12 @@ fn with_span<'a>(alloc: Global, command: Building<'a>) -> Building<'a> {
         .made_arg(pulse_option(
             alloc,
             "from",
-            "The first pulse of the JSON lines, from 1 on [default: 1]",
+            "First pulse of the JSON lines [1..; default: 1]",
         ))
         .made_arg(pulse_option(
             alloc,
             "until",
-            "The last pulse of the JSON lines, from --from on [default: the scenario's]",
+            "Last pulse of the JSON lines [--from..; default: the scenario's]",
         ))
 }
 
@@ -127,7 +129,7 @@ fn explore<'a>(alloc: Global, helps: &'a Helps) -> Building<'a> {
     let explore = Building::named(
         alloc,
         "explore",
-        "Explores all coins and all messages of --mail on a small bench",
+        "Explore all coins and all messages of --mail on a small bench",
         "Example: clockbed explore examples/explore/three_nodes.toml\nPage: docs/EXPLORE.md",
     );
     with_states(alloc, explore)
@@ -143,19 +145,19 @@ fn with_states<'a>(alloc: Global, command: Building<'a>) -> Building<'a> {
             alloc,
             "mail",
             "LIST",
-            "Messages that Byzantine nodes may send beside none: numbers below 4294967296, as 0..7,9 [default: 0 to the modulus]",
+            "Messages of Byzantine nodes, beside none: 32-bit numbers, as 0..7,9 [default: 0 to the modulus]",
         ))
         .arg(text_option(
             alloc,
             "start",
             "zero|any",
-            "Where it begins: memories of zeros and no mail, or any of --bytes [default: zero]",
+            "Initial states: zeroed memories and no messages, or any of --bytes [default: zero]",
         ))
         .arg(text_option(
             alloc,
             "bytes",
             "LIST",
-            "The first eight bytes of each memory at --start any, with any mail: numbers below 256, as 0,254..255",
+            "What each of the first eight bytes of a memory may be at --start any, with any messages, as 0,254..255",
         ))
 }
 
@@ -164,7 +166,7 @@ fn sweep<'a>(alloc: Global, helps: &'a Helps) -> Building<'a> {
     Building::named(
         alloc,
         "sweep",
-        "Runs a scenario with each key, and prints CSV",
+        "Run a scenario with each seed, and print CSV",
         "Example: clockbed sweep --keys 1..100 examples/chacha.toml\nPage: docs/LUCK.md",
     )
     .arg(text_option(alloc, "keys", "FIRST..LAST", helps.keys.as_str()).required(true))
@@ -177,7 +179,7 @@ fn stress<'a>(alloc: Global, helps: &'a Helps) -> Building<'a> {
     Building::named(
         alloc,
         "stress",
-        "Lets many threads work on one bench, and checks its history",
+        "Let many threads work on one bench, and check its history",
         "Example: clockbed stress --loaders 4 --pulses 100\nPage: docs/THREADS.md",
     )
     .arg(count_option(alloc, "loaders", helps.loaders.as_str(), MOST_LOADERS))
@@ -191,13 +193,13 @@ fn exec<'a>(alloc: Global, helps: &'a Helps) -> Building<'a> {
     let exec = Building::named(
         alloc,
         "exec",
-        "Runs the program of an image",
+        "Run the program of an image",
         "Example: clockbed exec --memory 8 --show examples/seven.bpf\nPage: docs/COMMANDS.md",
     );
     let exec = with_shape(alloc, exec, helps).arg(fuel_option(alloc, helps.fuel.as_str()));
     with_case(alloc, exec, helps)
-        .arg(flag(alloc, "show", "Prints the memory and what was sent too"))
-        .arg(flag(alloc, "trace", "Prints each step of the run"))
+        .arg(flag(alloc, "show", "Print the memory and the messages sent, too"))
+        .arg(flag(alloc, "trace", "Print each step of the run"))
         .arg(file(alloc))
 }
 
@@ -225,7 +227,7 @@ fn with_case<'a>(alloc: Global, command: Building<'a>, helps: &'a Helps) -> Buil
         .arg(within(text_option(alloc, "id", "NODE", id), 0, MAX_NODES - 1))
         .arg(mail_option(alloc))
         .arg(within(
-            text_option(alloc, "coin", "BIT", "The coin, 0 or 1 [default: 0]"),
+            text_option(alloc, "coin", "BIT", "Coin [0..=1; default: 0]"),
             0,
             1,
         ))
@@ -233,7 +235,7 @@ fn with_case<'a>(alloc: Global, command: Building<'a>, helps: &'a Helps) -> Buil
             alloc,
             "contents",
             "HEX",
-            "The first bytes of the memory, two digits each; the others are 0",
+            "First bytes of the memory in hexadecimal; the others are 0",
         ))
 }
 
@@ -243,7 +245,7 @@ fn mail_option<'a>(alloc: Global) -> Arg<'a> {
         alloc,
         "mail",
         "LIST",
-        "The mail from each node: numbers below 4294967296, or - for none, with commas between",
+        "Message from each node, - for none, as 5,-,3,- [default: none]",
     )
     .allow_hyphen_values(true)
 }
