@@ -175,9 +175,11 @@ def unknown_checks(clockbed):
 
 def length_checks(clockbed):
     """The longest text, and one byte more."""
+    wanted_key = b"note: nodes is missing: nodes is a whole number, 1 to 32, and to 64 with version = 2\n"
+    too_long = b"note: the file has more than %d bytes\n" % LIMIT
     rows = [
-        ("run", LIMIT, Ran(REFUSED, b"refused scenario MissingKey nodes\n", b"")),
-        ("run", LIMIT + 1, Ran(REFUSED, b"refused scenario TooLong\n", b"")),
+        ("run", LIMIT, Ran(REFUSED, b"refused scenario MissingKey nodes\n", wanted_key)),
+        ("run", LIMIT + 1, Ran(REFUSED, b"refused scenario TooLong\n", too_long)),
         ("asm", LIMIT, Ran(REFUSED, b"refused text Empty line 0\n", b"")),
         ("asm", LIMIT + 1, Ran(FAULT, b"", READ_FAULT)),
     ]
