@@ -176,7 +176,7 @@ def unknown_checks(clockbed):
 def length_checks(clockbed):
     """The longest text, and one byte more."""
     wanted_key = b"note: nodes is missing: nodes is a whole number, 1 to 32, and to 64 with version = 2\n"
-    too_long = b"note: the file has more than %d bytes\n" % LIMIT
+    too_long = b"note: the text has more than %d bytes\n" % LIMIT
     rows = [
         ("run", LIMIT, Ran(REFUSED, b"refused scenario MissingKey nodes\n", wanted_key)),
         ("run", LIMIT + 1, Ran(REFUSED, b"refused scenario TooLong\n", too_long)),

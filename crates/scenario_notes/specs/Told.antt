@@ -68,7 +68,7 @@ IsOfSlot file place key slot rule notes.OfNothing = ⊥
 abbrev pub IsNoteOf : List ℕ → ScenarioError → Note → Type 0
 IsNoteOf file (errors.BadText place key error) note = IsOfFault error note
 IsNoteOf file (errors.NotAccepted place key slot rule) note = IsOfSlot file place key.now slot rule note
-IsNoteOf file errors.TooLong note = Unit {0}
+IsNoteOf file errors.TooLong note = note ≡ notes.OfNothing
 IsNoteOf file (errors.Memory _) note = ⊥
 IsNoteOf file errors.NotToml note = Unit {0}
 IsNoteOf file (errors.UnknownKey place) note = Unit {0}

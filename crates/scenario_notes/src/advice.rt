@@ -95,7 +95,7 @@ fn of_missing(
         Some(unknown) => {
             let unknown = shown(alloc, unknown)?;
             let unknown = unknown.as_str();
-            format!(in alloc; "{key} is missing, did you mean it by {unknown}? {words}")
+            format!(in alloc; "{key} is missing, and {unknown} is no key: {words}")
         }
         None => format!(in alloc; "{key} is missing: {words}"),
     }
@@ -218,7 +218,7 @@ pub(crate) fn advice_on(
     error: &ScenarioError,
 ) -> Result<String, AllocError> {
     if let ScenarioError::TooLong = error {
-        return format!(in alloc; "the file has more than {MAX_TEXT} bytes");
+        return format!(in alloc; "the text has more than {MAX_TEXT} bytes");
     }
     let Some(table) = table else {
         return of_bytes(alloc, file);
