@@ -12,7 +12,7 @@ use Rattle.bench_core.specs.Replay.{Entry, Replays, StagesAccepted}
 use Rattle.bench_core.specs.StepList.{Act, Performs, entries_of}
 
 -- a loaded node's run in a closed pulse: a complete run, of at most the announced number of instructions, which leaves
--- the node's memory and its outgoing mail. It is never stuck: each state that is reached has a next one
+-- the node's memory and its outgoing messages. It is never stuck: each state that is reached has a next one
 pub record IsWhole (s : Setup) (b b' : State) (i : ℕ) (p : Accepted) (end : End) : Type 0 where
   pub run : CompleteRun p.program (setting_at s b.mail (coins_of b) i) (node_at b.nodes i).memory end
   pub unstuck : (count : ℕ) (state : MachineState)

@@ -55,7 +55,7 @@ StepsAgree = (s : Setup) (acts : List Act) (b b' : State) → IsSetup s → HasR
     → Performs s (new_state s) acts b → Pulse s b b'
     → 2 * s.faults + faulty_count b b' < s.shape.nodes → Agree s b b'
 
--- where the clock is the rule's, what a run of it leaves in the four bytes is below the modulus: it is told as it is
+-- if the clock is the rule's, what a run of it leaves in the four bytes is below the modulus: it is told as it is
 abbrev pub RuleClockBelow : Type 0
 RuleClockBelow = (s : Setup) (history : List Entry) (b b' : State) (i : ℕ) → IsSetup s → HasRuleClock s
     → Replays s history b → Pulse s b b' → i < s.shape.nodes → IsTrue (node_at b'.nodes i).mark
@@ -99,7 +99,7 @@ pub record LeavesAlone (s : Setup) (group : List Bool) (b : State) (es : List En
   pub memory : (i : ℕ) → i < s.shape.nodes → IsIn group i
       → (node_at c.nodes i).memory ≡ (node_at b.nodes i).memory
 
--- so many closed pulses, each after entries that leave these nodes alone
+-- this many closed pulses, each after entries that leave these nodes alone
 abbrev pub Rounds : Setup → List Bool → ℕ → State → State → Type 0
 Rounds s group zero b b' = b' ≡ b
 Rounds s group (suc k) b b' = (es : List Entry) × (c : State) × (mid : State) × LeavesAlone s group b es c
@@ -119,7 +119,8 @@ PairMovesOnFor = (s : Setup) (history : List Entry) (b0 b b' : State) (group : L
 abbrev pub coin_at : State → ℕ → ℕ
 coin_at b i = slice_index (coins_of b) i
 
--- what a closed pulse makes of a node and its mail is by its own program, memory and coin and by the mail that came to
+-- what a closed pulse makes of a node and its messages is by its own program, memory and coin and by the messages that
+-- came to
 -- it: two pulses in which these are equal give equal results, whatever all other nodes run, hold and send elsewhere
 abbrev pub OnlyItsOwn : Type 0
 OnlyItsOwn = (s : Setup) (b b' c c' : State) (i : ℕ) → Pulse s b b' → Pulse s c c'
@@ -143,13 +144,14 @@ pub record BothClose (s : Setup) (i : ℕ) (b b' c c' : State) : Type 0 where
   pub mail : inbox_of i c.mail ≡ inbox_of i b.mail
   pub coin : coin_at c i ≡ coin_at b i
 
--- so many closed pulses of two beds side by side. Before each, whatever was done, node i was left as it was
+-- this many closed pulses of two beds side by side. Before each, whatever was done, node i was left as it was
 abbrev pub SideBySide : Setup → ℕ → ℕ → State → State → State → State → Type 0
 SideBySide s i zero b b' c c' = (b' ≡ b) × (c' ≡ c)
 SideBySide s i (suc k) b b' c c' = (before after : State) × (before_c after_c : State) × SameNode i b before
     × SameNode i c before_c × BothClose s i before after before_c after_c × SideBySide s i k after b' after_c c'
 
--- over any number of pulses in which the same mail comes to a node, it goes the same way, whatever else the beds have
+-- over any number of pulses in which the same messages come to a node, it goes the same way, whatever else the beds
+-- have
 abbrev pub OnlyItsOwnFor : Type 0
 OnlyItsOwnFor = (s : Setup) (i k : ℕ) (b b' c c' : State) → SameNode i b c → SideBySide s i k b b' c c'
     → SameNode i b' c'
@@ -164,7 +166,7 @@ abbrev pub RowsInOrder : Type 0
 RowsInOrder = (s : Setup) (history : List Entry) (b : State) (k : ℕ) (row : Row) → Replays s history b
     → slice_get (rows_of history) k ≡ Some row → row.pulse ≡ k + 1
 
--- where the history has a place left for the close, the row is within its ranges
+-- if the history has a place left for the close, the row is within its ranges
 abbrev pub RowsFit : Type 0
 RowsFit = (s : Setup) (history : List Entry) (b b' : State) → IsSetup s → Replays s history b → Pulse s b b'
     → length history < MOST_ENTRIES → IsRow (row_of s b b')

@@ -32,7 +32,7 @@ pub record State : Type 0 where
   pub staged : List Change
   pub coins : Option (List ℕ)
 
--- those of the open pulse, none where none is open
+-- those of the open pulse, none if none is open
 abbrev pub coins_of : State → List ℕ
 coins_of b = unwrap_or b.coins []
 
@@ -46,11 +46,11 @@ node_at nodes i = get_or nodes i no_node
 abbrev pub mail_from : List (FinMap nat_cmp ℕ) → ℕ → FinMap nat_cmp ℕ
 mail_from mail i = get_or mail i empty
 
--- what node i sees in a pulse with this mail and these coins
+-- what node i sees in a pulse with these messages and these coins
 abbrev pub setting_at : Setup → List (FinMap nat_cmp ℕ) → List ℕ → ℕ → Setting
 setting_at s mail coins i = setting_of s.shape i mail (slice_index coins i)
 
--- no programs, memories zero, no mail
+-- no programs, memories zero, no messages
 abbrev pub new_node : Setup → Node
 new_node s = record { program = None; memory = replicate s.shape.memory 0; mark = false }
 

@@ -23,7 +23,7 @@ pub record IsRow (r : Row) : Type 0 where
   pub zeros : r.zeros ≤ MOST_COUNTED
   pub settled : r.settled ≤ MOST_COUNTED
 
--- the one of these clocks, 0 where there is none, CLOCKS_DIFFER where two differ
+-- the one of these clocks, 0 if there is none, CLOCKS_DIFFER if two differ
 abbrev pub common_of : List ℕ → ℕ
 common_of [] = 0
 common_of (c ∷ cs) = if list_all (λ d. d == c) cs then c else CLOCKS_DIFFER
@@ -49,13 +49,13 @@ pub record RanTo (s : Setup) (b : State) (coins : List ℕ) (i : ℕ) (end : End
   pub loaded : (node_at b.nodes i).program ≡ Some program
   pub run : CompleteRun program.program (setting_at s b.mail coins i) (node_at b.nodes i).memory end
 
--- the greatest number of instructions that a node runs, 0 where none is loaded
+-- the greatest number of instructions that a node runs, 0 if none is loaded
 pub record IsSteps (s : Setup) (b : State) (coins : List ℕ) (k : ℕ) : Type 0 where
   pub most : (i : ℕ) (end : End) → RanTo s b coins i end → end.steps ≤ k
   pub reached : ((i : ℕ) × (end : End) × RanTo s b coins i end × (end.steps ≡ k))
       ⊎ (((i : ℕ) → i < s.shape.nodes → IsNone (node_at b.nodes i).program) × (k ≡ 0))
 
--- how many instructions each node runs, 0 where none is loaded
+-- how many instructions each node runs, 0 if none is loaded
 pub record AreSteps (s : Setup) (b : State) (coins steps : List ℕ) : Type 0 where
   pub nodes : length steps ≡ s.shape.nodes
   pub ran : (i : ℕ) (end : End) → RanTo s b coins i end → slice_index steps i ≡ end.steps

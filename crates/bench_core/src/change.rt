@@ -15,7 +15,7 @@ pub enum Change {
 }
 
 impl Change {
-    /// An equal change.
+    /// Returns an equal change.
     pub fn copy(&self, alloc: Global) -> Result<Change, AllocError>
         ensures { IfOk result (λ c. change_of c ≡ change_of self.now) }
     {

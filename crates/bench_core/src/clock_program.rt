@@ -43,14 +43,14 @@ impl ClockProgram {
         &self.program
     }
 
-    /// Whether the other has the same instructions.
+    /// Returns whether the other has the same instructions.
     pub fn same(&self, other: &ClockProgram) -> bool
         ensures { IsTrue result ↔ (self.now ≡ other.now) }
     {
         self.program.same(&other.program)
     }
 
-    /// An equal clock.
+    /// Returns an equal clock.
     pub fn copy(&self, alloc: Global) -> Result<ClockProgram, AllocError>
         ensures { IfOk result (λ c. c ≡ self.now) }
     {

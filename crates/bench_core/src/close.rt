@@ -1,4 +1,4 @@
-//! What a closed pulse leaves of the nodes and their mail.
+//! What a closed pulse leaves of the nodes and their messages.
 ghost use Rattle.std.specs.Prelude.{◌≡◌, ◌<◌, ◌≤◌, ℕ, false, length};
 ghost use Rattle.bench_core.specs.State.{node_at};
 ghost use Rattle.bench_core.specs.inner.Found.{found_at, AreLeft, FitsNode};
@@ -26,8 +26,8 @@ impl NodeSlot {
     }
 }
 
-/// Leaves of each of so many nodes what its result has, and of their mail what they sent. A node of which nothing was
-/// found rests. `flags` tells whose programs are the clock program.
+/// Leaves of each of this many nodes what its result has, and of their messages what they sent. A node of which nothing
+/// was found rests. `flags` tells whose programs are the clock program.
 pub(crate) fn close_nodes(
     count: u32,
     nodes: &mut [NodeSlot],

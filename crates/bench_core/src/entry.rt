@@ -17,7 +17,7 @@ pub enum Entry {
 }
 
 impl Entry {
-    /// Whether the other is equal by all parts, a program by its instructions and shape.
+    /// Returns whether the other is equal by all parts, a program by its instructions and shape.
     pub fn is(&self, other: &Entry) -> bool
         ensures { IsTrue result ↔ (entry_of self.now ≡ entry_of other.now) }
     {
@@ -38,7 +38,7 @@ impl Entry {
         }
     }
 
-    /// Whether it is the actor's.
+    /// Returns whether it is the actor's.
     pub fn is_by(&self, actor: Actor) -> bool
         ensures { IsTrue result ↔ (made_by (entry_of self.now) ≡ actor) }
     {

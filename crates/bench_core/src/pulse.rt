@@ -16,7 +16,7 @@ use clock_nodes::ClockRule;
 use node_env::{Env, Mail, Shape};
 use std::alloc::{AllocError, Global};
 
-/// What an open pulse hands out: its nodes, mail and coins, and its number.
+/// What an open pulse hands out: its nodes, messages and coins, and its number.
 #[derive(Clone, Copy)]
 pub(crate) struct OpenPulse<'a> {
     pub(crate) shape: Shape,
@@ -83,7 +83,7 @@ fn any_staged(entries: &[Entry]) -> bool
     false
 }
 
-/// The nodes of a pulse after the staged changes of these entries, where there are any.
+/// The nodes of a pulse after the staged changes of these entries, if there are any.
 fn make_changed(
     alloc: Global,
     pulse: &OpenPulse,

@@ -21,7 +21,7 @@ pub struct PulseRecord {
     pub clocks: Vec<Option<u32>>,
     /// Which nodes ran it in the closed pulse before as well.
     pub settled: Vec<bool>,
-    /// The greatest number of instructions that a node ran, 0 where none is loaded.
+    /// The greatest number of instructions that a node ran, 0 if none is loaded.
     pub steps: u32,
     /// Whether any two settled clocks that are not 0 are equal, by their values: one past the modulus counts as 0.
     pub agree: bool,

@@ -6,7 +6,7 @@ use std::marker::Model;
 pub struct Row {
     /// How many pulses are closed, this one included.
     pub pulse: u32,
-    /// The one clock of settled nodes that is not 0: 0 where there is none, [`crate::CLOCKS_DIFFER`] where two differ.
+    /// The one clock of settled nodes that is not 0: 0 if there is none, [`crate::CLOCKS_DIFFER`] if two differ.
     pub common: u32,
     /// How many settled nodes have clock 0, or a clock past the modulus.
     pub zeros: u32,

@@ -93,7 +93,7 @@ impl NodeTask {
         self.run_in(&mut Room::new())
     }
 
-    /// As `run`, in room that is kept.
+    /// Does as `run`, in room that is kept.
     pub fn run_in(self, room: &mut Room) -> NodeDone
         ensures input { result.task ≡ self }
         ensures end { IsEnd result }
@@ -198,7 +198,7 @@ impl NodeDone {
         self.steps
     }
 
-    /// Its lists, where it is no longer wanted.
+    /// Its lists, if it is no longer wanted.
     pub(crate) fn into_lists(self, alloc: Global) -> TaskLists {
         let NodeDone {
             env,

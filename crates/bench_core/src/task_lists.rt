@@ -36,7 +36,7 @@ impl TaskLists {
         })
     }
 
-    /// Those of an earlier result that is no longer wanted, where there is one for so many nodes, else new ones.
+    /// Those of an earlier result that is no longer wanted, if there is one for this many nodes, otherwise new ones.
     pub(crate) fn of(
         alloc: Global,
         shape: Shape,

@@ -21,7 +21,7 @@ use std::sync::ledger::Ledger;
 use std::thread::Threads;
 
 /// Opens a pulse, runs its tasks on 1 to [`MOST_WORKERS`](crate::MOST_WORKERS) workers, closes it and posts its row.
-/// What is refused past the opening is abandoned once all workers have ended; where that is refused, it is told as a
+/// What is refused past the opening is abandoned once all workers have ended; if that is refused, it is told as a
 /// refused close, `NotOpen`.
 pub fn pulse<B: Ledger, C: Ledger, R: Threads + Wait + Sync, G: Gate + Sync>(
     rt: &R,

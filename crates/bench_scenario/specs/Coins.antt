@@ -15,7 +15,7 @@ seed_of key = to_le_bytes w64 key ++ replicate 24 0
 abbrev pub coin_at : ℕ → ℕ → ℕ
 coin_at key place = word_at 4 (key_of (seed_of key)) 0 place % 2
 
--- 0, 1 and so on, so many
+-- 0, 1 and so on, this many
 abbrev pub places_below : ℕ → List ℕ
 places_below zero = []
 places_below (suc n) = places_below n ++ n ∷ []

@@ -25,7 +25,7 @@ pub record InStepFrom (modulus : ℕ) (rs : List PulseTold) : Type 0 where
   pub on : (k : ℕ) (before after : PulseTold) → slice_get rs k ≡ Some before → slice_get rs (suc k) ≡ Some after
       → EachWentOn modulus before after
 
--- so many records stand before this pulse, counted from 1. Those from it on are in step, and from no earlier one
+-- this many records are before this pulse, counted from 1. Those from it on are in step, and from no earlier one
 pub record IsFirstInStep (modulus : ℕ) (rs : List PulseTold) (pulse : ℕ) : Type 0 where
   pub before : ℕ
   pub place : pulse ≡ before + 1

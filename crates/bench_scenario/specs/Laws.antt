@@ -21,12 +21,12 @@ AllCount modulus before after =
 abbrev pub NoneStays : PulseTold → PulseTold → Type 0
 NoneStays before after = (i c d : ℕ) → SettledWith before i c → SettledWith after i d → ⊥
 
--- where it is judged at all, another clock than the rule's agrees exactly where all settled clocks are one
+-- if it is judged at all, another clock than the rule's agrees exactly if all settled clocks are one
 abbrev pub OwnAgrees : Type 0
 OwnAgrees = (modulus : ℕ) (r : PulseTold) (verdict : Bool) → agreement true modulus r ≡ Some verdict
     → (IsTrue verdict ↔ AreOne modulus r)
 
--- a clock counts exactly where all nodes that are settled in both pulses went on by one, and none did where none stayed
+-- a clock counts exactly if all nodes that are settled in both pulses went on by one, and none did if none stayed
 abbrev pub Counts : Type 0
 Counts = (modulus : ℕ) (before after : PulseTold) (verdict : Bool)
     → counting modulus (settled_in before) (settled_in after) ≡ Some verdict

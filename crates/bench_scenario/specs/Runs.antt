@@ -47,14 +47,14 @@ IsMemoryOrThread refusals.HistoryFull = ⊥
 IsMemoryOrThread refusals.BadCoins = ⊥
 IsMemoryOrThread refusals.GateShut = ⊥
 
--- the run of the scenario that the text says stopped at that event, and only for want of memory or of a thread
+-- the run of the scenario that the text says stopped at that event, and only for lack of memory or of a thread
 pub record StopsAt (text : List ℕ) (event : ℕ) (refusal : RunRefusal) : Type 0 where
   pub scenario : Scenario
   pub reads : ReadsText text scenario
   pub fault : IsFault (bench_of scenario) (events_of scenario) event refusal
   pub want : IsMemoryOrThread refusal
 
--- where it was the run that stopped, it stopped for want of memory or of a thread
+-- if it was the run that stopped, it stopped for lack of memory or of a thread
 abbrev pub StopsForWant : ScenarioFault → Type 0
 StopsForWant faults.Read = Unit {0}
 StopsForWant (faults.Refused error) = Unit {0}
@@ -62,7 +62,7 @@ StopsForWant (faults.Run stop) = IsMemoryOrThread stop.fault
 StopsForWant (faults.Write written) = Unit {0}
 StopsForWant faults.Memory = Unit {0}
 
--- the whole report; its first bytes where a write failed, as many as the fault says; nothing at every other fault
+-- the whole report; its first bytes if a write failed, as many as the fault says; nothing at every other fault
 abbrev pub LeavesReport : Option (List ℕ) → Option (List ℕ) → List ℕ → Result (Unit {0}) ScenarioFault → Type 0
 LeavesReport old new text (Ok done) = (line : List ℕ) × Reports text line × Appends old new line
 LeavesReport old new text (Err (faults.Write written)) =

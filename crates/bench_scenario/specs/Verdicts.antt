@@ -5,7 +5,7 @@ use Rattle.bench_core.specs.Told.{PulseTold}
 use Rattle.bench_scenario.specs.declared.verdicts.TheConstants.{FEWEST}
 use Rattle.bench_scenario.specs.declared.verdicts.Judged.{Judged}
 
--- node by node: its clock, where the node is settled
+-- node by node: its clock, if the node is settled
 abbrev pub told_clocks : List Bool → List (Option ℕ) → List (Option ℕ)
 told_clocks [] clocks = []
 told_clocks (settled ∷ rest) [] = []
@@ -42,13 +42,13 @@ agreement own modulus r =
 abbrev pub counts_on : ℕ → ℕ → ℕ → Bool
 counts_on modulus before after = nat_lt before modulus && (after == (before + 1) % modulus)
 
--- whether a node counted, where it is settled in both pulses
+-- whether a node counted, if it is settled in both pulses
 abbrev pub step_of : ℕ → Option ℕ → Option ℕ → Option Bool
 step_of modulus (Some before) (Some after) = Some (counts_on modulus before after)
 step_of modulus (Some before) None = None
 step_of modulus None after = None
 
--- yes where no verdict is no; none where there is none
+-- yes if no verdict is no; none if there is none
 abbrev pub joined : Option Bool → Option Bool → Option Bool
 joined None other = other
 joined (Some one) None = Some one

@@ -8,7 +8,7 @@ use Rattle.bench_scenario.specs.declared.watched.WatchedFault.TheVariants as fau
 use Rattle.bench_scenario.specs.Events.{events_of}
 use Rattle.bench_scenario.specs.Runs.{IsMemoryOrThread, bench_of}
 
--- before anything was shown; at an event that is refused for want of memory or of a thread, with the pulses of those
+-- before anything was shown; at an event that is refused for lack of memory or of a thread, with the pulses of those
 -- before it shown; or at the pulse at which the watcher stopped it
 abbrev pub EndsAt : {K S : Type 0} → (T E : K → S → Seen → K → S → Type 0) → Scenario → K → S → K → S → WatchedFault
     → Type 0

@@ -75,7 +75,7 @@ fn replace_coins(coins: &mut [u32], entries: &[CoinEntry], pulse: u32)
     }
 }
 
-/// The coins of a pulse, by node, where the scenario has this key.
+/// The coins of a pulse, by node, if the scenario has this key.
 pub(crate) fn coins_of(
     alloc: Global,
     scenario: &Scenario,

@@ -22,7 +22,7 @@ fn went_on(modulus: u32, before: &PulseRecord, after: &PulseRecord) -> bool
     counting(modulus, before.clocks.as_slice(), after.clocks.as_slice()).unwrap_or(true)
 }
 
-/// Whether all have one clock in the first of these records, and went on from it to the second, where there is one.
+/// Whether all have one clock in the first of these records, and went on from it to the second, if there is one.
 fn begins_in_step(modulus: u32, records: &[PulseRecord]) -> bool
     ensures { IsTrue result ↔ Begins modulus records.now }
 {
@@ -52,7 +52,7 @@ fn stays_since(modulus: u32, records: &[PulseRecord]) -> Option<usize>
     since
 }
 
-/// The first pulse, counted from 1, from which to the last the records are in step.
+/// Returns the first pulse, counted from 1, from which to the last the records are in step.
 pub fn in_step_since(modulus: u32, records: &[PulseRecord]) -> Option<usize>
     ensures { IsInStepSince modulus records.now result }
 {

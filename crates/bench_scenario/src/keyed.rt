@@ -15,7 +15,7 @@ use std::alloc::{AllocError, Global};
 use std::sync::Wait;
 use std::thread::Threads;
 
-/// The run of a scenario that was read, with this key in place of its own, in the caller's thread.
+/// Runs a scenario that was read in the caller's thread, with this key in place of its own.
 pub fn run_with_key<T: Threads + Wait + Sync>(
     rt: &T,
     alloc: Global,
@@ -34,7 +34,7 @@ pub fn run_with_key<T: Threads + Wait + Sync>(
     }
 }
 
-/// A run in the caller's thread stops for want of memory alone.
+/// A run in the caller's thread stops for lack of memory alone.
 fn want_of(refusal: RunRefusal) -> AllocError
     requires { refusal ≡ Memory }
 {

@@ -2,7 +2,7 @@
 
 ghost use Rattle.bench_scenario.specs.Laws.{Counts, CountsNothing, OwnAgrees};
 
-/// What the verdicts of a report say of its records: docs/SCENARIOS.md, "Verdicts".
+/// States what the verdicts of a report say of its records (docs/SCENARIOS.md, "Verdicts").
 pub fn verdicts()
     ensures agree { OwnAgrees }
     ensures counts { Counts }

@@ -4,10 +4,10 @@ ghost use Rattle.bench_scenario.specs.inner.Paying.{announced_at, announced_by, 
 
 use scenario_text::{Load, Scenario};
 
-/// From so many steps a pulse on threads pay (benchmarks/README.md, "Workers").
+/// From this many steps on, threads pay in a pulse (benchmarks/README.md, "Workers").
 const PAYING_STEPS: u64 = 100_000;
 
-/// What a load's program announces in a node: nothing where it isn't loaded there.
+/// What a load's program announces in a node: nothing if it isn't loaded there.
 fn announced_of(load: &Load, node: u32) -> u32
     ensures { result ≡ announced_of load.now node }
 {
@@ -40,7 +40,7 @@ fn announced_by(scenario: &Scenario) -> u64
     sum
 }
 
-/// So many of the workers as pay.
+/// This many of the workers as pay.
 pub(crate) fn paying_workers(scenario: &Scenario, workers: u32) -> u32
     ensures { result ≡ paying_workers scenario.now workers }
 {

@@ -88,7 +88,7 @@ pub(crate) fn add_front(report: &mut String, pulse: u32) -> Result<(), AllocErro
     add(report, " clocks")
 }
 
-/// What stands behind them in the lines of all versions.
+/// What is after them in the lines of all versions.
 pub(crate) fn add_counts(report: &mut String, settled: u32, steps: u32) -> Result<(), AllocError>
     ensures { OnOk result (string_bytes report.new
         ≡ string_bytes report.old ++ (codes " settled " ++ (decimal settled ++ (codes " steps "
@@ -156,7 +156,7 @@ fn plain_report(
     Ok(text)
 }
 
-/// The report of a scenario's run: a line for the scenario, one for each closed pulse, and one for all.
+/// Returns the report of a scenario's run: a line for the scenario, one for each closed pulse, and one for all.
 pub fn report(alloc: Global, scenario: &Scenario, run: &Run) -> Result<String, AllocError>
     ensures { IfOk result (λ text. string_bytes text
         ≡ report_of (frame_of scenario.now) (is_some scenario.now.clock) run.now.records.items) }
@@ -183,7 +183,7 @@ fn all_records_agree(records: &[PulseRecord]) -> bool
     records.iter().all(|one| one.agree)
 }
 
-/// Whether no pulse's verdict on agreement is no.
+/// Returns whether no pulse's verdict on agreement is no.
 pub fn all_agree(alloc: Global, scenario: &Scenario, run: &Run) -> Result<bool, AllocError>
     ensures { IfOk result (λ agrees. agrees
         ≡ all_agree (frame_of scenario.now) (is_some scenario.now.clock) run.now.records.items) }

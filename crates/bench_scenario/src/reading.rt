@@ -19,8 +19,7 @@ pub enum TextFault {
     Memory,
 }
 
-/// The scenario that the text says which is read. At most [`MOST_BYTES`] bytes are read, by at most [`MOST_CALLS`]
-/// calls of `read`.
+/// Reads a scenario: at most [`MOST_BYTES`] bytes, by at most [`MOST_CALLS`] calls of `read`.
 pub fn read_scenario<R: Read>(alloc: Global, reader: &mut R) -> Result<Scenario, TextFault>
     ensures taken { TakesAtMost MOST_BYTES (R.remaining reader.old) (R.remaining reader.new) }
     ensures scenario { IfSome (R.remaining reader.old)
@@ -38,7 +37,7 @@ pub fn read_scenario<R: Read>(alloc: Global, reader: &mut R) -> Result<Scenario,
     }
 }
 
-/// What a refusal is to a reader: want of memory is none.
+/// What a refusal is to a reader: lack of memory is none.
 fn fault_of(error: ScenarioError) -> TextFault
     ensures { (text : List ℕ) → IsDueUnlessMemory text error → IsDueOfText text result }
 {

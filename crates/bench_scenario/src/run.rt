@@ -37,7 +37,7 @@ pub enum ScenarioFault {
     Refused(ScenarioError),
     #[error("the run stopped at event {}", .0.event)]
     Run(RunFault),
-    /// A call of `write` failed or took nothing, when so many bytes of the report were taken.
+    /// A call of `write` failed or took nothing, when this many bytes of the report were taken.
     #[error("writing failed after {written} bytes")]
     Write { written: u64 },
     #[error("out of memory")]
@@ -132,7 +132,7 @@ pub fn run_scenario<T: Threads + Wait + Sync, R: Read, W: Write>(
     }
 }
 
-/// As `run_scenario`. The answer is whether no pulse's verdict on agreement is no.
+/// Does as `run_scenario`, and returns true if no pulse's verdict on agreement is no.
 #[tactic(auto, using(crate::proofs::StreamLemmas::fault_left))]
 pub fn run_scenario_judged<T: Threads + Wait + Sync, R: Read, W: Write>(
     rt: &T,

@@ -124,15 +124,15 @@ fn add_events(
     Ok(())
 }
 
-/// What is done to the bench of a scenario, in order: for each pulse its loads, unloads and corruptions, and then
-/// the pulse.
+/// Returns what is done to the bench of a scenario, in order: for each pulse its loads, unloads and corruptions, and
+/// then the pulse.
 pub fn events(alloc: Global, scenario: &Scenario) -> Result<Vec<Event>, AllocError>
     ensures { IfOk result (λ es. map event_of es.items ≡ events_of scenario.now) }
 {
     events_with_key(alloc, scenario, scenario.key.unwrap_or(0))
 }
 
-/// The same where the scenario has this key.
+/// The same if the scenario has this key.
 pub(crate) fn events_with_key(
     alloc: Global,
     scenario: &Scenario,

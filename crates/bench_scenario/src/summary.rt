@@ -91,7 +91,7 @@ fn most_steps(records: &[PulseRecord]) -> u32
     most
 }
 
-/// What the run of a scenario comes to, of which these are the records.
+/// Returns what the run of a scenario results in, of which these are the records.
 pub fn summary_of(
     alloc: Global,
     scenario: &Scenario,

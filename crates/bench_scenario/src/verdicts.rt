@@ -10,21 +10,21 @@ use std::alloc::{AllocError, Global};
 /// The fewest settled nodes of which it is judged whether they agree.
 const FEWEST: u32 = 2;
 
-/// What is judged of a pulse: nothing where there are too few settled nodes.
+/// What is judged of a pulse: nothing if there are too few settled nodes.
 #[derive(Clone, Copy, Debug, PartialEq, Eq)]
 pub struct Judged {
     pub agree: Option<bool>,
     pub counts: Option<bool>,
 }
 
-/// The clock of a node, where it is settled.
+/// The clock of a node, if it is settled.
 fn told_clock(settled: bool, clock: Option<u32>) -> Option<u32>
     ensures { result ≡ (if settled then clock else None) }
 {
     if settled { clock } else { None }
 }
 
-/// Node by node its clock, where it is settled.
+/// Returns the clock of each node that is settled, node by node.
 pub fn told_clocks(
     alloc: Global,
     settled: &[bool],
@@ -76,8 +76,8 @@ pub(crate) fn are_one(modulus: u32, clocks: &[Option<u32>]) -> bool
     }
 }
 
-/// Whether the settled clocks of a pulse agree: nothing where fewer than two nodes are settled. Another clock than the
-/// rule's (`own`) is held to one value below the modulus; for the rule's, the pulse's record has the answer.
+/// Returns whether the settled clocks of a pulse agree: nothing if fewer than two nodes are settled. Another clock than
+/// the rule's (`own`) is held to one value below the modulus; for the rule's, the pulse's record has the answer.
 pub fn agreement(own: bool, modulus: u32, one: &PulseRecord, clocks: &[Option<u32>]) -> Option<bool>
     requires { clocks.now ≡ settled_in one.now }
     ensures { result ≡ agreement own modulus one.now }
@@ -117,7 +117,7 @@ fn joined(one: Option<bool>, other: Option<bool>) -> Option<bool>
     }
 }
 
-/// Whether the clocks of nodes that are settled in two pulses counted.
+/// Returns whether the clocks of nodes that are settled in two pulses counted.
 pub fn counting(modulus: u32, before: &[Option<u32>], after: &[Option<u32>]) -> Option<bool>
     ensures { result ≡ counting modulus before.now after.now }
 {

@@ -26,8 +26,8 @@ pub enum WatchedFault {
     Stopped(u32),
 }
 
-/// The run of a scenario that was read, before a watcher that is shown each closed pulse and may stop it, on as many
-/// of the workers as pay.
+/// Runs a scenario that was read, before a watcher that is shown each closed pulse and may stop it, on as many of the
+/// workers as pay.
 pub fn run_watched<T: Threads + Wait + Sync, S, K: Watcher<S>>(
     rt: &T,
     alloc: Global,

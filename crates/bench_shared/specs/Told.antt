@@ -1,4 +1,4 @@
--- What a close of a shared bench tells: no clause can name the bench behind the lock, but each can say that there is
+-- What a close of a shared bench tells: no clause can name the bench after the lock, but each can say that there is
 -- one.
 use Rattle.std.specs.Prelude.{◌≡◌, ℕ, ◌+◌, ◌-◌, ◌*◌, ◌<◌, not, IsTrue, List, Some, count_by, length, slice_get, All}
 use Rattle.bench_core.specs.Setup.{Setup, HasRuleClock}
@@ -23,6 +23,6 @@ pub record TellsClose (s : Setup) (coins : List ℕ) (told : PulseTold) : Type 0
   pub pulse : Pulse s before after
   pub tells : IsRecord s before after told
 
--- where the clock is the rule's, and enough nodes are settled, their clocks agree (docs/CLOCK.md)
+-- if the clock is the rule's, and enough nodes are settled, their clocks agree (docs/CLOCK.md)
 abbrev pub TellsAgreement : Setup → PulseTold → Type 0
 TellsAgreement s told = HasRuleClock s → 2 * s.faults + count_by not told.settled < s.shape.nodes → IsTrue told.agree

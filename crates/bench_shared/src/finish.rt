@@ -78,21 +78,21 @@ impl Finished {
         Finished { history }
     }
 
-    /// All that was done, in order.
+    /// Returns all that was done, in order.
     pub fn history(&self) -> &[Entry]
         ensures { map entry_of result.now ≡ self.now }
     {
         &self.history
     }
 
-    /// How many loads were staged.
+    /// Returns how many loads were staged.
     pub fn loads(&self) -> usize
         ensures { result ≡ count_by is_load self.now }
     {
         count_loads(&self.history)
     }
 
-    /// How many pulses were closed.
+    /// Returns how many pulses were closed.
     pub fn closes(&self) -> usize
         ensures { result ≡ count_by is_close self.now }
     {
@@ -155,7 +155,7 @@ fn loaders_are_for<B: Ledger, C: Ledger>(history: &[Entry], loaders: &[LoaderPas
     true
 }
 
-/// Whether so many receipts are all that the loaders have.
+/// Whether this many receipts are all that the loaders have.
 fn have<B: Ledger, C: Ledger>(loaders: &[LoaderPass<B, C>], count: usize) -> bool
     ensures { IsTrue result → sum_by (λ p. length p.receipts) loaders.now ≡ count }
 {

@@ -80,7 +80,7 @@ impl<B: Ledger, C: Ledger> Model for EnginePass<B, C> {
 }
 
 impl<B: Ledger, C: Ledger> LoaderPass<B, C> {
-    /// What it staged, in order.
+    /// Returns what it staged, in order.
     pub fn receipts(&self) -> &[Receipt]
         ensures { all_placed result.now ≡ self.now.receipts }
     {
@@ -89,7 +89,7 @@ impl<B: Ledger, C: Ledger> LoaderPass<B, C> {
 }
 
 impl<B: Ledger, C: Ledger> EnginePass<B, C> {
-    /// What it opened, closed and abandoned, in order.
+    /// Returns what it opened, closed and abandoned, in order.
     pub fn receipts(&self) -> &[Receipt]
         ensures receipts { all_placed result.now ≡ self.now.receipts }
         ensures rows { rows_in self.now.receipts ≡ self.now.posted ++ option_to_list self.now.owed }
@@ -98,7 +98,7 @@ impl<B: Ledger, C: Ledger> EnginePass<B, C> {
         &self.receipts
     }
 
-    /// The row of the last close until it is posted.
+    /// Returns the row of the last close until it is posted.
     pub fn owes(&self) -> Option<Row>
         ensures { result ≡ self.now.owed }
     {
@@ -121,7 +121,8 @@ impl Board {
         pass.owed = None;
     }
 
-    /// How many rows the engine posted after the last that the watcher saw. From then on the watcher has seen them all.
+    /// Returns how many rows the engine posted after the last that the watcher saw. From then on the watcher has seen
+    /// them all.
     pub fn meet<B: Ledger, C: Ledger>(
         &self,
         pass: &mut EnginePass<B, C>,

@@ -57,7 +57,7 @@ impl<B: Ledger, C: Ledger> Round<B, C> {
             && self.bench.clock_program().same(clock)
     }
 
-    /// Whether the change can be staged but for want of memory.
+    /// Whether the change can be staged but for lack of memory.
     pub(crate) fn has_room_for(&self, change: &Change) -> bool {
         self.bench.would_refuse(change).is_none()
     }

@@ -99,8 +99,8 @@ fn watch_passes(
 }
 
 impl<B: Ledger, C: Ledger> SharedBench<B, C> {
-    /// A bench without programs or entries, its board, and all of its passes. The blanks become the books of entries
-    /// and of closes; a refusal uses them up.
+    /// Returns a bench without programs or entries, its board, and all of its passes. The blanks become the books of
+    /// entries and of closes; a refusal uses them up.
     pub fn new(
         alloc: Global,
         entries: Blank,
@@ -137,7 +137,7 @@ impl<B: Ledger, C: Ledger> SharedBench<B, C> {
         )
     }
 
-    /// As `new`, where this program counts as the clock.
+    /// Does as `new`, and counts this program as the clock.
     pub fn with_clock(
         alloc: Global,
         entries: Blank,

@@ -15,7 +15,8 @@ stressed_setup = setup_of (record { nodes = NODES; memory = MEMORY })
 abbrev pub nearest : ℕ → ℕ
 nearest n = if nat_lt n 1 then 1 else (if nat_lt MOST_LOADERS n then MOST_LOADERS else n)
 
--- so many loaders have staged so many loads each, so many pulses were opened and closed, and there is nothing else
+-- this many loaders have staged this many loads each, this many pulses were opened and closed, and there is nothing
+-- else
 pub record HasEntries (loaders loads pulses : ℕ) (history : List Entry) : Type 0 where
   pub staged : count_by is_load history ≡ loaders * loads
   pub closed : count_by is_close history ≡ pulses

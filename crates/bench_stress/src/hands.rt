@@ -224,7 +224,7 @@ fn hands<B: Ledger + Send + Sync, C: Ledger + Send + Sync, R: Threads + Wait + S
     }
 }
 
-/// Lets loaders and an engine work on one bench at once, in threads of their own, and gives the bench's history where
+/// Lets loaders and an engine work on one bench at once, in threads of their own, and gives the bench's history if
 /// it is what their receipts say, and has the entries that the options ask for. A number of loaders or workers that is
 /// none is the nearest that is one.
 pub fn stress_bench<R: Threads + Wait + Sync>(

@@ -63,7 +63,7 @@ fn load_one<B: Ledger, C: Ledger, R: Wait>(
     }
 }
 
-/// Loads so many programs, from the node of the loader's own number on, and gives the pass back.
+/// Loads this many programs, from the node of the loader's own number on, and gives the pass back.
 fn load_all<B: Ledger, C: Ledger, R: Wait>(
     rt: &R,
     alloc: Global,

@@ -12,7 +12,7 @@ use Rattle.bench_workers.specs.Events.{Pulse as PulseEvent}
 use Rattle.bench_workers.specs.declared.event.RunRefusal.{RunRefusal}
 use Rattle.bench_workers.specs.declared.event.RunRefusal.TheVariants as refusals
 
--- from this state, with so many entries so far, the events give these records and lead to that state
+-- from this state, with this many entries so far, the events give these records and lead to that state
 abbrev pub Goes : Setup → State → ℕ → List Event → List PulseTold → State → Type 0
 Goes s b n [] rs b' = (rs ≡ []) × (b' ≡ b)
 Goes s b n (Stage c ∷ es) rs b' = IsChange s.shape c × (n < MOST_ENTRIES) × Goes s (staged_state b c) (n + 1) es rs b'
@@ -34,7 +34,7 @@ entries_after [] = 0
 entries_after (Stage c ∷ es) = 1 + entries_after es
 entries_after (PulseEvent coins ∷ es) = 2 + entries_after es
 
--- what the refusal says of the event, after so many entries
+-- what the refusal says of the event, after this many entries
 abbrev pub IsRefusalOf : Setup → ℕ → Event → RunRefusal → Type 0
 IsRefusalOf s n (Stage c) refusals.BadNode = IsMisfit s.shape c stage.BadNode
 IsRefusalOf s n (Stage c) refusals.OtherShape = IsMisfit s.shape c stage.OtherShape
@@ -57,7 +57,7 @@ pub record IsFirstRefused (s : Setup) (es : List Event) (k : ℕ) (refusal : Run
   pub here : slice_get es k ≡ Some event
   pub refused : IsRefusalOf s (entries_after (take k es)) event refusal
 
--- want of memory: the events before this place give some run, and the event there, where there is one, isn't refused
+-- lack of memory: the events before this place give some run, and the event there, if there is one, isn't refused
 -- for another reason
 pub record IsShort (s : Setup) (es : List Event) (k : ℕ) : Type 0 where
   pub records : List PulseTold
@@ -67,7 +67,7 @@ pub record IsShort (s : Setup) (es : List Event) (k : ℕ) : Type 0 where
   pub only : (event : Event) → slice_get es k ≡ Some event
       → IsRefusalOf s (entries_after (take k es)) event refusals.Memory
 
--- the fault names the first event that is refused, and why; want of memory may come at an event or after the last
+-- the fault names the first event that is refused, and why; lack of memory may come at an event or after the last
 abbrev pub IsFault : Setup → List Event → ℕ → RunRefusal → Type 0
 IsFault s es k refusals.Memory = IsShort s es k
 IsFault s es k refusals.BadNode = IsFirstRefused s es k refusals.BadNode

@@ -38,7 +38,7 @@ pub record IsSeen (s : Setup) (b : State) (earlier : Option PulseTold) (x : Seen
   pub last : x.earlier ≡ earlier
   pub steps : AreSteps s b x.coins x.steps
 
--- from this state, with so many entries and this last record so far, the events show these pulses and lead to that
+-- from this state, with this many entries and this last record so far, the events show these pulses and lead to that
 -- state
 abbrev pub Shows : Setup → State → ℕ → Option PulseTold → List Event → List Seen → State → Type 0
 Shows s b n earlier [] xs b' = (xs ≡ []) × (b' ≡ b)

@@ -124,7 +124,7 @@ pub(crate) fn memories_of(
     Ok(memories)
 }
 
-/// Why the event would be refused as the first of a new bench: want of memory, if for nothing else.
+/// Why the event would be refused as the first of a new bench: lack of memory, if for nothing else.
 fn refusal_of(shape: Shape, _rule: ClockRule, event: &Event) -> RunRefusal
     ensures refused { IsRefusalOf (setup_of shape _rule) 0 (event_of event.now) result }
     ensures open { result ≢ GateShut }
@@ -149,7 +149,7 @@ fn refusal_of(shape: Shape, _rule: ClockRule, event: &Event) -> RunRefusal
     }
 }
 
-/// What is told where there is no memory for a new bench.
+/// What is told if there is no memory for a new bench.
 fn first_refusal(shape: Shape, rule: ClockRule, events: &[Event]) -> RunRefusal
     ensures fault { IsFault (setup_of shape rule) (map event_of events.now) 0 result }
     ensures open { result ≢ GateShut }
@@ -161,8 +161,8 @@ fn first_refusal(shape: Shape, rule: ClockRule, events: &[Event]) -> RunRefusal
     }
 }
 
-/// The run of the events on a new bench, whose pulses are run by 1 to [`MOST_WORKERS`] workers. The fault of an event
-/// that can't be done has its place, from 0 on; want of memory after the last has their number. The run is the same for
+/// Runs the events on a new bench, whose pulses are run by 1 to [`MOST_WORKERS`] workers. The fault of an event that
+/// can't be done has its place, from 0 on; lack of memory after the last has their number. The run is the same for
 /// every number of workers (docs/SCENARIOS.md, "Runs").
 pub fn run_events<R: Threads + Wait + Sync, G: Gate + Sync>(
     rt: &R,
@@ -200,7 +200,7 @@ fn of_run(fault: WatchFault) -> RunFault
     }
 }
 
-/// As `run_events`, on a new bench that is handed in: one with a clock of its own, say.
+/// Does as `run_events`, on a new bench that is handed in: one with a clock of its own, for example.
 pub fn run_events_on<R: Threads + Wait + Sync, G: Gate + Sync>(
     rt: &R,
     alloc: Global,

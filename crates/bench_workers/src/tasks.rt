@@ -19,7 +19,7 @@ use std::thread::{Scope, Threads};
 /// The most workers of a pulse.
 pub const MOST_WORKERS: u32 = 8;
 
-/// Runs each task once, by so many workers, each of which enters the gate once before its first task. One worker is
+/// Runs each task once, by this many workers, each of which enters the gate once before its first task. One worker is
 /// the caller's thread; for more, that many threads are started, and all are joined before this answers.
 pub fn run_tasks<R: Threads + Wait + Sync, G: Gate + Sync>(
     rt: &R,

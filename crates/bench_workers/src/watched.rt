@@ -41,7 +41,7 @@ impl Halt {
     }
 }
 
-/// Puts a record where there is room.
+/// Puts a record if there is room.
 fn keep(records: &mut Vec<PulseRecord>, told: PulseRecord)
     requires { vec_len records.old < vec_capacity records.old }
     ensures { records.new.items ≡ records.old.items ++ told ∷ [] }
@@ -136,7 +136,7 @@ fn apply<R: Threads + Wait + Sync, G: Gate + Sync, S, K: Watcher<S>>(
     }
 }
 
-/// As `run_events_on`, before a watcher that is shown each closed pulse, and may stop the run.
+/// Does as `run_events_on`, before a watcher that is shown each closed pulse, and may stop the run.
 pub fn run_events_watched<R: Threads + Wait + Sync, G: Gate + Sync, S, K: Watcher<S>>(
     rt: &R,
     alloc: Global,

@@ -72,13 +72,13 @@ operand_texts (insns.LoadImm64 dst value) = register_word dst ∷ decimal value 
 
 -- ---- lines
 
--- the further operands, each behind a comma and a blank
+-- the further operands, each after a comma and a blank
 abbrev pub after_commas : List (List ℕ) → List ℕ
 after_commas [] = []
 after_commas (operand ∷ []) = codes ", " ++ operand
 after_commas (operand ∷ rest) = codes ", " ++ (operand ++ after_commas rest)
 
--- the operands behind the blank that follows the word
+-- the operands after the blank that follows the word
 abbrev pub after_word : List (List ℕ) → List ℕ
 after_word [] = []
 after_word (operand ∷ []) = codes " " ++ operand

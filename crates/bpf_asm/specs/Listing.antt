@@ -30,7 +30,7 @@ listed_from number slot [] = []
 listed_from number slot (text ∷ texts) =
     listed number slot text ∷ listed_from (number + 1) (slot + slots_in (line_of text).source) texts
 
--- behind the last LF there is a line where there is text
+-- after the last LF there is a line if there is text
 abbrev pub without_empty_end : List (List ℕ) → List (List ℕ)
 without_empty_end [] = []
 without_empty_end ([] ∷ []) = []
@@ -56,14 +56,14 @@ beginnings_from slot (insn ∷ insns) = slot ∷ beginnings_from (slot + slots_t
 
 -- ---- columns
 
--- with blanks in front, and with blanks behind, so that it has at least so many bytes
+-- with blanks in front, and with blanks after, so that it has at least this many bytes
 abbrev pub on_right : ℕ → List ℕ → List ℕ
 on_right width text = replicate (width - length text) 32 ++ text
 
 abbrev pub on_left : ℕ → List ℕ → List ℕ
 on_left width text = text ++ replicate (width - length text) 32
 
--- the bytes of so many slots of an image
+-- the bytes of this many slots of an image
 abbrev pub bytes_at : List ℕ → ℕ → ℕ → List ℕ
 bytes_at image slot slots = take (8 * slots) (drop (8 * slot) image)
 
@@ -72,7 +72,7 @@ abbrev pub slot_columns : ℕ → List ℕ → List ℕ
 slot_columns slot bytes =
     on_right SLOT_WIDTH (decimal slot) ++ (codes " " ++ on_left BYTES_WIDTH (encode_lower bytes))
 
--- the same of a line whose instruction takes so many slots; blanks, where it has none
+-- the same of a line whose instruction takes this many slots; blanks, if it has none
 abbrev pub columns_by : ℕ → ℕ → List ℕ → List ℕ
 columns_by slot slots bytes =
     if slots == 0 then replicate (SLOT_WIDTH + 1 + BYTES_WIDTH) 32 else slot_columns slot bytes

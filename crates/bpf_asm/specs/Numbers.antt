@@ -19,7 +19,7 @@ abbrev pub magnitude_of : List ℕ → Option ℕ
 magnitude_of (c ∷ d ∷ digits) = if (c == 48) && (d == 120) then numeral_of 16 digits else numeral_of 10 (c ∷ d ∷ digits)
 magnitude_of text = numeral_of 10 text
 
--- a number as it is written: whether "-" stands before it, and what stands behind that
+-- a number as it is written: whether "-" is before it, and what is after that
 pub record Written : Type 0 where
   pub below_zero : Bool
   pub size : ℕ
@@ -33,7 +33,7 @@ number_of [] = None
 number_of (c ∷ cs) =
     if c == 45 then option_map (written true) (magnitude_of cs) else option_map (written false) (magnitude_of (c ∷ cs))
 
--- the number that stands behind its sign, "+" (43) or "-"
+-- the number that is after its sign, "+" (43) or "-"
 abbrev pub signed_number_of : (List ℕ → Option ℕ) → List ℕ → Option Written
 signed_number_of magnitude [] = None
 signed_number_of magnitude (c ∷ cs) =

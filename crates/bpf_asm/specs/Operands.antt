@@ -15,7 +15,7 @@ use Rattle.bpf_asm.specs.Numbers.{numeral_of, magnitude_of, number_of, signed_nu
 use Rattle.bpf_asm.specs.Pieces.{pieces_of, trimmed, begins_name, is_word_letter, front_of, rest_of}
 use Rattle.bpf_asm.specs.Words.{register_by_word}
 
--- a value made of two, where both are there
+-- a value made of two, if both are there
 abbrev pub option_both : {A B : Type 0} → Option A → Option B → Option (A × B)
 option_both (Some a) (Some b) = Some (a, b)
 option_both _ _ = None
@@ -25,7 +25,7 @@ option_both _ _ = None
 abbrev pub immediate_of : List ℕ → Option ℤ
 immediate_of text = option_and_then (in_field GREATEST_IMMEDIATE) (number_of text)
 
--- a register or else an immediate
+-- a register or otherwise an immediate
 abbrev pub operand_by : Option registers.Reg → List ℕ → Option Operand
 operand_by (Some register) text = Some (Reg register)
 operand_by None text = option_map Imm (immediate_of text)
@@ -33,7 +33,7 @@ operand_by None text = option_map Imm (immediate_of text)
 abbrev pub operand_of : List ℕ → Option Operand
 operand_of text = operand_by (register_by_word text) text
 
--- what a call names: a helper by its word, or else by an immediate
+-- what a call names: a helper by its word, or otherwise by an immediate
 abbrev pub id_by : Option Helper → List ℕ → Option ℤ
 id_by (Some helper) text = Some (helper_number helper)
 id_by None text = immediate_of text
@@ -44,7 +44,7 @@ callee_of text = id_by (helper_by_word text) text
 abbrev pub wide_number_of : List ℕ → Option ℕ
 wide_number_of text = option_and_then wide_of (number_of text)
 
--- the bytes from the base of an address: 0 where nothing is written
+-- the bytes from the base of an address: 0 if nothing is written
 abbrev pub offset_of : List ℕ → Option ℤ
 offset_of [] = Some (pos 0)
 offset_of (c ∷ cs) = option_and_then (in_field GREATEST_OFFSET) (signed_number_of magnitude_of (c ∷ cs))
@@ -52,7 +52,7 @@ offset_of (c ∷ cs) = option_and_then (in_field GREATEST_OFFSET) (signed_number
 abbrev pub address_by : registers.Reg × ℤ → Address
 address_by parts = record { base = parts.0; off = parts.1 }
 
--- what stands between "[" (91) and "]" (93): a register and its offset, with no blank
+-- what is between "[" (91) and "]" (93): a register and its offset, with no blank
 abbrev pub address_inside : List ℕ → Option Address
 address_inside inside =
     option_map address_by
@@ -74,12 +74,12 @@ starts_name (c ∷ cs) = begins_name c
 abbrev pub is_name : List ℕ → Bool
 is_name text = starts_name text && (list_all is_word_letter text && nat_le (length text) NAME_LETTERS)
 
--- where a jump goes: so many slots on from the next one, or to a label
+-- where a jump goes: this many slots on from the next one, or to a label
 pub data Target : Type 0 where
   distance : ℤ → Target
   label : List ℕ → Target
 
--- a sign and a decimal number, where a field of this greatest number holds it, or a label
+-- a sign and a decimal number, if a field of this greatest number holds it, or a label
 abbrev pub target_of : ℕ → List ℕ → Option Target
 target_of most [] = None
 target_of most (c ∷ cs) =

@@ -43,12 +43,12 @@ abbrev pub front_of : (ℕ → Bool) → List ℕ → List ℕ
 front_of passes [] = []
 front_of passes (c ∷ cs) = if passes c then c ∷ front_of passes cs else []
 
--- what comes behind it
+-- what comes after it
 abbrev pub rest_of : (ℕ → Bool) → List ℕ → List ℕ
 rest_of passes [] = []
 rest_of passes (c ∷ cs) = if passes c then rest_of passes cs else c ∷ cs
 
--- a byte before others; a blank with nothing behind it goes
+-- a byte before others; a blank with nothing after it goes
 abbrev pub before_more : ℕ → List ℕ → List ℕ
 before_more c [] = if is_blank c then [] else c ∷ []
 before_more c (d ∷ ds) = c ∷ d ∷ ds

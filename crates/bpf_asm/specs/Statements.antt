@@ -79,12 +79,12 @@ source_by LoadImm64 operands =
 
 -- ---- lines
 
--- behind a word stands a blank, the end, or the "[" (91) of its first operand
+-- after a word is a blank, the end, or the "[" (91) of its first operand
 abbrev pub ends_word : List ℕ → Bool
 ends_word [] = true
 ends_word (c ∷ cs) = is_blank c || (c == 91)
 
--- the instruction of a word and of what stands behind it; where neither is there, none is written
+-- the instruction of a word and of what is after it; where neither is there, none is written
 abbrev pub source_behind : List ℕ → List ℕ → Option (Option Source)
 source_behind [] [] = Some None
 source_behind [] (c ∷ cs) = None
@@ -96,7 +96,7 @@ abbrev pub source_of : List ℕ → Option (Option Source)
 source_of text =
     let front = rest_of is_blank text in source_behind (front_of is_word_letter front) (rest_of is_word_letter front)
 
--- a label, and what stands behind its colon
+-- a label, and what is after its colon
 abbrev pub named : List ℕ → List ℕ → Line
 named name rest =
     if is_name name then record { name = Some name; source = source_of rest } else record { name = None; source = None }

@@ -157,7 +157,7 @@ fn insns_of(alloc: Global, text: &[u8]) -> Result<Vec<Insn>, TextError>
     }
 }
 
-/// The program that a text means, or why it means none.
+/// Assembles a text: returns the program that it means, or why it means none.
 pub fn assemble(alloc: Global, text: &[u8]) -> Result<Program, TextError>
     ensures program { IfOk result (Means text.now) }
     ensures only_program { (p : List Insn) → Means text.now p →

@@ -96,7 +96,7 @@ pub const FORMS: [Form; 86] = [
     Form::LoadImm64,
 ];
 
-/// The form that a word names.
+/// Returns the form that a word names.
 pub fn form_of(word: &[u8]) -> Option<Form>
     ensures { result ≡ form_of word.now }
 {

@@ -13,7 +13,7 @@ use bpf_insn::MAX_SLOTS;
 use std::alloc::{AllocError, Global};
 use std::collections::BTreeMap;
 
-/// The slots of the labels, [`MAX_SLOTS`] for all that are further on, and the line of the first label that stands
+/// The slots of the labels, [`MAX_SLOTS`] for all that are further on, and the line of the first label that is
 /// a second time.
 #[derive(Drop)]
 pub struct Labels<'a> {
@@ -21,7 +21,7 @@ pub struct Labels<'a> {
     pub twice: Option<usize>,
 }
 
-/// What the first line says, and the text behind its end.
+/// Returns what the first line says, and the text after its end.
 pub fn next_line(text: &[u8]) -> (Line<'_>, Option<&[u8]>)
     ensures lines { lines_in text.now ≡ line_in result.0 ∷ lines_left result.1 }
     ensures shorter { IfSome result.1 (λ rest. length rest.now < length text.now) }
@@ -40,7 +40,7 @@ pub(crate) fn slots_in(source: Result<Option<Source<'_>>, Fault>) -> usize
     }
 }
 
-/// The slot behind these slots, as labels count.
+/// The slot after these slots, as labels count.
 fn next_slot(slot: usize, slots: usize) -> usize
     requires at { slot ≤ MAX_SLOTS }
     requires few { slots ≤ 2 }
@@ -84,7 +84,7 @@ fn add_name<'a>(
     }
 }
 
-/// The labels of a text.
+/// Reads the labels of a text.
 pub fn read_labels(alloc: Global, text: &[u8]) -> Result<Labels<'_>, AllocError>
     ensures { IfOk result (λ labels. HasPlaces labels (near_places 0 (lines_in text.now))) }
 {
@@ -110,7 +110,7 @@ impl Labels<'_> {
     ghost use Rattle.bpf_insn.specs.declared.listing.TheConstants.{MAX_SLOTS};
     ghost use Rattle.bpf_asm.specs.inner.Meaning.{known, Near};
 
-    /// The slot of a label.
+    /// Returns the slot of a label.
     pub fn slot_of(&self, name: &[u8]) -> Option<usize>
         requires near { Near (known self.now) }
         ensures slot { result ≡ known self.now name.now }

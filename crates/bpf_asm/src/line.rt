@@ -59,7 +59,7 @@ impl fmt::Display for AddressText {
     }
 }
 
-/// What a call names: a helper by its word, or by its number where it has none.
+/// What a call names: a helper by its word, or by its number if it has none.
 #[derive(Clone, Copy)]
 struct CalleeText(i32);
 

@@ -39,7 +39,7 @@ fn push_right(row: &mut Vec<u8>, width: usize, text: &[u8]) -> Result<(), AllocE
     row.extend_from_slice(text)
 }
 
-/// Adds a text with blanks behind it.
+/// Adds a text with blanks after it.
 fn push_left(row: &mut Vec<u8>, width: usize, text: &[u8]) -> Result<(), AllocError>
     ensures { OnOk result (row.new.items ≡ row.old.items ++ on_left width text.now) }
 {
@@ -70,7 +70,7 @@ fn push_columns(
     push_left(row, BYTES_WIDTH, digits.as_bytes())
 }
 
-/// The first bytes of an image, those of so many slots, and the bytes behind them.
+/// The first bytes of an image, those of this many slots, and the bytes after them.
 fn split_image(image: &[u8], slots: usize) -> (&[u8], &[u8])
     requires { slots ≤ 2 }
     ensures own { result.0.now ≡ take (8 * slots) image.now }
@@ -88,7 +88,7 @@ pub(crate) struct ListedLine<'a> {
     text: &'a [u8],
 }
 
-/// Adds the columns of a line's instruction, or blanks where it has none.
+/// Adds the columns of a line's instruction, or blanks if it has none.
 fn push_line_columns(
     alloc: Global,
     row: &mut Vec<u8>,
@@ -122,7 +122,7 @@ fn push_row(
     listing.extend_from_slice(b"\n")
 }
 
-/// The bytes behind a line.
+/// The bytes after a line.
 fn left_of(behind: Option<&[u8]>) -> &[u8]
     ensures { result.now ≡ left_of behind.entry }
 {
@@ -132,8 +132,8 @@ fn left_of(behind: Option<&[u8]>) -> &[u8]
     }
 }
 
-/// The listing of a text that means the program of this image: a row for each line (docs/ASSEMBLER.md, "Listings").
-/// Fails only for want of memory.
+/// Returns the listing of a text that means the program of this image: a row for each line (docs/ASSEMBLER.md,
+/// "Listings"). Fails only if memory runs out.
 pub fn list_text(alloc: Global, text: &[u8], image: &[u8]) -> Result<Vec<u8>, AllocError>
     ensures { IfOk result (λ listing. listing.items ≡ text_listing text.now image.now) }
 {
@@ -161,7 +161,7 @@ pub fn list_text(alloc: Global, text: &[u8], image: &[u8]) -> Result<Vec<u8>, Al
     Ok(listing)
 }
 
-/// Adds the number of a line whose instruction takes so many slots, none where it has none.
+/// Adds the number of a line whose instruction takes this many slots, none if it has none.
 fn add_number(lines: &mut Vec<usize>, number: usize, slots: usize) -> Result<(), AllocError>
     ensures { OnOk result (lines.new.items ≡ lines.old.items ++ number_by number slots) }
 {
@@ -171,7 +171,7 @@ fn add_number(lines: &mut Vec<usize>, number: usize, slots: usize) -> Result<(),
     Ok(())
 }
 
-/// Of each instruction of a text in order the number of its line, from 1 on. Fails only for want of memory.
+/// Returns for each instruction of a text in order the number of its line, from 1 on. Fails only if memory runs out.
 pub fn instruction_lines(alloc: Global, text: &[u8]) -> Result<Vec<usize>, AllocError>
     ensures { IfOk result (λ lines. lines.items ≡ instruction_lines text.now) }
 {
@@ -207,7 +207,7 @@ fn push_insn_row(
     listing.extend_from_slice(line.as_bytes())
 }
 
-/// The bytes of so many slots.
+/// The bytes of this many slots.
 fn bytes_at(image: &[u8], slot: usize, slots: usize) -> &[u8]
     requires at { slot ≤ MAX_SLOTS }
     requires few { slots ≤ 2 }
@@ -218,7 +218,8 @@ fn bytes_at(image: &[u8], slot: usize, slots: usize) -> &[u8]
     bytes
 }
 
-/// The listing of a program: a row for each instruction (docs/ASSEMBLER.md, "Listings"). Fails only for want of memory.
+/// Returns the listing of a program: a row for each instruction (docs/ASSEMBLER.md, "Listings"). Fails only if memory
+/// runs out.
 pub fn list_program(alloc: Global, program: &Program) -> Result<Vec<u8>, AllocError>
     ensures { IfOk result (λ listing. listing.items ≡ program_listing program.now) }
 {

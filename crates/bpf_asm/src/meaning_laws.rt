@@ -12,17 +12,17 @@ use crate::text_error::TextError;
 use bpf_insn::Program;
 use std::alloc::Global;
 
-/// A text means at most one program.
+/// States that a text means at most one program.
 pub fn one_meaning()
     ensures { (text : List ℕ) (p q : List Insn) → Means text p → Means text q → p ≡ q }
 {}
 
-/// The canonical text of a program means that program.
+/// States that the canonical text of a program means that program.
 pub fn canonical_text_means_its_program()
     ensures { (p : List Insn) → IsProgram p → Means (canonical_text p) p }
 {}
 
-/// Disassembles a program, and assembles its text: that gives the program back. Fails only for want of memory.
+/// Disassembles a program, and assembles its text: that gives the program back. Fails only for lack of memory.
 pub fn text_round_trip(alloc: Global, program: &Program) -> Result<Program, TextError>
     ensures { MatchResult result (λ p. p ≡ program.now) (λ e. e ≡ TextError.Memory) }
 {

@@ -25,7 +25,7 @@ pub struct Number {
     pub magnitude: Magnitude,
 }
 
-/// The number that digits write.
+/// Returns the number that digits write.
 pub fn numeral(digits: &[u8], radix: u32) -> Option<Magnitude>
     requires least { 2 ≤ radix }
     requires most { radix ≤ 16 }
@@ -45,7 +45,7 @@ pub fn numeral(digits: &[u8], radix: u32) -> Option<Magnitude>
     }
 }
 
-/// A total with one more digit behind it, as long as it fits.
+/// A total with one more digit after it, as long as it fits.
 fn next_total(total: Option<u64>, radix: u32, digit: u32) -> Option<u64>
     ensures { MatchOption result
         (MatchOption total (⊤) (λ t. 2 ^ 64 ≤ t * radix + digit))
@@ -75,7 +75,7 @@ fn with_sign(below_zero: bool, magnitude: Option<Magnitude>) -> Option<Number>
     })
 }
 
-/// The number that a text writes, with `-` before it where it is below zero.
+/// Returns the number that a text writes, with `-` before it if it is below zero.
 pub fn whole_number(text: &[u8]) -> Option<Number>
     ensures { CountsSigned (number_of text.now) result }
 {
@@ -85,7 +85,7 @@ pub fn whole_number(text: &[u8]) -> Option<Number>
     }
 }
 
-/// The number that a text writes behind a sign.
+/// Returns the number that a text writes after a sign.
 pub fn signed_number(text: &[u8]) -> Option<Number>
     ensures { CountsSigned (signed_number_of magnitude_of text.now) result }
 {
@@ -96,7 +96,7 @@ pub fn signed_number(text: &[u8]) -> Option<Number>
     }
 }
 
-/// The number that a text writes in decimal digits behind a sign.
+/// Returns the number that a text writes in decimal digits after a sign.
 pub fn signed_decimal(text: &[u8]) -> Option<Number>
     ensures { CountsSigned (signed_number_of (numeral_of 10) text.now) result }
 {
@@ -112,7 +112,7 @@ impl Number {
     ghost use Rattle.bpf_asm.specs.Numbers.{in_field, wide_of, Written};
     ghost use Rattle.bpf_asm.specs.inner.Numbers.{CountsSigned};
 
-    /// The number, where a signed field holds it whose greatest number is `most`.
+    /// Returns the number, where a signed field holds it whose greatest number is `most`.
     pub fn in_field(self, most: u32) -> Option<i64>
         ensures value { (w : Written) → CountsSigned (Some w) (Some self) → result ≡ in_field most w }
         ensures least { IfSome result (λ z. neg_ℤ (pos (most + 1)) ≤ℤ z) }
@@ -134,7 +134,7 @@ impl Number {
         }
     }
 
-    /// The number as 64 bits, those below zero modulo 2^64.
+    /// Returns the number as 64 bits, those below zero modulo 2^64.
     pub fn wide(self) -> Option<u64>
         ensures { (w : Written) → CountsSigned (Some w) (Some self) → result ≡ wide_of w }
     {

@@ -43,7 +43,7 @@ pub struct Address {
     pub off: i16,
 }
 
-/// Where a jump goes: so many slots on from the next one, or to a label.
+/// Where a jump goes: this many slots on from the next one, or to a label.
 #[derive(Clone, Copy, Debug)]
 pub enum Target<'a> {
     Distance(i32),
@@ -75,14 +75,14 @@ fn field_of(number: Option<Number>, most: u32) -> Result<i64, Fault>
     }
 }
 
-/// A register by its word.
+/// Reads a register by its word.
 pub fn read_register(text: &[u8]) -> Result<Reg, Fault>
     ensures { Reads (register_by_word text.now) result }
 {
     register_by_word(text).ok_or(Fault::BadOperand)
 }
 
-/// A number that an immediate holds.
+/// Reads a number that an immediate holds.
 pub fn read_immediate(text: &[u8]) -> Result<i32, Fault>
     ensures { Reads (immediate_of text.now) result }
 {
@@ -90,7 +90,7 @@ pub fn read_immediate(text: &[u8]) -> Result<i32, Fault>
     Ok(value as i32)
 }
 
-/// A register or an immediate.
+/// Reads a register or an immediate.
 pub fn read_operand(text: &[u8]) -> Result<Operand, Fault>
     ensures { Reads (operand_of text.now) result }
 {
@@ -100,7 +100,7 @@ pub fn read_operand(text: &[u8]) -> Result<Operand, Fault>
     }
 }
 
-/// A helper's number: its word or a number.
+/// Reads a helper's number: its word or a number.
 pub fn read_helper(text: &[u8]) -> Result<i32, Fault>
     ensures { Reads (callee_of text.now) result }
 {
@@ -124,7 +124,7 @@ fn wide_of(number: Option<Number>) -> Result<u64, Fault>
     }
 }
 
-/// A number of 64 bits, below zero modulo 2^64.
+/// Reads a number of 64 bits; one below zero is taken modulo 2^64.
 pub fn read_wide_number(text: &[u8]) -> Result<u64, Fault>
     ensures { Reads (wide_number_of text.now) result }
 {
@@ -151,7 +151,7 @@ fn read_address_inside(inside: &[u8]) -> Result<Address, Fault>
     Ok(Address { base, off })
 }
 
-/// What stands behind `[`, as far as the `]` at the end.
+/// What is after `[`, as far as the `]` at the end.
 #[tactic(auto, using(crate::proofs::OperandLemmas::address_closed, crate::proofs::OperandLemmas::address_open))]
 fn read_address_behind(text: &[u8]) -> Result<Address, Fault>
     ensures { Reads (address_between (pieces_of (λ d. d == 93) text.now)) result }
@@ -168,7 +168,7 @@ fn read_address_behind(text: &[u8]) -> Result<Address, Fault>
     }
 }
 
-/// An address in brackets.
+/// Reads an address in brackets.
 pub fn read_address(text: &[u8]) -> Result<Address, Fault>
     ensures { Reads (address_of text.now) result }
 {
@@ -193,14 +193,14 @@ fn are_word_letters(text: &[u8]) -> bool
     text.iter().all(|byte| Letters::Word.has(*byte))
 }
 
-/// Whether a text is a label: a letter or `_`, then letters, digits and `_`, at most 32 in all.
+/// Returns whether a text is a label: a letter or `_`, then letters, digits and `_`, at most 32 in all.
 pub fn is_name(text: &[u8]) -> bool
     ensures { result ≡ is_name text.now }
 {
     starts_name(text) && are_word_letters(text) && text.len() <= NAME_LETTERS
 }
 
-/// A distance that a field of this greatest number holds, or a label.
+/// Reads a distance that a field of this greatest number holds, or a label.
 pub fn read_target(text: &[u8], most: u32) -> Result<Target<'_>, Fault>
     requires { most ≤ GREATEST_IMMEDIATE }
     ensures target { ReadsTarget (target_of most text.now) result }
@@ -221,7 +221,7 @@ pub fn read_target(text: &[u8], most: u32) -> Result<Target<'_>, Fault>
     }
 }
 
-/// The operands behind two.
+/// The operands after two.
 #[tactic(auto, using(crate::proofs::OperandLemmas::third_part))]
 fn parts_behind_two<'a>(a: &'a [u8], b: &'a [u8], text: &'a [u8]) -> Parts<'a>
     ensures { operands_by (a.now ∷ b.now ∷ parts_of text.now) ≡ operands_in result }
@@ -232,7 +232,7 @@ fn parts_behind_two<'a>(a: &'a [u8], b: &'a [u8], text: &'a [u8]) -> Parts<'a>
     }
 }
 
-/// The operands behind one.
+/// The operands after one.
 #[tactic(auto, using(crate::proofs::OperandLemmas::second_part))]
 fn parts_behind<'a>(a: &'a [u8], text: &'a [u8]) -> Parts<'a>
     ensures { operands_by (a.now ∷ parts_of text.now) ≡ operands_in result }
@@ -243,7 +243,7 @@ fn parts_behind<'a>(a: &'a [u8], text: &'a [u8]) -> Parts<'a>
     }
 }
 
-/// The operands of an instruction.
+/// Reads the operands of an instruction.
 #[tactic(auto, using(crate::proofs::OperandLemmas::first_part))]
 pub fn read_parts(text: &[u8]) -> Parts<'_>
     ensures { operands_of text.now ≡ operands_in result }

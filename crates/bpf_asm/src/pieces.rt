@@ -5,14 +5,14 @@ ghost use Rattle.bpf_asm.specs.Pieces.{pieces_of, front_of, rest_of, before_blan
 ghost use Rattle.bpf_asm.specs.inner.Pieces.{pieces_left, is_among};
 ghost use Rattle.bpf_asm.specs.Pieces.{begins_name, is_blank};
 
-/// Bytes that stand together: blanks, or the letters, digits and `_` of words.
+/// Bytes that are together: blanks, or the letters, digits and `_` of words.
 #[derive(Clone, Copy, Debug, PartialEq, Eq)]
 pub enum Letters {
     Blank,
     Word,
 }
 
-/// Whether a byte is a letter or `_`.
+/// Returns whether a byte is a letter or `_`.
 pub fn begins_name(byte: u8) -> bool
     ensures { result ≡ begins_name byte }
 {
@@ -23,7 +23,7 @@ impl Letters {
     ghost use Rattle.std.specs.Prelude.{◌≡◌};
     ghost use Rattle.bpf_asm.specs.inner.Pieces.{is_among};
 
-    /// Whether a byte is among them.
+    /// Returns whether a byte is among them.
     pub fn has(self, byte: u8) -> bool
         ensures { result ≡ is_among self byte }
     {
@@ -34,7 +34,7 @@ impl Letters {
     }
 }
 
-/// The piece before the first mark, and what comes behind that mark.
+/// Returns the piece before the first mark, and what comes after that mark.
 pub fn first_piece(text: &[u8], mark: u8) -> (&[u8], Option<&[u8]>)
     ensures pieces { pieces_of (λ c. c == mark) text.now ≡ result.0.now ∷ pieces_left (λ c. c == mark) result.1 }
     ensures shorter { IfSome result.1 (λ rest. length rest.now < length text.now) }
@@ -48,7 +48,7 @@ pub fn first_piece(text: &[u8], mark: u8) -> (&[u8], Option<&[u8]>)
 }
 
 #[tactic(auto, using(crate::proofs::RunLemmas::front_more, crate::proofs::RunLemmas::front_ends))]
-/// The longest front of such bytes, and what comes behind it.
+/// Returns the longest front of such bytes, and what comes after it.
 pub fn split_front(text: &[u8], letters: Letters) -> (&[u8], &[u8])
     ensures front { result.0.now ≡ front_of (is_among letters) text.now }
     ensures rest { result.1.now ≡ rest_of (is_among letters) text.now }
@@ -75,7 +75,7 @@ fn before_blanks(text: &[u8]) -> &[u8]
     &text[..end]
 }
 
-/// The text without the blanks at its ends.
+/// Returns the text without the blanks at its ends.
 pub fn trimmed(text: &[u8]) -> &[u8]
     ensures { result.now ≡ trimmed text.now }
 {

@@ -22,8 +22,8 @@ fn push_line(text: &mut String, found: Option<Insn>) -> Result<(), AllocError>
     }
 }
 
-/// The canonical text of a program: a line for each instruction (docs/ASSEMBLER.md, "Canonical text").
-/// Fails only for want of memory.
+/// Returns the canonical text of a program: a line for each instruction (docs/ASSEMBLER.md, "Canonical text"). Fails
+/// only if memory runs out.
 pub fn disassemble(alloc: Global, program: &Program) -> Result<String, AllocError>
     ensures text { IfOk result (λ text. string_bytes text ≡ canonical_text program.now) }
     ensures program { IsProgram program.now }

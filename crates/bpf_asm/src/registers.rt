@@ -20,7 +20,7 @@ pub const REGISTERS: [Reg; 11] = [
     Reg::R10,
 ];
 
-/// The word of a register.
+/// Returns the word of a register.
 pub fn register_word(register: Reg) -> &'static str
     ensures { result.now ≡ register_word register }
 {
@@ -39,7 +39,7 @@ pub fn register_word(register: Reg) -> &'static str
     }
 }
 
-/// The register that a word names.
+/// Returns the register that a word names.
 pub fn register_by_word(word: &[u8]) -> Option<Reg>
     ensures { result ≡ register_by_word word.now }
 {

@@ -325,7 +325,7 @@ fn ends_word(rest: &[u8]) -> bool
     }
 }
 
-/// The instruction of a word and of what stands behind it.
+/// The instruction of a word and of what is after it.
 fn source_behind<'a>(word: &'a [u8], rest: &'a [u8]) -> Result<Option<Source<'a>>, Fault>
     ensures { written_in result ≡ source_behind word.now rest.now }
 {
@@ -354,7 +354,7 @@ fn source_of(text: &[u8]) -> Result<Option<Source<'_>>, Fault>
     source_behind(word, rest)
 }
 
-/// A label, and what stands behind its colon.
+/// A label, and what is after its colon.
 fn named<'a>(name: &'a [u8], rest: &'a [u8]) -> Line<'a>
     ensures { line_in result ≡ named name.now rest.now }
 {
@@ -390,7 +390,7 @@ fn without_comment(line: &[u8]) -> &[u8]
     code
 }
 
-/// What a line says.
+/// Reads a line.
 pub fn read_line(text: &[u8]) -> Line<'_>
     ensures { line_in result ≡ line_of text.now }
 {

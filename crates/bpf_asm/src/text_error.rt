@@ -15,7 +15,7 @@ pub enum TextError {
     OutOfRange(usize),
     /// No line has the label that a jump names.
     UnknownLabel(usize),
-    /// A label stands a second time, on this line.
+    /// A label is given a second time, on this line.
     LabelTwice(usize),
     /// The instruction is the first that ends past the last slot.
     TooLong(usize),

@@ -8,13 +8,13 @@ ghost use Rattle.node_env.specs.Helpers.{helper_word, helper_number, helper_by_w
 ghost use Rattle.bpf_asm.specs.Words.{word_of, form_of};
 ghost use Rattle.bpf_asm.specs.Words.{register_word, register_by_word};
 
-/// Each form has a word of its own, and no other word names one.
+/// States that each form has a word of its own, and that no other word names one.
 pub fn one_word_each()
     ensures form { (form : Form) → form_of (word_of form) ≡ Some form }
     ensures word { (word : List ℕ) (form : Form) → form_of word ≡ Some form → word ≡ word_of form }
 {}
 
-/// Each helper has a word and a number of its own, and no other names one.
+/// States that each helper has a word and a number of its own, and that no other names one.
 pub fn one_helper_each()
     ensures by_word { (helper : Helper) → helper_by_word (helper_word helper) ≡ Some helper }
     ensures by_number { (helper : Helper) → helper_of (helper_number helper) ≡ Some helper }
@@ -23,7 +23,7 @@ pub fn one_helper_each()
         number ≡ helper_number helper }
 {}
 
-/// Each register has a word of its own, and no other word names one.
+/// States that each register has a word of its own, and that no other word names one.
 pub fn one_register_each()
     ensures register { (register : Reg) → register_by_word (register_word register) ≡ Some register }
     ensures word { (word : List ℕ) (register : Reg) → register_by_word word ≡ Some register →

@@ -1,4 +1,4 @@
-//! The words of the text and the forms that they name (docs/ASSEMBLER.md, "Words"). Each word stands once, in
+//! The words of the text and the forms that they name (docs/ASSEMBLER.md, "Words"). Each word is once, in
 //! `Form::word`; reading looks it up there.
 
 ghost use Rattle.std.specs.Prelude.{◌≡◌};

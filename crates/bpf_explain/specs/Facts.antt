@@ -32,11 +32,11 @@ fact_text (facts.Holds first last kind) =
 fact_text (facts.HasWritten first last) = codes "stack " ++ (range_text first last ++ codes " written")
 fact_text (facts.MayLack byte) = codes "stack " ++ (decimal byte ++ codes " unwritten")
 
--- facts, each behind a comma and a blank
+-- facts, each after a comma and a blank
 abbrev pub listed : List Fact → List ℕ
 listed facts = flat_map (λ fact. codes ", " ++ fact_text fact) facts
 
--- what is told behind an instruction
+-- what is told after an instruction
 abbrev pub remark : List Fact → List ℕ
 remark [] = []
 remark (first ∷ rest) = codes " # " ++ (fact_text first ++ listed rest)

@@ -24,7 +24,7 @@ use Rattle.bpf_explain.specs.declared.fact.Fact.TheVariants as facts
 
 -- ---- accesses
 
--- from the one place to the end of so many bytes at the other
+-- from the one place to the end of this many bytes at the other
 abbrev pub between : Option ℕ → Option ℕ → ℕ → Option (ℕ × ℕ)
 between (Some first) (Some last) count = Some (first, last + count)
 between first last count = None
@@ -52,7 +52,7 @@ abbrev pub written_fact : ℕ → ℕ → Option ℕ → Fact
 written_fact first end None = facts.HasWritten first (end - 1)
 written_fact first end (Some byte) = facts.MayLack byte
 
--- the double word that is taken whole is of a kind; where nothing is known of it, whether its bytes are written
+-- the double word that is taken whole is of a kind; if nothing is known of it, whether its bytes are written
 abbrev pub taken_fact : AbstractState → ℕ → ℕ → Bool → Fact
 taken_fact A first end whole = if whole && not (is_unset_kind (A.entries (dword_of first)))
     then facts.Holds first (end - 1) (A.entries (dword_of first))

@@ -68,7 +68,7 @@ first_unset A insn = find (λ register. is_unset_kind (kind_of A register)) (rea
 abbrev pub pointer_text : Reg → List ℕ
 pointer_text register = register_text register ++ codes " is a pointer, and a number is asked for"
 
--- the second operand where it is a pointer, else the first
+-- the second operand if it is a pointer, otherwise the first
 abbrev pub pointer_operand : AbstractState → Reg → Operand → Reg
 pointer_operand A dst (operand.Imm imm) = dst
 pointer_operand A dst (operand.Reg src) = if is_pointer_kind (kind_of A src) then src else dst
@@ -181,7 +181,7 @@ frame_text = codes "r10 is written, and it is the end of the stack"
 abbrev pub exit_text : List ℕ
 exit_text = codes "r0 is a pointer, and a program ends with a number"
 
--- what the state at the slot gives as the reason, where there is one
+-- what the state at the slot gives as the reason, if there is one
 abbrev pub in_known : Option AbstractState → (AbstractState → List ℕ) → List ℕ
 in_known None reason = []
 in_known (Some A) reason = reason A

@@ -1,4 +1,4 @@
--- The rows of a program: each instruction with what is known where it stands.
+-- The rows of a program: each instruction with what is known where it occurs.
 use Rattle.std.specs.Prelude.{ℕ, ◌+◌, List, [], ◌∷◌, ◌++◌, codes, length, Option, Some, None, slice_get}
 use Rattle.std.specs.List.{flat_map, range_with_len}
 use Rattle.std.specs.Fmt.{decimal}
@@ -20,7 +20,7 @@ abbrev pub line_part : Option ℕ → List ℕ
 line_part None = []
 line_part (Some line) = codes "line " ++ (decimal line ++ codes " ")
 
--- the instruction at a slot, with its line where there is one
+-- the instruction at a slot, with its line if there is one
 abbrev pub row_text : Option ℕ → ℕ → Insn → List Fact → List ℕ
 row_text line slot insn facts =
     line_part line ++ (codes "slot " ++ (decimal slot

@@ -118,14 +118,14 @@ impl fmt::Display for Fact {
     }
 }
 
-/// Adds a fact behind a comma and a blank.
+/// Adds a fact after a comma and a blank.
 pub(crate) fn add_fact(told: &mut String, fact: Fact) -> Result<(), AllocError>
     ensures { OnOk result (string_bytes told.new ≡ string_bytes told.old ++ (codes ", " ++ fact_text fact)) }
 {
     write!(told, ", {fact}")
 }
 
-/// Adds what is told behind an instruction: the facts, of which each stands behind a comma.
+/// Adds what is told after an instruction: the facts, of which each is after a comma.
 #[tactic(auto, using(crate::proofs::Listing::remarked, crate::proofs::Listing::unremarked))]
 pub(crate) fn add_remark(text: &mut String, told: &str) -> Result<(), AllocError>
     ensures { (facts : List FactOf) → told.now ≡ listed facts →

@@ -123,7 +123,7 @@ fn last_written(known: &Known, byte: u32) -> u32
     }
 }
 
-/// Adds the bytes from one on that are written, where that is the first of them.
+/// Adds the bytes from one on that are written, if that is the first of them.
 fn add_written_from(told: &mut String, known: &Known, byte: u32) -> Result<(), AllocError>
     requires { byte < STACK_BYTES }
     ensures { OnOk result (string_bytes told.new ≡ string_bytes told.old

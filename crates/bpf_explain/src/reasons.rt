@@ -128,7 +128,7 @@ fn unset_reason(alloc: Global, insn: &Insn, known: &Known) -> Result<String, All
     }
 }
 
-/// The second operand where it is a pointer, else the first.
+/// The second operand if it is a pointer, otherwise the first.
 fn pointer_operand(known: &Known, dst: Reg, src: Operand) -> Reg
     ensures { result ≡ reasons.pointer_operand (abstract_of known.now) dst src }
 {
@@ -546,7 +546,7 @@ fn refusal_line(
     format!(in alloc; "rule {number}, {name}: {reason}\n")
 }
 
-/// The line that names the rule of a refusal and says why it is broken; nothing for a program that is accepted.
+/// Returns the line that names the rule of a refusal and says why it is broken; nothing for a program that is accepted.
 pub fn reason(
     alloc: Global,
     program: &Program,

@@ -1,4 +1,4 @@
-//! The rows of a program: each instruction with what is known where it stands.
+//! The rows of a program: each instruction with what is known where it occurs.
 
 ghost use Rattle.std.specs.Prelude.{◌≡◌, ◌++◌, ◌+◌, ◌≤◌, IfOk, List, OnOk, length, slice_get, string_bytes};
 ghost use Rattle.bpf_insn.specs.Programs.{insn_at};
@@ -18,7 +18,7 @@ use node_env::Shape;
 use std::alloc::{AllocError, Global};
 use std::fmt::Write;
 
-/// What is told of a slot, each fact behind a comma.
+/// What is told of a slot, each fact after a comma.
 fn told_at(
     alloc: Global,
     findings: &Findings,
@@ -38,7 +38,7 @@ fn told_at(
     Ok(told)
 }
 
-/// Adds the line of an instruction, where there is one.
+/// Adds the line of an instruction, if there is one.
 fn add_line(text: &mut String, line: Option<usize>) -> Result<(), AllocError>
     ensures { OnOk result (string_bytes text.new ≡ string_bytes text.old ++ texts.line_part line) }
 {
@@ -97,7 +97,7 @@ fn line_at(lines: &[usize], place: usize) -> Option<usize>
     }
 }
 
-/// How many instructions begin up to a slot, where so many begin before it.
+/// How many instructions begin up to a slot, where this many begin before it.
 fn count_to(program: &Program, slot: u32, before: usize) -> usize
     requires { before ≤ slot }
     ensures { result ≡ before + length (texts.insns_in (insn_at program.now slot)) }
@@ -144,8 +144,8 @@ fn rows_end(program: &Program, shape: Shape, findings: &Findings) -> u32
     }
 }
 
-/// The rows of the findings on a program: each instruction up to the refused one, or to the last, with what is known
-/// where it stands. The lines are those of the instructions in their order; one that is missing isn't told.
+/// Returns the rows of the findings on a program: each instruction up to the refused one, or to the last, with what is
+/// known there. The lines are those of the instructions in their order; one that is missing isn't told.
 pub fn rows(
     alloc: Global,
     program: &Program,

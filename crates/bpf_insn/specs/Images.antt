@@ -23,7 +23,7 @@ use Rattle.bpf_insn.specs.declared.image.ImageError.TheVariants as errors
 
 -- ---- what is wrong where an instruction is to begin
 
--- these eight bytes stand at the front
+-- these eight bytes are at the front
 pub record StandsAt (slot : Slot) (bytes : List ℕ) : Type 0 where
   pub offset : FitsSigned w16 slot.offset
   pub imm : FitsSigned w32 slot.imm
@@ -78,7 +78,7 @@ pub record IsFaultAt (fault : SlotFault) (bytes : List ℕ) : Type 0 where
   pub holds : FaultHolds fault bytes
   pub lowest : (other : SlotFault) → fault_number other < fault_number fault → FaultHolds other bytes → ⊥
 
--- spellings stand up to the slot, and there is the fault
+-- spellings are up to the slot, and there is the fault
 pub record IsFault (bytes : List ℕ) (slot : ℕ) (fault : SlotFault) : Type 0 where
   pub before : List Insn
   pub rest : List ℕ
@@ -87,14 +87,14 @@ pub record IsFault (bytes : List ℕ) (slot : ℕ) (fault : SlotFault) : Type 0 
   pub place : slots_of before ≡ slot
   pub at : IsFaultAt fault rest
 
--- why bytes are no image, and where: by the length, and else by the first fault
+-- why bytes are no image, and where: by the length, and otherwise by the first fault
 abbrev pub IsFirstFault : List ℕ → ℕ → SlotFault → Type 0
 IsFirstFault bytes slot fault = (length bytes ≤ 8 * MAX_SLOTS) × IsFault bytes slot fault
 
 abbrev pub IsImage : List ℕ → Type 0
 IsImage bytes = (program : List Insn) × IsProgram program × (bytes ≡ image_of program)
 
--- why bytes are not decoded; memory counts only where they are an image
+-- why bytes are not decoded; memory counts only if they are an image
 abbrev pub RefusesImage : List ℕ → ImageError → Type 0
 RefusesImage bytes errors.Empty = bytes ≡ []
 RefusesImage bytes errors.TooLong = 8 * MAX_SLOTS < length bytes

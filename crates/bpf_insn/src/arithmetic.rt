@@ -114,8 +114,8 @@ fn alu64(op: AluOp, a: u64, b: u64) -> u64
     }
 }
 
-/// The result of an operation (RFC 9669, section 4.1). In 32 bits it looks at the low halves, and
-/// the upper half of the result is 0. Each division is defined, also by 0.
+/// Returns the result of an operation (RFC 9669, section 4.1). In 32 bits it looks at the low halves, and the upper
+/// half of the result is 0. Each division is defined, also by 0.
 #[inline(always)]
 pub fn alu(op: AluOp, width: Width, a: u64, b: u64) -> u64
     ensures { result ≡ alu_result op width a b }
@@ -126,7 +126,7 @@ pub fn alu(op: AluOp, width: Width, a: u64, b: u64) -> u64
     }
 }
 
-/// `0 - a` at the width.
+/// Returns `0 - a` at the width.
 pub fn neg(width: Width, a: u64) -> u64
     ensures { result ≡ neg_result width a }
 {
@@ -174,7 +174,7 @@ fn holds64(cond: Cond, a: u64, b: u64) -> bool
     }
 }
 
-/// Whether a condition holds of two values, in 32 bits of their low halves (RFC 9669, section 4.3).
+/// Returns whether a condition holds of two values, in 32 bits of their low halves (RFC 9669, section 4.3).
 pub fn holds(cond: Cond, width: Width, a: u64, b: u64) -> bool
     ensures { result ≡ holds cond width a b }
 {
@@ -184,7 +184,7 @@ pub fn holds(cond: Cond, width: Width, a: u64, b: u64) -> bool
     }
 }
 
-/// The low bits, read as signed, at the width of the result (RFC 9669, section 4.1, MOVSX).
+/// Returns the low bits, read as signed, at the width of the result (RFC 9669, section 4.1, MOVSX).
 pub fn movsx(kind: MovsxKind, value: u64) -> u64
     ensures { result ≡ movsx_result kind value }
 {
@@ -201,8 +201,8 @@ pub fn movsx(kind: MovsxKind, value: u64) -> u64
     }
 }
 
-/// The low bits with their bytes in an order; the bits above are 0 (RFC 9669, section 4.2). The
-/// machine's own order is little-endian.
+/// Returns the low bits with their bytes in an order; the bits above are 0 (RFC 9669, section 4.2). The machine's own
+/// order is little-endian.
 pub fn swap(order: Order, bits: SwapBits, value: u64) -> u64
     ensures { result ≡ swap_result order bits value }
 {

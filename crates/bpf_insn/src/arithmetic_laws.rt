@@ -11,7 +11,7 @@ ghost use Rattle.bpf_insn.specs.declared.forms.Cond.{Cond};
 ghost use Rattle.bpf_insn.specs.declared.forms.Order.{Order};
 ghost use Rattle.bpf_insn.specs.declared.forms.SwapBits.{SwapBits};
 
-/// Each result fits its width.
+/// States that each result fits its width.
 pub fn results_fit()
     ensures alu { (op : AluOp) (width : Width) (a b : ℕ) → alu_result op width a b < 2 ^ bits_of width }
     ensures neg { (width : Width) (a : ℕ) → neg_result width a < 2 ^ bits_of width }
@@ -20,13 +20,13 @@ pub fn results_fit()
         swap_result order bits a < 2 ^ swap_bit_count bits }
 {}
 
-/// To put bytes in an order twice gives back the low bits.
+/// States that putting bytes in an order twice gives back the low bits.
 pub fn swap_twice()
     ensures { (order : Order) (bits : SwapBits) (a : ℕ) →
         swap_result order bits (swap_result order bits a) ≡ a % 2 ^ swap_bit_count bits }
 {}
 
-/// The least signed number by -1: the quotient is the least again, the remainder 0.
+/// States the least signed number by -1: the quotient is the least again, the remainder 0.
 pub fn least_by_minus_one()
     ensures quotient { (width : Width) → let least = 2 ^ (bits_of width - 1) in
         alu_result Sdiv width least (2 ^ bits_of width - 1) ≡ least }

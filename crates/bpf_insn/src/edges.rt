@@ -20,8 +20,8 @@ pub enum Way {
     Jumping,
 }
 
-/// How far a jump goes, in slots from the slot after it (RFC 9669, section 4.3). `None` of an
-/// instruction that is no jump.
+/// Returns how far a jump goes, in slots from the slot after it (RFC 9669, section 4.3); `None` if the instruction is
+/// no jump.
 pub fn distance(insn: &Insn) -> Option<i32>
     ensures { result ≡ distance insn.now }
 {
@@ -86,9 +86,8 @@ fn after_branch(slot: u32, off: i32, way: Way) -> Option<u64>
     }
 }
 
-/// The slot to which an instruction at `slot` leads on a way: `None` where it has no such way, as
-/// after EXIT, or where the jump goes below slot 0. It may lie past the end of a program, or in
-/// the middle of an instruction.
+/// Returns the slot to which an instruction at `slot` leads on an edge: `None` if it has no such edge, as after EXIT,
+/// or if the jump goes below slot 0. It may be past the end of a program, or in the middle of an instruction.
 #[inline(always)]
 pub fn target(insn: &Insn, slot: u32, way: Way) -> Option<u64>
     ensures { result ≡ target insn.now slot way }
@@ -111,8 +110,8 @@ pub fn target(insn: &Insn, slot: u32, way: Way) -> Option<u64>
     }
 }
 
-/// The ways on of each instruction, by its distance and the slots that it takes: one of two slots
-/// goes on by two.
+/// States the outgoing edges of each instruction, by its distance and the slots that it takes: one of two slots goes on
+/// by two.
 pub fn edges_by_distance()
     ensures jumping { (insn : Insn) (slot : ℕ) (off : ℤ) → distance insn ≡ Some off →
         target insn slot Jumping ≡ moved (slot + 1) off }
@@ -121,7 +120,7 @@ pub fn edges_by_distance()
         target insn slot Onward ≡ Some (slot + slots_taken insn) }
 {}
 
-/// Each program begins with an instruction.
+/// States that each program begins with an instruction.
 pub fn first_slot_begins()
     ensures { (program : List Insn) → IsProgram program → BeginsAt program 0 }
 {}

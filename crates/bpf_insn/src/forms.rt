@@ -20,7 +20,7 @@ pub enum Reg {
 }
 
 impl Reg {
-    /// The register of a number from 0 to 10.
+    /// Returns the register of a number from 0 to 10.
     pub fn of(number: u8) -> Option<Reg>
         ensures some { IfSome result (λ r. register_number r ≡ number) }
         ensures none { IfNone result (10 < number) }
@@ -85,7 +85,7 @@ impl Size {
     ghost use Rattle.std.specs.Prelude.{◌≡◌, ◌≤◌};
     ghost use Rattle.bpf_insn.specs.Operands.{access_bytes};
 
-    /// The bytes that an access takes.
+    /// Returns the bytes that an access takes.
     #[inline(always)]
     pub fn bytes(self) -> u32
         ensures count { result ≡ access_bytes self }
@@ -104,7 +104,7 @@ impl SxSize {
     ghost use Rattle.std.specs.Prelude.{◌≡◌, ◌≤◌};
     ghost use Rattle.bpf_insn.specs.Operands.{sx_access_bytes};
 
-    /// The bytes that a load takes.
+    /// Returns the bytes that a load takes.
     #[inline(always)]
     pub fn bytes(self) -> u32
         ensures count { result ≡ sx_access_bytes self }
@@ -118,7 +118,7 @@ impl SxSize {
     }
 }
 
-/// The condition of a branch (RFC 9669, section 4.3): `Set` is that the operands have a bit in common, and `S` stands
+/// The condition of a branch (RFC 9669, section 4.3): `Set` is that the operands have a bit in common, and `S` is
 /// for signed.
 #[derive(Clone, Copy, Debug, PartialEq, Eq)]
 pub enum Cond {
@@ -135,7 +135,7 @@ pub enum Cond {
     Sle,
 }
 
-/// An arithmetic operation of two operands (RFC 9669, section 4.1): `S` stands for signed.
+/// An arithmetic operation of two operands (RFC 9669, section 4.1): `S` represents signed.
 #[derive(Clone, Copy, Debug, PartialEq, Eq)]
 pub enum AluOp {
     Add,
@@ -216,7 +216,7 @@ pub enum Insn {
     JaLong {
         off: i32,
     },
-    /// A jump where the condition of `dst` and `src` holds.
+    /// A jump if the condition of `dst` and `src` holds.
     Branch {
         cond: Cond,
         width: Width,
@@ -230,14 +230,14 @@ pub enum Insn {
     },
     /// The end of the program.
     Exit,
-    /// `dst` becomes what stands at `base + off`, with zeros above it.
+    /// `dst` becomes what is at `base + off`, with zeros above it.
     Load {
         size: Size,
         dst: Reg,
         base: Reg,
         off: i16,
     },
-    /// `dst` becomes what stands at `base + off`, its sign extended.
+    /// `dst` becomes what is at `base + off`, its sign extended.
     LoadSx {
         size: SxSize,
         dst: Reg,
@@ -269,7 +269,7 @@ impl Insn {
     ghost use Rattle.std.specs.Prelude.{◌≡◌};
     ghost use Rattle.bpf_insn.specs.Encoding.{slots_taken, InRange};
 
-    /// The slots that it takes.
+    /// Returns the slots that it takes.
     pub fn slots(self) -> usize
         ensures count { result ≡ slots_taken self }
         ensures in_range { InRange self }

@@ -17,7 +17,7 @@ use std::alloc::{AllocError, Global};
 
 /// Why bytes are not decoded. `Empty` and `TooLong` come first, then the lowest slot is named, and then the first
 /// of the other names in this order; the number is the slot where the instruction at fault begins. `Memory` comes
-/// only where the bytes are an image.
+/// only if the bytes are an image.
 #[derive(Clone, Copy, Debug, PartialEq, Eq)]
 pub enum ImageError {
     /// There are no bytes.
@@ -144,7 +144,7 @@ fn program_in(alloc: Global, bytes: &[u8]) -> Result<Program, ImageError>
     Ok(Program { slots, image })
 }
 
-/// The program of an image. A fault is told where memory is short too.
+/// Returns the program of an image. A fault is reported even if memory is short.
 pub fn decode(alloc: Global, bytes: &[u8]) -> Result<Program, ImageError>
     ensures program { IfOk result (λ p. IsProgram p × (bytes.now ≡ image_of p)) }
     ensures refusal { IfErr result (RefusesImage bytes.now) }
@@ -157,7 +157,7 @@ pub fn decode(alloc: Global, bytes: &[u8]) -> Result<Program, ImageError>
     program_in(alloc, bytes)
 }
 
-/// The image of a program: the spellings of its instructions in order. Fails only for want of memory.
+/// Returns the image of a program: the spellings of its instructions in order. Fails only if memory runs out.
 pub fn encode(alloc: Global, program: &Program) -> Result<Vec<u8>, AllocError>
     ensures image { IfOk result (λ bytes. bytes.items ≡ image_of program.now) }
     ensures program { IsProgram program.now }

@@ -10,19 +10,19 @@ use crate::image::{ImageError, decode, encode};
 use crate::listing::Program;
 use std::alloc::Global;
 
-/// No spelling begins another, so each instruction has one.
+/// States that no spelling begins another, so each instruction has one.
 pub fn one_spelling()
     ensures { (i j : Insn) (x y : List ℕ) → InRange i → InRange j → spelling i ++ x ≡ spelling j ++ y →
         (i ≡ j) × (x ≡ y) }
 {}
 
-/// A slot is eight bytes.
+/// States that a slot is eight bytes.
 pub fn spelling_length()
     ensures spelling { (i : Insn) → length (spelling i) ≡ 8 * slots_taken i }
     ensures image { (p : List Insn) → length (image_of p) ≡ 8 * slots_of p }
 {}
 
-/// Bytes are the image of one program or have one refusal, want of memory aside.
+/// Bytes are the image of one program or have one refusal, lack of memory aside.
 pub fn one_reading()
     ensures program { (p q : List Insn) → IsProgram p → IsProgram q → image_of p ≡ image_of q → p ≡ q }
     ensures refusal { (bytes : List ℕ) (e d : ImageError) → RefusesImage bytes e → RefusesImage bytes d →
@@ -31,7 +31,7 @@ pub fn one_reading()
         e ≡ ImageError.Memory }
 {}
 
-/// Encodes a program, and decodes its image: that gives the program back. Fails only for want of memory.
+/// Encodes a program, and decodes its image: that gives the program back. Fails only for lack of memory.
 pub fn round_trip(alloc: Global, program: &Program) -> Result<Program, ImageError>
     ensures { MatchResult result (λ p. p ≡ program.now) (λ e. e ≡ ImageError.Memory) }
 {

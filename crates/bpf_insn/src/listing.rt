@@ -60,7 +60,7 @@ pub(crate) fn push_slots(slots: &mut Vec<Option<Insn>>, insn: Insn) -> Result<()
     Ok(())
 }
 
-/// The number of slots, where there are not too many.
+/// The number of slots, if there are not too many.
 fn count_slots(insns: &[Insn]) -> Option<usize>
     ensures some { IfSome result (λ count. (count ≡ slots_of insns.now) × (count ≤ MAX_SLOTS)) }
     ensures in_range { OnSome result (All InRange insns.now) }
@@ -97,7 +97,7 @@ fn look_up(slots: &[Option<Insn>], slot: usize) -> Option<Insn>
     }
 }
 
-/// The same, where it stands.
+/// The same, where it occurs.
 #[inline(always)]
 fn find(slots: &[Option<Insn>], slot: usize) -> Option<&Insn>
     ensures { option_map (λ insn. insn.now) result ≡ inner (slice_get slots.now slot) }
@@ -109,7 +109,7 @@ fn find(slots: &[Option<Insn>], slot: usize) -> Option<&Insn>
     }
 }
 
-/// The program with these instructions, which take so many slots.
+/// The program with these instructions, which take this many slots.
 fn with_image(alloc: Global, insns: &[Insn], count: usize) -> Result<Program, AllocError>
     requires { IsProgram insns.now }
     ensures { IfOk result (λ p. p ≡ insns.now) }
@@ -119,7 +119,7 @@ fn with_image(alloc: Global, insns: &[Insn], count: usize) -> Result<Program, Al
     Ok(Program { slots, image })
 }
 
-/// The program with these instructions. A refusal hands them back; `Memory` comes last.
+/// Returns the program with these instructions. A refusal hands them back; `Memory` comes last.
 pub fn program_of(alloc: Global, insns: Vec<Insn>) -> Result<Program, (Vec<Insn>, ProgramError)>
     ensures program { IfOk result (λ p. (p ≡ insns.items) × IsProgram p) }
     ensures back { IfErr result (λ e. e.0 ≡ insns) }
@@ -143,7 +143,7 @@ impl Program {
     ghost use Rattle.bpf_insn.specs.Encoding.{slots_taken};
     ghost use Rattle.bpf_insn.specs.Programs.{image_of, insn_at, slots_of, IsProgram};
 
-    /// The number of its slots: a wide instruction has two.
+    /// Returns the number of its slots: a wide instruction has two.
     #[inline(always)]
     pub fn slot_count(&self) -> u32
         ensures count { result ≡ slots_of self.now }
@@ -153,7 +153,7 @@ impl Program {
         self.slots.len() as u32
     }
 
-    /// The instruction that begins at a slot: none at the second slot of a wide one, and none past the end.
+    /// Returns the instruction that begins at a slot: none at the second slot of a wide one, and none past the end.
     #[inline(always)]
     pub fn insn_at(&self, slot: u32) -> Option<Insn>
         ensures found { result ≡ insn_at self.now slot }
@@ -163,7 +163,7 @@ impl Program {
         look_up(&self.slots, slot as usize)
     }
 
-    /// The instruction that begins at a slot, where it stands: none where [`Program::insn_at`] finds none.
+    /// Returns a reference to the instruction that begins at a slot: none if [`Program::insn_at`] finds none.
     #[inline(always)]
     pub fn at(&self, slot: u32) -> Option<&Insn>
         ensures found { option_map (λ insn. insn.now) result ≡ insn_at self.now slot }
@@ -181,7 +181,7 @@ impl Program {
         &self.image
     }
 
-    /// Whether the other program has the same instructions. Images are compared.
+    /// Returns whether the other program has the same instructions. Images are compared.
     pub fn same(&self, other: &Program) -> bool
         ensures { IsTrue result ↔ (self.now ≡ other.now) }
     {
@@ -189,7 +189,7 @@ impl Program {
         same
     }
 
-    /// A program with the same instructions. Fails only for want of memory.
+    /// Returns a program with the same instructions. Fails only if memory runs out.
     pub fn copy(&self, alloc: Global) -> Result<Program, AllocError>
         ensures { IfOk result (λ p. p ≡ self.now) }
     {

@@ -293,7 +293,7 @@ impl Opcode {
     ghost use Rattle.bpf_insn.specs.declared.opcode.Opcode.{Opcode};
     ghost use Rattle.bpf_insn.specs.Opcodes.{opcode_byte};
 
-    /// The opcode that a byte stands for, and none where no opcode has that byte.
+    /// The opcode that a byte represents, and none if no opcode has that byte.
     pub(crate) fn of(byte: u8) -> Option<Opcode>
         ensures some { IfSome result (λ opcode. opcode_byte opcode ≡ byte) }
         ensures none { IfNone result ((opcode : Opcode) → opcode_byte opcode ≢ byte) }
@@ -301,7 +301,7 @@ impl Opcode {
         OPCODES[usize::from(byte)]
     }
 
-    /// The byte that stands for it.
+    /// The byte that represents it.
     pub(crate) fn byte(self) -> u8
         ensures { result ≡ opcode_byte self }
     {

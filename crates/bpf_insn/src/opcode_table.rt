@@ -23,7 +23,7 @@ macro_rules! branch {
     };
 }
 
-/// What each byte stands for. Eight stand together, one of each class: they have the high five bits in common.
+/// What each byte represents. Eight are together, one of each class: they have the high five bits in common.
 pub(crate) static OPCODES: [Option<Opcode>; 256] = [
     // 0x00
     None,

@@ -6,7 +6,7 @@ ghost use Rattle.bpf_insn.specs.Operands.{access_of, is_exit, load_of, registers
 
 use crate::forms::{AluOp, Insn, Operand, Reg};
 
-/// The bytes that a load or a store takes: so many, from an offset of what a register points at.
+/// The bytes that a load or a store takes: this many, from an offset of what a register points at.
 #[derive(Clone, Copy, Debug, PartialEq, Eq)]
 pub struct Access {
     pub base: Reg,
@@ -68,7 +68,7 @@ fn alu_reads(op: AluOp, dst: Reg, src: Operand) -> Reads
     }
 }
 
-/// The registers of so many arguments.
+/// The registers of this many arguments.
 #[inline(always)]
 fn argument_reads(arguments: u32) -> Reads
     requires { arguments ≤ MOST_ARGUMENTS }
@@ -82,7 +82,7 @@ fn argument_reads(arguments: u32) -> Reads
     }
 }
 
-/// The registers that an instruction reads, where a call takes so many arguments.
+/// Returns the registers that an instruction reads, if a call takes this many arguments.
 #[inline(always)]
 pub fn registers_read(insn: &Insn, arguments: u32) -> Reads
     requires { arguments ≤ MOST_ARGUMENTS }
@@ -107,7 +107,7 @@ pub fn registers_read(insn: &Insn, arguments: u32) -> Reads
     }
 }
 
-/// The register that an instruction writes. A call writes its own.
+/// Returns the register that an instruction writes. A call writes its own.
 #[inline(always)]
 pub fn written_by(insn: &Insn) -> Option<Reg>
     ensures { result ≡ written_by insn.now }
@@ -137,7 +137,7 @@ fn taken(base: Reg, off: i16, count: u32) -> Option<Access>
     Some(Access { base, off, count })
 }
 
-/// What a load takes. It has 1 to 8 bytes.
+/// Returns what a load takes. It has 1 to 8 bytes.
 #[inline(always)]
 pub fn load_of(insn: &Insn) -> Option<Access>
     ensures access { result ≡ load_of insn.now }
@@ -172,7 +172,7 @@ pub fn load_of(insn: &Insn) -> Option<Access>
     }
 }
 
-/// What a load or a store takes.
+/// Returns what a load or a store takes.
 #[inline(always)]
 pub fn access_of(insn: &Insn) -> Option<Access>
     ensures access { result ≡ access_of insn.now }
@@ -217,7 +217,7 @@ pub fn access_of(insn: &Insn) -> Option<Access>
     }
 }
 
-/// The immediate of a call.
+/// Returns the immediate of a call.
 #[inline(always)]
 pub fn call_of(insn: &Insn) -> Option<i32>
     ensures { result ≡ call_of insn.now }
@@ -240,7 +240,7 @@ pub fn call_of(insn: &Insn) -> Option<i32>
     }
 }
 
-/// Whether it ends a run.
+/// Returns whether it ends a run.
 #[inline(always)]
 pub fn is_exit(insn: &Insn) -> bool
     ensures { result ≡ is_exit insn.now }

@@ -75,7 +75,7 @@ impl Slot {
             || uses.imm.is_stray(self.imm.cast_unsigned())
     }
 
-    /// Itself, where no field holds what it may not. Each form says what its own fields may hold: to ask the opcode
+    /// Itself, if no field holds what it may not. Each form says what its own fields may hold: to ask the opcode
     /// would be a second match.
     #[inline(always)]
     fn clean(self, uses: Uses) -> Result<Slot, SlotFault>
@@ -282,7 +282,7 @@ fn register(number: u8) -> Result<Reg, SlotFault>
     Reg::of(number).ok_or(SlotFault::BadRegister)
 }
 
-/// The fields behind the opcode.
+/// The fields after the opcode.
 #[tactic(auto, unfolding(crate::specs::inner::Reading::slot_at))]
 #[inline(always)]
 fn slot_of_bytes(opcode: Opcode, bytes: &[u8]) -> Result<Slot, SlotFault>

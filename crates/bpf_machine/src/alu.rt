@@ -140,7 +140,7 @@ fn operate(
     Ok(())
 }
 
-/// An operation of two operands.
+/// Returns the result of an operation of two operands.
 pub fn alu(
     env: &Env,
     state: &mut State,

@@ -14,7 +14,8 @@ ghost use Rattle.bpf_machine.specs.Traps.{IsLowestTrap, applies};
 ghost use Rattle.bpf_machine.specs.Run.{CompleteRun, End, HasNoSuccessor, HasTrap, IsStuck, Leads, RunAnswers, Steps};
 ghost use Rattle.bpf_machine.specs.Sound.{IsSound, IsSoundEnd};
 
-/// A state has at most one successor, and a program at most one complete run and, with given fuel, one answer.
+/// States that a state has at most one successor, and a program at most one complete run and, with given fuel, one
+/// answer.
 pub fn one_run()
     ensures successor { (program : List Insn) (env : Setting) (s t u : Phase) → Steps program env s t
         → Steps program env s u → t ≡ u }
@@ -25,7 +26,7 @@ pub fn one_run()
         → RunAnswers program env memory fuel right gone second → (first ≡ second) × (left ≡ right) × (sent ≡ gone) }
 {}
 
-/// A state has no successor exactly where a trap applies, and the lowest is told.
+/// States that a state has no successor exactly if a trap applies, and that the lowest is reported.
 pub fn stuck_by_traps()
     ensures exactly { (program : List Insn) (env : Setting) (s : MachineState) → length s.memory ≡ env.shape.memory →
         (HasNoSuccessor program env s ↔ HasTrap program env s) }
@@ -35,8 +36,8 @@ pub fn stuck_by_traps()
         → ((kind : TrapKind) → applies kind program env s ≡ false) → (t : Phase) × Steps program env (Running s) t }
 {}
 
-/// What every state of a run is: memory of the shape's length, bytes, words and numbers sent in their ranges, and a
-/// slot where an instruction begins.
+/// States what every state of a run is: memory of the shape's length, bytes, words and numbers sent in their ranges,
+/// and a slot where an instruction begins.
 pub fn stays_sound()
     ensures entry { (env : Setting) (memory : List ℕ) → IsSetting env → length memory ≡ env.shape.memory
         → All (λ byte. byte < 256) memory → IsSound env (entry env memory) }
@@ -46,13 +47,14 @@ pub fn stays_sound()
         → Steps program env (Running s) (Running t) → BeginsAt program t.frame.slot }
 {}
 
-/// So many steps and then so many are as many as both together.
+/// States that the steps of two runs in a row are as many as both together.
 pub fn runs_compose()
     ensures { (program : List Insn) (env : Setting) (first then : ℕ) (s t u : Phase) →
         Leads program env first s t → Leads program env then t u → Leads program env (first + then) s u }
 {}
 
-/// What a complete run leaves: memory of the shape's length, bytes, and numbers of 32 bits sent to nodes of the shape.
+/// States what a complete run leaves: memory of the shape's length, bytes, and numbers of 32 bits sent to nodes of the
+/// shape.
 pub fn leaves_sound()
     ensures { (program : List Insn) (env : Setting) (memory : List ℕ) (end : End) → IsProgram program → IsSetting env →
         length memory ≡ env.shape.memory → All (λ byte. byte < 256) memory → CompleteRun program env memory end →

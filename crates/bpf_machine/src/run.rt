@@ -14,7 +14,7 @@ use crate::word::{Outcome, Turn};
 use bpf_insn::Program;
 use node_env::{Env, Outbox};
 
-/// How many steps led on from the state, at most `fuel`, and what came then: `Next` where all did. The one caller of
+/// How many steps led on from the state, at most `fuel`, and what came then: `Next` if all did. The one caller of
 /// the turn, so that LLVM builds it into the loop.
 #[inline(never)]
 fn go_on(

@@ -56,7 +56,8 @@ impl Model for State {
 }
 
 impl State {
-    /// Where a run begins: r1 points at the node's memory, r2 is its number, and r10 is the end of the stack.
+    /// Returns the state in which a run begins: r1 points at the node's memory, r2 is its number, and r10 is the end of
+    /// the stack.
     #[tactic(auto, using(node_env::proofs::Slots::slots))]
     pub fn entry(env: &Env) -> State
         ensures { result ≡ entry_frame env.now }
@@ -75,14 +76,14 @@ impl State {
         }
     }
 
-    /// The slot that is to be run next.
+    /// Returns the slot that is to be run next.
     pub fn slot(&self) -> u32
         ensures { result ≡ self.now.slot }
     {
         self.slot
     }
 
-    /// What a register holds, where it is set.
+    /// Returns what a register holds, if it is set.
     #[tactic(auto, using(node_env::proofs::Slots::slots))]
     pub fn register(&self, register: Reg) -> Option<Word>
         ensures { result ≡ held self.now register }
@@ -213,7 +214,7 @@ impl State {
         }
     }
 
-    /// The number that bytes of the stack spell, where none is of a kept pointer and all are written.
+    /// The number that bytes of the stack spell, if none is of a kept pointer and all are written.
     #[inline(always)]
     pub(crate) fn number_at(&self, first: usize, count: usize) -> Result<u64, TrapKind>
         requires some { 1 ≤ count }
@@ -291,7 +292,7 @@ impl State {
     }
 }
 
-/// Whether so many marks are set.
+/// Whether this many marks are set.
 #[tactic(auto, using(crate::proofs::StackCells::stack_marks))]
 #[inline(always)]
 fn are_set(marks: &[bool], first: usize, count: usize) -> bool
@@ -305,7 +306,7 @@ fn are_set(marks: &[bool], first: usize, count: usize) -> bool
     all
 }
 
-/// Sets so many marks.
+/// Sets this many marks.
 #[tactic(auto, using(crate::proofs::StackCells::stack_marks))]
 #[inline(always)]
 fn mark(marks: &mut [bool], first: usize, count: usize)
@@ -317,7 +318,7 @@ fn mark(marks: &mut [bool], first: usize, count: usize)
     }
 }
 
-/// Takes so many marks away.
+/// Takes this many marks away.
 #[tactic(auto, using(crate::proofs::StackCells::stack_marks))]
 #[inline(always)]
 fn unmark(marks: &mut [bool], first: usize, count: usize)
@@ -329,7 +330,7 @@ fn unmark(marks: &mut [bool], first: usize, count: usize)
     }
 }
 
-/// The number that a word is, or else the trap.
+/// The number that a word is, or otherwise the trap.
 #[inline(always)]
 pub(crate) fn number(word: Word, trap: TrapKind) -> Result<u64, TrapKind>
     ensures { result ≡ number_in trap word }

@@ -22,7 +22,7 @@ pub enum TrapKind {
     Unset,
     /// The instruction writes r10.
     FrameWrite,
-    /// A pointer where a number is needed.
+    /// A pointer if a number is needed.
     NotNumber,
     /// A pointer or an access leaves its region.
     OutOfRegion,
@@ -40,7 +40,7 @@ impl TrapKind {
     ghost use Rattle.std.specs.Prelude.{◌≡◌};
     ghost use Rattle.bpf_machine.specs.Traps.{trap_number};
 
-    /// The number by which a trap is told, 1 to 10.
+    /// Returns the number by which a trap is told, 1 to 10.
     pub fn number(self) -> u32
         ensures { result ≡ trap_number self }
     {

@@ -83,11 +83,11 @@ alu_outcome A op width dst src = with_kind A dst (alu_kind op width (kind_of A d
 
 -- ---- loads and stores
 
--- the numbers of so many bytes in a range: all of them, where the range has no greater ones
+-- the numbers of this many bytes in a range: all of them, where the range has no greater ones
 abbrev pub of_bytes : ℕ → Span → Span
 of_bytes count a = span (min a.lo (2 ^ (8 * count) - 1)) (min a.hi (2 ^ (8 * count) - 1))
 
--- what so many bytes hold, by what is known of their double word
+-- what this many bytes hold, by what is known of their double word
 abbrev pub or_full : Kind → ℕ → Kind
 or_full Unset count = Number (full_of (8 * count))
 or_full (Number a) count = Number (of_bytes count a)
@@ -102,8 +102,8 @@ lowest_place Unset off = None
 lowest_place (Number a) off = None
 lowest_place (Pointer region a) off = moved a.lo off
 
--- what a load of so many bytes gives, by a pointer of a kind: what is known of the double word that it takes whole, or
--- any number
+-- what a load of this many bytes gives, by a pointer of a kind: what is known of the double word that it takes whole,
+-- or any number
 abbrev pub loaded_kind : AbstractState → Kind → ℤ → ℕ → Kind
 loaded_kind A base off count = if takes_dword base off count then entry_at A (lowest_place base off) count
     else Number (full_of (8 * count))
@@ -114,7 +114,7 @@ is_between first end byte = nat_le first byte && nat_lt byte end
 abbrev pub put_written : (ℕ → Bool) → ℕ → ℕ → ℕ → Bool
 put_written written first count byte = is_between first (first + count) byte || written byte
 
--- so many bytes from a place on are written too
+-- this many bytes from a place on are written too
 abbrev pub with_written : AbstractState → Option ℕ → ℕ → AbstractState
 with_written A None count = A
 with_written A (Some first) count = record A { written = put_written A.written first count }

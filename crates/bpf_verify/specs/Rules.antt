@@ -113,7 +113,7 @@ misuses_operands shape Add W64 a b = misuses_sum shape a b
 misuses_operands shape Sub W64 a b = misuses_difference shape a b
 misuses_operands shape op width a b = is_pointer_kind a || is_pointer_kind b
 
--- an access that takes one double word whole, whichever pointer of the kind it goes by
+-- an access that takes one double word whole, whichever pointer of the kind it uses
 abbrev pub is_whole : Span → ℤ → ℕ → Bool
 is_whole a off count = is_single a && (count == 8 && is_aligned (pos a.lo +ℤ off))
 
@@ -124,7 +124,7 @@ takes_dword (Number a) off count = false
 takes_dword (Pointer Mem a) off count = false
 takes_dword (Pointer Stack a) off count = is_whole a off count
 
--- one of so many bytes from a place on is of a kept pointer
+-- one of this many bytes from a place on is of a kept pointer
 abbrev pub touches : AbstractState → ℕ → ℕ → Bool
 touches A place count = list_any (λ byte. is_pointer_kind (A.entries (dword_of byte))) (range_with_len place count)
 
@@ -138,7 +138,7 @@ touches_byte A (Number a) off count = false
 touches_byte A (Pointer Mem a) off count = false
 touches_byte A (Pointer Stack a) off count = touches_between A (moved a.lo off) (moved a.hi off) count
 
--- accesses of so many bytes, the first of them from one place to another
+-- accesses of this many bytes, the first of them from one place to another
 abbrev pub may_leave : ℕ → Option ℕ → Option ℕ → ℕ → Bool
 may_leave size (Some first) (Some last) count = nat_lt size (last + count)
 may_leave size first last count = true
@@ -187,7 +187,7 @@ may_leave_regions shape insn A =
 
 -- ---- 8, unset stack byte: a load may take a byte that isn't surely written, and takes none of a kept pointer
 
--- one of so many bytes from a place on isn't surely written
+-- one of this many bytes from a place on isn't surely written
 abbrev pub lacks : AbstractState → ℕ → ℕ → Bool
 lacks A place count = list_any (λ byte. not (A.written byte)) (range_with_len place count)
 
@@ -268,12 +268,12 @@ rule_name BadArgument = codes "BadArgument"
 rule_name ExitNotNumber = codes "ExitNotNumber"
 rule_name NotPointer = codes "NotPointer"
 
--- what is asked of the state at a slot, where there is one
+-- what is asked of the state at a slot, if there is one
 abbrev pub in_state : Option AbstractState → (AbstractState → Bool) → Bool
 in_state None asked = false
 in_state (Some A) asked = asked A
 
--- whether an instruction at a slot, with what is known there, breaks a rule: 1, 2, 3 and 5 are asked also where
+-- whether an instruction at a slot, with what is known there, breaks a rule: 1, 2, 3 and 5 are asked also if
 -- no state is
 abbrev pub breaks : Rule → List Insn → Extent → ℕ → Insn → Option AbstractState → Bool
 breaks NotForward program shape slot insn state = goes_back insn

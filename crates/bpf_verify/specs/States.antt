@@ -85,7 +85,7 @@ joined_kind (Pointer region a) Unset = Unset
 joined_kind (Pointer region a) (Number b) = Unset
 joined_kind (Pointer region a) (Pointer other b) = in_region region other (hull_of a b)
 
--- a byte is surely written where it is in both
+-- a byte is surely written if it is in both
 abbrev pub joined_state : AbstractState → AbstractState → AbstractState
 joined_state A C =
     abstract_state (λ number. joined_kind (A.kinds number) (C.kinds number)) (λ byte. A.written byte && C.written byte)

@@ -19,7 +19,7 @@ use std::alloc::{AllocError, Global};
 /// What is told of a program.
 #[derive(Clone, Copy, Debug, PartialEq, Eq)]
 pub enum Verdict {
-    /// It is accepted, and its longest path has so many instructions.
+    /// It is accepted, and its longest path has this many instructions.
     Accepted { announced: u32 },
     /// The instruction at the slot is the first that breaks a rule, and the rule is the lowest that it breaks.
     Refused { slot: u32, rule: Rule },
@@ -36,14 +36,14 @@ impl Findings {
     ghost use Rattle.std.specs.Prelude.{◌≡◌, option_map};
     ghost use Rattle.bpf_verify.specs.Findings.{abstract_of, table_in};
 
-    /// The verdict.
+    /// Returns the verdict.
     pub fn verdict(&self) -> Verdict
         ensures { result ≡ self.now.verdict }
     {
         self.verdict
     }
 
-    /// What is known at a slot; none where nothing is, since nothing reaches it.
+    /// Returns what is known at a slot; none if no path reaches it.
     pub fn known_at(&self, slot: u32) -> Option<&Known>
         ensures { option_map (λ known. abstract_of known.now) result ≡ table_in self.now slot }
     {
@@ -133,7 +133,7 @@ fn step(
     }
 }
 
-/// The verdict of [`crate::judge`], and what is known at each slot up to the one that is refused.
+/// Returns the verdict of [`crate::judge`], and what is known at each slot up to the one that is refused.
 pub fn explain(alloc: Global, program: &Program, shape: Shape) -> Result<Findings, AllocError>
     ensures { IfOk result (AreFindings program.now shape) }
 {

@@ -24,7 +24,7 @@ pub const REGISTERS: usize = 11;
 pub struct Known {
     pub(crate) kinds: Kinds,
     pub(crate) marks: Marks,
-    /// None where nothing is known.
+    /// None if nothing is known.
     pub(crate) entries: Option<Box<Entries>>,
 }
 
@@ -131,7 +131,7 @@ pub(crate) fn up_to(greatest: u64) -> Range
 }
 
 impl Known {
-    /// What is known of a register.
+    /// Returns what is known of a register.
     #[inline(always)]
     pub fn kind(&self, register: Reg) -> Kind
         ensures { result ≡ kind_of (abstract_of self.now) register }
@@ -139,7 +139,7 @@ impl Known {
         self.kinds.list[register.number() as usize]
     }
 
-    /// What is known of the register of a number, 0 to 10.
+    /// Returns what is known of the register of a number, 0 to 10.
     pub fn kind_numbered(&self, number: u32) -> Kind
         requires { number < REGISTERS }
         ensures { result ≡ (abstract_of self.now).kinds number }
@@ -155,7 +155,7 @@ impl Known {
         self.kinds.list[register.number() as usize] = kind;
     }
 
-    /// So many stack bytes are written too.
+    /// This many stack bytes are written too.
     #[inline(always)]
     pub(crate) fn write(&mut self, first: u32, count: u32)
         requires { first + count ≤ STACK_BYTES }
@@ -176,8 +176,8 @@ impl Known {
         }
     }
 
-    /// What is known of the double word of this number, 0 to 63, of the stack: its bytes are those from eight times its
-    /// number on.
+    /// Returns what is known of the double word of this number, 0 to 63, of the stack: its bytes are those from eight
+    /// times its number on.
     pub fn dword(&self, number: u32) -> Kind
         requires { number < STACK_DWORDS }
         ensures { result ≡ (abstract_of self.now).entries number }
@@ -188,7 +188,7 @@ impl Known {
         }
     }
 
-    /// Whether a stack byte, 0 to 511, is surely written.
+    /// Returns whether a stack byte, 0 to 511, is surely written.
     pub fn is_written(&self, byte: u32) -> bool
         requires { byte < STACK_BYTES }
         ensures { result ≡ (abstract_of self.now).written byte }

@@ -11,8 +11,8 @@ ghost use Rattle.bpf_verify.specs.Typable.{Typable};
 ghost use Rattle.bpf_verify.specs.Paths.{IsLongestPath};
 ghost use Rattle.bpf_verify.specs.Accepted.{IsFirstBroken};
 
-/// A program that is refused at a slot isn't typable, and there is one such slot at most; it has one longest path at
-/// most.
+/// States that a program that is refused at a slot isn't typable, and there is one such slot at most; it has one
+/// longest path at most.
 pub fn one_verdict()
     ensures untypable { (program : List Insn) (shape : Extent) (slot : ℕ) →
         IsFirstBroken program shape slot → Typable program shape → ⊥ }
@@ -22,8 +22,8 @@ pub fn one_verdict()
         IsLongestPath program count → IsLongestPath program other → count ≡ other }
 {}
 
-/// Where more is known before an instruction, it keeps the rules that it kept, and more is known after it. What is
-/// known where edges meet is the least that is known of both.
+/// States that an instruction keeps the rules that it kept if more is known before it, and that more is known after it.
+/// At a join the least that is known on both edges is known.
 pub fn more_keeps_rules()
     ensures rules { (program : List Insn) (shape : Extent) (slot : ℕ) (insn : Insn) (A C : AbstractState) →
         IsProper A → IsContainedIn A C → KeepsRules program shape slot insn (Some C) →

@@ -12,7 +12,7 @@ use bpf_insn::{Insn, Program, Way, target};
 use node_env::Shape;
 use std::alloc::{AllocError, Global};
 
-/// The instructions on the longest path that begins with a way, 0 where there is no such way.
+/// The instructions on the longest path that begins with a way, 0 if there is no such way.
 fn count_on(
     program: &Program,
     shape: Shape,

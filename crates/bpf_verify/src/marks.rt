@@ -42,7 +42,7 @@ impl Marks {
         self.words[(byte / WORD_BITS) as usize] |= 1 << (byte % WORD_BITS);
     }
 
-    /// Adds so many bytes.
+    /// Adds this many bytes.
     #[inline(always)]
     pub(crate) fn add_all(&mut self, first: u32, count: u32)
         requires { first + count ≤ STACK_BYTES }
@@ -63,7 +63,7 @@ impl Marks {
         self.words[(byte / WORD_BITS) as usize] &= !(1 << (byte % WORD_BITS));
     }
 
-    /// Takes so many bytes out.
+    /// Takes this many bytes out.
     #[inline(always)]
     pub(crate) fn take_all(&mut self, first: u32, count: u32)
         requires { first + count ≤ STACK_BYTES }

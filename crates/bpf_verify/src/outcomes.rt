@@ -77,7 +77,7 @@ fn moved_kind(width: Width, b: Kind) -> Kind
     }
 }
 
-/// What is known of the result of an operation.
+/// Returns what is known of the result of an operation.
 pub fn alu_kind(op: AluOp, width: Width, a: Kind, b: Kind) -> Kind
     ensures { result ≡ outcomes.alu_kind op width a b }
 {

@@ -32,7 +32,7 @@ pub enum Rule {
 }
 
 impl Rule {
-    /// The number by which a rule is told, 1 to 11.
+    /// Returns the number by which a rule is told, 1 to 11.
     pub fn number(self) -> u32
         ensures { result ≡ rule_number self }
     {
@@ -50,7 +50,7 @@ impl Rule {
             Rule::NotPointer => 11,
         }
     }
-    /// The name by which a rule is told.
+    /// Returns the name by which a rule is told.
     pub fn name(self) -> &'static str
         ensures { result.now ≡ rule_name self }
     {

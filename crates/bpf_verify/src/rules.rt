@@ -23,7 +23,7 @@ use bpf_insn::{
 use node_env::{Helper, Region, STACK_BYTES, Shape, arguments_of};
 use value_range::{Range, alu};
 
-/// Whether nothing is known.
+/// Returns whether nothing is known.
 pub fn is_unset(kind: Kind) -> bool
     ensures { result ≡ rules.is_unset_kind kind }
 {
@@ -33,7 +33,7 @@ pub fn is_unset(kind: Kind) -> bool
     }
 }
 
-/// Whether it is a pointer.
+/// Returns whether it is a pointer.
 pub fn is_pointer(kind: Kind) -> bool
     ensures { result ≡ rules.is_pointer_kind kind }
 {
@@ -62,7 +62,7 @@ fn immediate(width: Width, imm: i32) -> u64
     }
 }
 
-/// What is known of a second operand.
+/// Returns what is known of a second operand.
 pub fn operand_kind(width: Width, src: Operand, known: &Known) -> Kind
     ensures { result ≡ rules.operand_kind width src (abstract_of known.now) }
 {
@@ -81,7 +81,7 @@ fn goes_back(insn: &Insn) -> bool
     }
 }
 
-/// Whether no instruction begins where a way leads.
+/// Returns whether no instruction begins where an edge leads.
 pub fn is_astray(program: &Program, to: Option<u64>) -> bool
     ensures { result ≡ rules.is_astray program.now to }
 {
@@ -140,7 +140,7 @@ fn arguments(insn: &Insn) -> u32
     }
 }
 
-/// The registers that an instruction reads, in order; of a call, those of its helper's arguments.
+/// Returns the registers that an instruction reads, in order; of a call, those of its helper's arguments.
 pub fn registers_of(insn: &Insn) -> Reads
     ensures { registers_in result ≡ reads arguments_of insn.now }
 {
@@ -290,7 +290,7 @@ fn misuses_operands(shape: Shape, op: AluOp, width: Width, a: Kind, b: Kind) -> 
     }
 }
 
-/// Whether an access takes one double word whole, whichever pointer of the range it goes by.
+/// Whether an access takes one double word whole, whichever pointer of the range it uses.
 pub(crate) fn is_whole(a: Range, off: i16, count: u32) -> bool
     ensures { result ≡ rules.is_whole a off count }
 {
@@ -301,7 +301,7 @@ pub(crate) fn is_whole(a: Range, off: i16, count: u32) -> bool
     first.unsigned_abs() % 8 == 0
 }
 
-/// Whether an access takes one double word of the stack whole, whichever pointer of the kind it goes by.
+/// Returns whether an access takes one double word of the stack whole, whichever pointer of the kind it uses.
 pub fn takes_dword(kind: Kind, off: i16, count: u32) -> bool
     ensures { result ≡ rules.takes_dword kind off count }
 {
@@ -417,7 +417,7 @@ fn misuses_pointer(shape: Shape, insn: &Insn, known: &Known) -> bool
     }
 }
 
-/// An offset in a region moved by a signed one.
+/// Returns an offset in a region, moved by a signed one.
 pub fn moved(place: u64, off: i16) -> Option<u128>
     ensures { result ≡ moved place off }
 {
@@ -485,7 +485,7 @@ fn lacks(known: &Known, first: u32, end: u32) -> bool
     false
 }
 
-/// The first byte of the lowest access and the end of the highest, where all of them stay inside their region.
+/// Returns the first byte of the lowest access and the end of the highest, if all of them stay inside their region.
 pub fn bytes_taken(
     shape: Shape,
     region: Region,

@@ -44,8 +44,8 @@ impl Model for VerifiedProgram {
     ghost invariant = { λ v. IsVerified (accepted_of v) × HasRecords v };
 }
 
-/// The announced count of a program that would be accepted, with no accepted program made: the verdict alone. It
-/// refuses what [`verify`] refuses, and tells the same.
+/// Returns the announced count of a program that would be accepted, without making an accepted program. It refuses what
+/// [`verify`] refuses, for the same reason.
 #[tactic(auto, using(crate::proofs::VerdictLaws::typable_refusal))]
 pub fn judge(alloc: Global, program: &Program, shape: Shape) -> Result<u32, VerifyError>
     ensures typable { OnOk result (Typable program.now shape) }
@@ -113,7 +113,7 @@ impl VerifiedProgram {
     ghost use Rattle.bpf_verify.specs.Paths.{IsLongestPath};
     ghost use Rattle.bpf_record.specs.Records.{AreRecords};
 
-    /// The greatest number of instructions that a run can take: that of the longest path from slot 0.
+    /// Returns the greatest number of instructions that a run can take: that of the longest path from slot 0.
     pub fn budget(&self) -> u32
         ensures value { result ≡ self.now.budget }
         ensures longest { IsLongestPath self.now.program result }
@@ -121,14 +121,14 @@ impl VerifiedProgram {
         self.budget
     }
 
-    /// The shape of the nodes that it is accepted for.
+    /// Returns the shape of the nodes that it is accepted for.
     pub fn shape(&self) -> Shape
         ensures { result ≡ self.now.shape }
     {
         self.shape
     }
 
-    /// The program.
+    /// Returns the program.
     pub fn program(&self) -> &Program
         ensures value { result.now ≡ self.now.program }
         ensures verified { IsVerified self.now }
@@ -137,8 +137,8 @@ impl VerifiedProgram {
         &shared.program
     }
 
-    /// The records of its slots (docs/RUNNER.md, "Records"): at the slot of each instruction there is one that stands
-    /// for it.
+    /// Returns the records of its slots (docs/RUNNER.md, "Records"): at the slot of each instruction there is one that
+    /// represents it.
     pub fn records(&self) -> &[Record]
         ensures records { AreRecords self.now.program result.now }
         ensures verified { IsVerified self.now }
@@ -147,8 +147,8 @@ impl VerifiedProgram {
         &shared.records
     }
 
-    /// Whether the other is the same program, accepted for the same shape: then its budget is the same too. Images are
-    /// compared.
+    /// Returns whether the other is the same program, accepted for the same shape: then its budget is the same too.
+    /// Images are compared.
     #[tactic(auto, using(crate::proofs::VerdictLaws::one_longest))]
     pub fn same(&self, other: &VerifiedProgram) -> bool
         ensures parts { IsTrue result ↔ ((self.now.program ≡ other.now.program) × (self.now.shape ≡ other.now.shape)) }
@@ -159,8 +159,8 @@ impl VerifiedProgram {
         same
     }
 
-    /// An accepted program with the same instructions, shape and budget. The instructions are shared: nothing is
-    /// allocated, and it fails only where no more owners can be counted.
+    /// Returns an accepted program with the same instructions, shape and budget. The instructions are shared: nothing
+    /// is allocated, and it fails only if no more owners can be counted.
     pub fn copy(&self) -> Result<VerifiedProgram, AllocError>
         ensures { IfOk result (λ v. v ≡ self.now) }
     {

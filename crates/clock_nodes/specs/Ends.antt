@@ -7,7 +7,7 @@ use Rattle.bpf_insn.specs.declared.forms.Insn.{Insn}
 use Rattle.bpf_machine.specs.Run.{CompleteRun, End}
 use Rattle.clock_nodes.specs.Rule.{pair_after, with_pair}
 
--- what one node of the shape may begin a pulse with: any mail, coin and node number, and any bytes of memory
+-- what one node of the shape may begin a pulse with: any messages, coin and node number, and any bytes of memory
 pub record IsStart (shape : Extent) (env : Setting) (memory : List ℕ) : Type 0 where
   pub extent : env.shape ≡ shape
   pub setting : IsSetting env
@@ -37,7 +37,7 @@ pub record IsClockEnd (faults modulus : ℕ) (env : Setting) (before : List ℕ)
   pub r0 : end.r0 ≡ 0
   pub steps : end.steps ≤ 17 + 7 * env.shape.nodes
 
--- that of a node that says values: to each node its value, where there is one
+-- that of a node that says values: to each node its value, if there is one
 pub record IsSayEnd (values : List (Option ℕ)) (env : Setting) (before : List ℕ) (end : End) : Type 0 where
   pub memory : end.memory ≡ before
   pub sent : IsSentTo env.shape.nodes (λ j. slice_index_or values j None) end.sent

@@ -14,7 +14,7 @@ use Rattle.clock_nodes.specs.Rule.{Rule, quorum_of}
 
 -- ---- the clock: r6 is the memory's place, r7 the clock, r8 its support, r9 the mark
 
--- the clock into r7, or 0 where it is the modulus or more
+-- the clock into r7, or 0 if it is the modulus or more
 abbrev pub head : ℕ → List Insn
 head modulus =
     Alu Mov W64 R6 (Reg R1) ∷ Load size.W R7 R6 (pos 0)
@@ -31,7 +31,7 @@ abbrev pub count_blocks : ℕ → ℕ → List Insn
 count_blocks zero j = []
 count_blocks (suc n) j = count_block j ++ count_blocks n (suc j)
 
--- the new clock into r7 and the new mark into r9: each of the four cases jumps behind the last
+-- the new clock into r7 and the new mark into r9: each of the four cases jumps after the last
 abbrev pub choice : ℕ → ℕ → List Insn
 choice quorum modulus =
     Branch Ge W64 R8 (Imm (pos quorum)) (pos 3)
@@ -58,7 +58,7 @@ send_blocks (suc n) j = send_block j ++ send_blocks n (suc j)
 abbrev pub tail : List Insn
 tail = Alu Mov W64 R0 (Imm (pos 0)) ∷ Exit ∷ []
 
--- for so many nodes, of whose mails a quorum makes a clock go on
+-- for this many nodes, of whose messages a quorum makes a clock go on
 abbrev pub listing : ℕ → ℕ → ℕ → List Insn
 listing nodes quorum modulus =
     head modulus ++ (count_blocks nodes 0 ++ (choice quorum modulus ++ (store ++ (send_blocks nodes 0 ++ tail))))
@@ -73,7 +73,7 @@ clock_listing rule = listing rule.nodes (quorum_of rule) rule.modulus
 abbrev pub say_block : ℕ → ℕ → List Insn
 say_block j value = Alu Mov W64 R1 (Imm (pos j)) ∷ Alu Mov W32 R2 (Imm (cast_signed w32 value)) ∷ Call (pos 3) ∷ []
 
--- the values, where there are some, to the nodes from j on
+-- the values, if there are some, to the nodes from j on
 abbrev pub say_blocks : ℕ → List (Option ℕ) → List Insn
 say_blocks j [] = []
 say_blocks j (None ∷ values) = say_blocks (suc j) values

@@ -1,4 +1,4 @@
--- The rule of the clocks (docs/CLOCK.md, "The rule"): what a node makes of its memory, its mail and its coin in a
+-- The rule of the clocks (docs/CLOCK.md, "The rule"): what a node makes of its memory, its messages and its coin in a
 -- pulse.
 use Rattle.std.specs.Prelude.{ℕ, zero, suc, ◌+◌, ◌-◌, ◌%◌, ◌<◌, ◌≤◌, ◌==◌, nat_lt, not, if◌then◌else◌, Bool, false, List, ◌++◌, take, drop, Option, Some, None}
 use Rattle.std.specs.Int.{w32, from_le_bytes, to_le_bytes}
@@ -8,7 +8,7 @@ use Rattle.node_env.specs.declared.shape.TheConstants.{MAX_NODES}
 use Rattle.node_env.specs.Env.{Setting}
 use Rattle.clock_nodes.specs.declared.rule.TheConstants.{LEAST_MODULUS, MOST_MODULUS}
 
--- for so many nodes, of which so many may be faulty, with clocks below the modulus
+-- for this many nodes, of which this many may be faulty, with clocks below the modulus
 pub record Rule : Type 0 where
   pub nodes : ℕ
   pub faults : ℕ
@@ -21,7 +21,7 @@ pub record IsRule (nodes faults modulus : ℕ) : Type 0 where
   pub least : LEAST_MODULUS ≤ modulus
   pub most : modulus ≤ MOST_MODULUS
 
--- how many mails make a clock go on
+-- how many messages make a clock go on
 abbrev pub quorum_of : Rule → ℕ
 quorum_of rule = rule.nodes - rule.faults
 
@@ -35,7 +35,7 @@ clock_of memory = from_le_bytes w32 (take 4 memory)
 abbrev pub mark_of : List ℕ → ℕ
 mark_of memory = from_le_bytes w32 (take 4 (drop 4 memory))
 
--- the memory with this clock and this mark; the bytes behind them are kept
+-- the memory with this clock and this mark; the bytes after them are kept
 abbrev pub with_pair : ℕ × ℕ → List ℕ → List ℕ
 with_pair pair memory = to_le_bytes w32 pair.0 ++ (to_le_bytes w32 pair.1 ++ drop 8 memory)
 
@@ -52,11 +52,11 @@ support inbox v (suc n) = support inbox v n + (if is_mail v (get inbox n) then 1
 
 -- ---- the rule
 
--- the clock, or 0 where it is the modulus or more
+-- the clock, or 0 if it is the modulus or more
 abbrev pub clock_below : ℕ → ℕ → ℕ
 clock_below modulus clock = if nat_lt clock modulus then clock else 0
 
--- the new clock and mark of a node with clock v, so many supporters of it, this mark and this coin
+-- the new clock and mark of a node with clock v, this many supporters of it, this mark and this coin
 abbrev pub pair_from : ℕ → ℕ → ℕ → ℕ → ℕ → ℕ → ℕ × ℕ
 pair_from quorum modulus supporters v mark coin =
     if nat_lt supporters quorum then (0, 0)
@@ -64,7 +64,7 @@ pair_from quorum modulus supporters v mark coin =
     else if not (mark == 0) then (1, 1)
     else (coin, coin)
 
--- of a node in this setting with this memory; its own mail counts
+-- of a node in this setting with this memory; its own message counts
 abbrev pub pair_after : ℕ → ℕ → Setting → List ℕ → ℕ × ℕ
 pair_after faults modulus env memory =
     let v = clock_below modulus (clock_of memory) in

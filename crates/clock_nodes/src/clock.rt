@@ -18,7 +18,7 @@ const CLOCK: i16 = 0;
 
 const MARK: i16 = 4;
 
-/// The clock into r7, or 0 where it is the modulus or more; nothing is counted in r8 yet.
+/// The clock into r7, or 0 if it is the modulus or more; nothing is counted in r8 yet.
 fn head(modulus: u32) -> [Insn; 5]
     requires { modulus ≤ MOST_MODULUS }
     ensures { result ≡ head modulus }
@@ -33,7 +33,7 @@ fn head(modulus: u32) -> [Insn; 5]
     ]
 }
 
-/// One more in r8 where the node sent the clock.
+/// One more in r8 if the node sent the clock.
 fn count_block(sender: u32) -> [Insn; 4]
     requires { sender < MAX_NODES }
     ensures { result ≡ count_block sender }
@@ -141,8 +141,8 @@ fn clock_insns(
     Ok(insns)
 }
 
-/// The clock of a rule, for the nodes of a shape: docs/CLOCK.md has its listing. It is named for the authors of the
-/// digital clock that the rule is written after.
+/// Returns the clock of a rule, for the nodes of a shape: docs/CLOCK.md has its listing. It is named for the authors of
+/// the digital clock that the rule is written after.
 pub fn dolev_welch(alloc: Global, shape: Shape, rule: ClockRule) -> Result<Program, AllocError>
     requires nodes { rule.nodes ≡ shape.nodes }
     ensures listing { IfOk result (λ p. p ≡ clock_listing rule) }

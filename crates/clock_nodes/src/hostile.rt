@@ -66,8 +66,8 @@ fn say_insns(alloc: Global, nodes: u32, values: &[Option<u32>]) -> Result<Vec<In
     Ok(insns)
 }
 
-/// A program that sends each node its value, where there is one, whatever mail, coin and memory say. It keeps the
-/// memory.
+/// Returns a program that sends each node its value, if there is one, whatever messages, coin and memory say. It keeps
+/// the memory.
 pub fn say(alloc: Global, shape: Shape, values: &[Option<u32>]) -> Result<Program, AllocError>
     requires values { length values.now ≡ shape.nodes }
     ensures listing { IfOk result (λ p. p ≡ say_listing values.now) }
@@ -115,7 +115,7 @@ fn echo_insns(alloc: Global, nodes: u32) -> Result<Vec<Insn>, AllocError>
     Ok(insns)
 }
 
-/// A program that sends each node what came from it, and 4294967295 where nothing came. It keeps the memory.
+/// Returns a program that sends each node what came from it, and 4294967295 if nothing came. It keeps the memory.
 pub fn echo(alloc: Global, shape: Shape) -> Result<Program, AllocError>
     ensures listing { IfOk result (λ p. p ≡ echo_listing shape.nodes) }
     ensures runs { IfOk result (λ p. HasRuns p shape) }

@@ -18,7 +18,7 @@ pub const SEND: i32 = 3;
 
 pub const COIN: i32 = 4;
 
-/// An operation of 64 bits.
+/// Returns an operation of 64 bits.
 pub fn alu(op: AluOp, dst: Reg, src: Operand) -> Insn
     ensures { result ≡ i.Alu op W64 dst src }
 {
@@ -30,19 +30,21 @@ pub fn alu(op: AluOp, dst: Reg, src: Operand) -> Insn
     }
 }
 
+/// Returns a move of 64 bits.
 pub fn mov(dst: Reg, imm: i32) -> Insn
     ensures { result ≡ i.Alu Mov W64 dst (operand.Imm imm) }
 {
     alu(AluOp::Mov, dst, Operand::Imm(imm))
 }
 
+/// Returns a move of a register.
 pub fn copy(dst: Reg, src: Reg) -> Insn
     ensures { result ≡ i.Alu Mov W64 dst (operand.Reg src) }
 {
     alu(AluOp::Mov, dst, Operand::Reg(src))
 }
 
-/// A branch on numbers of 64 bits.
+/// Returns a branch on numbers of 64 bits.
 pub fn branch(cond: Cond, dst: Reg, src: Operand, off: i16) -> Insn
     ensures { result ≡ i.Branch cond W64 dst src off }
 {
@@ -55,7 +57,7 @@ pub fn branch(cond: Cond, dst: Reg, src: Operand, off: i16) -> Insn
     }
 }
 
-/// A load of 32 bits.
+/// Returns a load of 32 bits.
 pub fn load(dst: Reg, base: Reg, off: i16) -> Insn
     ensures { result ≡ i.Load size.W dst base off }
 {
@@ -67,7 +69,7 @@ pub fn load(dst: Reg, base: Reg, off: i16) -> Insn
     }
 }
 
-/// A store of 32 bits.
+/// Returns a store of 32 bits.
 pub fn store(base: Reg, off: i16, src: Reg) -> Insn
     ensures { result ≡ i.StoreReg size.W base off src }
 {
@@ -79,14 +81,14 @@ pub fn store(base: Reg, off: i16, src: Reg) -> Insn
     }
 }
 
-/// The end of each program, with 0 in r0.
+/// Returns the end of each program, with 0 in r0.
 pub fn tail() -> [Insn; 2]
     ensures { result ≡ tail }
 {
     [mov(Reg::R0, 0), Insn::Exit]
 }
 
-/// The program with these instructions.
+/// Returns the program with these instructions.
 pub fn program(alloc: Global, insns: Vec<Insn>) -> Result<Program, AllocError>
     requires { IsProgram insns.items }
     ensures { IfOk result (λ p. p ≡ insns.items) }

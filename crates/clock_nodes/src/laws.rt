@@ -10,8 +10,8 @@ ghost use Rattle.clock_nodes.specs.Rule.{Rule, IsRule, clock_of, mark_of, pair_a
 ghost use Rattle.clock_nodes.specs.Listings.{listing, clock_listing, say_listing, echo_listing};
 ghost use Rattle.clock_nodes.specs.Ends.{HasRuns, EndsBy, IsClockEnd, IsSayEnd, IsEchoEnd};
 
-/// The clock's instructions are a program, however they were made; it has a complete run from every memory, mail
-/// and coin, and every complete run ends as the rule says.
+/// States that the clock's instructions are a program, however they were made. It has a complete run from every memory,
+/// with all messages and coins, and every complete run ends as the rule says.
 pub fn clock_ends()
     ensures slots { (nodes quorum modulus : ℕ) → slots_of (listing nodes quorum modulus) ≡ 27 + 7 * nodes }
     ensures program { (rule : Rule) → IsRule rule.nodes rule.faults rule.modulus → IsProgram (clock_listing rule) }
@@ -21,15 +21,15 @@ pub fn clock_ends()
         rule.nodes ≡ shape.nodes → EndsBy (clock_listing rule) shape (IsClockEnd rule.faults rule.modulus) }
 {}
 
-/// Every clock is taken: its listing is typable for every shape of its nodes, so `verify` of `bpf_verify` refuses no
-/// clock, and what it announces is the length that stands here.
+/// States that every clock is accepted: its listing is typable for every shape of its nodes, so `verify` of
+/// `bpf_verify` refuses no clock, and the announced count is this length.
 pub fn clock_is_taken()
     ensures typable { (rule : Rule) (shape : Extent) → IsRule rule.nodes rule.faults rule.modulus →
         IsExtent shape.nodes shape.memory → rule.nodes ≡ shape.nodes → Typable (clock_listing rule) shape }
     ensures longest { (rule : Rule) → IsLongestPath (clock_listing rule) (17 + 7 * rule.nodes) }
 {}
 
-/// What `clock_ends` says of the clock, of `say`, for a value or none for each node.
+/// States of `say`, for a value or none for each node, what `clock_ends` states of the clock.
 pub fn say_ends()
     ensures slots { (values : List (Option ℕ)) → slots_of (say_listing values) ≤ 2 + 3 * length values }
     ensures program { (values : List (Option ℕ)) → length values ≤ MAX_NODES →
@@ -40,7 +40,7 @@ pub fn say_ends()
         EndsBy (say_listing values) shape (IsSayEnd values) }
 {}
 
-/// The same of `echo`.
+/// States the same of `echo`.
 pub fn echo_ends()
     ensures slots { (nodes : ℕ) → slots_of (echo_listing nodes) ≡ 2 + 5 * nodes }
     ensures program { (nodes : ℕ) → nodes ≤ MAX_NODES → IsProgram (echo_listing nodes) }
@@ -48,14 +48,14 @@ pub fn echo_ends()
     ensures ends { (shape : Extent) → EndsBy (echo_listing shape.nodes) shape IsEchoEnd }
 {}
 
-/// The listings of `say` and `echo` are taken too.
+/// States that the listings of `say` and `echo` are accepted, too.
 pub fn hostile_is_taken()
     ensures say { (values : List (Option ℕ)) (shape : Extent) → IsExtent shape.nodes shape.memory →
         length values ≡ shape.nodes → Typable (say_listing values) shape }
     ensures echo { (shape : Extent) → IsExtent shape.nodes shape.memory → Typable (echo_listing shape.nodes) shape }
 {}
 
-/// A clock and a mark that are written are read back, and those of the rule fit their places.
+/// States that a clock and a mark that are written are read back, and that those of the rule fit their places.
 pub fn pair_is_read_back()
     ensures clock { (pair : ℕ × ℕ) (memory : List ℕ) → pair.0 < 2 ^ 32 → clock_of (with_pair pair memory) ≡ pair.0 }
     ensures mark { (pair : ℕ × ℕ) (memory : List ℕ) → pair.1 < 2 ^ 32 → mark_of (with_pair pair memory) ≡ pair.1 }

@@ -11,7 +11,7 @@ pub const LEAST_MODULUS: u32 = 2;
 /// The most.
 pub const MOST_MODULUS: u32 = 65_536;
 
-/// The rule of the clocks (docs/CLOCK.md, "The rule") for so many nodes, of which so many may be faulty, with
+/// The rule of the clocks (docs/CLOCK.md, "The rule") for this many nodes, of which this many may be faulty, with
 /// clocks below the modulus.
 #[derive(Clone, Copy, Debug, PartialEq, Eq)]
 pub struct ClockRule {
@@ -33,9 +33,9 @@ impl Model for ClockRule {
 }
 
 impl ClockRule {
-    /// 1 to `MAX_NODES` nodes, fewer faults than nodes, and a modulus from `LEAST_MODULUS` to `MOST_MODULUS`.
-    /// Clocks are only known to agree where there are more than three times as many nodes as faults (docs/CLOCK.md,
-    /// "Why it holds"); that isn't asked here.
+    /// Returns the rule for 1 to `MAX_NODES` nodes, fewer faults than nodes, and a modulus from `LEAST_MODULUS` to
+    /// `MOST_MODULUS`. Clocks are only known to agree if there are more than three times as many nodes as faults
+    /// (docs/CLOCK.md, "Why it holds"); that isn't required here.
     pub fn of(nodes: u32, faults: u32, modulus: u32) -> Option<ClockRule>
         ensures value { IfSome result (λ r. r ≡ record { nodes = nodes; faults = faults; modulus = modulus }) }
         ensures some { IsSome result ↔ IsRule nodes faults modulus }
@@ -53,6 +53,7 @@ impl ClockRule {
         })
     }
 
+    /// Returns the number of nodes.
     pub fn nodes(self) -> u32
         ensures value { result ≡ self.nodes }
         ensures rule { IsRule self.nodes self.faults self.modulus }
@@ -60,6 +61,7 @@ impl ClockRule {
         self.nodes
     }
 
+    /// Returns how many nodes may be faulty.
     pub fn faults(self) -> u32
         ensures value { result ≡ self.faults }
         ensures rule { IsRule self.nodes self.faults self.modulus }
@@ -67,6 +69,7 @@ impl ClockRule {
         self.faults
     }
 
+    /// Returns the modulus of the clocks.
     pub fn modulus(self) -> u32
         ensures value { result ≡ self.modulus }
         ensures rule { IsRule self.nodes self.faults self.modulus }
@@ -74,7 +77,7 @@ impl ClockRule {
         self.modulus
     }
 
-    /// How many mails make a clock go on: one from each node but the faulty ones.
+    /// Returns how many messages make a clock go on: one from each node but the faulty ones.
     pub fn quorum(self) -> u32
         ensures value { result ≡ quorum_of self }
         ensures rule { IsRule self.nodes self.faults self.modulus }

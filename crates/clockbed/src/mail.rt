@@ -25,7 +25,7 @@ impl From<AllocError> for MailFault {
 }
 
 impl MailFault {
-    /// Why, as a command line's fault says it.
+    /// Returns why, as a command line's fault says it.
     pub fn reason(self) -> &'static str {
         match self {
             MailFault::NotNumbers => {
@@ -39,7 +39,7 @@ impl MailFault {
     }
 }
 
-/// The list of a text, in rising order, each number once.
+/// Returns the list of a text, in rising order, each number once.
 pub fn mail_in(alloc: Global, text: &str) -> Result<Vec<MailSpan>, MailFault> {
     let mut numbers = BTreeSet::new(alloc);
     for part in text.split(',') {
@@ -60,7 +60,7 @@ pub fn mail_in(alloc: Global, text: &str) -> Result<Vec<MailSpan>, MailFault> {
     Ok(spans_of(alloc, &numbers)?)
 }
 
-/// The bytes of a text, in rising order, each once; none where it isn't a list of bytes.
+/// Returns the bytes of a text, in rising order, each once; none if it isn't a list of bytes.
 pub fn bytes_in(alloc: Global, text: &str) -> Result<Option<Vec<u8>>, AllocError> {
     let mut bytes = BTreeSet::new(alloc);
     for part in text.split(',') {

@@ -17,7 +17,7 @@ pub struct Progress<'a, W, E, C> {
 }
 
 impl<'a, W: Write, E: Write, C: Clock> Progress<'a, W, E, C> {
-    /// A writer of the lines of so many keys, after a line of names.
+    /// Returns a writer of the lines of so many keys, after a line of names.
     pub fn new(out: W, terminal: E, clock: &'a C, keys: u64) -> Progress<'a, W, E, C>
         ensures { result.out ≡ out }
     {

@@ -55,7 +55,7 @@ impl From<MailFault> for OptionsFault {
     }
 }
 
-/// What the words ask for, of which the first is the program's name.
+/// Returns what the words ask for, of which the first is the program's name.
 pub fn asked_by<S: AsStr>(alloc: Global, words: &[S]) -> Result<Asked, Fault>
     ensures { IfErr result IsOfCommandLine }
 {

@@ -12,12 +12,13 @@ pub struct Source {
 }
 
 impl Source {
+    /// Opens a file to read.
     pub fn open(rt: &HostRuntime, path: &str) -> io::Result<Source> {
         let file = File::open(rt, path)?;
         Ok(Source { file, reason: None })
     }
 
-    /// Why the last call of `read` that failed did.
+    /// Returns why the last call of `read` that failed did.
     pub fn reason(&self) -> Option<io::Error> {
         self.reason
     }

@@ -6,10 +6,10 @@ use key_sweep::{MOST_KEY, MOST_SWEEPERS};
 use node_env::{MAX_MEMORY, MAX_NODES, MEMORY_UNIT};
 use std::fmt::InlineText;
 
-/// The number of nodes where none is named.
+/// The number of nodes if none is named.
 pub const DEFAULT_NODES: u32 = 4;
 
-/// The bytes of memory where none are named.
+/// The bytes of memory if none are named.
 pub const DEFAULT_MEMORY: u32 = 16;
 
 /// The fuel of a run for which none is named.
@@ -24,7 +24,7 @@ pub const DEFAULT_WORKERS: u32 = 2;
 /// The loaders of a stressed bench for which none are named.
 pub const DEFAULT_LOADERS: u32 = 2;
 
-/// The loads of each loader where none are named, and the most that can be named.
+/// The loads of each loader if none are named, and the most that can be named.
 pub const DEFAULT_LOADS: u32 = 8;
 
 pub(crate) const MOST_LOADS: u32 = 100;
@@ -34,7 +34,7 @@ pub const DEFAULT_PULSES: u32 = 8;
 
 pub(crate) const MOST_PULSES: u32 = 1_000;
 
-/// The most states that are explored where none are named, and the most that can be named.
+/// The most states that are explored if none are named, and the most that can be named.
 pub const DEFAULT_STATES: u32 = 1_000_000;
 
 /// The most states and the last pulse of an exploration that can be named.

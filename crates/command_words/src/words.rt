@@ -239,7 +239,7 @@ fn with_case<'a>(alloc: Global, command: Building<'a>, helps: &'a Helps) -> Buil
         ))
 }
 
-/// The option for the mail of a case, which may begin with a dash.
+/// The option for the messages of a case, which may begin with a dash.
 fn mail_option<'a>(alloc: Global) -> Arg<'a> {
     text_option(
         alloc,

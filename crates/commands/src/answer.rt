@@ -18,7 +18,7 @@ impl Answer {
     ghost use Rattle.std.specs.Prelude.{◌≡◌};
     ghost use Rattle.commands.specs.Answer.{ending_of};
 
-    /// How the command ends that wrote it. A trap and the end of fuel are results.
+    /// Returns how the command ends that wrote it. A trap and the end of fuel are results.
     pub fn ending(&self) -> Ending
         ensures { result ≡ ending_of self.now }
     {

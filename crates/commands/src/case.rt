@@ -20,7 +20,7 @@ impl Case {
     ghost use Rattle.std.specs.Prelude.{◌≡◌, ◌<◌, [], false, IfOk, length};
     ghost use Rattle.commands.specs.Case.{case_memory, case_setting};
 
-    /// Node 0 with zeros in its memory; its coin is 0, and nothing came to it.
+    /// Returns the case of node 0 with zeros in its memory; its coin is 0, and nothing came to it.
     pub fn bare(alloc: Global) -> Case
         ensures id { result.id ≡ 0 }
         ensures mail { result.mail.items ≡ [] }
@@ -35,7 +35,7 @@ impl Case {
         }
     }
 
-    /// What a program sees in this case.
+    /// Returns what a program sees in this case.
     #[tactic(auto, using(node_env::proofs::Slots::slots))]
     pub fn env(&self, alloc: Global, shape: Shape) -> Result<Env, AllocError>
         requires { self.now.id < shape.nodes }
@@ -47,7 +47,7 @@ impl Case {
         Ok(Env::new(shape, self.id, inbox, coin))
     }
 
-    /// The memory in which the run begins.
+    /// Returns the memory in which the run begins.
     pub fn memory(&self, alloc: Global, shape: Shape) -> Result<Vec<u8>, AllocError>
         ensures bytes { IfOk result (λ memory. memory.items ≡ case_memory shape self.now) }
         ensures size { IfOk result (λ memory. length memory.items ≡ shape.memory) }

@@ -32,7 +32,7 @@ pub enum Fault {
 const LINE_BYTES: usize = 64;
 
 impl Fault {
-    /// The fault of a command line, or the want of memory to say it.
+    /// Returns the fault of a command line, or out of memory if there is none to say it.
     pub fn of_command_line(alloc: Global, text: &str) -> Fault
         ensures { IsOfCommandLine result }
     {

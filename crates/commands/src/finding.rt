@@ -63,7 +63,7 @@ impl Finding {
     ghost use Rattle.std.specs.Prelude.{◌≡◌};
     ghost use Rattle.commands.specs.Explore.{finding_ending};
 
-    /// How the command ends that wrote it.
+    /// Returns how the command ends that wrote it.
     pub fn ending(&self) -> Ending
         ensures { result ≡ finding_ending self.now }
     {
@@ -234,7 +234,7 @@ impl Finding {
         }
     }
 
-    /// The line or two with their end, and what follows them.
+    /// Returns the line or two with their end, and what follows them.
     pub fn text(&self, alloc: Global) -> Result<String, AllocError>
         ensures { IfOk result (λ text. string_bytes text ≡ finding_text self.now) }
     {

@@ -20,7 +20,7 @@ pub const IMAGE_BYTES: usize = 8 * MAX_SLOTS + 1;
 /// The most calls of `read`.
 pub const IMAGE_CALLS: usize = 2 * IMAGE_BYTES;
 
-/// The first bytes of the input, at most so many.
+/// Reads the first bytes of the input, at most so many.
 pub fn read_image<R: Read>(alloc: Global, reader: &mut R) -> Result<Vec<u8>, Fault>
     ensures bytes { IfOk result (λ image.
         IfSome (R.remaining reader.old) (λ input. image.items ≡ take IMAGE_BYTES input)) }
@@ -34,7 +34,7 @@ pub fn read_image<R: Read>(alloc: Global, reader: &mut R) -> Result<Vec<u8>, Fau
     }
 }
 
-/// The program of an image, or why the bytes are none. Want of memory is a fault.
+/// Returns the program of an image, or why the bytes are none. Lack of memory is a fault.
 pub fn program_in(alloc: Global, bytes: &[u8]) -> Result<Result<Program, ImageError>, Fault>
     ensures read { IfOk result (ReadsImage bytes.now) }
     ensures fault { IfErr result IsBeforeWriting }
@@ -55,8 +55,7 @@ pub enum Refusal {
     Image(ImageError),
 }
 
-/// The program of the image that is read, with the shape that is asked for. Where the options have none, nothing is
-/// read.
+/// Returns the program of the image that is read, with the shape of the options. If they have none, nothing is read.
 pub fn program_for<R: Read>(
     alloc: Global,
     options: ShapeOptions,

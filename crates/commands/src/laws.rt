@@ -25,7 +25,7 @@ pub fn one_answer()
     one_run();
 }
 
-/// A run leaves one memory, and sends one number or none to each node.
+/// States that a run leaves one memory, and sends one number or none to each node.
 pub fn one_left()
     ensures { (options : ExecOptions) (bytes : List ℕ) (outcome : Outcome) (fuel : ℕ) (left other : Left)
         → AnswersLeaving options bytes (Ran outcome fuel) left → AnswersLeaving options bytes (Ran outcome fuel) other

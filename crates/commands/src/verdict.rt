@@ -21,7 +21,7 @@ impl Verdict {
     ghost use Rattle.std.specs.Prelude.{◌≡◌};
     ghost use Rattle.commands.specs.Verdict.{verdict_ending};
 
-    /// How the command ends that wrote it.
+    /// Returns how the command ends that wrote it.
     pub fn ending(&self) -> Ending
         ensures { result ≡ verdict_ending self.now }
     {

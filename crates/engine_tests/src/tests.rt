@@ -44,7 +44,7 @@ fn clock(alloc: Global, four: &Four) -> Result<VerifiedProgram, Fail>
     }
 }
 
-/// The clock in each of four nodes, and then so many pulses with coins of 1.
+/// The clock in each of four nodes, and then this many pulses with coins of 1.
 fn clocks(alloc: Global, four: &Four, pulses: u32) -> Result<Vec<Event>, Fail>
     requires { four.now.rule.nodes ≡ four.now.shape.nodes }
 {

@@ -8,7 +8,7 @@ use std::process::ExitCode;
 /// The workers of a pulse: the report is the same for any number of them.
 const WORKERS: u32 = 1;
 
-/// The status where nothing was written: the whole program is to answer.
+/// The status if nothing was written: the whole program is to answer.
 const UNANSWERED: u8 = 2;
 
 fn main(rt: HostRuntime) -> ExitCode {

@@ -1,4 +1,4 @@
-//! Tests of what no contract says: that the definitions are the table that others read, and that calls succeed where
+//! Tests of what no contract says: that the definitions are the table that others read, and that calls succeed if
 //! there is memory.
 
 use bpf_insn::*;

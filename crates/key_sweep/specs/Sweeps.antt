@@ -17,7 +17,7 @@ use Rattle.key_sweep.specs.declared.sweeping.SweepFault.{SweepFault}
 use Rattle.key_sweep.specs.declared.sweeping.SweepFault.TheVariants as faults
 use Rattle.key_sweep.specs.Rows.{sweep_text}
 
--- what the run of the scenario comes to, where it has this key
+-- what the run of the scenario comes to, if it has this key
 pub record IsOfKey (s : Scenario) (key : ℕ) (m : RunSummary) : Type 0 where
   pub records : List PulseTold
   pub memories : List (List ℕ)
@@ -28,7 +28,7 @@ pub record IsOfKey (s : Scenario) (key : ℕ) (m : RunSummary) : Type 0 where
 abbrev pub AreOfKeys : Scenario → ℕ → List RunSummary → Type 0
 AreOfKeys s first ms = (i : ℕ) (m : RunSummary) → slice_get ms i ≡ Some m → IsOfKey s (first + i) m
 
--- the lines of so many keys from this one on
+-- the lines of this many keys from this one on
 pub record Lines (s : Scenario) (first count : ℕ) (told : List ℕ) : Type 0 where
   pub summaries : List RunSummary
   pub each : AreOfKeys s first summaries
@@ -58,7 +58,7 @@ pub record Breaks (old new : Option (List ℕ)) (s : Scenario) (keys : Span) (wr
   pub number : written ≡ min taken MOST_TOLD
   pub left : Appends old new (take taken told)
 
--- the lines of all keys; the front of them where a write failed; those of the first keys where there was no memory for
+-- the lines of all keys; the front of them if a write failed; those of the first keys if there was no memory for
 -- one more
 abbrev pub LeavesLines : Option (List ℕ) → Option (List ℕ) → Scenario → Span → Result (Unit {0}) SweepFault → Type 0
 LeavesLines old new s keys (Ok done) =
@@ -73,7 +73,7 @@ LeavesLines old new s keys (Err faults.Read) = ⊥
 abbrev pub HasKey : List ℕ → Scenario → Type 0
 HasKey text s = ReadsText text s × (s.coins ≡ Chacha)
 
--- the same of a text, of which nothing is left where it says no such scenario
+-- the same of a text, of which nothing is left if it says no such scenario
 abbrev pub LeavesSweep : Option (List ℕ) → Option (List ℕ) → List ℕ → Span → Result (Unit {0}) SweepFault → Type 0
 LeavesSweep old new text keys (Err (faults.Refused error)) = IsDue text error × Keeps old new
 LeavesSweep old new text keys (Err faults.NoKey) =

@@ -11,7 +11,7 @@ use std::sync::Wait;
 use std::thread;
 use std::thread::Threads;
 
-/// What the run with this key comes to; nothing where there is no memory for it.
+/// What the run with this key comes to; nothing if there is no memory for it.
 fn summary_with_key<T: Threads + Wait + Sync>(
     rt: &T,
     alloc: Global,
@@ -25,7 +25,7 @@ fn summary_with_key<T: Threads + Wait + Sync>(
     summary_of(alloc, scenario, run.records.as_slice()).ok()
 }
 
-/// What the run with each of so many keys comes to, in their order, by at most so many workers.
+/// What the run with each of this many keys comes to, in their order, by at most this many workers.
 fn slots_of<T: Threads + Wait + Sync>(
     rt: &T,
     alloc: Global,
@@ -65,7 +65,7 @@ fn front_of(alloc: Global, slots: &[Option<RunSummary>]) -> Result<Vec<RunSummar
     Ok(front)
 }
 
-/// What the run with each of so many keys comes to, up to the first for which there was no memory.
+/// What the run with each of this many keys comes to, up to the first for which there was no memory.
 pub(crate) fn summaries_of<T: Threads + Wait + Sync>(
     rt: &T,
     alloc: Global,

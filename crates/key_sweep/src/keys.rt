@@ -27,7 +27,8 @@ impl Model for KeySpan {
 }
 
 impl KeySpan {
-    /// The first key is at most the last one, and that at most [`MOST_KEY`].
+    /// Returns the keys from the first to the last, if the first is at most the last one, and that at most
+    /// [`MOST_KEY`].
     pub fn of(first: u64, last: u64) -> Option<KeySpan>
         ensures value { IfSome result (λ k. k ≡ record { first = first; last = last }) }
         ensures some { IsSome result ↔ IsSpan first last }
@@ -38,6 +39,7 @@ impl KeySpan {
         Some(KeySpan { first, last })
     }
 
+    /// Returns the first key.
     pub fn first(self) -> u64
         ensures value { result ≡ self.first }
         ensures span { IsSpan self.first self.last }
@@ -45,6 +47,7 @@ impl KeySpan {
         self.first
     }
 
+    /// Returns the last key.
     pub fn last(self) -> u64
         ensures value { result ≡ self.last }
         ensures span { IsSpan self.first self.last }
@@ -52,7 +55,7 @@ impl KeySpan {
         self.last
     }
 
-    /// How many there are.
+    /// Returns how many keys there are.
     pub fn count(self) -> u64
         ensures { result ≡ count_of self }
     {

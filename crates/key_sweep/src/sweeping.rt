@@ -24,7 +24,7 @@ use thiserror::Error;
 /// The most workers that are of use: one for each key that is shared out at once.
 pub const MOST_SWEEPERS: u32 = 64;
 
-/// How many keys are shared out at once: so many lines are written together.
+/// How many keys are shared out at once: this many lines are written together.
 const KEYS_AT_ONCE: u64 = MOST_SWEEPERS as u64;
 
 /// Why a sweep left not all its lines.
@@ -38,7 +38,7 @@ pub enum SweepFault {
     /// The scenario's coins are not drawn by a key.
     #[error("the coins have no key")]
     NoKey,
-    /// A call of `write` failed or took nothing, when so many bytes were taken.
+    /// A call of `write` failed or took nothing, when this many bytes were taken.
     #[error("writing failed after {written} bytes")]
     Write { written: u64 },
     #[error("out of memory")]
@@ -73,7 +73,7 @@ fn has_key(coins: Coins) -> bool
     }
 }
 
-/// Writes bytes after so many, and answers how many there are then.
+/// Writes bytes after this many, and answers how many there are then.
 fn write_part<W: Write>(writer: &mut W, before: u64, bytes: &[u8]) -> Result<u64, SweepFault>
     ensures all { IfOk result (λ after. (after ≡ min (before + length bytes.now) MOST_TOLD)
         × Appends (W.contents writer.old) (W.contents writer.new) bytes.now) }
@@ -125,7 +125,7 @@ fn write_keys<T: Threads + Wait + Sync, W: Write>(
 }
 
 /// Reads a scenario whose coins are drawn by a key, runs it with each of these keys in place of its own, and writes a
-/// line for each, in their order, after one of names. Each of at most so many workers runs whole scenarios; where no
+/// line for each, in their order, after one of names. Each of at most this many workers runs whole scenarios; where no
 /// thread can be started, the caller's runs them. At most [`MOST_BYTES`] bytes are read.
 pub fn sweep<T: Threads + Wait + Sync, R: Read, W: Write>(
     rt: &T,

@@ -41,7 +41,7 @@ fn program(alloc: Global, insns: &[Insn]) -> Result<Program, Fail> {
     }
 }
 
-/// What node 0 of four sees with 16 bytes of memory, no mail and coin 1.
+/// What node 0 of four sees with 16 bytes of memory, no messages and coin 1.
 fn bare_env(alloc: Global) -> Result<Env, Fail>
     ensures shape { IfOk result (λ env. (env.shape.nodes ≡ NODES) × (env.shape.memory ≡ MEMORY)) }
 {

@@ -30,7 +30,7 @@ region_size extent Stack = STACK_BYTES
 abbrev pub AreNumbers : ℕ → FinMap nat_cmp ℕ → Type 0
 AreNumbers nodes numbers = (j v : ℕ) → get numbers j ≡ Some v → (j < nodes) × (v < 2 ^ 32)
 
--- what one node sees in a pulse: the shape, its number, the mail by sender, and the coin
+-- what one node sees in a pulse: the shape, its number, the messages by sender, and the coin
 pub record Setting : Type 0 where
   pub shape : Extent
   pub id : ℕ
@@ -43,7 +43,7 @@ pub record IsSetting (env : Setting) : Type 0 where
   pub mail : AreNumbers env.shape.nodes env.inbox
   pub coin : env.coin < 2
 
--- the mail from a node, or NO_MAIL for none
+-- the message from a node, or NO_MAIL for none
 abbrev pub received : Setting → ℕ → ℕ
 received env sender = unwrap_or (get env.inbox sender) NO_MAIL
 
@@ -61,6 +61,6 @@ pub record IsSendings (outbox : Sendings) : Type 0 where
 abbrev pub inbox_of : ℕ → List (FinMap nat_cmp ℕ) → FinMap nat_cmp ℕ
 inbox_of receiver rows = map_of (map (λ row. get row receiver) rows)
 
--- what a node sees in a pulse with this mail and coin
+-- what a node sees in a pulse with these messages and coin
 abbrev pub setting_of : Extent → ℕ → List (FinMap nat_cmp ℕ) → ℕ → Setting
 setting_of shape id rows coin = record { shape = shape; id = id; inbox = inbox_of id rows; coin = coin }

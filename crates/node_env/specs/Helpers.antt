@@ -38,6 +38,6 @@ abbrev pub counted : Option Helper → ℕ
 counted None = 0
 counted (Some helper) = argument_count helper
 
--- how many a call reads, by its immediate: none where that names no helper
+-- how many a call reads, by its immediate: none if that names no helper
 abbrev pub arguments_of : ℤ → ℕ
 arguments_of id = counted (helper_of id)

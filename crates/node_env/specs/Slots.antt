@@ -1,4 +1,4 @@
--- A row of slots, each with a value or empty, as the finite map from places to values; and a row of words that stands
+-- A row of slots, each with a value or empty, as the finite map from places to values; and a row of words that is
 -- for slots.
 use Rattle.std.specs.Prelude.{ℕ, suc, ◌<◌, ◌^◌, List, [], ◌∷◌, Option, Some, None}
 use Rattle.std.specs.Ordering.{nat_cmp}

@@ -10,14 +10,14 @@ use crate::word::number_in;
 use std::alloc::{AllocError, Global};
 use std::marker::Model;
 
-/// What `recv` answers for no mail.
+/// What `recv` answers for no messages.
 pub const NO_MAIL: u32 = 4294967295;
 
-/// Where an inbox stands, by sender.
+/// Where an inbox is, by sender.
 #[derive(Drop)]
 enum Inbox {
     Slots(Vec<Option<u32>>),
-    /// As they stand in the mail.
+    /// As they are in the messages.
     Words(Vec<u64>),
 }
 
@@ -47,7 +47,7 @@ pub struct InboxRoom {
 }
 
 impl InboxRoom {
-    /// An empty list.
+    /// Returns an empty list.
     pub fn new(alloc: Global) -> InboxRoom {
         InboxRoom {
             words: Vec::new(alloc),
@@ -55,7 +55,7 @@ impl InboxRoom {
     }
 }
 
-/// What one node sees in a pulse: the shape, its own number, the mail from each node in the last closed pulse, and
+/// What one node sees in a pulse: the shape, its own number, the message from each node in the last closed pulse, and
 /// the coin.
 #[derive(Drop)]
 pub struct Env {
@@ -98,7 +98,8 @@ fn slots_fit(slots: &[Option<u32>])
 }
 
 impl Env {
-    /// The inbox has a slot for each node: its mail, or none. The id is the number of a node, and the coin is 0 or 1.
+    /// Returns what a node sees, of an inbox with a slot for each node: its message, or none. The id is the number of a
+    /// node, and the coin is 0 or 1.
     #[tactic(auto, using(crate::proofs::Slots::slots))]
     pub fn new(shape: Shape, id: u32, inbox: Vec<Option<u32>>, coin: u32) -> Env
         requires id { id < shape.nodes }
@@ -118,8 +119,8 @@ impl Env {
         }
     }
 
-    /// What a node sees in a pulse with this mail and coin. The id is the number of a node, and the coin is 0 or 1.
-    /// Fails only for want of memory.
+    /// Returns what a node sees in a pulse with these messages and this coin. The id is the number of a node, and the
+    /// coin is 0 or 1. Fails only if memory runs out.
     pub fn with_mail(
         alloc: Global,
         shape: Shape,
@@ -135,7 +136,7 @@ impl Env {
         Env::with_mail_in(InboxRoom::new(alloc), shape, id, mail, coin)
     }
 
-    /// As `with_mail`, in the list of an inbox that is no longer wanted.
+    /// Does as `with_mail`, in the list of an inbox that is no longer used.
     pub fn with_mail_in(
         room: InboxRoom,
         shape: Shape,
@@ -159,7 +160,7 @@ impl Env {
         })
     }
 
-    /// The list of its inbox, where it is no longer wanted: an empty one, where the inbox was made of slots.
+    /// Returns the list of its inbox for further use: an empty one, if the inbox was made of slots.
     pub fn into_inbox_room(self, alloc: Global) -> InboxRoom {
         match self.inbox {
             Inbox::Words(words) => InboxRoom { words },
@@ -167,7 +168,7 @@ impl Env {
         }
     }
 
-    /// The shape: how many nodes there are, and how much memory each has.
+    /// Returns the shape: how many nodes there are, and how much memory each has.
     pub fn shape(&self) -> Shape
         ensures shape { result ≡ self.now.shape }
         ensures setting { IsSetting self.now }
@@ -175,7 +176,7 @@ impl Env {
         self.shape
     }
 
-    /// The node's own number.
+    /// Returns the node's own number.
     pub fn id(&self) -> u32
         ensures value { result ≡ self.now.id }
         ensures below { result < self.now.shape.nodes }
@@ -183,7 +184,7 @@ impl Env {
         self.id
     }
 
-    /// The mail from a node of the shape, or `NO_MAIL` for none. A mail of `NO_MAIL` reads alike.
+    /// Returns the message from a node of the shape, or `NO_MAIL` for none. A message of `NO_MAIL` reads alike.
     pub fn recv(&self, sender: u32) -> u32
         requires { sender < self.now.shape.nodes }
         ensures { result ≡ received self.now sender }
@@ -191,7 +192,7 @@ impl Env {
         self.inbox.recv(sender)
     }
 
-    /// 0 or 1, the same at each call.
+    /// Returns 0 or 1, the same at each call.
     pub fn coin(&self) -> u32
         ensures value { result ≡ self.now.coin }
         ensures bit { result < 2 }
@@ -199,9 +200,8 @@ impl Env {
         self.coin
     }
 
-    /// Whether this is what a node sees in a pulse: its shape, its number, what came to it in the mail, and its
-    /// coin. A mail of
-    /// `NO_MAIL` and none differ here.
+    /// Returns whether this is what a node sees in a pulse: its shape, its number, what came to it, and its coin. A
+    /// message of `NO_MAIL` and none differ here.
     pub fn sees(&self, shape: Shape, id: u32, mail: &Mail, coin: u32) -> bool
         requires { length mail.now ≡ shape.nodes }
         ensures { IsTrue result ↔ (self.now ≡ setting_of shape id mail.now coin) }
@@ -230,7 +230,7 @@ fn is_inbox(inbox: &[Option<u32>], mail: &Mail, receiver: u32) -> bool
     true
 }
 
-/// Whether the words stand for the same slots.
+/// Whether the words represent the same slots.
 fn are_alike(words: &[u64], others: &[u64]) -> bool
     requires nodes { length words.now ≡ length others.now }
     requires words { All IsWord words.now }

@@ -7,7 +7,7 @@ ghost use Rattle.node_env.specs.Helpers.{arguments_of};
 pub enum Helper {
     /// 1: the node's number.
     Id,
-    /// 2: the mail from the node whose number is in r1.
+    /// 2: the message from the node whose number is in r1.
     Recv,
     /// 3: sends the number in r2 to the node whose number is in r1.
     Send,
@@ -22,7 +22,7 @@ impl Helper {
     ghost use Rattle.std.specs.Prelude.{◌≡◌, ◌≤◌};
     ghost use Rattle.node_env.specs.Helpers.{argument_count, helper_by_word, helper_number, helper_of, helper_word};
 
-    /// The helper of a number, which is a call's immediate.
+    /// Returns the helper of a number, which is a call's immediate.
     pub fn of(id: i32) -> Option<Helper>
         ensures { result ≡ helper_of id }
     {
@@ -35,7 +35,7 @@ impl Helper {
         }
     }
 
-    /// The helper that a word names.
+    /// Returns the helper that a word names.
     pub fn named(word: &[u8]) -> Option<Helper>
         ensures { result ≡ helper_by_word word.now }
     {
@@ -69,7 +69,7 @@ impl Helper {
         }
     }
 
-    /// How many of r1 to r5 it reads.
+    /// Returns how many of r1 to r5 it reads.
     pub fn arguments(self) -> u32
         ensures count { result ≡ argument_count self }
         ensures few { result ≤ 2 }
@@ -83,7 +83,7 @@ impl Helper {
     }
 }
 
-/// How many of r1 to r5 a call reads, by its immediate: none where that names no helper.
+/// Returns how many of r1 to r5 a call reads, by its immediate: none if that names no helper.
 pub fn arguments_of(id: i32) -> u32
     ensures count { result ≡ arguments_of id }
     ensures few { result ≤ 2 }

@@ -13,7 +13,7 @@ use std::alloc::{AllocError, Global};
 use std::marker::Model;
 
 /// What all nodes sent in the last closed pulse: for each sender and each receiver a number of 32 bits, or nothing,
-/// as one list of words, in which those to a receiver stand side by side, by sender.
+/// as one list of words, in which those to a receiver are side by side, by sender.
 #[derive(Drop)]
 pub struct Mail {
     nodes: u32,
@@ -39,7 +39,7 @@ impl Model for Mail {
 }
 
 impl Mail {
-    /// Nobody sent anything yet. Fails only for want of memory.
+    /// Returns an empty table: nobody sent anything yet. Fails only if memory runs out.
     pub fn new(alloc: Global, shape: Shape) -> Result<Mail, AllocError>
         ensures { IfOk result (λ mail. mail ≡ replicate shape.nodes map.empty) }
     {
@@ -48,7 +48,7 @@ impl Mail {
         Ok(Mail { nodes, words })
     }
 
-    /// How many nodes there are: so many rows, with a place for each node.
+    /// Returns how many nodes there are: as many rows, each with a place for each node.
     pub fn nodes(&self) -> u32
         ensures value { result ≡ length self.now }
         ensures some { 1 ≤ result }
@@ -58,7 +58,7 @@ impl Mail {
         self.nodes
     }
 
-    /// What a node sent to another: both are numbers of nodes.
+    /// Returns what a node sent to another: both are numbers of nodes.
     pub fn slot(&self, sender: u32, receiver: u32) -> Option<u32>
         requires sender { sender < length self.now }
         requires receiver { receiver < length self.now }
@@ -67,7 +67,7 @@ impl Mail {
         slot_in(self.words[place_of(self.nodes, receiver, sender)])
     }
 
-    /// What came to a node, by sender: a list that `Env::new` takes. Fails only for want of memory.
+    /// Returns what came to a node, by sender: a list that `Env::new` takes. Fails only if memory runs out.
     pub fn inbox(&self, alloc: Global, receiver: u32) -> Result<Vec<Option<u32>>, AllocError>
         requires { receiver < length self.now }
         ensures nodes { IfOk result (λ inbox. length inbox.items ≡ length self.now) }
@@ -92,7 +92,7 @@ impl Mail {
         part(&self.words, first, self.nodes as usize)
     }
 
-    /// A node's slots become those of an outbox, which has a slot for each node.
+    /// Fills a node's slots with those of an outbox, which has a slot for each node.
     pub fn fill(&mut self, sender: u32, outbox: &Outbox)
         requires sender { sender < length self.old }
         requires nodes { outbox.now.nodes ≡ length self.old }
@@ -101,7 +101,7 @@ impl Mail {
         write_row(&mut self.words, self.nodes, sender, outbox.words());
     }
 
-    /// A node's slots become empty.
+    /// Empties a node's slots.
     pub fn clear(&mut self, sender: u32)
         requires { sender < length self.old }
         ensures { self.new ≡ slice_set self.old sender map.empty }
@@ -122,7 +122,7 @@ fn place_of(nodes: u32, receiver: u32, sender: u32) -> usize
     receiver as usize * nodes as usize + sender as usize
 }
 
-/// So many words from a place on.
+/// This many words from a place on.
 fn part(words: &[u64], first: usize, count: usize) -> &[u64]
     requires { first + count ≤ length words.now }
     ensures { result.now ≡ take count (drop first words.now) }

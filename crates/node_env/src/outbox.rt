@@ -32,7 +32,7 @@ impl Model for Outbox {
 }
 
 impl Outbox {
-    /// Nothing is sent yet. Fails only for want of memory.
+    /// Returns an empty outbox. Fails only if memory runs out.
     #[tactic(auto, using(crate::proofs::Rows::words))]
     pub fn new(alloc: Global, shape: Shape) -> Result<Outbox, AllocError>
         ensures nodes { IfOk result (λ outbox. outbox.nodes ≡ shape.nodes) }
@@ -43,7 +43,7 @@ impl Outbox {
         })
     }
 
-    /// The number of slots, one for each node.
+    /// Returns the number of slots, one for each node.
     pub fn nodes(&self) -> u32
         ensures value { result ≡ self.now.nodes }
         ensures sendings { IsSendings self.now }
@@ -51,7 +51,7 @@ impl Outbox {
         self.words.len() as u32
     }
 
-    /// What was sent to a node last. The receiver is the number of a node.
+    /// Returns what was sent to a node last. The receiver is the number of a node.
     #[tactic(auto, using(crate::proofs::Rows::words))]
     pub fn slot(&self, receiver: u32) -> Option<u32>
         requires { receiver < self.now.nodes }
@@ -71,7 +71,7 @@ impl Outbox {
         self.words[receiver as usize] = u64::from(value);
     }
 
-    /// Nothing is sent any more.
+    /// Empties all slots.
     #[tactic(auto, using(crate::proofs::Rows::words))]
     pub fn clear(&mut self)
         ensures nodes { self.new.nodes ≡ self.old.nodes }
@@ -80,7 +80,7 @@ impl Outbox {
         self.words.fill(EMPTY);
     }
 
-    /// The words that stand for the slots.
+    /// The words that represent the slots.
     pub(crate) fn words(&self) -> &[u64]
         ensures nodes { length result.now ≡ self.now.nodes }
         ensures sent { numbers_of result.now ≡ self.now.sent }

@@ -34,7 +34,8 @@ impl Model for Shape {
 }
 
 impl Shape {
-    /// 1 to `MAX_NODES` nodes with `MEMORY_UNIT` to `MAX_MEMORY` bytes each, a multiple of `MEMORY_UNIT`.
+    /// Returns the shape of 1 to `MAX_NODES` nodes with `MEMORY_UNIT` to `MAX_MEMORY` bytes each, a multiple of
+    /// `MEMORY_UNIT`.
     pub fn of(nodes: u32, memory: u32) -> Option<Shape>
         ensures value { IfSome result (λ shape. (shape.nodes ≡ nodes) × (shape.memory ≡ memory)) }
         ensures some { IsSome result ↔ IsExtent nodes memory }
@@ -48,7 +49,7 @@ impl Shape {
         Some(Shape { nodes, memory })
     }
 
-    /// The number of nodes.
+    /// Returns the number of nodes.
     pub fn nodes(self) -> u32
         ensures value { result ≡ self.nodes }
         ensures extent { IsExtent self.nodes self.memory }
@@ -56,7 +57,7 @@ impl Shape {
         self.nodes
     }
 
-    /// The bytes of each node's memory.
+    /// Returns the bytes of each node's memory.
     pub fn memory(self) -> u32
         ensures value { result ≡ self.memory }
         ensures extent { IsExtent self.nodes self.memory }
@@ -64,7 +65,7 @@ impl Shape {
         self.memory
     }
 
-    /// The bytes of a region.
+    /// Returns the bytes of a region.
     pub fn region_size(self, region: Region) -> u32
         ensures value { result ≡ region_size self region }
         ensures small { result ≤ STACK_BYTES }

@@ -1,4 +1,4 @@
-//! Words of 64 bits that stand for slots: a number of 32 bits, or empty.
+//! Words of 64 bits that represent slots: a number of 32 bits, or empty.
 ghost use Rattle.std.specs.Prelude.{◌≡◌, unwrap_or};
 ghost use Rattle.node_env.specs.declared.env.TheConstants.{NO_MAIL};
 ghost use Rattle.node_env.specs.inner.Slots.{slot_of};
@@ -8,7 +8,7 @@ use crate::env::NO_MAIL;
 /// The word of an empty slot: the least number that doesn't have 32 bits.
 pub const EMPTY: u64 = 4294967296;
 
-/// The slot that a word stands for.
+/// Returns the slot that a word represents.
 pub fn slot_in(word: u64) -> Option<u32>
     ensures { result ≡ slot_of word }
 {
@@ -19,7 +19,7 @@ pub fn slot_in(word: u64) -> Option<u32>
     }
 }
 
-/// What `recv` answers for the slot that a word stands for.
+/// Returns what `recv` answers for the slot that a word represents.
 #[inline(always)]
 pub fn number_in(word: u64) -> u32
     ensures { result ≡ unwrap_or (slot_of word) NO_MAIL }

@@ -8,6 +8,7 @@ use crate::errors::CompileError;
 use crate::syntax::{Comparison, Operation};
 use bpf_insn::{AluOp, Cond, Insn, MAX_SLOTS, Operand, Reg, Width};
 
+/// Returns the register of a place.
 pub fn place_of(k: u32) -> Reg
     ensures { result ≡ place k }
 {
@@ -29,6 +30,7 @@ pub fn free_place(depth: u32) -> Result<Reg, CompileError>
     Ok(place_of(depth))
 }
 
+/// Returns a move of a number of 32 bits.
 pub fn set_number_of(dst: Reg, v: u32) -> Insn
     ensures { result ≡ set_number dst v }
 {
@@ -40,6 +42,7 @@ pub fn set_number_of(dst: Reg, v: u32) -> Insn
     }
 }
 
+/// Returns a move of a register.
 pub fn copy_of(dst: Reg, src: Reg) -> Insn
     ensures { result ≡ copy dst src }
 {
@@ -64,6 +67,7 @@ pub fn set_node_of(node: u32) -> Insn
     }
 }
 
+/// Returns the instruction of an operation.
 pub fn operation_of(op: Operation) -> AluOp
     ensures { result ≡ alu_of op }
 {

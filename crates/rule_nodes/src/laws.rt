@@ -8,8 +8,8 @@ ghost use Rattle.rule_nodes.specs.Fits.{BlockFits};
 ghost use Rattle.rule_nodes.specs.Code.{rule_code};
 ghost use Rattle.rule_nodes.specs.Ends.{AreSizes, IsRuleEnd};
 
-/// The code of a rule has a complete run from every memory, with all messages, both coins and each node number. Every
-/// complete run leaves the memory and sends the messages that the rule means.
+/// States that the code of a rule has a complete run from every memory, with all messages, both coins and each node
+/// number. Every complete run leaves the memory and sends the messages that the rule means.
 pub fn rule_ends()
     ensures runs { (rule : Statement) (z : Sizes) (shape : Extent) → AreSizes z shape → BlockFits rule z 0 0 →
         HasRuns (rule_code rule z) shape }
@@ -17,7 +17,7 @@ pub fn rule_ends()
         EndsBy (rule_code rule z) shape (IsRuleEnd z rule) }
 {}
 
-/// The code of a rule is typable for every shape, so `verify` of `bpf_verify` rejects none.
+/// States that the code of a rule is typable for every shape, so `verify` of `bpf_verify` rejects none.
 pub fn rule_is_taken()
     ensures { (rule : Statement) (z : Sizes) (shape : Extent) → AreSizes z shape →
         IsExtent shape.nodes shape.memory → BlockFits rule z 0 0 → Typable (rule_code rule z) shape }

@@ -45,6 +45,7 @@ fn operate_of(operator: Operator, a: u32, b: u32) -> u32
     }
 }
 
+/// Returns whether a source is a constant.
 pub fn is_constant_of(t: &Term) -> bool
     ensures { result ≡ is_constant t.now }
 {
@@ -55,6 +56,7 @@ pub fn is_constant_of(t: &Term) -> bool
     }
 }
 
+/// Returns whether a source is an operand: its number isn't computed.
 pub fn is_operand_of(t: &Term) -> bool
     ensures { result ≡ is_operand t.now }
 {

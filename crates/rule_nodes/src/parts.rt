@@ -29,6 +29,7 @@ pub fn joined(mut first: Vec<Insn>, second: &[Insn]) -> Result<Vec<Insn>, Compil
     Ok(first)
 }
 
+/// Returns a list of one instruction.
 pub fn single(alloc: Global, insn: Insn) -> Result<Vec<Insn>, CompileError>
     ensures { IfOk result (λ c. c.items ≡ insn ∷ []) }
 {
@@ -50,6 +51,7 @@ pub fn by_value_of(code: Vec<Insn>, purpose: Purpose) -> Result<Vec<Insn>, Compi
     }
 }
 
+/// Returns whether the jump of a purpose is taken if the term holds.
 pub fn when_for(purpose: Purpose) -> bool
     ensures { result ≡ when_of purpose }
 {
@@ -59,6 +61,7 @@ pub fn when_for(purpose: Purpose) -> bool
     }
 }
 
+/// Returns the distance of the jump of a purpose.
 pub fn far_for(purpose: Purpose) -> usize
     ensures { result ≡ far_of purpose }
 {

@@ -24,7 +24,7 @@ line_of d = compact_text d ++ codes "\n"
 
 -- ---- the first line
 
--- whose clock it is, where the version knows that
+-- whose clock it is, if the version knows that
 abbrev pub clock_members : Frame → Bool → List Member
 clock_members f own = if f.version == CLOCK_VERSION then (codes "clock", string (rule_or_own own)) ∷ [] else []
 
@@ -64,11 +64,11 @@ ran_data x =
 abbrev pub memory_data : Node → Data
 memory_data x = string (encode_lower x.memory)
 
--- what one node sent to each of so many
+-- what one node sent to each of this many
 abbrev pub sent_data : ℕ → FinMap nat_cmp ℕ → Data
 sent_data nodes row = list_data (λ receiver. option_data number_data (get row receiver)) (places_below nodes)
 
--- the verdict on agreement, and that on counting where the version judges it
+-- the verdict on agreement, and that on counting if the version judges it
 abbrev pub verdict_members : Frame → Bool → Seen → List Member
 verdict_members f own x =
     (codes "agree", option_data boolean (agree_of f own x.told))

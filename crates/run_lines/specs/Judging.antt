@@ -5,7 +5,7 @@ use Rattle.scenario_text.specs.declared.limits.TheConstants.{CLOCK_VERSION}
 use Rattle.scenario_text.specs.declared.scenario.Frame.{Frame}
 use Rattle.bench_scenario.specs.Verdicts.{agreement, counting, settled_in}
 
--- of a version that judges: by the clock; else as the record has it
+-- of a version that judges: by the clock; otherwise as the record has it
 abbrev pub agree_of : Frame → Bool → PulseTold → Option Bool
 agree_of f own r = if f.version == CLOCK_VERSION then agreement own f.modulus r else Some r.agree
 

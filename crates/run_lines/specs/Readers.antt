@@ -12,7 +12,7 @@ number_in d = option_and_then as_u64 (as_number d)
 abbrev pub option_in : {A : Type 0} → (Data → Option A) → Data → Option (Option A)
 option_in f d = if is_some (as_null d) then Some None else option_map Some (f d)
 
--- each of them, where all can be read
+-- each of them, if all can be read
 abbrev pub each_in : {A : Type 0} → (Data → Option A) → Items → Option (List A)
 each_in f no_items = Some []
 each_in f (item d ds) = option_and_then (λ x. option_map (λ xs. x ∷ xs) (each_in f ds)) (f d)

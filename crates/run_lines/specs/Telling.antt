@@ -21,7 +21,7 @@ use Rattle.run_lines.specs.Spans.{Span}
 abbrev pub AreShown : Scenario → List Event → List Seen → Type 0
 AreShown s es xs = (last : State) × Shows (bench_of s) (new_state (bench_of s)) 0 None es xs last
 
--- the first line, and those of the pulses that so many events of the run show
+-- the first line, and those of the pulses that this many events of the run show
 pub record IsFrontText (s : Scenario) (span : Span) (events : ℕ) (told : List ℕ) : Type 0 where
   pub seen : List Seen
   pub shown : AreShown s (take events (events_of s)) seen
@@ -62,8 +62,8 @@ pub record Breaks (old new : Option (List ℕ)) (s : Scenario) (span : Span) (wr
   pub number : written ≡ min taken MOST_TOLD
   pub left : Appends old new (take taken told)
 
--- all lines; the first bytes of lines where a write failed; where the run stopped at an event, whole lines of the
--- pulses before it; where there was no memory, nothing or whole lines
+-- all lines; the first bytes of lines if a write failed; where the run stopped at an event, whole lines of the
+-- pulses before it; if there was no memory, nothing or whole lines
 abbrev pub LeavesLines : Option (List ℕ) → Option (List ℕ) → Scenario → Span → Result Bool LinesFault → Type 0
 LeavesLines old new s span (Ok agrees) = (told : List ℕ) × IsWholeText s span told agrees × Appends old new told
 LeavesLines old new s span (Err (faults.Write written)) = Breaks old new s span written

@@ -7,7 +7,7 @@ use thiserror::Error;
 pub enum LinesFault {
     #[error("the run stopped at event {}", .0.event)]
     Run(RunFault),
-    /// A call of `write` failed or took nothing, when so many bytes were taken.
+    /// A call of `write` failed or took nothing, when this many bytes were taken.
     #[error("writing failed after {written} bytes")]
     Write { written: u64 },
     #[error("out of memory")]

@@ -44,7 +44,7 @@ fn add_extent(
     put(members, alloc, "pulses", Value::from(scenario.pulses))
 }
 
-/// Whose clock it is, where the version knows that.
+/// Whose clock it is, if the version knows that.
 fn add_clock(
     alloc: Global,
     members: &mut Map<String, Value>,
@@ -75,7 +75,7 @@ fn frame_value(alloc: Global, scenario: &Scenario) -> Result<Value, AllocError>
     Ok(Value::Object(members))
 }
 
-/// The first line: the numbers of the scenario.
+/// Returns the first line: the numbers of the scenario.
 pub fn frame_line(alloc: Global, scenario: &Scenario) -> Result<String, AllocError>
     ensures { IfOk result (λ s. string_bytes s
         ≡ line_of (frame_data (frame_of scenario.now) (is_some scenario.now.clock))) }
@@ -96,7 +96,7 @@ fn last_value(alloc: Global, summary: &RunSummary) -> Result<Value, AllocError>
     Ok(Value::Object(members))
 }
 
-/// The last line: what the whole run comes to.
+/// Returns the last line: what the whole run results in.
 pub fn last_line(alloc: Global, summary: &RunSummary) -> Result<String, AllocError>
     ensures { IfOk result (λ s. string_bytes s ≡ line_of (last_data summary.now)) }
 {

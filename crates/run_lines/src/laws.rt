@@ -2,7 +2,7 @@
 
 ghost use Rattle.run_lines.specs.Laws.{JudgesAsTheReport, OneLineOnePulse, TellsItsPulse};
 
-/// What the lines of pulses let their reader know: docs/INSIDE.md, "The lines".
+/// States what the lines of pulses let their reader know (docs/OUTPUT.md, "JSON lines").
 pub fn lines()
     ensures tells { TellsItsPulse }
     ensures apart { OneLineOnePulse }

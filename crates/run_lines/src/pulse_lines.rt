@@ -65,7 +65,7 @@ fn add_record(
     put(members, alloc, "steps", numbers(alloc, shown.steps)?)
 }
 
-/// What it left: the memories and the mail.
+/// What it left: the memories and the messages.
 fn add_left(
     alloc: Global,
     members: &mut Map<String, Value>,
@@ -146,7 +146,7 @@ fn pulse_value(alloc: Global, scenario: &Scenario, shown: &Shown) -> Result<Valu
     Ok(Value::Object(members))
 }
 
-/// The line of a closed pulse of a scenario's run, whose text reads back as what it tells.
+/// Returns the line of a closed pulse of a scenario's run, whose text reads back as what it tells.
 pub fn pulse_line(alloc: Global, scenario: &Scenario, shown: &Shown) -> Result<String, AllocError>
     ensures line { IfOk result (λ s. string_bytes s
         ≡ line_of (pulse_data (frame_of scenario.now) (is_some scenario.now.clock)

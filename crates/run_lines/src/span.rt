@@ -24,7 +24,7 @@ impl Model for PulseSpan {
 }
 
 impl PulseSpan {
-    /// The first pulse is at least 1, and at most the last one.
+    /// Returns the span, if the first pulse is at least 1, and at most the last one.
     pub fn of(first: u32, last: u32) -> Option<PulseSpan>
         ensures value { IfSome result (λ p. p ≡ record { first = first; last = last }) }
         ensures some { IsSome result ↔ IsSpan first last }
@@ -35,13 +35,14 @@ impl PulseSpan {
         Some(PulseSpan { first, last })
     }
 
+    /// Returns the first pulse.
     pub fn first(self) -> u32
         ensures { result ≡ self.first }
     {
         self.first
     }
 
-    /// Whether the pulse of this number is among them.
+    /// Returns whether the pulse of this number is among them.
     pub fn contains(self, pulse: u32) -> bool
         ensures { result ≡ is_within self pulse }
     {

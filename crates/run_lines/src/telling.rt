@@ -28,7 +28,7 @@ fn write_first<W: Write>(alloc: Global, scenario: &Scenario, out: &mut W) -> Res
     write_line(out, 0, line.as_bytes())
 }
 
-/// Writes the last line after so many bytes, and answers whether no pulse's verdict on agreement is no.
+/// Writes the last line after this many bytes, and answers whether no pulse's verdict on agreement is no.
 fn write_last<W: Write>(
     alloc: Global,
     scenario: &Scenario,

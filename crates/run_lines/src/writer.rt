@@ -14,7 +14,7 @@ use std::alloc::Global;
 use std::io::Write;
 use stream_io::{WriteFault, write_fully};
 
-/// Writes a line after so many bytes, and answers how many there are then.
+/// Writes a line after this many bytes, and answers how many there are then.
 pub(crate) fn write_line<W: Write>(out: &mut W, before: u64, line: &[u8]) -> Result<u64, LinesFault>
     ensures told { IfOk result (Adds (W.contents out.old) (W.contents out.new) before line.now) }
     ensures fault { IfErr result (IsLineFault (W.contents out.old) (W.contents out.new) before line.now) }
@@ -47,7 +47,7 @@ pub(crate) struct LineWriter<'a> {
 }
 
 impl<'a> LineWriter<'a> {
-    /// After so many bytes.
+    /// After this many bytes.
     pub(crate) fn new(
         alloc: Global,
         scenario: &'a Scenario,
@@ -84,7 +84,7 @@ impl<'a> LineWriter<'a> {
         }
     }
 
-    /// Writes the line of a pulse, where it is within the span, and answers how many bytes were written then.
+    /// Writes the line of a pulse, if it is within the span, and answers how many bytes were written then.
     fn tell<W: Write>(&self, out: &mut W, shown: &Shown) -> Result<u64, LinesFault>
         ensures told { IfOk result (Adds (W.contents out.old) (W.contents out.new) self.now.written
             (line_within self.now.scenario.now self.now.span (seen_of shown.now))) }

@@ -53,18 +53,18 @@ wrote_text (Err trap) insn = None
 
 -- ---- lines
 
--- behind an arrow
+-- after an arrow
 abbrev pub after_arrow : Option (List ℕ) → List ℕ
 after_arrow None = []
 after_arrow (Some wrote) = codes " -> " ++ wrote
 
--- what is told behind an instruction: nothing where it reads and wrote no register
+-- what is told after an instruction: nothing if it reads and wrote no register
 abbrev pub remark : List (List ℕ) → Option (List ℕ) → List ℕ
 remark [] None = []
 remark [] (Some wrote) = codes " #" ++ after_arrow (Some wrote)
 remark (first ∷ rest) wrote = codes " #" ++ (after_word (first ∷ rest) ++ after_arrow wrote)
 
--- behind the slot: nothing where no instruction begins there
+-- after the slot: nothing if no instruction begins there
 abbrev pub after_slot : Step → Option Insn → List ℕ
 after_slot s None = []
 after_slot s (Some insn) =

@@ -25,7 +25,7 @@ pub record Stops (old new : Option (List ℕ)) (program : List Insn) (steps : Li
   pub fewer : count < length steps
   pub left : Appends old new (trace_text program (take count steps))
 
--- the lines of all steps; their first bytes where a write failed; whole lines of the first steps where there was no
+-- the lines of all steps; their first bytes if a write failed; whole lines of the first steps if there was no
 -- memory for one more
 abbrev pub LeavesTrace : Option (List ℕ) → Option (List ℕ) → List Insn → List Step → Result Traced TraceFault → Type 0
 LeavesTrace old new program steps (Ok traced) =

@@ -4,7 +4,7 @@ use thiserror::Error;
 /// Why not all lines of a run were written.
 #[derive(Clone, Copy, Debug, Drop, Error, PartialEq, Eq)]
 pub enum TraceFault {
-    /// A call of `write` failed or took nothing, when so many bytes were taken.
+    /// A call of `write` failed or took nothing, when this many bytes were taken.
     #[error("writing failed after {written} bytes")]
     Write { written: u64 },
     #[error("out of memory")]

@@ -12,8 +12,8 @@ ghost use Rattle.bpf_machine.specs.Run.{GetsStuck, RunAnswers, RunsTo};
 ghost use Rattle.bpf_machine.specs.Step.{step};
 ghost use Rattle.run_trace.specs.Steps.{Step, steps_of};
 
-/// A run that ends has a line for each of its steps, one whose fuel runs out has as many as its fuel, and one that gets
-/// stuck has one more than its steps.
+/// States that a run that ends has a line for each of its steps, that one whose fuel runs out has as many as its fuel,
+/// and that one that gets stuck has one more than its steps.
 pub fn as_many_lines_as_steps()
     ensures ended { (program : List Insn) (env : Setting) (memory : List ℕ) (fuel : ℕ) (left : List ℕ)
         (sent : FinMap nat_cmp ℕ) (r0 steps : ℕ) → RunAnswers program env memory fuel left sent (Ended r0 steps)
@@ -26,7 +26,7 @@ pub fn as_many_lines_as_steps()
         → length (steps_of program env memory fuel) ≡ count + 1 }
 {}
 
-/// The step of a place is that of the state to which so many steps lead.
+/// States that the step of a place is that of the state to which as many steps lead.
 pub fn tells_the_run()
     ensures { (program : List Insn) (env : Setting) (memory : List ℕ) (fuel place : ℕ) (s : Step)
         → slice_get (steps_of program env memory fuel) place ≡ Some s

@@ -58,7 +58,7 @@ pub(crate) enum Reading {
     Two(Held, Held),
 }
 
-/// What is told behind an instruction: nothing where it reads and writes no register.
+/// What is told after an instruction: nothing if it reads and writes no register.
 #[derive(Clone, Copy)]
 struct Remark {
     reading: Reading,
@@ -105,7 +105,7 @@ impl fmt::Display for Did {
     }
 }
 
-/// The line of a step, without its end. Nothing was run where no instruction begins at the slot.
+/// The line of a step, without its end. Nothing was run if no instruction begins at the slot.
 #[derive(Clone, Copy)]
 pub(crate) struct Line {
     /// The first step's is 1.

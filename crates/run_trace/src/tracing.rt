@@ -26,7 +26,7 @@ pub struct Traced {
     pub written: u64,
 }
 
-/// Writes the line with its end after so many bytes, and answers how many there are then.
+/// Writes the line with its end after this many bytes, and answers how many there are then.
 fn write_line<W: Write>(
     alloc: Global,
     out: &mut W,

@@ -1,4 +1,4 @@
--- The texts of a scenario: what stands under a key at the top, or in a load.
+-- The texts of a scenario: what is under a key at the top, or in a load.
 use Rattle.std.specs.Prelude.{ℕ, List, codes, Option, None}
 use Rattle.std.specs.Option.{option_and_then}
 use Rattle.toml.specs.Data.{Data, Members, as_str, at, get, get_member}

@@ -77,7 +77,7 @@ IsNoteOf file (errors.WrongKind place key) note = Unit {0}
 IsNoteOf file (errors.OutOfRange place key) note = Unit {0}
 IsNoteOf file (errors.UnknownProgram load) note = Unit {0}
 
--- the line tells a note on the refusal of the file, and behind it, as advice, what would be right
+-- the line tells a note on the refusal of the file, and after it, as advice, what would be right
 pub record Tells (file : List ℕ) (error : ScenarioError) (line : List ℕ) : Type 0 where
   pub note : Note
   pub advice : List ℕ

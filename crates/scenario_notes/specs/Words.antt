@@ -9,12 +9,12 @@ use Rattle.scenario_notes.specs.declared.note.Note.TheVariants as notes
 use Rattle.scenario_notes.specs.declared.note.Spot.{Spot}
 use Rattle.scenario_notes.specs.declared.note.UnknownKey.{UnknownKey}
 
--- a line of the file, where it is told
+-- a line of the file, if it is told
 abbrev pub line_words : Option ℕ → List ℕ
 line_words None = []
 line_words (Some line) = codes "line " ++ (decimal line ++ codes ": ")
 
--- a line of a text, behind the line of the file where it stands
+-- a line of a text, after the line of the file where it occurs
 abbrev pub spot_words : Spot → List ℕ
 spot_words spot = line_words spot.file ++ (codes "line " ++ (decimal spot.line ++ codes " of the text: "))
 

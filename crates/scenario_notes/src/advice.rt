@@ -210,7 +210,7 @@ fn of_bytes(alloc: Global, file: &[u8]) -> Result<String, AllocError> {
     Ok(String::new(alloc))
 }
 
-/// Returns what is said of the fix: nothing where it is not known.
+/// Returns what is said of the fix: nothing if it is not known.
 pub(crate) fn advice_on(
     alloc: Global,
     file: &[u8],

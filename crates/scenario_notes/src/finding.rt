@@ -3,7 +3,7 @@
 
 use crate::scan::Scan;
 
-/// What is looked for: a key, or where none is named the head of the entry.
+/// What is looked for: a key, or if none is named the head of the entry.
 #[derive(Clone, Copy)]
 pub(crate) struct Sought<'a> {
     /// The array of the entry, and which of its entries, from 0 on; none at the top.
@@ -125,7 +125,7 @@ pub(crate) fn line_at(text: &str, number: usize) -> Option<&str> {
     None
 }
 
-/// The line of the file where a line of the text under a key stands, both from 1 on. Only a text between `'''` has its
+/// The line of the file that has a line of the text under a key, both from 1 on. Only a text between `'''` has its
 /// lines there as they are.
 pub(crate) fn find_in_text(
     file: &str,
@@ -136,7 +136,7 @@ pub(crate) fn find_in_text(
     let (first, opening) = find(file, sought)?;
     let (_key, value) = opening.split_once('=')?;
     let content = value.trim_start().strip_prefix("'''")?;
-    // A line end right behind the quotes is no part of the text.
+    // A line end right after the quotes is no part of the text.
     let before = if content.trim_end().is_empty() {
         first
     } else {

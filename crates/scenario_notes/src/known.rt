@@ -42,7 +42,7 @@ fn is_known(table: &Table, place: Place, name: &str) -> bool {
     names_at(place).iter().any(|known| *known == name) && has_its_like(table, name)
 }
 
-/// Whether the key stands beside what it belongs to.
+/// Whether the key is beside what it belongs to.
 fn has_its_like(table: &Table, name: &str) -> bool {
     match name {
         "clock" => table.get("version").and_then(Value::as_integer) == Some(CLOCK_VERSION as i64),

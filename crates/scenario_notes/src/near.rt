@@ -21,7 +21,7 @@ fn edits(alloc: Global, name: &str, known: &str) -> Result<Option<usize>, AllocE
     }
 }
 
-/// The nearest of the known names, the first of several, where one is near.
+/// The nearest of the known names, the first of several, if one is near.
 pub(crate) fn nearest(
     alloc: Global,
     name: &str,

@@ -9,7 +9,7 @@ use std::fmt;
 /// A line of a text.
 #[derive(Debug, Drop)]
 pub struct Spot {
-    /// The line of the file where it stands, from 1 on, where it can be told.
+    /// The line of the file where it occurs, from 1 on, if it can be told.
     pub file: Option<usize>,
     /// Its number in the text, from 1 on.
     pub line: usize,
@@ -20,11 +20,11 @@ pub struct Spot {
 /// A key that isn't known.
 #[derive(Debug, Drop)]
 pub struct UnknownKey {
-    /// The line of the file where it stands, from 1 on, where it can be told.
+    /// The line of the file where it occurs, from 1 on, if it can be told.
     pub line: Option<usize>,
     /// The key as it is shown.
     pub key: String,
-    /// The known key that is nearest, where one is near.
+    /// The known key that is nearest, if one is near.
     pub nearest: Option<&'static str>,
 }
 

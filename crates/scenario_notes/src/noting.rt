@@ -162,7 +162,7 @@ fn slot_note(
     }
 }
 
-/// Returns where the refusal of a file comes from: nothing where that can't be told.
+/// Returns where the refusal of a file comes from: nothing if that can't be told.
 fn place_of(alloc: Global, file: &[u8], error: &ScenarioError) -> Result<Option<Note>, AllocError>
     ensures { IfOk result (λ found. IfSome found (IsNoteOf file.now error.now)) }
 {
@@ -226,7 +226,7 @@ fn note_of(alloc: Global, file: &[u8], error: &ScenarioError) -> Result<Option<N
     }
 }
 
-/// Returns what is said of the fix, behind the note.
+/// Returns what is said of the fix, after the note.
 fn advice_behind(
     alloc: Global,
     file: &[u8],

@@ -23,7 +23,7 @@ enum Mode {
         quote: u8,
         escaped: bool,
     },
-    /// Within a string of more lines, behind so many quotes; the third ends it, and up to two more belong to it.
+    /// Within a string of more lines, after this many quotes; the third ends it, and up to two more belong to it.
     Long {
         quote: u8,
         escaped: bool,
@@ -107,7 +107,7 @@ impl Scan {
         Scan { mode, depth }
     }
 
-    /// A byte behind the first quotes: two of them with no third are an empty string.
+    /// A byte after the first quotes: two of them with no third are an empty string.
     fn opening(self, quote: u8, twice: bool, byte: u8) -> Scan {
         match (twice, byte == quote) {
             (false, false) => self.to(short(quote, false, byte)),

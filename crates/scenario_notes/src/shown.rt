@@ -5,7 +5,7 @@ use std::alloc::{AllocError, Global};
 /// The most characters of a text that are shown.
 const MOST_SHOWN: usize = 120;
 
-/// Returns true for characters that a terminal doesn't show as they stand: controls, and those that turn the direction of
+/// Returns true for characters that a terminal doesn't show as they are: controls, and those that turn the direction of
 /// writing or take no room.
 fn is_hidden(letter: char) -> bool {
     letter.is_control()

@@ -3,7 +3,7 @@
 use crate::note::Note;
 use std::alloc::{AllocError, Global};
 
-/// The line and the column behind a front.
+/// The line and the column after a front.
 fn place_behind(front: &[u8]) -> (usize, usize) {
     let mut line = 1usize;
     let mut column = 1usize;

@@ -25,7 +25,7 @@ struct Limit {
     text: String,
 }
 
-/// The number under a key at the top, less one where that is asked for.
+/// The number under a key at the top, less one if that is asked for.
 fn limit_of(alloc: Global, table: &Table, key: &str, less: i64) -> Result<Limit, AllocError> {
     let text = match table.get(key).and_then(Value::as_integer) {
         Some(number) if number >= less => {

@@ -39,7 +39,7 @@ abbrev pub top_keys : Bool → List (List ℕ)
 top_keys true = plain_top_keys ++ codes "clock" ∷ []
 top_keys false = plain_top_keys
 
--- the version is the first where it isn't told
+-- the version is the first if it isn't told
 abbrev pub HasVersion : Members → ℕ → Type 0
 HasVersion members version =
     ((get_member (codes "version") members ≡ None) × (version ≡ FIRST_VERSION))
@@ -66,7 +66,7 @@ coins_name Chacha = codes "chacha"
 abbrev pub HasCoins : Members → Coins → Type 0
 HasCoins members coins = HasText members (codes "coins") (coins_name coins)
 
--- a key is needed with "chacha" alone, and is in its range wherever it stands
+-- a key is needed with "chacha" alone, and is in its range wherever it is
 abbrev pub HasKey : Members → Coins → Option ℕ → Type 0
 HasKey top coins (Some key) = HasNumber top (codes "key") 0 MAX_KEY key
 HasKey top Chacha None = ⊥
@@ -103,14 +103,14 @@ MeansAt _ insns = ⊥
 abbrev pub rule_of : Frame → Rule
 rule_of f = record { nodes = f.nodes; faults = f.faults; modulus = f.modulus }
 
--- a clock of one's own is what the text under `clock` means, where that isn't the rule's clock
+-- a clock of one's own is what the text under `clock` means, if that isn't the rule's clock
 abbrev pub HasClock : Rule → Members → Option (List Insn) → Type 0
 HasClock rule members None =
     (get_member (codes "clock") members ≡ None) ⊎ MeansAt (get_member (codes "clock") members) (clock_listing rule)
 HasClock rule members (Some insns) =
     MeansAt (get_member (codes "clock") members) insns × (insns ≡ clock_listing rule → ⊥)
 
--- the clock of a scenario: its own, or else that of its rule
+-- the clock of a scenario: its own, or otherwise that of its rule
 abbrev pub clock_insns : Frame → Option (List Insn) → List Insn
 clock_insns f None = clock_listing (rule_of f)
 clock_insns f (Some insns) = insns

@@ -29,7 +29,7 @@ IsDue text (errors.NotAccepted place key slot rule) = (members : Members) × IsD
     × BrokenAt members place slot
 IsDue text _ = (members : Members) × IsDocument text members × SpellsNothing members
 
--- a refusal that is due, or want of memory
+-- a refusal that is due, or lack of memory
 abbrev pub IsDueUnlessMemory : List ℕ → ScenarioError → Type 0
 IsDueUnlessMemory text (errors.Memory _) = Unit {0}
 IsDueUnlessMemory text error = IsDue text error

@@ -11,7 +11,7 @@ use crate::table::{tables_at, value_at};
 use toml::value::Array;
 use toml::{Table, Value};
 
-/// The arrays of a table, where they are there.
+/// The arrays of a table, if they are there.
 #[derive(Clone, Copy)]
 pub(crate) struct Arrays<'a> {
     pub(crate) loads: Option<&'a Array>,
@@ -43,7 +43,7 @@ fn count_in(value: &Value) -> usize
     items_in(array)
 }
 
-/// The changes of an array of loads, or none where there are more than a limit.
+/// The changes of an array of loads, or none if there are more than a limit.
 #[tactic(auto, using(crate::proofs::TableLemmas::counted_take))]
 fn counted_loads(array: &Array, most: usize) -> Option<usize>
     ensures { MatchOption result (most < counted (array_view array.now))

@@ -27,7 +27,7 @@ pub(crate) trait Entry: Drop {
     /// The table spells this entry.
     ghost spelled: { FrameValue → Option (List Insn) → Members → Draft → Type 0 };
 
-    /// The program of the entry, where it has one, is accepted.
+    /// The program of the entry, if it has one, is accepted.
     ghost fits: { FrameValue → Self → Type 0 };
 
     /// The program of the table breaks the rules first at this slot.

@@ -14,7 +14,7 @@ pub enum Place {
     Coin(usize),
 }
 
-/// Why a text or a table is no scenario, or want of memory. Of all refusals the first in the order of
+/// Why a text or a table is no scenario, or lack of memory. Of all refusals the first in the order of
 /// docs/SCENARIOS.md is told; [`RefusalLine`](crate::RefusalLine) has the line that tells it.
 #[derive(Debug, Drop, Error)]
 pub enum ScenarioError {

@@ -61,7 +61,7 @@ pub struct CoinEntry {
     pub value: u32,
 }
 
-/// A scenario: docs/SCENARIOS.md has each key. `clock` is there where the scenario's isn't that of its rule,
+/// A scenario: docs/SCENARIOS.md has each key. `clock` is there if the scenario's isn't that of its rule,
 /// `corruptions` are those of `corrupt`, `entries` those of `coin`.
 #[derive(Drop)]
 pub struct Scenario {

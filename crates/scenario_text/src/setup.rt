@@ -22,7 +22,7 @@ use node_env::Shape;
 use std::alloc::{AllocError, Global};
 use toml::Table;
 
-/// The numbers of the top keys, the shape that they make, the clock where it isn't that of the rule, and the programs
+/// The numbers of the top keys, the shape that they make, the clock if it isn't that of the rule, and the programs
 /// that loads share: the clock and the echo.
 #[derive(Drop)]
 pub(crate) struct Setup {
@@ -33,7 +33,7 @@ pub(crate) struct Setup {
     pub(crate) echo: VerifiedProgram,
 }
 
-/// The clock of one's own, where there is one: another than the rule's.
+/// The clock of one's own, if there is one: another than the rule's.
 #[tactic(auto, using(crate::proofs::ClockLemmas::no_clock))]
 fn clock_at(
     alloc: Global,
@@ -65,7 +65,7 @@ fn clock_at(
     }
 }
 
-/// The clock: that of one's own, where there is one, and else that of the rule.
+/// The clock: that of one's own, if there is one, and otherwise that of the rule.
 fn clock_of(
     alloc: Global,
     own: &Option<VerifiedProgram>,

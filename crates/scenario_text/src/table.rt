@@ -78,7 +78,7 @@ fn has_all_tables(array: &Array) -> bool
     is_all_tables(array)
 }
 
-/// The array of tables under a top key, where the key is there.
+/// The array of tables under a top key, if the key is there.
 pub(crate) fn tables_at<'a>(
     table: &'a Table,
     key: &'static str,

@@ -31,7 +31,7 @@ fn table_in(alloc: Global, bytes: &[u8]) -> Result<Table, ScenarioError>
     }
 }
 
-/// The scenario that a text says. The first bytes of a text that is too long serve as well as the whole, where they are
+/// Returns the scenario of a text. The first bytes of a text that is too long serve as well as the whole, if they are
 /// more than [`MAX_TEXT`].
 pub fn scenario_in(alloc: Global, bytes: &[u8]) -> Result<Scenario, ScenarioError>
     ensures reads { IfOk result (ReadsText bytes.now) }

@@ -17,7 +17,7 @@ use clock_nodes::{LEAST_MODULUS, MOST_MODULUS};
 use node_env::{MAX_MEMORY, MAX_NODES, MEMORY_UNIT};
 use toml::Table;
 
-/// The version, which is the first where it isn't told.
+/// The version, which is the first if it isn't told.
 pub(crate) fn version_at(table: &Table) -> Result<u64, ScenarioError>
     ensures fault { IfErr result IsOfSpelling }
     ensures version { MatchResult result (HasVersion (table_view table.now))

@@ -62,8 +62,8 @@ fn knows_top_keys(table: &Table) -> bool
     has_top_keys(table, has_clock_key(table))
 }
 
-/// The scenario that a table spells, each of whose programs is accepted. The refusal is never `TooLong` or `NotToml`;
-/// `Memory` comes wherever memory is short.
+/// Returns the scenario that a table spells, each of whose programs is accepted. The refusal is never `TooLong` or
+/// `NotToml`; `Memory` comes whenever memory is short.
 pub fn scenario_of(alloc: Global, table: &Table) -> Result<Scenario, ScenarioError>
     ensures reads { IfOk result (Reads (table_view table.now)) }
     ensures refused { IfErr result (λ e. Refuses e (SpellsNothing (table_view table.now))

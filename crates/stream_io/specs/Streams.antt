@@ -2,6 +2,6 @@
 use Rattle.std.specs.Prelude.{ℕ, ◌≤◌, List, length, Option}
 use Rattle.std.specs.Io.KnownBytes.{Consumes}
 
--- at most so many bytes were taken from a reader, whatever came of the read
+-- at most this many bytes were taken from a reader, whatever came of the read
 abbrev pub TakesAtMost : ℕ → Option (List ℕ) → Option (List ℕ) → Type 0
 TakesAtMost limit old new = (front : List ℕ) × Consumes old new front × (length front ≤ limit)

@@ -28,8 +28,8 @@ fn read_once<R: Read, L: Ledger>(
     reader.read(buf)
 }
 
-/// The bytes up to the end, or the first `limit` of them, by at most `calls` calls of `read`, each of which is a step.
-/// Each call but the last brings a byte, so there are never more than `limit`.
+/// Reads the bytes up to the end, or the first `limit` of them, by at most `calls` calls of `read`, each of which is a
+/// step. Each call but the last brings a byte, so there are never more than `limit`.
 pub fn read_counted<R: Read, L: Ledger>(
     alloc: Global,
     reader: &mut R,

@@ -33,7 +33,7 @@ pub struct WriteFault {
     pub written: usize,
 }
 
-/// The bytes up to the end, or the first `limit` of them, by at most `calls` calls of `read` ([`read_counted`]).
+/// Reads the bytes up to the end, or the first `limit` of them, by at most `calls` calls of `read` ([`read_counted`]).
 #[tactic(auto, using(crate::proofs::ReadLemmas::taken_front))]
 pub fn read_at_most<R: Read>(
     alloc: Global,

@@ -15,7 +15,7 @@ const LOADER: Actor = Actor::Loader(0);
 /// A memory whose clock is 3.
 const THREE: [u8; MEMORY as usize] = [3, 0, 0, 0, 0, 0, 0, 0];
 
-/// How many changes are staged one after the other: so many that the history grows between them.
+/// How many changes are staged one after the other: this many that the history grows between them.
 pub const TURNS: u32 = 2 * NODES;
 
 /// A kind of change.
@@ -26,7 +26,7 @@ pub enum Kind {
     Corrupt,
 }
 
-/// The change of a kind.
+/// Returns the change of a kind.
 pub fn change_of(
     alloc: Global,
     kind: Kind,
@@ -50,7 +50,7 @@ fn new_bench(alloc: Global, four: &Four) -> Result<Bench, AllocError> {
     Bench::new(alloc, four.shape, four.rule)
 }
 
-/// A new bench has zeros, no mail and no history, also after a refusal.
+/// Tries that a new bench has zeros, no messages and no history, also after a refusal.
 pub fn makes(alloc: Global) -> Result<Ended, Stop> {
     let four = four_nodes();
     let (bench, ended) = match new_bench(alloc, &four) {
@@ -62,7 +62,7 @@ pub fn makes(alloc: Global) -> Result<Ended, Stop> {
     Ok(ended)
 }
 
-/// A change of a kind for each node is staged, one after the other.
+/// Tries that a change of a kind is staged for each node, one after the other.
 pub fn stages(alloc: Global, kind: Kind) -> Result<Ended, Stop> {
     let four = four_nodes();
     let program = accepted_clock(alloc, &four)?;
@@ -140,7 +140,7 @@ fn load_each(alloc: Global, four: &Four, bench: &mut Bench) -> Result<(), Stop> 
     Ok(())
 }
 
-/// Openings, one after the other, so that the history grows at one: each applies what is staged.
+/// Tries openings, one after the other, so that the history grows at one: each applies what is staged.
 pub fn opens(alloc: Global) -> Result<Ended, Stop> {
     let mut bench = clocks(alloc, &four_nodes())?;
     let mut ended = Ended::AtOnce;
@@ -186,7 +186,7 @@ fn opened(tasks: Result<Vec<NodeTask>, OpenError>) -> Result<Vec<NodeTask>, Stop
     }
 }
 
-/// The results of the tasks, in their order or turned round.
+/// Returns the results of the tasks, in their order or turned round.
 pub fn results(
     alloc: Global,
     tasks: Vec<NodeTask>,
@@ -202,7 +202,7 @@ pub fn results(
     Ok(dones)
 }
 
-/// A close takes the very list that it refused.
+/// Tries that a close takes the very list that it refused.
 pub fn closes(alloc: Global, reversed: bool) -> Result<Ended, Stop> {
     let mut bench = clocks(alloc, &four_nodes())?;
     let dones = all_done(alloc, &mut bench, reversed)?;

@@ -70,6 +70,7 @@ pub const CASES: [Case; 30] = [
 ];
 
 impl Case {
+    /// Returns the name of a case.
     pub fn name(self) -> &'static str {
         match self {
             Case::Decode => "decode",

@@ -16,7 +16,7 @@ use std::sync::Wait;
 use std::sync::ledger::Ledger;
 use std::thread::Threads;
 
-/// A pulse on workers. One that is refused past its opening is abandoned, and the next is taken.
+/// Tries a pulse on workers. One that is refused past its opening is abandoned, and the next is taken.
 pub fn pulses<B: Ledger, C: Ledger, R: Threads + Wait + Sync>(
     rt: &R,
     alloc: Global,
@@ -53,7 +53,7 @@ pub fn pulses<B: Ledger, C: Ledger, R: Threads + Wait + Sync>(
     Ok(ended)
 }
 
-/// What was refused, where it is memory or a thread.
+/// What was refused, if it is memory or a thread.
 fn stop_of(refusal: EngineError) -> Result<Stop, Stop> {
     match refusal {
         EngineError::Open(OpenError::Memory)
@@ -89,7 +89,7 @@ fn clock_events(alloc: Global, program: &VerifiedProgram) -> Result<Vec<Event>, 
     Ok(events)
 }
 
-/// A run of events, with so many workers.
+/// Tries a run of events, with this many workers.
 pub fn runs_events<R: Threads + Wait + Sync>(
     rt: &R,
     alloc: Global,

@@ -34,6 +34,7 @@ pub struct Four {
     ghost nodes: { rule.nodes ≡ shape.nodes },
 }
 
+/// Returns four nodes, of which one may be faulty.
 pub fn four_nodes() -> Four {
     match (Shape::of(NODES, MEMORY), ClockRule::of(NODES, 1, 8)) {
         (Some(shape), Some(rule)) => Four { shape, rule },
@@ -41,12 +42,12 @@ pub fn four_nodes() -> Four {
     }
 }
 
-/// The clock program.
+/// Returns the clock program.
 pub fn clock(alloc: Global, four: &Four) -> Result<Program, AllocError> {
     dolev_welch(alloc, four.shape, four.rule)
 }
 
-/// The program, accepted.
+/// Returns the program, accepted.
 pub fn accepted(alloc: Global, program: &Program, four: &Four) -> Result<VerifiedProgram, Stop> {
     match verify(alloc, program, four.shape) {
         Ok(accepted) => Ok(accepted),
@@ -55,13 +56,13 @@ pub fn accepted(alloc: Global, program: &Program, four: &Four) -> Result<Verifie
     }
 }
 
-/// The clock program, accepted.
+/// Returns the clock program, accepted.
 pub fn accepted_clock(alloc: Global, four: &Four) -> Result<VerifiedProgram, Stop> {
     let program = clock(alloc, four)?;
     accepted(alloc, &program, four)
 }
 
-/// Whether it is the record of four clocks that agree, with this row.
+/// Returns whether it is the record of four clocks that agree, with this row.
 pub fn is_row(told: &PulseRecord, row: (u32, u32, u32)) -> bool {
     let (clock, settled, steps) = row;
     told.row.settled == settled

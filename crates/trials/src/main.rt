@@ -20,7 +20,7 @@ use std::sync::Wait;
 use std::thread::Threads;
 use std::{env, io};
 
-/// Tries the cases that its words name, or all where it has none.
+/// Tries the cases that its words name, or all if it has none.
 fn main(rt: HostRuntime) -> ExitCode {
     let tried = match stubbornly(|| words_of(&rt)) {
         Ok((words, _)) => try_all(&rt, rt.alloc(), words.as_slice()),

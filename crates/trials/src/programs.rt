@@ -9,7 +9,7 @@ use bpf_insn::{ImageError, Program, decode, encode};
 use bpf_verify::{VerifyError, judge};
 use std::alloc::Global;
 
-/// The image that is decoded is that of this program.
+/// Tries that the image that is decoded is that of this program.
 pub fn decodes(alloc: Global) -> Result<Ended, Stop> {
     let clock = clock(alloc, &four_nodes())?;
     let image = encode(alloc, &clock)?;
@@ -29,14 +29,14 @@ fn decoded(alloc: Global, image: &[u8]) -> Result<Program, Stop> {
 /// A slot, and half of one.
 const CUT: [u8; 12] = [0xb7, 0, 0, 0, 7, 0, 0, 0, 0x95, 0, 0, 0];
 
-/// A fault of an image is told without memory.
+/// Tries that a fault of an image is reported without memory.
 pub fn decodes_a_fault(alloc: Global) -> Result<Ended, Stop> {
     let refusal = decode(alloc, &CUT).err();
     expect(refusal == Some(ImageError::Truncated(1)), Wrong::Answer)?;
     Ok(Ended::AtOnce)
 }
 
-/// The program's text means the program.
+/// Tries that the program's text means the program.
 pub fn assembles(alloc: Global) -> Result<Ended, Stop> {
     let clock = clock(alloc, &four_nodes())?;
     let (text, printed) = stubbornly(|| Ok(disassemble(alloc, &clock)?))?;
@@ -56,7 +56,7 @@ fn assembled(alloc: Global, text: &[u8]) -> Result<Program, Stop> {
 /// The second line names no label.
 const NO_LABEL: &[u8] = b"again: mov64 r0, 7\nja agin\nexit\n";
 
-/// The fault of a text.
+/// Tries the fault of a text.
 pub fn assembles_a_fault(alloc: Global) -> Result<Ended, Stop> {
     let (fault, ended) = stubbornly(|| fault_of(alloc, NO_LABEL))?;
     expect(fault == Some(TextError::UnknownLabel(2)), Wrong::Answer)?;
@@ -71,7 +71,7 @@ fn fault_of(alloc: Global, text: &[u8]) -> Result<Option<TextError>, Stop> {
     }
 }
 
-/// The accepted program is the one that was to be accepted, with its count.
+/// Tries that the accepted program is the one that was to be accepted, with its count.
 pub fn verifies(alloc: Global) -> Result<Ended, Stop> {
     let four = four_nodes();
     let clock = clock(alloc, &four)?;
@@ -82,7 +82,7 @@ pub fn verifies(alloc: Global) -> Result<Ended, Stop> {
     Ok(ended)
 }
 
-/// The count that is judged is the announced one.
+/// Tries that the count that is judged is the announced one.
 pub fn judges(alloc: Global) -> Result<Ended, Stop> {
     let four = four_nodes();
     let clock = clock(alloc, &four)?;
@@ -94,7 +94,7 @@ pub fn judges(alloc: Global) -> Result<Ended, Stop> {
     Ok(ended)
 }
 
-/// A copied program is the same.
+/// Tries that a copied program is the same.
 pub fn copies_a_program(alloc: Global) -> Result<Ended, Stop> {
     let clock = clock(alloc, &four_nodes())?;
     let (copy, ended) = stubbornly(|| Ok(clock.copy(alloc)?))?;
@@ -102,7 +102,7 @@ pub fn copies_a_program(alloc: Global) -> Result<Ended, Stop> {
     Ok(ended)
 }
 
-/// Copied changes are the same, and a load is copied without memory.
+/// Tries that copied changes are the same, and that a load is copied without memory.
 pub fn copies_changes(alloc: Global) -> Result<Ended, Stop> {
     let load = Change::Load {
         node: NODES - 1,

@@ -47,7 +47,7 @@ fn stop_of_text(error: &ScenarioError) -> Stop {
     }
 }
 
-/// The scenario of a text.
+/// Tries the scenario of a text.
 pub fn reads(alloc: Global) -> Result<Ended, Stop> {
     let (scenario, ended) = stubbornly(|| scenario(alloc))?;
     expect(scenario.nodes == 4 && scenario.pulses == 3, Wrong::Answer)?;
@@ -61,7 +61,7 @@ pub fn reads(alloc: Global) -> Result<Ended, Stop> {
     Ok(ended)
 }
 
-/// A text that is refused.
+/// Tries a text that is refused.
 pub fn refuses(alloc: Global) -> Result<Ended, Stop> {
     let (is_told, ended) = stubbornly(|| match scenario_in(alloc, MANY) {
         Err(ScenarioError::Memory(_)) => Err(Stop::Memory),
@@ -77,7 +77,7 @@ pub fn refuses(alloc: Global) -> Result<Ended, Stop> {
     Ok(ended)
 }
 
-/// The events of a scenario: four loads and the pulses.
+/// Tries the events of a scenario: four loads and the pulses.
 pub fn schedules(alloc: Global) -> Result<Ended, Stop> {
     let scenario = scenario(alloc)?;
     let (events, ended) = stubbornly(|| Ok(events(alloc, &scenario)?))?;
@@ -85,7 +85,7 @@ pub fn schedules(alloc: Global) -> Result<Ended, Stop> {
     Ok(ended)
 }
 
-/// The report of a run.
+/// Tries the report of a run.
 pub fn reports<R: Threads + Wait + Sync>(rt: &R, alloc: Global) -> Result<Ended, Stop> {
     let scenario = scenario(alloc)?;
     let events = events(alloc, &scenario)?;
@@ -104,14 +104,14 @@ pub fn reports<R: Threads + Wait + Sync>(rt: &R, alloc: Global) -> Result<Ended,
     Ok(ended)
 }
 
-/// From the text to the report, with so many workers.
+/// Tries a run from the text to the report, with this many workers.
 pub fn runs<R: Threads + Wait + Sync>(rt: &R, alloc: Global, workers: u32) -> Result<Ended, Stop> {
     let (written, ended) = stubbornly(|| written(rt, alloc, workers))?;
     expect(written.as_slice() == REPORT, Wrong::Answer)?;
     Ok(ended)
 }
 
-/// What the run of a scenario writes. Nothing is written where it is refused.
+/// What the run of a scenario writes. Nothing is written if it is refused.
 fn written<R: Threads + Wait + Sync>(rt: &R, alloc: Global, workers: u32) -> Result<Vec<u8>, Stop> {
     let workers = workers.clamp(1, MOST_WORKERS);
     let mut reader = TEXT;

@@ -16,6 +16,7 @@ pub struct Shown {
 }
 
 impl Shown {
+    /// Returns what is shown.
     pub fn of(alloc: Global, bench: &Bench) -> Result<Shown, AllocError> {
         let history = history_of(alloc, bench)?;
         let memories = memories_of(alloc, bench)?;
@@ -30,7 +31,7 @@ impl Shown {
         })
     }
 
-    /// Whether it is what a new bench shows.
+    /// Returns whether it is what a new bench shows.
     pub fn is_new(&self) -> bool {
         self.history.is_empty()
             && !self.is_open
@@ -45,7 +46,7 @@ impl Shown {
                 .all(|inbox| inbox.iter().all(|slot| slot.is_none()))
     }
 
-    /// Whether the bench shows the same.
+    /// Returns whether the bench shows the same.
     pub fn is(&self, bench: &Bench) -> bool {
         self.is_open == bench.is_open()
             && are_same(self.history.as_slice(), bench.history())
@@ -122,6 +123,7 @@ pub struct Received {
 }
 
 impl Received {
+    /// Returns what is shown.
     pub fn of(alloc: Global, receipts: &[Receipt]) -> Result<Received, AllocError> {
         let mut copies = Vec::new(alloc);
         for receipt in receipts {
@@ -130,12 +132,12 @@ impl Received {
         Ok(Received { receipts: copies })
     }
 
-    /// Whether these are all.
+    /// Returns whether these are all.
     pub fn are(&self, receipts: &[Receipt]) -> bool {
         self.begin(receipts) && self.receipts.len() == receipts.len()
     }
 
-    /// Whether the receipts begin with these.
+    /// Returns whether the receipts begin with these.
     pub fn begin(&self, receipts: &[Receipt]) -> bool {
         self.receipts.len() <= receipts.len()
             && self.receipts.iter().zip(receipts.iter()).all(|(one, other)| {
@@ -143,7 +145,7 @@ impl Received {
             })
     }
 
-    /// The receipts that came after these.
+    /// Returns the receipts that came after these.
     pub fn rest<'a>(&self, receipts: &'a [Receipt]) -> &'a [Receipt] {
         receipts.get(self.receipts.len()..).unwrap_or(&[])
     }
@@ -178,7 +180,7 @@ fn are_same(one: &[Entry], other: &[Entry]) -> bool {
     one.len() == other.len() && one.iter().zip(other.iter()).all(|(a, b)| a.is(b))
 }
 
-/// Whether the changes are equal by all parts.
+/// Returns whether the changes are equal by all parts.
 pub fn is_same(one: &Change, other: &Change) -> bool {
     match (one, other) {
         (

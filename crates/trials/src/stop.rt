@@ -10,7 +10,7 @@ pub enum Ended {
 }
 
 impl Ended {
-    /// How two calls ended.
+    /// Returns how two calls ended.
     pub fn and(self, other: Ended) -> Ended {
         match (self, other) {
             (Ended::AtOnce, Ended::AtOnce) => Ended::AtOnce,
@@ -41,11 +41,12 @@ pub enum Wrong {
     HandedBack,
     /// The history or the receipts aren't what was done.
     History,
-    /// Memory is wanted where none is needed.
+    /// Memory is wanted if none is needed.
     Want,
 }
 
 impl Wrong {
+    /// Returns the text of an end.
     pub fn text(self) -> &'static str {
         match self {
             Wrong::Answer => "another answer is given than is due",
@@ -64,7 +65,7 @@ impl From<AllocError> for Stop {
     }
 }
 
-/// Makes a call, and once more where it is refused.
+/// Makes a call, and once more if it is refused.
 pub fn stubbornly<T, F: Fn() -> Result<T, Stop>>(call: F) -> Result<(T, Ended), Stop>
     requires { F.IsAlwaysCallable call }
 {
@@ -75,7 +76,7 @@ pub fn stubbornly<T, F: Fn() -> Result<T, Stop>>(call: F) -> Result<(T, Ended), 
     }
 }
 
-/// Nothing where it holds, and else what is wrong.
+/// Returns nothing if it holds, and otherwise what is wrong.
 pub fn expect(holds: bool, wrong: Wrong) -> Result<(), Stop> {
     if holds {
         Ok(())

@@ -23,7 +23,7 @@ abbrev pub both : Option Span → Option (Span × Span)
 both None = None
 both (Some m) = Some (m, m)
 
--- a without the single number of b, where that is an end of a
+-- a without the single number of b, if that is an end of a
 abbrev pub without : Span → Span → Span
 without a b =
     if is_single b
@@ -34,7 +34,7 @@ without a b =
 abbrev pub signed : ℕ → Span → Span → Option (Span × Span) → Option (Span × Span)
 signed bits a b pair = if nat_lt a.hi (2 ^ (bits - 1)) && nat_lt b.hi (2 ^ (bits - 1)) then pair else Some (a, b)
 
--- the pair where the condition holds, of ranges of numbers below 2 ^ bits that aren't both single
+-- the pair if the condition holds, of ranges of numbers below 2 ^ bits that aren't both single
 abbrev pub refined : Cond → ℕ → Span → Span → Option (Span × Span)
 refined Eq bits a b = both (meet_of a b)
 refined Ne bits a b = Some (without a b, without b a)

@@ -23,7 +23,7 @@ bit_length n = 64 - leading_zeros w64 n
 abbrev pub ones_of : ℕ → ℕ
 ones_of n = 2 ^ bit_length n - 1
 
--- a shift to the right, by the low bits of the amount where that is one number
+-- a shift to the right, by the low bits of the amount if that is one number
 abbrev pub shifted_right : ℕ → Span → Span → Span
 shifted_right bits a b = if is_single b then span (a.lo / 2 ^ (b.lo % bits)) (a.hi / 2 ^ (b.lo % bits)) else span 0 a.hi
 

@@ -25,7 +25,7 @@ span l h = record { lo = l; hi = h }
 abbrev pub just : ℕ → Span
 just v = span v v
 
--- the numbers of so many bits
+-- the numbers of this many bits
 abbrev pub full_of : ℕ → Span
 full_of bits = span 0 (2 ^ bits - 1)
 

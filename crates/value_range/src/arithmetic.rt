@@ -191,9 +191,8 @@ fn alu_range(op: AluOp, width: Width, a: Range, b: Range) -> Range
     }
 }
 
-/// A range that holds the operation's results (docs/VERIFIER.md, "Arithmetic on ranges"). In 32
-/// bits an operand with numbers of more bits counts as every number of 32 bits, unless both
-/// operands are single.
+/// Returns a range that holds the operation's results (docs/VERIFIER.md, "Arithmetic on ranges"). In 32 bits an operand
+/// with numbers of more bits counts as every number of 32 bits, unless both operands are single.
 pub fn alu(op: AluOp, width: Width, a: Range, b: Range) -> Range
     ensures exact { result ≡ alu_of op width a b }
     ensures contains { (x y : ℕ) → Contains a x → Contains b y →
@@ -212,7 +211,7 @@ fn neg_range(width: Width, a: Range) -> Range
     }
 }
 
-/// A range that holds `0 - x` of each number x: that of a single number, else every number.
+/// Returns a range that holds `0 - x` of each number x: that of a single number, otherwise every number.
 pub fn neg(width: Width, a: Range) -> Range
     ensures exact { result ≡ neg_of width a }
     ensures contains { (x : ℕ) → Contains a x → Contains result (neg_result width x) }
@@ -241,8 +240,8 @@ fn movsx_range(kind: MovsxKind, a: Range) -> Range
     }
 }
 
-/// A range that holds the sign extension of each number: that of a single number, else every
-/// number of the result's width.
+/// Returns a range that holds the sign extension of each number: that of a single number, otherwise every number of the
+/// result's width.
 pub fn movsx(kind: MovsxKind, a: Range) -> Range
     ensures exact { result ≡ movsx_of kind a }
     ensures contains { (x : ℕ) → Contains a x → Contains result (movsx_result kind x) }
@@ -270,8 +269,8 @@ fn swap_range(order: Order, bits: SwapBits, a: Range) -> Range
     }
 }
 
-/// A range that holds each number with its bytes in the order: that of a single number, else every
-/// number of so many bits.
+/// Returns a range that holds each number with its bytes in the order: that of a single number, otherwise every number
+/// of as many bits.
 pub fn swap(order: Order, bits: SwapBits, a: Range) -> Range
     ensures exact { result ≡ swap_of order bits a }
     ensures contains { (x : ℕ) → Contains a x → Contains result (swap_result order bits x) }

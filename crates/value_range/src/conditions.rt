@@ -95,7 +95,7 @@ fn at_least_pair(a: Range, b: Range) -> Option<(Range, Range)>
     }
 }
 
-/// `a` without the single number of `b`, where that is an end of `a`.
+/// `a` without the single number of `b`, if that is an end of `a`.
 fn without_end(a: Range, b: Range) -> Range
     requires { is_single a && is_single b ≡ false }
     ensures { result ≡ without a b }
@@ -142,7 +142,7 @@ fn signed_pair(
     }
 }
 
-/// The pair where the condition holds, of ranges of numbers of the width.
+/// The pair if the condition holds, of ranges of numbers of the width.
 fn refine(cond: Cond, width: Width, a: Range, b: Range) -> Option<(Range, Range)>
     requires { is_single a && is_single b ≡ false }
     ensures { result ≡ refined cond (bits_of width) a b }
@@ -185,8 +185,8 @@ fn branch_pair(cond: Cond, width: Width, a: Range, b: Range, taken: bool) -> Opt
     }
 }
 
-/// What is left of two ranges where the condition falls as `taken` says, or none where it can't
-/// (docs/VERIFIER.md, "Conditions on ranges").
+/// Returns what is left of two ranges if the condition falls as `taken` says, or none if it can't (docs/RANGES.md,
+/// "Conditions on ranges").
 pub fn branch(cond: Cond, width: Width, a: Range, b: Range, taken: bool) -> Option<(Range, Range)>
     ensures exact { result ≡ branch_of cond width a b taken }
     ensures contains { (x y : ℕ) → Contains a x → Contains b y → holds cond width x y ≡ taken →

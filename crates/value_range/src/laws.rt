@@ -12,7 +12,7 @@ ghost use Rattle.value_range.specs.Span.{Span, HasMembers, IsInside, hull_of, me
 ghost use Rattle.value_range.specs.Results.{alu_of, neg_of, movsx_of, swap_of};
 ghost use Rattle.value_range.specs.Conditions.{branch_of, ArePairsInside, IsOptionInside};
 
-/// Of smaller ranges arithmetic and byte swaps give a smaller range.
+/// States that arithmetic and byte swaps of smaller ranges give a smaller range.
 pub fn results_grow()
     ensures alu { (op : AluOp) (width : Width) (a b c d : Span) → HasMembers a → HasMembers b →
         IsInside a c → IsInside b d → IsInside (alu_of op width a b) (alu_of op width c d) }
@@ -24,7 +24,7 @@ pub fn results_grow()
         IsInside a c → IsInside (swap_of order bits a) (swap_of order bits c) }
 {}
 
-/// Of smaller ranges the hull is smaller, and the meet is smaller or none.
+/// States that the hull of smaller ranges is smaller, and that their meet is smaller or none.
 pub fn joins_grow()
     ensures hull { (a b c d : Span) → IsInside a c → IsInside b d →
         IsInside (hull_of a b) (hull_of c d) }
@@ -32,7 +32,7 @@ pub fn joins_grow()
         IsOptionInside (meet_of a b) (meet_of c d) }
 {}
 
-/// Of smaller ranges a condition leaves smaller ones, or none.
+/// States that a condition leaves smaller ranges of smaller ones, or none.
 pub fn branches_grow()
     ensures { (cond : Cond) (width : Width) (a b c d : Span) (taken : Bool) →
         HasMembers a → HasMembers b → IsInside a c → IsInside b d →

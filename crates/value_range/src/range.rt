@@ -28,7 +28,7 @@ impl Model for Range {
 }
 
 impl Range {
-    /// The numbers from `lo` to `hi`, or none where there is no such number.
+    /// Returns the numbers from `lo` to `hi`, or none if there is no such number.
     pub fn of(lo: u64, hi: u64) -> Option<Range>
         ensures { SomeIff result (lo ≤ hi) (span lo hi) }
     {
@@ -39,7 +39,7 @@ impl Range {
         }
     }
 
-    /// One number alone.
+    /// Returns the range of one number.
     pub fn single(value: u64) -> Range
         ensures { result ≡ just value }
     {
@@ -49,7 +49,7 @@ impl Range {
         }
     }
 
-    /// Every number of the width.
+    /// Returns the range of every number of the width.
     pub fn full(width: Width) -> Range
         ensures { result ≡ full_of (bits_of width) }
     {
@@ -65,7 +65,7 @@ impl Range {
         }
     }
 
-    /// The least number.
+    /// Returns the least number.
     pub fn lo(&self) -> u64
         ensures value { result ≡ self.now.lo }
         ensures ordered { self.now.lo ≤ self.now.hi }
@@ -73,7 +73,7 @@ impl Range {
         self.lo
     }
 
-    /// The greatest number.
+    /// Returns the greatest number.
     pub fn hi(&self) -> u64
         ensures value { result ≡ self.now.hi }
         ensures small { self.now.hi < 2 ^ 64 }
@@ -82,7 +82,7 @@ impl Range {
     }
 }
 
-/// The least range that contains both.
+/// Returns the least range that contains both.
 pub fn hull(a: Range, b: Range) -> Range
     ensures exact { result ≡ hull_of a b }
     ensures first { IsInside a result }
@@ -101,7 +101,7 @@ fn common(a: Range, b: Range) -> Option<Range>
     Range::of(a.lo.max(b.lo), a.hi.min(b.hi))
 }
 
-/// The common numbers, or none where there is no such number.
+/// Returns the common numbers, or none if there is no such number.
 pub fn meet(a: Range, b: Range) -> Option<Range>
     ensures exact { result ≡ meet_of a b }
     ensures common { IfSome result (λ m. (x : ℕ) → Contains m x ↔ (Contains a x × Contains b x)) }

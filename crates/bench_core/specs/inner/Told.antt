@@ -18,7 +18,7 @@ abbrev pub joined_all : ℕ → List ℕ → ℕ
 joined_all common [] = common
 joined_all common (c ∷ cs) = joined_all (joined_of common c) cs
 
--- the greatest number of steps of these results, 0 where there is none
+-- the greatest number of steps of these results, 0 if there is none
 pub record IsMostSteps (dones : List Done) (steps : ℕ) : Type 0 where
   pub most : All (λ d. d.end.steps ≤ steps) dones
   pub reached : ((one : Done) × Contains dones one × (one.end.steps ≡ steps)) ⊎ ((dones ≡ []) × (steps ≡ 0))

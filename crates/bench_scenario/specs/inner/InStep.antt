@@ -3,7 +3,7 @@ use Rattle.std.specs.Prelude.{◌≡◌, ℕ, suc, ◌+◌, ◌<◌, List, [], �
 use Rattle.bench_core.specs.Told.{PulseTold}
 use Rattle.bench_scenario.specs.InStep.{EachWentOn, HaveOne}
 
--- all have one clock in the first record, and went on from it to the second, where there is one
+-- all have one clock in the first record, and went on from it to the second, if there is one
 abbrev pub Begins : ℕ → List PulseTold → Type 0
 Begins modulus [] = ⊥
 Begins modulus (r ∷ []) = (c : ℕ) × HaveOne modulus r c

@@ -19,6 +19,6 @@ abbrev pub announced_by : List Load → ℕ → ℕ
 announced_by loads zero = 0
 announced_by loads (suc n) = announced_by loads n + announced_at loads n
 
--- one, where the pulses are short
+-- one, if the pulses are short
 abbrev pub paying_workers : Scenario → ℕ → ℕ
 paying_workers s workers = if nat_lt (announced_by s.loads.items s.nodes) PAYING_STEPS then 1 else workers

@@ -5,7 +5,7 @@ use Rattle.bench_workers.specs.declared.event.Event.{Event as EventCode}
 use Rattle.scenario_text.specs.declared.scenario.Scenario.{Scenario}
 use Rattle.bench_scenario.specs.Events.{changes_at}
 
--- what stands in the rows
+-- what is in the rows
 abbrev pub told : {X : Type 0} → (X → List EventCode) → List X → List (List Event)
 told items rows = map (λ row. map event_of (items row)) rows
 

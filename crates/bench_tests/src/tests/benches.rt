@@ -13,7 +13,7 @@ use std::test::Fail;
 /// The bytes of a node's memory: a pair alone.
 pub const MEMORY: u32 = 8;
 
-/// A new bench of so many nodes, of which so many may be faulty.
+/// A new bench of this many nodes, of which this many may be faulty.
 pub fn bench_of(alloc: Global, nodes: u32, faults: u32, modulus: u32) -> Result<Bench, Fail> {
     let shape = Shape::of(nodes, MEMORY).ok_or("no shape")?;
     let rule = ClockRule::of(nodes, faults, modulus).ok_or("no rule")?;
@@ -167,7 +167,7 @@ pub fn assert_clocks(rt: &impl Abort, bench: &Bench, clocks: &[u32]) {
     }
 }
 
-/// What the nodes sent, one node's row behind the other's.
+/// What the nodes sent, one node's row after the other's.
 pub fn assert_mail(
     rt: &impl Abort,
     alloc: Global,
@@ -179,7 +179,7 @@ pub fn assert_mail(
     Ok(())
 }
 
-/// What the nodes sent, one node's row behind the other's.
+/// What the nodes sent, one node's row after the other's.
 pub fn mail(alloc: Global, bench: &Bench) -> Result<Vec<Option<u32>>, AllocError> {
     let mail = bench.mail();
     let mut slots = Vec::new(alloc);

@@ -6,7 +6,7 @@ use Rattle.bench_core.specs.Tasks.{Task, Done}
 abbrev pub RanInOrder : List Task → List Done → Type 0
 RanInOrder tasks dones = map (λ d. d.task) dones ≡ tasks
 
--- batch j of so many has the tasks at j, j + count, j + 2 count and so on, in order, as long as there are any
+-- batch j of this many has the tasks at j, j + count, j + 2 count and so on, in order, as long as there are any
 unfoldable pub AreDealt : ℕ → List Task → List (List Task) → Type 0
 AreDealt count tasks batches =
     (j k : ℕ) → j < count → slice_get (get_or batches j []) k ≡ slice_get tasks (j + k * count)

@@ -22,7 +22,7 @@ pub record GoesSeen (old : BenchValue) (before : List PulseTold) (event : Event)
   pub closed : new.state.coins ≡ None
   pub shows : Shows old.setup old.state (length old.history) (last_of before) (event ∷ []) xs new.state
 
--- the event is done, its records are put behind those that were there, and its pulse was shown
+-- the event is done, its records are put after those that were there, and its pulse was shown
 pub record IsWatched {K S : Type 0} (T : K → S → Seen → K → S → Type 0) (old : BenchValue) (before : List PulseTold)
     (k : K) (o : S) (event : Event) (new : BenchValue) (after : List PulseTold) (k' : K) (o' : S) : Type 0 where
   pub xs : List Seen

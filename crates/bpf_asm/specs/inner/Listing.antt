@@ -7,7 +7,7 @@ use Rattle.bpf_asm.specs.Listing.{Listed}
 abbrev pub listed_in : ListedLine → Listed
 listed_in line = record { number = line.number; slot = line.slot; slots = line.slots; text = line.text.now }
 
--- the bytes behind a line
+-- the bytes after a line
 abbrev pub left_of : Option (Bor (List ℕ)) → List ℕ
 left_of None = []
 left_of (Some rest) = rest.now

@@ -62,7 +62,7 @@ abbrev pub slots_found : Option Insn → ℕ
 slots_found None = 0
 slots_found (Some insn) = slots_taken insn
 
--- a refusal, but for want of memory: the lines have no instructions, or too many
+-- a refusal, but for lack of memory: the lines have no instructions, or too many
 abbrev pub Refuses : (List ℕ → Option ℕ) → List Line → TextError → Type 0
 Refuses slots lines error =
     error ≢ errors.Memory → (insns_from slots 0 lines ≡ None) ⊎ (MAX_SLOTS < slots_of_lines lines)

@@ -11,7 +11,7 @@ abbrev pub IsMagnitude : ℕ → Magnitude → Type 0
 IsMagnitude n (Fits m) = n ≡ m
 IsMagnitude n TooGreat = 2 ^ 64 ≤ n
 
--- the code has a number exactly where there is one, and that one
+-- the code has a number exactly if there is one, and that one
 abbrev pub Counts : Option ℕ → Option Magnitude → Type 0
 Counts None None = Unit {0}
 Counts (Some n) (Some m) = IsMagnitude n m

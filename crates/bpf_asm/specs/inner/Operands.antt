@@ -6,7 +6,7 @@ use Rattle.bpf_asm.specs.declared.operands.Parts.{Parts}
 use Rattle.bpf_asm.specs.declared.operands.Parts.TheVariants as code_parts
 use Rattle.bpf_asm.specs.Operands.{Target, distance, label, Operands, one, two, three, more}
 
--- the code has a value exactly where there is one, and that one
+-- the code has a value exactly if there is one, and that one
 abbrev pub Reads : {A E : Type 0} → Option A → Result A E → Type 0
 Reads wanted (Ok value) = wanted ≡ Some value
 Reads wanted (Err error) = wanted ≡ None

@@ -5,7 +5,7 @@ use Rattle.bpf_asm.specs.declared.pieces.Letters.{Letters}
 use Rattle.bpf_asm.specs.declared.pieces.Letters.TheVariants.{Blank, Word}
 use Rattle.bpf_asm.specs.Pieces.{pieces_of, is_blank, is_word_letter}
 
--- the pieces of what comes behind a mark
+-- the pieces of what comes after a mark
 abbrev pub pieces_left : (ℕ → Bool) → Option (Bor (List ℕ)) → List (List ℕ)
 pieces_left parts None = []
 pieces_left parts (Some rest) = pieces_of parts rest.now

@@ -38,7 +38,7 @@ abbrev pub ◌>>=◌ : {A B : Type 0} → Result A SlotFault → (A → Result B
 (Ok x) >>= f = f x
 (Err e) >>= f = Err e
 
--- the value, or else the fault
+-- the value, or otherwise the fault
 abbrev pub found : {A : Type 0} → SlotFault → Option A → Result A SlotFault
 found fault (Some x) = Ok x
 found fault None = Err fault
@@ -60,7 +60,7 @@ fields_at opcode dst src bytes =
       imm = cast_signed w32 (number_at bytes 4);
     }
 
--- the fields behind the opcode
+-- the fields after the opcode
 unfoldable pub slot_at : Opcode → List ℕ → Result Slot SlotFault
 slot_at opcode bytes = do
   dst ← found BadRegister (register_at (bit_and (slice_index bytes 1) 15))

@@ -27,7 +27,7 @@ Comes given old new (turn.Ended r0) = (given ≡ Ok (Ended old.memory old.sent r
 Comes given old new (turn.Trap trap) = (given ≡ Err trap) × (new ≡ old)
 
 -- a run that goes on from a state with that much fuel: that many steps lead to the new one, which is the state where
--- the fuel ran out, or else that in which it ends or is stuck
+-- the fuel ran out, or otherwise that in which it ends or is stuck
 abbrev pub WentOn : List Insn → Setting → ℕ → MachineState → MachineState → ℕ → Turn → Type 0
 WentOn program env fuel old new taken turn.Next =
     (taken ≡ fuel) × Leads program env taken (Running old) (Running new)
@@ -36,7 +36,7 @@ WentOn program env fuel old new taken (turn.Ended r0) =
 WentOn program env fuel old new taken (turn.Trap kind) =
     (taken < fuel) × Leads program env taken (Running old) (Running new) × Turns program env new new (turn.Trap kind)
 
--- a region, where there is that much memory, has this many bytes
+-- a region, if there is that much memory, has this many bytes
 abbrev pub HasBytes : ℕ → Region → ℕ → Type 0
 HasBytes memory Mem count = count ≤ memory
 HasBytes memory Stack count = count ≤ STACK_BYTES
@@ -47,7 +47,7 @@ jump program slot off = do
   to ← needed BadJump (moved (slot + 1) off)
   begins program to
 
--- a store of so many bytes
+-- a store of this many bytes
 abbrev pub store_bytes : Setting → ℕ → Word → ℤ → ℕ → Bytes → Result Bytes TrapKind
 store_bytes env count base off n b = do
   at ← place env base off count

@@ -5,7 +5,7 @@ use Rattle.bpf_insn.specs.Programs.{slots_of}
 use Rattle.bpf_insn.specs.Edges.{BeginsAt}
 use Rattle.bpf_verify.specs.Paths.{IsLongestFrom}
 
--- the longest path on one way, 0 where there is no such way
+-- the longest path on one way, 0 if there is no such way
 abbrev pub IsLongestOn : List Insn → Option ℕ → ℕ → Type 0
 IsLongestOn program goal count = MatchOption goal (count ≡ 0) (λ to. IsLongestFrom program to count)
 

@@ -11,7 +11,7 @@ use Rattle.bpf_verify.specs.inner.Marks.{is_marked}
 abbrev pub kind_numbered : List Kind → ℕ → Kind
 kind_numbered kinds number = slice_index_or kinds number Unset
 
--- what is known of each double word of the stack: nothing, where no list was made
+-- what is known of each double word of the stack: nothing, if no list was made
 abbrev pub entry_in : {A : Type 0} → Option (Box Entries A) → ℕ → Kind
 entry_in None dword = Unset
 entry_in (Some held) dword = kind_numbered held.value.kinds dword

@@ -7,6 +7,6 @@ use Rattle.bpf_record.specs.Records.{AreRecords}
 abbrev pub accepted_of : Inside → Accepted
 accepted_of v = record { program = (arc_value v.shared).program; shape = v.shape; budget = v.budget }
 
--- beside the program stand its records
+-- beside the program are its records
 abbrev pub HasRecords : Inside → Type 0
 HasRecords v = AreRecords (arc_value v.shared).program (arc_value v.shared).records.items

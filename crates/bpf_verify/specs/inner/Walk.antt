@@ -39,7 +39,7 @@ met_state (Some A) (Some C) = Some (joined_state A C)
 abbrev pub with_come : Table → ℕ → AbstractState → Table
 with_come rows to A other = if other == to then met_state (rows to) (Some A) else rows other
 
--- the rows after an outcome goes a way, where there are both
+-- the rows after an outcome goes a way, if there are both
 abbrev pub sent_on : Table → Option ℕ → Option AbstractState → Table
 sent_on rows None after = rows
 sent_on rows (Some to) None = rows
@@ -64,7 +64,7 @@ abbrev pub IsProperRow : Option AbstractState → Type 0
 IsProperRow None = Unit {0}
 IsProperRow (Some A) = IsProper A
 
--- the walk stands before a slot: some table types the slots before it, and holds there what has come by jumps and from
+-- the walk is before a slot: some table types the slots before it, and holds there what has come by jumps and from
 -- the slot before, and at each later slot what has come by jumps
 pub record Stands
     (program : List Insn) (shape : Extent) (slot : ℕ) (come : Option AbstractState) (rows table : Table) : Type 0 where
@@ -87,7 +87,7 @@ Walks program shape slot come rows =
 abbrev pub with_row : Table → ℕ → Option AbstractState → Table
 with_row rows slot row other = if other == slot then row else rows other
 
--- the walk stands at a slot, and the rows have what is known there too
+-- the walk is at a slot, and the rows have what is known there too
 pub record StandsAt
     (program : List Insn) (shape : Extent) (slot : ℕ) (state : Option AbstractState) (rows : Table) : Type 0 where
   pub passed : Passed program shape slot rows
@@ -99,7 +99,7 @@ pub record StandsAt
 abbrev pub with_met : Table → ℕ → Option AbstractState → Table
 with_met rows slot come = with_row rows slot (met_state (rows slot) come)
 
--- the walk stands before a slot, and the rows have what was known at each slot before it
+-- the walk is before a slot, and the rows have what was known at each slot before it
 abbrev pub Keeps : List Insn → Extent → ℕ → Option AbstractState → Table → Type 0
 Keeps program shape slot come rows =
     Stands program shape slot come rows (with_met rows slot come) × IsLeast program shape (with_met rows slot come)
@@ -128,7 +128,7 @@ table_of rows slot = row_state (slice_index_or rows slot None)
 
 -- ---- one step of the walk that keeps its rows
 
--- by the rule that an instruction breaks: the walk stands before the next slot, or this one is refused
+-- by the rule that an instruction breaks: the walk is before the next slot, or this one is refused
 abbrev pub IsStep : List Insn → Extent → ℕ → Insn → Option AbstractState → Table → Option Rule → Type 0
 IsStep program shape slot insn come rows None = Keeps program shape (slot + slots_taken insn) come rows
 IsStep program shape slot insn come rows (Some rule) =

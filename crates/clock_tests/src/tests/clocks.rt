@@ -7,7 +7,7 @@ use std::alloc::Global;
 use std::process::Abort;
 use std::test::Fail;
 
-/// Slots and announced count of the clock for so many nodes.
+/// Slots and announced count of the clock for this many nodes.
 fn size_of_clock(alloc: Global, nodes: u32, faults: u32) -> Result<(u32, u32), Fail> {
     let shape = Shape::of(nodes, MEMORY).ok_or("no shape")?;
     let rule = ClockRule::of(nodes, faults, 8).ok_or("no rule")?;

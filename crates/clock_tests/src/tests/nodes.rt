@@ -27,7 +27,7 @@ pub struct Left {
     pub sent: Vec<Option<u32>>,
 }
 
-/// The memory with this clock and this mark, and numbers from 8 on behind them.
+/// The memory with this clock and this mark, and numbers from 8 on after them.
 pub fn memory_of(clock: u32, mark: u32) -> [u8; MEMORY as usize] {
     let [a, b, c, d] = clock.to_le_bytes();
     let [e, f, g, h] = mark.to_le_bytes();

@@ -10,7 +10,7 @@ fn counter() -> CachePadded<AtomicU32> {
     CachePadded::new(AtomicU32::new(0))
 }
 
-/// A gate that counts who enters, and lets so many in.
+/// A gate that counts who enters, and lets this many in.
 #[derive(Drop)]
 pub struct Counting {
     all: CachePadded<AtomicU32>,

@@ -33,7 +33,7 @@ fn entries_of(alloc: Global, gate: &Counting) -> Result<Vec<u32>, Fail> {
     Ok(entered)
 }
 
-/// So many pulses, and what each tells.
+/// This many pulses, and what each tells.
 fn run_pulses<B: Ledger, C: Ledger, R: Threads + Wait + Sync>(
     rt: &R,
     alloc: Global,

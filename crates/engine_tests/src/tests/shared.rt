@@ -206,7 +206,7 @@ impl Promise<(WatchPass, bool)> for OfBoard {
     ghost kept_by = { λ p watched. watched.0.board ≡ p.board.value };
 }
 
-/// Runs so many pulses of four nodes, each once the row before it was seen, and tells whether each left a row.
+/// Runs this many pulses of four nodes, each once the row before it was seen, and tells whether each left a row.
 fn run_pulses<B: Ledger, C: Ledger, R: Threads + Wait + Sync>(
     rt: &R,
     alloc: Global,

@@ -1,7 +1,7 @@
 //! A watcher that counts what it is shown, and stops a run.
 use super::*;
 
-/// Puts the steps of node 0 on a list, so many times, and then stops the run.
+/// Puts the steps of node 0 on a list, this many times, and then stops the run.
 #[derive(Drop)]
 struct Counted {
     left: u32,
@@ -22,7 +22,7 @@ impl Watcher<Vec<u32>> for Counted {
     }
 }
 
-/// Three pulses of four clocks, watched by one that stops after so many.
+/// Three pulses of four clocks, watched by one that stops after this many.
 fn watched<R: Threads + Wait + Sync>(
     rt: &R,
     alloc: Global,

@@ -9,7 +9,7 @@ use Rattle.node_env.specs.declared.env.Inbox.{Inbox}
 use Rattle.node_env.specs.declared.env.Inbox.TheVariants.{Slots, Words}
 use Rattle.node_env.specs.declared.shape.TheConstants.{MAX_NODES}
 
--- so many words to each of so many receivers
+-- this many words to each of this many receivers
 pub record IsSquare (nodes : ℕ) (words : List ℕ) : Type 0 where
   pub some : 1 ≤ nodes
   pub few : nodes ≤ MAX_NODES
@@ -21,7 +21,7 @@ pub record IsRow (words : List ℕ) : Type 0 where
   pub sendings : IsSendings (record { nodes = length words; sent = numbers_of words })
   pub fit : All IsWord words
 
--- the mail in an inbox, by sender
+-- the messages in an inbox, by sender
 abbrev pub mail_in : Inbox → FinMap nat_cmp ℕ
 mail_in (Slots slots) = map_of slots.items
 mail_in (Words words) = numbers_of words.items
@@ -30,7 +30,7 @@ abbrev pub slot_count : Inbox → ℕ
 slot_count (Slots slots) = length slots.items
 slot_count (Words words) = length words.items
 
--- where it has words, each is one that stands for a slot
+-- if it has words, each is one that represents a slot
 abbrev pub IsFit : Inbox → Type 0
 IsFit (Slots slots) = Unit {0}
 IsFit (Words words) = All IsWord words.items

@@ -10,7 +10,7 @@ use Rattle.node_env.specs.Slots.{map_of}
 abbrev pub IsWord : ℕ → Type 0
 IsWord word = word ≤ EMPTY
 
--- the slot that a word stands for: its number where that has 32 bits
+-- the slot that a word represents: its number if that has 32 bits
 abbrev pub slot_of : ℕ → Option ℕ
 slot_of word = if nat_lt word EMPTY then Some word else None
 
@@ -18,7 +18,7 @@ slot_of word = if nat_lt word EMPTY then Some word else None
 abbrev pub numbers_of : List ℕ → FinMap nat_cmp ℕ
 numbers_of words = map_of (map slot_of words)
 
--- what a sender sent to a receiver: the words to a receiver stand side by side, by sender
+-- what a sender sent to a receiver: the words to a receiver are side by side, by sender
 abbrev pub word_at : ℕ → List ℕ → ℕ → ℕ → ℕ
 word_at nodes words sender receiver = slice_index_or words (receiver * nodes + sender) EMPTY
 

@@ -16,19 +16,19 @@ use Rattle.run_lines.specs.declared.writer.LineWriter.{LineWriter}
 use Rattle.run_lines.specs.Lines.{last_line, line_within}
 use Rattle.run_lines.specs.Telling.{MOST_TOLD}
 
--- the bytes were written whole after so many, and there are so many then
+-- the bytes were written whole after this many, and there are this many then
 pub record Adds (old new : Option (List ℕ)) (before : ℕ) (bytes : List ℕ) (after : ℕ) : Type 0 where
   pub left : Appends old new bytes
   pub number : after ≡ min (before + length bytes) MOST_TOLD
 
--- a write of the bytes failed, and left their front, of which so many with those before were taken
+-- a write of the bytes failed, and left their front, of which this many with those before were taken
 pub record BreaksOff (old new : Option (List ℕ)) (before : ℕ) (bytes : List ℕ) (written : ℕ) : Type 0 where
   pub taken : ℕ
   pub part : taken < length bytes
   pub number : written ≡ min (before + taken) MOST_TOLD
   pub left : Appends old new (take taken bytes)
 
--- the fault of a line that was to be written after so many bytes
+-- the fault of a line that was to be written after this many bytes
 abbrev pub IsLineFault : Option (List ℕ) → Option (List ℕ) → ℕ → List ℕ → LinesFault → Type 0
 IsLineFault old new before bytes (faults.Write written) = BreaksOff old new before bytes written
 IsLineFault old new before bytes faults.Memory = Keeps old new
@@ -41,7 +41,7 @@ pub record IsSame (k k' : LineWriter) : Type 0 where
   pub scenario : k'.scenario.now ≡ k.scenario.now
   pub span : k'.span ≡ k.span
 
--- it wrote the line of a pulse, where it is within the span
+-- it wrote the line of a pulse, if it is within the span
 pub record Tells {S : Type 0} (contents : S → Option (List ℕ)) (k : LineWriter) (o : S) (x : Seen) (k' : LineWriter)
     (o' : S) : Type 0 where
   pub same : IsSame k k'

@@ -49,7 +49,7 @@ changes_counted members =
     loads_counted (get_member (codes "load") members) + entry_count (get_member (codes "unload") members)
     + entry_count (get_member (codes "corrupt") members)
 
--- the four keys hold arrays of tables, where they are there, and not too many
+-- the four keys hold arrays of tables, if they are there, and not too many
 pub record HasArrays (members : Members) : Type 0 where
   pub loads : are_tables (get_member (codes "load") members) ≡ true
   pub unloads : are_tables (get_member (codes "unload") members) ≡ true

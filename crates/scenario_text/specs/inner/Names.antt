@@ -1,4 +1,4 @@
--- What a name stands for, as the code finds it.
+-- What a name represents, as the code finds it.
 use Rattle.std.specs.Prelude.{ℕ, if◌then◌else◌, List, codes, Option, Some, None}
 use Rattle.std.specs.Str.{bytes_eq}
 use Rattle.scenario_text.specs.declared.scenario.Coins.{Coins}

@@ -7,7 +7,7 @@ use Rattle.scenario_text.specs.declared.setup.Setup.{Setup}
 use Rattle.scenario_text.specs.Spelling.{clock_insns}
 use Rattle.scenario_text.specs.Views.{FitsFrame, extent_of}
 
--- the instructions of the clock, where it isn't that of the rule
+-- the instructions of the clock, if it isn't that of the rule
 abbrev pub own_clock : Setup → Option (List Insn)
 own_clock setup = option_map (λ v. v.program) setup.own
 

@@ -210,7 +210,7 @@ fn entries_at_the_end<B: Ledger, C: Ledger>(
     }
 }
 
-/// Unloads so many times.
+/// Unloads this many times.
 fn unload_often<B: Ledger, C: Ledger, R: Wait>(
     rt: &R,
     alloc: Global,
