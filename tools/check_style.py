@@ -1,9 +1,9 @@
 #!/usr/bin/env python3
-"""Counts in README.md and docs/*.md the words, the turns of phrase to avoid, and the sentences over 25 words.
+"""Counts in every page the words, the turns of phrase to avoid, and the sentences over 25 words.
 
     tools/check_style.py              a row for each page
     tools/check_style.py PAGE ..      a row for each of these pages, then each find with its line
-    tools/check_style.py --limit      fails if a page of LIMITED has more than one turn in 1,000 words
+    tools/check_style.py --limit      fails if a page has more than one turn in 1,000 words
 
 TURNS and LEFT_OUT are the turns, with what to write instead. Blocks of code, links' targets, headings and the heads of
 tables don't count. A span of code, a quotation and a page's name are one word each. A table cell and a list item each
@@ -14,18 +14,7 @@ import sys
 
 from built_program import TOP
 
-PAGES = [TOP / "README.md", *sorted(TOP.glob("docs/*.md"))]
-LIMITED = [
-    "README.md",
-    *(
-        f"docs/{name}.md"
-        for name in """
-        MODEL GLOSSARY THEOREMS TRUST COMPATIBILITY CLOCK PULSE THREADS RUNNER
-        TUTORIAL EXERCISES OWN_CLOCK GALLERY NODES_IN_C EXPLORE LUCK LAB
-        DECISIONS CLAIMS TESTED COMMANDS SCENARIOS OUTPUT INSIDE VERIFIER RANGES ARCHITECTURE DEVELOPING
-        """.split()
-    ),
-]
+PAGES = [*sorted(TOP.glob("*.md")), *sorted(TOP.glob("*/*.md"))]
 MOST_WORDS = 25
 MOST_TURNS = 1.0
 
@@ -158,11 +147,10 @@ def main():
             print(f"  {find}")
     if "--limit" not in words:
         return 0
-    over = [it.name for it in pages if it.name in LIMITED and it.rate() > MOST_TURNS]
-    missing = [] if named else [it for it in LIMITED if it not in {page.name for page in pages}]
-    for name in [*over, *missing]:
-        print(f"check_style: {name} has more than {MOST_TURNS:g} turn in 1,000 words, or is missing")
-    return 1 if over or missing else 0
+    over = [it.name for it in pages if it.rate() > MOST_TURNS]
+    for name in over:
+        print(f"check_style: {name} has more than {MOST_TURNS:g} turn in 1,000 words")
+    return 1 if over or not pages else 0
 
 
 if __name__ == "__main__":

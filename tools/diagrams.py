@@ -3,8 +3,8 @@
 
 It writes docs/pictures/*.svg. With --check it writes nothing. It then fails if a file there isn't what it would write,
 is missing, or isn't one of its own. Clocks, verdicts and messages are those of the reports of examples/two_faced,
-examples/splitter and examples/splitter_of_three, and those that docs/EXPLORE.md shows; the crates are those of
-crates.txt, and the steps of the gate those of .ci/run.
+examples/splitter and examples/splitter_of_three, and those that docs/EXPLORE.md shows; the bytes of instructions are
+those of docs/ASSEMBLER.md, the crates those of crates.txt, and the steps of the gate those of .ci/run.
 """
 import re
 import sys
@@ -588,6 +588,94 @@ def join():
     return canvas
 
 
+# ---- the slot of an instruction
+
+BYTE, BYTES_LEFT, BYTES_TOP = (74, 34), 84, 36
+# the parts of an opcode, from the highest bit on: how many bits, what they are, and how they read
+LOAD_PARTS = ((3, "mode 3", BLUE), (2, "size W", ORANGE), (3, "class LDX", GREEN))
+JUMP_PARTS = ((4, "code 1: eq", BLUE), (1, "source K", ORANGE), (3, "class JMP", GREEN))
+
+
+def image_of(text):
+    """The bytes that docs/ASSEMBLER.md shows for an instruction."""
+    page = (TOP / "docs" / "ASSEMBLER.md").read_text(encoding="utf-8")
+    return bytes.fromhex(re.search(rf"^\| `{re.escape(text)}` \| `(\w+)` \|$", page, re.M)[1])
+
+
+def draw_field(canvas, first, count, words, colour):
+    """Bytes of the slot in one colour, with their field below."""
+    image = image_of("ldxw r4, [r8+1]")
+    for place in range(first, first + count):
+        x = BYTES_LEFT + BYTE[0] * place
+        canvas.named_box((x, BYTES_TOP), BYTE, f"{image[place]:02x}", Style(colour, size=14, weight="bold"))
+        canvas.text((x + BYTE[0] / 2, BYTES_TOP - 8), str(place), Style(GREY, size=12))
+    canvas.lines((BYTES_LEFT + BYTE[0] * (first + count / 2), BYTES_TOP + 52), words, Style(colour, size=12))
+
+
+def draw_opcode(canvas, left, text, parts):
+    opcode = image_of(text)[0]
+    bits, x = f"{opcode:08b}", left
+    canvas.text((left, 148), f"opcode {opcode:02x} of {text}", LEFT)
+    for count, words, colour in parts:
+        wide = max(28 * count, 72)
+        canvas.named_box((x, 158), (wide, 28), " ".join(bits[:count]), Style(colour, size=14))
+        canvas.text((x + wide / 2, 204), words, Style(colour, size=12))
+        bits, x = bits[count:], x + wide + 8
+
+
+def slot():
+    image = image_of("ldxw r4, [r8+1]")
+    canvas = Canvas(216, "The eight bytes of a slot, and the bits of two opcodes")
+    canvas.text((BYTES_LEFT - 12, BYTES_TOP - 8), "byte", Style(GREY, size=12, anchor="end"))
+    draw_field(canvas, 0, 1, ("opcode",), INK)
+    draw_field(canvas, 1, 1, (f"src {image[1] >> 4}, dst {image[1] & 15}",), BLUE)
+    draw_field(canvas, 2, 2, (f"offset {int.from_bytes(image[2:4], 'little', signed=True)}",), ORANGE)
+    draw_field(canvas, 4, 4, (f"imm {int.from_bytes(image[4:], 'little', signed=True)}, unused",), GREEN)
+    draw_opcode(canvas, BYTES_LEFT, "ldxw r4, [r8+1]", LOAD_PARTS)
+    draw_opcode(canvas, BYTES_LEFT + 320, "jeq r7, 0, +7", JUMP_PARTS)
+    return canvas
+
+
+# ---- the registers
+
+REGISTER, REGISTERS_LEFT, REGISTERS_TOP = (44, 20), 24, 16
+REGISTER_ROLES = (
+    ((0,), INK, "result"),
+    (range(1, 6), ORANGE, "arguments; unset after a call"),
+    (range(6, 10), GREEN, "kept by calls"),
+    ((10,), BLUE, "the end of the stack; never written"),
+)
+SET_AT_ENTRY = (1, 2, 10)
+
+
+def middle_of(register):
+    return REGISTERS_TOP + 24 * register + REGISTER[1] / 2
+
+
+def draw_region(canvas, y, words, colour):
+    canvas.box((400, y), (320, 40), Style(colour))
+    canvas.text((560, y + 25), words, Style(colour))
+
+
+def registers():
+    canvas = Canvas(312, "The registers and both regions when a run begins")
+    for numbers, colour, role in REGISTER_ROLES:
+        for number in numbers:
+            look = Style(colour, "" if number in SET_AT_ENTRY else DASH)
+            canvas.named_box((REGISTERS_LEFT, REGISTERS_TOP + 24 * number), REGISTER, f"r{number}", look)
+        role_y = (middle_of(numbers[0]) + middle_of(numbers[-1])) / 2 + 4
+        canvas.text((REGISTERS_LEFT + 58, role_y), role, Style(colour, anchor="start"))
+    canvas.text((REGISTERS_LEFT + 58, middle_of(2) + 4), "the node's number", Style(size=12, anchor="start"))
+    draw_region(canvas, 30, "memory: 8 to 256 bytes, outlives the run", ORANGE)
+    draw_region(canvas, 190, "stack: 512 bytes, for one run", BLUE)
+    canvas.arrow((REGISTERS_LEFT + 45, middle_of(1)), (399, middle_of(1)), Style(ORANGE))
+    canvas.path(f"M320 {middle_of(10)}L720 {middle_of(10)}L720 231", Style(BLUE))
+    canvas.text((400, 22), "offset 0", Style(GREY, size=12))
+    canvas.text((724, 182), "offset 512", Style(GREY, size=12, anchor="end"))
+    canvas.text((16, 304), "Solid: set when a run begins. Dashed: unset.", LEFT)
+    return canvas
+
+
 # ---- the gate
 
 # The parts of .ci/run: the script with which each begins, its name, and what it shows.
@@ -643,6 +731,8 @@ PICTURES = {
     "threads": threads,
     "crates": crates,
     "join": join,
+    "slot": slot,
+    "registers": registers,
     "gate": gate,
 }
 
