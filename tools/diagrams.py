@@ -8,6 +8,7 @@ those of docs/ASSEMBLER.md, the crates those of crates.txt, and the steps of the
 """
 import re
 import sys
+import textwrap
 from typing import NamedTuple
 from xml.sax.saxutils import escape
 
@@ -720,6 +721,31 @@ def gate():
     return canvas
 
 
+# ---- what is trusted
+
+LAYER = re.compile(r"^\| ([^|]+) \| [^|]+ \| ([^|]+) \|$", re.M)
+LAYER_HIGH, LAYER_WIDE, LIMIT_LETTERS = 52, 236, 74
+
+
+def layers_of_trust():
+    """Each layer of the table in docs/TRUST.md, and how it is limited."""
+    table = (TOP / "docs/TRUST.md").read_text(encoding="utf-8").partition("\n## Layers\n")[2].partition("\n\nA check")[0]
+    return [tuple(cell.replace("`", "") for cell in row) for row in LAYER.findall(table)[1:]]
+
+
+def trust():
+    layers = layers_of_trust()
+    canvas = Canvas(LAYER_HIGH * (len(layers) + 1) + 16, "The layers of trust, from the theorem down to the processor")
+    canvas.named_box((16, 10), (LAYER_WIDE, 38), "theorem on the shipped code", Style(GREEN, weight="bold"))
+    canvas.text((262, 33), "proved from the layers below", Style(GREEN, anchor="start"))
+    for number, (layer, limit) in enumerate(layers, 1):
+        y = 10 + LAYER_HIGH * number
+        canvas.named_box((16, y), (LAYER_WIDE, 38), layer, Style(ORANGE, size=12))
+        canvas.lines((262, y + 15), textwrap.wrap(limit, LIMIT_LETTERS), Style(GREY, size=12, anchor="start"))
+        canvas.arrow((16 + LAYER_WIDE / 2, y - 1), (16 + LAYER_WIDE / 2, y - LAYER_HIGH + 39), Style(GREY))
+    return canvas
+
+
 PICTURES = {
     "same_attack": same_attack,
     "own_clock": own_clock,
@@ -733,6 +759,7 @@ PICTURES = {
     "join": join,
     "slot": slot,
     "registers": registers,
+    "trust": trust,
     "gate": gate,
 }
 
