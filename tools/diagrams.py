@@ -729,7 +729,8 @@ LAYER_HIGH, LAYER_WIDE, LIMIT_LETTERS = 52, 236, 74
 
 def layers_of_trust():
     """Each layer of the table in docs/TRUST.md, and how it is limited."""
-    table = (TOP / "docs/TRUST.md").read_text(encoding="utf-8").partition("\n## Layers\n")[2].partition("\n\nA check")[0]
+    page = (TOP / "docs/TRUST.md").read_text(encoding="utf-8")
+    table = page.partition("\n## Layers\n")[2].partition("\n\n![")[0]
     return [tuple(cell.replace("`", "") for cell in row) for row in LAYER.findall(table)[1:]]
 
 
