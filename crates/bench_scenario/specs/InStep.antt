@@ -1,5 +1,5 @@
 -- From which pulse on a run is in step: all nodes that ran the clock have one clock, and each goes on by one
--- (docs/INSIDE.md, "In step").
+-- (docs/OUTPUT.md, "Synchrony of a run").
 use Rattle.std.specs.Prelude.{◌≡◌, ℕ, suc, ◌+◌, ◌%◌, ◌<◌, List, Option, Some, None, drop, length, slice_get}
 use Rattle.bench_core.specs.Told.{PulseTold}
 

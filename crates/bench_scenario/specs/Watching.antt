@@ -1,4 +1,4 @@
--- How the run of a scenario before a watcher ends early (docs/INSIDE.md, "The run").
+-- How the run of a scenario before a watcher ends early (docs/ARCHITECTURE.md, "Watchers of a run").
 use Rattle.std.specs.Prelude.{◌≡◌, List, take}
 use Rattle.bench_workers.specs.Runs.{IsFault}
 use Rattle.bench_workers.specs.Watching.{Seen, StoppedAt, Watched}

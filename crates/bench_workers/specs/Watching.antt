@@ -1,4 +1,4 @@
--- What a watcher of a run is shown, and what comes of it (docs/INSIDE.md, "The run").
+-- What a watcher of a run is shown, and what comes of it (docs/ARCHITECTURE.md, "Watchers of a run").
 use Rattle.std.specs.Prelude.{◌≡◌, ◌≢◌, ℕ, ◌+◌, ◌<◌, ◌≤◌, Option, Some, None, List, [], ◌∷◌, ◌++◌, take, option_copied}
 use Rattle.bench_core.specs.declared.limits.TheConstants.{MOST_ENTRIES}
 use Rattle.bench_core.specs.Setup.{Setup}

@@ -1,4 +1,4 @@
--- What the lines of a run tell, as values of JSON (docs/INSIDE.md, "The lines").
+-- What the lines of a run tell, as values of JSON (docs/OUTPUT.md, "JSON lines").
 use Rattle.std.specs.Prelude.{ℕ, ◌==◌, if◌then◌else◌, is_some, Bool, List, [], ◌∷◌, ◌++◌, length, codes}
 use Rattle.std.specs.Ordering.{nat_cmp}
 use Rattle.std.specs.FinMap.{FinMap, get}

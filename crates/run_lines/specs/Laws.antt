@@ -1,4 +1,4 @@
--- What the lines of pulses let their reader know (docs/INSIDE.md, "The lines").
+-- What the lines of pulses let their reader know (docs/OUTPUT.md, "JSON lines").
 use Rattle.std.specs.Prelude.{◌≡◌, ℕ, ◌<◌, Bool, List, Option, Some, None, All, length, map}
 use Rattle.std.specs.FinMap.{get}
 use Rattle.serde_json.specs.Data.{Data}

@@ -1,4 +1,4 @@
--- The lines of a run, one after the other (docs/INSIDE.md, "The lines").
+-- The lines of a run, one after the other (docs/OUTPUT.md, "JSON lines").
 use Rattle.std.specs.Prelude.{ℕ, if◌then◌else◌, is_some, List, [], ◌++◌, flat_map}
 use Rattle.bench_workers.specs.Watching.{Seen}
 use Rattle.scenario_text.specs.declared.scenario.Scenario.{Scenario}

@@ -1,4 +1,4 @@
--- What the reader of a line finds in it (docs/INSIDE.md, "The lines").
+-- What the reader of a line finds in it (docs/OUTPUT.md, "JSON lines").
 use Rattle.std.specs.Prelude.{ℕ, Bool, List, [], ◌∷◌, Option, Some, None, codes, is_some, if◌then◌else◌, option_and_then, option_map}
 use Rattle.std.specs.Result.{result_ok}
 use Rattle.hex.specs.Hex.{decode_of}

@@ -1,4 +1,4 @@
--- Pulses in a row (docs/INSIDE.md, "The lines").
+-- Pulses in a row (docs/OUTPUT.md, "JSON lines").
 use Rattle.std.specs.Prelude.{ℕ, ◌≤◌, ◌&&◌, nat_le, Bool}
 
 pub record Span : Type 0 where

@@ -1,4 +1,4 @@
--- What was staged before a pulse (docs/INSIDE.md, "The lines").
+-- What was staged before a pulse (docs/OUTPUT.md, "JSON lines").
 use Rattle.std.specs.Prelude.{ℕ, ◌==◌, if◌then◌else◌, List, [], ◌∷◌, ◌++◌, map, flat_map}
 use Rattle.scenario_text.specs.declared.scenario.Kind.{Kind}
 use Rattle.scenario_text.specs.declared.scenario.Load.{Load}

@@ -1,4 +1,4 @@
--- What a told run leaves on its writer (docs/INSIDE.md, "The lines").
+-- What a told run leaves on its writer (docs/OUTPUT.md, "JSON lines").
 use Rattle.std.specs.Prelude.{◌≡◌, ◌⊎◌, ℕ, ◌-◌, ◌^◌, ◌<◌, is_some, min, Bool, List, length, map, take, Option, None, Result, Ok, Err}
 use Rattle.std.specs.Io.KnownBytes.{Appends, Keeps}
 use Rattle.bench_core.specs.State.{State, new_state}

@@ -1,4 +1,4 @@
-//! A run told in lines of JSON: docs/INSIDE.md, "The lines".
+//! A run told in lines of JSON: docs/OUTPUT.md, "JSON lines".
 #![tactic(auto)]
 
 mod fault;
