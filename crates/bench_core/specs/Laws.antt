@@ -37,7 +37,7 @@ IsWithinPulse (Ran i) = Unit {0}
 IsWithinPulse (Locked (Staged actor change)) = Unit {0}
 IsWithinPulse (Locked _) = ⊥
 
--- what a node's run comes to is the same anywhere in an open pulse
+-- a node's complete runs are the same at every point of an open pulse
 abbrev pub InputsStay : Type 0
 InputsStay = (s : Setup) (acts : List Act) (b b' : State) (coins : List ℕ) (i : ℕ) (end : End) → Performs s b acts b'
     → All IsWithinPulse acts
@@ -55,7 +55,7 @@ StepsAgree = (s : Setup) (acts : List Act) (b b' : State) → IsSetup s → HasR
     → Performs s (new_state s) acts b → Pulse s b b'
     → 2 * s.faults + faulty_count b b' < s.shape.nodes → Agree s b b'
 
--- if the clock is the rule's, what a run of it leaves in the four bytes is below the modulus: it is told as it is
+-- with the rule's clock, a node that ran it has a clock below M, so rows report it unchanged
 abbrev pub RuleClockBelow : Type 0
 RuleClockBelow = (s : Setup) (history : List Entry) (b b' : State) (i : ℕ) → IsSetup s → HasRuleClock s
     → Replays s history b → Pulse s b b' → i < s.shape.nodes → IsTrue (node_at b'.nodes i).mark
@@ -119,9 +119,8 @@ PairMovesOnFor = (s : Setup) (history : List Entry) (b0 b b' : State) (group : L
 abbrev pub coin_at : State → ℕ → ℕ
 coin_at b i = slice_index (coins_of b) i
 
--- what a closed pulse makes of a node and its messages is by its own program, memory and coin and by the messages that
--- came to
--- it: two pulses in which these are equal give equal results, whatever all other nodes run, hold and send elsewhere
+-- noninterference: a node's next state and messages depend only on its own program, memory, coin and inbox. Two pulses
+-- in which these are equal give equal results, whatever all other nodes run, hold and send elsewhere
 abbrev pub OnlyItsOwn : Type 0
 OnlyItsOwn = (s : Setup) (b b' c c' : State) (i : ℕ) → Pulse s b b' → Pulse s c c'
     → inbox_of i c.mail ≡ inbox_of i b.mail → coin_at c i ≡ coin_at b i
@@ -135,7 +134,7 @@ abbrev pub SameNode : ℕ → State → State → Type 0
 SameNode i b c = ((node_at c.nodes i).program ≡ (node_at b.nodes i).program)
     × ((node_at c.nodes i).memory ≡ (node_at b.nodes i).memory)
 
--- of two beds, the next closed pulse of each, in which node i has the same program, memory, coin and mail
+-- two benches, and the next closed pulse of each, in which node i has the same program, memory, coin and inbox
 pub record BothClose (s : Setup) (i : ℕ) (b b' c c' : State) : Type 0 where
   pub left : Pulse s b b'
   pub right : Pulse s c c'
@@ -150,8 +149,8 @@ SideBySide s i zero b b' c c' = (b' ≡ b) × (c' ≡ c)
 SideBySide s i (suc k) b b' c c' = (before after : State) × (before_c after_c : State) × SameNode i b before
     × SameNode i c before_c × BothClose s i before after before_c after_c × SideBySide s i k after b' after_c c'
 
--- over any number of pulses in which the same messages come to a node, it goes the same way, whatever else the beds
--- have
+-- if the same messages come to a node in any number of pulses, it ends with the same program and memory, whatever else
+-- the benches have
 abbrev pub OnlyItsOwnFor : Type 0
 OnlyItsOwnFor = (s : Setup) (i k : ℕ) (b b' c c' : State) → SameNode i b c → SideBySide s i k b b' c c'
     → SameNode i b' c'

@@ -25,7 +25,7 @@ abbrev pub Leads : Setup → State → List Entry → State → Type 0
 Leads s b [] b' = b' ≡ b
 Leads s b (e ∷ es) b' = (mid : State) × Step s b e mid × Leads s mid es b'
 
--- the state is where a new bench comes by these entries
+-- the history leads a new bench to this state
 abbrev pub Replays : Setup → List Entry → State → Type 0
 Replays s history b = Leads s (new_state s) history b
 

@@ -25,6 +25,6 @@ pub record IsSetup (s : Setup) : Type 0 where
 abbrev pub rule_of : Setup → Rule
 rule_of s = record { nodes = s.shape.nodes; faults = s.faults; modulus = s.modulus }
 
--- the clock of the bench is the one of its rule: of this clock agreement is a theorem
+-- the bench's clock has the instructions of its rule's clock. Agreement is proved only of such benches
 abbrev pub HasRuleClock : Setup → Type 0
 HasRuleClock s = s.clock ≡ clock_listing (rule_of s)

@@ -6,7 +6,7 @@ use Rattle.node_env.specs.Env.{Extent, Setting, setting_of}
 use Rattle.bpf_verify.specs.Accepted.{Accepted}
 use Rattle.bench_core.specs.Setup.{Setup}
 
--- a node: its program, its memory, and whether it ran the clock program of the bench's rule in the last closed pulse
+-- a node: its program, its memory, and whether it ran the bench's clock in the last closed pulse
 pub record Node : Type 0 where
   pub program : Option Accepted
   pub memory : List ℕ
@@ -93,7 +93,7 @@ applied nodes (Unload i) = slice_set nodes i (record {
 applied nodes (Corrupt i image) = slice_set nodes i
     (record { program = (node_at nodes i).program; memory = image; mark = (node_at nodes i).mark })
 
--- in order
+-- applies the changes in order
 abbrev pub all_applied : List Node → List Change → List Node
 all_applied nodes [] = nodes
 all_applied nodes (c ∷ cs) = all_applied (applied nodes c) cs
@@ -101,7 +101,7 @@ all_applied nodes (c ∷ cs) = all_applied (applied nodes c) cs
 abbrev pub staged_state : State → Change → State
 staged_state b c = record b { staged = b.staged ++ c ∷ [] }
 
--- it takes all staged changes, in order
+-- an opening applies all staged changes, in order
 abbrev pub opened_state : State → List ℕ → State
 opened_state b coins = record b { nodes = all_applied b.nodes b.staged; staged = []; coins = Some coins }
 

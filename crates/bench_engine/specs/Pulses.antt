@@ -12,7 +12,8 @@ use Rattle.bench_engine.specs.declared.engine_error.EngineError.TheVariants.{Ope
 abbrev pub Adds : List Placed → List Entry → List Placed → Type 0
 Adds old entries new = (more : List Placed) × (map entry_in more ≡ entries) × (new ≡ old ++ more)
 
--- a refused opening adds no receipt. After a later refusal the pulse is over, or that of abandoning it is told, NotOpen
+-- a failed opening adds no receipt. A later error adds those of Opened and Abandoned; NotOpen may add only Opened, if
+-- abandoning failed
 abbrev pub Stopped : EngineError → List Placed → List ℕ → List Placed → Type 0
 Stopped (Open e) old coins new = new ≡ old
 Stopped (Work e) old coins new = Adds old (Opened coins ∷ Abandoned ∷ []) new

@@ -11,7 +11,7 @@ use Rattle.scenario_text.specs.declared.scenario.Scenario.{Scenario}
 abbrev pub seed_of : ℕ → List ℕ
 seed_of key = to_le_bytes w64 key ++ replicate 24 0
 
--- the coin at a place: the lowest bit of ChaCha8's word there
+-- the coin at a place: the lowest bit of the word of ChaCha8 (4 double rounds) at this place
 abbrev pub coin_at : ℕ → ℕ → ℕ
 coin_at key place = word_at 4 (key_of (seed_of key)) 0 place % 2
 

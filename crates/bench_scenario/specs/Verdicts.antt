@@ -30,7 +30,8 @@ abbrev pub are_one : ℕ → List (Option ℕ) → Option ℕ → Bool
 are_one modulus clocks (Some first) = nat_lt first modulus && list_all (is_clock first) clocks
 are_one modulus clocks None = true
 
--- of the rule's clock by its own meaning of 0, of another one strictly
+-- for the rule's clock the record's verdict, by which 0 agrees with every clock; for another clock, all settled clocks
+-- are one number below M
 abbrev pub agreement : Bool → ℕ → PulseTold → Option Bool
 agreement own modulus r =
     if nat_lt r.row.settled FEWEST then None
@@ -48,7 +49,7 @@ step_of modulus (Some before) (Some after) = Some (counts_on modulus before afte
 step_of modulus (Some before) None = None
 step_of modulus None after = None
 
--- yes if no verdict is no; none if there is none
+-- both verdicts together: none if both are none, no if one is no, otherwise yes
 abbrev pub joined : Option Bool → Option Bool → Option Bool
 joined None other = other
 joined (Some one) None = Some one

@@ -15,7 +15,8 @@ pub record Plan : Type 0 where
   pub setup : Setup
   pub loaders : ℕ
 
--- a misfit is told as one, and no other change is
+-- BadNode, OtherShape and BadImage come exactly for changes that don't fit the shape; HistoryFull and Memory only for
+-- changes that fit
 abbrev pub IsPlanRefusal : Plan → Change → StageError → Type 0
 IsPlanRefusal p c stage.HistoryFull = IsChange p.setup.shape c
 IsPlanRefusal p c stage.Memory = IsChange p.setup.shape c

@@ -16,6 +16,6 @@ InOrderFrom n (r ∷ rs) = IsRow r × (r.pulse ≡ n + 1) × InOrderFrom (n + 1)
 abbrev pub InOrder : List Row → Type 0
 InOrder rows = InOrderFrom 0 rows
 
--- the second list is the beginning of the first
+-- the second list is a prefix of the first
 abbrev pub StartsWith : List Row → List Row → Type 0
 StartsWith rows first = (rest : List Row) × (rows ≡ first ++ rest)

@@ -121,8 +121,8 @@ impl Board {
         engine.count = posted.pulse;
     }
 
-    /// Returns the last posted row, `None` before the first. It ends the rows that the watcher has then seen, which
-    /// begin with those that it had seen.
+    /// Returns the last posted row, or none. The rows seen so far are a prefix of those seen then, and this row is
+    /// their last.
     pub fn look(&self, watch: &mut WatchPass) -> Option<Row>
         requires { watch.old.board ≡ self.now }
         ensures board { watch.new.board ≡ watch.old.board }

@@ -11,7 +11,7 @@ abbrev pub stressed_setup : Setup
 stressed_setup = setup_of (record { nodes = NODES; memory = MEMORY })
     (record { nodes = NODES; faults = FAULTS; modulus = MODULUS })
 
--- the number of loaders that is nearest
+-- clamps a number of loaders to 1..=MOST_LOADERS
 abbrev pub nearest : ℕ → ℕ
 nearest n = if nat_lt n 1 then 1 else (if nat_lt MOST_LOADERS n then MOST_LOADERS else n)
 

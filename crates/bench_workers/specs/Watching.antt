@@ -49,7 +49,7 @@ Shows s b n earlier (PulseEvent coins ∷ es) (x ∷ xs) b' =
     AreCoins s.shape coins × (n + 2 ≤ MOST_ENTRIES) × IsSeen s (opened_state b coins) earlier x
     × Shows s x.after (n + 2) (Some x.told) es xs b'
 
--- what a watcher and its sink become that are shown these pulses one after the other, each by T
+-- T relates watcher and sink before and after one pulse; this relates them before and after all of them, in order
 abbrev pub Watches : {K S : Type 0} → (K → S → Seen → K → S → Type 0) → K → S → List Seen → K → S → Type 0
 Watches T k o [] k' o' = (k' ≡ k) × (o' ≡ o)
 Watches {K} {S} T k o (x ∷ xs) k' o' = (k1 : K) × (o1 : S) × T k o x k1 o1 × Watches T k1 o1 xs k' o'

@@ -30,7 +30,7 @@ listed_from number slot [] = []
 listed_from number slot (text ∷ texts) =
     listed number slot text ∷ listed_from (number + 1) (slot + slots_in (line_of text).source) texts
 
--- after the last LF there is a line if there is text
+-- after the last LF there is a line only if text follows
 abbrev pub without_empty_end : List (List ℕ) → List (List ℕ)
 without_empty_end [] = []
 without_empty_end ([] ∷ []) = []
@@ -56,7 +56,7 @@ beginnings_from slot (insn ∷ insns) = slot ∷ beginnings_from (slot + slots_t
 
 -- ---- columns
 
--- with blanks in front, and with blanks after, so that it has at least this many bytes
+-- right-aligned, and left-aligned, in a column of `width` bytes
 abbrev pub on_right : ℕ → List ℕ → List ℕ
 on_right width text = replicate (width - length text) 32 ++ text
 

@@ -38,7 +38,7 @@ abbrev pub slot_of : Places → List ℕ → Option ℕ
 slot_of [] name = None
 slot_of (p ∷ ps) name = if bytes_eq p.0 name then Some p.1 else slot_of ps name
 
--- no name is twice: a finite map
+-- no name is defined twice
 abbrev pub is_map : Places → Bool
 is_map [] = true
 is_map (p ∷ ps) = not (list_any (λ q. bytes_eq p.0 q.0) ps) && is_map ps

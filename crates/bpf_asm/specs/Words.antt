@@ -48,7 +48,7 @@ abbrev pub width_digits : Width → List ℕ
 width_digits W32 = codes "32"
 width_digits W64 = codes "64"
 
--- of a condition 32 alone is written
+-- a condition's word ends with 32 for 32 bits, and with nothing for 64
 abbrev pub jump_digits : Width → List ℕ
 jump_digits W32 = codes "32"
 jump_digits W64 = []

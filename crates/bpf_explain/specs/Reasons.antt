@@ -83,7 +83,8 @@ place_text shape region place =
     ++ (region_word region ++ (codes " has " ++ (decimal (region_size shape region) ++ codes " bytes")))))
     else wrapped_text
 
--- by what comes of an operation: a pointer that may be moved too far, or none
+-- the reason, by the kind of the operation's result: a pointer that may leave its region, or a pointer where a number
+-- is required
 abbrev pub result_text : Extent → Reg → Kind → List ℕ
 result_text shape register Unset = pointer_text register
 result_text shape register (Number a) = pointer_text register

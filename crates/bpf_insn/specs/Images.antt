@@ -29,7 +29,7 @@ pub record StandsAt (slot : Slot) (bytes : List ℕ) : Type 0 where
   pub imm : FitsSigned w32 slot.imm
   pub parts : bytes ≡ slot_bytes slot ++ drop 8 bytes
 
--- the width that a field names is none: the offset of MOV from a register (4.1), the immediate of END (4.2)
+-- the field has no valid width: the offset of MOV from a register (4.1), the immediate of END (4.2)
 abbrev pub has_bad_width : Slot → Bool
 has_bad_width slot = by_opcode slot.opcode
   where
@@ -53,7 +53,8 @@ has_bad_width slot = by_opcode slot.opcode
     by_opcode (opcode.StoreImm size) = false
     by_opcode (opcode.StoreReg size) = false
 
--- the faults: too few bytes, by the first byte, the registers, the fields, the width
+-- when each fault applies to the bytes from a slot on: too few bytes, then the opcode, the registers, the unused
+-- fields, the width
 abbrev pub FaultHolds : SlotFault → List ℕ → Type 0
 FaultHolds Truncated bytes = (0 < length bytes) × (length bytes < (if slice_index bytes 0 == 0x18 then 16 else 8))
 FaultHolds UnknownOpcode bytes = (opcode : Opcode) → opcode_byte opcode ≢ slice_index bytes 0
@@ -63,7 +64,7 @@ FaultHolds NonZeroField bytes =
     ⊎ ((slice_index bytes 0 ≡ 0x18) × (take 4 (drop 8 bytes) ≢ 0 ∷ 0 ∷ 0 ∷ 0 ∷ []))
 FaultHolds BadWidth bytes = (slot : Slot) × StandsAt slot bytes × (has_bad_width slot ≡ true)
 
--- of two faults at one slot the lower number is told
+-- if several faults apply at one slot, the lowest number is reported
 abbrev pub fault_number : SlotFault → ℕ
 fault_number Truncated = 3
 fault_number UnknownOpcode = 4
@@ -94,7 +95,7 @@ IsFirstFault bytes slot fault = (length bytes ≤ 8 * MAX_SLOTS) × IsFault byte
 abbrev pub IsImage : List ℕ → Type 0
 IsImage bytes = (program : List Insn) × IsProgram program × (bytes ≡ image_of program)
 
--- why bytes are not decoded; memory counts only if they are an image
+-- why bytes are not decoded; `Memory` comes only if they are an image
 abbrev pub RefusesImage : List ℕ → ImageError → Type 0
 RefusesImage bytes errors.Empty = bytes ≡ []
 RefusesImage bytes errors.TooLong = 8 * MAX_SLOTS < length bytes

@@ -142,7 +142,7 @@ uses_of (opcode.LoadSx size) = record { dst = Any; src = Any; offset = Any; imm 
 uses_of (opcode.StoreImm size) = record { dst = Any; src = Zero; offset = Any; imm = Any }
 uses_of (opcode.StoreReg size) = record { dst = Any; src = Any; offset = Any; imm = Zero }
 
--- the bits of a field are none that it may hold
+-- the field has bits that it may not have
 abbrev pub is_stray : FieldUse → ℕ → Bool
 is_stray Zero bits = not (bits == 0)
 is_stray ZeroOrOne bits = nat_lt 1 bits

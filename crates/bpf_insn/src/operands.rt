@@ -107,7 +107,8 @@ pub fn registers_read(insn: &Insn, arguments: u32) -> Reads
     }
 }
 
-/// Returns the register that an instruction writes. A call writes its own.
+/// Returns dst of an arithmetic form, a load or `lddw`, otherwise none. A call writes r0 and unsets r1 to r5, and has
+/// none here.
 #[inline(always)]
 pub fn written_by(insn: &Insn) -> Option<Reg>
     ensures { result ≡ written_by insn.now }

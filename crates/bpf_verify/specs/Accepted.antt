@@ -25,7 +25,8 @@ pub record IsFirstBroken (program : List Insn) (shape : Extent) (slot : ℕ) : T
   pub before : TypableBelow program shape slot
   pub here : TypableBelow program shape (suc slot) → ⊥
 
--- what a refusal tells of the program
+-- what a rejection promises of the program: its slot is the first that can't be typed. It promises nothing of the rule,
+-- and `Memory` promises nothing
 abbrev pub IsRefusal : List Insn → Extent → VerifyError → Type 0
 IsRefusal program shape (error.Refused slot rule) = IsFirstBroken program shape slot
 IsRefusal program shape error.Memory = Unit {0}

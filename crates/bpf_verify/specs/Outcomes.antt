@@ -83,7 +83,7 @@ alu_outcome A op width dst src = with_kind A dst (alu_kind op width (kind_of A d
 
 -- ---- loads and stores
 
--- the numbers of this many bytes in a range: all of them, where the range has no greater ones
+-- the range cut to the numbers of `count` bytes; unchanged if it has no greater ones
 abbrev pub of_bytes : ℕ → Span → Span
 of_bytes count a = span (min a.lo (2 ^ (8 * count) - 1)) (min a.hi (2 ^ (8 * count) - 1))
 
@@ -119,7 +119,7 @@ abbrev pub with_written : AbstractState → Option ℕ → ℕ → AbstractState
 with_written A None count = A
 with_written A (Some first) count = record A { written = put_written A.written first count }
 
--- the bytes that are surely written once the double word of the first holds a value
+-- the bytes surely written after a store of 8 bytes from `first` on: these too for a number, without these otherwise
 abbrev pub entry_written : Kind → (ℕ → Bool) → ℕ → ℕ → Bool
 entry_written Unset written first byte = not (is_between first (first + 8) byte) && written byte
 entry_written (Number a) written first byte = is_between first (first + 8) byte || written byte
@@ -145,8 +145,8 @@ abbrev pub with_cleared : AbstractState → Option ℕ → Option ℕ → ℕ �
 with_cleared A (Some first) (Some last) count = with_entries A (cleared A.entries first (last + count))
 with_cleared A first last count = A
 
--- a store of a value to a double word of the stack says what it holds; every other store takes away what was known of
--- the double words that it may touch, and writes its bytes where its place is known
+-- a store of one whole double word sets its kind; any other store unsets the double words that it may touch, and writes
+-- its bytes if its place is one known offset
 abbrev pub stored_at : AbstractState → Kind → ℤ → ℕ → Kind → AbstractState
 stored_at A Unset off count value = A
 stored_at A (Number a) off count value = A
@@ -204,7 +204,7 @@ called_kinds answer kinds number = if nat_le number 5 then (if number == 0 then 
 abbrev pub call_outcome : Extent → Option Helper → AbstractState → AbstractState
 call_outcome shape helper A = with_kinds A (called_kinds (answer_kind shape helper) A.kinds)
 
--- ---- the outcome on a way: none where the way isn't taken
+-- ---- the transfer function: the state on an edge, or none if the edge can't be taken
 
 abbrev pub outcome : Extent → Insn → AbstractState → Way → Option AbstractState
 outcome shape (i.Alu op width dst src) A way = Some (alu_outcome A op width dst src)

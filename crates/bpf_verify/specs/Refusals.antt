@@ -18,7 +18,7 @@ IsBrokenBy program shape table slot rule =
     (insn : Insn) × (insn_at program slot ≡ Some insn)
     × (lowest_broken program shape slot insn (table slot) ≡ Some rule)
 
--- each outcome of an instruction before the slot that leads to it is covered there
+-- the table covers, at the slot, the result of each edge from an earlier slot
 abbrev pub CoversWays : List Insn → Extent → Table → ℕ → Type 0
 CoversWays program shape table slot = (from : ℕ) (insn : Insn) (way : Way) (A C : AbstractState) → from < slot
     → insn_at program from ≡ Some insn

@@ -87,7 +87,7 @@ writes_frame insn = is_frame_pointer (written_by insn)
 abbrev pub passes : Extent → Region → Span → Bool
 passes shape region a = nat_lt (region_size shape region) a.hi
 
--- a number is added to a pointer, either way round, where the sum stays in the region
+-- true if two pointers are added, or the sum of a pointer and a number may leave the pointer's region
 abbrev pub misuses_sum : Extent → Kind → Kind → Bool
 misuses_sum shape Unset b = false
 misuses_sum shape (Number a) Unset = false
@@ -97,7 +97,7 @@ misuses_sum shape (Pointer region a) Unset = false
 misuses_sum shape (Pointer region a) (Number b) = passes shape region (alu_of Add W64 a b)
 misuses_sum shape (Pointer region a) (Pointer other b) = true
 
--- a number is subtracted from a pointer where the difference stays in the region
+-- true if a pointer is subtracted, or a pointer less a number may leave its region
 abbrev pub misuses_difference : Extent → Kind → Kind → Bool
 misuses_difference shape a Unset = false
 misuses_difference shape Unset (Number b) = false
@@ -105,7 +105,8 @@ misuses_difference shape (Number a) (Number b) = false
 misuses_difference shape (Pointer region a) (Number b) = passes shape region (alu_of Sub W64 a b)
 misuses_difference shape a (Pointer region b) = true
 
--- a move of 64 bits copies a pointer; every other operation takes numbers
+-- true if the operation misuses a pointer: a move of 64 bits copies one, add64 and sub64 may move one, every other
+-- operation takes numbers
 abbrev pub misuses_operands : Extent → AluOp → Width → Kind → Kind → Bool
 misuses_operands shape Mov W64 a b = false
 misuses_operands shape Mov W32 a b = is_pointer_kind b
@@ -117,7 +118,7 @@ misuses_operands shape op width a b = is_pointer_kind a || is_pointer_kind b
 abbrev pub is_whole : Span → ℤ → ℕ → Bool
 is_whole a off count = is_single a && (count == 8 && is_aligned (pos a.lo +ℤ off))
 
--- a pointer is kept in a double word of the stack
+-- an access by a pointer of this kind takes one known double word of the stack whole
 abbrev pub takes_dword : Kind → ℤ → ℕ → Bool
 takes_dword Unset off count = false
 takes_dword (Number a) off count = false

@@ -21,7 +21,7 @@ pub record AbstractState : Type 0 where
 abbrev pub kind_of : AbstractState → Reg → Kind
 kind_of A register = A.kinds (register_number register)
 
--- the state of which so much is known
+-- an abstract state from its three parts
 abbrev pub abstract_state : (ℕ → Kind) → (ℕ → Bool) → (ℕ → Kind) → AbstractState
 abstract_state kinds written entries = record { kinds = kinds; written = written; entries = entries }
 
@@ -75,7 +75,7 @@ in_region Stack Stack a = Pointer Stack a
 in_region Mem Stack a = Unset
 in_region Stack Mem a = Unset
 
--- equal kinds take the hull, and others say nothing
+-- two numbers, or two pointers into one region, give the hull of their ranges; any other pair gives Unset
 abbrev pub joined_kind : Kind → Kind → Kind
 joined_kind Unset b = Unset
 joined_kind (Number a) Unset = Unset

@@ -17,8 +17,8 @@ Table = ℕ → Option AbstractState
 abbrev pub IsCovered : Table → AbstractState → ℕ → Type 0
 IsCovered table A slot = IsSomeAnd (table slot) (λ C. IsContainedIn A C)
 
--- the table types the slots below end: it covers the entry, each range there has members, each instruction keeps the
--- rules, and each outcome is covered where its way leads
+-- the table types the slots below `end`: it covers the entry state; each state there is proper; each instruction keeps
+-- the rules; and each successor below `end` has a state that contains the result of the transfer function
 pub record Types (program : List Insn) (shape : Extent) (end : ℕ) (table : Table) : Type 0 where
   pub entry : IsCovered table (entry_state shape) 0
   pub proper : (slot : ℕ) (insn : Insn) (A : AbstractState) → slot < end → insn_at program slot ≡ Some insn

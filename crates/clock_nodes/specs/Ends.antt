@@ -19,7 +19,7 @@ abbrev pub HasRuns : List Insn → Extent → Type 0
 HasRuns program shape =
     (env : Setting) (memory : List ℕ) → IsStart shape env memory → (end : End) × CompleteRun program env memory end
 
--- every complete run of the program ends so
+-- every complete run of the program from every start satisfies `IsEnd`
 abbrev pub EndsBy : List Insn → Extent → (Setting → List ℕ → End → Type 0) → Type 0
 EndsBy program shape IsEnd =
     (env : Setting) (memory : List ℕ) (end : End) → IsStart shape env memory → CompleteRun program env memory end

@@ -58,7 +58,7 @@ send_blocks (suc n) j = send_block j ++ send_blocks n (suc j)
 abbrev pub tail : List Insn
 tail = Alu Mov W64 R0 (Imm (pos 0)) ∷ Exit ∷ []
 
--- for this many nodes, of whose messages a quorum makes a clock go on
+-- the clock program for `nodes` nodes: a clock that at least `quorum` messages support advances, modulo `modulus`
 abbrev pub listing : ℕ → ℕ → ℕ → List Insn
 listing nodes quorum modulus =
     head modulus ++ (count_blocks nodes 0 ++ (choice quorum modulus ++ (store ++ (send_blocks nodes 0 ++ tail))))
@@ -67,7 +67,7 @@ listing nodes quorum modulus =
 abbrev pub clock_listing : Rule → List Insn
 clock_listing rule = listing rule.nodes (quorum_of rule) rule.modulus
 
--- ---- a node that says given values, whatever it hears
+-- ---- a node that sends fixed values
 
 -- the value to node j
 abbrev pub say_block : ℕ → ℕ → List Insn
@@ -82,7 +82,7 @@ say_blocks j (Some value ∷ values) = say_block j value ++ say_blocks (suc j) v
 abbrev pub say_listing : List (Option ℕ) → List Insn
 say_listing values = say_blocks 0 values ++ tail
 
--- ---- a node that gives each node its own mail back
+-- ---- a node that returns each node's message to it
 
 abbrev pub echo_block : ℕ → List Insn
 echo_block j =

@@ -8,7 +8,7 @@ use Rattle.node_env.specs.declared.shape.TheConstants.{MAX_NODES}
 use Rattle.node_env.specs.Env.{Setting}
 use Rattle.clock_nodes.specs.declared.rule.TheConstants.{LEAST_MODULUS, MOST_MODULUS}
 
--- for this many nodes, of which this many may be faulty, with clocks below the modulus
+-- a rule: n nodes, at most `faults` of them faulty, clocks below `modulus`
 pub record Rule : Type 0 where
   pub nodes : ℕ
   pub faults : ℕ
@@ -21,7 +21,7 @@ pub record IsRule (nodes faults modulus : ℕ) : Type 0 where
   pub least : LEAST_MODULUS ≤ modulus
   pub most : modulus ≤ MOST_MODULUS
 
--- how many messages make a clock go on
+-- the support that a clock needs to advance: n - f
 abbrev pub quorum_of : Rule → ℕ
 quorum_of rule = rule.nodes - rule.faults
 

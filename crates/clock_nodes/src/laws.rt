@@ -22,7 +22,7 @@ pub fn clock_ends()
 {}
 
 /// States that every clock is accepted: its listing is typable for every shape of its nodes, so `verify` of
-/// `bpf_verify` refuses no clock, and the announced count is this length.
+/// `bpf_verify` refuses no clock, and it announces 17 + 7n.
 pub fn clock_is_taken()
     ensures typable { (rule : Rule) (shape : Extent) → IsRule rule.nodes rule.faults rule.modulus →
         IsExtent shape.nodes shape.memory → rule.nodes ≡ shape.nodes → Typable (clock_listing rule) shape }

@@ -33,9 +33,9 @@ impl Model for ClockRule {
 }
 
 impl ClockRule {
-    /// Returns the rule for 1 to `MAX_NODES` nodes, fewer faults than nodes, and a modulus from `LEAST_MODULUS` to
-    /// `MOST_MODULUS`. Clocks are only known to agree if there are more than three times as many nodes as faults
-    /// (docs/CLOCK.md, "Why it holds"); that isn't required here.
+    /// Returns the rule, or none if a number is out of range: 1 to `MAX_NODES` nodes, fewer faults than nodes, and a
+    /// modulus from `LEAST_MODULUS` to `MOST_MODULUS`. It doesn't ask n > 3f; agreement is proved if n > 2f + t, where
+    /// t nodes aren't settled (docs/CLOCK.md, "Why it holds").
     pub fn of(nodes: u32, faults: u32, modulus: u32) -> Option<ClockRule>
         ensures value { IfSome result (λ r. r ≡ record { nodes = nodes; faults = faults; modulus = modulus }) }
         ensures some { IsSome result ↔ IsRule nodes faults modulus }

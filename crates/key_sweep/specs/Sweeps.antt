@@ -43,7 +43,7 @@ pub record Stops (old new : Option (List ℕ)) (s : Scenario) (keys : Span) : Ty
   pub lines : Lines s keys.first count told
   pub left : Appends old new told
 
--- as many bytes as a fault tells, which has room for a number up to this one
+-- the greatest number of bytes that a fault reports; more are reported as this
 abbrev pub MOST_TOLD : ℕ
 MOST_TOLD = 2 ^ 64 - 1
 
@@ -73,7 +73,7 @@ LeavesLines old new s keys (Err faults.Read) = ⊥
 abbrev pub HasKey : List ℕ → Scenario → Type 0
 HasKey text s = ReadsText text s × (s.coins ≡ Chacha)
 
--- the same of a text, of which nothing is left if it says no such scenario
+-- the same for a text: nothing is written if it is no scenario, or its coins have no seed
 abbrev pub LeavesSweep : Option (List ℕ) → Option (List ℕ) → List ℕ → Span → Result (Unit {0}) SweepFault → Type 0
 LeavesSweep old new text keys (Err (faults.Refused error)) = IsDue text error × Keeps old new
 LeavesSweep old new text keys (Err faults.NoKey) =

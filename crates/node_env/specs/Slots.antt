@@ -1,5 +1,4 @@
--- A row of slots, each with a value or empty, as the finite map from places to values; and a row of words that is
--- for slots.
+-- A row of slots, each with a value or empty, as the finite map from places to values.
 use Rattle.std.specs.Prelude.{ℕ, suc, ◌<◌, ◌^◌, List, [], ◌∷◌, Option, Some, None}
 use Rattle.std.specs.Ordering.{nat_cmp}
 use Rattle.std.specs.FinMap.{FinMap, from_entries}

@@ -105,7 +105,7 @@ jump_at r v far = Branch (cond_of r) W32 R0 (Imm (pos v)) (pos far)
 abbrev pub truth_code : List Insn
 truth_code = set_number R0 1 ∷ Ja (pos 1) ∷ set_number R0 0 ∷ []
 
--- of a term that is computed
+-- the code of a term whose number is computed: a jump then tests it against 0
 abbrev pub by_value : Purpose → List Insn → List Insn
 by_value Value code = code
 by_value (Jump when far) code = code ++ jump_at (jump_on when NotEqual) 0 far ∷ []
@@ -124,7 +124,7 @@ abbrev pub behind_test : Purpose → List Insn → List Insn
 behind_test Value code = code ++ truth_code
 behind_test (Jump when far) code = code
 
--- of a term that is tested
+-- the code of a term that is a test: a value then becomes 1 or 0
 abbrev pub by_test : Purpose → (Bool → ℕ → List Insn) → List Insn
 by_test purpose test = behind_test purpose (test (when_of purpose) (far_of purpose))
 

@@ -12,7 +12,8 @@ use Rattle.rule_nodes.specs.declared.syntax.Statement.{Statement}
 use Rattle.rule_nodes.specs.declared.syntax.Statement.TheVariants.{Nothing, Then', Let', Assign, If', For', SendAll, SendTo}
 use Rattle.rule_nodes.specs.Operands.{is_operand, is_steady, depth_behind}
 
--- two computed sides need a place for the left one; so does a computed number that is sent or assigned with others
+-- true: no place is needed; false: depth d has a free place. Two computed sides need one for the left number, as does a
+-- computed number that is sent, or assigned with others
 abbrev pub HasPlace : Bool → ℕ → Type 0
 HasPlace true d = Unit {0}
 HasPlace false d = d < 3

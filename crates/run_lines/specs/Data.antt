@@ -24,7 +24,7 @@ line_of d = compact_text d ++ codes "\n"
 
 -- ---- the first line
 
--- whose clock it is, if the version knows that
+-- the member `clock`, only in version 3
 abbrev pub clock_members : Frame → Bool → List Member
 clock_members f own = if f.version == CLOCK_VERSION then (codes "clock", string (rule_or_own own)) ∷ [] else []
 

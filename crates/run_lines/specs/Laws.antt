@@ -60,7 +60,7 @@ pub record AreAlike (x y : Seen) : Type 0 where
   pub sent : slots_in x.after ≡ slots_in y.after
   pub mail : HoldsMail x.after → HoldsMail y.after → x.after.mail ≡ y.after.mail
 
--- pulses of one line are alike. The line of each pulse that is written reads back
+-- if the values of two pulses read back and have the same line, the pulses are alike
 abbrev pub OneLineOnePulse : Type 0
 OneLineOnePulse = (f g : Frame) (own other : Bool) (staged before : List StagedTold) (x y : Seen)
     → ReadsBack (pulse_data f own staged x) → ReadsBack (pulse_data g other before y)

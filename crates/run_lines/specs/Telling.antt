@@ -49,7 +49,7 @@ abbrev pub AreLines : Scenario → Span → List ℕ → Type 0
 AreLines s span told =
     ((events : ℕ) × IsFrontText s span events told) ⊎ ((agrees : Bool) × IsWholeText s span told agrees)
 
--- as many bytes as a fault tells, which has room for a number up to this one
+-- the greatest number of bytes that a fault reports; more are reported as this
 abbrev pub MOST_TOLD : ℕ
 MOST_TOLD = 2 ^ 64 - 1
 

@@ -8,7 +8,7 @@ use Rattle.run_trace.specs.declared.tracing.Traced.{Traced}
 use Rattle.run_trace.specs.Lines.{trace_text}
 use Rattle.run_trace.specs.Steps.{Step}
 
--- as many bytes as are told of, by a number that has room for this many
+-- the greatest number of bytes that a fault reports; more are reported as this
 abbrev pub MOST_TOLD : ℕ
 MOST_TOLD = 2 ^ 64 - 1
 

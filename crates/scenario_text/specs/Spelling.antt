@@ -39,7 +39,7 @@ abbrev pub top_keys : Bool → List (List ℕ)
 top_keys true = plain_top_keys ++ codes "clock" ∷ []
 top_keys false = plain_top_keys
 
--- the version is the first if it isn't told
+-- the version is FIRST_VERSION if the key is absent
 abbrev pub HasVersion : Members → ℕ → Type 0
 HasVersion members version =
     ((get_member (codes "version") members ≡ None) × (version ≡ FIRST_VERSION))

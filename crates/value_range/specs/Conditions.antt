@@ -14,7 +14,7 @@ less a b = if nat_lt a.lo b.hi then Some (span a.lo (min a.hi (b.hi - 1)), span 
 abbrev pub at_most : Span → Span → Option (Span × Span)
 at_most a b = if nat_le a.lo b.hi then Some (span a.lo (min a.hi b.hi), span (max b.lo a.lo) b.hi) else None
 
--- the sides changed over
+-- the two sides exchanged
 abbrev pub turned : Option (Span × Span) → Option (Span × Span)
 turned None = None
 turned (Some p) = Some (p.1, p.0)
@@ -30,7 +30,7 @@ without a b =
     then (if a.lo == b.lo then span (a.lo + 1) a.hi else (if a.hi == b.lo then span a.lo (a.hi - 1) else a))
     else a
 
--- a signed condition is the unsigned one of numbers without the sign bit, and leaves others as they are
+-- a signed condition is the unsigned one if no number of either range has the sign bit; otherwise both ranges stay
 abbrev pub signed : ℕ → Span → Span → Option (Span × Span) → Option (Span × Span)
 signed bits a b pair = if nat_lt a.hi (2 ^ (bits - 1)) && nat_lt b.hi (2 ^ (bits - 1)) then pair else Some (a, b)
 
@@ -48,7 +48,7 @@ refined Sle bits a b = signed bits a b (at_most a b)
 refined Sgt bits a b = signed bits a b (turned (less b a))
 refined Sge bits a b = signed bits a b (turned (at_most b a))
 
--- the condition that holds on the way taken or not taken; Set leaves every pair as it is on both
+-- the condition that holds on the edge taken, or on the other one; Set leaves every pair as it is on both
 abbrev pub on_way : Bool → Cond → Cond
 on_way true cond = cond
 on_way false Eq = Ne

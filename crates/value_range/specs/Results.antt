@@ -27,7 +27,7 @@ ones_of n = 2 ^ bit_length n - 1
 abbrev pub shifted_right : ℕ → Span → Span → Span
 shifted_right bits a b = if is_single b then span (a.lo / 2 ^ (b.lo % bits)) (a.hi / 2 ^ (b.lo % bits)) else span 0 a.hi
 
--- of ranges of numbers below 2 ^ bits
+-- the range of the result, for operands below 2 ^ bits
 abbrev pub table : AluOp → ℕ → Span → Span → Span
 table Add bits a b = fitting bits (a.lo + b.lo) (a.hi + b.hi)
 table Sub bits a b = if nat_le b.hi a.lo then span (a.lo - b.hi) (a.hi - b.lo) else full_of bits
