@@ -79,7 +79,7 @@ def others():
 
 def differences(program, words, given):
     got = answer(program, words, given)
-    is_lack = b"fault memory" in got.err or got.status not in (0, 2, 3)
+    is_lack = b"fault memory" in got.err or got.status not in (0, 2, 3, 4)
     return [f"{' '.join(words)} of {given[:120]!r}: status {got.status}: {got.err.decode(errors='replace')}"] if is_lack else []
 
 

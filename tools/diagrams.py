@@ -219,7 +219,7 @@ def draw_clocks_at(canvas, x, clocks, style):
 
 
 def draw_violation(canvas):
-    states = clocks_below("parts in pulse 3")
+    states = clocks_below("agreement violated in pulse 3")
     canvas.text((16, 28), "A violation of agreement", Style(size=14, weight="bold", anchor="start"))
     canvas.arrow((20, STATES_Y), (54, STATES_Y), Style(GREY))
     for number, clocks in enumerate(states):
@@ -232,7 +232,7 @@ def draw_violation(canvas):
 
 
 def draw_lasso(canvas):
-    first, second, again = clocks_below("# pulses 3 to 4 come again")
+    first, second, again = clocks_below("# pulses 3 to 4 repeat")
     assert first == again
     canvas.text((440, 28), "Synchronisation prevented for ever", Style(size=14, weight="bold", anchor="start"))
     canvas.arrow((440, STATES_Y), (484, STATES_Y), Style(GREY))

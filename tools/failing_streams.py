@@ -20,7 +20,7 @@ from refusals import Ran, compiled, contents, program, run
 
 FOUR = contents("examples/four_clocks.toml")
 THREE = contents("examples/three_part.toml")
-# Two clocks and a liar, who can part them: `explore` shows it by a scenario.
+# Two clocks and a Byzantine node: `explore` prints a counterexample to agreement.
 PARTING = b"""nodes = 3
 faults = 1
 modulus = 8
@@ -32,7 +32,7 @@ load = [{pulse = 1, nodes = [0, 1], program = "clock"}]
 CHACHA = contents("examples/chacha.toml")
 LIMIT = 1 << 20
 MOST_IMAGE = 8 * 2048
-FAULT, REFUSED = 1, 2
+FAULT, REFUSED, VIOLATED = 1, 2, 3
 READ_FAULT = b"fault read\n"
 
 
@@ -52,6 +52,10 @@ class Asked:
     words: str
     given: bytes
     whole: Ran
+
+    @property
+    def status(self):
+        return VIOLATED if (self.words, self.given) == ("explore", PARTING) else 0
 
 
 class Clockbed:
@@ -123,9 +127,9 @@ def asked(clockbed):
 def output_checks(clockbed, it):
     """Where standard output is narrow or fails."""
     words, given, whole = it.words, it.given, it.whole
-    yield Check(f"{words}, whole", lambda: whole, Ran(0, whole.out, b""))
+    yield Check(f"{words}, whole", lambda: whole, Ran(it.status, whole.out, b""))
     narrow = lambda: clockbed.run(words, given, NARROW=1)
-    yield Check(f"{words}, a byte a call", narrow, Ran(0, whole.out, b""))
+    yield Check(f"{words}, a byte a call", narrow, Ran(it.status, whole.out, b""))
     for room in range(len(whole.out)):
         for kind in [{}, {"NARROW": 1}]:
             ask = lambda room=room, kind=kind: clockbed.run(words, given, WRITE_ROOM=room, **kind)

@@ -5,8 +5,10 @@ import { button, get, make, on, say, state, tell } from "./page.js";
 import { loadAt } from "./programs.js";
 import { longText, valueOf } from "./toml.js";
 
-const FIRST_BOUND = 2000, GROWS_BY = 4, NOT_FINISHED = 3, VERSION_OF_MANY = 2, MAX_OF_FIRST = 32;
-const SCENARIO = /^(#|version = |nodes = )/;
+const FIRST_BOUND = 2000, GROWS_BY = 4, VERSION_OF_MANY = 2, MAX_OF_FIRST = 32;
+// Statuses of the program.
+const HOLDS = 0, VIOLATED = 3, NOT_FINISHED = 4;
+const SCENARIO = /^(version|nodes) = /m, MARK = /^# /;
 const line = new Line();
 let ticking = null;
 
@@ -108,8 +110,8 @@ async function search(text, asked) {
   const began = Date.now();
   for (let bound = Math.min(FIRST_BOUND, asked.states); ; bound = Math.min(bound * GROWS_BY, asked.states)) {
     const answer = await line.ask("explore", { text, ...asked, states: bound });
-    const seconds = ((Date.now() - began) / 1000).toFixed(1), states = Number(/(\d+) states/.exec(answer.out)?.[1]);
-    const isBound = answer.status === NOT_FINISHED && states >= bound && bound < asked.states;
+    const seconds = ((Date.now() - began) / 1000).toFixed(1), states = /(\d+) states/.exec(answer.out)?.[1];
+    const isBound = answer.status === NOT_FINISHED && answer.out.includes("--states") && bound < asked.states;
     if (!isBound) {
       show(answer, seconds);
       return;
@@ -118,11 +120,11 @@ async function search(text, asked) {
   }
 }
 
-/** The words of an answer, and the scenario that follows them if one does. */
+/** The words of an answer, and the answer as a scenario if it has a counterexample: then its words are comments. */
 export function parted(out) {
-  const lines = out.split("\n"), from = lines.findIndex((it) => SCENARIO.test(it));
-  if (from < 0) return { words: out.trim(), text: null };
-  return { words: lines.slice(0, from).join("\n").trim(), text: lines.slice(from).join("\n") };
+  if (!SCENARIO.test(out)) return { words: out.trim(), text: null };
+  const lines = out.split("\n"), words = lines.slice(0, lines.findIndex((it) => !MARK.test(it)));
+  return { words: words.map((it) => it.replace(MARK, "")).join("\n"), text: out };
 }
 
 /** Where a counterexample is looked at: the first pulse whose clocks don't agree, the loop, or the last pulse. */
@@ -132,7 +134,7 @@ function pulseInQuestion(run) {
 }
 
 function show(answer, seconds) {
-  const { words, text } = parted(answer.out), isWrong = answer.status !== 0 || answer.ended;
+  const { words, text } = parted(answer.out), isWrong = ![HOLDS, VIOLATED].includes(answer.status) || answer.ended;
   for (const it of words.split("\n").filter(Boolean)) log(it, { class: isWrong ? "wrong" : "answer" });
   if (answer.err || answer.ended) log(answer.err + answer.ended, { class: "wrong" });
   log(`${seconds} s`);

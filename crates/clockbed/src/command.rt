@@ -10,7 +10,7 @@ use std::sync::Wait;
 use std::thread::Threads;
 
 /// Does what the words ask for, of which the first is the program's name, and answers the exit status: 0 done, 1
-/// fault or mismatch, 2 refused, 3 a pulse that doesn't agree, or not finished. What `err` does not take is dropped.
+/// fault or mismatch, 2 refused, 3 a violation, 4 not finished. What `err` does not take is dropped.
 pub fn command<T: Threads + Wait + Sync, S: AsStr, R: Read, W: Write, E: Write>(
     rt: &T,
     alloc: Global,

@@ -15,7 +15,7 @@ use Rattle.scenario_text.specs.declared.scenario.Scenario.{Scenario}
 use Rattle.scenario_text.specs.Texts.{IsDue, ReadsText}
 use Rattle.bench_scenario.specs.declared.run.TheConstants.{MOST_BYTES}
 use Rattle.commands.specs.declared.ending.Ending.{Ending}
-use Rattle.commands.specs.declared.ending.Ending.TheVariants.{Disagreed, Done, Mismatched, Refused, Unfinished}
+use Rattle.commands.specs.declared.ending.Ending.TheVariants.{Violated, Done, Mismatched, Refused, Unfinished}
 use Rattle.commands.specs.declared.fault.Fault.{Fault}
 use Rattle.commands.specs.declared.fault.Fault.TheVariants as faults
 use Rattle.commands.specs.declared.image.TheConstants.{IMAGE_BYTES}
@@ -160,7 +160,7 @@ swept_whole old new bytes text keys (Ok Done) taken left =
     (left.0, (reads_whole bytes text left.0 taken left.1.0, left.1.1), left.2)
 swept_whole old new bytes text keys (Ok Refused) taken left = unswept_whole old new bytes text (Ok Refused) taken left
 swept_whole old new bytes text keys (Ok Mismatched) taken left = absurd left
-swept_whole old new bytes text keys (Ok Disagreed) taken left = absurd left
+swept_whole old new bytes text keys (Ok Violated) taken left = absurd left
 swept_whole old new bytes text keys (Ok Unfinished) taken left = absurd left
 swept_whole old new bytes text keys (Err faults.Read) taken left = left
 swept_whole old new bytes text keys (Err (faults.Write after)) taken (inl swept) =

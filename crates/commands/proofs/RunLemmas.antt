@@ -8,14 +8,14 @@ use Rattle.scenario_text.specs.Views.{frame_of}
 use Rattle.bench_scenario.specs.Reports.{all_agree}
 use Rattle.bench_scenario.specs.Runs.{LeavesJudged, Reports}
 use Rattle.commands.specs.declared.ending.Ending.{Ending}
-use Rattle.commands.specs.declared.ending.Ending.TheVariants.{Disagreed, Done, Refused}
+use Rattle.commands.specs.declared.ending.Ending.TheVariants.{Violated, Done, Refused}
 use Rattle.commands.specs.declared.fault.Fault.{Fault}
 use Rattle.commands.specs.declared.fault.Fault.TheVariants as faults
 use Rattle.commands.specs.Output.{Leaves}
 use Rattle.commands.specs.Run.{LeavesTold, Report, Refusal, told_text}
 
 pub whole_report : (input old new : Option (List ℕ)) (check agrees : Bool) (ending : Ending)
-    → ending ≡ (if check && not agrees then Disagreed else Done)
+    → ending ≡ (if check && not agrees then Violated else Done)
     → IfSome input (λ text. LeavesJudged old new text (Ok agrees))
     → IfSome input (λ text. LeavesTold check old new text (Ok ending))
 whole_report None old new check agrees ending is left = tt

@@ -13,7 +13,7 @@ use Rattle.bench_scenario.specs.Runs.{bench_of}
 use Rattle.run_lines.specs.Spans.{Span}
 use Rattle.run_lines.specs.Telling.{Breaks, LeavesFront, LeavesLines}
 use Rattle.commands.specs.declared.ending.Ending.{Ending}
-use Rattle.commands.specs.declared.ending.Ending.TheVariants.{Disagreed, Done, Refused}
+use Rattle.commands.specs.declared.ending.Ending.TheVariants.{Violated, Done, Refused}
 use Rattle.commands.specs.declared.fault.Fault.{Fault}
 use Rattle.commands.specs.declared.fault.Fault.TheVariants as faults
 use Rattle.commands.specs.Faults.{IsBeforeWriting}
@@ -26,7 +26,7 @@ LeavesRefusal old new text ended =
 
 -- a pulse that doesn't agree is told where that is to be checked
 abbrev pub lined_ending : Bool → Bool → Ending
-lined_ending check agrees = if check && not agrees then Disagreed else Done
+lined_ending check agrees = if check && not agrees then Violated else Done
 
 -- why no pulse of a scenario with so many is asked for
 abbrev pub past_text : Span → ℕ → List ℕ

@@ -3,7 +3,7 @@ use Rattle.std.specs.Prelude.{◌≡◌, ◌⊎◌, ℕ, ◌+◌, List, Option, 
 use Rattle.stream_io.specs.Streams.{TakesAtMost}
 use Rattle.commands.specs.declared.asm.TheConstants.{TEXT_BYTES}
 use Rattle.commands.specs.declared.ending.Ending.{Ending}
-use Rattle.commands.specs.declared.ending.Ending.TheVariants.{Disagreed, Done, Mismatched, Refused, Unfinished}
+use Rattle.commands.specs.declared.ending.Ending.TheVariants.{Violated, Done, Mismatched, Refused, Unfinished}
 use Rattle.commands.specs.declared.fault.Fault.{Fault}
 use Rattle.commands.specs.declared.image.TheConstants.{IMAGE_BYTES}
 use Rattle.commands.specs.declared.request.ShapeOptions.{ShapeOptions}
@@ -62,7 +62,7 @@ abbrev pub SaysOf : Result Ending Fault → Option (List ℕ) → Option (List �
 SaysOf (Ok Refused) old new = SaysNote old new
 SaysOf (Ok Done) old new = new ≡ old
 SaysOf (Ok Mismatched) old new = new ≡ old
-SaysOf (Ok Disagreed) old new = new ≡ old
+SaysOf (Ok Violated) old new = new ≡ old
 SaysOf (Ok Unfinished) old new = new ≡ old
 SaysOf (Err fault) old new = Says old new (fault_text fault)
 

@@ -6,7 +6,7 @@ use Rattle.scenario_text.specs.Lines.{refusal_line}
 use Rattle.scenario_text.specs.Texts.{IsDue}
 use Rattle.bench_scenario.specs.Runs.{ReportsVerdict, StopsAt}
 use Rattle.commands.specs.declared.ending.Ending.{Ending}
-use Rattle.commands.specs.declared.ending.Ending.TheVariants.{Disagreed, Done, Refused}
+use Rattle.commands.specs.declared.ending.Ending.TheVariants.{Violated, Done, Refused}
 use Rattle.commands.specs.declared.fault.Fault.{Fault}
 use Rattle.commands.specs.declared.fault.Fault.TheVariants as faults
 use Rattle.commands.specs.Output.{LeavesAny}
@@ -27,7 +27,7 @@ told_text (Refusal error) = refusal_line error ++ codes "\n"
 
 -- a pulse that doesn't agree is told where that is to be checked
 abbrev pub told_ending : Bool → Told → Ending
-told_ending check (Report line agrees) = if check && not agrees then Disagreed else Done
+told_ending check (Report line agrees) = if check && not agrees then Violated else Done
 told_ending check (Refusal error) = Refused
 
 -- the report of the run of the scenario that the text says, or the line that refuses it

@@ -10,7 +10,7 @@ use Rattle.scenario_text.specs.declared.scenario.Scenario.{Scenario}
 use Rattle.scenario_text.specs.Lines.{refusal_line}
 use Rattle.scenario_text.specs.Texts.{IsDue, ReadsText}
 use Rattle.commands.specs.declared.ending.Ending.{Ending}
-use Rattle.commands.specs.declared.ending.Ending.TheVariants.{Disagreed, Done, Mismatched, Refused, Unfinished}
+use Rattle.commands.specs.declared.ending.Ending.TheVariants.{Violated, Done, Mismatched, Refused, Unfinished}
 use Rattle.commands.specs.declared.fault.Fault.{Fault}
 use Rattle.commands.specs.declared.fault.Fault.TheVariants as faults
 use Rattle.commands.specs.Output.{Leaves}
@@ -42,7 +42,7 @@ abbrev pub LeavesSwept : Option (List ℕ) → Option (List ℕ) → List ℕ �
 LeavesSwept old new text keys (Ok Done) = LeavesSweep old new text keys (Ok tt)
 LeavesSwept old new text keys (Ok Refused) = LeavesUnswept old new text (Ok Refused)
 LeavesSwept old new text keys (Ok Mismatched) = ⊥
-LeavesSwept old new text keys (Ok Disagreed) = ⊥
+LeavesSwept old new text keys (Ok Violated) = ⊥
 LeavesSwept old new text keys (Ok Unfinished) = ⊥
 LeavesSwept old new text keys (Err faults.Read) = Keeps old new
 LeavesSwept old new text keys (Err (faults.Write after)) =

@@ -1,14 +1,13 @@
 //! How a command ends that wrote its whole answer.
 
-/// Whether the answer is a result, a refusal of what was read, that a bench's history isn't what its hands did, a
-/// report in which a pulse doesn't agree, where that was to be checked, or that a bound was reached before there was a
-/// result.
+/// Whether the answer is a result, a refusal of what was read, that a bench's history isn't what its hands did, that
+/// what was asked is violated (agreement or stabilisation), or that a limit was reached before there was a result.
 #[derive(Clone, Copy, Debug, PartialEq, Eq)]
 pub enum Ending {
     Done,
     Refused,
     Mismatched,
-    Disagreed,
+    Violated,
     Unfinished,
 }
 
@@ -24,8 +23,8 @@ impl Ending {
             Ending::Done => 0,
             Ending::Refused => 2,
             Ending::Mismatched => 1,
-            Ending::Disagreed => 3,
-            Ending::Unfinished => 3,
+            Ending::Violated => 3,
+            Ending::Unfinished => 4,
         }
     }
 }

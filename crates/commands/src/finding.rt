@@ -1,10 +1,10 @@
 //! What `explore` answers to the scenario that it read, and the line that says it.
 ghost use Rattle.std.specs.Prelude.{◌≡◌, ◌++◌, IfOk, OnOk, Some, option_map, string_bytes};
-ghost use Rattle.commands.specs.Explore.{mail_text, nodes_text, recovery_text, span_text, spans_text, start_text, tried_text, unfit_name};
+ghost use Rattle.commands.specs.Explore.{agreement_text, cause_text, mail_text, marked, nodes_text, recovery_ending, recovery_text, span_text, spans_text, start_text, tried_text, unfit_name};
 
 use crate::ending::Ending;
 use crate::request::MailSpan;
-use bench_space::Recovery;
+use bench_space::{Cause, MOST_MAILS, Recovery};
 use scenario_text::{RefusalLine, ScenarioError};
 use std::alloc::{AllocError, Global};
 use std::fmt;
@@ -39,8 +39,8 @@ pub struct Tried {
 pub enum Finding {
     Refused(ScenarioError),
     Unfit(Unfit),
-    /// No run parts the clocks, where this was tried; and how they come into step, with the text of a scenario where
-    /// liars can hold them off and one was made.
+    /// Agreement holds where this was tried; and how the clocks stabilise, with the text of a counterexample where that
+    /// can be prevented and one was made.
     Never {
         states: u64,
         moves: u64,
@@ -48,15 +48,28 @@ pub enum Finding {
         recovery: Recovery,
         shown: Option<String>,
     },
-    /// Some clocks part in this pulse, as the scenario of this text shows.
+    /// Agreement is violated in this pulse of the counterexample of this text.
     Parts {
         pulse: u64,
         states: u64,
         shown: String,
     },
+    /// After so many states, and why.
     Unfinished {
         states: u64,
+        cause: Cause,
     },
+}
+
+/// How the command ends that found agreement, and this of stabilisation.
+fn recovery_ending(recovery: &Recovery) -> Ending
+    ensures { result ≡ recovery_ending recovery.now }
+{
+    match recovery {
+        Recovery::InStep { .. } | Recovery::Luck { .. } => Ending::Done,
+        Recovery::HeldOff { .. } => Ending::Violated,
+        Recovery::Unknown => Ending::Unfinished,
+    }
 }
 
 impl Finding {
@@ -69,7 +82,8 @@ impl Finding {
     {
         match self {
             Finding::Refused(_) | Finding::Unfit(_) => Ending::Refused,
-            Finding::Never { .. } | Finding::Parts { .. } => Ending::Done,
+            Finding::Never { recovery, .. } => recovery_ending(recovery),
+            Finding::Parts { .. } => Ending::Violated,
             Finding::Unfinished { .. } => Ending::Unfinished,
         }
     }
@@ -137,7 +151,7 @@ fn add_spans(alloc: Global, text: &mut String, mail: &[MailSpan]) -> Result<(), 
     Ok(())
 }
 
-/// The nodes that lie and what each may send, after a blank.
+/// The Byzantine nodes and what each may send, after a blank.
 fn mail_line(alloc: Global, tried: &Tried) -> Result<String, AllocError>
     ensures { IfOk result (λ text. string_bytes text ≡ mail_text tried.now.liars.items tried.now.mail.items) }
 {
@@ -165,35 +179,74 @@ fn start_line(alloc: Global, bytes: &Option<Vec<u8>>) -> Result<String, AllocErr
     }
 }
 
-/// The coins, the mail and the starts that were tried.
+/// The coins, the messages and the starts that were tried.
 fn tried_line(alloc: Global, tried: &Tried) -> Result<String, AllocError>
     ensures { IfOk result (λ text. string_bytes text ≡ tried_text tried.now) }
 {
     let mail = mail_line(alloc, tried)?;
     let start = start_line(alloc, &tried.bytes)?;
-    format!(in alloc; "coins 0 1, mail of nodes{mail}{start}")
+    format!(in alloc; "coins 0 1, messages of Byzantine nodes{mail}{start}")
 }
 
-/// How the clocks come into step.
+/// That agreement holds.
+fn agreement_line(
+    alloc: Global,
+    states: u64,
+    moves: u64,
+    tried: &Tried,
+) -> Result<String, AllocError>
+    ensures { IfOk result (λ text. string_bytes text ≡ agreement_text states moves tried.now) }
+{
+    let tried = tried_line(alloc, tried)?;
+    format!(in alloc; "agreement holds: {states} states, {moves} transitions, {tried}")
+}
+
+/// How the clocks stabilise.
 fn recovery_line(alloc: Global, recovery: &Recovery) -> Result<String, AllocError>
     ensures { IfOk result (λ text. string_bytes text ≡ recovery_text recovery.now) }
 {
     match recovery {
-        Recovery::InStep { pulses } => {
-            format!(in alloc; "in step at the latest after {pulses} pulses")
-        }
+        Recovery::InStep { pulses } => format!(in alloc; "stabilises within {pulses} pulses"),
         Recovery::Luck { pulses } => format!(in alloc;
-            "luck needed: from each state some coins lead into step, within {pulses} pulses"
+            "may stabilise within {pulses} pulses: from every reachable state some coins lead there"
         ),
-        Recovery::HeldOff { .. } => format!(in alloc; "a liar can hold them off for ever"),
-        Recovery::Unknown => format!(in alloc; "not known how they come into step"),
+        Recovery::HeldOff { .. } => format!(in alloc; "stabilisation can be prevented for ever"),
+        Recovery::Unknown => format!(in alloc;
+            "stabilisation not decided: a state has more choices of coins than --states allows"
+        ),
     }
 }
 
-impl Finding {
-    ghost use Rattle.commands.specs.Explore.{finding_line, finding_text, shown_of};
+/// Why the search isn't finished.
+fn cause_line(alloc: Global, cause: Cause) -> Result<String, AllocError>
+    ensures { IfOk result (λ text. string_bytes text ≡ cause_text cause) }
+{
+    match cause {
+        Cause::States => format!(in alloc; "--states allows no more"),
+        Cause::Transitions => format!(in alloc;
+            "a state has more transitions than --states allows"
+        ),
+        Cause::Pulses => format!(in alloc; "--depth allows no more pulses"),
+        Cause::Inboxes => format!(in alloc;
+            "a node has more than {MOST_MAILS} choices of memory and inbox"
+        ),
+        Cause::Counterexample => format!(in alloc;
+            "agreement is violated, but no counterexample was made"
+        ),
+    }
+}
 
-    /// The line or two that say it, without their end.
+/// The line with its end, behind its mark.
+fn marked(alloc: Global, mark: &str, line: &str) -> Result<String, AllocError>
+    ensures { IfOk result (λ text. string_bytes text ≡ marked mark.now line.now) }
+{
+    format!(in alloc; "{mark}{line}\n")
+}
+
+impl Finding {
+    ghost use Rattle.commands.specs.Explore.{finding_line, finding_text, mark_of, second_of, shown_of};
+
+    /// The first line, without its end.
     fn line(&self, alloc: Global) -> Result<String, AllocError>
         ensures { IfOk result (λ text. string_bytes text ≡ finding_line self.now) }
     {
@@ -204,23 +257,19 @@ impl Finding {
                 states,
                 moves,
                 tried,
-                recovery,
                 ..
-            } => {
-                let tried = tried_line(alloc, tried)?;
-                let recovery = recovery_line(alloc, recovery)?;
-                format!(in alloc;
-                    "never parts: {states} states, {moves} moves, {tried}\n{recovery}"
-                )
-            }
+            } => agreement_line(alloc, *states, *moves, tried),
             Finding::Parts { pulse, states, .. } => format!(in alloc;
-                "parts in pulse {pulse} ({states} states): a scenario that shows it follows"
+                "agreement violated in pulse {pulse} ({states} states); a counterexample follows"
             ),
-            Finding::Unfinished { states } => format!(in alloc; "not finished: {states} states"),
+            Finding::Unfinished { states, cause } => {
+                let cause = cause_line(alloc, *cause)?;
+                format!(in alloc; "not finished: {states} states; {cause}")
+            }
         }
     }
 
-    /// The scenario that shows it, where there is one.
+    /// The counterexample, where there is one.
     fn shown(&self) -> &str
         ensures { result.now ≡ shown_of self.now }
     {
@@ -234,12 +283,37 @@ impl Finding {
         }
     }
 
-    /// Returns the line or two with their end, and what follows them.
+    /// What makes a line a comment of the counterexample, where there is one.
+    fn mark(&self) -> &str
+        ensures { result.now ≡ mark_of (shown_of self.now) }
+    {
+        if self.shown().len() == 0 { "" } else { "# " }
+    }
+
+    /// How the clocks stabilise, where agreement holds.
+    fn second(&self, alloc: Global) -> Result<String, AllocError>
+        ensures { IfOk result (λ text. string_bytes text ≡ second_of self.now) }
+    {
+        match self {
+            Finding::Never { recovery, .. } => {
+                let line = recovery_line(alloc, recovery)?;
+                marked(alloc, self.mark(), line.as_str())
+            }
+            Finding::Refused(_)
+            | Finding::Unfit(_)
+            | Finding::Parts { .. }
+            | Finding::Unfinished { .. } => Ok(String::new(alloc)),
+        }
+    }
+
+    /// Returns the line or two with their ends, and the counterexample.
     pub fn text(&self, alloc: Global) -> Result<String, AllocError>
         ensures { IfOk result (λ text. string_bytes text ≡ finding_text self.now) }
     {
-        let mut text = self.line(alloc)?;
-        text.push_str("\n")?;
+        let line = self.line(alloc)?;
+        let mut text = marked(alloc, self.mark(), line.as_str())?;
+        let second = self.second(alloc)?;
+        text.push_str(second.as_str())?;
         text.push_str(self.shown())?;
         Ok(text)
     }

@@ -30,7 +30,7 @@ pub(crate) fn tell_ending<E: Write>(
 {
     match ending {
         Ending::Refused => tell_note(alloc, request, input, err),
-        Ending::Done | Ending::Mismatched | Ending::Disagreed | Ending::Unfinished => {}
+        Ending::Done | Ending::Mismatched | Ending::Violated | Ending::Unfinished => {}
     }
 }
 

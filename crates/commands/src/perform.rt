@@ -24,7 +24,7 @@ use std::sync::Wait;
 use std::thread::Threads;
 
 /// Runs the command, says its fault or the note on its refusal on `err`, and answers the exit status: 0 done, 1 fault
-/// or mismatch, 2 refused, 3 a pulse that doesn't agree, or not finished. What `err` does not take is dropped.
+/// or mismatch, 2 refused, 3 a violation, 4 not finished. What `err` does not take is dropped.
 pub fn perform<T: Threads + Wait + Sync, R: Read, W: Write, E: Write>(
     rt: &T,
     alloc: Global,

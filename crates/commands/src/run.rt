@@ -3,7 +3,7 @@ ghost use Rattle.std.specs.Prelude.{◌≡◌, ◌&&◌, not, if◌then◌else�
 ghost use Rattle.bench_scenario.specs.declared.run.TheConstants.{MOST_BYTES};
 ghost use Rattle.bench_scenario.specs.Runs.{IsMemoryOrThread};
 ghost use Rattle.stream_io.specs.Streams.{TakesAtMost};
-ghost use Rattle.commands.specs.declared.ending.Ending.TheVariants.{Disagreed, Done, Refused};
+ghost use Rattle.commands.specs.declared.ending.Ending.TheVariants.{Violated, Done, Refused};
 ghost use Rattle.commands.specs.inner.Faults.{IsRunFault};
 ghost use Rattle.commands.specs.Output.{Leaves};
 ghost use Rattle.commands.specs.Run.{LeavesTold, Refusal, WantsThread, told_text};
@@ -49,10 +49,10 @@ pub fn run<T: Threads + Wait + Sync, R: Read, W: Write>(
 
 /// How a run ends whose report is written.
 pub(crate) fn ending_of(check: bool, agrees: bool) -> Ending
-    ensures { result ≡ (if check && not agrees then Disagreed else Done) }
+    ensures { result ≡ (if check && not agrees then Violated else Done) }
 {
     if check && !agrees {
-        Ending::Disagreed
+        Ending::Violated
     } else {
         Ending::Done
     }
