@@ -8,6 +8,7 @@ here.
 """
 import concurrent.futures
 import dataclasses
+import errno
 import os
 import select
 import subprocess
@@ -34,6 +35,15 @@ LIMIT = 1 << 20
 MOST_IMAGE = 8 * 2048
 FAULT, REFUSED, VIOLATED = 1, 2, 3
 READ_FAULT = b"fault read\n"
+
+
+def reason(stream, error):
+    """The line that tells why a stream failed."""
+    return f"standard {stream}: {os.strerror(error)} (os error {error})\n".encode()
+
+
+def write_fault(written, error):
+    return b"fault write after %d\n" % written + reason("output", error)
 
 
 @dataclasses.dataclass
@@ -133,25 +143,26 @@ def output_checks(clockbed, it):
     for room in range(len(whole.out)):
         for kind in [{}, {"NARROW": 1}]:
             ask = lambda room=room, kind=kind: clockbed.run(words, given, WRITE_ROOM=room, **kind)
-            wanted = Ran(FAULT, whole.out[:room], b"fault write after %d\n" % room)
+            wanted = Ran(FAULT, whole.out[:room], write_fault(room, errno.EIO))
             yield Check(f"{words}, room for {room} bytes {kind}", ask, wanted)
-    nothing = Ran(FAULT, b"", b"fault write after 0\n")
-    for where in ["> /dev/full", ">&-"]:
+    for where, error in [("> /dev/full", errno.ENOSPC), (">&-", errno.EBADF)]:
         ask = lambda where=where: clockbed.redirected(words, given, where)
-        yield Check(f"{words} {where}", ask, nothing)
-    yield Check(f"{words}, a closed pipe", lambda: clockbed.into_closed_pipe(words, given), nothing)
+        yield Check(f"{words} {where}", ask, Ran(FAULT, b"", write_fault(0, error)))
+    wanted = Ran(FAULT, b"", write_fault(0, errno.EPIPE))
+    yield Check(f"{words}, a closed pipe", lambda: clockbed.into_closed_pipe(words, given), wanted)
 
 
 def input_checks(clockbed, it):
     """Where standard input fails, by an error of the device or by a signal."""
     words, given = it.words, it.given
     for room in range(len(given) + 1):
-        for kind in [{}, {"INTERRUPTED": 1}]:
+        for kind, error in [({}, errno.EIO), ({"INTERRUPTED": 1}, errno.EINTR)]:
             ask = lambda room=room, kind=kind: clockbed.run(words, given, NARROW=1, READ_ROOM=room, **kind)
-            yield Check(f"{words}, {room} bytes to read {kind}", ask, Ran(FAULT, b"", READ_FAULT))
-    for where in ["< .", "<&-"]:
+            wanted = Ran(FAULT, b"", READ_FAULT + reason("input", error))
+            yield Check(f"{words}, {room} bytes to read {kind}", ask, wanted)
+    for where, error in [("< .", errno.EISDIR), ("<&-", errno.EBADF)]:
         ask = lambda where=where: clockbed.redirected(words, b"", where)
-        yield Check(f"{words} {where}", ask, Ran(FAULT, b"", READ_FAULT))
+        yield Check(f"{words} {where}", ask, Ran(FAULT, b"", READ_FAULT + reason("input", error)))
 
 
 def silent_checks(clockbed, it):
@@ -163,7 +174,7 @@ def silent_checks(clockbed, it):
         ask = lambda given=given, where=where: clockbed.redirected(it.words, given, where)
         yield Check(f"{it.words} {where}", ask, Ran(FAULT, b"", b""))
 
-    said = b"fault write after 0\n"
+    said = write_fault(0, errno.EIO)
     for room in range(len(said)):
         ask = lambda room=room: clockbed.run(it.words, it.given, WRITE_ROOM=0, SAY_ROOM=room)
         yield Check(f"{it.words}, {room} bytes to say", ask, Ran(FAULT, b"", said[:room]))

@@ -11,10 +11,10 @@ mod source;
 use crate::command::command;
 use crate::progress::Progress;
 use crate::request::asked_by;
-use crate::source::{Source, tell_reason};
+use crate::source::{Reasoned, open, tell_reason};
 use commands::Fault;
 use commands::request::Request;
-use std::io::{IsTerminal, Read};
+use std::io::{IsTerminal, Read, Write};
 use std::process::ExitCode;
 use std::rt::Stderr;
 use std::sync::Wait;
@@ -50,51 +50,66 @@ fn answer<T: Threads + Wait + Sync>(
         Ok(asked) => asked,
         Err(fault) => return fault.tell(err),
     };
+    let streams = Streams { rt, threads, words };
     match &asked.file {
-        Some(path) => answer_on_file(rt, threads, words, &asked.request, path.as_str(), err),
-        None => answer_on(rt, threads, words, &asked.request, &mut rt.stdin(), err),
+        Some(path) => streams.answer_on_file(&asked.request, path.as_str(), err),
+        None => {
+            let input = Reasoned::of(rt.stdin());
+            streams.answer_on(&asked.request, input, "standard input", err)
+        }
     }
 }
 
-/// The same on the file of this path, with the reason below the fault where it can't be read.
-fn answer_on_file<T: Threads + Wait + Sync>(
-    rt: &HostRuntime,
-    threads: &T,
-    words: &[String],
-    request: &Request,
-    path: &str,
-    err: &mut Stderr,
-) -> u8 {
-    let mut source = match Source::open(rt, path) {
-        Ok(source) => source,
-        Err(reason) => {
-            let status = Fault::Read.tell(err);
-            tell_reason(err, path, reason);
-            return status;
-        }
-    };
-    let status = answer_on(rt, threads, words, request, &mut source, err);
-    if let Some(reason) = source.reason() {
-        tell_reason(err, path, reason);
-    }
-    status
+/// What the program runs on, and its words.
+struct Streams<'a, T> {
+    rt: &'a HostRuntime,
+    threads: &'a T,
+    words: &'a [String],
 }
 
-/// The same on a reader; a sweep tells on a terminal how far it is.
-fn answer_on<T: Threads + Wait + Sync, R: Read>(
-    rt: &HostRuntime,
-    threads: &T,
-    words: &[String],
-    request: &Request,
-    reader: &mut R,
-    err: &mut Stderr,
-) -> u8 {
-    let mut out = rt.stdout();
-    match request {
-        Request::Sweep(options) if err.is_terminal() => {
-            let mut told = Progress::new(out, rt.stderr(), rt, options.keys.count());
-            command(threads, rt.alloc(), words, reader, &mut told, err)
+impl<T: Threads + Wait + Sync> Streams<'_, T> {
+    /// Answers on the file of this path, with the reason below the fault if it can't be read.
+    fn answer_on_file(&self, request: &Request, path: &str, err: &mut Stderr) -> u8 {
+        match open(self.rt, path) {
+            Ok(file) => self.answer_on(request, file, path, err),
+            Err(reason) => {
+                let status = Fault::Read.tell(err);
+                tell_reason(err, path, reason);
+                status
+            }
         }
-        _ => command(threads, rt.alloc(), words, reader, &mut out, err),
+    }
+
+    /// Answers on an input of this name. Why a stream failed is said below the fault.
+    fn answer_on<R: Read>(
+        &self,
+        request: &Request,
+        mut input: Reasoned<R>,
+        name: &str,
+        err: &mut Stderr,
+    ) -> u8 {
+        let mut out = Reasoned::of(self.rt.stdout());
+        let status = self.answer_into(request, &mut input, &mut out, err);
+        input.tell_reason(err, name);
+        out.tell_reason(err, "standard output");
+        status
+    }
+
+    /// Answers into a writer; a sweep tells on a terminal how far it is.
+    fn answer_into<R: Read, W: Write>(
+        &self,
+        request: &Request,
+        reader: &mut R,
+        out: &mut W,
+        err: &mut Stderr,
+    ) -> u8 {
+        let alloc = self.rt.alloc();
+        match request {
+            Request::Sweep(options) if err.is_terminal() => {
+                let mut told = Progress::new(out, self.rt.stderr(), self.rt, options.keys.count());
+                command(self.threads, alloc, self.words, reader, &mut told, err)
+            }
+            _ => command(self.threads, alloc, self.words, reader, out, err),
+        }
     }
 }

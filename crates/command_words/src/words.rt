@@ -35,7 +35,8 @@ fn clockbed<'a>(alloc: Global) -> Building<'a> {
             .about("A testbed for Byzantine fault-tolerant clock synchronisation")
             .version(VERSION)
             .after_help("Example: clockbed run examples/four_clocks.toml\nPage: docs/COMMANDS.md")
-            .subcommand_required(true),
+            .subcommand_required(true)
+            .arg_required_else_help(true),
     )
 }
 

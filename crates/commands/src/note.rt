@@ -1,5 +1,5 @@
 //! What is said after a refusal: where it comes from.
-ghost use Rattle.std.specs.Prelude.{IfOk, IfSome, Ok, string_bytes};
+ghost use Rattle.std.specs.Prelude.{Ok};
 ghost use Rattle.scenario_notes.specs.Words.{IsNote};
 ghost use Rattle.commands.specs.Perform.{SaysNote, SaysOf};
 
@@ -7,7 +7,7 @@ use crate::ending::Ending;
 use crate::request::Request;
 use scenario_notes::note_on;
 use scenario_text::{ScenarioError, scenario_in};
-use std::alloc::{AllocError, Global};
+use std::alloc::Global;
 use std::io::Write;
 use stream_io::write_fully;
 
@@ -17,6 +17,14 @@ const ELF_BEGINNING: &[u8] = b"\x7fELF";
 /// The note on an ELF file in place of an image (docs/NODES_IN_C.md).
 const ELF_NOTE: &[u8] =
     b"note: this is an ELF file; an image is its .text alone: llvm-objcopy -O binary --only-section=.text FILE IMAGE\n";
+
+/// The note on a text in place of an image.
+const TEXT_NOTE: &[u8] =
+    b"note: this is a text; clockbed asm prints its image, and clockbed verify --text verifies it\n";
+
+/// The note on a scenario without a seed, where `sweep` needs one.
+const SEED_NOTE: &[u8] =
+    b"note: sweep runs a scenario once for each seed: it needs coins = \"chacha\" and a key\n";
 
 /// Says of an ending what is to be said: the note on a refusal, where there is one. What `err` doesn't take is dropped.
 pub(crate) fn tell_ending<E: Write>(
@@ -43,7 +51,7 @@ fn tell_note<E: Write>(alloc: Global, request: &Request, input: &[u8], err: &mut
             tell_image_note(input, err);
         }
         Request::Run(_) | Request::Lines(_) | Request::Sweep(_) | Request::Explore(_) => {
-            tell_scenario_note(alloc, input, err);
+            tell_scenario_note(alloc, request, input, err);
         }
         Request::Asm { .. } | Request::Stress(_) | Request::Help { .. } => {}
     }
@@ -54,25 +62,52 @@ fn tell_image_note<E: Write>(image: &[u8], err: &mut E)
 {
     if image.starts_with(ELF_BEGINNING) {
         say(ELF_NOTE, err);
+    } else {
+        tell_text_note(image, err);
     }
 }
 
-fn tell_scenario_note<E: Write>(alloc: Global, text: &[u8], err: &mut E)
+/// Says of bytes that are a text that they are no image.
+fn tell_text_note<E: Write>(bytes: &[u8], err: &mut E)
     ensures { SaysNote (E.contents err.old) (E.contents err.new) }
 {
-    if let Ok(Some(note)) = note_in(alloc, text) {
-        say(note.as_bytes(), err);
+    if is_text(bytes) {
+        say(TEXT_NOTE, err);
     }
 }
 
-/// The note on a text, where it is refused and there is something to say.
-fn note_in(alloc: Global, text: &[u8]) -> Result<Option<String>, AllocError>
-    ensures { IfOk result (λ found. IfSome found (λ note. IsNote (string_bytes note))) }
+/// Returns true if there are bytes, and none of them is a control character that texts don't have.
+fn is_text(bytes: &[u8]) -> bool {
+    bytes.len() > 0
+        && bytes
+            .iter()
+            .all(|byte| !byte.is_ascii_control() || byte.is_ascii_whitespace())
+}
+
+fn tell_scenario_note<E: Write>(alloc: Global, request: &Request, text: &[u8], err: &mut E)
+    ensures { SaysNote (E.contents err.old) (E.contents err.new) }
 {
     match scenario_in(alloc, text) {
-        Ok(_) => Ok(None),
-        Err(ScenarioError::Memory(_)) => Err(AllocError),
-        Err(error) => note_on(alloc, text, &error),
+        Ok(_) => tell_unfit_note(request, err),
+        Err(error) => tell_refusal_note(alloc, text, &error, err),
+    }
+}
+
+/// Says why a scenario can't be used that is one.
+fn tell_unfit_note<E: Write>(request: &Request, err: &mut E)
+    ensures { SaysNote (E.contents err.old) (E.contents err.new) }
+{
+    if let Request::Sweep(_) = request {
+        say(SEED_NOTE, err);
+    }
+}
+
+/// Says where a text is refused, if there is something to say.
+fn tell_refusal_note<E: Write>(alloc: Global, text: &[u8], error: &ScenarioError, err: &mut E)
+    ensures { SaysNote (E.contents err.old) (E.contents err.new) }
+{
+    if let Ok(Some(note)) = note_on(alloc, text, error) {
+        say(note.as_bytes(), err);
     }
 }
 

@@ -1,0 +1,13 @@
+use Rattle.std.proofs.Common.{refl}
+use Rattle.std.specs.Prelude.{codes}
+use Rattle.commands.proofs.note.tell_text_note.Goals as goal
+
+-- the note is one line
+pub say-requires : goal.say-requires
+say-requires g c = record {
+  note = record {
+    words = codes "this is a text; clockbed asm prints its image, and clockbed verify --text verifies it";
+    one_line = refl;
+    line_is = refl;
+  };
+}
