@@ -7,12 +7,12 @@ use crate::mail::{MailFault, bytes_in, mail_in};
 use clap::error::ErrorKind;
 use clap::{ArgMatches, Error};
 use command_words::{
-    DEFAULT_LOADERS, DEFAULT_LOADS, DEFAULT_MEMORY, DEFAULT_NODES, DEFAULT_PULSES, DEFAULT_STATES,
-    DEFAULT_WORKERS, Helps, MOST_STATES, command_line,
+    DEFAULT_FAULTS, DEFAULT_LOADERS, DEFAULT_LOADS, DEFAULT_MEMORY, DEFAULT_MODULUS, DEFAULT_NODES,
+    DEFAULT_PULSES, DEFAULT_STATES, DEFAULT_WORKERS, Helps, MOST_STATES, command_line,
 };
 use commands::Fault;
 use commands::request::{
-    Detail, ExplainOptions, ExploreOptions, LinesOptions, Request, RunOptions, ShapeOptions,
+    ClockOptions, ClockRule, Detail, ExplainOptions, ExploreOptions, LinesOptions, Request, RunOptions, ShapeOptions,
     StressOptions, SweepOptions,
 };
 use key_sweep::KeySpan;
@@ -94,9 +94,7 @@ fn request_in(
         "asm" => Ok(Request::Asm {
             list: options.get_flag("list"),
         }),
-        "dis" => Ok(Request::Dis {
-            list: options.get_flag("list"),
-        }),
+        "dis" => dis_request(options),
         "verify" => Ok(verify_request(options)),
         "run" => run_request(options),
         "stress" => Ok(Request::Stress(stress_options(options))),
@@ -111,13 +109,13 @@ fn request_in(
     }
 }
 
-/// The file that is named, a dash being none. `stress` reads nothing.
+/// The file that is named, a dash being none. `stress` and `dis --clock` read nothing.
 fn file_in(
     alloc: Global,
     name: &str,
     options: &ArgMatches<'_>,
 ) -> Result<Option<String>, AllocError> {
-    if name == "stress" {
+    if name == "stress" || name == "dis" && options.get_flag("clock") {
         return Ok(None);
     }
     match options.get_str("file") {
@@ -141,6 +139,24 @@ fn detail(options: &ArgMatches<'_>) -> Option<Detail> {
         Some(Detail::All)
     } else {
         Some(Detail::Read)
+    }
+}
+
+/// The text of an image, or that of the clock of a rule.
+fn dis_request(options: &ArgMatches<'_>) -> Result<Request, OptionsFault> {
+    let list = options.get_flag("list");
+    if !options.get_flag("clock") {
+        return Ok(Request::Dis { list });
+    }
+    if options.get_str("file").is_some() {
+        return Err(OptionsFault::Reason("--clock reads no file"));
+    }
+    let nodes = options.get_one::<u32>("nodes").unwrap_or(DEFAULT_NODES);
+    let faults = options.get_one::<u32>("faults").unwrap_or(DEFAULT_FAULTS);
+    let modulus = options.get_one::<u32>("modulus").unwrap_or(DEFAULT_MODULUS);
+    match ClockRule::of(nodes, faults, modulus) {
+        Some(rule) => Ok(Request::Clock(ClockOptions { rule, list })),
+        None => Err(OptionsFault::Reason("--faults has to be below --nodes")),
     }
 }
 

@@ -12,6 +12,7 @@ pub struct Reasoned<S> {
 }
 
 impl<S> Reasoned<S> {
+    /// Returns the stream with no failure yet.
     pub fn of(stream: S) -> Reasoned<S> {
         Reasoned {
             stream,

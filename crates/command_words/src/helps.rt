@@ -2,6 +2,7 @@
 
 use bench_shared::MOST_LOADERS;
 use bench_workers::MOST_WORKERS;
+use clock_nodes::{LEAST_MODULUS, MOST_MODULUS};
 use key_sweep::{MOST_KEY, MOST_SWEEPERS};
 use node_env::{MAX_MEMORY, MAX_NODES, MEMORY_UNIT};
 use std::fmt::InlineText;
@@ -11,6 +12,12 @@ pub const DEFAULT_NODES: u32 = 4;
 
 /// The bytes of memory if none are named.
 pub const DEFAULT_MEMORY: u32 = 16;
+
+/// The faults of a clock's rule if none are named.
+pub const DEFAULT_FAULTS: u32 = 1;
+
+/// The modulus of a clock's rule if none is named.
+pub const DEFAULT_MODULUS: u32 = 8;
 
 /// The fuel of a run for which none is named.
 pub const DEFAULT_FUEL: u64 = 1_000_000;
@@ -49,6 +56,8 @@ type Help = InlineText<HELP_BYTES>;
 pub struct Helps {
     pub(crate) nodes: Help,
     pub(crate) memory: Help,
+    pub(crate) faults: Help,
+    pub(crate) modulus: Help,
     pub(crate) fuel: Help,
     pub(crate) id: Help,
     pub(crate) most_workers: Help,
@@ -68,6 +77,8 @@ impl Helps {
         Helps {
             nodes: numbers("Number of nodes", 1, MAX_NODES, DEFAULT_NODES),
             memory: memory_help(),
+            faults: numbers("Faults that the clock allows", 0, MAX_NODES - 1, DEFAULT_FAULTS),
+            modulus: numbers("Modulus of the clock", LEAST_MODULUS, MOST_MODULUS, DEFAULT_MODULUS),
             fuel: Help::of(format_args!(
                 "Most steps of the run [0..={MOST_FUEL}; default: {DEFAULT_FUEL}]"
             )),

@@ -55,6 +55,17 @@ pub(crate) fn pulse_option<'a>(
     from_one(text_option(alloc, name, "PULSE", help)).requires_arg("json")
 }
 
+/// Returns an option for a number of the clock of a rule, from `least` to `most`.
+pub(crate) fn clock_option<'a>(
+    alloc: Global,
+    name: &'static str,
+    help: &'a str,
+    least: u32,
+    most: u32,
+) -> Result<Arg<'a>, AllocError> {
+    within(text_option(alloc, name, "COUNT", help), least, most).requires_arg("clock")
+}
+
 /// Returns the option, whose value is a number from 1 on.
 fn from_one<'a>(option: Arg<'a>) -> Arg<'a> {
     option.value_parser(value_parser!(u32).range(1..))

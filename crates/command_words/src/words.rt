@@ -2,11 +2,12 @@
 
 use crate::building::Building;
 use crate::helps::{Helps, MOST_FUEL, MOST_LOADS, MOST_PULSES, MOST_STATES};
-use crate::options::{count_option, file, flag, pulse_option, text_option, within};
+use crate::options::{clock_option, count_option, file, flag, pulse_option, text_option, within};
 use crate::version::VERSION;
 use bench_shared::MOST_LOADERS;
 use bench_workers::MOST_WORKERS;
 use clap::{Arg, Command, value_parser};
+use clock_nodes::{LEAST_MODULUS, MOST_MODULUS};
 use key_sweep::MOST_SWEEPERS;
 use node_env::{MAX_MEMORY, MAX_NODES, MEMORY_UNIT};
 use std::alloc::{AllocError, Global};
@@ -19,7 +20,7 @@ pub fn command_line<'a>(alloc: Global, helps: &'a Helps) -> Result<Command<'a>, 
     clockbed(alloc)
         .subcommand(exec(alloc, helps))
         .subcommand(asm(alloc))
-        .subcommand(dis(alloc))
+        .subcommand(dis(alloc, helps))
         .subcommand(verify(alloc, helps))
         .subcommand(run(alloc, helps))
         .subcommand(stress(alloc, helps))
@@ -53,15 +54,34 @@ fn asm<'a>(alloc: Global) -> Building<'a> {
 }
 
 /// The command `dis`.
-fn dis<'a>(alloc: Global) -> Building<'a> {
-    Building::named(
+fn dis<'a>(alloc: Global, helps: &'a Helps) -> Building<'a> {
+    let dis = Building::named(
         alloc,
         "dis",
         "Print an image as assembler text",
         "Example: clockbed dis examples/seven.bpf\nPage: docs/ASSEMBLER.md",
     )
-    .arg(flag(alloc, "list", LIST))
-    .arg(file(alloc))
+    .arg(flag(alloc, "list", LIST));
+    with_rule(alloc, dis, helps).arg(file(alloc))
+}
+
+/// Adds the options that ask for the clock of a rule.
+fn with_rule<'a>(alloc: Global, command: Building<'a>, helps: &'a Helps) -> Building<'a> {
+    command
+        .arg(flag(
+            alloc,
+            "clock",
+            "Print the clock of the rule in place of an image",
+        ))
+        .made_arg(clock_option(alloc, "nodes", helps.nodes.as_str(), 1, MAX_NODES))
+        .made_arg(clock_option(alloc, "faults", helps.faults.as_str(), 0, MAX_NODES - 1))
+        .made_arg(clock_option(
+            alloc,
+            "modulus",
+            helps.modulus.as_str(),
+            LEAST_MODULUS,
+            MOST_MODULUS,
+        ))
 }
 
 /// The command `verify` with its options.

@@ -4,12 +4,14 @@ use Rattle.bpf_insn.specs.declared.forms.Insn.{Insn}
 use Rattle.bpf_insn.specs.declared.image.ImageError.{ImageError}
 use Rattle.bpf_asm.specs.Canonical.{canonical_text}
 use Rattle.bpf_asm.specs.Listing.{program_listing}
+use Rattle.clock_nodes.specs.Listings.{clock_listing}
 use Rattle.commands.specs.declared.ending.Ending.{Ending}
 use Rattle.commands.specs.declared.ending.Ending.TheVariants.{Done, Refused}
 use Rattle.commands.specs.declared.fault.Fault.{Fault}
 use Rattle.commands.specs.declared.image.Refusal.TheVariants.{Image}
 use Rattle.commands.specs.Image.{ReadsImage, refusal_line}
-use Rattle.commands.specs.Output.{LeavesAny}
+use Rattle.commands.specs.declared.request.ClockOptions.{ClockOptions}
+use Rattle.commands.specs.Output.{Leaves, LeavesAny}
 
 -- what is printed: the canonical text of the program, or its listing where that is asked for, or the line of the
 -- refusal (docs/COMMANDS.md, "What dis prints")
@@ -25,3 +27,7 @@ listing_ending (Err error) = Refused
 abbrev pub LeavesListing : Option (List ℕ) → Option (List ℕ) → Bool → List ℕ → Result Ending Fault → Type 0
 LeavesListing old new list bytes result =
     LeavesAny (ReadsImage bytes) (listing_text list) listing_ending old new result
+
+-- the same of the clock of a rule (docs/CLOCK.md, "The programs")
+abbrev pub LeavesClock : Option (List ℕ) → Option (List ℕ) → ClockOptions → Result Ending Fault → Type 0
+LeavesClock old new asked ended = Leaves old new (listing_text asked.list (Ok (clock_listing asked.rule))) Done ended

@@ -8,9 +8,9 @@ use Rattle.commands.specs.declared.fault.Fault.{Fault}
 use Rattle.commands.specs.declared.image.TheConstants.{IMAGE_BYTES}
 use Rattle.commands.specs.declared.request.ShapeOptions.{ShapeOptions}
 use Rattle.commands.specs.declared.request.Request.{Request}
-use Rattle.commands.specs.declared.request.Request.TheVariants.{Exec, Asm, Dis, Verify, Explain, Run, Lines, Stress, Sweep, Explore, Help}
+use Rattle.commands.specs.declared.request.Request.TheVariants.{Exec, Asm, Dis, Clock, Verify, Explain, Run, Lines, Stress, Sweep, Explore, Help}
 use Rattle.commands.specs.Asm.{LeavesImage}
-use Rattle.commands.specs.Dis.{LeavesListing}
+use Rattle.commands.specs.Dis.{LeavesClock, LeavesListing}
 use Rattle.commands.specs.Ending.{status_of}
 use Rattle.commands.specs.Exec.{LeavesExec}
 use Rattle.commands.specs.Explained.{LeavesExplained, most_read}
@@ -34,6 +34,7 @@ CarriesOut (Asm list) input old new ended = IfSome input
     (λ bytes. LeavesImage old new list (take (TEXT_BYTES + 1) bytes) ended)
 CarriesOut (Dis list) input old new ended = IfSome input
     (λ bytes. LeavesListing old new list (take IMAGE_BYTES bytes) ended)
+CarriesOut (Clock asked) input old new ended = LeavesClock old new asked ended
 CarriesOut (Verify asked) input old new ended = IfSome input
     (λ bytes. LeavesVerdict old new asked (take IMAGE_BYTES bytes) ended)
 CarriesOut (Explain asked) input old new ended = IfSome input
@@ -82,6 +83,7 @@ abbrev pub TakesFor : Request → Option (List ℕ) → Option (List ℕ) → Ty
 TakesFor (Exec asked) old new = TakesShaped asked.shape old new
 TakesFor (Asm list) old new = TakesAtMost (TEXT_BYTES + 1) old new
 TakesFor (Dis list) old new = TakesAtMost IMAGE_BYTES old new
+TakesFor (Clock asked) old new = new ≡ old
 TakesFor (Verify asked) old new = TakesShaped asked old new
 TakesFor (Explain asked) old new =
     TakesAtMost (most_read asked.text) old new × ((HasShape asked.shape → ⊥) → new ≡ old)

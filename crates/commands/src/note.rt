@@ -53,7 +53,7 @@ fn tell_note<E: Write>(alloc: Global, request: &Request, input: &[u8], err: &mut
         Request::Run(_) | Request::Lines(_) | Request::Sweep(_) | Request::Explore(_) => {
             tell_scenario_note(alloc, request, input, err);
         }
-        Request::Asm { .. } | Request::Stress(_) | Request::Help { .. } => {}
+        Request::Asm { .. } | Request::Clock(_) | Request::Stress(_) | Request::Help { .. } => {}
     }
 }
 

@@ -4,7 +4,7 @@ ghost use Rattle.commands.specs.Perform.{CarriesOut, Performs, TakesFor};
 
 use crate::ahead::read_ahead;
 use crate::asm::asm;
-use crate::dis::dis;
+use crate::dis::{clock, dis};
 use crate::ending::Ending;
 use crate::exec::exec;
 use crate::explanation::explained;
@@ -90,6 +90,7 @@ fn carry_out<T: Threads + Wait + Sync, R: Read, W: Write>(
         Request::Exec(options) => exec(alloc, options, reader, out),
         Request::Asm { list } => asm(alloc, *list, reader, out),
         Request::Dis { list } => dis(alloc, *list, reader, out),
+        Request::Clock(options) => clock(alloc, *options, out),
         Request::Verify(options) => verify(alloc, *options, reader, out),
         Request::Explain(options) => explained(alloc, *options, reader, out),
         Request::Run(options) => run(rt, alloc, *options, reader, out),

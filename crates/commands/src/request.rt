@@ -4,6 +4,7 @@ ghost use Rattle.std.specs.Prelude.{◌<◌};
 pub use crate::case::Case;
 pub use bench_stress::StressOptions;
 pub use bpf_explain::Detail;
+pub use clock_nodes::ClockRule;
 use key_sweep::KeySpan;
 use run_lines::PulseSpan;
 
@@ -15,6 +16,8 @@ pub enum Request {
     Asm { list: bool },
     /// `dis`: the text of an image, or its listing.
     Dis { list: bool },
+    /// `dis --clock`: the text of the clock of a rule, or its listing.
+    Clock(ClockOptions),
     Verify(ShapeOptions),
     /// `verify --text`, `verify --explain`.
     Explain(ExplainOptions),
@@ -34,6 +37,14 @@ pub struct ShapeOptions {
     pub nodes: u32,
     /// The bytes of a node's memory.
     pub memory: u32,
+}
+
+/// The options of `dis --clock`.
+#[derive(Clone, Copy, Debug, PartialEq, Eq)]
+pub struct ClockOptions {
+    pub rule: ClockRule,
+    /// Whether a listing is asked for.
+    pub list: bool,
 }
 
 /// The options of `verify` where a text is read, or more is told than the verdict.
