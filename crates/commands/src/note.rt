@@ -4,9 +4,11 @@ ghost use Rattle.scenario_notes.specs.Words.{IsNote};
 ghost use Rattle.commands.specs.Perform.{SaysNote, SaysOf};
 
 use crate::ending::Ending;
+use crate::explore::unfit_of;
+use crate::finding::Unfit;
 use crate::request::Request;
 use scenario_notes::note_on;
-use scenario_text::{ScenarioError, scenario_in};
+use scenario_text::{Scenario, ScenarioError, scenario_in};
 use std::alloc::Global;
 use std::io::Write;
 use stream_io::write_fully;
@@ -88,17 +90,45 @@ fn tell_scenario_note<E: Write>(alloc: Global, request: &Request, text: &[u8], e
     ensures { SaysNote (E.contents err.old) (E.contents err.new) }
 {
     match scenario_in(alloc, text) {
-        Ok(_) => tell_unfit_note(request, err),
+        Ok(scenario) => tell_unfit_note(request, &scenario, err),
         Err(error) => tell_refusal_note(alloc, text, &error, err),
     }
 }
 
 /// Says why a scenario can't be used that is one.
-fn tell_unfit_note<E: Write>(request: &Request, err: &mut E)
+fn tell_unfit_note<E: Write>(request: &Request, scenario: &Scenario, err: &mut E)
     ensures { SaysNote (E.contents err.old) (E.contents err.new) }
 {
-    if let Request::Sweep(_) = request {
-        say(SEED_NOTE, err);
+    match request {
+        Request::Sweep(_) => say(SEED_NOTE, err),
+        Request::Explore(_) => {
+            if let Some(unfit) = unfit_of(scenario) {
+                say(unexplored_note(unfit), err);
+            }
+        }
+        Request::Exec(_)
+        | Request::Asm { .. }
+        | Request::Dis { .. }
+        | Request::Clock(_)
+        | Request::Verify(_)
+        | Request::Explain(_)
+        | Request::Run(_)
+        | Request::Lines(_)
+        | Request::Stress(_)
+        | Request::Help { .. } => {}
+    }
+}
+
+/// Returns the note on a scenario that can't be explored.
+fn unexplored_note(unfit: Unfit) -> &'static [u8]
+    ensures { IsNote result.now }
+{
+    match unfit {
+        Unfit::Coins => b"note: explore tries both coins of each node: write coins = \"zeros\", without a key\n",
+        Unfit::Load => b"note: explore takes loads of pulse 1 alone: a correct node keeps its program\n",
+        Unfit::Unload => b"note: explore takes no [[unload]]: a correct node keeps its program\n",
+        Unfit::Corrupt => b"note: explore takes no [[corrupt]]: --start any tries other initial memories\n",
+        Unfit::Coin => b"note: explore takes no [[coin]]: it tries both coins of each node\n",
     }
 }
 
