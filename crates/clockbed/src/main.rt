@@ -61,6 +61,7 @@ fn answer<T: Threads + Wait + Sync>(
 }
 
 /// What the program runs on, and its words.
+#[derive(Drop)]
 struct Streams<'a, T> {
     rt: &'a HostRuntime,
     threads: &'a T,
@@ -81,7 +82,7 @@ impl<T: Threads + Wait + Sync> Streams<'_, T> {
     }
 
     /// Answers on an input of this name. Why a stream failed is said below the fault.
-    fn answer_on<R: Read>(
+    fn answer_on<R: Read + Drop>(
         &self,
         request: &Request,
         mut input: Reasoned<R>,

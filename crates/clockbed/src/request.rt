@@ -12,8 +12,8 @@ use command_words::{
 };
 use commands::Fault;
 use commands::request::{
-    ClockOptions, ClockRule, Detail, ExplainOptions, ExploreOptions, LinesOptions, Request, RunOptions, ShapeOptions,
-    StressOptions, SweepOptions,
+    ClockOptions, ClockRule, Detail, ExplainOptions, ExploreOptions, LinesOptions, Request,
+    RunOptions, ShapeOptions, StressOptions, SweepOptions,
 };
 use key_sweep::KeySpan;
 use run_lines::PulseSpan;

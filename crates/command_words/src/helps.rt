@@ -77,8 +77,18 @@ impl Helps {
         Helps {
             nodes: numbers("Number of nodes", 1, MAX_NODES, DEFAULT_NODES),
             memory: memory_help(),
-            faults: numbers("Faults that the clock allows", 0, MAX_NODES - 1, DEFAULT_FAULTS),
-            modulus: numbers("Modulus of the clock", LEAST_MODULUS, MOST_MODULUS, DEFAULT_MODULUS),
+            faults: numbers(
+                "Faults that the clock allows",
+                0,
+                MAX_NODES - 1,
+                DEFAULT_FAULTS,
+            ),
+            modulus: numbers(
+                "Modulus of the clock",
+                LEAST_MODULUS,
+                MOST_MODULUS,
+                DEFAULT_MODULUS,
+            ),
             fuel: Help::of(format_args!(
                 "Most steps of the run [0..={MOST_FUEL}; default: {DEFAULT_FUEL}]"
             )),

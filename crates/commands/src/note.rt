@@ -11,6 +11,7 @@ use scenario_notes::note_on;
 use scenario_text::{Scenario, ScenarioError, scenario_in};
 use std::alloc::Global;
 use std::io::Write;
+use std::str;
 use stream_io::write_fully;
 
 /// How an ELF file begins.
@@ -78,12 +79,15 @@ fn tell_text_note<E: Write>(bytes: &[u8], err: &mut E)
     }
 }
 
-/// Returns true if there are bytes, and none of them is a control character that texts don't have.
+/// Returns true if the bytes are UTF-8, not empty, and without control characters that texts don't have.
 fn is_text(bytes: &[u8]) -> bool {
     bytes.len() > 0
-        && bytes
-            .iter()
-            .all(|byte| !byte.is_ascii_control() || byte.is_ascii_whitespace())
+        && str::from_utf8(bytes).is_ok()
+        && bytes.iter().all(|byte| may_be_of_text(*byte))
+}
+
+fn may_be_of_text(byte: u8) -> bool {
+    !byte.is_ascii_control() || byte.is_ascii_whitespace()
 }
 
 fn tell_scenario_note<E: Write>(alloc: Global, request: &Request, text: &[u8], err: &mut E)
@@ -124,10 +128,13 @@ fn unexplored_note(unfit: Unfit) -> &'static [u8]
     ensures { IsNote result.now }
 {
     match unfit {
-        Unfit::Coins => b"note: explore tries both coins of each node: write coins = \"zeros\", without a key\n",
-        Unfit::Load => b"note: explore takes loads of pulse 1 alone: a correct node keeps its program\n",
+        Unfit::Coins =>
+            b"note: explore tries both coins of each node: write coins = \"zeros\", without a key\n",
+        Unfit::Load =>
+            b"note: explore takes loads of pulse 1 alone: a correct node keeps its program\n",
         Unfit::Unload => b"note: explore takes no [[unload]]: a correct node keeps its program\n",
-        Unfit::Corrupt => b"note: explore takes no [[corrupt]]: --start any tries other initial memories\n",
+        Unfit::Corrupt =>
+            b"note: explore takes no [[corrupt]]: --start any tries other initial memories\n",
         Unfit::Coin => b"note: explore takes no [[coin]]: it tries both coins of each node\n",
     }
 }
