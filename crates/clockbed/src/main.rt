@@ -13,7 +13,7 @@ use crate::progress::Progress;
 use crate::request::asked_by;
 use crate::source::{Reasoned, open, tell_reason};
 use commands::Fault;
-use commands::request::Request;
+use commands::request::{Request, SweepOptions};
 use std::io::{IsTerminal, Read, Write};
 use std::process::ExitCode;
 use std::rt::Stderr;
@@ -50,25 +50,25 @@ fn answer<T: Threads + Wait + Sync>(
         Ok(asked) => asked,
         Err(fault) => return fault.tell(err),
     };
-    let streams = Streams { rt, threads, words };
+    let program = Program { rt, threads, words };
     match &asked.file {
-        Some(path) => streams.answer_on_file(&asked.request, path.as_str(), err),
+        Some(path) => program.answer_on_file(&asked.request, path.as_str(), err),
         None => {
             let input = Reasoned::of(rt.stdin());
-            streams.answer_on(&asked.request, input, "standard input", err)
+            program.answer_on(&asked.request, input, "standard input", err)
         }
     }
 }
 
 /// What the program runs on, and its words.
 #[derive(Drop)]
-struct Streams<'a, T> {
+struct Program<'a, T> {
     rt: &'a HostRuntime,
     threads: &'a T,
     words: &'a [String],
 }
 
-impl<T: Threads + Wait + Sync> Streams<'_, T> {
+impl<T: Threads + Wait + Sync> Program<'_, T> {
     /// Answers on the file of this path, with the reason below the fault if it can't be read.
     fn answer_on_file(&self, request: &Request, path: &str, err: &mut Stderr) -> u8 {
         match open(self.rt, path) {
@@ -89,28 +89,41 @@ impl<T: Threads + Wait + Sync> Streams<'_, T> {
         name: &str,
         err: &mut Stderr,
     ) -> u8 {
-        let mut out = Reasoned::of(self.rt.stdout());
-        let status = self.answer_into(request, &mut input, &mut out, err);
+        let stdout = self.rt.stdout();
+        let is_apart = err.is_terminal() && !stdout.is_terminal();
+        let mut out = Reasoned::of(stdout);
+        let status = match request {
+            Request::Sweep(options) if is_apart => self.sweep(options, &mut input, &mut out, err),
+            _ => command(
+                self.threads,
+                self.rt.alloc(),
+                self.words,
+                &mut input,
+                &mut out,
+                err,
+            ),
+        };
         input.tell_reason(err, name);
         out.tell_reason(err, "standard output");
         status
     }
 
-    /// Answers into a writer; a sweep tells on a terminal how far it is.
-    fn answer_into<R: Read, W: Write>(
+    /// Sweeps, and tells on the terminal how far it is, beside lines that go elsewhere.
+    fn sweep<R: Read, W: Write>(
         &self,
-        request: &Request,
+        options: &SweepOptions,
         reader: &mut R,
         out: &mut W,
         err: &mut Stderr,
     ) -> u8 {
-        let alloc = self.rt.alloc();
-        match request {
-            Request::Sweep(options) if err.is_terminal() => {
-                let mut told = Progress::new(out, self.rt.stderr(), self.rt, options.keys.count());
-                command(self.threads, alloc, self.words, reader, &mut told, err)
-            }
-            _ => command(self.threads, alloc, self.words, reader, out, err),
-        }
+        let mut told = Progress::new(out, self.rt.stderr(), self.rt, options.keys.count());
+        command(
+            self.threads,
+            self.rt.alloc(),
+            self.words,
+            reader,
+            &mut told,
+            err,
+        )
     }
 }

@@ -24,7 +24,7 @@ abbrev pub LeavesRefusal : Option (List ℕ) → Option (List ℕ) → List ℕ 
 LeavesRefusal old new text ended =
     (error : ScenarioError) × IsDue text error × Leaves old new (refusal_line error ++ codes "\n") Refused ended
 
--- a pulse that doesn't agree is told where that is to be checked
+-- status 3 if `--check` was given and a pulse has `agree no`
 abbrev pub lined_ending : Bool → Bool → Ending
 lined_ending check agrees = if check && not agrees then Violated else Done
 

@@ -25,7 +25,7 @@ abbrev pub told_text : Told → List ℕ
 told_text (Report line agrees) = line
 told_text (Refusal error) = refusal_line error ++ codes "\n"
 
--- a pulse that doesn't agree is told where that is to be checked
+-- status 3 if `--check` was given and a pulse has `agree no`
 abbrev pub told_ending : Bool → Told → Ending
 told_ending check (Report line agrees) = if check && not agrees then Violated else Done
 told_ending check (Refusal error) = Refused

@@ -15,8 +15,8 @@ pub data Stressed : Type 0 where
   Replayed : (history : List Entry) → Stressed
   Mismatch : Stressed
 
--- a history that is told leads a new bench to some state, loads accepted programs alone, and has the entries that are
--- asked for
+-- a printed history leads a new bench to some state, loads only accepted programs, and has the entries that the options
+-- ask for. `Mismatch` promises nothing
 abbrev pub IsStressed : StressOptions → Stressed → Type 0
 IsStressed asked (Replayed history) =
     HasReplay stressed_setup history × All StagesAccepted history
