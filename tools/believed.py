@@ -1,9 +1,9 @@
 #!/usr/bin/env python3
 """Counts what has to be believed: all lines of specs/, and the definitions that some names reach.
 
-    tools/believed.py [NAME ..]
+    tools/believed.py [--list] [NAME ..]
 
-With no names, those of the clauses `headline` and `replays` (theorem 1 of docs/THEOREMS.md), and once more with that of
+With --list it prints each definition that they reach, with its file and line. With no names, those of the clauses `headline` and `replays` (theorem 1 of docs/THEOREMS.md), and once more with that of
 the clause `accepted`. A definition is a paragraph of a file of specs/, with its comment; specs/inner/ is cited by proofs
 and private contracts alone, and counted apart.
 """
@@ -87,10 +87,23 @@ def reached_lines(names):
     return len(found), sum(map(len, found.values()))
 
 
+def places(names):
+    """File, line and name of each definition that these names reach, in the order of the files."""
+    for (module, name), lines in sorted(reached(modules(), names).items()):
+        crate, *inside = module.split(".")[1:]
+        path = ROOT.joinpath("crates", crate, *inside).with_suffix(".antt")
+        line = path.read_text(encoding="utf-8").split("\n".join(lines))[0].count("\n") + 1
+        yield f"{path.relative_to(ROOT)}:{line}: {name}"
+
+
 def main():
+    words = sys.argv[1:]
+    names = [it for it in words if it != "--list"]
     print("{} lines, and {} apart".format(*believed_lines()))
-    for names in [sys.argv[1:]] if sys.argv[1:] else [HEADLINE, ACCEPTED]:
-        print("{} definitions, {} lines: {}".format(*reached_lines(names), " ".join(names)))
+    for some in [names] if names else [HEADLINE, ACCEPTED]:
+        print("{} definitions, {} lines: {}".format(*reached_lines(some), " ".join(some)))
+    if "--list" in words:
+        print(*places(names or ACCEPTED), sep="\n")
 
 
 if __name__ == "__main__":

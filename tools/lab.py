@@ -34,6 +34,7 @@ PAGE = pathlib.Path(__file__).resolve().parent / "lab"
 EXAMPLES = TOP / "examples"
 # The program of a release archive, which has no crates: there it is no script.
 OF_ARCHIVE, ELF = TOP / "clockbed", b"\x7fELF"
+UNPROVED = TOP / "out/unproved/clockbed"
 KINDS = {".html": "text/html", ".css": "text/css", ".js": "text/javascript"}
 MIB = 1 << 20
 MAX_BODY, MAX_DRAINED, MAX_OUTPUT, MAX_SCENARIO = 2 * MIB, 8 * MIB, 64 * MIB, MIB
@@ -532,8 +533,11 @@ def found_program():
         path, fix = pathlib.Path(named), "CLOCKBED_PROGRAM has to name the program"
     elif OF_ARCHIVE.is_file() and OF_ARCHIVE.open("rb").read(len(ELF)) == ELF:
         path, fix = OF_ARCHIVE, "unpack the archive again"
+    elif UNPROVED.is_file() and not BUILT.is_file():
+        path, fix = UNPROVED, "remove it, and ./clockbed --version builds it again"
+        print("lab: its answers are from code that wasn't proved; ./clockbed --prove proves it", file=sys.stderr)
     else:
-        path, fix = BUILT, "./clockbed --prove builds it"
+        path, fix = BUILT, "./clockbed --version builds it without a proof, ./clockbed --prove with one"
     if not path.is_file() or not os.access(path, os.X_OK):
         sys.exit(f"lab: there is no program at {path}: {fix}")
     path = os.path.realpath(path)
