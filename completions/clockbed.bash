@@ -15,12 +15,12 @@ _clockbed() {
     return
   fi
   case ${COMP_WORDS[COMP_CWORD - 1]} in
-    --bytes | --coin | --contents | --depth | --from | --fuel | --id | --keys | --loaders | --loads | --mail | --memory | --nodes | --pulses | --start | --states | --until | --workers) return ;;
+    --bytes | --coin | --contents | --depth | --faults | --from | --fuel | --id | --keys | --loaders | --loads | --mail | --memory | --modulus | --nodes | --pulses | --start | --states | --until | --workers) return ;;
   esac
   case ${COMP_WORDS[1]} in
     exec) _clockbed_offer "--nodes --memory --fuel --id --mail --coin --contents --show --trace --help" files ;;
     asm) _clockbed_offer "--list --help" files ;;
-    dis) _clockbed_offer "--list --help" files ;;
+    dis) _clockbed_offer "--list --clock --nodes --faults --modulus --help" files ;;
     verify) _clockbed_offer "--nodes --memory --text --explain --all --help" files ;;
     run) _clockbed_offer "--workers --check --json --from --until --help" files ;;
     stress) _clockbed_offer "--loaders --loads --pulses --workers --help" ;;
