@@ -151,7 +151,7 @@ fn explore<'a>(alloc: Global, helps: &'a Helps) -> Building<'a> {
         alloc,
         "explore",
         "Explore all coins and all messages of --mail on a small bench",
-        "Example: clockbed explore examples/explore/three_nodes.toml\nPage: docs/EXPLORE.md",
+        "Example: clockbed explore examples/explore/four_nodes.toml\nPage: docs/EXPLORE.md",
     );
     with_states(alloc, explore)
         .arg(count_option(alloc, "states", helps.states.as_str(), MOST_STATES))
