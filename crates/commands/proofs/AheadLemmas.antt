@@ -1,12 +1,10 @@
 -- What a command does with the bytes that were read ahead of it, it does with its whole input.
-use Rattle.std.proofs.Common.{◌≡◌, ℕ, ◌≤◌, ◌<◌, ◌++◌, Bool, true, false, List, length, take, refl, sym, arith, subst, ap, ◌∙◌, inl, inr}
-use Rattle.std.specs.Prelude.{◌⊎◌, codes, Option, Some, None, IfNone, IfSome, Result, Ok, Err}
+use Rattle.std.proofs.Common.{◌≡◌, ℕ, ◌≤◌, ◌<◌, Bool, true, false, List, length, take, refl, sym, arith, subst, ap, ◌∙◌, inl, inr}
+use Rattle.std.specs.Prelude.{◌⊎◌, Option, Some, None, IfNone, IfSome, Result, Ok, Err}
 use Rattle.std.proofs.lemmas.Bool.{cases_lt}
 use Rattle.std.proofs.lemmas.List.{length-take-le, take_all, take-take}
 use Rattle.std.specs.Io.KnownBytes.{Keeps}
 use Rattle.key_sweep.specs.Keys.{Span as KeySpan}
-use Rattle.key_sweep.specs.Sweeps.{LeavesSweep}
-use Rattle.key_sweep.specs.declared.sweeping.SweepFault.TheVariants as sweeps
 use Rattle.run_lines.specs.Spans.{Span}
 use Rattle.scenario_text.specs.declared.limits.TheConstants.{MAX_TEXT}
 use Rattle.scenario_text.specs.declared.refusal.ScenarioError.{ScenarioError}
@@ -20,8 +18,6 @@ use Rattle.commands.specs.declared.fault.Fault.{Fault}
 use Rattle.commands.specs.declared.fault.Fault.TheVariants as faults
 use Rattle.commands.specs.declared.image.TheConstants.{IMAGE_BYTES}
 use Rattle.commands.specs.declared.request.ExecOptions.{ExecOptions}
-use Rattle.commands.specs.declared.request.ExploreOptions.{ExploreOptions}
-use Rattle.commands.specs.declared.request.ShapeOptions.{ShapeOptions}
 use Rattle.commands.specs.declared.request.Request.{Request}
 use Rattle.commands.specs.declared.request.Request.TheVariants.{Exec, Asm, Dis, Clock, Verify, Explain, Run, Lines, Stress, Sweep, Explore, Help}
 use Rattle.commands.specs.inner.Ahead.{FailsSo, IsFrontFor}
@@ -29,14 +25,14 @@ use Rattle.commands.specs.Dis.{LeavesListing}
 use Rattle.commands.specs.declared.answer.Answer.{Answer}
 use Rattle.commands.specs.Answer.{AnswersLeaving, ending_of, told_text as answer_text}
 use Rattle.commands.specs.Case.{Left}
-use Rattle.commands.specs.Exec.{LeavesAnswer, LeavesBy, LeavesExec}
+use Rattle.commands.specs.Exec.{LeavesBy, LeavesExec}
 use Rattle.commands.specs.Explained.{LeavesExplained, most_read}
 use Rattle.commands.specs.Explore.{LeavesExplored}
 use Rattle.commands.specs.Faults.{IsBeforeWriting}
 use Rattle.commands.specs.Lines.{LeavesJson}
 use Rattle.commands.specs.Output.{LeavesAny}
 use Rattle.commands.specs.Perform.{CarriesOut}
-use Rattle.commands.specs.Run.{IsTold, LeavesTold, Refusal, Report, Told, WantsThread, told_ending, told_text}
+use Rattle.commands.specs.Run.{IsTold, LeavesTold, Refusal, Report, Told, WantsThread}
 use Rattle.commands.specs.Sweep.{LeavesSwept, LeavesUnswept}
 use Rattle.commands.specs.Sweep as unswept
 use Rattle.commands.specs.Verdict.{LeavesVerdict}

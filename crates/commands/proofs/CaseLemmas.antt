@@ -1,5 +1,5 @@
 -- What `exec` answers and leaves, from the run in the case that is asked for.
-use Rattle.std.proofs.Common.{◌≡◌, ◌≤◌, ◌∙◌, ◌++◌, arith, length, ℕ, List, take, Option, Some, None, Result, Ok, Err, IfOk, IfSome, refl, sym, subst}
+use Rattle.std.proofs.Common.{◌≡◌, ◌≤◌, ◌∙◌, ◌++◌, arith, length, ℕ, List, take, Option, Some, None, Result, Ok, Err, IfOk, IfSome, refl, subst}
 use Rattle.std.proofs.lemmas.List.{take-append-le, take_all}
 use Rattle.std.specs.Ordering.{nat_cmp}
 use Rattle.std.specs.FinMap.{FinMap}

@@ -1,4 +1,4 @@
-use Rattle.std.proofs.Common.{ℕ, List, take}
+use Rattle.std.proofs.Common.{take}
 use Rattle.commands.specs.declared.answer.Answer.{Answer}
 use Rattle.commands.specs.declared.image.TheConstants.{IMAGE_BYTES}
 use Rattle.commands.specs.Answer.{AnswersLeaving, ending_of, told_text}

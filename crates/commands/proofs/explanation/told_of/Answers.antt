@@ -1,4 +1,3 @@
-use Rattle.std.proofs.Common.{◌≡◌}
 use Rattle.commands.proofs.explanation.told_of.Goals as goal
 
 pub returns-then-options-clause-told : goal.returns-then-options-clause-told

@@ -1,5 +1,4 @@
 use Rattle.std.proofs.Common.{Err, Ok, ap, sym, ◌∙◌}
-use Rattle.commands.specs.Perform.{Performs}
 use Rattle.commands.proofs.AheadLemmas.{found_end, unfound_end, unread_carried}
 use Rattle.commands.proofs.perform.perform.Goals as goal
 use Rattle.commands.proofs.perform.perform.Goals.{in-Some, in-None}

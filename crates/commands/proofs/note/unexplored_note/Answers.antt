@@ -1,0 +1,38 @@
+use Rattle.std.proofs.Common.{refl}
+use Rattle.std.specs.Prelude.{codes}
+use Rattle.commands.proofs.note.unexplored_note.Goals as goal
+
+pub returns-in-Coins : goal.returns-in-Coins
+returns-in-Coins g = record {
+  words = codes "explore tries both coins of each node: write coins = \"zeros\", without a key";
+  one_line = refl;
+  line_is = refl;
+}
+
+pub returns-in-Load : goal.returns-in-Load
+returns-in-Load g = record {
+  words = codes "explore takes loads of pulse 1 alone: a correct node keeps its program";
+  one_line = refl;
+  line_is = refl;
+}
+
+pub returns-in-Unload : goal.returns-in-Unload
+returns-in-Unload g = record {
+  words = codes "explore takes no [[unload]]: a correct node keeps its program";
+  one_line = refl;
+  line_is = refl;
+}
+
+pub returns-in-Corrupt : goal.returns-in-Corrupt
+returns-in-Corrupt g = record {
+  words = codes "explore takes no [[corrupt]]: --start any tries other initial memories";
+  one_line = refl;
+  line_is = refl;
+}
+
+pub returns-in-Coin : goal.returns-in-Coin
+returns-in-Coin g = record {
+  words = codes "explore takes no [[coin]]: it tries both coins of each node";
+  one_line = refl;
+  line_is = refl;
+}
