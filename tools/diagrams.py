@@ -232,13 +232,13 @@ def draw_violation(canvas):
 
 
 def draw_lasso(canvas):
-    first, second, again = clocks_below("# pulses 3 to 4 repeat")
+    first, second, again = clocks_below("# pulses 2 to 3 repeat")
     assert first == again
     canvas.text((440, 28), "Synchronisation prevented for ever", Style(size=14, weight="bold", anchor="start"))
     canvas.arrow((440, STATES_Y), (484, STATES_Y), Style(GREY))
     draw_clocks_at(canvas, 520, first, PLAIN)
     draw_clocks_at(canvas, 680, second, PLAIN)
-    for side, begin, end, pulse in ((-1, 545, 655, 3), (1, 655, 545, 4)):
+    for side, begin, end, pulse in ((-1, 545, 655, 2), (1, 655, 545, 3)):
         y = STATES_Y + 23 * side
         canvas.path(f"M{begin} {y}Q600 {STATES_Y + 64 * side} {end} {y}", Style(ORANGE))
         canvas.text((600, STATES_Y + 4 + 56 * side), f"pulse {pulse}", Style(ORANGE, size=12))

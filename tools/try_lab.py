@@ -732,10 +732,9 @@ def try_exploration(trial, page):
 
 
 def held_off():
-    """A clock of one's own that one Byzantine node keeps from synchronising for ever."""
-    words = [sys.executable, str(TOP / "tools/own_clock.py"), "greatest", "3", "1", "2"]
-    clock = subprocess.run(words, capture_output=True, check=True, text=True).stdout
-    head = explored(4).replace("nodes = 4", "version = 3\nnodes = 3").replace("modulus = 2000", "modulus = 2")
+    """A clock of one's own that counts by two, so that it never synchronises."""
+    clock = "ldxw r7, [r1+0]\nadd64 r7, 2\nmod64 r7, 4\nstxw [r1+0], r7\nmov64 r0, 0\nexit\n"
+    head = explored(4).replace("nodes = 4", "version = 3\nnodes = 3").replace("modulus = 2000", "modulus = 4")
     return head.replace("\n\n", f"\nclock = '''\n{clock}'''\n\n", 1).replace("[0, 1, 2]", "[0, 1]")
 
 

@@ -1,6 +1,7 @@
 //! What `explore` answers to the scenario that it read, and the line that says it.
 ghost use Rattle.std.specs.Prelude.{◌≡◌, ◌++◌, IfOk, OnOk, Some, option_map, string_bytes};
-ghost use Rattle.commands.specs.Explore.{agreement_text, cause_text, mail_text, marked, nodes_text, recovery_ending, recovery_text, span_text, spans_text, start_text, tried_text, unfit_name};
+ghost use Rattle.commands.specs.Explore.{agreement_text, cause_text, correct_text, count_text, finding_text, found_ending, found_text, liars_text, mark_of, marked, nodes_text, programmed_text, recovery_ending, recovery_text, shown_of, span_text, spans_text, start_text, tried_text, unfit_name};
+ghost use Rattle.commands.specs.declared.finding.Finding.TheVariants.{Searched};
 
 use crate::ending::Ending;
 use crate::request::MailSpan;
@@ -21,30 +22,36 @@ pub enum Unfit {
     Corrupt,
     /// A coin for a node.
     Coin,
+    /// No node is loaded.
+    Unloaded,
 }
 
-/// What was tried beside both coins.
+/// Who is who, and what was tried beside both coins.
 #[derive(Debug, Drop)]
 pub struct Tried {
-    /// The nodes that lie.
+    pub correct: Vec<u32>,
+    /// Whether the correct nodes run the clock. Otherwise no node does, and they are all that are loaded.
+    pub has_clock: bool,
+    /// The Byzantine nodes that have programs.
+    pub programmed: Vec<u32>,
+    /// Those that have none.
     pub liars: Vec<u32>,
-    /// The numbers that they send.
+    /// How many faults the rule allows for.
+    pub faults: u32,
+    /// The numbers that nodes without a program send.
     pub mail: Vec<MailSpan>,
-    /// The bytes of memories at the start, where it isn't at zero.
+    /// The bytes of memories at the start, if it isn't at zero.
     pub bytes: Option<Vec<u8>>,
 }
 
-/// Why nothing is explored, or what was found.
+/// What was found.
 #[derive(Debug, Drop)]
-pub enum Finding {
-    Refused(ScenarioError),
-    Unfit(Unfit),
-    /// Agreement holds where this was tried; and how the clocks stabilise, with the text of a counterexample where that
-    /// can be prevented and one was made.
+pub enum Found {
+    /// Agreement holds where this was tried; and how the clocks stabilise, with the text of a counterexample if that can
+    /// be prevented and one was made.
     Never {
         states: u64,
         moves: u64,
-        tried: Tried,
         recovery: Recovery,
         shown: Option<String>,
     },
@@ -59,6 +66,14 @@ pub enum Finding {
         states: u64,
         cause: Cause,
     },
+}
+
+/// Why nothing is explored, or what was tried and found.
+#[derive(Debug, Drop)]
+pub enum Finding {
+    Refused(ScenarioError),
+    Unfit(Unfit),
+    Searched { tried: Tried, found: Found },
 }
 
 /// How the command ends that found agreement, and this of stabilisation.
@@ -82,9 +97,20 @@ impl Finding {
     {
         match self {
             Finding::Refused(_) | Finding::Unfit(_) => Ending::Refused,
-            Finding::Never { recovery, .. } => recovery_ending(recovery),
-            Finding::Parts { .. } => Ending::Violated,
-            Finding::Unfinished { .. } => Ending::Unfinished,
+            Finding::Searched { found, .. } => found.ending(),
+        }
+    }
+}
+
+impl Found {
+    /// How the command ends that found this.
+    fn ending(&self) -> Ending
+        ensures { result ≡ found_ending self.now }
+    {
+        match self {
+            Found::Never { recovery, .. } => recovery_ending(recovery),
+            Found::Parts { .. } => Ending::Violated,
+            Found::Unfinished { .. } => Ending::Unfinished,
         }
     }
 }
@@ -114,6 +140,7 @@ impl fmt::Display for Unfit {
             Unfit::Unload => write!(f, "unload"),
             Unfit::Corrupt => write!(f, "corrupt"),
             Unfit::Coin => write!(f, "coin"),
+            Unfit::Unloaded => write!(f, "NoCorrectNode"),
         }
     }
 }
@@ -151,18 +178,56 @@ fn add_spans(alloc: Global, text: &mut String, mail: &[MailSpan]) -> Result<(), 
     Ok(())
 }
 
-/// The Byzantine nodes and what each may send, after a blank.
-fn mail_line(alloc: Global, tried: &Tried) -> Result<String, AllocError>
-    ensures { IfOk result (λ text. string_bytes text ≡ mail_text tried.now.liars.items tried.now.mail.items) }
+/// The correct nodes, and that they are all that are loaded if no node runs the clock.
+fn correct_line(alloc: Global, nodes: &[u32], has_clock: bool) -> Result<String, AllocError>
+    ensures { IfOk result (λ text. string_bytes text ≡ correct_text nodes.now has_clock) }
 {
-    if tried.liars.len() == 0 {
-        return String::from_str(alloc, " none");
+    let mut named = String::new(alloc);
+    add_nodes(alloc, &mut named, nodes)?;
+    if has_clock {
+        format!(in alloc; "correct{named}")
+    } else {
+        format!(in alloc; "correct{named} (no node runs the clock, so all that are loaded)")
     }
-    let mut nodes = String::new(alloc);
-    add_nodes(alloc, &mut nodes, &tried.liars)?;
+}
+
+/// The Byzantine nodes that have programs.
+fn programmed_line(alloc: Global, nodes: &[u32]) -> Result<String, AllocError>
+    ensures { IfOk result (λ text. string_bytes text ≡ programmed_text nodes.now) }
+{
+    if nodes.len() == 0 {
+        return Ok(String::new(alloc));
+    }
+    let mut named = String::new(alloc);
+    add_nodes(alloc, &mut named, nodes)?;
+    format!(in alloc; ", Byzantine{named} (as loaded)")
+}
+
+/// Those that have none, and what each may send.
+fn liars_line(alloc: Global, nodes: &[u32], mail: &[MailSpan]) -> Result<String, AllocError>
+    ensures { IfOk result (λ text. string_bytes text ≡ liars_text nodes.now mail.now) }
+{
+    if nodes.len() == 0 {
+        return Ok(String::new(alloc));
+    }
+    let mut named = String::new(alloc);
+    add_nodes(alloc, &mut named, nodes)?;
     let mut spans = String::new(alloc);
-    add_spans(alloc, &mut spans, &tried.mail)?;
-    format!(in alloc; "{nodes}: none{spans}")
+    add_spans(alloc, &mut spans, mail)?;
+    format!(in alloc; ", Byzantine{named} (any message of none{spans})")
+}
+
+/// How many Byzantine nodes there are, if there is none, or more than the rule allows for.
+fn count_line(alloc: Global, count: usize, faults: u32) -> Result<String, AllocError>
+    ensures { IfOk result (λ text. string_bytes text ≡ count_text count faults) }
+{
+    if count == 0 {
+        format!(in alloc; ", no Byzantine node")
+    } else if count as u64 > u64::from(faults) {
+        format!(in alloc; ", more Byzantine nodes than faults ({faults})")
+    } else {
+        Ok(String::new(alloc))
+    }
 }
 
 /// The bytes of memories at the start, where it isn't at zero.
@@ -179,26 +244,24 @@ fn start_line(alloc: Global, bytes: &Option<Vec<u8>>) -> Result<String, AllocErr
     }
 }
 
-/// The coins, the messages and the starts that were tried.
+/// Who is who, and what was tried.
 fn tried_line(alloc: Global, tried: &Tried) -> Result<String, AllocError>
     ensures { IfOk result (λ text. string_bytes text ≡ tried_text tried.now) }
 {
-    let mail = mail_line(alloc, tried)?;
+    let count = tried.programmed.len().saturating_add(tried.liars.len());
+    let correct = correct_line(alloc, &tried.correct, tried.has_clock)?;
+    let programmed = programmed_line(alloc, &tried.programmed)?;
+    let liars = liars_line(alloc, &tried.liars, &tried.mail)?;
+    let count = count_line(alloc, count, tried.faults)?;
     let start = start_line(alloc, &tried.bytes)?;
-    format!(in alloc; "coins 0 1, messages of Byzantine nodes{mail}{start}")
+    format!(in alloc; "{correct}{programmed}{liars}{count}{start}")
 }
 
 /// That agreement holds.
-fn agreement_line(
-    alloc: Global,
-    states: u64,
-    moves: u64,
-    tried: &Tried,
-) -> Result<String, AllocError>
-    ensures { IfOk result (λ text. string_bytes text ≡ agreement_text states moves tried.now) }
+fn agreement_line(alloc: Global, states: u64, moves: u64) -> Result<String, AllocError>
+    ensures { IfOk result (λ text. string_bytes text ≡ agreement_text states moves) }
 {
-    let tried = tried_line(alloc, tried)?;
-    format!(in alloc; "agreement holds: {states} states, {moves} transitions, {tried}")
+    format!(in alloc; "agreement holds: {states} states, {moves} transitions")
 }
 
 /// How the clocks stabilise.
@@ -243,78 +306,94 @@ fn marked(alloc: Global, mark: &str, line: &str) -> Result<String, AllocError>
     format!(in alloc; "{mark}{line}\n")
 }
 
-impl Finding {
-    ghost use Rattle.commands.specs.Explore.{finding_line, finding_text, mark_of, second_of, shown_of};
+/// That agreement holds and how the clocks stabilise, each behind the mark.
+fn holds_text(
+    alloc: Global,
+    mark: &str,
+    states: u64,
+    moves: u64,
+    recovery: &Recovery,
+) -> Result<String, AllocError>
+    ensures { IfOk result (λ text. string_bytes text
+        ≡ marked mark.now (agreement_text states moves) ++ marked mark.now (recovery_text recovery.now)) }
+{
+    let agreement = agreement_line(alloc, states, moves)?;
+    let mut text = marked(alloc, mark, agreement.as_str())?;
+    let recovery = recovery_line(alloc, recovery)?;
+    let second = marked(alloc, mark, recovery.as_str())?;
+    text.push_str(second.as_str())?;
+    Ok(text)
+}
 
-    /// The first line, without its end.
-    fn line(&self, alloc: Global) -> Result<String, AllocError>
-        ensures { IfOk result (λ text. string_bytes text ≡ finding_line self.now) }
-    {
-        match self {
-            Finding::Refused(error) => format!(in alloc; "{}", RefusalLine(error)),
-            Finding::Unfit(unfit) => format!(in alloc; "refused explore {unfit}"),
-            Finding::Never {
-                states,
-                moves,
-                tried,
-                ..
-            } => agreement_line(alloc, *states, *moves, tried),
-            Finding::Parts { pulse, states, .. } => format!(in alloc;
-                "agreement violated in pulse {pulse} ({states} states); a counterexample follows"
-            ),
-            Finding::Unfinished { states, cause } => {
-                let cause = cause_line(alloc, *cause)?;
-                format!(in alloc; "not finished: {states} states; {cause}")
-            }
-        }
-    }
-
-    /// The counterexample, where there is one.
+impl Found {
+    /// The counterexample, if there is one.
     fn shown(&self) -> &str
         ensures { result.now ≡ shown_of self.now }
     {
         match self {
-            Finding::Parts { shown, .. } => shown.as_str(),
-            Finding::Never { shown, .. } => match shown {
+            Found::Parts { shown, .. } => shown.as_str(),
+            Found::Never { shown, .. } => match shown {
                 Some(shown) => shown.as_str(),
                 None => "",
             },
-            Finding::Refused(_) | Finding::Unfit(_) | Finding::Unfinished { .. } => "",
+            Found::Unfinished { .. } => "",
         }
     }
 
-    /// What makes a line a comment of the counterexample, where there is one.
+    /// What makes a line a comment of the counterexample, if there is one.
     fn mark(&self) -> &str
         ensures { result.now ≡ mark_of (shown_of self.now) }
     {
         if self.shown().len() == 0 { "" } else { "# " }
     }
 
-    /// How the clocks stabilise, where agreement holds.
-    fn second(&self, alloc: Global) -> Result<String, AllocError>
-        ensures { IfOk result (λ text. string_bytes text ≡ second_of self.now) }
+    /// What was found, in a line or two, each behind the mark.
+    fn text(&self, alloc: Global, mark: &str) -> Result<String, AllocError>
+        ensures { IfOk result (λ text. string_bytes text ≡ found_text mark.now self.now) }
     {
         match self {
-            Finding::Never { recovery, .. } => {
-                let line = recovery_line(alloc, recovery)?;
-                marked(alloc, self.mark(), line.as_str())
+            Found::Never {
+                states,
+                moves,
+                recovery,
+                ..
+            } => holds_text(alloc, mark, *states, *moves, recovery),
+            Found::Parts { pulse, states, .. } => {
+                let line = format!(in alloc;
+                    "agreement violated in pulse {pulse} ({states} states); a counterexample follows"
+                )?;
+                marked(alloc, mark, line.as_str())
             }
-            Finding::Refused(_)
-            | Finding::Unfit(_)
-            | Finding::Parts { .. }
-            | Finding::Unfinished { .. } => Ok(String::new(alloc)),
+            Found::Unfinished { states, cause } => {
+                let cause = cause_line(alloc, *cause)?;
+                let line = format!(in alloc; "not finished: {states} states; {cause}")?;
+                marked(alloc, mark, line.as_str())
+            }
         }
     }
+}
 
-    /// Returns the line or two with their ends, and the counterexample.
+/// The lines of what was tried and found, with the counterexample if there is one.
+fn searched_text(alloc: Global, tried: &Tried, found: &Found) -> Result<String, AllocError>
+    ensures { IfOk result (λ text. string_bytes text ≡ finding_text (Searched tried.now found.now)) }
+{
+    let tried = tried_line(alloc, tried)?;
+    let mut text = marked(alloc, found.mark(), tried.as_str())?;
+    let lines = found.text(alloc, found.mark())?;
+    text.push_str(lines.as_str())?;
+    text.push_str(found.shown())?;
+    Ok(text)
+}
+
+impl Finding {
+    /// Returns the lines with their ends, and the counterexample if there is one.
     pub fn text(&self, alloc: Global) -> Result<String, AllocError>
         ensures { IfOk result (λ text. string_bytes text ≡ finding_text self.now) }
     {
-        let line = self.line(alloc)?;
-        let mut text = marked(alloc, self.mark(), line.as_str())?;
-        let second = self.second(alloc)?;
-        text.push_str(second.as_str())?;
-        text.push_str(self.shown())?;
-        Ok(text)
+        match self {
+            Finding::Refused(error) => format!(in alloc; "{}\n", RefusalLine(error)),
+            Finding::Unfit(unfit) => format!(in alloc; "refused explore {unfit}\n"),
+            Finding::Searched { tried, found } => searched_text(alloc, tried, found),
+        }
     }
 }
