@@ -36,3 +36,10 @@ returns-in-Coin g = record {
   one_line = refl;
   line_is = refl;
 }
+
+pub returns-in-Unloaded : goal.returns-in-Unloaded
+returns-in-Unloaded g = record {
+  words = codes "explore needs a node with a program: add a [[load]] of pulse 1";
+  one_line = refl;
+  line_is = refl;
+}
