@@ -12,8 +12,8 @@ use command_words::{
 };
 use commands::Fault;
 use commands::request::{
-    ClockOptions, ClockRule, Detail, ExplainOptions, ExploreOptions, LinesOptions, Request,
-    RunOptions, ShapeOptions, StressOptions, SweepOptions,
+    ClockOptions, ClockRule, CompileOptions, Detail, ExplainOptions, ExploreOptions, LinesOptions,
+    Request, RunOptions, ShapeOptions, StressOptions, SweepOptions,
 };
 use key_sweep::KeySpan;
 use run_lines::PulseSpan;
@@ -94,6 +94,7 @@ fn request_in(
         "asm" => Ok(Request::Asm {
             list: options.get_flag("list"),
         }),
+        "compile" => Ok(Request::Compile(compile_options(options))),
         "dis" => dis_request(options),
         "verify" => Ok(verify_request(options)),
         "run" => run_request(options),
@@ -139,6 +140,14 @@ fn detail(options: &ArgMatches<'_>) -> Option<Detail> {
         Some(Detail::All)
     } else {
         Some(Detail::Read)
+    }
+}
+
+fn compile_options(options: &ArgMatches<'_>) -> CompileOptions {
+    CompileOptions {
+        shape: shape_options(options),
+        faults: options.get_one::<u32>("faults").unwrap_or(DEFAULT_FAULTS),
+        modulus: options.get_one::<u32>("modulus").unwrap_or(DEFAULT_MODULUS),
     }
 }
 

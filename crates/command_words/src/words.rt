@@ -20,6 +20,7 @@ pub fn command_line<'a>(alloc: Global, helps: &'a Helps) -> Result<Command<'a>, 
     clockbed(alloc)
         .subcommand(exec(alloc, helps))
         .subcommand(asm(alloc))
+        .subcommand(compile(alloc, helps))
         .subcommand(dis(alloc, helps))
         .subcommand(verify(alloc, helps))
         .subcommand(run(alloc, helps))
@@ -51,6 +52,28 @@ fn asm<'a>(alloc: Global) -> Building<'a> {
     )
     .arg(flag(alloc, "list", LIST))
     .arg(file(alloc))
+}
+
+/// The command `compile` with its options.
+fn compile<'a>(alloc: Global, helps: &'a Helps) -> Building<'a> {
+    let compile = Building::named(
+        alloc,
+        "compile",
+        "Print the image of a rule",
+        "Example: clockbed compile examples/rules/clock.rule > clock.bpf\nPage: docs/RULES.md",
+    );
+    with_shape(alloc, compile, helps)
+        .arg(within(
+            text_option(alloc, "faults", "COUNT", helps.faults.as_str()),
+            0,
+            MAX_NODES - 1,
+        ))
+        .arg(within(
+            text_option(alloc, "modulus", "COUNT", helps.modulus.as_str()),
+            LEAST_MODULUS,
+            MOST_MODULUS,
+        ))
+        .arg(file(alloc))
 }
 
 /// The command `dis`.

@@ -19,7 +19,7 @@ use Rattle.commands.specs.declared.fault.Fault.TheVariants as faults
 use Rattle.commands.specs.declared.image.TheConstants.{IMAGE_BYTES}
 use Rattle.commands.specs.declared.request.ExecOptions.{ExecOptions}
 use Rattle.commands.specs.declared.request.Request.{Request}
-use Rattle.commands.specs.declared.request.Request.TheVariants.{Exec, Asm, Dis, Clock, Verify, Explain, Run, Lines, Stress, Sweep, Explore, Help}
+use Rattle.commands.specs.declared.request.Request.TheVariants.{Exec, Asm, Compile, Dis, Clock, Verify, Explain, Run, Lines, Stress, Sweep, Explore, Help}
 use Rattle.commands.specs.inner.Ahead.{FailsSo, IsFrontFor}
 use Rattle.commands.specs.Dis.{LeavesListing}
 use Rattle.commands.specs.declared.answer.Answer.{Answer}
@@ -195,6 +195,7 @@ front_carried (Explore asked) input bytes old new ended taken left =
 front_carried (Explain asked) input bytes old new ended taken left =
     subst (λ b. LeavesExplained old new asked b ended) (within (most_read asked.text) bytes input taken) left
 front_carried (Asm list) input bytes old new ended taken left = absurd taken
+front_carried (Compile asked) input bytes old new ended taken left = absurd taken
 front_carried (Stress asked) input bytes old new ended taken left = absurd taken
 front_carried (Clock options) input bytes old new ended taken left = absurd taken
 front_carried (Help text) input bytes old new ended taken left = absurd taken
@@ -210,6 +211,7 @@ unknown_carried (Sweep asked) bytes old new ended left = tt
 unknown_carried (Explore asked) bytes old new ended left = tt
 unknown_carried (Explain asked) bytes old new ended left = tt
 unknown_carried (Asm list) bytes old new ended left = tt
+unknown_carried (Compile asked) bytes old new ended left = tt
 unknown_carried (Stress asked) bytes old new ended left = left
 unknown_carried (Clock options) bytes old new ended left = left
 unknown_carried (Help text) bytes old new ended left = left
@@ -271,6 +273,7 @@ unread_known (Sweep asked) input old fault fails = unread_swept old input asked.
 unread_known (Explore asked) input old fault fails = unread_any _ _ (λ a. Done) old fault fails
 unread_known (Explain asked) input old fault fails = unread_any _ _ (λ a. Done) old fault fails
 unread_known (Asm list) input old fault fails = absurd fails
+unread_known (Compile asked) input old fault fails = absurd fails
 unread_known (Stress asked) input old fault fails = absurd fails
 unread_known (Clock options) input old fault fails = absurd fails
 unread_known (Help text) input old fault fails = absurd fails
@@ -287,6 +290,7 @@ unread_carried (Sweep asked) None old fault fails = tt
 unread_carried (Explore asked) None old fault fails = tt
 unread_carried (Explain asked) None old fault fails = tt
 unread_carried (Asm list) None old fault fails = absurd fails
+unread_carried (Compile asked) None old fault fails = absurd fails
 unread_carried (Stress asked) None old fault fails = absurd fails
 unread_carried (Clock options) None old fault fails = absurd fails
 unread_carried (Help text) None old fault fails = absurd fails

@@ -1,6 +1,7 @@
 pub mod Answer
 pub mod Asm
 pub mod Case
+pub mod Compile
 pub mod Dis
 pub mod Ending
 pub mod Exec

@@ -8,8 +8,9 @@ use Rattle.commands.specs.declared.fault.Fault.{Fault}
 use Rattle.commands.specs.declared.image.TheConstants.{IMAGE_BYTES}
 use Rattle.commands.specs.declared.request.ShapeOptions.{ShapeOptions}
 use Rattle.commands.specs.declared.request.Request.{Request}
-use Rattle.commands.specs.declared.request.Request.TheVariants.{Exec, Asm, Dis, Clock, Verify, Explain, Run, Lines, Stress, Sweep, Explore, Help}
+use Rattle.commands.specs.declared.request.Request.TheVariants.{Exec, Asm, Compile, Dis, Clock, Verify, Explain, Run, Lines, Stress, Sweep, Explore, Help}
 use Rattle.commands.specs.Asm.{LeavesImage}
+use Rattle.commands.specs.Compile.{LeavesCompiled}
 use Rattle.commands.specs.Dis.{LeavesClock, LeavesListing}
 use Rattle.commands.specs.Ending.{status_of}
 use Rattle.commands.specs.Exec.{LeavesExec}
@@ -32,6 +33,8 @@ CarriesOut (Exec asked) input old new ended = IfSome input
     (λ bytes. LeavesExec old new asked (take IMAGE_BYTES bytes) ended)
 CarriesOut (Asm list) input old new ended = IfSome input
     (λ bytes. LeavesImage old new list (take (TEXT_BYTES + 1) bytes) ended)
+CarriesOut (Compile asked) input old new ended = IfSome input
+    (λ bytes. LeavesCompiled old new asked (take (TEXT_BYTES + 1) bytes) ended)
 CarriesOut (Dis list) input old new ended = IfSome input
     (λ bytes. LeavesListing old new list (take IMAGE_BYTES bytes) ended)
 CarriesOut (Clock asked) input old new ended = LeavesClock old new asked ended
@@ -82,6 +85,7 @@ TakesShaped asked old new = TakesAtMost IMAGE_BYTES old new × ((HasShape asked 
 abbrev pub TakesFor : Request → Option (List ℕ) → Option (List ℕ) → Type 0
 TakesFor (Exec asked) old new = TakesShaped asked.shape old new
 TakesFor (Asm list) old new = TakesAtMost (TEXT_BYTES + 1) old new
+TakesFor (Compile asked) old new = TakesAtMost (TEXT_BYTES + 1) old new
 TakesFor (Dis list) old new = TakesAtMost IMAGE_BYTES old new
 TakesFor (Clock asked) old new = new ≡ old
 TakesFor (Verify asked) old new = TakesShaped asked old new

@@ -37,9 +37,11 @@ pub(crate) fn read_ahead<R: Read>(
         Request::Run(_) | Request::Lines(_) | Request::Sweep(_) | Request::Explore(_) => {
             Ok(Some(read_text(alloc, reader)?))
         }
-        Request::Asm { .. } | Request::Clock(_) | Request::Stress(_) | Request::Help { .. } => Ok(
-            None,
-        ),
+        Request::Asm { .. }
+        | Request::Compile(_)
+        | Request::Clock(_)
+        | Request::Stress(_)
+        | Request::Help { .. } => Ok(None),
     }
 }
 

@@ -5,6 +5,7 @@ mod ahead;
 mod answer;
 pub mod asm;
 mod case;
+pub mod compile;
 pub mod dis;
 mod ending;
 pub mod exec;

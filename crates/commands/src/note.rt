@@ -56,7 +56,11 @@ fn tell_note<E: Write>(alloc: Global, request: &Request, input: &[u8], err: &mut
         Request::Run(_) | Request::Lines(_) | Request::Sweep(_) | Request::Explore(_) => {
             tell_scenario_note(alloc, request, input, err);
         }
-        Request::Asm { .. } | Request::Clock(_) | Request::Stress(_) | Request::Help { .. } => {}
+        Request::Asm { .. }
+        | Request::Compile(_)
+        | Request::Clock(_)
+        | Request::Stress(_)
+        | Request::Help { .. } => {}
     }
 }
 
@@ -112,6 +116,7 @@ fn tell_unfit_note<E: Write>(request: &Request, scenario: &Scenario, err: &mut E
         }
         Request::Exec(_)
         | Request::Asm { .. }
+        | Request::Compile(_)
         | Request::Dis { .. }
         | Request::Clock(_)
         | Request::Verify(_)
@@ -136,7 +141,8 @@ fn unexplored_note(unfit: Unfit) -> &'static [u8]
         Unfit::Corrupt =>
             b"note: explore takes no [[corrupt]]: --start any tries other initial memories\n",
         Unfit::Coin => b"note: explore takes no [[coin]]: it tries both coins of each node\n",
-        Unfit::Unloaded => b"note: explore needs a node with a program: add a [[load]] of pulse 1\n",
+        Unfit::Unloaded =>
+            b"note: explore needs a node with a program: add a [[load]] of pulse 1\n",
     }
 }
 

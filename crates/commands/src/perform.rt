@@ -4,6 +4,7 @@ ghost use Rattle.commands.specs.Perform.{CarriesOut, Performs, TakesFor};
 
 use crate::ahead::read_ahead;
 use crate::asm::asm;
+use crate::compile::compile;
 use crate::dis::{clock, dis};
 use crate::ending::Ending;
 use crate::exec::exec;
@@ -89,6 +90,7 @@ fn carry_out<T: Threads + Wait + Sync, R: Read, W: Write>(
     match request {
         Request::Exec(options) => exec(alloc, options, reader, out),
         Request::Asm { list } => asm(alloc, *list, reader, out),
+        Request::Compile(options) => compile(alloc, *options, reader, out),
         Request::Dis { list } => dis(alloc, *list, reader, out),
         Request::Clock(options) => clock(alloc, *options, out),
         Request::Verify(options) => verify(alloc, *options, reader, out),

@@ -14,6 +14,8 @@ pub enum Request {
     Exec(ExecOptions),
     /// `asm`: the image of a text, or its listing.
     Asm { list: bool },
+    /// `compile`: the image of a rule.
+    Compile(CompileOptions),
     /// `dis`: the text of an image, or its listing.
     Dis { list: bool },
     /// `dis --clock`: the text of the clock of a rule, or its listing.
@@ -37,6 +39,14 @@ pub struct ShapeOptions {
     pub nodes: u32,
     /// The bytes of a node's memory.
     pub memory: u32,
+}
+
+/// The options of `compile`. They may make no shape and no rule of clocks.
+#[derive(Clone, Copy, Debug, PartialEq, Eq)]
+pub struct CompileOptions {
+    pub shape: ShapeOptions,
+    pub faults: u32,
+    pub modulus: u32,
 }
 
 /// The options of `dis --clock`.

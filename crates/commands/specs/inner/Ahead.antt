@@ -4,7 +4,7 @@ use Rattle.bench_scenario.specs.declared.run.TheConstants.{MOST_BYTES}
 use Rattle.commands.specs.declared.fault.Fault.{Fault}
 use Rattle.commands.specs.declared.image.TheConstants.{IMAGE_BYTES}
 use Rattle.commands.specs.declared.request.Request.{Request}
-use Rattle.commands.specs.declared.request.Request.TheVariants.{Exec, Asm, Dis, Clock, Verify, Explain, Run, Lines, Stress, Sweep, Explore, Help}
+use Rattle.commands.specs.declared.request.Request.TheVariants.{Exec, Asm, Compile, Dis, Clock, Verify, Explain, Run, Lines, Stress, Sweep, Explore, Help}
 use Rattle.commands.specs.Explained.{most_read}
 use Rattle.commands.specs.Faults.{IsBeforeWriting}
 
@@ -19,6 +19,7 @@ IsFrontFor (Sweep asked) bytes input = bytes ≡ take MOST_BYTES input
 IsFrontFor (Explore asked) bytes input = bytes ≡ take MOST_BYTES input
 IsFrontFor (Explain asked) bytes input = bytes ≡ take (most_read asked.text) input
 IsFrontFor (Asm list) bytes input = ⊥
+IsFrontFor (Compile asked) bytes input = ⊥
 IsFrontFor (Stress asked) bytes input = ⊥
 IsFrontFor (Clock options) bytes input = ⊥
 IsFrontFor (Help text) bytes input = ⊥
@@ -34,6 +35,7 @@ FailsSo (Sweep asked) fault = IsBeforeWriting fault
 FailsSo (Explore asked) fault = IsBeforeWriting fault
 FailsSo (Explain asked) fault = IsBeforeWriting fault
 FailsSo (Asm list) fault = ⊥
+FailsSo (Compile asked) fault = ⊥
 FailsSo (Stress asked) fault = ⊥
 FailsSo (Clock options) fault = ⊥
 FailsSo (Help text) fault = ⊥

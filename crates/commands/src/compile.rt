@@ -1,0 +1,176 @@
+//! `compile`: the image of the rule on standard input.
+ghost use Rattle.std.specs.Prelude.{◌≡◌, Some, IfOk, IfErr, IfSome, take};
+ghost use Rattle.stream_io.specs.Streams.{TakesAtMost};
+ghost use Rattle.commands.specs.declared.asm.TheConstants.{TEXT_BYTES};
+ghost use Rattle.commands.specs.Compile.{Compiles, LeavesCompiled, MakesCode, compiled_ending, compiled_text, error_name, uncompiled_line};
+ghost use Rattle.commands.specs.Faults.{IsBeforeWriting};
+ghost use Rattle.commands.specs.Image.{asked_extent};
+ghost use Rattle.commands.specs.Output.{Leaves};
+
+use crate::asm::{TEXT_BYTES, read_text};
+use crate::ending::Ending;
+use crate::fault::Fault;
+use crate::output::write_whole;
+use crate::request::CompileOptions;
+use bpf_insn::{Program, encode};
+use clock_nodes::ClockRule;
+use node_env::Shape;
+use rule_nodes::{CompileError, compile_rule};
+use rule_text::{ReadRuleError, Rule, RuleError, read_rule};
+use std::alloc::Global;
+use std::fmt;
+use std::io::{Read, Write};
+
+/// Writes the image of the rule that is read, or the line that refuses it. A text of more than [`TEXT_BYTES`] is a fault
+/// of reading.
+pub fn compile<R: Read, W: Write>(
+    alloc: Global,
+    options: CompileOptions,
+    reader: &mut R,
+    out: &mut W,
+) -> Result<Ending, Fault>
+    ensures compiled { IfSome (R.remaining reader.old) (λ input.
+        LeavesCompiled (W.contents out.old) (W.contents out.new) options (take (TEXT_BYTES + 1) input) result) }
+    ensures front { TakesAtMost (TEXT_BYTES + 1) (R.remaining reader.old) (R.remaining reader.new) }
+{
+    let text = read_text(alloc, reader)?;
+    let compiled = compiled(alloc, options, text.as_slice())?;
+    write_compiled(alloc, &compiled, out)
+}
+
+/// The program of the rule that a text is, or why there is none.
+fn compiled(
+    alloc: Global,
+    options: CompileOptions,
+    text: &[u8],
+) -> Result<Result<Program, Uncompiled>, Fault>
+    ensures compiled { IfOk result (Compiles options text.now) }
+    ensures fault { IfErr result IsBeforeWriting }
+{
+    let Some(shape) = Shape::of(options.shape.nodes, options.shape.memory) else {
+        return Ok(Err(Uncompiled::Shape));
+    };
+    if ClockRule::of(options.shape.nodes, options.faults, options.modulus).is_none() {
+        return Ok(Err(Uncompiled::Sizes));
+    }
+    match read_rule(alloc, text) {
+        Ok(rule) => code_of(alloc, &rule, shape, options),
+        Err(ReadRuleError::Memory) => Err(Fault::Memory),
+        Err(
+            ReadRuleError::At {
+                error,
+                line,
+                column,
+            },
+        ) => Ok(Err(Uncompiled::Text {
+            error,
+            line,
+            column,
+        })),
+    }
+}
+
+/// The program of a rule, or why there is none.
+fn code_of(
+    alloc: Global,
+    rule: &Rule,
+    shape: Shape,
+    options: CompileOptions,
+) -> Result<Result<Program, Uncompiled>, Fault>
+    requires { shape ≡ asked_extent options.shape }
+    ensures code { IfOk result (MakesCode options rule.now) }
+    ensures fault { IfErr result IsBeforeWriting }
+{
+    if rule.words > (shape.memory() / 4) as usize {
+        return Ok(Err(Uncompiled::Room));
+    }
+    match compile_rule(
+        alloc,
+        &rule.statement,
+        shape,
+        options.faults,
+        options.modulus,
+    ) {
+        Ok(program) => Ok(Ok(program)),
+        Err(CompileError::NoRoom) => Ok(Err(Uncompiled::Room)),
+        Err(CompileError::TooLong) => Ok(Err(Uncompiled::Long)),
+        Err(CompileError::Memory) => Err(Fault::Memory),
+    }
+}
+
+fn write_compiled<W: Write>(
+    alloc: Global,
+    compiled: &Result<Program, Uncompiled>,
+    out: &mut W,
+) -> Result<Ending, Fault>
+    ensures { Leaves (W.contents out.old) (W.contents out.new) (compiled_text compiled.now)
+        (compiled_ending compiled.now) result }
+{
+    match compiled {
+        Ok(program) => {
+            let image = encode(alloc, program).map_err(|_| Fault::Memory)?;
+            write_whole(out, image.as_slice(), Ending::Done)
+        }
+        Err(error) => {
+            let line = format!(in alloc; "{error}\n").map_err(|_| Fault::Memory)?;
+            write_whole(out, line.as_bytes(), Ending::Refused)
+        }
+    }
+}
+
+/// Why a text has no program. Its text is the line of the refusal, without its end.
+#[derive(Clone, Copy, Debug, PartialEq, Eq)]
+pub enum Uncompiled {
+    /// The nodes and the memory that are asked for make no shape.
+    Shape,
+    /// The nodes, the faults and the modulus make no rule of clocks.
+    Sizes,
+    /// The text is no rule: its first error.
+    Text {
+        error: RuleError,
+        line: usize,
+        column: usize,
+    },
+    /// The rule has more words than the memory, or more numbers at once than there are places.
+    Room,
+    /// The program would have too many instructions.
+    Long,
+}
+
+impl fmt::Display for Uncompiled {
+    ghost output = { λ error. Some (uncompiled_line error) };
+
+    fn fmt<W: fmt::Write>(&self, f: &mut fmt::Formatter<W>) -> fmt::Result {
+        match self {
+            Uncompiled::Shape => write!(f, "refused shape"),
+            Uncompiled::Sizes => write!(f, "refused sizes"),
+            Uncompiled::Text {
+                error,
+                line,
+                column,
+            } => write!(
+                f,
+                "refused rule {} line {line} column {column}",
+                name_of(*error)
+            ),
+            Uncompiled::Room => write!(f, "refused rule NoRoom"),
+            Uncompiled::Long => write!(f, "refused rule TooLong"),
+        }
+    }
+}
+
+fn name_of(error: RuleError) -> &'static str
+    ensures { result.now ≡ error_name error }
+{
+    match error {
+        RuleError::BadCharacter => "BadCharacter",
+        RuleError::BadIndent => "BadIndent",
+        RuleError::OutOfRange => "OutOfRange",
+        RuleError::Expected => "Expected",
+        RuleError::UnknownName => "UnknownName",
+        RuleError::NameTwice => "NameTwice",
+        RuleError::NotAssignable => "NotAssignable",
+        RuleError::TooDeep => "TooDeep",
+        RuleError::TooLong => "TooLong",
+    }
+}

@@ -1,0 +1,4 @@
+pub mod TokenLemmas
+pub mod Ranks
+pub mod TermLemmas
+pub mod StatementLemmas

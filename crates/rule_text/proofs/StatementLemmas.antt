@@ -1,0 +1,78 @@
+-- Lists of names, and lines, by their steps.
+use Rattle.std.proofs.Common.{◌≡◌, ℕ, zero, suc, ◌-◌, List, refl, ap, ◌∙◌, arith, inr}
+use Rattle.rule_nodes.specs.declared.syntax.Target.{Target}
+use Rattle.rule_text.specs.declared.errors.RuleError.TheVariants.{TooLong}
+use Rattle.rule_text.specs.declared.errors.ReadRuleError.{ReadRuleError}
+use Rattle.rule_text.specs.declared.lexemes.Token.{Token}
+use Rattle.rule_text.specs.declared.scope.Entry.{Entry}
+use Rattle.rule_text.specs.declared.statements.Layer.{Layer}
+use Rattle.rule_text.specs.declared.statements.Layer.TheVariants.{Rest, Branch}
+use Rattle.rule_text.specs.Scopes.{error_in, Tells}
+use Rattle.rule_text.specs.Statements.{targets_with, targets_read, state_names_with, state_names, header_with}
+use Rattle.rule_text.specs.Statements.{header_read, rest_read, branch_read, lines_read}
+
+pub targets_none : (left : ℕ) (text : List ℕ) (names : List Entry) (done : List Target) (ts : List Token)
+    (error : ReadRuleError) → left ≡ 0 → error ≡ error_in TooLong ts
+    → Tells (targets_read left text names done ts) error
+unfolding targets_read
+targets_none left text names done ts error none is = inr (rw (none, is) refl)
+
+pub targets_more : (left : ℕ) (text : List ℕ) (names : List Entry) (done : List Target) (ts : List Token) → ¬ (left ≡ 0)
+    → targets_read left text names done ts ≡ targets_with (targets_read (left - 1) text names) text names done ts
+unfolding targets_read
+targets_more zero text names done ts some = absurd (some refl)
+targets_more (suc left) text names done ts some =
+    let e : left ≡ suc left - 1 = omega arith in
+    ap (λ (k : ℕ). targets_with (targets_read k text names) text names done ts) e
+
+pub states_none : (left : ℕ) (text : List ℕ) (names : List Entry) (ts : List Token) (error : ReadRuleError)
+    → left ≡ 0 → error ≡ error_in TooLong ts → Tells (state_names left text names ts) error
+unfolding state_names
+states_none left text names ts error none is = inr (rw (none, is) refl)
+
+pub states_more : (left : ℕ) (text : List ℕ) (names : List Entry) (ts : List Token) → ¬ (left ≡ 0)
+    → state_names left text names ts ≡ state_names_with (state_names (left - 1) text) text names ts
+unfolding state_names
+states_more zero text names ts some = absurd (some refl)
+states_more (suc left) text names ts some =
+    let e : left ≡ suc left - 1 = omega arith in
+    ap (λ (k : ℕ). state_names_with (state_names k text) text names ts) e
+
+pub header_none : (left : ℕ) (text : List ℕ) (column : ℕ) (names : List Entry) (ts : List Token) (error : ReadRuleError)
+    → left ≡ 0 → error ≡ error_in TooLong ts → Tells (header_read left text column names ts) error
+unfolding header_read
+header_none left text column names ts error none is = inr (rw (none, is) refl)
+
+pub header_more : (left : ℕ) (text : List ℕ) (column : ℕ) (names : List Entry) (ts : List Token) → ¬ (left ≡ 0)
+    → header_read left text column names ts ≡ header_with (header_read (left - 1) text column) text column names ts
+unfolding header_read
+header_more zero text column names ts some = absurd (some refl)
+header_more (suc left) text column names ts some =
+    let e : left ≡ suc left - 1 = omega arith in
+    ap (λ (k : ℕ). header_with (header_read k text column) text column names ts) e
+
+pub lines_none : (left : ℕ) (text : List ℕ) (layer : Layer) (room column : ℕ) (names : List Entry) (ts : List Token)
+    (error : ReadRuleError) → left ≡ 0 → error ≡ error_in TooLong ts
+    → Tells (lines_read left text layer room column names ts) error
+unfolding lines_read
+lines_none left text layer room column names ts error none is = inr (rw (none, is) refl)
+
+pub lines_rest : (left : ℕ) (text : List ℕ) (layer : Layer) (room column : ℕ) (names : List Entry) (ts : List Token)
+    → ¬ (left ≡ 0) → layer ≡ Rest → lines_read left text layer room column names ts
+    ≡ rest_read (lines_read (left - 1) text) text room column names ts
+unfolding lines_read
+lines_rest zero text layer room column names ts some is = absurd (some refl)
+lines_rest (suc left) text layer room column names ts some is =
+    let e : left ≡ suc left - 1 = omega arith in
+    ap (λ (l : Layer). lines_read (suc left) text l room column names ts) is
+    ∙ ap (λ (k : ℕ). rest_read (lines_read k text) text room column names ts) e
+
+pub lines_branch : (left : ℕ) (text : List ℕ) (layer : Layer) (room column : ℕ) (names : List Entry) (ts : List Token)
+    → ¬ (left ≡ 0) → layer ≡ Branch → lines_read left text layer room column names ts
+    ≡ branch_read (lines_read (left - 1) text) text room column names ts
+unfolding lines_read
+lines_branch zero text layer room column names ts some is = absurd (some refl)
+lines_branch (suc left) text layer room column names ts some is =
+    let e : left ≡ suc left - 1 = omega arith in
+    ap (λ (l : Layer). lines_read (suc left) text l room column names ts) is
+    ∙ ap (λ (k : ℕ). branch_read (lines_read k text) text room column names ts) e

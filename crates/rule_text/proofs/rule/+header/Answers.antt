@@ -1,0 +1,23 @@
+use Rattle.std.proofs.Common.{◌≡◌, Ok, IfOk, IfErr, Result, List, subst, sym}
+use Rattle.rule_text.specs.declared.errors.ReadRuleError.{ReadRuleError}
+use Rattle.rule_text.specs.declared.lexemes.Token.{Token}
+use Rattle.rule_text.specs.declared.scope.Entry.{Entry}
+use Rattle.rule_text.specs.Scopes.{Tells}
+use Rattle.rule_text.proofs.StatementLemmas.{header_none, header_more}
+use Rattle.rule_text.proofs.rule.+header.Goals as goal
+
+pub header-returns-then-left-eq0-clause-error : goal.header-returns-then-left-eq0-clause-error
+header-returns-then-left-eq0-clause-error t c = header_none _ _ _ _ _ _ c.if-left-eq0.true c.error_in.ensures
+
+pub header-returns-clause-read : goal.header-returns-clause-read
+header-returns-clause-read t c =
+    let P : Result (List Entry × List Token) ReadRuleError → Type 0 = λ r. IfOk c.header_with.result
+    (λ x. r ≡ Ok (x.0.items, x.1.now)) in
+    subst P (sym (header_more c.args.left c.args.text.now c.args.column c.args.names.items c.args.tokens.now
+    c.if-left-eq0.false)) c.header_with.ensures.read
+
+pub header-returns-clause-error : goal.header-returns-clause-error
+header-returns-clause-error t c =
+    let P : Result (List Entry × List Token) ReadRuleError → Type 0 = λ r. IfErr c.header_with.result (Tells r) in
+    subst P (sym (header_more c.args.left c.args.text.now c.args.column c.args.names.items c.args.tokens.now
+    c.if-left-eq0.false)) c.header_with.ensures.error

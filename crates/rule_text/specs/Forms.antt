@@ -1,0 +1,76 @@
+-- What terms, assignments and statements say, as plain data: `rule_nodes` keeps the same in boxes.
+use Rattle.std.specs.Prelude.{ℕ}
+use Rattle.rule_nodes.specs.declared.syntax.Operator.{Operator}
+use Rattle.rule_nodes.specs.declared.syntax.Connective.{Connective}
+use Rattle.rule_nodes.specs.declared.syntax.Target.{Target}
+use Rattle.rule_nodes.specs.declared.syntax.Assignment.{Assignment}
+use Rattle.rule_nodes.specs.declared.syntax.Assignment.TheVariants.{One, Also'}
+use Rattle.rule_nodes.specs.declared.syntax.Term.{Term}
+use Rattle.rule_nodes.specs.declared.syntax.Term.TheVariants.{Number, Nodes, Faults, Modulus, Me, Coin, LoopNode}
+use Rattle.rule_nodes.specs.declared.syntax.Term.TheVariants.{Local, Word, Message', Binary', Logical', Not', Choice'}
+use Rattle.rule_nodes.specs.declared.syntax.Term.TheVariants.{Count'}
+use Rattle.rule_nodes.specs.declared.syntax.Statement.{Statement}
+use Rattle.rule_nodes.specs.declared.syntax.Statement.TheVariants.{Nothing, Then', Let', Assign, If', For', SendAll}
+use Rattle.rule_nodes.specs.declared.syntax.Statement.TheVariants.{SendTo}
+
+pub data TermForm : Type 0 where
+  number : ℕ → TermForm
+  nodes : TermForm
+  faults : TermForm
+  modulus : TermForm
+  me : TermForm
+  coin : TermForm
+  loop_node : ℕ → TermForm
+  local : ℕ → TermForm
+  word : ℕ → TermForm
+  message : TermForm → TermForm
+  binary : Operator → TermForm → TermForm → TermForm
+  logical : Connective → TermForm → TermForm → TermForm
+  inverse : TermForm → TermForm
+  choice : TermForm → TermForm → TermForm → TermForm
+  count : TermForm → TermForm
+
+pub data AssignmentForm : Type 0 where
+  one : Target → TermForm → AssignmentForm
+  also : AssignmentForm → Target → TermForm → AssignmentForm
+
+pub data StatementForm : Type 0 where
+  nothing : StatementForm
+  sequence : StatementForm → StatementForm → StatementForm
+  let_in : TermForm → StatementForm → StatementForm
+  assign : AssignmentForm → StatementForm
+  branch : TermForm → StatementForm → StatementForm → StatementForm
+  each : StatementForm → StatementForm
+  send_all : TermForm → StatementForm
+  send_to : TermForm → TermForm → StatementForm
+
+abbrev pub term_form : Term → TermForm
+term_form (Number v) = number v
+term_form Nodes = nodes
+term_form Faults = faults
+term_form Modulus = modulus
+term_form Me = me
+term_form Coin = coin
+term_form (LoopNode i) = loop_node i
+term_form (Local k) = local k
+term_form (Word k) = word k
+term_form (Message' p a) = message (term_form a)
+term_form (Binary' o p a q b) = binary o (term_form a) (term_form b)
+term_form (Logical' c p a q b) = logical c (term_form a) (term_form b)
+term_form (Not' p a) = inverse (term_form a)
+term_form (Choice' p t q a r b) = choice (term_form t) (term_form a) (term_form b)
+term_form (Count' p t) = count (term_form t)
+
+abbrev pub assignment_form : Assignment → AssignmentForm
+assignment_form (One target e) = one target (term_form e)
+assignment_form (Also' p front target e) = also (assignment_form front) target (term_form e)
+
+abbrev pub statement_form : Statement → StatementForm
+statement_form Nothing = nothing
+statement_form (Then' p a q b) = sequence (statement_form a) (statement_form b)
+statement_form (Let' e p rest) = let_in (term_form e) (statement_form rest)
+statement_form (Assign a) = assign (assignment_form a)
+statement_form (If' t p a q b) = branch (term_form t) (statement_form a) (statement_form b)
+statement_form (For' p body) = each (statement_form body)
+statement_form (SendAll e) = send_all (term_form e)
+statement_form (SendTo e k) = send_to (term_form e) (term_form k)

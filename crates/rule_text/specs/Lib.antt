@@ -1,0 +1,7 @@
+pub mod Signs
+pub mod Tokens
+pub mod Forms
+pub mod Scopes
+pub mod Terms
+pub mod Statements
+pub mod Rules

@@ -1,0 +1,108 @@
+-- Names in scope, and the error at a token (docs/RULES.md, "Names").
+use Rattle.std.specs.Prelude.{◌≡◌, ◌⊎◌, ℕ, ◌+◌, nat_le, Bool, true, false, if◌then◌else◌, List, [], ◌∷◌, ◌++◌, length}
+use Rattle.std.specs.Prelude.{take, drop, count_by}
+use Rattle.std.specs.Prelude.{Option, Some, None, option_map, Result, Ok, Err}
+use Rattle.std.specs.List.{find}
+use Rattle.std.specs.Str.{bytes_eq}
+use Rattle.rule_text.specs.declared.errors.RuleError.{RuleError}
+use Rattle.rule_text.specs.declared.errors.RuleError.TheVariants.{Expected, NameTwice, TooDeep}
+use Rattle.rule_text.specs.declared.errors.ReadRuleError.{ReadRuleError}
+use Rattle.rule_text.specs.declared.errors.ReadRuleError.TheVariants.{At, Memory}
+use Rattle.rule_text.specs.declared.lexemes.Name.{Name}
+use Rattle.rule_text.specs.declared.lexemes.Kind.{Kind}
+use Rattle.rule_text.specs.declared.lexemes.Kind.TheVariants.{Named, Fault}
+use Rattle.rule_text.specs.declared.lexemes.Token.{Token}
+use Rattle.rule_text.specs.declared.scope.Meaning.{Meaning}
+use Rattle.rule_text.specs.declared.scope.Meaning.TheVariants.{Local, LoopNode, Word}
+use Rattle.rule_text.specs.declared.scope.Entry.{Entry}
+use Rattle.rule_text.specs.declared.scope.Maker.{Maker}
+use Rattle.rule_text.specs.declared.scope.Maker.TheVariants as makers
+use Rattle.rule_text.specs.declared.scope.TheConstants.{MAX_NAMES}
+
+-- ---- errors
+
+-- a token that is a fault gives that error
+abbrev pub told : RuleError → Kind → RuleError
+told e (Fault other) = other
+told e kind = e
+
+abbrev pub error_at : RuleError → Token → ReadRuleError
+error_at e t = At (told e t.kind) t.line t.column
+
+-- the error at the first token
+abbrev pub error_in : RuleError → List Token → ReadRuleError
+error_in e [] = At e 0 0
+error_in e (t ∷ ts) = error_at e t
+
+-- the error is the reading's, or memory was short
+abbrev pub Tells : {A : Type 0} → Result A ReadRuleError → ReadRuleError → Type 0
+Tells r e = (e ≡ Memory) ⊎ (r ≡ Err e)
+
+-- what is read of the tokens, and the tokens after it; or the first error
+abbrev pub Reading : Type 0 → Type 0
+Reading A = Result (A × List Token) ReadRuleError
+
+-- what is read after a reading; an error goes on
+infixl 10 ◌>>=◌
+abbrev pub ◌>>=◌ : {A B : Type 0} → Result A ReadRuleError → (A → Result B ReadRuleError) → Result B ReadRuleError
+(Ok x) >>= f = f x
+(Err e) >>= f = Err e
+
+-- ---- names
+
+abbrev pub letters_of : List ℕ → Name → List ℕ
+letters_of text name = take name.letters (drop name.from text)
+
+abbrev pub is_same_name : List ℕ → Name → Name → Bool
+is_same_name text a b = bytes_eq (letters_of text a) (letters_of text b)
+
+abbrev pub entry_of : List ℕ → List Entry → Name → Option Entry
+entry_of text names name = find (λ e. is_same_name text e.name name) names
+
+abbrev pub meaning_of : List ℕ → List Entry → Name → Option Meaning
+meaning_of text names name = option_map (λ e. e.meaning) (entry_of text names name)
+
+abbrev pub is_local : Meaning → Bool
+is_local (Local k) = true
+is_local meaning = false
+
+abbrev pub is_loop : Meaning → Bool
+is_loop (LoopNode k) = true
+is_loop meaning = false
+
+abbrev pub is_word : Meaning → Bool
+is_word (Word k) = true
+is_word meaning = false
+
+-- the words of the memory, the clock among them
+abbrev pub words_of : List Entry → ℕ
+words_of names = count_by (λ e. is_word e.meaning) names + 1
+
+-- a new name is numbered by the lets, loops or words before it; word 0 is the clock
+abbrev pub next_meaning : Maker → List Entry → Meaning
+next_meaning makers.Let names = Local (count_by (λ e. is_local e.meaning) names)
+next_meaning makers.Loop names = LoopNode (count_by (λ e. is_loop e.meaning) names)
+next_meaning makers.State names = Word (words_of names)
+
+abbrev pub entry : Name → Meaning → Entry
+entry name meaning = record { name = name; meaning = meaning }
+
+-- the names with one more
+abbrev pub added : Option Meaning → Maker → Name → List Entry → Token → Result (List Entry) ReadRuleError
+added (Some meaning) maker name names t = Err (error_at NameTwice t)
+added None maker name names t =
+    if nat_le MAX_NAMES (length names) then Err (error_at TooDeep t)
+    else Ok (names ++ entry name (next_meaning maker names) ∷ [])
+
+abbrev pub named_entry_by : List ℕ → Maker → List Entry → Kind → Token → Result (List Entry) ReadRuleError
+named_entry_by text maker names (Named name) t = added (meaning_of text names name) maker name names t
+named_entry_by text maker names kind t = Err (error_at Expected t)
+
+-- the names with the new one that a token gives
+abbrev pub named_entry : List ℕ → Maker → List Entry → Token → Result (List Entry) ReadRuleError
+named_entry text maker names t = named_entry_by text maker names t.kind t
+
+-- and the tokens after it
+abbrev pub new_name : List ℕ → Maker → List Entry → List Token → Reading (List Entry)
+new_name text maker names [] = Err (error_in Expected [])
+new_name text maker names (t ∷ ts) = named_entry text maker names t >>= λ more. Ok (more, ts)

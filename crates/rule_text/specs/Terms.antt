@@ -1,0 +1,238 @@
+-- From tokens to terms (docs/RULES.md, "Terms"): the reading, or the first error.
+use Rattle.std.specs.Prelude.{ℕ, zero, suc, Bool, false, if◌then◌else◌, List, [], ◌∷◌, Option, Some, None}
+use Rattle.std.specs.Prelude.{option_map, Result, Ok, Err}
+use Rattle.node_env.specs.declared.env.TheConstants.{NO_MAIL}
+use Rattle.rule_nodes.specs.declared.syntax.Operation.TheVariants as operations
+use Rattle.rule_nodes.specs.declared.syntax.Comparison.{Comparison}
+use Rattle.rule_nodes.specs.declared.syntax.Comparison.TheVariants as comparisons
+use Rattle.rule_nodes.specs.declared.syntax.Operator.TheVariants.{Compute, Compare}
+use Rattle.rule_nodes.specs.declared.syntax.Connective.TheVariants.{And, Or}
+use Rattle.rule_text.specs.declared.errors.RuleError.TheVariants.{Expected, UnknownName, TooDeep, TooLong}
+use Rattle.rule_text.specs.declared.errors.ReadRuleError.{ReadRuleError}
+use Rattle.rule_text.specs.declared.signs.Sign.{Sign}
+use Rattle.rule_text.specs.declared.signs.Sign.TheVariants as signs
+use Rattle.rule_text.specs.declared.lexemes.Kind.{Kind}
+use Rattle.rule_text.specs.declared.lexemes.Kind.TheVariants.{Number, Named, Mark}
+use Rattle.rule_text.specs.declared.lexemes.Token.{Token}
+use Rattle.rule_text.specs.declared.layout.TheConstants.{MAX_LINE_TOKENS}
+use Rattle.rule_text.specs.declared.scope.Meaning.{Meaning}
+use Rattle.rule_text.specs.declared.scope.Meaning.TheVariants.{Local, LoopNode, Word}
+use Rattle.rule_text.specs.declared.scope.Entry.{Entry}
+use Rattle.rule_text.specs.declared.scope.Maker.TheVariants as makers
+use Rattle.rule_text.specs.declared.joints.Joint.{Joint}
+use Rattle.rule_text.specs.declared.joints.Joint.TheVariants.{By, With}
+use Rattle.rule_text.specs.declared.joints.Chain.{Chain}
+use Rattle.rule_text.specs.declared.joints.Chain.TheVariants as chains
+use Rattle.rule_text.specs.declared.terms.Grade.{Grade}
+use Rattle.rule_text.specs.declared.terms.Grade.TheVariants.{Whole, Inverse}
+use Rattle.rule_text.specs.declared.terms.TheConstants.{MAX_PARTS}
+use Rattle.rule_text.specs.Signs.{is_same}
+use Rattle.rule_text.specs.Forms.{TermForm, number, nodes, faults, modulus, me, coin, loop_node, local, word, message}
+use Rattle.rule_text.specs.Forms.{binary, logical, inverse, choice, count}
+use Rattle.rule_text.specs.Scopes.{Reading, ◌>>=◌, error_at, error_in, meaning_of, new_name}
+
+-- ---- signs
+
+abbrev pub is_marked : Sign → Kind → Bool
+is_marked s (Mark t) = is_same s t
+is_marked s kind = false
+
+-- the tokens after a sign, if it is the first token
+abbrev pub after : Sign → List Token → Option (List Token)
+after s [] = None
+after s (t ∷ ts) = if is_marked s t.kind then Some ts else None
+
+-- the tokens after a sign that must be the first token
+abbrev pub wanted : Sign → List Token → Result (List Token) ReadRuleError
+wanted s ts = elim (after s ts) [ Some rest ↦ Ok rest | None ↦ Err (error_in Expected ts) ]
+
+-- operators of one precedence group from the left
+abbrev pub product_joint : Sign → Option Joint
+product_joint signs.Times = Some (By (Compute operations.Product))
+product_joint signs.Over = Some (By (Compute operations.Quotient))
+product_joint signs.Modulo = Some (By (Compute operations.Remainder))
+product_joint s = None
+
+abbrev pub sum_joint : Sign → Option Joint
+sum_joint signs.Plus = Some (By (Compute operations.Sum))
+sum_joint signs.Minus = Some (By (Compute operations.Difference))
+sum_joint s = None
+
+abbrev pub both_joint : Sign → Option Joint
+both_joint signs.And = Some (With And)
+both_joint s = None
+
+abbrev pub either_joint : Sign → Option Joint
+either_joint signs.Or = Some (With Or)
+either_joint s = None
+
+abbrev pub joint_by : Chain → Sign → Option Joint
+joint_by chains.Product s = product_joint s
+joint_by chains.Sum s = sum_joint s
+joint_by chains.Both s = both_joint s
+joint_by chains.Either s = either_joint s
+
+abbrev pub joint_of : Chain → Kind → Option Joint
+joint_of chain (Mark s) = joint_by chain s
+joint_of chain kind = None
+
+abbrev pub comparison_by : Sign → Option Comparison
+comparison_by signs.Equal = Some comparisons.Equal
+comparison_by signs.NotEqual = Some comparisons.NotEqual
+comparison_by signs.Less = Some comparisons.Less
+comparison_by signs.AtMost = Some comparisons.AtMost
+comparison_by signs.Greater = Some comparisons.Greater
+comparison_by signs.AtLeast = Some comparisons.AtLeast
+comparison_by s = None
+
+abbrev pub comparison_of : Kind → Option Comparison
+comparison_of (Mark s) = comparison_by s
+comparison_of kind = None
+
+-- the operator that is the first token, and the tokens after it
+abbrev pub joint_in : Chain → List Token → Option (Joint × List Token)
+joint_in chain [] = None
+joint_in chain (t ∷ ts) = option_map (λ joint. (joint, ts)) (joint_of chain t.kind)
+
+abbrev pub comparison_in : List Token → Option (Comparison × List Token)
+comparison_in [] = None
+comparison_in (t ∷ ts) = option_map (λ comparison. (comparison, ts)) (comparison_of t.kind)
+
+abbrev pub join : Joint → TermForm → TermForm → TermForm
+join (By operator) a b = binary operator a b
+join (With connective) a b = logical connective a b
+
+abbrev pub named_term : Meaning → TermForm
+named_term (Local k) = local k
+named_term (LoopNode k) = loop_node k
+named_term (Word k) = word k
+
+-- the words that are terms by themselves
+abbrev pub leaf_of : Sign → Option TermForm
+leaf_of signs.Nodes = Some nodes
+leaf_of signs.Faults = Some faults
+leaf_of signs.Modulus = Some modulus
+leaf_of signs.Me = Some me
+leaf_of signs.Coin = Some coin
+leaf_of signs.NoMessage = Some (number NO_MAIL)
+leaf_of signs.Clock = Some (word 0)
+leaf_of s = None
+
+-- ---- the productions, where `inner` reads a part one level deeper
+
+abbrev pub Reader : Type 0
+Reader = List Token → Reading TermForm
+
+abbrev pub Inner : Type 0
+Inner = Grade → List Entry → Reader
+
+abbrev pub leaf : Option TermForm → Token → Result TermForm ReadRuleError
+leaf (Some a) t = Ok a
+leaf None t = Err (error_at Expected t)
+
+abbrev pub named_atom : Option Meaning → Token → Result TermForm ReadRuleError
+named_atom (Some meaning) t = Ok (named_term meaning)
+named_atom None t = Err (error_at UnknownName t)
+
+abbrev pub bracketed : Inner → List Entry → Reader
+bracketed inner names ts =
+    inner Whole names ts >>= λ a. wanted signs.Close a.1 >>= λ rest. Ok (a.0, rest)
+
+abbrev pub message_read : Inner → List Entry → Reader
+message_read inner names ts =
+    wanted signs.OpenSquare ts >>= λ inside. inner Whole names inside
+    >>= λ a. wanted signs.CloseSquare a.1 >>= λ rest. Ok (message a.0, rest)
+
+abbrev pub marked_atom : Inner → List Entry → Sign → Token → List Token → Reading TermForm
+marked_atom inner names signs.Open t ts = bracketed inner names ts
+marked_atom inner names signs.Mail t ts = message_read inner names ts
+marked_atom inner names s t ts = leaf (leaf_of s) t >>= λ a. Ok (a, ts)
+
+abbrev pub atom_by : Inner → List ℕ → List Entry → Kind → Token → List Token → Reading TermForm
+atom_by inner text names (Number v) t ts = Ok (number v, ts)
+atom_by inner text names (Named name) t ts =
+    named_atom (meaning_of text names name) t >>= λ a. Ok (a, ts)
+atom_by inner text names (Mark s) t ts = marked_atom inner names s t ts
+atom_by inner text names kind t ts = Err (error_at Expected t)
+
+abbrev pub atom : Inner → List ℕ → List Entry → Reader
+atom inner text names [] = Err (error_in Expected [])
+atom inner text names (t ∷ ts) = atom_by inner text names t.kind t ts
+
+-- after an operand and what follows it: a further operand, if an operator of the chain is next
+abbrev pub chain_step : (TermForm → Reader) → Reader → TermForm → List Token → Option (Joint × List Token)
+    → Reading TermForm
+chain_step further operand left ts None = Ok (left, ts)
+chain_step further operand left ts (Some x) =
+    operand x.1 >>= λ right. further (join x.0 left right.0) right.1
+
+-- at most this many further operands
+unfoldable pub chain_rest : ℕ → Chain → Reader → TermForm → Reader
+chain_rest zero chain operand left ts = Err (error_in TooLong ts)
+chain_rest (suc more) chain operand left ts =
+    chain_step (chain_rest more chain operand) operand left ts (joint_in chain ts)
+
+abbrev pub chain_of : Chain → Reader → Reader
+chain_of chain operand ts = operand ts >>= λ first. chain_rest MAX_LINE_TOKENS chain operand first.0 first.1
+
+-- one comparison at most
+abbrev pub compare_rest : Reader → TermForm → Reader
+compare_rest side left ts = elim (comparison_in ts) [
+  | None ↦ Ok (left, ts)
+  | Some x ↦ side x.1 >>= λ right. Ok (binary (Compare x.0) left right.0, right.1)
+]
+
+abbrev pub compare_read : Inner → List ℕ → List Entry → Reader
+compare_read inner text names ts =
+    let side = chain_of chains.Sum (chain_of chains.Product (atom inner text names)) in
+    side ts >>= λ left. compare_rest side left.0 left.1
+
+abbrev pub inverse_read : Inner → List ℕ → List Entry → Reader
+inverse_read inner text names ts = elim (after signs.Not ts) [
+  | Some rest ↦ inner Inverse names rest >>= λ a. Ok (inverse a.0, a.1)
+  | None ↦ compare_read inner text names ts
+]
+
+-- the operands of a chain are of the next tighter kind
+abbrev pub operand_read : Inner → List ℕ → List Entry → Chain → Reader
+operand_read inner text names chains.Product ts = atom inner text names ts
+operand_read inner text names chains.Sum ts = chain_of chains.Product (atom inner text names) ts
+operand_read inner text names chains.Both ts = inverse_read inner text names ts
+operand_read inner text names chains.Either ts = chain_of chains.Both (inverse_read inner text names) ts
+
+abbrev pub chain_read : Inner → List ℕ → List Entry → Chain → Reader
+chain_read inner text names chain ts = chain_of chain (operand_read inner text names chain) ts
+
+-- x if t else y, x read
+abbrev pub choice_read : Inner → List ℕ → List Entry → TermForm → Reader
+choice_read inner text names x ts =
+    chain_read inner text names chains.Either ts >>= λ t. wanted signs.Else t.1
+    >>= λ rest. inner Whole names rest >>= λ y. Ok (choice t.0 x y.0, y.1)
+
+abbrev pub choice_rest : Inner → List ℕ → List Entry → TermForm → Reader
+choice_rest inner text names x ts =
+    elim (after signs.If ts) [ Some rest ↦ choice_read inner text names x rest | None ↦ Ok (x, ts) ]
+
+abbrev pub count_read : Inner → List ℕ → List Entry → Reader
+count_read inner text names ts =
+    new_name text makers.Loop names ts >>= λ more. wanted signs.Colon more.1
+    >>= λ rest. inner Whole more.0 rest >>= λ a. Ok (count a.0, a.1)
+
+abbrev pub plain_read : Inner → List ℕ → List Entry → Reader
+plain_read inner text names ts =
+    chain_read inner text names chains.Either ts >>= λ x. choice_rest inner text names x.0 x.1
+
+abbrev pub whole_read : Inner → List ℕ → List Entry → Reader
+whole_read inner text names ts = elim (after signs.Count ts) [
+  | Some rest ↦ count_read inner text names rest
+  | None ↦ plain_read inner text names ts
+]
+
+-- a part, with at most this many in one another
+unfoldable pub part : ℕ → List ℕ → Grade → List Entry → Reader
+part zero text grade names ts = Err (error_in TooDeep ts)
+part (suc room) text Whole names ts = whole_read (part room text) text names ts
+part (suc room) text Inverse names ts = inverse_read (part room text) text names ts
+
+abbrev pub term_read : List ℕ → List Entry → Reader
+term_read text names ts = part MAX_PARTS text Whole names ts
