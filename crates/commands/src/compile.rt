@@ -1,5 +1,5 @@
 //! `compile`: the image of the rule on standard input.
-ghost use Rattle.std.specs.Prelude.{◌≡◌, Some, IfOk, IfErr, IfSome, take};
+ghost use Rattle.std.specs.Prelude.{◌≡◌, ◌+◌, Some, IfOk, IfErr, IfSome, take};
 ghost use Rattle.stream_io.specs.Streams.{TakesAtMost};
 ghost use Rattle.commands.specs.declared.asm.TheConstants.{TEXT_BYTES};
 ghost use Rattle.commands.specs.Compile.{Compiles, LeavesCompiled, MakesCode, compiled_ending, compiled_text, error_name, uncompiled_line};
