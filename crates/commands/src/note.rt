@@ -136,7 +136,8 @@ fn unexplored_note(unfit: Unfit) -> &'static [u8]
         Unfit::Corrupt =>
             b"note: explore takes no [[corrupt]]: --start any tries other initial memories\n",
         Unfit::Coin => b"note: explore takes no [[coin]]: it tries both coins of each node\n",
-        Unfit::Unloaded => b"note: explore needs a node with a program: add a [[load]] of pulse 1\n",
+        Unfit::Unloaded =>
+            b"note: explore needs a node with a program: add a [[load]] of pulse 1\n",
     }
 }
 
