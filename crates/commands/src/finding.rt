@@ -1,6 +1,6 @@
 //! What `explore` answers to the scenario that it read, and the line that says it.
-ghost use Rattle.std.specs.Prelude.{◌≡◌, ◌++◌, IfOk, OnOk, Some, option_map, string_bytes};
-ghost use Rattle.commands.specs.Explore.{agreement_text, cause_text, correct_text, count_text, finding_text, found_ending, found_text, liars_text, mark_of, marked, nodes_text, programmed_text, recovery_ending, recovery_text, shown_of, span_text, spans_text, start_text, tried_text, unfit_name};
+ghost use Rattle.std.specs.Prelude.{◌≡◌, ◌+◌, ◌++◌, IfOk, OnOk, Some, length, option_map, string_bytes};
+ghost use Rattle.commands.specs.Explore.{agreement_text, byzantine_text, cause_text, correct_text, count_text, finding_text, found_ending, found_text, liars_text, mark_of, marked, nodes_text, programmed_text, recovery_ending, recovery_text, shown_of, span_text, spans_text, start_text, tried_text, unfinished_text, unfit_name, violation_text};
 ghost use Rattle.commands.specs.declared.finding.Finding.TheVariants.{Searched};
 
 use crate::ending::Ending;
@@ -192,35 +192,45 @@ fn correct_line(alloc: Global, nodes: &[u32], has_clock: bool) -> Result<String,
 }
 
 /// The Byzantine nodes that have programs.
-fn programmed_line(alloc: Global, nodes: &[u32]) -> Result<String, AllocError>
-    ensures { IfOk result (λ text. string_bytes text ≡ programmed_text nodes.now) }
+fn programmed_line(alloc: Global, tried: &Tried) -> Result<String, AllocError>
+    ensures { IfOk result (λ text. string_bytes text ≡ programmed_text tried.now.programmed.items) }
 {
-    if nodes.len() == 0 {
+    if tried.programmed.len() == 0 {
         return Ok(String::new(alloc));
     }
     let mut named = String::new(alloc);
-    add_nodes(alloc, &mut named, nodes)?;
+    add_nodes(alloc, &mut named, &tried.programmed)?;
     format!(in alloc; ", Byzantine{named} (as loaded)")
 }
 
 /// Those that have none, and what each may send.
-fn liars_line(alloc: Global, nodes: &[u32], mail: &[MailSpan]) -> Result<String, AllocError>
-    ensures { IfOk result (λ text. string_bytes text ≡ liars_text nodes.now mail.now) }
+fn liars_line(alloc: Global, tried: &Tried) -> Result<String, AllocError>
+    ensures { IfOk result (λ text. string_bytes text ≡ liars_text tried.now.liars.items tried.now.mail.items) }
 {
-    if nodes.len() == 0 {
+    if tried.liars.len() == 0 {
         return Ok(String::new(alloc));
     }
     let mut named = String::new(alloc);
-    add_nodes(alloc, &mut named, nodes)?;
+    add_nodes(alloc, &mut named, &tried.liars)?;
     let mut spans = String::new(alloc);
-    add_spans(alloc, &mut spans, mail)?;
+    add_spans(alloc, &mut spans, &tried.mail)?;
     format!(in alloc; ", Byzantine{named} (any message of none{spans})")
 }
 
-/// How many Byzantine nodes there are, if there is none, or more than the rule allows for.
-fn count_line(alloc: Global, count: usize, faults: u32) -> Result<String, AllocError>
-    ensures { IfOk result (λ text. string_bytes text ≡ count_text count faults) }
+/// How many nodes are Byzantine.
+fn byzantine_count(tried: &Tried) -> usize
+    ensures { result ≡ length tried.now.programmed.items + length tried.now.liars.items }
 {
+    tried.programmed.len() + tried.liars.len()
+}
+
+/// How many that are, if none is, or more than the rule allows for.
+fn count_line(alloc: Global, tried: &Tried) -> Result<String, AllocError>
+    ensures { IfOk result (λ text. string_bytes text
+        ≡ count_text (length tried.now.programmed.items + length tried.now.liars.items) tried.now.faults) }
+{
+    let count = byzantine_count(tried);
+    let faults = tried.faults;
     if count == 0 {
         format!(in alloc; ", no Byzantine node")
     } else if count as u64 > u64::from(faults) {
@@ -244,17 +254,24 @@ fn start_line(alloc: Global, bytes: &Option<Vec<u8>>) -> Result<String, AllocErr
     }
 }
 
+/// The Byzantine nodes.
+fn byzantine_line(alloc: Global, tried: &Tried) -> Result<String, AllocError>
+    ensures { IfOk result (λ text. string_bytes text ≡ byzantine_text tried.now) }
+{
+    let programmed = programmed_line(alloc, tried)?;
+    let liars = liars_line(alloc, tried)?;
+    let count = count_line(alloc, tried)?;
+    format!(in alloc; "{programmed}{liars}{count}")
+}
+
 /// Who is who, and what was tried.
 fn tried_line(alloc: Global, tried: &Tried) -> Result<String, AllocError>
     ensures { IfOk result (λ text. string_bytes text ≡ tried_text tried.now) }
 {
-    let count = tried.programmed.len().saturating_add(tried.liars.len());
     let correct = correct_line(alloc, &tried.correct, tried.has_clock)?;
-    let programmed = programmed_line(alloc, &tried.programmed)?;
-    let liars = liars_line(alloc, &tried.liars, &tried.mail)?;
-    let count = count_line(alloc, count, tried.faults)?;
+    let byzantine = byzantine_line(alloc, tried)?;
     let start = start_line(alloc, &tried.bytes)?;
-    format!(in alloc; "{correct}{programmed}{liars}{count}{start}")
+    format!(in alloc; "{correct}{byzantine}{start}")
 }
 
 /// That agreement holds.
@@ -297,6 +314,23 @@ fn cause_line(alloc: Global, cause: Cause) -> Result<String, AllocError>
             "agreement is violated, but no counterexample was made"
         ),
     }
+}
+
+/// That agreement is violated.
+fn violation_line(alloc: Global, pulse: u64, states: u64) -> Result<String, AllocError>
+    ensures { IfOk result (λ text. string_bytes text ≡ violation_text pulse states) }
+{
+    format!(in alloc;
+        "agreement violated in pulse {pulse} ({states} states); a counterexample follows"
+    )
+}
+
+/// That the search isn't finished.
+fn unfinished_line(alloc: Global, states: u64, cause: Cause) -> Result<String, AllocError>
+    ensures { IfOk result (λ text. string_bytes text ≡ unfinished_text states cause) }
+{
+    let cause = cause_line(alloc, cause)?;
+    format!(in alloc; "not finished: {states} states; {cause}")
 }
 
 /// The line with its end, behind its mark.
@@ -359,14 +393,11 @@ impl Found {
                 ..
             } => holds_text(alloc, mark, *states, *moves, recovery),
             Found::Parts { pulse, states, .. } => {
-                let line = format!(in alloc;
-                    "agreement violated in pulse {pulse} ({states} states); a counterexample follows"
-                )?;
+                let line = violation_line(alloc, *pulse, *states)?;
                 marked(alloc, mark, line.as_str())
             }
             Found::Unfinished { states, cause } => {
-                let cause = cause_line(alloc, *cause)?;
-                let line = format!(in alloc; "not finished: {states} states; {cause}")?;
+                let line = unfinished_line(alloc, *states, *cause)?;
                 marked(alloc, mark, line.as_str())
             }
         }
