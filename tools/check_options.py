@@ -12,7 +12,7 @@ import sys
 sys.dont_write_bytecode = True
 from built_program import TOP, answer, named_program, tell
 
-COMMANDS = ["exec", "asm", "dis", "verify", "run", "stress", "sweep", "explore"]
+COMMANDS = ["exec", "asm", "compile", "dis", "verify", "run", "stress", "sweep", "explore"]
 OPTION = re.compile(r"^ {6}--([a-z]+)(?: <([^>]+)>)? +(.*)$", re.M)
 RANGE = re.compile(r"\[(\d+)\.\.(?:=(\d+))?(?:, multiple of \d+)?; (?:default: (\w+)|required)")
 MANY = 2**32
@@ -26,6 +26,8 @@ IMAGE = text("examples/seven.bpf")
 PARTED, AGREED, SEEDED = text("examples/splitter_of_three.toml"), text("examples/four_clocks.toml"), text("examples/chacha.toml")
 THREE = text("examples/explore/three_nodes.toml")
 OWN = b"mov64 r0, 7\nexit\n"
+RULE = text("examples/rules/clock.rule")
+WORDS = b"state a, b, c, d\nd = clock\nsend d\n"
 LOOP = bytes.fromhex("0500ffff00000000")
 HEARS = "mov64 r6, r1; {}; stxw [r6+0], r0; mov64 r0, 0; exit"
 
@@ -41,6 +43,10 @@ ROWS = {
     ("exec", "show"): ([], IMAGE, None),
     ("exec", "trace"): ([], IMAGE, None),
     ("asm", "list"): ([], OWN, None),
+    ("compile", "nodes"): ([], RULE, "5"),
+    ("compile", "memory"): ([], WORDS, "24"),
+    ("compile", "faults"): (["--nodes", "64"], RULE, "2"),
+    ("compile", "modulus"): ([], RULE, "9"),
     ("dis", "list"): ([], IMAGE, None),
     ("dis", "clock"): ([], IMAGE, None),
     ("dis", "nodes"): (["--clock"], IMAGE, "5"),

@@ -20,6 +20,7 @@ from check_clock import clock_text
 from refusals import Ran, compiled, contents, program, run
 
 FOUR = contents("examples/four_clocks.toml")
+RULE = contents("examples/rules/greatest.rule")
 THREE = contents("examples/three_part.toml")
 # Two clocks and a Byzantine node: `explore` prints a counterexample to agreement.
 PARTING = b"""nodes = 3
@@ -123,6 +124,7 @@ def asked(clockbed):
         ("dis", clock_image),
         ("asm", text),
         ("asm", clock),
+        ("compile", RULE),
         ("run", FOUR),
         ("sweep --keys 7..8 --workers 1", CHACHA),
         ("run --json --workers 1", THREE),

@@ -1,0 +1,157 @@
+#!/usr/bin/env python3
+"""Compiles rules, runs them, and compares with a second implementation of their meaning: tools/check_rules.py [PROGRAM]
+
+Rules are those of examples/rules/ and drawn ones. Each that compiles is verified, and run by `exec` in drawn cases: the
+memory that it leaves and what it sends must be those of tools/rule_meaning.py. Texts with drawn faults must be refused
+with the same error at the same place, or mean the same. PROGRAM is as for check_rows.py.
+"""
+import argparse
+import random
+import sys
+
+sys.dont_write_bytecode = True
+from built_program import TOP, answer, named_program, on_all_processors, tell
+from rule_meaning import MOST_FRAMES, Refused, Reader, pulse
+
+SEED, DRAWN, FAULTY, CASES = 9669, 300, 400, 3
+NODES = (1, 4, 7)
+PIECES = ["$", "(", ")", ":", ",", "if", "else", "count", "mail", "[", "]", "x", "none", "=", "==", "9" * 12, "to", " ", "\n", "\t"]
+OPERATORS = ["+", "-", "*", "/", "%", "==", "!=", "<", "<=", ">", ">=", "and", "or"]
+
+
+class Drawing:
+    """Draws rules: two words of memory, at most two lets, and loops that are at most one inside another."""
+
+    def __init__(self, dice):
+        self.dice = dice
+
+    def number(self, names):
+        leaves = ["0", "1", "2", "3", "4294967295", "n", "f", "M", "me", "coin", "none", "clock", "mark", *names]
+        return self.dice.choice(leaves)
+
+    def term(self, names, depth):
+        kind = self.dice.randrange(8) if depth else 0
+        inner = lambda more=(): self.term([*names, *more], depth - 1)
+        if kind < 2:
+            return self.number(names)
+        if kind == 2:
+            return f"mail[{inner()}]"
+        if kind == 3:
+            return f"({inner()} if {inner()} else {inner()})"
+        if kind == 4:
+            name = f"i{depth}"
+            return f"(count {name}: {inner([name])})"
+        if kind == 5:
+            return f"(not {inner()})"
+        return f"({inner()} {self.dice.choice(OPERATORS)} {inner()})"
+
+    def statement(self, names, targets, indent, depth):
+        front, term = "    " * indent, self.term(names, 2)
+        kind = self.dice.randrange(6 if depth else 4)
+        if kind == 0:
+            return f"{front}{self.dice.choice(targets)} = {term}\n"
+        if kind == 1:
+            return f"{front}clock, mark = {term}, {self.term(names, 1)}\n"
+        if kind == 2:
+            return f"{front}send {term}\n"
+        if kind == 3:
+            return f"{front}send {self.term(names, 1)} to {self.term(names, 1)}\n"
+        inner = lambda more=(): self.statement([*names, *more], targets, indent + 1, depth - 1)
+        if kind == 4:
+            return f"{front}if {term}:\n{inner()}{front}else:\n{inner()}"
+        return f"{front}for j{indent}:\n{inner([f'j{indent}'])}"
+
+    def rule(self):
+        lets = [f"x{it}" for it in range(self.dice.randrange(3))]
+        text = "state mark\n"
+        for number, name in enumerate(lets):
+            text += f"let {name} = {self.term(lets[:number], 2)}\n"
+        targets = ["clock", "mark", *lets]
+        return text + "".join(self.statement(lets, targets, 0, 2) for _ in range(self.dice.randint(1, 4)))
+
+
+def samples():
+    return [it.read_text(encoding="utf-8") for it in sorted(TOP.glob("examples/rules/*.rule"))]
+
+
+def sizes_of(nodes):
+    return argparse.Namespace(nodes=nodes, faults=(nodes - 1) // 3, modulus=8, memory=16, id=0, coin=0)
+
+
+def options_of(sizes):
+    return [f"--nodes={sizes.nodes}", f"--faults={sizes.faults}", f"--modulus={sizes.modulus}", f"--memory={sizes.memory}"]
+
+
+def drawn_case(dice, sizes):
+    """A node's number, coin, messages and memory."""
+    number = lambda: dice.choice([0, 1, 2, 3, 7, 8, 4294967294, dice.randrange(2**32)])
+    mail = [None if dice.random() < 0.2 else number() for _ in range(sizes.nodes)]
+    memory = b"".join(number().to_bytes(4, "little") for _ in range(sizes.memory // 4))
+    sizes.id, sizes.coin = dice.randrange(sizes.nodes), dice.randrange(2)
+    return mail, memory
+
+
+def listed(mail):
+    return ",".join("-" if it is None else str(it) for it in mail)
+
+
+def case_fault(program, image, text, sizes, case):
+    mail, memory = case
+    shape = options_of(sizes)
+    words = ["exec", shape[0], shape[3], f"--id={sizes.id}", f"--coin={sizes.coin}", f"--mail={listed(mail)}"]
+    got = answer(program, [*words, f"--contents={memory.hex()}", "--show"], image).out.decode().split("\n")[1:3]
+    left, sent = pulse(text.encode(), sizes, memory, mail)
+    wanted = [f"memory {left.hex()}", f"sent {listed(sent)}"]
+    return [] if got == wanted else [f"{words[1:]}: {got} in place of {wanted}:\n{text}"]
+
+
+def rule_faults(program, row):
+    """What is wrong of a rule: its compilation, its verdict, its runs."""
+    text, seed = row
+    dice = random.Random(seed)
+    for nodes in NODES:
+        sizes = sizes_of(nodes)
+        got = answer(program, ["compile", *options_of(sizes)], text.encode())
+        if got.out in (b"refused rule NoRoom\n", b"refused rule TooLong\n"):
+            continue
+        verdict = answer(program, ["verify", f"--nodes={nodes}", f"--memory={sizes.memory}"], got.out).out
+        if got.status or not verdict.startswith(b"accepted "):
+            yield f"{nodes} nodes: status {got.status}, {verdict[:80]}:\n{text}"
+            continue
+        for _ in range(CASES):
+            yield from case_fault(program, got.out, text, sizes, drawn_case(dice, sizes))
+
+
+def spoiled(dice, text):
+    """The text with a piece put in, or with some bytes taken out."""
+    at = dice.randrange(len(text) + 1)
+    if dice.random() < 0.5:
+        return text[:at] + dice.choice(PIECES) + text[at:]
+    return text[:at] + text[at + dice.randint(1, 3) :]
+
+
+def text_fault(program, row):
+    """Whether a text is refused by the same error, or taken as well."""
+    (text,) = row
+    got = answer(program, ["compile", "--memory=256"], text.encode())
+    try:
+        Reader(text.encode()).rule()
+        wanted = None
+    except Refused as why:
+        wanted = f"{why}\n".encode()
+    is_same = got.out == wanted if wanted else not got.out.startswith(b"refused rule ") or b" line " not in got.out
+    return [] if is_same else [f"{got.out[:80]} in place of {wanted}:\n{text}"]
+
+
+def main():
+    program, dice = named_program(), random.Random(SEED)
+    sys.setrecursionlimit(MOST_FRAMES)
+    rules = [*samples(), *(Drawing(dice).rule() for _ in range(DRAWN))]
+    texts = [spoiled(dice, dice.choice(rules)) for _ in range(FAULTY)]
+    found = on_all_processors(lambda row: list(rule_faults(program, row)), [(text, number) for number, text in enumerate(rules)])
+    found += on_all_processors(lambda row: text_fault(program, row), [(text,) for text in texts])
+    return tell("check_rules", {"rules": len(rules), "texts with faults": len(texts)}, found)
+
+
+if __name__ == "__main__":
+    sys.exit(main())
