@@ -47,7 +47,7 @@ class Refused(Exception):
 
 @dataclasses.dataclass
 class Token:
-    kind: str  # number, name, word, sign, end, in, out, stop, or fault: no token, for the error that the text names
+    kind: str  # number, name, word, sign, end, in, out, stop, stray, or fault: no token, for the error of that name
     text: str
     place: tuple
 
@@ -99,7 +99,7 @@ def indented(columns, column, place, is_first):
     while column < columns[-1]:
         columns.pop()
         if not columns or column > columns[-1]:
-            raise Refused("BadIndent", place)
+            yield Token("stray", "line of no block's column", place)
         yield Token("out", "end of block", place)
 
 
@@ -130,7 +130,7 @@ def token_at(code, at, place):
 
 def unexpected(token):
     """The error of a token where another one has to be."""
-    return Refused({"fault": token.text, "in": "BadIndent"}.get(token.kind, "Expected"), token.place)
+    return Refused({"fault": token.text, "in": "BadIndent", "stray": "BadIndent"}.get(token.kind, "Expected"), token.place)
 
 
 def is_word(token, text):
@@ -232,6 +232,8 @@ class Reader:
                 del self.names[name]
             return act
         self.next()
+        if self.now.kind == "stray":
+            raise Refused("Expected", self.now.place)
         self.expect_kind("in")
         self.blocks += 1
         if self.blocks > MOST_PARTS:
