@@ -11,7 +11,7 @@ _clockbed_offer() {
 _clockbed() {
   COMPREPLY=()
   if [ "$COMP_CWORD" -le 1 ]; then
-    mapfile -t COMPREPLY < <(compgen -W "exec asm dis verify run stress sweep explore help --help --version" -- "${COMP_WORDS[COMP_CWORD]}")
+    mapfile -t COMPREPLY < <(compgen -W "exec asm compile dis verify run stress sweep explore help --help --version" -- "${COMP_WORDS[COMP_CWORD]}")
     return
   fi
   case ${COMP_WORDS[COMP_CWORD - 1]} in
@@ -20,6 +20,7 @@ _clockbed() {
   case ${COMP_WORDS[1]} in
     exec) _clockbed_offer "--nodes --memory --fuel --id --mail --coin --contents --show --trace --help" files ;;
     asm) _clockbed_offer "--list --help" files ;;
+    compile) _clockbed_offer "--nodes --memory --faults --modulus --help" files ;;
     dis) _clockbed_offer "--list --clock --nodes --faults --modulus --help" files ;;
     verify) _clockbed_offer "--nodes --memory --text --explain --all --help" files ;;
     run) _clockbed_offer "--workers --check --json --from --until --help" files ;;

@@ -15,7 +15,7 @@ from rule_meaning import MOST_FRAMES, Refused, Reader, pulse
 
 SEED, DRAWN, FAULTY, CASES = 9669, 300, 400, 3
 NODES = (1, 4, 7)
-PIECES = ["$", "(", ")", ":", ",", "if", "else", "count", "mail", "[", "]", "x", "none", "=", "==", "9" * 12, "to", " ", "\n", "\t"]
+PIECES = ["$", "x", "9" * 12, " ", "\n", "\t", *"( ) : , if else count mail [ ] none = == to".split()]
 OPERATORS = ["+", "-", "*", "/", "%", "==", "!=", "<", "<=", ">", ">=", "and", "or"]
 
 
@@ -79,7 +79,7 @@ def sizes_of(nodes):
 
 
 def options_of(sizes):
-    return [f"--nodes={sizes.nodes}", f"--faults={sizes.faults}", f"--modulus={sizes.modulus}", f"--memory={sizes.memory}"]
+    return [f"--{name}={getattr(sizes, name)}" for name in ("nodes", "memory", "faults", "modulus")]
 
 
 def drawn_case(dice, sizes):
@@ -98,7 +98,7 @@ def listed(mail):
 def case_fault(program, image, text, sizes, case):
     mail, memory = case
     shape = options_of(sizes)
-    words = ["exec", shape[0], shape[3], f"--id={sizes.id}", f"--coin={sizes.coin}", f"--mail={listed(mail)}"]
+    words = ["exec", *shape[:2], f"--id={sizes.id}", f"--coin={sizes.coin}", f"--mail={listed(mail)}"]
     got = answer(program, [*words, f"--contents={memory.hex()}", "--show"], image).out.decode().split("\n")[1:3]
     left, sent = pulse(text.encode(), sizes, memory, mail)
     wanted = [f"memory {left.hex()}", f"sent {listed(sent)}"]
@@ -148,7 +148,8 @@ def main():
     sys.setrecursionlimit(MOST_FRAMES)
     rules = [*samples(), *(Drawing(dice).rule() for _ in range(DRAWN))]
     texts = [spoiled(dice, dice.choice(rules)) for _ in range(FAULTY)]
-    found = on_all_processors(lambda row: list(rule_faults(program, row)), [(text, number) for number, text in enumerate(rules)])
+    numbered = [(text, number) for number, text in enumerate(rules)]
+    found = on_all_processors(lambda row: list(rule_faults(program, row)), numbered)
     found += on_all_processors(lambda row: text_fault(program, row), [(text,) for text in texts])
     return tell("check_rules", {"rules": len(rules), "texts with faults": len(texts)}, found)
 

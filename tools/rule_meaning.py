@@ -130,7 +130,8 @@ def token_at(code, at, place):
 
 def unexpected(token):
     """The error of a token where another one has to be."""
-    return Refused({"fault": token.text, "in": "BadIndent", "stray": "BadIndent"}.get(token.kind, "Expected"), token.place)
+    names = {"fault": token.text, "in": "BadIndent", "stray": "BadIndent"}
+    return Refused(names.get(token.kind, "Expected"), token.place)
 
 
 def is_word(token, text):
