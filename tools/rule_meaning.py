@@ -15,7 +15,7 @@ import sys
 WORDS = "state let if elif else for count send to and or not mail n f M me coin none clock table sorted".split()
 TOKEN = re.compile(rb"(?P<number>[0-9]+)|(?P<name>[A-Za-z_][A-Za-z0-9_]*)|(?P<sign>==|!=|<=|>=|[-+*/%<>=,:()\[\]])")
 NONE, LIMIT = 2**32 - 1, 2**32
-MOST_LETTERS, MOST_PARTS, MOST_NAMES, MOST_LINES, MOST_TOKENS = 32, 200, 200, 2048, 1000
+MOST_LETTERS, MOST_PARTS, MOST_NAMES, MOST_LINES, MOST_TOKENS = 32, 200, 200, 512, 1000
 # Frames of a reader that is as deep as a rule may be.
 MOST_FRAMES = 20_000
 FIXED = ("n", "f", "M", "me", "coin", "none")
