@@ -49,7 +49,7 @@ ROWS = {
     ("compile", "modulus"): ([], RULE, "9"),
     ("dis", "list"): ([], IMAGE, None),
     ("dis", "clock"): ([], IMAGE, None),
-    ("dis", "nodes"): (["--clock"], IMAGE, "5"),
+    ("dis", "nodes"): (["--clock", "--faults", "0"], IMAGE, "5"),
     ("dis", "faults"): (["--clock", "--nodes", "64"], IMAGE, "2"),
     ("dis", "modulus"): (["--clock"], IMAGE, "9"),
     ("verify", "nodes"): ([], "mov64 r1, 7; call recv; exit", "8"),
