@@ -4,7 +4,7 @@ import { say, state, tell } from "./page.js";
 import { read } from "./toml.js";
 
 const PAUSE = 350, NUMBERS_AT_ONCE = 40000, LEAST_NEAR = 16, MAX_PULSES = 1000;
-const LOOP = /^# pulses? (\d+)(?: to (\d+))? (?:comes?|repeats?)\b/;
+const LOOP = /^# pulses? (\d+)(?: to (\d+))? (?:comes?|repeats?)\b/m;
 const runs = new Line(), windows = new Line();
 let timer = null, wanted = null;
 
@@ -50,7 +50,7 @@ function reject(words) {
   tell("refused", words);
 }
 
-/** The pulses that come again and again, as the scenario of a held-off clock says on its first line. */
+/** The pulses that come again and again, as the scenario of a clock that never agrees says in a comment. */
 function loopOf(text, pulses) {
   const found = LOOP.exec(text);
   if (!found) return null;
