@@ -71,6 +71,9 @@ ROWS = {
     ("explore", "mail"): ([], THREE, "0"),
     ("explore", "start"): (["--bytes", "0"], THREE, "any"),
     ("explore", "bytes"): (["--start", "any"], THREE, "0"),
+    ("explore", "cells"): (["--start", "any"], THREE, "0=0"),
+    ("explore", "said"): (["--start", "any", "--bytes", "0"], THREE, "0"),
+    ("explore", "ask"): ([], THREE, "stabilisation"),
     ("explore", "states"): ([], THREE, "2"),
     ("explore", "depth"): ([], THREE, "2"),
 }

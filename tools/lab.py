@@ -376,8 +376,12 @@ class Lab:
             words.append(f"--depth={number(body, 'depth', 1, MAX_STATES)}")
         if "mail" in body:
             words.append(f"--mail={text(body, 'mail', '[0-9.,]+')}")
+        if "ask" in body:
+            words.append(f"--ask={text(body, 'ask', '[a-z]+')}")
         if "bytes" in body:
             words += ["--start=any", f"--bytes={text(body, 'bytes', '[0-9.,]+')}"]
+        elif "cells" in body:
+            words += ["--start=any", f"--cells={text(body, 'cells', '[0-9.,=]+')}"]
         return self.asked(words, body, self.search_seconds, is_gone).told()
 
     def sweep(self, body, is_gone):

@@ -176,7 +176,7 @@ def try_rejections(trial, lab):
     trial.equal("an unknown question", lab.request(here + "shell", "{}")[0], 404)
     trial.equal("a file beside the page", lab.request(here + "../lab.py", method="GET")[0], 404)
     trial.equal("the method OPTIONS", lab.request(here + "run", method="OPTIONS")[0], 501)
-    options = {"mail": "--states=5", "depth": "1;ls", "bytes": "x"}
+    options = {"mail": "--states=5", "depth": "1;ls", "bytes": "x", "cells": "0=x", "ask": "--both"}
     for name, value in options.items():
         trial.equal(f"{name} {value}", lab.ask("explore", text=FOUR, states=5, **{name: value})[0], 400)
     trial.equal("the page itself", lab.request(here, method="GET")[0], 200)
@@ -729,6 +729,20 @@ def try_exploration(trial, page):
     trial.holds("it plays to the end", page.until("lab.state.at === 2") and page.until("lab.state.at === 3"))
     trial.holds("and stops there", page.until("document.getElementById('play').textContent === 'Play'"))
     try_lasso(trial, page)
+    try_counter(trial, page)
+
+
+def try_counter(trial, page):
+    """A counter is asked for its stabilisation alone, from any start of its one byte."""
+    page.open((TOP / "examples/explore/counter_of_2.toml").read_text(encoding="utf-8"))
+    page.choose("#question", "stabilisation")
+    page.choose("#start", "any")
+    page.put("#start-bytes", "4=0..2")
+    page.click("#explore")
+    shown = "document.getElementById('explored').textContent.includes('stabilises within 7 pulses')"
+    trial.holds("the counter's stabilisation time", page.until(shown), page.text("#explored"))
+    page.choose("#question", "both")
+    page.choose("#start", "zero")
 
 
 def held_off():

@@ -60,10 +60,13 @@ export function exploredText(run, nodes) {
 }
 
 function options() {
-  const asked = { states: Number(get("most-states").value) };
+  const asked = { states: Number(get("most-states").value), ask: get("question").value };
   if (get("depth").value) asked.depth = Number(get("depth").value);
   if (get("sent").value.trim()) asked.mail = get("sent").value.replace(/\s+/g, "");
-  if (get("start").value === "any") asked.bytes = get("start-bytes").value.replace(/\s+/g, "");
+  if (get("start").value === "any") {
+    const bytes = get("start-bytes").value.replace(/\s+/g, "");
+    asked[bytes.includes("=") ? "cells" : "bytes"] = bytes;
+  }
   return asked;
 }
 
@@ -110,7 +113,7 @@ async function search(text, asked) {
   const began = Date.now();
   for (let bound = Math.min(FIRST_BOUND, asked.states); ; bound = Math.min(bound * GROWS_BY, asked.states)) {
     const answer = await line.ask("explore", { text, ...asked, states: bound });
-    const seconds = ((Date.now() - began) / 1000).toFixed(1), states = /(\d+) states/.exec(answer.out)?.[1];
+    const seconds = ((Date.now() - began) / 1000).toFixed(1), states = /(\d+) states?/.exec(answer.out)?.[1];
     const isBound = answer.status === NOT_FINISHED && answer.out.includes("--states") && bound < asked.states;
     if (!isBound) {
       show(answer, seconds);

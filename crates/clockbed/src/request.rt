@@ -3,7 +3,7 @@ ghost use Rattle.std.specs.Prelude.{IfErr};
 ghost use Rattle.commands.specs.Faults.{IsOfCommandLine};
 
 use crate::exec_words::{CaseFault, exec_options};
-use crate::mail::{MailFault, bytes_in, mail_in};
+use crate::mail::{MailFault, bytes_in, cells_in, mail_in};
 use clap::error::ErrorKind;
 use clap::{ArgMatches, Error};
 use command_words::{
@@ -12,13 +12,22 @@ use command_words::{
 };
 use commands::Fault;
 use commands::request::{
-    ClockOptions, ClockRule, CompileOptions, Detail, ExplainOptions, ExploreOptions, LinesOptions,
-    Request, RunOptions, ShapeOptions, StressOptions, SweepOptions,
+    AnyStart, Cells, ClockOptions, ClockRule, CompileOptions, Detail, ExplainOptions,
+    ExploreOptions, LinesOptions, MailSpan, Question, Request, RunOptions, ShapeOptions,
+    StressOptions, SweepOptions,
 };
 use key_sweep::KeySpan;
 use run_lines::PulseSpan;
 use std::alloc::{AllocError, Global};
 use std::convert::AsStr;
+
+/// Why a text is no list of bytes.
+const BYTES_REASON: &str =
+    "the bytes are a list such as 0,254..255: numbers below 256, and ranges of them that rise";
+
+/// Why a text doesn't say what bytes may be.
+const CELLS_REASON: &str =
+    "the cells are places and bytes such as 0=0..7,4=0,1: places and bytes below 256, and ranges that rise";
 
 /// What the words ask for, and the file that they name for it to read.
 #[derive(Drop)]
@@ -223,21 +232,66 @@ fn sweep_options(options: &ArgMatches<'_>) -> Option<SweepOptions> {
     })
 }
 
-/// The bytes of memories at the start, where that may be any.
-fn start_bytes(alloc: Global, options: &ArgMatches<'_>) -> Result<Option<Vec<u8>>, OptionsFault> {
-    let start = options.get_str("start").unwrap_or("zero");
-    match (start, options.get_str("bytes")) {
-        ("zero", None) => Ok(None),
-        ("zero", Some(_)) => Err(OptionsFault::Reason("--bytes goes with --start any")),
-        ("any", None) => Err(OptionsFault::Reason("--start any needs --bytes LIST")),
-        ("any", Some(text)) => match bytes_in(alloc, text) {
-            Ok(Some(bytes)) => Ok(Some(bytes)),
-            Ok(None) => Err(OptionsFault::Reason(
-                "the bytes are a list such as 0,254..255: numbers below 256, and ranges of them that rise",
+/// What the bytes of memories may be at the start, if that is named.
+fn cells_asked(
+    alloc: Global,
+    options: &ArgMatches<'_>,
+) -> Result<Option<Vec<Cells>>, OptionsFault> {
+    let (named, reason) = match (options.get_str("bytes"), options.get_str("cells")) {
+        (None, None) => return Ok(None),
+        (Some(_), Some(_)) => {
+            return Err(OptionsFault::Reason("--bytes and --cells name the same bytes: take one of them"));
+        }
+        (Some(text), None) => (bytes_in(alloc, text), BYTES_REASON),
+        (None, Some(text)) => (cells_in(alloc, text), CELLS_REASON),
+    };
+    match named {
+        Ok(Some(cells)) => Ok(Some(cells)),
+        Ok(None) => Err(OptionsFault::Reason(reason)),
+        Err(_) => Err(OptionsFault::Memory),
+    }
+}
+
+/// The list of numbers of the option of this name, if it is there.
+fn list_asked(
+    alloc: Global,
+    options: &ArgMatches<'_>,
+    name: &str,
+) -> Result<Option<Vec<MailSpan>>, OptionsFault> {
+    match options.get_str(name) {
+        Some(text) => Ok(Some(mail_in(alloc, text)?)),
+        None => Ok(None),
+    }
+}
+
+/// The memories and messages at the start, if they may be any.
+fn any_start(alloc: Global, options: &ArgMatches<'_>) -> Result<Option<AnyStart>, OptionsFault> {
+    let cells = cells_asked(alloc, options)?;
+    let said = list_asked(alloc, options, "said")?;
+    match options.get_str("start").unwrap_or("zero") {
+        "zero" => {
+            if cells.is_some() || said.is_some() {
+                return Err(OptionsFault::Reason("--bytes, --cells and --said go with --start any"));
+            }
+            Ok(None)
+        }
+        "any" => match cells {
+            Some(cells) => Ok(Some(AnyStart { cells, said })),
+            None => Err(OptionsFault::Reason(
+                "--start any needs --bytes LIST or --cells LIST",
             )),
-            Err(_) => Err(OptionsFault::Memory),
         },
         _ => Err(OptionsFault::Reason("--start is zero or any")),
+    }
+}
+
+/// What is asked of a bench.
+fn question(options: &ArgMatches<'_>) -> Result<Question, OptionsFault> {
+    match options.get_str("ask").unwrap_or("both") {
+        "agreement" => Ok(Question::Agreement),
+        "stabilisation" => Ok(Question::Stabilisation),
+        "both" => Ok(Question::Both),
+        _ => Err(OptionsFault::Reason("--ask is agreement, stabilisation or both")),
     }
 }
 
@@ -245,14 +299,13 @@ fn explore_options(
     alloc: Global,
     options: &ArgMatches<'_>,
 ) -> Result<ExploreOptions, OptionsFault> {
-    let mail = match options.get_str("mail") {
-        Some(text) => Some(mail_in(alloc, text)?),
-        None => None,
-    };
-    let bytes = start_bytes(alloc, options)?;
+    let question = question(options)?;
+    let mail = list_asked(alloc, options, "mail")?;
+    let start = any_start(alloc, options)?;
     Ok(ExploreOptions {
+        question,
         mail,
-        bytes,
+        start,
         states: options.get_one::<u32>("states").unwrap_or(DEFAULT_STATES),
         depth: options.get_one::<u32>("depth").unwrap_or(MOST_STATES),
     })

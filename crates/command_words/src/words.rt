@@ -176,6 +176,12 @@ fn explore<'a>(alloc: Global, helps: &'a Helps) -> Building<'a> {
         "Explore all coins and all messages of --mail on a small bench",
         "Example: clockbed explore examples/explore/four_nodes.toml\nPage: docs/EXPLORE.md",
     );
+    let explore = explore.arg(text_option(
+        alloc,
+        "ask",
+        "QUESTION",
+        "What is asked: agreement, stabilisation or both [default: both]",
+    ));
     with_states(alloc, explore)
         .arg(count_option(alloc, "states", helps.states.as_str(), MOST_STATES))
         .arg(count_option(alloc, "depth", helps.depth.as_str(), MOST_STATES))
@@ -201,7 +207,19 @@ fn with_states<'a>(alloc: Global, command: Building<'a>) -> Building<'a> {
             alloc,
             "bytes",
             "LIST",
-            "What each of the first eight bytes of a memory may be at --start any, with any messages, as 0,254..255",
+            "What each of the first eight bytes of a memory may be at --start any, as 0,254..255",
+        ))
+        .arg(text_option(
+            alloc,
+            "cells",
+            "LIST",
+            "What named bytes of a memory may be at --start any, as 0=0..7,4=0,1; the others are zero",
+        ))
+        .arg(text_option(
+            alloc,
+            "said",
+            "LIST",
+            "Messages of nodes with programs at --start any, beside none, as 0..7,9 [default: as --mail]",
         ))
 }
 

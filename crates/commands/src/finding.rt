@@ -1,10 +1,12 @@
 //! What `explore` answers to the scenario that it read, and the line that says it.
-ghost use Rattle.std.specs.Prelude.{◌≡◌, ◌+◌, ◌++◌, IfOk, OnOk, Some, length, option_map, string_bytes};
-ghost use Rattle.commands.specs.Explore.{agreement_text, byzantine_text, cause_text, correct_text, count_text, finding_text, found_ending, found_text, liars_text, mark_of, marked, nodes_text, programmed_text, recovery_ending, recovery_text, shown_of, span_text, spans_text, start_text, tried_text, unfinished_text, unfit_name, violation_text};
+ghost use Rattle.std.specs.Prelude.{◌≡◌, ◌+◌, ◌++◌, [], IfOk, OnOk, Some, flat_map, length, string_bytes};
+ghost use Rattle.std.specs.Option.{option_map_or};
+ghost use Rattle.bench_space.specs.declared.recovery.Recovery.TheVariants.{InStep, Luck};
+ghost use Rattle.commands.specs.Explore.{agreement_text, any_start_text, byte_span_text, byzantine_text, cause_text, cells_text, correct_text, count_text, counted, finding_text, found_ending, found_text, liars_text, mark_of, marked, nodes_text, programmed_text, range_text, recovery_ending, recovery_text, shown_of, spans_text, tried_text, unfinished_text, unfit_name, violation_text};
 ghost use Rattle.commands.specs.declared.finding.Finding.TheVariants.{Searched};
 
 use crate::ending::Ending;
-use crate::request::MailSpan;
+use crate::request::{AnyStart, ByteSpan, Cells, MailSpan};
 use bench_space::{Cause, MOST_MAILS, Recovery};
 use scenario_text::{RefusalLine, ScenarioError};
 use std::alloc::{AllocError, Global};
@@ -14,8 +16,6 @@ use std::fmt::Write;
 /// What of a scenario can't be explored.
 #[derive(Clone, Copy, Debug, PartialEq, Eq)]
 pub enum Unfit {
-    /// Coins that are drawn by a key.
-    Coins,
     /// A load after pulse 1.
     Load,
     Unload,
@@ -40,19 +40,20 @@ pub struct Tried {
     pub faults: u32,
     /// The numbers that nodes without a program send.
     pub mail: Vec<MailSpan>,
-    /// The bytes of memories at the start, if it isn't at zero.
-    pub bytes: Option<Vec<u8>>,
+    /// What the line says of the memories and messages at the start: nothing if they are zero and none.
+    pub start: String,
 }
 
 /// What was found.
 #[derive(Debug, Drop)]
 pub enum Found {
-    /// Agreement holds where this was tried; and how the clocks stabilise, with the text of a counterexample if that can
-    /// be prevented and one was made.
-    Never {
+    /// Every transition was tried. Whether agreement was asked, and so holds; if it was asked, how the clocks
+    /// stabilise, with the text of a counterexample if that can be prevented and one was made.
+    Closed {
+        agrees: bool,
         states: u64,
         moves: u64,
-        recovery: Recovery,
+        recovery: Option<Recovery>,
         shown: Option<String>,
     },
     /// Agreement is violated in this pulse of the counterexample of this text.
@@ -76,7 +77,7 @@ pub enum Finding {
     Searched { tried: Tried, found: Found },
 }
 
-/// How the command ends that found agreement, and this of stabilisation.
+/// How the command ends that found this of stabilisation.
 fn recovery_ending(recovery: &Recovery) -> Ending
     ensures { result ≡ recovery_ending recovery.now }
 {
@@ -108,18 +109,28 @@ impl Found {
         ensures { result ≡ found_ending self.now }
     {
         match self {
-            Found::Never { recovery, .. } => recovery_ending(recovery),
+            Found::Closed { recovery, .. } => match recovery {
+                Some(recovery) => recovery_ending(recovery),
+                None => Ending::Done,
+            },
             Found::Parts { .. } => Ending::Violated,
             Found::Unfinished { .. } => Ending::Unfinished,
         }
     }
 }
 
-impl fmt::Display for MailSpan {
-    ghost output = { λ span. Some (span_text span) };
+/// The numbers from the first to the last, after a blank: one or two, or a range.
+#[derive(Clone, Copy)]
+struct Range {
+    first: u32,
+    last: u32,
+}
+
+impl fmt::Display for Range {
+    ghost output = { λ range. Some (range_text range.first range.last) };
 
     fn fmt<W: fmt::Write>(&self, f: &mut fmt::Formatter<W>) -> fmt::Result {
-        let MailSpan { first, last } = *self;
+        let Range { first, last } = *self;
         if last == first {
             write!(f, " {first}")
         } else if first.checked_add(1) == Some(last) {
@@ -135,7 +146,6 @@ impl fmt::Display for Unfit {
 
     fn fmt<W: fmt::Write>(&self, f: &mut fmt::Formatter<W>) -> fmt::Result {
         match self {
-            Unfit::Coins => write!(f, "coins"),
             Unfit::Load => write!(f, "load"),
             Unfit::Unload => write!(f, "unload"),
             Unfit::Corrupt => write!(f, "corrupt"),
@@ -156,26 +166,78 @@ fn add_nodes(alloc: Global, text: &mut String, nodes: &[u32]) -> Result<(), Allo
     Ok(())
 }
 
-/// Adds the bytes, each after a blank.
-fn add_bytes(alloc: Global, text: &mut String, bytes: &[u8]) -> Result<(), AllocError>
-    ensures { OnOk result (string_bytes text.new ≡ string_bytes text.old ++ nodes_text bytes.now) }
-{
-    for byte in bytes {
-        let part = format!(in alloc; " {byte}")?;
-        text.push_str(part.as_str())?;
-    }
-    Ok(())
-}
-
 /// Adds the spans, each after a blank.
 fn add_spans(alloc: Global, text: &mut String, mail: &[MailSpan]) -> Result<(), AllocError>
     ensures { OnOk result (string_bytes text.new ≡ string_bytes text.old ++ spans_text mail.now) }
 {
     for span in mail {
-        let part = format!(in alloc; "{span}")?;
+        let range = Range {
+            first: span.first,
+            last: span.last,
+        };
+        let part = format!(in alloc; "{range}")?;
         text.push_str(part.as_str())?;
     }
     Ok(())
+}
+
+/// Adds the bytes of spans, each span after a blank.
+fn add_byte_spans(alloc: Global, text: &mut String, values: &[ByteSpan]) -> Result<(), AllocError>
+    ensures { OnOk result (string_bytes text.new
+        ≡ string_bytes text.old ++ flat_map byte_span_text values.now) }
+{
+    for span in values {
+        let range = Range {
+            first: u32::from(span.first),
+            last: u32::from(span.last),
+        };
+        let part = format!(in alloc; "{range}")?;
+        text.push_str(part.as_str())?;
+    }
+    Ok(())
+}
+
+/// The places of an entry, and what their bytes may be.
+fn cells_line(alloc: Global, cells: &Cells) -> Result<String, AllocError>
+    ensures { IfOk result (λ text. string_bytes text ≡ cells_text cells.now) }
+{
+    let places = Range {
+        first: cells.first,
+        last: cells.last,
+    };
+    let mut values = String::new(alloc);
+    add_byte_spans(alloc, &mut values, &cells.values)?;
+    if cells.first == cells.last {
+        format!(in alloc; " byte{places} of{values},")
+    } else {
+        format!(in alloc; " bytes{places} of{values},")
+    }
+}
+
+/// Adds the entries.
+fn add_cells(alloc: Global, text: &mut String, all: &[Cells]) -> Result<(), AllocError>
+    ensures { OnOk result (string_bytes text.new ≡ string_bytes text.old ++ flat_map cells_text all.now) }
+{
+    for cells in all {
+        let part = cells_line(alloc, cells)?;
+        text.push_str(part.as_str())?;
+    }
+    Ok(())
+}
+
+/// What the line says of a start that isn't at zero: its memories, and the numbers of its messages.
+pub(crate) fn any_start_line(
+    alloc: Global,
+    any: &AnyStart,
+    said: &[MailSpan],
+) -> Result<String, AllocError>
+    ensures { IfOk result (λ text. string_bytes text ≡ any_start_text any.now said.now) }
+{
+    let mut cells = String::new(alloc);
+    add_cells(alloc, &mut cells, &any.cells)?;
+    let mut spans = String::new(alloc);
+    add_spans(alloc, &mut spans, said)?;
+    format!(in alloc; ", any start:{cells} messages none{spans}")
 }
 
 /// The correct nodes, and that they are all that are loaded if no node runs the clock.
@@ -240,20 +302,6 @@ fn count_line(alloc: Global, tried: &Tried) -> Result<String, AllocError>
     }
 }
 
-/// The bytes of memories at the start, where it isn't at zero.
-fn start_line(alloc: Global, bytes: &Option<Vec<u8>>) -> Result<String, AllocError>
-    ensures { IfOk result (λ text. string_bytes text ≡ start_text (option_map (λ v. v.items) bytes.now)) }
-{
-    match bytes {
-        None => Ok(String::new(alloc)),
-        Some(bytes) => {
-            let mut text = String::from_str(alloc, ", any start of bytes")?;
-            add_bytes(alloc, &mut text, bytes)?;
-            Ok(text)
-        }
-    }
-}
-
 /// The Byzantine nodes.
 fn byzantine_line(alloc: Global, tried: &Tried) -> Result<String, AllocError>
     ensures { IfOk result (λ text. string_bytes text ≡ byzantine_text tried.now) }
@@ -270,15 +318,53 @@ fn tried_line(alloc: Global, tried: &Tried) -> Result<String, AllocError>
 {
     let correct = correct_line(alloc, &tried.correct, tried.has_clock)?;
     let byzantine = byzantine_line(alloc, tried)?;
-    let start = start_line(alloc, &tried.bytes)?;
+    let start = &tried.start;
     format!(in alloc; "{correct}{byzantine}{start}")
 }
 
-/// That agreement holds.
-fn agreement_line(alloc: Global, states: u64, moves: u64) -> Result<String, AllocError>
-    ensures { IfOk result (λ text. string_bytes text ≡ agreement_text states moves) }
+/// So many of this.
+fn counted(alloc: Global, count: u64, word: &str) -> Result<String, AllocError>
+    ensures { IfOk result (λ text. string_bytes text ≡ counted count word.now) }
 {
-    format!(in alloc; "agreement holds: {states} states, {moves} transitions")
+    if count == 1 {
+        format!(in alloc; "{count} {word}")
+    } else {
+        format!(in alloc; "{count} {word}s")
+    }
+}
+
+/// That agreement holds, or wasn't asked.
+fn agreement_line(
+    alloc: Global,
+    agrees: bool,
+    states: u64,
+    moves: u64,
+) -> Result<String, AllocError>
+    ensures { IfOk result (λ text. string_bytes text ≡ agreement_text agrees states moves) }
+{
+    let states = counted(alloc, states, "state")?;
+    let moves = counted(alloc, moves, "transition")?;
+    if agrees {
+        format!(in alloc; "agreement holds: {states}, {moves}")
+    } else {
+        format!(in alloc; "agreement not asked: {states}, {moves}")
+    }
+}
+
+/// That they stabilise whatever the coins.
+fn in_step_line(alloc: Global, pulses: u64) -> Result<String, AllocError>
+    ensures { IfOk result (λ text. string_bytes text ≡ recovery_text (InStep pulses)) }
+{
+    let pulses = counted(alloc, pulses, "pulse")?;
+    format!(in alloc; "stabilises within {pulses}")
+}
+
+/// That they stabilise with some coins.
+fn luck_line(alloc: Global, pulses: u64) -> Result<String, AllocError>
+    ensures { IfOk result (λ text. string_bytes text ≡ recovery_text (Luck pulses)) }
+{
+    let pulses = counted(alloc, pulses, "pulse")?;
+    format!(in alloc; "may stabilise within {pulses}: from every reachable state some coins lead there")
 }
 
 /// How the clocks stabilise.
@@ -286,10 +372,8 @@ fn recovery_line(alloc: Global, recovery: &Recovery) -> Result<String, AllocErro
     ensures { IfOk result (λ text. string_bytes text ≡ recovery_text recovery.now) }
 {
     match recovery {
-        Recovery::InStep { pulses } => format!(in alloc; "stabilises within {pulses} pulses"),
-        Recovery::Luck { pulses } => format!(in alloc;
-            "may stabilise within {pulses} pulses: from every reachable state some coins lead there"
-        ),
+        Recovery::InStep { pulses } => in_step_line(alloc, *pulses),
+        Recovery::Luck { pulses } => luck_line(alloc, *pulses),
         Recovery::HeldOff { .. } => format!(in alloc; "stabilisation can be prevented for ever"),
         Recovery::Unknown => format!(in alloc;
             "stabilisation not decided: a state has more choices of coins than --states allows"
@@ -320,17 +404,17 @@ fn cause_line(alloc: Global, cause: Cause) -> Result<String, AllocError>
 fn violation_line(alloc: Global, pulse: u64, states: u64) -> Result<String, AllocError>
     ensures { IfOk result (λ text. string_bytes text ≡ violation_text pulse states) }
 {
-    format!(in alloc;
-        "agreement violated in pulse {pulse} ({states} states); a counterexample follows"
-    )
+    let states = counted(alloc, states, "state")?;
+    format!(in alloc; "agreement violated in pulse {pulse} ({states}); a counterexample follows")
 }
 
 /// That the search isn't finished.
 fn unfinished_line(alloc: Global, states: u64, cause: Cause) -> Result<String, AllocError>
     ensures { IfOk result (λ text. string_bytes text ≡ unfinished_text states cause) }
 {
+    let states = counted(alloc, states, "state")?;
     let cause = cause_line(alloc, cause)?;
-    format!(in alloc; "not finished: {states} states; {cause}")
+    format!(in alloc; "not finished: {states}; {cause}")
 }
 
 /// The line with its end, behind its mark.
@@ -340,23 +424,22 @@ fn marked(alloc: Global, mark: &str, line: &str) -> Result<String, AllocError>
     format!(in alloc; "{mark}{line}\n")
 }
 
-/// That agreement holds and how the clocks stabilise, each behind the mark.
-fn holds_text(
+/// How the clocks stabilise, behind the mark, if that was asked.
+fn recovery_told(
     alloc: Global,
     mark: &str,
-    states: u64,
-    moves: u64,
-    recovery: &Recovery,
+    recovery: &Option<Recovery>,
 ) -> Result<String, AllocError>
     ensures { IfOk result (λ text. string_bytes text
-        ≡ marked mark.now (agreement_text states moves) ++ marked mark.now (recovery_text recovery.now)) }
+        ≡ option_map_or (λ how. marked mark.now (recovery_text how)) recovery.now []) }
 {
-    let agreement = agreement_line(alloc, states, moves)?;
-    let mut text = marked(alloc, mark, agreement.as_str())?;
-    let recovery = recovery_line(alloc, recovery)?;
-    let second = marked(alloc, mark, recovery.as_str())?;
-    text.push_str(second.as_str())?;
-    Ok(text)
+    match recovery {
+        Some(how) => {
+            let line = recovery_line(alloc, how)?;
+            marked(alloc, mark, line.as_str())
+        }
+        None => Ok(String::new(alloc)),
+    }
 }
 
 impl Found {
@@ -366,7 +449,7 @@ impl Found {
     {
         match self {
             Found::Parts { shown, .. } => shown.as_str(),
-            Found::Never { shown, .. } => match shown {
+            Found::Closed { shown, .. } => match shown {
                 Some(shown) => shown.as_str(),
                 None => "",
             },
@@ -386,12 +469,19 @@ impl Found {
         ensures { IfOk result (λ text. string_bytes text ≡ found_text mark.now self.now) }
     {
         match self {
-            Found::Never {
+            Found::Closed {
+                agrees,
                 states,
                 moves,
                 recovery,
                 ..
-            } => holds_text(alloc, mark, *states, *moves, recovery),
+            } => {
+                let line = agreement_line(alloc, *agrees, *states, *moves)?;
+                let mut text = marked(alloc, mark, line.as_str())?;
+                let second = recovery_told(alloc, mark, recovery)?;
+                text.push_str(second.as_str())?;
+                Ok(text)
+            }
             Found::Parts { pulse, states, .. } => {
                 let line = violation_line(alloc, *pulse, *states)?;
                 marked(alloc, mark, line.as_str())

@@ -133,8 +133,6 @@ fn unexplored_note(unfit: Unfit) -> &'static [u8]
     ensures { IsNote result.now }
 {
     match unfit {
-        Unfit::Coins =>
-            b"note: explore tries both coins of each node: write coins = \"zeros\", without a key\n",
         Unfit::Load =>
             b"note: explore takes loads of pulse 1 alone: a correct node keeps its program\n",
         Unfit::Unload => b"note: explore takes no [[unload]]: a correct node keeps its program\n",

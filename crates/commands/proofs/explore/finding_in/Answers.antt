@@ -8,6 +8,6 @@ returns-clause-found g c = record {
   reads = c.in-Ok.ensures.reads;
   fit = c.in_default.ensures.none;
   who = c.in-Ok-tried_on.ensures;
-  holds = found_same c.args.options.now c.in-Ok-bed_for.bed (bed_of c.args.options.now c.in-Ok.scenario)
+  holds = found_same c.args.options.now c.in-Ok.scenario c.in-Ok-bed_for.bed (bed_of c.args.options.now c.in-Ok.scenario)
       c.in_ok-found.found c.in-Ok-bed_for.ensures c.in_ok-found.ensures.found;
 }
