@@ -15,7 +15,7 @@ _clockbed() {
     return
   fi
   case ${COMP_WORDS[COMP_CWORD - 1]} in
-    --bytes | --coin | --contents | --depth | --faults | --from | --fuel | --id | --keys | --loaders | --loads | --mail | --memory | --modulus | --nodes | --pulses | --start | --states | --until | --workers) return ;;
+    --ask | --bytes | --cells | --coin | --contents | --depth | --faults | --from | --fuel | --id | --keys | --loaders | --loads | --mail | --memory | --modulus | --nodes | --pulses | --said | --start | --states | --until | --workers) return ;;
   esac
   case ${COMP_WORDS[1]} in
     exec) _clockbed_offer "--nodes --memory --fuel --id --mail --coin --contents --show --trace --help" files ;;
@@ -26,7 +26,7 @@ _clockbed() {
     run) _clockbed_offer "--workers --check --json --from --until --help" files ;;
     stress) _clockbed_offer "--loaders --loads --pulses --workers --help" ;;
     sweep) _clockbed_offer "--keys --workers --help" files ;;
-    explore) _clockbed_offer "--mail --start --bytes --states --depth --help" files ;;
+    explore) _clockbed_offer "--ask --mail --start --bytes --cells --said --states --depth --help" files ;;
   esac
 }
 

@@ -201,7 +201,7 @@ fn with_states<'a>(alloc: Global, command: Building<'a>) -> Building<'a> {
             alloc,
             "start",
             "zero|any",
-            "Initial states: zeroed memories and no messages, or any of --bytes [default: zero]",
+            "Initial states: zeroed memories and no messages, or any of --bytes or --cells [default: zero]",
         ))
         .arg(text_option(
             alloc,
