@@ -442,6 +442,22 @@ fn recovery_told(
     }
 }
 
+/// The line on agreement, and how the clocks stabilise if that was asked, each behind the mark.
+fn answers_told(
+    alloc: Global,
+    mark: &str,
+    agreement: &str,
+    recovery: &Option<Recovery>,
+) -> Result<String, AllocError>
+    ensures { IfOk result (λ text. string_bytes text ≡ marked mark.now agreement.now
+        ++ option_map_or (λ how. marked mark.now (recovery_text how)) recovery.now []) }
+{
+    let mut text = marked(alloc, mark, agreement)?;
+    let second = recovery_told(alloc, mark, recovery)?;
+    text.push_str(second.as_str())?;
+    Ok(text)
+}
+
 impl Found {
     /// The counterexample, if there is one.
     fn shown(&self) -> &str
@@ -477,10 +493,7 @@ impl Found {
                 ..
             } => {
                 let line = agreement_line(alloc, *agrees, *states, *moves)?;
-                let mut text = marked(alloc, mark, line.as_str())?;
-                let second = recovery_told(alloc, mark, recovery)?;
-                text.push_str(second.as_str())?;
-                Ok(text)
+                answers_told(alloc, mark, line.as_str(), recovery)
             }
             Found::Parts { pulse, states, .. } => {
                 let line = violation_line(alloc, *pulse, *states)?;

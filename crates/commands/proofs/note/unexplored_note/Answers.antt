@@ -2,13 +2,6 @@ use Rattle.std.proofs.Common.{refl}
 use Rattle.std.specs.Prelude.{codes}
 use Rattle.commands.proofs.note.unexplored_note.Goals as goal
 
-pub returns-in-Coins : goal.returns-in-Coins
-returns-in-Coins g = record {
-  words = codes "explore tries both coins of each node: write coins = \"zeros\", without a key";
-  one_line = refl;
-  line_is = refl;
-}
-
 pub returns-in-Load : goal.returns-in-Load
 returns-in-Load g = record {
   words = codes "explore takes loads of pulse 1 alone: a correct node keeps its program";
