@@ -3,7 +3,8 @@
 
 Rules are those of examples/rules/ and drawn ones. Each that compiles is verified, and run by `exec` in drawn cases: the
 memory that it leaves and what it sends must be those of tools/rule_meaning.py. Texts with drawn faults must be refused
-with the same error at the same place, or mean the same. PROGRAM is as for check_rows.py.
+with the same error at the same place, or mean the same. The text that crates/clock_rule proves is that of
+examples/rules/clock.rule. PROGRAM is as for check_rows.py.
 """
 import argparse
 import random
@@ -72,6 +73,13 @@ class Drawing:
 
 def samples():
     return [it.read_text(encoding="utf-8") for it in sorted(TOP.glob("examples/rules/*.rule"))]
+
+
+def proved_text_faults():
+    """Whether the text of which laws speak isn't the example."""
+    example, source = TOP / "examples/rules/clock.rule", TOP / "crates/clock_rule/src/text.rt"
+    is_same = f'b"{example.read_text(encoding="utf-8")}"' in source.read_text(encoding="utf-8")
+    return [] if is_same else [f"{source}: its text isn't that of {example}"]
 
 
 def sizes_of(nodes):
@@ -149,7 +157,8 @@ def main():
     rules = [*samples(), *(Drawing(dice).rule() for _ in range(DRAWN))]
     texts = [spoiled(dice, dice.choice(rules)) for _ in range(FAULTY)]
     numbered = [(text, number) for number, text in enumerate(rules)]
-    found = on_all_processors(lambda row: list(rule_faults(program, row)), numbered)
+    found = proved_text_faults()
+    found += on_all_processors(lambda row: list(rule_faults(program, row)), numbered)
     found += on_all_processors(lambda row: text_fault(program, row), [(text,) for text in texts])
     return tell("check_rules", {"rules": len(rules), "texts with faults": len(texts)}, found)
 

@@ -1,0 +1,4 @@
+pub mod FormMeaning
+pub mod Choice
+pub mod Pair
+pub mod Reading
