@@ -1,5 +1,5 @@
 -- What a command does with the bytes that were read ahead of it, it does with its whole input.
-use Rattle.std.proofs.Common.{◌≡◌, ℕ, ◌≤◌, ◌<◌, Bool, true, false, List, length, take, refl, sym, arith, subst, ap, ◌∙◌, inl, inr}
+use Rattle.std.proofs.Common.{◌≡◌, ℕ, ◌+◌, ◌≤◌, ◌<◌, Bool, true, false, List, length, take, refl, sym, arith, subst, ap, ◌∙◌, inl, inr}
 use Rattle.std.specs.Prelude.{◌⊎◌, Option, Some, None, IfNone, IfSome, Result, Ok, Err}
 use Rattle.std.proofs.lemmas.Bool.{cases_lt}
 use Rattle.std.proofs.lemmas.List.{length-take-le, take_all, take-take}
@@ -21,6 +21,8 @@ use Rattle.commands.specs.declared.request.ExecOptions.{ExecOptions}
 use Rattle.commands.specs.declared.request.Request.{Request}
 use Rattle.commands.specs.declared.request.Request.TheVariants.{Exec, Asm, Compile, Dis, Clock, Verify, Explain, Run, Lines, Stress, Sweep, Explore, Help}
 use Rattle.commands.specs.inner.Ahead.{FailsSo, IsFrontFor}
+use Rattle.commands.specs.declared.asm.TheConstants.{TEXT_BYTES}
+use Rattle.commands.specs.Compile.{LeavesCompiled}
 use Rattle.commands.specs.Dis.{LeavesListing}
 use Rattle.commands.specs.declared.answer.Answer.{Answer}
 use Rattle.commands.specs.Answer.{AnswersLeaving, ending_of, told_text as answer_text}
@@ -195,7 +197,8 @@ front_carried (Explore asked) input bytes old new ended taken left =
 front_carried (Explain asked) input bytes old new ended taken left =
     subst (λ b. LeavesExplained old new asked b ended) (within (most_read asked.text) bytes input taken) left
 front_carried (Asm list) input bytes old new ended taken left = absurd taken
-front_carried (Compile asked) input bytes old new ended taken left = absurd taken
+front_carried (Compile asked) input bytes old new ended taken left =
+    subst (λ b. LeavesCompiled old new asked b ended) (within (TEXT_BYTES + 1) bytes input taken) left
 front_carried (Stress asked) input bytes old new ended taken left = absurd taken
 front_carried (Clock options) input bytes old new ended taken left = absurd taken
 front_carried (Help text) input bytes old new ended taken left = absurd taken
@@ -273,7 +276,7 @@ unread_known (Sweep asked) input old fault fails = unread_swept old input asked.
 unread_known (Explore asked) input old fault fails = unread_any _ _ (λ a. Done) old fault fails
 unread_known (Explain asked) input old fault fails = unread_any _ _ (λ a. Done) old fault fails
 unread_known (Asm list) input old fault fails = absurd fails
-unread_known (Compile asked) input old fault fails = absurd fails
+unread_known (Compile asked) input old fault fails = unread_any _ _ (λ a. Done) old fault fails
 unread_known (Stress asked) input old fault fails = absurd fails
 unread_known (Clock options) input old fault fails = absurd fails
 unread_known (Help text) input old fault fails = absurd fails
@@ -290,7 +293,7 @@ unread_carried (Sweep asked) None old fault fails = tt
 unread_carried (Explore asked) None old fault fails = tt
 unread_carried (Explain asked) None old fault fails = tt
 unread_carried (Asm list) None old fault fails = absurd fails
-unread_carried (Compile asked) None old fault fails = absurd fails
+unread_carried (Compile asked) None old fault fails = tt
 unread_carried (Stress asked) None old fault fails = absurd fails
 unread_carried (Clock options) None old fault fails = absurd fails
 unread_carried (Help text) None old fault fails = absurd fails

@@ -9,6 +9,7 @@ ghost use Rattle.commands.specs.Perform.{TakesFor, TakesShaped};
 ghost use Rattle.commands.specs.declared.image.TheConstants.{IMAGE_BYTES};
 ghost use Rattle.commands.specs.inner.Ahead.{FailsSo, IsFrontFor};
 
+use crate::asm;
 use crate::explore::read_text;
 use crate::fault::Fault;
 use crate::image::read_image;
@@ -37,11 +38,10 @@ pub(crate) fn read_ahead<R: Read>(
         Request::Run(_) | Request::Lines(_) | Request::Sweep(_) | Request::Explore(_) => {
             Ok(Some(read_text(alloc, reader)?))
         }
-        Request::Asm { .. }
-        | Request::Compile(_)
-        | Request::Clock(_)
-        | Request::Stress(_)
-        | Request::Help { .. } => Ok(None),
+        Request::Compile(_) => Ok(Some(asm::read_text(alloc, reader)?)),
+        Request::Asm { .. } | Request::Clock(_) | Request::Stress(_) | Request::Help { .. } => Ok(
+            None,
+        ),
     }
 }
 

@@ -39,7 +39,7 @@ pub fn compile<R: Read, W: Write>(
 }
 
 /// The program of the rule that a text is, or why there is none.
-fn compiled(
+pub(crate) fn compiled(
     alloc: Global,
     options: CompileOptions,
     text: &[u8],

@@ -3,10 +3,13 @@ ghost use Rattle.std.specs.Prelude.{Ok};
 ghost use Rattle.scenario_notes.specs.Words.{IsNote};
 ghost use Rattle.commands.specs.Perform.{SaysNote, SaysOf};
 
+use crate::compile::{Uncompiled, compiled};
 use crate::ending::Ending;
 use crate::explore::unfit_of;
 use crate::finding::Unfit;
-use crate::request::Request;
+use crate::request::{CompileOptions, Request, ShapeOptions};
+use rule_notes::note_on_rule;
+use rule_text::read_rule;
 use scenario_notes::note_on;
 use scenario_text::{Scenario, ScenarioError, scenario_in};
 use std::alloc::Global;
@@ -28,6 +31,26 @@ const TEXT_NOTE: &[u8] =
 /// The note on a scenario without a seed, where `sweep` needs one.
 const SEED_NOTE: &[u8] =
     b"note: sweep runs a scenario once for each seed: it needs coins = \"chacha\" and a key\n";
+
+/// The note on nodes and memory that are no shape.
+const SHAPE_NOTE: &[u8] =
+    b"note: --memory is a multiple of 8, from 8 to 256, and --nodes is from 1 to 64\n";
+
+/// The note on numbers that are no rule of clocks.
+const SIZES_NOTE: &[u8] =
+    b"note: --faults is less than --nodes, and --modulus is from 2 to 65536\n";
+
+/// The note on a rule with more words than the memory.
+const WORDS_NOTE: &[u8] =
+    b"note: clock and each name of state take 4 bytes of the memory: use a greater --memory, or fewer names\n";
+
+/// The note on a rule with more numbers at once than there are places.
+const NUMBERS_NOTE: &[u8] =
+    b"note: at most 3 numbers are in use at once, of let, count and unfinished terms: keep one in a name of state, or split a term\n";
+
+/// The note on a rule that is too long.
+const LONG_NOTE: &[u8] =
+    b"note: a program has at most 2048 slots, and for and count are written out for each node: use fewer of both, or fewer --nodes\n";
 
 /// Says of an ending what is to be said: the note on a refusal, where there is one. What `err` doesn't take is dropped.
 pub(crate) fn tell_ending<E: Write>(
@@ -56,11 +79,57 @@ fn tell_note<E: Write>(alloc: Global, request: &Request, input: &[u8], err: &mut
         Request::Run(_) | Request::Lines(_) | Request::Sweep(_) | Request::Explore(_) => {
             tell_scenario_note(alloc, request, input, err);
         }
-        Request::Asm { .. }
-        | Request::Compile(_)
-        | Request::Clock(_)
-        | Request::Stress(_)
-        | Request::Help { .. } => {}
+        Request::Compile(options) => tell_rule_note(alloc, *options, input, err),
+        Request::Asm { .. } | Request::Clock(_) | Request::Stress(_) | Request::Help { .. } => {}
+    }
+}
+
+/// Says why a text has no program.
+fn tell_rule_note<E: Write>(alloc: Global, options: CompileOptions, text: &[u8], err: &mut E)
+    ensures { SaysNote (E.contents err.old) (E.contents err.new) }
+{
+    match compiled(alloc, options, text) {
+        Ok(Err(uncompiled)) => tell_uncompiled_note(alloc, options.shape, text, uncompiled, err),
+        Ok(Ok(_)) | Err(_) => {}
+    }
+}
+
+fn tell_uncompiled_note<E: Write>(
+    alloc: Global,
+    shape: ShapeOptions,
+    text: &[u8],
+    uncompiled: Uncompiled,
+    err: &mut E,
+)
+    ensures { SaysNote (E.contents err.old) (E.contents err.new) }
+{
+    match uncompiled {
+        Uncompiled::Shape => say(SHAPE_NOTE, err),
+        Uncompiled::Sizes => say(SIZES_NOTE, err),
+        Uncompiled::Text {
+            error,
+            line,
+            column,
+        } => {
+            if let Ok(Some(note)) = note_on_rule(alloc, text, error, line, column) {
+                say(note.as_bytes(), err);
+            }
+        }
+        Uncompiled::Room => tell_room_note(alloc, shape, text, err),
+        Uncompiled::Long => say(LONG_NOTE, err),
+    }
+}
+
+/// Says what a rule has no room for.
+fn tell_room_note<E: Write>(alloc: Global, shape: ShapeOptions, text: &[u8], err: &mut E)
+    ensures { SaysNote (E.contents err.old) (E.contents err.new) }
+{
+    if let Ok(rule) = read_rule(alloc, text) {
+        if rule.words > (shape.memory / 4) as usize {
+            say(WORDS_NOTE, err);
+        } else {
+            say(NUMBERS_NOTE, err);
+        }
     }
 }
 

@@ -4,11 +4,11 @@
 mod advice;
 mod finding;
 mod known;
-mod near;
+pub mod near;
 mod note;
 mod noting;
 mod scan;
-mod shown;
+pub mod shown;
 mod slot_line;
 mod table;
 mod toml_fault;

@@ -21,16 +21,16 @@ fn edits(alloc: Global, name: &str, known: &str) -> Result<Option<usize>, AllocE
     }
 }
 
-/// The nearest of the known names, the first of several, if one is near.
-pub(crate) fn nearest(
+/// Returns the nearest of the known names, the first of several, if one is near.
+pub fn nearest<'a>(
     alloc: Global,
     name: &str,
-    known: &[&'static str],
-) -> Result<Option<&'static str>, AllocError> {
+    known: &[&'a str],
+) -> Result<Option<&'a str>, AllocError> {
     if name.len() > LONGEST_NAME {
         return Ok(None);
     }
-    let mut best: Option<(&'static str, usize)> = None;
+    let mut best: Option<(&'a str, usize)> = None;
     for other in known {
         if let Some(distance) = edits(alloc, name, other)? {
             let is_nearer = match best {

@@ -12,8 +12,8 @@ fn is_hidden(letter: char) -> bool {
         || matches!(letter, '\u{ad}' | '\u{61c}' | '\u{200b}'..='\u{200f}' | '\u{2028}'..='\u{202e}' | '\u{2060}'..='\u{206f}' | '\u{feff}')
 }
 
-/// The first characters of a text without the blanks at its ends; one that is hidden is a blank.
-pub(crate) fn shown(alloc: Global, text: &str) -> Result<String, AllocError> {
+/// Returns the first characters of a text without the blanks at its ends; one that is hidden is a blank.
+pub fn shown(alloc: Global, text: &str) -> Result<String, AllocError> {
     let mut line = String::new(alloc);
     for letter in text.trim().chars().take(MOST_SHOWN) {
         let plain = if is_hidden(letter) { ' ' } else { letter };

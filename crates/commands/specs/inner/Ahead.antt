@@ -1,6 +1,7 @@
 -- Beside Perform: what proofs and private contracts alone cite.
-use Rattle.std.specs.Prelude.{◌≡◌, ℕ, List, take}
+use Rattle.std.specs.Prelude.{◌≡◌, ℕ, ◌+◌, List, take}
 use Rattle.bench_scenario.specs.declared.run.TheConstants.{MOST_BYTES}
+use Rattle.commands.specs.declared.asm.TheConstants.{TEXT_BYTES}
 use Rattle.commands.specs.declared.fault.Fault.{Fault}
 use Rattle.commands.specs.declared.image.TheConstants.{IMAGE_BYTES}
 use Rattle.commands.specs.declared.request.Request.{Request}
@@ -19,7 +20,7 @@ IsFrontFor (Sweep asked) bytes input = bytes ≡ take MOST_BYTES input
 IsFrontFor (Explore asked) bytes input = bytes ≡ take MOST_BYTES input
 IsFrontFor (Explain asked) bytes input = bytes ≡ take (most_read asked.text) input
 IsFrontFor (Asm list) bytes input = ⊥
-IsFrontFor (Compile asked) bytes input = ⊥
+IsFrontFor (Compile asked) bytes input = bytes ≡ take (TEXT_BYTES + 1) input
 IsFrontFor (Stress asked) bytes input = ⊥
 IsFrontFor (Clock options) bytes input = ⊥
 IsFrontFor (Help text) bytes input = ⊥
@@ -35,7 +36,7 @@ FailsSo (Sweep asked) fault = IsBeforeWriting fault
 FailsSo (Explore asked) fault = IsBeforeWriting fault
 FailsSo (Explain asked) fault = IsBeforeWriting fault
 FailsSo (Asm list) fault = ⊥
-FailsSo (Compile asked) fault = ⊥
+FailsSo (Compile asked) fault = IsBeforeWriting fault
 FailsSo (Stress asked) fault = ⊥
 FailsSo (Clock options) fault = ⊥
 FailsSo (Help text) fault = ⊥

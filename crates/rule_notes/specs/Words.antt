@@ -1,0 +1,15 @@
+-- The words of a note on a rule (docs/RULES.md, "Errors").
+use Rattle.std.specs.Prelude.{◌≡◌, ℕ, List, ◌++◌, codes}
+use Rattle.std.specs.Fmt.{decimal}
+use Rattle.scenario_notes.specs.Words.{IsNote}
+
+-- a place of the rule, and what is said of it
+abbrev pub place_words : ℕ → ℕ → List ℕ → List ℕ
+place_words line column advice = codes "line " ++ (decimal line ++ (codes ", column "
+    ++ (decimal column ++ (codes ": " ++ advice))))
+
+-- the note is one line: the place, and after it advice, of which nothing is promised
+pub record TellsPlace (line column : ℕ) (note : List ℕ) : Type 0 where
+  pub advice : List ℕ
+  pub note_is : note ≡ codes "note: " ++ (place_words line column advice ++ codes "\n")
+  pub one_line : IsNote note

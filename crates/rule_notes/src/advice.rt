@@ -1,0 +1,128 @@
+//! What a note says of an error. Nothing is promised of it.
+
+use crate::character::of_character;
+use crate::expected::of_expected;
+use crate::names::Maker;
+use crate::place::{Place, place_in, shown_line};
+use crate::reading::{Reading, reading_at};
+use crate::walk::Next;
+use rule_text::RuleError;
+use scenario_notes::near::nearest;
+use scenario_notes::shown::shown;
+use std::alloc::{AllocError, Global};
+
+fn of_indent(alloc: Global, place: Place<'_>, reading: &Reading<'_>) -> Result<String, AllocError> {
+    if place.before.iter().any(|byte| *byte != b' ') {
+        return String::from_str(alloc, "only spaces indent a line");
+    }
+    match reading.columns_near() {
+        (Some(below), Some(above)) => {
+            format!(in alloc; "expected column {below} or {above}, those of open blocks")
+        }
+        (Some(below), None) => {
+            format!(in alloc; "expected column {below}; a deeper block follows a \":\"")
+        }
+        (None, Some(above)) => format!(in alloc; "expected column {above}, that of the first line"),
+        (None, None) => Ok(String::new(alloc)),
+    }
+}
+
+fn of_range(here: &str) -> &'static str {
+    match here.as_bytes() {
+        [b'0'..=b'9', ..] => "a number is at most 4294967295",
+        _ => "a name has at most 32 letters",
+    }
+}
+
+fn of_unknown(alloc: Global, reading: &mut Reading<'_>) -> Result<String, AllocError> {
+    reading.begin()?;
+    let known = reading.known(alloc)?;
+    let near = nearest(alloc, reading.here, known.as_slice())?;
+    let name = shown(alloc, reading.here)?;
+    let name = name.as_str();
+    match near {
+        Some(near) => format!(in alloc; "unknown name {name}; did you mean {near}?"),
+        None => format!(in alloc; "unknown name {name}"),
+    }
+}
+
+/// What to do with a name that has a meaning already.
+fn other_name(maker: Maker, before: Maker) -> &'static str {
+    match (maker, before) {
+        (Maker::Let, Maker::Let | Maker::State) => "without \"let\" the line sets it",
+        (Maker::Let | Maker::State | Maker::For | Maker::Count, _) => "choose another name",
+    }
+}
+
+fn of_twice(alloc: Global, reading: &Reading<'_>) -> Result<String, AllocError> {
+    let name = shown(alloc, reading.here)?;
+    let name = name.as_str();
+    let Next::Name(maker) = reading.walk.next else {
+        return format!(in alloc; "one statement sets {name} once");
+    };
+    match reading.declared() {
+        Some((line, before)) => {
+            let fix = other_name(maker, before);
+            format!(in alloc; "{name} has a meaning since line {line}; {fix}")
+        }
+        None => format!(in alloc; "{name} has a meaning already; choose another name"),
+    }
+}
+
+fn of_depth(reading: &Reading<'_>) -> &'static str {
+    if let Next::Name(_) = reading.walk.next {
+        return "at most 200 names are in scope: end a block, or use a name again";
+    }
+    if reading.begins_line {
+        return "at most 200 blocks are in one another";
+    }
+    "at most 200 parts are in one another: name an inner one with \"let\""
+}
+
+fn of_length(reading: &Reading<'_>) -> &'static str {
+    if reading.begins_line {
+        "a rule has at most 512 lines with tokens: set several names in one, or use \"for\""
+    } else {
+        "a line has at most 1000 tokens: name parts of it with \"let\""
+    }
+}
+
+fn words_on(
+    alloc: Global,
+    place: Place<'_>,
+    error: RuleError,
+    mut reading: Reading<'_>,
+) -> Result<String, AllocError> {
+    match error {
+        RuleError::BadCharacter => of_character(alloc, place.rest),
+        RuleError::BadIndent => of_indent(alloc, place, &reading),
+        RuleError::OutOfRange => String::from_str(alloc, of_range(reading.here)),
+        RuleError::Expected => of_expected(alloc, &mut reading),
+        RuleError::UnknownName => of_unknown(alloc, &mut reading),
+        RuleError::NameTwice => of_twice(alloc, &reading),
+        RuleError::NotAssignable => String::from_str(
+            alloc,
+            "only \"clock\" and names of \"let\" and \"state\" can be set",
+        ),
+        RuleError::TooDeep => String::from_str(alloc, of_depth(&reading)),
+        RuleError::TooLong => String::from_str(alloc, of_length(&reading)),
+    }
+}
+
+/// Returns the line of an error, and what is wrong there.
+pub(crate) fn advice_on(
+    alloc: Global,
+    text: &[u8],
+    error: RuleError,
+    line: usize,
+    column: usize,
+) -> Result<String, AllocError> {
+    let place = place_in(text, line, column);
+    let reading = reading_at(alloc, place, line, column)?;
+    let line = shown_line(alloc, place)?;
+    let words = words_on(alloc, place, error, reading)?;
+    if line.len() == 0 || words.len() == 0 {
+        return format!(in alloc; "{line}{words}");
+    }
+    format!(in alloc; "{line}; {words}")
+}

@@ -1,0 +1,79 @@
+//! The line of an error, and what a note shows of it.
+
+use crate::token::first_of;
+use scenario_notes::shown::shown;
+use std::alloc::{AllocError, Global};
+use std::str;
+
+/// The most bytes of a line before a place that are shown.
+const MOST_BEFORE: usize = 100;
+
+/// A place in a line of a text.
+#[derive(Clone, Copy)]
+pub(crate) struct Place<'a> {
+    /// The line without its end.
+    pub(crate) line: &'a [u8],
+    /// The bytes of the line before the place.
+    pub(crate) before: &'a [u8],
+    /// All bytes from the place on.
+    pub(crate) rest: &'a [u8],
+    /// The text up to the end of the token at the place.
+    pub(crate) through: &'a [u8],
+}
+
+/// Returns where a line of a text begins, counted from 1.
+fn line_start(text: &[u8], line: usize) -> usize {
+    let mut left = line;
+    for (i, byte) in text.iter().enumerate() {
+        if left <= 1 {
+            return i;
+        }
+        if *byte == b'\n' {
+            left = left.saturating_sub(1);
+        }
+    }
+    text.len()
+}
+
+/// Returns the bytes up to the first one of these.
+fn up_to(text: &[u8], end: u8) -> &[u8] {
+    let length = text
+        .iter()
+        .position(|byte| *byte == end)
+        .unwrap_or(text.len());
+    &text[..length.min(text.len())]
+}
+
+/// Returns a place of a text, with line and column counted from 1, in bytes.
+pub(crate) fn place_in(text: &[u8], line: usize, column: usize) -> Place<'_> {
+    let start = line_start(text, line).min(text.len());
+    let from = &text[start..];
+    let length = column.saturating_sub(1).min(from.len());
+    let rest = &from[length..];
+    let end = start
+        .saturating_add(length)
+        .saturating_add(first_of(rest).len());
+    Place {
+        line: up_to(from, b'\n'),
+        before: &from[..length],
+        rest,
+        through: &text[..end.min(text.len())],
+    }
+}
+
+/// Returns the line of a place as a note shows it, without its comment: of a long line only what is near the place.
+pub(crate) fn shown_line(alloc: Global, place: Place<'_>) -> Result<String, AllocError> {
+    let line = up_to(place.line, b'#');
+    let cut = if place.before.len() > MOST_BEFORE {
+        place.before.len().saturating_sub(MOST_BEFORE / 2)
+    } else {
+        0
+    };
+    let near = &line[cut.min(line.len())..];
+    let words = shown(alloc, str::from_utf8(near).unwrap_or_default())?;
+    if cut == 0 {
+        return Ok(words);
+    }
+    let words = words.as_str();
+    format!(in alloc; "..{words}")
+}

@@ -1,0 +1,141 @@
+//! What is known at the token of an error.
+
+use crate::names::Maker;
+use crate::place::Place;
+use crate::token::tokens_of;
+use crate::walk::{Grade, Next, Walk};
+use std::alloc::{AllocError, Global};
+
+/// A token, and what is known before it.
+#[derive(Drop)]
+pub(crate) struct Reading<'a> {
+    pub(crate) walk: Walk<'a>,
+    /// How the token is written: nothing at the end of the text.
+    pub(crate) here: &'a str,
+    pub(crate) line: usize,
+    pub(crate) column: usize,
+    pub(crate) begins_line: bool,
+    /// The line of the token before it.
+    pub(crate) last_line: usize,
+}
+
+/// Returns what is known at a token of this line and column.
+pub(crate) fn reading_at<'a>(
+    alloc: Global,
+    place: Place<'a>,
+    line: usize,
+    column: usize,
+) -> Result<Reading<'a>, AllocError> {
+    let tokens = tokens_of(alloc, place.through)?;
+    let mut reading = Reading {
+        walk: Walk::new(alloc),
+        here: "",
+        line,
+        column,
+        begins_line: false,
+        last_line: 0,
+    };
+    for token in &tokens {
+        if token.line == line && token.column == column {
+            reading.here = token.text;
+            reading.begins_line = token.begins_line;
+        } else {
+            reading.walk.read(*token)?;
+            reading.last_line = token.line;
+        }
+    }
+    Ok(reading)
+}
+
+impl<'a> Reading<'a> {
+    /// Begins the token's line, if it is the first of it.
+    pub(crate) fn begin(&mut self) -> Result<(), AllocError> {
+        if self.begins_line {
+            self.walk.begin_line(self.column)?;
+        }
+        Ok(())
+    }
+
+    /// Returns true if the token is on a line that should be deeper.
+    pub(crate) fn is_shallow(&self) -> bool {
+        self.begins_line
+            && matches!(self.walk.next, Next::Block)
+            && self.column <= self.block_column()
+    }
+
+    /// Returns the column of the last line before the token.
+    pub(crate) fn block_column(&self) -> usize {
+        self.walk.columns.last().copied().unwrap_or_default()
+    }
+
+    /// Returns the columns of open blocks on both sides of the token's.
+    pub(crate) fn columns_near(&self) -> (Option<usize>, Option<usize>) {
+        let mut least = usize::MAX;
+        let mut below: Option<usize> = None;
+        let mut above: Option<usize> = None;
+        for column in self.walk.columns.iter().rev() {
+            if *column < least {
+                least = *column;
+                if *column > self.column {
+                    above = Some(*column);
+                } else if *column < self.column && below.is_none() {
+                    below = Some(*column);
+                }
+            }
+        }
+        (below, above)
+    }
+
+    /// Returns the line of the last name in scope that is written like the token, and what made it.
+    pub(crate) fn declared(&self) -> Option<(usize, Maker)> {
+        for declared in self.walk.names.iter().rev() {
+            if declared.is_in_scope() && declared.name == self.here {
+                return Some((declared.line, declared.maker));
+            }
+        }
+        None
+    }
+
+    /// Returns the words and names in scope that can be at the token's place.
+    pub(crate) fn known(&self, alloc: Global) -> Result<Vec<&'a str>, AllocError> {
+        let is_operand = matches!(self.walk.next, Next::Operand(_));
+        let mut known = Vec::new(alloc);
+        for declared in self.walk.names.iter() {
+            if declared.is_in_scope() && (is_operand || is_assignable(declared.maker)) {
+                known.push(declared.name)?;
+            }
+        }
+        for word in words_at(self.walk.next) {
+            known.push(*word)?;
+        }
+        Ok(known)
+    }
+}
+
+fn is_assignable(maker: Maker) -> bool {
+    match maker {
+        Maker::State | Maker::Let => true,
+        Maker::For | Maker::Count => false,
+    }
+}
+
+/// Returns the reserved words of more than two letters that can come next.
+fn words_at(next: Next) -> &'static [&'static str] {
+    match next {
+        Next::Statement => &["clock", "let", "send", "for", "elif", "else", "state"],
+        Next::Block => &["clock", "let", "send"],
+        Next::Target(_) => &["clock"],
+        Next::Operand(Grade::Whole) => &["clock", "coin", "none", "mail", "count", "not"],
+        Next::Operand(Grade::Inverse) => &["clock", "coin", "none", "mail", "not"],
+        Next::Operand(Grade::Atom) => &["clock", "coin", "none", "mail"],
+        Next::Name(_)
+        | Next::MoreNames
+        | Next::Becomes
+        | Next::MoreTargets(_)
+        | Next::BlockColon
+        | Next::CountColon
+        | Next::Square
+        | Next::AfterTerm
+        | Next::Unknown => &[],
+    }
+}

@@ -1,0 +1,311 @@
+//! What may follow the first tokens of a rule, by its grammar (docs/RULES.md, "Terms" and "Statements"), and the names
+//! that are in scope there. Nothing is promised of it.
+
+use crate::names::{Declared, Maker};
+use crate::token::{Kind, Token, kind_of};
+use std::alloc::{AllocError, Global};
+
+/// The words that are terms by themselves.
+const LEAVES: [&str; 7] = ["n", "f", "M", "me", "coin", "none", "clock"];
+
+/// What can begin an operand: `not` no operand of arithmetic, and `count` only a whole term.
+#[derive(Clone, Copy)]
+pub(crate) enum Grade {
+    Whole,
+    Inverse,
+    Atom,
+}
+
+/// What has to come next.
+#[derive(Clone, Copy)]
+pub(crate) enum Next {
+    /// The first word of a line.
+    Statement,
+    /// A block after its colon.
+    Block,
+    Name(Maker),
+    /// A comma or the end of the line, after a name of `state`.
+    MoreNames,
+    /// The `=` of a `let`.
+    Becomes,
+    /// A target of an assignment, after this many.
+    Target(usize),
+    /// A comma or `=`, after this many targets.
+    MoreTargets(usize),
+    BlockColon,
+    CountColon,
+    /// The bracket after `mail`.
+    Square,
+    Operand(Grade),
+    /// An operator, or the end of the term.
+    AfterTerm,
+    /// Nothing is known.
+    Unknown,
+}
+
+/// What a term is part of.
+#[derive(Clone, Copy)]
+pub(crate) enum Part {
+    /// Round brackets with their line. `compared` is true if the term around them has its comparison.
+    Round { line: usize, compared: bool },
+    Square { line: usize, compared: bool },
+    /// The test of a choice: `else` ends it.
+    Test,
+    /// What follows `if` or `elif`: a colon ends it.
+    Condition,
+    /// What is sent: `to` can follow.
+    Sent,
+    /// A value: this many further ones follow.
+    Value(usize),
+}
+
+/// What is known after the first tokens of a rule.
+#[derive(Drop)]
+pub(crate) struct Walk<'a> {
+    pub(crate) next: Next,
+    /// The parts that the term is in, the innermost last.
+    pub(crate) parts: Vec<Part>,
+    /// Whether the term has its comparison.
+    pub(crate) compared: bool,
+    pub(crate) names: Vec<Declared<'a>>,
+    /// The columns of the lines.
+    pub(crate) columns: Vec<usize>,
+    /// Whether the statement is on the line of its block's colon.
+    is_inside: bool,
+}
+
+impl<'a> Walk<'a> {
+    /// At the beginning of a text.
+    pub(crate) fn new(alloc: Global) -> Walk<'a> {
+        Walk {
+            next: Next::Statement,
+            parts: Vec::new(alloc),
+            compared: false,
+            names: Vec::new(alloc),
+            columns: Vec::new(alloc),
+            is_inside: false,
+        }
+    }
+
+    /// Returns the innermost part.
+    pub(crate) fn part(&self) -> Option<Part> {
+        self.parts.last().copied()
+    }
+
+    /// Returns true if the line may end here.
+    pub(crate) fn may_end(&self) -> bool {
+        match self.next {
+            Next::Statement | Next::Block | Next::MoreNames => true,
+            Next::AfterTerm => matches!(self.part(), Some(Part::Sent | Part::Value(0))),
+            Next::Name(_)
+            | Next::Becomes
+            | Next::Target(_)
+            | Next::MoreTargets(_)
+            | Next::BlockColon
+            | Next::CountColon
+            | Next::Square
+            | Next::Operand(_)
+            | Next::Unknown => false,
+        }
+    }
+
+    /// Begins a line in a column.
+    pub(crate) fn begin_line(&mut self, column: usize) -> Result<(), AllocError> {
+        self.next = if self.may_end() {
+            Next::Statement
+        } else {
+            Next::Unknown
+        };
+        self.parts.clear();
+        self.compared = false;
+        self.is_inside = false;
+        for declared in self.names.iter_mut() {
+            declared.begin_line(column);
+        }
+        self.columns.push(column)?;
+        Ok(())
+    }
+
+    /// Reads a token.
+    pub(crate) fn read(&mut self, token: Token<'a>) -> Result<(), AllocError> {
+        if token.begins_line {
+            self.begin_line(token.column)?;
+        }
+        self.next = match self.next {
+            Next::Statement => self.after_first(token.text)?,
+            Next::Block => self.after_simple(token.text)?,
+            Next::Name(maker) => self.after_name(maker, token)?,
+            Next::MoreNames => on(token.text, ",", Next::Name(Maker::State)),
+            Next::Becomes if token.text == "=" => self.enter(Part::Value(0))?,
+            Next::Target(count) => after_target(token.text, count),
+            Next::MoreTargets(count) => self.after_targets(token.text, count)?,
+            Next::BlockColon if token.text == ":" => self.into_block(),
+            Next::CountColon => on(token.text, ":", Next::Operand(Grade::Whole)),
+            Next::Square if token.text == "[" => self.enter(Part::Square {
+                line: token.line,
+                compared: self.compared,
+            })?,
+            Next::Operand(grade) => self.after_operand(grade, token)?,
+            Next::AfterTerm => self.after_term(token.text)?,
+            Next::Becomes | Next::BlockColon | Next::Square | Next::Unknown => Next::Unknown,
+        };
+        Ok(())
+    }
+
+    fn after_first(&mut self, text: &str) -> Result<Next, AllocError> {
+        match text {
+            "state" => Ok(Next::Name(Maker::State)),
+            "for" => Ok(Next::Name(Maker::For)),
+            "if" | "elif" => self.enter(Part::Condition),
+            "else" => Ok(Next::BlockColon),
+            _ => self.after_simple(text),
+        }
+    }
+
+    fn after_simple(&mut self, text: &str) -> Result<Next, AllocError> {
+        match text {
+            "let" => Ok(Next::Name(Maker::Let)),
+            "send" => self.enter(Part::Sent),
+            _ => Ok(after_target(text, 0)),
+        }
+    }
+
+    fn after_name(&mut self, maker: Maker, token: Token<'a>) -> Result<Next, AllocError> {
+        let Kind::Name = kind_of(token.text) else {
+            return Ok(Next::Unknown);
+        };
+        let column = self.columns.last().copied().unwrap_or_default();
+        self.names.push(Declared {
+            name: token.text,
+            line: token.line,
+            maker,
+            column: maker.column(column, self.is_inside),
+            depth: self.parts.len(),
+            is_visible: maker.is_visible(),
+            is_ended: false,
+        })?;
+        match maker {
+            Maker::State => Ok(Next::MoreNames),
+            Maker::Let => Ok(Next::Becomes),
+            Maker::For => Ok(Next::BlockColon),
+            Maker::Count => Ok(Next::CountColon),
+        }
+    }
+
+    fn after_targets(&mut self, text: &str, count: usize) -> Result<Next, AllocError> {
+        match text {
+            "," => Ok(Next::Target(count)),
+            "=" => self.enter(Part::Value(count.saturating_sub(1))),
+            _ => Ok(Next::Unknown),
+        }
+    }
+
+    fn after_operand(&mut self, grade: Grade, token: Token<'a>) -> Result<Next, AllocError> {
+        match token.text {
+            "(" => self.enter(Part::Round {
+                line: token.line,
+                compared: self.compared,
+            }),
+            "mail" => Ok(Next::Square),
+            "not" if !matches!(grade, Grade::Atom) => Ok(Next::Operand(Grade::Inverse)),
+            "count" if matches!(grade, Grade::Whole) => Ok(Next::Name(Maker::Count)),
+            text if is_operand(text) => Ok(Next::AfterTerm),
+            _ => Ok(Next::Unknown),
+        }
+    }
+
+    fn after_term(&mut self, text: &str) -> Result<Next, AllocError> {
+        match text {
+            "+" | "-" | "*" | "/" | "%" => Ok(Next::Operand(Grade::Atom)),
+            "==" | "!=" | "<" | "<=" | ">" | ">=" if !self.compared => {
+                self.compared = true;
+                Ok(Next::Operand(Grade::Atom))
+            }
+            "and" | "or" => {
+                self.compared = false;
+                Ok(Next::Operand(Grade::Inverse))
+            }
+            "if" if !matches!(self.part(), Some(Part::Test)) => {
+                self.enter(Part::Test)?;
+                Ok(Next::Operand(Grade::Inverse))
+            }
+            _ => self.after_part(text),
+        }
+    }
+
+    /// What follows the end of the innermost part.
+    fn after_part(&mut self, text: &str) -> Result<Next, AllocError> {
+        match self.part() {
+            Some(Part::Round { compared, .. }) if text == ")" => Ok(self.close(compared)),
+            Some(Part::Square { compared, .. }) if text == "]" => Ok(self.close(compared)),
+            Some(Part::Test) if text == "else" => {
+                self.leave();
+                Ok(Next::Operand(Grade::Whole))
+            }
+            Some(Part::Condition) if text == ":" => {
+                self.leave();
+                Ok(self.into_block())
+            }
+            Some(Part::Sent) if text == "to" => {
+                self.leave();
+                self.enter(Part::Value(0))
+            }
+            Some(Part::Value(count)) if text == "," && count > 0 => {
+                self.leave();
+                self.enter(Part::Value(count.saturating_sub(1)))
+            }
+            Some(_) | None => Ok(Next::Unknown),
+        }
+    }
+
+    fn into_block(&mut self) -> Next {
+        self.is_inside = true;
+        Next::Block
+    }
+
+    /// Begins a part, with a whole term.
+    fn enter(&mut self, part: Part) -> Result<Next, AllocError> {
+        self.parts.push(part)?;
+        self.compared = false;
+        Ok(Next::Operand(Grade::Whole))
+    }
+
+    /// Ends the innermost part, and the names of `count` in it.
+    fn leave(&mut self) {
+        let _ = self.parts.pop();
+        self.compared = false;
+        let depth = self.parts.len();
+        for declared in self.names.iter_mut() {
+            declared.leave(depth);
+        }
+    }
+
+    fn close(&mut self, compared: bool) -> Next {
+        self.leave();
+        self.compared = compared;
+        Next::AfterTerm
+    }
+}
+
+/// Returns the next if the token is the wanted one.
+fn on(text: &str, wanted: &str, next: Next) -> Next {
+    if text == wanted { next } else { Next::Unknown }
+}
+
+fn after_target(text: &str, before: usize) -> Next {
+    let is_target = text == "clock" || matches!(kind_of(text), Kind::Name);
+    if is_target {
+        Next::MoreTargets(before.saturating_add(1))
+    } else {
+        Next::Unknown
+    }
+}
+
+/// Returns true for a token that is a term by itself.
+fn is_operand(text: &str) -> bool {
+    match kind_of(text) {
+        Kind::Number | Kind::Name => true,
+        Kind::Reserved => LEAVES.iter().any(|word| *word == text),
+        Kind::Sign => false,
+    }
+}
