@@ -1,7 +1,6 @@
 -- The program on standard input: that of an image, or of a text where that is asked for.
 use Rattle.std.specs.Prelude.{◌≡◌, ℕ, ◌+◌, List, Bool, true, false, Ok, Err}
 use Rattle.bpf_insn.specs.declared.forms.Insn.{Insn}
-use Rattle.bpf_asm.specs.declared.text_error.TextError.{TextError}
 use Rattle.commands.specs.declared.asm.TheConstants.{TEXT_BYTES}
 use Rattle.commands.specs.declared.image.TheConstants.{IMAGE_BYTES}
 use Rattle.commands.specs.declared.image.Refusal.TheVariants.{Shape, Image}

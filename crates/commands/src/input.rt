@@ -58,7 +58,11 @@ pub(crate) fn program_asked<R: Read>(
     };
     let bytes = read_bytes(alloc, text, reader)?;
     match program_of(alloc, text, bytes.as_slice())? {
-        Ok(program) => Ok(Ok(ProgramRead { shape, program, bytes })),
+        Ok(program) => Ok(Ok(ProgramRead {
+            shape,
+            program,
+            bytes,
+        })),
         Err(unread) => Ok(Err(unread)),
     }
 }
