@@ -18,7 +18,7 @@ _clockbed() {
     --ask | --bytes | --cells | --coin | --contents | --depth | --faults | --from | --fuel | --id | --keys | --loaders | --loads | --mail | --memory | --modulus | --nodes | --pulses | --said | --start | --states | --until | --workers) return ;;
   esac
   case ${COMP_WORDS[1]} in
-    exec) _clockbed_offer "--nodes --memory --fuel --id --mail --coin --contents --show --trace --help" files ;;
+    exec) _clockbed_offer "--nodes --memory --text --fuel --id --mail --coin --contents --show --trace --help" files ;;
     asm) _clockbed_offer "--list --help" files ;;
     compile) _clockbed_offer "--nodes --memory --faults --modulus --help" files ;;
     dis) _clockbed_offer "--list --clock --nodes --faults --modulus --help" files ;;

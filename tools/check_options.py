@@ -35,6 +35,7 @@ HEARS = "mov64 r6, r1; {}; stxw [r6+0], r0; mov64 r0, 0; exit"
 ROWS = {
     ("exec", "nodes"): (["--mail", "1"], None, "1"),
     ("exec", "memory"): (["--show"], IMAGE, "24"),
+    ("exec", "text"): ([], OWN, None),
     ("exec", "fuel"): ([], LOOP, "5"),
     ("exec", "id"): (["--nodes", "64", "--show"], HEARS.format("call id"), "63"),
     ("exec", "mail"): (["--show"], HEARS.format("mov64 r1, 1; call recv"), "1,2,3,4"),

@@ -119,6 +119,7 @@ def asked(clockbed):
         ("exec", image),
         ("exec --nodes 2 --memory 8 --show", image),
         ("exec --trace --show", image),
+        ("exec --text", text),
         ("verify", image),
         ("dis", image),
         ("dis", clock_image),

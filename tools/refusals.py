@@ -231,6 +231,7 @@ def commands(library, room, kind):
         Command("exec --id 3 --mail -,1,2,3 --coin 1 --contents 00ff --show", image),
         Command("exec --trace --show", image),
         Command("exec --mail 1", image),
+        Command("exec --text --show", text),
         Command("exec", b"\xff" + bytes(7)),
         Command("exec --fuel x", image),
         Command("asm", text),

@@ -28,6 +28,7 @@ pub(crate) fn exec_options(
     }
     Ok(ExecOptions {
         shape,
+        text: options.get_flag("text"),
         fuel: options.get_one::<u64>("fuel").unwrap_or(DEFAULT_FUEL),
         case,
         show: options.get_flag("show"),

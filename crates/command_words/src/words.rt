@@ -15,6 +15,9 @@ use std::alloc::{AllocError, Global};
 /// The help of `--list`.
 const LIST: &str = "Print slot and bytes of each instruction beside its line";
 
+/// The help of `--text`.
+const TEXT: &str = "Read an assembler text in place of an image";
+
 /// Returns the command line of `clockbed`, whose options have these helps.
 pub fn command_line<'a>(alloc: Global, helps: &'a Helps) -> Result<Command<'a>, AllocError> {
     clockbed(alloc)
@@ -116,7 +119,7 @@ fn verify<'a>(alloc: Global, helps: &'a Helps) -> Building<'a> {
         "Example: clockbed verify --memory 8 examples/seven.bpf\nPage: docs/VERIFIER.md",
     );
     with_shape(alloc, verify, helps)
-        .arg(flag(alloc, "text", "Read an assembler text in place of an image"))
+        .arg(flag(alloc, "text", TEXT))
         .arg(flag(
             alloc,
             "explain",
@@ -258,7 +261,9 @@ fn exec<'a>(alloc: Global, helps: &'a Helps) -> Building<'a> {
         "Run the program of an image",
         "Example: clockbed exec --memory 8 --show examples/seven.bpf\nPage: docs/COMMANDS.md",
     );
-    let exec = with_shape(alloc, exec, helps).arg(fuel_option(alloc, helps.fuel.as_str()));
+    let exec = with_shape(alloc, exec, helps)
+        .arg(flag(alloc, "text", TEXT))
+        .arg(fuel_option(alloc, helps.fuel.as_str()));
     with_case(alloc, exec, helps)
         .arg(flag(alloc, "show", "Print the memory and the messages sent, too"))
         .arg(flag(alloc, "trace", "Print each step of the run"))

@@ -28,9 +28,10 @@ use Rattle.commands.specs.declared.answer.Answer.{Answer}
 use Rattle.commands.specs.Answer.{AnswersLeaving, ending_of, told_text as answer_text}
 use Rattle.commands.specs.Case.{Left}
 use Rattle.commands.specs.Exec.{LeavesBy, LeavesExec}
-use Rattle.commands.specs.Explained.{LeavesExplained, most_read}
+use Rattle.commands.specs.Explained.{LeavesExplained}
 use Rattle.commands.specs.Explore.{LeavesExplored}
 use Rattle.commands.specs.Faults.{IsBeforeWriting}
+use Rattle.commands.specs.Input.{most_read}
 use Rattle.commands.specs.Lines.{LeavesJson}
 use Rattle.commands.specs.Output.{LeavesAny}
 use Rattle.commands.specs.Perform.{CarriesOut}
@@ -181,7 +182,7 @@ front_carried : (request : Request) (input bytes : List ℕ) (old new : Option (
     → IsFrontFor request bytes input → CarriesOut request (Some bytes) old new ended
     → CarriesOut request (Some input) old new ended
 front_carried (Exec asked) input bytes old new ended taken left =
-    subst (λ b. LeavesExec old new asked b ended) (within IMAGE_BYTES bytes input taken) left
+    subst (λ b. LeavesExec old new asked b ended) (within (most_read asked.text) bytes input taken) left
 front_carried (Dis list) input bytes old new ended taken left =
     subst (λ b. LeavesListing old new list b ended) (within IMAGE_BYTES bytes input taken) left
 front_carried (Verify asked) input bytes old new ended taken left =
@@ -266,7 +267,8 @@ unread_wants text (faults.CommandLine said) before = tt
 
 unread_known : (request : Request) (input : List ℕ) (old : Option (List ℕ)) (fault : Fault) → FailsSo request fault
     → CarriesOut request (Some input) old old (Err fault)
-unread_known (Exec asked) input old fault fails = unread_exec asked.trace old asked (take IMAGE_BYTES input) fault fails
+unread_known (Exec asked) input old fault fails =
+    unread_exec asked.trace old asked (take (most_read asked.text) input) fault fails
 unread_known (Dis list) input old fault fails = unread_any _ _ (λ a. Done) old fault fails
 unread_known (Verify asked) input old fault fails = unread_any _ _ (λ a. Done) old fault fails
 unread_known (Run asked) input old fault fails =

@@ -1,5 +1,6 @@
--- Bytes have one answer under given options and one listing, where images have one reading and programs one run.
-use Rattle.std.proofs.Common.{◌≡◌, ◌≢◌, ℕ, List, Result, Ok, Err, ◌∙◌, refl, sym, ap, subst}
+-- Bytes have one answer under given options and one listing, where images and texts have one reading and programs one
+-- run.
+use Rattle.std.proofs.Common.{◌≡◌, ◌≢◌, ℕ, List, Bool, true, false, true≢false, Result, Ok, Err, ◌∙◌, refl, sym, ap, subst}
 use Rattle.std.specs.Ordering.{nat_cmp}
 use Rattle.std.specs.FinMap.{FinMap}
 use Rattle.node_env.specs.Env.{Setting}
@@ -8,6 +9,7 @@ use Rattle.bpf_insn.specs.declared.image.ImageError.{ImageError}
 use Rattle.bpf_insn.specs.declared.image.ImageError.TheVariants as errors
 use Rattle.bpf_insn.specs.Programs.{IsProgram, image_of}
 use Rattle.bpf_insn.specs.Images.{RefusesImage}
+use Rattle.bpf_asm.specs.Meaning.{Means}
 use Rattle.bpf_machine.specs.declared.word.Outcome.{Outcome}
 use Rattle.bpf_machine.specs.Run.{RunAnswers}
 use Rattle.commands.specs.declared.request.ExecOptions.{ExecOptions}
@@ -15,10 +17,14 @@ use Rattle.commands.specs.declared.answer.Answer.{Answer}
 use Rattle.commands.specs.declared.answer.Answer.TheVariants.{Refused, Ran}
 use Rattle.commands.specs.declared.image.Refusal.{Refusal}
 use Rattle.commands.specs.declared.image.Refusal.TheVariants.{Shape, Image}
+use Rattle.commands.specs.declared.input.Unread.{Unread}
+use Rattle.commands.specs.declared.input.Unread.TheVariants as unreads
 use Rattle.commands.specs.declared.request.ShapeOptions.{ShapeOptions}
-use Rattle.commands.specs.Answer.{Answers, AnswersLeaving, RunsImage}
+use Rattle.commands.specs.Answer.{Answers, AnswersLeaving, RunsRead, SameAnswer}
+use Rattle.commands.specs.Asm.{ReadsText}
 use Rattle.commands.specs.Case.{Left, case_memory, case_setting}
 use Rattle.commands.specs.Image.{HasShape, IsRefused, ReadsImage, asked_extent}
+use Rattle.commands.specs.Input.{IsProgramOf, IsUnread}
 
 -- what the laws of the crates below say
 abbrev pub OneProgram : Type 0
@@ -31,6 +37,9 @@ OneRefusal = (bytes : List ℕ) (e d : ImageError) → RefusesImage bytes e → 
 abbrev pub Apart : Type 0
 Apart = (p : List Insn) (e : ImageError) → IsProgram p → RefusesImage (image_of p) e → e ≡ errors.Memory
 
+abbrev OneMeaning : Type 0
+OneMeaning = (text : List ℕ) (p q : List Insn) → Means text p → Means text q → p ≡ q
+
 abbrev OneRun : Type 0
 OneRun =
     (program : List Insn) (env : Setting) (memory : List ℕ) (fuel : ℕ) (left right : List ℕ)
@@ -39,21 +48,28 @@ OneRun =
     → (first ≡ second) × (left ≡ right) × (sent ≡ gone)
 
 -- an image of a program has no refusal but want of memory
-not_both : Apart → (asked : ExecOptions) (bytes : List ℕ) (e : ImageError) (outcome : Outcome) (left : Left)
-    → RefusesImage bytes e → RunsImage asked bytes outcome left → e ≡ errors.Memory
-not_both apart asked bytes e outcome left refused ran =
-    apart ran.program e ran.whole (subst (λ (l : List ℕ). RefusesImage l e) ran.image refused)
+not_both : Apart → (bytes : List ℕ) (program : List Insn) (e : ImageError) → ReadsImage bytes (Ok program)
+    → RefusesImage bytes e → e ≡ errors.Memory
+not_both apart bytes program e read refused =
+    apart program e read.0 (subst (λ (l : List ℕ). RefusesImage l e) read.1 refused)
 
--- one image has one run
+-- an image has one program, and so has a text
+one_read : OneProgram → OneMeaning → (text : Bool) (bytes : List ℕ) (p q : List Insn) → IsProgramOf text bytes p
+    → IsProgramOf text bytes q → p ≡ q
+one_read one_program one_meaning true bytes p q first second = one_meaning bytes p q first.1 second.1
+one_read one_program one_meaning false bytes p q first second =
+    one_program p q first.0 second.0 (sym first.1 ∙ second.1)
+
+-- bytes have one run
 pub record SameRun (o w : Outcome) (l m : Left) : Type 0 where
   pub outcome : o ≡ w
   pub memory : l.memory ≡ m.memory
   pub sent : l.outbox.sent ≡ m.outbox.sent
 
-same_run : OneProgram → OneRun → (asked : ExecOptions) (bytes : List ℕ) (o w : Outcome) (l m : Left)
-    → RunsImage asked bytes o l → RunsImage asked bytes w m → SameRun o w l m
-same_run one_program one_run asked bytes o w l m first second =
-    let same = one_program first.program second.program first.whole second.whole (sym first.image ∙ second.image) in
+same_run : OneProgram → OneMeaning → OneRun → (asked : ExecOptions) (bytes : List ℕ) (o w : Outcome) (l m : Left)
+    → RunsRead asked bytes o l → RunsRead asked bytes w m → SameRun o w l m
+same_run one_program one_meaning one_run asked bytes o w l m first second =
+    let same = one_read one_program one_meaning asked.text bytes first.program second.program first.read second.read in
     let env = case_setting (asked_extent asked.shape) asked.case in
     let memory = case_memory (asked_extent asked.shape) asked.case in
     let moved : RunAnswers second.program env memory asked.fuel l.memory l.outbox.sent o =
@@ -72,25 +88,56 @@ one_refused one_refusal options bytes (Image e) (Image d) first second = ap Imag
     (one_refusal bytes e d first.1.0 second.1.0 first.1.1 second.1.1)
 
 -- where they have one, no program runs
-refused_or_run : Apart → (options : ExecOptions) (bytes : List ℕ) (refusal : Refusal) (outcome : Outcome) (left : Left)
-    → IsRefused options.shape bytes refusal → HasShape options.shape → RunsImage options bytes outcome left → ⊥
-refused_or_run apart options bytes Shape outcome left refused shape ran = refused shape
-refused_or_run apart options bytes (Image e) outcome left refused shape ran = refused.1.1
-    (not_both apart options bytes e outcome left refused.1.0 ran)
+refused_or_run : Apart → (options : ExecOptions) (bytes : List ℕ) (unread : Unread) (outcome : Outcome) (left : Left)
+    → IsUnread options.shape options.text bytes unread → HasShape options.shape → RunsRead options bytes outcome left → ⊥
+refused_or_run apart options bytes (unreads.Refused Shape) outcome left refused shape ran = refused shape
+refused_or_run apart options bytes (unreads.Refused (Image e)) outcome left refused shape ran =
+    let read : ReadsImage bytes (Ok ran.program) =
+    subst (λ (t : Bool). IsProgramOf t bytes ran.program) refused.1 ran.read in
+    refused.2.1 (not_both apart bytes ran.program e read refused.2.0)
+refused_or_run apart options bytes (unreads.Text e) outcome left refused shape ran =
+    let read : ReadsText bytes (Ok ran.program) =
+    subst (λ (t : Bool). IsProgramOf t bytes ran.program) refused.1 ran.read in
+    refused.2.2 ran.program read.1
 
-pub one_answer : OneProgram → OneRefusal → Apart → OneRun
+-- why options and bytes have no program is one reason, but for the error of a text
+one_unread : OneRefusal → (asked : ShapeOptions) (text : Bool) (bytes : List ℕ) (a b : Unread)
+    → IsUnread asked text bytes a → IsUnread asked text bytes b → SameAnswer (Refused a) (Refused b)
+one_unread one_refusal asked text bytes (unreads.Refused Shape) (unreads.Refused Shape) first second = refl
+one_unread one_refusal asked text bytes (unreads.Refused Shape) (unreads.Refused (Image d)) first second =
+    absurd (first second.0)
+one_unread one_refusal asked text bytes (unreads.Refused Shape) (unreads.Text d) first second = absurd (first second.0)
+one_unread one_refusal asked text bytes (unreads.Refused (Image e)) (unreads.Refused Shape) first second =
+    absurd (second first.0)
+one_unread one_refusal asked text bytes (unreads.Refused (Image e)) (unreads.Refused (Image d)) first second =
+    ap (λ x. Refused (unreads.Refused (Image x))) (one_refusal bytes e d first.2.0 second.2.0 first.2.1 second.2.1)
+one_unread one_refusal asked text bytes (unreads.Refused (Image e)) (unreads.Text d) first second =
+    absurd (true≢false (sym second.1 ∙ first.1))
+one_unread one_refusal asked text bytes (unreads.Text e) (unreads.Refused Shape) first second = absurd (second first.0)
+one_unread one_refusal asked text bytes (unreads.Text e) (unreads.Refused (Image d)) first second =
+    absurd (true≢false (sym first.1 ∙ second.1))
+one_unread one_refusal asked text bytes (unreads.Text e) (unreads.Text d) first second = tt
+
+pub one_answer : OneProgram → OneMeaning → OneRefusal → Apart → OneRun
     → (options : ExecOptions) (bytes : List ℕ) (a b : Answer) → Answers options bytes a → Answers options bytes b
-    → a ≡ b
-one_answer one_program one_refusal apart one_run options bytes (Refused r) (Refused q) first second =
-    ap Refused (one_refused one_refusal options.shape bytes r q first.1 second.1)
-one_answer one_program one_refusal apart one_run options bytes (Refused r) (Ran w given) first second =
+    → SameAnswer a b
+one_answer one_program one_meaning one_refusal apart one_run options bytes (Refused r) (Refused q) first second =
+    one_unread one_refusal options.shape options.text bytes r q first.1 second.1
+one_answer one_program one_meaning one_refusal apart one_run options bytes (Refused r) (Ran w given) first second =
     absurd (refused_or_run apart options bytes r w second.0 first.1 second.1.0 second.1.1)
-one_answer one_program one_refusal apart one_run options bytes (Ran o given) (Refused q) first second =
+one_answer one_program one_meaning one_refusal apart one_run options bytes (Ran o given) (Refused q) first second =
     absurd (refused_or_run apart options bytes q o first.0 second.1 first.1.0 first.1.1)
-one_answer one_program one_refusal apart one_run options bytes (Ran o given) (Ran w other) first second =
-    let run = same_run one_program one_run options bytes o w first.0 second.0 first.1.1 second.1.1 in
+one_answer one_program one_meaning one_refusal apart one_run options bytes (Ran o given) (Ran w other) first second =
+    let run = same_run one_program one_meaning one_run options bytes o w first.0 second.0 first.1.1 second.1.1 in
     let fuels : given ≡ other = first.1.2 ∙ sym second.1.2 in
     ap (λ x. Ran x given) run.outcome ∙ ap (λ n. Ran w n) fuels
+
+-- of an image they say all the same
+pub one_of_image : (options : ExecOptions) (bytes : List ℕ) (a b : Answer) → options.text ≡ false
+    → Answers options bytes a → SameAnswer a b → a ≡ b
+one_of_image options bytes (Refused (unreads.Text e)) b image is same = absurd (true≢false (sym is.1.1 ∙ image))
+one_of_image options bytes (Refused (unreads.Refused r)) b image is same = same
+one_of_image options bytes (Ran o given) b image is same = same
 
 same_left : (l m : Left) → l.memory ≡ m.memory → l.outbox.nodes ≡ m.outbox.nodes → l.outbox.sent ≡ m.outbox.sent → l ≡ m
 same_left l m memory nodes sent =
@@ -99,11 +146,11 @@ same_left l m memory nodes sent =
     ∙ ap (λ (s : FinMap nat_cmp ℕ). record { memory = m.memory; outbox = record { nodes = m.outbox.nodes; sent = s } })
     sent)
 
-pub one_left : OneProgram → OneRun
+pub one_left : OneProgram → OneMeaning → OneRun
     → (options : ExecOptions) (bytes : List ℕ) (o : Outcome) (fuel : ℕ) (l m : Left)
     → AnswersLeaving options bytes (Ran o fuel) l → AnswersLeaving options bytes (Ran o fuel) m → l ≡ m
-one_left one_program one_run options bytes o fuel l m first second =
-    let run = same_run one_program one_run options bytes o o l m first.1 second.1 in
+one_left one_program one_meaning one_run options bytes o fuel l m first second =
+    let run = same_run one_program one_meaning one_run options bytes o o l m first.1 second.1 in
     same_left l m run.memory (first.1.nodes ∙ sym second.1.nodes) run.sent
 
 -- bytes are the image of one program or have one refusal

@@ -5,19 +5,21 @@ use Rattle.std.specs.Ordering.{nat_cmp}
 use Rattle.std.specs.FinMap.{FinMap}
 use Rattle.node_env.specs.Env.{Extent, Setting}
 use Rattle.bpf_insn.specs.declared.forms.Insn.{Insn}
-use Rattle.bpf_insn.specs.Programs.{IsProgram, image_of}
 use Rattle.bpf_machine.specs.declared.word.Outcome.{Outcome}
 use Rattle.bpf_machine.specs.Run.{RunAnswers}
 use Rattle.commands.specs.declared.ending.Ending.{Ending}
 use Rattle.commands.specs.declared.exec.Reply.{Reply}
 use Rattle.commands.specs.declared.exec.Reply.TheVariants.{Refused, Ran}
 use Rattle.commands.specs.declared.fault.Fault.{Fault}
+use Rattle.commands.specs.declared.input.ProgramRead.{ProgramRead}
 use Rattle.commands.specs.declared.request.ExecOptions.{ExecOptions}
 use Rattle.commands.specs.Answer.{AnswersLeaving}
 use Rattle.commands.specs.Case.{case_memory, case_setting}
-use Rattle.commands.specs.Image.{HasShape, ReadsFor, asked_extent}
+use Rattle.commands.specs.Image.{HasShape, asked_extent}
+use Rattle.commands.specs.Input.{IsProgramOf}
 use Rattle.commands.specs.Output.{Leaves, LeavesAny}
 use Rattle.commands.specs.inner.Exec.{RunsCase, answer_in, left_of}
+use Rattle.commands.specs.inner.Input.{ReadsInput}
 use Rattle.commands.proofs.ExploreLemmas.{leaves_any}
 
 -- a run in a setting and from a memory that are the case's
@@ -35,23 +37,23 @@ case_run asked program shape env memory left sent outcome at run there begins =
     (subst (λ (e : Setting). RunAnswers program e memory asked.fuel left sent outcome) there run))
 
 answers_run : (asked : ExecOptions) (bytes : List ℕ) (program : List Insn) (reply : Reply) → HasShape asked.shape
-    → IsProgram program → bytes ≡ image_of program → RunsCase asked program reply
+    → IsProgramOf asked.text bytes program → RunsCase asked program reply
     → AnswersLeaving asked bytes (answer_in asked.fuel reply) (left_of reply)
-answers_run asked bytes program (Refused refusal) has whole image run = absurd run
-answers_run asked bytes program (Ran outcome left) has whole image run =
-    (has, record { program = program; whole = whole; image = image; run = run.0; nodes = run.1 }, refl)
+answers_run asked bytes program (Refused unread) has read run = absurd run
+answers_run asked bytes program (Ran outcome left) has read run =
+    (has, record { program = program; read = read; run = run.0; nodes = run.1 }, refl)
 
 -- the run of the program that was read is the answer to the bytes
-pub answers_read : (most : ℕ) (asked : ExecOptions) (shape : Extent) (program : List Insn) (input : Option (List ℕ))
+pub answers_read : (most : ℕ) (asked : ExecOptions) (read : ProgramRead) (input : Option (List ℕ))
     (result : Result Reply Fault)
-    → IfSome input (λ i. ReadsFor asked.shape (take most i) (Ok (shape, program)))
-    → IfOk result (RunsCase asked program)
+    → IfSome input (λ i. ReadsInput asked.shape asked.text (take most i) (Ok read))
+    → IfOk result (RunsCase asked read.program)
     → IfOk result (λ reply. IfSome input (λ i.
     AnswersLeaving asked (take most i) (answer_in asked.fuel reply) (left_of reply)))
-answers_read most asked shape program input (Err fault) read run = tt
-answers_read most asked shape program None (Ok reply) read run = tt
-answers_read most asked shape program (Some i) (Ok reply) read run =
-    answers_run asked (take most i) program reply read.0 read.2.0 read.2.1 run
+answers_read most asked read input (Err fault) reads run = tt
+answers_read most asked read None (Ok reply) reads run = tt
+answers_read most asked read (Some i) (Ok reply) reads run =
+    answers_run asked (take most i) read.program reply reads.0 reads.2 run
 
 -- what is left is the answer to what was read
 pub leaves_read : {A : Type 0} (Is : List ℕ → A → Type 0) (text : A → List ℕ) (ending : A → Ending) (a : A)

@@ -1,22 +1,21 @@
 -- What is told of a program is told of the image or the text that it was read from.
-use Rattle.std.proofs.Common.{◌≡◌, ◌∙◌, ap, ℕ, List, [], subst, sym, take, inl, inr, Option, Some, None}
+use Rattle.std.proofs.Common.{◌≡◌, ◌∙◌, ap, ℕ, List, subst, take, inl, inr, Option, Some, None}
 use Rattle.std.specs.Prelude.{Result, Ok, Err, IfOk, IfSome, string_bytes}
 use Rattle.node_env.specs.Env.{Extent}
 use Rattle.bpf_insn.specs.declared.forms.Insn.{Insn}
-use Rattle.bpf_asm.specs.Listing.{instruction_lines}
-use Rattle.bpf_asm.specs.declared.text_error.TextError.{TextError}
 use Rattle.commands.specs.declared.explanation.Told.{Told}
 use Rattle.commands.specs.declared.request.ExplainOptions.{ExplainOptions}
 use Rattle.bpf_verify.specs.declared.findings.Findings.{Findings}
 use Rattle.bpf_verify.specs.Findings.{AreFindings}
 use Rattle.commands.specs.declared.ending.Ending.{Ending}
 use Rattle.commands.specs.declared.fault.Fault.{Fault}
-use Rattle.commands.specs.declared.image.Refusal.{Refusal}
-use Rattle.commands.specs.declared.image.Refusal.TheVariants.{Shape}
-use Rattle.commands.specs.Asm.{ReadsText}
-use Rattle.commands.specs.Image.{HasShape, IsRefused, ReadsFor, asked_extent, refusal_line}
+use Rattle.commands.specs.declared.input.ProgramRead.{ProgramRead}
+use Rattle.commands.specs.declared.input.Unread.{Unread}
+use Rattle.commands.specs.Image.{asked_extent}
+use Rattle.commands.specs.Input.{IsUnread, unread_line}
 use Rattle.commands.specs.Verdict.{verdict_ending}
-use Rattle.commands.specs.Explained.{Explanation, explanation, explained_text, verdict_in, ExplainsProgram, ExplainsImage, ExplainsRead, ExplainsText, IsRefusedBy}
+use Rattle.commands.specs.Explained.{Explanation, explanation, explained_text, lines_read, verdict_in, Explains, ExplainsProgram, IsRefusedBy}
+use Rattle.commands.specs.inner.Input.{ReadsInput}
 
 -- what contracts see of what is told
 abbrev seen : Told → Explanation
@@ -35,47 +34,32 @@ program_told asked lines program shape findings text ending same are said ends =
       ∙ ap (explanation (explained_text program (asked_extent asked.shape) findings lines asked.detail)) ends,
 )
 
-pub image_told : (asked : ExplainOptions) (most : ℕ) (shape : Extent) (program : List Insn) (left : Option (List ℕ))
+pub read_told : (asked : ExplainOptions) (bytes lines : List ℕ) (program : List Insn) (result : Result Told Fault)
+    → lines ≡ lines_read asked.text bytes → IfOk result (λ told. ExplainsProgram asked lines program (seen told))
+    → IfOk result (λ told. ExplainsProgram asked (lines_read asked.text bytes) program (seen told))
+read_told asked bytes lines program result same told =
+    subst (λ ls. IfOk result (λ t. ExplainsProgram asked ls program (seen t))) same told
+
+pub input_told : (asked : ExplainOptions) (most : ℕ) (read : ProgramRead) (left : Option (List ℕ))
     (result : Result Told Fault)
-    → IfSome left (λ input. ReadsFor asked.shape (take most input) (Ok (shape, program)))
-    → IfOk result (λ told. ExplainsProgram asked [] program (seen told))
-    → IfOk result (λ told. IfSome left (λ input. ExplainsImage asked (take most input) (seen told)))
-image_told asked most shape program left (Err fault) read told = tt
-image_told asked most shape program None (Ok t) read told = tt
-image_told asked most shape program (Some input) (Ok t) read told = inr (read.0, program, read.2, told)
+    → IfSome left (λ input. ReadsInput asked.shape asked.text (take most input) (Ok read))
+    → IfOk result (λ told. ExplainsProgram asked (lines_read asked.text read.bytes.items) read.program (seen told))
+    → IfOk result (λ told. IfSome left (λ input. Explains asked (take most input) (seen told)))
+input_told asked most read left (Err fault) reads told = tt
+input_told asked most read None (Ok t) reads told = tt
+input_told asked most read (Some input) (Ok t) reads told =
+    inr (
+      reads.0,
+      read.program,
+      reads.2,
+      subst (λ b. ExplainsProgram asked (lines_read asked.text b) read.program (seen t)) reads.1 told,
+    )
 
-pub image_refused : (asked : ExplainOptions) (most : ℕ) (refusal : Refusal) (left : Option (List ℕ))
+pub input_refused : (asked : ExplainOptions) (most : ℕ) (unread : Unread) (left : Option (List ℕ))
     (result : Result Told Fault)
-    → IfSome left (λ input. IsRefused asked.shape (take most input) refusal)
-    → IfOk result (λ told. IsRefusedBy (refusal_line refusal) (seen told))
-    → IfOk result (λ told. IfSome left (λ input. ExplainsImage asked (take most input) (seen told)))
-image_refused asked most refusal left (Err fault) read told = tt
-image_refused asked most refusal None (Ok t) read told = tt
-image_refused asked most refusal (Some input) (Ok t) read told = inl (refusal, read, told)
-
-pub read_told : (asked : ExplainOptions) (bytes lines : List ℕ) (program : List Insn)
-    (read : Result (List Insn) TextError)
-    (result : Result Told Fault) → read ≡ Ok program → lines ≡ instruction_lines bytes
-    → IfOk result (λ told. ExplainsProgram asked lines program (seen told))
-    → IfOk result (λ told. ExplainsRead asked bytes read (seen told))
-read_told asked bytes lines program read (Err fault) is same told = tt
-read_told asked bytes lines program read (Ok t) is same told =
-    subst (λ r. ExplainsRead asked bytes r (seen t)) (sym is)
-    (subst (λ ls. ExplainsProgram asked ls program (seen t)) same told)
-
-pub text_told : (asked : ExplainOptions) (most : ℕ) (bytes : List ℕ) (read : Result (List Insn) TextError)
-    (left : Option (List ℕ)) (result : Result Told Fault)
-    → HasShape asked.shape → IfSome left (λ input. bytes ≡ take most input) → ReadsText bytes read
-    → IfOk result (λ told. ExplainsRead asked bytes read (seen told))
-    → IfOk result (λ told. IfSome left (λ input. ExplainsText asked (take most input) (seen told)))
-text_told asked most bytes read left (Err fault) has same reads told = tt
-text_told asked most bytes read None (Ok t) has same reads told = tt
-text_told asked most bytes read (Some input) (Ok t) has same reads told =
-    subst (λ b. ExplainsText asked b (seen t)) same (inr (has, read, reads, told))
-
-pub text_refused : (asked : ExplainOptions) (most : ℕ) (left : Option (List ℕ)) (result : Result Told Fault)
-    → (HasShape asked.shape → ⊥) → IfOk result (λ told. IsRefusedBy (refusal_line Shape) (seen told))
-    → IfOk result (λ told. IfSome left (λ input. ExplainsText asked (take most input) (seen told)))
-text_refused asked most left (Err fault) has told = tt
-text_refused asked most None (Ok t) has told = tt
-text_refused asked most (Some input) (Ok t) has told = inl (has, told)
+    → IfSome left (λ input. IsUnread asked.shape asked.text (take most input) unread)
+    → IfOk result (λ told. IsRefusedBy (unread_line unread) (seen told))
+    → IfOk result (λ told. IfSome left (λ input. Explains asked (take most input) (seen told)))
+input_refused asked most unread left (Err fault) is told = tt
+input_refused asked most unread None (Ok t) is told = tt
+input_refused asked most unread (Some input) (Ok t) is told = inl (unread, is, told)

@@ -5,6 +5,7 @@ mod VerdictLemmas
 mod RunLemmas
 mod StressLemmas
 mod FaultLemmas
+mod InputLemmas
 mod TracedLemmas
 mod SweepLemmas
 pub mod PlaceLemmas

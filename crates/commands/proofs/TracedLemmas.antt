@@ -35,7 +35,7 @@ pub traced_whole : (old mid new : Option (List ℕ)) (asked : ExecOptions) (prog
     → Leaves mid new (told_text asked (answer_in asked.fuel reply) (left_of reply))
     (ending_of (answer_in asked.fuel reply)) (Ok ending)
     → LeavesSteps old new asked program (Ok ending)
-traced_whole old mid new asked program (Refused refusal) written ending run wrote told = absurd run
+traced_whole old mid new asked program (Refused unread) written ending run wrote told = absurd run
 traced_whole old mid new asked program (Ran outcome left) written ending run wrote told = (
   traced_text asked program outcome (left_in left),
   traces asked program outcome left run,
@@ -81,6 +81,6 @@ pub traced_broken : (old mid new : Option (List ℕ)) (asked : ExecOptions) (pro
     → Leaves mid new (told_text asked (answer_in asked.fuel reply) (left_of reply))
     (ending_of (answer_in asked.fuel reply)) (Err fault)
     → LeavesSteps old new asked program (Err (fault_behind written fault))
-traced_broken old mid new asked program (Refused refusal) written fault run wrote told = absurd run
+traced_broken old mid new asked program (Refused unread) written fault run wrote told = absurd run
 traced_broken old mid new asked program (Ran outcome left) written fault run wrote told =
     behind old mid new asked program outcome left written fault run wrote told

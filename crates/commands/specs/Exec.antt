@@ -2,7 +2,6 @@
 use Rattle.std.specs.Prelude.{◌≡◌, ◌⊎◌, ℕ, Bool, true, false, List, ◌++◌, take, Option, Result, Ok, Err}
 use Rattle.std.specs.Io.KnownBytes.{Appends, Keeps}
 use Rattle.bpf_insn.specs.declared.forms.Insn.{Insn}
-use Rattle.bpf_insn.specs.Programs.{IsProgram, image_of}
 use Rattle.bpf_machine.specs.declared.word.Outcome.{Outcome}
 use Rattle.bpf_machine.specs.Run.{RunAnswers}
 use Rattle.run_trace.specs.Lines.{trace_text}
@@ -15,11 +14,12 @@ use Rattle.commands.specs.declared.ending.Ending.{Ending}
 use Rattle.commands.specs.declared.ending.Ending.TheVariants.{Done}
 use Rattle.commands.specs.declared.fault.Fault.{Fault}
 use Rattle.commands.specs.declared.fault.Fault.TheVariants as faults
-use Rattle.commands.specs.declared.image.Refusal.{Refusal}
+use Rattle.commands.specs.declared.input.Unread.{Unread}
 use Rattle.commands.specs.Answer.{AnswersLeaving, ending_of, text_of, told_text}
 use Rattle.commands.specs.Case.{Left, case_memory, case_setting}
 use Rattle.commands.specs.Faults.{IsBeforeWriting}
-use Rattle.commands.specs.Image.{HasShape, IsRefused, asked_extent}
+use Rattle.commands.specs.Image.{HasShape, asked_extent}
+use Rattle.commands.specs.Input.{IsProgramOf, IsUnread}
 use Rattle.commands.specs.Output.{Leaves, LeavesAny}
 
 -- The whole line of an answer, or its first bytes where a write failed; and nothing where memory ran out. No other
@@ -78,11 +78,10 @@ LeavesSteps old new asked program (Err faults.Read) = ⊥
 LeavesSteps old new asked program (Err faults.Thread) = ⊥
 LeavesSteps old new asked program (Err (faults.CommandLine said)) = ⊥
 
--- the bytes are the image of this program, of a shape
+-- the options have a shape, and the bytes are this program's
 pub record ReadsProgram (asked : ExecOptions) (bytes : List ℕ) (program : List Insn) : Type 0 where
   pub shape : HasShape asked.shape
-  pub whole : IsProgram program
-  pub image : bytes ≡ image_of program
+  pub read : IsProgramOf asked.text bytes program
 
 -- nothing was written, at a fault before that
 abbrev pub LeavesUnread : Option (List ℕ) → Option (List ℕ) → Result Ending Fault → Type 0
@@ -93,8 +92,8 @@ LeavesUnread old new (Err fault) = IsBeforeWriting fault × Keeps old new
 abbrev pub LeavesTraced : Option (List ℕ) → Option (List ℕ) → ExecOptions → List ℕ → Result Ending Fault → Type 0
 LeavesTraced old new asked bytes result =
     ((program : List Insn) × ReadsProgram asked bytes program × LeavesSteps old new asked program result)
-    ⊎ (((refusal : Refusal) × IsRefused asked.shape bytes refusal
-    × LeavesLine old new (answers.Refused refusal) result) ⊎ LeavesUnread old new result)
+    ⊎ (((unread : Unread) × IsUnread asked.shape asked.text bytes unread
+    × LeavesLine old new (answers.Refused unread) result) ⊎ LeavesUnread old new result)
 
 -- with or without the lines of the steps
 abbrev pub LeavesBy : Bool → Option (List ℕ) → Option (List ℕ) → ExecOptions → List ℕ → Result Ending Fault → Type 0

@@ -1,9 +1,8 @@
 -- What `verify` tells with `--text` and `--explain` (docs/COMMANDS.md, "What verify prints").
-use Rattle.std.specs.Prelude.{◌≡◌, ℕ, ◌+◌, List, [], ◌++◌, codes, Bool, true, false, Option, Some, None, Result, Ok, Err, ◌⊎◌}
+use Rattle.std.specs.Prelude.{◌≡◌, ℕ, List, [], ◌++◌, codes, Bool, true, false, Option, Some, None, Result, ◌⊎◌}
 use Rattle.node_env.specs.Env.{Extent}
 use Rattle.bpf_insn.specs.declared.forms.Insn.{Insn}
 use Rattle.bpf_insn.specs.Programs.{slots_of}
-use Rattle.bpf_asm.specs.declared.text_error.TextError.{TextError}
 use Rattle.bpf_asm.specs.Listing.{instruction_lines}
 use Rattle.bpf_verify.specs.declared.findings.Findings.{Findings}
 use Rattle.bpf_verify.specs.declared.findings.Verdict.{Verdict as Found}
@@ -12,18 +11,15 @@ use Rattle.bpf_verify.specs.Findings.{AreFindings}
 use Rattle.bpf_explain.specs.declared.detail.Detail.{Detail}
 use Rattle.bpf_explain.specs.Rows.{rows_text}
 use Rattle.bpf_explain.specs.Reasons.{reason_in}
-use Rattle.commands.specs.declared.asm.TheConstants.{TEXT_BYTES}
-use Rattle.commands.specs.declared.image.TheConstants.{IMAGE_BYTES}
 use Rattle.commands.specs.declared.request.ExplainOptions.{ExplainOptions}
 use Rattle.commands.specs.declared.verdict.Verdict.{Verdict}
 use Rattle.commands.specs.declared.verdict.Verdict.TheVariants.{Accepted, Refused}
-use Rattle.commands.specs.declared.image.Refusal.{Refusal}
-use Rattle.commands.specs.declared.image.Refusal.TheVariants.{Shape}
+use Rattle.commands.specs.declared.input.Unread.{Unread}
 use Rattle.commands.specs.declared.ending.Ending.{Ending}
 use Rattle.commands.specs.declared.ending.Ending.TheVariants as endings
 use Rattle.commands.specs.declared.fault.Fault.{Fault}
-use Rattle.commands.specs.Asm.{ReadsText, text_refusal}
-use Rattle.commands.specs.Image.{HasShape, IsRefused, ReadsImage, asked_extent, refusal_line}
+use Rattle.commands.specs.Image.{HasShape, asked_extent}
+use Rattle.commands.specs.Input.{IsProgramOf, IsUnread, unread_line}
 use Rattle.commands.specs.Output.{LeavesAny}
 use Rattle.commands.specs.Verdict.{verdict_ending, verdict_line}
 
@@ -64,36 +60,22 @@ ExplainsProgram asked lines program told =
 
 -- ---- what is told of bytes
 
+-- the lines of the instructions of a text; an image has none
+abbrev pub lines_read : Bool → List ℕ → List ℕ
+lines_read true bytes = instruction_lines bytes
+lines_read false bytes = []
+
 abbrev pub IsRefusedBy : List ℕ → Explanation → Type 0
 IsRefusedBy line told = told ≡ explanation (line ++ codes "\n") endings.Refused
 
--- of an image: why it is none, or what is told of its program
-abbrev pub ExplainsImage : ExplainOptions → List ℕ → Explanation → Type 0
-ExplainsImage asked bytes told =
-    ((refusal : Refusal) × IsRefused asked.shape bytes refusal × IsRefusedBy (refusal_line refusal) told)
-    ⊎ (HasShape asked.shape × (program : List Insn) × ReadsImage bytes (Ok program)
-    × ExplainsProgram asked [] program told)
-
--- of a text: why it means none, or what is told of the program that it means
-abbrev pub ExplainsRead : ExplainOptions → List ℕ → Result (List Insn) TextError → Explanation → Type 0
-ExplainsRead asked bytes (Ok program) told = ExplainsProgram asked (instruction_lines bytes) program told
-ExplainsRead asked bytes (Err error) told = IsRefusedBy (text_refusal error) told
-
-abbrev pub ExplainsText : ExplainOptions → List ℕ → Explanation → Type 0
-ExplainsText asked bytes told = ((HasShape asked.shape → ⊥) × IsRefusedBy (refusal_line Shape) told)
-    ⊎ (HasShape asked.shape × (read : Result (List Insn) TextError) × ReadsText bytes read
-    × ExplainsRead asked bytes read told)
-
-abbrev pub ExplainsAs : Bool → ExplainOptions → List ℕ → Explanation → Type 0
-ExplainsAs true asked bytes told = ExplainsText asked bytes told
-ExplainsAs false asked bytes told = ExplainsImage asked bytes told
-
--- the most bytes that are read: of a text one more than it may have
-abbrev pub most_read : Bool → ℕ
-most_read true = TEXT_BYTES + 1
-most_read false = IMAGE_BYTES
+-- why they have no program, or what is told of their program
+abbrev pub Explains : ExplainOptions → List ℕ → Explanation → Type 0
+Explains asked bytes told =
+    ((unread : Unread) × IsUnread asked.shape asked.text bytes unread × IsRefusedBy (unread_line unread) told)
+    ⊎ (HasShape asked.shape × (program : List Insn) × IsProgramOf asked.text bytes program
+    × ExplainsProgram asked (lines_read asked.text bytes) program told)
 
 -- the whole of what is told, its first bytes, or nothing where memory ran out
 abbrev pub LeavesExplained : Option (List ℕ) → Option (List ℕ) → ExplainOptions → List ℕ → Result Ending Fault → Type 0
 LeavesExplained old new asked bytes result =
-    LeavesAny (ExplainsAs asked.text asked bytes) (λ told. told.text) (λ told. told.ending) old new result
+    LeavesAny (Explains asked bytes) (λ told. told.text) (λ told. told.ending) old new result

@@ -9,6 +9,7 @@ pub mod Explained
 pub mod Explore
 pub mod Faults
 pub mod Image
+pub mod Input
 pub mod Output
 pub mod Verdict
 pub mod Run

@@ -14,10 +14,11 @@ use Rattle.commands.specs.Compile.{LeavesCompiled}
 use Rattle.commands.specs.Dis.{LeavesClock, LeavesListing}
 use Rattle.commands.specs.Ending.{status_of}
 use Rattle.commands.specs.Exec.{LeavesExec}
-use Rattle.commands.specs.Explained.{LeavesExplained, most_read}
+use Rattle.commands.specs.Explained.{LeavesExplained}
 use Rattle.commands.specs.Explore.{LeavesExplored}
 use Rattle.commands.specs.Faults.{Says, fault_status, fault_text}
 use Rattle.commands.specs.Image.{HasShape}
+use Rattle.commands.specs.Input.{most_read}
 use Rattle.commands.specs.Lines.{LeavesJson}
 use Rattle.commands.specs.Output.{Leaves}
 use Rattle.commands.specs.Run.{LeavesTold, WantsThread}
@@ -30,7 +31,7 @@ use Rattle.commands.specs.Verdict.{LeavesVerdict}
 -- what each command leaves on its output, where the bytes of its input are known, and how it ends
 abbrev pub CarriesOut : Request → Option (List ℕ) → Option (List ℕ) → Option (List ℕ) → Result Ending Fault → Type 0
 CarriesOut (Exec asked) input old new ended = IfSome input
-    (λ bytes. LeavesExec old new asked (take IMAGE_BYTES bytes) ended)
+    (λ bytes. LeavesExec old new asked (take (most_read asked.text) bytes) ended)
 CarriesOut (Asm list) input old new ended = IfSome input
     (λ bytes. LeavesImage old new list (take (TEXT_BYTES + 1) bytes) ended)
 CarriesOut (Compile asked) input old new ended = IfSome input
@@ -83,7 +84,8 @@ TakesShaped asked old new = TakesAtMost IMAGE_BYTES old new × ((HasShape asked 
 
 -- how much of its input a command takes at most, whatever comes of it
 abbrev pub TakesFor : Request → Option (List ℕ) → Option (List ℕ) → Type 0
-TakesFor (Exec asked) old new = TakesShaped asked.shape old new
+TakesFor (Exec asked) old new =
+    TakesAtMost (most_read asked.text) old new × ((HasShape asked.shape → ⊥) → new ≡ old)
 TakesFor (Asm list) old new = TakesAtMost (TEXT_BYTES + 1) old new
 TakesFor (Compile asked) old new = TakesAtMost (TEXT_BYTES + 1) old new
 TakesFor (Dis list) old new = TakesAtMost IMAGE_BYTES old new

@@ -2,4 +2,5 @@
 pub mod Ahead
 pub mod Exec
 pub mod Faults
+pub mod Input
 pub mod Lines

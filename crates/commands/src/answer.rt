@@ -3,14 +3,14 @@ ghost use Rattle.std.specs.Prelude.{◌≡◌, Some};
 ghost use Rattle.commands.specs.Answer.{line_of, trap_name};
 
 use crate::ending::Ending;
-use crate::image::Refusal;
+use crate::input::Unread;
 use bpf_machine::{Outcome, TrapKind};
 use std::fmt;
 
 /// Why there is no program, or what its run came to.
 #[derive(Clone, Copy, Debug, PartialEq, Eq)]
 pub enum Answer {
-    Refused(Refusal),
+    Refused(Unread),
     Ran { outcome: Outcome, fuel: u64 },
 }
 
@@ -34,7 +34,7 @@ impl fmt::Display for Answer {
 
     fn fmt<W: fmt::Write>(&self, f: &mut fmt::Formatter<W>) -> fmt::Result {
         match self {
-            Answer::Refused(refusal) => write!(f, "{refusal}"),
+            Answer::Refused(unread) => write!(f, "{unread}"),
             Answer::Ran { outcome, fuel } => match outcome {
                 Outcome::Ended { r0, steps } => write!(f, "r0 {r0} steps {steps}"),
                 Outcome::Trap { slot, kind } => {

@@ -1,21 +1,22 @@
-//! `exec`: runs the image on standard input in the case of a node of a shape.
+//! `exec`: runs the image or the text on standard input in the case of a node of a shape.
 ghost use Rattle.std.specs.Prelude.{◌≡◌, ◌++◌, Ok, IfOk, IfErr, IfSome, OnOk, string_bytes, take};
 ghost use Rattle.stream_io.specs.Streams.{TakesAtMost};
 ghost use Rattle.commands.specs.declared.answer.Answer.TheVariants.{Refused};
 ghost use Rattle.commands.specs.declared.exec.Reply.TheVariants as replies;
 ghost use Rattle.commands.specs.declared.image.Refusal.TheVariants.{Shape as NoShape};
-ghost use Rattle.commands.specs.declared.image.TheConstants.{IMAGE_BYTES};
+ghost use Rattle.commands.specs.declared.input.Unread.TheVariants as unreads;
 ghost use Rattle.commands.specs.Answer.{AnswersLeaving, ending_of, shown_lines, told_text};
 ghost use Rattle.commands.specs.Exec.{LeavesAnswer, LeavesExec, LeavesLine};
 ghost use Rattle.commands.specs.Faults.{IsBeforeWriting};
 ghost use Rattle.commands.specs.Image.{HasShape, asked_extent};
+ghost use Rattle.commands.specs.Input.{most_read};
 ghost use Rattle.commands.specs.Output.{Leaves};
 ghost use Rattle.commands.specs.inner.Exec.{RunsCase, answer_in, left_of};
 
 use crate::answer::Answer;
 use crate::ending::Ending;
 use crate::fault::Fault;
-use crate::image::{Refusal, program_for};
+use crate::input::{Unread, program_asked};
 use crate::left::{LeftByRun, add_left};
 use crate::output::write_whole;
 use crate::request::ExecOptions;
@@ -26,8 +27,8 @@ use node_env::{Outbox, Shape};
 use std::alloc::{AllocError, Global};
 use std::io::{Read, Write};
 
-/// Writes the line of the answer to the image that is read, and what its run leaves, where that is asked for; where the
-/// steps are asked for, before them the line of each. Where the options have no shape, nothing is read.
+/// Writes the line of the answer to the image or the text that is read, and what its run leaves, where that is asked
+/// for; where the steps are asked for, before them the line of each. Where the options have no shape, nothing is read.
 pub fn exec<R: Read, W: Write>(
     alloc: Global,
     options: &ExecOptions,
@@ -35,11 +36,12 @@ pub fn exec<R: Read, W: Write>(
     out: &mut W,
 ) -> Result<Ending, Fault>
     ensures answer { IfSome (R.remaining reader.old) (λ input.
-        LeavesExec (W.contents out.old) (W.contents out.new) options.now (take IMAGE_BYTES input) result) }
+        LeavesExec (W.contents out.old) (W.contents out.new) options.now
+        (take (most_read options.now.text) input) result) }
     ensures no_shape { (HasShape options.now.shape → ⊥)
-        → LeavesLine (W.contents out.old) (W.contents out.new) (Refused NoShape) result }
+        → LeavesLine (W.contents out.old) (W.contents out.new) (Refused (unreads.Refused NoShape)) result }
     ensures unread { (HasShape options.now.shape → ⊥) → R.remaining reader.new ≡ R.remaining reader.old }
-    ensures front { TakesAtMost IMAGE_BYTES (R.remaining reader.old) (R.remaining reader.new) }
+    ensures front { TakesAtMost (most_read options.now.text) (R.remaining reader.old) (R.remaining reader.new) }
 {
     if options.trace {
         exec_traced(alloc, options, reader, out)
@@ -56,11 +58,12 @@ fn exec_answered<R: Read, W: Write>(
     out: &mut W,
 ) -> Result<Ending, Fault>
     ensures answer { IfSome (R.remaining reader.old) (λ input.
-        LeavesAnswer (W.contents out.old) (W.contents out.new) options.now (take IMAGE_BYTES input) result) }
+        LeavesAnswer (W.contents out.old) (W.contents out.new) options.now
+        (take (most_read options.now.text) input) result) }
     ensures no_shape { (HasShape options.now.shape → ⊥)
-        → LeavesLine (W.contents out.old) (W.contents out.new) (Refused NoShape) result }
+        → LeavesLine (W.contents out.old) (W.contents out.new) (Refused (unreads.Refused NoShape)) result }
     ensures unread { (HasShape options.now.shape → ⊥) → R.remaining reader.new ≡ R.remaining reader.old }
-    ensures front { TakesAtMost IMAGE_BYTES (R.remaining reader.old) (R.remaining reader.new) }
+    ensures front { TakesAtMost (most_read options.now.text) (R.remaining reader.old) (R.remaining reader.new) }
 {
     let reply = reply_to(alloc, options, reader)?;
     write_reply(alloc, options, &reply, out)
@@ -69,7 +72,7 @@ fn exec_answered<R: Read, W: Write>(
 /// Why there is no program, or what its run came to and left.
 #[derive(Drop)]
 pub(crate) enum Reply {
-    Refused(Refusal),
+    Refused(Unread),
     Ran { outcome: Outcome, left: LeftByRun },
 }
 
@@ -83,7 +86,7 @@ impl Reply {
         ensures { result ≡ answer_in fuel self.now }
     {
         match self {
-            Reply::Refused(refusal) => Answer::Refused(*refusal),
+            Reply::Refused(unread) => Answer::Refused(*unread),
             Reply::Ran { outcome, .. } => Answer::Ran {
                 outcome: *outcome,
                 fuel,
@@ -94,17 +97,18 @@ impl Reply {
 
 fn reply_to<R: Read>(alloc: Global, options: &ExecOptions, reader: &mut R) -> Result<Reply, Fault>
     ensures answer { IfOk result (λ reply. IfSome (R.remaining reader.old) (λ input.
-        AnswersLeaving options.now (take IMAGE_BYTES input) (answer_in options.now.fuel reply) (left_of reply))) }
+        AnswersLeaving options.now (take (most_read options.now.text) input)
+        (answer_in options.now.fuel reply) (left_of reply))) }
     ensures fault { IfErr result IsBeforeWriting }
-    ensures no_shape { (HasShape options.now.shape → ⊥) → result ≡ Ok (replies.Refused NoShape) }
+    ensures no_shape { (HasShape options.now.shape → ⊥) → result ≡ Ok (replies.Refused (unreads.Refused NoShape)) }
     ensures unread { (HasShape options.now.shape → ⊥) → R.remaining reader.new ≡ R.remaining reader.old }
-    ensures front { TakesAtMost IMAGE_BYTES (R.remaining reader.old) (R.remaining reader.new) }
+    ensures front { TakesAtMost (most_read options.now.text) (R.remaining reader.old) (R.remaining reader.new) }
 {
-    match program_for(alloc, options.shape, reader)? {
-        Ok((shape, program)) => {
-            run_case(alloc, shape, &program, options).map_err(|_| Fault::Memory)
+    match program_asked(alloc, options.shape, options.text, reader)? {
+        Ok(read) => {
+            run_case(alloc, read.shape, &read.program, options).map_err(|_| Fault::Memory)
         }
-        Err(refusal) => Ok(Reply::Refused(refusal)),
+        Err(unread) => Ok(Reply::Refused(unread)),
     }
 }
 

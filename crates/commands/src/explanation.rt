@@ -1,22 +1,19 @@
 //! `verify --text`, `verify --explain`: the verdict on a text or an image, and what is known at its slots.
-ghost use Rattle.std.specs.Prelude.{◌≡◌, ◌+◌, ℕ, List, IfOk, IfErr, IfSome, string_bytes, take};
+ghost use Rattle.std.specs.Prelude.{◌≡◌, ℕ, List, IfOk, IfErr, IfSome, string_bytes, take};
 ghost use Rattle.stream_io.specs.Streams.{TakesAtMost};
 ghost use Rattle.bpf_verify.specs.Findings.{AreFindings};
 ghost use Rattle.commands.specs.Explained as told_specs;
 ghost use Rattle.commands.specs.Faults.{IsBeforeWriting};
-ghost use Rattle.commands.specs.Asm.{text_refusal};
-ghost use Rattle.commands.specs.Image.{HasShape, asked_extent, refusal_line};
-ghost use Rattle.commands.specs.declared.asm.TheConstants.{TEXT_BYTES};
-ghost use Rattle.commands.specs.declared.image.TheConstants.{IMAGE_BYTES};
+ghost use Rattle.commands.specs.Image.{HasShape, asked_extent};
+ghost use Rattle.commands.specs.Input.{most_read, unread_line};
 
-use crate::asm::{TextRefusal, program_meant, read_text};
 use crate::ending::Ending;
 use crate::fault::Fault;
-use crate::image::{Refusal, program_for};
+use crate::input::{ProgramRead, Unread, program_asked};
 use crate::output::write_whole;
 use crate::request::ExplainOptions;
 use crate::verdict::Verdict;
-use bpf_asm::{TextError, instruction_lines};
+use bpf_asm::instruction_lines;
 use bpf_explain::{Detail, reason, rows};
 use bpf_insn::Program;
 use bpf_verify::{Findings, explain};
@@ -120,110 +117,56 @@ fn told_of_program(
     Ok(Told { text, ending })
 }
 
-/// The line that refuses options or an image.
-fn refused(alloc: Global, refusal: Refusal) -> Result<Told, Fault>
-    ensures told { IfOk result (λ told. told_specs.IsRefusedBy (refusal_line refusal)
+/// The line that refuses options, an image or a text.
+fn refused(alloc: Global, unread: Unread) -> Result<Told, Fault>
+    ensures told { IfOk result (λ told. told_specs.IsRefusedBy (unread_line unread)
         (told_specs.explanation (string_bytes told.text) told.ending)) }
     ensures fault { IfErr result IsBeforeWriting }
 {
-    let text = format!(in alloc; "{refusal}\n").map_err(|_| Fault::Memory)?;
+    let text = format!(in alloc; "{unread}\n").map_err(|_| Fault::Memory)?;
     Ok(Told {
         text,
         ending: Ending::Refused,
     })
 }
 
-/// The line that refuses a text.
-fn refused_text(alloc: Global, error: TextError) -> Result<Told, Fault>
-    ensures told { IfOk result (λ told. told_specs.IsRefusedBy (text_refusal error)
-        (told_specs.explanation (string_bytes told.text) told.ending)) }
-    ensures fault { IfErr result IsBeforeWriting }
+/// The lines of the instructions of a text; an image has none.
+fn lines_of(alloc: Global, text: bool, bytes: &[u8]) -> Result<Vec<usize>, AllocError>
+    ensures { IfOk result (λ lines. lines.items ≡ told_specs.lines_read text bytes.now) }
 {
-    let text = format!(in alloc; "{}\n", TextRefusal(error)).map_err(|_| Fault::Memory)?;
-    Ok(Told {
-        text,
-        ending: Ending::Refused,
-    })
-}
-
-/// What is told of the image that is read. Where the options have no shape, nothing is read.
-#[tactic(auto, using(crate::proofs::ExplainLemmas::image_told, crate::proofs::ExplainLemmas::image_refused))]
-fn told_of_image<R: Read>(
-    alloc: Global,
-    options: ExplainOptions,
-    reader: &mut R,
-) -> Result<Told, Fault>
-    ensures told { IfOk result (λ told. IfSome (R.remaining reader.old) (λ input. told_specs.ExplainsImage options
-        (take IMAGE_BYTES input) (told_specs.explanation (string_bytes told.text) told.ending))) }
-    ensures fault { IfErr result IsBeforeWriting }
-    ensures unread { (HasShape options.shape → ⊥) → R.remaining reader.new ≡ R.remaining reader.old }
-    ensures front { TakesAtMost IMAGE_BYTES (R.remaining reader.old) (R.remaining reader.new) }
-{
-    match program_for(alloc, options.shape, reader)? {
-        Ok((shape, program)) => told_of_program(alloc, options, &program, &[], shape),
-        Err(refusal) => refused(alloc, refusal),
+    if text {
+        instruction_lines(alloc, bytes)
+    } else {
+        Ok(Vec::new(alloc))
     }
 }
 
-/// What is told of a text that was read.
-fn told_of_read(
-    alloc: Global,
-    options: ExplainOptions,
-    shape: Shape,
-    text: &[u8],
-    read: &Result<Program, TextError>,
-) -> Result<Told, Fault>
-    requires { shape ≡ asked_extent options.shape }
-    ensures told { IfOk result (λ told. told_specs.ExplainsRead options text.now read.now
+/// What is told of a program that was read.
+fn told_of_read(alloc: Global, options: ExplainOptions, read: &ProgramRead) -> Result<Told, Fault>
+    requires { read.now.shape ≡ asked_extent options.shape }
+    ensures told { IfOk result (λ told. told_specs.ExplainsProgram options
+        (told_specs.lines_read options.text read.now.bytes.items) read.now.program
         (told_specs.explanation (string_bytes told.text) told.ending)) }
     ensures fault { IfErr result IsBeforeWriting }
 {
-    match read {
-        Ok(program) => {
-            let Ok(lines) = instruction_lines(alloc, text) else {
-                return Err(Fault::Memory);
-            };
-            told_of_program(alloc, options, program, lines.as_slice(), shape)
-        }
-        Err(error) => refused_text(alloc, *error),
-    }
-}
-
-/// What is told of the text that is read. Where the options have no shape, nothing is read.
-#[tactic(auto, using(crate::proofs::ExplainLemmas::text_told, crate::proofs::ExplainLemmas::text_refused))]
-fn told_of_text<R: Read>(
-    alloc: Global,
-    options: ExplainOptions,
-    reader: &mut R,
-) -> Result<Told, Fault>
-    ensures told { IfOk result (λ told. IfSome (R.remaining reader.old) (λ input. told_specs.ExplainsText options
-        (take (TEXT_BYTES + 1) input) (told_specs.explanation (string_bytes told.text) told.ending))) }
-    ensures fault { IfErr result IsBeforeWriting }
-    ensures unread { (HasShape options.shape → ⊥) → R.remaining reader.new ≡ R.remaining reader.old }
-    ensures front { TakesAtMost (TEXT_BYTES + 1) (R.remaining reader.old) (R.remaining reader.new) }
-{
-    let Some(shape) = Shape::of(options.shape.nodes, options.shape.memory) else {
-        return refused(alloc, Refusal::Shape);
+    let Ok(lines) = lines_of(alloc, options.text, read.bytes.as_slice()) else {
+        return Err(Fault::Memory);
     };
-    let text = read_text(alloc, reader)?;
-    let bytes = text.as_slice();
-    let read = program_meant(alloc, bytes)?;
-    told_of_read(alloc, options, shape, bytes, &read)
+    told_of_program(alloc, options, &read.program, lines.as_slice(), read.shape)
 }
 
+/// What is told of the text or the image that is read. Where the options have no shape, nothing is read.
 fn told_of<R: Read>(alloc: Global, options: ExplainOptions, reader: &mut R) -> Result<Told, Fault>
     ensures told { IfOk result (λ told. IfSome (R.remaining reader.old) (λ input.
-        told_specs.ExplainsAs options.text options (take (told_specs.most_read options.text) input)
+        told_specs.Explains options (take (most_read options.text) input)
         (told_specs.explanation (string_bytes told.text) told.ending))) }
     ensures fault { IfErr result IsBeforeWriting }
     ensures unread { (HasShape options.shape → ⊥) → R.remaining reader.new ≡ R.remaining reader.old }
-    ensures front { TakesAtMost (told_specs.most_read options.text) (R.remaining reader.old)
-        (R.remaining reader.new) }
+    ensures front { TakesAtMost (most_read options.text) (R.remaining reader.old) (R.remaining reader.new) }
 {
-    if options.text {
-        told_of_text(alloc, options, reader)
-    } else {
-        told_of_image(alloc, options, reader)
+    match program_asked(alloc, options.shape, options.text, reader)? {
+        Ok(read) => told_of_read(alloc, options, &read),
+        Err(unread) => refused(alloc, unread),
     }
 }
 
@@ -236,10 +179,9 @@ pub fn explained<R: Read, W: Write>(
 ) -> Result<Ending, Fault>
     ensures told { IfSome (R.remaining reader.old) (λ input.
         told_specs.LeavesExplained (W.contents out.old) (W.contents out.new) options
-        (take (told_specs.most_read options.text) input) result) }
+        (take (most_read options.text) input) result) }
     ensures unread { (HasShape options.shape → ⊥) → R.remaining reader.new ≡ R.remaining reader.old }
-    ensures front { TakesAtMost (told_specs.most_read options.text) (R.remaining reader.old)
-        (R.remaining reader.new) }
+    ensures front { TakesAtMost (most_read options.text) (R.remaining reader.old) (R.remaining reader.new) }
 {
     let told = told_of(alloc, options, reader)?;
     write_whole(out, told.text.as_bytes(), told.ending)

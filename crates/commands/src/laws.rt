@@ -1,5 +1,5 @@
 //! Laws of answers, listings and verdicts.
-ghost use Rattle.std.specs.Prelude.{◌≡◌, List, Result, ℕ};
+ghost use Rattle.std.specs.Prelude.{◌≡◌, List, Result, ℕ, false};
 ghost use Rattle.bpf_insn.specs.declared.forms.Insn.{Insn};
 ghost use Rattle.bpf_insn.specs.declared.image.ImageError.{ImageError};
 ghost use Rattle.bpf_machine.specs.declared.word.Outcome.{Outcome};
@@ -8,20 +8,24 @@ ghost use Rattle.commands.specs.declared.answer.Answer.TheVariants.{Ran};
 ghost use Rattle.commands.specs.declared.request.ExecOptions.{ExecOptions};
 ghost use Rattle.commands.specs.declared.request.ShapeOptions.{ShapeOptions};
 ghost use Rattle.commands.specs.declared.verdict.Verdict.{Verdict};
-ghost use Rattle.commands.specs.Answer.{Answers, AnswersLeaving};
+ghost use Rattle.commands.specs.Answer.{Answers, AnswersLeaving, SameAnswer};
 ghost use Rattle.commands.specs.Case.{Left};
 ghost use Rattle.commands.specs.Image.{ReadsImage};
 ghost use Rattle.commands.specs.Verdict.{Judges, SameVerdict};
 
+use bpf_asm::one_meaning;
 use bpf_insn::one_reading;
 use bpf_machine::one_run;
 
-/// Bytes have at most one answer under given options.
+/// Bytes have at most one answer under given options, but for the error of a text that means no program.
 pub fn one_answer()
-    ensures { (options : ExecOptions) (bytes : List ℕ) (answer other : Answer) → Answers options bytes answer
-        → Answers options bytes other → answer ≡ other }
+    ensures same { (options : ExecOptions) (bytes : List ℕ) (answer other : Answer) → Answers options bytes answer
+        → Answers options bytes other → SameAnswer answer other }
+    ensures image { (options : ExecOptions) (bytes : List ℕ) (answer other : Answer) → options.text ≡ false
+        → Answers options bytes answer → Answers options bytes other → answer ≡ other }
 {
     one_reading();
+    one_meaning();
     one_run();
 }
 
@@ -32,6 +36,7 @@ pub fn one_left()
         → left ≡ other }
 {
     one_reading();
+    one_meaning();
     one_run();
 }
 

@@ -14,6 +14,7 @@ mod explore;
 mod fault;
 mod finding;
 pub mod image;
+mod input;
 pub mod laws;
 mod left;
 mod lines;

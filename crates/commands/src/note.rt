@@ -26,7 +26,7 @@ const ELF_NOTE: &[u8] =
 
 /// The note on a text in place of an image.
 const TEXT_NOTE: &[u8] =
-    b"note: this is a text; clockbed asm prints its image, and clockbed verify --text verifies it\n";
+    b"note: this is a text; clockbed exec --text runs it, verify --text verifies it, and asm prints its image\n";
 
 /// The note on a scenario without a seed, where `sweep` needs one.
 const SEED_NOTE: &[u8] =

@@ -144,6 +144,8 @@ pub struct ExploreOptions {
 #[derive(Debug, Drop)]
 pub struct ExecOptions {
     pub shape: ShapeOptions,
+    /// Whether a text is read in place of an image.
+    pub text: bool,
     /// The most steps of the run.
     pub fuel: u64,
     pub case: Case,

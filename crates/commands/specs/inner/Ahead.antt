@@ -6,12 +6,12 @@ use Rattle.commands.specs.declared.fault.Fault.{Fault}
 use Rattle.commands.specs.declared.image.TheConstants.{IMAGE_BYTES}
 use Rattle.commands.specs.declared.request.Request.{Request}
 use Rattle.commands.specs.declared.request.Request.TheVariants.{Exec, Asm, Compile, Dis, Clock, Verify, Explain, Run, Lines, Stress, Sweep, Explore, Help}
-use Rattle.commands.specs.Explained.{most_read}
 use Rattle.commands.specs.Faults.{IsBeforeWriting}
+use Rattle.commands.specs.Input.{most_read}
 
 -- these bytes are as much of the input as the command reads, of which a note may be said
 abbrev pub IsFrontFor : Request → List ℕ → List ℕ → Type 0
-IsFrontFor (Exec asked) bytes input = bytes ≡ take IMAGE_BYTES input
+IsFrontFor (Exec asked) bytes input = bytes ≡ take (most_read asked.text) input
 IsFrontFor (Dis list) bytes input = bytes ≡ take IMAGE_BYTES input
 IsFrontFor (Verify asked) bytes input = bytes ≡ take IMAGE_BYTES input
 IsFrontFor (Run asked) bytes input = bytes ≡ take MOST_BYTES input

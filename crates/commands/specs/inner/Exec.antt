@@ -21,17 +21,17 @@ left_in left = record { memory = left.memory.items; outbox = left.outbox }
 
 -- the answer of a reply with so much fuel
 abbrev pub answer_in : ℕ → Reply → Answer
-answer_in fuel (Refused refusal) = answers.Refused refusal
+answer_in fuel (Refused unread) = answers.Refused unread
 answer_in fuel (Ran outcome left) = answers.Ran outcome fuel
 
 -- what its run leaves: nothing where there was none
 abbrev pub left_of : Reply → Left
-left_of (Refused refusal) = record { memory = []; outbox = record { nodes = 0; sent = empty } }
+left_of (Refused unread) = record { memory = []; outbox = record { nodes = 0; sent = empty } }
 left_of (Ran outcome left) = left_in left
 
 -- a reply that is the run of the program in the case that is asked for
 abbrev pub RunsCase : ExecOptions → List Insn → Reply → Type 0
-RunsCase asked program (Refused refusal) = ⊥
+RunsCase asked program (Refused unread) = ⊥
 RunsCase asked program (Ran outcome left) =
     RunAnswers program (case_setting (asked_extent asked.shape) asked.case)
     (case_memory (asked_extent asked.shape) asked.case) asked.fuel left.memory.items left.outbox.sent outcome

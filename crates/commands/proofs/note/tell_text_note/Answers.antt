@@ -6,7 +6,7 @@ use Rattle.commands.proofs.note.tell_text_note.Goals as goal
 pub say-requires : goal.say-requires
 say-requires g c = record {
   note = record {
-    words = codes "this is a text; clockbed asm prints its image, and clockbed verify --text verifies it";
+    words = codes "this is a text; clockbed exec --text runs it, verify --text verifies it, and asm prints its image";
     one_line = refl;
     line_is = refl;
   };
