@@ -184,7 +184,7 @@ pub(crate) fn of_expected(alloc: Global, reading: &mut Reading<'_>) -> Result<St
         let column = reading.block_column();
         return format!(in alloc; "expected a line deeper than column {column}");
     }
-    if reading.begins_line && !reading.walk.may_end() {
+    if reading.is_past_line() && !reading.walk.may_end() {
         let expected = may_follow(reading.walk.next, reading.walk.part());
         if expected.len() == 0 {
             return unexpected(alloc, reading);

@@ -3,7 +3,7 @@
 use crate::names::Maker;
 use crate::place::Place;
 use crate::token::tokens_of;
-use crate::walk::{Grade, Next, Walk};
+use crate::walk::{Grade, Next, Part, Walk};
 use std::alloc::{AllocError, Global};
 
 /// A token, and what is known before it.
@@ -63,6 +63,12 @@ impl<'a> Reading<'a> {
             && self.column <= self.block_column()
     }
 
+    /// Returns true if the line of the token before has ended: the token begins a line, or the text ends on a later one.
+    pub(crate) fn is_past_line(&self) -> bool {
+        let is_joined = self.walk.parts.iter().any(|part| is_bracket(*part));
+        self.begins_line || self.here.len() == 0 && self.last_line < self.line && !is_joined
+    }
+
     /// Returns the column of the last line before the token.
     pub(crate) fn block_column(&self) -> usize {
         self.walk.columns.last().copied().unwrap_or_default()
@@ -109,6 +115,13 @@ impl<'a> Reading<'a> {
             known.push(*word)?;
         }
         Ok(known)
+    }
+}
+
+fn is_bracket(part: Part) -> bool {
+    match part {
+        Part::Round { .. } | Part::Square { .. } => true,
+        Part::Test | Part::Condition | Part::Sent | Part::Value(_) => false,
     }
 }
 
