@@ -1,4 +1,4 @@
-pub mod ExplainLemmas
+mod ExplainLemmas
 mod AnswerLemmas
 mod CaseLemmas
 mod VerdictLemmas

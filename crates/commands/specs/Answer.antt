@@ -13,8 +13,8 @@ use Rattle.commands.specs.declared.answer.Answer.{Answer}
 use Rattle.commands.specs.declared.answer.Answer.TheVariants.{Refused, Ran}
 use Rattle.commands.specs.declared.ending.Ending.{Ending}
 use Rattle.commands.specs.declared.ending.Ending.TheVariants as endings
-use Rattle.commands.specs.Case.{Left, case_memory, case_setting, left_lines}
 use Rattle.commands.specs.declared.input.Unread.TheVariants.{Text}
+use Rattle.commands.specs.Case.{Left, case_memory, case_setting, left_lines}
 use Rattle.commands.specs.Image.{HasShape, asked_extent}
 use Rattle.commands.specs.Input.{IsProgramOf, IsUnread, unread_line}
 

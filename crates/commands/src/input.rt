@@ -4,7 +4,7 @@ ghost use Rattle.stream_io.specs.Streams.{TakesAtMost};
 ghost use Rattle.commands.specs.declared.asm.TheConstants.{TEXT_BYTES};
 ghost use Rattle.commands.specs.declared.image.Refusal.TheVariants.{Shape as NoShape};
 ghost use Rattle.commands.specs.declared.input.Unread.TheVariants as unreads;
-ghost use Rattle.commands.specs.declared.request.ShapeOptions.{ShapeOptions as Asked};
+ghost use Rattle.commands.specs.declared.request.ShapeOptions.{ShapeOptions};
 ghost use Rattle.commands.specs.Faults.{IsBeforeWriting};
 ghost use Rattle.commands.specs.Image.{HasShape, asked_extent};
 ghost use Rattle.commands.specs.Input.{IsProgramOf, IsUnread, most_read, unread_line};
@@ -87,7 +87,7 @@ fn program_of(alloc: Global, text: bool, bytes: &[u8]) -> Result<Result<Program,
     requires few { text ≡ true → length bytes.now ≤ TEXT_BYTES }
     ensures program { IfOk result (λ read. IfOk read (IsProgramOf text bytes.now)) }
     ensures unread { IfOk result (λ read. IfErr read (λ unread.
-        (asked : Asked) → HasShape asked → IsUnread asked text bytes.now unread)) }
+        (asked : ShapeOptions) → HasShape asked → IsUnread asked text bytes.now unread)) }
     ensures fault { IfErr result IsBeforeWriting }
 {
     if text {
@@ -101,7 +101,7 @@ fn program_of_text(alloc: Global, text: &[u8]) -> Result<Result<Program, Unread>
     requires few { length text.now ≤ TEXT_BYTES }
     ensures program { IfOk result (λ read. IfOk read (IsProgramOf true text.now)) }
     ensures unread { IfOk result (λ read. IfErr read (λ unread.
-        (asked : Asked) → HasShape asked → IsUnread asked true text.now unread)) }
+        (asked : ShapeOptions) → HasShape asked → IsUnread asked true text.now unread)) }
     ensures fault { IfErr result IsBeforeWriting }
 {
     match program_meant(alloc, text)? {
@@ -113,7 +113,7 @@ fn program_of_text(alloc: Global, text: &[u8]) -> Result<Result<Program, Unread>
 fn program_of_image(alloc: Global, image: &[u8]) -> Result<Result<Program, Unread>, Fault>
     ensures program { IfOk result (λ read. IfOk read (IsProgramOf false image.now)) }
     ensures unread { IfOk result (λ read. IfErr read (λ unread.
-        (asked : Asked) → HasShape asked → IsUnread asked false image.now unread)) }
+        (asked : ShapeOptions) → HasShape asked → IsUnread asked false image.now unread)) }
     ensures fault { IfErr result IsBeforeWriting }
 {
     match program_in(alloc, image)? {
