@@ -240,7 +240,9 @@ fn cells_asked(
     let (named, reason) = match (options.get_str("bytes"), options.get_str("cells")) {
         (None, None) => return Ok(None),
         (Some(_), Some(_)) => {
-            return Err(OptionsFault::Reason("--bytes and --cells name the same bytes: take one of them"));
+            return Err(OptionsFault::Reason(
+                "--bytes and --cells name the same bytes: take one of them",
+            ));
         }
         (Some(text), None) => (bytes_in(alloc, text), BYTES_REASON),
         (None, Some(text)) => (cells_in(alloc, text), CELLS_REASON),
@@ -277,9 +279,7 @@ fn any_start(alloc: Global, options: &ArgMatches<'_>) -> Result<Option<AnyStart>
         }
         "any" => match cells {
             Some(cells) => Ok(Some(AnyStart { cells, said })),
-            None => Err(OptionsFault::Reason(
-                "--start any needs --bytes LIST or --cells LIST",
-            )),
+            None => Err(OptionsFault::Reason("--start any needs --bytes LIST or --cells LIST")),
         },
         _ => Err(OptionsFault::Reason("--start is zero or any")),
     }

@@ -364,7 +364,9 @@ fn luck_line(alloc: Global, pulses: u64) -> Result<String, AllocError>
     ensures { IfOk result (λ text. string_bytes text ≡ recovery_text (Luck pulses)) }
 {
     let pulses = counted(alloc, pulses, "pulse")?;
-    format!(in alloc; "may stabilise within {pulses}: from every reachable state some coins lead there")
+    format!(in alloc;
+        "may stabilise within {pulses}: from every reachable state some coins lead there"
+    )
 }
 
 /// How the clocks stabilise.
