@@ -76,7 +76,7 @@ class Copy:
         if not path.exists():
             said = self.run(["./clockbed", "--version"])[1]
             if not path.exists():
-                raise Unbuilt(first_error(said))
+                raise Unbuilt(first_line(said, "error"))
         return str(path)
 
     def fails(self, command):
@@ -84,21 +84,18 @@ class Copy:
         if is_of_tests(command):
             status, said = self.run(["rt", "try", "--test"], f"crates/{command[2]}")
             if status and not ENDED.search(said):
-                raise Unbuilt(first_error(said))
+                raise Unbuilt(first_line(said, "error"))
         else:
             path = self.program()
             status, said = self.run([command[0], path, *command[1:]], CLOCKBED_PROGRAM=path)
-        return first_line(said) if status else None
+        return first_line(said, "FAILED") if status else None
 
 
-def first_line(said):
+def first_line(said, word=""):
+    """The first line with a word, or the first one that isn't empty."""
     lines = [line for line in said.splitlines() if line.strip()]
+    lines = [line for line in lines if word in line] or lines
     return lines[0][:MOST_SHOWN] if lines else "nothing was said"
-
-
-def first_error(said):
-    lines = [line for line in said.splitlines() if "error" in line]
-    return lines[0][:MOST_SHOWN] if lines else first_line(said)
 
 
 class Trial:
