@@ -20,7 +20,7 @@ import sys
 import tempfile
 
 sys.dont_write_bytecode = True
-from mistakes import TOP, mistakes_of
+from mistakes import TOP, first_error, mistakes_of
 
 FOLDER = "tested"
 FINDS = "found by: "
@@ -76,7 +76,7 @@ class Copy:
         if not path.exists():
             said = self.run(["./clockbed", "--version"])[1]
             if not path.exists():
-                raise Unbuilt(first_line(said, "error"))
+                raise Unbuilt(first_error(said)[:MOST_SHOWN])
         return str(path)
 
     def fails(self, command):
@@ -84,7 +84,7 @@ class Copy:
         if is_of_tests(command):
             status, said = self.run(["rt", "try", "--test"], f"crates/{command[2]}")
             if status and not ENDED.search(said):
-                raise Unbuilt(first_line(said, "error"))
+                raise Unbuilt(first_error(said)[:MOST_SHOWN])
         else:
             path = self.program()
             status, said = self.run([command[0], path, *command[1:]], CLOCKBED_PROGRAM=path)
