@@ -1,9 +1,10 @@
 #!/usr/bin/env python3
 """Tries the rows of rows/*.txt on the built program (rows/README.md has their form).
 
-usage: check_rows.py [PROGRAM]
+usage: check_rows.py [PROGRAM [FILE[:SECTION]..]]
 
-PROGRAM is the built `clockbed`; without it CLOCKBED_PROGRAM, or else the one of this checkout. It prints each row that
+PROGRAM is the built `clockbed`; without it CLOCKBED_PROGRAM, or else the one of this checkout. Of a named FILE, as
+rows/sweep.txt, only its rows are tried, and of a SECTION those below the comment `#### SECTION`. It prints each row that
 differs, named by its file and line, and how many of each file were compared.
 """
 import dataclasses
@@ -24,11 +25,12 @@ MOST_SHOWN = 400
 
 @dataclasses.dataclass
 class Part:
-    """A mark's place, its word, what stands behind it, and the lines below."""
+    """A mark's place, its word, what stands behind it, the section that it is in, and the lines below."""
 
     place: str
     word: str
     rest: str
+    section: str = ""
     text: str = ""
 
     def lines(self):
@@ -38,7 +40,7 @@ class Part:
 
 @dataclasses.dataclass
 class Case:
-    """Command lines, each with its place, that read the same and have one answer."""
+    """Command lines, each with its place and section, that read the same and have one answer."""
 
     form: str = "text"
     given: str = ""
@@ -47,21 +49,23 @@ class Case:
     is_answered: bool = False
 
 
-def part_of(place, mark):
+def part_of(place, mark, section):
     if mark[1] == "====":
-        return Part(place, "asks", mark[2] or "")
+        return Part(place, "asks", mark[2] or "", section)
     word, _, rest = (mark[2] or "").partition(" ")
-    return Part(place, word, rest)
+    return Part(place, word, rest, section)
 
 
 def parts_of(path):
     """The parts of a file, each without the empty lines at its end."""
-    parts = []
+    parts, section = [], ""
     for number, line in enumerate(path.read_text(encoding="utf-8").splitlines(keepends=True), 1):
         mark = MARK.fullmatch(line)
         if mark:
-            parts.append(part_of(f"rows/{path.name}:{number}", mark))
-        elif parts and not line.startswith(COMMENT):
+            parts.append(part_of(f"rows/{path.name}:{number}", mark, section))
+        elif line.startswith(COMMENT):
+            section = line.removeprefix(COMMENT).strip()
+        elif parts:
             parts[-1].text += line
     for part in parts:
         text = part.text.rstrip("\n")
@@ -84,7 +88,7 @@ def add_words(cases, part):
         before = cases[-1] if cases and part.word == "and" else Case()
         cases.append(Case(before.form, before.given))
     case = cases[-1]
-    case.lines.append((part.place, shlex.split(part.rest, comments=True)))
+    case.lines.append((part.place, part.section, shlex.split(part.rest, comments=True)))
     if part.word == "asks" and not case.given:
         case.given = part.text
     elif part.word == "asks" or part.text:
@@ -148,10 +152,25 @@ def shown(it):
     return f"status {it.status}, output {it.out[:MOST_SHOWN]!r}, errors {it.err[:MOST_SHOWN]!r}"
 
 
+def rows_of(path, wanted=""):
+    """The rows of a file, or of its wanted section."""
+    lines = [(case, *line) for case in cases_of(path) for line in case.lines]
+    return [(path.stem, case, place, words) for case, place, section, words in lines if wanted in ("", section)]
+
+
+def named_rows(name):
+    """The rows of FILE or FILE:SECTION."""
+    file, _, section = name.partition(":")
+    rows = rows_of(TOP / file, section)
+    if not rows:
+        sys.exit(f"{name}: there are no such rows")
+    return rows
+
+
 def main():
     program = named_program()
-    paths = sorted((TOP / "rows").glob("*.txt"))
-    rows = [(path.stem, case, *line) for path in paths for case in cases_of(path) for line in case.lines]
+    every = [str(path.relative_to(TOP)) for path in sorted((TOP / "rows").glob("*.txt"))]
+    rows = [row for name in sys.argv[2:] or every for row in named_rows(name)]
 
     def differences(row):
         _, case, place, words = row
@@ -160,7 +179,7 @@ def main():
             return []
         return [f"{place}: {shlex.join(words)}: {shown(got)} in place of {shown(case.wanted)}"]
 
-    counts = {path.stem: sum(row[0] == path.stem for row in rows) for path in paths}
+    counts = {stem: sum(row[0] == stem for row in rows) for stem in dict.fromkeys(row[0] for row in rows)}
     return tell("check_rows", counts, on_all_processors(differences, rows))
 
 

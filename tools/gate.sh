@@ -34,6 +34,7 @@ before_commit() {
   local crate crates
   mapfile -t crates < <(changed_since HEAD)
   tools/mistakes.py --read
+  tools/tested.py --read
   if [ ${#crates[@]} -gt 0 ]; then
     for crate in $(with_users "${crates[@]}"); do
       echo "gate: rt check in crates/$crate"
