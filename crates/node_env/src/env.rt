@@ -1,5 +1,6 @@
 //! What a node's program sees in a pulse.
-ghost use Rattle.std.specs.Prelude.{◌≡◌, ◌<◌, ◌↔◌, ℕ, length, All, IfOk, IsTrue};
+ghost use Rattle.std.specs.Prelude.{◌≡◌, ◌+◌, ◌≤◌, ◌<◌, ◌↔◌, ℕ, false, length, get_or, All, IfOk, IsTrue};
+ghost use Rattle.node_env.specs.declared.env.TheConstants.{WORDS_AT_ONCE};
 ghost use Rattle.node_env.specs.Env.{IsSetting, inbox_of, received, setting_of};
 ghost use Rattle.node_env.specs.Slots.{map_of, IsSlot};
 ghost use Rattle.node_env.specs.inner.Slots.{IsWord, numbers_of};
@@ -214,6 +215,20 @@ impl Env {
             Inbox::Words(words) => are_alike(words, mail.words_to(id)),
         }
     }
+
+    /// Returns true only if another node sees the same, except for its number. It returns false if an inbox was made of
+    /// slots.
+    pub fn sees_alike(&self, other: &Env) -> bool
+        ensures { IsTrue result → self.now ≡ record other.now { id = self.now.id } }
+    {
+        if self.coin != other.coin || self.shape != other.shape {
+            return false;
+        }
+        match (&self.inbox, &other.inbox) {
+            (Inbox::Words(words), Inbox::Words(others)) => surely_same(words, others),
+            (Inbox::Words(_), Inbox::Slots(_)) | (Inbox::Slots(_), _) => false,
+        }
+    }
 }
 
 /// Whether the list is what came to the receiver, by sender.
@@ -238,4 +253,43 @@ fn are_alike(words: &[u64], others: &[u64]) -> bool
     ensures { IsTrue result ↔ (numbers_of words.now ≡ numbers_of others.now) }
 {
     words == others
+}
+
+/// How many words `surely_same` compares before it branches.
+const WORDS_AT_ONCE: usize = 8;
+
+/// Whether some of these words differ. The loop has no early exit, so that the words are compared side by side.
+#[inline(always)]
+fn differ_at(words: &[u64], others: &[u64], first: usize) -> bool
+    requires mine { first + WORDS_AT_ONCE ≤ length words.now }
+    requires theirs { first + WORDS_AT_ONCE ≤ length others.now }
+    ensures { result ≡ false → (k : ℕ) → first ≤ k → k < first + WORDS_AT_ONCE
+        → get_or words.now k 0 ≡ get_or others.now k 0 }
+{
+    let mut differ = false;
+    for k in first..first + WORDS_AT_ONCE {
+        differ |= words[k] != others[k];
+    }
+    differ
+}
+
+/// Whether the words are the same, compared some at once.
+fn surely_same(words: &[u64], others: &[u64]) -> bool
+    requires { length words.now ≡ length others.now }
+    ensures { IsTrue result → words.now ≡ others.now }
+{
+    let count = words.len();
+    let mut at = 0;
+    while count - at >= WORDS_AT_ONCE {
+        if differ_at(words, others, at) {
+            return false;
+        }
+        at += WORDS_AT_ONCE;
+    }
+    for k in at..count {
+        if words[k] != others[k] {
+            return false;
+        }
+    }
+    true
 }

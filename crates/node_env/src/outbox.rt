@@ -80,6 +80,14 @@ impl Outbox {
         self.words.fill(EMPTY);
     }
 
+    /// Takes over what another outbox with as many slots has.
+    pub fn copy_from(&mut self, other: &Outbox)
+        requires { other.now.nodes ≡ self.old.nodes }
+        ensures { self.new ≡ other.now }
+    {
+        self.words.copy_from_slice(&other.words);
+    }
+
     /// The words that represent the slots.
     pub(crate) fn words(&self) -> &[u64]
         ensures nodes { length result.now ≡ self.now.nodes }
