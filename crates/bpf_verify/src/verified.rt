@@ -10,7 +10,7 @@ use crate::longest::longest;
 use crate::refusal::VerifyError;
 use crate::walk::walk;
 use bpf_insn::Program;
-use bpf_record::{Record, records_of};
+use bpf_record::{Record, is_blind, records_of};
 use node_env::Shape;
 use std::alloc::{AllocError, Global};
 use std::marker::Model;
@@ -25,11 +25,13 @@ pub struct VerifiedProgram {
     budget: u32,
 }
 
-/// A program with its records, by which it is run.
+/// A program with its records, by which it is run, and whether it is blind.
 #[derive(Drop)]
 struct Recorded {
     program: Program,
     records: Vec<Record>,
+    /// True only if the program never reads its node's number.
+    blind: bool,
 }
 
 impl Model for VerifiedProgram {
@@ -37,11 +39,11 @@ impl Model for VerifiedProgram {
 
     ghost Value = { Accepted };
 
-    ghost use Rattle.bpf_verify.specs.inner.VerifiedParts.{accepted_of, HasRecords};
+    ghost use Rattle.bpf_verify.specs.inner.VerifiedParts.{accepted_of, HasRecords, KnowsBlind};
 
     ghost view = { accepted_of };
 
-    ghost invariant = { λ v. IsVerified (accepted_of v) × HasRecords v };
+    ghost invariant = { λ v. IsVerified (accepted_of v) × HasRecords v × KnowsBlind v };
 }
 
 /// Returns the announced count of a program that would be accepted, without making an accepted program. It refuses what
@@ -94,6 +96,7 @@ fn accepted(
 {
     let recorded = Recorded {
         records: records_of(alloc, program)?,
+        blind: is_blind(alloc, program)?,
         program: program.copy(alloc)?,
     };
     let Ok(shared) = Arc::new(alloc, recorded) else {
@@ -112,6 +115,7 @@ impl VerifiedProgram {
     ghost use Rattle.bpf_verify.specs.Typable.{Typable};
     ghost use Rattle.bpf_verify.specs.Paths.{IsLongestPath};
     ghost use Rattle.bpf_record.specs.Records.{AreRecords};
+    ghost use Rattle.bpf_record.specs.Blind.{IsBlind};
 
     /// Returns the greatest number of instructions that a run can take: that of the longest path from slot 0.
     pub fn budget(&self) -> u32
@@ -145,6 +149,15 @@ impl VerifiedProgram {
     {
         let shared: &Recorded = &self.shared;
         &shared.records
+    }
+
+    /// Returns true only if the program is blind: its run doesn't depend on its node's number (docs/RUNNER.md, "Blind
+    /// programs").
+    pub fn is_blind(&self) -> bool
+        ensures { IsTrue result → IsBlind self.now.program }
+    {
+        let shared: &Recorded = &self.shared;
+        shared.blind
     }
 
     /// Returns whether the other is the same program, accepted for the same shape: then its budget is the same too.
