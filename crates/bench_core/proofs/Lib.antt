@@ -1,3 +1,4 @@
+pub mod Alike
 pub mod Replays
 pub mod Counting
 pub mod Rules

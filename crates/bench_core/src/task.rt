@@ -44,8 +44,8 @@ impl Model for NodeTask {
 }
 
 impl NodeTask {
-    ghost use Rattle.std.specs.Prelude.{◌≤◌};
-    ghost use Rattle.bench_core.specs.Tasks.{IsEnd};
+    ghost use Rattle.std.specs.Prelude.{◌≤◌, IsTrue};
+    ghost use Rattle.bench_core.specs.Tasks.{IsAlike, IsEnd};
 
     /// The task of a node, with these lists as room for its result.
     pub(crate) fn of(
@@ -82,6 +82,55 @@ impl NodeTask {
             after,
             outbox,
         })
+    }
+
+    /// Returns false if `is_alike` is surely false: the announced counts or the coins differ. It is untrusted, and spares
+    /// comparisons.
+    #[inline(always)]
+    pub fn may_be_alike(&self, done: &NodeDone) -> bool {
+        self.env.coin() == done.env.coin() && self.program.budget() == done.program.budget()
+    }
+
+    /// Returns true only if the task has the same blind program as another node's result, and the same memory, inbox and
+    /// coin.
+    pub fn is_alike(&self, done: &NodeDone) -> bool
+        ensures { IsTrue result → IsAlike self.now done.now }
+    {
+        self.program.is_blind()
+            && self.before == done.before
+            && self.env.sees_alike(&done.env)
+            && done.program.same(&self.program)
+    }
+
+    /// Does as `run`, with a copy of the result of an equal input at another node.
+    pub fn done_as(self, done: &NodeDone) -> NodeDone
+        requires { IsAlike self done.now }
+        ensures input { result.task ≡ self }
+        ensures end { IsEnd result }
+        ensures within { result.end.steps ≤ result.task.program.budget }
+    {
+        let NodeTask {
+            opening,
+            node,
+            program,
+            env,
+            before,
+            mut after,
+            mut outbox,
+        } = self;
+        after.copy_from_slice(&done.after);
+        outbox.copy_from(&done.outbox);
+        NodeDone {
+            opening,
+            node,
+            program,
+            env,
+            before,
+            after,
+            outbox,
+            r0: done.r0,
+            steps: done.steps,
+        }
     }
 
     /// Runs the program on its input.
@@ -138,7 +187,7 @@ pub struct NodeDone {
 }
 
 impl Model for NodeDone {
-    ghost use Rattle.std.specs.Prelude.{◌≡◌, length};
+    ghost use Rattle.std.specs.Prelude.{◌≡◌, ◌≤◌, length};
     ghost use Rattle.std.specs.Coded.{codes};
     ghost use Rattle.node_env.specs.inner.Codes.{numbers_code};
     ghost use Rattle.bpf_machine.specs.Run.{CompleteRun};
@@ -161,7 +210,8 @@ impl Model for NodeDone {
 
     ghost invariant = { λ d. (length d.after.items ≡ length d.before.items) × (d.outbox.nodes ≡ d.env.shape.nodes)
         × CompleteRun d.program.program d.env d.before.items
-        (record { steps = d.steps; memory = d.after.items; sent = d.outbox.sent; r0 = d.r0 }) };
+        (record { steps = d.steps; memory = d.after.items; sent = d.outbox.sent; r0 = d.r0 })
+        × (d.steps ≤ d.program.budget) };
 }
 
 impl NodeDone {
