@@ -8,13 +8,12 @@ each limit of docs/GLOSSARY.md is the constant's value. Each call or type and ea
 docs/THEOREMS.md name as a contract is in the sources of the crate.
 """
 import re
-import shutil
-import subprocess
 import sys
 
 sys.dont_write_bytecode = True
 from believed import ACCEPTED, HEADLINE, believed_lines, modules, reached_lines
 from built_program import TOP
+from toolchain import toolchain_here
 
 PAGES = [TOP / "README.md", *sorted(TOP.glob("docs/*.md")), *sorted(TOP.glob("*/README.md"))]
 COMMENTED = ["crates/*/src/**/*.rt", "crates/*/specs/**/*.antt", "crates/*/proofs/**/*.antt", "crates/*/m*/*.edit"]
@@ -98,14 +97,14 @@ def source_faults(sources):
 
 
 def toolchain_faults():
-    if not shutil.which("rt"):
+    here = toolchain_here()
+    if here is None:
         print("check_citations: no rt here, so the toolchain's name isn't compared")
         return
-    version = subprocess.run(["rt", "version"], capture_output=True, text=True, check=True).stdout.strip()
     for path in PAGES:
         for named in TOOLCHAIN.findall(joined(read(path))):
-            if named != version:
-                yield f"{path.relative_to(TOP)}: {named} isn't {version}, which rt version tells"
+            if named != here:
+                yield f"{path.relative_to(TOP)}: {named} isn't {here}, which rt version tells"
 
 
 # ---- counts that pages quote

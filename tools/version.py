@@ -10,12 +10,12 @@ import argparse
 import os
 import pathlib
 import re
-import shutil
 import subprocess
 import sys
 
 sys.dont_write_bytecode = True
 from built_program import BUILT, TOP
+from toolchain import toolchain_here
 
 SOURCE = TOP / "crates/command_words/src/version.rt"
 TEXT = re.compile(r'"(\d+\.\d+\.\d+)\n(sources (?:of|after) commit ([0-9a-f]{40}))\ntoolchain ([^"]+)"')
@@ -43,10 +43,8 @@ def changelog_faults(version):
 
 
 def toolchain_faults(named):
-    if not shutil.which("rt"):
-        return []
-    here = subprocess.run(["rt", "version"], capture_output=True, text=True, check=True).stdout.strip()
-    return [] if here == named else [f"the toolchain is {here}, and not {named}"]
+    here = toolchain_here()
+    return [] if here in (None, named) else [f"the toolchain is {here}, and not {named}"]
 
 
 def program_faults(text):
