@@ -39,7 +39,8 @@ use Rattle.rule_nodes.proofs.Small.{compared, imm_low}
 use Rattle.rule_nodes.proofs.Forms.{copies, stores_number, stays, once, chain, further}
 use Rattle.rule_nodes.proofs.Words.{word_small, word_stored, word_low, word_length, word_bytes}
 use Rattle.rule_nodes.proofs.States.{stands_front, stands_back, place_number, Holds, still_holds, IsSized}
-use Rattle.rule_nodes.proofs.TermRuns.{hop, behind_more, behind_few, IsAt, is_found, found_same, source_is, Fetched, get_steps, Has, Gets, gets, here_is, branch_leads, choice_runs, constant_is, term_runs, nodes_few}
+use Rattle.rule_nodes.proofs.Sources.{is_found}
+use Rattle.rule_nodes.proofs.TermRuns.{hop, behind_more, behind_few, IsAt, found_same, source_is, Fetched, get_steps, Has, Gets, gets, here_is, branch_leads, choice_runs, constant_is, term_runs, nodes_few}
 
 -- ---- what holds after a write
 

@@ -1,3 +1,5 @@
+pub mod Sources
+pub mod Lengths
 pub mod Small
 pub mod Forms
 pub mod States
@@ -5,6 +7,7 @@ pub mod Words
 pub mod TermRuns
 pub mod Blocks
 pub mod Whole
+pub mod Slots
 pub mod Loops
 pub mod Typing
 pub mod TypedTerms

@@ -42,7 +42,8 @@ use Rattle.rule_nodes.specs.declared.syntax.Term.TheVariants.{Number, Nodes, Fau
 use Rattle.rule_nodes.specs.Meaning.{NodeState, value, word_at, apply, compare, number_of, truth, operate, combine, message_from, count_below}
 use Rattle.rule_nodes.specs.Operands.{is_constant, is_fetched, is_operand, constant_number, depth_behind, fetched_source, source_of}
 use Rattle.rule_nodes.specs.Fits.{HasPlace, Fits}
-use Rattle.rule_nodes.specs.Code.{place, set_number, copy, alu_of, cond_of, jump_on, jump_by, jump_at, truth_code, by_value, by_test, two_code, get_code, operand_code, load_code, jump_place, by_operator, left_code, binary_code, choice_code, decides, both_far, both_code, message_code, message_by, mirror, set_node, count_codes, count_code, term_code}
+use Rattle.rule_nodes.specs.Code.{place, set_number, copy, alu_of, cond_of, jump_on, jump_by, jump_at, beyond, truth_code, by_value, by_test, two_code, get_code, operand_code, load_code, jump_place, by_operator, left_code, binary_code, choice_code, decides, both_far, both_code, message_code, message_by, mirror, set_node, count_codes, count_code, term_code}
+use Rattle.rule_nodes.proofs.Sources.{is_found}
 use Rattle.rule_nodes.proofs.Small.{low, imm_low, mirrored, apply_small, operate_small, taken, compared, truth_of, jump_compared, jump_by_zero, not_not}
 use Rattle.rule_nodes.proofs.Words.{word_loaded, word_small}
 use Rattle.rule_nodes.proofs.Forms.{sets_number, copies, operates, counts, passes, jumps, numbers, Reaches, stays, once, chain, further}
@@ -60,10 +61,6 @@ landing_small when v far = elim (cases_Bool (taken when v)) [
   | inl e ↦ rw e (omega arith)
   | inr e ↦ rw e (omega arith)
 ]
-
-abbrev pub beyond : Purpose → ℕ
-beyond Value = 0
-beyond (Jump when far) = far
 
 -- a state with this number in r0
 pub record Has (d : ℕ) (s : MachineState) (v : ℕ) (t : MachineState) : Type 0 where
@@ -108,12 +105,6 @@ IsAt z lets u (FromLocal k) v = (k < lets) × (u.locals k ≡ v)
 IsAt z lets u (FromWord k) v = (4 * k + 4 ≤ z.memory) × (word_at k u.memory ≡ v)
 IsAt z lets u Computed v = Unit {0}
 
-abbrev pub is_found : Source → Bool
-is_found (Constant c) = true
-is_found (FromLocal k) = true
-is_found (FromWord k) = true
-is_found Computed = false
-
 has_less : (d e v : ℕ) (s t : MachineState) → d ≤ e → Has e s v t → Has d s v t
 has_less d e v s t le h = record {
   same = record {
@@ -152,14 +143,14 @@ behind_few true d few free = few
 behind_few false d few free = omega (arith, free)
 
 pub free_beside : (a b : Bool) (d : ℕ) → a ≡ false → b ≡ false → HasPlace (a || b) d
-    → (d < 3) × (depth_behind a d ≡ d + 1)
+    → (d < 3) × (depth_behind (a || b) d ≡ d + 1)
 free_beside false false d e f free = (free, refl)
 free_beside true b d e f free = absurd (let no : true ≡ false = e in cc)
 free_beside false true d e f free = absurd (let no : true ≡ false = f in cc)
 
-pub same_depth : (a : Bool) (d : ℕ) → a ≡ true → depth_behind a d ≡ d
-same_depth true d e = refl
-same_depth false d e = absurd (let no : false ≡ true = e in cc)
+pub same_depth : (a b : Bool) (d : ℕ) → a ≡ true → depth_behind (a || b) d ≡ d
+same_depth true b d e = refl
+same_depth false b d e = absurd (let no : false ≡ true = e in cc)
 
 -- r0 is free
 r0_free : (d k : ℕ) → 5 < k → k < 7 + d → k ≢ 0
@@ -849,7 +840,7 @@ module _ (program : List Insn) (env : Setting) (last : ℕ) (solid : (k : ℕ) �
       let parts = and_parts (is_constant a) (is_constant b) e in
       operate_small o (constant_number a z J) (constant_number b z J)
       (constant_small a z J lets d parts.0 sized nodes fits.1)
-      (constant_small b z J lets (depth_behind (is_operand a) d) parts.1 sized nodes fits.2)
+      (constant_small b z J lets (depth_behind (is_operand a || is_operand b) d) parts.1 sized nodes fits.2)
   constant_small t z J lets d e sized nodes fits = absurd (let no : false ≡ true = e in cc)
 
   -- ---- where numbers are found
@@ -1090,8 +1081,13 @@ module _ (program : List Insn) (env : Setting) (last : ℕ) (solid : (k : ℕ) �
       le more free h stands room first second =
       right_runs (Compute op) (Constant c) purpose z d lets a b u left s refl at_y sized few le h stands room first
   sides_run (Constant c) (Constant e) o purpose z d deep lets a b u left right s at_y at_x sized few le more
-      free h stands room first second = right_runs o (Constant c) purpose z d lets a b u left s refl at_y sized few le h
-      stands room first
+      free h stands room first second =
+      let small : operate o e c < 2 ^ 32 = operate_small o e c at_x.1 at_y.1 in
+      let n = length (by_value purpose (set_number R0 (operate o e c) ∷ [])) in
+      let is : operate o e c ≡ operate o a b = rw (at_x.0, at_y.0) refl in
+      subst (λ (v : ℕ). Reached purpose d s (s.frame.slot + n) n v) is
+      (by_value_runs purpose (set_number R0 (operate o e c) ∷ []) d (operate o e c) s stands room
+      (λ st l. number_runs d (operate o e c) s small st l))
   sides_run (Constant c) (FromWord k) o purpose z d deep lets a b u left right s at_y at_x sized few le more
       free h stands room first second = right_runs o (Constant c) purpose z d lets a b u left s refl at_y sized few le h
       stands room first
@@ -1275,12 +1271,12 @@ module _ (program : List Insn) (env : Setting) (last : ℕ) (solid : (k : ℕ) �
       (source_is a z J lets d u sized nodes fits) sized st l
       (λ st2 l2. term_runs a z J d lets Value u s sized nodes few le fits h st2 (omega (arith, l2))))
   term_runs (Binary' o p a q b) z J d lets purpose u s sized nodes few le fits h stands room =
-      let deep = depth_behind (is_operand a) d in
+      let deep = depth_behind (is_operand a || is_operand b) d in
       let ca = term_code a z J d Value in
       let cb = term_code b z J deep Value in
       let va = value a z env J u in
       let vb = value b z env J u in
-      let more : d ≤ deep = behind_more (is_operand a) d in
+      let more : d ≤ deep = behind_more (is_operand a || is_operand b) d in
       sides_run (source_of b z J) (source_of a z J) o purpose z d deep lets va vb u ca cb s
       (source_is b z J lets deep u sized nodes fits.2) (source_is a z J lets d u sized nodes fits.1) sized few le more
       (λ e f. free_beside (is_operand a) (is_operand b) d (sym (found_same a z J) ∙ e)

@@ -41,7 +41,8 @@ use Rattle.rule_nodes.proofs.Typing.{memory_place, word, known, plain, valued, p
 use Rattle.rule_nodes.proofs.Whole.{all_begin, rule_length, ones_rule}
 use Rattle.rule_nodes.specs.Ends.{AreSizes}
 use Rattle.rule_nodes.proofs.States.{place_number}
-use Rattle.rule_nodes.proofs.TermRuns.{behind_more, behind_few, is_found, found_same}
+use Rattle.rule_nodes.proofs.Sources.{is_found}
+use Rattle.rule_nodes.proofs.TermRuns.{behind_more, behind_few, found_same}
 use Rattle.rule_nodes.proofs.Blocks.{computed_place}
 use Rattle.rule_nodes.proofs.TypedTerms.{known_less, covers_less, left_imm, typed_seq, typed_at, choice_typed, some_node, proper_node, node_in_r0, not_above_node, name_typed, node_typed, load_typed, placed_in, place_word, IsThere, source_there, term_typed}
 

@@ -43,10 +43,12 @@ use Rattle.rule_nodes.specs.declared.syntax.Source.{Source}
 use Rattle.rule_nodes.specs.declared.syntax.Source.TheVariants.{Constant, FromLocal, FromWord, Computed}
 use Rattle.rule_nodes.specs.declared.syntax.Term.{Term}
 use Rattle.rule_nodes.specs.declared.syntax.Term.TheVariants.{Number as Numeral, Nodes, Faults, Modulus, Me, Coin, LoopNode, Local, Word, Message', Binary', Logical', Not', Choice', Count'}
+use Rattle.rule_nodes.specs.Meaning.{operate}
 use Rattle.rule_nodes.specs.Operands.{is_constant, is_operand, constant_number, depth_behind, fetched_source, source_of}
 use Rattle.rule_nodes.specs.Fits.{Fits}
-use Rattle.rule_nodes.specs.Code.{place, set_number, copy, alu_of, cond_of, jump_on, jump_by, jump_at, truth_code, by_value, by_test, two_code, get_code, operand_code, load_code, jump_place, by_operator, left_code, binary_code, message_by, mirror, set_node, choice_code, decides, both_far, both_code, message_code, count_codes, count_code, term_code}
-use Rattle.rule_nodes.proofs.TermRuns.{beyond, is_found, found_same, behind_more, free_beside, same_depth}
+use Rattle.rule_nodes.specs.Code.{place, set_number, copy, alu_of, cond_of, jump_on, jump_by, jump_at, beyond, truth_code, by_value, by_test, two_code, get_code, operand_code, load_code, jump_place, by_operator, left_code, binary_code, message_by, mirror, set_node, choice_code, decides, both_far, both_code, message_code, count_codes, count_code, term_code}
+use Rattle.rule_nodes.proofs.Sources.{is_found}
+use Rattle.rule_nodes.proofs.TermRuns.{found_same, behind_more, free_beside, same_depth}
 use Rattle.rule_nodes.proofs.Typing.{memory_place, word, held, known, plain, valued, proper_known, some_word, into, short, seen, Typing, typed_then, typed_as, typed_none, one_on, one_jump, one_fork, number_typed, fetch_typed, keep_typed, second_typed}
 
 held_less : (k d : ℕ) → IsKindIn (held k (d + 1)) (held k d)
@@ -831,7 +833,8 @@ module _ (program : List Insn) (shape : Extent) (last : ℕ) (solid : (k : ℕ) 
       below few le first
   sides_typed (Constant c) (Constant e) o purpose d deep lets slot left right at_y at_x below few same free le
       first second =
-      right_typed o (Constant c) purpose d lets slot left refl at_y below few le first
+      by_value_typed purpose d slot (set_number R0 (operate o e c) ∷ []) le
+      (λ l. number_typed program shape last solid d (operate o e c) slot l)
   sides_typed (Constant c) (FromWord k) o purpose d deep lets slot left right at_y at_x below few same free le
       first second =
       right_typed o (Constant c) purpose d lets slot left refl at_y below few le first
@@ -1254,13 +1257,13 @@ module _ (program : List Insn) (shape : Extent) (last : ℕ) (solid : (k : ℕ) 
       (λ l. message_by_typed (source_of a z J) d z.nodes slot code same some few l
       (λ k. term_typed a z J d lets Value slot same some few room below small fits (omega (arith, k))))
   term_typed (Binary' o p a q b) z J d lets purpose slot same some few room below small fits le =
-      let deep = depth_behind (is_operand a) d in
-      let more : d ≤ deep = behind_more (is_operand a) d in
+      let deep = depth_behind (is_operand a || is_operand b) d in
+      let more : d ≤ deep = behind_more (is_operand a || is_operand b) d in
       let memory = λ (y : Source) (there : IsThere y lets z.memory). subst (λ (m : ℕ). IsThere y lets m) room there in
       sides_typed (source_of b z J) (source_of a z J) o purpose d deep lets slot (term_code a z J d Value)
       (term_code b z J deep Value) (memory (source_of b z J) (source_there b z J (length J) lets deep fits.2))
       (memory (source_of a z J) (source_there a z J (length J) lets d fits.1)) below small
-      (λ e. same_depth (is_operand a) d (sym (found_same a z J) ∙ e))
+      (λ e. same_depth (is_operand a) (is_operand b) d (sym (found_same a z J) ∙ e))
       (λ e f. free_beside (is_operand a) (is_operand b) d (sym (found_same a z J) ∙ e)
       (sym (found_same b z J) ∙ f) fits.0) le
       (λ k. term_typed a z J d lets Value slot same some few room below small fits.1 (omega (arith, k)))

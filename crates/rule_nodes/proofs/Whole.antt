@@ -1,5 +1,5 @@
 -- The run of a whole rule.
-use Rattle.std.proofs.Common.{◌≡◌, ℕ, zero, suc, ◌+◌, ◌<◌, ◌≤◌, Bool, true, false, not, if◌then◌else◌, nat_lt, List, [], ◌∷◌, ◌++◌, length, Some, Ok, pos, slice_index_or, refl, sym, ap, ◌∙◌, arith, length-append}
+use Rattle.std.proofs.Common.{◌≡◌, ℕ, zero, suc, ◌+◌, ◌<◌, ◌≤◌, Bool, true, false, not, ◌||◌, if◌then◌else◌, nat_lt, List, [], ◌∷◌, ◌++◌, length, Some, Ok, pos, slice_index_or, refl, sym, ap, ◌∙◌, arith, length-append}
 use Rattle.std.proofs.lemmas.List.Elements.{All-nil}
 use Rattle.std.proofs.lemmas.Option.{slice_get-get_or}
 use Rattle.std.specs.FinMap.{get}
@@ -97,7 +97,7 @@ ones_binary (Constant c) (FromLocal k) (Compare r) d purpose left right h g =
     ones_test purpose (λ when far. jump_place k (jump_on when r) c far ∷ []) (λ when far. (refl, tt))
 ones_binary (Constant c) (FromLocal k) (Compute op) d purpose left right h g =
     ones_right (Compute op) (Constant c) purpose left h
-ones_binary (Constant c) (Constant b) o d purpose left right h g = ones_right o (Constant c) purpose left h
+ones_binary (Constant c) (Constant b) o d purpose left right h g = ones_value purpose _ (refl, tt)
 ones_binary (Constant c) (FromWord k) o d purpose left right h g = ones_right o (Constant c) purpose left h
 ones_binary (Constant c) Computed o d purpose left right h g = ones_right o (Constant c) purpose left h
 ones_binary (FromLocal k) x o d purpose left right h g = ones_right o (FromLocal k) purpose left h
@@ -142,8 +142,8 @@ ones_term (Message' p a) z J d purpose = ones_value purpose _
     (ones_message (source_of a z J) z.nodes (term_code a z J d Value) (ones_term a z J d Value))
 ones_term (Binary' o p a q b) z J d purpose =
     ones_binary (source_of b z J) (source_of a z J) o d purpose (term_code a z J d Value)
-    (term_code b z J (depth_behind (is_operand a) d) Value) (ones_term a z J d Value)
-    (ones_term b z J (depth_behind (is_operand a) d) Value)
+    (term_code b z J (depth_behind (is_operand a || is_operand b) d) Value) (ones_term a z J d Value)
+    (ones_term b z J (depth_behind (is_operand a || is_operand b) d) Value)
 ones_term (Logical' c p a q b) z J d purpose =
     let left = λ (w : Bool) (g : ℕ). term_code a z J d (Jump w g) in
     ones_test purpose (λ when far. both_code (decides c) when far left (term_code b z J d (Jump when far))) (λ when far.

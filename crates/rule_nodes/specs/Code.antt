@@ -1,6 +1,6 @@
 -- The instructions of a rule. r6 has the memory's place, r0 the number just computed, r1 and r2 are scratch; place k is
 -- r7, r8, r9 for k = 0, 1, 2. At depth d the places below d are in use.
-use Rattle.std.specs.Prelude.{ℕ, zero, suc, ◌+◌, ◌*◌, pos, Bool, true, false, not, nat_lt, if◌then◌else◌, List, [], ◌∷◌, ◌++◌, length, slice_index}
+use Rattle.std.specs.Prelude.{ℕ, zero, suc, ◌+◌, ◌*◌, pos, Bool, true, false, not, nat_lt, ◌||◌, if◌then◌else◌, List, [], ◌∷◌, ◌++◌, length, slice_index}
 use Rattle.std.specs.Int.{w32, cast_signed}
 use Rattle.bpf_insn.specs.declared.forms.Reg as regs
 use Rattle.bpf_insn.specs.declared.forms.Reg.TheVariants.{R0, R1, R2, R6, R7, R8, R9}
@@ -14,6 +14,7 @@ use Rattle.bpf_insn.specs.declared.forms.Operand.{Operand}
 use Rattle.bpf_insn.specs.declared.forms.Operand.TheVariants.{Imm, Reg}
 use Rattle.bpf_insn.specs.declared.forms.Insn.{Insn}
 use Rattle.bpf_insn.specs.declared.forms.Insn.TheVariants.{Alu, Branch, Ja, Call, Exit, Load, StoreReg, StoreImm}
+use Rattle.rule_nodes.specs.Meaning.{operate}
 use Rattle.rule_nodes.specs.Operands.{is_operand, is_steady, depth_behind, source_of}
 use Rattle.rule_nodes.specs.declared.syntax.Sizes.{Sizes}
 use Rattle.rule_nodes.specs.declared.syntax.Operation.{Operation}
@@ -119,6 +120,11 @@ abbrev pub far_of : Purpose → ℕ
 far_of Value = 2
 far_of (Jump when far) = far
 
+-- how far beyond its end the code of a term leads
+abbrev pub beyond : Purpose → ℕ
+beyond Value = 0
+beyond (Jump when far) = far
+
 -- what comes after the test
 abbrev pub behind_test : Purpose → List Insn → List Insn
 behind_test Value code = code ++ truth_code
@@ -166,8 +172,9 @@ left_code (Compare r) x purpose right =
 abbrev pub jump_place : ℕ → Comparison → ℕ → ℕ → Insn
 jump_place k r v far = Branch (cond_of r) W32 (place k) (Imm (cast_signed w32 v)) (pos far)
 
--- by where the right number y and the left number x are found
+-- by where the right number y and the left number x are found: two constants give a constant
 abbrev pub binary_code : Source → Source → Operator → ℕ → Purpose → List Insn → List Insn → List Insn
+binary_code (Constant c) (Constant b) o d purpose left right = by_value purpose (set_number R0 (operate o b c) ∷ [])
 binary_code (Constant c) (FromLocal k) (Compare r) d purpose left right =
     by_test purpose (λ when far. jump_place k (jump_on when r) c far ∷ [])
 binary_code Computed Computed o d purpose left right = by_operator o (Reg R1) purpose (two_code d left right)
@@ -224,7 +231,7 @@ term_code (Message' p a) z J d purpose = by_value purpose (message_by (source_of
     (term_code a z J d Value))
 term_code (Binary' o p a q b) z J d purpose =
     binary_code (source_of b z J) (source_of a z J) o d purpose (term_code a z J d Value)
-    (term_code b z J (depth_behind (is_operand a) d) Value)
+    (term_code b z J (depth_behind (is_operand a || is_operand b) d) Value)
 term_code (Logical' c p a q b) z J d purpose = by_test purpose (λ when far.
     both_code (decides c) when far (λ w g. term_code a z J d (Jump w g)) (term_code b z J d (Jump when far)))
 term_code (Not' p a) z J d purpose = by_test purpose (λ when far. term_code a z J d (Jump (not when) far))

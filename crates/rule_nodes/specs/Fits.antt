@@ -32,7 +32,7 @@ Fits (Word k) z loops lets d = 4 * k + 4 ≤ z.memory
 Fits (Message' p a) z loops lets d = Fits a z loops lets d
 Fits (Binary' o p a q b) z loops lets d =
     HasPlace (is_operand a || is_operand b) d × Fits a z loops lets d
-    × Fits b z loops lets (depth_behind (is_operand a) d)
+    × Fits b z loops lets (depth_behind (is_operand a || is_operand b) d)
 Fits (Logical' c p a q b) z loops lets d = Fits a z loops lets d × Fits b z loops lets d
 Fits (Not' p a) z loops lets d = Fits a z loops lets d
 Fits (Choice' p t q a r b) z loops lets d = Fits t z loops lets d × Fits a z loops lets d × Fits b z loops lets d

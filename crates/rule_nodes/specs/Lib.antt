@@ -3,3 +3,4 @@ pub mod Operands
 pub mod Fits
 pub mod Code
 pub mod Ends
+pub mod Refusals

@@ -1,8 +1,10 @@
 -- The terms whose numbers are found without code of their own: constants, locals and words.
-use Rattle.std.specs.Prelude.{ℕ, Bool, true, false, ◌&&◌, ◌||◌, ◌+◌, if◌then◌else◌, List, slice_index}
+use Rattle.std.specs.Prelude.{ℕ, Bool, true, false, ◌&&◌, ◌||◌, ◌+◌, ◌*◌, ◌≤◌, if◌then◌else◌, List, slice_index}
 use Rattle.rule_nodes.specs.declared.syntax.Sizes.{Sizes}
 use Rattle.rule_nodes.specs.declared.syntax.Source.{Source}
 use Rattle.rule_nodes.specs.declared.syntax.Source.TheVariants.{Constant, FromLocal, FromWord, Computed}
+use Rattle.rule_nodes.specs.declared.syntax.Target.{Target}
+use Rattle.rule_nodes.specs.declared.syntax.Target.TheVariants.{ToLocal, ToWord}
 use Rattle.rule_nodes.specs.declared.syntax.Term.{Term}
 use Rattle.rule_nodes.specs.declared.syntax.Term.TheVariants.{Number, Nodes, Faults, Modulus, Me, Coin, LoopNode, Local, Word, Binary'}
 use Rattle.rule_nodes.specs.Meaning.{operate}
@@ -35,7 +37,7 @@ is_asked _ = false
 abbrev pub is_steady : Term → Bool
 is_steady t = is_constant t || is_asked t
 
--- any other number is kept in a place while targets are set
+-- any other number is kept in a place while targets are set, as is the left one of two computed numbers
 abbrev pub depth_behind : Bool → ℕ → ℕ
 depth_behind steady d = if steady then d else d + 1
 
@@ -58,3 +60,13 @@ fetched_source _ = Computed
 
 abbrev pub source_of : Term → Sizes → List ℕ → Source
 source_of t z J = if is_constant t then Constant (constant_number t z J) else fetched_source t
+
+-- a source that is a word is in a memory of this length
+abbrev pub IsWithin : Source → ℕ → Type 0
+IsWithin (FromWord k) memory = 4 * k + 4 ≤ memory
+IsWithin _ memory = Unit {0}
+
+-- and a target that is one
+abbrev pub IsTarget : Target → ℕ → Type 0
+IsTarget (ToLocal k) memory = Unit {0}
+IsTarget (ToWord k) memory = 4 * k + 4 ≤ memory

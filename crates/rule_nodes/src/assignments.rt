@@ -1,57 +1,49 @@
 //! The code of assignments.
-ghost use Rattle.std.specs.Prelude.{◌≡◌, ◌≤◌, ◌++◌, ◌*◌, [], ◌∷◌, pos, length, IfOk};
+ghost use Rattle.std.specs.Prelude.{◌≡◌, ◌≤◌, ◌+◌, ◌++◌, ◌*◌, [], ◌∷◌, pos, length, IfOk, IfErr};
 ghost use Rattle.bpf_insn.specs.declared.forms.Reg.TheVariants.{R0, R6};
 ghost use Rattle.bpf_insn.specs.declared.forms.Size.TheVariants as size;
 ghost use Rattle.bpf_insn.specs.declared.forms.Insn.TheVariants as i;
 ghost use Rattle.rule_nodes.specs.declared.syntax.Target.TheVariants.{ToWord};
-ghost use Rattle.rule_nodes.specs.Operands.{is_steady, depth_behind};
-ghost use Rattle.rule_nodes.specs.Fits.{HasPlace, TargetFits, AssignmentFits};
+ghost use Rattle.rule_nodes.specs.Operands.{is_steady, IsWithin, IsTarget};
+ghost use Rattle.rule_nodes.specs.Fits.{AssignmentFits};
 ghost use Rattle.rule_nodes.specs.Code.{place, copy, assign_code, set_code, given_code, also_code, assignment_code};
+ghost use Rattle.rule_nodes.specs.Refusals.{IsUnmade};
 
 use crate::errors::CompileError;
-use crate::insns::{copy_of, has_word, place_of, word_offset};
-use crate::operands::{get_of, is_constant_of, source};
-use crate::parts::{joined, single};
+use crate::insns::{copy_of, place_of, word_offset};
+use crate::operands::{depth_behind_of, get_of, is_constant_of, source};
+use crate::parts::{joined, short, single};
 use crate::syntax::{Assignment, Purpose, Sizes, Source, Target, Term};
 use crate::terms::term;
-use bpf_insn::{Insn, Reg, Size};
-use std::alloc::Global;
+use bpf_insn::{Insn, MAX_SLOTS, Reg, Size};
+use std::alloc::{AllocError, Global};
 
 /// Returns the instruction that sets a word to the number in a register.
-fn store_of(k: u32, src: Reg) -> Result<Insn, CompileError>
-    ensures { IfOk result (λ x. x ≡ i.StoreReg size.W R6 (pos (4 * k)) src) }
+fn store_of(k: u32, src: Reg) -> Insn
+    requires { 4 * k + 4 ≤ 256 }
+    ensures { result ≡ i.StoreReg size.W R6 (pos (4 * k)) src }
 {
-    Ok(Insn::StoreReg {
+    Insn::StoreReg {
         size: Size::W,
         base: Reg::R6,
-        off: word_offset(k)?,
+        off: word_offset(k),
         src,
-    })
+    }
 }
 
 /// Returns the instruction that sets a target to the number in r0.
-fn assign_of(target: Target, lets: u32, memory: u32) -> Result<Insn, CompileError>
-    ensures code { IfOk result (λ x. x ≡ assign_code target) }
-    ensures fits { IfOk result (λ _. TargetFits target memory lets) }
+fn assign_of(target: Target) -> Insn
+    requires { IsTarget target 256 }
+    ensures { result ≡ assign_code target }
 {
     match target {
-        Target::ToLocal(k) => {
-            if k >= lets {
-                return Err(CompileError::NoRoom);
-            }
-            Ok(copy_of(place_of(k), Reg::R0))
-        }
-        Target::ToWord(k) => {
-            if !has_word(k, memory) {
-                return Err(CompileError::NoRoom);
-            }
-            store_of(k, Reg::R0)
-        }
+        Target::ToLocal(k) => copy_of(place_of(k), Reg::R0),
+        Target::ToWord(k) => store_of(k, Reg::R0),
     }
 }
 
 /// Returns true if no assignment changes the number of a term.
-fn is_steady_of(t: &Term) -> bool
+pub fn is_steady_of(t: &Term) -> bool
     ensures { result ≡ is_steady t.now }
 {
     match t {
@@ -60,22 +52,10 @@ fn is_steady_of(t: &Term) -> bool
     }
 }
 
-/// Returns the depth while the other targets are set. Fails if a number needs a place, and there is none.
-fn depth_behind_of(steady: bool, depth: u32) -> Result<u32, CompileError>
-    ensures depth { IfOk result (λ d. d ≡ depth_behind steady depth) }
-    ensures place { IfOk result (λ _. HasPlace steady depth) }
-{
-    if steady {
-        return Ok(depth);
-    }
-    if depth >= 3 {
-        return Err(CompileError::NoRoom);
-    }
-    Ok(depth + 1)
-}
-
 /// Returns the code that sets a word to a found number.
-fn set_word(alloc: Global, k: u32, source: Source) -> Result<Vec<Insn>, CompileError>
+fn set_word(alloc: Global, k: u32, source: Source) -> Result<Vec<Insn>, AllocError>
+    requires target { 4 * k + 4 ≤ 256 }
+    requires within { IsWithin source 256 }
     ensures { IfOk result (λ c. c.items ≡ set_code (ToWord k) source) }
 {
     match source {
@@ -84,28 +64,30 @@ fn set_word(alloc: Global, k: u32, source: Source) -> Result<Vec<Insn>, CompileE
             Insn::StoreImm {
                 size: Size::W,
                 base: Reg::R6,
-                off: word_offset(k)?,
+                off: word_offset(k),
                 imm: v.cast_signed(),
             },
         ),
-        Source::FromLocal(j) => single(alloc, store_of(k, place_of(j))?),
+        Source::FromLocal(j) => single(alloc, store_of(k, place_of(j))),
         Source::FromWord(_) => {
-            let get = get_of(Reg::R0, source)?;
-            joined(Vec::new(alloc), &[get, store_of(k, Reg::R0)?])
+            let get = get_of(Reg::R0, source);
+            joined(Vec::new(alloc), &[get, store_of(k, Reg::R0)])
         }
         Source::Computed => {
-            let get = get_of(Reg::R0, source)?;
-            joined(Vec::new(alloc), &[get, store_of(k, Reg::R0)?])
+            let get = get_of(Reg::R0, source);
+            joined(Vec::new(alloc), &[get, store_of(k, Reg::R0)])
         }
     }
 }
 
 /// Returns the code that sets a target to a found number.
-fn set_of(alloc: Global, target: Target, source: Source) -> Result<Vec<Insn>, CompileError>
+fn set_of(alloc: Global, target: Target, source: Source) -> Result<Vec<Insn>, AllocError>
+    requires target { IsTarget target 256 }
+    requires within { IsWithin source 256 }
     ensures { IfOk result (λ c. c.items ≡ set_code target source) }
 {
     match target {
-        Target::ToLocal(k) => single(alloc, get_of(place_of(k), source)?),
+        Target::ToLocal(k) => single(alloc, get_of(place_of(k), source)),
         Target::ToWord(k) => set_word(alloc, k, source),
     }
 }
@@ -117,8 +99,10 @@ fn given(
     target: Target,
     set: Insn,
     code: Vec<Insn>,
-) -> Result<Vec<Insn>, CompileError>
-    requires { set ≡ assign_code target }
+) -> Result<Vec<Insn>, AllocError>
+    requires set { set ≡ assign_code target }
+    requires target { IsTarget target 256 }
+    requires within { IsWithin source 256 }
     ensures { IfOk result (λ c. c.items ≡ given_code source target code.items) }
 {
     match source {
@@ -130,7 +114,7 @@ fn given(
 }
 
 /// Returns the code that keeps a number in a place, sets the targets before, and then sets this one.
-fn kept(depth: u32, set: Insn, code: Vec<Insn>, first: Vec<Insn>) -> Result<Vec<Insn>, CompileError>
+fn kept(depth: u32, set: Insn, code: Vec<Insn>, first: Vec<Insn>) -> Result<Vec<Insn>, AllocError>
     ensures { IfOk result (λ c. c.items ≡
         code.items ++ (copy (place depth) R0 ∷ (first.items ++ copy R0 (place depth) ∷ set ∷ []))) }
 {
@@ -140,7 +124,7 @@ fn kept(depth: u32, set: Insn, code: Vec<Insn>, first: Vec<Insn>) -> Result<Vec<
     joined(held, &others)
 }
 
-/// Returns the code of an assignment at a depth, with `lets` lets in scope.
+/// Returns the code of an assignment at a depth, with `lets` lets in scope. Fails if it is longer than a program.
 pub fn assignment(
     alloc: Global,
     a: &Assignment,
@@ -151,23 +135,27 @@ pub fn assignment(
 ) -> Result<Vec<Insn>, CompileError>
     requires some { 1 ≤ sizes.nodes }
     requires few { sizes.nodes ≤ 64 }
+    requires memory { sizes.memory ≤ 256 }
+    requires deep { depth ≤ 3 }
+    requires fits { AssignmentFits a.now sizes (length loops.now) lets depth }
     ensures code { IfOk result (λ c. c.items ≡ assignment_code a.now sizes loops.now depth) }
-    ensures fits { IfOk result (λ _. AssignmentFits a.now sizes (length loops.now) lets depth) }
+    ensures short { IfOk result (λ c. length c.items ≤ MAX_SLOTS) }
+    ensures long { IfErr result (IsUnmade (length (assignment_code a.now sizes loops.now depth))) }
 {
     match a {
         Assignment::One(target, e) => {
-            let set = assign_of(*target, lets, sizes.memory)?;
+            let set = assign_of(*target);
             let value = term(alloc, e, sizes, loops, lets, depth, Purpose::Value)?;
-            given(alloc, source(e, sizes, loops), *target, set, value)
+            short(given(alloc, source(e, sizes, loops), *target, set, value)?)
         }
         Assignment::Also(front, target, e) => {
             let steady = is_steady_of(e);
-            let set = assign_of(*target, lets, sizes.memory)?;
-            let behind = depth_behind_of(steady, depth)?;
+            let set = assign_of(*target);
+            let behind = depth_behind_of(steady, depth);
             let first = assignment(alloc, front, sizes, loops, lets, behind)?;
             let value = term(alloc, e, sizes, loops, lets, depth, Purpose::Value)?;
             let at = source(e, sizes, loops);
-            also_of(alloc, steady, depth, at, *target, set, value, first)
+            short(also_of(alloc, steady, depth, at, *target, set, value, first)?)
         }
     }
 }
@@ -182,8 +170,10 @@ fn also_of(
     set: Insn,
     code: Vec<Insn>,
     first: Vec<Insn>,
-) -> Result<Vec<Insn>, CompileError>
-    requires { set ≡ assign_code target }
+) -> Result<Vec<Insn>, AllocError>
+    requires set { set ≡ assign_code target }
+    requires target { IsTarget target 256 }
+    requires within { IsWithin source 256 }
     ensures { IfOk result (λ c. c.items ≡ also_code steady depth source target code.items first.items) }
 {
     if steady {

@@ -1,16 +1,17 @@
 //! The code of operators between two terms.
-ghost use Rattle.std.specs.Prelude.{◌≡◌, ◌++◌, [], IfOk};
+ghost use Rattle.std.specs.Prelude.{◌≡◌, ◌≤◌, ◌++◌, [], IfOk};
 ghost use Rattle.rule_nodes.specs.declared.syntax.Source.TheVariants.{Constant, FromLocal, Computed};
-ghost use Rattle.rule_nodes.specs.Operands.{source_of};
-ghost use Rattle.rule_nodes.specs.Code.{operand_code, load_code, by_operator, left_code, binary_code};
+ghost use Rattle.rule_nodes.specs.Operands.{source_of, IsWithin};
+ghost use Rattle.rule_nodes.specs.Code.{far_of, operand_code, load_code, by_operator, left_code, binary_code};
 
-use crate::errors::CompileError;
-use crate::insns::{copy_of, jump_by_of, jump_on_of, jump_place_of, mirror_of, operation_of};
-use crate::operands::{get_of, operand_of, source, with_load};
+use crate::insns::{
+    copy_of, jump_by_of, jump_on_of, jump_place_of, mirror_of, operation_of, set_number_of,
+};
+use crate::operands::{get_of, operand_of, operate_of, source, with_load};
 use crate::parts::{behind_test_of, by_value_of, far_for, joined, single, two_of, when_for};
 use crate::syntax::{Operator, Purpose, Sizes, Source, Term};
-use bpf_insn::{Insn, Operand, Reg, Width};
-use std::alloc::Global;
+use bpf_insn::{Insn, MAX_SLOTS, Operand, Reg, Width};
+use std::alloc::{AllocError, Global};
 
 /// Returns the code of an operator on r0 and an operand, for a purpose.
 fn by_operator_of(
@@ -18,7 +19,8 @@ fn by_operator_of(
     src: Operand,
     code: Vec<Insn>,
     purpose: Purpose,
-) -> Result<Vec<Insn>, CompileError>
+) -> Result<Vec<Insn>, AllocError>
+    requires { far_of purpose ≤ MAX_SLOTS }
     ensures { IfOk result (λ c. c.items ≡ by_operator operator src purpose code.items) }
 {
     match operator {
@@ -33,7 +35,7 @@ fn by_operator_of(
         }
         Operator::Compare(comparison) => {
             let on = jump_on_of(when_for(purpose), comparison);
-            let jump = jump_by_of(on, src, far_for(purpose))?;
+            let jump = jump_by_of(on, src, far_for(purpose));
             behind_test_of(joined(code, &[jump])?, purpose)
         }
     }
@@ -45,7 +47,9 @@ fn right_found(
     y: Source,
     left: Vec<Insn>,
     purpose: Purpose,
-) -> Result<Vec<Insn>, CompileError>
+) -> Result<Vec<Insn>, AllocError>
+    requires near { far_of purpose ≤ MAX_SLOTS }
+    requires within { IsWithin y 256 }
     ensures { IfOk result (λ c. c.items ≡ by_operator operator (operand_code y) purpose (left.items ++ load_code y)) }
 {
     by_operator_of(operator, operand_of(y), with_load(left, y)?, purpose)
@@ -57,12 +61,14 @@ fn left_found(
     x: Source,
     right: Vec<Insn>,
     purpose: Purpose,
-) -> Result<Vec<Insn>, CompileError>
+) -> Result<Vec<Insn>, AllocError>
+    requires near { far_of purpose ≤ MAX_SLOTS }
+    requires within { IsWithin x 256 }
     ensures { IfOk result (λ c. c.items ≡ left_code operator x purpose right.items) }
 {
     match operator {
         Operator::Compute(_) => {
-            let both = joined(right, &[copy_of(Reg::R1, Reg::R0), get_of(Reg::R0, x)?])?;
+            let both = joined(right, &[copy_of(Reg::R1, Reg::R0), get_of(Reg::R0, x)])?;
             by_operator_of(operator, Operand::Reg(Reg::R1), both, purpose)
         }
         Operator::Compare(comparison) => {
@@ -79,7 +85,9 @@ fn right_computed(
     left: Vec<Insn>,
     right: Vec<Insn>,
     purpose: Purpose,
-) -> Result<Vec<Insn>, CompileError>
+) -> Result<Vec<Insn>, AllocError>
+    requires near { far_of purpose ≤ MAX_SLOTS }
+    requires within { IsWithin x 256 }
     ensures { IfOk result (λ c. c.items ≡ binary_code Computed x operator depth purpose left.items right.items) }
 {
     match x {
@@ -101,14 +109,15 @@ fn local_beside(
     c: u32,
     left: Vec<Insn>,
     purpose: Purpose,
-) -> Result<Vec<Insn>, CompileError>
+) -> Result<Vec<Insn>, AllocError>
+    requires { far_of purpose ≤ MAX_SLOTS }
     ensures { IfOk result (λ a. a.items ≡ binary_code (Constant c) (FromLocal k) operator 0 purpose left.items []) }
 {
     match operator {
         Operator::Compute(_) => right_found(operator, Source::Constant(c), left, purpose),
         Operator::Compare(comparison) => {
             let on = jump_on_of(when_for(purpose), comparison);
-            let jump = jump_place_of(k, on, c, far_for(purpose))?;
+            let jump = jump_place_of(k, on, c, far_for(purpose));
             behind_test_of(single(alloc, jump)?, purpose)
         }
     }
@@ -122,12 +131,17 @@ fn beside_constant(
     c: u32,
     left: Vec<Insn>,
     purpose: Purpose,
-) -> Result<Vec<Insn>, CompileError>
+) -> Result<Vec<Insn>, AllocError>
+    requires near { far_of purpose ≤ MAX_SLOTS }
+    requires within { IsWithin x 256 }
     ensures { IfOk result (λ a. a.items ≡ binary_code (Constant c) x operator 0 purpose left.items []) }
 {
     match x {
         Source::FromLocal(k) => local_beside(alloc, operator, k, c, left, purpose),
-        Source::Constant(_) => right_found(operator, Source::Constant(c), left, purpose),
+        Source::Constant(b) => {
+            let insn = set_number_of(Reg::R0, operate_of(operator, b, c));
+            by_value_of(single(alloc, insn)?, purpose)
+        }
         Source::FromWord(_) => right_found(operator, Source::Constant(c), left, purpose),
         Source::Computed => right_found(operator, Source::Constant(c), left, purpose),
     }
@@ -142,7 +156,10 @@ fn by_sources(
     left: Vec<Insn>,
     right: Vec<Insn>,
     purpose: Purpose,
-) -> Result<Vec<Insn>, CompileError>
+) -> Result<Vec<Insn>, AllocError>
+    requires near { far_of purpose ≤ MAX_SLOTS }
+    requires left { IsWithin x 256 }
+    requires right { IsWithin y 256 }
     ensures { IfOk result (λ c. c.items ≡ binary_code y x operator depth purpose left.items right.items) }
 {
     match y {
@@ -165,7 +182,10 @@ pub fn binary_of(
     left: Vec<Insn>,
     right: Vec<Insn>,
     purpose: Purpose,
-) -> Result<Vec<Insn>, CompileError>
+) -> Result<Vec<Insn>, AllocError>
+    requires near { far_of purpose ≤ MAX_SLOTS }
+    requires left { IsWithin (source_of a.now sizes loops.now) 256 }
+    requires right { IsWithin (source_of b.now sizes loops.now) 256 }
     ensures { IfOk result (λ c. c.items ≡ binary_code (source_of b.now sizes loops.now)
         (source_of a.now sizes loops.now) operator depth purpose left.items right.items) }
 {

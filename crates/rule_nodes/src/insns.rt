@@ -1,10 +1,9 @@
 //! The instructions that the code of rules is made of.
-ghost use Rattle.std.specs.Prelude.{◌≡◌, ◌≤◌, ◌<◌, ◌+◌, ◌*◌, pos, length, IfOk, IsTrue, ◌↔◌};
+ghost use Rattle.std.specs.Prelude.{◌≡◌, ◌≤◌, ◌<◌, ◌+◌, ◌*◌, pos, length, IsTrue, ◌↔◌};
 ghost use Rattle.bpf_insn.specs.declared.forms.Reg.TheVariants.{R1};
 ghost use Rattle.bpf_insn.specs.declared.forms.Insn.TheVariants as i;
 ghost use Rattle.rule_nodes.specs.Code.{place, set_number, copy, alu_of, cond_of, opposite, mirror, jump_on, jump_by, jump_place, jump_at, set_node};
 
-use crate::errors::CompileError;
 use crate::syntax::{Comparison, Operation};
 use bpf_insn::{AluOp, Cond, Insn, MAX_SLOTS, Operand, Reg, Width};
 
@@ -17,17 +16,6 @@ pub fn place_of(k: u32) -> Reg
         1 => Reg::R8,
         _ => Reg::R9,
     }
-}
-
-/// Returns the place at a depth, if there is one.
-pub fn free_place(depth: u32) -> Result<Reg, CompileError>
-    ensures code { IfOk result (λ p. p ≡ place depth) }
-    ensures free { IfOk result (λ _. depth < 3) }
-{
-    if depth >= 3 {
-        return Err(CompileError::NoRoom);
-    }
-    Ok(place_of(depth))
 }
 
 /// Returns a move of a number of 32 bits.
@@ -131,68 +119,65 @@ pub fn jump_on_of(when: bool, comparison: Comparison) -> Comparison
     }
 }
 
-/// Returns the distance of a jump. Fails if it is more than `MAX_SLOTS`.
-fn distance(far: usize) -> Result<i16, CompileError>
-    ensures { IfOk result (λ d. d ≡ pos far) }
+/// Returns the distance of a jump.
+fn distance(far: usize) -> i16
+    requires { far ≤ MAX_SLOTS }
+    ensures { result ≡ pos far }
 {
-    if far > MAX_SLOTS {
-        return Err(CompileError::TooLong);
-    }
-    Ok(far as i16)
+    far as i16
 }
 
 /// Returns a jump that compares r0 with an operand.
-pub fn jump_by_of(comparison: Comparison, src: Operand, far: usize) -> Result<Insn, CompileError>
-    ensures { IfOk result (λ x. x ≡ jump_by comparison src far) }
+pub fn jump_by_of(comparison: Comparison, src: Operand, far: usize) -> Insn
+    requires { far ≤ MAX_SLOTS }
+    ensures { result ≡ jump_by comparison src far }
 {
-    Ok(Insn::Branch {
+    Insn::Branch {
         cond: condition_of(comparison),
         width: Width::W32,
         dst: Reg::R0,
         src,
-        off: distance(far)?,
-    })
+        off: distance(far),
+    }
 }
 
 /// Returns a jump that compares a local in its place with a constant.
-pub fn jump_place_of(
-    k: u32,
-    comparison: Comparison,
-    v: u32,
-    far: usize,
-) -> Result<Insn, CompileError>
-    ensures { IfOk result (λ x. x ≡ jump_place k comparison v far) }
+pub fn jump_place_of(k: u32, comparison: Comparison, v: u32, far: usize) -> Insn
+    requires { far ≤ MAX_SLOTS }
+    ensures { result ≡ jump_place k comparison v far }
 {
-    Ok(Insn::Branch {
+    Insn::Branch {
         cond: condition_of(comparison),
         width: Width::W32,
         dst: place_of(k),
         src: Operand::Imm(v.cast_signed()),
-        off: distance(far)?,
-    })
+        off: distance(far),
+    }
 }
 
 /// Returns a jump that compares r0 with a small number.
-pub fn jump_at_of(comparison: Comparison, v: u32, far: usize) -> Result<Insn, CompileError>
-    requires { v ≤ 64 }
-    ensures { IfOk result (λ x. x ≡ jump_at comparison v far) }
+pub fn jump_at_of(comparison: Comparison, v: u32, far: usize) -> Insn
+    requires small { v ≤ 64 }
+    requires near { far ≤ MAX_SLOTS }
+    ensures { result ≡ jump_at comparison v far }
 {
-    Ok(Insn::Branch {
+    Insn::Branch {
         cond: condition_of(comparison),
         width: Width::W32,
         dst: Reg::R0,
         src: Operand::Imm(v as i32),
-        off: distance(far)?,
-    })
+        off: distance(far),
+    }
 }
 
 /// Returns a jump over these instructions.
-pub fn skip_of(code: &[Insn]) -> Result<Insn, CompileError>
-    ensures { IfOk result (λ x. x ≡ i.Ja (pos (length code.now))) }
+pub fn skip_of(code: &[Insn]) -> Insn
+    requires { length code.now ≤ MAX_SLOTS }
+    ensures { result ≡ i.Ja (pos (length code.now)) }
 {
-    Ok(Insn::Ja {
-        off: distance(code.len())?,
-    })
+    Insn::Ja {
+        off: distance(code.len()),
+    }
 }
 
 /// Returns true if the memory has a word of this number.
@@ -203,11 +188,9 @@ pub fn has_word(k: u32, memory: u32) -> bool
 }
 
 /// Returns the place of a word in the memory, in bytes.
-pub fn word_offset(k: u32) -> Result<i16, CompileError>
-    ensures { IfOk result (λ off. off ≡ pos (4 * k)) }
+pub fn word_offset(k: u32) -> i16
+    requires { 4 * k + 4 ≤ 256 }
+    ensures { result ≡ pos (4 * k) }
 {
-    if k >= 64 {
-        return Err(CompileError::NoRoom);
-    }
-    Ok((4 * k) as i16)
+    (4 * k) as i16
 }

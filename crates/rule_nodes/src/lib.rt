@@ -5,6 +5,7 @@ mod assignments;
 mod binary;
 mod compile;
 mod errors;
+mod fits;
 mod insns;
 mod laws;
 mod operands;

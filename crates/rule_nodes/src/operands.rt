@@ -1,15 +1,15 @@
 //! Where numbers are found: constants, locals and words of the memory.
-ghost use Rattle.std.specs.Prelude.{◌≡◌, ◌++◌, ◌||◌, slice_index, IfOk};
+ghost use Rattle.std.specs.Prelude.{◌≡◌, ◌≤◌, ◌++◌, ◌||◌, slice_index, IfOk};
 ghost use Rattle.rule_nodes.specs.Meaning.{apply, compare, operate};
-ghost use Rattle.rule_nodes.specs.Operands.{is_constant, is_operand, constant_number, depth_behind, fetched_source, source_of};
+ghost use Rattle.rule_nodes.specs.Operands.{is_constant, is_operand, constant_number, depth_behind, fetched_source, source_of, IsWithin};
 ghost use Rattle.rule_nodes.specs.Fits.{HasPlace};
 ghost use Rattle.rule_nodes.specs.Code.{get_code, operand_code, load_code};
 
-use crate::errors::CompileError;
 use crate::insns::{copy_of, place_of, set_number_of, word_offset};
 use crate::parts::joined;
 use crate::syntax::{Comparison, Operation, Operator, Sizes, Source, Term};
 use bpf_insn::{Insn, Operand, Reg, Size};
+use std::alloc::AllocError;
 
 fn apply_of(op: Operation, a: u32, b: u32) -> u32
     ensures { result ≡ apply op a b }
@@ -36,7 +36,8 @@ fn compare_of(comparison: Comparison, a: u32, b: u32) -> bool
     }
 }
 
-fn operate_of(operator: Operator, a: u32, b: u32) -> u32
+/// Returns what an operator makes of two numbers.
+pub fn operate_of(operator: Operator, a: u32, b: u32) -> u32
     ensures { result ≡ operate operator a b }
 {
     match operator {
@@ -115,19 +116,20 @@ pub fn source(t: &Term, sizes: Sizes, loops: &[u32]) -> Source
 }
 
 /// Returns the instruction that puts a found number into a register.
-pub fn get_of(dst: Reg, source: Source) -> Result<Insn, CompileError>
-    ensures { IfOk result (λ x. x ≡ get_code dst source) }
+pub fn get_of(dst: Reg, source: Source) -> Insn
+    requires { IsWithin source 256 }
+    ensures { result ≡ get_code dst source }
 {
     match source {
-        Source::Constant(v) => Ok(set_number_of(dst, v)),
-        Source::FromLocal(k) => Ok(copy_of(dst, place_of(k))),
-        Source::FromWord(k) => Ok(Insn::Load {
+        Source::Constant(v) => set_number_of(dst, v),
+        Source::FromLocal(k) => copy_of(dst, place_of(k)),
+        Source::FromWord(k) => Insn::Load {
             size: Size::W,
             dst,
             base: Reg::R6,
-            off: word_offset(k)?,
-        }),
-        Source::Computed => Ok(copy_of(dst, Reg::R0)),
+            off: word_offset(k),
+        },
+        Source::Computed => copy_of(dst, Reg::R0),
     }
 }
 
@@ -143,48 +145,31 @@ pub fn operand_of(source: Source) -> Operand
 }
 
 /// Returns the code, with the load of a word that is an operand.
-pub fn with_load(code: Vec<Insn>, source: Source) -> Result<Vec<Insn>, CompileError>
+pub fn with_load(code: Vec<Insn>, source: Source) -> Result<Vec<Insn>, AllocError>
+    requires { IsWithin source 256 }
     ensures { IfOk result (λ c. c.items ≡ code.items ++ load_code source) }
 {
     match source {
-        Source::FromWord(_) => joined(code, &[get_of(Reg::R1, source)?]),
+        Source::FromWord(_) => joined(code, &[get_of(Reg::R1, source)]),
         Source::Constant(_) => joined(code, &[]),
         Source::FromLocal(_) => joined(code, &[]),
         Source::Computed => joined(code, &[]),
     }
 }
 
-/// Returns the depth of the right side. Fails if neither side is an operand and there is no place for the left one.
-pub fn right_depth(left: &Term, right: &Term, depth: u32) -> Result<u32, CompileError>
-    ensures depth { IfOk result (λ d. d ≡ depth_behind (is_operand left.now) depth) }
-    ensures place { IfOk result (λ _. HasPlace (is_operand left.now || is_operand right.now) depth) }
+/// Returns whether one of two sides is an operand, so that none is kept.
+pub fn beside_operand(left: &Term, right: &Term) -> bool
+    ensures { result ≡ is_operand left.now || is_operand right.now }
 {
-    let found = is_operand_of(left);
-    room_for(found || is_operand_of(right), depth)?;
-    depth_beside(found, depth)
+    is_operand_of(left) || is_operand_of(right)
 }
 
-fn depth_beside(found: bool, depth: u32) -> Result<u32, CompileError>
-    ensures { IfOk result (λ d. d ≡ depth_behind found depth) }
+/// Returns the depth behind a number that isn't kept if it is simple.
+pub fn depth_behind_of(simple: bool, depth: u32) -> u32
+    requires deep { depth ≤ 3 }
+    requires place { HasPlace simple depth }
+    ensures is { result ≡ depth_behind simple depth }
+    ensures deep { result ≤ 3 }
 {
-    if found {
-        return Ok(depth);
-    }
-    if depth > 255 {
-        return Err(CompileError::NoRoom);
-    }
-    Ok(depth + 1)
-}
-
-/// Fails if a place is needed, and there is none.
-pub fn room_for(simple: bool, depth: u32) -> Result<(), CompileError>
-    ensures { IfOk result (λ _. HasPlace simple depth) }
-{
-    if simple {
-        return Ok(());
-    }
-    if depth >= 3 {
-        return Err(CompileError::NoRoom);
-    }
-    Ok(())
+    if simple { depth } else { depth + 1 }
 }

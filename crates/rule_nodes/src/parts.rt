@@ -1,5 +1,5 @@
 //! How the code of a term or a statement is put together of the code of its parts.
-ghost use Rattle.std.specs.Prelude.{◌≡◌, ◌≤◌, ◌+◌, ◌++◌, [], ◌∷◌, pos, not, false, length, IfOk};
+ghost use Rattle.std.specs.Prelude.{◌≡◌, ◌≤◌, ◌+◌, ◌++◌, [], ◌∷◌, pos, not, false, length, IfOk, IfErr};
 ghost use Rattle.bpf_insn.specs.declared.forms.Width.TheVariants.{W32};
 ghost use Rattle.bpf_insn.specs.declared.forms.AluOp.TheVariants.{Add};
 ghost use Rattle.bpf_insn.specs.declared.forms.Reg.TheVariants.{R0};
@@ -7,7 +7,8 @@ ghost use Rattle.bpf_insn.specs.declared.forms.Operand.TheVariants as operand;
 ghost use Rattle.bpf_insn.specs.declared.forms.Insn.TheVariants as i;
 ghost use Rattle.rule_nodes.specs.declared.syntax.Purpose.TheVariants.{Jump};
 ghost use Rattle.rule_nodes.specs.declared.syntax.Source.TheVariants.{Constant};
-ghost use Rattle.rule_nodes.specs.Code.{place, set_number, copy, when_of, far_of, behind_test, by_value, two_code, message_code, message_by, decides, both_far};
+ghost use Rattle.rule_nodes.specs.Code.{place, set_number, copy, when_of, far_of, beyond, behind_test, by_value, two_code, message_code, message_by, decides, both_far};
+ghost use Rattle.rule_nodes.specs.Refusals.{IsUnmade};
 
 use crate::errors::CompileError;
 use crate::insns::{
@@ -16,36 +17,57 @@ use crate::insns::{
 use crate::syntax::{Comparison, Connective, Purpose, Source};
 use bpf_insn::{AluOp, Insn, MAX_SLOTS, Operand, Reg, Width};
 use node_env::NO_MAIL;
-use std::alloc::Global;
+use std::alloc::{AllocError, Global};
 
-/// Appends the second code to the first. Fails if the first has more than `MAX_SLOTS` instructions.
-pub fn joined(mut first: Vec<Insn>, second: &[Insn]) -> Result<Vec<Insn>, CompileError>
+/// Appends the second code to the first.
+pub fn joined(mut first: Vec<Insn>, second: &[Insn]) -> Result<Vec<Insn>, AllocError>
     ensures { IfOk result (λ c. c.items ≡ first.items ++ second.now) }
 {
-    if first.len() > MAX_SLOTS {
-        return Err(CompileError::TooLong);
-    }
     first.extend_from_slice(second)?;
     Ok(first)
 }
 
 /// Returns a list of one instruction.
-pub fn single(alloc: Global, insn: Insn) -> Result<Vec<Insn>, CompileError>
+pub fn single(alloc: Global, insn: Insn) -> Result<Vec<Insn>, AllocError>
     ensures { IfOk result (λ c. c.items ≡ insn ∷ []) }
 {
     joined(Vec::new(alloc), &[insn])
 }
 
+/// Returns the code if a program can be so long.
+pub fn short(code: Vec<Insn>) -> Result<Vec<Insn>, CompileError>
+    ensures code { IfOk result (λ c. c.items ≡ code.items) }
+    ensures short { IfOk result (λ c. length c.items ≤ MAX_SLOTS) }
+    ensures long { IfErr result (IsUnmade (length code.items)) }
+{
+    if code.len() > MAX_SLOTS {
+        return Err(CompileError::TooLong);
+    }
+    Ok(code)
+}
+
 // ---- purposes
 
+/// Fails if the jump of a purpose is longer than a program.
+pub fn near(purpose: Purpose) -> Result<(), CompileError>
+    ensures near { IfOk result (λ _. far_of purpose ≤ MAX_SLOTS) }
+    ensures far { IfErr result (IsUnmade (beyond purpose)) }
+{
+    if far_for(purpose) > MAX_SLOTS {
+        return Err(CompileError::TooLong);
+    }
+    Ok(())
+}
+
 /// Returns the code of a number, for a purpose.
-pub fn by_value_of(code: Vec<Insn>, purpose: Purpose) -> Result<Vec<Insn>, CompileError>
+pub fn by_value_of(code: Vec<Insn>, purpose: Purpose) -> Result<Vec<Insn>, AllocError>
+    requires { far_of purpose ≤ MAX_SLOTS }
     ensures { IfOk result (λ c. c.items ≡ by_value purpose code.items) }
 {
     match purpose {
         Purpose::Value => Ok(code),
         Purpose::Jump(when, far) => {
-            let jump = jump_at_of(jump_on_of(when, Comparison::NotEqual), 0, far)?;
+            let jump = jump_at_of(jump_on_of(when, Comparison::NotEqual), 0, far);
             joined(code, &[jump])
         }
     }
@@ -86,7 +108,7 @@ pub fn opposite_test(purpose: Purpose) -> Purpose
 }
 
 /// Returns the code of a test, and what comes after it for a purpose.
-pub fn behind_test_of(code: Vec<Insn>, purpose: Purpose) -> Result<Vec<Insn>, CompileError>
+pub fn behind_test_of(code: Vec<Insn>, purpose: Purpose) -> Result<Vec<Insn>, AllocError>
     ensures { IfOk result (λ c. c.items ≡ behind_test purpose code.items) }
 {
     match purpose {
@@ -105,7 +127,7 @@ pub fn behind_test_of(code: Vec<Insn>, purpose: Purpose) -> Result<Vec<Insn>, Co
 // ---- two sides
 
 /// Returns the code that puts the left number into r0 and the right one into r1.
-pub fn two_of(depth: u32, left: Vec<Insn>, right: &[Insn]) -> Result<Vec<Insn>, CompileError>
+pub fn two_of(depth: u32, left: Vec<Insn>, right: &[Insn]) -> Result<Vec<Insn>, AllocError>
     ensures { IfOk result (λ c. c.items ≡ two_code depth left.items right.now) }
 {
     let place = place_of(depth);
@@ -123,64 +145,60 @@ fn decides_of(connective: Connective) -> bool
     }
 }
 
-fn both_far_of(alone: bool, when: bool, n: usize, far: usize) -> Result<usize, CompileError>
-    ensures { IfOk result (λ w. w ≡ both_far alone when n far) }
+fn both_far_of(alone: bool, when: bool, n: usize, far: usize) -> usize
+    requires short { n ≤ MAX_SLOTS }
+    requires near { far ≤ MAX_SLOTS }
+    ensures { result ≡ both_far alone when n far }
 {
-    if n > MAX_SLOTS || far > MAX_SLOTS {
-        return Err(CompileError::TooLong);
-    }
-    if alone == when { Ok(n + far) } else { Ok(n) }
+    if alone == when { n + far } else { n }
 }
 
 /// Returns the jump of the first of two conditions, over the code of the second or beyond it.
-pub fn first_test(
-    connective: Connective,
-    second: &[Insn],
-    purpose: Purpose,
-) -> Result<Purpose, CompileError>
-    ensures { IfOk result (λ p. p ≡ Jump (decides connective)
-        (both_far (decides connective) (when_of purpose) (length second.now) (far_of purpose))) }
+pub fn first_test(connective: Connective, second: &[Insn], purpose: Purpose) -> Purpose
+    requires short { length second.now ≤ MAX_SLOTS }
+    requires near { far_of purpose ≤ MAX_SLOTS }
+    ensures { result ≡ Jump (decides connective)
+        (both_far (decides connective) (when_of purpose) (length second.now) (far_of purpose)) }
 {
     let alone = decides_of(connective);
-    let far = both_far_of(alone, when_for(purpose), second.len(), far_for(purpose))?;
-    Ok(Purpose::Jump(alone, far))
+    let far = both_far_of(alone, when_for(purpose), second.len(), far_for(purpose));
+    Purpose::Jump(alone, far)
 }
 
 // ---- choices
 
 /// Returns the jump over these instructions and one more if a test doesn't hold.
-pub fn skip_test(code: &[Insn]) -> Result<Purpose, CompileError>
-    ensures { IfOk result (λ p. p ≡ Jump false (length code.now + 1)) }
+pub fn skip_test(code: &[Insn]) -> Purpose
+    requires { length code.now ≤ MAX_SLOTS }
+    ensures { result ≡ Jump false (length code.now + 1) }
 {
-    if code.len() > MAX_SLOTS {
-        return Err(CompileError::TooLong);
-    }
-    Ok(Purpose::Jump(false, code.len() + 1))
+    Purpose::Jump(false, code.len() + 1)
 }
 
 /// Returns a test, the code for the case that it holds, and the code for the case that it doesn't.
-pub fn chosen(test: Vec<Insn>, first: &[Insn], second: &[Insn]) -> Result<Vec<Insn>, CompileError>
+pub fn chosen(test: Vec<Insn>, first: &[Insn], second: &[Insn]) -> Result<Vec<Insn>, AllocError>
+    requires { length second.now ≤ MAX_SLOTS }
     ensures { IfOk result (λ c. c.items ≡ test.items ++ (first.now ++ i.Ja (pos (length second.now)) ∷ second.now)) }
 {
     let tested = joined(test, first)?;
-    let skipped = joined(tested, &[skip_of(second)?])?;
+    let skipped = joined(tested, &[skip_of(second)])?;
     joined(skipped, second)
 }
 
 // ---- messages and counts
 
 /// Returns the code that asks for the last message from the node in r0.
-fn message_of(nodes: u32) -> Result<[Insn; 5], CompileError>
+fn message_of(nodes: u32) -> [Insn; 5]
     requires { nodes ≤ 64 }
-    ensures { IfOk result (λ c. c ≡ message_code nodes) }
+    ensures { result ≡ message_code nodes }
 {
-    Ok([
-        jump_at_of(Comparison::Less, nodes, 2)?,
+    [
+        jump_at_of(Comparison::Less, nodes, 2),
         set_number_of(Reg::R0, NO_MAIL),
         Insn::Ja { off: 2 },
         copy_of(Reg::R1, Reg::R0),
         Insn::Call { id: 2 },
-    ])
+    ]
 }
 
 /// Returns the code that asks for the last message from a node whose number is found or computed.
@@ -189,19 +207,19 @@ pub fn message_by_of(
     source: Source,
     nodes: u32,
     code: Vec<Insn>,
-) -> Result<Vec<Insn>, CompileError>
+) -> Result<Vec<Insn>, AllocError>
     requires { nodes ≤ 64 }
     ensures { IfOk result (λ c. c.items ≡ message_by source nodes code.items) }
 {
     match source {
         Source::Constant(node) => message_from_node(alloc, node, nodes),
-        Source::FromLocal(_) => joined(code, &message_of(nodes)?),
-        Source::FromWord(_) => joined(code, &message_of(nodes)?),
-        Source::Computed => joined(code, &message_of(nodes)?),
+        Source::FromLocal(_) => joined(code, &message_of(nodes)),
+        Source::FromWord(_) => joined(code, &message_of(nodes)),
+        Source::Computed => joined(code, &message_of(nodes)),
     }
 }
 
-fn message_from_node(alloc: Global, node: u32, nodes: u32) -> Result<Vec<Insn>, CompileError>
+fn message_from_node(alloc: Global, node: u32, nodes: u32) -> Result<Vec<Insn>, AllocError>
     requires { nodes ≤ 64 }
     ensures { IfOk result (λ c. c.items ≡ message_by (Constant node) nodes []) }
 {
@@ -213,7 +231,7 @@ fn message_from_node(alloc: Global, node: u32, nodes: u32) -> Result<Vec<Insn>, 
 }
 
 /// Returns the nodes of the loops around, with one more.
-pub fn within(alloc: Global, loops: &[u32], node: u32) -> Result<Vec<u32>, CompileError>
+pub fn within(alloc: Global, loops: &[u32], node: u32) -> Result<Vec<u32>, AllocError>
     ensures { IfOk result (λ v. v.items ≡ loops.now ++ node ∷ []) }
 {
     let mut inner = Vec::new(alloc);
@@ -223,7 +241,7 @@ pub fn within(alloc: Global, loops: &[u32], node: u32) -> Result<Vec<u32>, Compi
 }
 
 /// Appends one more test, which adds 1 in a place if it doesn't jump.
-pub fn counted(counts: Vec<Insn>, test: &[Insn], place: Reg) -> Result<Vec<Insn>, CompileError>
+pub fn counted(counts: Vec<Insn>, test: &[Insn], place: Reg) -> Result<Vec<Insn>, AllocError>
     ensures { IfOk result (λ c. c.items ≡
         counts.items ++ (test.now ++ i.Alu Add W32 place (operand.Imm (pos 1)) ∷ [])) }
 {
@@ -238,7 +256,7 @@ pub fn counted(counts: Vec<Insn>, test: &[Insn], place: Reg) -> Result<Vec<Insn>
 }
 
 /// Returns the code that counts in a place, from 0 on, and puts the count into r0.
-pub fn count_of(alloc: Global, place: Reg, counts: &[Insn]) -> Result<Vec<Insn>, CompileError>
+pub fn count_of(alloc: Global, place: Reg, counts: &[Insn]) -> Result<Vec<Insn>, AllocError>
     ensures { IfOk result (λ c. c.items ≡ set_number place 0 ∷ (counts.now ++ copy R0 place ∷ [])) }
 {
     let head = single(alloc, set_number_of(place, 0))?;

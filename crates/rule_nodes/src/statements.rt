@@ -1,20 +1,22 @@
 //! The code of statements.
-ghost use Rattle.std.specs.Prelude.{◌≡◌, ◌≤◌, ◌<◌, ◌++◌, [], ◌∷◌, pos, length, IfOk};
+ghost use Rattle.std.specs.Prelude.{◌≡◌, ◌≤◌, ◌<◌, ◌++◌, [], ◌∷◌, pos, length, IfOk, IfErr};
 ghost use Rattle.bpf_insn.specs.declared.forms.Reg.TheVariants.{R0, R1};
 ghost use Rattle.bpf_insn.specs.declared.forms.Insn.TheVariants as i;
 ghost use Rattle.rule_nodes.specs.declared.syntax.Statement.TheVariants.{SendAll, SendTo};
+ghost use Rattle.rule_nodes.specs.Operands.{IsWithin};
 ghost use Rattle.rule_nodes.specs.Fits.{BlockFits};
 ghost use Rattle.rule_nodes.specs.Code.{place, copy, set_node, send_codes, send_all_code, send_to_code, block_code};
+ghost use Rattle.rule_nodes.specs.Refusals.{IsUnmade};
 
 use crate::assignments::assignment;
 use crate::errors::CompileError;
-use crate::insns::{copy_of, free_place, jump_at_of, place_of, set_node_of};
-use crate::operands::{get_of, is_operand_of, room_for, source};
-use crate::parts::{chosen, joined, skip_test, within};
+use crate::insns::{copy_of, jump_at_of, place_of, set_node_of};
+use crate::operands::{get_of, source};
+use crate::parts::{chosen, joined, short, skip_test, within};
 use crate::syntax::{Comparison, Purpose, Sizes, Source, Statement, Term};
 use crate::terms::term;
-use bpf_insn::{Insn, Reg};
-use std::alloc::Global;
+use bpf_insn::{Insn, MAX_SLOTS, Reg};
+use std::alloc::{AllocError, Global};
 
 /// Returns the code that sends a found number to a node.
 fn send_of(node: u32, get: Insn) -> [Insn; 3]
@@ -25,33 +27,34 @@ fn send_of(node: u32, get: Insn) -> [Insn; 3]
 }
 
 /// Returns the code that sends a found number to each node.
-fn sends_of(alloc: Global, source: Source, nodes: u32) -> Result<Vec<Insn>, CompileError>
-    requires { nodes ≤ 64 }
+fn sends_of(alloc: Global, source: Source, nodes: u32) -> Result<Vec<Insn>, AllocError>
+    requires few { nodes ≤ 64 }
+    requires within { IsWithin source 256 }
     ensures { IfOk result (λ c. c.items ≡ send_codes source nodes) }
 {
     let mut sends = Vec::new(alloc);
     for node in 0..nodes {
-        let get = get_of(Reg::R2, source)?;
+        let get = get_of(Reg::R2, source);
         sends = joined(sends, &send_of(node, get))?;
     }
     Ok(sends)
 }
 
 /// Returns the code that sends the number in a place to the node in r0.
-fn send_to_of(depth: u32, nodes: u32) -> Result<[Insn; 4], CompileError>
+fn send_to_of(depth: u32, nodes: u32) -> [Insn; 4]
     requires { nodes ≤ 64 }
-    ensures { IfOk result (λ c. c ≡ send_to_code depth nodes) }
+    ensures { result ≡ send_to_code depth nodes }
 {
-    Ok([
-        jump_at_of(Comparison::AtLeast, nodes, 3)?,
+    [
+        jump_at_of(Comparison::AtLeast, nodes, 3),
         copy_of(Reg::R1, Reg::R0),
         copy_of(Reg::R2, place_of(depth)),
         Insn::Call { id: 3 },
-    ])
+    ]
 }
 
 /// Returns the code of a number, its copy into a place, and what follows.
-fn stored(code: Vec<Insn>, depth: u32, rest: &[Insn]) -> Result<Vec<Insn>, CompileError>
+fn stored(code: Vec<Insn>, depth: u32, rest: &[Insn]) -> Result<Vec<Insn>, AllocError>
     ensures { IfOk result (λ c. c.items ≡ code.items ++ (copy (place depth) R0 ∷ rest.now)) }
 {
     let kept = joined(code, &[copy_of(place_of(depth), Reg::R0)])?;
@@ -67,12 +70,15 @@ fn send_all(
 ) -> Result<Vec<Insn>, CompileError>
     requires some { 1 ≤ sizes.nodes }
     requires few { sizes.nodes ≤ 64 }
+    requires memory { sizes.memory ≤ 256 }
+    requires deep { depth ≤ 3 }
+    requires fits { BlockFits (SendAll e.now) sizes (length loops.now) depth }
     ensures code { IfOk result (λ c. c.items ≡ block_code (SendAll e.now) sizes loops.now depth) }
-    ensures fits { IfOk result (λ _. BlockFits (SendAll e.now) sizes (length loops.now) depth) }
+    ensures short { IfOk result (λ c. length c.items ≤ MAX_SLOTS) }
+    ensures long { IfErr result (IsUnmade (length (block_code (SendAll e.now) sizes loops.now depth))) }
 {
-    room_for(is_operand_of(e), depth)?;
     let value = term(alloc, e, sizes, loops, depth, depth, Purpose::Value)?;
-    send_all_of(alloc, source(e, sizes, loops), depth, sizes.nodes, value)
+    short(send_all_of(alloc, source(e, sizes, loops), depth, sizes.nodes, value)?)
 }
 
 /// Returns the code that sends each node a number that is found, or that the code computes.
@@ -82,8 +88,9 @@ fn send_all_of(
     depth: u32,
     nodes: u32,
     code: Vec<Insn>,
-) -> Result<Vec<Insn>, CompileError>
-    requires { nodes ≤ 64 }
+) -> Result<Vec<Insn>, AllocError>
+    requires few { nodes ≤ 64 }
+    requires within { IsWithin source 256 }
     ensures { IfOk result (λ c. c.items ≡ send_all_code source depth nodes code.items) }
 {
     match source {
@@ -107,17 +114,19 @@ fn send_to(
 ) -> Result<Vec<Insn>, CompileError>
     requires some { 1 ≤ sizes.nodes }
     requires few { sizes.nodes ≤ 64 }
+    requires memory { sizes.memory ≤ 256 }
+    requires fits { BlockFits (SendTo e.now k.now) sizes (length loops.now) depth }
     ensures code { IfOk result (λ c. c.items ≡ block_code (SendTo e.now k.now) sizes loops.now depth) }
-    ensures fits { IfOk result (λ _. BlockFits (SendTo e.now k.now) sizes (length loops.now) depth) }
+    ensures short { IfOk result (λ c. length c.items ≤ MAX_SLOTS) }
+    ensures long { IfErr result (IsUnmade (length (block_code (SendTo e.now k.now) sizes loops.now depth))) }
 {
-    free_place(depth)?;
     let receiver = term(alloc, k, sizes, loops, depth, depth + 1, Purpose::Value)?;
-    let send = joined(receiver, &send_to_of(depth, sizes.nodes)?)?;
+    let send = joined(receiver, &send_to_of(depth, sizes.nodes))?;
     let value = term(alloc, e, sizes, loops, depth, depth, Purpose::Value)?;
-    stored(value, depth, &send)
+    short(stored(value, depth, &send)?)
 }
 
-/// Returns the code of a statement, with `depth` lets in scope.
+/// Returns the code of a statement, with `depth` lets in scope. Fails if it is longer than a program.
 pub fn block(
     alloc: Global,
     statement: &Statement,
@@ -127,35 +136,38 @@ pub fn block(
 ) -> Result<Vec<Insn>, CompileError>
     requires some { 1 ≤ sizes.nodes }
     requires few { sizes.nodes ≤ 64 }
+    requires memory { sizes.memory ≤ 256 }
+    requires deep { depth ≤ 3 }
+    requires fits { BlockFits statement.now sizes (length loops.now) depth }
     ensures code { IfOk result (λ c. c.items ≡ block_code statement.now sizes loops.now depth) }
-    ensures fits { IfOk result (λ _. BlockFits statement.now sizes (length loops.now) depth) }
+    ensures short { IfOk result (λ c. length c.items ≤ MAX_SLOTS) }
+    ensures long { IfErr result (IsUnmade (length (block_code statement.now sizes loops.now depth))) }
 {
     match statement {
         Statement::Nothing => Ok(Vec::new(alloc)),
         Statement::Then(a, b) => {
             let second = block(alloc, b, sizes, loops, depth)?;
             let first = block(alloc, a, sizes, loops, depth)?;
-            joined(first, &second)
+            short(joined(first, &second)?)
         }
         Statement::Let(e, rest) => {
-            free_place(depth)?;
             let behind = block(alloc, rest, sizes, loops, depth + 1)?;
             let value = term(alloc, e, sizes, loops, depth, depth, Purpose::Value)?;
-            stored(value, depth, &behind)
+            short(stored(value, depth, &behind)?)
         }
         Statement::Assign(a) => assignment(alloc, a, sizes, loops, depth, depth),
         Statement::If(t, a, b) => {
             let second = block(alloc, b, sizes, loops, depth)?;
             let first = block(alloc, a, sizes, loops, depth)?;
-            let test = term(alloc, t, sizes, loops, depth, depth, skip_test(&first)?)?;
-            chosen(test, &first, &second)
+            let test = term(alloc, t, sizes, loops, depth, depth, skip_test(&first))?;
+            short(chosen(test, &first, &second)?)
         }
         Statement::For(body) => {
             let mut all = Vec::new(alloc);
             for node in 0..sizes.nodes {
                 let inner = within(alloc, loops, node)?;
                 let one = block(alloc, body, sizes, &inner, depth)?;
-                all = joined(all, &one)?;
+                all = short(joined(all, &one)?)?;
             }
             Ok(all)
         }

@@ -1,11 +1,21 @@
-use Rattle.rule_nodes.proofs.Loops.{body_kept, block_fits_kept}
+use Rattle.std.proofs.Common.{◌≤◌, ◌+◌, arith}
+use Rattle.rule_nodes.proofs.Lengths.{passed_on, body_part, bodies_part}
+use Rattle.rule_nodes.proofs.Loops.{body_kept}
 use Rattle.rule_nodes.proofs.statements.+block.Goals as goal
 
-pub loop-node-preserved : goal.loop-node-preserved
-loop-node-preserved t c = record {
-  code = body_kept _ _ _ _ _ _ _ _ _ _ _ _ c.deref-in-loop-node.ensures
-      c.in_ok-inner-in-For.ensures c.deref-in-loop-node-2.ensures.value c.in_ok-one-in-For.ensures.code
-      c.deref-in-loop-node-3.ensures.value c.in_ok-all-in-For.ensures c.loop-node.invariant.code;
-  fits = λ some. block_fits_kept _ _ _ _ _ _ _ _ c.deref-in-loop-node.ensures c.in_ok-inner-in-For.ensures
-      c.deref-in-loop-node-2.ensures.value c.in_ok-one-in-For.ensures.fits;
-}
+pub returns-in_err-one-in-For-clause-long : goal.returns-in_err-one-in-For-clause-long
+returns-in_err-one-in-For-clause-long t c =
+    passed_on c.from_residual-in_err-one-in-For.result c.in_err-one-in-For.field-0.0 _ _
+    (body_part _ _ _ _ _ _ _ _ _ _ c.in-For.is c.deref-in-loop-node.ensures c.in_ok-inner-in-For.ensures
+    c.deref-in-loop-node-2.ensures.value c.loop-node-test.true) c.in_err-one-in-For.ensures.long
+    c.from_residual-in_err-one-in-For.ensures.1
+
+pub returns-in_err-all-in-For-clause-long : goal.returns-in_err-all-in-For-clause-long
+returns-in_err-all-in-For-clause-long t c =
+    let more : c.loop-node.node + 1 ≤ c.args.sizes.nodes = omega (arith, c.loop-node-test.true) in
+    passed_on c.from_residual-in_err-all-in-For.result c.in_err-all-in-For.field-0.0 _ _
+    (bodies_part _ _ _ _ _ _ _ _ c.in-For.is more
+    (body_kept _ _ _ _ _ _ _ _ _ _ _ _ c.deref-in-loop-node.ensures c.in_ok-inner-in-For.ensures
+    c.deref-in-loop-node-2.ensures.value c.in_ok-one-in-For.ensures.code c.deref-in-loop-node-3.ensures.value
+    c.in_ok-joined-in-For.ensures c.loop-node.invariant.code)) c.in_err-all-in-For.ensures.long
+    c.from_residual-in_err-all-in-For.ensures.1

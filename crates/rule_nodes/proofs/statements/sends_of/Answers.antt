@@ -10,5 +10,5 @@ pub loop-node-preserved : goal.loop-node-preserved
 loop-node-preserved c =
     let n = c.loop-node.node in
     c.in_ok-sends.ensures ∙ ap (λ (x : List Insn). c.loop-node.sends.items ++ x) c.send_of.ensures
-    ∙ ap (λ (x : Insn). c.loop-node.sends.items ++ (set_node R1 n ∷ x ∷ i.Call (pos 3) ∷ [])) c.in_ok-get.ensures
+    ∙ ap (λ (x : Insn). c.loop-node.sends.items ++ (set_node R1 n ∷ x ∷ i.Call (pos 3) ∷ [])) c.get_of-get.ensures
     ∙ send_more c.args.source n c.loop-node.sends.items c.loop-node.invariant

@@ -1,0 +1,419 @@
+-- The code of a part is no longer than that of the whole, so a part that is too long makes the whole too long.
+use Rattle.std.proofs.Common.{◌≡◌, ℕ, zero, suc, ◌+◌, ◌<◌, ◌≤◌, Bool, true, false, ◌||◌, ◌⊎◌, nat_lt, List, [], ◌∷◌, ◌++◌, length, Result, Ok, Err, IfErr, IsErrAnd, pos, refl, sym, ap, ◌∙◌, arith, subst, inl, inr, length-append}
+use Rattle.std.proofs.lemmas.Bool.{cases_Bool, cases_lt, cond-true, cond-false, and_parts}
+use Rattle.bpf_insn.specs.declared.forms.Width.TheVariants.{W32}
+use Rattle.bpf_insn.specs.declared.forms.AluOp.TheVariants.{Add}
+use Rattle.bpf_insn.specs.declared.forms.Reg.TheVariants.{R0, R1}
+use Rattle.bpf_insn.specs.declared.forms.Operand.{Operand}
+use Rattle.bpf_insn.specs.declared.forms.Operand.TheVariants as operand
+use Rattle.bpf_insn.specs.declared.forms.Insn.{Insn}
+use Rattle.bpf_insn.specs.declared.forms.Insn.TheVariants as i
+use Rattle.rule_nodes.specs.declared.errors.CompileError.{CompileError}
+use Rattle.rule_nodes.specs.declared.errors.CompileError.TheVariants.{NoRoom, TooLong, Memory}
+use Rattle.rule_nodes.specs.declared.syntax.Sizes.{Sizes}
+use Rattle.rule_nodes.specs.declared.syntax.Comparison.TheVariants.{NotEqual}
+use Rattle.rule_nodes.specs.declared.syntax.Operator.{Operator}
+use Rattle.rule_nodes.specs.declared.syntax.Operator.TheVariants.{Compute, Compare}
+use Rattle.rule_nodes.specs.declared.syntax.Purpose.{Purpose}
+use Rattle.rule_nodes.specs.declared.syntax.Purpose.TheVariants.{Value, Jump}
+use Rattle.rule_nodes.specs.declared.syntax.Target.{Target}
+use Rattle.rule_nodes.specs.declared.syntax.Target.TheVariants.{ToLocal, ToWord}
+use Rattle.rule_nodes.specs.declared.syntax.Source.{Source}
+use Rattle.rule_nodes.specs.declared.syntax.Source.TheVariants.{Constant, FromLocal, FromWord, Computed}
+use Rattle.rule_nodes.specs.declared.syntax.Term.{Term}
+use Rattle.rule_nodes.specs.declared.syntax.Term.TheVariants.{Number, Nodes, Faults, Modulus, LoopNode, Local, Word, Message', Binary', Count'}
+use Rattle.rule_nodes.specs.declared.syntax.Assignment.{Assignment}
+use Rattle.rule_nodes.specs.declared.syntax.Assignment.TheVariants.{One, Also'}
+use Rattle.rule_nodes.specs.declared.syntax.Statement.{Statement}
+use Rattle.rule_nodes.specs.declared.syntax.Statement.TheVariants.{For', SendAll}
+use Rattle.rule_nodes.specs.Meaning.{operate}
+use Rattle.rule_nodes.specs.Operands.{is_constant, is_operand, is_steady, constant_number, depth_behind, fetched_source, source_of, IsWithin}
+use Rattle.rule_nodes.specs.Fits.{Fits, AssignmentFits, BlockFits}
+use Rattle.rule_nodes.specs.Code.{place, set_number, set_node, copy, mirror, jump_on, jump_by, jump_at, jump_place, alu_of, far_of, when_of, beyond, behind_test, by_value, truth_code, get_code, load_code, operand_code, by_operator, left_code, two_code, binary_code, message_code, message_by, count_codes, count_code, term_code, assign_code, set_code, given_code, also_code, send_codes, send_code, send_all_code, each_code, assignment_code, block_code}
+use Rattle.rule_nodes.specs.Refusals.{IsUnmade}
+use Rattle.rule_nodes.proofs.Sources.{is_found}
+
+-- ---- errors
+
+pub longer : (m n : ℕ) (e : CompileError) → m ≤ n → IsUnmade m e → IsUnmade n e
+longer m n NoRoom le h = h
+longer m n TooLong le h = omega (arith, le, h)
+longer m n Memory le h = tt
+
+pub error_longer : {A : Type 0} (r : Result A CompileError) (m n : ℕ) → m ≤ n → IfErr r (IsUnmade m)
+    → IfErr r (IsUnmade n)
+error_longer (Ok x) m n le h = tt
+error_longer (Err e) m n le h = longer m n e le h
+
+-- ---- words
+
+fetched_within : (t : Term) (z : Sizes) (loops lets d : ℕ) → z.memory ≤ 256 → Fits t z loops lets d
+    → IsWithin (fetched_source t) 256
+fetched_within (Word k) z loops lets d few fits = omega (arith, few, fits)
+fetched_within t z loops lets d few fits = tt
+
+pub source_within : (t : Term) (z : Sizes) (J : List ℕ) (loops lets d : ℕ) → z.memory ≤ 256 → Fits t z loops lets d
+    → IsWithin (source_of t z J) 256
+source_within t z J loops lets d few fits =
+    let c = Constant (constant_number t z J) in
+    let P : Source → Type 0 = λ x. IsWithin x 256 in
+    elim (cases_Bool (is_constant t)) [
+      | inl so ↦ subst P (sym (cond-true (is_constant t) c (fetched_source t) so)) tt
+      | inr other ↦ subst P (sym (cond-false (is_constant t) c (fetched_source t) other))
+          (fetched_within t z loops lets d few fits)
+    ]
+
+-- ---- terms
+
+pub value_long : (purpose : Purpose) (code : List Insn) → length code ≤ length (by_value purpose code)
+value_long Value code = omega arith
+value_long (Jump when far) code = omega (arith, length-append code (jump_at (jump_on when NotEqual) 0 far ∷ []))
+
+pub test_long : (purpose : Purpose) (code : List Insn) → length code + far_of purpose
+    ≤ length (behind_test purpose code) + beyond purpose
+test_long Value code = omega (arith, length-append code truth_code)
+test_long (Jump when far) code = omega arith
+
+-- the code of an operand is one instruction
+pub constant_short : (t : Term) (z : Sizes) (J : List ℕ) (d : ℕ) → is_constant t ≡ true
+    → length (term_code t z J d Value) ≡ 1
+constant_short (Number v) z J d e = refl
+constant_short Nodes z J d e = refl
+constant_short Faults z J d e = refl
+constant_short Modulus z J d e = refl
+constant_short (LoopNode k) z J d e = refl
+constant_short (Binary' o p a q b) z J d e =
+    let parts = and_parts (is_constant a) (is_constant b) e in
+    let A = cond-true (is_constant a) (Constant (constant_number a z J)) (fetched_source a) parts.0 in
+    let B = cond-true (is_constant b) (Constant (constant_number b z J)) (fetched_source b) parts.1 in
+    let left = term_code a z J d Value in
+    let right = term_code b z J _ Value in
+    ap (λ (y : Source). length (binary_code y (source_of a z J) o d Value left right)) B
+    ∙ ap (λ (x : Source). length (binary_code (Constant (constant_number b z J)) x o d Value left right)) A
+constant_short t z J d e = absurd (let no : false ≡ true = e in cc)
+
+fetched_short : (t : Term) (z : Sizes) (J : List ℕ) (d : ℕ) → is_found (fetched_source t) ≡ true
+    → length (term_code t z J d Value) ≡ 1
+fetched_short (Local k) z J d e = refl
+fetched_short (Word k) z J d e = refl
+fetched_short t z J d e = absurd (let no : false ≡ true = e in cc)
+
+pub found_short : (t : Term) (z : Sizes) (J : List ℕ) (d : ℕ) → is_found (source_of t z J) ≡ true
+    → length (term_code t z J d Value) ≡ 1
+found_short t z J d e =
+    elim (cases_Bool (is_constant t)) [
+      | inl so ↦ constant_short t z J d so
+      | inr other ↦ fetched_short t z J d (sym (ap is_found (cond-false (is_constant t)
+          (Constant (constant_number t z J)) (fetched_source t) other)) ∙ e)
+    ]
+
+operator_long : (o : Operator) (src : Operand) (purpose : Purpose) (code : List Insn)
+    → length code + 1 ≤ length (by_operator o src purpose code) + beyond purpose
+operator_long (Compute op) src purpose code =
+    let act = i.Alu (alu_of op) W32 R0 src ∷ [] in
+    omega (arith, value_long purpose (code ++ act), length-append code act)
+operator_long (Compare r) src purpose code =
+    let jump = jump_by (jump_on (when_of purpose) r) src (far_of purpose) ∷ [] in
+    omega (arith, test_long purpose (code ++ jump), length-append code jump)
+
+right_long : (o : Operator) (y : Source) (purpose : Purpose) (left : List Insn)
+    → length left + 1 ≤ length (by_operator o (operand_code y) purpose (left ++ load_code y)) + beyond purpose
+right_long o y purpose left = omega (
+  arith,
+  operator_long o (operand_code y) purpose (left ++ load_code y),
+  length-append left (load_code y),
+)
+
+left_long : (o : Operator) (x : Source) (purpose : Purpose) (right : List Insn)
+    → length right + 1 ≤ length (left_code o x purpose right) + beyond purpose
+left_long (Compute op) x purpose right =
+    let back = copy R1 R0 ∷ get_code R0 x ∷ [] in
+    omega (arith, operator_long (Compute op) (operand.Reg R1) purpose (right ++ back), length-append right back)
+left_long (Compare r) x purpose right = right_long (Compare (mirror r)) x purpose right
+
+-- a side whose number is found has one instruction
+pub sides_long : (y x : Source) (o : Operator) (d : ℕ) (purpose : Purpose) (left right : List Insn)
+    → (is_found x ≡ true → length left ≡ 1) → (is_found y ≡ true → length right ≡ 1)
+    → (length left ≤ length (binary_code y x o d purpose left right) + beyond purpose)
+    × (length right ≤ length (binary_code y x o d purpose left right) + beyond purpose)
+sides_long (Constant c) (FromLocal k) (Compare r) d purpose left right f g =
+    let a = f refl in
+    let b = g refl in
+    let code = jump_place k (jump_on (when_of purpose) r) c (far_of purpose) ∷ [] in
+    let l = test_long purpose code in
+    (omega arith, omega arith)
+sides_long (Constant c) (FromLocal k) (Compute op) d purpose left right f g =
+    let b = g refl in
+    let l = right_long (Compute op) (Constant c) purpose left in
+    (omega arith, omega arith)
+sides_long (Constant c) (Constant e) o d purpose left right f g =
+    let a = f refl in
+    let b = g refl in
+    let l = value_long purpose (set_number R0 (operate o e c) ∷ []) in
+    (omega arith, omega arith)
+sides_long (Constant c) (FromWord k) o d purpose left right f g =
+    let b = g refl in
+    let l = right_long o (Constant c) purpose left in
+    (omega arith, omega arith)
+sides_long (Constant c) Computed o d purpose left right f g =
+    let b = g refl in
+    let l = right_long o (Constant c) purpose left in
+    (omega arith, omega arith)
+sides_long (FromLocal k) x o d purpose left right f g =
+    let b = g refl in
+    let l = right_long o (FromLocal k) purpose left in
+    (omega arith, omega arith)
+sides_long (FromWord k) x o d purpose left right f g =
+    let b = g refl in
+    let l = right_long o (FromWord k) purpose left in
+    (omega arith, omega arith)
+sides_long Computed (Constant c) o d purpose left right f g =
+    let a = f refl in
+    let l = left_long o (Constant c) purpose right in
+    (omega arith, omega arith)
+sides_long Computed (FromLocal k) o d purpose left right f g =
+    let a = f refl in
+    let l = left_long o (FromLocal k) purpose right in
+    (omega arith, omega arith)
+sides_long Computed (FromWord k) o d purpose left right f g =
+    let a = f refl in
+    let l = left_long o (FromWord k) purpose right in
+    (omega arith, omega arith)
+sides_long Computed Computed o d purpose left right f g =
+    let back = copy R1 R0 ∷ copy R0 (place d) ∷ [] in
+    let rest = copy (place d) R0 ∷ (right ++ back) in
+    let l = operator_long o (operand.Reg R1) purpose (two_code d left right) in
+    let e1 = length-append left rest in
+    let e2 = length-append right back in
+    (omega arith, omega arith)
+
+pub message_long : (y : Source) (n : ℕ) (code : List Insn) → (is_found y ≡ true → length code ≡ 1)
+    → length code ≤ length (message_by y n code)
+message_long (Constant j) n code f =
+    let a = f refl in
+    let known = set_node R1 j ∷ i.Call (pos 2) ∷ [] in
+    let none = set_number R0 4294967295 ∷ [] in
+    let P : List Insn → Type 0 = λ c. length code ≤ length c in
+    elim (cases_Bool (nat_lt j n)) [
+      | inl so ↦ subst P (sym (cond-true (nat_lt j n) known none so)) (omega arith)
+      | inr other ↦ subst P (sym (cond-false (nat_lt j n) known none other)) (omega arith)
+    ]
+message_long (FromLocal k) n code f = omega (arith, length-append code (message_code n))
+message_long (FromWord k) n code f = omega (arith, length-append code (message_code n))
+message_long Computed n code f = omega (arith, length-append code (message_code n))
+
+cases_last : (n m : ℕ) → m ≤ suc n → (m ≤ n) ⊎ (m ≡ suc n)
+cases_last n m le = elim (cases_lt m (suc n)) [
+  | inl less ↦ inl (omega (arith, less))
+  | inr above ↦ inr (omega (arith, above, le))
+]
+
+one_count : (d m : ℕ) (test : ℕ → List Insn)
+    → length (count_codes d test (suc m)) ≡ length (count_codes d test m) + (length (test m) + 1)
+one_count d m test =
+    let add = i.Alu Add W32 (place d) (operand.Imm (pos 1)) ∷ [] in
+    omega (arith, length-append (count_codes d test m) (test m ++ add), length-append (test m) add)
+
+pub counts_long : (d n m : ℕ) (test : ℕ → List Insn) → m ≤ n
+    → length (count_codes d test m) ≤ length (count_codes d test n)
+counts_long d zero zero test le = omega arith
+counts_long d zero (suc m) test le = absurd (omega (arith, le))
+counts_long d (suc n) m test le = elim (cases_last n m le) [
+  | inl less ↦ omega (arith, counts_long d n m test less, one_count d n test)
+  | inr same ↦ let e : length (count_codes d test m) ≡ length (count_codes d test (suc n)) =
+      ap (λ (k : ℕ). length (count_codes d test k)) same in omega arith
+]
+
+pub test_in_counts : (d n m : ℕ) (test : ℕ → List Insn) → m < n
+    → length (test m) + 1 ≤ length (count_codes d test n)
+test_in_counts d n m test lt = omega (arith, one_count d m test, counts_long d n (suc m) test (omega (arith, lt)))
+
+pub count_long : (d n : ℕ) (test : ℕ → List Insn) → length (count_code d n test) ≡ length (count_codes d test n) + 2
+count_long d n test = omega (arith, length-append (count_codes d test n) (copy R0 (place d) ∷ []))
+
+-- ---- statements
+
+set_long : (target : Target) (x : Source) → 1 ≤ length (set_code target x)
+set_long (ToLocal k) x = omega arith
+set_long (ToWord k) (Constant c) = omega arith
+set_long (ToWord k) (FromLocal j) = omega arith
+set_long (ToWord k) (FromWord j) = omega arith
+set_long (ToWord k) Computed = omega arith
+
+pub given_long : (x : Source) (target : Target) (code : List Insn) → (is_found x ≡ true → length code ≡ 1)
+    → length code ≤ length (given_code x target code)
+given_long (Constant c) target code f = omega (arith, f refl, set_long target (Constant c))
+given_long (FromLocal k) target code f = omega (arith, f refl, set_long target (FromLocal k))
+given_long (FromWord k) target code f = omega (arith, f refl, set_long target (FromWord k))
+given_long Computed target code f = omega (arith, length-append code (assign_code target ∷ []))
+
+pub also_long : (steady : Bool) (d : ℕ) (x : Source) (target : Target) (code first : List Insn)
+    → (is_found x ≡ true → length code ≡ 1)
+    → (length code ≤ length (also_code steady d x target code first))
+    × (length first ≤ length (also_code steady d x target code first))
+also_long true d x target code first f =
+    let l = given_long x target code f in
+    let e = length-append first (given_code x target code) in
+    (omega arith, omega arith)
+also_long false d x target code first f =
+    let back = copy R0 (place d) ∷ assign_code target ∷ [] in
+    let e1 = length-append code (copy (place d) R0 ∷ (first ++ back)) in
+    let e2 = length-append first back in
+    (omega arith, omega arith)
+
+sends_long : (x : Source) (n : ℕ) → 1 ≤ n → 1 ≤ length (send_codes x n)
+sends_long x zero some = absurd (omega (arith, some))
+sends_long x (suc n) some = omega (arith, length-append (send_codes x n) (send_code x n))
+
+pub send_all_long : (x : Source) (d n : ℕ) (code : List Insn) → 1 ≤ n → (is_found x ≡ true → length code ≡ 1)
+    → length code ≤ length (send_all_code x d n code)
+send_all_long (Constant c) d n code some f = omega (arith, f refl, sends_long (Constant c) n some)
+send_all_long (FromLocal k) d n code some f = omega (arith, f refl, sends_long (FromLocal k) n some)
+send_all_long (FromWord k) d n code some f = omega (arith, f refl, sends_long (FromWord k) n some)
+send_all_long Computed d n code some f =
+    omega (arith, length-append code (copy (place d) R0 ∷ send_codes (FromLocal d) n))
+
+one_each : (m : ℕ) (body : ℕ → List Insn) → length (each_code body (suc m)) ≡ length (each_code body m) + length (body m)
+one_each m body = length-append (each_code body m) (body m)
+
+pub eachs_long : (n m : ℕ) (body : ℕ → List Insn) → m ≤ n → length (each_code body m) ≤ length (each_code body n)
+eachs_long zero zero body le = omega arith
+eachs_long zero (suc m) body le = absurd (omega (arith, le))
+eachs_long (suc n) m body le = elim (cases_last n m le) [
+  | inl less ↦ omega (arith, eachs_long n m body less, one_each n body)
+  | inr same ↦ let e : length (each_code body m) ≡ length (each_code body (suc n)) =
+      ap (λ (k : ℕ). length (each_code body k)) same in omega arith
+]
+
+pub body_in_each : (n m : ℕ) (body : ℕ → List Insn) → m < n → length (body m) ≤ length (each_code body n)
+body_in_each n m body lt = omega (arith, one_each m body, eachs_long n (suc m) body (omega (arith, lt)))
+
+-- ---- the parts of terms, as the compiler's variables have them
+
+pub passed_on : {A : Type 0} (r : Result A CompileError) (e : CompileError) (m n : ℕ) → m ≤ n → IsUnmade m e
+    → IsErrAnd r (λ x. x ≡ e) → IfErr r (IsUnmade n)
+passed_on (Ok x) e m n le h is = absurd is
+passed_on (Err x) e m n le h is = subst (λ (y : CompileError). IsUnmade n y) (sym is) (longer m n e le h)
+
+pub message_part : (whole a a1 : Term) (p : _) (z : Sizes) (J : List ℕ) (d : ℕ) (purpose : Purpose)
+    → whole ≡ Message' p a → a1 ≡ a
+    → length (term_code a1 z J d Value) + 0 ≤ length (term_code whole z J d purpose) + beyond purpose
+message_part whole a a1 p z J d purpose e e1 =
+    let code = term_code a z J d Value in
+    let l1 = message_long (source_of a z J) z.nodes code (found_short a z J d) in
+    let l2 = value_long purpose (message_by (source_of a z J) z.nodes code) in
+    rw (e, e1) (omega (arith, l1, l2))
+
+pub left_part : (whole a b a1 : Term) (p q : _) (o : Operator) (z : Sizes) (J : List ℕ) (d : ℕ) (purpose : Purpose)
+    → whole ≡ Binary' o p a q b → a1 ≡ a
+    → length (term_code a1 z J d Value) + 0 ≤ length (term_code whole z J d purpose) + beyond purpose
+left_part whole a b a1 p q o z J d purpose e e1 =
+    let deep = depth_behind (is_operand a || is_operand b) d in
+    let l = sides_long (source_of b z J) (source_of a z J) o d purpose (term_code a z J d Value)
+    (term_code b z J deep Value) (found_short a z J d) (found_short b z J deep) in
+    rw (e, e1) (omega (arith, l.0))
+
+pub right_part : (whole a b a2 b2 b1 : Term) (p q : _) (o : Operator) (z : Sizes) (J : List ℕ) (d behind : ℕ)
+    (found : Bool) (purpose : Purpose) → whole ≡ Binary' o p a q b → b1 ≡ b → behind ≡ depth_behind found d
+    → found ≡ (is_operand a2 || is_operand b2) → a2 ≡ a → b2 ≡ b
+    → length (term_code b1 z J behind Value) + 0 ≤ length (term_code whole z J d purpose) + beyond purpose
+right_part whole a b a2 b2 b1 p q o z J d behind found purpose e e1 e2 e3 e4 e5 =
+    let deep = depth_behind (is_operand a || is_operand b) d in
+    let l = sides_long (source_of b z J) (source_of a z J) o d purpose (term_code a z J d Value)
+    (term_code b z J deep Value) (found_short a z J d) (found_short b z J deep) in
+    let is : behind ≡ deep = e2 ∙ ap (λ (x : Bool). depth_behind x d)
+    (e3 ∙ ap (λ (x : Term). is_operand x || is_operand b2) e4 ∙ ap (λ (x : Term). is_operand a || is_operand x) e5) in
+    rw (e, e1, is) (omega (arith, l.1))
+
+pub left_within : (whole a b a1 : Term) (p q : _) (o : Operator) (z : Sizes) (J : List ℕ) (lets d : ℕ)
+    → whole ≡ Binary' o p a q b → a1 ≡ a → z.memory ≤ 256 → Fits whole z (length J) lets d
+    → IsWithin (source_of a1 z J) 256
+left_within whole a b a1 p q o z J lets d e e1 few fits =
+    let parts : Fits (Binary' o p a q b) z (length J) lets d =
+    subst (λ (x : Term). Fits x z (length J) lets d) e fits in
+    subst (λ (x : Term). IsWithin (source_of x z J) 256) (sym e1) (source_within a z J (length J) lets d few parts.1)
+
+pub right_within : (whole a b b1 : Term) (p q : _) (o : Operator) (z : Sizes) (J : List ℕ) (lets d : ℕ)
+    → whole ≡ Binary' o p a q b → b1 ≡ b → z.memory ≤ 256 → Fits whole z (length J) lets d
+    → IsWithin (source_of b1 z J) 256
+right_within whole a b b1 p q o z J lets d e e1 few fits =
+    let parts : Fits (Binary' o p a q b) z (length J) lets d =
+    subst (λ (x : Term). Fits x z (length J) lets d) e fits in
+    subst (λ (x : Term). IsWithin (source_of x z J) 256) (sym e1)
+    (source_within b z J (length J) lets (depth_behind (is_operand a || is_operand b) d) few parts.2)
+
+pub test_part : (whole t t1 : Term) (p : _) (z : Sizes) (J J1 J2 : List ℕ) (d n : ℕ) (purpose : Purpose)
+    → whole ≡ Count' p t → t1 ≡ t → J1 ≡ J ++ n ∷ [] → J2 ≡ J1 → n < z.nodes
+    → length (term_code t1 z J2 (d + 1) (Jump false 1)) + 1 ≤ length (term_code whole z J d purpose) + beyond purpose
+test_part whole t t1 p z J J1 J2 d n purpose e e1 e2 e3 lt =
+    let test = λ (j : ℕ). term_code t z (J ++ j ∷ []) (d + 1) (Jump false 1) in
+    let l1 = value_long purpose (count_code d z.nodes test) in
+    let l2 = count_long d z.nodes test in
+    let l3 = test_in_counts d z.nodes n test lt in
+    rw (e, e1, e3, e2) (omega (arith, l1, l2, l3))
+
+pub counts_part : (whole t : Term) (p : _) (z : Sizes) (J : List ℕ) (d n : ℕ) (purpose : Purpose) (new : List Insn)
+    → whole ≡ Count' p t → n + 1 ≤ z.nodes
+    → new ≡ count_codes d (λ j. term_code t z (J ++ j ∷ []) (d + 1) (Jump false 1)) (n + 1)
+    → length new ≤ length (term_code whole z J d purpose) + beyond purpose
+counts_part whole t p z J d n purpose new e le e1 =
+    let test = λ (j : ℕ). term_code t z (J ++ j ∷ []) (d + 1) (Jump false 1) in
+    let l1 = value_long purpose (count_code d z.nodes test) in
+    let l2 = count_long d z.nodes test in
+    let l3 = counts_long d z.nodes (n + 1) test le in
+    rw (e, e1) (omega (arith, l1, l2, l3))
+
+-- ---- the parts of assignments and statements
+
+pub one_part : (whole : Assignment) (target : Target) (e : Term) (z : Sizes) (J : List ℕ) (d : ℕ)
+    → whole ≡ One target e → length (term_code e z J d Value) + 0 ≤ length (assignment_code whole z J d)
+one_part whole target e z J d is =
+    let l = given_long (source_of e z J) target (term_code e z J d Value) (found_short e z J d) in
+    rw is (omega (arith, l))
+
+pub also_part : (whole front : Assignment) (p : _) (target : Target) (e : Term) (z : Sizes) (J : List ℕ) (d : ℕ)
+    → whole ≡ Also' p front target e → length (term_code e z J d Value) + 0 ≤ length (assignment_code whole z J d)
+also_part whole front p target e z J d is =
+    let l = also_long (is_steady e) d (source_of e z J) target (term_code e z J d Value)
+    (assignment_code front z J (depth_behind (is_steady e) d)) (found_short e z J d) in
+    rw is (omega (arith, l.0))
+
+pub one_within : (whole : Assignment) (target : Target) (e : Term) (x : Source) (z : Sizes) (J : List ℕ) (lets d : ℕ)
+    → whole ≡ One target e → x ≡ source_of e z J → z.memory ≤ 256 → AssignmentFits whole z (length J) lets d
+    → IsWithin x 256
+one_within whole target e x z J lets d is same few fits =
+    let parts : AssignmentFits (One target e) z (length J) lets d =
+    subst (λ (y : Assignment). AssignmentFits y z (length J) lets d) is fits in
+    subst (λ (y : Source). IsWithin y 256) (sym same) (source_within e z J (length J) lets d few parts.1)
+
+pub also_within : (whole front : Assignment) (p : _) (target : Target) (e : Term) (x : Source) (z : Sizes) (J : List ℕ)
+    (lets d : ℕ) → whole ≡ Also' p front target e → x ≡ source_of e z J → z.memory ≤ 256
+    → AssignmentFits whole z (length J) lets d → IsWithin x 256
+also_within whole front p target e x z J lets d is same few fits =
+    let parts : AssignmentFits (Also' p front target e) z (length J) lets d =
+    subst (λ (y : Assignment). AssignmentFits y z (length J) lets d) is fits in
+    subst (λ (y : Source). IsWithin y 256) (sym same) (source_within e z J (length J) lets d few parts.1)
+
+pub sent_part : (e : Term) (z : Sizes) (J : List ℕ) (d : ℕ) → 1 ≤ z.nodes
+    → length (term_code e z J d Value) + 0 ≤ length (block_code (SendAll e) z J d)
+sent_part e z J d some =
+    let l = send_all_long (source_of e z J) d z.nodes (term_code e z J d Value) some (found_short e z J d) in
+    omega (arith, l)
+
+pub sent_within : (e : Term) (x : Source) (z : Sizes) (J : List ℕ) (d : ℕ) → x ≡ source_of e z J → z.memory ≤ 256
+    → BlockFits (SendAll e) z (length J) d → IsWithin x 256
+sent_within e x z J d same few fits =
+    subst (λ (y : Source). IsWithin y 256) (sym same) (source_within e z J (length J) d d few fits.1)
+
+pub body_part : (whole b b1 : Statement) (p : _) (z : Sizes) (J J1 J2 : List ℕ) (d n : ℕ) → whole ≡ For' p b → b1 ≡ b
+    → J1 ≡ J ++ n ∷ [] → J2 ≡ J1 → n < z.nodes → length (block_code b1 z J2 d) ≤ length (block_code whole z J d)
+body_part whole b b1 p z J J1 J2 d n e e1 e2 e3 lt =
+    let l = body_in_each z.nodes n (λ j. block_code b z (J ++ j ∷ []) d) lt in
+    rw (e, e1, e3, e2) (omega (arith, l))
+
+pub bodies_part : (whole b : Statement) (p : _) (z : Sizes) (J : List ℕ) (d n : ℕ) (new : List Insn) → whole ≡ For' p b
+    → n + 1 ≤ z.nodes → new ≡ each_code (λ j. block_code b z (J ++ j ∷ []) d) (n + 1)
+    → length new ≤ length (block_code whole z J d)
+bodies_part whole b p z J d n new e le e1 =
+    let l = eachs_long z.nodes (n + 1) (λ j. block_code b z (J ++ j ∷ []) d) le in
+    rw (e, e1) (omega (arith, l))
