@@ -1,10 +1,11 @@
 //! A worker's part of a pulse.
 ghost use Rattle.std.specs.Prelude.{◌≡◌, ◌≤◌, [], true, IsSome, IfSome, length, vec_len, vec_capacity};
+ghost use Rattle.bench_core.specs.Tasks.{IsAlike};
 ghost use Rattle.bench_workers.specs.inner.Batches.{RanInOrder};
 
 use crate::gate::Gate;
 use crate::waiting::Waiting;
-use bench_core::NodeDone;
+use bench_core::{NodeDone, NodeTask};
 use bpf_run::Room;
 use std::snapshot::Snapshot;
 use std::thread::Promise;
@@ -37,8 +38,75 @@ impl<G: Gate> Promise<Option<Vec<NodeDone>>> for Batch<G> {
         × (IsSome given → G.lets_in batch.gate.value batch.worker ≡ true) };
 }
 
-/// Enters the gate, which hands out the tasks, and then runs each once, in order, all in one room. There is room for
-/// the results.
+/// How many of the inputs that were run last are compared with the next one.
+const REMEMBERED: usize = 4;
+
+/// Fewer tasks than this aren't compared: it would cost more than it saves.
+const MIN_COMPARED: usize = 8;
+
+/// A batch gets one more comparison in vain for this many tasks.
+const TASKS_A_TRY: usize = 16;
+
+/// The places of the results that were run last. It is untrusted: a wrong place costs time, not soundness. A comparison
+/// in vain takes one of `tries`, a shared result gives one, and without any no more inputs are compared.
+#[derive(Drop)]
+struct Recent {
+    places: [usize; REMEMBERED],
+    next: usize,
+    tries: usize,
+}
+
+impl Recent {
+    /// No places, before so many tasks.
+    fn none(tasks: usize) -> Recent {
+        let tries = if tasks < MIN_COMPARED {
+            0
+        } else {
+            1_usize.saturating_add(tasks / TASKS_A_TRY)
+        };
+        Recent {
+            places: [usize::MAX; REMEMBERED],
+            next: 0,
+            tries,
+        }
+    }
+
+    /// Whether inputs are still compared.
+    fn compares(&self) -> bool {
+        self.tries > 0
+    }
+
+    /// Puts the place of a new result in that of the oldest.
+    fn add(&mut self, place: usize) {
+        self.places[self.next % REMEMBERED] = place;
+        self.next = self.next.wrapping_add(1) % REMEMBERED;
+    }
+
+    /// The result of an equal input, if one of the places has it.
+    fn alike<'a>(&mut self, task: &NodeTask, dones: &'a [NodeDone]) -> Option<&'a NodeDone>
+        ensures { IfSome result (λ done. IsAlike task.now done.now) }
+    {
+        let mut is_compared = false;
+        for k in 0..REMEMBERED {
+            if let Some(done) = dones.get(self.places[k]) {
+                if task.may_be_alike(done) {
+                    if task.is_alike(done) {
+                        self.tries = self.tries.saturating_add(1);
+                        return Some(done);
+                    }
+                    is_compared = true;
+                }
+            }
+        }
+        if is_compared {
+            self.tries = self.tries.saturating_sub(1);
+        }
+        None
+    }
+}
+
+/// Enters the gate, which hands out the tasks, and then does each once, in order: it runs the task, all in one room, or
+/// copies the result of an equal input. There is room for the results.
 pub(crate) fn run_batch<G: Gate>(
     gate: &G,
     worker: u32,
@@ -55,8 +123,21 @@ pub(crate) fn run_batch<G: Gate>(
     let tasks = waiting.enter(gate, worker)?;
     let mut dones = room;
     let mut bytes = Room::new();
+    let mut recent = Recent::none(tasks.len());
     for task in tasks {
-        dones.push_reserved(task.run_in(&mut bytes));
+        if !recent.compares() {
+            dones.push_reserved(task.run_in(&mut bytes));
+            continue;
+        }
+        let place = dones.len();
+        let done = match recent.alike(&task, &dones) {
+            Some(other) => task.done_as(other),
+            None => {
+                recent.add(place);
+                task.run_in(&mut bytes)
+            }
+        };
+        dones.push_reserved(done);
     }
     Some(dones)
 }
