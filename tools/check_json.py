@@ -39,19 +39,19 @@ def must(holds, what):
 
 def head_of(frame):
     version = "" if frame["format"] == 1 else f"version {frame['format']} "
-    clock = f" clock {frame['clock']}" if frame["format"] == 3 else ""
+    clock = f" clock {frame['clock']}" if frame["format"] >= 3 else ""
     return f"{version}nodes {frame['nodes']} faults {frame['faults']} modulus {frame['modulus']}{clock}"
 
 
 def clock_word(clock, frame):
     if clock is None:
         return "-"
-    return "!" if frame["format"] == 3 and clock >= frame["modulus"] else str(clock)
+    return "!" if frame["format"] >= 3 and clock >= frame["modulus"] else str(clock)
 
 
 def line_of(pulse, frame):
     clocks = " ".join(clock_word(it, frame) for it in pulse["clocks"])
-    counts = f" counts {VERDICTS[pulse['counts']]}" if frame["format"] == 3 else ""
+    counts = f" counts {VERDICTS[pulse['counts']]}" if frame["format"] >= 3 else ""
     return (
         f"pulse {pulse['pulse']} clocks {clocks} settled {sum(pulse['settled'])}"
         f" steps {max(pulse['steps'])} agree {VERDICTS[pulse['agree']]}{counts}"
@@ -65,7 +65,7 @@ def tally(word, verdicts):
 
 def report_of(frame, pulses):
     last = [tally("agreed", [it["agree"] for it in pulses])]
-    if frame["format"] == 3:
+    if frame["format"] >= 3:
         last.append(tally("counted", [it["counts"] for it in pulses]))
     lines = [head_of(frame), *(line_of(it, frame) for it in pulses), " ".join(last)]
     return "".join(f"{it}\n" for it in lines)
@@ -91,10 +91,10 @@ def check_pulse(frame, before, pulse):
 
 def check_lines(lines, report):
     frame, *pulses, last = map(json.loads, lines)
-    must(sorted(frame) == sorted(FRAME + ["clock"] * (frame["format"] == 3)), f"the frame's members {sorted(frame)}")
+    must(sorted(frame) == sorted(FRAME + ["clock"] * (frame["format"] >= 3)), f"the frame's members {sorted(frame)}")
     must(sorted(last) == LAST, f"the last line's members {sorted(last)}")
     for pulse in pulses:
-        must(sorted(pulse) == sorted(PULSE + ["counts"] * (frame["format"] == 3)), f"members {sorted(pulse)}")
+        must(sorted(pulse) == sorted(PULSE + ["counts"] * (frame["format"] >= 3)), f"members {sorted(pulse)}")
     must([it["pulse"] for it in pulses] == list(range(1, frame["pulses"] + 1)), "the pulses' numbers")
     for before, pulse in zip([None, *pulses], pulses):
         check_pulse(frame, before, pulse)

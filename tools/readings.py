@@ -3,7 +3,7 @@ import json
 import re
 from typing import Dict, List, NamedTuple, Optional
 
-HEAD = re.compile(r"(?:version [23] )?nodes (\d+) faults (\d+) modulus (\d+)(?: clock (rule|own))?")
+HEAD = re.compile(r"(?:version [234] )?nodes (\d+) faults (\d+) modulus (\d+)(?: clock (rule|bed|own))?")
 PULSE = re.compile(
     r"pulse (\d+) clocks ((?:(?:\d+|-|!) )+)settled (\d+) steps (\d+) agree (yes|no|none)(?: counts (?:yes|no|none))?"
 )

@@ -5,6 +5,7 @@ mod FitLemmas
 mod InStepLemmas
 mod ListLemmas
 mod RowLemmas
+mod RuleLaws
 pub mod RunLemmas
 mod StreamLemmas
 mod VerdictLaws

@@ -3,6 +3,7 @@ pub mod Events
 pub mod InStep
 pub mod Laws
 pub mod Reports
+pub mod RuleRuns
 pub mod Runs
 pub mod Summary
 pub mod Verdicts

@@ -5,6 +5,7 @@ use Rattle.std.specs.Fmt.{decimal}
 use Rattle.bench_core.specs.Told.{PulseTold}
 use Rattle.scenario_text.specs.declared.limits.TheConstants.{FIRST_VERSION, CLOCK_VERSION}
 use Rattle.scenario_text.specs.declared.scenario.Frame.{Frame}
+use Rattle.scenario_text.specs.Views.{is_judged}
 use Rattle.bench_scenario.specs.declared.verdicts.Judged.{Judged}
 use Rattle.bench_scenario.specs.Verdicts.{judged_of}
 
@@ -46,17 +47,18 @@ last_line rs =
 abbrev pub plain_report : Frame → List PulseTold → List ℕ
 plain_report f rs = head_line f ++ (record_lines rs ++ last_line rs)
 
--- ---- the version that has the key `clock`
+-- ---- the versions that may have a clock of their own
 
--- whether the clock is the rule's or another
-abbrev pub rule_or_own : Bool → List ℕ
-rule_or_own own = if own then codes "own" else codes "rule"
+-- whose clock it is: the scenario's own, or this project's, which CLOCK_VERSION calls the rule's
+abbrev pub clock_name : ℕ → Bool → List ℕ
+clock_name version own =
+    if own then codes "own" else if version == CLOCK_VERSION then codes "rule" else codes "bed"
 
 abbrev pub judged_head : Frame → Bool → List ℕ
 judged_head f own =
     codes "version " ++ (decimal f.version ++ (codes " nodes " ++ (decimal f.nodes ++ (codes " faults "
     ++ (decimal f.faults ++ (codes " modulus " ++ (decimal f.modulus ++ (codes " clock "
-    ++ (rule_or_own own ++ codes "\n")))))))))
+    ++ (clock_name f.version own ++ codes "\n")))))))))
 
 -- a clock past the modulus has no value
 abbrev pub value_text : ℕ → Option ℕ → List ℕ
@@ -101,12 +103,12 @@ judged_report f own rs =
     judged_head f own ++ (judged_lines f.modulus rs js ++ judged_last js)
 
 abbrev pub report_of : Frame → Bool → List PulseTold → List ℕ
-report_of f own rs = if f.version == CLOCK_VERSION then judged_report f own rs else plain_report f rs
+report_of f own rs = if is_judged f.version then judged_report f own rs else plain_report f rs
 
 -- ---- the verdict on a run
 
 -- no pulse's verdict on agreement is no
 abbrev pub all_agree : Frame → Bool → List PulseTold → Bool
 all_agree f own rs =
-    if f.version == CLOCK_VERSION then list_all (λ j. unwrap_or j.agree true) (judged_of own f.modulus rs)
+    if is_judged f.version then list_all (λ j. unwrap_or j.agree true) (judged_of own f.modulus rs)
     else list_all (λ r. r.agree) rs

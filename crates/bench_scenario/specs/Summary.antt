@@ -1,8 +1,8 @@
 -- What a run comes to, in numbers (docs/LUCK.md, "The lines").
-use Rattle.std.specs.Prelude.{◌≡◌, ℕ, ◌+◌, ◌==◌, if◌then◌else◌, is_some, Bool, false, not, max, List, [], ◌∷◌, map, count_by, Option, Some, None}
+use Rattle.std.specs.Prelude.{◌≡◌, ℕ, ◌+◌, if◌then◌else◌, is_some, Bool, false, not, max, List, [], ◌∷◌, map, count_by, Option, Some, None}
 use Rattle.bench_core.specs.Told.{PulseTold}
-use Rattle.scenario_text.specs.declared.limits.TheConstants.{CLOCK_VERSION}
 use Rattle.scenario_text.specs.declared.scenario.Frame.{Frame}
+use Rattle.scenario_text.specs.Views.{is_judged}
 use Rattle.bench_scenario.specs.declared.summary.RunSummary.{RunSummary}
 use Rattle.bench_scenario.specs.InStep.{IsInStepSince}
 use Rattle.bench_scenario.specs.Reports.{is_yes}
@@ -11,7 +11,7 @@ use Rattle.bench_scenario.specs.Verdicts.{judged_of}
 -- whether each pulse agrees, as the report says it
 abbrev pub agreements : Frame → Bool → List PulseTold → List (Option Bool)
 agreements f own rs =
-    if f.version == CLOCK_VERSION then map (λ j. j.agree) (judged_of own f.modulus rs) else map (λ r. Some r.agree) rs
+    if is_judged f.version then map (λ j. j.agree) (judged_of own f.modulus rs) else map (λ r. Some r.agree) rs
 
 abbrev pub is_no : Option Bool → Bool
 is_no (Some verdict) = not verdict

@@ -2,13 +2,13 @@
 ghost use Rattle.std.specs.Prelude.{◌≡◌, ◌++◌, IfOk, OnOk, string_bytes, codes, count_by, is_some, length};
 ghost use Rattle.std.specs.Fmt.{decimal};
 ghost use Rattle.bench_scenario.specs.Reports.{is_yes, judged_head, judged_last, judged_line, judged_lines, judged_report};
-ghost use Rattle.bench_scenario.specs.Reports.{value_text, values_text, verdict_text, rule_or_own};
+ghost use Rattle.bench_scenario.specs.Reports.{value_text, values_text, verdict_text, clock_name};
 ghost use Rattle.scenario_text.specs.Views.{frame_of};
 
 use crate::printing::{add, add_counts, add_front, add_told};
 use crate::verdicts::{Judged, judged_of};
 use bench_core::PulseRecord;
-use scenario_text::Scenario;
+use scenario_text::{CLOCK_VERSION, Scenario};
 use std::alloc::{AllocError, Global};
 use std::fmt::Write;
 
@@ -132,6 +132,19 @@ fn last(alloc: Global, judged: &[Judged]) -> Result<String, AllocError>
     format!(in alloc; "agreed {agreed} of {agreement} counted {counted} of {counting}\n")
 }
 
+/// Returns whose clock it is: the scenario's own, or this project's, by the name that the version has for it.
+pub fn clock_name(version: u32, own: bool) -> &'static str
+    ensures { result.now ≡ clock_name version own }
+{
+    if own {
+        "own"
+    } else if version as u64 == CLOCK_VERSION {
+        "rule"
+    } else {
+        "bed"
+    }
+}
+
 fn head(alloc: Global, scenario: &Scenario, own: bool) -> Result<String, AllocError>
     ensures { IfOk result (λ text. string_bytes text ≡ judged_head (frame_of scenario.now) own) }
 {
@@ -139,7 +152,7 @@ fn head(alloc: Global, scenario: &Scenario, own: bool) -> Result<String, AllocEr
     let nodes = scenario.nodes;
     let faults = scenario.faults;
     let modulus = scenario.modulus;
-    let clock = if own { "own" } else { "rule" };
+    let clock = clock_name(version, own);
     format!(in alloc;
         "version {version} nodes {nodes} faults {faults} modulus {modulus} clock {clock}\n"
     )

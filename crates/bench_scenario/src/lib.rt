@@ -16,6 +16,7 @@ mod verdicts;
 mod watched;
 
 pub use in_step::in_step_since;
+pub use judged::clock_name;
 pub use keyed::run_with_key;
 pub use printing::{all_agree, report};
 pub use reading::{TextFault, read_scenario};

@@ -10,7 +10,7 @@ use crate::verdicts::{Judged, judged_of};
 use bench_core::PulseRecord;
 use bench_workers::Run;
 use itoa::Buffer;
-use scenario_text::{CLOCK_VERSION, FIRST_VERSION, Scenario};
+use scenario_text::{FIRST_VERSION, Scenario};
 use std::alloc::{AllocError, Global};
 use std::fmt::Write;
 
@@ -163,7 +163,7 @@ pub fn report(alloc: Global, scenario: &Scenario, run: &Run) -> Result<String, A
 {
     let records = run.records.as_slice();
     let own = scenario.clock.is_some();
-    if scenario.version as u64 == CLOCK_VERSION {
+    if scenario.is_judged() {
         judged_report(alloc, scenario, own, records)
     } else {
         plain_report(alloc, scenario, records)
@@ -190,7 +190,7 @@ pub fn all_agree(alloc: Global, scenario: &Scenario, run: &Run) -> Result<bool, 
 {
     let records = run.records.as_slice();
     let own = scenario.clock.is_some();
-    if scenario.version as u64 == CLOCK_VERSION {
+    if scenario.is_judged() {
         let judged = judged_of(alloc, own, scenario.modulus, records)?;
         Ok(all_verdicts_agree(judged.as_slice()))
     } else {

@@ -7,7 +7,7 @@ use crate::in_step::in_step_since;
 use crate::judged::is_yes;
 use crate::verdicts::{Judged, judged_of};
 use bench_core::PulseRecord;
-use scenario_text::{CLOCK_VERSION, Scenario};
+use scenario_text::Scenario;
 use std::alloc::{AllocError, Global};
 
 /// What a run comes to: the pulses that agree, those that are judged, the first that disagrees, the one from which on
@@ -52,7 +52,7 @@ fn agreements(
     ensures { IfOk result (λ verdicts. verdicts.items
         ≡ agreements (frame_of scenario.now) (is_some scenario.now.clock) records.now) }
 {
-    if scenario.version as u64 == CLOCK_VERSION {
+    if scenario.is_judged() {
         let judged = judged_of(alloc, scenario.clock.is_some(), scenario.modulus, records)?;
         judged_agreements(alloc, judged.as_slice())
     } else {

@@ -22,7 +22,7 @@ use Rattle.commands.specs.Input.{most_read}
 use Rattle.commands.specs.Lines.{LeavesJson}
 use Rattle.commands.specs.Output.{Leaves}
 use Rattle.commands.specs.Run.{LeavesTold, WantsThread}
-use Rattle.scenario_notes.specs.Words.{IsNote}
+use Rattle.rule_notes.specs.Words.{IsNote}
 use Rattle.bench_scenario.specs.declared.run.TheConstants.{MOST_BYTES}
 use Rattle.commands.specs.Stress.{LeavesStressed}
 use Rattle.commands.specs.Sweep.{LeavesSwept}

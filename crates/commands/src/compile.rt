@@ -2,9 +2,8 @@
 ghost use Rattle.std.specs.Prelude.{◌≡◌, ◌+◌, Some, IfOk, IfErr, IfSome, take};
 ghost use Rattle.stream_io.specs.Streams.{TakesAtMost};
 ghost use Rattle.commands.specs.declared.asm.TheConstants.{TEXT_BYTES};
-ghost use Rattle.commands.specs.Compile.{Compiles, LeavesCompiled, MakesCode, compiled_ending, compiled_text, error_name, uncompiled_line};
+ghost use Rattle.commands.specs.Compile.{Compiles, LeavesCompiled, compiled_ending, compiled_text, uncompiled_line};
 ghost use Rattle.commands.specs.Faults.{IsBeforeWriting};
-ghost use Rattle.commands.specs.Image.{asked_extent};
 ghost use Rattle.commands.specs.Output.{Leaves};
 
 use crate::asm::{TEXT_BYTES, read_text};
@@ -15,8 +14,7 @@ use crate::request::CompileOptions;
 use bpf_insn::{Program, encode};
 use clock_nodes::ClockRule;
 use node_env::Shape;
-use rule_nodes::{CompileError, compile_rule};
-use rule_text::{ReadRuleError, Rule, RuleError, read_rule};
+use rule_text::{RuleRefusal, program_of_text};
 use std::alloc::Global;
 use std::fmt;
 use std::io::{Read, Write};
@@ -53,48 +51,10 @@ pub(crate) fn compiled(
     if ClockRule::of(options.shape.nodes, options.faults, options.modulus).is_none() {
         return Ok(Err(Uncompiled::Sizes));
     }
-    match read_rule(alloc, text) {
-        Ok(rule) => code_of(alloc, &rule, shape, options),
-        Err(ReadRuleError::Memory) => Err(Fault::Memory),
-        Err(
-            ReadRuleError::At {
-                error,
-                line,
-                column,
-            },
-        ) => Ok(Err(Uncompiled::Text {
-            error,
-            line,
-            column,
-        })),
-    }
-}
-
-/// The program of a rule, or why there is none.
-fn code_of(
-    alloc: Global,
-    rule: &Rule,
-    shape: Shape,
-    options: CompileOptions,
-) -> Result<Result<Program, Uncompiled>, Fault>
-    requires { shape ≡ asked_extent options.shape }
-    ensures code { IfOk result (MakesCode options rule.now) }
-    ensures fault { IfErr result IsBeforeWriting }
-{
-    if rule.words > (shape.memory() / 4) as usize {
-        return Ok(Err(Uncompiled::Room));
-    }
-    match compile_rule(
-        alloc,
-        &rule.statement,
-        shape,
-        options.faults,
-        options.modulus,
-    ) {
-        Ok(program) => Ok(Ok(program)),
-        Err(CompileError::NoRoom) => Ok(Err(Uncompiled::Room)),
-        Err(CompileError::TooLong) => Ok(Err(Uncompiled::Long)),
-        Err(CompileError::Memory) => Err(Fault::Memory),
+    match program_of_text(alloc, text, shape, options.faults, options.modulus) {
+        Ok(Ok(program)) => Ok(Ok(program)),
+        Ok(Err(refusal)) => Ok(Err(Uncompiled::Rule(refusal))),
+        Err(_) => Err(Fault::Memory),
     }
 }
 
@@ -125,16 +85,8 @@ pub enum Uncompiled {
     Shape,
     /// The nodes, the faults and the modulus make no rule of clocks.
     Sizes,
-    /// The text is no rule: its first error.
-    Text {
-        error: RuleError,
-        line: usize,
-        column: usize,
-    },
-    /// The rule has more words than the memory, or more numbers at once than there are places.
-    Room,
-    /// The program would have too many instructions.
-    Long,
+    /// The text has no program.
+    Rule(RuleRefusal),
 }
 
 impl fmt::Display for Uncompiled {
@@ -144,33 +96,18 @@ impl fmt::Display for Uncompiled {
         match self {
             Uncompiled::Shape => write!(f, "refused shape"),
             Uncompiled::Sizes => write!(f, "refused sizes"),
-            Uncompiled::Text {
-                error,
-                line,
-                column,
-            } => write!(
-                f,
-                "refused rule {} line {line} column {column}",
-                name_of(*error)
-            ),
-            Uncompiled::Room => write!(f, "refused rule NoRoom"),
-            Uncompiled::Long => write!(f, "refused rule TooLong"),
+            Uncompiled::Rule(
+                RuleRefusal::Text {
+                    error,
+                    line,
+                    column,
+                },
+            ) => {
+                let name = error.name();
+                write!(f, "refused rule {name} line {line} column {column}")
+            }
+            Uncompiled::Rule(RuleRefusal::NoRoom) => write!(f, "refused rule NoRoom"),
+            Uncompiled::Rule(RuleRefusal::TooLong) => write!(f, "refused rule TooLong"),
         }
-    }
-}
-
-fn name_of(error: RuleError) -> &'static str
-    ensures { result.now ≡ error_name error }
-{
-    match error {
-        RuleError::BadCharacter => "BadCharacter",
-        RuleError::BadIndent => "BadIndent",
-        RuleError::OutOfRange => "OutOfRange",
-        RuleError::Expected => "Expected",
-        RuleError::UnknownName => "UnknownName",
-        RuleError::NameTwice => "NameTwice",
-        RuleError::NotAssignable => "NotAssignable",
-        RuleError::TooDeep => "TooDeep",
-        RuleError::TooLong => "TooLong",
     }
 }

@@ -1,6 +1,6 @@
 //! What is said after a refusal: where it comes from.
 ghost use Rattle.std.specs.Prelude.{Ok};
-ghost use Rattle.scenario_notes.specs.Words.{IsNote};
+ghost use Rattle.rule_notes.specs.Words.{IsNote};
 ghost use Rattle.commands.specs.Perform.{SaysNote, SaysOf};
 
 use crate::compile::{Uncompiled, compiled};
@@ -9,7 +9,7 @@ use crate::explore::unfit_of;
 use crate::finding::Unfit;
 use crate::request::{CompileOptions, Request, ShapeOptions};
 use rule_notes::note_on_rule;
-use rule_text::read_rule;
+use rule_text::{RuleRefusal, read_rule};
 use scenario_notes::note_on;
 use scenario_text::{Scenario, ScenarioError, scenario_in};
 use std::alloc::Global;
@@ -106,17 +106,19 @@ fn tell_uncompiled_note<E: Write>(
     match uncompiled {
         Uncompiled::Shape => say(SHAPE_NOTE, err),
         Uncompiled::Sizes => say(SIZES_NOTE, err),
-        Uncompiled::Text {
-            error,
-            line,
-            column,
-        } => {
+        Uncompiled::Rule(
+            RuleRefusal::Text {
+                error,
+                line,
+                column,
+            },
+        ) => {
             if let Ok(Some(note)) = note_on_rule(alloc, text, error, line, column) {
                 say(note.as_bytes(), err);
             }
         }
-        Uncompiled::Room => tell_room_note(alloc, shape, text, err),
-        Uncompiled::Long => say(LONG_NOTE, err),
+        Uncompiled::Rule(RuleRefusal::NoRoom) => tell_room_note(alloc, shape, text, err),
+        Uncompiled::Rule(RuleRefusal::TooLong) => say(LONG_NOTE, err),
     }
 }
 

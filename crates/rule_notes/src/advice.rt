@@ -3,12 +3,12 @@
 use crate::character::of_character;
 use crate::expected::of_expected;
 use crate::names::Maker;
+use crate::near::nearest;
 use crate::place::{Place, place_in, shown_line};
 use crate::reading::{Reading, reading_at};
+use crate::shown::shown;
 use crate::walk::Next;
 use rule_text::RuleError;
-use scenario_notes::near::nearest;
-use scenario_notes::shown::shown;
 use std::alloc::{AllocError, Global};
 
 fn of_indent(alloc: Global, place: Place<'_>, reading: &Reading<'_>) -> Result<String, AllocError> {
@@ -109,8 +109,8 @@ fn words_on(
     }
 }
 
-/// Returns the line of an error, and what is wrong there.
-pub(crate) fn advice_on(
+/// Returns what is wrong at a place of a text: nothing if it isn't known. Line and column count from 1.
+pub fn advice_at(
     alloc: Global,
     text: &[u8],
     error: RuleError,
@@ -119,8 +119,19 @@ pub(crate) fn advice_on(
 ) -> Result<String, AllocError> {
     let place = place_in(text, line, column);
     let reading = reading_at(alloc, place, line, column)?;
-    let line = shown_line(alloc, place)?;
-    let words = words_on(alloc, place, error, reading)?;
+    words_on(alloc, place, error, reading)
+}
+
+/// Returns the line of an error, and what is wrong there.
+pub(crate) fn advice_on(
+    alloc: Global,
+    text: &[u8],
+    error: RuleError,
+    line: usize,
+    column: usize,
+) -> Result<String, AllocError> {
+    let words = advice_at(alloc, text, error, line, column)?;
+    let line = shown_line(alloc, place_in(text, line, column))?;
     if line.len() == 0 || words.len() == 0 {
         return format!(in alloc; "{line}{words}");
     }

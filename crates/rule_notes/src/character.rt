@@ -1,6 +1,6 @@
 //! What a note says of a character that begins no token.
 
-use scenario_notes::shown::shown;
+use crate::shown::shown;
 use std::alloc::{AllocError, Global};
 use std::str;
 

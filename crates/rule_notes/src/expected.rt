@@ -1,10 +1,10 @@
 //! What a note says of a token that can't be at its place.
 
+use crate::near::nearest;
 use crate::reading::Reading;
+use crate::shown::shown;
 use crate::token::{Kind, kind_of};
 use crate::walk::{Next, Part};
-use scenario_notes::near::nearest;
-use scenario_notes::shown::shown;
 use std::alloc::{AllocError, Global};
 
 /// Returns what may follow: nothing if that isn't known.

@@ -5,10 +5,13 @@ mod advice;
 mod character;
 mod expected;
 mod names;
+pub mod near;
 mod noting;
 mod place;
 mod reading;
+pub mod shown;
 mod token;
 mod walk;
 
+pub use advice::advice_at;
 pub use noting::note_on_rule;

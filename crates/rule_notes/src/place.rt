@@ -1,7 +1,7 @@
 //! The line of an error, and what a note shows of it.
 
+use crate::shown::shown;
 use crate::token::first_of;
-use scenario_notes::shown::shown;
 use std::alloc::{AllocError, Global};
 use std::str;
 

@@ -5,3 +5,4 @@ pub mod Scopes
 pub mod Terms
 pub mod Statements
 pub mod Rules
+pub mod Programs

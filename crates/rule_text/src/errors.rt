@@ -1,4 +1,7 @@
 //! Why a text is no rule.
+ghost use Rattle.std.specs.Prelude.{◌≡◌};
+ghost use Rattle.rule_text.specs.Programs.{error_name};
+
 use std::alloc::AllocError;
 
 /// What is wrong at a place of the text.
@@ -22,6 +25,25 @@ pub enum RuleError {
     TooDeep,
     /// The line has more than 1,000 tokens, or it is the 513th line with tokens.
     TooLong,
+}
+
+impl RuleError {
+    /// Returns the name of the error, as refusals print it.
+    pub fn name(self) -> &'static str
+        ensures { result.now ≡ error_name self }
+    {
+        match self {
+            RuleError::BadCharacter => "BadCharacter",
+            RuleError::BadIndent => "BadIndent",
+            RuleError::OutOfRange => "OutOfRange",
+            RuleError::Expected => "Expected",
+            RuleError::UnknownName => "UnknownName",
+            RuleError::NameTwice => "NameTwice",
+            RuleError::NotAssignable => "NotAssignable",
+            RuleError::TooDeep => "TooDeep",
+            RuleError::TooLong => "TooLong",
+        }
+    }
 }
 
 /// Why a text is not read: its first error, or memory was short. Lines and columns count from 1.

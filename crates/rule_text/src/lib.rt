@@ -7,6 +7,7 @@ mod joints;
 mod layout;
 mod lexemes;
 mod parts;
+mod program;
 mod rule;
 mod scope;
 mod signs;
@@ -14,4 +15,5 @@ mod statements;
 mod terms;
 
 pub use errors::{ReadRuleError, RuleError};
+pub use program::{RuleRefusal, program_of_text};
 pub use rule::{Rule, read_rule};

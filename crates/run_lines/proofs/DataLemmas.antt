@@ -1,16 +1,16 @@
 -- What the lines tell has no float, and nests no deeper than three levels.
 use Rattle.std.proofs.Common.{ℕ, List, [], ◌∷◌, length}
-use Rattle.std.specs.Prelude.{Bool, true, false, Option, codes, if◌then◌else◌, is_some, ◌==◌}
+use Rattle.std.specs.Prelude.{Bool, true, false, Option, codes, if◌then◌else◌, is_some}
 use Rattle.std.specs.List.{AllByRecursion}
 use Rattle.std.specs.Ordering.{nat_cmp}
 use Rattle.std.specs.FinMap.{FinMap, get}
 use Rattle.serde_json.specs.Data.{boolean, null, string}
 use Rattle.bench_core.specs.State.{Node}
 use Rattle.bench_workers.specs.Watching.{Seen}
-use Rattle.scenario_text.specs.declared.limits.TheConstants.{CLOCK_VERSION}
+use Rattle.scenario_text.specs.Views.{is_judged}
 use Rattle.scenario_text.specs.declared.scenario.Frame.{Frame}
 use Rattle.bench_scenario.specs.Coins.{places_below}
-use Rattle.bench_scenario.specs.Reports.{rule_or_own}
+use Rattle.bench_scenario.specs.Reports.{clock_name}
 use Rattle.bench_scenario.specs.declared.summary.RunSummary.{RunSummary}
 use Rattle.run_lines.specs.Data.{clock_members, frame_data, frame_members, kind_text, last_data, memory_data, pulse_data, pulse_members, ran_data, sent_data, staged_data, verdict_members}
 use Rattle.run_lines.specs.Judging.{agree_of, counts_of}
@@ -29,8 +29,8 @@ either_plain false levels ms ns first second = second
 pub plain_frame : (f : Frame) (own : Bool) → IsPlain 1 (frame_data f own)
 plain_frame f own =
     let clock : AllPlain 0 (clock_members f own) =
-    either_plain (f.version == CLOCK_VERSION) 0 ((codes "clock", string (rule_or_own own)) ∷ []) []
-    (plain_string 0 (rule_or_own own), tt) tt in
+    either_plain (is_judged f.version) 0 ((codes "clock", string (clock_name f.version own)) ∷ []) []
+    (plain_string 0 (clock_name f.version own), tt) tt in
     let last : AllPlain 0 ((codes "memory", number_data f.memory) ∷ (codes "pulses", number_data f.pulses)
     ∷ clock_members f own) = (plain_number 0 f.memory, (plain_number 0 f.pulses, clock)) in
     let each : AllPlain 0 (frame_members f own) = (
@@ -85,7 +85,7 @@ plain_verdicts : (f : Frame) (own : Bool) (x : Seen) → AllPlain 2 (verdict_mem
 plain_verdicts f own x =
     let counts = counts_of f.modulus x.earlier x.told in (
       plain_verdict (agree_of f own x.told),
-      either_plain (f.version == CLOCK_VERSION) 2 ((codes "counts", option_data boolean counts) ∷ []) []
+      either_plain (is_judged f.version) 2 ((codes "counts", option_data boolean counts) ∷ []) []
           (plain_verdict counts, tt) tt,
     )
 

@@ -1,13 +1,13 @@
 -- Pulse by pulse the lines judge what the report judges.
 use Rattle.std.proofs.Common.{◌≡◌, ℕ, ◌+◌, List, [], ◌∷◌, map, ap, refl, ◌∙◌}
-use Rattle.std.specs.Prelude.{Bool, true, false, Option, Some, None, if◌then◌else◌, ◌==◌}
+use Rattle.std.specs.Prelude.{Bool, true, false, Option, Some, None, if◌then◌else◌}
 use Rattle.bench_core.specs.Told.{PulseTold}
 use Rattle.bench_core.specs.Setup.{Setup}
 use Rattle.bench_core.specs.State.{State, new_state, staged_state}
 use Rattle.bench_workers.specs.Events.{Event, Stage}
 use Rattle.bench_workers.specs.Events.{Pulse as PulseEvent}
 use Rattle.bench_workers.specs.Watching.{Seen, Shows}
-use Rattle.scenario_text.specs.declared.limits.TheConstants.{CLOCK_VERSION}
+use Rattle.scenario_text.specs.Views.{is_judged}
 use Rattle.scenario_text.specs.declared.scenario.Frame.{Frame}
 use Rattle.bench_scenario.specs.Verdicts.{agreement, counting, judged_after, judged_of, settled_in}
 use Rattle.run_lines.specs.Judging.{counts_of}
@@ -63,6 +63,6 @@ judged_counts own modulus s b n earlier (PulseEvent coins ∷ es) (x ∷ xs) las
 pub judges_as_the_report : (f : Frame) (own : Bool) (s : Setup) (es : List Event) (xs : List Seen) (b : State)
     → Shows s (new_state s) 0 None es xs b → AreOfReport f own xs
 judges_as_the_report f own s es xs b shows = record {
-  agree = either_agree (f.version == CLOCK_VERSION) own f.modulus xs;
+  agree = either_agree (is_judged f.version) own f.modulus xs;
   counts = judged_counts own f.modulus s (new_state s) 0 None es xs b shows;
 }

@@ -1,6 +1,6 @@
 -- What is read of the line of a pulse.
 use Rattle.std.proofs.Common.{◌≡◌, ℕ, zero, suc, ◌<◌, arith, List, [], ◌∷◌, length, map, ap, refl, sym, ◌∙◌, codes, bytes_eq, true≢false}
-use Rattle.std.specs.Prelude.{Bool, true, false, All, slice_index, Option, Some, if◌then◌else◌, ◌==◌, option_and_then}
+use Rattle.std.specs.Prelude.{Bool, true, false, All, slice_index, Option, Some, if◌then◌else◌, option_and_then}
 use Rattle.std.specs.List.{AllByRecursion}
 use Rattle.std.specs.Ordering.{nat_cmp}
 use Rattle.std.specs.FinMap.{FinMap, get as get_in}
@@ -16,7 +16,7 @@ use Rattle.serde_json.specs.View.{items_of}
 use Rattle.serde_json.specs.Written.{compact_text}
 use Rattle.bench_core.specs.State.{Node}
 use Rattle.bench_workers.specs.Watching.{Seen}
-use Rattle.scenario_text.specs.declared.limits.TheConstants.{CLOCK_VERSION}
+use Rattle.scenario_text.specs.Views.{is_judged}
 use Rattle.scenario_text.specs.declared.scenario.Frame.{Frame}
 use Rattle.bench_scenario.specs.Coins.{places_below}
 use Rattle.run_lines.specs.Data.{line_of, memory_data, pulse_data, ran_data, sent_data, staged_data, verdict_members}
@@ -49,7 +49,7 @@ before_verdicts name f own x ms d first second found =
     let agree = option_data boolean (agree_of f own x.told) in
     let counts = option_data boolean (counts_of f.modulus x.earlier x.told) in
     get_with_others name ms (verdict_members f own x)
-    (other_names (f.version == CLOCK_VERSION) name agree counts first second) ∙ found
+    (other_names (is_judged f.version) name agree counts first second) ∙ found
 
 -- the members before the verdicts
 abbrev seen_members : List StagedTold → Seen → List Member

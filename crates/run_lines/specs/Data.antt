@@ -1,5 +1,5 @@
 -- What the lines of a run tell, as values of JSON (docs/OUTPUT.md, "JSON lines").
-use Rattle.std.specs.Prelude.{ℕ, ◌==◌, if◌then◌else◌, is_some, Bool, List, [], ◌∷◌, ◌++◌, length, codes}
+use Rattle.std.specs.Prelude.{ℕ, if◌then◌else◌, is_some, Bool, List, [], ◌∷◌, ◌++◌, length, codes}
 use Rattle.std.specs.Ordering.{nat_cmp}
 use Rattle.std.specs.FinMap.{FinMap, get}
 use Rattle.hex.specs.Hex.{encode_lower}
@@ -7,12 +7,12 @@ use Rattle.serde_json.specs.Data.{Data, null, boolean, string}
 use Rattle.serde_json.specs.Written.{compact_text}
 use Rattle.bench_core.specs.State.{Node}
 use Rattle.bench_workers.specs.Watching.{Seen}
-use Rattle.scenario_text.specs.declared.limits.TheConstants.{CLOCK_VERSION}
+use Rattle.scenario_text.specs.Views.{is_judged}
 use Rattle.scenario_text.specs.declared.scenario.Frame.{Frame}
 use Rattle.scenario_text.specs.declared.scenario.Kind.{Kind}
-use Rattle.scenario_text.specs.declared.scenario.Kind.TheVariants.{Clock, Say, Echo, Asm}
+use Rattle.scenario_text.specs.declared.scenario.Kind.TheVariants.{Clock, Say, Echo, Asm, Rule}
 use Rattle.bench_scenario.specs.Coins.{places_below}
-use Rattle.bench_scenario.specs.Reports.{rule_or_own}
+use Rattle.bench_scenario.specs.Reports.{clock_name}
 use Rattle.bench_scenario.specs.declared.summary.RunSummary.{RunSummary}
 use Rattle.run_lines.specs.Judging.{agree_of, counts_of}
 use Rattle.run_lines.specs.Staged.{StagedTold, Loaded, Unloaded, Corrupted}
@@ -24,9 +24,9 @@ line_of d = compact_text d ++ codes "\n"
 
 -- ---- the first line
 
--- the member `clock`, only in version 3
+-- the member `clock`, from version 3 on
 abbrev pub clock_members : Frame → Bool → List Member
-clock_members f own = if f.version == CLOCK_VERSION then (codes "clock", string (rule_or_own own)) ∷ [] else []
+clock_members f own = if is_judged f.version then (codes "clock", string (clock_name f.version own)) ∷ [] else []
 
 abbrev pub frame_members : Frame → Bool → List Member
 frame_members f own =
@@ -49,6 +49,7 @@ kind_text Clock = codes "clock"
 kind_text Say = codes "say"
 kind_text Echo = codes "echo"
 kind_text Asm = codes "asm"
+kind_text Rule = codes "rule"
 
 abbrev pub staged_data : StagedTold → Data
 staged_data (Loaded node kind) =
@@ -72,7 +73,7 @@ sent_data nodes row = list_data (λ receiver. option_data number_data (get row r
 abbrev pub verdict_members : Frame → Bool → Seen → List Member
 verdict_members f own x =
     (codes "agree", option_data boolean (agree_of f own x.told))
-    ∷ (if f.version == CLOCK_VERSION
+    ∷ (if is_judged f.version
     then (codes "counts", option_data boolean (counts_of f.modulus x.earlier x.told)) ∷ [] else [])
 
 abbrev pub pulse_members : Frame → Bool → List StagedTold → Seen → List Member

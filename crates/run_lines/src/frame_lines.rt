@@ -7,8 +7,8 @@ ghost use Rattle.run_lines.specs.Values.{number_data, with_members};
 
 use crate::text::line_of;
 use crate::values::place_or_null;
-use bench_scenario::RunSummary;
-use scenario_text::{CLOCK_VERSION, Scenario};
+use bench_scenario::{RunSummary, clock_name};
+use scenario_text::Scenario;
 use serde_json::{Map, Value, put};
 use std::alloc::{AllocError, Global};
 
@@ -53,14 +53,10 @@ fn add_clock(
     ensures { OnOk result (members_view members.new.entries ≡ with_members (members_view members.old.entries)
         (clock_members (frame_of scenario.now) (is_some scenario.now.clock))) }
 {
-    if scenario.version as u64 != CLOCK_VERSION {
+    if !scenario.is_judged() {
         return Ok(());
     }
-    let clock = if scenario.clock.is_some() {
-        "own"
-    } else {
-        "rule"
-    };
+    let clock = clock_name(scenario.version, scenario.clock.is_some());
     put(members, alloc, "clock", Value::try_from_str(alloc, clock)?)
 }
 

@@ -17,7 +17,7 @@ use crate::values::{flags, numbers, numbers_or_null, verdict_or_null};
 use bench_core::PulseRecord;
 use bench_scenario::{agreement, counting, told_clocks};
 use bench_workers::Shown;
-use scenario_text::{CLOCK_VERSION, Scenario};
+use scenario_text::Scenario;
 use serde_json::{Map, Value, put};
 use std::alloc::{AllocError, Global};
 
@@ -89,7 +89,7 @@ fn agree_of(
     ensures { IfOk result (λ verdict. verdict
         ≡ agree_of (frame_of scenario.now) (is_some scenario.now.clock) told.now) }
 {
-    if scenario.version as u64 != CLOCK_VERSION {
+    if !scenario.is_judged() {
         return Ok(Some(told.agree));
     }
     let clocks = told_clocks(alloc, told.settled.as_slice(), told.clocks.as_slice())?;
@@ -126,7 +126,7 @@ fn add_verdicts(
 {
     let agree = agree_of(alloc, scenario, shown.told)?;
     put(members, alloc, "agree", verdict_or_null(agree))?;
-    if scenario.version as u64 != CLOCK_VERSION {
+    if !scenario.is_judged() {
         return Ok(());
     }
     let counts = counts_of(alloc, scenario.modulus, shown.earlier, shown.told)?;

@@ -17,6 +17,7 @@ fn kind_text(kind: Kind) -> &'static str
         Kind::Say => "say",
         Kind::Echo => "echo",
         Kind::Asm => "asm",
+        Kind::Rule => "rule",
     }
 }
 

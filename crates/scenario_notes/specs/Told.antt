@@ -5,6 +5,8 @@ use Rattle.toml.specs.Data.{Members}
 use Rattle.bpf_asm.specs.declared.text_error.TextError.{TextError}
 use Rattle.bpf_asm.specs.declared.text_error.TextError.TheVariants as text
 use Rattle.bpf_verify.specs.declared.rule.Rule.{Rule}
+use Rattle.rule_text.specs.declared.program.RuleRefusal.{RuleRefusal}
+use Rattle.rule_text.specs.declared.program.RuleRefusal.TheVariants as rules
 use Rattle.scenario_text.specs.declared.refusal.Place.{Place}
 use Rattle.scenario_text.specs.declared.refusal.ScenarioError.{ScenarioError}
 use Rattle.scenario_text.specs.declared.refusal.ScenarioError.TheVariants as errors
@@ -13,7 +15,8 @@ use Rattle.scenario_notes.specs.declared.note.Note.TheVariants as notes
 use Rattle.scenario_text.specs.Texts.{IsDocument}
 use Rattle.scenario_notes.specs.Places.{text_at}
 use Rattle.scenario_notes.specs.Slots.{IsLineOfSlot}
-use Rattle.scenario_notes.specs.Words.{IsNote, note_words}
+use Rattle.rule_notes.specs.Words.{IsNote}
+use Rattle.scenario_notes.specs.Words.{note_words}
 
 -- the line of a text that a fault names
 abbrev pub fault_line : TextError → Option ℕ
@@ -36,15 +39,21 @@ IsOfLine (notes.OfSlot spot slot rule) = ⊥
 IsOfLine (notes.OfSlotAlone slot rule) = ⊥
 IsOfLine notes.OfNothing = ⊥
 
+-- the line of a rule that a refusal names
+abbrev pub rule_line : RuleRefusal → Option ℕ
+rule_line (rules.Text error line column) = Some line
+rule_line rules.NoRoom = None
+rule_line rules.TooLong = None
+
 -- of a fault of a text its line is told, or no line of the text
-abbrev pub IsOfFault : TextError → Note → Type 0
-IsOfFault error (notes.OfText spot) = fault_line error ≡ Some spot.line
-IsOfFault error (notes.OfLine line shown) = fault_line error ≡ None
-IsOfFault error (notes.NotToml line column message) = ⊥
-IsOfFault error (notes.OfKey unknown) = ⊥
-IsOfFault error (notes.OfSlot spot slot rule) = ⊥
-IsOfFault error (notes.OfSlotAlone slot rule) = ⊥
-IsOfFault error notes.OfNothing = ⊥
+abbrev pub IsOfFault : Option ℕ → Note → Type 0
+IsOfFault fault (notes.OfText spot) = fault ≡ Some spot.line
+IsOfFault fault (notes.OfLine line shown) = fault ≡ None
+IsOfFault fault (notes.NotToml line column message) = ⊥
+IsOfFault fault (notes.OfKey unknown) = ⊥
+IsOfFault fault (notes.OfSlot spot slot rule) = ⊥
+IsOfFault fault (notes.OfSlotAlone slot rule) = ⊥
+IsOfFault fault notes.OfNothing = ⊥
 
 -- the line of the text under this key of the file whose instruction begins at the slot
 pub record IsTextLineOfSlot (file : List ℕ) (place : Place) (key : List ℕ) (slot line : ℕ) : Type 0 where
@@ -66,7 +75,8 @@ IsOfSlot file place key slot rule (notes.OfText spot) = ⊥
 IsOfSlot file place key slot rule notes.OfNothing = ⊥
 
 abbrev pub IsNoteOf : List ℕ → ScenarioError → Note → Type 0
-IsNoteOf file (errors.BadText place key error) note = IsOfFault error note
+IsNoteOf file (errors.BadText place key error) note = IsOfFault (fault_line error) note
+IsNoteOf file (errors.BadRule place key error) note = IsOfFault (rule_line error) note
 IsNoteOf file (errors.NotAccepted place key slot rule) note = IsOfSlot file place key.now slot rule note
 IsNoteOf file errors.TooLong note = note ≡ notes.OfNothing
 IsNoteOf file (errors.Memory _) note = ⊥

@@ -1,7 +1,6 @@
 -- The words of a note (docs/SCENARIOS.md, "Notes").
-use Rattle.std.specs.Prelude.{◌≡◌, ◌==◌, ℕ, false, List, [], ◌++◌, codes, Option, Some, None, option_map, string_bytes}
+use Rattle.std.specs.Prelude.{ℕ, List, [], ◌++◌, codes, Option, Some, None, option_map, string_bytes}
 use Rattle.std.specs.Fmt.{decimal}
-use Rattle.std.specs.List.{list_any}
 use Rattle.bpf_verify.specs.declared.rule.Rule.{Rule}
 use Rattle.bpf_verify.specs.Rules.{rule_name, rule_number}
 use Rattle.scenario_notes.specs.declared.note.Note.{Note}
@@ -40,9 +39,3 @@ note_words (notes.OfSlot spot slot rule) = spot_words spot ++ (codes "slot " ++ 
     ++ (codes ": " ++ (string_bytes spot.shown ++ (codes ": " ++ rule_words rule)))))
 note_words (notes.OfSlotAlone slot rule) = codes "slot " ++ (decimal slot ++ (codes ": " ++ rule_words rule))
 note_words notes.OfNothing = []
-
--- one line that begins as a note does
-pub record IsNote (line : List ℕ) : Type 0 where
-  pub words : List ℕ
-  pub one_line : list_any (λ c. c == 10) words ≡ false
-  pub line_is : line ≡ codes "note: " ++ (words ++ codes "\n")

@@ -2,8 +2,6 @@
 
 use crate::finding::line_at;
 use crate::known::{names_at, unknown_key};
-use crate::near::nearest;
-use crate::shown::shown;
 use crate::table::{table_at, text_at};
 use crate::wanted::{COINS_NAMES, PROGRAM_NAMES, wanted};
 use bpf_asm::{TextError, assemble};
@@ -11,12 +9,20 @@ use bpf_explain::reason;
 use bpf_insn::MAX_SLOTS;
 use bpf_verify::explain;
 use node_env::Shape;
-use scenario_text::{CLOCK_VERSION, MAX_TEXT, Place, ScenarioError};
+use rule_notes::advice_at;
+use rule_notes::near::nearest;
+use rule_notes::shown::shown;
+use rule_text::RuleRefusal;
+use scenario_text::{CLOCK_VERSION, MAX_TEXT, Place, RULE_VERSION, ScenarioError};
 use std::alloc::{AllocError, Global};
 use toml::Table;
 
 /// The helpers that a text can name.
 const HELPER_NAMES: [&str; 4] = ["id", "recv", "send", "coin"];
+
+/// What a rule has too much of.
+const NO_ROOM_WORDS: &str =
+    "clock and each name of state take 4 bytes of the memory, and at most 3 numbers are in use at once";
 
 /// How a file in UTF-16 begins.
 const WIDE_BEGINNINGS: [&[u8]; 2] = [b"\xff\xfe", b"\xfe\xff"];
@@ -116,8 +122,9 @@ fn of_unknown(alloc: Global, table: &Table, place: Place) -> Result<String, Allo
 fn of_unlike(alloc: Global, key: &str) -> Result<String, AllocError> {
     match key {
         "clock" => format!(in alloc; "clock needs version = {CLOCK_VERSION}"),
+        "rule" => format!(in alloc; "rule needs version = {RULE_VERSION}, and no key clock"),
         "values" => String::from_str(alloc, "values goes with program = \"say\""),
-        "text" => String::from_str(alloc, "text goes with program = \"asm\""),
+        "text" => String::from_str(alloc, "text goes with program = \"asm\" or \"rule\""),
         _ => Ok(String::new(alloc)),
     }
 }
@@ -168,6 +175,34 @@ fn of_text(
         TextError::TooLong(_) => { format!(in alloc; "a program has at most {MAX_SLOTS} slots") }
         TextError::Empty => String::from_str(alloc, "the text has no instruction"),
         TextError::Memory => Ok(String::new(alloc)),
+    }
+}
+
+/// What is wrong with a rule.
+fn of_rule(
+    alloc: Global,
+    table: &Table,
+    place: Place,
+    key: &str,
+    error: RuleRefusal,
+) -> Result<String, AllocError> {
+    match error {
+        RuleRefusal::Text {
+            error,
+            line,
+            column,
+        } => {
+            let text = text_at(table, place, key).unwrap_or_default();
+            let advice = advice_at(alloc, text.as_bytes(), error, line, column)?;
+            let advice = advice.as_str();
+            format!(in alloc; "column {column}: {advice}")
+        }
+        RuleRefusal::NoRoom => String::from_str(alloc, NO_ROOM_WORDS),
+        RuleRefusal::TooLong => {
+            format!(in alloc;
+                "a program has at most {MAX_SLOTS} slots, and for and count are written out for each node"
+            )
+        }
     }
 }
 
@@ -234,6 +269,9 @@ pub(crate) fn advice_on(
         }
         ScenarioError::BadText { place, key, error } => {
             of_text(alloc, table, *place, key, *error)
+        }
+        ScenarioError::BadRule { place, key, error } => {
+            of_rule(alloc, table, *place, key, *error)
         }
         ScenarioError::NotAccepted { place, key, .. } => of_program(alloc, table, *place, key),
         ScenarioError::TooLong | ScenarioError::NotToml | ScenarioError::Memory(_) => {

@@ -1,11 +1,11 @@
 //! The keys that tables know (docs/SCENARIOS.md, "Keys"), and the one that a table doesn't.
 
-use scenario_text::{CLOCK_VERSION, Place};
+use scenario_text::{CLOCK_VERSION, Place, RULE_VERSION};
 use toml::{Table, Value};
 
-const TOP_NAMES: [&str; 13] = [
-    "version", "nodes", "faults", "modulus", "memory", "pulses", "coins", "key", "clock", "load",
-    "unload", "corrupt", "coin",
+const TOP_NAMES: [&str; 14] = [
+    "version", "nodes", "faults", "modulus", "memory", "pulses", "coins", "key", "clock", "rule",
+    "load", "unload", "corrupt", "coin",
 ];
 
 const LOAD_NAMES: [&str; 5] = ["pulse", "nodes", "program", "values", "text"];
@@ -42,12 +42,24 @@ fn is_known(table: &Table, place: Place, name: &str) -> bool {
     names_at(place).iter().any(|known| *known == name) && has_its_like(table, name)
 }
 
+/// Whether the version is this one or a later one.
+fn has_version(table: &Table, first: u64) -> bool {
+    match table.get("version").and_then(Value::as_integer) {
+        Some(version) => version >= first as i64,
+        None => false,
+    }
+}
+
 /// Whether the key is beside what it belongs to.
 fn has_its_like(table: &Table, name: &str) -> bool {
     match name {
-        "clock" => table.get("version").and_then(Value::as_integer) == Some(CLOCK_VERSION as i64),
+        "clock" => has_version(table, CLOCK_VERSION),
+        "rule" => has_version(table, RULE_VERSION) && table.get("clock").is_none(),
         "values" => table.get("program").and_then(Value::as_str) == Some("say"),
-        "text" => table.get("program").and_then(Value::as_str) == Some("asm"),
+        "text" => matches!(
+            table.get("program").and_then(Value::as_str),
+            Some("asm" | "rule")
+        ),
         _ => true,
     }
 }

@@ -4,11 +4,9 @@
 mod advice;
 mod finding;
 mod known;
-pub mod near;
 mod note;
 mod noting;
 mod scan;
-pub mod shown;
 mod slot_line;
 mod table;
 mod toml_fault;

@@ -1,19 +1,20 @@
 //! The note on a refusal.
 ghost use Rattle.std.specs.Prelude.{◌≡◌, ℕ, List, IfOk, IfSome, IsTrue, MatchOption, None, Some, string_bytes};
 ghost use Rattle.scenario_notes.specs.declared.note.Note.TheVariants.{OfNothing};
-ghost use Rattle.scenario_notes.specs.Told.{IsNoteOf, IsOfFault, IsOfLine, IsOfSlot, IsTextLineOfSlot, Tells, fault_line};
+ghost use Rattle.scenario_notes.specs.Told.{IsNoteOf, IsOfFault, IsOfLine, IsOfSlot, IsTextLineOfSlot, Tells, fault_line, rule_line};
 
 use crate::advice::advice_on;
 use crate::finding::{Sought, find, find_in_text, line_at, without_comment};
 use crate::known::{names_at, unknown_key};
-use crate::near::nearest;
 use crate::note::{Note, Spot, UnknownKey};
-use crate::shown::shown;
 use crate::slot_line::line_of_slot;
 use crate::table::{array_of, key_at, table_at, table_in, text_at};
 use crate::toml_fault::fault_in;
 use bpf_asm::TextError;
 use bpf_verify::Rule;
+use rule_notes::near::nearest;
+use rule_notes::shown::shown;
+use rule_text::RuleRefusal;
 use scenario_text::{Place, ScenarioError};
 use std::alloc::{AllocError, Global};
 use std::str;
@@ -98,17 +99,28 @@ fn fault_line(error: TextError) -> Option<usize>
     }
 }
 
+/// The line that a refusal of a rule names.
+fn rule_line(error: RuleRefusal) -> Option<usize>
+    ensures { result ≡ rule_line error }
+{
+    match error {
+        RuleRefusal::Text { line, .. } => Some(line),
+        RuleRefusal::NoRoom | RuleRefusal::TooLong => None,
+    }
+}
+
+/// The line of the text under a key, or that of the key if the fault names none.
 fn text_note(
     alloc: Global,
     file: &[u8],
     place: Place,
     key: &str,
-    error: TextError,
+    fault: Option<usize>,
 ) -> Result<Option<Note>, AllocError>
-    ensures { IfOk result (λ found. IfSome found (IsOfFault error)) }
+    ensures { IfOk result (λ found. IfSome found (IsOfFault fault)) }
 {
     let sought = key_at(place, key);
-    let Some(line) = fault_line(error) else {
+    let Some(line) = fault else {
         return line_note(alloc, file, sought);
     };
     let Some(table) = table_in(alloc, file)? else {
@@ -181,7 +193,10 @@ fn place_of(alloc: Global, file: &[u8], error: &ScenarioError) -> Result<Option<
             line_note(alloc, file, key_at(Place::Load(*load), "program"))
         }
         ScenarioError::BadText { place, key, error } => {
-            text_note(alloc, file, *place, key, *error)
+            text_note(alloc, file, *place, key, fault_line(*error))
+        }
+        ScenarioError::BadRule { place, key, error } => {
+            text_note(alloc, file, *place, key, rule_line(*error))
         }
         ScenarioError::NotAccepted {
             place,
@@ -205,6 +220,7 @@ fn needs_no_place(error: &ScenarioError) -> bool
         | ScenarioError::OutOfRange { .. }
         | ScenarioError::UnknownProgram { .. } => true,
         ScenarioError::BadText { .. }
+        | ScenarioError::BadRule { .. }
         | ScenarioError::NotAccepted { .. }
         | ScenarioError::Memory(_) => false,
     }

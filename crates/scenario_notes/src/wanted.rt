@@ -4,7 +4,7 @@ use clock_nodes::{LEAST_MODULUS, MOST_MODULUS};
 use node_env::{MAX_MEMORY, MAX_NODES, MEMORY_UNIT};
 use scenario_text::{
     FIRST_MAX_NODES, FIRST_VERSION, LAST_VERSION, MAX_CHANGES, MAX_COIN_ENTRIES, MAX_KEY,
-    MAX_PULSES, Place,
+    MAX_PULSES, Place, RULE_VERSION,
 };
 use std::alloc::{AllocError, Global};
 use toml::{Table, Value};
@@ -13,11 +13,15 @@ use toml::{Table, Value};
 pub(crate) const COINS_NAMES: [&str; 3] = ["zeros", "ones", "chacha"];
 
 /// The words that `program` may be.
-pub(crate) const PROGRAM_NAMES: [&str; 4] = ["clock", "say", "echo", "asm"];
+pub(crate) const PROGRAM_NAMES: [&str; 5] = ["clock", "say", "echo", "asm", "rule"];
 
 const COINS_WORDS: &str = "coins is \"zeros\", \"ones\" or \"chacha\"";
 
-const PROGRAM_WORDS: &str = "program is \"clock\", \"say\", \"echo\" or \"asm\"";
+fn program_words(alloc: Global) -> Result<String, AllocError> {
+    format!(in alloc;
+        "program is \"clock\", \"say\", \"echo\" or \"asm\", and from version {RULE_VERSION} on \"rule\""
+    )
+}
 
 /// A number that a scenario gives at the top, as a limit for others: a name where it gives none.
 #[derive(Drop)]
@@ -102,6 +106,7 @@ fn wanted_at_top(alloc: Global, table: &Table, key: &str) -> Result<String, Allo
         "coins" => String::from_str(alloc, COINS_WORDS),
         "key" => number(alloc, key, 0, MAX_KEY),
         "clock" => String::from_str(alloc, "clock is the text of a program"),
+        "rule" => String::from_str(alloc, "rule is the text of a rule (docs/RULES.md)"),
         "coin" => array_words(alloc, key, MAX_COIN_ENTRIES),
         _ => array_words(alloc, key, MAX_CHANGES),
     }
@@ -113,11 +118,11 @@ fn wanted_in_entry(alloc: Global, table: &Table, key: &str) -> Result<String, Al
         "pulse" => pulse_words(alloc, table),
         "nodes" => below_nodes(alloc, table, "nodes is a list of node numbers"),
         "node" => below_nodes(alloc, table, "node is the number of a node"),
-        "program" => String::from_str(alloc, PROGRAM_WORDS),
+        "program" => program_words(alloc),
         "values" => values_words(alloc, table),
         "image" => image_words(alloc, table),
         "value" => String::from_str(alloc, "value is a coin, 0 or 1"),
-        _ => String::from_str(alloc, "text is the text of a program"),
+        _ => String::from_str(alloc, "text is the text of a program or of a rule"),
     }
 }
 

@@ -1,11 +1,14 @@
 -- A table has one clock at most.
-use Rattle.std.proofs.Common.{◌≡◌, List, refl, ap, sym, subst, ◌∙◌, inl, inr}
+use Rattle.std.proofs.Common.{◌≡◌, List, refl, ap, sym, subst, ◌∙◌, inl, inr, Global}
 use Rattle.std.specs.Prelude.{Option, Some, None, codes}
 use Rattle.toml.specs.Data.{Data, array, string, integer, float, boolean, datetime, table, Members, get_member}
 use Rattle.bpf_insn.specs.declared.forms.Insn.{Insn}
-use Rattle.clock_nodes.specs.Rule.{Rule}
 use Rattle.clock_nodes.specs.Listings.{clock_listing}
-use Rattle.scenario_text.specs.Spelling.{MeansAt, HasClock}
+use Rattle.rule_text.proofs.ProgramLemmas.{one_program}
+use Rattle.scenario_text.specs.declared.scenario.ClockKey.{ClockKey}
+use Rattle.scenario_text.specs.declared.scenario.ClockKey.TheVariants as keys
+use Rattle.scenario_text.specs.declared.scenario.Frame.{Frame}
+use Rattle.scenario_text.specs.Spelling.{HasClock, HasNoText, MeansAt, MeansClock, MeansRuleAt, clock_key, rule_of, sizes_in}
 
 -- a value means one program at most
 pub one_meaning : (o : Option Data) (p q : List Insn) → MeansAt o p → MeansAt o q → p ≡ q
@@ -22,26 +25,55 @@ one_meaning (Some (table ms)) p q first second = absurd first
 pub none_meant : (o : Option Data) (p : List Insn) → o ≡ None → MeansAt o p → ⊥
 none_meant o p none means = subst (λ o. MeansAt o p) none means
 
+-- ---- rules
+
+-- a value is the rule of one program at most
+pub one_rule : (g : Global) (f : Frame) (o : Option Data) (p q : List Insn) → MeansRuleAt f o p → MeansRuleAt f o q → p ≡ q
+one_rule g f None p q first second = absurd first
+one_rule g f (Some (string text)) p q first second = one_program g (sizes_in f) text p q first second
+one_rule g f (Some (integer n)) p q first second = absurd first
+one_rule g f (Some (float x)) p q first second = absurd first
+one_rule g f (Some (boolean b)) p q first second = absurd first
+one_rule g f (Some (datetime d)) p q first second = absurd first
+one_rule g f (Some (array items)) p q first second = absurd first
+one_rule g f (Some (table ms)) p q first second = absurd first
+
+no_rule : (f : Frame) (o : Option Data) (p : List Insn) → o ≡ None → MeansRuleAt f o p → ⊥
+no_rule f o p none means = subst (λ o. MeansRuleAt f o p) none means
+
+-- ---- the text of the clock
+
+pub one_text : (g : Global) (f : Frame) (key : ClockKey) (ms : Members) (p q : List Insn) → MeansClock f key ms p
+    → MeansClock f key ms q → p ≡ q
+one_text g f keys.Absent ms p q first second = absurd first
+one_text g f keys.Clock ms p q first second = one_meaning (get_member (codes "clock") ms) p q first second
+one_text g f keys.Rule ms p q first second = one_rule g f (get_member (codes "rule") ms) p q first second
+
+pub none_there : (f : Frame) (key : ClockKey) (ms : Members) (p : List Insn) → HasNoText key ms
+    → MeansClock f key ms p → ⊥
+none_there f keys.Absent ms p none means = means
+none_there f keys.Clock ms p none means = none_meant (get_member (codes "clock") ms) p none means
+none_there f keys.Rule ms p none means = no_rule f (get_member (codes "rule") ms) p none means
+
 -- a table has the rule's clock or another one
-not_both : (rule : Rule) (ms : Members) (p : List Insn) → HasClock rule ms None → HasClock rule ms (Some p) → ⊥
-not_both rule ms p plain own =
+not_both : (g : Global) (f : Frame) (ms : Members) (p : List Insn) → HasClock f ms None → HasClock f ms (Some p) → ⊥
+not_both g f ms p plain own =
     elim plain [
-      | inl none ↦ none_meant (get_member (codes "clock") ms) p none own.0
-      | inr means ↦ own.1 (one_meaning (get_member (codes "clock") ms) p (clock_listing rule) own.0 means)
+      | inl none ↦ none_there f (clock_key ms) ms p none own.0
+      | inr means ↦ own.1 (one_text g f (clock_key ms) ms p (clock_listing (rule_of f)) own.0 means)
     ]
 
-pub one_clock : (rule : Rule) (ms : Members) (a b : Option (List Insn)) → HasClock rule ms a → HasClock rule ms b
-    → a ≡ b
-one_clock rule ms None None first second = refl
-one_clock rule ms None (Some q) first second = absurd (not_both rule ms q first second)
-one_clock rule ms (Some p) None first second = absurd (not_both rule ms p second first)
-one_clock rule ms (Some p) (Some q) first second =
-    ap (λ p. Some p) (one_meaning (get_member (codes "clock") ms) p q first.0 second.0)
+pub one_clock : (g : Global) (f : Frame) (ms : Members) (a b : Option (List Insn)) → HasClock f ms a → HasClock f ms b → a ≡ b
+one_clock g f ms None None first second = refl
+one_clock g f ms None (Some q) first second = absurd (not_both g f ms q first second)
+one_clock g f ms (Some p) None first second = absurd (not_both g f ms p second first)
+one_clock g f ms (Some p) (Some q) first second =
+    ap (λ p. Some p) (one_text g f (clock_key ms) ms p q first.0 second.0)
 
--- a key that is there and means nothing is no clock
-pub no_clock : (rule : Rule) (ms : Members) → (get_member (codes "clock") ms ≡ None → ⊥)
-    → ((insns : List Insn) → MeansAt (get_member (codes "clock") ms) insns → ⊥)
-    → (clock : Option (List Insn)) → HasClock rule ms clock → ⊥
-no_clock rule ms there none None has =
-    elim has [ inl gone ↦ there gone | inr means ↦ none (clock_listing rule) means ]
-no_clock rule ms there none (Some insns) has = none insns has.0
+-- a text that is there and means nothing is no clock
+pub no_clock : (f : Frame) (ms : Members) → (HasNoText (clock_key ms) ms → ⊥)
+    → ((insns : List Insn) → MeansClock f (clock_key ms) ms insns → ⊥)
+    → (clock : Option (List Insn)) → HasClock f ms clock → ⊥
+no_clock f ms there none None has =
+    elim has [ inl gone ↦ there gone | inr means ↦ none (clock_listing (rule_of f)) means ]
+no_clock f ms there none (Some insns) has = none insns has.0

@@ -1,5 +1,5 @@
 -- A key holds one number at most.
-use Rattle.std.proofs.Common.{◌≡◌, ◌≤◌, ℕ, arith, ◌-◌, ◌%◌, List, ap, sym, subst, ◌∙◌, inl, inr}
+use Rattle.std.proofs.Common.{◌≡◌, ◌≤◌, ℕ, arith, ◌-◌, ◌%◌, List, ap, sym, subst, ◌∙◌, inl, inr, Global}
 use Rattle.std.specs.Prelude.{true, false, ◌==◌, if◌then◌else◌, pos, Option, Some, None, codes, MatchOption, IfErr, Result, Ok, Err}
 use Rattle.toml.specs.Data.{Data, integer, Members}
 use Rattle.bpf_insn.specs.declared.forms.Insn.{Insn}
@@ -67,6 +67,7 @@ excludes (errors.WrongKind place key) none is silent = silent
 excludes (errors.OutOfRange place key) none is silent = silent
 excludes (errors.UnknownProgram load) none is silent = silent
 excludes (errors.BadText place key error) none is silent = silent
+excludes (errors.BadRule place key error) none is silent = silent
 excludes (errors.NotAccepted place key slot rule) none is silent = is
 excludes (errors.Memory _) none is silent = tt
 
@@ -80,6 +81,7 @@ excludes_more (errors.WrongKind place key) less more leads excluded = leads excl
 excludes_more (errors.OutOfRange place key) less more leads excluded = leads excluded
 excludes_more (errors.UnknownProgram load) less more leads excluded = leads excluded
 excludes_more (errors.BadText place key error) less more leads excluded = leads excluded
+excludes_more (errors.BadRule place key error) less more leads excluded = leads excluded
 excludes_more (errors.NotAccepted place key slot rule) less more leads excluded = excluded
 excludes_more (errors.Memory _) less more leads excluded = tt
 
@@ -94,6 +96,7 @@ refuses (errors.WrongKind place key) none broken excluded = excluded
 refuses (errors.OutOfRange place key) none broken excluded = excluded
 refuses (errors.UnknownProgram load) none broken excluded = excluded
 refuses (errors.BadText place key error) none broken excluded = excluded
+refuses (errors.BadRule place key error) none broken excluded = excluded
 refuses (errors.NotAccepted place key slot rule) none broken excluded = absurd excluded
 refuses (errors.Memory _) none broken excluded = tt
 
@@ -113,6 +116,7 @@ refuses_more (errors.WrongKind place key) less more here there leads moves refus
 refuses_more (errors.OutOfRange place key) less more here there leads moves refused = leads refused
 refuses_more (errors.UnknownProgram load) less more here there leads moves refused = leads refused
 refuses_more (errors.BadText place key error) less more here there leads moves refused = leads refused
+refuses_more (errors.BadRule place key error) less more here there leads moves refused = leads refused
 refuses_more (errors.NotAccepted place key slot rule) less more here there leads moves refused =
     moves place slot refused
 refuses_more (errors.Memory _) less more here there leads moves refused = tt
@@ -129,17 +133,17 @@ one_frame ms f g a b = λ k. record {
 }
 
 -- what the frame and the clock that were read have no entries for has no spelling
-pub no_entries : {A : Type 0} (reads : Frame → Option (List Insn) → Members → A → Type 0) (o : Option Data)
+pub no_entries : {A : Type 0} (g : Global) (reads : Frame → Option (List Insn) → Members → A → Type 0) (o : Option Data)
     (of : Draft → List A) (ms : Members) (f : Frame) (c : Option (List Insn)) → HasFrame ms f
-    → HasClock (rule_of f) ms c
+    → HasClock f ms c
     → ((d : Draft) → Spelled ms d → MayBeArray (IsTable (reads d.frame d.clock)) o (of d))
     → ((xs : List A) → MayBeArray (IsTable (reads f c)) o xs → ⊥) → SpellsNothing ms
-no_entries reads o of ms f c has clock there none d spelled =
+no_entries g reads o of ms f c has clock there none d spelled =
     let same = one_frame ms d.frame f spelled.frame has in
-    let framed = subst (λ g. MayBeArray (IsTable (reads g d.clock)) o (of d)) same (there d spelled) in
-    let mine = subst (λ g. HasClock (rule_of g) ms d.clock) same spelled.clock in
+    let framed = subst (λ h. MayBeArray (IsTable (reads h d.clock)) o (of d)) same (there d spelled) in
+    let mine = subst (λ h. HasClock h ms d.clock) same spelled.clock in
     none (of d) (subst (λ k. MayBeArray (IsTable (reads f k)) o (of d))
-    (one_clock (rule_of f) ms d.clock c mine clock) framed)
+    (one_clock g f ms d.clock c mine clock) framed)
 
 pub refused_more : {A : Type 0} (r : Result A ScenarioError) (less more : Type 0) → (less → more)
     → IfErr r (λ e. Excludes e less) → IfErr r (λ e. Excludes e more)

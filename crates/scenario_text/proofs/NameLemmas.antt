@@ -6,9 +6,9 @@ use Rattle.std.proofs.lemmas.Slice.Eq.{bytes_eq-Decides}
 use Rattle.scenario_text.specs.declared.scenario.Coins.{Coins}
 use Rattle.scenario_text.specs.declared.scenario.Coins.TheVariants.{Zeros, Ones, Chacha}
 use Rattle.scenario_text.specs.declared.scenario.Kind.{Kind}
-use Rattle.scenario_text.specs.declared.scenario.Kind.TheVariants.{Clock, Say, Echo, Asm}
+use Rattle.scenario_text.specs.declared.scenario.Kind.TheVariants.{Clock, Say, Echo, Asm, Rule}
 use Rattle.scenario_text.specs.inner.Names.{coins_named, kind_named}
-use Rattle.scenario_text.specs.Spelling.{coins_name, kind_name}
+use Rattle.scenario_text.specs.Spelling.{HasKind, coins_name, kind_name}
 use Rattle.scenario_text.specs.Tables.{HasText}
 use Rattle.toml.specs.Data.{Members, string}
 
@@ -25,6 +25,7 @@ kind_back Clock = refl
 kind_back Say = refl
 kind_back Echo = refl
 kind_back Asm = refl
+kind_back Rule = refl
 
 pub no_coins : (name : List ℕ) (c : Coins) → coins_named name ≡ None → name ≡ coins_name c → ⊥
 no_coins name c none same = nothing (sym none ∙ (ap coins_named same ∙ coins_back c))
@@ -56,8 +57,9 @@ kind_by_name name k =
     chosen Named (bytes_eq name (codes "clock")) Clock _ k (same_bytes name (codes "clock"))
     (chosen Named (bytes_eq name (codes "say")) Say _ k (same_bytes name (codes "say"))
     (chosen Named (bytes_eq name (codes "echo")) Echo _ k (same_bytes name (codes "echo"))
-    (chosen Named (bytes_eq name (codes "asm")) Asm None k (same_bytes name (codes "asm"))
-    (λ found. absurd (nothing found)))))
+    (chosen Named (bytes_eq name (codes "asm")) Asm _ k (same_bytes name (codes "asm"))
+    (chosen Named (bytes_eq name (codes "rule")) Rule None k (same_bytes name (codes "rule"))
+    (λ found. absurd (nothing found))))))
 
 -- a table names one kind
 pub one_kind : (ms : Members) (k l : Kind) → HasText ms (codes "program") (kind_name k)
@@ -67,3 +69,9 @@ one_kind ms k l first second =
     let same : kind_name k ≡ kind_name l = cc in
     let named : Some k ≡ Some l = sym (kind_back k) ∙ (ap kind_named same ∙ kind_back l) in
     cc
+
+-- a table whose kind the version doesn't have names none that it has
+pub other_version : (ms : Members) (version : ℕ) (k l : Kind) → HasText ms (codes "program") (kind_name k)
+    → (HasKind version k → ⊥) → HasText ms (codes "program") (kind_name l) → HasKind version l → ⊥
+other_version ms version k l named without other has =
+    without (subst (HasKind version) (one_kind ms l k other named) has)

@@ -1,16 +1,18 @@
 -- A table of which a program is refused reads as no scenario.
-use Rattle.std.proofs.Common.{◌≡◌, ℕ, zero, suc, List, [], ◌∷◌, map, refl, sym, subst, inl, inr}
+use Rattle.std.proofs.Common.{◌≡◌, ℕ, zero, suc, List, [], ◌∷◌, map, refl, sym, subst, inl, inr, Global}
 use Rattle.std.specs.Prelude.{Option, Some, None, IfSome, IsSomeAnd, codes, option_map}
 use Rattle.toml.specs.Data.{Data, Items, no_items, item, array, string, integer, float, boolean, datetime, table, Members, get_member}
 use Rattle.bpf_insn.specs.declared.forms.Insn.{Insn}
-use Rattle.node_env.specs.Env.{Extent, IsExtent}
+use Rattle.node_env.specs.Env.{IsExtent}
 use Rattle.bpf_verify.specs.Accepted.{Accepted, IsFirstBroken}
 use Rattle.bpf_verify.specs.Typable.{Typable}
 use Rattle.bpf_verify.proofs.VerdictLaws.{broken_untypable}
-use Rattle.clock_nodes.specs.Rule.{Rule, IsRule}
+use Rattle.clock_nodes.specs.Rule.{IsRule}
 use Rattle.clock_nodes.specs.Listings.{clock_listing}
 use Rattle.clock_nodes.proofs.TakenClock.{clock_typable}
 use Rattle.scenario_text.specs.declared.refusal.Place.TheVariants as places
+use Rattle.scenario_text.specs.declared.scenario.ClockKey.{ClockKey}
+use Rattle.scenario_text.specs.declared.scenario.ClockKey.TheVariants as keys
 use Rattle.scenario_text.specs.declared.scenario.Frame.{Frame}
 use Rattle.scenario_text.specs.declared.scenario.Kind.{Kind}
 use Rattle.scenario_text.specs.declared.scenario.Kind.TheVariants.{Asm}
@@ -19,39 +21,47 @@ use Rattle.scenario_text.specs.declared.scenario.Scenario.{Scenario}
 use Rattle.scenario_text.specs.Broken.{BrokenLoad, BrokenText, StandsAt, item_at}
 use Rattle.scenario_text.specs.Drafts.{LoadDraft}
 use Rattle.scenario_text.specs.Laws.{RefusedReadsAsNone}
-use Rattle.scenario_text.specs.Spelling.{HasClock, HasFrame, IsProgramOf, MeansAt, SpelledLoad, rule_of}
+use Rattle.scenario_text.specs.Spelling.{HasClock, HasFrame, IsProgramOf, MeansAt, MeansClock, SpelledLoad, clock_key, rule_of}
 use Rattle.scenario_text.specs.Tables.{IsTable, MayBeArray, ReadsEach}
-use Rattle.scenario_text.specs.Views.{FitsLoad, Reads, draft_of, extent_of, frame_of, load_of}
-use Rattle.scenario_text.proofs.ClockLemmas.{none_meant, one_clock, one_meaning}
+use Rattle.scenario_text.specs.Views.{FitsFrame, FitsLoad, Reads, draft_of, extent_of, frame_of, load_of}
+use Rattle.scenario_text.proofs.ClockLemmas.{none_there, one_clock, one_meaning, one_text}
 use Rattle.scenario_text.proofs.EntryLemmas.{Each, each_of_all}
 use Rattle.scenario_text.proofs.FrameLemmas.{frame_extent, frame_rule, one_frame}
 use Rattle.scenario_text.proofs.NameLemmas.{one_kind}
 
 -- ---- the clock
 
-by_clock : (rule : Rule) (ms : Members) (shape : Extent) (o : Option Accepted) (p : List Insn) (slot : ℕ)
-    → IsRule rule.nodes rule.faults rule.modulus → IsExtent shape.nodes shape.memory → rule.nodes ≡ shape.nodes
-    → HasClock rule ms (option_map (λ v. v.program) o) → IfSome o (λ v. (v.shape ≡ shape) × Typable v.program shape)
-    → MeansAt (get_member (codes "clock") ms) p → IsFirstBroken p shape slot → ⊥
-by_clock rule ms shape None p slot ok is nodes has fits means broken =
-    let o = get_member (codes "clock") ms in
+by_text : (a : Global) (f : Frame) (ms : Members) (o : Option Accepted) (p : List Insn) (slot : ℕ)
+    → IsRule f.nodes f.faults f.modulus → IsExtent f.nodes f.memory
+    → HasClock f ms (option_map (λ v. v.program) o) → IfSome o (FitsFrame f) → MeansClock f (clock_key ms) ms p
+    → IsFirstBroken p (extent_of f) slot → ⊥
+by_text a f ms None p slot ok is has fits means broken =
     elim has [
-      | inl gone ↦ none_meant o p gone means
-      | inr listing ↦ broken_untypable p shape slot broken
-          (subst (λ (q : List Insn). Typable q shape) (one_meaning o (clock_listing rule) p listing means)
-          (clock_typable rule shape ok is nodes))
+      | inl gone ↦ none_there f (clock_key ms) ms p gone means
+      | inr listing ↦ broken_untypable p (extent_of f) slot broken
+          (subst (λ (q : List Insn). Typable q (extent_of f))
+          (one_text a f (clock_key ms) ms (clock_listing (rule_of f)) p listing means)
+          (clock_typable (rule_of f) (extent_of f) ok is refl))
     ]
-by_clock rule ms shape (Some v) p slot ok is nodes has fits means broken =
-    broken_untypable p shape slot broken (subst (λ (q : List Insn). Typable q shape)
-    (one_meaning (get_member (codes "clock") ms) v.program p has.0 means) fits.1)
+by_text a f ms (Some v) p slot ok is has fits means broken =
+    broken_untypable p (extent_of f) slot broken (subst (λ (q : List Insn). Typable q (extent_of f))
+    (one_text a f (clock_key ms) ms v.program p has.0 means) fits.1)
 
-clock_unread : (ms : Members) (s : Scenario) (slot : ℕ) (f : Frame) → HasFrame ms f
+by_clock : (a : Global) (f : Frame) (ms : Members) (o : Option Accepted) (p : List Insn) (slot : ℕ)
+    → IsRule f.nodes f.faults f.modulus → IsExtent f.nodes f.memory
+    → HasClock f ms (option_map (λ v. v.program) o) → IfSome o (FitsFrame f) → clock_key ms ≡ keys.Clock
+    → MeansAt (get_member (codes "clock") ms) p → IsFirstBroken p (extent_of f) slot → ⊥
+by_clock a f ms o p slot ok is has fits key means broken =
+    let mine : MeansClock f (clock_key ms) ms p = subst (λ (k : ClockKey). MeansClock f k ms p) (sym key) means in
+    by_text a f ms o p slot ok is has fits mine broken
+
+clock_unread : (ms : Members) (s : Scenario) (slot : ℕ) (f : Frame) → HasFrame ms f → clock_key ms ≡ keys.Clock
     → BrokenText ms (codes "clock") (extent_of f) slot → Reads ms s → ⊥
-clock_unread ms s slot f has broken reads =
+clock_unread ms s slot f has key broken reads =
     let g = frame_of s in
     let same = one_frame ms g f reads.spelled.frame has in
-    by_clock (rule_of g) ms (extent_of g) s.clock broken.program slot (frame_rule ms g reads.spelled.frame)
-    (frame_extent ms g reads.spelled.frame) refl reads.spelled.clock reads.clock broken.means
+    by_clock s.loads.alloc g ms s.clock broken.program slot (frame_rule ms g reads.spelled.frame)
+    (frame_extent ms g reads.spelled.frame) reads.spelled.clock reads.clock key broken.means
     (subst (λ (h : Frame). IsFirstBroken broken.program (extent_of h) slot) (sym same) broken.broken)
 
 -- ---- a load
@@ -105,15 +115,15 @@ by_loads f c (Some (datetime d)) ls index slot each fits stands = absurd stands
 by_loads f c (Some (table ms)) ls index slot each fits stands = absurd stands
 
 load_unread : (ms : Members) (s : Scenario) (index slot : ℕ) (f : Frame) (c : Option (List Insn)) → HasFrame ms f
-    → HasClock (rule_of f) ms c → StandsAt (IsTable (BrokenLoad f c)) (get_member (codes "load") ms) index slot
+    → HasClock f ms c → StandsAt (IsTable (BrokenLoad f c)) (get_member (codes "load") ms) index slot
     → Reads ms s → ⊥
 load_unread ms s index slot f c has clock stands reads =
     let g = frame_of s in
     let d = (draft_of s).clock in
     let o = get_member (codes "load") ms in
     let same = one_frame ms g f reads.spelled.frame has in
-    let mine = subst (λ (h : Frame). HasClock (rule_of h) ms d) same reads.spelled.clock in
-    let both = one_clock (rule_of f) ms d c mine clock in
+    let mine = subst (λ (h : Frame). HasClock h ms d) same reads.spelled.clock in
+    let both = one_clock s.loads.alloc f ms d c mine clock in
     let spelled = subst (λ (k : Option (List Insn)). MayBeArray (IsTable (SpelledLoad f k)) o
     (map load_of s.loads.items))
     both (subst (λ (h : Frame). MayBeArray (IsTable (SpelledLoad h d)) o (map load_of s.loads.items)) same
@@ -123,7 +133,7 @@ load_unread ms s index slot f c has clock stands reads =
     by_loads f c o s.loads.items index slot spelled fits stands
 
 pub refused_reads_as_none : RefusedReadsAsNone
-refused_reads_as_none ms places.Top slot s broken reads = clock_unread ms s slot broken.0 broken.1 broken.2 reads
+refused_reads_as_none ms places.Top slot s broken reads = clock_unread ms s slot broken.0 broken.1 broken.2 broken.3 reads
 refused_reads_as_none ms (places.Load index) slot s broken reads =
     load_unread ms s index slot broken.0 broken.1 broken.2 broken.3 broken.4 reads
 refused_reads_as_none ms (places.Unload index) slot s broken reads = absurd broken.4

@@ -6,7 +6,7 @@ use Rattle.toml.specs.Data.{Data, Members, get_member}
 use Rattle.scenario_text.specs.inner.Arrays.{HasArrays}
 use Rattle.scenario_text.specs.Drafts.{Draft}
 use Rattle.scenario_text.specs.Tables.{knows, IsTable, MayBeArray}
-use Rattle.scenario_text.specs.Spelling.{HasFrame, HasCoins, HasKey, HasClock, Spelled, SpelledLoad, SpelledUnload, SpelledCorrupt, SpelledCoin, SpellsNothing, has_clock_key, rule_of, top_keys}
+use Rattle.scenario_text.specs.Spelling.{HasFrame, HasCoins, HasKey, HasClock, Spelled, SpelledLoad, SpelledUnload, SpelledCorrupt, SpelledCoin, SpellsNothing, clock_key, top_keys}
 use Rattle.scenario_text.proofs.TableLemmas.{tables_read, entries_read, loads_read}
 
 -- a table that spells a scenario has its arrays
@@ -31,9 +31,9 @@ pub no_arrays : (ms : Members) → (HasArrays ms → ⊥) → SpellsNothing ms
 no_arrays ms none d spelled = none (spelled_arrays ms d spelled)
 
 -- what is read of all keys is spelled, where the arrays aren't too long
-pub spelled_whole : (ms : Members) (d : Draft) → knows (top_keys (has_clock_key ms)) ms ≡ true
+pub spelled_whole : (ms : Members) (d : Draft) → knows (top_keys (clock_key ms)) ms ≡ true
     → HasFrame ms d.frame → HasCoins ms d.coins
-    → HasKey ms d.coins d.key → HasClock (rule_of d.frame) ms d.clock
+    → HasKey ms d.coins d.key → HasClock d.frame ms d.clock
     → MayBeArray (IsTable (SpelledLoad d.frame d.clock)) (get_member (codes "load") ms) d.loads
     → MayBeArray (IsTable (SpelledUnload d.frame)) (get_member (codes "unload") ms) d.unloads
     → MayBeArray (IsTable (SpelledCorrupt d.frame)) (get_member (codes "corrupt") ms) d.corruptions

@@ -1,5 +1,5 @@
 -- Which program a refusal `NotAccepted` is of (docs/SCENARIOS.md, "Refusals").
-use Rattle.std.specs.Prelude.{ℕ, zero, suc, List, Option, Some, None, IsSomeAnd, codes}
+use Rattle.std.specs.Prelude.{◌≡◌, ℕ, zero, suc, List, Option, Some, None, IsSomeAnd, codes}
 use Rattle.toml.specs.Data.{Data, array, Items, no_items, item, Members, get_member}
 use Rattle.bpf_insn.specs.declared.forms.Insn.{Insn}
 use Rattle.node_env.specs.Env.{Extent}
@@ -8,9 +8,10 @@ use Rattle.scenario_text.specs.declared.refusal.Place.{Place}
 use Rattle.scenario_text.specs.declared.refusal.Place.TheVariants as places
 use Rattle.scenario_text.specs.declared.scenario.Frame.{Frame}
 use Rattle.scenario_text.specs.declared.scenario.Kind.TheVariants.{Asm}
+use Rattle.scenario_text.specs.declared.scenario.ClockKey.TheVariants as keys
 use Rattle.scenario_text.specs.Drafts.{LoadDraft}
 use Rattle.scenario_text.specs.Tables.{HasText, IsTable}
-use Rattle.scenario_text.specs.Spelling.{HasClock, HasFrame, MeansAt, SpelledLoad, kind_name, rule_of}
+use Rattle.scenario_text.specs.Spelling.{HasClock, HasFrame, MeansAt, SpelledLoad, clock_key, kind_name}
 use Rattle.scenario_text.specs.Views.{extent_of}
 
 -- the item at this place, from 0 on
@@ -45,7 +46,8 @@ BrokenIn f clock loads _ slot = ⊥
 -- the clock of the table, or a load of it
 abbrev pub BrokenAt : Members → Place → ℕ → Type 0
 BrokenAt members places.Top slot =
-    (f : Frame) × HasFrame members f × BrokenText members (codes "clock") (extent_of f) slot
+    (f : Frame) × HasFrame members f × (clock_key members ≡ keys.Clock)
+    × BrokenText members (codes "clock") (extent_of f) slot
 BrokenAt members place slot =
-    (f : Frame) × (clock : Option (List Insn)) × HasFrame members f × HasClock (rule_of f) members clock
+    (f : Frame) × (clock : Option (List Insn)) × HasFrame members f × HasClock f members clock
     × BrokenIn f clock (get_member (codes "load") members) place slot

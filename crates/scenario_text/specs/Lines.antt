@@ -4,6 +4,9 @@ use Rattle.std.specs.Fmt.{decimal}
 use Rattle.bpf_asm.specs.declared.text_error.TextError.{TextError}
 use Rattle.bpf_asm.specs.declared.text_error.TextError.TheVariants as text
 use Rattle.bpf_verify.specs.Rules.{rule_number}
+use Rattle.rule_text.specs.Programs.{error_name}
+use Rattle.rule_text.specs.declared.program.RuleRefusal.{RuleRefusal}
+use Rattle.rule_text.specs.declared.program.RuleRefusal.TheVariants as rules
 use Rattle.scenario_text.specs.declared.refusal.Place.{Place}
 use Rattle.scenario_text.specs.declared.refusal.Place.TheVariants as places
 use Rattle.scenario_text.specs.declared.refusal.ScenarioError.{ScenarioError}
@@ -33,6 +36,13 @@ text_fault (text.TooLong line) = codes "line " ++ (decimal line ++ codes " TooLo
 text_fault text.Empty = codes "line 0 Empty"
 text_fault text.Memory = codes "line 0 Memory"
 
+-- the place in a rule's text, from 1 on, and the first error there; or why the rule has no program
+abbrev pub rule_fault : RuleRefusal → List ℕ
+rule_fault (rules.Text error line column) = codes "line "
+    ++ (decimal line ++ (codes " column " ++ (decimal column ++ (codes " " ++ error_name error))))
+rule_fault rules.NoRoom = codes "NoRoom"
+rule_fault rules.TooLong = codes "TooLong"
+
 abbrev pub refusal_line : ScenarioError → List ℕ
 refusal_line errors.TooLong = codes "refused scenario TooLong"
 refusal_line errors.NotToml = codes "refused scenario NotToml"
@@ -44,6 +54,8 @@ refusal_line (errors.UnknownProgram load) = codes "refused scenario UnknownProgr
     ++ path_text (places.Load load) (codes "program")
 refusal_line (errors.BadText place key error) = codes "refused scenario BadText "
     ++ (path_text place key.now ++ (codes " " ++ text_fault error))
+refusal_line (errors.BadRule place key error) = codes "refused scenario BadRule "
+    ++ (path_text place key.now ++ (codes " " ++ rule_fault error))
 refusal_line (errors.NotAccepted place key slot rule) =
     codes "refused scenario NotAccepted " ++ (path_text place key.now ++ (codes " rule "
     ++ (decimal (rule_number rule) ++ (codes " slot " ++ decimal slot))))

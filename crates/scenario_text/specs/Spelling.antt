@@ -1,20 +1,24 @@
 -- How a table spells a scenario (docs/SCENARIOS.md, "Keys").
-use Rattle.std.specs.Prelude.{◌≡◌, ℕ, pos, negsuc, ◌+◌, ◌-◌, ◌%◌, ◌≤◌, ◌==◌, ◌++◌, ◌⊎◌, if◌then◌else◌, Bool, true, false, List, [], ◌∷◌, codes, length, Option, Some, None}
+use Rattle.std.specs.Prelude.{◌≡◌, ℕ, pos, negsuc, ◌+◌, ◌-◌, ◌%◌, ◌≤◌, ◌==◌, ◌++◌, ◌⊎◌, if◌then◌else◌, Bool, true, List, [], ◌∷◌, codes, length, Option, Some, None, is_some}
 use Rattle.toml.specs.Data.{Data, string, integer, Members, get_member}
 use Rattle.bpf_insn.specs.declared.forms.Insn.{Insn}
 use Rattle.bpf_asm.specs.Meaning.{Means}
 use Rattle.scenario_text.specs.declared.scenario.Coins.{Coins}
 use Rattle.scenario_text.specs.declared.scenario.Coins.TheVariants.{Zeros, Ones, Chacha}
 use Rattle.scenario_text.specs.declared.scenario.Kind.{Kind}
-use Rattle.scenario_text.specs.declared.scenario.Kind.TheVariants.{Clock, Say, Echo, Asm}
+use Rattle.scenario_text.specs.declared.scenario.Kind.TheVariants.{Clock, Say, Echo, Asm, Rule}
+use Rattle.scenario_text.specs.declared.scenario.ClockKey.{ClockKey}
+use Rattle.scenario_text.specs.declared.scenario.ClockKey.TheVariants as keys
 use Rattle.scenario_text.specs.declared.scenario.Unload.{Unload}
 use Rattle.scenario_text.specs.declared.scenario.CoinEntry.{CoinEntry}
 use Rattle.scenario_text.specs.Drafts.{LoadDraft, CorruptDraft, Draft}
-use Rattle.clock_nodes.specs.Rule.{Rule}
+use Rattle.clock_nodes.specs.Rule as clocks
 use Rattle.clock_nodes.specs.Listings.{clock_listing, say_listing, echo_listing}
 use Rattle.clock_nodes.specs.declared.rule.TheConstants.{LEAST_MODULUS, MOST_MODULUS}
+use Rattle.rule_nodes.specs.declared.syntax.Sizes.{Sizes}
+use Rattle.rule_text.specs.Programs.{IsProgramOfText}
 use Rattle.node_env.specs.declared.shape.TheConstants.{MAX_NODES, MAX_MEMORY, MEMORY_UNIT}
-use Rattle.scenario_text.specs.declared.limits.TheConstants.{FIRST_VERSION, LAST_VERSION, CLOCK_VERSION, FIRST_MAX_NODES, MAX_PULSES, MAX_KEY, MAX_SAID, MAX_CHANGES, MAX_COIN_ENTRIES}
+use Rattle.scenario_text.specs.declared.limits.TheConstants.{FIRST_VERSION, LAST_VERSION, CLOCK_VERSION, RULE_VERSION, FIRST_MAX_NODES, MAX_PULSES, MAX_KEY, MAX_SAID, MAX_CHANGES, MAX_COIN_ENTRIES}
 use Rattle.scenario_text.specs.Tables.{knows, IsNumber, HasNumber, HasText, IsArray, MayBeArray, IsTable}
 use Rattle.scenario_text.specs.declared.scenario.Frame.{Frame}
 
@@ -26,18 +30,26 @@ plain_top_keys =
     codes "version" ∷ codes "nodes" ∷ codes "faults" ∷ codes "modulus" ∷ codes "memory" ∷ codes "pulses"
     ∷ codes "coins" ∷ codes "key" ∷ codes "load" ∷ codes "unload" ∷ codes "corrupt" ∷ codes "coin" ∷ []
 
--- whether this is the version that has the key `clock`
-abbrev pub is_clock_version : Option Data → Bool
-is_clock_version (Some (integer (pos version))) = version == CLOCK_VERSION
-is_clock_version _ = false
+-- the key of a clock's text by the version, and by whether there is a key `clock`: none before CLOCK_VERSION, and from
+-- RULE_VERSION on `rule` in place of an absent `clock`
+abbrev pub key_of_version : ℕ → Bool → ClockKey
+key_of_version version with_clock =
+    if version == CLOCK_VERSION then keys.Clock
+    else if version == RULE_VERSION then (if with_clock then keys.Clock else keys.Rule)
+    else keys.Absent
 
-abbrev pub has_clock_key : Members → Bool
-has_clock_key members = is_clock_version (get_member (codes "version") members)
+abbrev pub key_by : Option Data → Bool → ClockKey
+key_by (Some (integer (pos version))) with_clock = key_of_version version with_clock
+key_by _ with_clock = keys.Absent
 
--- the top keys, where `clock` is one or isn't
-abbrev pub top_keys : Bool → List (List ℕ)
-top_keys true = plain_top_keys ++ codes "clock" ∷ []
-top_keys false = plain_top_keys
+abbrev pub clock_key : Members → ClockKey
+clock_key members = key_by (get_member (codes "version") members) (is_some (get_member (codes "clock") members))
+
+-- the top keys, with that of the clock's text
+abbrev pub top_keys : ClockKey → List (List ℕ)
+top_keys keys.Absent = plain_top_keys
+top_keys keys.Clock = plain_top_keys ++ codes "clock" ∷ []
+top_keys keys.Rule = plain_top_keys ++ codes "rule" ∷ []
 
 -- the version is FIRST_VERSION if the key is absent
 abbrev pub HasVersion : Members → ℕ → Type 0
@@ -79,6 +91,15 @@ kind_name Clock = codes "clock"
 kind_name Say = codes "say"
 kind_name Echo = codes "echo"
 kind_name Asm = codes "asm"
+kind_name Rule = codes "rule"
+
+-- rules came with RULE_VERSION
+abbrev pub HasKind : ℕ → Kind → Type 0
+HasKind version Clock = Unit {0}
+HasKind version Say = Unit {0}
+HasKind version Echo = Unit {0}
+HasKind version Asm = Unit {0}
+HasKind version Rule = RULE_VERSION ≤ version
 
 abbrev pub plain_load_keys : List (List ℕ)
 plain_load_keys = codes "pulse" ∷ codes "nodes" ∷ codes "program" ∷ []
@@ -87,7 +108,9 @@ plain_load_keys = codes "pulse" ∷ codes "nodes" ∷ codes "program" ∷ []
 abbrev pub load_keys : Kind → List (List ℕ)
 load_keys Say = plain_load_keys ++ codes "values" ∷ []
 load_keys Asm = plain_load_keys ++ codes "text" ∷ []
-load_keys _ = plain_load_keys
+load_keys Rule = plain_load_keys ++ codes "text" ∷ []
+load_keys Clock = plain_load_keys
+load_keys Echo = plain_load_keys
 
 -- a number to be sent, or -1 for nothing
 abbrev pub IsSaid : Data → Option ℕ → Type 0
@@ -99,16 +122,37 @@ abbrev pub MeansAt : Option Data → List Insn → Type 0
 MeansAt (Some (string text)) insns = Means text insns
 MeansAt _ insns = ⊥
 
+-- the numbers that a rule's program is compiled for
+abbrev pub sizes_in : Frame → Sizes
+sizes_in f = record { nodes = f.nodes; faults = f.faults; modulus = f.modulus; memory = f.memory }
+
+-- the text under the key is a rule, and these are the instructions of its program
+abbrev pub MeansRuleAt : Frame → Option Data → List Insn → Type 0
+MeansRuleAt f (Some (string text)) insns = IsProgramOfText (sizes_in f) text insns
+MeansRuleAt f _ insns = ⊥
+
 -- the rule of the scenario's clocks
-abbrev pub rule_of : Frame → Rule
+abbrev pub rule_of : Frame → clocks.Rule
 rule_of f = record { nodes = f.nodes; faults = f.faults; modulus = f.modulus }
 
--- a clock of one's own is what the text under `clock` means, if that isn't the rule's clock
-abbrev pub HasClock : Rule → Members → Option (List Insn) → Type 0
-HasClock rule members None =
-    (get_member (codes "clock") members ≡ None) ⊎ MeansAt (get_member (codes "clock") members) (clock_listing rule)
-HasClock rule members (Some insns) =
-    MeansAt (get_member (codes "clock") members) insns × (insns ≡ clock_listing rule → ⊥)
+-- what the text of the clock means, under the key that there is for it
+abbrev pub MeansClock : Frame → ClockKey → Members → List Insn → Type 0
+MeansClock f keys.Absent _ insns = ⊥
+MeansClock f keys.Clock members insns = MeansAt (get_member (codes "clock") members) insns
+MeansClock f keys.Rule members insns = MeansRuleAt f (get_member (codes "rule") members) insns
+
+-- nothing is under the key of the clock's text
+abbrev pub HasNoText : ClockKey → Members → Type 0
+HasNoText keys.Absent _ = Unit {0}
+HasNoText keys.Clock members = get_member (codes "clock") members ≡ None
+HasNoText keys.Rule members = get_member (codes "rule") members ≡ None
+
+-- a clock of one's own is what its text means, if that isn't the rule's clock
+abbrev pub HasClock : Frame → Members → Option (List Insn) → Type 0
+HasClock f members None =
+    HasNoText (clock_key members) members ⊎ MeansClock f (clock_key members) members (clock_listing (rule_of f))
+HasClock f members (Some insns) =
+    MeansClock f (clock_key members) members insns × (insns ≡ clock_listing (rule_of f) → ⊥)
 
 -- the clock of a scenario: its own, or otherwise that of its rule
 abbrev pub clock_insns : Frame → Option (List Insn) → List Insn
@@ -123,11 +167,13 @@ IsProgramOf f clock Say load insns =
     × (insns ≡ say_listing values)
 IsProgramOf f clock Echo load insns = insns ≡ echo_listing f.nodes
 IsProgramOf f clock Asm load insns = MeansAt (get_member (codes "text") load) insns
+IsProgramOf f clock Rule load insns = MeansRuleAt f (get_member (codes "text") load) insns
 
 pub record SpelledLoad (f : Frame) (clock : Option (List Insn)) (members : Members) (load : LoadDraft) : Type 0 where
   pub pulse : HasNumber members (codes "pulse") 1 f.pulses load.pulse
   pub nodes : IsArray (IsNumber 0 (f.nodes - 1)) (get_member (codes "nodes") members) load.nodes
   pub named : HasText members (codes "program") (kind_name load.kind)
+  pub kind : HasKind f.version load.kind
   pub known : knows (load_keys load.kind) members ≡ true
   pub program : IsProgramOf f clock load.kind members load.program
 
@@ -168,11 +214,11 @@ load_count [] = 0
 load_count (load ∷ loads) = length load.nodes + load_count loads
 
 pub record Spelled (members : Members) (d : Draft) : Type 0 where
-  pub known : knows (top_keys (has_clock_key members)) members ≡ true
+  pub known : knows (top_keys (clock_key members)) members ≡ true
   pub frame : HasFrame members d.frame
   pub coins : HasCoins members d.coins
   pub key : HasKey members d.coins d.key
-  pub clock : HasClock (rule_of d.frame) members d.clock
+  pub clock : HasClock d.frame members d.clock
   pub loads : MayBeArray (IsTable (SpelledLoad d.frame d.clock)) (get_member (codes "load") members) d.loads
   pub unloads : MayBeArray (IsTable (SpelledUnload d.frame)) (get_member (codes "unload") members) d.unloads
   pub corruptions : MayBeArray (IsTable (SpelledCorrupt d.frame)) (get_member (codes "corrupt") members) d.corruptions

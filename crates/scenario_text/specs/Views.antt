@@ -1,9 +1,10 @@
 -- What a scenario is as plain data, and when a table reads as it.
-use Rattle.std.specs.Prelude.{◌≡◌, map, All, IfSome, option_map}
+use Rattle.std.specs.Prelude.{◌≡◌, ℕ, Bool, nat_le, map, All, IfSome, option_map}
 use Rattle.toml.specs.Data.{Members}
 use Rattle.node_env.specs.Env.{Extent}
 use Rattle.bpf_verify.specs.Accepted.{Accepted}
 use Rattle.bpf_verify.specs.Typable.{Typable}
+use Rattle.scenario_text.specs.declared.limits.TheConstants.{CLOCK_VERSION}
 use Rattle.scenario_text.specs.declared.scenario.Scenario.{Scenario}
 use Rattle.scenario_text.specs.declared.scenario.Load.{Load}
 use Rattle.scenario_text.specs.declared.scenario.Corrupt.{Corrupt}
@@ -38,6 +39,10 @@ draft_of s = record {
   corruptions = map corrupt_of s.corruptions.items;
   entries = s.entries.items;
 }
+
+-- the report judges whether clocks count, and says whose clock it is
+abbrev pub is_judged : ℕ → Bool
+is_judged version = nat_le CLOCK_VERSION version
 
 abbrev pub extent_of : Frame → Extent
 extent_of f = record { nodes = f.nodes; memory = f.memory }

@@ -22,7 +22,7 @@ mod whole;
 
 pub use limits::{
     CLOCK_VERSION, FIRST_MAX_NODES, FIRST_VERSION, LAST_VERSION, MAX_CHANGES, MAX_COIN_ENTRIES,
-    MAX_KEY, MAX_PULSES, MAX_SAID, MAX_TEXT,
+    MAX_KEY, MAX_PULSES, MAX_SAID, MAX_TEXT, RULE_VERSION,
 };
 pub use line::RefusalLine;
 pub use refusal::{Place, ScenarioError};

@@ -4,10 +4,13 @@
 pub const FIRST_VERSION: u64 = 1;
 
 /// The greatest version.
-pub const LAST_VERSION: u64 = 3;
+pub const LAST_VERSION: u64 = 4;
 
-/// The version in which a scenario may have a clock of its own, and in which its report judges more.
+/// The first version in which a scenario may have a clock of its own, and in which its report judges more.
 pub const CLOCK_VERSION: u64 = 3;
+
+/// The first version in which a clock, or the program of a load, may be a rule.
+pub const RULE_VERSION: u64 = 4;
 
 /// The most nodes of a scenario of the first version.
 pub const FIRST_MAX_NODES: u64 = 32;

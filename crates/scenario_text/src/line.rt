@@ -1,9 +1,10 @@
 //! The line of a refusal.
 ghost use Rattle.std.specs.Prelude.{◌≡◌, Some, string_bytes};
-ghost use Rattle.scenario_text.specs.Lines.{path_text, place_text, refusal_line, text_fault};
+ghost use Rattle.scenario_text.specs.Lines.{path_text, place_text, refusal_line, rule_fault, text_fault};
 
 use crate::refusal::{Place, ScenarioError};
 use bpf_asm::TextError;
+use rule_text::RuleRefusal;
 use std::fmt;
 
 #[derive(Clone, Copy)]
@@ -58,6 +59,28 @@ impl fmt::Display for TextFault {
     }
 }
 
+#[derive(Clone, Copy)]
+struct RuleFault(RuleRefusal);
+
+impl fmt::Display for RuleFault {
+    ghost output = { λ fault. Some (rule_fault fault.0) };
+
+    fn fmt<W: fmt::Write>(&self, f: &mut fmt::Formatter<W>) -> fmt::Result {
+        match self.0 {
+            RuleRefusal::Text {
+                error,
+                line,
+                column,
+            } => {
+                let name = error.name();
+                write!(f, "line {line} column {column} {name}")
+            }
+            RuleRefusal::NoRoom => write!(f, "NoRoom"),
+            RuleRefusal::TooLong => write!(f, "TooLong"),
+        }
+    }
+}
+
 /// The line of a refusal, without its end.
 #[derive(Clone, Copy)]
 pub struct RefusalLine<'a>(pub &'a ScenarioError);
@@ -88,6 +111,10 @@ impl fmt::Display for RefusalLine<'_> {
             ScenarioError::BadText { place, key, error } => {
                 let path = Path(*place, key);
                 write!(f, "refused scenario BadText {path} {}", TextFault(*error))
+            }
+            ScenarioError::BadRule { place, key, error } => {
+                let path = Path(*place, key);
+                write!(f, "refused scenario BadRule {path} {}", RuleFault(*error))
             }
             ScenarioError::NotAccepted {
                 place,

@@ -1,10 +1,10 @@
 //! The entries `[[load]]`.
-ghost use Rattle.std.specs.Prelude.{◌≡◌, ℕ, List, Option, IfOk, IfErr, MatchResult, length, codes};
+ghost use Rattle.std.specs.Prelude.{◌≡◌, ◌↔◌, ℕ, List, Option, IfOk, IfErr, IsTrue, MatchResult, length, codes};
 ghost use Rattle.toml.specs.Data.{get_member};
 ghost use Rattle.toml.specs.View.{table_view};
 ghost use Rattle.bpf_insn.specs.declared.forms.Insn.{Insn};
 ghost use Rattle.scenario_text.specs.declared.scenario.Kind.{Kind as KindValue};
-ghost use Rattle.scenario_text.specs.declared.scenario.Kind.TheVariants.{Asm, Say};
+ghost use Rattle.scenario_text.specs.declared.scenario.Kind.TheVariants.{Asm, Rule, Say};
 ghost use Rattle.scenario_text.specs.Drafts.{LoadDraft};
 ghost use Rattle.scenario_text.specs.declared.refusal.Place.TheVariants.{Load as LoadAt};
 ghost use Rattle.scenario_text.specs.Broken.{BrokenLoad, BrokenText};
@@ -12,12 +12,13 @@ ghost use Rattle.scenario_text.specs.Faults.{Excludes, Refuses};
 ghost use Rattle.scenario_text.specs.inner.Faults.{IsOfSpelling};
 ghost use Rattle.scenario_text.specs.inner.Setups.{IsSetup, own_clock};
 ghost use Rattle.scenario_text.specs.Tables.{knows, HasText, IsArray};
-ghost use Rattle.scenario_text.specs.Spelling.{load_keys, kind_name, IsSaid, IsProgramOf, MeansAt, SpelledLoad};
+ghost use Rattle.scenario_text.specs.Spelling.{load_keys, kind_name, HasKind, IsSaid, IsProgramOf, MeansAt, SpelledLoad};
 ghost use Rattle.scenario_text.specs.Views.{load_of, extent_of, FitsFrame, FitsLoad};
 
 use crate::entries::Entry;
+use crate::limits::RULE_VERSION;
 use crate::numbers::{Said, UpTo, integers_at, items_of};
-use crate::programs::{accepted, program_in, say_program};
+use crate::programs::{accepted, program_in, rule_in, say_program};
 use crate::refusal::{Place, ScenarioError};
 use crate::scenario::{Kind, Load};
 use crate::setup::Setup;
@@ -33,13 +34,23 @@ fn knows_load_keys(kind: Kind, table: &Table) -> bool
     match kind {
         Kind::Clock | Kind::Echo => knows_keys(table, &["pulse", "nodes", "program"]),
         Kind::Say => knows_keys(table, &["pulse", "nodes", "program", "values"]),
-        Kind::Asm => knows_keys(table, &["pulse", "nodes", "program", "text"]),
+        Kind::Asm | Kind::Rule => knows_keys(table, &["pulse", "nodes", "program", "text"]),
+    }
+}
+
+/// Whether the version has the kind.
+fn has_kind(version: u32, kind: Kind) -> bool
+    ensures { IsTrue result ↔ HasKind version kind }
+{
+    match kind {
+        Kind::Clock | Kind::Say | Kind::Echo | Kind::Asm => true,
+        Kind::Rule => version as u64 >= RULE_VERSION,
     }
 }
 
 /// The kind that a load's table names.
 #[tactic(auto, using(crate::proofs::NameLemmas::kind_by_name, crate::proofs::NameLemmas::no_kind))]
-fn kind_at(table: &Table, index: usize) -> Result<Kind, ScenarioError>
+fn named_kind(table: &Table, index: usize) -> Result<Kind, ScenarioError>
     ensures fault { IfErr result IsOfSpelling }
     ensures kind { MatchResult result (λ kind. HasText (table_view table.now) (codes "program") (kind_name kind))
         (λ _. (kind : KindValue) → HasText (table_view table.now) (codes "program") (kind_name kind) → ⊥) }
@@ -55,6 +66,23 @@ fn kind_at(table: &Table, index: usize) -> Result<Kind, ScenarioError>
     match kind_named(name) {
         Some(kind) => Ok(kind),
         None => Err(ScenarioError::UnknownProgram { load: index }),
+    }
+}
+
+/// The same, if the version has it.
+#[tactic(auto, using(crate::proofs::NameLemmas::other_version))]
+fn kind_at(table: &Table, version: u32, index: usize) -> Result<Kind, ScenarioError>
+    ensures fault { IfErr result IsOfSpelling }
+    ensures named { IfOk result (λ kind. HasText (table_view table.now) (codes "program") (kind_name kind)) }
+    ensures kind { IfOk result (HasKind version) }
+    ensures none { IfErr result (λ _. (kind : KindValue) →
+        HasText (table_view table.now) (codes "program") (kind_name kind) → HasKind version kind → ⊥) }
+{
+    let kind = named_kind(table, index)?;
+    if has_kind(version, kind) {
+        Ok(kind)
+    } else {
+        Err(ScenarioError::UnknownProgram { load: index })
     }
 }
 
@@ -111,6 +139,30 @@ fn text_program(
     accepted(alloc, &program, setup.shape, place, "text")
 }
 
+/// The program of the rule of a load.
+fn rule_program(
+    alloc: Global,
+    setup: &Setup,
+    table: &Table,
+    index: usize,
+) -> Result<VerifiedProgram, ScenarioError>
+    requires { IsSetup setup.now }
+    ensures program { IfOk result (λ v.
+        IsProgramOf setup.now.frame (own_clock setup.now) Rule (table_view table.now) v.program) }
+    ensures fits { IfOk result (FitsFrame setup.now.frame) }
+    ensures refused { IfErr result (λ e. Excludes e ((insns : List Insn) →
+        IsProgramOf setup.now.frame (own_clock setup.now) Rule (table_view table.now) insns → ⊥)) }
+{
+    rule_in(
+        alloc,
+        table,
+        setup.frame,
+        setup.shape,
+        Place::Load(index),
+        "text",
+    )
+}
+
 /// The program of a load that says values.
 fn said_program(
     alloc: Global,
@@ -151,6 +203,7 @@ fn program_of(
         Kind::Say => said_program(alloc, setup, table, index),
         Kind::Echo => shared(&setup.echo),
         Kind::Asm => text_program(alloc, setup, table, index),
+        Kind::Rule => rule_program(alloc, setup, table, index),
     }
 }
 
@@ -180,7 +233,7 @@ impl Entry for Load {
         let pulse = number_at(table, place, "pulse", 1, frame.pulses as u64)?;
         let array = integers_at(table, place, "nodes")?;
         let nodes = items_of(alloc, &UpTo(frame.nodes - 1), array, place, "nodes")?;
-        let kind = kind_at(table, index)?;
+        let kind = kind_at(table, frame.version, index)?;
         if !knows_load_keys(kind, table) {
             return Err(ScenarioError::UnknownKey { place });
         }

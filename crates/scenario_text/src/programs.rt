@@ -9,15 +9,18 @@ ghost use Rattle.clock_nodes.specs.Rule.{IsRule};
 ghost use Rattle.node_env.specs.Env.{IsExtent};
 ghost use Rattle.bpf_verify.specs.Accepted.{IsFirstBroken};
 ghost use Rattle.scenario_text.specs.Faults.{Excludes, Refuses};
-ghost use Rattle.scenario_text.specs.Spelling.{MeansAt};
+ghost use Rattle.scenario_text.specs.Spelling.{MeansAt, MeansRuleAt};
+ghost use Rattle.scenario_text.specs.Views.{extent_of};
 
 use crate::refusal::{Place, ScenarioError};
+use crate::scenario::Frame;
 use crate::table::value_at;
 use bpf_asm::{TextError, assemble};
 use bpf_insn::Program;
 use bpf_verify::{VerifiedProgram, VerifyError, verify};
 use clock_nodes::{ClockRule, dolev_welch, echo, say};
 use node_env::Shape;
+use rule_text::program_of_text;
 use std::alloc::{AllocError, Global};
 use toml::Table;
 
@@ -42,6 +45,38 @@ pub(crate) fn program_in(
         Ok(program) => Ok(program),
         Err(TextError::Memory) => Err(ScenarioError::Memory(AllocError)),
         Err(error) => Err(ScenarioError::BadText { place, key, error }),
+    }
+}
+
+/// The program of the rule that the text under a key is.
+pub(crate) fn rule_in(
+    alloc: Global,
+    table: &Table,
+    frame: Frame,
+    shape: Shape,
+    place: Place,
+    key: &'static str,
+) -> Result<VerifiedProgram, ScenarioError>
+    requires { shape ≡ extent_of frame }
+    ensures program { IfOk result (λ v.
+        MeansRuleAt frame (get_member key.entry.now (table_view table.now)) v.program) }
+    ensures fits { IfOk result (λ v. (v.shape ≡ shape) × Typable v.program shape) }
+    ensures refused { IfErr result (λ e. Excludes e ((insns : List Insn) →
+        MeansRuleAt frame (get_member key.entry.now (table_view table.now)) insns → ⊥)) }
+{
+    let Some(value) = value_at(table, key) else {
+        return Err(ScenarioError::MissingKey { place, key });
+    };
+    let Some(text) = value.as_str() else {
+        return Err(ScenarioError::WrongKind { place, key });
+    };
+    let Ok(made) = program_of_text(alloc, text.as_bytes(), shape, frame.faults, frame.modulus)
+    else {
+        return Err(ScenarioError::Memory(AllocError));
+    };
+    match made {
+        Ok(program) => taken(alloc, &program, shape).map_err(ScenarioError::Memory),
+        Err(error) => Err(ScenarioError::BadRule { place, key, error }),
     }
 }
 

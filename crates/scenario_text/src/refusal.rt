@@ -1,6 +1,7 @@
 //! Why a text or a table is no scenario.
 use bpf_asm::TextError;
 use bpf_verify::Rule;
+use rule_text::RuleRefusal;
 use std::alloc::AllocError;
 use thiserror::Error;
 
@@ -50,6 +51,12 @@ pub enum ScenarioError {
         place: Place,
         key: &'static str,
         error: TextError,
+    },
+    #[error("the rule {key} in {place:?} is refused")]
+    BadRule {
+        place: Place,
+        key: &'static str,
+        error: RuleRefusal,
     },
     /// `key` is that of the text, or of the name of a listing.
     #[error("{key} in {place:?} is not accepted")]

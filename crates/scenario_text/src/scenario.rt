@@ -1,4 +1,8 @@
 //! A scenario.
+ghost use Rattle.std.specs.Prelude.{◌≡◌};
+ghost use Rattle.scenario_text.specs.Views.{is_judged};
+
+use crate::limits::CLOCK_VERSION;
 use bpf_verify::VerifiedProgram;
 
 /// What the coins are before entries replace some: all 0, all 1, or drawn by the key.
@@ -9,13 +13,22 @@ pub enum Coins {
     Chacha,
 }
 
-/// What a load's program is made of: a listing (docs/CLOCK.md, "The programs"), or a text.
+/// What a load's program is made of: a listing (docs/CLOCK.md, "The programs"), or a text of the assembler or of a rule.
 #[derive(Clone, Copy, Debug, PartialEq, Eq)]
 pub enum Kind {
     Clock,
     Say,
     Echo,
     Asm,
+    Rule,
+}
+
+/// The key that holds the text of a scenario's clock, if its version and its other keys leave room for one.
+#[derive(Clone, Copy, Debug, PartialEq, Eq)]
+pub enum ClockKey {
+    Absent,
+    Clock,
+    Rule,
 }
 
 /// The numbers of the top keys, on which the ranges of the entries rest.
@@ -78,4 +91,13 @@ pub struct Scenario {
     pub unloads: Vec<Unload>,
     pub corruptions: Vec<Corrupt>,
     pub entries: Vec<CoinEntry>,
+}
+
+impl Scenario {
+    /// Returns true if the report judges whether clocks count, and says whose clock it is.
+    pub fn is_judged(&self) -> bool
+        ensures { result ≡ is_judged self.now.version }
+    {
+        self.version as u64 >= CLOCK_VERSION
+    }
 }

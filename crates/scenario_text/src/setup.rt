@@ -1,20 +1,22 @@
 //! The frame of a scenario, with what is made of its numbers, and its programs.
-ghost use Rattle.std.specs.Prelude.{◌≡◌, List, Option, IfErr, IfOk, IfSome, codes, option_map};
+ghost use Rattle.std.specs.Prelude.{◌≡◌, List, None, Option, IfErr, IfOk, IfSome, MatchOption, codes, option_map};
 ghost use Rattle.bpf_insn.specs.declared.forms.Insn.{Insn};
 ghost use Rattle.bpf_verify.specs.Typable.{Typable};
 ghost use Rattle.clock_nodes.specs.Rule.{IsRule};
 ghost use Rattle.node_env.specs.Env.{IsExtent};
+ghost use Rattle.toml.specs.Data.{get_member};
 ghost use Rattle.toml.specs.View.{table_view};
 ghost use Rattle.scenario_text.specs.declared.refusal.Place.TheVariants.{Top};
 ghost use Rattle.scenario_text.specs.Broken.{BrokenText};
-ghost use Rattle.scenario_text.specs.Faults.{Refuses};
+ghost use Rattle.scenario_text.specs.Faults.{Excludes, Refuses};
 ghost use Rattle.scenario_text.specs.inner.Setups.{IsSetup, own_clock};
-ghost use Rattle.scenario_text.specs.Spelling.{HasClock, clock_insns, rule_of};
+ghost use Rattle.scenario_text.specs.declared.scenario.ClockKey.TheVariants.{Clock as ClockText};
+ghost use Rattle.scenario_text.specs.Spelling.{HasClock, HasNoText, MeansAt, MeansClock, MeansRuleAt, clock_insns, clock_key, rule_of};
 ghost use Rattle.scenario_text.specs.Views.{FitsFrame, extent_of};
 
-use crate::programs::{accepted, echo_program, program_in, rule_clock};
+use crate::programs::{accepted, echo_program, program_in, rule_clock, rule_in};
 use crate::refusal::{Place, ScenarioError};
-use crate::scenario::Frame;
+use crate::scenario::{ClockKey, Frame};
 use crate::table::value_at;
 use bpf_verify::VerifiedProgram;
 use clock_nodes::{ClockRule, dolev_welch};
@@ -33,35 +35,105 @@ pub(crate) struct Setup {
     pub(crate) echo: VerifiedProgram,
 }
 
-/// The clock of one's own, if there is one: another than the rule's.
-#[tactic(auto, using(crate::proofs::ClockLemmas::no_clock))]
-fn clock_at(
+/// What the assembler text of the clock means, if it is there.
+fn text_clock(
     alloc: Global,
     table: &Table,
     shape: Shape,
-    rule: ClockRule,
 ) -> Result<Option<VerifiedProgram>, ScenarioError>
-    requires nodes { rule.nodes ≡ shape.nodes }
-    ensures clock { IfOk result (λ clock.
-        HasClock rule (table_view table.now) (option_map (λ v. v.program) clock)) }
-    ensures accepted { IfOk result (λ clock.
-        IfSome clock (λ v. (v.shape ≡ shape) × Typable v.program shape)) }
-    ensures refused { IfErr result (λ e. Refuses e ((clock : Option (List Insn)) →
-        HasClock rule (table_view table.now) clock → ⊥)
+    ensures clock { IfOk result (λ clock. MatchOption clock (get_member (codes "clock") (table_view table.now) ≡ None)
+        (λ v. MeansAt (get_member (codes "clock") (table_view table.now)) v.program)) }
+    ensures fits { IfOk result (λ clock. IfSome clock (λ v. (v.shape ≡ shape) × Typable v.program shape)) }
+    ensures refused { IfErr result (λ e. Refuses e
+        ((get_member (codes "clock") (table_view table.now) ≡ None → ⊥)
+        × ((insns : List Insn) → MeansAt (get_member (codes "clock") (table_view table.now)) insns → ⊥))
         (λ p slot. (p ≡ Top) × BrokenText (table_view table.now) (codes "clock") shape slot)) }
 {
     if value_at(table, "clock").is_none() {
         return Ok(None);
     }
     let program = program_in(alloc, table, Place::Top, "clock")?;
-    let verified = accepted(alloc, &program, shape, Place::Top, "clock")?;
+    let clock = accepted(alloc, &program, shape, Place::Top, "clock")?;
+    Ok(Some(clock))
+}
+
+/// The program of the rule of the clock, if its text is there.
+fn ruled_clock(
+    alloc: Global,
+    table: &Table,
+    frame: Frame,
+    shape: Shape,
+) -> Result<Option<VerifiedProgram>, ScenarioError>
+    requires { shape ≡ extent_of frame }
+    ensures clock { IfOk result (λ clock. MatchOption clock (get_member (codes "rule") (table_view table.now) ≡ None)
+        (λ v. MeansRuleAt frame (get_member (codes "rule") (table_view table.now)) v.program)) }
+    ensures fits { IfOk result (λ clock. IfSome clock (λ v. (v.shape ≡ shape) × Typable v.program shape)) }
+    ensures refused { IfErr result (λ e. Excludes e
+        ((get_member (codes "rule") (table_view table.now) ≡ None → ⊥)
+        × ((insns : List Insn) → MeansRuleAt frame (get_member (codes "rule") (table_view table.now)) insns → ⊥))) }
+{
+    if value_at(table, "rule").is_none() {
+        return Ok(None);
+    }
+    let clock = rule_in(alloc, table, frame, shape, Place::Top, "rule")?;
+    Ok(Some(clock))
+}
+
+/// What the clock's text means, if it is there.
+fn clock_in(
+    alloc: Global,
+    table: &Table,
+    key: ClockKey,
+    frame: Frame,
+    shape: Shape,
+) -> Result<Option<VerifiedProgram>, ScenarioError>
+    requires { shape ≡ extent_of frame }
+    ensures clock { IfOk result (λ clock. MatchOption clock (HasNoText key (table_view table.now))
+        (λ v. MeansClock frame key (table_view table.now) v.program)) }
+    ensures fits { IfOk result (λ clock. IfSome clock (λ v. (v.shape ≡ shape) × Typable v.program shape)) }
+    ensures refused { IfErr result (λ e. Refuses e
+        ((HasNoText key (table_view table.now) → ⊥)
+        × ((insns : List Insn) → MeansClock frame key (table_view table.now) insns → ⊥))
+        (λ p slot. (p ≡ Top) × (key ≡ ClockText)
+        × BrokenText (table_view table.now) (codes "clock") shape slot)) }
+{
+    match key {
+        ClockKey::Absent => Ok(None),
+        ClockKey::Clock => text_clock(alloc, table, shape),
+        ClockKey::Rule => ruled_clock(alloc, table, frame, shape),
+    }
+}
+
+/// The clock of one's own, if there is one: another than the rule's.
+fn clock_at(
+    alloc: Global,
+    table: &Table,
+    key: ClockKey,
+    frame: Frame,
+    shape: Shape,
+    rule: ClockRule,
+) -> Result<Option<VerifiedProgram>, ScenarioError>
+    requires key { key ≡ clock_key (table_view table.now) }
+    requires shape_is { shape ≡ extent_of frame }
+    requires rule_is { rule ≡ rule_of frame }
+    ensures clock { IfOk result (λ clock.
+        HasClock frame (table_view table.now) (option_map (λ v. v.program) clock)) }
+    ensures fits { IfOk result (λ clock. IfSome clock (λ v. (v.shape ≡ shape) × Typable v.program shape)) }
+    ensures refused { IfErr result (λ e. Refuses e ((clock : Option (List Insn)) →
+        HasClock frame (table_view table.now) clock → ⊥)
+        (λ p slot. (p ≡ Top) × (key ≡ ClockText)
+        × BrokenText (table_view table.now) (codes "clock") shape slot)) }
+{
+    let Some(own) = clock_in(alloc, table, key, frame, shape)? else {
+        return Ok(None);
+    };
     let Ok(listing) = dolev_welch(alloc, shape, rule) else {
         return Err(ScenarioError::Memory(AllocError));
     };
-    if program.same(&listing) {
+    if own.program().same(&listing) {
         Ok(None)
     } else {
-        Ok(Some(verified))
+        Ok(Some(own))
     }
 }
 
@@ -88,16 +160,23 @@ fn clock_of(
 }
 
 /// What the numbers make, and the clock.
-pub(crate) fn setup_at(alloc: Global, table: &Table, frame: Frame) -> Result<Setup, ScenarioError>
+pub(crate) fn setup_at(
+    alloc: Global,
+    table: &Table,
+    key: ClockKey,
+    frame: Frame,
+) -> Result<Setup, ScenarioError>
+    requires key { key ≡ clock_key (table_view table.now) }
     requires extent { IsExtent frame.nodes frame.memory }
     requires rule { IsRule frame.nodes frame.faults frame.modulus }
     ensures frame { IfOk result (λ s. s.frame ≡ frame) }
     ensures setup { IfOk result IsSetup }
-    ensures clock { IfOk result (λ s. HasClock (rule_of s.frame) (table_view table.now) (own_clock s)) }
+    ensures clock { IfOk result (λ s. HasClock s.frame (table_view table.now) (own_clock s)) }
     ensures fits { IfOk result (λ s. IfSome s.own (FitsFrame s.frame)) }
     ensures refused { IfErr result (λ e. Refuses e ((clock : Option (List Insn)) →
-        HasClock (rule_of frame) (table_view table.now) clock → ⊥)
-        (λ p slot. (p ≡ Top) × BrokenText (table_view table.now) (codes "clock") (extent_of frame) slot)) }
+        HasClock frame (table_view table.now) clock → ⊥)
+        (λ p slot. (p ≡ Top) × (key ≡ ClockText)
+        × BrokenText (table_view table.now) (codes "clock") (extent_of frame) slot)) }
 {
     let Some(shape) = Shape::of(frame.nodes, frame.memory) else {
         unreachable!()
@@ -105,7 +184,7 @@ pub(crate) fn setup_at(alloc: Global, table: &Table, frame: Frame) -> Result<Set
     let Some(rule) = ClockRule::of(frame.nodes, frame.faults, frame.modulus) else {
         unreachable!()
     };
-    let own = clock_at(alloc, table, shape, rule)?;
+    let own = clock_at(alloc, table, key, frame, shape, rule)?;
     let Ok(clock) = clock_of(alloc, &own, frame, shape, rule) else {
         return Err(ScenarioError::Memory(AllocError));
     };

@@ -54,6 +54,8 @@ pub(crate) fn kind_named(name: &str) -> Option<Kind>
         Some(Kind::Echo)
     } else if name == "asm" {
         Some(Kind::Asm)
+    } else if name == "rule" {
+        Some(Kind::Rule)
     } else {
         None
     }

@@ -3,63 +3,81 @@ ghost use Rattle.std.specs.Prelude.{◌≡◌, IfOk, IfErr};
 ghost use Rattle.toml.specs.View.{table_view};
 ghost use Rattle.scenario_text.specs.Broken.{BrokenAt};
 ghost use Rattle.scenario_text.specs.Faults.{Refuses};
-ghost use Rattle.scenario_text.specs.Spelling.{SpellsNothing, has_clock_key, top_keys};
+ghost use Rattle.scenario_text.specs.Spelling.{SpellsNothing, clock_key, key_of_version, top_keys};
 ghost use Rattle.scenario_text.specs.Tables.{knows};
 ghost use Rattle.scenario_text.specs.Views.{Reads};
 
 use crate::arrays::arrays_at;
 use crate::entries::entries_of;
-use crate::limits::CLOCK_VERSION;
+use crate::limits::{CLOCK_VERSION, RULE_VERSION};
 use crate::refusal::{Place, ScenarioError};
-use crate::scenario::Scenario;
+use crate::scenario::{ClockKey, Scenario};
 use crate::setup::{Setup, setup_at};
 use crate::table::{knows_keys, value_at};
 use crate::top::{coins_at, frame_at, key_at};
 use std::alloc::Global;
 use toml::Table;
 
-/// Whether the key `clock` is known: the version is the one that has it.
-fn has_clock_key(table: &Table) -> bool
-    ensures { result ≡ has_clock_key (table_view table.now) }
+/// The key of a clock's text in a version, where there is a key `clock` or isn't.
+fn key_of_version(version: u64, with_clock: bool) -> ClockKey
+    ensures { result ≡ key_of_version version with_clock }
 {
-    let Some(value) = value_at(table, "version") else {
-        return false;
-    };
-    let Some(version) = value.as_integer() else {
-        return false;
-    };
-    match u64::try_from(version) {
-        Ok(version) => version == CLOCK_VERSION,
-        Err(_) => false,
+    if version == CLOCK_VERSION {
+        ClockKey::Clock
+    } else if version == RULE_VERSION {
+        if with_clock {
+            ClockKey::Clock
+        } else {
+            ClockKey::Rule
+        }
+    } else {
+        ClockKey::Absent
     }
 }
 
-fn has_top_keys(table: &Table, with_clock: bool) -> bool
-    ensures { result ≡ knows (top_keys with_clock) (table_view table.now) }
+/// The key of the clock's text.
+fn clock_key(table: &Table) -> ClockKey
+    ensures { result ≡ clock_key (table_view table.now) }
 {
-    if with_clock {
-        knows_keys(
-            table,
-            &[
-                "version", "nodes", "faults", "modulus", "memory", "pulses", "coins", "key",
-                "load", "unload", "corrupt", "coin", "clock",
-            ],
-        )
-    } else {
-        knows_keys(
+    let with_clock = value_at(table, "clock").is_some();
+    let Some(value) = value_at(table, "version") else {
+        return ClockKey::Absent;
+    };
+    let Some(version) = value.as_integer() else {
+        return ClockKey::Absent;
+    };
+    match u64::try_from(version) {
+        Ok(version) => key_of_version(version, with_clock),
+        Err(_) => ClockKey::Absent,
+    }
+}
+
+fn has_top_keys(table: &Table, clock: ClockKey) -> bool
+    ensures { result ≡ knows (top_keys clock) (table_view table.now) }
+{
+    match clock {
+        ClockKey::Absent => knows_keys(
             table,
             &[
                 "version", "nodes", "faults", "modulus", "memory", "pulses", "coins", "key",
                 "load", "unload", "corrupt", "coin",
             ],
-        )
+        ),
+        ClockKey::Clock => knows_keys(
+            table,
+            &[
+                "version", "nodes", "faults", "modulus", "memory", "pulses", "coins", "key",
+                "load", "unload", "corrupt", "coin", "clock",
+            ],
+        ),
+        ClockKey::Rule => knows_keys(
+            table,
+            &[
+                "version", "nodes", "faults", "modulus", "memory", "pulses", "coins", "key",
+                "load", "unload", "corrupt", "coin", "rule",
+            ],
+        ),
     }
-}
-
-fn knows_top_keys(table: &Table) -> bool
-    ensures { result ≡ knows (top_keys (has_clock_key (table_view table.now))) (table_view table.now) }
-{
-    has_top_keys(table, has_clock_key(table))
 }
 
 /// Returns the scenario that a table spells, each of whose programs is accepted. The refusal is never `TooLong` or
@@ -69,13 +87,14 @@ pub fn scenario_of(alloc: Global, table: &Table) -> Result<Scenario, ScenarioErr
     ensures refused { IfErr result (λ e. Refuses e (SpellsNothing (table_view table.now))
         (BrokenAt (table_view table.now))) }
 {
-    if !knows_top_keys(table) {
+    let clock = clock_key(table);
+    if !has_top_keys(table, clock) {
         return Err(ScenarioError::UnknownKey { place: Place::Top });
     }
     let frame = frame_at(table)?;
     let coins = coins_at(table)?;
     let key = key_at(table, coins)?;
-    let setup = setup_at(alloc, table, frame)?;
+    let setup = setup_at(alloc, table, clock, frame)?;
     let arrays = arrays_at(table)?;
     let loads = entries_of(alloc, &setup, arrays.loads)?;
     let unloads = entries_of(alloc, &setup, arrays.unloads)?;

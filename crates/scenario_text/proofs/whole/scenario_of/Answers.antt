@@ -32,7 +32,7 @@ returns-in_err-loads-clause-refused c =
     let f = c.in_ok-setup.setup.frame in
     let clock = own_clock c.in_ok-setup.setup in
     let has : HasFrame ms f = subst (HasFrame ms) (sym c.in_ok-setup.ensures.frame) c.in_ok-frame.ensures.frame in
-    let all = entries_refused SpelledLoad BrokenLoad Load (codes "load") (λ d. d.loads) ms f clock _
+    let all = entries_refused c.args.alloc SpelledLoad BrokenLoad Load (codes "load") (λ d. d.loads) ms f clock _
     c.in_err-loads.field-0.0 has c.in_ok-setup.ensures.clock c.in_ok-arrays.ensures.loads (λ d spelled. spelled.loads)
     (load_broken ms f clock has c.in_ok-setup.ensures.clock) c.in_err-loads.ensures.refused in
     search (rules, all)
@@ -42,7 +42,7 @@ returns-in_err-unloads-clause-refused c =
     let ms = table_view c.args.table.now in
     let f = c.in_ok-setup.setup.frame in
     let has : HasFrame ms f = subst (HasFrame ms) (sym c.in_ok-setup.ensures.frame) c.in_ok-frame.ensures.frame in
-    let all = entries_refused (λ f _. SpelledUnload f) (λ _ _ _ _. ⊥) Unload (codes "unload") (λ d. d.unloads) ms f _ _
+    let all = entries_refused c.args.alloc (λ f _. SpelledUnload f) (λ _ _ _ _. ⊥) Unload (codes "unload") (λ d. d.unloads) ms f _ _
     c.in_err-unloads.field-0.0 has c.in_ok-setup.ensures.clock c.in_ok-arrays.ensures.unloads
     (λ d spelled. spelled.unloads) (none_broken ms Unload _) c.in_err-unloads.ensures.refused in
     search (rules, all)
@@ -52,7 +52,7 @@ returns-in_err-corruptions-clause-refused c =
     let ms = table_view c.args.table.now in
     let f = c.in_ok-setup.setup.frame in
     let has : HasFrame ms f = subst (HasFrame ms) (sym c.in_ok-setup.ensures.frame) c.in_ok-frame.ensures.frame in
-    let all = entries_refused (λ f _. SpelledCorrupt f) (λ _ _ _ _. ⊥) Corrupt (codes "corrupt") (λ d. d.corruptions)
+    let all = entries_refused c.args.alloc (λ f _. SpelledCorrupt f) (λ _ _ _ _. ⊥) Corrupt (codes "corrupt") (λ d. d.corruptions)
     ms f _ _ c.in_err-corruptions.field-0.0 has c.in_ok-setup.ensures.clock c.in_ok-arrays.ensures.corruptions
     (λ d spelled. spelled.corruptions) (none_broken ms Corrupt _) c.in_err-corruptions.ensures.refused in
     search (rules, all)
@@ -62,7 +62,7 @@ returns-in_err-entries-clause-refused c =
     let ms = table_view c.args.table.now in
     let f = c.in_ok-setup.setup.frame in
     let has : HasFrame ms f = subst (HasFrame ms) (sym c.in_ok-setup.ensures.frame) c.in_ok-frame.ensures.frame in
-    let all = entries_refused (λ f _. SpelledCoin f) (λ _ _ _ _. ⊥) Coin (codes "coin") (λ d. d.entries) ms f _ _
+    let all = entries_refused c.args.alloc (λ f _. SpelledCoin f) (λ _ _ _ _. ⊥) Coin (codes "coin") (λ d. d.entries) ms f _ _
     c.in_err-entries.field-0.0 has c.in_ok-setup.ensures.clock c.in_ok-arrays.ensures.entries
     (λ d spelled. spelled.entries) (none_broken ms Coin _) c.in_err-entries.ensures.refused in
     search (rules, all)
