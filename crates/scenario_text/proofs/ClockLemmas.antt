@@ -1,9 +1,10 @@
 -- A table has one clock at most.
-use Rattle.std.proofs.Common.{◌≡◌, List, refl, ap, sym, subst, ◌∙◌, inl, inr, Global}
+use Rattle.std.proofs.Common.{◌≡◌, ℕ, List, refl, ap, sym, subst, ◌∙◌, inl, inr, Global}
 use Rattle.std.specs.Prelude.{Option, Some, None, codes}
 use Rattle.toml.specs.Data.{Data, array, string, integer, float, boolean, datetime, table, Members, get_member}
 use Rattle.bpf_insn.specs.declared.forms.Insn.{Insn}
 use Rattle.clock_nodes.specs.Listings.{clock_listing}
+use Rattle.rule_text.specs.Programs.{IsProgramOfText}
 use Rattle.rule_text.proofs.ProgramLemmas.{one_program}
 use Rattle.scenario_text.specs.declared.scenario.ClockKey.{ClockKey}
 use Rattle.scenario_text.specs.declared.scenario.ClockKey.TheVariants as keys
@@ -41,6 +42,12 @@ one_rule g f (Some (table ms)) p q first second = absurd first
 no_rule : (f : Frame) (o : Option Data) (p : List Insn) → o ≡ None → MeansRuleAt f o p → ⊥
 no_rule f o p none means = subst (λ o. MeansRuleAt f o p) none means
 
+-- a text that is the rule of no program means none under its key
+pub rule_excluded : (f : Frame) (o : Option Data) (text : List ℕ) (insns : List Insn) → o ≡ Some (string text)
+    → ((p : List Insn) → IsProgramOfText (sizes_in f) text p → ⊥) → MeansRuleAt f o insns → ⊥
+rule_excluded f o text insns held none means =
+    none insns (subst (λ (p : Option Data). MeansRuleAt f p insns) held means)
+
 -- ---- the text of the clock
 
 pub one_text : (g : Global) (f : Frame) (key : ClockKey) (ms : Members) (p q : List Insn) → MeansClock f key ms p
@@ -77,3 +84,15 @@ pub no_clock : (f : Frame) (ms : Members) → (HasNoText (clock_key ms) ms → �
 no_clock f ms there none None has =
     elim has [ inl gone ↦ there gone | inr means ↦ none (clock_listing (rule_of f)) means ]
 no_clock f ms there none (Some insns) has = none insns has.0
+
+-- ---- what the text of the clock makes
+
+pub clock_is_rules : (f : Frame) (ms : Members) (key : ClockKey) (p : List Insn) → key ≡ clock_key ms
+    → MeansClock f key ms p → p ≡ clock_listing (rule_of f) → HasClock f ms None
+clock_is_rules f ms key p held means same =
+    inr (subst (λ (k : ClockKey). MeansClock f k ms (clock_listing (rule_of f))) held
+    (subst (λ (q : List Insn). MeansClock f key ms q) same means))
+
+pub clock_is_own : (f : Frame) (ms : Members) (key : ClockKey) (p : List Insn) → key ≡ clock_key ms
+    → MeansClock f key ms p → (p ≡ clock_listing (rule_of f) → ⊥) → HasClock f ms (Some p)
+clock_is_own f ms key p held means other = (subst (λ (k : ClockKey). MeansClock f k ms p) held means, other)

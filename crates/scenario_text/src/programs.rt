@@ -49,6 +49,7 @@ pub(crate) fn program_in(
 }
 
 /// The program of the rule that the text under a key is.
+#[tactic(auto, using(crate::proofs::ClockLemmas::rule_excluded))]
 pub(crate) fn rule_in(
     alloc: Global,
     table: &Table,
@@ -70,13 +71,11 @@ pub(crate) fn rule_in(
     let Some(text) = value.as_str() else {
         return Err(ScenarioError::WrongKind { place, key });
     };
-    let Ok(made) = program_of_text(alloc, text.as_bytes(), shape, frame.faults, frame.modulus)
-    else {
-        return Err(ScenarioError::Memory(AllocError));
-    };
-    match made {
-        Ok(program) => taken(alloc, &program, shape).map_err(ScenarioError::Memory),
-        Err(error) => Err(ScenarioError::BadRule { place, key, error }),
+    let text = text.as_bytes();
+    match program_of_text(alloc, text, shape, frame.faults, frame.modulus) {
+        Ok(Ok(program)) => taken(alloc, &program, shape).map_err(ScenarioError::Memory),
+        Ok(Err(error)) => Err(ScenarioError::BadRule { place, key, error }),
+        Err(error) => Err(ScenarioError::Memory(error)),
     }
 }
 

@@ -1,7 +1,8 @@
 //! The frame of a scenario, with what is made of its numbers, and its programs.
-ghost use Rattle.std.specs.Prelude.{◌≡◌, List, None, Option, IfErr, IfOk, IfSome, MatchOption, codes, option_map};
+ghost use Rattle.std.specs.Prelude.{◌≡◌, ◌↔◌, List, None, Option, IfErr, IfOk, IfSome, IsTrue, MatchOption, codes, option_map};
 ghost use Rattle.bpf_insn.specs.declared.forms.Insn.{Insn};
 ghost use Rattle.bpf_verify.specs.Typable.{Typable};
+ghost use Rattle.clock_nodes.specs.Listings.{clock_listing};
 ghost use Rattle.clock_nodes.specs.Rule.{IsRule};
 ghost use Rattle.node_env.specs.Env.{IsExtent};
 ghost use Rattle.toml.specs.Data.{get_member};
@@ -104,6 +105,20 @@ fn clock_in(
     }
 }
 
+/// Whether a program is the clock of the rule.
+fn is_rule_clock(
+    alloc: Global,
+    own: &VerifiedProgram,
+    shape: Shape,
+    rule: ClockRule,
+) -> Result<bool, AllocError>
+    requires { rule.nodes ≡ shape.nodes }
+    ensures { IfOk result (λ same. IsTrue same ↔ (own.now.program ≡ clock_listing rule)) }
+{
+    let listing = dolev_welch(alloc, shape, rule)?;
+    Ok(own.program().same(&listing))
+}
+
 /// The clock of one's own, if there is one: another than the rule's.
 fn clock_at(
     alloc: Global,
@@ -127,14 +142,10 @@ fn clock_at(
     let Some(own) = clock_in(alloc, table, key, frame, shape)? else {
         return Ok(None);
     };
-    let Ok(listing) = dolev_welch(alloc, shape, rule) else {
+    let Ok(same) = is_rule_clock(alloc, &own, shape, rule) else {
         return Err(ScenarioError::Memory(AllocError));
     };
-    if own.program().same(&listing) {
-        Ok(None)
-    } else {
-        Ok(Some(own))
-    }
+    if same { Ok(None) } else { Ok(Some(own)) }
 }
 
 /// The clock: that of one's own, if there is one, and otherwise that of the rule.

@@ -1,14 +1,19 @@
-use Rattle.std.proofs.Common.{map, rules, subst, sym}
-use Rattle.std.specs.Prelude.{codes}
+use Rattle.std.proofs.Common.{◌≡◌, ℕ, List, map, rules, subst, sym, ◌∙◌}
+use Rattle.std.specs.Prelude.{Option, codes}
+use Rattle.bpf_insn.specs.declared.forms.Insn.{Insn}
 use Rattle.toml.specs.View.{table_view}
-use Rattle.scenario_text.specs.Spelling.{HasFrame, SpelledLoad, SpelledUnload, SpelledCorrupt, SpelledCoin, SpellsNothing}
+use Rattle.scenario_text.specs.declared.refusal.Place.{Place}
+use Rattle.scenario_text.specs.declared.refusal.Place.TheVariants as places
+use Rattle.scenario_text.specs.declared.scenario.ClockKey.TheVariants as keys
+use Rattle.scenario_text.specs.Faults.{Refuses}
+use Rattle.scenario_text.specs.Spelling.{HasClock, HasFrame, clock_key, SpelledLoad, SpelledUnload, SpelledCorrupt, SpelledCoin, SpellsNothing}
 use Rattle.scenario_text.specs.inner.Setups.{own_clock}
 use Rattle.scenario_text.specs.Tables.{IsTable, MayBeArray}
-use Rattle.scenario_text.specs.Views.{load_of, corrupt_of}
-use Rattle.scenario_text.proofs.FrameLemmas.{excludes, refuses}
+use Rattle.scenario_text.specs.Views.{load_of, corrupt_of, extent_of}
+use Rattle.scenario_text.proofs.FrameLemmas.{excludes, refuses, refuses_more}
 use Rattle.scenario_text.proofs.WholeLemmas.{no_arrays, plain_entries, spelled_whole}
 use Rattle.scenario_text.proofs.BrokenLemmas.{clock_refused, entries_refused, load_broken, none_broken}
-use Rattle.scenario_text.specs.Broken.{BrokenAt, BrokenLoad}
+use Rattle.scenario_text.specs.Broken.{BrokenAt, BrokenLoad, BrokenText}
 use Rattle.scenario_text.specs.declared.refusal.Place.TheVariants.{Load, Unload, Corrupt, Coin}
 use Rattle.scenario_text.proofs.whole.scenario_of.Goals as goal
 
@@ -22,8 +27,17 @@ returns-in_err-arrays-clause-refused c =
 
 pub returns-in_err-setup-clause-refused : goal.returns-in_err-setup-clause-refused
 returns-in_err-setup-clause-refused c =
-    let all = clock_refused (table_view c.args.table.now) c.in_ok-frame.frame c.in_err-setup.field-0.0
-    c.in_ok-frame.ensures.frame c.in_err-setup.ensures.refused in
+    let ms = table_view c.args.table.now in
+    let f = c.in_ok-frame.frame in
+    let e = c.in_err-setup.field-0.0 in
+    let none : Type 0 = (clock : Option (List Insn)) → HasClock f ms clock → ⊥ in
+    let here : Place → ℕ → Type 0 = λ p slot. (p ≡ places.Top) × (c.clock_key.result ≡ keys.Clock)
+    × BrokenText ms (codes "clock") (extent_of f) slot in
+    let there : Place → ℕ → Type 0 = λ p slot. (p ≡ places.Top) × (clock_key ms ≡ keys.Clock)
+    × BrokenText ms (codes "clock") (extent_of f) slot in
+    let moved : Refuses e none there = refuses_more e none none here there (λ silent. silent)
+    (λ p slot is. (is.0, sym c.clock_key.ensures ∙ is.1, is.2)) c.in_err-setup.ensures.refused in
+    let all = clock_refused ms f e c.in_ok-frame.ensures.frame moved in
     search (rules, all)
 
 pub returns-in_err-loads-clause-refused : goal.returns-in_err-loads-clause-refused
