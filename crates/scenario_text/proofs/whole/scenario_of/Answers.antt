@@ -31,12 +31,12 @@ returns-in_err-setup-clause-refused c =
     let f = c.in_ok-frame.frame in
     let e = c.in_err-setup.field-0.0 in
     let none : Type 0 = (clock : Option (List Insn)) → HasClock f ms clock → ⊥ in
-    let here : Place → ℕ → Type 0 = λ p slot. (p ≡ places.Top) × (c.clock_key.result ≡ keys.Clock)
+    let here : Place → ℕ → Type 0 = λ p slot. (p ≡ places.Top) × (c.clock_key-clock.result ≡ keys.Clock)
     × BrokenText ms (codes "clock") (extent_of f) slot in
     let there : Place → ℕ → Type 0 = λ p slot. (p ≡ places.Top) × (clock_key ms ≡ keys.Clock)
     × BrokenText ms (codes "clock") (extent_of f) slot in
     let moved : Refuses e none there = refuses_more e none none here there (λ silent. silent)
-    (λ p slot is. (is.0, sym c.clock_key.ensures ∙ is.1, is.2)) c.in_err-setup.ensures.refused in
+    (λ p slot is. (is.0, sym c.clock_key-clock.ensures ∙ is.1, is.2)) c.in_err-setup.ensures.refused in
     let all = clock_refused ms f e c.in_ok-frame.ensures.frame moved in
     search (rules, all)
 
