@@ -28,19 +28,19 @@ use Rattle.rule_nodes.specs.declared.syntax.Assignment.TheVariants.{One, Also'}
 use Rattle.rule_nodes.specs.declared.syntax.Source.{Source}
 use Rattle.rule_nodes.specs.declared.syntax.Source.TheVariants.{Constant, FromLocal, FromWord, Computed}
 use Rattle.rule_nodes.specs.declared.syntax.Term.{Term}
-use Rattle.rule_nodes.specs.declared.syntax.Term.TheVariants.{Me, Coin}
+use Rattle.rule_nodes.specs.declared.syntax.Term.TheVariants.{Me, Coin, Count'}
 use Rattle.rule_nodes.specs.declared.syntax.Statement.{Statement}
 use Rattle.rule_nodes.specs.declared.syntax.Statement.TheVariants.{Nothing, Then', Let', Assign, If', For', SendAll, SendTo}
-use Rattle.rule_nodes.specs.Meaning.{NodeState, value, word_at, truth, with_local, assigned, all_assigned, with_sent, sent_below, each_below, after}
+use Rattle.rule_nodes.specs.Meaning.{NodeState, value, count_below, word_at, truth, with_local, assigned, all_assigned, with_sent, sent_below, each_below, after}
 use Rattle.rule_nodes.specs.Operands.{is_constant, is_operand, is_asked, is_steady, depth_behind, source_of}
 use Rattle.rule_nodes.specs.Fits.{HasPlace, Fits, TargetFits, AssignmentFits, BlockFits}
-use Rattle.rule_nodes.specs.Code.{place, copy, cond_of, term_code, assign_code, set_code, given_code, also_code, assignment_code, get_code, send_code, send_codes, send_all_code, send_to_code, each_code, block_code}
+use Rattle.rule_nodes.specs.Code.{place, copy, cond_of, counted_code, term_code, assign_code, set_code, given_code, also_code, assignment_code, get_code, send_code, send_codes, send_all_code, send_to_code, each_code, block_code}
 use Rattle.rule_nodes.proofs.Small.{compared, imm_low}
 use Rattle.rule_nodes.proofs.Forms.{copies, stores_number, stays, once, chain, further}
 use Rattle.rule_nodes.proofs.Words.{word_small, word_stored, word_low, word_length, word_bytes}
 use Rattle.rule_nodes.proofs.States.{stands_front, stands_back, place_number, Holds, still_holds, IsSized}
 use Rattle.rule_nodes.proofs.Sources.{is_found}
-use Rattle.rule_nodes.proofs.TermRuns.{hop, behind_more, behind_few, IsAt, found_same, source_is, Fetched, get_steps, Has, Gets, gets, here_is, branch_leads, choice_runs, constant_is, term_runs, nodes_few}
+use Rattle.rule_nodes.proofs.TermRuns.{hop, behind_more, behind_few, IsAt, found_same, source_is, Fetched, get_steps, Has, Gets, gets, here_is, branch_leads, choice_runs, counted_runs, constant_is, term_runs, nodes_few}
 
 -- ---- what holds after a write
 
@@ -120,6 +120,30 @@ holds_low env d k v raw u s to low h = record {
   sent = h.sent;
   room = word_length k v u.memory ∙ h.room;
   bytes = word_bytes k v u.memory h.bytes;
+}
+
+-- a number that is in its place already
+holds_there : (env : Setting) (d v : ℕ) (u : NodeState) (t : MachineState) → v < 2 ^ 32
+    → get t.frame.registers (7 + d) ≡ Some (Num v) → Holds env d u t → Holds env (d + 1) (with_local d v u) t
+holds_there env d v u t fits there h = record {
+  r6 = h.r6;
+  locals = λ j lt. elim (cases_eq j d) [
+    | inl same ↦
+        let at_d : 7 + j ≡ 7 + d = omega (arith, same) in
+        let is : v ≡ (with_local d v u).locals j = rw (eq-eqb j d same) refl in
+        ap (get t.frame.registers) at_d ∙ there ∙ ap (λ x. Some (Num x)) is
+    | inr other ↦
+        let is : u.locals j ≡ (with_local d v u).locals j = rw (ne_eqb j d other) refl in
+        h.locals j (omega (arith, lt, other)) ∙ ap (λ x. Some (Num x)) is
+  ];
+  small = λ j lt. elim (cases_eq j d) [
+    | inl same ↦ rw (eq-eqb j d same) fits
+    | inr other ↦ rw (ne_eqb j d other) (h.small j (omega (arith, lt, other)))
+  ];
+  memory = h.memory;
+  sent = h.sent;
+  room = h.room;
+  bytes = h.bytes;
 }
 
 -- place d is free
@@ -776,6 +800,36 @@ module _ (program : List Insn) (env : Setting) (last : ℕ) (solid : (k : ℕ) �
             (omega (arith, len));
         slot = omega (arith, len, c.slot, g.slot);
         fact = g.fact;
+      }
+  block_runs (Let' (Count' q t) p rest) z J d u s sized nodes few fits h stands room =
+      let test = λ (j : ℕ). term_code t z (J ++ j ∷ []) (d + 1) (Jump false 1) in
+      let holds = λ (j : ℕ). value t z env (J ++ j ∷ []) u in
+      let v = count_below z.nodes holds in
+      let u1 = with_local d v u in
+      let front = counted_code d z.nodes test in
+      let back = block_code rest z J (d + 1) in
+      let end = after rest z env (d + 1) J u1 in
+      let small = nodes_few program env last solid z sized in
+      let len : length (front ++ back) ≡ length front + length back = length-append front back in
+      let c = counted_runs program env last solid d z.nodes test holds s fits.0 small
+      (stands_front program s.frame.slot front back stands) (omega (arith, len, room))
+      (λ j w lt same st l.
+      let more : length J + 1 ≡ length (J ++ j ∷ []) = omega (arith, length-append J (j ∷ [])) in
+      term_runs program env last solid t z (J ++ j ∷ []) (d + 1) d (Jump false 1) u w sized
+      (All-push (λ i. i < z.nodes) J j nodes lt) few (omega arith)
+      (subst (λ (n : ℕ). Fits t z n d (d + 1)) more fits.1.1) (still_holds env d d u s w (omega arith) h same) st l) in
+      let there = here_is program env last solid c.new _ back c.slot
+      (stands_back program s.frame.slot front back stands) in
+      let h1 = holds_there env d v u c.new (omega (arith, c.fact.few, small)) c.fact.place
+      (still_holds env d d u s c.new (omega arith) h c.fact.same) in
+      let g = block_runs rest z J (d + 1) u1 c.new sized nodes (omega (arith, fits.0)) fits.2 h1 there
+      (omega (arith, len, room, c.slot)) in
+      record {
+        new = g.new;
+        run = chain program env s c.new g.new (length front) (length back) (length (front ++ back)) c.run g.run
+            (omega (arith, len));
+        slot = omega (arith, len, c.slot, g.slot);
+        fact = holds_less env d end g.new g.fact;
       }
   block_runs (Let' e p rest) z J d u s sized nodes few fits h stands room =
       let v = value e z env J u in

@@ -25,6 +25,7 @@ use Rattle.clock_nodes.proofs.Taken.{state, proper, within, covered, KeepsOwn, k
 use Rattle.rule_nodes.specs.declared.syntax.Sizes.{Sizes}
 use Rattle.rule_nodes.specs.declared.syntax.Comparison.TheVariants.{AtLeast}
 use Rattle.rule_nodes.specs.declared.syntax.Purpose.TheVariants.{Value, Jump}
+use Rattle.rule_nodes.specs.declared.syntax.Term.TheVariants.{Count'}
 use Rattle.rule_nodes.specs.declared.syntax.Target.{Target}
 use Rattle.rule_nodes.specs.declared.syntax.Target.TheVariants.{ToLocal, ToWord}
 use Rattle.rule_nodes.specs.declared.syntax.Assignment.{Assignment}
@@ -36,7 +37,7 @@ use Rattle.rule_nodes.specs.declared.syntax.Statement.{Statement}
 use Rattle.rule_nodes.specs.declared.syntax.Statement.TheVariants.{Nothing, Then', Let', Assign, If', For', SendAll, SendTo}
 use Rattle.rule_nodes.specs.Operands.{is_operand, is_steady, depth_behind, source_of}
 use Rattle.rule_nodes.specs.Fits.{HasPlace, Fits, TargetFits, AssignmentFits, BlockFits}
-use Rattle.rule_nodes.specs.Code.{place, copy, set_node, cond_of, jump_at, term_code, assign_code, set_code, given_code, also_code, assignment_code, get_code, set_number, send_code, send_codes, send_all_code, send_to_code, each_code, block_code, tail_code, rule_code}
+use Rattle.rule_nodes.specs.Code.{place, copy, set_node, cond_of, jump_at, counted_code, term_code, assign_code, set_code, given_code, also_code, assignment_code, get_code, set_number, send_code, send_codes, send_all_code, send_to_code, each_code, block_code, tail_code, rule_code}
 use Rattle.rule_nodes.proofs.Typing.{memory_place, word, known, plain, valued, proper_known, some_word, into, short, Typing, typed_then, typed_as, typed_none, one_on, one_fork, fetch_typed, keep_typed, AllSound, seen}
 use Rattle.rule_nodes.proofs.Whole.{all_begin, rule_length, ones_rule}
 use Rattle.rule_nodes.specs.Ends.{AreSizes}
@@ -44,7 +45,7 @@ use Rattle.rule_nodes.proofs.States.{place_number}
 use Rattle.rule_nodes.proofs.Sources.{is_found}
 use Rattle.rule_nodes.proofs.TermRuns.{behind_more, behind_few, found_same}
 use Rattle.rule_nodes.proofs.Blocks.{computed_place}
-use Rattle.rule_nodes.proofs.TypedTerms.{known_less, covers_less, left_imm, typed_seq, typed_at, choice_typed, some_node, proper_node, node_in_r0, not_above_node, name_typed, node_typed, load_typed, placed_in, place_word, IsThere, source_there, term_typed}
+use Rattle.rule_nodes.proofs.TypedTerms.{known_less, covers_less, left_imm, typed_seq, typed_at, choice_typed, some_node, proper_node, node_in_r0, not_above_node, name_typed, node_typed, load_typed, placed_in, place_word, IsThere, source_there, counted_typed, term_typed}
 
 module _ (program : List Insn) (shape : Extent) (last : ℕ) (solid : (k : ℕ) → k ≤ last → BeginsAt program k) where
   abbrev T : ℕ → List Insn → (Table → Type 0) → (Table → Type 0) → Type 0
@@ -585,6 +586,28 @@ module _ (program : List Insn) (shape : Extent) (last : ℕ) (solid : (k : ℕ) 
       (C (plain d) (p1 + length back)) refl
       (block_typed a z J d slot same some few room small fits.0 (omega (arith, len, le)))
       (block_typed b z J d p1 same some few room small fits.1 (omega (arith, len, le))))
+  block_typed (Let' (Count' q t) p rest) z J d slot same some few room small fits le =
+      let test = λ (j : ℕ). term_code t z (J ++ j ∷ []) (d + 1) (Jump false 1) in
+      let front = counted_code d z.nodes test in
+      let back = block_code rest z J (d + 1) in
+      let len : length (front ++ back) ≡ length front + length back = length-append front back in
+      let p1 = slot + length front in
+      let end = slot + length (front ++ back) in
+      let e : p1 + length back ≡ end = omega (arith, len) in
+      let c = counted_typed program shape last solid d slot z.nodes test fits.0 (omega (arith, len, le))
+      (λ j to l.
+      let more : length J + 1 ≡ length (J ++ j ∷ []) = omega (arith, length-append J (j ∷ [])) in
+      term_typed program shape last solid t z (J ++ j ∷ []) (d + 1) d (Jump false 1) to same some few room (omega arith)
+      (omega (arith, fits.0)) (subst (λ (n : ℕ). Fits t z n d (d + 1)) more fits.1.1) l) in
+      let r = block_typed rest z J (d + 1) p1 same some few room (omega (arith, fits.0)) fits.2
+      (omega (arith, len, le)) in
+      let r1 = typed_at program shape last solid p1 (p1 + length back) end back (C (plain (d + 1)) p1)
+      (plain (d + 1)) e r in
+      let r2 = typed_as program shape last solid p1 back (C (plain (d + 1)) p1) (C (plain (d + 1)) end)
+      (C (plain (d + 1)) p1) (C (plain d) end) (λ table h. h)
+      (λ table h. covers_less table (plain (d + 1)) (plain d) end (known_less d Unset Unset Unset) h) r1 in
+      typed_seq program shape last solid slot p1 front back (C (plain d) slot) (C (plain (d + 1)) p1) (C (plain d) end)
+      refl c r2
   block_typed (Let' e p rest) z J d slot same some few room small fits le =
       stored_typed e z J d slot (block_code rest z J (d + 1)) same some few room fits.0 fits.1 le
       (λ to l. block_typed rest z J (d + 1) to same some few room (omega (arith, fits.0)) fits.2 l)

@@ -38,7 +38,7 @@ use Rattle.rule_nodes.specs.declared.syntax.Statement.TheVariants.{Nothing, Then
 use Rattle.rule_nodes.specs.Meaning.{initial_state}
 use Rattle.rule_nodes.specs.Operands.{is_operand, is_steady, depth_behind, source_of}
 use Rattle.rule_nodes.specs.Fits.{BlockFits}
-use Rattle.rule_nodes.specs.Code.{place, set_number, set_node, get_code, operand_code, load_code, left_code, binary_code, mirror, message_by, copy, truth_code, by_value, by_test, by_operator, two_code, choice_code, decides, both_far, both_code, jump_on, jump_by, jump_place, message_code, count_codes, term_code, assign_code, set_code, given_code, also_code, assignment_code, send_codes, send_all_code, send_to_code, each_code, block_code, tail_code, rule_code}
+use Rattle.rule_nodes.specs.Code.{place, set_number, set_node, get_code, operand_code, load_code, left_code, binary_code, mirror, message_by, copy, truth_code, by_value, by_test, by_operator, two_code, choice_code, decides, both_far, both_code, jump_on, jump_by, jump_place, message_code, count_codes, term_code, assign_code, set_code, given_code, also_code, assignment_code, let_code, send_codes, send_all_code, send_to_code, each_code, block_code, tail_code, rule_code}
 use Rattle.rule_nodes.specs.Ends.{AreSizes, IsRuleEnd}
 use Rattle.rule_nodes.proofs.Forms.{leads_add, once, chain, further}
 use Rattle.rule_nodes.proofs.States.{stands_front, stands_back, Holds, IsSized}
@@ -208,12 +208,21 @@ ones_each : (body : ℕ → List Insn) (n : ℕ) → ((j : ℕ) → Ones (body j
 ones_each body zero h = tt
 ones_each body (suc n) h = ones_append (each_code body n) (body n) (ones_each body n h) (h n)
 
+ones_let : (e : Term) (z : Sizes) (J : List ℕ) (d : ℕ) (rest : List Insn) → Ones rest → Ones (let_code e z J d rest)
+ones_let (Count' p t) z J d rest h = (
+  refl,
+  ones_append (count_codes d (λ j. term_code t z (J ++ j ∷ []) (d + 1) (Jump false 1)) z.nodes) rest
+      (ones_counts d (λ j. term_code t z (J ++ j ∷ []) (d + 1) (Jump false 1)) z.nodes
+      (λ j. ones_term t z (J ++ j ∷ []) (d + 1) (Jump false 1))) h,
+)
+ones_let e z J d rest h =
+    ones_append (term_code e z J d Value) (copy (place d) R0 ∷ rest) (ones_term e z J d Value) (refl, h)
+
 ones_block : (b : Statement) (z : Sizes) (J : List ℕ) (d : ℕ) → Ones (block_code b z J d)
 ones_block Nothing z J d = tt
 ones_block (Then' p a q b) z J d = ones_append (block_code a z J d) (block_code b z J d) (ones_block a z J d)
     (ones_block b z J d)
-ones_block (Let' e p rest) z J d = ones_append (term_code e z J d Value) _ (ones_term e z J d Value)
-    (refl, ones_block rest z J (d + 1))
+ones_block (Let' e p rest) z J d = ones_let e z J d (block_code rest z J (d + 1)) (ones_block rest z J (d + 1))
 ones_block (Assign a) z J d = ones_assignment a z J d
 ones_block (If' t p a q b) z J d = ones_choice (λ far. term_code t z J d (Jump false far)) _ _
     (λ far. ones_term t z J d (Jump false far)) (ones_block a z J d) (ones_block b z J d)

@@ -213,8 +213,11 @@ abbrev pub count_codes : ℕ → (ℕ → List Insn) → ℕ → List Insn
 count_codes d test zero = []
 count_codes d test (suc n) = count_codes d test n ++ (test n ++ Alu Add W32 (place d) (Imm (pos 1)) ∷ [])
 
+abbrev pub counted_code : ℕ → ℕ → (ℕ → List Insn) → List Insn
+counted_code d n test = set_number (place d) 0 ∷ count_codes d test n
+
 abbrev pub count_code : ℕ → ℕ → (ℕ → List Insn) → List Insn
-count_code d n test = set_number (place d) 0 ∷ (count_codes d test n ++ copy R0 (place d) ∷ [])
+count_code d n test = counted_code d n test ++ copy R0 (place d) ∷ []
 
 -- of a term at depth d
 abbrev pub term_code : Term → Sizes → List ℕ → ℕ → Purpose → List Insn
@@ -292,11 +295,17 @@ abbrev pub each_code : (ℕ → List Insn) → ℕ → List Insn
 each_code body zero = []
 each_code body (suc n) = each_code body n ++ body n
 
+-- a let at depth d, and what follows: a count stays where it was counted
+abbrev pub let_code : Term → Sizes → List ℕ → ℕ → List Insn → List Insn
+let_code (Count' p t) z J d rest =
+    counted_code d z.nodes (λ j. term_code t z (J ++ j ∷ []) (d + 1) (Jump false 1)) ++ rest
+let_code e z J d rest = term_code e z J d Value ++ (copy (place d) R0 ∷ rest)
+
 -- of a statement with d lets in scope
 abbrev pub block_code : Statement → Sizes → List ℕ → ℕ → List Insn
 block_code Nothing z J d = []
 block_code (Then' p a q b) z J d = block_code a z J d ++ block_code b z J d
-block_code (Let' e p rest) z J d = term_code e z J d Value ++ (copy (place d) R0 ∷ block_code rest z J (d + 1))
+block_code (Let' e p rest) z J d = let_code e z J d (block_code rest z J (d + 1))
 block_code (Assign a) z J d = assignment_code a z J d
 block_code (If' t p a q b) z J d =
     choice_code (λ far. term_code t z J d (Jump false far)) (block_code a z J d) (block_code b z J d)
