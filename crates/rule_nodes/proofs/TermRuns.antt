@@ -849,7 +849,7 @@ module _ (program : List Insn) (env : Setting) (last : ℕ) (solid : (k : ℕ) �
       rw (constant_is a z J u parts.0, constant_is b z J u parts.1) refl
   constant_is t z J u e = absurd (let no : false ≡ true = e in cc)
 
-  constant_small : (t : Term) (z : Sizes) (J : List ℕ) (lets d : ℕ) → is_constant t ≡ true → IsSized z env
+  pub constant_small : (t : Term) (z : Sizes) (J : List ℕ) (lets d : ℕ) → is_constant t ≡ true → IsSized z env
       → All (λ j. j < z.nodes) J → Fits t z (length J) lets d → constant_number t z J < 2 ^ 32
   constant_small (Number v) z J lets d e sized nodes fits = fits
   constant_small Nodes z J lets d e sized nodes fits = omega (arith, nodes_few z sized)

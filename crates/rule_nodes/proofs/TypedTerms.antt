@@ -200,7 +200,7 @@ operand_is Computed d lets memory there below few =
     record { range = full_of 32; kind = refl; set = refl; ordered = some_word; inside = word_inside }
 
 -- the result of an operation on a number of 32 bits and an operand is one
-word_result : (op : AluOp) (k : Kind) (s : Span) → k ≡ Number s → HasMembers s → IsInside s (full_of 32)
+pub word_result : (op : AluOp) (k : Kind) (s : Span) → k ≡ Number s → HasMembers s → IsInside s (full_of 32)
     → range_of op W32 (full_of 32) (full_of 32) ≡ full_of 32
     → IsKindIn (of_number_kind (range_of op W32 (full_of 32)) k) word
 word_result op k s e ordered inside same = (

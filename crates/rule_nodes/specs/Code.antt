@@ -1,6 +1,6 @@
 -- The instructions of a rule. r6 has the memory's place, r0 the number just computed, r1 and r2 are scratch; place k is
 -- r7, r8, r9 for k = 0, 1, 2. At depth d the places below d are in use.
-use Rattle.std.specs.Prelude.{ℕ, zero, suc, ◌+◌, ◌*◌, pos, Bool, true, false, not, nat_lt, ◌||◌, if◌then◌else◌, List, [], ◌∷◌, ◌++◌, length, slice_index}
+use Rattle.std.specs.Prelude.{ℕ, zero, suc, ◌+◌, ◌*◌, pos, Bool, true, false, not, nat_lt, ◌&&◌, ◌||◌, if◌then◌else◌, Option, Some, None, List, [], ◌∷◌, ◌++◌, length, slice_index}
 use Rattle.std.specs.Int.{w32, cast_signed}
 use Rattle.bpf_insn.specs.declared.forms.Reg as regs
 use Rattle.bpf_insn.specs.declared.forms.Reg.TheVariants.{R0, R1, R2, R6, R7, R8, R9}
@@ -15,7 +15,7 @@ use Rattle.bpf_insn.specs.declared.forms.Operand.TheVariants.{Imm, Reg}
 use Rattle.bpf_insn.specs.declared.forms.Insn.{Insn}
 use Rattle.bpf_insn.specs.declared.forms.Insn.TheVariants.{Alu, Branch, Ja, Call, Exit, Load, StoreReg, StoreImm}
 use Rattle.rule_nodes.specs.Meaning.{operate}
-use Rattle.rule_nodes.specs.Operands.{is_operand, is_steady, depth_behind, source_of}
+use Rattle.rule_nodes.specs.Operands.{is_constant, is_operand, is_local, is_steady, constant_number, depth_behind, source_of}
 use Rattle.rule_nodes.specs.declared.syntax.Sizes.{Sizes}
 use Rattle.rule_nodes.specs.declared.syntax.Operation.{Operation}
 use Rattle.rule_nodes.specs.declared.syntax.Operation.TheVariants.{Sum, Difference, Product, Quotient, Remainder}
@@ -261,6 +261,21 @@ abbrev pub given_code : Source → Target → List Insn → List Insn
 given_code Computed target code = code ++ assign_code target ∷ []
 given_code x target code = set_code target x
 
+-- the instruction that changes a local in its place, if a target is set to an operation on itself and a constant
+abbrev pub change_by : Target → Operator → Term → Term → Sizes → List ℕ → Option Insn
+change_by (ToLocal k) (Compute op) a b z J =
+    if is_local a k && is_constant b then Some (Alu (alu_of op) W32 (place k)
+    (Imm (cast_signed w32 (constant_number b z J)))) else None
+change_by target o a b z J = None
+
+abbrev pub change_of : Target → Term → Sizes → List ℕ → Option Insn
+change_of target (Binary' o p a q b) z J = change_by target o a b z J
+change_of target _ z J = None
+
+abbrev pub one_code : Option Insn → List Insn → List Insn
+one_code (Some insn) code = insn ∷ []
+one_code None code = code
+
 -- a steady number comes after the targets before; any other number comes before them, and is kept in place d
 abbrev pub also_code : Bool → ℕ → Source → Target → List Insn → List Insn → List Insn
 also_code true d x target code first = first ++ given_code x target code
@@ -269,7 +284,8 @@ also_code false d x target code first =
 
 -- of an assignment at depth d
 abbrev pub assignment_code : Assignment → Sizes → List ℕ → ℕ → List Insn
-assignment_code (One target e) z J d = given_code (source_of e z J) target (term_code e z J d Value)
+assignment_code (One target e) z J d =
+    one_code (change_of target e z J) (given_code (source_of e z J) target (term_code e z J d Value))
 assignment_code (Also' p front target e) z J d =
     also_code (is_steady e) d (source_of e z J) target (term_code e z J d Value)
     (assignment_code front z J (depth_behind (is_steady e) d))
