@@ -37,13 +37,13 @@ use Rattle.rule_nodes.specs.declared.syntax.Operator.TheVariants.{Compute}
 use Rattle.rule_nodes.specs.Meaning.{NodeState, apply, value, count_below, word_at, truth, with_local, assigned, all_assigned, with_sent, sent_below, each_below, after}
 use Rattle.rule_nodes.specs.Operands.{is_constant, constant_number, is_local, is_operand, is_asked, is_steady, depth_behind, source_of}
 use Rattle.rule_nodes.specs.Fits.{HasPlace, Fits, TargetFits, AssignmentFits, BlockFits}
-use Rattle.rule_nodes.specs.Code.{place, copy, cond_of, counted_code, term_code, assign_code, set_code, given_code, alu_of, change_of, one_code, also_code, assignment_code, get_code, send_code, send_codes, send_all_code, send_to_code, each_code, block_code}
+use Rattle.rule_nodes.specs.Code.{place, copy, cond_of, counted_code, term_code, assign_code, set_code, given_code, alu_of, change_of, one_code, also_code, assignment_code, get_code, send_code, send_codes, send_all_code, send_to_code, each_code, is_nothing, block_code}
 use Rattle.rule_nodes.proofs.Small.{compared, imm_low, apply_small}
 use Rattle.rule_nodes.proofs.Forms.{copies, operates_in, stores_number, stays, once, chain, further}
 use Rattle.rule_nodes.proofs.Words.{word_small, word_stored, word_low, word_length, word_bytes}
 use Rattle.rule_nodes.proofs.States.{stands_front, stands_back, place_number, Holds, still_holds, IsSized}
 use Rattle.rule_nodes.proofs.Sources.{is_found}
-use Rattle.rule_nodes.proofs.TermRuns.{hop, behind_more, behind_few, IsAt, found_same, source_is, Fetched, get_steps, Has, Gets, gets, here_is, branch_leads, choice_runs, counted_runs, constant_is, constant_small, term_runs, nodes_few}
+use Rattle.rule_nodes.proofs.TermRuns.{hop, behind_more, behind_few, IsAt, found_same, source_is, Fetched, get_steps, Has, Gets, gets, here_is, branch_leads, if_runs, counted_runs, constant_is, constant_small, term_runs, nodes_few}
 
 -- ---- what holds after a write
 
@@ -247,6 +247,10 @@ found_small env Computed z lets v u s found is memory h = absurd (let no : false
 pub computed_place : (found : Bool) (d : ℕ) → found ≡ false → HasPlace found d → d < 3
 computed_place true d e free = absurd (let no : true ≡ false = e in cc)
 computed_place false d e free = free
+
+pub nothing_here : (b : Statement) (z : Sizes) (J : List ℕ) (d : ℕ) → is_nothing b ≡ true → block_code b z J d ≡ []
+nothing_here Nothing z J d e = refl
+nothing_here b z J d e = absurd (let no : false ≡ true = e in cc)
 
 -- of a state, while a number is sent
 pub record Sending (env : Setting) (lets : ℕ) (u : NodeState) (s t : MachineState) : Type 0 where
@@ -928,8 +932,8 @@ module _ (program : List Insn) (env : Setting) (last : ℕ) (solid : (k : ℕ) �
       let ua = after a z env d J u in
       let ub = after b z env d J u in
       let end = if truth v then ua else ub in
-      choice_runs program env last solid (λ far. term_code t z J d (Jump false far)) ca cb d v s
-      (Holds env d end) stands room
+      if_runs program env last solid (is_nothing b) (λ far. term_code t z J d (Jump false far)) ca cb d v s
+      (Holds env d end) (nothing_here b z J d) stands room
       (λ far st l. term_runs program env last solid t z J d d (Jump false far) u s sized nodes few
       (omega arith) fits.0 h st l)
       (λ w same e st l. gets program env last solid w _ _ _ _ (Holds env d ua) (Holds env d end) refl (omega arith)

@@ -42,7 +42,7 @@ use Rattle.rule_nodes.specs.declared.syntax.Term.TheVariants.{Number, Nodes, Fau
 use Rattle.rule_nodes.specs.Meaning.{NodeState, value, word_at, apply, compare, number_of, truth, operate, combine, message_from, count_below}
 use Rattle.rule_nodes.specs.Operands.{is_constant, is_fetched, is_operand, constant_number, depth_behind, fetched_source, source_of}
 use Rattle.rule_nodes.specs.Fits.{HasPlace, Fits}
-use Rattle.rule_nodes.specs.Code.{place, set_number, copy, alu_of, cond_of, jump_on, jump_by, jump_at, beyond, truth_code, by_value, by_test, two_code, get_code, operand_code, load_code, jump_place, by_operator, left_code, binary_code, choice_code, decides, both_far, both_code, message_code, message_by, mirror, set_node, count_codes, counted_code, count_code, term_code}
+use Rattle.rule_nodes.specs.Code.{place, set_number, copy, alu_of, cond_of, jump_on, jump_by, jump_at, beyond, truth_code, by_value, by_test, two_code, get_code, operand_code, load_code, jump_place, by_operator, left_code, binary_code, choice_code, if_code, decides, both_far, both_code, message_code, message_by, mirror, set_node, count_codes, counted_code, count_code, term_code}
 use Rattle.rule_nodes.proofs.Sources.{is_found}
 use Rattle.rule_nodes.proofs.Small.{low, imm_low, mirrored, apply_small, operate_small, taken, compared, truth_of, jump_compared, jump_by_zero, not_not}
 use Rattle.rule_nodes.proofs.Words.{word_loaded, word_small}
@@ -442,6 +442,54 @@ module _ (program : List Insn) (env : Setting) (last : ℕ) (solid : (k : ℕ) �
               run = chain program env s c.new g.new (length code) (length b) (length (code ++ rest)) c.run g.run
                   (omega (arith, len));
               slot = omega (arith, len, slot, g.slot);
+              fact = g.fact;
+            }
+      ]
+
+  -- with no code for the other case
+  pub if_runs : (alone : Bool) (test : ℕ → List Insn) (a b : List Insn) (d v : ℕ) (s : MachineState)
+      (P : MachineState → Type 0) → (alone ≡ true → b ≡ [])
+      → Stands program s.frame.slot (if_code alone test a b) → s.frame.slot + length (if_code alone test a b) ≤ last
+      → ((far : ℕ) → Stands program s.frame.slot (test far) → s.frame.slot + length (test far) + far ≤ last
+      → Gets s (s.frame.slot + length (test far) + landing false v far) (length (test far)) (Same d s))
+      → ((t : MachineState) → Same d s t → truth v ≡ true → Stands program t.frame.slot a
+      → t.frame.slot + length a ≤ last → Gets t (t.frame.slot + length a) (length a) P)
+      → ((t : MachineState) → Same d s t → truth v ≡ false → Stands program t.frame.slot b
+      → t.frame.slot + length b ≤ last → Gets t (t.frame.slot + length b) (length b) P)
+      → ((t : MachineState) (to : ℕ) → P t → P (at t to))
+      → Gets s (s.frame.slot + length (if_code alone test a b)) (length (if_code alone test a b)) P
+  if_runs false test a b d v s P none stands le tests first second blind =
+      choice_runs test a b d v s P stands le tests first second blind
+  if_runs true test a b d v s P none stands le tests first second blind =
+      let far = length a in
+      let code = test far in
+      let len : length (code ++ a) ≡ length code + length a = length-append code a in
+      let c = tests far (stands_front program s.frame.slot code a stands) (omega (arith, len, le)) in
+      elim (cases_Bool (truth v)) [
+        | inl so ↦
+            let stay : landing false v far ≡ 0 = rw so refl in
+            let slot : c.new.frame.slot ≡ s.frame.slot + length code = omega (arith, c.slot, stay) in
+            let there = here_is c.new _ a slot (stands_back program s.frame.slot code a stands) in
+            let g = first c.new c.fact so there (omega (arith, len, le, slot)) in
+            record {
+              new = g.new;
+              run = chain program env s c.new g.new (length code) (length a) (length (code ++ a)) c.run g.run
+                  (omega (arith, len));
+              slot = omega (arith, len, slot, g.slot);
+              fact = g.fact;
+            }
+        | inr other ↦
+            let all : landing false v far ≡ far = rw other refl in
+            let slot : c.new.frame.slot ≡ s.frame.slot + length code + length a = omega (arith, c.slot, all) in
+            let empty = none refl in
+            let short : length b ≡ 0 = ap length empty in
+            let g = second c.new c.fact other (subst (λ (x : List Insn). Stands program c.new.frame.slot x)
+            (sym empty) tt) (omega (arith, len, le, slot, short)) in
+            record {
+              new = g.new;
+              run = chain program env s c.new g.new (length code) (length b) (length (code ++ a)) c.run g.run
+                  (omega (arith, len, short));
+              slot = omega (arith, len, slot, g.slot, short);
               fact = g.fact;
             }
       ]

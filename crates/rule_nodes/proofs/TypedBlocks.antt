@@ -41,7 +41,7 @@ use Rattle.rule_nodes.specs.declared.syntax.Statement.{Statement}
 use Rattle.rule_nodes.specs.declared.syntax.Statement.TheVariants.{Nothing, Then', Let', Assign, If', For', SendAll, SendTo}
 use Rattle.rule_nodes.specs.Operands.{is_constant, constant_number, is_local, is_operand, is_steady, depth_behind, source_of}
 use Rattle.rule_nodes.specs.Fits.{HasPlace, Fits, TargetFits, AssignmentFits, BlockFits}
-use Rattle.rule_nodes.specs.Code.{place, copy, set_node, cond_of, jump_at, counted_code, term_code, assign_code, set_code, given_code, alu_of, change_of, one_code, also_code, assignment_code, get_code, set_number, send_code, send_codes, send_all_code, send_to_code, each_code, block_code, tail_code, rule_code}
+use Rattle.rule_nodes.specs.Code.{place, copy, set_node, cond_of, jump_at, counted_code, term_code, assign_code, set_code, given_code, alu_of, change_of, one_code, also_code, assignment_code, get_code, set_number, send_code, send_codes, send_all_code, send_to_code, each_code, is_nothing, block_code, tail_code, rule_code}
 use Rattle.rule_nodes.proofs.Typing.{memory_place, word, known, plain, valued, proper_known, some_word, into, short, Typing, typed_then, typed_as, typed_none, one_on, one_fork, fetch_typed, keep_typed, AllSound, seen}
 use Rattle.rule_nodes.proofs.Whole.{all_begin, rule_length, ones_rule}
 use Rattle.rule_nodes.specs.Ends.{AreSizes}
@@ -49,7 +49,7 @@ use Rattle.rule_nodes.proofs.States.{place_number}
 use Rattle.rule_nodes.proofs.Sources.{is_found}
 use Rattle.rule_nodes.proofs.TermRuns.{behind_more, behind_few, found_same}
 use Rattle.rule_nodes.proofs.Blocks.{computed_place}
-use Rattle.rule_nodes.proofs.TypedTerms.{known_less, covers_less, left_imm, typed_seq, typed_at, choice_typed, some_node, proper_node, node_in_r0, not_above_node, name_typed, node_typed, load_typed, placed_in, place_word, word_result, IsThere, source_there, counted_typed, term_typed}
+use Rattle.rule_nodes.proofs.TypedTerms.{known_less, covers_less, left_imm, typed_seq, typed_at, if_typed, some_node, proper_node, node_in_r0, not_above_node, name_typed, node_typed, load_typed, placed_in, place_word, word_result, IsThere, source_there, counted_typed, term_typed}
 
 module _ (program : List Insn) (shape : Extent) (last : ℕ) (solid : (k : ℕ) → k ≤ last → BeginsAt program k) where
   abbrev T : ℕ → List Insn → (Table → Type 0) → (Table → Type 0) → Type 0
@@ -755,9 +755,8 @@ module _ (program : List Insn) (shape : Extent) (last : ℕ) (solid : (k : ℕ) 
   block_typed (Assign a) z J d slot same some few room small fits le =
       assignment_typed a z J d d slot same some few room (omega arith) small fits le
   block_typed (If' t p a q b) z J d slot same some few room small fits le =
-      choice_typed program shape last solid d slot (plain d) (λ far. term_code t z J d (Jump false far))
-      (block_code a z J d)
-      (block_code b z J d) (proper_known d Unset Unset Unset tt tt tt) le
+      if_typed program shape last solid (is_nothing b) d slot (λ far. term_code t z J d (Jump false far))
+      (block_code a z J d) (block_code b z J d) le
       (λ far l. term_typed program shape last solid t z J d d (Jump false far) slot same some few room
       (omega arith) small fits.0 l)
       (λ to l. block_typed a z J d to same some few room small fits.1 l)

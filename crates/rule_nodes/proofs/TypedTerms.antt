@@ -46,7 +46,7 @@ use Rattle.rule_nodes.specs.declared.syntax.Term.TheVariants.{Number as Numeral,
 use Rattle.rule_nodes.specs.Meaning.{operate}
 use Rattle.rule_nodes.specs.Operands.{is_constant, is_operand, constant_number, depth_behind, fetched_source, source_of}
 use Rattle.rule_nodes.specs.Fits.{Fits}
-use Rattle.rule_nodes.specs.Code.{place, set_number, copy, alu_of, cond_of, jump_on, jump_by, jump_at, beyond, truth_code, by_value, by_test, two_code, get_code, operand_code, load_code, jump_place, by_operator, left_code, binary_code, message_by, mirror, set_node, choice_code, decides, both_far, both_code, message_code, count_codes, counted_code, count_code, term_code}
+use Rattle.rule_nodes.specs.Code.{place, set_number, copy, alu_of, cond_of, jump_on, jump_by, jump_at, beyond, truth_code, by_value, by_test, two_code, get_code, operand_code, load_code, jump_place, by_operator, left_code, binary_code, message_by, mirror, set_node, choice_code, if_code, decides, both_far, both_code, message_code, count_codes, counted_code, count_code, term_code}
 use Rattle.rule_nodes.proofs.Sources.{is_found}
 use Rattle.rule_nodes.proofs.TermRuns.{found_same, behind_more, free_beside, same_depth}
 use Rattle.rule_nodes.proofs.Typing.{memory_place, word, held, known, plain, valued, proper_known, some_word, into, short, seen, Typing, typed_then, typed_as, typed_none, one_on, one_jump, one_fork, number_typed, fetch_typed, keep_typed, second_typed}
@@ -904,6 +904,29 @@ module _ (program : List Insn) (shape : Extent) (last : ℕ) (solid : (k : ℕ) 
       typed_as program shape last solid slot (code ++ rest)
       (λ table. C (plain d) slot table × (C (plain d) p1 table × (C M p2 table × C (plain d) p3 table))) (C M end)
       (C (plain d) slot) (C M end) (λ table h. h.0) (λ table h. h) all
+
+  pub if_typed : (alone : Bool) (d slot : ℕ) (test : ℕ → List Insn) (a b : List Insn)
+      → slot + length (if_code alone test a b) ≤ last
+      → ((far : ℕ) → slot + length (test far) + far ≤ last → TermTyped (Jump false far) d slot (test far))
+      → ((to : ℕ) → to + length a ≤ last → T to a (C (plain d) to) (C (plain d) (to + length a)))
+      → ((to : ℕ) → to + length b ≤ last → T to b (C (plain d) to) (C (plain d) (to + length b)))
+      → T slot (if_code alone test a b) (C (plain d) slot) (C (plain d) (slot + length (if_code alone test a b)))
+  if_typed false d slot test a b le tests first second =
+      choice_typed d slot (plain d) test a b (proper_known d Unset Unset Unset tt tt tt) le tests first second
+  if_typed true d slot test a b le tests first second =
+      let far = length a in
+      let code = test far in
+      let len : length (code ++ a) ≡ length code + length a = length-append code a in
+      let p1 = slot + length code in
+      let end = slot + length (code ++ a) in
+      let e : p1 + length a ≡ end = omega (arith, len) in
+      let t = tests far (omega (arith, len, le)) in
+      let ta = typed_at p1 (p1 + length a) end a (C (plain d) p1) (plain d) e (first p1 (omega (arith, len, le))) in
+      let all = typed_then program shape last solid slot p1 code a (C (plain d) slot)
+      (λ table. C (plain d) p1 table × C (plain d) (p1 + far) table) (C (plain d) p1) (C (plain d) end) refl t ta
+      (λ table o asks. (o, subst (λ (n : ℕ). C (plain d) n table) (sym e) asks)) in
+      typed_as program shape last solid slot (code ++ a) (λ table. C (plain d) slot table × C (plain d) p1 table)
+      (C (plain d) end) (C (plain d) slot) (C (plain d) end) (λ table h. h.0) (λ table h. h) all
 
   either_far : (alone when : Bool) (n far : ℕ) → (both_far alone when n far ≡ n + far) ⊎ (both_far alone when n far ≡ n)
   either_far true true n far = inl refl

@@ -41,7 +41,7 @@ use Rattle.rule_nodes.specs.declared.syntax.Statement.TheVariants.{Nothing, Then
 use Rattle.rule_nodes.specs.Meaning.{initial_state}
 use Rattle.rule_nodes.specs.Operands.{is_constant, constant_number, is_local, is_operand, is_steady, depth_behind, source_of}
 use Rattle.rule_nodes.specs.Fits.{BlockFits}
-use Rattle.rule_nodes.specs.Code.{place, set_number, set_node, get_code, operand_code, load_code, left_code, binary_code, mirror, message_by, copy, truth_code, by_value, by_test, by_operator, two_code, choice_code, decides, both_far, both_code, jump_on, jump_by, jump_place, message_code, count_codes, term_code, assign_code, set_code, given_code, alu_of, change_of, one_code, also_code, assignment_code, let_code, send_codes, send_all_code, send_to_code, each_code, block_code, tail_code, rule_code}
+use Rattle.rule_nodes.specs.Code.{place, set_number, set_node, get_code, operand_code, load_code, left_code, binary_code, mirror, message_by, copy, truth_code, by_value, by_test, by_operator, two_code, choice_code, if_code, is_nothing, decides, both_far, both_code, jump_on, jump_by, jump_place, message_code, count_codes, term_code, assign_code, set_code, given_code, alu_of, change_of, one_code, also_code, assignment_code, let_code, send_codes, send_all_code, send_to_code, each_code, block_code, tail_code, rule_code}
 use Rattle.rule_nodes.specs.Ends.{AreSizes, IsRuleEnd}
 use Rattle.rule_nodes.proofs.Forms.{leads_add, once, chain, further}
 use Rattle.rule_nodes.proofs.States.{stands_front, stands_back, Holds, IsSized}
@@ -125,6 +125,11 @@ ones_message Computed n code h = ones_append code (message_code n) h (refl, (ref
 ones_choice : (test : ℕ → List Insn) (a b : List Insn) → ((far : ℕ) → Ones (test far)) → Ones a → Ones b
     → Ones (choice_code test a b)
 ones_choice test a b k h g = ones_append (test (length a + 1)) _ (k (length a + 1)) (ones_append a _ h (refl, g))
+
+ones_if : (alone : Bool) (test : ℕ → List Insn) (a b : List Insn) → ((far : ℕ) → Ones (test far)) → Ones a → Ones b
+    → Ones (if_code alone test a b)
+ones_if true test a b k h g = ones_append (test (length a)) a (k (length a)) h
+ones_if false test a b k h g = ones_choice test a b k h g
 
 ones_counts : (d : ℕ) (test : ℕ → List Insn) (n : ℕ) → ((j : ℕ) → Ones (test j)) → Ones (count_codes d test n)
 ones_counts d test zero h = tt
@@ -246,7 +251,7 @@ ones_block (Then' p a q b) z J d = ones_append (block_code a z J d) (block_code 
     (ones_block b z J d)
 ones_block (Let' e p rest) z J d = ones_let e z J d (block_code rest z J (d + 1)) (ones_block rest z J (d + 1))
 ones_block (Assign a) z J d = ones_assignment a z J d
-ones_block (If' t p a q b) z J d = ones_choice (λ far. term_code t z J d (Jump false far)) _ _
+ones_block (If' t p a q b) z J d = ones_if (is_nothing b) (λ far. term_code t z J d (Jump false far)) _ _
     (λ far. ones_term t z J d (Jump false far)) (ones_block a z J d) (ones_block b z J d)
 ones_block (For' p body) z J d = ones_each (λ j. block_code body z (J ++ j ∷ []) d) z.nodes
     (λ j. ones_block body z (J ++ j ∷ []) d)

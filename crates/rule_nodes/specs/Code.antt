@@ -185,6 +185,11 @@ binary_code y x o d purpose left right = by_operator o (operand_code y) purpose 
 abbrev pub choice_code : (ℕ → List Insn) → List Insn → List Insn → List Insn
 choice_code test a b = test (length a + 1) ++ (a ++ (Ja (pos (length b)) ∷ b))
 
+-- without code for the other case there is nothing to skip
+abbrev pub if_code : Bool → (ℕ → List Insn) → List Insn → List Insn → List Insn
+if_code true test a b = test (length a) ++ a
+if_code false test a b = choice_code test a b
+
 -- the first condition decides alone if it is this
 abbrev pub decides : Connective → Bool
 decides And = false
@@ -317,6 +322,10 @@ let_code (Count' p t) z J d rest =
     counted_code d z.nodes (λ j. term_code t z (J ++ j ∷ []) (d + 1) (Jump false 1)) ++ rest
 let_code e z J d rest = term_code e z J d Value ++ (copy (place d) R0 ∷ rest)
 
+abbrev pub is_nothing : Statement → Bool
+is_nothing Nothing = true
+is_nothing _ = false
+
 -- of a statement with d lets in scope
 abbrev pub block_code : Statement → Sizes → List ℕ → ℕ → List Insn
 block_code Nothing z J d = []
@@ -324,7 +333,7 @@ block_code (Then' p a q b) z J d = block_code a z J d ++ block_code b z J d
 block_code (Let' e p rest) z J d = let_code e z J d (block_code rest z J (d + 1))
 block_code (Assign a) z J d = assignment_code a z J d
 block_code (If' t p a q b) z J d =
-    choice_code (λ far. term_code t z J d (Jump false far)) (block_code a z J d) (block_code b z J d)
+    if_code (is_nothing b) (λ far. term_code t z J d (Jump false far)) (block_code a z J d) (block_code b z J d)
 block_code (For' p body) z J d = each_code (λ j. block_code body z (J ++ j ∷ []) d) z.nodes
 block_code (SendAll e) z J d = send_all_code (source_of e z J) d z.nodes (term_code e z J d Value)
 block_code (SendTo e k) z J d = term_code e z J d Value

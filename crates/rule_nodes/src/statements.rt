@@ -6,14 +6,14 @@ ghost use Rattle.bpf_insn.specs.declared.forms.Insn.TheVariants as i;
 ghost use Rattle.rule_nodes.specs.declared.syntax.Statement.TheVariants.{SendAll, SendTo};
 ghost use Rattle.rule_nodes.specs.Operands.{IsWithin};
 ghost use Rattle.rule_nodes.specs.Fits.{BlockFits};
-ghost use Rattle.rule_nodes.specs.Code.{place, copy, set_node, term_code, let_code, send_codes, send_all_code, send_to_code, block_code};
+ghost use Rattle.rule_nodes.specs.Code.{place, copy, set_node, term_code, let_code, send_codes, send_all_code, send_to_code, is_nothing, block_code};
 ghost use Rattle.rule_nodes.specs.Refusals.{IsUnmade};
 
 use crate::assignments::assignment;
 use crate::errors::CompileError;
 use crate::insns::{copy_of, jump_at_of, place_of, set_node_of};
 use crate::operands::{get_of, source};
-use crate::parts::{chosen, joined, short, skip_test, within};
+use crate::parts::{if_of, if_test, joined, short, within};
 use crate::syntax::{Comparison, Purpose, Sizes, Source, Statement, Term};
 use crate::terms::term;
 use bpf_insn::{Insn, MAX_SLOTS, Reg};
@@ -154,6 +154,16 @@ fn send_to(
     short(stored(value, depth, &send)?)
 }
 
+/// Returns whether a statement does nothing.
+fn is_nothing_of(statement: &Statement) -> bool
+    ensures { result ≡ is_nothing statement.now }
+{
+    match statement {
+        Statement::Nothing => true,
+        _ => false,
+    }
+}
+
 /// Returns the code of a statement, with `depth` lets in scope. Fails if it is longer than a program.
 pub fn block(
     alloc: Global,
@@ -187,8 +197,9 @@ pub fn block(
         Statement::If(t, a, b) => {
             let second = block(alloc, b, sizes, loops, depth)?;
             let first = block(alloc, a, sizes, loops, depth)?;
-            let test = term(alloc, t, sizes, loops, depth, depth, skip_test(&first))?;
-            short(chosen(test, &first, &second)?)
+            let alone = is_nothing_of(b);
+            let test = term(alloc, t, sizes, loops, depth, depth, if_test(alone, &first))?;
+            short(if_of(alone, test, &first, &second)?)
         }
         Statement::For(body) => {
             let mut all = Vec::new(alloc);
