@@ -1,12 +1,14 @@
 -- The runs of statements.
-use Rattle.std.proofs.Common.{◌≡◌, ◌≢◌, ℕ, zero, suc, ◌+◌, ◌*◌, ◌%◌, ◌^◌, ◌<◌, ◌≤◌, ◌==◌, Bool, true, false, if◌then◌else◌, nat_lt, nat_le, List, [], ◌∷◌, ◌++◌, length, Some, Ok, All, pos, slice_set, refl, sym, ap, ◌∙◌, arith, subst, inl, inr, length-append}
+use Rattle.std.proofs.Common.{◌≡◌, ◌≢◌, ℕ, zero, suc, ◌+◌, ◌*◌, ◌%◌, ◌^◌, ◌<◌, ◌≤◌, ◌==◌, Bool, true, false, if◌then◌else◌, ◌&&◌, ◌||◌, nat_lt, nat_le, Option, None, List, [], ◌∷◌, ◌++◌, length, Some, Ok, All, pos, slice_set, refl, sym, ap, ◌∙◌, arith, subst, inl, inr, length-append}
 use Rattle.std.specs.Int.{w32, w64, cast_signed, cast_unsigned}
 use Rattle.std.specs.FinMap.{get, insert}
-use Rattle.std.proofs.lemmas.Bool.{cases_Bool, cases_eq, eq-eqb, ne_eqb, ltb-true, ltb-false, le-leb, lt-leb, cond-true, cond-false, or_cases}
+use Rattle.std.proofs.lemmas.Option.{same_Some, none-some}
+use Rattle.std.proofs.lemmas.Bool.{cases_Bool, cases_eq, eq-eqb, eqb-true, ne_eqb, and_parts, ltb-true, ltb-false, le-leb, lt-leb, cond-true, cond-false, or_cases}
 use Rattle.std.proofs.lemmas.List.Elements.{All-push}
 use Rattle.node_env.specs.Env.{Setting}
 use Rattle.bpf_insn.specs.declared.forms.Reg.{Reg}
 use Rattle.bpf_insn.specs.declared.forms.Reg.TheVariants.{R0, R1, R2, R6}
+use Rattle.bpf_insn.specs.declared.forms.Width.TheVariants.{W32}
 use Rattle.bpf_insn.specs.declared.forms.Operand.TheVariants as operand
 use Rattle.bpf_insn.specs.declared.forms.Insn.{Insn}
 use Rattle.bpf_insn.specs.declared.forms.Insn.TheVariants as i
@@ -28,19 +30,20 @@ use Rattle.rule_nodes.specs.declared.syntax.Assignment.TheVariants.{One, Also'}
 use Rattle.rule_nodes.specs.declared.syntax.Source.{Source}
 use Rattle.rule_nodes.specs.declared.syntax.Source.TheVariants.{Constant, FromLocal, FromWord, Computed}
 use Rattle.rule_nodes.specs.declared.syntax.Term.{Term}
-use Rattle.rule_nodes.specs.declared.syntax.Term.TheVariants.{Me, Coin}
+use Rattle.rule_nodes.specs.declared.syntax.Term.TheVariants.{Me, Coin, Local, Binary', Count'}
 use Rattle.rule_nodes.specs.declared.syntax.Statement.{Statement}
 use Rattle.rule_nodes.specs.declared.syntax.Statement.TheVariants.{Nothing, Then', Let', Assign, If', For', SendAll, SendTo}
-use Rattle.rule_nodes.specs.Meaning.{NodeState, value, word_at, truth, with_local, assigned, all_assigned, with_sent, sent_below, each_below, after}
-use Rattle.rule_nodes.specs.Operands.{is_constant, is_operand, is_asked, is_steady, depth_behind, source_of}
+use Rattle.rule_nodes.specs.declared.syntax.Operator.TheVariants.{Compute}
+use Rattle.rule_nodes.specs.Meaning.{NodeState, apply, value, count_below, word_at, truth, with_local, assigned, all_assigned, with_sent, sent_below, each_below, after}
+use Rattle.rule_nodes.specs.Operands.{is_constant, constant_number, is_local, is_operand, is_asked, is_steady, depth_behind, source_of}
 use Rattle.rule_nodes.specs.Fits.{HasPlace, Fits, TargetFits, AssignmentFits, BlockFits}
-use Rattle.rule_nodes.specs.Code.{place, copy, cond_of, term_code, assign_code, set_code, given_code, also_code, assignment_code, get_code, send_code, send_codes, send_all_code, send_to_code, each_code, block_code}
-use Rattle.rule_nodes.proofs.Small.{compared, imm_low}
-use Rattle.rule_nodes.proofs.Forms.{copies, stores_number, stays, once, chain, further}
+use Rattle.rule_nodes.specs.Code.{place, copy, cond_of, counted_code, term_code, assign_code, set_code, given_code, alu_of, change_of, one_code, also_code, assignment_code, get_code, send_code, send_codes, send_all_code, send_to_code, each_code, is_nothing, block_code}
+use Rattle.rule_nodes.proofs.Small.{compared, imm_low, apply_small}
+use Rattle.rule_nodes.proofs.Forms.{copies, operates_in, stores_number, stays, once, chain, further}
 use Rattle.rule_nodes.proofs.Words.{word_small, word_stored, word_low, word_length, word_bytes}
 use Rattle.rule_nodes.proofs.States.{stands_front, stands_back, place_number, Holds, still_holds, IsSized}
 use Rattle.rule_nodes.proofs.Sources.{is_found}
-use Rattle.rule_nodes.proofs.TermRuns.{hop, behind_more, behind_few, IsAt, found_same, source_is, Fetched, get_steps, Has, Gets, gets, here_is, branch_leads, choice_runs, constant_is, term_runs, nodes_few}
+use Rattle.rule_nodes.proofs.TermRuns.{hop, behind_more, behind_few, IsAt, found_same, source_is, Fetched, get_steps, Has, Gets, gets, here_is, branch_leads, if_runs, counted_runs, constant_is, constant_small, term_runs, nodes_few}
 
 -- ---- what holds after a write
 
@@ -120,6 +123,30 @@ holds_low env d k v raw u s to low h = record {
   sent = h.sent;
   room = word_length k v u.memory ∙ h.room;
   bytes = word_bytes k v u.memory h.bytes;
+}
+
+-- a number that is in its place already
+holds_there : (env : Setting) (d v : ℕ) (u : NodeState) (t : MachineState) → v < 2 ^ 32
+    → get t.frame.registers (7 + d) ≡ Some (Num v) → Holds env d u t → Holds env (d + 1) (with_local d v u) t
+holds_there env d v u t fits there h = record {
+  r6 = h.r6;
+  locals = λ j lt. elim (cases_eq j d) [
+    | inl same ↦
+        let at_d : 7 + j ≡ 7 + d = omega (arith, same) in
+        let is : v ≡ (with_local d v u).locals j = rw (eq-eqb j d same) refl in
+        ap (get t.frame.registers) at_d ∙ there ∙ ap (λ x. Some (Num x)) is
+    | inr other ↦
+        let is : u.locals j ≡ (with_local d v u).locals j = rw (ne_eqb j d other) refl in
+        h.locals j (omega (arith, lt, other)) ∙ ap (λ x. Some (Num x)) is
+  ];
+  small = λ j lt. elim (cases_eq j d) [
+    | inl same ↦ rw (eq-eqb j d same) fits
+    | inr other ↦ rw (ne_eqb j d other) (h.small j (omega (arith, lt, other)))
+  ];
+  memory = h.memory;
+  sent = h.sent;
+  room = h.room;
+  bytes = h.bytes;
 }
 
 -- place d is free
@@ -220,6 +247,10 @@ found_small env Computed z lets v u s found is memory h = absurd (let no : false
 pub computed_place : (found : Bool) (d : ℕ) → found ≡ false → HasPlace found d → d < 3
 computed_place true d e free = absurd (let no : true ≡ false = e in cc)
 computed_place false d e free = free
+
+pub nothing_here : (b : Statement) (z : Sizes) (J : List ℕ) (d : ℕ) → is_nothing b ≡ true → block_code b z J d ≡ []
+nothing_here Nothing z J d e = refl
+nothing_here b z J d e = absurd (let no : false ≡ true = e in cc)
 
 -- of a state, while a number is sent
 pub record Sending (env : Setting) (lets : ℕ) (u : NodeState) (s t : MachineState) : Type 0 where
@@ -696,15 +727,83 @@ module _ (program : List Insn) (env : Setting) (last : ℕ) (solid : (k : ℕ) �
         };
       }
 
+  local_is : (a : Term) (k : ℕ) (z : Sizes) (J : List ℕ) (u : NodeState) → is_local a k ≡ true
+      → value a z env J u ≡ u.locals k
+  local_is (Local j) k z J u e = ap u.locals (eqb-true j k e)
+  local_is a k z J u e = absurd (let no : false ≡ true = e in cc)
+
+  -- a local that is changed in its place
+  change_runs : (target : Target) (e : Term) (insn : Insn) (z : Sizes) (J : List ℕ) (d lets : ℕ) (u : NodeState)
+      (s : MachineState) → change_of target e z J ≡ Some insn → IsSized z env → All (λ j. j < z.nodes) J → lets ≤ d
+      → d ≤ 3 → TargetFits target z.memory lets → Fits e z (length J) lets d → Holds env lets u s
+      → Stands program s.frame.slot (insn ∷ []) → s.frame.slot + 1 ≤ last
+      → Leads s (insn ∷ []) (Assigned env lets d (assigned target (value e z env J u) u) s)
+  change_runs (ToLocal k) (Binary' (Compute op) p a q b) insn z J d lets u s is sized nodes le few ours fits h stands
+      room =
+      let c = constant_number b z J in
+      let act = i.Alu (alu_of op) W32 (place k) (operand.Imm (cast_signed w32 c)) in
+      let test = is_local a k && is_constant b in
+      elim (cases_Bool test) [
+        | inl so ↦
+            let parts = and_parts (is_local a k) (is_constant b) so in
+            let same : act ≡ insn = same_Some act insn (sym (cond-true test (Some act) None so) ∙ is) in
+            let small : k < 3 = omega (arith, ours, le, few) in
+            let reg = register_number (place k) in
+            let number : reg ≡ 7 + k = place_number k small in
+            let writable : (reg == 10) ≡ false = ap (λ (n : ℕ). n == 10) number
+            ∙ ne_eqb (7 + k) 10 (λ e. omega (arith, e, small)) in
+            let low_c : c < 2 ^ 32 = constant_small program env last solid b z J lets
+            (depth_behind (is_operand a || is_operand b) d) parts.1 sized nodes fits.2 in
+            let x = u.locals k in
+            let from : get s.frame.registers reg ≡ Some (Num x) = ap (get s.frame.registers) number ∙ h.locals k ours in
+            let v = apply op x c in
+            let raw = cast_unsigned w64 (cast_signed w32 c) in
+            let s1 = put s (s.frame.slot + 1) (place k) (Num v) in
+            let here : insn_at program s.frame.slot ≡ Some act = stands.0 ∙ ap (λ (y : Insn). Some y) (sym same) in
+            let e1 : step program env s ≡ Ok (Running s1) = operates_in program env op s (s.frame.slot + 1) x c raw
+            (place k) (operand.Imm (cast_signed w32 c)) here refl (solid _ room) from refl writable (imm_low c low_c)
+            (h.small k ours) low_c in
+            let means : v ≡ apply op (value a z env J u) (value b z env J u) =
+            ap (λ (y : ℕ). apply op y c) (sym (local_is a k z J u parts.0))
+            ∙ ap (λ (y : ℕ). apply op (value a z env J u) y) (constant_is program env last solid b z J u parts.1) in
+            let held : Holds env lets (with_local k v u) s1 = holds_local env lets lets k v u s (s.frame.slot + 1) small
+            (λ j lt other. lt) (apply_small op x c (h.small k ours) low_c) h in
+            record {
+              new = s1;
+              run = once program env s s1 e1;
+              slot = refl;
+              fact = record {
+                holds = subst (λ (n : ℕ). Holds env lets (with_local k n u) s1) means held;
+                kept = λ j start below. put_other s.frame.registers reg (Num v) (7 + j)
+                    (λ e. omega (arith, e, number, start, ours));
+              };
+            }
+        | inr other ↦ absurd (none-some insn (sym (cond-false test (Some act) None other) ∙ is))
+      ]
+  change_runs (ToWord k) (Binary' o p a q b) insn z J d lets u s is sized nodes le few ours fits h stands room =
+      absurd (none-some insn is)
+  change_runs target e insn z J d lets u s is sized nodes le few ours fits h stands room = absurd (none-some insn is)
+
+  one_runs : (found : Option Insn) (target : Target) (e : Term) (z : Sizes) (J : List ℕ) (d lets : ℕ) (u : NodeState)
+      (s : MachineState) → change_of target e z J ≡ found → IsSized z env → All (λ j. j < z.nodes) J → lets ≤ d
+      → d ≤ 3 → TargetFits target z.memory lets → Fits e z (length J) lets d → Holds env lets u s
+      → Stands program s.frame.slot (one_code found (given_code (source_of e z J) target (term_code e z J d Value)))
+      → s.frame.slot + length (one_code found (given_code (source_of e z J) target (term_code e z J d Value))) ≤ last
+      → Leads s (one_code found (given_code (source_of e z J) target (term_code e z J d Value)))
+      (Assigned env lets d (assigned target (value e z env J u) u) s)
+  one_runs None target e z J d lets u s is sized nodes le few ours fits h stands room =
+      given_runs (source_of e z J) target e z J d lets u s (source_is program env last solid e z J lets d u
+      sized nodes fits) sized nodes le few ours fits h stands room
+  one_runs (Some insn) target e z J d lets u s is sized nodes le few ours fits h stands room =
+      change_runs target e insn z J d lets u s is sized nodes le few ours fits h stands room
+
   assignment_runs : (a : Assignment) (z : Sizes) (J : List ℕ) (d lets : ℕ) (u : NodeState) (s : MachineState)
       → IsSized z env → All (λ j. j < z.nodes) J → lets ≤ d → d ≤ 3 → AssignmentFits a z (length J) lets d
       → Holds env lets u s → Stands program s.frame.slot (assignment_code a z J d)
       → s.frame.slot + length (assignment_code a z J d) ≤ last
       → Leads s (assignment_code a z J d) (Assigned env lets d (all_assigned a z env J u) s)
   assignment_runs (One target e) z J d lets u s sized nodes le few fits h stands room =
-      given_runs (source_of e z J) target e z J d lets u s (source_is program env last solid e z J lets d u
-      sized nodes fits.1)
-      sized nodes le few fits.0 fits.1 h stands room
+      one_runs (change_of target e z J) target e z J d lets u s refl sized nodes le few fits.0 fits.1 h stands room
   assignment_runs (Also' p front target e) z J d lets u s sized nodes le few fits h stands room =
       let behind = depth_behind (is_steady e) d in
       let w = all_assigned front z env J u in
@@ -777,6 +876,36 @@ module _ (program : List Insn) (env : Setting) (last : ℕ) (solid : (k : ℕ) �
         slot = omega (arith, len, c.slot, g.slot);
         fact = g.fact;
       }
+  block_runs (Let' (Count' q t) p rest) z J d u s sized nodes few fits h stands room =
+      let test = λ (j : ℕ). term_code t z (J ++ j ∷ []) (d + 1) (Jump false 1) in
+      let holds = λ (j : ℕ). value t z env (J ++ j ∷ []) u in
+      let v = count_below z.nodes holds in
+      let u1 = with_local d v u in
+      let front = counted_code d z.nodes test in
+      let back = block_code rest z J (d + 1) in
+      let end = after rest z env (d + 1) J u1 in
+      let small = nodes_few program env last solid z sized in
+      let len : length (front ++ back) ≡ length front + length back = length-append front back in
+      let c = counted_runs program env last solid d z.nodes test holds s fits.0 small
+      (stands_front program s.frame.slot front back stands) (omega (arith, len, room))
+      (λ j w lt same st l.
+      let more : length J + 1 ≡ length (J ++ j ∷ []) = omega (arith, length-append J (j ∷ [])) in
+      term_runs program env last solid t z (J ++ j ∷ []) (d + 1) d (Jump false 1) u w sized
+      (All-push (λ i. i < z.nodes) J j nodes lt) few (omega arith)
+      (subst (λ (n : ℕ). Fits t z n d (d + 1)) more fits.1.1) (still_holds env d d u s w (omega arith) h same) st l) in
+      let there = here_is program env last solid c.new _ back c.slot
+      (stands_back program s.frame.slot front back stands) in
+      let h1 = holds_there env d v u c.new (omega (arith, c.fact.few, small)) c.fact.place
+      (still_holds env d d u s c.new (omega arith) h c.fact.same) in
+      let g = block_runs rest z J (d + 1) u1 c.new sized nodes (omega (arith, fits.0)) fits.2 h1 there
+      (omega (arith, len, room, c.slot)) in
+      record {
+        new = g.new;
+        run = chain program env s c.new g.new (length front) (length back) (length (front ++ back)) c.run g.run
+            (omega (arith, len));
+        slot = omega (arith, len, c.slot, g.slot);
+        fact = holds_less env d end g.new g.fact;
+      }
   block_runs (Let' e p rest) z J d u s sized nodes few fits h stands room =
       let v = value e z env J u in
       let u1 = with_local d v u in
@@ -803,8 +932,8 @@ module _ (program : List Insn) (env : Setting) (last : ℕ) (solid : (k : ℕ) �
       let ua = after a z env d J u in
       let ub = after b z env d J u in
       let end = if truth v then ua else ub in
-      choice_runs program env last solid (λ far. term_code t z J d (Jump false far)) ca cb d v s
-      (Holds env d end) stands room
+      if_runs program env last solid (is_nothing b) (λ far. term_code t z J d (Jump false far)) ca cb d v s
+      (Holds env d end) (nothing_here b z J d) stands room
       (λ far st l. term_runs program env last solid t z J d d (Jump false far) u s sized nodes few
       (omega arith) fits.0 h st l)
       (λ w same e st l. gets program env last solid w _ _ _ _ (Holds env d ua) (Holds env d end) refl (omega arith)

@@ -64,6 +64,24 @@ module _ (program : List Insn) (env : Setting) where
   operates Remainder s to a b raw src here next there e f l g h =
       let r = results Remainder a b raw g h l in rw (here, next, there, e, f, r) refl
 
+  -- in any register but r10
+  pub operates_in : (op : Operation) (s : MachineState) (to a b raw : ℕ) (dst : Reg) (src : Operand)
+      → insn_at program s.frame.slot ≡ Some (i.Alu (alu_of op) W32 dst src) → s.frame.slot + 1 ≡ to
+      → BeginsAt program to → get s.frame.registers (register_number dst) ≡ Some (Num a)
+      → operand_of s.frame src ≡ Ok (Num raw) → (register_number dst == 10) ≡ false
+      → raw % 2 ^ 32 ≡ b → a < 2 ^ 32 → b < 2 ^ 32
+      → step program env s ≡ Ok (Running (put s to dst (Num (apply op a b))))
+  operates_in Sum s to a b raw dst src here next there e f free l g h =
+      let r = results Sum a b raw g h l in rw (here, next, there, e, f, free, r) refl
+  operates_in Difference s to a b raw dst src here next there e f free l g h =
+      let r = results Difference a b raw g h l in rw (here, next, there, e, f, free, r) refl
+  operates_in Product s to a b raw dst src here next there e f free l g h =
+      let r = results Product a b raw g h l in rw (here, next, there, e, f, free, r) refl
+  operates_in Quotient s to a b raw dst src here next there e f free l g h =
+      let r = results Quotient a b raw g h l in rw (here, next, there, e, f, free, r) refl
+  operates_in Remainder s to a b raw dst src here next there e f free l g h =
+      let r = results Remainder a b raw g h l in rw (here, next, there, e, f, free, r) refl
+
   -- one more
   pub counts : (s : MachineState) (to : ℕ) (dst : Reg) (c : ℕ)
       → insn_at program s.frame.slot ≡ Some (i.Alu Add W32 dst (operand.Imm (pos 1))) → s.frame.slot + 1 ≡ to

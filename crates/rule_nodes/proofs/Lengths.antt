@@ -1,5 +1,7 @@
 -- The code of a part is no longer than that of the whole, so a part that is too long makes the whole too long.
-use Rattle.std.proofs.Common.{◌≡◌, ℕ, zero, suc, ◌+◌, ◌<◌, ◌≤◌, Bool, true, false, ◌||◌, ◌⊎◌, nat_lt, List, [], ◌∷◌, ◌++◌, length, Result, Ok, Err, IfErr, IsErrAnd, pos, refl, sym, ap, ◌∙◌, arith, subst, inl, inr, length-append}
+use Rattle.std.proofs.Common.{◌≡◌, ℕ, zero, suc, ◌+◌, ◌<◌, ◌≤◌, Bool, true, false, ◌||◌, ◌&&◌, ◌⊎◌, nat_lt, Option, Some, None, List, [], ◌∷◌, ◌++◌, length, Result, Ok, Err, IfErr, IsErrAnd, pos, refl, sym, ap, ◌∙◌, arith, subst, inl, inr, length-append}
+use Rattle.std.specs.Int.{w32, cast_signed}
+use Rattle.std.proofs.lemmas.Option.{none-some}
 use Rattle.std.proofs.lemmas.Bool.{cases_Bool, cases_lt, cond-true, cond-false, and_parts}
 use Rattle.bpf_insn.specs.declared.forms.Width.TheVariants.{W32}
 use Rattle.bpf_insn.specs.declared.forms.AluOp.TheVariants.{Add}
@@ -12,6 +14,7 @@ use Rattle.rule_nodes.specs.declared.errors.CompileError.{CompileError}
 use Rattle.rule_nodes.specs.declared.errors.CompileError.TheVariants.{NoRoom, TooLong, Memory}
 use Rattle.rule_nodes.specs.declared.syntax.Sizes.{Sizes}
 use Rattle.rule_nodes.specs.declared.syntax.Comparison.TheVariants.{NotEqual}
+use Rattle.rule_nodes.specs.declared.syntax.Operation.{Operation}
 use Rattle.rule_nodes.specs.declared.syntax.Operator.{Operator}
 use Rattle.rule_nodes.specs.declared.syntax.Operator.TheVariants.{Compute, Compare}
 use Rattle.rule_nodes.specs.declared.syntax.Purpose.{Purpose}
@@ -25,11 +28,11 @@ use Rattle.rule_nodes.specs.declared.syntax.Term.TheVariants.{Number, Nodes, Fau
 use Rattle.rule_nodes.specs.declared.syntax.Assignment.{Assignment}
 use Rattle.rule_nodes.specs.declared.syntax.Assignment.TheVariants.{One, Also'}
 use Rattle.rule_nodes.specs.declared.syntax.Statement.{Statement}
-use Rattle.rule_nodes.specs.declared.syntax.Statement.TheVariants.{For', SendAll}
+use Rattle.rule_nodes.specs.declared.syntax.Statement.TheVariants.{Let', For', SendAll}
 use Rattle.rule_nodes.specs.Meaning.{operate}
-use Rattle.rule_nodes.specs.Operands.{is_constant, is_operand, is_steady, constant_number, depth_behind, fetched_source, source_of, IsWithin}
+use Rattle.rule_nodes.specs.Operands.{is_constant, is_local, is_operand, is_steady, constant_number, depth_behind, fetched_source, source_of, IsWithin}
 use Rattle.rule_nodes.specs.Fits.{Fits, AssignmentFits, BlockFits}
-use Rattle.rule_nodes.specs.Code.{place, set_number, set_node, copy, mirror, jump_on, jump_by, jump_at, jump_place, alu_of, far_of, when_of, beyond, behind_test, by_value, truth_code, get_code, load_code, operand_code, by_operator, left_code, two_code, binary_code, message_code, message_by, count_codes, count_code, term_code, assign_code, set_code, given_code, also_code, send_codes, send_code, send_all_code, each_code, assignment_code, block_code}
+use Rattle.rule_nodes.specs.Code.{place, set_number, set_node, copy, mirror, jump_on, jump_by, jump_at, jump_place, alu_of, far_of, when_of, beyond, behind_test, by_value, truth_code, get_code, load_code, operand_code, by_operator, left_code, two_code, binary_code, message_code, message_by, count_codes, counted_code, count_code, term_code, let_code, assign_code, set_code, given_code, change_of, one_code, also_code, send_codes, send_code, send_all_code, each_code, assignment_code, block_code}
 use Rattle.rule_nodes.specs.Refusals.{IsUnmade}
 use Rattle.rule_nodes.proofs.Sources.{is_found}
 
@@ -229,7 +232,7 @@ pub test_in_counts : (d n m : ℕ) (test : ℕ → List Insn) → m < n
 test_in_counts d n m test lt = omega (arith, one_count d m test, counts_long d n (suc m) test (omega (arith, lt)))
 
 pub count_long : (d n : ℕ) (test : ℕ → List Insn) → length (count_code d n test) ≡ length (count_codes d test n) + 2
-count_long d n test = omega (arith, length-append (count_codes d test n) (copy R0 (place d) ∷ []))
+count_long d n test = omega (arith, length-append (counted_code d n test) (copy R0 (place d) ∷ []))
 
 -- ---- statements
 
@@ -365,14 +368,40 @@ counts_part whole t p z J d n purpose new e le e1 =
 
 -- ---- the parts of assignments and statements
 
+local_changed : (a : Term) (k : ℕ) (op : Operation) (p q : _) (b : Term) (z : Sizes) (J : List ℕ) (d : ℕ)
+    → is_local a k ≡ true → is_constant b ≡ true → length (term_code (Binary' (Compute op) p a q b) z J d Value) ≡ 2
+local_changed (Local j) k op p q b z J d e f =
+    let right = term_code b z J (depth_behind true d) Value in
+    ap (λ (y : Source). length (binary_code y (FromLocal j) (Compute op) d Value (copy R0 (place j) ∷ []) right))
+    (cond-true (is_constant b) (Constant (constant_number b z J)) (fetched_source b) f)
+local_changed a k op p q b z J d e f = absurd (let no : false ≡ true = e in cc)
+
+-- a change in place has one instruction less than the number alone
+changed_long : (target : Target) (e : Term) (z : Sizes) (J : List ℕ) (d : ℕ) (insn : Insn)
+    → change_of target e z J ≡ Some insn → length (term_code e z J d Value) ≡ 2
+changed_long (ToLocal k) (Binary' (Compute op) p a q b) z J d insn is =
+    let test = is_local a k && is_constant b in
+    let act = i.Alu (alu_of op) W32 (place k) (operand.Imm (cast_signed w32 (constant_number b z J))) in
+    elim (cases_Bool test) [
+      | inl so ↦
+          let parts = and_parts (is_local a k) (is_constant b) so in
+          local_changed a k op p q b z J d parts.0 parts.1
+      | inr other ↦ absurd (none-some insn (sym (cond-false test (Some act) None other) ∙ is))
+    ]
+changed_long (ToWord k) (Binary' o p a q b) z J d insn is = absurd (none-some insn is)
+changed_long target e z J d insn is = absurd (none-some insn is)
+
 pub one_part : (whole : Assignment) (target : Target) (e : Term) (z : Sizes) (J : List ℕ) (d : ℕ)
-    → whole ≡ One target e → length (term_code e z J d Value) + 0 ≤ length (assignment_code whole z J d)
-one_part whole target e z J d is =
-    let l = given_long (source_of e z J) target (term_code e z J d Value) (found_short e z J d) in
-    rw is (omega (arith, l))
+    → whole ≡ One target e → length (term_code e z J d Value) + 0 ≤ length (assignment_code whole z J d) + 1
+one_part whole target e z J d is = rw is (by (change_of target e z J) refl)
+  where
+    by : (found : Option Insn) → change_of target e z J ≡ found → length (term_code e z J d Value) + 0
+        ≤ length (one_code found (given_code (source_of e z J) target (term_code e z J d Value))) + 1
+    by None same = omega (arith, given_long (source_of e z J) target (term_code e z J d Value) (found_short e z J d))
+    by (Some insn) same = omega (arith, changed_long target e z J d insn same)
 
 pub also_part : (whole front : Assignment) (p : _) (target : Target) (e : Term) (z : Sizes) (J : List ℕ) (d : ℕ)
-    → whole ≡ Also' p front target e → length (term_code e z J d Value) + 0 ≤ length (assignment_code whole z J d)
+    → whole ≡ Also' p front target e → length (term_code e z J d Value) + 0 ≤ length (assignment_code whole z J d) + 1
 also_part whole front p target e z J d is =
     let l = also_long (is_steady e) d (source_of e z J) target (term_code e z J d Value)
     (assignment_code front z J (depth_behind (is_steady e) d)) (found_short e z J d) in
@@ -394,8 +423,33 @@ also_within whole front p target e x z J lets d is same few fits =
     subst (λ (y : Assignment). AssignmentFits y z (length J) lets d) is fits in
     subst (λ (y : Source). IsWithin y 256) (sym same) (source_within e z J (length J) lets d few parts.1)
 
+let_long : (e : Term) (z : Sizes) (J : List ℕ) (d : ℕ) (rest : List Insn)
+    → (length (term_code e z J d Value) ≤ length (let_code e z J d rest) + 1)
+    × (length rest ≤ length (let_code e z J d rest))
+let_long (Count' p t) z J d rest =
+    let test = λ (j : ℕ). term_code t z (J ++ j ∷ []) (d + 1) (Jump false 1) in
+    let l1 = length-append (counted_code d z.nodes test) (copy R0 (place d) ∷ []) in
+    let l2 = length-append (counted_code d z.nodes test) rest in
+    (omega arith, omega arith)
+let_long e z J d rest =
+    let l = length-append (term_code e z J d Value) (copy (place d) R0 ∷ rest) in
+    (omega arith, omega arith)
+
+pub let_value_part : (whole rest : Statement) (e : Term) (p : _) (z : Sizes) (J : List ℕ) (d : ℕ)
+    → whole ≡ Let' e p rest → length (term_code e z J d Value) + 0 ≤ length (block_code whole z J d) + 1
+let_value_part whole rest e p z J d is =
+    let l = let_long e z J d (block_code rest z J (d + 1)) in
+    rw is (omega (arith, l.0))
+
+pub let_rest_part : (whole rest rest1 : Statement) (e : Term) (p : _) (z : Sizes) (J : List ℕ) (d : ℕ)
+    → whole ≡ Let' e p rest → rest1 ≡ rest
+    → length (block_code rest1 z J (d + 1)) + 1 ≤ length (block_code whole z J d) + 1
+let_rest_part whole rest rest1 e p z J d is same =
+    let l = let_long e z J d (block_code rest z J (d + 1)) in
+    rw (is, same) (omega (arith, l.1))
+
 pub sent_part : (e : Term) (z : Sizes) (J : List ℕ) (d : ℕ) → 1 ≤ z.nodes
-    → length (term_code e z J d Value) + 0 ≤ length (block_code (SendAll e) z J d)
+    → length (term_code e z J d Value) + 0 ≤ length (block_code (SendAll e) z J d) + 1
 sent_part e z J d some =
     let l = send_all_long (source_of e z J) d z.nodes (term_code e z J d Value) some (found_short e z J d) in
     omega (arith, l)
@@ -406,14 +460,14 @@ sent_within e x z J d same few fits =
     subst (λ (y : Source). IsWithin y 256) (sym same) (source_within e z J (length J) d d few fits.1)
 
 pub body_part : (whole b b1 : Statement) (p : _) (z : Sizes) (J J1 J2 : List ℕ) (d n : ℕ) → whole ≡ For' p b → b1 ≡ b
-    → J1 ≡ J ++ n ∷ [] → J2 ≡ J1 → n < z.nodes → length (block_code b1 z J2 d) ≤ length (block_code whole z J d)
+    → J1 ≡ J ++ n ∷ [] → J2 ≡ J1 → n < z.nodes → length (block_code b1 z J2 d) + 1 ≤ length (block_code whole z J d) + 1
 body_part whole b b1 p z J J1 J2 d n e e1 e2 e3 lt =
     let l = body_in_each z.nodes n (λ j. block_code b z (J ++ j ∷ []) d) lt in
     rw (e, e1, e3, e2) (omega (arith, l))
 
 pub bodies_part : (whole b : Statement) (p : _) (z : Sizes) (J : List ℕ) (d n : ℕ) (new : List Insn) → whole ≡ For' p b
     → n + 1 ≤ z.nodes → new ≡ each_code (λ j. block_code b z (J ++ j ∷ []) d) (n + 1)
-    → length new ≤ length (block_code whole z J d)
+    → length new ≤ length (block_code whole z J d) + 1
 bodies_part whole b p z J d n new e le e1 =
     let l = eachs_long z.nodes (n + 1) (λ j. block_code b z (J ++ j ∷ []) d) le in
     rw (e, e1) (omega (arith, l))

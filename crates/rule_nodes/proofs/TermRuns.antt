@@ -42,7 +42,7 @@ use Rattle.rule_nodes.specs.declared.syntax.Term.TheVariants.{Number, Nodes, Fau
 use Rattle.rule_nodes.specs.Meaning.{NodeState, value, word_at, apply, compare, number_of, truth, operate, combine, message_from, count_below}
 use Rattle.rule_nodes.specs.Operands.{is_constant, is_fetched, is_operand, constant_number, depth_behind, fetched_source, source_of}
 use Rattle.rule_nodes.specs.Fits.{HasPlace, Fits}
-use Rattle.rule_nodes.specs.Code.{place, set_number, copy, alu_of, cond_of, jump_on, jump_by, jump_at, beyond, truth_code, by_value, by_test, two_code, get_code, operand_code, load_code, jump_place, by_operator, left_code, binary_code, choice_code, decides, both_far, both_code, message_code, message_by, mirror, set_node, count_codes, count_code, term_code}
+use Rattle.rule_nodes.specs.Code.{place, set_number, copy, alu_of, cond_of, jump_on, jump_by, jump_at, beyond, truth_code, by_value, by_test, two_code, get_code, operand_code, load_code, jump_place, by_operator, left_code, binary_code, choice_code, if_code, decides, both_far, both_code, message_code, message_by, mirror, set_node, count_codes, counted_code, count_code, term_code}
 use Rattle.rule_nodes.proofs.Sources.{is_found}
 use Rattle.rule_nodes.proofs.Small.{low, imm_low, mirrored, apply_small, operate_small, taken, compared, truth_of, jump_compared, jump_by_zero, not_not}
 use Rattle.rule_nodes.proofs.Words.{word_loaded, word_small}
@@ -446,6 +446,54 @@ module _ (program : List Insn) (env : Setting) (last : ℕ) (solid : (k : ℕ) �
             }
       ]
 
+  -- with no code for the other case
+  pub if_runs : (alone : Bool) (test : ℕ → List Insn) (a b : List Insn) (d v : ℕ) (s : MachineState)
+      (P : MachineState → Type 0) → (alone ≡ true → b ≡ [])
+      → Stands program s.frame.slot (if_code alone test a b) → s.frame.slot + length (if_code alone test a b) ≤ last
+      → ((far : ℕ) → Stands program s.frame.slot (test far) → s.frame.slot + length (test far) + far ≤ last
+      → Gets s (s.frame.slot + length (test far) + landing false v far) (length (test far)) (Same d s))
+      → ((t : MachineState) → Same d s t → truth v ≡ true → Stands program t.frame.slot a
+      → t.frame.slot + length a ≤ last → Gets t (t.frame.slot + length a) (length a) P)
+      → ((t : MachineState) → Same d s t → truth v ≡ false → Stands program t.frame.slot b
+      → t.frame.slot + length b ≤ last → Gets t (t.frame.slot + length b) (length b) P)
+      → ((t : MachineState) (to : ℕ) → P t → P (at t to))
+      → Gets s (s.frame.slot + length (if_code alone test a b)) (length (if_code alone test a b)) P
+  if_runs false test a b d v s P none stands le tests first second blind =
+      choice_runs test a b d v s P stands le tests first second blind
+  if_runs true test a b d v s P none stands le tests first second blind =
+      let far = length a in
+      let code = test far in
+      let len : length (code ++ a) ≡ length code + length a = length-append code a in
+      let c = tests far (stands_front program s.frame.slot code a stands) (omega (arith, len, le)) in
+      elim (cases_Bool (truth v)) [
+        | inl so ↦
+            let stay : landing false v far ≡ 0 = rw so refl in
+            let slot : c.new.frame.slot ≡ s.frame.slot + length code = omega (arith, c.slot, stay) in
+            let there = here_is c.new _ a slot (stands_back program s.frame.slot code a stands) in
+            let g = first c.new c.fact so there (omega (arith, len, le, slot)) in
+            record {
+              new = g.new;
+              run = chain program env s c.new g.new (length code) (length a) (length (code ++ a)) c.run g.run
+                  (omega (arith, len));
+              slot = omega (arith, len, slot, g.slot);
+              fact = g.fact;
+            }
+        | inr other ↦
+            let all : landing false v far ≡ far = rw other refl in
+            let slot : c.new.frame.slot ≡ s.frame.slot + length code + length a = omega (arith, c.slot, all) in
+            let empty = none refl in
+            let short : length b ≡ 0 = ap length empty in
+            let g = second c.new c.fact other (subst (λ (x : List Insn). Stands program c.new.frame.slot x)
+            (sym empty) tt) (omega (arith, len, le, slot, short)) in
+            record {
+              new = g.new;
+              run = chain program env s c.new g.new (length code) (length b) (length (code ++ a)) c.run g.run
+                  (omega (arith, len, short));
+              slot = omega (arith, len, slot, g.slot, short);
+              fact = g.fact;
+            }
+      ]
+
   -- ---- conditions of two
 
   landing_hit : (alone : Bool) (v far : ℕ) → truth v ≡ alone → landing alone v far ≡ far
@@ -668,6 +716,39 @@ module _ (program : List Insn) (env : Setting) (last : ℕ) (solid : (k : ℕ) �
             }
       ]
 
+  pub counted_runs : (d n : ℕ) (test : ℕ → List Insn) (holds : ℕ → ℕ) (s : MachineState) → d < 3 → n < 2 ^ 31
+      → Stands program s.frame.slot (counted_code d n test) → s.frame.slot + length (counted_code d n test) ≤ last
+      → ((j : ℕ) (t : MachineState) → j < n → Same d s t → Stands program t.frame.slot (test j)
+      → t.frame.slot + length (test j) + 1 ≤ last
+      → Gets t (t.frame.slot + length (test j) + landing false (holds j) 1) (length (test j)) (Same (d + 1) t))
+      → Gets s (s.frame.slot + length (counted_code d n test)) (length (counted_code d n test))
+      (Counts d s n (count_below n holds))
+  counted_runs d n test holds s small few stands fits each =
+      let p = register_number (place d) in
+      let number : p ≡ 7 + d = place_number d small in
+      let writable : (p == 10) ≡ false = ap (λ (n : ℕ). n == 10) number ∙ ne_eqb (7 + d) 10 (λ e. omega arith) in
+      let codes = count_codes d test n in
+      let s1 = put s (s.frame.slot + 1) (place d) (Num 0) in
+      let e1 : step program env s ≡ Ok (Running s1) = sets_number program env s (s.frame.slot + 1)
+      (place d) 0 stands.0 refl (solid _ (omega (arith, fits))) (omega arith) writable in
+      let same1 : Same d s s1 = same_put d s s (s.frame.slot + 1) (place d) (Num 0) (free_place d d small (omega arith))
+      (same_self d s) in
+      let start : get s1.frame.registers (7 + d) ≡ Some (Num 0) = ap (get s1.frame.registers) (sym number)
+      ∙ put_same s.frame.registers p (Num 0) in
+      let c = counts_run d n test holds s1 n small few (omega arith) stands.1 (omega (arith, fits)) start
+      (λ j t lt same. each j t lt (same_then d s s1 t same1 same)) in
+      record {
+        new = c.new;
+        run = chain program env s s1 c.new 1 (length codes) (length (counted_code d n test))
+            (once program env s s1 e1) c.run (omega arith);
+        slot = omega (arith, c.slot);
+        fact = record {
+          same = same_then d s s1 c.new same1 c.fact.same;
+          place = c.fact.place;
+          few = c.fact.few;
+        };
+      }
+
   pub count_runs : (d n : ℕ) (test : ℕ → List Insn) (holds : ℕ → ℕ) (s : MachineState) → d < 3 → n < 2 ^ 31
       → Stands program s.frame.slot (count_code d n test) → s.frame.slot + length (count_code d n test) ≤ last
       → ((j : ℕ) (t : MachineState) → j < n → Same d s t → Stands program t.frame.slot (test j)
@@ -678,36 +759,25 @@ module _ (program : List Insn) (env : Setting) (last : ℕ) (solid : (k : ℕ) �
   count_runs d n test holds s small few stands fits each =
       let p = register_number (place d) in
       let number : p ≡ 7 + d = place_number d small in
-      let writable : (p == 10) ≡ false = ap (λ (n : ℕ). n == 10) number ∙ ne_eqb (7 + d) 10 (λ e. omega arith) in
-      let codes = count_codes d test n in
+      let codes = counted_code d n test in
       let last_one = copy R0 (place d) ∷ [] in
       let len : length (codes ++ last_one) ≡ length codes + 1 = length-append codes last_one in
-      let s1 = put s (s.frame.slot + 1) (place d) (Num 0) in
-      let e1 : step program env s ≡ Ok (Running s1) = sets_number program env s (s.frame.slot + 1)
-      (place d) 0 stands.0 refl (solid _ (omega (arith, len, fits))) (omega arith) writable in
-      let same1 : Same d s s1 = same_put d s s (s.frame.slot + 1) (place d) (Num 0) (free_place d d small (omega arith))
-      (same_self d s) in
-      let start : get s1.frame.registers (7 + d) ≡ Some (Num 0) = ap (get s1.frame.registers) (sym number)
-      ∙ put_same s.frame.registers p (Num 0) in
-      let c = counts_run d n test holds s1 n small few (omega arith)
-      (stands_front program s1.frame.slot codes last_one stands.1) (omega (arith, len, fits)) start
-      (λ j t lt same. each j t lt (same_then d s s1 t same1 same)) in
+      let c = counted_runs d n test holds s small few (stands_front program s.frame.slot codes last_one stands)
+      (omega (arith, len, fits)) each in
       let w = c.new in
       let v = count_below n holds in
-      let there = here_is w _ last_one c.slot (stands_back program s1.frame.slot codes last_one stands.1) in
+      let there = here_is w _ last_one c.slot (stands_back program s.frame.slot codes last_one stands) in
       let w1 = put w (w.frame.slot + 1) R0 (Num v) in
       let small_v : v < 2 ^ 32 = omega (arith, c.fact.few, few) in
       let e3 : step program env w ≡ Ok (Running w1) = copies program env w (w.frame.slot + 1) R0
       (place d) v there.0 refl (solid _ (omega (arith, len, fits, c.slot))) (ap (get w.frame.registers) number
       ∙ c.fact.place) small_v refl in
-      let run1 = chain program env s s1 w 1 (length codes) (1 + length codes) (once program env s s1 e1) c.run
-      (omega arith) in
       record {
         new = w1;
-        run = further program env s w w1 (1 + length codes) (length (count_code d n test)) run1 e3 (omega (arith, len));
+        run = further program env s w w1 (length codes) (length (codes ++ last_one)) c.run e3 (omega (arith, len));
         slot = omega (arith, len, c.slot);
         fact = record {
-          same = same_put d s w (w.frame.slot + 1) R0 (Num v) (r0_free d) (same_then d s s1 w same1 c.fact.same);
+          same = same_put d s w (w.frame.slot + 1) R0 (Num v) (r0_free d) c.fact.same;
           r0 = put_same w.frame.registers 0 (Num v);
           small = small_v;
         };
@@ -827,7 +897,7 @@ module _ (program : List Insn) (env : Setting) (last : ℕ) (solid : (k : ℕ) �
       rw (constant_is a z J u parts.0, constant_is b z J u parts.1) refl
   constant_is t z J u e = absurd (let no : false ≡ true = e in cc)
 
-  constant_small : (t : Term) (z : Sizes) (J : List ℕ) (lets d : ℕ) → is_constant t ≡ true → IsSized z env
+  pub constant_small : (t : Term) (z : Sizes) (J : List ℕ) (lets d : ℕ) → is_constant t ≡ true → IsSized z env
       → All (λ j. j < z.nodes) J → Fits t z (length J) lets d → constant_number t z J < 2 ^ 32
   constant_small (Number v) z J lets d e sized nodes fits = fits
   constant_small Nodes z J lets d e sized nodes fits = omega (arith, nodes_few z sized)

@@ -1,12 +1,13 @@
 -- The code of statements, and of whole rules, is typed.
-use Rattle.std.proofs.Common.{◌≡◌, ℕ, zero, suc, ◌+◌, ◌-◌, ◌*◌, ◌^◌, ◌%◌, ◌<◌, ◌≤◌, ◌==◌, nat_lt, Bool, true, false, ◌||◌, List, [], ◌∷◌, ◌++◌, length, Some, None, pos, slice_get, refl, sym, ap, ◌∙◌, arith, subst, length-append}
+use Rattle.std.proofs.Common.{◌≡◌, ℕ, zero, suc, ◌+◌, ◌-◌, ◌*◌, ◌^◌, ◌%◌, ◌<◌, ◌≤◌, ◌==◌, nat_lt, Bool, true, false, ◌||◌, ◌&&◌, List, [], ◌∷◌, ◌++◌, length, Option, Some, None, pos, slice_get, refl, sym, ap, ◌∙◌, arith, subst, inl, inr, length-append}
 use Rattle.std.specs.Int.{w32, w64, cast_signed, cast_unsigned}
-use Rattle.std.proofs.lemmas.Bool.{lt-ltb, le-ltb, ne_eqb}
+use Rattle.std.proofs.lemmas.Bool.{cases_Bool, cond-true, cond-false, lt-ltb, le-ltb, ne_eqb}
+use Rattle.std.proofs.lemmas.Option.{same_Some, none-some}
 use Rattle.node_env.specs.Env.{Extent, IsExtent}
 use Rattle.bpf_insn.specs.declared.forms.Reg.TheVariants.{R0, R1, R2, R6}
 use Rattle.bpf_insn.specs.declared.forms.Width.TheVariants.{W32, W64}
 use Rattle.bpf_insn.specs.declared.forms.Size.TheVariants as size
-use Rattle.bpf_insn.specs.declared.forms.AluOp.TheVariants.{Mov}
+use Rattle.bpf_insn.specs.declared.forms.AluOp.TheVariants.{Add, Sub, Mul, Div, Mod, Mov}
 use Rattle.bpf_insn.specs.declared.forms.Operand.TheVariants as operand
 use Rattle.bpf_insn.specs.declared.forms.Insn.{Insn}
 use Rattle.bpf_insn.specs.declared.forms.Insn.TheVariants as i
@@ -18,13 +19,17 @@ use Rattle.value_range.specs.Span.{Span, just, full_of}
 use Rattle.bpf_verify.specs.declared.kind.Kind.{Kind}
 use Rattle.bpf_verify.specs.declared.kind.Kind.TheVariants.{Unset, Number}
 use Rattle.bpf_verify.specs.States.{AbstractState, IsKindIn, IsContainedIn, IsProper, entry_state, kind_of, is_unset_kind, is_pointer_kind}
-use Rattle.bpf_verify.specs.Outcomes.{outcome, with_kind, of_number_kind}
+use Rattle.bpf_verify.specs.Outcomes.{outcome, with_kind, of_number_kind, of_number_kinds}
 use Rattle.bpf_verify.specs.Typable.{Table, IsCovered, Typable}
 use Rattle.bpf_verify.proofs.StateLaws.{kind_in_itself, contained_in_itself, contained_further}
 use Rattle.clock_nodes.proofs.Taken.{state, proper, within, covered, KeepsOwn, keeps_own, sound_end, Sound, Sounds, marks_whole, typed}
 use Rattle.rule_nodes.specs.declared.syntax.Sizes.{Sizes}
+use Rattle.rule_nodes.specs.declared.syntax.Operation.{Operation}
+use Rattle.rule_nodes.specs.declared.syntax.Operation.TheVariants.{Sum, Difference, Product, Quotient, Remainder}
+use Rattle.rule_nodes.specs.declared.syntax.Operator.TheVariants.{Compute}
 use Rattle.rule_nodes.specs.declared.syntax.Comparison.TheVariants.{AtLeast}
 use Rattle.rule_nodes.specs.declared.syntax.Purpose.TheVariants.{Value, Jump}
+use Rattle.rule_nodes.specs.declared.syntax.Term.TheVariants.{Binary', Count'}
 use Rattle.rule_nodes.specs.declared.syntax.Target.{Target}
 use Rattle.rule_nodes.specs.declared.syntax.Target.TheVariants.{ToLocal, ToWord}
 use Rattle.rule_nodes.specs.declared.syntax.Assignment.{Assignment}
@@ -34,9 +39,9 @@ use Rattle.rule_nodes.specs.declared.syntax.Source.TheVariants.{Constant, FromLo
 use Rattle.rule_nodes.specs.declared.syntax.Term.{Term}
 use Rattle.rule_nodes.specs.declared.syntax.Statement.{Statement}
 use Rattle.rule_nodes.specs.declared.syntax.Statement.TheVariants.{Nothing, Then', Let', Assign, If', For', SendAll, SendTo}
-use Rattle.rule_nodes.specs.Operands.{is_operand, is_steady, depth_behind, source_of}
+use Rattle.rule_nodes.specs.Operands.{is_constant, constant_number, is_local, is_operand, is_steady, depth_behind, source_of}
 use Rattle.rule_nodes.specs.Fits.{HasPlace, Fits, TargetFits, AssignmentFits, BlockFits}
-use Rattle.rule_nodes.specs.Code.{place, copy, set_node, cond_of, jump_at, term_code, assign_code, set_code, given_code, also_code, assignment_code, get_code, set_number, send_code, send_codes, send_all_code, send_to_code, each_code, block_code, tail_code, rule_code}
+use Rattle.rule_nodes.specs.Code.{place, copy, set_node, cond_of, jump_at, counted_code, term_code, assign_code, set_code, given_code, alu_of, change_of, one_code, also_code, assignment_code, get_code, set_number, send_code, send_codes, send_all_code, send_to_code, each_code, is_nothing, block_code, tail_code, rule_code}
 use Rattle.rule_nodes.proofs.Typing.{memory_place, word, known, plain, valued, proper_known, some_word, into, short, Typing, typed_then, typed_as, typed_none, one_on, one_fork, fetch_typed, keep_typed, AllSound, seen}
 use Rattle.rule_nodes.proofs.Whole.{all_begin, rule_length, ones_rule}
 use Rattle.rule_nodes.specs.Ends.{AreSizes}
@@ -44,7 +49,7 @@ use Rattle.rule_nodes.proofs.States.{place_number}
 use Rattle.rule_nodes.proofs.Sources.{is_found}
 use Rattle.rule_nodes.proofs.TermRuns.{behind_more, behind_few, found_same}
 use Rattle.rule_nodes.proofs.Blocks.{computed_place}
-use Rattle.rule_nodes.proofs.TypedTerms.{known_less, covers_less, left_imm, typed_seq, typed_at, choice_typed, some_node, proper_node, node_in_r0, not_above_node, name_typed, node_typed, load_typed, placed_in, place_word, IsThere, source_there, term_typed}
+use Rattle.rule_nodes.proofs.TypedTerms.{known_less, covers_less, left_imm, typed_seq, typed_at, if_typed, some_node, proper_node, node_in_r0, not_above_node, name_typed, node_typed, load_typed, placed_in, place_word, word_result, IsThere, source_there, counted_typed, term_typed}
 
 module _ (program : List Insn) (shape : Extent) (last : ℕ) (solid : (k : ℕ) → k ≤ last → BeginsAt program k) where
   abbrev T : ℕ → List Insn → (Table → Type 0) → (Table → Type 0) → Type 0
@@ -527,13 +532,150 @@ module _ (program : List Insn) (shape : Extent) (last : ℕ) (solid : (k : ℕ) 
       typed_seq program shape last solid slot p1 code rest (C (plain d) slot) (C (valued d) p1)
       (C (plain d) end) refl a bcfg
 
+  -- a local that is changed in its place
+  alter_typed : (op : Operation) (k v d slot : ℕ) → k < d → d ≤ 3 → slot + 1 ≤ last
+      → T slot (i.Alu (alu_of op) W32 (place k) (operand.Imm (cast_signed w32 v)) ∷ []) (C (plain d) slot)
+      (C (plain d) (slot + 1))
+  alter_typed Sum k v d slot lt few le =
+      let n = cast_unsigned w64 (cast_signed w32 v) % 2 ^ 32 in
+      let small : k < 3 = omega (arith, lt, few) in
+      let e : kind_of (plain d) (place k) ≡ word = place_word k d lt few in
+      place_typed k d slot (i.Alu Add W32 (place k) (operand.Imm (cast_signed w32 v)))
+      (of_number_kinds (range_of Add W32) (kind_of (plain d) (place k)) (Number (just n))) small refl refl refl
+      (subst (λ (q : Kind). IsKindIn (of_number_kinds (range_of Add W32) q (Number (just n))) word) (sym e)
+      (word_result Add (Number (just n)) (just n) refl (record { ordered = omega arith })
+      (record { low = omega arith; high = omega arith }) refl))
+      (record {
+        forward = refl;
+        known = refl;
+        set = ap (λ (q : Kind). is_unset_kind q || false) e;
+        frame = writable k small;
+        pointer = ap (λ (q : Kind). is_pointer_kind q || false) e;
+        region = refl;
+        stack = refl;
+        argument = refl;
+        exit = refl;
+        base = refl;
+      }) le
+  alter_typed Difference k v d slot lt few le =
+      let n = cast_unsigned w64 (cast_signed w32 v) % 2 ^ 32 in
+      let small : k < 3 = omega (arith, lt, few) in
+      let e : kind_of (plain d) (place k) ≡ word = place_word k d lt few in
+      place_typed k d slot (i.Alu Sub W32 (place k) (operand.Imm (cast_signed w32 v)))
+      (of_number_kinds (range_of Sub W32) (kind_of (plain d) (place k)) (Number (just n))) small refl refl refl
+      (subst (λ (q : Kind). IsKindIn (of_number_kinds (range_of Sub W32) q (Number (just n))) word) (sym e)
+      (word_result Sub (Number (just n)) (just n) refl (record { ordered = omega arith })
+      (record { low = omega arith; high = omega arith }) refl))
+      (record {
+        forward = refl;
+        known = refl;
+        set = ap (λ (q : Kind). is_unset_kind q || false) e;
+        frame = writable k small;
+        pointer = ap (λ (q : Kind). is_pointer_kind q || false) e;
+        region = refl;
+        stack = refl;
+        argument = refl;
+        exit = refl;
+        base = refl;
+      }) le
+  alter_typed Product k v d slot lt few le =
+      let n = cast_unsigned w64 (cast_signed w32 v) % 2 ^ 32 in
+      let small : k < 3 = omega (arith, lt, few) in
+      let e : kind_of (plain d) (place k) ≡ word = place_word k d lt few in
+      place_typed k d slot (i.Alu Mul W32 (place k) (operand.Imm (cast_signed w32 v)))
+      (of_number_kinds (range_of Mul W32) (kind_of (plain d) (place k)) (Number (just n))) small refl refl refl
+      (subst (λ (q : Kind). IsKindIn (of_number_kinds (range_of Mul W32) q (Number (just n))) word) (sym e)
+      (word_result Mul (Number (just n)) (just n) refl (record { ordered = omega arith })
+      (record { low = omega arith; high = omega arith }) refl))
+      (record {
+        forward = refl;
+        known = refl;
+        set = ap (λ (q : Kind). is_unset_kind q || false) e;
+        frame = writable k small;
+        pointer = ap (λ (q : Kind). is_pointer_kind q || false) e;
+        region = refl;
+        stack = refl;
+        argument = refl;
+        exit = refl;
+        base = refl;
+      }) le
+  alter_typed Quotient k v d slot lt few le =
+      let n = cast_unsigned w64 (cast_signed w32 v) % 2 ^ 32 in
+      let small : k < 3 = omega (arith, lt, few) in
+      let e : kind_of (plain d) (place k) ≡ word = place_word k d lt few in
+      place_typed k d slot (i.Alu Div W32 (place k) (operand.Imm (cast_signed w32 v)))
+      (of_number_kinds (range_of Div W32) (kind_of (plain d) (place k)) (Number (just n))) small refl refl refl
+      (subst (λ (q : Kind). IsKindIn (of_number_kinds (range_of Div W32) q (Number (just n))) word) (sym e)
+      (word_result Div (Number (just n)) (just n) refl (record { ordered = omega arith })
+      (record { low = omega arith; high = omega arith }) refl))
+      (record {
+        forward = refl;
+        known = refl;
+        set = ap (λ (q : Kind). is_unset_kind q || false) e;
+        frame = writable k small;
+        pointer = ap (λ (q : Kind). is_pointer_kind q || false) e;
+        region = refl;
+        stack = refl;
+        argument = refl;
+        exit = refl;
+        base = refl;
+      }) le
+  alter_typed Remainder k v d slot lt few le =
+      let n = cast_unsigned w64 (cast_signed w32 v) % 2 ^ 32 in
+      let small : k < 3 = omega (arith, lt, few) in
+      let e : kind_of (plain d) (place k) ≡ word = place_word k d lt few in
+      place_typed k d slot (i.Alu Mod W32 (place k) (operand.Imm (cast_signed w32 v)))
+      (of_number_kinds (range_of Mod W32) (kind_of (plain d) (place k)) (Number (just n))) small refl refl refl
+      (subst (λ (q : Kind). IsKindIn (of_number_kinds (range_of Mod W32) q (Number (just n))) word) (sym e)
+      (word_result Mod (Number (just n)) (just n) refl (record { ordered = omega arith })
+      (record { low = omega arith; high = omega arith }) refl))
+      (record {
+        forward = refl;
+        known = refl;
+        set = ap (λ (q : Kind). is_unset_kind q || false) e;
+        frame = writable k small;
+        pointer = ap (λ (q : Kind). is_pointer_kind q || false) e;
+        region = refl;
+        stack = refl;
+        argument = refl;
+        exit = refl;
+        base = refl;
+      }) le
+
+  change_typed_in : (target : Target) (e : Term) (insn : Insn) (z : Sizes) (J : List ℕ) (d lets slot : ℕ)
+      → change_of target e z J ≡ Some insn → lets ≤ d → d ≤ 3 → TargetFits target z.memory lets → slot + 1 ≤ last
+      → T slot (insn ∷ []) (C (plain d) slot) (C (plain d) (slot + 1))
+  change_typed_in (ToLocal k) (Binary' (Compute op) p a q b) insn z J d lets slot is le few ours room =
+      let c = constant_number b z J in
+      let act = i.Alu (alu_of op) W32 (place k) (operand.Imm (cast_signed w32 c)) in
+      let test = is_local a k && is_constant b in
+      elim (cases_Bool test) [
+        | inl so ↦
+            let same : act ≡ insn = same_Some act insn (sym (cond-true test (Some act) None so) ∙ is) in
+            subst (λ (x : Insn). T slot (x ∷ []) (C (plain d) slot) (C (plain d) (slot + 1))) same
+            (alter_typed op k c d slot (omega (arith, ours, le)) few room)
+        | inr other ↦ absurd (none-some insn (sym (cond-false test (Some act) None other) ∙ is))
+      ]
+  change_typed_in (ToWord k) (Binary' o p a q b) insn z J d lets slot is le few ours room = absurd (none-some insn is)
+  change_typed_in target e insn z J d lets slot is le few ours room = absurd (none-some insn is)
+
+  one_typed : (found : Option Insn) (target : Target) (e : Term) (z : Sizes) (J : List ℕ) (d lets slot : ℕ)
+      → change_of target e z J ≡ found → z.nodes ≡ shape.nodes → 1 ≤ z.nodes → z.nodes ≤ 64 → z.memory ≡ shape.memory
+      → lets ≤ d → d ≤ 3 → TargetFits target z.memory lets → Fits e z (length J) lets d
+      → slot + length (one_code found (given_code (source_of e z J) target (term_code e z J d Value))) ≤ last
+      → BlockTyped d slot (one_code found (given_code (source_of e z J) target (term_code e z J d Value)))
+  one_typed None target e z J d lets slot is same some few room below small ours fits le =
+      let there = subst (λ (m : ℕ). IsThere (source_of e z J) lets m) room
+      (source_there e z J (length J) lets d fits) in
+      given_typed (source_of e z J) target e z J d lets slot there same some few room below small ours fits le
+  one_typed (Some insn) target e z J d lets slot is same some few room below small ours fits le =
+      change_typed_in target e insn z J d lets slot is below small ours le
+
   assignment_typed : (a : Assignment) (z : Sizes) (J : List ℕ) (d lets slot : ℕ) → z.nodes ≡ shape.nodes → 1 ≤ z.nodes
       → z.nodes ≤ 64 → z.memory ≡ shape.memory → lets ≤ d → d ≤ 3 → AssignmentFits a z (length J) lets d
       → slot + length (assignment_code a z J d) ≤ last → BlockTyped d slot (assignment_code a z J d)
   assignment_typed (One target e) z J d lets slot same some few room below small fits le =
-      let there = subst (λ (m : ℕ). IsThere (source_of e z J) lets m) room
-      (source_there e z J (length J) lets d fits.1) in
-      given_typed (source_of e z J) target e z J d lets slot there same some few room below small fits.0 fits.1 le
+      one_typed (change_of target e z J) target e z J d lets slot refl same some few room below small fits.0 fits.1 le
   assignment_typed (Also' p front target e) z J d lets slot same some few room below small fits le =
       let behind = depth_behind (is_steady e) d in
       let more : d ≤ behind = behind_more (is_steady e) d in
@@ -585,15 +727,36 @@ module _ (program : List Insn) (shape : Extent) (last : ℕ) (solid : (k : ℕ) 
       (C (plain d) (p1 + length back)) refl
       (block_typed a z J d slot same some few room small fits.0 (omega (arith, len, le)))
       (block_typed b z J d p1 same some few room small fits.1 (omega (arith, len, le))))
+  block_typed (Let' (Count' q t) p rest) z J d slot same some few room small fits le =
+      let test = λ (j : ℕ). term_code t z (J ++ j ∷ []) (d + 1) (Jump false 1) in
+      let front = counted_code d z.nodes test in
+      let back = block_code rest z J (d + 1) in
+      let len : length (front ++ back) ≡ length front + length back = length-append front back in
+      let p1 = slot + length front in
+      let end = slot + length (front ++ back) in
+      let e : p1 + length back ≡ end = omega (arith, len) in
+      let c = counted_typed program shape last solid d slot z.nodes test fits.0 (omega (arith, len, le))
+      (λ j to l.
+      let more : length J + 1 ≡ length (J ++ j ∷ []) = omega (arith, length-append J (j ∷ [])) in
+      term_typed program shape last solid t z (J ++ j ∷ []) (d + 1) d (Jump false 1) to same some few room (omega arith)
+      (omega (arith, fits.0)) (subst (λ (n : ℕ). Fits t z n d (d + 1)) more fits.1.1) l) in
+      let r = block_typed rest z J (d + 1) p1 same some few room (omega (arith, fits.0)) fits.2
+      (omega (arith, len, le)) in
+      let r1 = typed_at program shape last solid p1 (p1 + length back) end back (C (plain (d + 1)) p1)
+      (plain (d + 1)) e r in
+      let r2 = typed_as program shape last solid p1 back (C (plain (d + 1)) p1) (C (plain (d + 1)) end)
+      (C (plain (d + 1)) p1) (C (plain d) end) (λ table h. h)
+      (λ table h. covers_less table (plain (d + 1)) (plain d) end (known_less d Unset Unset Unset) h) r1 in
+      typed_seq program shape last solid slot p1 front back (C (plain d) slot) (C (plain (d + 1)) p1) (C (plain d) end)
+      refl c r2
   block_typed (Let' e p rest) z J d slot same some few room small fits le =
       stored_typed e z J d slot (block_code rest z J (d + 1)) same some few room fits.0 fits.1 le
       (λ to l. block_typed rest z J (d + 1) to same some few room (omega (arith, fits.0)) fits.2 l)
   block_typed (Assign a) z J d slot same some few room small fits le =
       assignment_typed a z J d d slot same some few room (omega arith) small fits le
   block_typed (If' t p a q b) z J d slot same some few room small fits le =
-      choice_typed program shape last solid d slot (plain d) (λ far. term_code t z J d (Jump false far))
-      (block_code a z J d)
-      (block_code b z J d) (proper_known d Unset Unset Unset tt tt tt) le
+      if_typed program shape last solid (is_nothing b) d slot (λ far. term_code t z J d (Jump false far))
+      (block_code a z J d) (block_code b z J d) le
       (λ far l. term_typed program shape last solid t z J d d (Jump false far) slot same some few room
       (omega arith) small fits.0 l)
       (λ to l. block_typed a z J d to same some few room small fits.1 l)

@@ -46,7 +46,7 @@ use Rattle.rule_nodes.specs.declared.syntax.Term.TheVariants.{Number as Numeral,
 use Rattle.rule_nodes.specs.Meaning.{operate}
 use Rattle.rule_nodes.specs.Operands.{is_constant, is_operand, constant_number, depth_behind, fetched_source, source_of}
 use Rattle.rule_nodes.specs.Fits.{Fits}
-use Rattle.rule_nodes.specs.Code.{place, set_number, copy, alu_of, cond_of, jump_on, jump_by, jump_at, beyond, truth_code, by_value, by_test, two_code, get_code, operand_code, load_code, jump_place, by_operator, left_code, binary_code, message_by, mirror, set_node, choice_code, decides, both_far, both_code, message_code, count_codes, count_code, term_code}
+use Rattle.rule_nodes.specs.Code.{place, set_number, copy, alu_of, cond_of, jump_on, jump_by, jump_at, beyond, truth_code, by_value, by_test, two_code, get_code, operand_code, load_code, jump_place, by_operator, left_code, binary_code, message_by, mirror, set_node, choice_code, if_code, decides, both_far, both_code, message_code, count_codes, counted_code, count_code, term_code}
 use Rattle.rule_nodes.proofs.Sources.{is_found}
 use Rattle.rule_nodes.proofs.TermRuns.{found_same, behind_more, free_beside, same_depth}
 use Rattle.rule_nodes.proofs.Typing.{memory_place, word, held, known, plain, valued, proper_known, some_word, into, short, seen, Typing, typed_then, typed_as, typed_none, one_on, one_jump, one_fork, number_typed, fetch_typed, keep_typed, second_typed}
@@ -200,7 +200,7 @@ operand_is Computed d lets memory there below few =
     record { range = full_of 32; kind = refl; set = refl; ordered = some_word; inside = word_inside }
 
 -- the result of an operation on a number of 32 bits and an operand is one
-word_result : (op : AluOp) (k : Kind) (s : Span) → k ≡ Number s → HasMembers s → IsInside s (full_of 32)
+pub word_result : (op : AluOp) (k : Kind) (s : Span) → k ≡ Number s → HasMembers s → IsInside s (full_of 32)
     → range_of op W32 (full_of 32) (full_of 32) ≡ full_of 32
     → IsKindIn (of_number_kind (range_of op W32 (full_of 32)) k) word
 word_result op k s e ordered inside same = (
@@ -905,6 +905,29 @@ module _ (program : List Insn) (shape : Extent) (last : ℕ) (solid : (k : ℕ) 
       (λ table. C (plain d) slot table × (C (plain d) p1 table × (C M p2 table × C (plain d) p3 table))) (C M end)
       (C (plain d) slot) (C M end) (λ table h. h.0) (λ table h. h) all
 
+  pub if_typed : (alone : Bool) (d slot : ℕ) (test : ℕ → List Insn) (a b : List Insn)
+      → slot + length (if_code alone test a b) ≤ last
+      → ((far : ℕ) → slot + length (test far) + far ≤ last → TermTyped (Jump false far) d slot (test far))
+      → ((to : ℕ) → to + length a ≤ last → T to a (C (plain d) to) (C (plain d) (to + length a)))
+      → ((to : ℕ) → to + length b ≤ last → T to b (C (plain d) to) (C (plain d) (to + length b)))
+      → T slot (if_code alone test a b) (C (plain d) slot) (C (plain d) (slot + length (if_code alone test a b)))
+  if_typed false d slot test a b le tests first second =
+      choice_typed d slot (plain d) test a b (proper_known d Unset Unset Unset tt tt tt) le tests first second
+  if_typed true d slot test a b le tests first second =
+      let far = length a in
+      let code = test far in
+      let len : length (code ++ a) ≡ length code + length a = length-append code a in
+      let p1 = slot + length code in
+      let end = slot + length (code ++ a) in
+      let e : p1 + length a ≡ end = omega (arith, len) in
+      let t = tests far (omega (arith, len, le)) in
+      let ta = typed_at p1 (p1 + length a) end a (C (plain d) p1) (plain d) e (first p1 (omega (arith, len, le))) in
+      let all = typed_then program shape last solid slot p1 code a (C (plain d) slot)
+      (λ table. C (plain d) p1 table × C (plain d) (p1 + far) table) (C (plain d) p1) (C (plain d) end) refl t ta
+      (λ table o asks. (o, subst (λ (n : ℕ). C (plain d) n table) (sym e) asks)) in
+      typed_as program shape last solid slot (code ++ a) (λ table. C (plain d) slot table × C (plain d) p1 table)
+      (C (plain d) end) (C (plain d) slot) (C (plain d) end) (λ table h. h.0) (λ table h. h) all
+
   either_far : (alone when : Bool) (n far : ℕ) → (both_far alone when n far ≡ n + far) ⊎ (both_far alone when n far ≡ n)
   either_far true true n far = inl refl
   either_far true false n far = inr refl
@@ -1009,18 +1032,31 @@ module _ (program : List Insn) (shape : Extent) (last : ℕ) (solid : (k : ℕ) 
       (proper_known 2 Unset Unset Unset tt tt tt) (keeps_own _ _ _ refl) le
   begin_typed (suc (suc (suc d))) slot lt le = absurd (omega (arith, lt))
 
+  -- a count that stays in the next place
+  pub counted_typed : (d slot n : ℕ) (test : ℕ → List Insn) → d < 3 → slot + length (counted_code d n test) ≤ last
+      → ((j to : ℕ) → to + length (test j) + 1 ≤ last → TermTyped (Jump false 1) (d + 1) to (test j))
+      → T slot (counted_code d n test) (C (plain d) slot) (C (plain (d + 1)) (slot + length (counted_code d n test)))
+  counted_typed d slot n test small le each =
+      let codes = count_codes d test n in
+      let p2 = slot + 1 in
+      let end = slot + length (counted_code d n test) in
+      let b = begin_typed d slot small (omega (arith, le)) in
+      let e : p2 + length codes ≡ end = omega arith in
+      let c = typed_at p2 (p2 + length codes) end codes (C (plain (d + 1)) p2) (plain (d + 1)) e
+      (counts_typed d p2 n test small (omega (arith, le)) each) in
+      typed_seq slot p2 (set_number (place d) 0 ∷ []) codes (C (plain d) slot) (C (plain (d + 1)) p2)
+      (C (plain (d + 1)) end) refl b c
+
   count_typed : (d slot n : ℕ) (test : ℕ → List Insn) → d < 3 → slot + length (count_code d n test) ≤ last
       → ((j to : ℕ) → to + length (test j) + 1 ≤ last → TermTyped (Jump false 1) (d + 1) to (test j))
       → TermTyped Value d slot (count_code d n test)
   count_typed d slot n test small le each =
-      let codes = count_codes d test n in
+      let codes = counted_code d n test in
       let last_one = copy R0 (place d) ∷ [] in
       let len : length (codes ++ last_one) ≡ length codes + 1 = length-append codes last_one in
-      let p2 = slot + 1 in
-      let p3 = p2 + length codes in
-      let end = slot + length (count_code d n test) in
-      let b = begin_typed d slot small (omega (arith, len, le)) in
-      let c = counts_typed d p2 n test small (omega (arith, len, le)) each in
+      let p3 = slot + length codes in
+      let end = slot + length (codes ++ last_one) in
+      let c = counted_typed d slot n test small (omega (arith, len, le)) each in
       let f = fetch_typed program shape last solid d (d + 1) Unset p3 (omega arith) (omega (arith, small)) tt
       (omega (arith, len, le)) in
       let e : p3 + 1 ≡ end = omega (arith, len) in
@@ -1028,10 +1064,7 @@ module _ (program : List Insn) (shape : Extent) (last : ℕ) (solid : (k : ℕ) 
       let f2 = typed_as program shape last solid p3 last_one (C (plain (d + 1)) p3) (C (valued (d + 1)) end)
       (C (plain (d + 1)) p3) (C (valued d) end) (λ table h. h)
       (λ table h. covers_less table (valued (d + 1)) (valued d) end (known_less d word Unset Unset) h) f1 in
-      let cf = typed_seq p2 p3 codes last_one (C (plain (d + 1)) p2) (C (plain (d + 1)) p3)
-      (C (valued d) end) refl c f2 in
-      typed_seq slot p2 (set_number (place d) 0 ∷ []) (codes ++ last_one) (C (plain d) slot) (C (plain (d + 1)) p2)
-      (C (valued d) end) refl b cf
+      typed_seq slot p3 codes last_one (C (plain d) slot) (C (plain (d + 1)) p3) (C (valued d) end) refl c f2
 
   -- ---- calls, loads, the mail
 

@@ -1,7 +1,10 @@
 -- The run of a whole rule.
-use Rattle.std.proofs.Common.{◌≡◌, ℕ, zero, suc, ◌+◌, ◌<◌, ◌≤◌, Bool, true, false, not, ◌||◌, if◌then◌else◌, nat_lt, List, [], ◌∷◌, ◌++◌, length, Some, Ok, pos, slice_index_or, refl, sym, ap, ◌∙◌, arith, length-append}
+use Rattle.std.proofs.Common.{◌≡◌, ℕ, zero, suc, ◌+◌, ◌<◌, ◌≤◌, Bool, true, false, not, ◌&&◌, ◌||◌, if◌then◌else◌, nat_lt, List, [], ◌∷◌, ◌++◌, length, Option, None, Some, Ok, subst, inl, inr, pos, slice_index_or, refl, sym, ap, ◌∙◌, arith, length-append}
 use Rattle.std.proofs.lemmas.List.Elements.{All-nil}
-use Rattle.std.proofs.lemmas.Option.{slice_get-get_or}
+use Rattle.std.proofs.lemmas.Option.{slice_get-get_or, same_Some, none-some}
+use Rattle.std.proofs.lemmas.Bool.{cases_Bool, cond-true, cond-false}
+use Rattle.std.specs.Int.{w32, cast_signed}
+use Rattle.bpf_insn.specs.declared.forms.Width.TheVariants.{W32}
 use Rattle.std.specs.FinMap.{get}
 use Rattle.node_env.specs.declared.region.Region.TheVariants.{Mem}
 use Rattle.node_env.specs.Env.{Extent, Setting}
@@ -36,9 +39,9 @@ use Rattle.rule_nodes.specs.declared.syntax.Term.TheVariants.{Number, Nodes, Fau
 use Rattle.rule_nodes.specs.declared.syntax.Statement.{Statement}
 use Rattle.rule_nodes.specs.declared.syntax.Statement.TheVariants.{Nothing, Then', Let', Assign, If', For', SendAll, SendTo}
 use Rattle.rule_nodes.specs.Meaning.{initial_state}
-use Rattle.rule_nodes.specs.Operands.{is_operand, is_steady, depth_behind, source_of}
+use Rattle.rule_nodes.specs.Operands.{is_constant, constant_number, is_local, is_operand, is_steady, depth_behind, source_of}
 use Rattle.rule_nodes.specs.Fits.{BlockFits}
-use Rattle.rule_nodes.specs.Code.{place, set_number, set_node, get_code, operand_code, load_code, left_code, binary_code, mirror, message_by, copy, truth_code, by_value, by_test, by_operator, two_code, choice_code, decides, both_far, both_code, jump_on, jump_by, jump_place, message_code, count_codes, term_code, assign_code, set_code, given_code, also_code, assignment_code, send_codes, send_all_code, send_to_code, each_code, block_code, tail_code, rule_code}
+use Rattle.rule_nodes.specs.Code.{place, set_number, set_node, get_code, operand_code, load_code, left_code, binary_code, mirror, message_by, copy, truth_code, by_value, by_test, by_operator, two_code, choice_code, if_code, is_nothing, decides, both_far, both_code, jump_on, jump_by, jump_place, message_code, count_codes, term_code, assign_code, set_code, given_code, alu_of, change_of, one_code, also_code, assignment_code, let_code, send_codes, send_all_code, send_to_code, each_code, block_code, tail_code, rule_code}
 use Rattle.rule_nodes.specs.Ends.{AreSizes, IsRuleEnd}
 use Rattle.rule_nodes.proofs.Forms.{leads_add, once, chain, further}
 use Rattle.rule_nodes.proofs.States.{stands_front, stands_back, Holds, IsSized}
@@ -123,6 +126,11 @@ ones_choice : (test : ℕ → List Insn) (a b : List Insn) → ((far : ℕ) → 
     → Ones (choice_code test a b)
 ones_choice test a b k h g = ones_append (test (length a + 1)) _ (k (length a + 1)) (ones_append a _ h (refl, g))
 
+ones_if : (alone : Bool) (test : ℕ → List Insn) (a b : List Insn) → ((far : ℕ) → Ones (test far)) → Ones a → Ones b
+    → Ones (if_code alone test a b)
+ones_if true test a b k h g = ones_append (test (length a)) a (k (length a)) h
+ones_if false test a b k h g = ones_choice test a b k h g
+
 ones_counts : (d : ℕ) (test : ℕ → List Insn) (n : ℕ) → ((j : ℕ) → Ones (test j)) → Ones (count_codes d test n)
 ones_counts d test zero h = tt
 ones_counts d test (suc n) h = ones_append (count_codes d test n) _ (ones_counts d test n h)
@@ -187,9 +195,28 @@ ones_also false d x target code first h g = ones_append code _ h (
       (refl, ones_assign target),
 )
 
+one_slot : (target : Target) (e : Term) (insn : Insn) (z : Sizes) (J : List ℕ) → change_of target e z J ≡ Some insn
+    → slots_taken insn ≡ 1
+one_slot (ToLocal k) (Binary' (Compute op) p a q b) insn z J is =
+    let act = i.Alu (alu_of op) W32 (place k) (operand.Imm (cast_signed w32 (constant_number b z J))) in
+    let test = is_local a k && is_constant b in
+    elim (cases_Bool test) [
+      | inl so ↦ subst (λ (x : Insn). slots_taken x ≡ 1)
+          (same_Some act insn (sym (cond-true test (Some act) None so) ∙ is)) refl
+      | inr other ↦ absurd (none-some insn (sym (cond-false test (Some act) None other) ∙ is))
+    ]
+one_slot (ToWord k) (Binary' o p a q b) insn z J is = absurd (none-some insn is)
+one_slot target e insn z J is = absurd (none-some insn is)
+
+ones_one : (found : Option Insn) (target : Target) (e : Term) (z : Sizes) (J : List ℕ) (code : List Insn)
+    → change_of target e z J ≡ found → Ones code → Ones (one_code found code)
+ones_one None target e z J code is h = h
+ones_one (Some insn) target e z J code is h = (one_slot target e insn z J is, tt)
+
 ones_assignment : (a : Assignment) (z : Sizes) (J : List ℕ) (d : ℕ) → Ones (assignment_code a z J d)
-ones_assignment (One target e) z J d = ones_given (source_of e z J) target (term_code e z J d Value)
-    (ones_term e z J d Value)
+ones_assignment (One target e) z J d =
+    ones_one (change_of target e z J) target e z J (given_code (source_of e z J) target (term_code e z J d Value)) refl
+    (ones_given (source_of e z J) target (term_code e z J d Value) (ones_term e z J d Value))
 ones_assignment (Also' p front target e) z J d = ones_also (is_steady e) d (source_of e z J) target
     (term_code e z J d Value) (assignment_code front z J (depth_behind (is_steady e) d)) (ones_term e z J d Value)
     (ones_assignment front z J (depth_behind (is_steady e) d))
@@ -208,14 +235,23 @@ ones_each : (body : ℕ → List Insn) (n : ℕ) → ((j : ℕ) → Ones (body j
 ones_each body zero h = tt
 ones_each body (suc n) h = ones_append (each_code body n) (body n) (ones_each body n h) (h n)
 
+ones_let : (e : Term) (z : Sizes) (J : List ℕ) (d : ℕ) (rest : List Insn) → Ones rest → Ones (let_code e z J d rest)
+ones_let (Count' p t) z J d rest h = (
+  refl,
+  ones_append (count_codes d (λ j. term_code t z (J ++ j ∷ []) (d + 1) (Jump false 1)) z.nodes) rest
+      (ones_counts d (λ j. term_code t z (J ++ j ∷ []) (d + 1) (Jump false 1)) z.nodes
+      (λ j. ones_term t z (J ++ j ∷ []) (d + 1) (Jump false 1))) h,
+)
+ones_let e z J d rest h =
+    ones_append (term_code e z J d Value) (copy (place d) R0 ∷ rest) (ones_term e z J d Value) (refl, h)
+
 ones_block : (b : Statement) (z : Sizes) (J : List ℕ) (d : ℕ) → Ones (block_code b z J d)
 ones_block Nothing z J d = tt
 ones_block (Then' p a q b) z J d = ones_append (block_code a z J d) (block_code b z J d) (ones_block a z J d)
     (ones_block b z J d)
-ones_block (Let' e p rest) z J d = ones_append (term_code e z J d Value) _ (ones_term e z J d Value)
-    (refl, ones_block rest z J (d + 1))
+ones_block (Let' e p rest) z J d = ones_let e z J d (block_code rest z J (d + 1)) (ones_block rest z J (d + 1))
 ones_block (Assign a) z J d = ones_assignment a z J d
-ones_block (If' t p a q b) z J d = ones_choice (λ far. term_code t z J d (Jump false far)) _ _
+ones_block (If' t p a q b) z J d = ones_if (is_nothing b) (λ far. term_code t z J d (Jump false far)) _ _
     (λ far. ones_term t z J d (Jump false far)) (ones_block a z J d) (ones_block b z J d)
 ones_block (For' p body) z J d = ones_each (λ j. block_code body z (J ++ j ∷ []) d) z.nodes
     (λ j. ones_block body z (J ++ j ∷ []) d)

@@ -1,6 +1,6 @@
 -- The instructions of a rule. r6 has the memory's place, r0 the number just computed, r1 and r2 are scratch; place k is
 -- r7, r8, r9 for k = 0, 1, 2. At depth d the places below d are in use.
-use Rattle.std.specs.Prelude.{ℕ, zero, suc, ◌+◌, ◌*◌, pos, Bool, true, false, not, nat_lt, ◌||◌, if◌then◌else◌, List, [], ◌∷◌, ◌++◌, length, slice_index}
+use Rattle.std.specs.Prelude.{ℕ, zero, suc, ◌+◌, ◌*◌, pos, Bool, true, false, not, nat_lt, ◌&&◌, ◌||◌, if◌then◌else◌, Option, Some, None, List, [], ◌∷◌, ◌++◌, length, slice_index}
 use Rattle.std.specs.Int.{w32, cast_signed}
 use Rattle.bpf_insn.specs.declared.forms.Reg as regs
 use Rattle.bpf_insn.specs.declared.forms.Reg.TheVariants.{R0, R1, R2, R6, R7, R8, R9}
@@ -15,7 +15,7 @@ use Rattle.bpf_insn.specs.declared.forms.Operand.TheVariants.{Imm, Reg}
 use Rattle.bpf_insn.specs.declared.forms.Insn.{Insn}
 use Rattle.bpf_insn.specs.declared.forms.Insn.TheVariants.{Alu, Branch, Ja, Call, Exit, Load, StoreReg, StoreImm}
 use Rattle.rule_nodes.specs.Meaning.{operate}
-use Rattle.rule_nodes.specs.Operands.{is_operand, is_steady, depth_behind, source_of}
+use Rattle.rule_nodes.specs.Operands.{is_constant, is_operand, is_local, is_steady, constant_number, depth_behind, source_of}
 use Rattle.rule_nodes.specs.declared.syntax.Sizes.{Sizes}
 use Rattle.rule_nodes.specs.declared.syntax.Operation.{Operation}
 use Rattle.rule_nodes.specs.declared.syntax.Operation.TheVariants.{Sum, Difference, Product, Quotient, Remainder}
@@ -185,6 +185,11 @@ binary_code y x o d purpose left right = by_operator o (operand_code y) purpose 
 abbrev pub choice_code : (ℕ → List Insn) → List Insn → List Insn → List Insn
 choice_code test a b = test (length a + 1) ++ (a ++ (Ja (pos (length b)) ∷ b))
 
+-- without code for the other case there is nothing to skip
+abbrev pub if_code : Bool → (ℕ → List Insn) → List Insn → List Insn → List Insn
+if_code true test a b = test (length a) ++ a
+if_code false test a b = choice_code test a b
+
 -- the first condition decides alone if it is this
 abbrev pub decides : Connective → Bool
 decides And = false
@@ -213,8 +218,11 @@ abbrev pub count_codes : ℕ → (ℕ → List Insn) → ℕ → List Insn
 count_codes d test zero = []
 count_codes d test (suc n) = count_codes d test n ++ (test n ++ Alu Add W32 (place d) (Imm (pos 1)) ∷ [])
 
+abbrev pub counted_code : ℕ → ℕ → (ℕ → List Insn) → List Insn
+counted_code d n test = set_number (place d) 0 ∷ count_codes d test n
+
 abbrev pub count_code : ℕ → ℕ → (ℕ → List Insn) → List Insn
-count_code d n test = set_number (place d) 0 ∷ (count_codes d test n ++ copy R0 (place d) ∷ [])
+count_code d n test = counted_code d n test ++ copy R0 (place d) ∷ []
 
 -- of a term at depth d
 abbrev pub term_code : Term → Sizes → List ℕ → ℕ → Purpose → List Insn
@@ -258,6 +266,21 @@ abbrev pub given_code : Source → Target → List Insn → List Insn
 given_code Computed target code = code ++ assign_code target ∷ []
 given_code x target code = set_code target x
 
+-- the instruction that changes a local in its place, if a target is set to an operation on itself and a constant
+abbrev pub change_by : Target → Operator → Term → Term → Sizes → List ℕ → Option Insn
+change_by (ToLocal k) (Compute op) a b z J =
+    if is_local a k && is_constant b then Some (Alu (alu_of op) W32 (place k)
+    (Imm (cast_signed w32 (constant_number b z J)))) else None
+change_by target o a b z J = None
+
+abbrev pub change_of : Target → Term → Sizes → List ℕ → Option Insn
+change_of target (Binary' o p a q b) z J = change_by target o a b z J
+change_of target _ z J = None
+
+abbrev pub one_code : Option Insn → List Insn → List Insn
+one_code (Some insn) code = insn ∷ []
+one_code None code = code
+
 -- a steady number comes after the targets before; any other number comes before them, and is kept in place d
 abbrev pub also_code : Bool → ℕ → Source → Target → List Insn → List Insn → List Insn
 also_code true d x target code first = first ++ given_code x target code
@@ -266,7 +289,8 @@ also_code false d x target code first =
 
 -- of an assignment at depth d
 abbrev pub assignment_code : Assignment → Sizes → List ℕ → ℕ → List Insn
-assignment_code (One target e) z J d = given_code (source_of e z J) target (term_code e z J d Value)
+assignment_code (One target e) z J d =
+    one_code (change_of target e z J) (given_code (source_of e z J) target (term_code e z J d Value))
 assignment_code (Also' p front target e) z J d =
     also_code (is_steady e) d (source_of e z J) target (term_code e z J d Value)
     (assignment_code front z J (depth_behind (is_steady e) d))
@@ -292,14 +316,24 @@ abbrev pub each_code : (ℕ → List Insn) → ℕ → List Insn
 each_code body zero = []
 each_code body (suc n) = each_code body n ++ body n
 
+-- a let at depth d, and what follows: a count stays where it was counted
+abbrev pub let_code : Term → Sizes → List ℕ → ℕ → List Insn → List Insn
+let_code (Count' p t) z J d rest =
+    counted_code d z.nodes (λ j. term_code t z (J ++ j ∷ []) (d + 1) (Jump false 1)) ++ rest
+let_code e z J d rest = term_code e z J d Value ++ (copy (place d) R0 ∷ rest)
+
+abbrev pub is_nothing : Statement → Bool
+is_nothing Nothing = true
+is_nothing _ = false
+
 -- of a statement with d lets in scope
 abbrev pub block_code : Statement → Sizes → List ℕ → ℕ → List Insn
 block_code Nothing z J d = []
 block_code (Then' p a q b) z J d = block_code a z J d ++ block_code b z J d
-block_code (Let' e p rest) z J d = term_code e z J d Value ++ (copy (place d) R0 ∷ block_code rest z J (d + 1))
+block_code (Let' e p rest) z J d = let_code e z J d (block_code rest z J (d + 1))
 block_code (Assign a) z J d = assignment_code a z J d
 block_code (If' t p a q b) z J d =
-    choice_code (λ far. term_code t z J d (Jump false far)) (block_code a z J d) (block_code b z J d)
+    if_code (is_nothing b) (λ far. term_code t z J d (Jump false far)) (block_code a z J d) (block_code b z J d)
 block_code (For' p body) z J d = each_code (λ j. block_code body z (J ++ j ∷ []) d) z.nodes
 block_code (SendAll e) z J d = send_all_code (source_of e z J) d z.nodes (term_code e z J d Value)
 block_code (SendTo e k) z J d = term_code e z J d Value

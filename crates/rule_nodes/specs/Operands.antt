@@ -1,5 +1,5 @@
 -- The terms whose numbers are found without code of their own: constants, locals and words.
-use Rattle.std.specs.Prelude.{ℕ, Bool, true, false, ◌&&◌, ◌||◌, ◌+◌, ◌*◌, ◌≤◌, if◌then◌else◌, List, slice_index}
+use Rattle.std.specs.Prelude.{ℕ, Bool, true, false, ◌==◌, ◌&&◌, ◌||◌, ◌+◌, ◌*◌, ◌≤◌, if◌then◌else◌, List, slice_index}
 use Rattle.rule_nodes.specs.declared.syntax.Sizes.{Sizes}
 use Rattle.rule_nodes.specs.declared.syntax.Source.{Source}
 use Rattle.rule_nodes.specs.declared.syntax.Source.TheVariants.{Constant, FromLocal, FromWord, Computed}
@@ -27,6 +27,10 @@ is_fetched _ = false
 -- an operand is a constant, a local or a word
 abbrev pub is_operand : Term → Bool
 is_operand t = is_constant t || is_fetched t
+
+abbrev pub is_local : Term → ℕ → Bool
+is_local (Local j) k = j == k
+is_local _ k = false
 
 abbrev pub is_asked : Term → Bool
 is_asked Me = true

@@ -4,18 +4,21 @@ ghost use Rattle.bpf_insn.specs.declared.forms.Reg.TheVariants.{R0, R6};
 ghost use Rattle.bpf_insn.specs.declared.forms.Size.TheVariants as size;
 ghost use Rattle.bpf_insn.specs.declared.forms.Insn.TheVariants as i;
 ghost use Rattle.rule_nodes.specs.declared.syntax.Target.TheVariants.{ToWord};
-ghost use Rattle.rule_nodes.specs.Operands.{is_steady, IsWithin, IsTarget};
+ghost use Rattle.std.specs.Int.{w32, cast_signed};
+ghost use Rattle.bpf_insn.specs.declared.forms.Width.TheVariants.{W32};
+ghost use Rattle.bpf_insn.specs.declared.forms.Operand.TheVariants as operand;
+ghost use Rattle.rule_nodes.specs.Operands.{is_local, is_steady, IsWithin, IsTarget};
 ghost use Rattle.rule_nodes.specs.Fits.{AssignmentFits};
-ghost use Rattle.rule_nodes.specs.Code.{place, copy, assign_code, set_code, given_code, also_code, assignment_code};
+ghost use Rattle.rule_nodes.specs.Code.{place, copy, alu_of, assign_code, set_code, given_code, change_by, change_of, one_code, also_code, assignment_code};
 ghost use Rattle.rule_nodes.specs.Refusals.{IsUnmade};
 
 use crate::errors::CompileError;
-use crate::insns::{copy_of, place_of, word_offset};
-use crate::operands::{depth_behind_of, get_of, is_constant_of, source};
+use crate::insns::{copy_of, operation_of, place_of, word_offset};
+use crate::operands::{constant_of, depth_behind_of, get_of, is_constant_of, source};
 use crate::parts::{joined, short, single};
-use crate::syntax::{Assignment, Purpose, Sizes, Source, Target, Term};
+use crate::syntax::{Assignment, Operation, Operator, Purpose, Sizes, Source, Target, Term};
 use crate::terms::term;
-use bpf_insn::{Insn, MAX_SLOTS, Reg, Size};
+use bpf_insn::{Insn, MAX_SLOTS, Operand, Reg, Size, Width};
 use std::alloc::{AllocError, Global};
 
 /// Returns the instruction that sets a word to the number in a register.
@@ -113,6 +116,76 @@ fn given(
     }
 }
 
+/// Returns whether a term is this local.
+fn is_local_of(t: &Term, k: u32) -> bool
+    ensures { result ≡ is_local t.now k }
+{
+    match t {
+        Term::Local(j) => *j == k,
+        _ => false,
+    }
+}
+
+/// Returns the instruction that changes a local in its place by an operator and a constant, if a target is set so.
+fn changed_by(
+    target: Target,
+    operator: Operator,
+    a: &Term,
+    b: &Term,
+    sizes: Sizes,
+    loops: &[u32],
+) -> Option<Insn>
+    ensures { result ≡ change_by target operator a.now b.now sizes loops.now }
+{
+    match target {
+        Target::ToLocal(k) => {
+            match operator {
+                Operator::Compute(op) => {
+                    if is_local_of(a, k) && is_constant_of(b) {
+                        Some(change(k, op, constant_of(b, sizes, loops)))
+                    } else {
+                        None
+                    }
+                }
+                Operator::Compare(_) => None,
+            }
+        }
+        Target::ToWord(_) => None,
+    }
+}
+
+/// Returns an operation on a place and a constant.
+fn change(k: u32, op: Operation, v: u32) -> Insn
+    ensures { result ≡ i.Alu (alu_of op) W32 (place k) (operand.Imm (cast_signed w32 v)) }
+{
+    Insn::Alu {
+        op: operation_of(op),
+        width: Width::W32,
+        dst: place_of(k),
+        src: Operand::Imm(v.cast_signed()),
+    }
+}
+
+/// Returns the instruction that changes a local in its place, if a target is set to an operation on itself.
+fn changed(target: Target, e: &Term, sizes: Sizes, loops: &[u32]) -> Option<Insn>
+    ensures { result ≡ change_of target e.now sizes loops.now }
+{
+    match e {
+        Term::Binary(operator, a, b) => changed_by(target, *operator, a, b, sizes, loops),
+        _ => None,
+    }
+}
+
+/// Returns the one instruction that does the same as the code, if there is one.
+fn one_of(alloc: Global, insn: Option<Insn>, code: Vec<Insn>) -> Result<Vec<Insn>, AllocError>
+    ensures { IfOk result (λ c. c.items ≡ one_code insn code.items) }
+{
+    match insn {
+        Some(insn) => single(alloc, insn),
+        None => Ok(code),
+    }
+}
+
 /// Returns the code that keeps a number in a place, sets the targets before, and then sets this one.
 fn kept(depth: u32, set: Insn, code: Vec<Insn>, first: Vec<Insn>) -> Result<Vec<Insn>, AllocError>
     ensures { IfOk result (λ c. c.items ≡
@@ -140,13 +213,14 @@ pub fn assignment(
     requires fits { AssignmentFits a.now sizes (length loops.now) lets depth }
     ensures code { IfOk result (λ c. c.items ≡ assignment_code a.now sizes loops.now depth) }
     ensures short { IfOk result (λ c. length c.items ≤ MAX_SLOTS) }
-    ensures long { IfErr result (IsUnmade (length (assignment_code a.now sizes loops.now depth))) }
+    ensures long { IfErr result (IsUnmade (length (assignment_code a.now sizes loops.now depth) + 1)) }
 {
     match a {
         Assignment::One(target, e) => {
             let set = assign_of(*target);
             let value = term(alloc, e, sizes, loops, lets, depth, Purpose::Value)?;
-            short(given(alloc, source(e, sizes, loops), *target, set, value)?)
+            let code = given(alloc, source(e, sizes, loops), *target, set, value)?;
+            short(one_of(alloc, changed(*target, e, sizes, loops), code)?)
         }
         Assignment::Also(front, target, e) => {
             let steady = is_steady_of(e);

@@ -42,9 +42,10 @@ fn whole(alloc: Global, rule: &Statement, sizes: Sizes) -> Result<Vec<Insn>, Com
     short(joined(begun, &[end, Insn::Exit])?)
 }
 
-/// Compiles a rule for the nodes and the memory of a shape. Fails with `NoRoom` if the rule doesn't fit. If it fits, fails
-/// with `TooLong` if its code is longer than `MAX_SLOTS`, and with `Memory` if memory is short. Every complete run of the program leaves the memory and
-/// sends the messages that the rule means, and `verify` of `bpf_verify` rejects no such program.
+/// Compiles a rule for the nodes and the memory of a shape. Fails with `NoRoom` if the rule doesn't fit; with `TooLong`
+/// if it fits and its code is longer than `MAX_SLOTS`; with `Memory` if memory is short. Every complete run of the
+/// program leaves the memory and sends the messages that the rule means, and `verify` of `bpf_verify` rejects no such
+/// program.
 pub fn compile_rule(
     alloc: Global,
     rule: &Statement,

@@ -1,5 +1,5 @@
 //! Whether a rule fits: its numbers, names, words and places.
-ghost use Rattle.std.specs.Prelude.{◌≡◌, ◌≤◌, ◌<◌, ◌+◌, ◌*◌, ◌^◌, ◌||◌, IfOk, IfErr, IsTrue};
+ghost use Rattle.std.specs.Prelude.{◌≡◌, ◌≤◌, ◌<◌, ◌+◌, ◌*◌, ◌^◌, ◌||◌, IfOk, IfErr};
 ghost use Rattle.rule_nodes.specs.Operands.{is_operand, is_steady};
 ghost use Rattle.rule_nodes.specs.Fits.{HasPlace, Fits, TargetFits, AssignmentFits, BlockFits};
 ghost use Rattle.rule_nodes.specs.Refusals.{IsUnfit};
@@ -9,18 +9,6 @@ use crate::errors::CompileError;
 use crate::insns::has_word;
 use crate::operands::{beside_operand, depth_behind_of, is_operand_of};
 use crate::syntax::{Assignment, Sizes, Statement, Target, Term};
-
-/// Fails if the condition doesn't hold.
-fn needs(holds: bool) -> Result<(), CompileError>
-    ensures fits { IfOk result (λ _. IsTrue holds) }
-    ensures unfit { IfErr result (IsUnfit (IsTrue holds)) }
-{
-    if holds {
-        Ok(())
-    } else {
-        Err(CompileError::NoRoom)
-    }
-}
 
 /// Fails if a number needs a place, and there is none at the depth.
 fn needs_place(simple: bool, depth: u32) -> Result<(), CompileError>

@@ -74,7 +74,8 @@ fn node_of(loops: &[u32], level: u32) -> u32
     if place < loops.len() { loops[place] } else { 0 }
 }
 
-fn constant_of(t: &Term, sizes: Sizes, loops: &[u32]) -> u32
+/// Returns the number of a constant, and 0 for any other term.
+pub fn constant_of(t: &Term, sizes: Sizes, loops: &[u32]) -> u32
     ensures { result ≡ constant_number t.now sizes loops.now }
 {
     match t {

@@ -1,5 +1,5 @@
 //! How the code of a term or a statement is put together of the code of its parts.
-ghost use Rattle.std.specs.Prelude.{◌≡◌, ◌≤◌, ◌+◌, ◌++◌, [], ◌∷◌, pos, not, false, length, IfOk, IfErr};
+ghost use Rattle.std.specs.Prelude.{◌≡◌, ◌≤◌, ◌+◌, ◌++◌, [], ◌∷◌, pos, not, false, length, if◌then◌else◌, IfOk, IfErr};
 ghost use Rattle.bpf_insn.specs.declared.forms.Width.TheVariants.{W32};
 ghost use Rattle.bpf_insn.specs.declared.forms.AluOp.TheVariants.{Add};
 ghost use Rattle.bpf_insn.specs.declared.forms.Reg.TheVariants.{R0};
@@ -173,6 +173,36 @@ pub fn skip_test(code: &[Insn]) -> Purpose
     ensures { result ≡ Jump false (length code.now + 1) }
 {
     Purpose::Jump(false, code.len() + 1)
+}
+
+/// Returns the jump over these instructions if a test doesn't hold, and over one more if there is another case.
+pub fn if_test(alone: bool, code: &[Insn]) -> Purpose
+    requires { length code.now ≤ MAX_SLOTS }
+    ensures { result ≡ Jump false (if alone then length code.now else length code.now + 1) }
+{
+    if alone {
+        Purpose::Jump(false, code.len())
+    } else {
+        skip_test(code)
+    }
+}
+
+/// Returns a test and the code for the case that it holds, and the code for the other case unless there is none.
+pub fn if_of(
+    alone: bool,
+    test: Vec<Insn>,
+    first: &[Insn],
+    second: &[Insn],
+) -> Result<Vec<Insn>, AllocError>
+    requires { length second.now ≤ MAX_SLOTS }
+    ensures { IfOk result (λ c. c.items ≡ (if alone then test.items ++ first.now
+        else test.items ++ (first.now ++ i.Ja (pos (length second.now)) ∷ second.now))) }
+{
+    if alone {
+        joined(test, first)
+    } else {
+        chosen(test, first, second)
+    }
 }
 
 /// Returns a test, the code for the case that it holds, and the code for the case that it doesn't.

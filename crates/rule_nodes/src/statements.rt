@@ -1,18 +1,19 @@
 //! The code of statements.
-ghost use Rattle.std.specs.Prelude.{◌≡◌, ◌≤◌, ◌<◌, ◌++◌, [], ◌∷◌, pos, length, IfOk, IfErr};
+ghost use Rattle.std.specs.Prelude.{◌≡◌, ◌≤◌, ◌<◌, ◌+◌, ◌-◌, ◌++◌, [], ◌∷◌, pos, length, take, IfOk, IfErr};
+ghost use Rattle.rule_nodes.specs.declared.syntax.Purpose.TheVariants.{Value};
 ghost use Rattle.bpf_insn.specs.declared.forms.Reg.TheVariants.{R0, R1};
 ghost use Rattle.bpf_insn.specs.declared.forms.Insn.TheVariants as i;
 ghost use Rattle.rule_nodes.specs.declared.syntax.Statement.TheVariants.{SendAll, SendTo};
 ghost use Rattle.rule_nodes.specs.Operands.{IsWithin};
 ghost use Rattle.rule_nodes.specs.Fits.{BlockFits};
-ghost use Rattle.rule_nodes.specs.Code.{place, copy, set_node, send_codes, send_all_code, send_to_code, block_code};
+ghost use Rattle.rule_nodes.specs.Code.{place, copy, set_node, term_code, let_code, send_codes, send_all_code, send_to_code, is_nothing, block_code};
 ghost use Rattle.rule_nodes.specs.Refusals.{IsUnmade};
 
 use crate::assignments::assignment;
 use crate::errors::CompileError;
 use crate::insns::{copy_of, jump_at_of, place_of, set_node_of};
 use crate::operands::{get_of, source};
-use crate::parts::{chosen, joined, short, skip_test, within};
+use crate::parts::{if_of, if_test, joined, short, within};
 use crate::syntax::{Comparison, Purpose, Sizes, Source, Statement, Term};
 use crate::terms::term;
 use bpf_insn::{Insn, MAX_SLOTS, Reg};
@@ -61,6 +62,33 @@ fn stored(code: Vec<Insn>, depth: u32, rest: &[Insn]) -> Result<Vec<Insn>, Alloc
     joined(kept, rest)
 }
 
+/// Returns the code without its last instruction.
+fn without_last(mut code: Vec<Insn>) -> Vec<Insn>
+    requires { 1 ≤ length code.items }
+    ensures { result.items ≡ take (length code.items - 1) code.items }
+{
+    code.truncate(code.len() - 1);
+    code
+}
+
+/// Returns the code of a let and of what follows. A count stays where it was counted.
+fn let_of(
+    e: &Term,
+    sizes: Sizes,
+    loops: &[u32],
+    code: Vec<Insn>,
+    depth: u32,
+    rest: &[Insn],
+) -> Result<Vec<Insn>, AllocError>
+    requires { code.items ≡ term_code e.now sizes loops.now depth Value }
+    ensures { IfOk result (λ c. c.items ≡ let_code e.now sizes loops.now depth rest.now) }
+{
+    match e {
+        Term::Count(_) => joined(without_last(code), rest),
+        _ => stored(code, depth, rest),
+    }
+}
+
 fn send_all(
     alloc: Global,
     e: &Term,
@@ -75,7 +103,7 @@ fn send_all(
     requires fits { BlockFits (SendAll e.now) sizes (length loops.now) depth }
     ensures code { IfOk result (λ c. c.items ≡ block_code (SendAll e.now) sizes loops.now depth) }
     ensures short { IfOk result (λ c. length c.items ≤ MAX_SLOTS) }
-    ensures long { IfErr result (IsUnmade (length (block_code (SendAll e.now) sizes loops.now depth))) }
+    ensures long { IfErr result (IsUnmade (length (block_code (SendAll e.now) sizes loops.now depth) + 1)) }
 {
     let value = term(alloc, e, sizes, loops, depth, depth, Purpose::Value)?;
     short(send_all_of(alloc, source(e, sizes, loops), depth, sizes.nodes, value)?)
@@ -118,12 +146,22 @@ fn send_to(
     requires fits { BlockFits (SendTo e.now k.now) sizes (length loops.now) depth }
     ensures code { IfOk result (λ c. c.items ≡ block_code (SendTo e.now k.now) sizes loops.now depth) }
     ensures short { IfOk result (λ c. length c.items ≤ MAX_SLOTS) }
-    ensures long { IfErr result (IsUnmade (length (block_code (SendTo e.now k.now) sizes loops.now depth))) }
+    ensures long { IfErr result (IsUnmade (length (block_code (SendTo e.now k.now) sizes loops.now depth) + 1)) }
 {
     let receiver = term(alloc, k, sizes, loops, depth, depth + 1, Purpose::Value)?;
     let send = joined(receiver, &send_to_of(depth, sizes.nodes))?;
     let value = term(alloc, e, sizes, loops, depth, depth, Purpose::Value)?;
     short(stored(value, depth, &send)?)
+}
+
+/// Returns whether a statement does nothing.
+fn is_nothing_of(statement: &Statement) -> bool
+    ensures { result ≡ is_nothing statement.now }
+{
+    match statement {
+        Statement::Nothing => true,
+        _ => false,
+    }
 }
 
 /// Returns the code of a statement, with `depth` lets in scope. Fails if it is longer than a program.
@@ -141,7 +179,7 @@ pub fn block(
     requires fits { BlockFits statement.now sizes (length loops.now) depth }
     ensures code { IfOk result (λ c. c.items ≡ block_code statement.now sizes loops.now depth) }
     ensures short { IfOk result (λ c. length c.items ≤ MAX_SLOTS) }
-    ensures long { IfErr result (IsUnmade (length (block_code statement.now sizes loops.now depth))) }
+    ensures long { IfErr result (IsUnmade (length (block_code statement.now sizes loops.now depth) + 1)) }
 {
     match statement {
         Statement::Nothing => Ok(Vec::new(alloc)),
@@ -153,14 +191,15 @@ pub fn block(
         Statement::Let(e, rest) => {
             let behind = block(alloc, rest, sizes, loops, depth + 1)?;
             let value = term(alloc, e, sizes, loops, depth, depth, Purpose::Value)?;
-            short(stored(value, depth, &behind)?)
+            short(let_of(e, sizes, loops, value, depth, &behind)?)
         }
         Statement::Assign(a) => assignment(alloc, a, sizes, loops, depth, depth),
         Statement::If(t, a, b) => {
             let second = block(alloc, b, sizes, loops, depth)?;
             let first = block(alloc, a, sizes, loops, depth)?;
-            let test = term(alloc, t, sizes, loops, depth, depth, skip_test(&first))?;
-            short(chosen(test, &first, &second)?)
+            let alone = is_nothing_of(b);
+            let test = term(alloc, t, sizes, loops, depth, depth, if_test(alone, &first))?;
+            short(if_of(alone, test, &first, &second)?)
         }
         Statement::For(body) => {
             let mut all = Vec::new(alloc);

@@ -51,7 +51,7 @@ fn a_count_is_sent(rt: HostRuntime) -> Result<(), Fail> {
 fn the_own_clock_has_a_known_length(rt: HostRuntime) -> Result<(), Fail> {
     let alloc = rt.alloc();
     let rule = own(alloc)?;
-    for (nodes, slots) in [(4, 60), (16, 144), (64, 480)] {
+    for (nodes, slots) in [(4, 58), (16, 142), (64, 478)] {
         let Some(shape) = Shape::of(nodes, 16) else {
             return Err("no shape")?;
         };

@@ -1,7 +1,19 @@
 use Rattle.std.proofs.Common.{◌≤◌, ◌+◌, arith}
-use Rattle.rule_nodes.proofs.Lengths.{passed_on, body_part, bodies_part}
+use Rattle.rule_nodes.proofs.Lengths.{passed_on, let_value_part, let_rest_part, body_part, bodies_part}
 use Rattle.rule_nodes.proofs.Loops.{body_kept}
 use Rattle.rule_nodes.proofs.statements.+block.Goals as goal
+
+pub returns-in_err-behind-in-Let-clause-long : goal.returns-in_err-behind-in-Let-clause-long
+returns-in_err-behind-in-Let-clause-long t c =
+    passed_on c.from_residual-in_err-behind-in-Let.result c.in_err-behind-in-Let.field-0.0 _ _
+    (let_rest_part _ _ _ _ _ _ _ _ c.in-Let.is c.deref-in-Let.ensures) c.in_err-behind-in-Let.ensures.long
+    c.from_residual-in_err-behind-in-Let.ensures.1
+
+pub returns-in_err-value-in-Let-clause-long : goal.returns-in_err-value-in-Let-clause-long
+returns-in_err-value-in-Let-clause-long t c =
+    passed_on c.from_residual-in_err-value-in-Let.result c.in_err-value-in-Let.field-0.0 _ _
+    (let_value_part _ _ _ _ _ _ _ c.in-Let.is) c.in_err-value-in-Let.ensures.long
+    c.from_residual-in_err-value-in-Let.ensures.1
 
 pub returns-in_err-one-in-For-clause-long : goal.returns-in_err-one-in-For-clause-long
 returns-in_err-one-in-For-clause-long t c =
