@@ -84,15 +84,15 @@ impl NodeTask {
         })
     }
 
-    /// Returns false if `is_alike` is surely false: the announced counts or the coins differ. It is untrusted, and spares
-    /// comparisons.
+    /// Returns false if `is_alike` is surely false: the announced counts or the coins differ. It is untrusted, and
+    /// spares comparisons.
     #[inline(always)]
     pub fn may_be_alike(&self, done: &NodeDone) -> bool {
         self.env.coin() == done.env.coin() && self.program.budget() == done.program.budget()
     }
 
-    /// Returns true only if the task has the same blind program as another node's result, and the same memory, inbox and
-    /// coin.
+    /// Returns true only if the task has the same blind program as another node's result, and the same memory, inbox
+    /// and coin.
     pub fn is_alike(&self, done: &NodeDone) -> bool
         ensures { IsTrue result → IsAlike self.now done.now }
     {

@@ -71,21 +71,20 @@ impl Recent {
         }
     }
 
-    /// Whether inputs are still compared.
-    fn compares(&self) -> bool {
-        self.tries > 0
-    }
-
     /// Puts the place of a new result in that of the oldest.
     fn add(&mut self, place: usize) {
         self.places[self.next % REMEMBERED] = place;
         self.next = self.next.wrapping_add(1) % REMEMBERED;
     }
 
-    /// The result of an equal input, if one of the places has it.
+    /// The result of an equal input, if one of the places has it. Otherwise the task's own result will have the next
+    /// place.
     fn alike<'a>(&mut self, task: &NodeTask, dones: &'a [NodeDone]) -> Option<&'a NodeDone>
         ensures { IfSome result (λ done. IsAlike task.now done.now) }
     {
+        if self.tries == 0 {
+            return None;
+        }
         let mut is_compared = false;
         for k in 0..REMEMBERED {
             if let Some(done) = dones.get(self.places[k]) {
@@ -101,6 +100,7 @@ impl Recent {
         if is_compared {
             self.tries = self.tries.saturating_sub(1);
         }
+        self.add(dones.len());
         None
     }
 }
@@ -125,17 +125,9 @@ pub(crate) fn run_batch<G: Gate>(
     let mut bytes = Room::new();
     let mut recent = Recent::none(tasks.len());
     for task in tasks {
-        if !recent.compares() {
-            dones.push_reserved(task.run_in(&mut bytes));
-            continue;
-        }
-        let place = dones.len();
         let done = match recent.alike(&task, &dones) {
             Some(other) => task.done_as(other),
-            None => {
-                recent.add(place);
-                task.run_in(&mut bytes)
-            }
+            None => task.run_in(&mut bytes),
         };
         dones.push_reserved(done);
     }

@@ -136,8 +136,8 @@ fn read_slot(program: &Program, marks: &mut [bool], slot: u32) -> bool
     pass(marks, slot, insn)
 }
 
-/// Returns true only if the program is blind: on no path does it read its node's number. A false promises nothing. Fails
-/// only if memory runs out.
+/// Returns true only if the program is blind: on no path does it read its node's number. A false promises nothing.
+/// Fails only if memory runs out.
 pub fn is_blind(alloc: Global, program: &Program) -> Result<bool, AllocError>
     ensures { IfOk result (λ blind. blind ≡ true → IsBlind program.now) }
 {
