@@ -1,13 +1,21 @@
 -- The code of a rule, and whether it fits, don't depend on where its boxes lie: rules of one form have the same.
-use Rattle.std.proofs.Common.{◌≡◌, ℕ, ◌+◌, ◌*◌, ◌<◌, ◌≤◌, ◌^◌, Bool, ◌&&◌, ◌||◌, not, false, if◌then◌else◌, List, [], ◌∷◌, ◌++◌, refl, ap, sym, subst, ◌∙◌, Box, Global}
+use Rattle.std.proofs.Common.{◌≡◌, ℕ, ◌+◌, ◌*◌, ◌<◌, ◌≤◌, ◌^◌, Bool, ◌&&◌, ◌||◌, not, false, if◌then◌else◌, List, [], ◌∷◌, ◌++◌, Option, Some, None, refl, ap, sym, subst, ◌∙◌, Box, Global}
+use Rattle.std.specs.Int.{w32, cast_signed}
 use denote.RawPtr.{null_ptr}
 use Rattle.bpf_insn.specs.declared.forms.Insn.{Insn}
+use Rattle.bpf_insn.specs.declared.forms.Insn.TheVariants.{Alu}
+use Rattle.bpf_insn.specs.declared.forms.Operand.TheVariants.{Imm}
 use Rattle.bpf_insn.specs.declared.forms.Reg.TheVariants.{R0}
+use Rattle.bpf_insn.specs.declared.forms.Width.TheVariants.{W32}
 use Rattle.rule_nodes.specs.Meaning.{operate}
-use Rattle.rule_nodes.specs.Operands.{is_constant, is_fetched, is_operand, is_asked, is_steady, depth_behind, constant_number, fetched_source, source_of}
-use Rattle.rule_nodes.specs.Code.{place, copy, by_value, by_test, binary_code, choice_code, decides, both_code, message_by, count_code, term_code, given_code, also_code, assignment_code, send_all_code, send_to_code, each_code, block_code, head_code, tail_code, rule_code}
+use Rattle.rule_nodes.specs.Operands.{is_constant, is_fetched, is_local, is_operand, is_asked, is_steady, depth_behind, constant_number, fetched_source, source_of}
+use Rattle.rule_nodes.specs.Code.{place, copy, by_value, by_test, binary_code, alu_of, choice_code, decides, both_code, message_by, count_code, counted_code, term_code, given_code, change_by, change_of, one_code, also_code, assignment_code, send_all_code, send_to_code, each_code, if_code, is_nothing, let_code, block_code, head_code, tail_code, rule_code}
 use Rattle.rule_nodes.specs.Fits.{HasPlace, Fits, TargetFits, AssignmentFits, BlockFits}
+use Rattle.rule_nodes.specs.declared.syntax.Operator.{Operator}
+use Rattle.rule_nodes.specs.declared.syntax.Operator.TheVariants.{Compute, Compare}
 use Rattle.rule_nodes.specs.declared.syntax.Sizes.{Sizes}
+use Rattle.rule_nodes.specs.declared.syntax.Target.{Target}
+use Rattle.rule_nodes.specs.declared.syntax.Target.TheVariants.{ToLocal, ToWord}
 use Rattle.rule_nodes.specs.declared.syntax.Purpose.{Purpose}
 use Rattle.rule_nodes.specs.declared.syntax.Purpose.TheVariants.{Value, Jump}
 use Rattle.rule_nodes.specs.declared.syntax.Source.{Source}
@@ -141,9 +149,29 @@ fits_same g _ z loops lets d = refl
 abbrev lifted_all : Global → Assignment → Assignment
 lifted_all g a = assignment_of g (assignment_form a)
 
+local_same : (g : Global) (t : Term) (j : ℕ) → is_local t j ≡ is_local (lifted g t) j
+local_same g (Local k) j = refl
+local_same g _ j = refl
+
+change_by_same : (g : Global) (target : Target) (o : Operator) (a b : Term) (z : Sizes) (J : List ℕ)
+    → change_by target o a b z J ≡ change_by target o (lifted g a) (lifted g b) z J
+change_by_same g (ToLocal j) (Compute op) a b z J =
+    λ k. if local_same g a j k && constant_same g b k then Some (Alu (alu_of op) W32 (place j)
+    (Imm (cast_signed w32 (number_same g b z J k)))) else None
+change_by_same g (ToLocal j) (Compare r) a b z J = refl
+change_by_same g (ToWord j) o a b z J = refl
+
+change_same : (g : Global) (target : Target) (e : Term) (z : Sizes) (J : List ℕ)
+    → change_of target e z J ≡ change_of target (lifted g e) z J
+change_same g target (Binary' o p a q b) z J = change_by_same g target o a b z J
+change_same g target Me z J = refl
+change_same g target _ z J = refl
+
 assigned_same : (g : Global) (a : Assignment) (z : Sizes) (J : List ℕ) (d : ℕ)
     → assignment_code a z J d ≡ assignment_code (lifted_all g a) z J d
-assigned_same g (One target e) z J d = λ k. given_code (source_same g e z J k) target (code_same g e z J d Value k)
+assigned_same g (One target e) z J d =
+    λ k. one_code (change_same g target e z J k)
+    (given_code (source_same g e z J k) target (code_same g e z J d Value k))
 assigned_same g (Also' p front target e) z J d =
     let D = depth_behind (is_steady e) d in
     let deep : D ≡ depth_behind (is_steady (lifted g e)) d = λ k. depth_behind (steady_same g e k) d in
@@ -168,15 +196,25 @@ all_fit_same g (Also' p front target e) z loops lets d =
 abbrev lifted_block : Global → Statement → Statement
 lifted_block g s = statement_of g (statement_form s)
 
+nothing_same : (g : Global) (s : Statement) → is_nothing s ≡ is_nothing (lifted_block g s)
+nothing_same g Nothing = refl
+nothing_same g _ = refl
+
+let_same : (g : Global) (e : Term) (z : Sizes) (J : List ℕ) (d : ℕ) (rest after : List Insn) → rest ≡ after
+    → let_code e z J d rest ≡ let_code (lifted g e) z J d after
+let_same g (Count' p t) z J d rest after same =
+    λ k. counted_code d z.nodes (λ j. code_same g t z (J ++ j ∷ []) (d + 1) (Jump false 1) k) ++ same k
+let_same g e z J d rest after same = λ k. code_same g e z J d Value k ++ (copy (place d) R0 ∷ same k)
+
 block_same : (g : Global) (s : Statement) (z : Sizes) (J : List ℕ) (d : ℕ)
     → block_code s z J d ≡ block_code (lifted_block g s) z J d
 block_same g Nothing z J d = refl
 block_same g (Then' p a q b) z J d = λ k. block_same g a z J d k ++ block_same g b z J d k
-block_same g (Let' e p rest) z J d =
-    λ k. code_same g e z J d Value k ++ (copy (place d) R0 ∷ block_same g rest z J (d + 1) k)
+block_same g (Let' e p rest) z J d = let_same g e z J d _ _ (block_same g rest z J (d + 1))
 block_same g (Assign a) z J d = assigned_same g a z J d
 block_same g (If' t p a q b) z J d =
-    λ k. choice_code (λ far. code_same g t z J d (Jump false far) k) (block_same g a z J d k) (block_same g b z J d k)
+    λ k. if_code (nothing_same g b k) (λ far. code_same g t z J d (Jump false far) k) (block_same g a z J d k)
+    (block_same g b z J d k)
 block_same g (For' p body) z J d = λ k. each_code (λ j. block_same g body z (J ++ j ∷ []) d k) z.nodes
 block_same g (SendAll e) z J d = λ k. send_all_code (source_same g e z J k) d z.nodes (code_same g e z J d Value k)
 block_same g (SendTo e to) z J d =
