@@ -3,6 +3,7 @@ mod CountLemmas
 mod EventLemmas
 mod FitLemmas
 mod InStepLemmas
+pub mod InputLemmas
 mod ListLemmas
 mod RowLemmas
 mod RuleLaws

@@ -1,6 +1,7 @@
 pub mod Coins
 pub mod Events
 pub mod InStep
+pub mod Inputs
 pub mod Laws
 pub mod Reports
 pub mod RuleRuns

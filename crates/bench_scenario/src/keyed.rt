@@ -35,7 +35,7 @@ pub fn run_with_key<T: Threads + Wait + Sync>(
 }
 
 /// A run in the caller's thread stops for lack of memory alone.
-fn want_of(refusal: RunRefusal) -> AllocError
+pub(crate) fn want_of(refusal: RunRefusal) -> AllocError
     requires { refusal ≡ Memory }
 {
     match refusal {

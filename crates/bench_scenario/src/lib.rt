@@ -3,6 +3,7 @@
 
 mod coins;
 mod in_step;
+mod inputs;
 mod judged;
 mod keyed;
 pub mod laws;
@@ -16,6 +17,7 @@ mod verdicts;
 mod watched;
 
 pub use in_step::in_step_since;
+pub use inputs::{InputFault, NodeInput, node_input};
 pub use judged::clock_name;
 pub use keyed::run_with_key;
 pub use printing::{all_agree, report};

@@ -1,4 +1,5 @@
 pub mod Dealt
 pub mod Going
 mod OneRun
+pub mod OpeningLemmas
 pub mod Showing
