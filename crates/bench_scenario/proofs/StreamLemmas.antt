@@ -59,6 +59,8 @@ due_whole bytes text (errors.UnknownProgram load) is due = due_when bytes text
     (errors.UnknownProgram load) is due.1.0 due
 due_whole bytes text (errors.BadText place key error) is due =
     due_when bytes text (errors.BadText place key error) is due.1.0 due
+due_whole bytes text (errors.BadRule place key error) is due =
+    due_when bytes text (errors.BadRule place key error) is due.1.0 due
 due_whole bytes text (errors.NotAccepted place key slot rule) is due = due_when bytes text
     (errors.NotAccepted place key slot rule) is due.1.0 due
 due_whole bytes text (errors.Memory gone) is due = due

@@ -1,4 +1,4 @@
--- What a node runs in a pulse of a scenario's run (docs/COMMANDS.md, "What run --trace prints").
+-- What a node runs in a pulse of a scenario's run (docs/SCENARIOS.md, "Runs").
 use Rattle.std.specs.Prelude.{◌≡◌, ◌<◌, ◌≤◌, ℕ, List, length, map, slice_index, Some, None}
 use Rattle.std.specs.FinMap.{get}
 use Rattle.node_env.specs.Env.{Extent, Setting}

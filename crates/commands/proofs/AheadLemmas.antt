@@ -84,6 +84,8 @@ due_whole bytes text (errors.UnknownProgram load) taken due =
     due_when bytes text (errors.UnknownProgram load) taken due.1.0 due
 due_whole bytes text (errors.BadText place key error) taken due =
     due_when bytes text (errors.BadText place key error) taken due.1.0 due
+due_whole bytes text (errors.BadRule place key error) taken due =
+    due_when bytes text (errors.BadRule place key error) taken due.1.0 due
 due_whole bytes text (errors.NotAccepted place key slot rule) taken due =
     due_when bytes text (errors.NotAccepted place key slot rule) taken due.1.0 due
 due_whole bytes text (errors.Memory gone) taken due = due

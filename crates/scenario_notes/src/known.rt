@@ -44,9 +44,12 @@ fn is_known(table: &Table, place: Place, name: &str) -> bool {
 
 /// Whether the version is this one or a later one.
 fn has_version(table: &Table, first: u64) -> bool {
-    match table.get("version").and_then(Value::as_integer) {
-        Some(version) => version >= first as i64,
-        None => false,
+    let Some(version) = table.get("version").and_then(Value::as_integer) else {
+        return false;
+    };
+    match u64::try_from(version) {
+        Ok(version) => version >= first,
+        Err(_) => false,
     }
 }
 
