@@ -20,8 +20,8 @@ say-requires-in-Sizes g c = record {
   };
 }
 
-pub say-requires-in-Long : goal.say-requires-in-Long
-say-requires-in-Long g c = record {
+pub say-requires-in-Rule-TooLong : goal.say-requires-in-Rule-TooLong
+say-requires-in-Rule-TooLong g c = record {
   note = record {
     words = codes "a program has at most 2048 slots, and for and count are written out for each node: use fewer of both, or fewer --nodes";
     one_line = refl;
