@@ -63,6 +63,7 @@ ROWS = {
     ("run", "json"): ([], AGREED, None),
     ("run", "from"): (["--json"], AGREED, "3"),
     ("run", "until"): (["--json"], AGREED, "3"),
+    ("run", "trace"): ([], AGREED, "3:0"),
     ("stress", "loaders"): ([], b"", "1"),
     ("stress", "loads"): ([], b"", "3"),
     ("stress", "pulses"): ([], b"", "3"),

@@ -33,7 +33,7 @@ def bash_text(told):
         words = " ".join(option for option, _, _ in options)
         files = " files" if takes_file else ""
         cases.append(f"    {name}) _clockbed_offer \"{words}\"{files} ;;")
-    valued = sorted({option for _, _, options, _ in told for option, value, _ in options if value})
+    valued = sorted({f"{name}:{option}" for name, _, options, _ in told for option, value, _ in options if value})
     names = " ".join(name for name, *_ in told)
     return f"""# bash completion for clockbed: made by tools/completions.py
 _clockbed_offer() {{
@@ -51,7 +51,7 @@ _clockbed() {{
     mapfile -t COMPREPLY < <(compgen -W "{names} help --help --version" -- "${{COMP_WORDS[COMP_CWORD]}}")
     return
   fi
-  case ${{COMP_WORDS[COMP_CWORD - 1]}} in
+  case ${{COMP_WORDS[1]}}:${{COMP_WORDS[COMP_CWORD - 1]}} in
     {" | ".join(valued)}) return ;;
   esac
   case ${{COMP_WORDS[1]}} in
@@ -70,7 +70,7 @@ def zsh_quoted(text):
 def zsh_words(options, takes_file):
     for option, value, about in options:
         about = zsh_quoted(about)
-        yield f"'{option}=[{about}]:{value}: '" if value else f"'{option}[{about}]'"
+        yield f"'{option}=[{about}]:{zsh_quoted(value)}: '" if value else f"'{option}[{about}]'"
     if takes_file:
         yield "'1:file:_files'"
 

@@ -127,6 +127,8 @@ def asked(clockbed):
         ("asm", clock),
         ("compile", RULE),
         ("run", FOUR),
+        ("run --trace 1:0", FOUR),
+        ("run --trace 9:0", FOUR),
         ("sweep --keys 7..8 --workers 1", CHACHA),
         ("run --json --workers 1", THREE),
         ("explore", FOUR),

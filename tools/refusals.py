@@ -247,6 +247,8 @@ def commands(library, room, kind):
         Command("run", b"nodes = 4\nmodulo = 8\n"),
         Command("run", b"nodes = \n"),
         Command("run --check --workers 1", four),
+        Command("run --trace 2:1", four),
+        Command("run --trace 2:4", four),
         Command("run --json --workers 1", three),
         Command("run --json --from 4", three),
         Command("run --json", b"nodes = 33\n"),

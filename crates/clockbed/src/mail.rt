@@ -186,8 +186,8 @@ fn span_in(part: &str) -> Result<MailSpan, MailFault> {
     }
 }
 
-/// A number of digits alone.
-fn number_in(text: &str) -> Option<u32> {
+/// Returns the number of a text of digits alone, if it is below 2 to the 32.
+pub fn number_in(text: &str) -> Option<u32> {
     if text.bytes().all(|byte| byte.is_ascii_digit()) {
         text.parse().ok()
     } else {

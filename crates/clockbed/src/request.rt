@@ -3,7 +3,7 @@ ghost use Rattle.std.specs.Prelude.{IfErr};
 ghost use Rattle.commands.specs.Faults.{IsOfCommandLine};
 
 use crate::exec_words::{CaseFault, exec_options};
-use crate::mail::{MailFault, bytes_in, cells_in, mail_in};
+use crate::mail::{MailFault, bytes_in, cells_in, mail_in, number_in};
 use clap::error::ErrorKind;
 use clap::{ArgMatches, Error};
 use command_words::{
@@ -14,7 +14,7 @@ use commands::Fault;
 use commands::request::{
     AnyStart, Cells, ClockOptions, ClockRule, CompileOptions, Detail, ExplainOptions,
     ExploreOptions, LinesOptions, MailSpan, Question, Request, RunOptions, ShapeOptions,
-    StressOptions, SweepOptions,
+    StressOptions, SweepOptions, TracedRunOptions,
 };
 use key_sweep::KeySpan;
 use run_lines::PulseSpan;
@@ -28,6 +28,10 @@ const BYTES_REASON: &str =
 /// Why a text doesn't say what bytes may be.
 const CELLS_REASON: &str =
     "the cells are places and bytes such as 0=0..7,4=0,1: places and bytes below 256, and ranges that rise";
+
+/// Why a text names no node's run in a pulse.
+const TRACE_REASON: &str =
+    "--trace is PULSE:NODE, two numbers such as 3:0: the first pulse is 1, the first node 0";
 
 /// What the words ask for, and the file that they name for it to read.
 #[derive(Drop)]
@@ -199,8 +203,23 @@ fn run_options(options: &ArgMatches<'_>) -> RunOptions {
     }
 }
 
-/// A report, or the lines of a span of pulses.
+/// The pulse and the node of a text PULSE:NODE.
+fn trace_options(text: &str) -> Option<TracedRunOptions> {
+    let (pulse, node) = text.split_once(':')?;
+    Some(TracedRunOptions {
+        pulse: number_in(pulse)?,
+        node: number_in(node)?,
+    })
+}
+
+/// A report, the run of a node in a pulse, or the lines of a span of pulses.
 fn run_request(options: &ArgMatches<'_>) -> Result<Request, OptionsFault> {
+    if let Some(text) = options.get_str("trace") {
+        return match trace_options(text) {
+            Some(options) => Ok(Request::TracedRun(options)),
+            None => Err(OptionsFault::Reason(TRACE_REASON)),
+        };
+    }
     let run = run_options(options);
     if !options.get_flag("json") {
         return Ok(Request::Run(run));

@@ -153,7 +153,24 @@ fn run<'a>(alloc: Global, helps: &'a Helps) -> Building<'a> {
         "json",
         "Print a line of JSON for each pulse, with its whole state",
     ));
-    with_span(alloc, run).arg(file(alloc))
+    with_span(alloc, run)
+        .made_arg(trace_option(alloc))
+        .arg(file(alloc))
+}
+
+/// The option for a node's run in a pulse, which takes the place of the report.
+fn trace_option<'a>(alloc: Global) -> Result<Arg<'a>, AllocError> {
+    text_option(
+        alloc,
+        "trace",
+        "PULSE:NODE",
+        "Print in place of the report what this node runs in this pulse, step by step",
+    )
+    .conflicts_with("json")?
+    .conflicts_with("check")?
+    .conflicts_with("workers")?
+    .conflicts_with("from")?
+    .conflicts_with("until")
 }
 
 /// Adds the options that ask for a span of pulses.

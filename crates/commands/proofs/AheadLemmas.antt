@@ -19,7 +19,7 @@ use Rattle.commands.specs.declared.fault.Fault.TheVariants as faults
 use Rattle.commands.specs.declared.image.TheConstants.{IMAGE_BYTES}
 use Rattle.commands.specs.declared.request.ExecOptions.{ExecOptions}
 use Rattle.commands.specs.declared.request.Request.{Request}
-use Rattle.commands.specs.declared.request.Request.TheVariants.{Exec, Asm, Compile, Dis, Clock, Verify, Explain, Run, Lines, Stress, Sweep, Explore, Help}
+use Rattle.commands.specs.declared.request.Request.TheVariants.{Exec, Asm, Compile, Dis, Clock, Verify, Explain, Run, Lines, TracedRun, Stress, Sweep, Explore, Help}
 use Rattle.commands.specs.inner.Ahead.{FailsSo, IsFrontFor}
 use Rattle.commands.specs.declared.asm.TheConstants.{TEXT_BYTES}
 use Rattle.commands.specs.Compile.{LeavesCompiled}
@@ -38,6 +38,7 @@ use Rattle.commands.specs.Perform.{CarriesOut}
 use Rattle.commands.specs.Run.{IsTold, LeavesTold, Refusal, Report, Told, WantsThread}
 use Rattle.commands.specs.Sweep.{LeavesSwept, LeavesUnswept}
 use Rattle.commands.specs.Sweep as unswept
+use Rattle.commands.specs.TracedRun.{LeavesTracedRun}
 use Rattle.commands.specs.Verdict.{LeavesVerdict}
 
 -- ---- the text that is read
@@ -193,6 +194,8 @@ front_carried (Run asked) input bytes old new ended taken left =
     (run_whole asked.check old new bytes input ended taken left.0, wants_whole bytes input ended taken left.1)
 front_carried (Lines asked) input bytes old new ended taken left =
     json_whole asked.run.check old new bytes input asked.span ended taken left
+front_carried (TracedRun asked) input bytes old new ended taken left =
+    subst (λ b. LeavesTracedRun old new asked b ended) (within MOST_BYTES bytes input taken) left
 front_carried (Sweep asked) input bytes old new ended taken left =
     swept_whole old new bytes input asked.keys ended taken left
 front_carried (Explore asked) input bytes old new ended taken left =
@@ -213,6 +216,7 @@ unknown_carried (Dis list) bytes old new ended left = tt
 unknown_carried (Verify asked) bytes old new ended left = tt
 unknown_carried (Run asked) bytes old new ended left = tt
 unknown_carried (Lines asked) bytes old new ended left = tt
+unknown_carried (TracedRun asked) bytes old new ended left = tt
 unknown_carried (Sweep asked) bytes old new ended left = tt
 unknown_carried (Explore asked) bytes old new ended left = tt
 unknown_carried (Explain asked) bytes old new ended left = tt
@@ -276,6 +280,7 @@ unread_known (Verify asked) input old fault fails = unread_any _ _ (λ a. Done) 
 unread_known (Run asked) input old fault fails =
     (unread_any _ _ (λ a. Done) old fault fails, unread_wants input fault fails)
 unread_known (Lines asked) input old fault fails = inr (inr (fails, keeps_itself old))
+unread_known (TracedRun asked) input old fault fails = unread_any _ _ (λ a. Done) old fault fails
 unread_known (Sweep asked) input old fault fails = unread_swept old input asked.keys fault fails
 unread_known (Explore asked) input old fault fails = unread_any _ _ (λ a. Done) old fault fails
 unread_known (Explain asked) input old fault fails = unread_any _ _ (λ a. Done) old fault fails
@@ -293,6 +298,7 @@ unread_carried (Dis list) None old fault fails = tt
 unread_carried (Verify asked) None old fault fails = tt
 unread_carried (Run asked) None old fault fails = tt
 unread_carried (Lines asked) None old fault fails = tt
+unread_carried (TracedRun asked) None old fault fails = tt
 unread_carried (Sweep asked) None old fault fails = tt
 unread_carried (Explore asked) None old fault fails = tt
 unread_carried (Explain asked) None old fault fails = tt

@@ -7,6 +7,7 @@ mod StressLemmas
 mod FaultLemmas
 mod InputLemmas
 mod TracedLemmas
+mod TracedRunLemmas
 mod SweepLemmas
 pub mod PlaceLemmas
 pub mod ExploreLemmas

@@ -16,5 +16,6 @@ pub mod Run
 pub mod Lines
 pub mod Stress
 pub mod Sweep
+pub mod TracedRun
 pub mod Perform
 pub mod inner

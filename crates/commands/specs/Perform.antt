@@ -8,7 +8,7 @@ use Rattle.commands.specs.declared.fault.Fault.{Fault}
 use Rattle.commands.specs.declared.image.TheConstants.{IMAGE_BYTES}
 use Rattle.commands.specs.declared.request.ShapeOptions.{ShapeOptions}
 use Rattle.commands.specs.declared.request.Request.{Request}
-use Rattle.commands.specs.declared.request.Request.TheVariants.{Exec, Asm, Compile, Dis, Clock, Verify, Explain, Run, Lines, Stress, Sweep, Explore, Help}
+use Rattle.commands.specs.declared.request.Request.TheVariants.{Exec, Asm, Compile, Dis, Clock, Verify, Explain, Run, Lines, TracedRun, Stress, Sweep, Explore, Help}
 use Rattle.commands.specs.Asm.{LeavesImage}
 use Rattle.commands.specs.Compile.{LeavesCompiled}
 use Rattle.commands.specs.Dis.{LeavesClock, LeavesListing}
@@ -26,6 +26,7 @@ use Rattle.rule_notes.specs.Words.{IsNote}
 use Rattle.bench_scenario.specs.declared.run.TheConstants.{MOST_BYTES}
 use Rattle.commands.specs.Stress.{LeavesStressed}
 use Rattle.commands.specs.Sweep.{LeavesSwept}
+use Rattle.commands.specs.TracedRun.{LeavesTracedRun}
 use Rattle.commands.specs.Verdict.{LeavesVerdict}
 
 -- what each command leaves on its output, where the bytes of its input are known, and how it ends
@@ -47,6 +48,8 @@ CarriesOut (Run asked) input old new ended = IfSome input
     (λ bytes. LeavesTold asked.check old new bytes ended × WantsThread bytes ended)
 CarriesOut (Lines asked) input old new ended = IfSome input
     (λ bytes. LeavesJson asked.run.check old new bytes asked.span ended)
+CarriesOut (TracedRun asked) input old new ended = IfSome input
+    (λ bytes. LeavesTracedRun old new asked (take MOST_BYTES bytes) ended)
 CarriesOut (Stress asked) input old new ended = LeavesStressed asked old new ended
 CarriesOut (Sweep asked) input old new ended = IfSome input (λ bytes. LeavesSwept old new bytes asked.keys ended)
 CarriesOut (Explore asked) input old new ended = IfSome input
@@ -95,6 +98,7 @@ TakesFor (Explain asked) old new =
     TakesAtMost (most_read asked.text) old new × ((HasShape asked.shape → ⊥) → new ≡ old)
 TakesFor (Run asked) old new = TakesAtMost MOST_BYTES old new
 TakesFor (Lines asked) old new = TakesAtMost MOST_BYTES old new
+TakesFor (TracedRun asked) old new = TakesAtMost MOST_BYTES old new
 TakesFor (Stress asked) old new = new ≡ old
 TakesFor (Sweep asked) old new = TakesAtMost MOST_BYTES old new
 TakesFor (Explore asked) old new = TakesAtMost MOST_BYTES old new

@@ -4,3 +4,4 @@ pub mod Exec
 pub mod Faults
 pub mod Input
 pub mod Lines
+pub mod TracedRun

@@ -35,9 +35,11 @@ pub(crate) fn read_ahead<R: Read>(
         Request::Verify(options) => read_shaped(alloc, *options, reader),
         Request::Explain(options) => read_asked(alloc, options.shape, options.text, reader),
         Request::Dis { .. } => Ok(Some(read_image(alloc, reader)?)),
-        Request::Run(_) | Request::Lines(_) | Request::Sweep(_) | Request::Explore(_) => {
-            Ok(Some(read_text(alloc, reader)?))
-        }
+        Request::Run(_)
+        | Request::Lines(_)
+        | Request::TracedRun(_)
+        | Request::Sweep(_)
+        | Request::Explore(_) => Ok(Some(read_text(alloc, reader)?)),
         Request::Compile(_) => Ok(Some(asm::read_text(alloc, reader)?)),
         Request::Asm { .. } | Request::Clock(_) | Request::Stress(_) | Request::Help { .. } => Ok(
             None,

@@ -46,7 +46,7 @@ fn add_more(text: &mut String, slots: &[Option<u32>]) -> Result<(), AllocError>
 }
 
 /// Adds the slots, with commas between them.
-fn add_mail(text: &mut String, slots: &[Option<u32>]) -> Result<(), AllocError>
+pub(crate) fn add_mail(text: &mut String, slots: &[Option<u32>]) -> Result<(), AllocError>
     ensures { OnOk result (string_bytes text.new ≡ string_bytes text.old ++ mail_text slots.now) }
 {
     let Some((first, rest)) = slots.split_first() else {

@@ -18,6 +18,7 @@ mod input;
 pub mod laws;
 mod left;
 mod lines;
+mod node_lines;
 mod note;
 mod output;
 pub mod perform;
@@ -26,7 +27,9 @@ mod run;
 mod shown;
 mod stress;
 mod sweep;
+mod trace_note;
 mod traced;
+mod traced_run;
 mod verdict;
 pub mod verify;
 

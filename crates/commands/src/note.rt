@@ -8,6 +8,7 @@ use crate::ending::Ending;
 use crate::explore::unfit_of;
 use crate::finding::Unfit;
 use crate::request::{CompileOptions, Request, ShapeOptions};
+use crate::trace_note::note_on_trace;
 use rule_notes::note_on_rule;
 use rule_text::{RuleRefusal, read_rule};
 use scenario_notes::note_on;
@@ -76,9 +77,11 @@ fn tell_note<E: Write>(alloc: Global, request: &Request, input: &[u8], err: &mut
         Request::Exec(_) | Request::Dis { .. } | Request::Verify(_) | Request::Explain(_) => {
             tell_image_note(input, err);
         }
-        Request::Run(_) | Request::Lines(_) | Request::Sweep(_) | Request::Explore(_) => {
-            tell_scenario_note(alloc, request, input, err);
-        }
+        Request::Run(_)
+        | Request::Lines(_)
+        | Request::TracedRun(_)
+        | Request::Sweep(_)
+        | Request::Explore(_) => tell_scenario_note(alloc, request, input, err),
         Request::Compile(options) => tell_rule_note(alloc, *options, input, err),
         Request::Asm { .. } | Request::Clock(_) | Request::Stress(_) | Request::Help { .. } => {}
     }
@@ -169,17 +172,22 @@ fn tell_scenario_note<E: Write>(alloc: Global, request: &Request, text: &[u8], e
     ensures { SaysNote (E.contents err.old) (E.contents err.new) }
 {
     match scenario_in(alloc, text) {
-        Ok(scenario) => tell_unfit_note(request, &scenario, err),
+        Ok(scenario) => tell_unfit_note(alloc, request, &scenario, err),
         Err(error) => tell_refusal_note(alloc, text, &error, err),
     }
 }
 
 /// Says why a scenario can't be used that is one.
-fn tell_unfit_note<E: Write>(request: &Request, scenario: &Scenario, err: &mut E)
+fn tell_unfit_note<E: Write>(alloc: Global, request: &Request, scenario: &Scenario, err: &mut E)
     ensures { SaysNote (E.contents err.old) (E.contents err.new) }
 {
     match request {
         Request::Sweep(_) => say(SEED_NOTE, err),
+        Request::TracedRun(options) => {
+            if let Ok(Some(note)) = note_on_trace(alloc, *options, scenario) {
+                say(note.as_bytes(), err);
+            }
+        }
         Request::Explore(_) => {
             if let Some(unfit) = unfit_of(scenario) {
                 say(unexplored_note(unfit), err);

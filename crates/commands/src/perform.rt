@@ -18,6 +18,7 @@ use crate::request::Request;
 use crate::run::run;
 use crate::stress::stress;
 use crate::sweep::sweep;
+use crate::traced_run::traced_run;
 use crate::verify::verify;
 use std::alloc::Global;
 use std::io::{Read, Write};
@@ -97,6 +98,7 @@ fn carry_out<T: Threads + Wait + Sync, R: Read, W: Write>(
         Request::Explain(options) => explained(alloc, *options, reader, out),
         Request::Run(options) => run(rt, alloc, *options, reader, out),
         Request::Lines(options) => lines(rt, alloc, *options, reader, out),
+        Request::TracedRun(options) => traced_run(rt, alloc, *options, reader, out),
         Request::Stress(options) => stress(rt, alloc, *options, out),
         Request::Sweep(options) => sweep(rt, alloc, *options, reader, out),
         Request::Explore(options) => explore(rt, alloc, options, reader, out),

@@ -27,6 +27,8 @@ pub enum Request {
     Run(RunOptions),
     /// `run --json`.
     Lines(LinesOptions),
+    /// `run --trace`.
+    TracedRun(TracedRunOptions),
     Stress(StressOptions),
     Sweep(SweepOptions),
     Explore(ExploreOptions),
@@ -83,6 +85,13 @@ pub struct LinesOptions {
     pub run: RunOptions,
     /// The pulses that are told.
     pub span: PulseSpan,
+}
+
+/// The options of `run --trace`. A scenario may have no such pulse or node.
+#[derive(Clone, Copy, Debug, PartialEq, Eq)]
+pub struct TracedRunOptions {
+    pub pulse: u32,
+    pub node: u32,
 }
 
 /// The options of `sweep`.

@@ -5,7 +5,7 @@ use Rattle.commands.specs.declared.asm.TheConstants.{TEXT_BYTES}
 use Rattle.commands.specs.declared.fault.Fault.{Fault}
 use Rattle.commands.specs.declared.image.TheConstants.{IMAGE_BYTES}
 use Rattle.commands.specs.declared.request.Request.{Request}
-use Rattle.commands.specs.declared.request.Request.TheVariants.{Exec, Asm, Compile, Dis, Clock, Verify, Explain, Run, Lines, Stress, Sweep, Explore, Help}
+use Rattle.commands.specs.declared.request.Request.TheVariants.{Exec, Asm, Compile, Dis, Clock, Verify, Explain, Run, Lines, TracedRun, Stress, Sweep, Explore, Help}
 use Rattle.commands.specs.Faults.{IsBeforeWriting}
 use Rattle.commands.specs.Input.{most_read}
 
@@ -16,6 +16,7 @@ IsFrontFor (Dis list) bytes input = bytes ≡ take IMAGE_BYTES input
 IsFrontFor (Verify asked) bytes input = bytes ≡ take IMAGE_BYTES input
 IsFrontFor (Run asked) bytes input = bytes ≡ take MOST_BYTES input
 IsFrontFor (Lines asked) bytes input = bytes ≡ take MOST_BYTES input
+IsFrontFor (TracedRun asked) bytes input = bytes ≡ take MOST_BYTES input
 IsFrontFor (Sweep asked) bytes input = bytes ≡ take MOST_BYTES input
 IsFrontFor (Explore asked) bytes input = bytes ≡ take MOST_BYTES input
 IsFrontFor (Explain asked) bytes input = bytes ≡ take (most_read asked.text) input
@@ -32,6 +33,7 @@ FailsSo (Dis list) fault = IsBeforeWriting fault
 FailsSo (Verify asked) fault = IsBeforeWriting fault
 FailsSo (Run asked) fault = IsBeforeWriting fault
 FailsSo (Lines asked) fault = IsBeforeWriting fault
+FailsSo (TracedRun asked) fault = IsBeforeWriting fault
 FailsSo (Sweep asked) fault = IsBeforeWriting fault
 FailsSo (Explore asked) fault = IsBeforeWriting fault
 FailsSo (Explain asked) fault = IsBeforeWriting fault

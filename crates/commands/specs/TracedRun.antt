@@ -1,0 +1,101 @@
+-- What `run --trace` leaves on its output (docs/COMMANDS.md, "What run --trace prints").
+use Rattle.std.specs.Prelude.{◌≡◌, ◌<◌, ◌≤◌, ℕ, List, ◌++◌, codes, Option, Result}
+use Rattle.std.specs.Fmt.{decimal}
+use Rattle.node_env.specs.Env.{Extent}
+use Rattle.bpf_machine.specs.Run.{End}
+use Rattle.bench_core.specs.State.{State}
+use Rattle.bench_core.specs.Told.{RanTo}
+use Rattle.bench_workers.specs.Opening.{OpensPulse}
+use Rattle.scenario_text.specs.declared.scenario.Scenario.{Scenario}
+use Rattle.scenario_text.specs.Lines.{refusal_line}
+use Rattle.scenario_text.specs.Texts.{IsDue, ReadsText}
+use Rattle.bench_scenario.specs.declared.inputs.NodeInput.{NodeInput}
+use Rattle.bench_scenario.specs.Events.{events_of}
+use Rattle.bench_scenario.specs.Inputs.{HasPulse, IsInputOf, RestsIn, setting_in}
+use Rattle.bench_scenario.specs.Runs.{bench_of}
+use Rattle.run_trace.specs.Lines.{trace_text}
+use Rattle.run_trace.specs.Steps.{steps_of}
+use Rattle.commands.specs.declared.ending.Ending.{Ending}
+use Rattle.commands.specs.declared.ending.Ending.TheVariants as endings
+use Rattle.commands.specs.declared.fault.Fault.{Fault}
+use Rattle.commands.specs.declared.request.TracedRunOptions.{TracedRunOptions}
+use Rattle.commands.specs.declared.traced_run.NodeTrace.{NodeTrace}
+use Rattle.commands.specs.declared.traced_run.NodeTrace.TheVariants as traces
+use Rattle.commands.specs.Case.{left_lines, mail_text, memory_line}
+use Rattle.commands.specs.Output.{LeavesAny}
+
+-- ---- the lines
+
+-- the pulse and the node, and its memory when the pulse begins
+abbrev pub place_lines : ℕ → ℕ → List ℕ → List ℕ
+place_lines pulse node memory =
+    codes "pulse " ++ (decimal pulse ++ (codes " node " ++ (decimal node ++ (codes "\n"
+    ++ (memory_line memory ++ codes "\n")))))
+
+-- the input, each part in the form that an option of `exec` takes
+abbrev pub input_lines : ℕ → ℕ → NodeInput → List ℕ
+input_lines pulse node x =
+    place_lines pulse node x.memory.items
+    ++ (codes "mail " ++ (mail_text x.heard.items ++ (codes "\ncoin " ++ (decimal x.coin ++ codes "\n"))))
+
+-- a line for each step of the run of this many steps
+abbrev pub step_lines : Extent → ℕ → NodeInput → ℕ → List ℕ
+step_lines shape node x steps =
+    let program = x.program.program in
+    trace_text program (steps_of program (setting_in shape node x) x.memory.items steps)
+
+-- how it ends in a bench of so many nodes: r0 and steps, then memory and messages, as `exec --show` prints them
+abbrev pub end_lines : ℕ → End → List ℕ
+end_lines nodes end =
+    codes "r0 " ++ (decimal end.r0 ++ (codes " steps " ++ (decimal end.steps ++ (codes "\n"
+    ++ left_lines (record { memory = end.memory; outbox = record { nodes = nodes; sent = end.sent } })))))
+
+abbrev pub run_lines : Extent → ℕ → ℕ → NodeInput → End → List ℕ
+run_lines shape pulse node x end =
+    input_lines pulse node x ++ (step_lines shape node x end.steps ++ end_lines shape.nodes end)
+
+-- ---- the answer
+
+-- the text says a scenario; the pulse is opened in its run; this is what the node runs there, and this its complete
+-- run, of which the pulse tells the steps; and these are their lines
+pub record IsRunOf (asked : TracedRunOptions) (text lines : List ℕ) : Type 0 where
+  pub scenario : Scenario
+  pub coins : List ℕ
+  pub state : State
+  pub input : NodeInput
+  pub end : End
+  pub reads : ReadsText text scenario
+  pub opened : OpensPulse (bench_of scenario) (events_of scenario) asked.pulse coins state
+  pub is_input : IsInputOf state coins asked.node input
+  pub run : RanTo (bench_of scenario) state coins asked.node end
+  pub whole : lines ≡ run_lines (bench_of scenario).shape asked.pulse asked.node input end
+
+-- the first refusal that holds
+abbrev pub IsTrace : TracedRunOptions → List ℕ → NodeTrace → Type 0
+IsTrace asked text (traces.Refused error) = IsDue text error
+IsTrace asked text traces.NoPulse = (s : Scenario) × ReadsText text s × (HasPulse s asked.pulse → ⊥)
+IsTrace asked text traces.NoNode =
+    (s : Scenario) × ReadsText text s × HasPulse s asked.pulse × (s.nodes ≤ asked.node)
+IsTrace asked text traces.NoProgram =
+    (s : Scenario) × ReadsText text s × HasPulse s asked.pulse × (asked.node < s.nodes)
+    × RestsIn s asked.pulse asked.node
+IsTrace asked text (traces.Lines lines) = IsRunOf asked text lines.items
+
+abbrev pub trace_of : NodeTrace → List ℕ
+trace_of (traces.Refused error) = refusal_line error ++ codes "\n"
+trace_of traces.NoPulse = codes "refused trace NoPulse\n"
+trace_of traces.NoNode = codes "refused trace NoNode\n"
+trace_of traces.NoProgram = codes "refused trace NoProgram\n"
+trace_of (traces.Lines lines) = lines.items
+
+abbrev pub trace_ending : NodeTrace → Ending
+trace_ending (traces.Refused error) = endings.Refused
+trace_ending traces.NoPulse = endings.Refused
+trace_ending traces.NoNode = endings.Refused
+trace_ending traces.NoProgram = endings.Refused
+trace_ending (traces.Lines lines) = endings.Done
+
+-- the whole text, its first bytes if a write failed, or nothing at another fault
+abbrev pub LeavesTracedRun : Option (List ℕ) → Option (List ℕ) → TracedRunOptions → List ℕ → Result Ending Fault
+    → Type 0
+LeavesTracedRun old new asked text result = LeavesAny (IsTrace asked text) trace_of trace_ending old new result

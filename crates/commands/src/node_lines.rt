@@ -1,0 +1,157 @@
+//! The lines of a node's run in a pulse.
+ghost use Rattle.std.specs.Prelude.{◌≡◌, ◌++◌, IfOk, OnOk, length, string_bytes};
+ghost use Rattle.bpf_machine.specs.Run.{CompleteRun, End};
+ghost use Rattle.bench_scenario.specs.Inputs.{FitsShape, setting_in};
+ghost use Rattle.run_trace.specs.Lines.{trace_text};
+ghost use Rattle.run_trace.specs.Steps.{steps_of};
+ghost use Rattle.commands.specs.TracedRun.{end_lines, input_lines, place_lines, run_lines};
+ghost use Rattle.commands.specs.inner.TracedRun.{end_in};
+
+use crate::left::{LeftByRun, add_left, add_mail};
+use crate::request::TracedRunOptions;
+use bench_scenario::NodeInput;
+use bpf_insn::Program;
+use bpf_run::run;
+use bpf_verify::VerifiedProgram;
+use node_env::{Env, Outbox};
+use run_trace::trace;
+use std::alloc::{AllocError, Global};
+use std::fmt::Write as _;
+
+/// How a node's run ended, and what it left.
+#[derive(Drop)]
+pub(crate) struct RunEnd {
+    pub r0: u64,
+    pub steps: u32,
+    pub left: LeftByRun,
+}
+
+/// The lines of a node's run.
+pub(crate) fn lines_of(
+    alloc: Global,
+    options: TracedRunOptions,
+    input: NodeInput,
+) -> Result<Vec<u8>, AllocError>
+    requires { FitsShape input.program.shape options.node input }
+    ensures { IfOk result (λ lines. (end : End)
+        × CompleteRun input.program.program (setting_in input.program.shape options.node input) input.memory.items end
+        × (lines.items ≡ run_lines input.program.shape options.pulse options.node input end)) }
+{
+    let text = input_text(alloc, options, &input)?;
+    let mut lines = Vec::from_slice(alloc, text.as_bytes())?;
+    let NodeInput {
+        program,
+        memory,
+        heard,
+        coin,
+    } = input;
+    let env = Env::new(program.shape(), options.node, heard, coin);
+    let end = end_of(alloc, &program, &env, &memory)?;
+    add_steps(
+        alloc,
+        &mut lines,
+        program.program(),
+        &env,
+        &memory,
+        end.steps,
+    )?;
+    add_end(alloc, &mut lines, &end)?;
+    Ok(lines)
+}
+
+/// The lines of what a node runs in a pulse.
+fn input_text(
+    alloc: Global,
+    options: TracedRunOptions,
+    input: &NodeInput,
+) -> Result<String, AllocError>
+    ensures { IfOk result (λ text. string_bytes text ≡ input_lines options.pulse options.node input.now) }
+{
+    let mut text = place_text(alloc, options, &input.memory)?;
+    text.push_str("mail ")?;
+    add_mail(&mut text, &input.heard)?;
+    let coin = input.coin;
+    write!(text, "\ncoin {coin}\n")?;
+    Ok(text)
+}
+
+/// The pulse, the node and its memory.
+fn place_text(alloc: Global, options: TracedRunOptions, memory: &[u8]) -> Result<String, AllocError>
+    ensures { IfOk result (λ text. string_bytes text ≡ place_lines options.pulse options.node memory.now) }
+{
+    let TracedRunOptions { pulse, node } = options;
+    let memory = hex::encode(alloc, memory)?;
+    format!(in alloc; "pulse {pulse} node {node}\nmemory {memory}\n")
+}
+
+/// The end of a node's run.
+fn end_of(
+    alloc: Global,
+    program: &VerifiedProgram,
+    env: &Env,
+    memory: &[u8],
+) -> Result<RunEnd, AllocError>
+    requires shape { program.now.shape ≡ env.now.shape }
+    requires memory { length memory.now ≡ env.now.shape.memory }
+    ensures complete { IfOk result (λ end. CompleteRun program.now.program env.now memory.now (end_in end)) }
+    ensures nodes { IfOk result (λ end. end.left.outbox.nodes ≡ env.now.shape.nodes) }
+{
+    let mut memory = Vec::from_slice(alloc, memory)?;
+    let mut outbox = Outbox::new(alloc, env.shape())?;
+    let ended = run(program, env, &mut memory, &mut outbox);
+    let left = LeftByRun { memory, outbox };
+    Ok(RunEnd {
+        r0: ended.r0,
+        steps: ended.steps,
+        left,
+    })
+}
+
+/// Adds the lines of this many steps of a run.
+fn add_steps(
+    alloc: Global,
+    lines: &mut Vec<u8>,
+    program: &Program,
+    env: &Env,
+    memory: &[u8],
+    steps: u32,
+) -> Result<(), AllocError>
+    requires { length memory.now ≡ env.now.shape.memory }
+    ensures { OnOk result (lines.new.items ≡ lines.old.items
+        ++ trace_text program.now (steps_of program.now env.now memory.now steps)) }
+{
+    let mut memory = Vec::from_slice(alloc, memory)?;
+    let mut outbox = Outbox::new(alloc, env.shape())?;
+    match trace(
+        alloc,
+        program,
+        env,
+        &mut memory,
+        &mut outbox,
+        u64::from(steps),
+        lines,
+    ) {
+        Ok(_traced) => Ok(()),
+        Err(_) => Err(AllocError),
+    }
+}
+
+/// Adds the lines of how a run ended.
+fn add_end(alloc: Global, lines: &mut Vec<u8>, end: &RunEnd) -> Result<(), AllocError>
+    ensures { OnOk result (lines.new.items ≡ lines.old.items
+        ++ end_lines end.now.left.outbox.nodes (end_in end.now)) }
+{
+    let text = end_text(alloc, end)?;
+    lines.extend_from_slice(text.as_bytes())
+}
+
+/// The lines of how a run ended.
+fn end_text(alloc: Global, end: &RunEnd) -> Result<String, AllocError>
+    ensures { IfOk result (λ text. string_bytes text ≡ end_lines end.now.left.outbox.nodes (end_in end.now)) }
+{
+    let r0 = end.r0;
+    let steps = end.steps;
+    let mut text = format!(in alloc; "r0 {r0} steps {steps}\n")?;
+    add_left(alloc, &mut text, &end.left)?;
+    Ok(text)
+}

@@ -1,0 +1,62 @@
+//! The note on a run of a node that a scenario doesn't have.
+ghost use Rattle.std.specs.Prelude.{IfOk, IfSome, string_bytes};
+ghost use Rattle.rule_notes.specs.Words.{IsNote};
+
+use crate::request::TracedRunOptions;
+use scenario_text::{Load, Scenario};
+use std::alloc::{AllocError, Global};
+
+/// Returns the note on a run of a node that a scenario doesn't have, with its end.
+pub(crate) fn note_on_trace(
+    alloc: Global,
+    options: TracedRunOptions,
+    scenario: &Scenario,
+) -> Result<Option<String>, AllocError>
+    ensures { IfOk result (λ found. IfSome found (λ note. IsNote (string_bytes note))) }
+{
+    let words = words_on(alloc, options, scenario)?;
+    if words.as_bytes().contains(&b'\n') {
+        return Ok(None);
+    }
+    let note = format!(in alloc; "note: {words}\n")?;
+    Ok(Some(note))
+}
+
+/// What the scenario has in its place.
+fn words_on(
+    alloc: Global,
+    options: TracedRunOptions,
+    scenario: &Scenario,
+) -> Result<String, AllocError> {
+    let TracedRunOptions { pulse, node } = options;
+    if pulse == 0 || scenario.pulses < pulse {
+        let last = scenario.pulses;
+        return format!(in alloc; "the scenario's pulses are 1 to {last}");
+    }
+    if scenario.nodes <= node {
+        let last = scenario.nodes.saturating_sub(1);
+        return format!(in alloc; "the scenario's nodes are 0 to {last}");
+    }
+    match next_load(&scenario.loads, pulse, node) {
+        Some(next) => format!(in alloc;
+            "node {node} has no program in pulse {pulse}; pulse {next} loads one"
+        ),
+        None => format!(in alloc;
+            "node {node} has no program in pulse {pulse}, and no later pulse loads one"
+        ),
+    }
+}
+
+/// The first pulse after this one that loads a program into the node.
+fn next_load(loads: &[Load], pulse: u32, node: u32) -> Option<u32> {
+    let mut next: Option<u32> = None;
+    for load in loads {
+        if load.pulse > pulse && load.nodes.contains(&node) {
+            next = match next {
+                Some(first) if first <= load.pulse => Some(first),
+                _ => Some(load.pulse),
+            };
+        }
+    }
+    next
+}
