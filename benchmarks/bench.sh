@@ -36,7 +36,7 @@ for crate in "${crates[@]}"; do
 done
 cp "$here/bench_driver.rt.txt" "$driver/src/main.rt"
 for crate in "${crates[@]}"; do grep "^$crate:" "$here/../crates.txt"; done > "$room/crates.txt"
-echo "bench_driver: node_env bpf_verify bpf_run clock_nodes bench_core" >> "$room/crates.txt"
+echo "bench_driver: node_env bpf_verify clock_nodes bench_core" >> "$room/crates.txt"
 cc -O2 -o "$room/in_c" "$here/bench.c"
 
 log=$room/build.log
@@ -59,7 +59,7 @@ instructions() {
 }
 
 # Of the lines that the measurements of one program printed, the one of the least time a pulse: us a pulse, ns an instruction, and of 100 of
-# the time how much isn't `run`.
+# the time how much isn't the runs: of rattle the opening, of C all but the interpreter.
 best() {
   awk '{ us = $6 / $2 / 1000 } NR == 1 || us < least { least = us; told = sprintf("%.3f %.2f %.1f", us, $6 / $4, 100 * $10 / ($8 + $10)) } END { print told }' "$1"
 }
@@ -81,7 +81,7 @@ for nodes in 4 16 64; do
   done
   read -r rattle_pulse rattle_insn rattle_rest < <(best "$room/rattle.txt")
   read -r c_pulse c_insn c_rest < <(best "$room/c.txt")
-  echo "bench of $nodes nodes: rattle $rattle_pulse us a pulse, $rattle_insn ns an instruction, $rattle_rest in 100 not run" \
+  echo "bench of $nodes nodes: rattle $rattle_pulse us a pulse, $rattle_insn ns an instruction, $rattle_rest in 100 opening" \
     " c $c_pulse us, $c_insn ns, $c_rest in 100  rattle / c $(awk "BEGIN { printf \"%.2f\", $rattle_pulse / $c_pulse }")"
 done
 

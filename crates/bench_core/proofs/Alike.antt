@@ -1,5 +1,5 @@
 -- The result of an equal input at another node.
-use Rattle.std.proofs.Common.{◌≡◌, ◌≤◌, ℕ, sym, subst}
+use Rattle.std.proofs.Common.{sym, subst}
 use Rattle.bpf_machine.specs.Run.{CompleteRun}
 use Rattle.bpf_run.proofs.BlindRuns.{runs_alike}
 use Rattle.node_env.specs.Env.{Setting}

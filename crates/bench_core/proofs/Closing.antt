@@ -95,7 +95,7 @@ pub record AreSorted (s : Setup) (xs : List Node) (mail : List (FinMap nat_cmp �
   pub ends : All IsEnd dones
   pub exact : IsExact (IsHanded s xs mail coins opening) xs dones
 
-same_done : (dones : List Done) (k : ℕ) (one other : Done) → slice_get dones k ≡ Some one
+pub same_done : (dones : List Done) (k : ℕ) (one other : Done) → slice_get dones k ≡ Some one
     → slice_get dones k ≡ Some other → one ≡ other
 same_done dones k one other e f = same_Some one other (sym e ∙ f)
 

@@ -11,7 +11,7 @@ use Rattle.bench_core.specs.declared.change.Change.{Change}
 use Rattle.bench_core.specs.declared.entry.Entry.{Entry}
 use Rattle.bench_core.specs.declared.entry.Entry.TheVariants.{Staged, Abandoned}
 use Rattle.bench_core.specs.Setup.{IsSetup}
-use Rattle.bench_core.specs.inner.Nodes.{KnowsClock}
+use Rattle.bench_core.specs.inner.Nodes.{KnowsClock, KnowsFirsts}
 use Rattle.bench_core.specs.State.{IsChange}
 use Rattle.bench_core.specs.Replay.{Entry as EntryValue, Staged as StagedValue, Opened as OpenedValue, Closed as ClosedValue, Abandoned as AbandonedValue, BenchValue, Advances, StagesAccepted, openings, places_of}
 use Rattle.bench_core.specs.inner.Replay.{staged_of}
@@ -40,10 +40,11 @@ openings_push (AbandonedValue ∷ es) e = openings_push es e
 -- a step keeps what is true of a bench, where its numbers and its room do
 pub kept_step : (b b' : Inside) (e : EntryValue) → IsKept b → StagesAccepted e → Advances (view_of b) e (view_of b')
     → b'.rule.nodes ≡ b'.shape.nodes → KnowsClock b'.clock b'.nodes.items b'.flags.items
-    → length b'.spare ≡ b'.shape.nodes → b'.opened ≡ b.opened + openings (e ∷ []) → (IsSome b'.coins → 1 ≤ b'.opened)
+    → KnowsFirsts b'.nodes.items b'.firsts.items → length b'.spare ≡ b'.shape.nodes
+    → b'.opened ≡ b.opened + openings (e ∷ []) → (IsSome b'.coins → 1 ≤ b'.opened)
     → b'.staged_from ≤ length b'.history.items
     → places_of (view_of b') ≤ MOST_ENTRIES → places_of (view_of b') ≤ vec_capacity b'.history → IsKept b'
-kept_step b b' e kept accepted step same flags spare opened counted staged limit room =
+kept_step b b' e kept accepted step same flags firsts spare opened counted staged limit room =
     record {
       replays = advances_replay (view_of b) (view_of b') e kept.replays step;
       accepted = subst (λ (es : List EntryValue). All StagesAccepted es) (sym step.history)
@@ -51,6 +52,7 @@ kept_step b b' e kept accepted step same flags spare opened counted staged limit
       setup = subst IsSetup (sym step.setup) kept.setup;
       same = same;
       flags = flags;
+      firsts = firsts;
       spare = spare;
       opened = opened ∙ (ap (λ (n : ℕ). n + openings (e ∷ [])) kept.opened
           ∙ (sym (openings_push (view_of b).history e) ∙ ap openings (sym step.history)));

@@ -18,6 +18,7 @@ pub mod Telling
 pub mod Tallies
 pub mod Closing
 pub mod Closed
+pub mod Served
 pub mod NodeSteps
 pub mod NotedSteps
 pub mod OneRefusal

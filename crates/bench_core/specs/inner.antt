@@ -4,5 +4,6 @@ pub mod Kept
 pub mod Nodes
 pub mod OpenPulse
 pub mod Replay
+pub mod Served
 pub mod Steps
 pub mod Told

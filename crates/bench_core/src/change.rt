@@ -2,6 +2,7 @@
 ghost use Rattle.std.specs.Prelude.{◌≡◌, ◌↔◌, IfOk, IsTrue};
 ghost use Rattle.bench_core.specs.Replay.{LoadsAccepted};
 ghost use Rattle.bench_core.specs.Views.{change_of};
+ghost use Rattle.bench_core.specs.inner.Nodes.{KeepsPrograms};
 
 use bpf_verify::VerifiedProgram;
 use std::alloc::{AllocError, Global};
@@ -32,6 +33,16 @@ impl Change {
                 let image = Vec::from_slice(alloc, image)?;
                 Ok(Change::Corrupt { node: *node, image })
             }
+        }
+    }
+
+    /// Whether it leaves all programs as they are.
+    pub(crate) fn keeps_programs(&self) -> bool
+        ensures { IsTrue result → KeepsPrograms (change_of self.now) }
+    {
+        match self {
+            Change::Corrupt { .. } => true,
+            Change::Load { .. } | Change::Unload { .. } => false,
         }
     }
 

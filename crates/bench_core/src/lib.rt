@@ -12,9 +12,11 @@ mod laws;
 mod limits;
 mod node;
 mod pulse;
+mod recent;
 mod record;
 mod refusal;
 mod row;
+mod runs;
 mod steps;
 mod task;
 mod task_lists;
@@ -29,7 +31,8 @@ pub use laws::{
     rows_count, steps_are_entries,
 };
 pub use limits::{CLOCKS_DIFFER, MOST_COUNTED, MOST_ENTRIES, MOST_PULSES};
-pub use record::PulseRecord;
+pub use recent::Recent;
+pub use record::{PulseRecord, Ran};
 pub use refusal::{CloseError, OpenError, StageError};
 pub use row::Row;
 pub use steps::steps_by_node;

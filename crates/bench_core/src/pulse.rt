@@ -1,15 +1,15 @@
 //! An open pulse, and the tasks that it hands out.
-ghost use Rattle.std.specs.Prelude.{◌≡◌, ◌<◌, [], false, All, IfOk, length, map};
+ghost use Rattle.std.specs.Prelude.{◌≡◌, ◌<◌, [], false, All, IfOk, IsTrue, length, map};
 ghost use Rattle.bench_core.specs.State.{all_applied, node_of, AreCoins};
-ghost use Rattle.bench_core.specs.inner.Nodes.{KnowsClock, FitsShape};
+ghost use Rattle.bench_core.specs.inner.Nodes.{KeepsPrograms, KnowsClock, KnowsFirsts, FitsShape, StagesKept};
 ghost use Rattle.bench_core.specs.inner.Replay.{staged_of};
 ghost use Rattle.bench_core.specs.Views.{entry_of};
-ghost use Rattle.bench_core.specs.inner.OpenPulse.{setup_in, PartsFit, flags_left, nodes_left, tasks_by};
+ghost use Rattle.bench_core.specs.inner.OpenPulse.{setup_in, PartsFit, firsts_left, flags_left, nodes_left, tasks_by};
 ghost use Rattle.bench_core.specs.Tasks.{tasks_from};
 
 use crate::clock_program::ClockProgram;
 use crate::entry::Entry;
-use crate::node::{NodeSlot, apply_all, copied};
+use crate::node::{NodeSlot, apply_all, copied, firsts_of};
 use crate::task::{NodeDone, NodeTask};
 use crate::task_lists::TaskLists;
 use clock_nodes::ClockRule;
@@ -53,21 +53,46 @@ fn tasks(
     Ok(tasks)
 }
 
-/// Nodes after changes, and of each whether its program has the instructions of the clock.
+/// The tasks, if they are handed out.
+fn tasks_if(
+    hands_out: bool,
+    alloc: Global,
+    pulse: &OpenPulse,
+    earlier: &mut Vec<NodeDone>,
+) -> Result<Vec<NodeTask>, AllocError>
+    requires { PartsFit pulse.now }
+    ensures { IsTrue hands_out → IfOk result (λ tasks. tasks.items ≡ tasks_by pulse.now) }
+{
+    if hands_out {
+        return tasks(alloc, pulse, earlier);
+    }
+    Ok(Vec::new(alloc))
+}
+
+/// Nodes after changes, of each whether its program has the instructions of the clock, and of each the first that has
+/// the same program.
 #[derive(Drop)]
 pub(crate) struct Changed {
     nodes: Vec<NodeSlot>,
     flags: Vec<bool>,
+    firsts: Vec<usize>,
 }
 
 /// Puts changed nodes in the place of those before.
-pub(crate) fn put(nodes: &mut Vec<NodeSlot>, flags: &mut Vec<bool>, changed: Option<Changed>)
+pub(crate) fn put(
+    nodes: &mut Vec<NodeSlot>,
+    flags: &mut Vec<bool>,
+    firsts: &mut Vec<usize>,
+    changed: Option<Changed>,
+)
     ensures nodes { nodes.new.items ≡ nodes_left changed nodes.old.items }
     ensures flags { flags.new.items ≡ flags_left changed flags.old.items }
+    ensures firsts { firsts.new.items ≡ firsts_left changed firsts.old.items }
 {
     if let Some(changed) = changed {
         *nodes = changed.nodes;
         *flags = changed.flags;
+        *firsts = changed.firsts;
     }
 }
 
@@ -83,19 +108,64 @@ fn any_staged(entries: &[Entry]) -> bool
     false
 }
 
+/// Whether what the entry stages surely leaves all programs as they are.
+fn keeps_programs(entry: &Entry) -> bool
+    ensures { IsTrue result → StagesKept (entry_of entry.now) }
+{
+    match entry {
+        Entry::Staged { actor: _, change } => change.keeps_programs(),
+        Entry::Opened { .. } | Entry::Closed { .. } | Entry::Abandoned => true,
+    }
+}
+
+/// Whether the staged changes of these entries surely leave all programs as they are.
+fn keep_programs(entries: &[Entry]) -> bool
+    ensures { IsTrue result → All KeepsPrograms (staged_of (map entry_of entries.now)) }
+{
+    for entry in entries {
+        if !keeps_programs(entry) {
+            return false;
+        }
+    }
+    true
+}
+
+/// Of each node after the staged changes of these entries the first that has the same program.
+fn firsts_after(
+    alloc: Global,
+    before: &[NodeSlot],
+    firsts: &[usize],
+    staged: &[Entry],
+    nodes: &[NodeSlot],
+) -> Result<Vec<usize>, AllocError>
+    requires firsts { KnowsFirsts before.now firsts.now }
+    requires nodes { nodes.now ≡ all_applied before.now (staged_of (map entry_of staged.now)) }
+    ensures { IfOk result (λ f. KnowsFirsts nodes.now f.items) }
+{
+    if !keep_programs(staged) {
+        return firsts_of(alloc, nodes);
+    }
+    let kept = Vec::from_slice(alloc, firsts)?;
+    Ok(kept)
+}
+
 /// The nodes of a pulse after the staged changes of these entries, if there are any.
 fn make_changed(
     alloc: Global,
     pulse: &OpenPulse,
     flags: &[bool],
+    firsts: &[usize],
     staged: &[Entry],
 ) -> Result<Option<Changed>, AllocError>
     requires within { All (λ c. node_of c < length pulse.now.nodes.now) (staged_of (map entry_of staged.now)) }
     requires flags { KnowsClock pulse.now.clock.now pulse.now.nodes.now flags.now }
+    requires firsts { KnowsFirsts pulse.now.nodes.now firsts.now }
     ensures nodes { IfOk result (λ changed. nodes_left changed pulse.now.nodes.now
         ≡ all_applied pulse.now.nodes.now (staged_of (map entry_of staged.now))) }
     ensures flags { IfOk result (λ changed. KnowsClock pulse.now.clock.now
         (nodes_left changed pulse.now.nodes.now) (flags_left changed flags.now)) }
+    ensures firsts { IfOk result (λ changed. KnowsFirsts (nodes_left changed pulse.now.nodes.now)
+        (firsts_left changed firsts.now)) }
 {
     if !any_staged(staged) {
         return Ok(None);
@@ -103,7 +173,12 @@ fn make_changed(
     let mut nodes = copied(alloc, pulse.nodes)?;
     let mut flags = Vec::from_slice(alloc, flags)?;
     apply_all(alloc, pulse.clock, &mut nodes, &mut flags, staged)?;
-    Ok(Some(Changed { nodes, flags }))
+    let firsts = firsts_after(alloc, pulse.nodes, firsts, staged, &nodes)?;
+    Ok(Some(Changed {
+        nodes,
+        flags,
+        firsts,
+    }))
 }
 
 /// The nodes that changes leave of these.
@@ -125,32 +200,43 @@ pub(crate) struct Prepared {
     pub(crate) entry_coins: Vec<u32>,
 }
 
-/// The nodes of a pulse after the staged changes of these entries, and their tasks, in the lists of earlier results.
+/// What an opening knows of a bench's nodes, what is staged, and whether it hands out tasks.
+#[derive(Clone, Copy)]
+pub(crate) struct Opening<'a> {
+    pub(crate) flags: &'a [bool],
+    pub(crate) firsts: &'a [usize],
+    pub(crate) staged: &'a [Entry],
+    pub(crate) hands_out: bool,
+}
+
+/// The nodes of a pulse after the staged changes of these entries, and their tasks.
 pub(crate) fn prepare(
     alloc: Global,
     pulse: &OpenPulse,
-    flags: &[bool],
-    staged: &[Entry],
+    opening: &Opening,
     earlier: &mut Vec<NodeDone>,
 ) -> Result<Prepared, AllocError>
     requires count { length pulse.now.nodes.now ≡ pulse.now.shape.nodes }
-    requires within { All (λ c. node_of c < pulse.now.shape.nodes) (staged_of (map entry_of staged.now)) }
+    requires within { All (λ c. node_of c < pulse.now.shape.nodes) (staged_of (map entry_of opening.now.staged.now)) }
     requires after { All (FitsShape pulse.now.shape)
-        (all_applied pulse.now.nodes.now (staged_of (map entry_of staged.now))) }
+        (all_applied pulse.now.nodes.now (staged_of (map entry_of opening.now.staged.now))) }
     requires mail { length pulse.now.mail.now ≡ pulse.now.shape.nodes }
     requires coins { AreCoins pulse.now.shape pulse.now.coins.now }
-    requires flags { KnowsClock pulse.now.clock.now pulse.now.nodes.now flags.now }
+    requires flags { KnowsClock pulse.now.clock.now pulse.now.nodes.now opening.now.flags.now }
+    requires firsts { KnowsFirsts pulse.now.nodes.now opening.now.firsts.now }
     ensures nodes { IfOk result (λ p. nodes_left p.changed pulse.now.nodes.now
-        ≡ all_applied pulse.now.nodes.now (staged_of (map entry_of staged.now))) }
+        ≡ all_applied pulse.now.nodes.now (staged_of (map entry_of opening.now.staged.now))) }
     ensures flags { IfOk result (λ p. KnowsClock pulse.now.clock.now
-        (nodes_left p.changed pulse.now.nodes.now) (flags_left p.changed flags.now)) }
-    ensures tasks { IfOk result (λ p. p.tasks.items
+        (nodes_left p.changed pulse.now.nodes.now) (flags_left p.changed opening.now.flags.now)) }
+    ensures firsts { IfOk result (λ p. KnowsFirsts (nodes_left p.changed pulse.now.nodes.now)
+        (firsts_left p.changed opening.now.firsts.now)) }
+    ensures tasks { IsTrue opening.now.hands_out → IfOk result (λ p. p.tasks.items
         ≡ tasks_from (setup_in pulse.now) pulse.now.mail.now pulse.now.coins.now pulse.now.opening 0
         (nodes_left p.changed pulse.now.nodes.now)) }
     ensures kept { IfOk result (λ p. p.kept_coins.items ≡ pulse.now.coins.now) }
     ensures entry { IfOk result (λ p. p.entry_coins.items ≡ pulse.now.coins.now) }
 {
-    let changed = make_changed(alloc, pulse, flags, staged)?;
+    let changed = make_changed(alloc, pulse, opening.flags, opening.firsts, opening.staged)?;
     let next = OpenPulse {
         shape: pulse.shape,
         rule: pulse.rule,
@@ -160,7 +246,7 @@ pub(crate) fn prepare(
         coins: pulse.coins,
         opening: pulse.opening,
     };
-    let tasks = tasks(alloc, &next, earlier)?;
+    let tasks = tasks_if(opening.hands_out, alloc, &next, earlier)?;
     let kept_coins = Vec::from_slice(alloc, pulse.coins)?;
     let entry_coins = Vec::from_slice(alloc, pulse.coins)?;
     Ok(Prepared {

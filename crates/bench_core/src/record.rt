@@ -41,11 +41,18 @@ impl Model for PulseRecord {
     } };
 }
 
+/// What is told of a pulse that the bench itself ran, and how many instructions each node ran, 0 if it is empty.
+#[derive(Drop)]
+pub struct Ran {
+    pub told: PulseRecord,
+    pub steps: Vec<u32>,
+}
+
 /// Room for what will be told of a pulse: the marks before its close, and a place for each clock.
 #[derive(Drop)]
 pub(crate) struct Room {
-    settled: Vec<bool>,
-    clocks: Vec<Option<u32>>,
+    pub(crate) settled: Vec<bool>,
+    pub(crate) clocks: Vec<Option<u32>>,
 }
 
 /// Room for what will be told of a pulse of these nodes.

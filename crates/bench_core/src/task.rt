@@ -241,6 +241,21 @@ impl NodeDone {
         &self.outbox
     }
 
+    /// The coin that the run got.
+    #[inline(always)]
+    pub(crate) fn coin(&self) -> u32 {
+        self.env.coin()
+    }
+
+    /// Returns true only if a node with this memory, which sees this, gets what the run got, but for its own number.
+    #[inline(always)]
+    pub(crate) fn is_seen_with(&self, memory: &[u8], env: &Env) -> bool
+        ensures memory { IsTrue result → self.now.task.memory ≡ memory.now }
+        ensures setting { IsTrue result → env.now ≡ record self.now.task.setting { id = env.now.id } }
+    {
+        self.before.as_slice() == memory && env.sees_alike(&self.env)
+    }
+
     /// How many instructions the run took.
     pub(crate) fn steps(&self) -> u32
         ensures { result ≡ self.now.end.steps }

@@ -5,7 +5,7 @@ ghost use Rattle.bench_workers.specs.inner.Batches.{RanInOrder};
 
 use crate::gate::Gate;
 use crate::waiting::Waiting;
-use bench_core::{NodeDone, NodeTask};
+use bench_core::{NodeDone, NodeTask, Recent};
 use bpf_run::Room;
 use std::snapshot::Snapshot;
 use std::thread::Promise;
@@ -38,71 +38,39 @@ impl<G: Gate> Promise<Option<Vec<NodeDone>>> for Batch<G> {
         × (IsSome given → G.lets_in batch.gate.value batch.worker ≡ true) };
 }
 
-/// How many of the inputs that were run last are compared with the next one.
-const REMEMBERED: usize = 4;
-
-/// Fewer tasks than this aren't compared: it would cost more than it saves.
+/// Fewer tasks than this aren't compared: it would cost more than it saves, since images are compared, too.
 const MIN_COMPARED: usize = 8;
 
-/// A batch gets one more comparison in vain for this many tasks.
-const TASKS_A_TRY: usize = 16;
-
-/// The places of the results that were run last. It is untrusted: a wrong place costs time, not soundness. A comparison
-/// in vain takes one of `tries`, a shared result gives one, and without any no more inputs are compared.
-#[derive(Drop)]
-struct Recent {
-    places: [usize; REMEMBERED],
-    next: usize,
-    tries: usize,
+/// The places of the results that were run last, before so many tasks.
+fn recent_of(tasks: usize) -> Recent {
+    if tasks < MIN_COMPARED {
+        Recent::never()
+    } else {
+        Recent::none(tasks)
+    }
 }
 
-impl Recent {
-    /// No places, before so many tasks.
-    fn none(tasks: usize) -> Recent {
-        let tries = if tasks < MIN_COMPARED {
-            0
-        } else {
-            1_usize.saturating_add(tasks / TASKS_A_TRY)
-        };
-        Recent {
-            places: [usize::MAX; REMEMBERED],
-            next: 0,
-            tries,
-        }
+/// The result of an equal input, if one of the places has it. Otherwise the task's own result will have the next place.
+fn alike<'a>(recent: &mut Recent, task: &NodeTask, dones: &'a [NodeDone]) -> Option<&'a NodeDone>
+    ensures { IfSome result (λ done. IsAlike task.now done.now) }
+{
+    if !recent.is_patient() {
+        return None;
     }
-
-    /// Puts the place of a new result in that of the oldest.
-    fn add(&mut self, place: usize) {
-        self.places[self.next % REMEMBERED] = place;
-        self.next = self.next.wrapping_add(1) % REMEMBERED;
-    }
-
-    /// The result of an equal input, if one of the places has it. Otherwise the task's own result will have the next
-    /// place.
-    fn alike<'a>(&mut self, task: &NodeTask, dones: &'a [NodeDone]) -> Option<&'a NodeDone>
-        ensures { IfSome result (λ done. IsAlike task.now done.now) }
-    {
-        if self.tries == 0 {
-            return None;
-        }
-        let mut is_compared = false;
-        for k in 0..REMEMBERED {
-            if let Some(done) = dones.get(self.places[k]) {
-                if task.may_be_alike(done) {
-                    if task.is_alike(done) {
-                        self.tries = self.tries.saturating_add(1);
-                        return Some(done);
-                    }
-                    is_compared = true;
+    let mut is_compared = false;
+    for place in recent.places() {
+        if let Some(done) = dones.get(place) {
+            if task.may_be_alike(done) {
+                if task.is_alike(done) {
+                    recent.hit();
+                    return Some(done);
                 }
+                is_compared = true;
             }
         }
-        if is_compared {
-            self.tries = self.tries.saturating_sub(1);
-        }
-        self.add(dones.len());
-        None
     }
+    recent.miss(dones.len(), is_compared);
+    None
 }
 
 /// Enters the gate, which hands out the tasks, and then does each once, in order: it runs the task, all in one room, or
@@ -123,9 +91,9 @@ pub(crate) fn run_batch<G: Gate>(
     let tasks = waiting.enter(gate, worker)?;
     let mut dones = room;
     let mut bytes = Room::new();
-    let mut recent = Recent::none(tasks.len());
+    let mut recent = recent_of(tasks.len());
     for task in tasks {
-        let done = match recent.alike(&task, &dones) {
+        let done = match alike(&mut recent, &task, &dones) {
             Some(other) => task.done_as(other),
             None => task.run_in(&mut bytes),
         };

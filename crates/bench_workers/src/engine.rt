@@ -20,7 +20,8 @@ use crate::watched::run_events_watched;
 use crate::watcher::{Nobody, WatchFault};
 use crate::work_error::WorkError;
 use bench_core::{
-    Actor, Bench, Change, OpenError, PulseRecord, StageError, are_coins, stage_error, steps_by_node,
+    Actor, Bench, Change, OpenError, PulseRecord, Ran, StageError, are_coins, stage_error,
+    steps_by_node,
 };
 use clock_nodes::ClockRule;
 use node_env::Shape;
@@ -73,6 +74,9 @@ pub(crate) fn pulse<R: Threads + Wait + Sync, G: Gate + Sync>(
     ensures open { G.always gate.now ≡ true → IfErr result (λ e. e ≢ GateShut) }
     ensures alone { workers ≡ 1 → IfErr result (λ e. e ≢ NoThread) }
 {
+    if workers == 1 {
+        return pulse_alone(alloc, gate, bench, coins);
+    }
     let tasks = match bench.open_pulse(alloc, coins) {
         Ok(tasks) => tasks,
         Err(OpenError::PulseOpen) => unreachable!(),
@@ -90,6 +94,38 @@ pub(crate) fn pulse<R: Threads + Wait + Sync, G: Gate + Sync>(
     };
     match bench.close_own(alloc, dones) {
         Ok(told) => Ok(Closed { told, steps }),
+        Err(_) => Err(RunRefusal::Memory),
+    }
+}
+
+/// Does as `pulse` with one worker, which is the caller's thread: the bench itself runs its nodes.
+fn pulse_alone<G: Gate>(
+    alloc: Global,
+    gate: &G,
+    bench: &mut Bench,
+    coins: &[u32],
+) -> Result<Closed, RunRefusal>
+    requires { bench.old.state.coins ≡ None }
+    ensures ok { IfOk result (λ c. GoesOn bench.old (Pulse coins.now) (c.told ∷ []) bench.new) }
+    ensures steps { IfOk result (λ c.
+        AreSteps bench.old.setup (opened_state bench.old.state coins.now) coins.now c.steps.items) }
+    ensures refusal { IfErr result (IsRefusalOf bench.old.setup (length bench.old.history) (Pulse coins.now)) }
+    ensures open { G.always gate.now ≡ true → IfErr result (λ e. e ≢ GateShut) }
+    ensures alone { IfErr result (λ e. e ≢ NoThread) }
+    ensures let_in { OnOk result (G.lets_in gate.now 0 ≡ true) }
+{
+    match bench.open_without_tasks(alloc, coins) {
+        Ok(()) => {}
+        Err(OpenError::PulseOpen) => unreachable!(),
+        Err(OpenError::BadCoins) => return Err(RunRefusal::BadCoins),
+        Err(OpenError::HistoryFull) => return Err(RunRefusal::HistoryFull),
+        Err(OpenError::Memory) => return Err(RunRefusal::Memory),
+    }
+    if !gate.enter(0) {
+        return Err(RunRefusal::GateShut);
+    }
+    match bench.run_and_close(alloc) {
+        Ok(Ran { told, steps }) => Ok(Closed { told, steps }),
         Err(_) => Err(RunRefusal::Memory),
     }
 }

@@ -1,5 +1,5 @@
 //! The tasks of a pulse, run by its workers.
-ghost use Rattle.std.specs.Prelude.{◌≡◌, ◌≢◌, ◌≤◌, true, IfOk, IfErr};
+ghost use Rattle.std.specs.Prelude.{◌≡◌, ◌≢◌, ◌≤◌, true, IfOk, IfErr, OnOk};
 ghost use Rattle.bench_core.specs.Tasks.{RanEach};
 ghost use Rattle.bench_workers.specs.declared.work_error.WorkError.TheVariants.{GateShut, NoThread};
 ghost use Rattle.bench_workers.specs.declared.tasks.TheConstants.{MOST_WORKERS};
@@ -58,6 +58,7 @@ fn run_alone<G: Gate>(
     ensures ran { IfOk result (λ dones. RanEach tasks.items dones.items) }
     ensures open { G.always gate.now ≡ true → IfErr result (λ e. e ≢ GateShut) }
     ensures alone { IfErr result (λ e. e ≢ NoThread) }
+    ensures let_in { OnOk result (G.lets_in gate.now 0 ≡ true) }
 {
     let Ok(room) = Vec::with_capacity(alloc, tasks.len()) else {
         return Err(WorkError::Memory);

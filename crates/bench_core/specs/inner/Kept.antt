@@ -3,7 +3,7 @@ use Rattle.std.specs.Prelude.{◌≡◌, ◌≤◌, All, map, drop, length, opti
 use Rattle.bench_core.specs.declared.limits.TheConstants.{MOST_ENTRIES}
 use Rattle.bench_core.specs.declared.bench.Bench.TheInside.{Inside}
 use Rattle.bench_core.specs.Setup.{IsSetup}
-use Rattle.bench_core.specs.inner.Nodes.{KnowsClock}
+use Rattle.bench_core.specs.inner.Nodes.{KnowsClock, KnowsFirsts}
 use Rattle.bench_core.specs.Replay.{Replays, StagesAccepted, BenchValue, openings, places_of}
 use Rattle.bench_core.specs.inner.Replay.{staged_of}
 use Rattle.bench_core.specs.Views.{setup_with, entry_of}
@@ -27,6 +27,7 @@ pub record IsKept (b : Inside) : Type 0 where
   pub setup : IsSetup (view_of b).setup
   pub same : b.rule.nodes ≡ b.shape.nodes
   pub flags : KnowsClock b.clock b.nodes.items b.flags.items
+  pub firsts : KnowsFirsts b.nodes.items b.firsts.items
   pub spare : length b.spare ≡ b.shape.nodes
   pub opened : b.opened ≡ openings (view_of b).history
   pub counted : IsSome b.coins → 1 ≤ b.opened

@@ -1,15 +1,25 @@
 -- An open pulse, as the code holds it.
-use Rattle.std.specs.Prelude.{◌≡◌, Bool, Option, Some, None, List, length, All}
+use Rattle.std.specs.Prelude.{◌≡◌, ℕ, Bool, Option, Some, None, List, [], length, All}
 use Rattle.bench_core.specs.declared.pulse.Changed.{Changed}
 use Rattle.bench_core.specs.declared.pulse.OpenPulse.{OpenPulse}
 use Rattle.bench_core.specs.Setup.{Setup}
-use Rattle.bench_core.specs.State.{Node, AreCoins}
+use Rattle.bench_core.specs.State.{Node, State, AreCoins}
 use Rattle.bench_core.specs.inner.Nodes.{FitsShape}
 use Rattle.bench_core.specs.Tasks.{Task, tasks_from, IsHanded}
 use Rattle.bench_core.specs.Views.{setup_with}
 
 abbrev pub setup_in : OpenPulse → Setup
 setup_in p = setup_with p.shape p.rule p.clock.now
+
+-- the state of its bench, as far as runs depend on it
+abbrev pub state_in : OpenPulse → State
+state_in p = record {
+  nodes = p.nodes.now;
+  mail = p.mail.now;
+  closed = 0;
+  staged = [];
+  coins = Some p.coins.now;
+}
 
 -- its parts fit its shape
 pub record PartsFit (p : OpenPulse) : Type 0 where
@@ -33,3 +43,7 @@ nodes_left (Some changed) nodes = changed.nodes.items
 abbrev pub flags_left : Option Changed → List Bool → List Bool
 flags_left None flags = flags
 flags_left (Some changed) flags = changed.flags.items
+
+abbrev pub firsts_left : Option Changed → List ℕ → List ℕ
+firsts_left None firsts = firsts
+firsts_left (Some changed) firsts = changed.firsts.items

@@ -14,7 +14,7 @@ invariant_of-self c =
     let before = places_seen b in
     let one : ◌≡◌ {A = ℕ} (cond (is_some b.coins) 1 0) 1 = ap (λ (o : Bool). cond o 1 0) c.if-is_none.ensures in
     let after = places_seen (record b { coins = None; history = c.add.new.history }) in
-    kept_step b _ AbandonedValue kept tt advances kept.same kept.flags kept.spare (omega arith) (λ h. absurd cc)
+    kept_step b _ AbandonedValue kept tt advances kept.same kept.flags kept.firsts kept.spare (omega arith) (λ h. absurd cc)
     (omega (arith, longer, kept.staged))
     (omega (arith, longer, before, one, after, kept.limit))
     (omega (arith, longer, before, one, after, kept.room, c.add.ensures.capacity))

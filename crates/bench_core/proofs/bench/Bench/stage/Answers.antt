@@ -18,7 +18,7 @@ invariant_of-self-2 c =
     let places = places_seen (record b { history = c.add.new.history }) in
     kept_step b (record b { history = c.add.new.history })
     (StagedValue c.args.actor (change_of c.args.change)) kept c.loads_accepted.ensures advances kept.same kept.flags
-    kept.spare
+    kept.firsts kept.spare
     (omega arith) kept.counted (omega (arith, longer, kept.staged))
     (omega (arith, longer, places, c.places_kept-kept.ensures))
     (let ok : vec_len c.reserve.new.self + (1 + c.places_kept-kept.result) ≤ vec_capacity c.reserve.new.self =

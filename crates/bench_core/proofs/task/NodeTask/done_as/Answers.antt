@@ -2,7 +2,7 @@ use Rattle.std.proofs.Common.{◌≡◌, ◌≤◌, ℕ, List, sym, ap, subst, �
 use Rattle.node_env.specs.Env.{Setting, Sendings}
 use Rattle.bpf_machine.specs.Run.{CompleteRun}
 use Rattle.bpf_verify.specs.Accepted.{Accepted}
-use Rattle.bench_core.specs.Tasks.{Task, Done, IsAlike, IsEnd}
+use Rattle.bench_core.specs.Tasks.{Task, Done, IsAlike}
 use Rattle.bench_core.proofs.Alike.{same_end}
 use Rattle.bench_core.proofs.task.NodeTask.done_as.Goals as goal
 

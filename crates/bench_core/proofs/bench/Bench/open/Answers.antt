@@ -4,19 +4,19 @@ use Rattle.bench_core.specs.Replay.{Opened as OpenedValue}
 use Rattle.bench_core.specs.Tasks.{tasks_from}
 use Rattle.bench_core.specs.Views.{entry_of}
 use Rattle.bench_core.specs.inner.Kept.{view_of}
-use Rattle.bench_core.specs.inner.Nodes.{KnowsClock}
+use Rattle.bench_core.specs.inner.Nodes.{KnowsClock, KnowsFirsts}
 use Rattle.bench_core.specs.inner.OpenPulse.{nodes_left}
 use Rattle.bench_core.specs.declared.entry.Entry.TheVariants.{Opened}
 use Rattle.bench_core.proofs.Opening.{sound_of, staged_slice, staged_within, nodes_after, openings_le, Opens, opened_advances, tasks_made}
 use Rattle.bench_core.proofs.Kept.{kept_step, as_seen, length_push, places_seen}
-use Rattle.bench_core.proofs.bench.Bench.open_pulse.Goals as goal
+use Rattle.bench_core.proofs.bench.Bench.open.Goals as goal
 
 pub prepare-prepared-requires-clause-count : goal.prepare-prepared-requires-clause-count
 prepare-prepared-requires-clause-count c = rw c.deref.ensures.value (sound_of c.self.inside c.self.invariant).nodes
 
 pub prepare-prepared-requires-clause-within : goal.prepare-prepared-requires-clause-within
 prepare-prepared-requires-clause-within c = rw (
-  c.deref-2.ensures.value,
+  c.deref-4.ensures.value,
   staged_slice c.self.inside.history.items
       c.self.inside.staged_from,
 ) (staged_within c.self.inside c.self.invariant)
@@ -24,7 +24,7 @@ prepare-prepared-requires-clause-within c = rw (
 pub prepare-prepared-requires-clause-after : goal.prepare-prepared-requires-clause-after
 prepare-prepared-requires-clause-after c = rw (
   c.deref.ensures.value,
-  c.deref-2.ensures.value,
+  c.deref-4.ensures.value,
   staged_slice
       c.self.inside.history.items c.self.inside.staged_from,
 )
@@ -55,6 +55,7 @@ invariant_of-self-in-Ok c =
     let b' = record b {
       nodes = c.put.new.nodes;
       flags = c.put.new.flags;
+      firsts = c.put.new.firsts;
       coins = Some next.kept_coins;
       opened = b.opened + 1;
       staged_from = c.len-entries.result;
@@ -67,7 +68,7 @@ invariant_of-self-in-Ok c =
       nodes = c.put.ensures.nodes ∙ (ap (nodes_left next.changed) (sym c.deref.ensures.value)
           ∙ (c.in-Ok.ensures.nodes ∙ rw (
             c.deref.ensures.value,
-            c.deref-2.ensures.value,
+            c.deref-4.ensures.value,
             staged_slice b.history.items
                 b.staged_from,
           ) refl));
@@ -82,9 +83,12 @@ invariant_of-self-in-Ok c =
     let ok : vec_len c.reserve.new.self + 2 ≤ vec_capacity c.reserve.new.self = search rules in
     let places = places_seen b' in
     let flags : KnowsClock b.clock c.put.new.nodes.items c.put.new.flags.items = rw
-    (c.put.ensures.nodes, c.put.ensures.flags, sym c.deref.ensures.value, sym c.deref-3.ensures.value)
+    (c.put.ensures.nodes, c.put.ensures.flags, sym c.deref.ensures.value, sym c.deref-2.ensures.value)
     c.in-Ok.ensures.flags in
-    kept_step b b' (OpenedValue c.args.coins.now) kept tt advances kept.same flags kept.spare
+    let firsts : KnowsFirsts c.put.new.nodes.items c.put.new.firsts.items = rw
+    (c.put.ensures.nodes, c.put.ensures.firsts, sym c.deref.ensures.value, sym c.deref-3.ensures.value)
+    c.in-Ok.ensures.firsts in
+    kept_step b b' (OpenedValue c.args.coins.now) kept tt advances kept.same flags firsts kept.spare
     (omega arith) (λ h. omega arith) (omega (arith, at_end))
     (omega (arith, longer, places))
     (omega (arith, longer, places, c.add.ensures.capacity, c.reserve.ensures.len, ok))
@@ -99,6 +103,7 @@ returns-else-is_err-clause-ok c =
     let b' = record b {
       nodes = c.put.new.nodes;
       flags = c.put.new.flags;
+      firsts = c.put.new.firsts;
       coins = Some next.kept_coins;
       opened = b.opened + 1;
       staged_from = c.len-entries.result;
@@ -111,7 +116,7 @@ returns-else-is_err-clause-ok c =
       nodes = c.put.ensures.nodes ∙ (ap (nodes_left next.changed) (sym c.deref.ensures.value)
           ∙ (c.in-Ok.ensures.nodes ∙ rw (
             c.deref.ensures.value,
-            c.deref-2.ensures.value,
+            c.deref-4.ensures.value,
             staged_slice b.history.items
                 b.staged_from,
           ) refl));
@@ -124,7 +129,7 @@ returns-else-is_err-clause-ok c =
     as_seen c.args.self.now b b' (OpenedValue c.args.coins.now) c.self.view_is advances
 
 pub returns-else-is_err-clause-tasks : goal.returns-else-is_err-clause-tasks
-returns-else-is_err-clause-tasks c =
+returns-else-is_err-clause-tasks c = λ hands_out.
     let b = c.self.inside in
     let next = c.in-Ok.prepared in
     let is : c.add.new.history.items ≡ b.history.items ++ Opened next.entry_coins ∷ [] = c.add.ensures.items
@@ -133,6 +138,7 @@ returns-else-is_err-clause-tasks c =
     let b' = record b {
       nodes = c.put.new.nodes;
       flags = c.put.new.flags;
+      firsts = c.put.new.firsts;
       coins = Some next.kept_coins;
       opened = b.opened + 1;
       staged_from = c.len-entries.result;
@@ -145,7 +151,7 @@ returns-else-is_err-clause-tasks c =
       nodes = c.put.ensures.nodes ∙ (ap (nodes_left next.changed) (sym c.deref.ensures.value)
           ∙ (c.in-Ok.ensures.nodes ∙ rw (
             c.deref.ensures.value,
-            c.deref-2.ensures.value,
+            c.deref-4.ensures.value,
             staged_slice b.history.items
                 b.staged_from,
           ) refl));
@@ -157,7 +163,7 @@ returns-else-is_err-clause-tasks c =
     let advances = opened_advances b b' c.args.coins.now next.entry_coins opens refl refl refl refl refl in
     let left : nodes_left next.changed c.deref.result.now ≡ c.put.new.nodes.items = ap (nodes_left next.changed)
     c.deref.ensures.value ∙ sym c.put.ensures.nodes in
-    c.in-Ok.ensures.tasks
+    c.in-Ok.ensures.tasks hands_out
     ∙ (ap (tasks_from (view_of b).setup b.mail c.args.coins.now b.opened 0) left
     ∙ (ap (λ (n : ℕ). tasks_from (view_of b).setup b.mail c.args.coins.now n 0 c.put.new.nodes.items)
     c.self.invariant.opened ∙ tasks_made (view_of b) (view_of b') c.args.coins.now advances))
