@@ -37,7 +37,7 @@ use Rattle.rule_nodes.specs.declared.syntax.Operator.TheVariants.{Compute}
 use Rattle.rule_nodes.specs.Meaning.{NodeState, apply, value, count_below, word_at, truth, with_local, assigned, all_assigned, with_sent, sent_below, each_below, after}
 use Rattle.rule_nodes.specs.Operands.{is_constant, constant_number, is_local, is_operand, is_asked, is_steady, depth_behind, source_of}
 use Rattle.rule_nodes.specs.Fits.{HasPlace, Fits, TargetFits, AssignmentFits, BlockFits}
-use Rattle.rule_nodes.specs.Code.{place, copy, cond_of, counted_code, term_code, assign_code, set_code, given_code, alu_of, change_of, one_code, also_code, assignment_code, get_code, send_code, send_codes, send_all_code, send_to_code, each_code, is_nothing, block_code}
+use Rattle.rule_nodes.specs.Code.{place, copy, cond_of, counted_code, term_code, stored_code, passed_code, send_to_constant_code, assign_code, set_code, given_code, alu_of, change_of, one_code, also_code, assignment_code, get_code, send_code, send_codes, send_all_code, send_to_code, each_code, is_nothing, block_code}
 use Rattle.rule_nodes.proofs.Small.{compared, imm_low, apply_small}
 use Rattle.rule_nodes.proofs.Forms.{copies, operates_in, stores_number, stays, once, chain, further}
 use Rattle.rule_nodes.proofs.Words.{word_small, word_stored, word_low, word_length, word_bytes}
@@ -308,6 +308,41 @@ module _ (program : List Insn) (env : Setting) (last : ℕ) (solid : (k : ℕ) �
 
   -- ---- sending
 
+  -- to node m
+  send_runs : (x : Source) (lets v m : ℕ) (u : NodeState) (s s0 : MachineState) → v < 2 ^ 32 → m < env.shape.nodes
+      → Near s0 s → Holds env lets u s → Stands program s.frame.slot (send_code x m) → s.frame.slot + 3 ≤ last
+      → ((t : MachineState) → Near s0 t → get t.frame.registers 0 ≡ get s.frame.registers 0
+      → insn_at program t.frame.slot ≡ Some (get_code R2 x) → t.frame.slot + 1 ≤ last
+      → Fetched program env last solid R2 t v)
+      → Leads s (send_code x m) (Sending env lets (with_sent m v u) s0)
+  send_runs x lets v m u s s0 fits lt near h stands room fetch =
+      let t1 = put s (s.frame.slot + 1) R1 (Num m) in
+      let t2 = put t1 (s.frame.slot + 1 + 1) R2 (Num v) in
+      let t3 = sending t2 (s.frame.slot + 1 + 1 + 1) m v in
+      let m0 = s.frame.registers in
+      let m1 = t1.frame.registers in
+      let near1 : Near s0 t1 = near_put s0 s (s.frame.slot + 1) m R1 (omega arith) near in
+      let near2 : Near s0 t2 = near_put s0 t1 (s.frame.slot + 1 + 1) v R2 (omega arith) near1 in
+      let to1 : get t2.frame.registers 1 ≡ Some (Num m) = put_other m1 2 (Num v) 1 (λ e. omega arith)
+      ∙ put_same m0 1 (Num m) in
+      let e1 : step program env s ≡ Ok (Running t1) = moves program env s (s.frame.slot + 1) R1
+      (operand.Imm (pos m)) (Num m) stands.0 refl (solid _ (omega (arith, room))) refl refl in
+      let g = fetch t1 near1 (put_other m0 1 (Num m) 0 (λ e. omega arith)) stands.1.0 (omega (arith, room)) in
+      let e3 : step program env t2 ≡ Ok (Running t3) = sends program env t2 (s.frame.slot + 1 + 1 + 1) m v
+      stands.1.1.0 refl (solid _ (omega (arith, room))) to1 (put_same m1 2 (Num v)) lt fits in
+      let run2 = further program env s t1 t2 1 2 (once program env s t1 e1) g.fetched (omega arith) in
+      record {
+        new = t3;
+        run = further program env s t2 t3 2 3 run2 e3 (omega arith);
+        slot = omega arith;
+        fact = record {
+          holds = holds_sent env lets m v u t2 (s.frame.slot + 1 + 1 + 1)
+              (holds_put env lets u t1 (s.frame.slot + 1 + 1) v R2 (omega arith)
+              (holds_put env lets u s (s.frame.slot + 1) m R1 (omega arith) h));
+          near = near_sent s0 t2 (s.frame.slot + 1 + 1 + 1) m v near2;
+        };
+      }
+
   sends_run : (x : Source) (lets v m : ℕ) (u : NodeState) (s s0 : MachineState) → v < 2 ^ 32 → m ≤ env.shape.nodes
       → Near s0 s → Holds env lets u s → Stands program s.frame.slot (send_codes x m)
       → s.frame.slot + length (send_codes x m) ≤ last
@@ -328,35 +363,13 @@ module _ (program : List Insn) (env : Setting) (last : ℕ) (solid : (k : ℕ) �
       (stands_front program s.frame.slot front back stands) (omega (arith, len, room)) fetch in
       let t = c.new in
       let there = here_is program env last solid t _ back c.slot (stands_back program s.frame.slot front back stands) in
-      let t1 = put t (t.frame.slot + 1) R1 (Num m) in
-      let t2 = put t1 (t.frame.slot + 1 + 1) R2 (Num v) in
-      let t3 = sending t2 (t.frame.slot + 1 + 1 + 1) m v in
-      let m0 = t.frame.registers in
-      let m1 = t1.frame.registers in
-      let near1 : Near s0 t1 = near_put s0 t (t.frame.slot + 1) m R1 (omega arith) c.fact.near in
-      let near2 : Near s0 t2 = near_put s0 t1 (t.frame.slot + 1 + 1) v R2 (omega arith) near1 in
-      let to1 : get t2.frame.registers 1 ≡ Some (Num m) = put_other m1 2 (Num v) 1 (λ e. omega arith)
-      ∙ put_same m0 1 (Num m) in
-      let e1 : step program env t ≡ Ok (Running t1) = moves program env t (t.frame.slot + 1) R1
-      (operand.Imm (pos m)) (Num m) there.0 refl (solid _ (omega (arith, len, room, c.slot))) refl refl in
-      let g = fetch t1 near1 there.1.0 (omega (arith, len, room, c.slot)) in
-      let e3 : step program env t2 ≡ Ok (Running t3) = sends program env t2 (t.frame.slot + 1 + 1 + 1) m v
-      there.1.1.0 refl (solid _ (omega (arith, len, room, c.slot))) to1 (put_same m1 2 (Num v))
-      (omega (arith, le)) fits in
-      let n = length front in
-      let run1 = further program env s t t1 n (n + 1) c.run e1 (omega arith) in
-      let run2 = further program env s t1 t2 (n + 1) (n + 2) run1 g.fetched (omega arith) in
-      let u1 = sent_below m v u in
+      let g = send_runs x lets v m (sent_below m v u) t s0 fits (omega (arith, le)) c.fact.near c.fact.holds there
+      (omega (arith, len, room, c.slot)) (λ w near0 r0 here l. fetch w near0 here l) in
       record {
-        new = t3;
-        run = further program env s t2 t3 (n + 2) (length (front ++ back)) run2 e3 (omega (arith, len));
-        slot = omega (arith, len, c.slot);
-        fact = record {
-          holds = holds_sent env lets m v u1 t2 (t.frame.slot + 1 + 1 + 1)
-              (holds_put env lets u1 t1 (t.frame.slot + 1 + 1) v R2 (omega arith)
-              (holds_put env lets u1 t (t.frame.slot + 1) m R1 (omega arith) c.fact.holds));
-          near = near_sent s0 t2 (t.frame.slot + 1 + 1 + 1) m v near2;
-        };
+        new = g.new;
+        run = chain program env s t g.new (length front) 3 (length (front ++ back)) c.run g.run (omega (arith, len));
+        slot = omega (arith, len, c.slot, g.slot);
+        fact = g.fact;
       }
 
   -- a found number
@@ -375,6 +388,92 @@ module _ (program : List Insn) (env : Setting) (last : ℕ) (solid : (k : ℕ) �
       get_steps program env last solid R2 x z lets v w t refl found
       (same_at_source x z lets v u w refl refl is) sized few
       (near_holds env lets u s t near h) here l))
+
+  -- a found number to a node
+  found_sent : (x : Source) (z : Sizes) (lets v m : ℕ) (u : NodeState) (s : MachineState) → is_found x ≡ true
+      → IsAt z lets u x v → IsSized z env → m < z.nodes → lets ≤ 3 → Holds env lets u s
+      → Stands program s.frame.slot (send_code x m) → s.frame.slot + 3 ≤ last
+      → Leads s (send_code x m) (Holds env lets (with_sent m v u))
+  found_sent x z lets v m u s found is sized lt few h stands room =
+      let small : v < 2 ^ 32 = found_small env x z lets v u s found is sized.memory h in
+      let end = with_sent m v u in
+      gets program env last solid s _ _ _ _ (Sending env lets end s) (Holds env lets end) refl (omega arith)
+      (λ t k. k.holds)
+      (send_runs x lets v m u s s small (omega (arith, lt, sized.nodes)) (near_self s) h stands room
+      (λ t near r0 here l.
+      let w : NodeState = record { locals = u.locals; memory = u.memory; sent = t.sent } in
+      get_steps program env last solid R2 x z lets v w t refl found
+      (same_at_source x z lets v u w refl refl is) sized few
+      (near_holds env lets u s t near h) here l))
+
+  -- to the node of a constant
+  passed_runs : (x : Source) (e : Term) (z : Sizes) (J : List ℕ) (d m : ℕ) (u : NodeState) (s : MachineState)
+      → IsAt z d u x (value e z env J u) → IsSized z env → All (λ j. j < z.nodes) J → d ≤ 3 → m < z.nodes
+      → Fits e z (length J) d d → Holds env d u s
+      → Stands program s.frame.slot (passed_code x m (term_code e z J d Value))
+      → s.frame.slot + length (passed_code x m (term_code e z J d Value)) ≤ last
+      → Leads s (passed_code x m (term_code e z J d Value)) (Holds env d (with_sent m (value e z env J u) u))
+  passed_runs (Constant c) e z J d m u s is sized nodes few lt fits h stands room =
+      found_sent (Constant c) z d (value e z env J u) m u s refl is sized lt few h stands room
+  passed_runs (FromLocal k) e z J d m u s is sized nodes few lt fits h stands room =
+      found_sent (FromLocal k) z d (value e z env J u) m u s refl is sized lt few h stands room
+  passed_runs (FromWord k) e z J d m u s is sized nodes few lt fits h stands room =
+      found_sent (FromWord k) z d (value e z env J u) m u s refl is sized lt few h stands room
+  passed_runs Computed e z J d m u s is sized nodes few lt fits h stands room =
+      let v = value e z env J u in
+      let front = term_code e z J d Value in
+      let back = send_code Computed m in
+      let end = with_sent m v u in
+      let len : length (front ++ back) ≡ length front + 3 = length-append front back in
+      let c = term_runs program env last solid e z J d d Value u s sized nodes few (omega arith) fits h
+      (stands_front program s.frame.slot front back stands) (omega (arith, len, room)) in
+      let t = c.new in
+      let there = here_is program env last solid t _ back c.slot (stands_back program s.frame.slot front back stands) in
+      let h1 = still_holds env d d u s t (omega arith) h c.fact.same in
+      let g = send_runs Computed d v m u t t c.fact.small (omega (arith, lt, sized.nodes)) (near_self t) h1 there
+      (omega (arith, len, room, c.slot))
+      (λ w near r0 here l. record {
+        fetched = copies program env w (w.frame.slot + 1) R2 R0 v here refl (solid _ l) (r0 ∙ c.fact.r0) c.fact.small refl;
+        small = c.fact.small;
+      }) in
+      record {
+        new = g.new;
+        run = chain program env s t g.new (length front) 3 (length (front ++ back)) c.run g.run (omega (arith, len));
+        slot = omega (arith, len, c.slot, g.slot);
+        fact = g.fact.holds;
+      }
+
+  constant_runs : (e k : Term) (z : Sizes) (J : List ℕ) (d : ℕ) (u : NodeState) (s : MachineState)
+      → is_constant k ≡ true → IsSized z env → All (λ j. j < z.nodes) J → d ≤ 3 → Fits e z (length J) d d
+      → Holds env d u s
+      → Stands program s.frame.slot (send_to_constant_code (source_of e z J) (constant_number k z J) z.nodes
+      (term_code e z J d Value))
+      → s.frame.slot + length (send_to_constant_code (source_of e z J) (constant_number k z J) z.nodes
+      (term_code e z J d Value)) ≤ last
+      → Leads s (send_to_constant_code (source_of e z J) (constant_number k z J) z.nodes (term_code e z J d Value))
+      (Holds env d (after (SendTo e k) z env d J u))
+  constant_runs e k z J d u s constant sized nodes few fits h stands room =
+      let x = value k z env J u in
+      let m = constant_number k z J in
+      let v = value e z env J u in
+      let code = passed_code (source_of e z J) m (term_code e z J d Value) in
+      let is : m ≡ x = constant_is program env last solid k z J u constant in
+      let End : ℕ → NodeState = λ j. if nat_lt j z.nodes then with_sent j v u else u in
+      let P : List Insn → Type 0 = λ c. Stands program s.frame.slot c → s.frame.slot + length c ≤ last
+      → Leads s c (Holds env d (End m)) in
+      let both : P (if nat_lt m z.nodes then code else []) = elim (cases_Bool (nat_lt m z.nodes)) [
+        | inl so ↦ subst P (sym (cond-true (nat_lt m z.nodes) code [] so)) (λ st l.
+            subst (λ (w : NodeState). Leads s code (Holds env d w)) (sym (cond-true (nat_lt m z.nodes) (with_sent m v u) u so))
+            (passed_runs (source_of e z J) e z J d m u s (source_is program env last solid e z J d d u sized nodes fits)
+            sized nodes few (ltb-true m z.nodes so) fits h st l))
+        | inr other ↦ subst P (sym (cond-false (nat_lt m z.nodes) code [] other)) (λ st l. record {
+          new = s;
+          run = stays program env s;
+          slot = omega arith;
+          fact = subst (λ (w : NodeState). Holds env d w s) (sym (cond-false (nat_lt m z.nodes) (with_sent m v u) u other)) h;
+        })
+      ] in
+      subst (λ (j : ℕ). Leads s (if nat_lt m z.nodes then code else []) (Holds env d (End j))) is (both stands room)
 
   -- with the number in place d and the receiver in r0
   send_to_runs : (d v x : ℕ) (z : Sizes) (u : NodeState) (t : MachineState) → IsSized z env → d < 3 → v < 2 ^ 32
@@ -849,6 +948,106 @@ module _ (program : List Insn) (env : Setting) (last : ℕ) (solid : (k : ℕ) �
         small = has.small;
       })))
 
+  -- ---- a new local
+
+  -- a found number goes to place d
+  found_placed : (x : Source) (z : Sizes) (d v : ℕ) (rest : List Insn) (u : NodeState) (s : MachineState)
+      (P : MachineState → Type 0) → is_found x ≡ true → IsAt z d u x v → IsSized z env → d < 3 → Holds env d u s
+      → Stands program s.frame.slot (get_code (place d) x ∷ rest)
+      → s.frame.slot + length (get_code (place d) x ∷ rest) ≤ last
+      → ((t : MachineState) → Holds env (d + 1) (with_local d v u) t → Stands program t.frame.slot rest
+      → t.frame.slot + length rest ≤ last → Leads t rest P)
+      → Leads s (get_code (place d) x ∷ rest) P
+  found_placed x z d v rest u s P found is sized small h stands room next =
+      let number : register_number (place d) ≡ 7 + d = place_number d small in
+      let writable : (register_number (place d) == 10) ≡ false = ap (λ (n : ℕ). n == 10) number
+      ∙ ne_eqb (7 + d) 10 (λ e. omega (arith, e, small)) in
+      let f = get_steps program env last solid (place d) x z d v u s writable found is sized (omega (arith, small)) h
+      stands.0 (omega (arith, room)) in
+      let t = put s (s.frame.slot + 1) (place d) (Num v) in
+      let h1 : Holds env (d + 1) (with_local d v u) t = holds_local env d (d + 1) d v u s (s.frame.slot + 1) small
+      (λ j lt other. omega arith) f.small h in
+      let g = next t h1 stands.1 (omega (arith, room)) in
+      record {
+        new = g.new;
+        run = chain program env s t g.new 1 (length rest) (length (get_code (place d) x ∷ rest))
+            (once program env s t f.fetched) g.run
+            (omega arith);
+        slot = omega (arith, g.slot);
+        fact = g.fact;
+      }
+
+  placed_runs : (x : Source) (e : Term) (z : Sizes) (J : List ℕ) (d : ℕ) (rest : List Insn) (u : NodeState)
+      (s : MachineState) (P : MachineState → Type 0) → IsAt z d u x (value e z env J u) → IsSized z env
+      → All (λ j. j < z.nodes) J → d ≤ 3 → d < 3 → Fits e z (length J) d d → Holds env d u s
+      → Stands program s.frame.slot (stored_code x d (term_code e z J d Value) rest)
+      → s.frame.slot + length (stored_code x d (term_code e z J d Value) rest) ≤ last
+      → ((t : MachineState) → Holds env (d + 1) (with_local d (value e z env J u) u) t
+      → Stands program t.frame.slot rest → t.frame.slot + length rest ≤ last → Leads t rest P)
+      → Leads s (stored_code x d (term_code e z J d Value) rest) P
+  placed_runs (Constant c) e z J d rest u s P is sized nodes few small fits h stands room next =
+      found_placed (Constant c) z d (value e z env J u) rest u s P refl is sized small h stands room next
+  placed_runs (FromLocal k) e z J d rest u s P is sized nodes few small fits h stands room next =
+      found_placed (FromLocal k) z d (value e z env J u) rest u s P refl is sized small h stands room next
+  placed_runs (FromWord k) e z J d rest u s P is sized nodes few small fits h stands room next =
+      found_placed (FromWord k) z d (value e z env J u) rest u s P refl is sized small h stands room next
+  placed_runs Computed e z J d rest u s P is sized nodes few small fits h stands room next =
+      let v = value e z env J u in
+      stored_runs e z J d d rest u s P sized nodes few small fits h stands room
+      (λ t to has st l.
+      let t1 = put t to (place d) (Num v) in
+      let h1 = still_holds env d d u s t (omega arith) h has.same in
+      let h2 : Holds env (d + 1) (with_local d v u) t1 = holds_local env d (d + 1) d v u t to small
+      (λ j lt other. omega arith) has.small h1 in
+      next t1 h2 st l)
+
+  -- ---- a number to a node
+
+  to_runs : (constant : Bool) (e k : Term) (z : Sizes) (J : List ℕ) (d : ℕ) (u : NodeState) (s : MachineState)
+      → is_constant k ≡ constant → IsSized z env → All (λ j. j < z.nodes) J → d ≤ 3 → HasPlace constant d
+      → Fits e z (length J) d d → Fits k z (length J) d (depth_behind constant d) → Holds env d u s
+      → Stands program s.frame.slot (if constant then send_to_constant_code (source_of e z J) (constant_number k z J)
+      z.nodes (term_code e z J d Value) else term_code e z J d Value
+      ++ (copy (place d) R0 ∷ (term_code k z J (d + 1) Value ++ send_to_code d z.nodes)))
+      → s.frame.slot + length (if constant then send_to_constant_code (source_of e z J) (constant_number k z J)
+      z.nodes (term_code e z J d Value) else term_code e z J d Value
+      ++ (copy (place d) R0 ∷ (term_code k z J (d + 1) Value ++ send_to_code d z.nodes))) ≤ last
+      → Leads s (if constant then send_to_constant_code (source_of e z J) (constant_number k z J)
+      z.nodes (term_code e z J d Value) else term_code e z J d Value
+      ++ (copy (place d) R0 ∷ (term_code k z J (d + 1) Value ++ send_to_code d z.nodes)))
+      (Holds env d (after (SendTo e k) z env d J u))
+  to_runs true e k z J d u s is sized nodes few free fits k_fits h stands room =
+      constant_runs e k z J d u s is sized nodes few fits h stands room
+  to_runs false e k z J d u s is sized nodes few free fits k_fits h stands room =
+      let v = value e z env J u in
+      let x = value k z env J u in
+      let code = term_code k z J (d + 1) Value in
+      let back = send_to_code d z.nodes in
+      let end = if nat_lt x z.nodes then with_sent x v u else u in
+      let number : register_number (place d) ≡ 7 + d = place_number d free in
+      let len : length (code ++ back) ≡ length code + 4 = length-append code back in
+      stored_runs e z J d d (code ++ back) u s (Holds env d end) sized nodes few free fits h stands room
+      (λ t to has st l.
+      let t1 = put t to (place d) (Num v) in
+      let h1 = still_holds env d d u s t (omega arith) h has.same in
+      let h2 : Holds env d u t1 = holds_free env d d v u t to (omega arith) free h1 in
+      let c = term_runs program env last solid k z J (d + 1) d Value u t1 sized nodes few (omega arith) k_fits h2
+      (stands_front program to code back st) (omega (arith, len, l)) in
+      let w = c.new in
+      let there = here_is program env last solid w _ back c.slot (stands_back program to code back st) in
+      let kept : get w.frame.registers (7 + d) ≡ Some (Num v) =
+      c.fact.same.registers (7 + d) (omega arith) (omega arith) ∙ ap (get t1.frame.registers) (sym number)
+      ∙ put_same t.frame.registers (register_number (place d)) (Num v) in
+      let h3 = still_holds env d (d + 1) u t1 w (omega arith) h2 c.fact.same in
+      let g = send_to_runs d v x z u w sized free has.small c.fact.small (record { holds = h3; place = kept })
+      c.fact.r0 there (omega (arith, len, l, c.slot)) in
+      record {
+        new = g.new;
+        run = chain program env t1 w g.new (length code) 4 (length (code ++ back)) c.run g.run (omega (arith, len));
+        slot = omega (arith, len, c.slot, g.slot);
+        fact = g.fact;
+      })
+
   pub block_runs : (b : Statement) (z : Sizes) (J : List ℕ) (d : ℕ) (u : NodeState) (s : MachineState) → IsSized z env
       → All (λ j. j < z.nodes) J → d ≤ 3 → BlockFits b z (length J) d → Holds env d u s
       → Stands program s.frame.slot (block_code b z J d) → s.frame.slot + length (block_code b z J d) ≤ last
@@ -907,19 +1106,14 @@ module _ (program : List Insn) (env : Setting) (last : ℕ) (solid : (k : ℕ) �
         fact = holds_less env d end g.new g.fact;
       }
   block_runs (Let' e p rest) z J d u s sized nodes few fits h stands room =
-      let v = value e z env J u in
-      let u1 = with_local d v u in
-      let code = block_code rest z J (d + 1) in
+      let u1 = with_local d (value e z env J u) u in
       let end = after rest z env (d + 1) J u1 in
-      stored_runs e z J d d code u s (Holds env d end) sized nodes few fits.0 fits.1 h stands room
-      (λ t to has st l.
-      let t1 = put t to (place d) (Num v) in
-      let h1 = still_holds env d d u s t (omega arith) h has.same in
-      let h2 : Holds env (d + 1) u1 t1 = holds_local env d (d + 1) d v u t to fits.0 (λ j lt other. omega arith)
-      has.small h1 in
-      gets program env last solid t1 _ _ _ _ (Holds env (d + 1) end) (Holds env d end) refl (omega arith)
+      placed_runs (source_of e z J) e z J d (block_code rest z J (d + 1)) u s (Holds env d end)
+      (source_is program env last solid e z J d d u sized nodes fits.1) sized nodes few fits.0 fits.1 h stands room
+      (λ t h2 st l.
+      gets program env last solid t _ _ _ _ (Holds env (d + 1) end) (Holds env d end) refl (omega arith)
       (λ x k. holds_less env d end x k)
-      (block_runs rest z J (d + 1) u1 t1 sized nodes (omega (arith, fits.0)) fits.2 h2 st l))
+      (block_runs rest z J (d + 1) u1 t sized nodes (omega (arith, fits.0)) fits.2 h2 st l))
   block_runs (Assign a) z J d u s sized nodes few fits h stands room =
       let end = all_assigned a z env J u in
       gets program env last solid s _ _ _ _ (Assigned env d d end s) (Holds env d end) refl (omega arith)
@@ -957,31 +1151,4 @@ module _ (program : List Insn) (env : Setting) (last : ℕ) (solid : (k : ℕ) �
       sized nodes few
       (λ q. computed_place (is_operand e) d (sym (found_same e z J) ∙ q) fits.0) fits.1 h stands room
   block_runs (SendTo e k) z J d u s sized nodes few fits h stands room =
-      let v = value e z env J u in
-      let x = value k z env J u in
-      let code = term_code k z J (d + 1) Value in
-      let back = send_to_code d z.nodes in
-      let end = if nat_lt x z.nodes then with_sent x v u else u in
-      let number : register_number (place d) ≡ 7 + d = place_number d fits.0 in
-      let len : length (code ++ back) ≡ length code + 4 = length-append code back in
-      stored_runs e z J d d (code ++ back) u s (Holds env d end) sized nodes few fits.0 fits.1 h stands room
-      (λ t to has st l.
-      let t1 = put t to (place d) (Num v) in
-      let h1 = still_holds env d d u s t (omega arith) h has.same in
-      let h2 : Holds env d u t1 = holds_free env d d v u t to (omega arith) fits.0 h1 in
-      let c = term_runs program env last solid k z J (d + 1) d Value u t1 sized nodes few (omega arith) fits.2 h2
-      (stands_front program to code back st) (omega (arith, len, l)) in
-      let w = c.new in
-      let there = here_is program env last solid w _ back c.slot (stands_back program to code back st) in
-      let kept : get w.frame.registers (7 + d) ≡ Some (Num v) =
-      c.fact.same.registers (7 + d) (omega arith) (omega arith) ∙ ap (get t1.frame.registers) (sym number)
-      ∙ put_same t.frame.registers (register_number (place d)) (Num v) in
-      let h3 = still_holds env d (d + 1) u t1 w (omega arith) h2 c.fact.same in
-      let g = send_to_runs d v x z u w sized fits.0 has.small c.fact.small (record { holds = h3; place = kept })
-      c.fact.r0 there (omega (arith, len, l, c.slot)) in
-      record {
-        new = g.new;
-        run = chain program env t1 w g.new (length code) 4 (length (code ++ back)) c.run g.run (omega (arith, len));
-        slot = omega (arith, len, c.slot, g.slot);
-        fact = g.fact;
-      })
+      to_runs (is_constant k) e k z J d u s refl sized nodes few fits.0 fits.1 fits.2 h stands room

@@ -1,8 +1,8 @@
 -- The code of a part is no longer than that of the whole, so a part that is too long makes the whole too long.
-use Rattle.std.proofs.Common.{◌≡◌, ℕ, zero, suc, ◌+◌, ◌<◌, ◌≤◌, Bool, true, false, ◌||◌, ◌&&◌, ◌⊎◌, nat_lt, Option, Some, None, List, [], ◌∷◌, ◌++◌, length, Result, Ok, Err, IfErr, IsErrAnd, pos, refl, sym, ap, ◌∙◌, arith, subst, inl, inr, length-append}
+use Rattle.std.proofs.Common.{◌≡◌, ℕ, zero, suc, ◌+◌, ◌<◌, ◌≤◌, Bool, true, false, if◌then◌else◌, ◌||◌, ◌&&◌, ◌⊎◌, nat_lt, Option, Some, None, List, [], ◌∷◌, ◌++◌, length, Result, Ok, Err, IfErr, IsErrAnd, pos, refl, sym, ap, ◌∙◌, arith, subst, inl, inr, length-append}
 use Rattle.std.specs.Int.{w32, cast_signed}
 use Rattle.std.proofs.lemmas.Option.{none-some}
-use Rattle.std.proofs.lemmas.Bool.{cases_Bool, cases_lt, cond-true, cond-false, and_parts}
+use Rattle.std.proofs.lemmas.Bool.{cases_Bool, cases_lt, cond-true, cond-false, and_parts, lt-ltb}
 use Rattle.bpf_insn.specs.declared.forms.Width.TheVariants.{W32}
 use Rattle.bpf_insn.specs.declared.forms.AluOp.TheVariants.{Add}
 use Rattle.bpf_insn.specs.declared.forms.Reg.TheVariants.{R0, R1}
@@ -32,7 +32,7 @@ use Rattle.rule_nodes.specs.declared.syntax.Statement.TheVariants.{Let', For', S
 use Rattle.rule_nodes.specs.Meaning.{operate}
 use Rattle.rule_nodes.specs.Operands.{is_constant, is_local, is_operand, is_steady, constant_number, depth_behind, fetched_source, source_of, IsWithin}
 use Rattle.rule_nodes.specs.Fits.{Fits, AssignmentFits, BlockFits}
-use Rattle.rule_nodes.specs.Code.{place, set_number, set_node, copy, mirror, jump_on, jump_by, jump_at, jump_place, alu_of, far_of, when_of, beyond, behind_test, by_value, truth_code, get_code, load_code, operand_code, by_operator, left_code, two_code, binary_code, message_code, message_by, count_codes, counted_code, count_code, term_code, let_code, assign_code, set_code, given_code, change_of, one_code, also_code, send_codes, send_code, send_all_code, each_code, assignment_code, block_code}
+use Rattle.rule_nodes.specs.Code.{place, set_number, set_node, copy, mirror, jump_on, jump_by, jump_at, jump_place, alu_of, far_of, when_of, beyond, behind_test, by_value, truth_code, get_code, load_code, operand_code, by_operator, left_code, two_code, binary_code, message_code, message_by, count_codes, counted_code, count_code, term_code, stored_code, let_code, assign_code, set_code, given_code, change_of, one_code, also_code, send_codes, send_code, send_all_code, passed_code, send_to_constant_code, each_code, assignment_code, block_code}
 use Rattle.rule_nodes.specs.Refusals.{IsUnmade}
 use Rattle.rule_nodes.proofs.Sources.{is_found}
 
@@ -423,6 +423,15 @@ also_within whole front p target e x z J lets d is same few fits =
     subst (λ (y : Assignment). AssignmentFits y z (length J) lets d) is fits in
     subst (λ (y : Source). IsWithin y 256) (sym same) (source_within e z J (length J) lets d few parts.1)
 
+stored_long : (x : Source) (d : ℕ) (code rest : List Insn) → (is_found x ≡ true → length code ≡ 1)
+    → (length code ≤ length (stored_code x d code rest) + 1) × (length rest ≤ length (stored_code x d code rest))
+stored_long (Constant c) d code rest f = let one = f refl in (omega arith, omega arith)
+stored_long (FromLocal k) d code rest f = let one = f refl in (omega arith, omega arith)
+stored_long (FromWord k) d code rest f = let one = f refl in (omega arith, omega arith)
+stored_long Computed d code rest f =
+    let l = length-append code (copy (place d) R0 ∷ rest) in
+    (omega arith, omega arith)
+
 let_long : (e : Term) (z : Sizes) (J : List ℕ) (d : ℕ) (rest : List Insn)
     → (length (term_code e z J d Value) ≤ length (let_code e z J d rest) + 1)
     × (length rest ≤ length (let_code e z J d rest))
@@ -431,9 +440,35 @@ let_long (Count' p t) z J d rest =
     let l1 = length-append (counted_code d z.nodes test) (copy R0 (place d) ∷ []) in
     let l2 = length-append (counted_code d z.nodes test) rest in
     (omega arith, omega arith)
-let_long e z J d rest =
-    let l = length-append (term_code e z J d Value) (copy (place d) R0 ∷ rest) in
-    (omega arith, omega arith)
+let_long e z J d rest = stored_long (source_of e z J) d (term_code e z J d Value) rest (found_short e z J d)
+
+pub let_within : (whole rest : Statement) (e : Term) (p : _) (x : Source) (z : Sizes) (J : List ℕ) (d : ℕ)
+    → whole ≡ Let' e p rest → x ≡ source_of e z J → z.memory ≤ 256 → BlockFits whole z (length J) d → IsWithin x 256
+let_within whole rest e p x z J d is same few fits =
+    let parts : BlockFits (Let' e p rest) z (length J) d =
+    subst (λ (b : Statement). BlockFits b z (length J) d) is fits in
+    subst (λ (y : Source). IsWithin y 256) (sym same) (source_within e z J (length J) d d few parts.1)
+
+passed_long : (x : Source) (j : ℕ) (code : List Insn) → (is_found x ≡ true → length code ≡ 1)
+    → length code ≤ length (passed_code x j code)
+passed_long (Constant c) j code f = omega (arith, f refl)
+passed_long (FromLocal k) j code f = omega (arith, f refl)
+passed_long (FromWord k) j code f = omega (arith, f refl)
+passed_long Computed j code f = omega (arith, length-append code (send_code Computed j))
+
+pub passed_part : (e : Term) (z : Sizes) (J : List ℕ) (d j : ℕ) → j < z.nodes
+    → length (term_code e z J d Value) + 0
+    ≤ length (send_to_constant_code (source_of e z J) j z.nodes (term_code e z J d Value)) + 1
+passed_part e z J d j lt =
+    let code = passed_code (source_of e z J) j (term_code e z J d Value) in
+    let l = passed_long (source_of e z J) j (term_code e z J d Value) (found_short e z J d) in
+    let there : (if nat_lt j z.nodes then code else []) ≡ code = cond-true (nat_lt j z.nodes) code [] (lt-ltb j z.nodes lt) in
+    omega (arith, l, ap length there)
+
+pub passed_within : (e : Term) (x : Source) (z : Sizes) (J : List ℕ) (d : ℕ) → x ≡ source_of e z J → z.memory ≤ 256
+    → Fits e z (length J) d d → IsWithin x 256
+passed_within e x z J d same few fits =
+    subst (λ (y : Source). IsWithin y 256) (sym same) (source_within e z J (length J) d d few fits)
 
 pub let_value_part : (whole rest : Statement) (e : Term) (p : _) (z : Sizes) (J : List ℕ) (d : ℕ)
     → whole ≡ Let' e p rest → length (term_code e z J d Value) + 0 ≤ length (block_code whole z J d) + 1

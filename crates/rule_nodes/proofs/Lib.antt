@@ -12,3 +12,4 @@ pub mod Loops
 pub mod Typing
 pub mod TypedTerms
 pub mod TypedBlocks
+pub mod OwnerLengths

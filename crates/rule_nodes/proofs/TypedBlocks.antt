@@ -1,7 +1,8 @@
 -- The code of statements, and of whole rules, is typed.
-use Rattle.std.proofs.Common.{◌≡◌, ℕ, zero, suc, ◌+◌, ◌-◌, ◌*◌, ◌^◌, ◌%◌, ◌<◌, ◌≤◌, ◌==◌, nat_lt, Bool, true, false, ◌||◌, ◌&&◌, List, [], ◌∷◌, ◌++◌, length, Option, Some, None, pos, slice_get, refl, sym, ap, ◌∙◌, arith, subst, inl, inr, length-append}
+use Rattle.std.proofs.Common.{◌≡◌, ℕ, zero, suc, ◌+◌, ◌-◌, ◌*◌, ◌^◌, ◌%◌, ◌<◌, ◌≤◌, ◌==◌, nat_lt, Bool, true, false, if◌then◌else◌, ◌||◌, ◌&&◌, List, [], ◌∷◌, ◌++◌, length, Option, Some, None, pos, slice_get, refl, sym, ap, ◌∙◌, arith, subst, inl, inr, length-append}
 use Rattle.std.specs.Int.{w32, w64, cast_signed, cast_unsigned}
-use Rattle.std.proofs.lemmas.Bool.{cases_Bool, cond-true, cond-false, lt-ltb, le-ltb, ne_eqb}
+use Rattle.std.proofs.lemmas.Bool.{cases_Bool, cond-true, cond-false, lt-ltb, le-ltb, ltb-true, ne_eqb}
+use Rattle.std.proofs.Math.Nat.{mod-eq_of_lt}
 use Rattle.std.proofs.lemmas.Option.{same_Some, none-some}
 use Rattle.node_env.specs.Env.{Extent, IsExtent}
 use Rattle.bpf_insn.specs.declared.forms.Reg.TheVariants.{R0, R1, R2, R6}
@@ -41,7 +42,7 @@ use Rattle.rule_nodes.specs.declared.syntax.Statement.{Statement}
 use Rattle.rule_nodes.specs.declared.syntax.Statement.TheVariants.{Nothing, Then', Let', Assign, If', For', SendAll, SendTo}
 use Rattle.rule_nodes.specs.Operands.{is_constant, constant_number, is_local, is_operand, is_steady, depth_behind, source_of}
 use Rattle.rule_nodes.specs.Fits.{HasPlace, Fits, TargetFits, AssignmentFits, BlockFits}
-use Rattle.rule_nodes.specs.Code.{place, copy, set_node, cond_of, jump_at, counted_code, term_code, assign_code, set_code, given_code, alu_of, change_of, one_code, also_code, assignment_code, get_code, set_number, send_code, send_codes, send_all_code, send_to_code, each_code, is_nothing, block_code, tail_code, rule_code}
+use Rattle.rule_nodes.specs.Code.{place, copy, set_node, cond_of, jump_at, counted_code, term_code, stored_code, passed_code, send_to_constant_code, assign_code, set_code, given_code, alu_of, change_of, one_code, also_code, assignment_code, get_code, set_number, send_code, send_codes, send_all_code, send_to_code, each_code, is_nothing, block_code, tail_code, rule_code}
 use Rattle.rule_nodes.proofs.Typing.{memory_place, word, known, plain, valued, proper_known, some_word, into, short, Typing, typed_then, typed_as, typed_none, one_on, one_fork, fetch_typed, keep_typed, AllSound, seen}
 use Rattle.rule_nodes.proofs.Whole.{all_begin, rule_length, ones_rule}
 use Rattle.rule_nodes.specs.Ends.{AreSizes}
@@ -49,7 +50,7 @@ use Rattle.rule_nodes.proofs.States.{place_number}
 use Rattle.rule_nodes.proofs.Sources.{is_found}
 use Rattle.rule_nodes.proofs.TermRuns.{behind_more, behind_few, found_same}
 use Rattle.rule_nodes.proofs.Blocks.{computed_place}
-use Rattle.rule_nodes.proofs.TypedTerms.{known_less, covers_less, left_imm, typed_seq, typed_at, if_typed, some_node, proper_node, node_in_r0, not_above_node, name_typed, node_typed, load_typed, placed_in, place_word, word_result, IsThere, source_there, counted_typed, term_typed}
+use Rattle.rule_nodes.proofs.TypedTerms.{known_less, covers_less, left_imm, typed_seq, typed_at, if_typed, some_node, proper_node, node_in_r0, not_above_node, name_typed, node_typed, load_typed, placed_in, placed_new, place_word, word_result, IsThere, source_there, counted_typed, term_typed}
 
 module _ (program : List Insn) (shape : Extent) (last : ℕ) (solid : (k : ℕ) → k ≤ last → BeginsAt program k) where
   abbrev T : ℕ → List Insn → (Table → Type 0) → (Table → Type 0) → Type 0
@@ -109,25 +110,34 @@ module _ (program : List Insn) (shape : Extent) (last : ℕ) (solid : (k : ℕ) 
 
   -- ---- found numbers to their targets
 
-  -- an instruction that puts a number of 32 bits into a place, and keeps all other rules by itself
+  -- an instruction that puts a number of 32 bits into a place, after which e places are in use, and keeps all other
+  -- rules by itself
+  place_typed_to : (k d e slot : ℕ) (insn : Insn) (K : Kind) → target insn slot Onward ≡ Some (slot + 1)
+      → target insn slot Jumping ≡ None → outcome shape insn (plain d) Onward ≡ Some (with_kind (plain d) (place k) K)
+      → IsContainedIn (with_kind (plain d) (place k) K) (plain e) → KeepsOwn shape insn (plain d) → slot + 1 ≤ last
+      → T slot (insn ∷ []) (C (plain d) slot) (C (plain e) (slot + 1))
+  place_typed_to k d e slot insn K on off out inside own le =
+      one_on program shape last solid slot insn (plain d) (with_kind (plain d) (place k) K) (plain e) on off out
+      inside (proper_known d Unset Unset Unset tt tt tt) own le
+
   place_typed : (k d slot : ℕ) (insn : Insn) (K : Kind) → k < 3 → target insn slot Onward ≡ Some (slot + 1)
       → target insn slot Jumping ≡ None → outcome shape insn (plain d) Onward ≡ Some (with_kind (plain d) (place k) K)
       → IsKindIn K word → KeepsOwn shape insn (plain d) → slot + 1 ≤ last
       → T slot (insn ∷ []) (C (plain d) slot) (C (plain d) (slot + 1))
   place_typed k d slot insn K lt on off out inside own le =
-      one_on program shape last solid slot insn (plain d) (with_kind (plain d) (place k) K) (plain d) on off out
-      (placed_in k d K lt inside) (proper_known d Unset Unset Unset tt tt tt) own le
+      place_typed_to k d d slot insn K on off out (placed_in k d K lt inside) own le
 
   writable : (k : ℕ) → k < 3 → (register_number (place k) == 10) ≡ false
   writable k lt = ap (λ (n : ℕ). n == 10) (place_number k lt) ∙ ne_eqb (7 + k) 10 (λ e. omega (arith, e, lt))
 
-  into_place : (x : Source) (k d lets slot : ℕ) → is_found x ≡ true → IsThere x lets shape.memory → lets ≤ d → d ≤ 3
-      → k < 3 → slot + 1 ≤ last
-      → T slot (get_code (place k) x ∷ []) (C (plain d) slot) (C (plain d) (slot + 1))
-  into_place (Constant c) k d lets slot found there below few lt le =
+  place_reached : (x : Source) (k d e lets slot : ℕ)
+      → ((K : Kind) → IsKindIn K word → IsContainedIn (with_kind (plain d) (place k) K) (plain e)) → is_found x ≡ true
+      → IsThere x lets shape.memory → lets ≤ d → d ≤ 3 → k < 3 → slot + 1 ≤ last
+      → T slot (get_code (place k) x ∷ []) (C (plain d) slot) (C (plain e) (slot + 1))
+  place_reached (Constant c) k d e lets slot inside found there below few lt le =
       let x = cast_unsigned w64 (cast_signed w32 c) % 2 ^ 32 in
-      place_typed k d slot (set_number (place k) c) (Number (range_of Mov W32 (just x) (just x))) lt refl refl
-      refl (short x)
+      place_typed_to k d e slot (set_number (place k) c) (Number (range_of Mov W32 (just x) (just x))) refl refl
+      refl (inside (Number (range_of Mov W32 (just x) (just x))) (short x))
       (record {
         forward = refl;
         known = refl;
@@ -140,28 +150,28 @@ module _ (program : List Insn) (shape : Extent) (last : ℕ) (solid : (k : ℕ) 
         exit = refl;
         base = refl;
       }) le
-  into_place (FromLocal j) k d lets slot found there below few lt le =
-      let e : kind_of (plain d) (place j) ≡ word = place_word j d (omega (arith, there, below)) few in
+  place_reached (FromLocal j) k d e lets slot inside found there below few lt le =
+      let known_as : kind_of (plain d) (place j) ≡ word = place_word j d (omega (arith, there, below)) few in
       let same = λ (n : Span). range_of Mov W32 n n in
-      place_typed k d slot (copy (place k) (place j)) (of_number_kind same (kind_of (plain d) (place j))) lt
-      refl refl refl
-      (full_of 32, ap (of_number_kind same) e, record { low = omega arith; high = omega arith })
+      place_typed_to k d e slot (copy (place k) (place j)) (of_number_kind same (kind_of (plain d) (place j)))
+      refl refl refl (inside (of_number_kind same (kind_of (plain d) (place j)))
+      (full_of 32, ap (of_number_kind same) known_as, record { low = omega arith; high = omega arith }))
       (record {
         forward = refl;
         known = refl;
-        set = ap (λ (q : Kind). is_unset_kind q || false) e;
+        set = ap (λ (q : Kind). is_unset_kind q || false) known_as;
         frame = writable k lt;
-        pointer = ap is_pointer_kind e;
+        pointer = ap is_pointer_kind known_as;
         region = refl;
         stack = refl;
         argument = refl;
         exit = refl;
         base = refl;
       }) le
-  into_place (FromWord j) k d lets slot found there below few lt le =
+  place_reached (FromWord j) k d e lets slot inside found there below few lt le =
       let room : nat_lt shape.memory (0 + 4 * j + 4) ≡ false = le-ltb shape.memory (0 + 4 * j + 4)
       (omega (arith, there)) in
-      place_typed k d slot (get_code (place k) (FromWord j)) word lt refl refl refl (kind_in_itself word)
+      place_typed_to k d e slot (get_code (place k) (FromWord j)) word refl refl refl (inside word (kind_in_itself word))
       (record {
         forward = refl;
         known = refl;
@@ -174,7 +184,18 @@ module _ (program : List Insn) (shape : Extent) (last : ℕ) (solid : (k : ℕ) 
         exit = refl;
         base = refl;
       }) le
-  into_place Computed k d lets slot found there below few lt le = absurd (let no : false ≡ true = found in cc)
+  place_reached Computed k d e lets slot inside found there below few lt le = absurd (let no : false ≡ true = found in cc)
+
+  into_place : (x : Source) (k d lets slot : ℕ) → is_found x ≡ true → IsThere x lets shape.memory → lets ≤ d → d ≤ 3
+      → k < 3 → slot + 1 ≤ last
+      → T slot (get_code (place k) x ∷ []) (C (plain d) slot) (C (plain d) (slot + 1))
+  into_place x k d lets slot found there below few lt le =
+      place_reached x k d d lets slot (λ K h. placed_in k d K lt h) found there below few lt le
+
+  into_new : (x : Source) (d slot : ℕ) → is_found x ≡ true → IsThere x d shape.memory → d < 3 → slot + 1 ≤ last
+      → T slot (get_code (place d) x ∷ []) (C (plain d) slot) (C (plain (d + 1)) (slot + 1))
+  into_new x d slot found there lt le =
+      place_reached x d d (d + 1) d slot (λ K h. placed_new d K lt h) found there (omega arith) (omega (arith, lt)) lt le
 
   number_stored : (d k v slot : ℕ) → 4 * k + 4 ≤ shape.memory → slot + 1 ≤ last
       → T slot (i.StoreImm size.W R6 (pos (4 * k)) (cast_signed w32 v) ∷ []) (C (plain d) slot) (C (plain d) (slot + 1))
@@ -345,6 +366,40 @@ module _ (program : List Insn) (shape : Extent) (last : ℕ) (solid : (k : ℕ) 
       (omega (arith, le)))
       (send_typed d (slot + 1) some (omega (arith, le)))
 
+  -- a found number to node j
+  found_sent_typed : (x : Source) (d lets slot j : ℕ) → is_found x ≡ true → IsThere x lets shape.memory → lets ≤ d
+      → d ≤ 3 → j < shape.nodes → shape.nodes ≤ 64 → slot + 3 ≤ last
+      → T slot (send_code x j) (C (plain d) slot) (C (plain d) (slot + 1 + 1 + 1))
+  found_sent_typed x d lets slot j found there below few lt most le =
+      let hand = get_code R2 x ∷ i.Call (pos 3) ∷ [] in
+      let a = node_typed program shape last solid d j slot lt most (omega (arith, le)) in
+      let b = hand_typed x d lets (slot + 1) found there below few (omega (arith, lt)) (omega (arith, le)) in
+      typed_seq program shape last solid slot (slot + 1) (set_node R1 j ∷ []) hand (C (plain d) slot)
+      (C (known d Unset (some_node program shape last solid) Unset) (slot + 1)) (C (plain d) (slot + 1 + 1 + 1)) refl a b
+
+  -- the number in r0 to node j
+  value_sent_typed : (d slot j : ℕ) → j < shape.nodes → shape.nodes ≤ 64 → slot + 3 ≤ last
+      → T slot (send_code Computed j) (C (valued d) slot) (C (plain d) (slot + 1 + 1 + 1))
+  value_sent_typed d slot j lt most le =
+      let N = some_node program shape last solid in
+      let p1 = slot + 1 in
+      let p2 = p1 + 1 in
+      let end = p2 + 1 in
+      let imm : cast_unsigned w64 (pos j) % 2 ^ 64 ≡ j = mod-eq_of_lt (omega (arith, lt, most)) in
+      let a = one_on program shape last solid slot (set_node R1 j) (valued d) _ (known d word N Unset) refl refl refl
+      (into _ d word N Unset (kind_in_itself word)
+      (just (cast_unsigned w64 (pos j) % 2 ^ 64), refl, record { low = omega arith; high = omega (arith, lt, imm) }) tt
+      refl refl refl refl) (proper_known d word Unset Unset some_word tt tt) (keeps_own _ _ _ refl) (omega (arith, le)) in
+      let b = one_on program shape last solid p1 (copy R2 R0) (known d word N Unset) _ (known d Unset N word)
+      refl refl refl (into _ d Unset N word tt (kind_in_itself N) (kind_in_itself word) refl refl refl refl)
+      (proper_known d word N Unset some_word (proper_node program shape last solid) tt) (keeps_own _ _ _ refl)
+      (omega (arith, le)) in
+      let c = send_typed d p2 (omega (arith, lt)) (omega (arith, le)) in
+      let bc = typed_seq program shape last solid p1 p2 (copy R2 R0 ∷ []) (i.Call (pos 3) ∷ []) (C (known d word N Unset) p1)
+      (C (known d Unset N word) p2) (C (plain d) end) refl b c in
+      typed_seq program shape last solid slot p1 (set_node R1 j ∷ []) (copy R2 R0 ∷ i.Call (pos 3) ∷ []) (C (valued d) slot)
+      (C (known d word N Unset) p1) (C (plain d) end) refl a bc
+
   sends_typed : (x : Source) (d lets slot n : ℕ) → is_found x ≡ true → IsThere x lets shape.memory → lets ≤ d → d ≤ 3
       → n ≤ shape.nodes → shape.nodes ≤ 64 → slot + length (send_codes x n) ≤ last
       → T slot (send_codes x n) (C (plain d) slot) (C (plain d) (slot + length (send_codes x n)))
@@ -356,14 +411,10 @@ module _ (program : List Insn) (shape : Extent) (last : ℕ) (solid : (k : ℕ) 
       let front = send_codes x n in
       let back = send_code x n in
       let S = plain d in
-      let hand = get_code R2 x ∷ i.Call (pos 3) ∷ [] in
       let len : length (front ++ back) ≡ length front + 3 = length-append front back in
       let p1 = slot + length front in
       let f = sends_typed x d lets slot n found there below few (omega (arith, le)) most (omega (arith, len, room)) in
-      let a = node_typed program shape last solid d n p1 (omega (arith, le)) most (omega (arith, len, room)) in
-      let b = hand_typed x d lets (p1 + 1) found there below few (omega (arith, le)) (omega (arith, len, room)) in
-      let ab = typed_seq program shape last solid p1 (p1 + 1) (set_node R1 n ∷ []) hand (C S p1)
-      (C (known d Unset (some_node program shape last solid) Unset) (p1 + 1)) (C S (p1 + 1 + 1 + 1)) refl a b in
+      let ab = found_sent_typed x d lets p1 n found there below few (omega (arith, le)) most (omega (arith, len, room)) in
       let e : p1 + 1 + 1 + 1 ≡ slot + length (front ++ back) = omega (arith, len) in
       typed_at program shape last solid slot (p1 + 1 + 1 + 1) (slot + length (front ++ back)) (front ++ back)
       (C S slot) S e
@@ -708,6 +759,115 @@ module _ (program : List Insn) (shape : Extent) (last : ℕ) (solid : (k : ℕ) 
       (omega (arith, deep))
       (omega (arith, same)) (omega (arith, same, few)) l)
 
+  -- ---- a new local
+
+  -- a found number into place d, and what follows at depth d + 1
+  found_placed_typed : (x : Source) (d slot : ℕ) (rest : List Insn) → is_found x ≡ true → IsThere x d shape.memory
+      → d < 3 → slot + length (get_code (place d) x ∷ rest) ≤ last
+      → ((to : ℕ) → to + length rest ≤ last → BlockTyped (d + 1) to rest)
+      → BlockTyped d slot (get_code (place d) x ∷ rest)
+  found_placed_typed x d slot rest found there small le next =
+      let p1 = slot + 1 in
+      let end = slot + length (get_code (place d) x ∷ rest) in
+      let a = into_new x d slot found there small (omega (arith, le)) in
+      let eq : p1 + length rest ≡ end = omega arith in
+      let c = typed_at program shape last solid p1 (p1 + length rest) end rest (C (plain (d + 1)) p1) (plain (d + 1)) eq
+      (next p1 (omega (arith, le))) in
+      let c1 = typed_as program shape last solid p1 rest (C (plain (d + 1)) p1) (C (plain (d + 1)) end)
+      (C (plain (d + 1)) p1) (C (plain d) end) (λ table h. h)
+      (λ table h. covers_less table (plain (d + 1)) (plain d) end (known_less d Unset Unset Unset) h) c in
+      typed_seq program shape last solid slot p1 (get_code (place d) x ∷ []) rest (C (plain d) slot)
+      (C (plain (d + 1)) p1) (C (plain d) end) refl a c1
+
+  placed_typed : (x : Source) (e : Term) (z : Sizes) (J : List ℕ) (d slot : ℕ) (rest : List Insn)
+      → IsThere x d shape.memory → z.nodes ≡ shape.nodes → 1 ≤ z.nodes → z.nodes ≤ 64 → z.memory ≡ shape.memory
+      → d < 3 → Fits e z (length J) d d → slot + length (stored_code x d (term_code e z J d Value) rest) ≤ last
+      → ((to : ℕ) → to + length rest ≤ last → BlockTyped (d + 1) to rest)
+      → BlockTyped d slot (stored_code x d (term_code e z J d Value) rest)
+  placed_typed (Constant c) e z J d slot rest there same some few room small fits le next =
+      found_placed_typed (Constant c) d slot rest refl there small le next
+  placed_typed (FromLocal k) e z J d slot rest there same some few room small fits le next =
+      found_placed_typed (FromLocal k) d slot rest refl there small le next
+  placed_typed (FromWord k) e z J d slot rest there same some few room small fits le next =
+      found_placed_typed (FromWord k) d slot rest refl there small le next
+  placed_typed Computed e z J d slot rest there same some few room small fits le next =
+      stored_typed e z J d slot rest same some few room small fits le next
+
+  -- ---- a number to a node
+
+  passed_typed : (x : Source) (e : Term) (z : Sizes) (J : List ℕ) (d slot j : ℕ) → IsThere x d shape.memory
+      → z.nodes ≡ shape.nodes → 1 ≤ z.nodes → z.nodes ≤ 64 → z.memory ≡ shape.memory → d ≤ 3 → j < z.nodes
+      → Fits e z (length J) d d → slot + length (passed_code x j (term_code e z J d Value)) ≤ last
+      → BlockTyped d slot (passed_code x j (term_code e z J d Value))
+  passed_typed (Constant c) e z J d slot j there same some few room small lt fits le =
+      typed_at program shape last solid slot (slot + 1 + 1 + 1) (slot + 3) (send_code (Constant c) j) (C (plain d) slot)
+      (plain d) (omega arith) (found_sent_typed (Constant c) d d slot j refl there (omega arith) small
+      (omega (arith, lt, same)) (omega (arith, same, few)) le)
+  passed_typed (FromLocal k) e z J d slot j there same some few room small lt fits le =
+      typed_at program shape last solid slot (slot + 1 + 1 + 1) (slot + 3) (send_code (FromLocal k) j) (C (plain d) slot)
+      (plain d) (omega arith) (found_sent_typed (FromLocal k) d d slot j refl there (omega arith) small
+      (omega (arith, lt, same)) (omega (arith, same, few)) le)
+  passed_typed (FromWord k) e z J d slot j there same some few room small lt fits le =
+      typed_at program shape last solid slot (slot + 1 + 1 + 1) (slot + 3) (send_code (FromWord k) j) (C (plain d) slot)
+      (plain d) (omega arith) (found_sent_typed (FromWord k) d d slot j refl there (omega arith) small
+      (omega (arith, lt, same)) (omega (arith, same, few)) le)
+  passed_typed Computed e z J d slot j there same some few room small lt fits le =
+      let code = term_code e z J d Value in
+      let back = send_code Computed j in
+      let len : length (code ++ back) ≡ length code + 3 = length-append code back in
+      let p1 = slot + length code in
+      let eq : p1 + 1 + 1 + 1 ≡ slot + length (code ++ back) = omega (arith, len) in
+      typed_at program shape last solid slot (p1 + 1 + 1 + 1) (slot + length (code ++ back)) (code ++ back)
+      (C (plain d) slot) (plain d) eq
+      (typed_seq program shape last solid slot p1 code back (C (plain d) slot) (C (valued d) p1)
+      (C (plain d) (p1 + 1 + 1 + 1)) refl
+      (term_typed program shape last solid e z J d d Value slot same some few room (omega arith) small fits
+      (omega (arith, len, le)))
+      (value_sent_typed d p1 j (omega (arith, lt, same)) (omega (arith, same, few)) (omega (arith, len, le))))
+
+  constant_typed : (found : Bool) (e : Term) (z : Sizes) (J : List ℕ) (d slot j : ℕ) → nat_lt j z.nodes ≡ found
+      → z.nodes ≡ shape.nodes → 1 ≤ z.nodes → z.nodes ≤ 64 → z.memory ≡ shape.memory → d ≤ 3
+      → Fits e z (length J) d d
+      → slot + length (if found then passed_code (source_of e z J) j (term_code e z J d Value) else []) ≤ last
+      → BlockTyped d slot (if found then passed_code (source_of e z J) j (term_code e z J d Value) else [])
+  constant_typed true e z J d slot j is same some few room small fits le =
+      let memory = λ (x : Source) (there : IsThere x d z.memory). subst (λ (m : ℕ). IsThere x d m) room there in
+      passed_typed (source_of e z J) e z J d slot j (memory (source_of e z J) (source_there e z J (length J) d d fits))
+      same some few room small (ltb-true j z.nodes is) fits le
+  constant_typed false e z J d slot j is same some few room small fits le =
+      let e1 : slot ≡ slot + 0 = omega arith in
+      typed_at program shape last solid slot slot (slot + 0) [] (C (plain d) slot) (plain d) e1
+      (typed_none program shape last solid slot (C (plain d) slot))
+
+  to_typed : (constant : Bool) (e k : Term) (z : Sizes) (J : List ℕ) (d slot : ℕ) → is_constant k ≡ constant
+      → z.nodes ≡ shape.nodes → 1 ≤ z.nodes → z.nodes ≤ 64 → z.memory ≡ shape.memory → d ≤ 3 → HasPlace constant d
+      → Fits e z (length J) d d → Fits k z (length J) d (depth_behind constant d)
+      → slot + length (if constant then send_to_constant_code (source_of e z J) (constant_number k z J)
+      z.nodes (term_code e z J d Value) else term_code e z J d Value
+      ++ (copy (place d) R0 ∷ (term_code k z J (d + 1) Value ++ send_to_code d z.nodes))) ≤ last
+      → BlockTyped d slot (if constant then send_to_constant_code (source_of e z J) (constant_number k z J)
+      z.nodes (term_code e z J d Value) else term_code e z J d Value
+      ++ (copy (place d) R0 ∷ (term_code k z J (d + 1) Value ++ send_to_code d z.nodes)))
+  to_typed true e k z J d slot is same some few room small free fits k_fits le =
+      let j = constant_number k z J in
+      constant_typed (nat_lt j z.nodes) e z J d slot j refl same some few room small fits le
+  to_typed false e k z J d slot is same some few room small free fits k_fits le =
+      let code = term_code k z J (d + 1) Value in
+      let back = send_to_code d z.nodes in
+      let len : length (code ++ back) ≡ length code + 4 = length-append code back in
+      stored_typed e z J d slot (code ++ back) same some few room free fits le
+      (λ to l.
+      let p1 = to + length code in
+      let eq : p1 + 4 ≡ to + length (code ++ back) = omega (arith, len) in
+      typed_at program shape last solid to (p1 + 4) (to + length (code ++ back)) (code ++ back) (C (plain (d + 1)) to)
+      (plain (d + 1)) eq
+      (typed_seq program shape last solid to p1 code back (C (plain (d + 1)) to) (C (valued (d + 1)) p1)
+      (C (plain (d + 1)) (p1 + 4)) refl
+      (term_typed program shape last solid k z J (d + 1) d Value to same some few room (omega arith)
+      (omega (arith, free))
+      k_fits (omega (arith, len, l)))
+      (send_to_typed d z.nodes p1 free same some few (omega (arith, len, l)))))
+
   pub block_typed : (b : Statement) (z : Sizes) (J : List ℕ) (d slot : ℕ) → z.nodes ≡ shape.nodes → 1 ≤ z.nodes
       → z.nodes ≤ 64 → z.memory ≡ shape.memory → d ≤ 3 → BlockFits b z (length J) d
       → slot + length (block_code b z J d) ≤ last → BlockTyped d slot (block_code b z J d)
@@ -750,7 +910,9 @@ module _ (program : List Insn) (shape : Extent) (last : ℕ) (solid : (k : ℕ) 
       typed_seq program shape last solid slot p1 front back (C (plain d) slot) (C (plain (d + 1)) p1) (C (plain d) end)
       refl c r2
   block_typed (Let' e p rest) z J d slot same some few room small fits le =
-      stored_typed e z J d slot (block_code rest z J (d + 1)) same some few room fits.0 fits.1 le
+      let memory = λ (x : Source) (there : IsThere x d z.memory). subst (λ (m : ℕ). IsThere x d m) room there in
+      placed_typed (source_of e z J) e z J d slot (block_code rest z J (d + 1))
+      (memory (source_of e z J) (source_there e z J (length J) d d fits.1)) same some few room fits.0 fits.1 le
       (λ to l. block_typed rest z J (d + 1) to same some few room (omega (arith, fits.0)) fits.2 l)
   block_typed (Assign a) z J d slot same some few room small fits le =
       assignment_typed a z J d d slot same some few room (omega arith) small fits le
@@ -773,21 +935,7 @@ module _ (program : List Insn) (shape : Extent) (last : ℕ) (solid : (k : ℕ) 
       (memory (source_of e z J) (source_there e z J (length J) d d fits.1)) same some few room small
       (λ q. computed_place (is_operand e) d (sym (found_same e z J) ∙ q) fits.0) fits.1 le
   block_typed (SendTo e k) z J d slot same some few room small fits le =
-      let code = term_code k z J (d + 1) Value in
-      let back = send_to_code d z.nodes in
-      let len : length (code ++ back) ≡ length code + 4 = length-append code back in
-      stored_typed e z J d slot (code ++ back) same some few room fits.0 fits.1 le
-      (λ to l.
-      let p1 = to + length code in
-      let eq : p1 + 4 ≡ to + length (code ++ back) = omega (arith, len) in
-      typed_at program shape last solid to (p1 + 4) (to + length (code ++ back)) (code ++ back) (C (plain (d + 1)) to)
-      (plain (d + 1)) eq
-      (typed_seq program shape last solid to p1 code back (C (plain (d + 1)) to) (C (valued (d + 1)) p1)
-      (C (plain (d + 1)) (p1 + 4)) refl
-      (term_typed program shape last solid k z J (d + 1) d Value to same some few room (omega arith)
-      (omega (arith, fits.0))
-      fits.2 (omega (arith, len, l)))
-      (send_to_typed d z.nodes p1 fits.0 same some few (omega (arith, len, l)))))
+      to_typed (is_constant k) e k z J d slot refl same some few room small fits.0 fits.1 fits.2 le
 
   -- ---- the whole
 

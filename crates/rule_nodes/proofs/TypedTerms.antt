@@ -138,6 +138,19 @@ placed_in (suc (suc zero)) d K lt h = within _ Unset Unset Unset memory_place (h
     (kind_in_itself memory_place) (kind_in_itself (held 0 d)) (kind_in_itself (held 1 d)) (in_held 2 d K h)
 placed_in (suc (suc (suc k))) d K lt h = absurd (omega (arith, lt))
 
+-- and of a new place
+pub placed_new : (d : ℕ) (K : Kind) → d < 3 → IsKindIn K word
+    → IsContainedIn (with_kind (plain d) (place d) K) (plain (d + 1))
+placed_new zero K lt h =
+    within _ Unset Unset Unset memory_place word Unset Unset tt tt tt (kind_in_itself memory_place) h tt tt
+placed_new (suc zero) K lt h =
+    within _ Unset Unset Unset memory_place word word Unset tt tt tt (kind_in_itself memory_place) (kind_in_itself word)
+    h tt
+placed_new (suc (suc zero)) K lt h =
+    within _ Unset Unset Unset memory_place word word word tt tt tt (kind_in_itself memory_place) (kind_in_itself word)
+    (kind_in_itself word) h
+placed_new (suc (suc (suc d))) K lt h = absurd (omega (arith, lt))
+
 -- what is known of a place in use
 pub place_word : (k d : ℕ) → k < d → d ≤ 3 → kind_of (plain d) (place k) ≡ word
 place_word zero zero lt few = absurd (omega (arith, lt))

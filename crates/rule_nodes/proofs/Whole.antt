@@ -41,7 +41,7 @@ use Rattle.rule_nodes.specs.declared.syntax.Statement.TheVariants.{Nothing, Then
 use Rattle.rule_nodes.specs.Meaning.{initial_state}
 use Rattle.rule_nodes.specs.Operands.{is_constant, constant_number, is_local, is_operand, is_steady, depth_behind, source_of}
 use Rattle.rule_nodes.specs.Fits.{BlockFits}
-use Rattle.rule_nodes.specs.Code.{place, set_number, set_node, get_code, operand_code, load_code, left_code, binary_code, mirror, message_by, copy, truth_code, by_value, by_test, by_operator, two_code, choice_code, if_code, is_nothing, decides, both_far, both_code, jump_on, jump_by, jump_place, message_code, count_codes, term_code, assign_code, set_code, given_code, alu_of, change_of, one_code, also_code, assignment_code, let_code, send_codes, send_all_code, send_to_code, each_code, block_code, tail_code, rule_code}
+use Rattle.rule_nodes.specs.Code.{place, set_number, set_node, get_code, operand_code, load_code, left_code, binary_code, mirror, message_by, copy, truth_code, by_value, by_test, by_operator, two_code, choice_code, if_code, is_nothing, decides, both_far, both_code, jump_on, jump_by, jump_place, message_code, count_codes, term_code, assign_code, set_code, given_code, alu_of, change_of, one_code, also_code, assignment_code, stored_code, let_code, send_code, send_codes, send_all_code, passed_code, send_to_code, each_code, block_code, tail_code, rule_code}
 use Rattle.rule_nodes.specs.Ends.{AreSizes, IsRuleEnd}
 use Rattle.rule_nodes.proofs.Forms.{leads_add, once, chain, further}
 use Rattle.rule_nodes.proofs.States.{stands_front, stands_back, Holds, IsSized}
@@ -235,6 +235,12 @@ ones_each : (body : ℕ → List Insn) (n : ℕ) → ((j : ℕ) → Ones (body j
 ones_each body zero h = tt
 ones_each body (suc n) h = ones_append (each_code body n) (body n) (ones_each body n h) (h n)
 
+ones_stored : (x : Source) (d : ℕ) (code rest : List Insn) → Ones code → Ones rest → Ones (stored_code x d code rest)
+ones_stored (Constant c) d code rest h g = (refl, g)
+ones_stored (FromLocal k) d code rest h g = (refl, g)
+ones_stored (FromWord k) d code rest h g = (refl, g)
+ones_stored Computed d code rest h g = ones_append code (copy (place d) R0 ∷ rest) h (refl, g)
+
 ones_let : (e : Term) (z : Sizes) (J : List ℕ) (d : ℕ) (rest : List Insn) → Ones rest → Ones (let_code e z J d rest)
 ones_let (Count' p t) z J d rest h = (
   refl,
@@ -243,7 +249,20 @@ ones_let (Count' p t) z J d rest h = (
       (λ j. ones_term t z (J ++ j ∷ []) (d + 1) (Jump false 1))) h,
 )
 ones_let e z J d rest h =
-    ones_append (term_code e z J d Value) (copy (place d) R0 ∷ rest) (ones_term e z J d Value) (refl, h)
+    ones_stored (source_of e z J) d (term_code e z J d Value) rest (ones_term e z J d Value) h
+
+ones_send : (x : Source) (j : ℕ) → Ones (send_code x j)
+ones_send x j = (refl, (takes_one R2 x, (refl, tt)))
+
+ones_passed : (x : Source) (j : ℕ) (code : List Insn) → Ones code → Ones (passed_code x j code)
+ones_passed (Constant c) j code h = ones_send (Constant c) j
+ones_passed (FromLocal k) j code h = ones_send (FromLocal k) j
+ones_passed (FromWord k) j code h = ones_send (FromWord k) j
+ones_passed Computed j code h = ones_append code _ h (ones_send Computed j)
+
+ones_cond : (b : Bool) (x y : List Insn) → Ones x → Ones y → Ones (if b then x else y)
+ones_cond true x y h g = h
+ones_cond false x y h g = g
 
 ones_block : (b : Statement) (z : Sizes) (J : List ℕ) (d : ℕ) → Ones (block_code b z J d)
 ones_block Nothing z J d = tt
@@ -257,11 +276,16 @@ ones_block (For' p body) z J d = ones_each (λ j. block_code body z (J ++ j ∷ 
     (λ j. ones_block body z (J ++ j ∷ []) d)
 ones_block (SendAll e) z J d = ones_send_all (source_of e z J) d z.nodes (term_code e z J d Value)
     (ones_term e z J d Value)
-ones_block (SendTo e k) z J d = ones_append (term_code e z J d Value) _ (ones_term e z J d Value) (
-  refl,
-  ones_append (term_code k z J (d + 1) Value) (send_to_code d z.nodes) (ones_term k z J (d + 1) Value)
-      (refl, (refl, (refl, (refl, tt)))),
-)
+ones_block (SendTo e k) z J d =
+    let code = passed_code (source_of e z J) (constant_number k z J) (term_code e z J d Value) in
+    ones_cond (is_constant k) (if nat_lt (constant_number k z J) z.nodes then code else []) _
+    (ones_cond (nat_lt (constant_number k z J) z.nodes) code []
+    (ones_passed (source_of e z J) (constant_number k z J) (term_code e z J d Value) (ones_term e z J d Value)) tt)
+    (ones_append (term_code e z J d Value) _ (ones_term e z J d Value) (
+      refl,
+      ones_append (term_code k z J (d + 1) Value) (send_to_code d z.nodes) (ones_term k z J (d + 1) Value)
+          (refl, (refl, (refl, (refl, tt)))),
+    ))
 
 pub ones_rule : (rule : Statement) (z : Sizes) → Ones (rule_code rule z)
 ones_rule rule z = (refl, ones_append (block_code rule z [] 0) tail_code (ones_block rule z [] 0) (refl, (refl, tt)))

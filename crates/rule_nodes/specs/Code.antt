@@ -309,6 +309,16 @@ abbrev pub send_all_code : Source → ℕ → ℕ → List Insn → List Insn
 send_all_code Computed d n code = code ++ (copy (place d) R0 ∷ send_codes (FromLocal d) n)
 send_all_code x d n code = send_codes x n
 
+-- a found number, or a computed one, to a node
+abbrev pub passed_code : Source → ℕ → List Insn → List Insn
+passed_code Computed j code = code ++ send_code Computed j
+passed_code x j code = send_code x j
+
+-- to the node of a constant, if there is one
+abbrev pub send_to_constant_code : Source → ℕ → ℕ → List Insn → List Insn
+send_to_constant_code x j n code = if nat_lt j n then passed_code x j code else []
+
+-- to the node in r0, if there is one, from place d
 abbrev pub send_to_code : ℕ → ℕ → List Insn
 send_to_code d n = jump_at AtLeast n 3 ∷ copy R1 R0 ∷ copy R2 (place d) ∷ Call (pos 3) ∷ []
 
@@ -316,11 +326,16 @@ abbrev pub each_code : (ℕ → List Insn) → ℕ → List Insn
 each_code body zero = []
 each_code body (suc n) = each_code body n ++ body n
 
+-- a found number, or a computed one, goes to place d; then comes what follows
+abbrev pub stored_code : Source → ℕ → List Insn → List Insn → List Insn
+stored_code Computed d code rest = code ++ (copy (place d) R0 ∷ rest)
+stored_code x d code rest = get_code (place d) x ∷ rest
+
 -- a let at depth d, and what follows: a count stays where it was counted
 abbrev pub let_code : Term → Sizes → List ℕ → ℕ → List Insn → List Insn
 let_code (Count' p t) z J d rest =
     counted_code d z.nodes (λ j. term_code t z (J ++ j ∷ []) (d + 1) (Jump false 1)) ++ rest
-let_code e z J d rest = term_code e z J d Value ++ (copy (place d) R0 ∷ rest)
+let_code e z J d rest = stored_code (source_of e z J) d (term_code e z J d Value) rest
 
 abbrev pub is_nothing : Statement → Bool
 is_nothing Nothing = true
@@ -336,7 +351,9 @@ block_code (If' t p a q b) z J d =
     if_code (is_nothing b) (λ far. term_code t z J d (Jump false far)) (block_code a z J d) (block_code b z J d)
 block_code (For' p body) z J d = each_code (λ j. block_code body z (J ++ j ∷ []) d) z.nodes
 block_code (SendAll e) z J d = send_all_code (source_of e z J) d z.nodes (term_code e z J d Value)
-block_code (SendTo e k) z J d = term_code e z J d Value
+block_code (SendTo e k) z J d =
+    if is_constant k then send_to_constant_code (source_of e z J) (constant_number k z J) z.nodes (term_code e z J d Value)
+    else term_code e z J d Value
     ++ (copy (place d) R0 ∷ (term_code k z J (d + 1) Value ++ send_to_code d z.nodes))
 
 abbrev pub head_code : List Insn

@@ -10,10 +10,10 @@ use Rattle.rule_nodes.specs.declared.syntax.Term.{Term}
 use Rattle.rule_nodes.specs.declared.syntax.Term.TheVariants.{Number, Nodes, Faults, Modulus, Me, Coin, LoopNode, Local, Word, Message', Binary', Logical', Not', Choice', Count'}
 use Rattle.rule_nodes.specs.declared.syntax.Statement.{Statement}
 use Rattle.rule_nodes.specs.declared.syntax.Statement.TheVariants.{Nothing, Then', Let', Assign, If', For', SendAll, SendTo}
-use Rattle.rule_nodes.specs.Operands.{is_operand, is_steady, depth_behind}
+use Rattle.rule_nodes.specs.Operands.{is_constant, is_operand, is_steady, depth_behind}
 
 -- true: no place is needed; false: depth d has a free place. Two computed sides need one for the left number, as does a
--- computed number that is sent, or assigned with others
+-- computed number that is sent to all, or assigned with others, and a number that is sent to a node that is no constant
 abbrev pub HasPlace : Bool → ℕ → Type 0
 HasPlace true d = Unit {0}
 HasPlace false d = d < 3
@@ -57,4 +57,5 @@ BlockFits (Assign a) z loops d = AssignmentFits a z loops d d
 BlockFits (If' t p a q b) z loops d = Fits t z loops d d × BlockFits a z loops d × BlockFits b z loops d
 BlockFits (For' p body) z loops d = BlockFits body z (loops + 1) d
 BlockFits (SendAll e) z loops d = HasPlace (is_operand e) d × Fits e z loops d d
-BlockFits (SendTo e k) z loops d = (d < 3) × Fits e z loops d d × Fits k z loops d (d + 1)
+BlockFits (SendTo e k) z loops d =
+    HasPlace (is_constant k) d × Fits e z loops d d × Fits k z loops d (depth_behind (is_constant k) d)

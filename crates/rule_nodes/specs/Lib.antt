@@ -4,3 +4,4 @@ pub mod Fits
 pub mod Code
 pub mod Ends
 pub mod Refusals
+pub mod Owners

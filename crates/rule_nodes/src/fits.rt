@@ -1,13 +1,13 @@
 //! Whether a rule fits: its numbers, names, words and places.
 ghost use Rattle.std.specs.Prelude.{◌≡◌, ◌≤◌, ◌<◌, ◌+◌, ◌*◌, ◌^◌, ◌||◌, IfOk, IfErr};
-ghost use Rattle.rule_nodes.specs.Operands.{is_operand, is_steady};
+ghost use Rattle.rule_nodes.specs.Operands.{is_constant, is_operand, is_steady};
 ghost use Rattle.rule_nodes.specs.Fits.{HasPlace, Fits, TargetFits, AssignmentFits, BlockFits};
 ghost use Rattle.rule_nodes.specs.Refusals.{IsUnfit};
 
 use crate::assignments::is_steady_of;
 use crate::errors::CompileError;
 use crate::insns::has_word;
-use crate::operands::{beside_operand, depth_behind_of, is_operand_of};
+use crate::operands::{beside_operand, depth_behind_of, is_constant_of, is_operand_of};
 use crate::syntax::{Assignment, Sizes, Statement, Target, Term};
 
 /// Fails if a number needs a place, and there is none at the depth.
@@ -59,7 +59,7 @@ fn needs_loop(k: u32, loops: usize) -> Result<(), CompileError>
 }
 
 /// Returns the number of loops with one more around. No memory holds a rule with so many that they can't be counted.
-fn one_more(loops: usize) -> Result<usize, CompileError>
+pub fn one_more(loops: usize) -> Result<usize, CompileError>
     ensures more { IfOk result (λ n. n ≡ loops + 1) }
     ensures memory { IfErr result (λ e. e ≡ CompileError.Memory) }
 {
@@ -185,9 +185,10 @@ pub fn block_fits(
             term_fits(e, sizes, loops, depth, depth)
         }
         Statement::SendTo(e, k) => {
-            needs_less(depth, 3)?;
+            let constant = is_constant_of(k);
+            needs_place(constant, depth)?;
             term_fits(e, sizes, loops, depth, depth)?;
-            term_fits(k, sizes, loops, depth, depth + 1)
+            term_fits(k, sizes, loops, depth, depth_behind_of(constant, depth))
         }
     }
 }

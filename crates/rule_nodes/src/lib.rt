@@ -9,6 +9,7 @@ mod fits;
 mod insns;
 mod laws;
 mod operands;
+mod owners;
 mod parts;
 mod statements;
 mod syntax;
@@ -17,6 +18,7 @@ mod terms;
 pub use compile::compile_rule;
 pub use errors::CompileError;
 pub use laws::{rule_ends, rule_is_taken};
+pub use owners::rule_owners;
 pub use syntax::{
     Assignment, Comparison, Connective, Operation, Operator, Purpose, Sizes, Source, Statement,
     Target, Term,

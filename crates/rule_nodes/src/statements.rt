@@ -4,16 +4,16 @@ ghost use Rattle.rule_nodes.specs.declared.syntax.Purpose.TheVariants.{Value};
 ghost use Rattle.bpf_insn.specs.declared.forms.Reg.TheVariants.{R0, R1};
 ghost use Rattle.bpf_insn.specs.declared.forms.Insn.TheVariants as i;
 ghost use Rattle.rule_nodes.specs.declared.syntax.Statement.TheVariants.{SendAll, SendTo};
-ghost use Rattle.rule_nodes.specs.Operands.{IsWithin};
-ghost use Rattle.rule_nodes.specs.Fits.{BlockFits};
-ghost use Rattle.rule_nodes.specs.Code.{place, copy, set_node, term_code, let_code, send_codes, send_all_code, send_to_code, is_nothing, block_code};
+ghost use Rattle.rule_nodes.specs.Operands.{source_of, IsWithin};
+ghost use Rattle.rule_nodes.specs.Fits.{Fits, BlockFits};
+ghost use Rattle.rule_nodes.specs.Code.{place, copy, set_node, term_code, stored_code, let_code, send_codes, send_all_code, passed_code, send_to_constant_code, send_to_code, is_nothing, block_code};
 ghost use Rattle.rule_nodes.specs.Refusals.{IsUnmade};
 
 use crate::assignments::assignment;
 use crate::errors::CompileError;
 use crate::insns::{copy_of, jump_at_of, place_of, set_node_of};
-use crate::operands::{get_of, source};
-use crate::parts::{if_of, if_test, joined, short, within};
+use crate::operands::{constant_of, get_of, is_constant_of, source};
+use crate::parts::{if_of, if_test, joined, short, single, within};
 use crate::syntax::{Comparison, Purpose, Sizes, Source, Statement, Term};
 use crate::terms::term;
 use bpf_insn::{Insn, MAX_SLOTS, Reg};
@@ -62,6 +62,26 @@ fn stored(code: Vec<Insn>, depth: u32, rest: &[Insn]) -> Result<Vec<Insn>, Alloc
     joined(kept, rest)
 }
 
+/// Returns the code that puts a number, found or computed by the code, into a place, and what follows.
+fn stored_from(
+    alloc: Global,
+    source: Source,
+    depth: u32,
+    code: Vec<Insn>,
+    rest: &[Insn],
+) -> Result<Vec<Insn>, AllocError>
+    requires { IsWithin source 256 }
+    ensures { IfOk result (λ c. c.items ≡ stored_code source depth code.items rest.now) }
+{
+    let get = get_of(place_of(depth), source);
+    match source {
+        Source::Computed => stored(code, depth, rest),
+        Source::Constant(_) => joined(single(alloc, get)?, rest),
+        Source::FromLocal(_) => joined(single(alloc, get)?, rest),
+        Source::FromWord(_) => joined(single(alloc, get)?, rest),
+    }
+}
+
 /// Returns the code without its last instruction.
 fn without_last(mut code: Vec<Insn>) -> Vec<Insn>
     requires { 1 ≤ length code.items }
@@ -72,7 +92,8 @@ fn without_last(mut code: Vec<Insn>) -> Vec<Insn>
 }
 
 /// Returns the code of a let and of what follows. A count stays where it was counted.
-fn let_of(
+pub fn let_of(
+    alloc: Global,
     e: &Term,
     sizes: Sizes,
     loops: &[u32],
@@ -80,12 +101,13 @@ fn let_of(
     depth: u32,
     rest: &[Insn],
 ) -> Result<Vec<Insn>, AllocError>
-    requires { code.items ≡ term_code e.now sizes loops.now depth Value }
+    requires code { code.items ≡ term_code e.now sizes loops.now depth Value }
+    requires within { IsWithin (source_of e.now sizes loops.now) 256 }
     ensures { IfOk result (λ c. c.items ≡ let_code e.now sizes loops.now depth rest.now) }
 {
     match e {
         Term::Count(_) => joined(without_last(code), rest),
-        _ => stored(code, depth, rest),
+        _ => stored_from(alloc, source(e, sizes, loops), depth, code, rest),
     }
 }
 
@@ -132,6 +154,53 @@ fn send_all_of(
     }
 }
 
+/// Returns the code that sends a node a number, found or computed by the code.
+fn passed(
+    alloc: Global,
+    source: Source,
+    node: u32,
+    code: Vec<Insn>,
+) -> Result<Vec<Insn>, AllocError>
+    requires node { node < 64 }
+    requires within { IsWithin source 256 }
+    ensures { IfOk result (λ c. c.items ≡ passed_code source node code.items) }
+{
+    let send = send_of(node, get_of(Reg::R2, source));
+    match source {
+        Source::Computed => joined(code, &send),
+        Source::Constant(_) => joined(Vec::new(alloc), &send),
+        Source::FromLocal(_) => joined(Vec::new(alloc), &send),
+        Source::FromWord(_) => joined(Vec::new(alloc), &send),
+    }
+}
+
+/// Returns the code that sends a number to the node of a constant. There is none if there is no such node.
+fn send_to_constant(
+    alloc: Global,
+    e: &Term,
+    node: u32,
+    sizes: Sizes,
+    loops: &[u32],
+    depth: u32,
+) -> Result<Vec<Insn>, CompileError>
+    requires some { 1 ≤ sizes.nodes }
+    requires few { sizes.nodes ≤ 64 }
+    requires memory { sizes.memory ≤ 256 }
+    requires deep { depth ≤ 3 }
+    requires fits { Fits e.now sizes (length loops.now) depth depth }
+    ensures code { IfOk result (λ c. c.items ≡ send_to_constant_code (source_of e.now sizes loops.now) node sizes.nodes
+        (term_code e.now sizes loops.now depth Value)) }
+    ensures short { IfOk result (λ c. length c.items ≤ MAX_SLOTS) }
+    ensures long { IfErr result (IsUnmade (length (send_to_constant_code (source_of e.now sizes loops.now) node sizes.nodes
+        (term_code e.now sizes loops.now depth Value)) + 1)) }
+{
+    if node >= sizes.nodes {
+        return Ok(Vec::new(alloc));
+    }
+    let value = term(alloc, e, sizes, loops, depth, depth, Purpose::Value)?;
+    short(passed(alloc, source(e, sizes, loops), node, value)?)
+}
+
 fn send_to(
     alloc: Global,
     e: &Term,
@@ -143,11 +212,15 @@ fn send_to(
     requires some { 1 ≤ sizes.nodes }
     requires few { sizes.nodes ≤ 64 }
     requires memory { sizes.memory ≤ 256 }
+    requires deep { depth ≤ 3 }
     requires fits { BlockFits (SendTo e.now k.now) sizes (length loops.now) depth }
     ensures code { IfOk result (λ c. c.items ≡ block_code (SendTo e.now k.now) sizes loops.now depth) }
     ensures short { IfOk result (λ c. length c.items ≤ MAX_SLOTS) }
     ensures long { IfErr result (IsUnmade (length (block_code (SendTo e.now k.now) sizes loops.now depth) + 1)) }
 {
+    if is_constant_of(k) {
+        return send_to_constant(alloc, e, constant_of(k, sizes, loops), sizes, loops, depth);
+    }
     let receiver = term(alloc, k, sizes, loops, depth, depth + 1, Purpose::Value)?;
     let send = joined(receiver, &send_to_of(depth, sizes.nodes))?;
     let value = term(alloc, e, sizes, loops, depth, depth, Purpose::Value)?;
@@ -155,7 +228,7 @@ fn send_to(
 }
 
 /// Returns whether a statement does nothing.
-fn is_nothing_of(statement: &Statement) -> bool
+pub fn is_nothing_of(statement: &Statement) -> bool
     ensures { result ≡ is_nothing statement.now }
 {
     match statement {
@@ -191,7 +264,7 @@ pub fn block(
         Statement::Let(e, rest) => {
             let behind = block(alloc, rest, sizes, loops, depth + 1)?;
             let value = term(alloc, e, sizes, loops, depth, depth, Purpose::Value)?;
-            short(let_of(e, sizes, loops, value, depth, &behind)?)
+            short(let_of(alloc, e, sizes, loops, value, depth, &behind)?)
         }
         Statement::Assign(a) => assignment(alloc, a, sizes, loops, depth, depth),
         Statement::If(t, a, b) => {

@@ -1,5 +1,5 @@
 -- A text has one program at most, and none if it is refused.
-use Rattle.std.proofs.Common.{◌≡◌, ◌<◌, ◌≤◌, ℕ, List, length, ap, sym, subst, ◌∙◌, arith, Global}
+use Rattle.std.proofs.Common.{◌≡◌, ◌<◌, ℕ, List, length, ap, sym, subst, ◌∙◌, arith, Global}
 use Rattle.std.specs.Prelude.{Result, Ok, Err, IfOk, IfErr}
 use Rattle.bpf_insn.specs.declared.forms.Insn.{Insn}
 use Rattle.bpf_insn.specs.declared.listing.TheConstants.{MAX_SLOTS}
@@ -8,7 +8,6 @@ use Rattle.rule_nodes.specs.declared.syntax.Sizes.{Sizes}
 use Rattle.rule_text.specs.declared.program.RuleRefusal.{RuleRefusal}
 use Rattle.rule_text.specs.declared.program.RuleRefusal.TheVariants.{Text, NoRoom, TooLong}
 use Rattle.rule_text.specs.declared.rule.Rule.{Rule}
-use Rattle.rule_text.specs.Forms.{statement_form}
 use Rattle.rule_text.specs.Programs.{HasRoom, IsProgramOfText, IsRefusalOfRule, IsRefusalOfText}
 use Rattle.rule_text.specs.Rules.{rule_form}
 use Rattle.rule_text.specs.Statements.{RuleForm, rule_of}

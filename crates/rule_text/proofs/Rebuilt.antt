@@ -1,5 +1,5 @@
 -- The code of a rule, and whether it fits, don't depend on where its boxes lie: rules of one form have the same.
-use Rattle.std.proofs.Common.{◌≡◌, ℕ, ◌+◌, ◌*◌, ◌<◌, ◌≤◌, ◌^◌, Bool, ◌&&◌, ◌||◌, not, false, if◌then◌else◌, List, [], ◌∷◌, ◌++◌, Option, Some, None, refl, ap, sym, subst, ◌∙◌, Box, Global}
+use Rattle.std.proofs.Common.{◌≡◌, ℕ, ◌+◌, ◌<◌, ◌&&◌, ◌||◌, not, false, if◌then◌else◌, List, [], ◌∷◌, ◌++◌, Some, None, refl, ap, sym, subst, ◌∙◌, Box, Global}
 use Rattle.std.specs.Int.{w32, cast_signed}
 use denote.RawPtr.{null_ptr}
 use Rattle.bpf_insn.specs.declared.forms.Insn.{Insn}
@@ -9,7 +9,7 @@ use Rattle.bpf_insn.specs.declared.forms.Reg.TheVariants.{R0}
 use Rattle.bpf_insn.specs.declared.forms.Width.TheVariants.{W32}
 use Rattle.rule_nodes.specs.Meaning.{operate}
 use Rattle.rule_nodes.specs.Operands.{is_constant, is_fetched, is_local, is_operand, is_asked, is_steady, depth_behind, constant_number, fetched_source, source_of}
-use Rattle.rule_nodes.specs.Code.{place, copy, by_value, by_test, binary_code, alu_of, choice_code, decides, both_code, message_by, count_code, counted_code, term_code, given_code, change_by, change_of, one_code, also_code, assignment_code, send_all_code, send_to_code, each_code, if_code, is_nothing, let_code, block_code, head_code, tail_code, rule_code}
+use Rattle.rule_nodes.specs.Code.{place, copy, by_value, by_test, binary_code, alu_of, choice_code, decides, both_code, message_by, count_code, counted_code, term_code, given_code, change_by, change_of, one_code, also_code, assignment_code, stored_code, send_all_code, send_to_constant_code, send_to_code, each_code, if_code, is_nothing, let_code, block_code, head_code, tail_code, rule_code}
 use Rattle.rule_nodes.specs.Fits.{HasPlace, Fits, TargetFits, AssignmentFits, BlockFits}
 use Rattle.rule_nodes.specs.declared.syntax.Operator.{Operator}
 use Rattle.rule_nodes.specs.declared.syntax.Operator.TheVariants.{Compute, Compare}
@@ -18,7 +18,6 @@ use Rattle.rule_nodes.specs.declared.syntax.Target.{Target}
 use Rattle.rule_nodes.specs.declared.syntax.Target.TheVariants.{ToLocal, ToWord}
 use Rattle.rule_nodes.specs.declared.syntax.Purpose.{Purpose}
 use Rattle.rule_nodes.specs.declared.syntax.Purpose.TheVariants.{Value, Jump}
-use Rattle.rule_nodes.specs.declared.syntax.Source.{Source}
 use Rattle.rule_nodes.specs.declared.syntax.Source.TheVariants.{Constant}
 use Rattle.rule_nodes.specs.declared.syntax.Assignment.{Assignment}
 use Rattle.rule_nodes.specs.declared.syntax.Assignment.TheVariants.{One, Also'}
@@ -204,7 +203,7 @@ let_same : (g : Global) (e : Term) (z : Sizes) (J : List ℕ) (d : ℕ) (rest af
     → let_code e z J d rest ≡ let_code (lifted g e) z J d after
 let_same g (Count' p t) z J d rest after same =
     λ k. counted_code d z.nodes (λ j. code_same g t z (J ++ j ∷ []) (d + 1) (Jump false 1) k) ++ same k
-let_same g e z J d rest after same = λ k. code_same g e z J d Value k ++ (copy (place d) R0 ∷ same k)
+let_same g e z J d rest after same = λ k. stored_code (source_same g e z J k) d (code_same g e z J d Value k) (same k)
 
 block_same : (g : Global) (s : Statement) (z : Sizes) (J : List ℕ) (d : ℕ)
     → block_code s z J d ≡ block_code (lifted_block g s) z J d
@@ -218,7 +217,9 @@ block_same g (If' t p a q b) z J d =
 block_same g (For' p body) z J d = λ k. each_code (λ j. block_same g body z (J ++ j ∷ []) d k) z.nodes
 block_same g (SendAll e) z J d = λ k. send_all_code (source_same g e z J k) d z.nodes (code_same g e z J d Value k)
 block_same g (SendTo e to) z J d =
-    λ k. code_same g e z J d Value k ++ (copy (place d) R0 ∷ (code_same g to z J (d + 1) Value k ++ send_to_code d z.nodes))
+    λ k. if constant_same g to k then send_to_constant_code (source_same g e z J k) (number_same g to z J k) z.nodes
+    (code_same g e z J d Value k) else code_same g e z J d Value k
+    ++ (copy (place d) R0 ∷ (code_same g to z J (d + 1) Value k ++ send_to_code d z.nodes))
 
 block_fits_same : (g : Global) (s : Statement) (z : Sizes) (loops d : ℕ)
     → BlockFits s z loops d ≡ BlockFits (lifted_block g s) z loops d
@@ -232,7 +233,12 @@ block_fits_same g (If' t p a q b) z loops d =
 block_fits_same g (For' p body) z loops d = block_fits_same g body z (loops + 1) d
 block_fits_same g (SendAll e) z loops d = λ k. HasPlace (operand_same g e k) d × fits_same g e z loops d d k
 block_fits_same g (SendTo e to) z loops d =
-    λ k. (d < 3) × fits_same g e z loops d d k × fits_same g to z loops d (d + 1) k
+    let D = depth_behind (is_constant to) d in
+    let E = depth_behind (is_constant (lifted g to)) d in
+    let deep : D ≡ E = λ k. depth_behind (constant_same g to k) d in
+    let right : Fits to z loops d D ≡ Fits (lifted g to) z loops d E =
+    fits_same g to z loops d D ∙ ap (λ (e : ℕ). Fits (lifted g to) z loops d e) deep in
+    λ k. HasPlace (constant_same g to k) d × fits_same g e z loops d d k × right k
 
 -- ---- rules of one form
 

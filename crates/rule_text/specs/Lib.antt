@@ -4,5 +4,8 @@ pub mod Forms
 pub mod Scopes
 pub mod Terms
 pub mod Statements
+pub mod Spelling
 pub mod Rules
 pub mod Programs
+pub mod Lines
+pub mod ProgramLines

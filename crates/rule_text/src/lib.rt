@@ -4,10 +4,13 @@
 mod assignments;
 mod errors;
 mod joints;
+mod laws;
 mod layout;
 mod lexemes;
+mod lines;
 mod parts;
 mod program;
+mod program_lines;
 mod rule;
 mod scope;
 mod signs;
@@ -15,5 +18,8 @@ mod statements;
 mod terms;
 
 pub use errors::{ReadRuleError, RuleError};
+pub use laws::{each_statement_has_a_line, what_is_read_is_spelled};
+pub use lines::statement_lines;
 pub use program::{RuleRefusal, program_of_text};
+pub use program_lines::instruction_lines;
 pub use rule::{Rule, read_rule};

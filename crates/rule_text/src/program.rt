@@ -13,7 +13,7 @@ use rule_nodes::{CompileError, compile_rule};
 use std::alloc::{AllocError, Global};
 
 /// The bytes of a word of the memory.
-const WORD_BYTES: u32 = 4;
+pub const WORD_BYTES: u32 = 4;
 
 /// Why a text has no program.
 #[derive(Clone, Copy, Debug, PartialEq, Eq)]

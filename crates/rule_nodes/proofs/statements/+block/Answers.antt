@@ -1,5 +1,5 @@
-use Rattle.std.proofs.Common.{◌≤◌, ◌+◌, arith}
-use Rattle.rule_nodes.proofs.Lengths.{passed_on, let_value_part, let_rest_part, body_part, bodies_part}
+use Rattle.std.proofs.Common.{◌≤◌, ◌+◌, arith, refl}
+use Rattle.rule_nodes.proofs.Lengths.{passed_on, let_value_part, let_within, let_rest_part, body_part, bodies_part}
 use Rattle.rule_nodes.proofs.Loops.{body_kept}
 use Rattle.rule_nodes.proofs.statements.+block.Goals as goal
 
@@ -31,3 +31,7 @@ returns-in_err-all-in-For-clause-long t c =
     c.deref-in-loop-node-2.ensures.value c.in_ok-one-in-For.ensures.code c.deref-in-loop-node-3.ensures.value
     c.in_ok-joined-in-For.ensures c.loop-node.invariant.code)) c.in_err-all-in-For.ensures.long
     c.from_residual-in_err-all-in-For.ensures.1
+
+pub let_of-requires-clause-within : goal.let_of-requires-clause-within
+let_of-requires-clause-within t c =
+    let_within _ _ _ _ _ c.args.sizes c.args.loops.now c.args.depth c.in-Let.is refl c.requires.memory c.requires.fits

@@ -1,0 +1,420 @@
+-- A term that is read is spelled by the tokens that it takes.
+use Rattle.std.proofs.Common.{◌≡◌, ℕ, zero, suc, Bool, true, false, cond, List, [], ◌∷◌, ◌++◌, length, refl, sym, ap, subst, ◌∙◌, append_assoc, append-nil}
+use Rattle.std.specs.Prelude.{nat_le, option_map, Option, Some, None, Result, Ok, Err, IfOk}
+use Rattle.std.proofs.lemmas.Slice.Eq.{bytes_eq-Decides}
+use Rattle.std.proofs.lemmas.Bool.{leb-false}
+use Rattle.std.proofs.lemmas.Option.{same_Some}
+use Rattle.rule_nodes.specs.declared.syntax.Comparison.{Comparison}
+use Rattle.rule_nodes.specs.declared.syntax.Operator.TheVariants.{Compare}
+use Rattle.rule_text.specs.declared.errors.RuleError.TheVariants.{Expected, UnknownName, NameTwice, TooDeep, TooLong}
+use Rattle.rule_text.specs.declared.errors.ReadRuleError.{ReadRuleError}
+use Rattle.rule_text.specs.declared.signs.Sign.{Sign}
+use Rattle.rule_text.specs.declared.signs.Sign.TheVariants as signs
+use Rattle.rule_text.specs.declared.lexemes.Name.{Name}
+use Rattle.rule_text.specs.declared.lexemes.Kind.{Kind}
+use Rattle.rule_text.specs.declared.lexemes.Kind.TheVariants.{Number, Named, Mark}
+use Rattle.rule_text.specs.declared.lexemes.Token.{Token}
+use Rattle.rule_text.specs.declared.layout.TheConstants.{MAX_LINE_TOKENS}
+use Rattle.rule_text.specs.declared.scope.Meaning.{Meaning}
+use Rattle.rule_text.specs.declared.scope.Entry.{Entry}
+use Rattle.rule_text.specs.declared.scope.Maker.{Maker}
+use Rattle.rule_text.specs.declared.scope.Maker.TheVariants as makers
+use Rattle.rule_text.specs.declared.scope.TheConstants.{MAX_NAMES}
+use Rattle.rule_text.specs.declared.joints.Joint.{Joint}
+use Rattle.rule_text.specs.declared.joints.Chain.{Chain}
+use Rattle.rule_text.specs.declared.joints.Chain.TheVariants as chains
+use Rattle.rule_text.specs.declared.terms.Grade.{Grade}
+use Rattle.rule_text.specs.declared.terms.Grade.TheVariants.{Whole, Inverse}
+use Rattle.rule_text.specs.declared.terms.TheConstants.{MAX_PARTS}
+use Rattle.rule_text.specs.Signs.{spelling, sign_of, is_same}
+use Rattle.rule_text.specs.Forms.{TermForm, number, message, binary, inverse, choice, count}
+use Rattle.rule_text.specs.Scopes.{◌>>=◌, error_at, error_in, meaning_of, entry, next_meaning, added, named_entry_by, named_entry, new_name}
+use Rattle.rule_text.specs.Terms.{is_marked, after, wanted, joint_of, comparison_of, joint_in, comparison_in, join, named_term, leaf_of, Reader, Inner, leaf, named_atom, bracketed, message_read, marked_atom, atom_by, atom, chain_step, chain_rest, chain_of, compare_rest, compare_read, inverse_read, operand_read, chain_read, choice_read, choice_rest, count_read, plain_read, whole_read, part, term_read}
+use Rattle.rule_text.specs.Spelling as s
+
+-- ---- readings
+
+-- this holds of what is read, if something is
+pub record Reads {A : Type 0} (r : Result A ReadRuleError) (P : A → Type 0) : Type 0 where
+  pub holds : IfOk r P
+
+pub fails : {A : Type 0} {P : A → Type 0} (e : ReadRuleError) → Reads (Err e) P
+fails e = record { holds = tt }
+
+pub gives : {A : Type 0} {P : A → Type 0} (x : A) → P x → Reads (Ok x) P
+gives x is = record { holds = is }
+
+pub read_then : {A B : Type 0} {P : A → Type 0} {Q : B → Type 0} (r : Result A ReadRuleError) (f : A → Result B ReadRuleError)
+    → Reads r P → ((x : A) → P x → Reads (f x) Q) → Reads (r >>= f) Q
+read_then (Ok x) f h next = next x h.holds
+read_then (Err e) f h next = fails e
+
+pub implied : {A : Type 0} {P Q : A → Type 0} (r : Result A ReadRuleError) → Reads r P → ((x : A) → P x → Q x) → Reads r Q
+implied (Ok x) h f = gives x (f x h.holds)
+implied (Err e) h f = fails e
+
+pub by_option : {A B : Type 0} {Q : B → Type 0} (o : Option A) (some : A → Result B ReadRuleError)
+    (other : Result B ReadRuleError) → ((x : A) → o ≡ Some x → Reads (some x) Q) → (o ≡ None → Reads other Q)
+    → Reads (elim o [ Some x ↦ some x | None ↦ other ]) Q
+by_option (Some x) some other f g = f x refl
+by_option None some other f g = g refl
+
+pub by_test : {B : Type 0} {Q : B → Type 0} (b : Bool) (x y : Result B ReadRuleError) → (b ≡ true → Reads x Q)
+    → (b ≡ false → Reads y Q) → Reads (cond b x y) Q
+by_test true x y f g = f refl
+by_test false x y f g = g refl
+
+-- what was read took the tokens at the front, of which this holds
+pub record Took (ts rest : List Token) (P : List Token → Type 0) : Type 0 where
+  pub used : List Token
+  pub split : ts ≡ used ++ rest
+  pub is : P used
+
+pub took : {ts rest : List Token} {P Q : List Token → Type 0} → Took ts rest P → ((us : List Token) → P us → Q us)
+    → Took ts rest Q
+took t f = record { used = t.used; split = t.split; is = f t.used t.is }
+
+-- nothing more
+pub took_end : {rest : List Token} {Q : List Token → Type 0} → Q [] → Took rest rest Q
+took_end is = record { used = []; split = refl; is = is }
+
+-- a token, and more
+pub took_more : {ts rest : List Token} {Q : List Token → Type 0} (t : Token) → Took ts rest (λ us. Q (t ∷ us))
+    → Took (t ∷ ts) rest Q
+took_more t a = record { used = t ∷ a.used; split = ap (λ (l : List Token). t ∷ l) a.split; is = a.is }
+
+-- a part, and more
+pub took_past : {ts mid rest : List Token} {P Q : List Token → Type 0} (a : Took ts mid P)
+    → Took mid rest (λ vs. Q (a.used ++ vs)) → Took ts rest Q
+took_past {rest = rest} a b = record {
+  used = a.used ++ b.used;
+  split = a.split ∙ ap (λ (l : List Token). a.used ++ l) b.split ∙ sym (append_assoc a.used b.used rest);
+  is = b.is;
+}
+
+pub took_then : {ts mid rest : List Token} {P Q : List Token → Type 0} → Took ts mid P
+    → ((us : List Token) → P us → Took mid rest (λ vs. Q (us ++ vs))) → Took ts rest Q
+took_then a next = took_past a (next a.used a.is)
+
+pub took_of : {ts us rest : List Token} {P : List Token → Type 0} → ts ≡ us → Took us rest P → Took ts rest P
+took_of e a = record { used = a.used; split = e ∙ a.split; is = a.is }
+
+-- ---- signs
+
+sign_again : (a : Sign) → sign_of (spelling a) ≡ Some a
+sign_again signs.State = refl
+sign_again _ = refl
+
+same_sign : (a b : Sign) → is_same a b ≡ true → b ≡ a
+same_sign a b e =
+    let d = bytes_eq-Decides (spelling a) (spelling b) in
+    let f = sign_again a in
+    let g = sign_again b in
+    let h : sign_of (spelling a) ≡ sign_of (spelling b) = ap sign_of (d.0 e) in
+    cc
+
+marked_kind : (a : Sign) (kind : Kind) → is_marked a kind ≡ true → kind ≡ Mark a
+marked_kind a (Mark b) e = ap Mark (same_sign a b e)
+marked_kind a kind e = absurd (let no : false ≡ true = e in cc)
+
+-- the first token is this sign
+pub record Front (a : Sign) (ts rest : List Token) : Type 0 where
+  pub first : Token
+  pub split : ts ≡ first ∷ rest
+  pub sign : s.IsSign a first
+
+pub after_front : (a : Sign) (ts rest : List Token) → after a ts ≡ Some rest → Front a ts rest
+after_front a [] rest e = absurd (let no : None ≡ Some rest = e in cc)
+after_front a (t ∷ ts) rest e = by (is_marked a t.kind) refl e
+  where
+    by : (b : Bool) → is_marked a t.kind ≡ b → cond b (Some ts) None ≡ Some rest → Front a (t ∷ ts) rest
+    by true is f = record {
+      first = t;
+      split = let same : Some ts ≡ Some rest = f in let same2 : ts ≡ rest = cc in ap (λ (l : List Token). t ∷ l) same2;
+      sign = record { is = marked_kind a t.kind is };
+    }
+    by false is f = absurd (let no : None ≡ Some rest = f in cc)
+
+pub wanted_reads : (a : Sign) (ts : List Token) → Reads (wanted a ts) (λ rest. Front a ts rest)
+wanted_reads a ts = by_option (after a ts) (λ rest. Ok rest) (Err (error_in Expected ts))
+    (λ rest e. gives rest (after_front a ts rest e)) (λ e. fails (error_in Expected ts))
+
+pub took_front : {a : Sign} {ts mid rest : List Token} {Q : List Token → Type 0} → Front a ts mid
+    → ((t : Token) → s.IsSign a t → Took mid rest (λ us. Q (t ∷ us))) → Took ts rest Q
+took_front f next = took_of f.split (took_more f.first (next f.first f.sign))
+
+-- ---- names
+
+module _ (text : List ℕ) where
+  entry_reads : (maker : Maker) (names : List Entry) (t : Token) (kind : Kind) → t.kind ≡ kind
+      → Reads (named_entry_by text maker names kind t) (λ more. s.IsNew text maker names t more)
+  entry_reads maker names t (Named name) e = by (meaning_of text names name) refl
+    where
+      by : (known : Option Meaning) → meaning_of text names name ≡ known
+          → Reads (added known maker name names t) (λ more. s.IsNew text maker names t more)
+      by (Some meaning) known = fails (error_at NameTwice t)
+      by None known = by_test (nat_le MAX_NAMES (length names)) (Err (error_at TooDeep t))
+          (Ok (names ++ entry name (next_meaning maker names) ∷ [])) (λ full. fails (error_at TooDeep t))
+          (λ room. gives (names ++ entry name (next_meaning maker names) ∷ []) (record {
+            name = name;
+            named = record { is = e };
+            new = known;
+            room = leb-false MAX_NAMES (length names) room;
+            added = refl;
+          }))
+  entry_reads maker names t kind e = fails (error_at Expected t)
+
+  pub record New (maker : Maker) (names : List Entry) (ts : List Token) (more : List Entry) (rest : List Token) : Type 0 where
+    pub first : Token
+    pub split : ts ≡ first ∷ rest
+    pub is : s.IsNew text maker names first more
+
+  pub new_reads : (maker : Maker) (names : List Entry) (ts : List Token)
+      → Reads (new_name text maker names ts) (λ x. New maker names ts x.0 x.1)
+  new_reads maker names [] = fails (error_in Expected [])
+  new_reads maker names (t ∷ ts) =
+      read_then (named_entry text maker names t) (λ more. Ok (more, ts)) (entry_reads maker names t t.kind refl)
+      (λ more is. gives (more, ts) (record { first = t; split = refl; is = is }))
+
+  pub took_new : {maker : Maker} {names more : List Entry} {ts mid rest : List Token} {Q : List Token → Type 0}
+      → New maker names ts more mid
+      → ((t : Token) → s.IsNew text maker names t more → Took mid rest (λ us. Q (t ∷ us))) → Took ts rest Q
+  took_new n next = took_of n.split (took_more n.first (next n.first n.is))
+
+  -- ---- terms
+
+  -- at this level
+  abbrev pub IsReading : s.Level → List Entry → List Token → TermForm × List Token → Type 0
+  IsReading level names ts x = Took ts x.1 (λ us. s.IsTerm text level names us x.0)
+
+  abbrev level_of : Grade → s.Level
+  level_of Whole = s.whole
+  level_of Inverse = s.inverted
+
+  abbrev Spelled : Inner → Type 0
+  Spelled inner = (grade : Grade) (names : List Entry) (ts : List Token)
+      → Reads (inner grade names ts) (IsReading (level_of grade) names ts)
+
+  alone_reads : (level : s.Level) (names : List Entry) (ts : List Token) (x : TermForm × List Token)
+      → IsReading (s.tighter level) names ts x → IsReading level names ts x
+  alone_reads level names ts x h = took h (λ us is. s.alone {level = level} is)
+
+  module _ (inner : Inner) (spelled : Spelled inner) (names : List Entry) where
+    bracket_reads : (t : Token) (ts : List Token) → t.kind ≡ Mark signs.Open
+        → Reads (bracketed inner names ts) (IsReading s.atom names (t ∷ ts))
+    bracket_reads t ts e =
+        read_then (inner Whole names ts) (λ a. wanted signs.Close a.1 >>= λ rest. Ok (a.0, rest)) (spelled Whole names ts)
+        (λ a is. read_then (wanted signs.Close a.1) (λ rest. Ok (a.0, rest)) (wanted_reads signs.Close a.1)
+        (λ rest closes. gives (a.0, rest) (took_more t (took_then is (λ us term.
+        took_front closes (λ c close. took_end (s.bracketed (record { is = e }) term close)))))))
+
+    message_reads : (t : Token) (ts : List Token) → t.kind ≡ Mark signs.Mail
+        → Reads (message_read inner names ts) (IsReading s.atom names (t ∷ ts))
+    message_reads t ts e =
+        read_then (wanted signs.OpenSquare ts) (λ inside. inner Whole names inside >>= λ a. wanted signs.CloseSquare a.1
+        >>= λ rest. Ok (message a.0, rest)) (wanted_reads signs.OpenSquare ts)
+        (λ inside opens. read_then (inner Whole names inside) (λ a. wanted signs.CloseSquare a.1
+        >>= λ rest. Ok (message a.0, rest)) (spelled Whole names inside)
+        (λ a is. read_then (wanted signs.CloseSquare a.1) (λ rest. Ok (message a.0, rest))
+        (wanted_reads signs.CloseSquare a.1)
+        (λ rest closes. gives (message a.0, rest) (took_more t (took_front opens (λ o opening.
+        took_then is (λ us term. took_front closes (λ c close.
+        took_end (s.received (record { is = e }) opening term close)))))))))
+
+    leaf_reads : (sign : Sign) (t : Token) (ts : List Token) (o : Option TermForm) → t.kind ≡ Mark sign → leaf_of sign ≡ o
+        → Reads (leaf o t >>= λ a. Ok (a, ts)) (IsReading s.atom names (t ∷ ts))
+    leaf_reads sign t ts (Some a) e f = gives (a, ts) (took_more t (took_end (s.given {s = sign} (record { is = e }) f)))
+    leaf_reads sign t ts None e f = fails (error_at Expected t)
+
+    marked_reads : (sign : Sign) (t : Token) (ts : List Token) → t.kind ≡ Mark sign
+        → Reads (marked_atom inner names sign t ts) (IsReading s.atom names (t ∷ ts))
+    marked_reads signs.Open t ts e = bracket_reads t ts e
+    marked_reads signs.Mail t ts e = message_reads t ts e
+    marked_reads sign t ts e = leaf_reads sign t ts (leaf_of sign) e refl
+
+    name_reads : (name : Name) (t : Token) (ts : List Token) (o : Option Meaning) → t.kind ≡ Named name
+        → meaning_of text names name ≡ o
+        → Reads (named_atom o t >>= λ a. Ok (a, ts)) (IsReading s.atom names (t ∷ ts))
+    name_reads name t ts (Some meaning) e f =
+        gives (named_term meaning, ts) (took_more t (took_end (s.named {name = name} {meaning = meaning}
+        (record { is = e }) f)))
+    name_reads name t ts None e f = fails (error_at UnknownName t)
+
+    kind_reads : (kind : Kind) (t : Token) (ts : List Token) → t.kind ≡ kind
+        → Reads (atom_by inner text names kind t ts) (IsReading s.atom names (t ∷ ts))
+    kind_reads (Number v) t ts e = gives (number v, ts) (took_more t (took_end (s.numeral (record { is = e }))))
+    kind_reads (Named name) t ts e = name_reads name t ts (meaning_of text names name) e refl
+    kind_reads (Mark sign) t ts e = marked_reads sign t ts e
+    kind_reads kind t ts e = fails (error_at Expected t)
+
+    atom_reads : (ts : List Token) → Reads (atom inner text names ts) (IsReading s.atom names ts)
+    atom_reads [] = fails (error_in Expected [])
+    atom_reads (t ∷ ts) = kind_reads t.kind t ts refl
+
+    -- ---- chains
+
+    -- operands of this level are read so
+    abbrev Operands : s.Level → Reader → Type 0
+    Operands level operand = (ts : List Token) → Reads (operand ts) (IsReading level names ts)
+
+    -- an operator that is the first token
+    record Operator (kind : Chain) (ts : List Token) (joint : Joint) (rest : List Token) : Type 0 where
+      pub first : Token
+      pub split : ts ≡ first ∷ rest
+      pub is : joint_of kind first.kind ≡ Some joint
+
+    operator_in : (kind : Chain) (ts : List Token) (x : Joint × List Token) → joint_in kind ts ≡ Some x
+        → Operator kind ts x.0 x.1
+    operator_in kind [] x e = absurd (let no : None ≡ Some x = e in cc)
+    operator_in kind (t ∷ ts) x e = by (joint_of kind t.kind) refl e
+      where
+        by : (o : Option Joint) → joint_of kind t.kind ≡ o → option_map (λ joint. (joint, ts)) o ≡ Some x
+            → Operator kind (t ∷ ts) x.0 x.1
+        by None is f = absurd (let no : None ≡ Some x = f in cc)
+        by (Some joint) is f =
+            let same : (joint, ts) ≡ x = same_Some (joint, ts) x f in
+            record {
+              first = t;
+              split = ap (λ (y : Joint × List Token). t ∷ y.1) same;
+              is = is ∙ ap (λ (y : Joint × List Token). Some y.0) same;
+            }
+
+    -- after the operands so far
+    abbrev Further : Chain → (TermForm → Reader) → Type 0
+    Further kind further = (done ts : List Token) (left : TermForm) → s.IsTerm text (s.chain kind) names done left
+        → Reads (further left ts) (λ x. Took ts x.1 (λ us. s.IsTerm text (s.chain kind) names (done ++ us) x.0))
+
+    step_reads : (kind : Chain) (operand : Reader) (further : TermForm → Reader)
+        → Operands (s.tighter (s.chain kind)) operand → Further kind further
+        → (o : Option (Joint × List Token)) (done ts : List Token) (left : TermForm) → joint_in kind ts ≡ o
+        → s.IsTerm text (s.chain kind) names done left → Reads (chain_step further operand left ts o)
+        (λ x. Took ts x.1 (λ us. s.IsTerm text (s.chain kind) names (done ++ us) x.0))
+    step_reads kind operand further reads more None done ts left e is =
+        gives (left, ts) (took_end (subst (λ (l : List Token). s.IsTerm text (s.chain kind) names l left)
+        (sym (append-nil done)) is))
+    step_reads kind operand further reads more (Some x) done ts left e is =
+        let o = operator_in kind ts x e in
+        read_then (operand x.1) (λ right. further (join x.0 left right.0) right.1) (reads x.1)
+        (λ right found. implied (further (join x.0 left right.0) right.1)
+        (more (done ++ (o.first ∷ found.used)) right.1 (join x.0 left right.0) (s.joined o.first is o.is found.is))
+        (λ y t. took_of o.split (took_more o.first (took_past found (took t (λ vs term.
+        subst (λ (l : List Token). s.IsTerm text (s.chain kind) names l y.0)
+        (append_assoc done (o.first ∷ found.used) vs) term))))))
+
+    rest_reads : (n : ℕ) (kind : Chain) (operand : Reader) → Operands (s.tighter (s.chain kind)) operand
+        → Further kind (chain_rest n kind operand)
+    unfolding chain_rest
+    rest_reads zero kind operand reads done ts left is = fails (error_in TooLong ts)
+    rest_reads (suc n) kind operand reads done ts left is =
+        step_reads kind operand (chain_rest n kind operand) reads (rest_reads n kind operand reads) (joint_in kind ts)
+        done ts left refl is
+
+    chain_of_reads : (kind : Chain) (operand : Reader) → Operands (s.tighter (s.chain kind)) operand
+        → Operands (s.chain kind) (chain_of kind operand)
+    chain_of_reads kind operand reads ts =
+        read_then (operand ts) (λ first. chain_rest MAX_LINE_TOKENS kind operand first.0 first.1) (reads ts)
+        (λ first is. implied (chain_rest MAX_LINE_TOKENS kind operand first.0 first.1)
+        (rest_reads MAX_LINE_TOKENS kind operand reads is.used first.1 first.0 (s.alone {level = s.chain kind} is.is))
+        (λ y t. took_past is t))
+
+    -- ---- comparisons and inverses
+
+    record Comparing (ts : List Token) (comparison : Comparison) (rest : List Token) : Type 0 where
+      pub first : Token
+      pub split : ts ≡ first ∷ rest
+      pub is : comparison_of first.kind ≡ Some comparison
+
+    comparing_in : (ts : List Token) (x : Comparison × List Token) → comparison_in ts ≡ Some x → Comparing ts x.0 x.1
+    comparing_in [] x e = absurd (let no : None ≡ Some x = e in cc)
+    comparing_in (t ∷ ts) x e = by (comparison_of t.kind) refl e
+      where
+        by : (o : Option Comparison) → comparison_of t.kind ≡ o
+            → option_map (λ comparison. (comparison, ts)) o ≡ Some x → Comparing (t ∷ ts) x.0 x.1
+        by None is f = absurd (let no : None ≡ Some x = f in cc)
+        by (Some comparison) is f =
+            let same : (comparison, ts) ≡ x = same_Some (comparison, ts) x f in
+            record {
+              first = t;
+              split = ap (λ (y : Comparison × List Token). t ∷ y.1) same;
+              is = is ∙ ap (λ (y : Comparison × List Token). Some y.0) same;
+            }
+
+    abbrev side : Reader
+    side = chain_of chains.Sum (chain_of chains.Product (atom inner text names))
+
+    side_reads : Operands (s.chain chains.Sum) side
+    side_reads = chain_of_reads chains.Sum (chain_of chains.Product (atom inner text names))
+        (chain_of_reads chains.Product (atom inner text names) atom_reads)
+
+    compare_reads : Operands s.compared (compare_read inner text names)
+    compare_reads ts =
+        read_then (side ts) (λ left. compare_rest side left.0 left.1) (side_reads ts)
+        (λ left is. by_option (comparison_in left.1)
+        (λ x. side x.1 >>= λ right. Ok (binary (Compare x.0) left.0 right.0, right.1)) (Ok left)
+        (λ x e. let o = comparing_in left.1 x e in
+        read_then (side x.1) (λ right. Ok (binary (Compare x.0) left.0 right.0, right.1)) (side_reads x.1)
+        (λ right other. gives (binary (Compare x.0) left.0 right.0, right.1) (took_then is (λ us a.
+        took_of o.split (took_more o.first (took other (λ vs b. s.beside o.first a o.is b)))))))
+        (λ e. gives left (alone_reads s.compared names ts left is)))
+
+    inverse_reads : Operands s.inverted (inverse_read inner text names)
+    inverse_reads ts =
+        by_option (after signs.Not ts) (λ rest. inner Inverse names rest >>= λ a. Ok (inverse a.0, a.1))
+        (compare_read inner text names ts)
+        (λ rest e. read_then (inner Inverse names rest) (λ a. Ok (inverse a.0, a.1)) (spelled Inverse names rest)
+        (λ a is. gives (inverse a.0, a.1)
+        (took_front (after_front signs.Not ts rest e) (λ o sign. took is (λ us term. s.not_so sign term)))))
+        (λ e. implied (compare_read inner text names ts) (compare_reads ts) (λ x is. alone_reads s.inverted names ts x is))
+
+    operand_reads : (kind : Chain) → Operands (s.tighter (s.chain kind)) (operand_read inner text names kind)
+    operand_reads chains.Product = atom_reads
+    operand_reads chains.Sum = chain_of_reads chains.Product (atom inner text names) atom_reads
+    operand_reads chains.Both = inverse_reads
+    operand_reads chains.Either = chain_of_reads chains.Both (inverse_read inner text names) inverse_reads
+
+    either_reads : Operands (s.chain chains.Either) (chain_read inner text names chains.Either)
+    either_reads = chain_of_reads chains.Either (operand_read inner text names chains.Either) (operand_reads chains.Either)
+
+    -- ---- whole terms
+
+    plain_reads : Operands s.whole (plain_read inner text names)
+    plain_reads ts =
+        read_then (chain_read inner text names chains.Either ts) (λ x. choice_rest inner text names x.0 x.1) (either_reads ts)
+        (λ x is. by_option (after signs.If x.1) (λ rest. choice_read inner text names x.0 rest) (Ok x)
+        (λ rest e. read_then (chain_read inner text names chains.Either rest) (λ t. wanted signs.Else t.1
+        >>= λ other. inner Whole names other >>= λ y. Ok (choice t.0 x.0 y.0, y.1)) (either_reads rest)
+        (λ t test. read_then (wanted signs.Else t.1) (λ other. inner Whole names other >>= λ y. Ok (choice t.0 x.0 y.0, y.1))
+        (wanted_reads signs.Else t.1)
+        (λ other elses. read_then (inner Whole names other) (λ y. Ok (choice t.0 x.0 y.0, y.1)) (spelled Whole names other)
+        (λ y last. gives (choice t.0 x.0 y.0, y.1) (took_then is (λ xs a.
+        took_front (after_front signs.If x.1 rest e) (λ i if_sign. took_then test (λ us b.
+        took_front elses (λ o else_sign. took last (λ vs c. s.chosen a if_sign b else_sign c))))))))))
+        (λ e. gives x (alone_reads s.whole names ts x is)))
+
+    count_reads : (t : Token) (ts : List Token) → s.IsSign signs.Count t
+        → Reads (count_read inner text names ts) (IsReading s.whole names (t ∷ ts))
+    count_reads t ts sign =
+        read_then (new_name text makers.Loop names ts) (λ more. wanted signs.Colon more.1
+        >>= λ rest. inner Whole more.0 rest >>= λ a. Ok (count a.0, a.1)) (new_reads makers.Loop names ts)
+        (λ more new. read_then (wanted signs.Colon more.1) (λ rest. inner Whole more.0 rest >>= λ a. Ok (count a.0, a.1))
+        (wanted_reads signs.Colon more.1)
+        (λ rest colons. read_then (inner Whole more.0 rest) (λ a. Ok (count a.0, a.1)) (spelled Whole more.0 rest)
+        (λ a is. gives (count a.0, a.1) (took_more t (took_new new (λ n is_new.
+        took_front colons (λ c colon. took is (λ us term. s.counted sign is_new colon term))))))))
+
+    whole_reads : Operands s.whole (whole_read inner text names)
+    whole_reads ts =
+        by_option (after signs.Count ts) (λ rest. count_read inner text names rest) (plain_read inner text names ts)
+        (λ rest e. let f = after_front signs.Count ts rest e in
+        implied (count_read inner text names rest) (count_reads f.first rest f.sign) (λ x is. took_of f.split is))
+        (λ e. plain_reads ts)
+
+  part_reads : (room : ℕ) → Spelled (part room text)
+  unfolding part
+  part_reads zero grade names ts = fails (error_in TooDeep ts)
+  part_reads (suc room) Whole names ts = whole_reads (part room text) (part_reads room) names ts
+  part_reads (suc room) Inverse names ts = inverse_reads (part room text) (part_reads room) names ts
+
+  pub term_reads : (names : List Entry) (ts : List Token)
+      → Reads (term_read text names ts) (IsReading s.whole names ts)
+  term_reads names ts = part_reads MAX_PARTS Whole names ts

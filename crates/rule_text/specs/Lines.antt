@@ -1,0 +1,50 @@
+-- The lines of the statements of a text (docs/RULES.md, "Lines and instructions"), in the order of the text.
+use Rattle.std.specs.Prelude.{ℕ, ◌+◌, Bool, true, false, if◌then◌else◌, List, [], ◌∷◌, ◌++◌}
+use Rattle.rule_text.specs.declared.signs.Sign.TheVariants as signs
+use Rattle.rule_text.specs.declared.lexemes.Kind.{Kind}
+use Rattle.rule_text.specs.declared.lexemes.Kind.TheVariants.{Mark, LineStart, TextEnd}
+use Rattle.rule_text.specs.declared.lexemes.Token.{Token}
+use Rattle.rule_text.specs.declared.lines.Spot.{Spot}
+use Rattle.rule_text.specs.declared.lines.Spot.TheVariants.{Front, Counting, Inside}
+use Rattle.rule_text.specs.Forms.{StatementForm, nothing, sequence, let_in, assign, branch, each, send_all, send_to}
+use Rattle.rule_text.specs.Tokens.{tokens_of}
+
+-- a statement can come at the start of a line, and after a colon that isn't that of a count
+abbrev pub spot_after : Spot → Kind → Spot
+spot_after Counting (Mark signs.Colon) = Inside
+spot_after spot (Mark signs.Colon) = Front
+spot_after spot (Mark signs.Count) = Counting
+spot_after spot LineStart = Front
+spot_after Counting kind = Counting
+spot_after spot kind = Inside
+
+-- the tokens that begin no statement there
+abbrev pub begins_statement : Kind → Bool
+begins_statement LineStart = false
+begins_statement TextEnd = false
+begins_statement (Mark signs.State) = false
+begins_statement (Mark signs.Else) = false
+begins_statement kind = true
+
+-- the line of the statement that begins with a token
+abbrev pub line_at : Spot → Token → List ℕ
+line_at Front t = if begins_statement t.kind then t.line ∷ [] else []
+line_at spot t = []
+
+abbrev pub lines_from : Spot → List Token → List ℕ
+lines_from spot [] = []
+lines_from spot (t ∷ ts) = line_at spot t ++ lines_from (spot_after spot t.kind) ts
+
+abbrev pub statement_lines : List ℕ → List ℕ
+statement_lines text = lines_from Inside (tokens_of text)
+
+-- how many statements there are
+abbrev pub statements_in : StatementForm → ℕ
+statements_in nothing = 0
+statements_in (sequence a b) = statements_in a + statements_in b
+statements_in (let_in e rest) = statements_in rest + 1
+statements_in (assign a) = 1
+statements_in (branch t a b) = statements_in a + statements_in b + 1
+statements_in (each body) = statements_in body + 1
+statements_in (send_all e) = 1
+statements_in (send_to e k) = 1
