@@ -1,8 +1,6 @@
 -- How many entries the events of a scenario add.
-use Rattle.std.proofs.Common.{◌≡◌, ℕ, zero, suc, ◌+◌, ◌*◌, ◌<◌, ◌≤◌, List, [], ◌∷◌, ◌++◌, length, map, arith, ap, refl, inl, inr}
+use Rattle.std.proofs.Common.{◌≡◌, ℕ, zero, suc, ◌+◌, ◌*◌, ◌≤◌, List, [], ◌∷◌, ◌++◌, length, map, arith, ap, refl}
 use Rattle.std.specs.Prelude.{Bool, ◌==◌, if◌then◌else◌, true, false, flat_map}
-use Rattle.std.proofs.lemmas.Bool.Decides.{nat_tests}
-use Rattle.std.proofs.lemmas.Bool.{cases_eq}
 use Rattle.bench_core.specs.State.{Change, Load as LoadChange}
 use Rattle.bench_workers.specs.Events.{Event, Stage, Pulse}
 use Rattle.bench_workers.specs.Runs.{entries_after}
@@ -15,64 +13,11 @@ use Rattle.scenario_text.specs.Spelling.{load_count}
 use Rattle.scenario_text.specs.Views.{load_of}
 use Rattle.bench_scenario.specs.Coins.{coins_of}
 use Rattle.bench_scenario.specs.Events.{changes_at, corrupt_events, events_at, events_of, events_to, load_events, unload_events}
+use Rattle.bench_scenario.specs.Noise.{noise_events}
+use Rattle.scenario_text.specs.Noise.{noise_count}
 use Rattle.bench_scenario.proofs.FitLemmas.{entries_append}
-
--- the weight of what stands at a pulse
-abbrev weight_at : {A : Type 0} → (A → ℕ) → (A → ℕ) → ℕ → List A → ℕ
-weight_at pulse weight p [] = 0
-weight_at pulse weight p (x ∷ xs) = (if pulse x == p then weight x else 0) + weight_at pulse weight p xs
-
--- of what stands at the pulses from 1 to n
-abbrev weight_to : {A : Type 0} → (A → ℕ) → (A → ℕ) → ℕ → List A → ℕ
-weight_to pulse weight zero xs = 0
-weight_to pulse weight (suc n) xs = weight_to pulse weight n xs + weight_at pulse weight (suc n) xs
-
-abbrev weight_of : {A : Type 0} → (A → ℕ) → List A → ℕ
-weight_of weight [] = 0
-weight_of weight (x ∷ xs) = weight x + weight_of weight xs
-
-abbrev once_to : ℕ → ℕ → ℕ → ℕ
-once_to pulse weight zero = 0
-once_to pulse weight (suc n) = once_to pulse weight n + (if pulse == suc n then weight else 0)
-
-other_once : (pulse n weight : ℕ) → (pulse ≡ n → ⊥) → (if pulse == n then weight else 0) ≡ 0
-other_once pulse n weight other = grind (arith, nat_tests)
-
-not_yet : (pulse weight n : ℕ) → n < pulse → once_to pulse weight n ≡ 0
-not_yet pulse weight zero early = refl
-not_yet pulse weight (suc n) early =
-    let before = not_yet pulse weight n (omega arith) in
-    let here = other_once pulse (suc n) weight (λ same. omega arith) in
-    omega arith
-
-at_most_weight : (b : Bool) (weight : ℕ) → (if b then weight else 0) ≤ weight
-at_most_weight true weight = omega arith
-at_most_weight false weight = omega arith
-
-once_at_most : (pulse weight n : ℕ) → once_to pulse weight n ≤ weight
-once_at_most pulse weight zero = omega arith
-once_at_most pulse weight (suc n) =
-    let here = at_most_weight (pulse == suc n) weight in
-    let before = once_at_most pulse weight n in
-    elim (cases_eq pulse (suc n)) [
-      | inl same ↦ let none = not_yet pulse weight n (omega arith) in omega arith
-      | inr other ↦ let none = other_once pulse (suc n) weight other in omega arith
-    ]
-
-first_apart : {A : Type 0} (pulse weight : A → ℕ) (x : A) (xs : List A) (n : ℕ)
-    → weight_to pulse weight n (x ∷ xs) ≡ once_to (pulse x) (weight x) n + weight_to pulse weight n xs
-first_apart pulse weight x xs zero = refl
-first_apart pulse weight x xs (suc n) = let before = first_apart pulse weight x xs n in omega arith
-
-each_once : {A : Type 0} (pulse weight : A → ℕ) (xs : List A) (n : ℕ)
-    → weight_to pulse weight n xs ≤ weight_of weight xs
-each_once pulse weight [] zero = omega arith
-each_once pulse weight [] (suc n) = let before = each_once pulse weight [] n in omega arith
-each_once pulse weight (x ∷ xs) n =
-    let first = once_at_most (pulse x) (weight x) n in
-    let rest = each_once pulse weight xs n in
-    let apart = first_apart pulse weight x xs n in
-    omega arith
+use Rattle.bench_scenario.proofs.NoiseCounts.{noise_total, total_to}
+use Rattle.bench_scenario.proofs.Weights.{each_once, load_pulse, weight_at, weight_of, weight_to}
 
 -- ---- the entries of a pulse
 
@@ -104,9 +49,6 @@ entries_flat f pulse weight p each (x ∷ xs) =
     let rest = entries_flat f pulse weight p each xs in
     omega arith
 
-abbrev load_pulse : Load → ℕ
-load_pulse l = l.pulse
-
 abbrev unload_pulse : Unload → ℕ
 unload_pulse u = u.pulse
 
@@ -118,7 +60,7 @@ one x = 1
 
 entries_at : (s : Scenario) (p : ℕ) → entries_after (events_at s p)
     ≡ weight_at load_pulse load_weight p s.loads.items + weight_at unload_pulse one p s.unloads.items + weight_at
-    corrupt_pulse one p s.corruptions.items + 2
+    corrupt_pulse one p s.corruptions.items + 2 + entries_after (noise_events s p)
 entries_at s p =
     let loads = entries_flat (load_events p) load_pulse load_weight p
     (λ l. entries_of_load (l.pulse == p) l.program l.nodes.items) s.loads.items in
@@ -130,12 +72,13 @@ entries_at s p =
     (flat_map (unload_events p) s.unloads.items ++ flat_map (corrupt_events p) s.corruptions.items) in
     let later = entries_append (flat_map (unload_events p) s.unloads.items)
     (flat_map (corrupt_events p) s.corruptions.items) in
-    let all = entries_append (changes_at s p) (Pulse (coins_of s p) ∷ []) in
+    let noise = entries_append (noise_events s p) (Pulse (coins_of s p) ∷ []) in
+    let all = entries_append (changes_at s p) (noise_events s p ++ Pulse (coins_of s p) ∷ []) in
     omega arith
 
 entries_to : (s : Scenario) (n : ℕ) → entries_after (events_to s n)
     ≡ weight_to load_pulse load_weight n s.loads.items + weight_to unload_pulse one n s.unloads.items + weight_to
-    corrupt_pulse one n s.corruptions.items + 2 * n
+    corrupt_pulse one n s.corruptions.items + 2 * n + total_to (λ p. entries_after (noise_events s p)) n
 entries_to s zero = refl
 entries_to s (suc n) =
     let before = entries_to s n in
@@ -151,12 +94,14 @@ weight_of_ones : {A : Type 0} (xs : List A) → weight_of one xs ≡ length xs
 weight_of_ones [] = refl
 weight_of_ones (x ∷ xs) = let rest = weight_of_ones xs in omega arith
 
--- a load counts once for each node, everything else once, and a pulse twice
+-- a load counts once for each node, everything else once, a pulse twice, and noise once for each node and pulse
 pub entries_within : (s : Scenario) → entries_after (events_of s)
     ≤ load_count (map load_of s.loads.items) + length s.unloads.items + length s.corruptions.items + 2 * s.pulses
+    + noise_count s.pulses (map load_of s.loads.items)
 entries_within s =
     let all = entries_to s s.pulses in
     let loads = each_once load_pulse load_weight s.loads.items s.pulses in
     let unloads = each_once unload_pulse one s.unloads.items s.pulses in
     let corruptions = each_once corrupt_pulse one s.corruptions.items s.pulses in
+    let noise = noise_total s s.pulses in
     omega (arith, weight_of_loads s.loads.items, weight_of_ones s.unloads.items, weight_of_ones s.corruptions.items)

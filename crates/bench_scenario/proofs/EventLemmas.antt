@@ -18,6 +18,7 @@ use Rattle.scenario_text.specs.Views.{FitsLoad, corrupt_of, frame_of, load_of}
 use Rattle.scenario_text.proofs.EntryLemmas.{Each, HasCoin, HasImage, HasNode, HasNodes, coins_there, corruptions_there, loads_fit, loads_there, unloads_there}
 use Rattle.bench_scenario.specs.Coins.{coin_of, coins_of, drawn, keyed, places_below, replaced}
 use Rattle.bench_scenario.specs.Events.{changes_at, corrupt_events, events_at, events_of, events_to, load_events, unload_events}
+use Rattle.bench_scenario.specs.Noise.{has_noise, noise_events, noise_of, noise_program}
 use Rattle.bench_scenario.specs.Runs.{bench_of}
 use Rattle.bench_scenario.proofs.CoinLemmas.{places_length}
 use Rattle.bench_scenario.proofs.ListLemmas.{map_more}
@@ -118,6 +119,17 @@ changes_fit text s p reads =
     (each_flat (Fits b) (λ (c : Corrupt). HasImage (frame_of s) (corrupt_of c)) (corrupt_events p) s.corruptions.items
     (corruptions_fit_at s p) (corruptions_there text s reads)))
 
+places_each : (P : ℕ → Type 0) (n : ℕ) → ((i : ℕ) → i < n → P i) → Each P (places_below n)
+places_each P zero each = tt
+places_each P (suc n) each = each_append P (places_below n) (n ∷ []) (places_each P n (λ i low. each i (omega arith)))
+    (each n (omega arith), tt)
+
+noise_fits : (s : Scenario) (p : ℕ) → Each (Fits (bench_of s)) (noise_events s p)
+noise_fits s p = each_flat (Fits (bench_of s)) (λ i. i < s.nodes) (noise_of s p) (places_below s.nodes)
+    (λ i there. each_if (bench_of s) (has_noise s p i) (Stage (LoadChange i (noise_program s p i)) ∷ [])
+    (load_fits (bench_of s) (noise_program s p i) i refl there, tt))
+    (places_each (λ i. i < s.nodes) s.nodes (λ i low. low))
+
 -- with any key
 events_fit_to : (text : List ℕ) (s : Scenario) (key n : ℕ) → ReadsText text s
     → Each (Fits (bench_of s)) (events_to (keyed s key) n)
@@ -126,8 +138,10 @@ events_fit_to text s key (suc n) reads =
     let b = bench_of s in
     let k = keyed s key in
     each_append (Fits b) (events_to k n) (events_at k (suc n)) (events_fit_to text s key n reads)
-    (each_append (Fits b) (changes_at s (suc n)) (Pulse (coins_of k (suc n)) ∷ []) (changes_fit text s (suc n) reads)
-    (pulse_fits k (suc n) (coins_there text s reads), tt))
+    (each_append (Fits b) (changes_at s (suc n)) (noise_events k (suc n) ++ Pulse (coins_of k (suc n)) ∷ [])
+    (changes_fit text s (suc n) reads)
+    (each_append (Fits b) (noise_events k (suc n)) (Pulse (coins_of k (suc n)) ∷ []) (noise_fits k (suc n))
+    (pulse_fits k (suc n) (coins_there text s reads), tt)))
 
 pub keyed_fit : (text : List ℕ) (s : Scenario) (key : ℕ) → ReadsText text s
     → Each (Fits (bench_of s)) (events_of (keyed s key))

@@ -5,7 +5,7 @@ use Rattle.std.proofs.lemmas.Bool.{cases_lt}
 use Rattle.std.proofs.lemmas.List.{drop_all, drop-drop, length-drop, take_all}
 use Rattle.bench_core.specs.Told.{PulseTold}
 use Rattle.bench_scenario.specs.Verdicts.{first_clock, are_one, counting}
-use Rattle.bench_scenario.specs.InStep.{HasClock, HaveOne, EachWentOn, InStepFrom, IsInStepSince}
+use Rattle.bench_scenario.specs.InStep.{HaveOne, EachWentOn, InStepFrom, IsInStepSince}
 use Rattle.bench_scenario.specs.inner.InStep.{Begins, StaysFrom, StaysSince}
 use Rattle.bench_scenario.proofs.VerdictLaws.{Tells, first_there, none_there, one_of, tells}
 

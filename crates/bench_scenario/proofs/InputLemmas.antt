@@ -1,5 +1,5 @@
 -- What a node runs in a pulse of a scenario.
-use Rattle.std.proofs.Common.{◌≡◌, ℕ, zero, suc, ◌+◌, ◌<◌, ◌≤◌, List, [], ◌∷◌, ◌++◌, length, map, Option, IfSome, arith, refl, sym, ap, ◌∙◌, subst}
+use Rattle.std.proofs.Common.{◌≡◌, ℕ, zero, suc, ◌<◌, ◌≤◌, List, [], ◌∷◌, ◌++◌, length, map, Option, IfSome, arith, refl, sym, ap, ◌∙◌, subst}
 use Rattle.std.specs.Prelude.{Bool, true, false, ◌==◌, if◌then◌else◌, flat_map, slice_index}
 use Rattle.std.specs.FinMap.{get}
 use Rattle.std.proofs.lemmas.List.{length-map}
@@ -15,14 +15,12 @@ use Rattle.bench_core.proofs.Sound.{sound_replay}
 use Rattle.bench_workers.specs.Events.{Event, Stage, Pulse}
 use Rattle.bench_workers.specs.Opening.{OpensPulse, pulses_in}
 use Rattle.bench_workers.proofs.OpeningLemmas.{pulses-append}
-use Rattle.scenario_text.specs.declared.scenario.Load.{Load}
-use Rattle.scenario_text.specs.declared.scenario.Unload.{Unload}
-use Rattle.scenario_text.specs.declared.scenario.Corrupt.{Corrupt}
 use Rattle.scenario_text.specs.declared.scenario.Scenario.{Scenario}
 use Rattle.bench_scenario.specs.declared.inputs.NodeInput.{NodeInput}
-use Rattle.bench_scenario.specs.Coins.{coins_of}
+use Rattle.bench_scenario.specs.Coins.{coins_of, places_below}
 use Rattle.bench_scenario.specs.Events.{changes_at, corrupt_events, events_at, events_of, events_to, load_events, unload_events}
 use Rattle.bench_scenario.specs.Inputs.{FitsShape, IsInputOf, setting_in}
+use Rattle.bench_scenario.specs.Noise.{has_noise, noise_events, noise_of}
 use Rattle.bench_scenario.specs.Runs.{bench_of}
 
 -- ---- pulses
@@ -54,6 +52,9 @@ none_changed s p =
     (none_flat (unload_events p) s.unloads.items (λ u. none_if (u.pulse == p) _ refl))
     (none_flat (corrupt_events p) s.corruptions.items (λ c. none_if (c.pulse == p) _ refl)))
 
+none_noise : (s : Scenario) (p : ℕ) → NoPulse (noise_events s p)
+none_noise s p = none_flat (noise_of s p) (places_below s.nodes) (λ i. none_if (has_noise s p i) _ refl)
+
 -- so many pulses as there are
 pub pulses_to : (s : Scenario) (n : ℕ) → pulses_in (events_to s n) ≡ n
 pulses_to s zero = refl
@@ -61,7 +62,9 @@ pulses_to s (suc n) =
     let before = pulses_to s n in
     let changes = none_changed s (suc n) in
     let both = pulses-append (events_to s n) (events_at s (suc n)) in
-    let last = pulses-append (changes_at s (suc n)) (Pulse (coins_of s (suc n)) ∷ []) in
+    let noise = none_noise s (suc n) in
+    let rest = pulses-append (changes_at s (suc n)) (noise_events s (suc n) ++ Pulse (coins_of s (suc n)) ∷ []) in
+    let last = pulses-append (noise_events s (suc n)) (Pulse (coins_of s (suc n)) ∷ []) in
     omega arith
 
 pub last_there : (s : Scenario) (es : List Event) (pulse : ℕ) → es ≡ events_of s → pulse ≤ s.pulses

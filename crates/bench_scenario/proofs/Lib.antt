@@ -5,10 +5,15 @@ mod FitLemmas
 mod InStepLemmas
 pub mod InputLemmas
 mod ListLemmas
+mod NoiseCounts
+mod NoiseLemmas
+mod NoisyLemmas
 mod RowLemmas
 mod RuleLaws
 pub mod RunLemmas
+mod SayLengths
 mod StreamLemmas
 mod VerdictLaws
 mod VerdictLemmas
 mod WatchLemmas
+mod Weights

@@ -1,7 +1,8 @@
 -- Rows into which changes are put.
-use Rattle.std.proofs.Common.{◌≡◌, ◌≢◌, ℕ, zero, suc, ◌+◌, ◌<◌, List, [], ◌∷◌, ◌++◌, length, map, drop, ap, arith, refl, sym, subst, ◌∙◌, Bool, true, false}
+use Rattle.std.proofs.Common.{◌≡◌, ◌≢◌, ℕ, zero, suc, ◌+◌, ◌<◌, List, [], ◌∷◌, ◌++◌, length, map, ap, arith, refl, sym, subst, ◌∙◌, Bool, true, false}
 use Rattle.std.specs.Prelude.{◌==◌, if◌then◌else◌, flat_map, get_or, slice_set}
 use Rattle.std.proofs.lemmas.Bool.{cond-false, cond-true, eqb-false, eqb-true}
+use Rattle.std.proofs.Common.{append_assoc}
 use Rattle.std.proofs.lemmas.List.{append-nil, get_or-map, length-map, map-append}
 use Rattle.bench_core.specs.State.{Load as LoadChange}
 use Rattle.bench_workers.specs.Events.{Event, Pulse, Stage, event_of}
@@ -10,6 +11,7 @@ use Rattle.scenario_text.specs.declared.scenario.Load.{Load}
 use Rattle.scenario_text.specs.declared.scenario.Scenario.{Scenario}
 use Rattle.bench_scenario.specs.Coins.{coins_of, keyed}
 use Rattle.bench_scenario.specs.Events.{changes_at, events_to, load_events}
+use Rattle.bench_scenario.specs.Noise.{noise_events}
 use Rattle.bench_scenario.specs.inner.Rows.{Adds, AreChanges, Grew, of_pulse, told}
 
 -- ---- a row is replaced
@@ -128,11 +130,16 @@ row_of items s rows place row below at are =
 
 pub one_pulse_more : (s : Scenario) (key before : ℕ) (old row new : List Event)
     → new ≡ old ++ (row ++ Pulse (coins_of (keyed s key) (before + 1)) ∷ []) → old ≡ events_to (keyed s key) before
-    → row ≡ changes_at s (suc before) → new ≡ events_to (keyed s key) (before + 1)
+    → row ≡ changes_at s (suc before) ++ noise_events (keyed s key) (before + 1)
+    → new ≡ events_to (keyed s key) (before + 1)
 one_pulse_more s key before old row new added so_far staged =
     let k = keyed s key in
     let next : suc before ≡ before + 1 = omega arith in
+    let pulse = Pulse (coins_of k (before + 1)) ∷ [] in
+    let changes = changes_at s (suc before) in
+    let noise = noise_events k (before + 1) in
     subst (λ n. new ≡ events_to k n) next
-    (added ∙ (ap (λ es. es ++ (row ++ Pulse (coins_of k (before + 1)) ∷ [])) so_far
-    ∙ (ap (λ es. events_to k before ++ (es ++ Pulse (coins_of k (before + 1)) ∷ [])) staged
-    ∙ ap (λ n. events_to k before ++ (changes_at s (suc before) ++ Pulse (coins_of k n) ∷ [])) (sym next))))
+    (added ∙ (ap (λ es. es ++ (row ++ pulse)) so_far
+    ∙ (ap (λ es. events_to k before ++ (es ++ pulse)) staged
+    ∙ (ap (λ es. events_to k before ++ es) (append_assoc changes noise pulse)
+    ∙ ap (λ n. events_to k before ++ (changes ++ (noise_events k n ++ Pulse (coins_of k n) ∷ []))) (sym next)))))

@@ -40,6 +40,7 @@ pub fault_due : (text : List ℕ) (s : Scenario) (place : ℕ) (refusal : RunRef
 fault_due text s place refusal reads fault ungated =
     let changes = reads.2.spelled.changes in
     let pulses = reads.2.spelled.frame.pulses.2 in
+    let noise = reads.2.spelled.noise.few in
     let within = entries_within s in
     none_refused (bench_of s) (events_of s) place refusal (events_fit text s reads)
     (omega (arith, length-map s.corruptions.items corrupt_of)) ungated fault
@@ -57,6 +58,7 @@ pub keyed_due : (text : List ℕ) (s : Scenario) (key : ℕ) (bench : Setup) (es
 keyed_due text s key bench es place refusal reads same listed fault ungated =
     let changes = reads.2.spelled.changes in
     let pulses = reads.2.spelled.frame.pulses.2 in
+    let noise = reads.2.spelled.noise.few in
     let within = entries_within (keyed s key) in
     none_refused (bench_of s) (events_of (keyed s key)) place refusal (keyed_fit text s key reads)
     (omega (arith, length-map s.corruptions.items corrupt_of)) ungated

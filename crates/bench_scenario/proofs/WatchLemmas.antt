@@ -1,5 +1,5 @@
 -- What a watched run shows is of the scenario's own bench and events.
-use Rattle.std.proofs.Common.{◌≡◌, ℕ, List, subst}
+use Rattle.std.proofs.Common.{◌≡◌, List, subst}
 use Rattle.bench_core.specs.Setup.{Setup}
 use Rattle.bench_workers.specs.Events.{Event}
 use Rattle.bench_workers.specs.Watching.{EndsAt, Seen}

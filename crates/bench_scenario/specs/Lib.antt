@@ -1,4 +1,5 @@
 pub mod Coins
+pub mod Noise
 pub mod Events
 pub mod InStep
 pub mod Inputs

@@ -13,8 +13,11 @@ use Rattle.scenario_text.specs.Texts.{IsDue, ReadsText}
 use Rattle.scenario_text.specs.Views.{draft_of, extent_of, frame_of}
 use Rattle.bench_scenario.specs.declared.reading.TextFault.{TextFault}
 use Rattle.bench_scenario.specs.declared.reading.TextFault.TheVariants as text_faults
+use Rattle.bench_scenario.specs.declared.run.ReportFault.{ReportFault}
+use Rattle.bench_scenario.specs.declared.run.ReportFault.TheVariants as report_faults
 use Rattle.bench_scenario.specs.declared.run.ScenarioFault.{ScenarioFault}
 use Rattle.bench_scenario.specs.declared.run.ScenarioFault.TheVariants as faults
+use Rattle.bench_scenario.specs.declared.run.TheConstants.{MOST_BYTES}
 use Rattle.bench_scenario.specs.Events.{events_of}
 use Rattle.bench_scenario.specs.Reports.{all_agree, report_of}
 
@@ -22,19 +25,23 @@ use Rattle.bench_scenario.specs.Reports.{all_agree, report_of}
 abbrev pub bench_of : Scenario → Setup
 bench_of s = setup_with (extent_of (frame_of s)) (rule_of (frame_of s)) (clock_insns (frame_of s) (draft_of s).clock)
 
--- the line is the report of the run of the scenario that the text says
-pub record Reports (text line : List ℕ) : Type 0 where
-  pub scenario : Scenario
+-- the line is the report of the run of this scenario, and the verdict is whether no pulse's verdict on agreement is no
+pub record ReportsRun (s : Scenario) (line : List ℕ) (agrees : Bool) : Type 0 where
   pub records : List PulseTold
   pub memories : List (List ℕ)
-  pub reads : ReadsText text scenario
-  pub run : IsRun (bench_of scenario) (events_of scenario) records memories
-  pub whole : line ≡ report_of (frame_of scenario) (is_some scenario.clock) records
+  pub run : IsRun (bench_of s) (events_of s) records memories
+  pub whole : line ≡ report_of (frame_of s) (is_some s.clock) records
+  pub verdict : agrees ≡ all_agree (frame_of s) (is_some s.clock) records
 
--- and whether no pulse's verdict on agreement is no
+-- the same of the scenario that the text says
 pub record ReportsVerdict (text line : List ℕ) (agrees : Bool) : Type 0 where
-  pub told : Reports text line
-  pub verdict : agrees ≡ all_agree (frame_of told.scenario) (is_some told.scenario.clock) told.records
+  pub scenario : Scenario
+  pub reads : ReadsText text scenario
+  pub told : ReportsRun scenario line agrees
+
+-- the line is the report of the run of the scenario that the text says
+abbrev pub Reports : List ℕ → List ℕ → Type 0
+Reports text line = (agrees : Bool) × ReportsVerdict text line agrees
 
 -- no event of a scenario is refused for itself
 abbrev pub IsMemoryOrThread : RunRefusal → Type 0
@@ -47,12 +54,14 @@ IsMemoryOrThread refusals.HistoryFull = ⊥
 IsMemoryOrThread refusals.BadCoins = ⊥
 IsMemoryOrThread refusals.GateShut = ⊥
 
--- the run of the scenario that the text says stopped at that event, and only for lack of memory or of a thread
-pub record StopsAt (text : List ℕ) (event : ℕ) (refusal : RunRefusal) : Type 0 where
-  pub scenario : Scenario
-  pub reads : ReadsText text scenario
-  pub fault : IsFault (bench_of scenario) (events_of scenario) event refusal
+-- the run of this scenario stopped at that event, and only for lack of memory or of a thread
+pub record StopsRun (s : Scenario) (event : ℕ) (refusal : RunRefusal) : Type 0 where
+  pub fault : IsFault (bench_of s) (events_of s) event refusal
   pub want : IsMemoryOrThread refusal
+
+-- the same of the scenario that the text says
+abbrev pub StopsAt : List ℕ → ℕ → RunRefusal → Type 0
+StopsAt text event refusal = (s : Scenario) × ReadsText text s × StopsRun s event refusal
 
 -- if it was the run that stopped, it stopped for lack of memory or of a thread
 abbrev pub StopsForWant : ScenarioFault → Type 0
@@ -62,7 +71,17 @@ StopsForWant (faults.Run stop) = IsMemoryOrThread stop.fault
 StopsForWant (faults.Write written) = Unit {0}
 StopsForWant faults.Memory = Unit {0}
 
--- the whole report; its first bytes if a write failed, as many as the fault says; nothing at every other fault
+-- What the run of a scenario leaves: the whole report and its verdict; the first bytes of the report if a write failed,
+-- as many as the fault says; nothing at every other fault.
+abbrev pub LeavesRun : Option (List ℕ) → Option (List ℕ) → Scenario → Result Bool ReportFault → Type 0
+LeavesRun old new s (Ok agrees) = (line : List ℕ) × ReportsRun s line agrees × Appends old new line
+LeavesRun old new s (Err (report_faults.Write written)) =
+    (line : List ℕ) × ((agrees : Bool) × ReportsRun s line agrees) × (written < length line)
+    × Appends old new (take written line)
+LeavesRun old new s (Err (report_faults.Run stop)) = StopsRun s stop.event stop.fault × Keeps old new
+LeavesRun old new s (Err report_faults.Memory) = Keeps old new
+
+-- the same of the text of a scenario, and nothing if it says none
 abbrev pub LeavesReport : Option (List ℕ) → Option (List ℕ) → List ℕ → Result (Unit {0}) ScenarioFault → Type 0
 LeavesReport old new text (Ok done) = (line : List ℕ) × Reports text line × Appends old new line
 LeavesReport old new text (Err (faults.Write written)) =
@@ -72,13 +91,9 @@ LeavesReport old new text (Err (faults.Run stop)) = StopsAt text stop.event stop
 LeavesReport old new text (Err faults.Read) = Keeps old new
 LeavesReport old new text (Err faults.Memory) = Keeps old new
 
--- as LeavesReport, and what is answered of the whole report
-abbrev pub LeavesJudged : Option (List ℕ) → Option (List ℕ) → List ℕ → Result Bool ScenarioFault → Type 0
-LeavesJudged old new text (Ok agrees) = (line : List ℕ) × ReportsVerdict text line agrees × Appends old new line
-LeavesJudged old new text (Err fault) = LeavesReport old new text (Err fault)
-
--- why a reader gave no scenario: the text says none, or it could not be read, or there was no memory for it
+-- why a reader gave no scenario: the text says none, of which these first bytes were read; or it could not be read; or
+-- memory ran out
 abbrev pub IsDueOfText : List ℕ → TextFault → Type 0
 IsDueOfText text text_faults.Read = Unit {0}
-IsDueOfText text (text_faults.Refused error) = IsDue text error
+IsDueOfText text (text_faults.Refused error bytes) = IsDue text error × (bytes.items ≡ take MOST_BYTES text)
 IsDueOfText text text_faults.Memory = Unit {0}

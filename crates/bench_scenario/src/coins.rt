@@ -9,13 +9,17 @@ use rand_core::utils::NextWord;
 use scenario_text::{CoinEntry, Coins, Scenario};
 use std::alloc::{AllocError, Global};
 
-/// The words that a key gives, from a place on.
-fn generator_at(key: u64, place: u64) -> ChaCha8Rng
-    ensures { result ≡ record { key = key_of (seed_of key); stream = 0; word_pos = place } }
+/// The stream of the generator from which coins are drawn.
+const COIN_STREAM: u64 = 0;
+
+/// The words that a key gives in a stream, from a place on.
+pub(crate) fn generator_at(key: u64, stream: u64, place: u64) -> ChaCha8Rng
+    ensures { result ≡ record { key = key_of (seed_of key); stream = stream; word_pos = place } }
 {
     let mut seed = [0u8; 32];
     seed[..8].copy_from_slice(&key.to_le_bytes());
     let mut generator = ChaCha8Rng::from_seed(seed);
+    generator.set_stream(stream);
     generator.set_word_pos(place as u128);
     generator
 }
@@ -24,7 +28,7 @@ fn generator_at(key: u64, place: u64) -> ChaCha8Rng
 fn chacha_coins(alloc: Global, key: u64, place: u64, count: u32) -> Result<Vec<u32>, AllocError>
     ensures { IfOk result (λ coins. coins.items ≡ map (λ node. coin_at key (place + node)) (places_below count)) }
 {
-    let mut generator = generator_at(key, place);
+    let mut generator = generator_at(key, COIN_STREAM, place);
     let mut coins = Vec::with_capacity(alloc, count as usize)?;
     for _ in 0..count {
         coins.push(generator.next_word() & 1)?;

@@ -29,7 +29,7 @@ fn announced_at(loads: &[Load], node: u32) -> u32
     most
 }
 
-/// The sum of that over the nodes: no pulse takes more steps.
+/// The sum of that over the nodes: no pulse takes more steps, if no messages are drawn. Those of noise are few.
 fn announced_by(scenario: &Scenario) -> u64
     ensures { result ≡ announced_by scenario.now.loads.items scenario.now.nodes }
 {

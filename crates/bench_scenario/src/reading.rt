@@ -1,5 +1,5 @@
 //! The scenario that a reader's bytes say.
-ghost use Rattle.std.specs.Prelude.{ℕ, List, IfOk, IfSome, MatchResult};
+ghost use Rattle.std.specs.Prelude.{◌≡◌, ℕ, List, IfOk, IfSome, MatchResult, take};
 ghost use Rattle.scenario_text.specs.Texts.{IsDueUnlessMemory, ReadsText};
 ghost use Rattle.stream_io.specs.Streams.{TakesAtMost};
 ghost use Rattle.bench_scenario.specs.Runs.{IsDueOfText};
@@ -15,7 +15,8 @@ use stream_io::{ReadFault, read_at_most};
 pub enum TextFault {
     /// A call of `read` failed, or their bound was reached.
     Read,
-    Refused(ScenarioError),
+    /// The text is no scenario. These are the bytes that were read.
+    Refused { error: ScenarioError, text: Vec<u8> },
     Memory,
 }
 
@@ -33,16 +34,17 @@ pub fn read_scenario<R: Read>(alloc: Global, reader: &mut R) -> Result<Scenario,
     };
     match scenario_in(alloc, bytes.as_slice()) {
         Ok(scenario) => Ok(scenario),
-        Err(error) => Err(fault_of(error)),
+        Err(error) => Err(fault_of(error, bytes)),
     }
 }
 
-/// What a refusal is to a reader: lack of memory is none.
-fn fault_of(error: ScenarioError) -> TextFault
-    ensures { (text : List ℕ) → IsDueUnlessMemory text error → IsDueOfText text result }
+/// What a refusal of these bytes is to a reader: lack of memory is none.
+fn fault_of(error: ScenarioError, text: Vec<u8>) -> TextFault
+    ensures { (input : List ℕ) → IsDueUnlessMemory input error → text.items ≡ take MOST_BYTES input
+        → IsDueOfText input result }
 {
     match error {
         ScenarioError::Memory(_) => TextFault::Memory,
-        error => TextFault::Refused(error),
+        error => TextFault::Refused { error, text },
     }
 }

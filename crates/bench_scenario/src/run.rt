@@ -3,22 +3,23 @@ ghost use Rattle.std.specs.Prelude.{◌≡◌, ◌≤◌, ◌<◌, ℕ, List, []
 ghost use Rattle.bench_core.specs.State.{new_state};
 ghost use Rattle.scenario_text.specs.Texts.{ReadsText};
 ghost use Rattle.stream_io.specs.Streams.{TakesAtMost};
-ghost use Rattle.bench_scenario.specs.Runs.{LeavesJudged, LeavesReport, ReportsVerdict, StopsForWant, bench_of};
-ghost use Rattle.bench_scenario.specs.inner.Runs.{IsDueOf};
+ghost use Rattle.bench_scenario.specs.Runs.{LeavesReport, LeavesRun, ReportsRun, StopsForWant, bench_of};
+ghost use Rattle.bench_scenario.specs.inner.Runs.{IsDueOfRun};
 
 use crate::paying::paying_workers;
 use crate::printing::{all_agree, report};
+use crate::reading::{TextFault, read_scenario};
 use crate::schedule::events;
 use bench_core::Bench;
 use bench_workers::{MOST_WORKERS, Open, RunFault, run_events_on};
 use clock_nodes::ClockRule;
 use node_env::Shape;
-use scenario_text::{MAX_TEXT, Scenario, ScenarioError, scenario_in};
+use scenario_text::{MAX_TEXT, Scenario, ScenarioError};
 use std::alloc::{AllocError, Global};
 use std::io::{Read, Write};
 use std::sync::Wait;
 use std::thread::Threads;
-use stream_io::{ReadFault, WriteFault, read_at_most, write_fully};
+use stream_io::{WriteFault, write_fully};
 use thiserror::Error;
 
 /// The most bytes that are read: one more than a text may have, by which a text that is too long is known.
@@ -41,6 +42,15 @@ pub enum ScenarioFault {
     #[error("writing failed after {written} bytes")]
     Write { written: u64 },
     #[error("out of memory")]
+    Memory,
+}
+
+/// Why the run of a scenario that was read left no whole report.
+#[derive(Debug, Drop)]
+pub enum ReportFault {
+    Run(RunFault),
+    /// A call of `write` failed or took nothing, when this many bytes of the report were taken.
+    Write { written: u64 },
     Memory,
 }
 
@@ -73,41 +83,60 @@ struct Judgement {
     agrees: bool,
 }
 
-/// The report of the run of the scenario that a text says.
-fn report_in<T: Threads + Wait + Sync>(
+/// The report of the run of a scenario that was read.
+fn report_of<T: Threads + Wait + Sync>(
     rt: &T,
     alloc: Global,
-    bytes: &[u8],
+    scenario: &Scenario,
     workers: u32,
-) -> Result<Judgement, ScenarioFault>
+) -> Result<Judgement, ReportFault>
     requires some { 1 ≤ workers }
     requires few { workers ≤ MOST_WORKERS }
-    ensures { MatchResult result (λ told. ReportsVerdict bytes.now (string_bytes told.line) told.agrees)
-        (IsDueOf bytes.now) }
+    requires reads { (text : List ℕ) × ReadsText text scenario.now }
+    ensures { MatchResult result (λ told. ReportsRun scenario.now (string_bytes told.line) told.agrees)
+        (IsDueOfRun scenario.now) }
 {
-    let scenario = match scenario_in(alloc, bytes) {
-        Ok(scenario) => scenario,
-        Err(ScenarioError::Memory(_)) => return Err(ScenarioFault::Memory),
-        Err(error) => return Err(ScenarioFault::Refused(error)),
+    let Ok(events) = events(alloc, scenario) else {
+        return Err(ReportFault::Memory);
     };
-    let Ok(events) = events(alloc, &scenario) else {
-        return Err(ScenarioFault::Memory);
+    let Ok(bench) = bench_for(alloc, scenario) else {
+        return Err(ReportFault::Memory);
     };
-    let Ok(bench) = bench_for(alloc, &scenario) else {
-        return Err(ScenarioFault::Memory);
-    };
-    let workers = paying_workers(&scenario, workers);
+    let workers = paying_workers(scenario, workers);
     let run = match run_events_on(rt, alloc, &Open, workers, bench, events) {
         Ok(run) => run,
-        Err(fault) => return Err(ScenarioFault::Run(fault)),
+        Err(fault) => return Err(ReportFault::Run(fault)),
     };
-    let Ok(line) = report(alloc, &scenario, &run) else {
-        return Err(ScenarioFault::Memory);
+    let Ok(line) = report(alloc, scenario, &run) else {
+        return Err(ReportFault::Memory);
     };
-    let Ok(agrees) = all_agree(alloc, &scenario, &run) else {
-        return Err(ScenarioFault::Memory);
+    let Ok(agrees) = all_agree(alloc, scenario, &run) else {
+        return Err(ReportFault::Memory);
     };
     Ok(Judgement { line, agrees })
+}
+
+/// Runs a scenario that was read, on as many of the workers as pay, and writes the report. Returns true if no pulse's
+/// verdict on agreement is no. The report is whole before its first byte is written.
+pub fn write_report<T: Threads + Wait + Sync, W: Write>(
+    rt: &T,
+    alloc: Global,
+    scenario: &Scenario,
+    workers: u32,
+    writer: &mut W,
+) -> Result<bool, ReportFault>
+    requires some { 1 ≤ workers }
+    requires few { workers ≤ MOST_WORKERS }
+    requires reads { (text : List ℕ) × ReadsText text scenario.now }
+    ensures { LeavesRun (W.contents writer.old) (W.contents writer.new) scenario.now result }
+{
+    let report = report_of(rt, alloc, scenario, workers)?;
+    match write_fully(writer, report.line.as_bytes()) {
+        Ok(()) => Ok(report.agrees),
+        Err(WriteFault { written }) => Err(ReportFault::Write {
+            written: written as u64,
+        }),
+    }
 }
 
 /// Reads a scenario's text, runs it on as many of the workers as pay, and writes the report. At most [`MOST_BYTES`]
@@ -126,39 +155,18 @@ pub fn run_scenario<T: Threads + Wait + Sync, R: Read, W: Write>(
         LeavesReport (W.contents writer.old) (W.contents writer.new) text result) }
     ensures want { IfErr result StopsForWant }
 {
-    match run_scenario_judged(rt, alloc, reader, writer, workers) {
-        Ok(_agrees) => Ok(()),
-        Err(fault) => Err(fault),
-    }
-}
-
-/// Does as `run_scenario`, and returns true if no pulse's verdict on agreement is no.
-#[tactic(auto, using(crate::proofs::StreamLemmas::fault_left))]
-pub fn run_scenario_judged<T: Threads + Wait + Sync, R: Read, W: Write>(
-    rt: &T,
-    alloc: Global,
-    reader: &mut R,
-    writer: &mut W,
-    workers: u32,
-) -> Result<bool, ScenarioFault>
-    requires some { 1 ≤ workers }
-    requires few { workers ≤ MOST_WORKERS }
-    ensures taken { TakesAtMost MOST_BYTES (R.remaining reader.old) (R.remaining reader.new) }
-    ensures left { IfSome (R.remaining reader.old) (λ text.
-        LeavesJudged (W.contents writer.old) (W.contents writer.new) text result) }
-    ensures want { IfErr result StopsForWant }
-{
-    let bytes = match read_at_most(alloc, reader, MOST_BYTES, MOST_CALLS) {
-        Ok(bytes) => bytes,
-        Err(ReadFault::Stream) => return Err(ScenarioFault::Read),
-        Err(ReadFault::Memory) => return Err(ScenarioFault::Memory),
+    let scenario = match read_scenario(alloc, reader) {
+        Ok(scenario) => scenario,
+        Err(TextFault::Read) => return Err(ScenarioFault::Read),
+        Err(TextFault::Refused { error, text: _text }) => {
+            return Err(ScenarioFault::Refused(error));
+        }
+        Err(TextFault::Memory) => return Err(ScenarioFault::Memory),
     };
-    let report = report_in(rt, alloc, bytes.as_slice(), workers)?;
-    let told = report.line.as_bytes();
-    match write_fully(writer, told) {
-        Ok(()) => Ok(report.agrees),
-        Err(WriteFault { written }) => Err(ScenarioFault::Write {
-            written: written as u64,
-        }),
+    match write_report(rt, alloc, &scenario, workers, writer) {
+        Ok(_agrees) => Ok(()),
+        Err(ReportFault::Run(fault)) => Err(ScenarioFault::Run(fault)),
+        Err(ReportFault::Write { written }) => Err(ScenarioFault::Write { written }),
+        Err(ReportFault::Memory) => Err(ScenarioFault::Memory),
     }
 }

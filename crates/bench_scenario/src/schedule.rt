@@ -7,6 +7,8 @@ ghost use Rattle.bench_scenario.specs.Events.{corrupt_events, events_of, load_ev
 ghost use Rattle.bench_scenario.specs.inner.Rows.{AreChanges, Grew, of_pulse, told};
 
 use crate::coins::coins_of;
+use crate::noise::{Draw, add_noise};
+use crate::noisy::{note_changes, quiet_nodes};
 use bench_core::Change;
 use bench_workers::Event;
 use scenario_text::{Corrupt, Load, Scenario, Unload};
@@ -124,8 +126,8 @@ fn add_events(
     Ok(())
 }
 
-/// Returns what is done to the bench of a scenario, in order: for each pulse its loads, unloads and corruptions, and
-/// then the pulse.
+/// Returns what is done to the bench of a scenario, in order: for each pulse its loads, unloads and corruptions, then
+/// the loads of drawn messages, and then the pulse.
 pub fn events(alloc: Global, scenario: &Scenario) -> Result<Vec<Event>, AllocError>
     ensures { IfOk result (λ es. map event_of es.items ≡ events_of scenario.now) }
 {
@@ -141,9 +143,16 @@ pub(crate) fn events_with_key(
     ensures { IfOk result (λ es. map event_of es.items ≡ events_of (keyed scenario.now key)) }
 {
     let mut rows = changes(alloc, scenario)?;
+    let mut noisy = quiet_nodes(alloc, scenario.nodes)?;
     let mut events = Vec::new(alloc);
     for before in 0..scenario.pulses {
+        let draw = Draw {
+            key,
+            pulse: before + 1,
+        };
+        note_changes(noisy.as_mut_slice(), scenario, draw.pulse);
         let row = &mut rows[before as usize];
+        add_noise(alloc, row, scenario, noisy.as_slice(), draw)?;
         add_events(alloc, &mut events, row, scenario, key, before + 1)?;
     }
     Ok(events)

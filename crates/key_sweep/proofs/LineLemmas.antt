@@ -1,20 +1,17 @@
 -- Lines one after the other.
 use Rattle.std.proofs.Common.{◌≡◌, ℕ, zero, suc, ◌+◌, ◌≤◌, ◌⊎◌, inl, inr, List, [], ◌∷◌, ◌++◌, length, take, min, Ok, Err, arith, refl, ap, sym, subst, ◌∙◌}
-use Rattle.std.specs.Prelude.{◌↔◌, IfSome, IsErrAnd, IsTrue, Bool, true, false, Option, Result, Some, None, slice_get}
+use Rattle.std.specs.Prelude.{IsErrAnd, IsTrue, Bool, true, false, Option, Result, Some, None, slice_get}
 use Rattle.std.specs.Io.KnownBytes.{Appends}
 use Rattle.std.proofs.KnownBytes.{Appends-trans}
 use Rattle.std.proofs.lemmas.List.{append_assoc, append-nil, length-append}
 use Rattle.csv.specs.Writing.{default_writer, row_text}
-use Rattle.scenario_text.specs.declared.scenario.Coins.TheVariants.{Chacha}
 use Rattle.scenario_text.specs.declared.scenario.Scenario.{Scenario}
-use Rattle.scenario_text.specs.Texts.{ReadsText}
 use Rattle.bench_scenario.specs.declared.summary.RunSummary.{RunSummary}
 use Rattle.key_sweep.specs.Keys.{Span, count_of}
 use Rattle.key_sweep.specs.Rows.{fields_of, names, rows_text, sweep_text}
-use Rattle.key_sweep.specs.Sweeps.{AreOfKeys, HasKey, IsOfKey, LeavesLines, LeavesSweep, Lines, MOST_TOLD}
+use Rattle.key_sweep.specs.Sweeps.{AreOfKeys, IsOfKey, LeavesLines, LeavesSweep, Lines, MOST_TOLD, uses_key}
 use Rattle.key_sweep.specs.declared.sweeping.SweepFault.{SweepFault}
 use Rattle.key_sweep.specs.declared.sweeping.SweepFault.TheVariants as faults
-use Rattle.key_sweep.specs.inner.Reading.{IsDueOf}
 use Rattle.key_sweep.specs.inner.Writing.{IsFront}
 
 -- ---- rows
@@ -123,8 +120,6 @@ names_broken old new s keys top (faults.Write written) is front =
       number = omega (arith, number);
       left = front.3;
     }
-names_broken old new s keys top faults.Read is front = absurd front
-names_broken old new s keys top (faults.Refused error) is front = absurd front
 names_broken old new s keys top faults.NoKey is front = absurd front
 names_broken old new s keys top faults.Memory is front = absurd front
 
@@ -206,8 +201,6 @@ rows_broken old now new s keys next told rows ms (faults.Write written) swept ea
       left = subst (λ t. Appends old new t) (sym (front_of_both swept.text rows front.0))
           (Appends-trans old now new swept.text (take front.0 rows) swept.left front.3);
     }
-rows_broken old now new s keys next told rows ms faults.Read swept each is few front = absurd front
-rows_broken old now new s keys next told rows ms (faults.Refused error) swept each is few front = absurd front
 rows_broken old now new s keys next told rows ms faults.NoKey swept each is few front = absurd front
 rows_broken old now new s keys next told rows ms faults.Memory swept each is few front = absurd front
 
@@ -220,21 +213,11 @@ front_of_rows old now new s keys next told rows ms fault result swept each is fe
     told_so old new s keys fault result
     (rows_broken old now new s keys next told rows ms fault swept each is few front) given
 
--- ---- of a text
+-- ---- if something is drawn by the key
 
-pub no_key : (known : Option (List ℕ)) (s : Scenario) (keyed : Bool) → IfSome known (λ text. ReadsText text s)
-    → (IsTrue keyed ↔ (s.coins ≡ Chacha)) → keyed ≡ false → IfSome known (λ text. IsDueOf text faults.NoKey)
-no_key None s keyed reads told isnt = tt
-no_key (Some text) s keyed reads told isnt =
-    (s, reads, λ chacha. let is : keyed ≡ true = told.1 chacha in let untrue : false ≡ true = cc in cc)
-
-pub of_text : (known old new : Option (List ℕ)) (s : Scenario) (keys : Span) (result : Result (Unit {0}) SweepFault)
-    → IfSome known (λ text. HasKey text s) → LeavesLines old new s keys result
-    → IfSome known (λ text. LeavesSweep old new text keys result)
-of_text None old new s keys result has left = tt
-of_text (Some text) old new s keys (Ok done) has left = (s, has, left)
-of_text (Some text) old new s keys (Err (faults.Write written)) has left = (s, has, left)
-of_text (Some text) old new s keys (Err faults.Memory) has left = inr (s, has, left)
-of_text (Some text) old new s keys (Err faults.Read) has left = absurd left
-of_text (Some text) old new s keys (Err (faults.Refused error)) has left = absurd left
-of_text (Some text) old new s keys (Err faults.NoKey) has left = absurd left
+pub keyed_lines : (old new : Option (List ℕ)) (s : Scenario) (keys : Span) (result : Result (Unit {0}) SweepFault)
+    → IsTrue (uses_key s) → LeavesLines old new s keys result → LeavesSweep old new s keys result
+keyed_lines old new s keys (Ok done) has left = (has, left)
+keyed_lines old new s keys (Err (faults.Write written)) has left = (has, left)
+keyed_lines old new s keys (Err faults.Memory) has left = (has, left)
+keyed_lines old new s keys (Err faults.NoKey) has left = absurd left

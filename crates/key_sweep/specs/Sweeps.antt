@@ -1,12 +1,13 @@
 -- What a sweep leaves on its writer (docs/LUCK.md, "What is promised").
-use Rattle.std.specs.Prelude.{◌≡◌, ◌≢◌, ◌⊎◌, ℕ, ◌+◌, ◌-◌, ◌^◌, ◌<◌, ◌≤◌, is_some, min, List, length, take, slice_get, Option, Some, Result, Ok, Err}
+use Rattle.std.specs.Prelude.{◌≡◌, ◌⊎◌, ◌||◌, Bool, true, false, IsTrue, map, ℕ, ◌+◌, ◌-◌, ◌^◌, ◌<◌, ◌≤◌, is_some, min, List, length, take, slice_get, Option, Some, Result, Ok, Err}
 use Rattle.std.specs.Io.KnownBytes.{Appends, Keeps}
 use Rattle.bench_core.specs.Told.{PulseTold}
 use Rattle.bench_workers.specs.Runs.{IsRun}
-use Rattle.scenario_text.specs.declared.scenario.Coins.TheVariants.{Chacha}
+use Rattle.scenario_text.specs.declared.scenario.Coins.{Coins}
+use Rattle.scenario_text.specs.declared.scenario.Coins.TheVariants.{Zeros, Ones, Chacha}
 use Rattle.scenario_text.specs.declared.scenario.Scenario.{Scenario}
-use Rattle.scenario_text.specs.Texts.{IsDue, ReadsText}
-use Rattle.scenario_text.specs.Views.{frame_of}
+use Rattle.scenario_text.specs.Noise.{any_noise}
+use Rattle.scenario_text.specs.Views.{frame_of, load_of}
 use Rattle.bench_scenario.specs.Coins.{keyed}
 use Rattle.bench_scenario.specs.Events.{events_of}
 use Rattle.bench_scenario.specs.Runs.{bench_of}
@@ -65,22 +66,21 @@ LeavesLines old new s keys (Ok done) =
     (told : List ℕ) × Lines s keys.first (count_of keys) told × Appends old new told
 LeavesLines old new s keys (Err (faults.Write written)) = Breaks old new s keys written
 LeavesLines old new s keys (Err faults.Memory) = Keeps old new ⊎ Stops old new s keys
-LeavesLines old new s keys (Err (faults.Refused error)) = ⊥
 LeavesLines old new s keys (Err faults.NoKey) = ⊥
-LeavesLines old new s keys (Err faults.Read) = ⊥
 
--- the text says this scenario, whose coins are drawn by a key
-abbrev pub HasKey : List ℕ → Scenario → Type 0
-HasKey text s = ReadsText text s × (s.coins ≡ Chacha)
+abbrev pub are_drawn : Coins → Bool
+are_drawn Zeros = false
+are_drawn Ones = false
+are_drawn Chacha = true
 
--- the same for a text: nothing is written if it is no scenario, or its coins have no seed
-abbrev pub LeavesSweep : Option (List ℕ) → Option (List ℕ) → List ℕ → Span → Result (Unit {0}) SweepFault → Type 0
-LeavesSweep old new text keys (Err (faults.Refused error)) = IsDue text error × Keeps old new
-LeavesSweep old new text keys (Err faults.NoKey) =
-    ((s : Scenario) × ReadsText text s × (s.coins ≢ Chacha)) × Keeps old new
-LeavesSweep old new text keys (Err faults.Read) = Keeps old new
-LeavesSweep old new text keys (Err faults.Memory) =
-    Keeps old new ⊎ ((s : Scenario) × HasKey text s × LeavesLines old new s keys (Err faults.Memory))
-LeavesSweep old new text keys (Err (faults.Write written)) =
-    (s : Scenario) × HasKey text s × LeavesLines old new s keys (Err (faults.Write written))
-LeavesSweep old new text keys (Ok done) = (s : Scenario) × HasKey text s × LeavesLines old new s keys (Ok done)
+-- something of the scenario is drawn by its key: coins, or the messages of noise
+abbrev pub uses_key : Scenario → Bool
+uses_key s = are_drawn s.coins || any_noise (map load_of s.loads.items)
+
+-- the same, and nothing if nothing is drawn by the key
+abbrev pub LeavesSweep : Option (List ℕ) → Option (List ℕ) → Scenario → Span → Result (Unit {0}) SweepFault → Type 0
+LeavesSweep old new s keys (Err faults.NoKey) = (uses_key s ≡ false) × Keeps old new
+LeavesSweep old new s keys (Err faults.Memory) = IsTrue (uses_key s) × LeavesLines old new s keys (Err faults.Memory)
+LeavesSweep old new s keys (Err (faults.Write written)) =
+    IsTrue (uses_key s) × LeavesLines old new s keys (Err (faults.Write written))
+LeavesSweep old new s keys (Ok done) = IsTrue (uses_key s) × LeavesLines old new s keys (Ok done)

@@ -1,4 +1,3 @@
 -- What proofs and private contracts alone cite.
 pub mod Blocks
-pub mod Reading
 pub mod Writing

@@ -1,21 +1,16 @@
-//! A sweep, from the first byte that is read to the last that is written.
-ghost use Rattle.std.specs.Prelude.{◌≡◌, ℕ, List, ◌+◌, ◌<◌, ◌≤◌, IfOk, IfErr, IfSome, IsTrue, MatchResult, ◌↔◌, min, length};
+//! A sweep, from the scenario that was read to the last byte that is written.
+ghost use Rattle.std.specs.Prelude.{◌≡◌, ℕ, List, ◌+◌, ◌<◌, ◌≤◌, IfOk, IfErr, min, length};
 ghost use Rattle.std.specs.Io.KnownBytes.{Appends};
-ghost use Rattle.bench_scenario.specs.declared.run.TheConstants.{MOST_BYTES};
-ghost use Rattle.scenario_text.specs.declared.scenario.Coins.TheVariants.{Chacha};
 ghost use Rattle.scenario_text.specs.Texts.{ReadsText};
-ghost use Rattle.stream_io.specs.Streams.{TakesAtMost};
-ghost use Rattle.key_sweep.specs.Sweeps.{HasKey, LeavesLines, LeavesSweep, MOST_TOLD};
-ghost use Rattle.key_sweep.specs.inner.Reading.{IsDueOf};
+ghost use Rattle.key_sweep.specs.Sweeps.{LeavesLines, LeavesSweep, MOST_TOLD, are_drawn, uses_key};
 ghost use Rattle.key_sweep.specs.inner.Writing.{IsFront};
 
 use crate::block::summaries_of;
 use crate::keys::KeySpan;
 use crate::rows::{names_row, rows_text};
-use bench_scenario::{TextFault, read_scenario};
-use scenario_text::{Coins, Scenario, ScenarioError};
+use scenario_text::{Coins, Scenario};
 use std::alloc::Global;
-use std::io::{Read, Write};
+use std::io::Write;
 use std::sync::Wait;
 use std::thread::Threads;
 use stream_io::{WriteFault, write_fully};
@@ -30,13 +25,8 @@ const KEYS_AT_ONCE: u64 = MOST_SWEEPERS as u64;
 /// Why a sweep left not all its lines.
 #[derive(Debug, Drop, Error)]
 pub enum SweepFault {
-    /// A call of `read` failed, or their bound was reached.
-    #[error("reading failed")]
-    Read,
-    #[error(transparent)]
-    Refused(ScenarioError),
-    /// The scenario's coins are not drawn by a key.
-    #[error("the coins have no key")]
+    /// Nothing of the scenario is drawn by a key.
+    #[error("nothing is drawn by a key")]
     NoKey,
     /// A call of `write` failed or took nothing, when this many bytes were taken.
     #[error("writing failed after {written} bytes")]
@@ -45,27 +35,15 @@ pub enum SweepFault {
     Memory,
 }
 
-/// The scenario that is read, whose coins are drawn by a key.
-fn keyed_scenario<R: Read>(alloc: Global, reader: &mut R) -> Result<Scenario, SweepFault>
-    ensures taken { TakesAtMost MOST_BYTES (R.remaining reader.old) (R.remaining reader.new) }
-    ensures scenario { IfSome (R.remaining reader.old) (λ text. MatchResult result (HasKey text) (IsDueOf text)) }
-    ensures reads { IfOk result (λ s. (text : List ℕ) × ReadsText text s) }
+/// Whether something of the scenario is drawn by its key: coins, or the messages of noise.
+fn uses_key(scenario: &Scenario) -> bool
+    ensures { result ≡ uses_key scenario.now }
 {
-    let scenario = match read_scenario(alloc, reader) {
-        Ok(scenario) => scenario,
-        Err(TextFault::Read) => return Err(SweepFault::Read),
-        Err(TextFault::Refused(error)) => return Err(SweepFault::Refused(error)),
-        Err(TextFault::Memory) => return Err(SweepFault::Memory),
-    };
-    if has_key(scenario.coins) {
-        Ok(scenario)
-    } else {
-        Err(SweepFault::NoKey)
-    }
+    are_drawn(scenario.coins) || scenario.has_noise()
 }
 
-fn has_key(coins: Coins) -> bool
-    ensures { IsTrue result ↔ (coins ≡ Chacha) }
+fn are_drawn(coins: Coins) -> bool
+    ensures { result ≡ are_drawn coins }
 {
     match coins {
         Coins::Chacha => true,
@@ -124,22 +102,23 @@ fn write_keys<T: Threads + Wait + Sync, W: Write>(
     Ok(())
 }
 
-/// Reads a scenario whose coins are drawn by a key, runs it with each of these keys in place of its own, and writes a
-/// line for each, in their order, after one of names. Each of at most this many workers runs whole scenarios; where no
-/// thread can be started, the caller's runs them. At most [`MOST_BYTES`] bytes are read.
-pub fn sweep<T: Threads + Wait + Sync, R: Read, W: Write>(
+/// Runs a scenario that was read, of which something is drawn by a key, with each of these keys in place of its own, and
+/// writes a line for each, in their order, after one of names. Each of at most this many workers runs whole scenarios;
+/// where no thread can be started, the caller's runs them.
+pub fn sweep<T: Threads + Wait + Sync, W: Write>(
     rt: &T,
     alloc: Global,
+    scenario: &Scenario,
     keys: KeySpan,
     workers: u32,
-    reader: &mut R,
     writer: &mut W,
 ) -> Result<(), SweepFault>
+    requires reads { (text : List ℕ) × ReadsText text scenario.now }
     requires workers { 1 ≤ workers }
-    ensures taken { TakesAtMost MOST_BYTES (R.remaining reader.old) (R.remaining reader.new) }
-    ensures left { IfSome (R.remaining reader.old) (λ text.
-        LeavesSweep (W.contents writer.old) (W.contents writer.new) text keys result) }
+    ensures { LeavesSweep (W.contents writer.old) (W.contents writer.new) scenario.now keys result }
 {
-    let scenario = keyed_scenario(alloc, reader)?;
-    write_keys(rt, alloc, &scenario, keys, workers, writer)
+    if !uses_key(scenario) {
+        return Err(SweepFault::NoKey);
+    }
+    write_keys(rt, alloc, scenario, keys, workers, writer)
 }

@@ -10,7 +10,7 @@ use Rattle.bench_workers.specs.Watching.{Seen}
 use Rattle.scenario_text.specs.Views.{is_judged}
 use Rattle.scenario_text.specs.declared.scenario.Frame.{Frame}
 use Rattle.scenario_text.specs.declared.scenario.Kind.{Kind}
-use Rattle.scenario_text.specs.declared.scenario.Kind.TheVariants.{Clock, Say, Echo, Asm, Rule}
+use Rattle.scenario_text.specs.declared.scenario.Kind.TheVariants.{Clock, Say, Echo, Asm, Rule, Noise}
 use Rattle.bench_scenario.specs.Coins.{places_below}
 use Rattle.bench_scenario.specs.Reports.{clock_name}
 use Rattle.bench_scenario.specs.declared.summary.RunSummary.{RunSummary}
@@ -50,6 +50,7 @@ kind_text Say = codes "say"
 kind_text Echo = codes "echo"
 kind_text Asm = codes "asm"
 kind_text Rule = codes "rule"
+kind_text Noise = codes "noise"
 
 abbrev pub staged_data : StagedTold → Data
 staged_data (Loaded node kind) =

@@ -18,6 +18,7 @@ fn kind_text(kind: Kind) -> &'static str
         Kind::Echo => "echo",
         Kind::Asm => "asm",
         Kind::Rule => "rule",
+        Kind::Noise => "noise",
     }
 }
 

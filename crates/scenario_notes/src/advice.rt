@@ -1,9 +1,9 @@
 //! What a note says of the fix. Nothing is promised of it.
 
 use crate::finding::line_at;
-use crate::known::{names_at, unknown_key};
+use crate::known::{has_version, names_at, unknown_key};
 use crate::table::{table_at, text_at};
-use crate::wanted::{COINS_NAMES, PROGRAM_NAMES, wanted};
+use crate::wanted::{COINS_NAMES, program_names, wanted};
 use bpf_asm::{TextError, assemble};
 use bpf_explain::reason;
 use bpf_insn::MAX_SLOTS;
@@ -13,7 +13,7 @@ use rule_notes::advice_at;
 use rule_notes::near::nearest;
 use rule_notes::shown::shown;
 use rule_text::RuleRefusal;
-use scenario_text::{CLOCK_VERSION, MAX_TEXT, Place, RULE_VERSION, ScenarioError};
+use scenario_text::{CLOCK_VERSION, MAX_TEXT, NOISE_VERSION, Place, RULE_VERSION, ScenarioError};
 use std::alloc::{AllocError, Global};
 use toml::Table;
 
@@ -48,7 +48,10 @@ fn of_value(alloc: Global, table: &Table, place: Place, key: &str) -> Result<Str
         Some(entry) => entry.get(key).and_then(toml::Value::as_str),
         None => None,
     };
-    let question = question_on(alloc, key, value)?;
+    if key == "program" && value == Some("noise") && !has_version(table, NOISE_VERSION) {
+        return format!(in alloc; "program = \"noise\" needs version = {NOISE_VERSION}");
+    }
+    let question = question_on(alloc, table, key, value)?;
     let words = wanted(alloc, table, place, key)?;
     let question = question.as_str();
     let words = words.as_str();
@@ -56,12 +59,17 @@ fn of_value(alloc: Global, table: &Table, place: Place, key: &str) -> Result<Str
 }
 
 /// A question for the nearest of the words that a key may have.
-fn question_on(alloc: Global, key: &str, value: Option<&str>) -> Result<String, AllocError> {
+fn question_on(
+    alloc: Global,
+    table: &Table,
+    key: &str,
+    value: Option<&str>,
+) -> Result<String, AllocError> {
     if key == "coins" {
         return did_you_mean(alloc, value, &COINS_NAMES);
     }
     if key == "program" {
-        return did_you_mean(alloc, value, &PROGRAM_NAMES);
+        return did_you_mean(alloc, value, program_names(table));
     }
     Ok(String::new(alloc))
 }
@@ -85,6 +93,15 @@ fn meant_by<'a>(
     }
 }
 
+/// What of a scenario is drawn from a key, and asks for it first.
+fn drawn_from_key(table: &Table) -> &'static str {
+    if table.get("coins").and_then(toml::Value::as_str) == Some("chacha") {
+        "coins = \"chacha\""
+    } else {
+        "program = \"noise\""
+    }
+}
+
 /// What of a key is said that isn't there.
 fn of_missing(
     alloc: Global,
@@ -95,7 +112,8 @@ fn of_missing(
     let words = wanted(alloc, table, place, key)?;
     let words = words.as_str();
     if place == Place::Top && key == "key" {
-        return format!(in alloc; "coins = \"chacha\" needs key: {words}");
+        let drawn = drawn_from_key(table);
+        return format!(in alloc; "{drawn} needs key: {words}");
     }
     match meant_by(alloc, table, place, key)? {
         Some(unknown) => {

@@ -43,7 +43,7 @@ fn is_known(table: &Table, place: Place, name: &str) -> bool {
 }
 
 /// Whether the version is this one or a later one.
-fn has_version(table: &Table, first: u64) -> bool {
+pub(crate) fn has_version(table: &Table, first: u64) -> bool {
     let Some(version) = table.get("version").and_then(Value::as_integer) else {
         return false;
     };

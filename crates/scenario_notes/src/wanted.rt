@@ -1,23 +1,43 @@
 //! What the keys of a scenario may be (docs/SCENARIOS.md, "Keys"), in the words of a note.
 
+use crate::known::has_version;
 use clock_nodes::{LEAST_MODULUS, MOST_MODULUS};
 use node_env::{MAX_MEMORY, MAX_NODES, MEMORY_UNIT};
 use scenario_text::{
     FIRST_MAX_NODES, FIRST_VERSION, LAST_VERSION, MAX_CHANGES, MAX_COIN_ENTRIES, MAX_KEY,
-    MAX_PULSES, Place, RULE_VERSION,
+    MAX_NOISE, MAX_PULSES, NOISE_VERSION, Place, RULE_VERSION,
 };
 use std::alloc::{AllocError, Global};
+use std::fmt::Write;
 use toml::{Table, Value};
 
 /// The words that `coins` may be.
 pub(crate) const COINS_NAMES: [&str; 3] = ["zeros", "ones", "chacha"];
 
-/// The words that `program` may be.
-pub(crate) const PROGRAM_NAMES: [&str; 5] = ["clock", "say", "echo", "asm", "rule"];
+/// The words that `program` may be before noise.
+const FIRST_PROGRAM_NAMES: [&str; 5] = ["clock", "say", "echo", "asm", "rule"];
+
+/// The words that `program` may be from the version of noise on.
+const PROGRAM_NAMES: [&str; 6] = ["clock", "say", "echo", "asm", "rule", "noise"];
 
 const COINS_WORDS: &str = "coins is \"zeros\", \"ones\" or \"chacha\"";
 
-fn program_words(alloc: Global) -> Result<String, AllocError> {
+/// The words that `program` may be in a scenario.
+pub(crate) fn program_names(table: &Table) -> &'static [&'static str] {
+    if has_version(table, NOISE_VERSION) {
+        &PROGRAM_NAMES
+    } else {
+        &FIRST_PROGRAM_NAMES
+    }
+}
+
+fn program_words(alloc: Global, table: &Table) -> Result<String, AllocError> {
+    if has_version(table, NOISE_VERSION) {
+        return String::from_str(
+            alloc,
+            "program is \"clock\", \"say\", \"echo\", \"asm\", \"rule\" or \"noise\"",
+        );
+    }
     format!(in alloc;
         "program is \"clock\", \"say\", \"echo\" or \"asm\", and from version {RULE_VERSION} on \"rule\""
     )
@@ -89,6 +109,14 @@ fn array_words(alloc: Global, key: &str, most: usize) -> Result<String, AllocErr
     )
 }
 
+fn load_words(alloc: Global, table: &Table) -> Result<String, AllocError> {
+    let mut words = array_words(alloc, "load", MAX_CHANGES)?;
+    if has_version(table, NOISE_VERSION) {
+        write!(words, ", and {MAX_NOISE} pulses of noise")?;
+    }
+    Ok(words)
+}
+
 /// What a key at the top may be.
 fn wanted_at_top(alloc: Global, table: &Table, key: &str) -> Result<String, AllocError> {
     match key {
@@ -107,6 +135,7 @@ fn wanted_at_top(alloc: Global, table: &Table, key: &str) -> Result<String, Allo
         "key" => number(alloc, key, 0, MAX_KEY),
         "clock" => String::from_str(alloc, "clock is the text of a program"),
         "rule" => String::from_str(alloc, "rule is the text of a rule (docs/RULES.md)"),
+        "load" => load_words(alloc, table),
         "coin" => array_words(alloc, key, MAX_COIN_ENTRIES),
         _ => array_words(alloc, key, MAX_CHANGES),
     }
@@ -118,7 +147,7 @@ fn wanted_in_entry(alloc: Global, table: &Table, key: &str) -> Result<String, Al
         "pulse" => pulse_words(alloc, table),
         "nodes" => below_nodes(alloc, table, "nodes is a list of node numbers"),
         "node" => below_nodes(alloc, table, "node is the number of a node"),
-        "program" => program_words(alloc),
+        "program" => program_words(alloc, table),
         "values" => values_words(alloc, table),
         "image" => image_words(alloc, table),
         "value" => String::from_str(alloc, "value is a coin, 0 or 1"),

@@ -12,7 +12,7 @@ use Rattle.scenario_text.specs.inner.Faults.{IsOfSpelling}
 use Rattle.scenario_text.specs.Drafts.{Draft}
 use Rattle.scenario_text.specs.Tables.{HasNumber, MayBeArray, IsTable}
 use Rattle.scenario_text.proofs.ClockLemmas.{one_clock}
-use Rattle.scenario_text.specs.Spelling.{HasVersion, HasFrame, HasClock, rule_of, most_nodes, Spelled, SpellsNothing}
+use Rattle.scenario_text.specs.Spelling.{HasVersion, HasFrame, HasClock, most_nodes, Spelled, SpellsNothing}
 use Rattle.scenario_text.specs.declared.limits.TheConstants.{FIRST_VERSION, FIRST_MAX_NODES}
 use Rattle.clock_nodes.specs.Rule.{IsRule}
 use Rattle.node_env.specs.Env.{IsExtent}

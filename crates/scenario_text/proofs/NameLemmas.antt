@@ -6,13 +6,13 @@ use Rattle.std.proofs.lemmas.Slice.Eq.{bytes_eq-Decides}
 use Rattle.scenario_text.specs.declared.scenario.Coins.{Coins}
 use Rattle.scenario_text.specs.declared.scenario.Coins.TheVariants.{Zeros, Ones, Chacha}
 use Rattle.scenario_text.specs.declared.scenario.Kind.{Kind}
-use Rattle.scenario_text.specs.declared.scenario.Kind.TheVariants.{Clock, Say, Echo, Asm, Rule}
+use Rattle.scenario_text.specs.declared.scenario.Kind.TheVariants.{Clock, Say, Echo, Asm, Rule, Noise}
 use Rattle.scenario_text.specs.inner.Names.{coins_named, kind_named}
 use Rattle.scenario_text.specs.Spelling.{HasKind, coins_name, kind_name}
 use Rattle.scenario_text.specs.Tables.{HasText}
 use Rattle.toml.specs.Data.{Members, string}
 
-nothing : {A : Type 0} {a : A} → None ≡ Some a → ⊥
+pub nothing : {A : Type 0} {a : A} → None ≡ Some a → ⊥
 nothing same = subst (λ o. MatchOption o (Unit {0}) (λ _. ⊥)) same tt
 
 pub coins_back : (c : Coins) → coins_named (coins_name c) ≡ Some c
@@ -26,6 +26,7 @@ kind_back Say = refl
 kind_back Echo = refl
 kind_back Asm = refl
 kind_back Rule = refl
+kind_back Noise = refl
 
 pub no_coins : (name : List ℕ) (c : Coins) → coins_named name ≡ None → name ≡ coins_name c → ⊥
 no_coins name c none same = nothing (sym none ∙ (ap coins_named same ∙ coins_back c))
@@ -58,8 +59,9 @@ kind_by_name name k =
     (chosen Named (bytes_eq name (codes "say")) Say _ k (same_bytes name (codes "say"))
     (chosen Named (bytes_eq name (codes "echo")) Echo _ k (same_bytes name (codes "echo"))
     (chosen Named (bytes_eq name (codes "asm")) Asm _ k (same_bytes name (codes "asm"))
-    (chosen Named (bytes_eq name (codes "rule")) Rule None k (same_bytes name (codes "rule"))
-    (λ found. absurd (nothing found))))))
+    (chosen Named (bytes_eq name (codes "rule")) Rule _ k (same_bytes name (codes "rule"))
+    (chosen Named (bytes_eq name (codes "noise")) Noise None k (same_bytes name (codes "noise"))
+    (λ found. absurd (nothing found)))))))
 
 -- a table names one kind
 pub one_kind : (ms : Members) (k l : Kind) → HasText ms (codes "program") (kind_name k)

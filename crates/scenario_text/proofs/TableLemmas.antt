@@ -156,7 +156,7 @@ each_length reads no_items (x ∷ xs) read = absurd read
 each_length reads (item v vs) [] read = absurd read
 each_length reads (item v vs) (x ∷ xs) read = ap suc (each_length reads vs xs read.1)
 
-array_length : {A : Type 0} (reads : Data → A → Type 0) (o : Option Data) (xs : List A) → IsArray reads o xs
+pub array_length : {A : Type 0} (reads : Data → A → Type 0) (o : Option Data) (xs : List A) → IsArray reads o xs
     → nodes_count o ≡ length xs
 array_length reads (Some (array items)) xs read = each_length reads items xs read
 array_length reads _ xs read = absurd read

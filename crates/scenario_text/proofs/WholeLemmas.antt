@@ -5,6 +5,7 @@ use Rattle.std.proofs.lemmas.List.{map-id}
 use Rattle.toml.specs.Data.{Data, Members, get_member}
 use Rattle.scenario_text.specs.inner.Arrays.{HasArrays}
 use Rattle.scenario_text.specs.Drafts.{Draft}
+use Rattle.scenario_text.specs.Noise.{HasNoise}
 use Rattle.scenario_text.specs.Tables.{knows, IsTable, MayBeArray}
 use Rattle.scenario_text.specs.Spelling.{HasFrame, HasCoins, HasKey, HasClock, Spelled, SpelledLoad, SpelledUnload, SpelledCorrupt, SpelledCoin, SpellsNothing, clock_key, top_keys}
 use Rattle.scenario_text.proofs.TableLemmas.{tables_read, entries_read, loads_read}
@@ -38,8 +39,8 @@ pub spelled_whole : (ms : Members) (d : Draft) → knows (top_keys (clock_key ms
     → MayBeArray (IsTable (SpelledUnload d.frame)) (get_member (codes "unload") ms) d.unloads
     → MayBeArray (IsTable (SpelledCorrupt d.frame)) (get_member (codes "corrupt") ms) d.corruptions
     → MayBeArray (IsTable (SpelledCoin d.frame)) (get_member (codes "coin") ms) d.entries
-    → HasArrays ms → Spelled ms d
-spelled_whole ms d known frame coins key clock loads unloads corruptions entries has =
+    → HasArrays ms → HasNoise d.key d.frame.pulses d.loads → Spelled ms d
+spelled_whole ms d known frame coins key clock loads unloads corruptions entries has noise =
     let loads_are = loads_read d.frame d.clock _ d.loads loads in
     let unloads_are = entries_read _ _ d.unloads unloads in
     let corruptions_are = entries_read _ _ d.corruptions corruptions in
@@ -58,6 +59,7 @@ spelled_whole ms d known frame coins key clock loads unloads corruptions entries
       entries = entries;
       changes = omega arith;
       coin_entries = omega arith;
+      noise = noise;
     }
 
 -- entries that are their own data

@@ -1,5 +1,6 @@
 pub mod Tables
 pub mod Drafts
+pub mod Noise
 pub mod Spelling
 pub mod Views
 pub mod Broken

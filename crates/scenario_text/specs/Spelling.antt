@@ -1,24 +1,25 @@
 -- How a table spells a scenario (docs/SCENARIOS.md, "Keys").
-use Rattle.std.specs.Prelude.{◌≡◌, ℕ, pos, negsuc, ◌+◌, ◌-◌, ◌%◌, ◌≤◌, ◌==◌, ◌++◌, ◌⊎◌, if◌then◌else◌, Bool, true, List, [], ◌∷◌, codes, length, Option, Some, None, is_some}
+use Rattle.std.specs.Prelude.{◌≡◌, ℕ, pos, negsuc, ◌+◌, ◌-◌, ◌%◌, ◌≤◌, ◌==◌, ◌++◌, ◌⊎◌, if◌then◌else◌, Bool, true, List, [], ◌∷◌, codes, length, replicate, Option, Some, None, is_some}
 use Rattle.toml.specs.Data.{Data, string, integer, Members, get_member}
 use Rattle.bpf_insn.specs.declared.forms.Insn.{Insn}
 use Rattle.bpf_asm.specs.Meaning.{Means}
 use Rattle.scenario_text.specs.declared.scenario.Coins.{Coins}
 use Rattle.scenario_text.specs.declared.scenario.Coins.TheVariants.{Zeros, Ones, Chacha}
 use Rattle.scenario_text.specs.declared.scenario.Kind.{Kind}
-use Rattle.scenario_text.specs.declared.scenario.Kind.TheVariants.{Clock, Say, Echo, Asm, Rule}
+use Rattle.scenario_text.specs.declared.scenario.Kind.TheVariants.{Clock, Say, Echo, Asm, Rule, Noise}
 use Rattle.scenario_text.specs.declared.scenario.ClockKey.{ClockKey}
 use Rattle.scenario_text.specs.declared.scenario.ClockKey.TheVariants as keys
 use Rattle.scenario_text.specs.declared.scenario.Unload.{Unload}
 use Rattle.scenario_text.specs.declared.scenario.CoinEntry.{CoinEntry}
 use Rattle.scenario_text.specs.Drafts.{LoadDraft, CorruptDraft, Draft}
+use Rattle.scenario_text.specs.Noise.{HasNoise}
 use Rattle.clock_nodes.specs.Rule as clocks
 use Rattle.clock_nodes.specs.Listings.{clock_listing, say_listing, echo_listing}
 use Rattle.clock_nodes.specs.declared.rule.TheConstants.{LEAST_MODULUS, MOST_MODULUS}
 use Rattle.rule_nodes.specs.declared.syntax.Sizes.{Sizes}
 use Rattle.rule_text.specs.Programs.{IsProgramOfText}
 use Rattle.node_env.specs.declared.shape.TheConstants.{MAX_NODES, MAX_MEMORY, MEMORY_UNIT}
-use Rattle.scenario_text.specs.declared.limits.TheConstants.{FIRST_VERSION, LAST_VERSION, CLOCK_VERSION, RULE_VERSION, FIRST_MAX_NODES, MAX_PULSES, MAX_KEY, MAX_SAID, MAX_CHANGES, MAX_COIN_ENTRIES}
+use Rattle.scenario_text.specs.declared.limits.TheConstants.{FIRST_VERSION, LAST_VERSION, CLOCK_VERSION, RULE_VERSION, NOISE_VERSION, FIRST_MAX_NODES, MAX_PULSES, MAX_KEY, MAX_SAID, MAX_CHANGES, MAX_COIN_ENTRIES}
 use Rattle.scenario_text.specs.Tables.{knows, IsNumber, HasNumber, HasText, IsArray, MayBeArray, IsTable}
 use Rattle.scenario_text.specs.declared.scenario.Frame.{Frame}
 
@@ -92,14 +93,16 @@ kind_name Say = codes "say"
 kind_name Echo = codes "echo"
 kind_name Asm = codes "asm"
 kind_name Rule = codes "rule"
+kind_name Noise = codes "noise"
 
--- rules came with RULE_VERSION
+-- rules came with RULE_VERSION, noise with NOISE_VERSION
 abbrev pub HasKind : ℕ → Kind → Type 0
 HasKind version Clock = Unit {0}
 HasKind version Say = Unit {0}
 HasKind version Echo = Unit {0}
 HasKind version Asm = Unit {0}
 HasKind version Rule = RULE_VERSION ≤ version
+HasKind version Noise = NOISE_VERSION ≤ version
 
 abbrev pub plain_load_keys : List (List ℕ)
 plain_load_keys = codes "pulse" ∷ codes "nodes" ∷ codes "program" ∷ []
@@ -111,6 +114,7 @@ load_keys Asm = plain_load_keys ++ codes "text" ∷ []
 load_keys Rule = plain_load_keys ++ codes "text" ∷ []
 load_keys Clock = plain_load_keys
 load_keys Echo = plain_load_keys
+load_keys Noise = plain_load_keys
 
 -- a number to be sent, or -1 for nothing
 abbrev pub IsSaid : Data → Option ℕ → Type 0
@@ -159,7 +163,7 @@ abbrev pub clock_insns : Frame → Option (List Insn) → List Insn
 clock_insns f None = clock_listing (rule_of f)
 clock_insns f (Some insns) = insns
 
--- the clock, the listing that is named, or what the text means
+-- the clock, the listing that is named, or what the text means. That of noise sends nothing
 abbrev pub IsProgramOf : Frame → Option (List Insn) → Kind → Members → List Insn → Type 0
 IsProgramOf f clock Clock load insns = insns ≡ clock_insns f clock
 IsProgramOf f clock Say load insns =
@@ -168,6 +172,7 @@ IsProgramOf f clock Say load insns =
 IsProgramOf f clock Echo load insns = insns ≡ echo_listing f.nodes
 IsProgramOf f clock Asm load insns = MeansAt (get_member (codes "text") load) insns
 IsProgramOf f clock Rule load insns = MeansRuleAt f (get_member (codes "text") load) insns
+IsProgramOf f clock Noise load insns = insns ≡ say_listing (replicate f.nodes None)
 
 pub record SpelledLoad (f : Frame) (clock : Option (List Insn)) (members : Members) (load : LoadDraft) : Type 0 where
   pub pulse : HasNumber members (codes "pulse") 1 f.pulses load.pulse
@@ -225,6 +230,7 @@ pub record Spelled (members : Members) (d : Draft) : Type 0 where
   pub entries : MayBeArray (IsTable (SpelledCoin d.frame)) (get_member (codes "coin") members) d.entries
   pub changes : load_count d.loads + length d.unloads + length d.corruptions ≤ MAX_CHANGES
   pub coin_entries : length d.entries ≤ MAX_COIN_ENTRIES
+  pub noise : HasNoise d.key d.frame.pulses d.loads
 
 abbrev pub SpellsNothing : Members → Type 0
 SpellsNothing members = (d : Draft) → Spelled members d → ⊥

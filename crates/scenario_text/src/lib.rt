@@ -9,6 +9,7 @@ pub mod laws;
 mod limits;
 mod line;
 mod loads;
+mod noise;
 mod numbers;
 mod programs;
 mod refusal;
@@ -22,9 +23,10 @@ mod whole;
 
 pub use limits::{
     CLOCK_VERSION, FIRST_MAX_NODES, FIRST_VERSION, LAST_VERSION, MAX_CHANGES, MAX_COIN_ENTRIES,
-    MAX_KEY, MAX_PULSES, MAX_SAID, MAX_TEXT, RULE_VERSION,
+    MAX_KEY, MAX_NOISE, MAX_PULSES, MAX_SAID, MAX_TEXT, NOISE_VERSION, RULE_VERSION,
 };
 pub use line::RefusalLine;
+pub use programs::say_program;
 pub use refusal::{Place, ScenarioError};
 pub use scenario::{CoinEntry, Coins, Corrupt, Frame, Kind, Load, Scenario, Unload};
 pub use text::scenario_in;

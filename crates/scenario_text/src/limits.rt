@@ -12,6 +12,9 @@ pub const CLOCK_VERSION: u64 = 3;
 /// The first version in which a clock, or the program of a load, may be a rule.
 pub const RULE_VERSION: u64 = 4;
 
+/// The first version in which a load may be noise.
+pub const NOISE_VERSION: u64 = 4;
+
 /// The most nodes of a scenario of the first version.
 pub const FIRST_MAX_NODES: u64 = 32;
 
@@ -26,6 +29,9 @@ pub const MAX_SAID: u64 = 4_294_967_295;
 
 /// The most changes; a load counts once for each of its nodes.
 pub const MAX_CHANGES: usize = 4_096;
+
+/// The most pulses of noise, from each load of noise to the last pulse, each counted once for each node of the load.
+pub const MAX_NOISE: usize = 32_768;
 
 /// The most entries that replace a coin.
 pub const MAX_COIN_ENTRIES: usize = 4_096;

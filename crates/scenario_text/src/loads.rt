@@ -1,10 +1,11 @@
 //! The entries `[[load]]`.
-ghost use Rattle.std.specs.Prelude.{◌≡◌, ◌↔◌, ℕ, List, Option, IfOk, IfErr, IsTrue, MatchResult, length, codes};
+ghost use Rattle.std.specs.Prelude.{◌≡◌, ◌↔◌, ℕ, List, Option, IfOk, IfErr, IsTrue, MatchResult, None, length, codes, replicate};
 ghost use Rattle.toml.specs.Data.{get_member};
 ghost use Rattle.toml.specs.View.{table_view};
 ghost use Rattle.bpf_insn.specs.declared.forms.Insn.{Insn};
 ghost use Rattle.scenario_text.specs.declared.scenario.Kind.{Kind as KindValue};
 ghost use Rattle.scenario_text.specs.declared.scenario.Kind.TheVariants.{Asm, Rule, Say};
+ghost use Rattle.clock_nodes.specs.Listings.{say_listing};
 ghost use Rattle.scenario_text.specs.Drafts.{LoadDraft};
 ghost use Rattle.scenario_text.specs.declared.refusal.Place.TheVariants.{Load as LoadAt};
 ghost use Rattle.scenario_text.specs.Broken.{BrokenLoad, BrokenText};
@@ -16,7 +17,7 @@ ghost use Rattle.scenario_text.specs.Spelling.{load_keys, kind_name, HasKind, Is
 ghost use Rattle.scenario_text.specs.Views.{load_of, extent_of, FitsFrame, FitsLoad};
 
 use crate::entries::Entry;
-use crate::limits::RULE_VERSION;
+use crate::limits::{NOISE_VERSION, RULE_VERSION};
 use crate::numbers::{Said, UpTo, integers_at, items_of};
 use crate::programs::{accepted, program_in, rule_in, say_program};
 use crate::refusal::{Place, ScenarioError};
@@ -25,14 +26,16 @@ use crate::setup::Setup;
 use crate::table::{knows_keys, number_at, value_at};
 use crate::top::kind_named;
 use bpf_verify::VerifiedProgram;
-use std::alloc::Global;
+use std::alloc::{AllocError, Global};
 use toml::Table;
 
 fn knows_load_keys(kind: Kind, table: &Table) -> bool
     ensures { result ≡ knows (load_keys kind) (table_view table.now) }
 {
     match kind {
-        Kind::Clock | Kind::Echo => knows_keys(table, &["pulse", "nodes", "program"]),
+        Kind::Clock | Kind::Echo | Kind::Noise => {
+            knows_keys(table, &["pulse", "nodes", "program"])
+        }
         Kind::Say => knows_keys(table, &["pulse", "nodes", "program", "values"]),
         Kind::Asm | Kind::Rule => knows_keys(table, &["pulse", "nodes", "program", "text"]),
     }
@@ -45,6 +48,7 @@ fn has_kind(version: u32, kind: Kind) -> bool
     match kind {
         Kind::Clock | Kind::Say | Kind::Echo | Kind::Asm => true,
         Kind::Rule => version as u64 >= RULE_VERSION,
+        Kind::Noise => version as u64 >= NOISE_VERSION,
     }
 }
 
@@ -163,6 +167,13 @@ fn rule_program(
     )
 }
 
+/// No value for any node.
+fn no_values(alloc: Global, nodes: u32) -> Result<Vec<Option<u32>>, AllocError>
+    ensures { IfOk result (λ vs. vs.items ≡ replicate nodes None) }
+{
+    vec![in alloc; None; nodes as usize]
+}
+
 /// The program of a load that says values.
 fn said_program(
     alloc: Global,
@@ -179,6 +190,19 @@ fn said_program(
 {
     let said = said_at(alloc, table, index, setup.frame.nodes)?;
     say_program(alloc, setup.shape, said.as_slice()).map_err(ScenarioError::Memory)
+}
+
+/// The program of a load of noise, which sends nothing.
+fn silent_program(alloc: Global, setup: &Setup) -> Result<VerifiedProgram, ScenarioError>
+    requires { IsSetup setup.now }
+    ensures program { IfOk result (λ v. v.program ≡ say_listing (replicate setup.now.frame.nodes None)) }
+    ensures fits { IfOk result (FitsFrame setup.now.frame) }
+    ensures refused { IfErr result (λ e. Excludes e ⊥) }
+{
+    let Ok(nothing) = no_values(alloc, setup.frame.nodes) else {
+        return Err(ScenarioError::Memory(AllocError));
+    };
+    say_program(alloc, setup.shape, nothing.as_slice()).map_err(ScenarioError::Memory)
 }
 
 /// The program of a load.
@@ -204,6 +228,7 @@ fn program_of(
         Kind::Echo => shared(&setup.echo),
         Kind::Asm => text_program(alloc, setup, table, index),
         Kind::Rule => rule_program(alloc, setup, table, index),
+        Kind::Noise => silent_program(alloc, setup),
     }
 }
 

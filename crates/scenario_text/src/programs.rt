@@ -117,8 +117,8 @@ pub(crate) fn echo_program(alloc: Global, shape: Shape) -> Result<VerifiedProgra
     taken(alloc, &listing, shape)
 }
 
-/// Who says these values.
-pub(crate) fn say_program(
+/// Returns the program of a node that sends these values.
+pub fn say_program(
     alloc: Global,
     shape: Shape,
     values: &[Option<u32>],

@@ -1,8 +1,8 @@
 //! A scenario.
-ghost use Rattle.std.specs.Prelude.{◌≡◌};
-ghost use Rattle.scenario_text.specs.Views.{is_judged};
+ghost use Rattle.node_env.specs.Env.{IsExtent};
 
 use crate::limits::CLOCK_VERSION;
+use crate::noise::any_noise;
 use bpf_verify::VerifiedProgram;
 
 /// What the coins are before entries replace some: all 0, all 1, or drawn by the key.
@@ -14,6 +14,7 @@ pub enum Coins {
 }
 
 /// What a load's program is made of: a listing (docs/CLOCK.md, "The programs"), or a text of the assembler or of a rule.
+/// The program of noise sends nothing; others, whose messages are drawn, are loaded for it in each pulse.
 #[derive(Clone, Copy, Debug, PartialEq, Eq)]
 pub enum Kind {
     Clock,
@@ -21,6 +22,22 @@ pub enum Kind {
     Echo,
     Asm,
     Rule,
+    Noise,
+}
+
+impl Kind {
+    ghost use Rattle.std.specs.Prelude.{◌≡◌};
+    ghost use Rattle.scenario_text.specs.Noise.{is_noise};
+
+    /// Returns true for noise.
+    pub fn is_noise(self) -> bool
+        ensures { result ≡ is_noise self }
+    {
+        match self {
+            Kind::Clock | Kind::Say | Kind::Echo | Kind::Asm | Kind::Rule => false,
+            Kind::Noise => true,
+        }
+    }
 }
 
 /// The key that holds the text of a scenario's clock, if its version and its other keys leave room for one.
@@ -91,13 +108,26 @@ pub struct Scenario {
     pub unloads: Vec<Unload>,
     pub corruptions: Vec<Corrupt>,
     pub entries: Vec<CoinEntry>,
+    pub ghost extent: { IsExtent nodes memory },
 }
 
 impl Scenario {
+    ghost use Rattle.std.specs.Prelude.{◌≡◌, map};
+    ghost use Rattle.scenario_text.specs.Noise.{any_noise};
+    ghost use Rattle.scenario_text.specs.Views.{is_judged, load_of};
+
     /// Returns true if the report judges whether clocks count, and says whose clock it is.
     pub fn is_judged(&self) -> bool
         ensures { result ≡ is_judged self.now.version }
     {
         self.version as u64 >= CLOCK_VERSION
+    }
+
+    /// Returns true if a load is one of noise.
+    #[tactic(auto, using(crate::proofs::NoiseLemmas::any_loads))]
+    pub fn has_noise(&self) -> bool
+        ensures { result ≡ any_noise (map load_of self.now.loads.items) }
+    {
+        any_noise(&self.loads)
     }
 }

@@ -56,6 +56,8 @@ pub(crate) fn kind_named(name: &str) -> Option<Kind>
         Some(Kind::Asm)
     } else if name == "rule" {
         Some(Kind::Rule)
+    } else if name == "noise" {
+        Some(Kind::Noise)
     } else {
         None
     }

@@ -10,6 +10,7 @@ ghost use Rattle.scenario_text.specs.Views.{Reads};
 use crate::arrays::arrays_at;
 use crate::entries::entries_of;
 use crate::limits::{CLOCK_VERSION, RULE_VERSION};
+use crate::noise::judge_noise;
 use crate::refusal::{Place, ScenarioError};
 use crate::scenario::{ClockKey, Scenario};
 use crate::setup::{Setup, setup_at};
@@ -97,6 +98,7 @@ pub fn scenario_of(alloc: Global, table: &Table) -> Result<Scenario, ScenarioErr
     let setup = setup_at(alloc, table, clock, frame)?;
     let arrays = arrays_at(table)?;
     let loads = entries_of(alloc, &setup, arrays.loads)?;
+    judge_noise(&loads, key, setup.frame.pulses)?;
     let unloads = entries_of(alloc, &setup, arrays.unloads)?;
     let corruptions = entries_of(alloc, &setup, arrays.corruptions)?;
     let entries = entries_of(alloc, &setup, arrays.entries)?;

@@ -1,5 +1,5 @@
 -- The rows into which the changes of a scenario are put, one of each pulse (docs/SCENARIOS.md, "What is done").
-use Rattle.std.specs.Prelude.{◌≡◌, ℕ, zero, suc, ◌==◌, ◌<◌, if◌then◌else◌, List, [], ◌++◌, get_or, length, map}
+use Rattle.std.specs.Prelude.{◌≡◌, ℕ, suc, ◌==◌, ◌<◌, if◌then◌else◌, List, [], ◌++◌, get_or, length, map}
 use Rattle.bench_workers.specs.Events.{Event, event_of}
 use Rattle.bench_workers.specs.declared.event.Event.{Event as EventCode}
 use Rattle.scenario_text.specs.declared.scenario.Scenario.{Scenario}

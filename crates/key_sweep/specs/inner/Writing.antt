@@ -10,7 +10,5 @@ abbrev pub IsFront : Option (List ℕ) → Option (List ℕ) → ℕ → List �
 IsFront old new before bytes (faults.Write written) =
     (taken : ℕ) × (taken < length bytes) × (written ≡ min (before + taken) MOST_TOLD)
     × Appends old new (take taken bytes)
-IsFront old new before bytes faults.Read = ⊥
-IsFront old new before bytes (faults.Refused error) = ⊥
 IsFront old new before bytes faults.NoKey = ⊥
 IsFront old new before bytes faults.Memory = ⊥

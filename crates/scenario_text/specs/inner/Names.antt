@@ -4,7 +4,7 @@ use Rattle.std.specs.Str.{bytes_eq}
 use Rattle.scenario_text.specs.declared.scenario.Coins.{Coins}
 use Rattle.scenario_text.specs.declared.scenario.Coins.TheVariants.{Zeros, Ones, Chacha}
 use Rattle.scenario_text.specs.declared.scenario.Kind.{Kind}
-use Rattle.scenario_text.specs.declared.scenario.Kind.TheVariants.{Clock, Say, Echo, Asm, Rule}
+use Rattle.scenario_text.specs.declared.scenario.Kind.TheVariants.{Clock, Say, Echo, Asm, Rule, Noise}
 
 abbrev pub coins_named : List ℕ → Option Coins
 coins_named name =
@@ -20,4 +20,5 @@ kind_named name =
     else if bytes_eq name (codes "echo") then Some Echo
     else if bytes_eq name (codes "asm") then Some Asm
     else if bytes_eq name (codes "rule") then Some Rule
+    else if bytes_eq name (codes "noise") then Some Noise
     else None

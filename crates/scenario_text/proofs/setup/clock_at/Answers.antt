@@ -1,7 +1,6 @@
-use Rattle.std.proofs.Common.{◌≡◌, List, MatchOption, subst, sym, ◌∙◌, true≢false}
+use Rattle.std.proofs.Common.{◌≡◌, MatchOption, subst, sym, ◌∙◌, true≢false}
 use Rattle.std.specs.Prelude.{Option}
 use Rattle.toml.specs.View.{table_view}
-use Rattle.bpf_insn.specs.declared.forms.Insn.{Insn}
 use Rattle.bpf_verify.specs.Accepted.{Accepted}
 use Rattle.clock_nodes.specs.Listings.{clock_listing}
 use Rattle.clock_nodes.specs.Rule.{Rule}

@@ -1,16 +1,20 @@
 use Rattle.std.proofs.Common.{◌≡◌, ℕ, List, map, rules, subst, sym, ◌∙◌}
 use Rattle.std.specs.Prelude.{Option, codes}
 use Rattle.bpf_insn.specs.declared.forms.Insn.{Insn}
+use Rattle.toml.specs.Data.{get_member}
 use Rattle.toml.specs.View.{table_view}
 use Rattle.scenario_text.specs.declared.refusal.Place.{Place}
 use Rattle.scenario_text.specs.declared.refusal.Place.TheVariants as places
 use Rattle.scenario_text.specs.declared.scenario.ClockKey.TheVariants as keys
 use Rattle.scenario_text.specs.Faults.{Refuses}
 use Rattle.scenario_text.specs.Spelling.{HasClock, HasFrame, clock_key, SpelledLoad, SpelledUnload, SpelledCorrupt, SpelledCoin, SpellsNothing}
+use Rattle.scenario_text.specs.declared.scenario.Load.{Load as LoadValue}
+use Rattle.scenario_text.specs.Noise.{HasNoise}
 use Rattle.scenario_text.specs.inner.Setups.{own_clock}
 use Rattle.scenario_text.specs.Tables.{IsTable, MayBeArray}
 use Rattle.scenario_text.specs.Views.{load_of, corrupt_of, extent_of}
 use Rattle.scenario_text.proofs.FrameLemmas.{excludes, refuses, refuses_more}
+use Rattle.scenario_text.proofs.NoiseLemmas.{no_noise}
 use Rattle.scenario_text.proofs.WholeLemmas.{no_arrays, plain_entries, spelled_whole}
 use Rattle.scenario_text.proofs.BrokenLemmas.{clock_refused, entries_refused, load_broken, none_broken}
 use Rattle.scenario_text.specs.Broken.{BrokenAt, BrokenLoad, BrokenText}
@@ -49,6 +53,25 @@ returns-in_err-loads-clause-refused c =
     let all = entries_refused c.args.alloc SpelledLoad BrokenLoad Load (codes "load") (λ d. d.loads) ms f clock _
     c.in_err-loads.field-0.0 has c.in_ok-setup.ensures.clock c.in_ok-arrays.ensures.loads (λ d spelled. spelled.loads)
     (load_broken ms f clock has c.in_ok-setup.ensures.clock) c.in_err-loads.ensures.refused in
+    search (rules, all)
+
+pub returns-in_err-judge_noise-clause-refused : goal.returns-in_err-judge_noise-clause-refused
+returns-in_err-judge_noise-clause-refused c =
+    let ms = table_view c.args.table.now in
+    let f = c.in_ok-setup.setup.frame in
+    let clock = own_clock c.in_ok-setup.setup in
+    let e = c.in_err-judge_noise.field-0.0 in
+    let has : HasFrame ms f = subst (HasFrame ms) (sym c.in_ok-setup.ensures.frame) c.in_ok-frame.ensures.frame in
+    let read : MayBeArray (IsTable (SpelledLoad f clock)) (get_member (codes "load") ms)
+    (map load_of c.in_ok-loads.loads.items) =
+    subst (λ o. MayBeArray (IsTable (SpelledLoad f clock)) o (map load_of c.in_ok-loads.loads.items))
+    c.in_ok-arrays.ensures.loads c.in_ok-loads.ensures.entries in
+    let none : HasNoise c.in_ok-key.key f.pulses (map load_of c.in_ok-loads.loads.items) → ⊥ =
+    subst (λ (ls : List LoadValue). HasNoise c.in_ok-key.key f.pulses (map load_of ls) → ⊥)
+    c.deref.ensures.value c.in_err-judge_noise.ensures.noise in
+    let all = refuses e (SpellsNothing ms) (BrokenAt ms) (excludes e (SpellsNothing ms)
+    c.in_err-judge_noise.ensures.fault
+    (no_noise ms f clock c.in_ok-coins.coins c.in_ok-key.key _ has c.in_ok-key.ensures.key read none)) in
     search (rules, all)
 
 pub returns-in_err-unloads-clause-refused : goal.returns-in_err-unloads-clause-refused
@@ -97,7 +120,9 @@ returns-clause-reads c =
           (subst (λ o. MayBeArray (IsTable (SpelledCorrupt f)) o (map corrupt_of c.in_ok-corruptions.corruptions.items))
           held.corruptions c.in_ok-corruptions.ensures.entries)
           (plain_entries (IsTable (SpelledCoin f)) _ _ _ held.entries c.in_ok-entries.ensures.entries)
-          held.has;
+          held.has
+          (subst (λ (ls : List LoadValue). HasNoise c.in_ok-key.key f.pulses (map load_of ls))
+          c.deref.ensures.value c.in_ok-judge_noise.ensures.noise);
       clock = c.in_ok-setup.ensures.fits;
       typable = c.in_ok-loads.ensures.fits;
     }
