@@ -25,7 +25,9 @@ HERE = re.compile(r'\("([^"]+)"(?:, (?:below|above))?\)|"([^"]+)", (?:below|abov
 SOURCE = re.compile(r"`((?:[\w-]+/)*[\w-]+\.(?:rt|antt|edit|patch))`")
 PLACEHOLDER = re.compile(r"\bNAME\b")
 TOOLCHAIN = re.compile(r"rattle-kit-\w+ logic [0-9a-f]+")
-WORDS = "none one two three four five six seven eight nine ten eleven twelve thirteen fourteen fifteen sixteen".split()
+WORDS = (
+    "none one two three four five six seven eight nine ten eleven twelve thirteen fourteen fifteen sixteen seventeen"
+).split()
 NUMBER = rf"(\d[\d,]*|{'|'.join(WORDS)})"
 COUNTED = re.compile(r"`tools/believed\.py ((?:[^\s`]+ )*[^\s`]+)`: ")
 LIMIT = re.compile(r"^\| `([A-Z_]+)` \| ([\d,]+) \| `(\w+)` \|", re.M)

@@ -53,6 +53,7 @@ ROWS = {
     ("dis", "nodes"): (["--clock", "--faults", "0"], IMAGE, "5"),
     ("dis", "faults"): (["--clock", "--nodes", "64"], IMAGE, "2"),
     ("dis", "modulus"): (["--clock"], IMAGE, "9"),
+    ("dis", "node"): ([], AGREED, "3:0"),
     ("verify", "nodes"): ([], "mov64 r1, 7; call recv; exit", "8"),
     ("verify", "memory"): ([], "ldxb r0, [r1+16]; exit", "24"),
     ("verify", "text"): ([], OWN, None),

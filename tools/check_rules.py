@@ -21,7 +21,7 @@ OPERATORS = ["+", "-", "*", "/", "%", "==", "!=", "<", "<=", ">", ">=", "and", "
 
 
 class Drawing:
-    """Draws rules: two words of memory, at most two lets, and loops that are at most one inside another."""
+    """Draws rules: two words of memory, at most three lets, and loops that are at most one inside another."""
 
     def __init__(self, dice):
         self.dice = dice
@@ -46,6 +46,12 @@ class Drawing:
             return f"(not {inner()})"
         return f"({inner()} {self.dice.choice(OPERATORS)} {inner()})"
 
+    def receiver(self, names):
+        """Any term, or a constant: a number, the node of a loop, or computed of constants."""
+        loops = [it for it in names if it[0] == "j"]
+        constants = ["0", "1", "3", "4294967295", "n", "n - 1", "(f + 1) % n", "2 * f - n", "(M > 7)", *loops]
+        return self.term(names, 1) if self.dice.random() < 0.5 else self.dice.choice(constants)
+
     def statement(self, names, targets, indent, depth):
         front, term = "    " * indent, self.term(names, 2)
         kind = self.dice.randrange(6 if depth else 4)
@@ -56,14 +62,14 @@ class Drawing:
         if kind == 2:
             return f"{front}send {term}\n"
         if kind == 3:
-            return f"{front}send {self.term(names, 1)} to {self.term(names, 1)}\n"
+            return f"{front}send {self.term(names, 1)} to {self.receiver(names)}\n"
         inner = lambda more=(): self.statement([*names, *more], targets, indent + 1, depth - 1)
         if kind == 4:
             return f"{front}if {term}:\n{inner()}{front}else:\n{inner()}"
         return f"{front}for j{indent}:\n{inner([f'j{indent}'])}"
 
     def rule(self):
-        lets = [f"x{it}" for it in range(self.dice.randrange(3))]
+        lets = [f"x{it}" for it in range(self.dice.choice([0, 0, 1, 1, 2, 2, 3]))]
         text = "state mark\n"
         for number, name in enumerate(lets):
             text += f"let {name} = {self.term(lets[:number], 2)}\n"

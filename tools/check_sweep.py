@@ -13,7 +13,7 @@ sys.dont_write_bytecode = True
 from built_program import TOP, answer, named_program, on_all_processors, tell
 from readings import in_step_since, read_run
 
-SCENARIOS = ["examples/chacha.toml", "examples/splitter.toml", "examples/luck/four.toml"]
+SCENARIOS = ["examples/chacha.toml", "examples/splitter.toml", "examples/luck/four.toml", "examples/noise.toml"]
 FIRST, LAST = 3, 11
 WORKERS = "123"
 NAMES = "key,agreed,of,first_disagreement,in_step_since,steps"

@@ -1,10 +1,14 @@
 #!/usr/bin/env python3
 """Writes the text of a clock of one's own for so many nodes: tools/own_clock.py NAME NODES FAULTS MODULUS
 
-NAME is one of: greatest, majority, middle (docs/OWN_CLOCK.md, "Three clocks to learn from"). The text is that of the
-key `clock` of a scenario of version 3.
+NAME is one of: greatest, majority, middle (docs/OWN_CLOCK.md, "Three clocks to learn from"), rule (docs/CLOCK.md, as
+`clockbed dis --clock` prints it). The text is that of the key `clock` of a scenario of version 3.
 """
+import pathlib
+import subprocess
 import sys
+
+PROGRAM = pathlib.Path(__file__).resolve().parent.parent / "clockbed"
 
 
 def listed(text, where=""):
@@ -125,7 +129,13 @@ def middle(nodes, faults, modulus):
     ) + sent(nodes)
 
 
-CLOCKS = {"greatest": greatest, "majority": majority, "middle": middle}
+def rule(nodes, faults, modulus):
+    words = ["--nodes", nodes, "--faults", faults, "--modulus", modulus]
+    told = subprocess.run([PROGRAM, "dis", "--clock", *map(str, words)], stdout=subprocess.PIPE, text=True, check=True)
+    return told.stdout.splitlines()
+
+
+CLOCKS = {"greatest": greatest, "majority": majority, "middle": middle, "rule": rule}
 
 
 def main(words):

@@ -8,12 +8,12 @@ mod progress;
 mod request;
 mod source;
 
-use crate::command::command;
 use crate::progress::Progress;
 use crate::request::asked_by;
 use crate::source::{Reasoned, open, tell_reason};
 use commands::Fault;
-use commands::request::{Request, SweepOptions};
+use commands::perform::perform;
+use commands::request::{Request, ScenarioRequest};
 use std::io::{IsTerminal, Read, Write};
 use std::process::ExitCode;
 use std::rt::Stderr;
@@ -50,7 +50,7 @@ fn answer<T: Threads + Wait + Sync>(
         Ok(asked) => asked,
         Err(fault) => return fault.tell(err),
     };
-    let program = Program { rt, threads, words };
+    let program = Program { rt, threads };
     match &asked.file {
         Some(path) => program.answer_on_file(&asked.request, path.as_str(), err),
         None => {
@@ -60,12 +60,11 @@ fn answer<T: Threads + Wait + Sync>(
     }
 }
 
-/// What the program runs on, and its words.
+/// What the program runs on.
 #[derive(Drop)]
 struct Program<'a, T> {
     rt: &'a HostRuntime,
     threads: &'a T,
-    words: &'a [String],
 }
 
 impl<T: Threads + Wait + Sync> Program<'_, T> {
@@ -93,37 +92,26 @@ impl<T: Threads + Wait + Sync> Program<'_, T> {
         let is_apart = err.is_terminal() && !stdout.is_terminal();
         let mut out = Reasoned::of(stdout);
         let status = match request {
-            Request::Sweep(options) if is_apart => self.sweep(options, &mut input, &mut out, err),
-            _ => command(
-                self.threads,
-                self.rt.alloc(),
-                self.words,
-                &mut input,
-                &mut out,
-                err,
-            ),
+            Request::Scenario(ScenarioRequest::Sweep(options)) if is_apart => {
+                let keys = options.keys.count();
+                let mut told = Progress::new(&mut out, self.rt.stderr(), self.rt, keys);
+                self.perform(request, &mut input, &mut told, err)
+            }
+            _ => self.perform(request, &mut input, &mut out, err),
         };
         input.tell_reason(err, name);
         out.tell_reason(err, "standard output");
         status
     }
 
-    /// Sweeps, and tells on the terminal how far it is, beside lines that go elsewhere.
-    fn sweep<R: Read, W: Write>(
+    /// Does what is asked for, and returns the exit status.
+    fn perform<R: Read, W: Write>(
         &self,
-        options: &SweepOptions,
+        request: &Request,
         reader: &mut R,
         out: &mut W,
         err: &mut Stderr,
     ) -> u8 {
-        let mut told = Progress::new(out, self.rt.stderr(), self.rt, options.keys.count());
-        command(
-            self.threads,
-            self.rt.alloc(),
-            self.words,
-            reader,
-            &mut told,
-            err,
-        )
+        perform(self.threads, self.rt.alloc(), request, reader, out, err)
     }
 }

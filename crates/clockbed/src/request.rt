@@ -13,8 +13,8 @@ use command_words::{
 use commands::Fault;
 use commands::request::{
     AnyStart, Cells, ClockOptions, ClockRule, CompileOptions, Detail, ExplainOptions,
-    ExploreOptions, LinesOptions, MailSpan, Question, Request, RunOptions, ShapeOptions,
-    StressOptions, SweepOptions, TracedRunOptions,
+    ExploreOptions, LinesOptions, MailSpan, NodeInPulse, NodeProgramOptions, Question, Request,
+    RunOptions, ScenarioRequest, ShapeOptions, StressOptions, SweepOptions,
 };
 use key_sweep::KeySpan;
 use run_lines::PulseSpan;
@@ -32,6 +32,10 @@ const CELLS_REASON: &str =
 /// Why a text names no node's run in a pulse.
 const TRACE_REASON: &str =
     "--trace is PULSE:NODE, two numbers such as 3:0: the first pulse is 1, the first node 0";
+
+/// Why a text names no node whose program is asked for.
+const NODE_REASON: &str =
+    "--node is PULSE:NODE, two numbers such as 3:0: the first pulse is 1, the first node 0";
 
 /// What the words ask for, and the file that they name for it to read.
 #[derive(Drop)]
@@ -112,9 +116,11 @@ fn request_in(
         "verify" => Ok(verify_request(options)),
         "run" => run_request(options),
         "stress" => Ok(Request::Stress(stress_options(options))),
-        "explore" => Ok(Request::Explore(explore_options(alloc, options)?)),
+        "explore" => Ok(Request::Scenario(ScenarioRequest::Explore(explore_options(
+            alloc, options,
+        )?))),
         "sweep" => match sweep_options(options) {
-            Some(options) => Ok(Request::Sweep(options)),
+            Some(options) => Ok(Request::Scenario(ScenarioRequest::Sweep(options))),
             None => Err(OptionsFault::Reason(
                 "the keys are FIRST..LAST, the first at most the last",
             )),
@@ -167,6 +173,15 @@ fn compile_options(options: &ArgMatches<'_>) -> CompileOptions {
 /// The text of an image, or that of the clock of a rule.
 fn dis_request(options: &ArgMatches<'_>) -> Result<Request, OptionsFault> {
     let list = options.get_flag("list");
+    if let Some(text) = options.get_str("node") {
+        return match place_in(text) {
+            Some(place) => Ok(Request::Scenario(ScenarioRequest::NodeProgram(NodeProgramOptions {
+                place,
+                list,
+            }))),
+            None => Err(OptionsFault::Reason(NODE_REASON)),
+        };
+    }
     if !options.get_flag("clock") {
         return Ok(Request::Dis { list });
     }
@@ -204,9 +219,9 @@ fn run_options(options: &ArgMatches<'_>) -> RunOptions {
 }
 
 /// The pulse and the node of a text PULSE:NODE.
-fn trace_options(text: &str) -> Option<TracedRunOptions> {
+fn place_in(text: &str) -> Option<NodeInPulse> {
     let (pulse, node) = text.split_once(':')?;
-    Some(TracedRunOptions {
+    Some(NodeInPulse {
         pulse: number_in(pulse)?,
         node: number_in(node)?,
     })
@@ -215,19 +230,19 @@ fn trace_options(text: &str) -> Option<TracedRunOptions> {
 /// A report, the run of a node in a pulse, or the lines of a span of pulses.
 fn run_request(options: &ArgMatches<'_>) -> Result<Request, OptionsFault> {
     if let Some(text) = options.get_str("trace") {
-        return match trace_options(text) {
-            Some(options) => Ok(Request::TracedRun(options)),
+        return match place_in(text) {
+            Some(options) => Ok(Request::Scenario(ScenarioRequest::TracedRun(options))),
             None => Err(OptionsFault::Reason(TRACE_REASON)),
         };
     }
     let run = run_options(options);
     if !options.get_flag("json") {
-        return Ok(Request::Run(run));
+        return Ok(Request::Scenario(ScenarioRequest::Run(run)));
     }
     let from = options.get_one::<u32>("from").unwrap_or(1);
     let until = options.get_one::<u32>("until").unwrap_or(u32::MAX);
     match PulseSpan::of(from, until) {
-        Some(span) => Ok(Request::Lines(LinesOptions { run, span })),
+        Some(span) => Ok(Request::Scenario(ScenarioRequest::Lines(LinesOptions { run, span }))),
         None => Err(OptionsFault::Reason("--from is past --until")),
     }
 }

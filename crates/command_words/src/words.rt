@@ -88,7 +88,20 @@ fn dis<'a>(alloc: Global, helps: &'a Helps) -> Building<'a> {
         "Example: clockbed dis examples/seven.bpf\nPage: docs/ASSEMBLER.md",
     )
     .arg(flag(alloc, "list", LIST));
-    with_rule(alloc, dis, helps).arg(file(alloc))
+    with_rule(alloc, dis, helps)
+        .made_arg(node_option(alloc))
+        .arg(file(alloc))
+}
+
+/// The option for the program of a node in a pulse of a scenario, which takes the place of the image.
+fn node_option<'a>(alloc: Global) -> Result<Arg<'a>, AllocError> {
+    text_option(
+        alloc,
+        "node",
+        "PULSE:NODE",
+        "Read a scenario, and print the program that this node runs in this pulse",
+    )
+    .conflicts_with("clock")
 }
 
 /// Adds the options that ask for the clock of a rule.

@@ -14,8 +14,10 @@ use Rattle.commands.specs.declared.input.Unread.{Unread}
 use Rattle.commands.specs.Image.{asked_extent}
 use Rattle.commands.specs.Input.{IsUnread, unread_line}
 use Rattle.commands.specs.Verdict.{verdict_ending}
-use Rattle.commands.specs.Explained.{Explanation, explanation, explained_text, lines_read, verdict_in, Explains, ExplainsProgram, IsRefusedBy}
+use Rattle.commands.specs.Explained.{Explanation, explanation, explained_text, lines_read, verdict_in, Explains, ExplainsProgram, IsRefusedBy, LeavesExplained}
+use Rattle.commands.specs.Output.{Leaves}
 use Rattle.commands.specs.inner.Input.{ReadsInput}
+use Rattle.commands.proofs.LeavesLemmas.{leaves_any}
 
 -- what contracts see of what is told
 abbrev seen : Told → Explanation
@@ -40,26 +42,29 @@ pub read_told : (asked : ExplainOptions) (bytes lines : List ℕ) (program : Lis
 read_told asked bytes lines program result same told =
     subst (λ ls. IfOk result (λ t. ExplainsProgram asked ls program (seen t))) same told
 
-pub input_told : (asked : ExplainOptions) (most : ℕ) (read : ProgramRead) (left : Option (List ℕ))
-    (result : Result Told Fault)
-    → IfSome left (λ input. ReadsInput asked.shape asked.text (take most input) (Ok read))
-    → IfOk result (λ told. ExplainsProgram asked (lines_read asked.text read.bytes.items) read.program (seen told))
-    → IfOk result (λ told. IfSome left (λ input. Explains asked (take most input) (seen told)))
-input_told asked most read left (Err fault) reads told = tt
-input_told asked most read None (Ok t) reads told = tt
-input_told asked most read (Some input) (Ok t) reads told =
-    inr (
+pub input_told : (asked : ExplainOptions) (most : ℕ) (read : ProgramRead) (told : Told) (text : List ℕ)
+    (input old new : Option (List ℕ)) (ended : Result Ending Fault)
+    → IfSome input (λ i. ReadsInput asked.shape asked.text (take most i) (Ok read))
+    → ExplainsProgram asked (lines_read asked.text read.bytes.items) read.program (seen told)
+    → text ≡ string_bytes told.text → Leaves old new text told.ending ended
+    → IfSome input (λ i. LeavesExplained old new asked (take most i) ended)
+input_told asked most read told text None old new ended reads is same left = tt
+input_told asked most read told text (Some i) old new ended reads is same left =
+    leaves_any (Explains asked (take most i)) (λ t. t.text) (λ t. t.ending) (seen told) old new ended
+    (inr (
       reads.0,
       read.program,
       reads.2,
-      subst (λ b. ExplainsProgram asked (lines_read asked.text b) read.program (seen t)) reads.1 told,
-    )
+      subst (λ b. ExplainsProgram asked (lines_read asked.text b) read.program (seen told)) reads.1 is,
+    ))
+    (subst (λ t. Leaves old new t told.ending ended) same left)
 
-pub input_refused : (asked : ExplainOptions) (most : ℕ) (unread : Unread) (left : Option (List ℕ))
-    (result : Result Told Fault)
-    → IfSome left (λ input. IsUnread asked.shape asked.text (take most input) unread)
-    → IfOk result (λ told. IsRefusedBy (unread_line unread) (seen told))
-    → IfOk result (λ told. IfSome left (λ input. Explains asked (take most input) (seen told)))
-input_refused asked most unread left (Err fault) is told = tt
-input_refused asked most unread None (Ok t) is told = tt
-input_refused asked most unread (Some input) (Ok t) is told = inl (unread, is, told)
+pub input_refused : (asked : ExplainOptions) (most : ℕ) (unread : Unread) (told : Told) (text : List ℕ)
+    (input old new : Option (List ℕ)) (ended : Result Ending Fault)
+    → IfSome input (λ i. IsUnread asked.shape asked.text (take most i) unread)
+    → IsRefusedBy (unread_line unread) (seen told) → text ≡ string_bytes told.text → Leaves old new text told.ending ended
+    → IfSome input (λ i. LeavesExplained old new asked (take most i) ended)
+input_refused asked most unread told text None old new ended is refused same left = tt
+input_refused asked most unread told text (Some i) old new ended is refused same left =
+    leaves_any (Explains asked (take most i)) (λ t. t.text) (λ t. t.ending) (seen told) old new ended
+    (inl (unread, is, refused)) (subst (λ t. Leaves old new t told.ending ended) same left)

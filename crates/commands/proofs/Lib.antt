@@ -8,8 +8,4 @@ mod FaultLemmas
 mod InputLemmas
 mod TracedLemmas
 mod TracedRunLemmas
-mod SweepLemmas
-pub mod PlaceLemmas
-pub mod ExploreLemmas
-mod LinesLemmas
-mod AheadLemmas
+mod LeavesLemmas

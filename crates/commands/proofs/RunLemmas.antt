@@ -1,62 +1,50 @@
--- What `run` leaves, from what the run of a scenario leaves.
-use Rattle.std.proofs.Common.{◌≡◌, ℕ, Bool, List, ◌++◌, refl, Option, Some, None, ap, ◌∙◌}
-use Rattle.std.specs.Prelude.{not, ◌&&◌, if◌then◌else◌, is_some, Result, Ok, Err, IfSome}
-use Rattle.std.specs.Io.KnownBytes.{Appends, Keeps}
+-- What the commands that read a scenario leave of its text.
+use Rattle.std.proofs.Common.{◌≡◌, ℕ, List, ◌++◌, refl, codes, inl, inr, Option, Some, None}
+use Rattle.std.specs.Prelude.{Result, Ok, Err, IfOk, IfSome}
+use Rattle.std.proofs.KnownBytes.{Keeps-refl}
 use Rattle.scenario_text.specs.declared.refusal.ScenarioError.{ScenarioError}
-use Rattle.bench_scenario.specs.declared.run.ScenarioFault.TheVariants as scenario
-use Rattle.scenario_text.specs.Views.{frame_of}
-use Rattle.bench_scenario.specs.Reports.{all_agree}
-use Rattle.bench_scenario.specs.Runs.{LeavesJudged, Reports}
+use Rattle.scenario_text.specs.declared.scenario.Scenario.{Scenario}
+use Rattle.scenario_text.specs.Lines.{refusal_line}
+use Rattle.scenario_text.specs.Texts.{IsDue, ReadsText}
 use Rattle.commands.specs.declared.ending.Ending.{Ending}
-use Rattle.commands.specs.declared.ending.Ending.TheVariants.{Violated, Done, Refused}
+use Rattle.commands.specs.declared.ending.Ending.TheVariants.{Violated, Done, Mismatched, Refused, Unfinished}
 use Rattle.commands.specs.declared.fault.Fault.{Fault}
-use Rattle.commands.specs.declared.fault.Fault.TheVariants as faults
+use Rattle.commands.specs.declared.request.ScenarioRequest.{ScenarioRequest}
+use Rattle.commands.specs.Faults.{IsBeforeWriting}
 use Rattle.commands.specs.Output.{Leaves}
-use Rattle.commands.specs.Run.{LeavesTold, Report, Refusal, told_text}
+use Rattle.commands.specs.Perform.{SaysAt}
+use Rattle.commands.specs.Scenarios.{LeavesFor, LeavesOf}
 
-pub whole_report : (input old new : Option (List ℕ)) (check agrees : Bool) (ending : Ending)
-    → ending ≡ (if check && not agrees then Violated else Done)
-    → IfSome input (λ text. LeavesJudged old new text (Ok agrees))
-    → IfSome input (λ text. LeavesTold check old new text (Ok ending))
-whole_report None old new check agrees ending is left = tt
-whole_report (Some text) old new check agrees ending is left = (Report left.0 agrees, left.1, is, left.2)
+-- of the scenario that the text says
+pub left_of_scenario : (asked : ScenarioRequest) (input old new : Option (List ℕ)) (s : Scenario)
+    (ended : Result Ending Fault) → IfSome input (λ text. ReadsText text s) → LeavesOf asked old new s ended
+    → IfSome input (λ text. LeavesFor asked old new text ended)
+left_of_scenario asked None old new s ended reads left = tt
+left_of_scenario asked (Some text) old new s ended reads left = inl (s, reads, left)
 
-pub cut_report : (input old new : Option (List ℕ)) (check : Bool) (written : ℕ)
-    → IfSome input (λ text. LeavesJudged old new text (Err (scenario.Write written)))
-    → IfSome input (λ text. LeavesTold check old new text (Err (faults.Write written)))
-cut_report None old new check written left = tt
-cut_report (Some text) old new check written left =
-    let told : Reports text left.0 = left.1 in (
-      Report left.0 (all_agree (frame_of told.scenario) (is_some told.scenario.clock) told.records),
-      record { told = told; verdict = refl },
-      left.2,
-      left.3,
-    )
+-- or of its refusal
+pub left_of_refusal : (asked : ScenarioRequest) (input old new : Option (List ℕ)) (error : ScenarioError)
+    (bytes : List ℕ) (cut : List ℕ → List ℕ) (ended : Result Ending Fault)
+    → IfSome input (λ text. IsDue text error × (bytes ≡ cut text))
+    → Leaves old new (refusal_line error ++ codes "\n") Refused ended
+    → IfSome input (λ text. LeavesFor asked old new text ended)
+left_of_refusal asked None old new error bytes cut ended due left = tt
+left_of_refusal asked (Some text) old new error bytes cut ended due left = inr (inl (error, due.0, left))
 
-pub kept_appends : (a b c : Option (List ℕ)) (bs : List ℕ) → Keeps a b → Appends b c bs → Appends a c bs
-kept_appends None b c bs p q = tt
-kept_appends (Some x) None c bs p q = absurd p
-kept_appends (Some x) (Some y) None bs p q = absurd q
-kept_appends (Some x) (Some y) (Some z) bs p q = q ∙ ap (λ l. l ++ bs) p
+-- or nothing
+pub left_unread : (asked : ScenarioRequest) (input old : Option (List ℕ)) (fault : Fault) → IsBeforeWriting fault
+    → IfSome input (λ text. LeavesFor asked old old text (Err fault))
+left_unread asked None old fault before = tt
+left_unread asked (Some text) old fault before = inr (inr (before, Keeps-refl old))
 
-pub kept_twice : (a b c : Option (List ℕ)) → Keeps a b → Keeps b c → Keeps a c
-kept_twice None b c p q = tt
-kept_twice (Some x) None c p q = absurd p
-kept_twice (Some x) (Some y) None p q = absurd q
-kept_twice (Some x) (Some y) (Some z) p q = q ∙ p
+-- an ending of which nothing is said
+unsaid_at : (ending : Ending) (old : Option (List ℕ)) → SaysAt ending old old
+unsaid_at Done old = refl
+unsaid_at Refused old = inl refl
+unsaid_at Mismatched old = refl
+unsaid_at Violated old = refl
+unsaid_at Unfinished old = refl
 
-pub refused_scenario : (input old mid new : Option (List ℕ)) (check : Bool) (error : ScenarioError)
-    (result : Result Ending Fault)
-    → IfSome input (λ text. LeavesJudged old mid text (Err (scenario.Refused error)))
-    → Leaves mid new (told_text (Refusal error)) Refused result
-    → IfSome input (λ text. LeavesTold check old new text result)
-refused_scenario None old mid new check error result left wrote = tt
-refused_scenario (Some text) old mid new check error (Ok given) left wrote =
-    (Refusal error, left.0, wrote.0, kept_appends old mid new _ left.1 wrote.1)
-refused_scenario (Some text) old mid new check error (Err (faults.Write after)) left wrote =
-    (Refusal error, left.0, wrote.0, kept_appends old mid new _ left.1 wrote.1)
-refused_scenario (Some text) old mid new check error (Err faults.Read) left wrote = absurd wrote
-refused_scenario (Some text) old mid new check error (Err faults.Memory) left wrote =
-    kept_twice old mid new left.1 wrote
-refused_scenario (Some text) old mid new check error (Err faults.Thread) left wrote = absurd wrote
-refused_scenario (Some text) old mid new check error (Err (faults.CommandLine said)) left wrote = absurd wrote
+pub unsaid_in : (ended : Result Ending Fault) (old : Option (List ℕ)) → IfOk ended (λ ending. SaysAt ending old old)
+unsaid_in (Ok ending) old = unsaid_at ending old
+unsaid_in (Err fault) old = tt

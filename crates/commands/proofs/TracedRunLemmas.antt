@@ -8,11 +8,10 @@ use Rattle.bpf_machine.specs.Run.{CompleteRun, End}
 use Rattle.run_trace.specs.Lines.{trace_text}
 use Rattle.run_trace.specs.Steps.{steps_of}
 use Rattle.scenario_text.specs.declared.scenario.Scenario.{Scenario}
-use Rattle.scenario_text.specs.Texts.{ReadsText}
 use Rattle.bench_scenario.specs.declared.inputs.NodeInput.{NodeInput}
 use Rattle.bench_scenario.specs.Runs.{bench_of}
 use Rattle.bench_scenario.proofs.InputLemmas.{ran_so}
-use Rattle.commands.specs.declared.request.TracedRunOptions.{TracedRunOptions}
+use Rattle.commands.specs.declared.request.NodeInPulse.{NodeInPulse}
 use Rattle.commands.specs.declared.node_lines.RunEnd.{RunEnd}
 use Rattle.bench_scenario.specs.Inputs.{FitsShape, RunsIn, setting_in}
 use Rattle.commands.specs.TracedRun.{IsRunOf, end_lines, input_lines, run_lines}
@@ -68,17 +67,15 @@ lines_made pulse node x env memory again program e first next whole sees held sa
 pub fits_own : (shape : Extent) (node : ℕ) (x : NodeInput) → FitsShape shape node x → FitsShape x.program.shape node x
 fits_own shape node x fits = subst (λ (e : Extent). FitsShape e node x) (sym fits.program) fits
 
-pub run_of : (asked : TracedRunOptions) (text lines : List ℕ) (s : Scenario) (x : NodeInput) → ReadsText text s
+pub run_of : (asked : NodeInPulse) (lines : List ℕ) (s : Scenario) (x : NodeInput)
     → RunsIn s asked.pulse asked.node x → FitsShape (bench_of s).shape asked.node x
     → (end : End) × CompleteRun x.program.program (setting_in x.program.shape asked.node x) x.memory.items end
-    × (lines ≡ run_lines x.program.shape asked.pulse asked.node x end) → IsRunOf asked text lines
-run_of asked text lines s x reads runs fits told = record {
-  scenario = s;
+    × (lines ≡ run_lines x.program.shape asked.pulse asked.node x end) → IsRunOf asked s lines
+run_of asked lines s x runs fits told = record {
   coins = runs.coins;
   state = runs.state;
   input = x;
   end = told.0;
-  reads = reads;
   opened = runs.opened;
   is_input = runs.input;
   run = ran_so (bench_of s) runs.state runs.coins asked.node x told.0 runs.input fits

@@ -1,21 +1,24 @@
 -- What is said of a program is said of its image; and bytes have one verdict, but for the rule that a refusal names.
-use Rattle.std.proofs.Common.{◌≡◌, ℕ, List, take, Option, Some, None, Result, Ok, Err, IfOk, IfSome, ◌∙◌, sym, subst}
+use Rattle.std.proofs.Common.{◌≡◌, ℕ, List, take, Option, Some, None, Result, Ok, Err, IfSome, ◌∙◌, sym, subst}
 use Rattle.node_env.specs.Env.{Extent}
 use Rattle.bpf_insn.specs.declared.forms.Insn.{Insn}
 use Rattle.bpf_insn.specs.Programs.{IsProgram, image_of}
 use Rattle.bpf_insn.specs.Images.{RefusesImage}
+use Rattle.bpf_insn.specs.declared.image.ImageError.{ImageError}
 use Rattle.bpf_verify.specs.Accepted.{IsFirstBroken}
 use Rattle.bpf_verify.specs.Paths.{IsLongestPath}
 use Rattle.bpf_verify.specs.Typable.{Typable}
 use Rattle.commands.specs.declared.request.ShapeOptions.{ShapeOptions}
+use Rattle.commands.specs.declared.ending.Ending.{Ending}
 use Rattle.commands.specs.declared.fault.Fault.{Fault}
 use Rattle.commands.specs.declared.verdict.Verdict.{Verdict}
 use Rattle.commands.specs.declared.verdict.Verdict.TheVariants.{NoProgram, Accepted, Refused}
 use Rattle.commands.specs.declared.image.Refusal.{Refusal}
 use Rattle.commands.specs.declared.image.Refusal.TheVariants.{Shape, Image}
-use Rattle.commands.specs.Image.{HasShape, IsRefused, ReadsFor, asked_extent}
-use Rattle.commands.specs.Verdict.{Judges, JudgesImage, JudgesProgram, SameVerdict}
+use Rattle.commands.specs.Image.{HasShape, IsRefused, ReadsImage, asked_extent}
+use Rattle.commands.specs.Verdict.{Judges, JudgesImage, JudgesProgram, LeavesVerdict, LeavesVerdictLine, SameVerdict, verdict_ending, verdict_text}
 use Rattle.commands.proofs.AnswerLemmas.{OneProgram, OneRefusal, Apart, one_refused}
+use Rattle.commands.proofs.LeavesLemmas.{leaves_any, leaves_known}
 
 judged_image : (bytes : List ℕ) (program : List Insn) (shape asked : Extent) (verdict : Verdict) → shape ≡ asked
     → IsProgram program → bytes ≡ image_of program
@@ -37,16 +40,33 @@ judges options bytes program shape (Accepted slots announced) has at whole image
 judges options bytes program shape (Refused slot rule) has at whole image judged =
     (has, judged_image bytes program shape _ _ at whole image judged)
 
--- the verdict on the program that was read is that on the bytes
-pub judges_read : (most : ℕ) (options : ShapeOptions) (shape : Extent) (program : List Insn) (left : Option (List ℕ))
-    (result : Result Verdict Fault)
-    → IfSome left (λ input. ReadsFor options (take most input) (Ok (shape, program)))
-    → IfOk result (JudgesProgram program shape)
-    → IfOk result (λ verdict. IfSome left (λ input. Judges options (take most input) verdict))
-judges_read most options shape program left (Err fault) read judged = tt
-judges_read most options shape program None (Ok verdict) read judged = tt
-judges_read most options shape program (Some input) (Ok verdict) read judged =
-    judges options (take most input) program shape verdict read.0 read.1 read.2.0 read.2.1 judged
+-- the verdict on the program of the bytes that were read is that on the bytes
+pub judged_known : (most : ℕ) (options : ShapeOptions) (shape : Extent) (bytes : List ℕ) (program : List Insn)
+    (verdict : Verdict) (input old new : Option (List ℕ)) (ended : Result Ending Fault)
+    → HasShape options → shape ≡ asked_extent options → ReadsImage bytes (Ok program)
+    → IfSome input (λ i. bytes ≡ take most i) → JudgesProgram program shape verdict
+    → LeavesVerdictLine old new verdict ended
+    → IfSome input (λ i. LeavesVerdict old new options (take most i) ended)
+judged_known most options shape bytes program verdict input old new ended has at read known judged told =
+    leaves_known (Judges options) verdict_text verdict_ending verdict (take most) bytes input old new ended known
+    (judges options bytes program shape verdict has at read.0 read.1 judged) told
+
+-- of bytes that are the image of no program
+pub refused_known : (most : ℕ) (options : ShapeOptions) (bytes : List ℕ) (error : ImageError)
+    (input old new : Option (List ℕ)) (ended : Result Ending Fault) → HasShape options → ReadsImage bytes (Err error)
+    → IfSome input (λ i. bytes ≡ take most i) → LeavesVerdictLine old new (NoProgram (Image error)) ended
+    → IfSome input (λ i. LeavesVerdict old new options (take most i) ended)
+refused_known most options bytes error input old new ended has read known told =
+    leaves_known (Judges options) verdict_text verdict_ending (NoProgram (Image error)) (take most) bytes input old new
+    ended known (has, read) told
+
+-- of options that have no shape
+pub no_shape_known : (most : ℕ) (options : ShapeOptions) (input old new : Option (List ℕ)) (ended : Result Ending Fault)
+    → (HasShape options → ⊥) → LeavesVerdictLine old new (NoProgram Shape) ended
+    → IfSome input (λ i. LeavesVerdict old new options (take most i) ended)
+no_shape_known most options None old new ended none told = tt
+no_shape_known most options (Some i) old new ended none told =
+    leaves_any (Judges options (take most i)) verdict_text verdict_ending (NoProgram Shape) old new ended none told
 
 -- ---- one verdict
 

@@ -1,6 +1,6 @@
 -- What `exec` leaves on its output.
 use Rattle.std.specs.Prelude.{◌≡◌, ◌⊎◌, ℕ, Bool, true, false, List, ◌++◌, take, Option, Result, Ok, Err}
-use Rattle.std.specs.Io.KnownBytes.{Appends, Keeps}
+use Rattle.std.specs.Io.KnownBytes.{Appends}
 use Rattle.bpf_insn.specs.declared.forms.Insn.{Insn}
 use Rattle.bpf_machine.specs.declared.word.Outcome.{Outcome}
 use Rattle.bpf_machine.specs.Run.{RunAnswers}
@@ -17,10 +17,9 @@ use Rattle.commands.specs.declared.fault.Fault.TheVariants as faults
 use Rattle.commands.specs.declared.input.Unread.{Unread}
 use Rattle.commands.specs.Answer.{AnswersLeaving, ending_of, text_of, told_text}
 use Rattle.commands.specs.Case.{Left, case_memory, case_setting}
-use Rattle.commands.specs.Faults.{IsBeforeWriting}
 use Rattle.commands.specs.Image.{HasShape, asked_extent}
 use Rattle.commands.specs.Input.{IsProgramOf, IsUnread}
-use Rattle.commands.specs.Output.{Leaves, LeavesAny}
+use Rattle.commands.specs.Output.{Leaves, LeavesAny, LeavesNothing}
 
 -- The whole line of an answer, or its first bytes where a write failed; and nothing where memory ran out. No other
 -- fault comes.
@@ -83,17 +82,12 @@ pub record ReadsProgram (asked : ExecOptions) (bytes : List ℕ) (program : List
   pub shape : HasShape asked.shape
   pub read : IsProgramOf asked.text bytes program
 
--- nothing was written, at a fault before that
-abbrev pub LeavesUnread : Option (List ℕ) → Option (List ℕ) → Result Ending Fault → Type 0
-LeavesUnread old new (Ok ending) = ⊥
-LeavesUnread old new (Err fault) = IsBeforeWriting fault × Keeps old new
-
 -- the traced run of the program of these bytes, or the line that refuses them, or nothing where they couldn't be read
 abbrev pub LeavesTraced : Option (List ℕ) → Option (List ℕ) → ExecOptions → List ℕ → Result Ending Fault → Type 0
 LeavesTraced old new asked bytes result =
     ((program : List Insn) × ReadsProgram asked bytes program × LeavesSteps old new asked program result)
     ⊎ (((unread : Unread) × IsUnread asked.shape asked.text bytes unread
-    × LeavesLine old new (answers.Refused unread) result) ⊎ LeavesUnread old new result)
+    × LeavesLine old new (answers.Refused unread) result) ⊎ LeavesNothing old new result)
 
 -- with or without the lines of the steps
 abbrev pub LeavesBy : Bool → Option (List ℕ) → Option (List ℕ) → ExecOptions → List ℕ → Result Ending Fault → Type 0

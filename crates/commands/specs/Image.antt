@@ -1,5 +1,5 @@
 -- What the bytes on standard input are (RFC 9669, section 3; docs/INSTRUCTIONS.md), and the shape that is asked for.
-use Rattle.std.specs.Prelude.{◌≡◌, ◌≢◌, ℕ, List, ◌++◌, codes, Result, Ok, Err}
+use Rattle.std.specs.Prelude.{◌≡◌, ◌≢◌, List, ℕ, ◌++◌, codes, Result, Ok, Err}
 use Rattle.std.specs.Fmt.{decimal}
 use Rattle.node_env.specs.Env.{Extent, IsExtent}
 use Rattle.bpf_insn.specs.declared.forms.Insn.{Insn}
@@ -27,11 +27,6 @@ HasShape asked = IsExtent asked.nodes asked.memory
 abbrev pub IsRefused : ShapeOptions → List ℕ → Refusal → Type 0
 IsRefused asked bytes Shape = HasShape asked → ⊥
 IsRefused asked bytes (Image error) = HasShape asked × ReadsImage bytes (Err error)
-
--- the shape that is asked for and the program of the bytes, or why there is none
-abbrev pub ReadsFor : ShapeOptions → List ℕ → Result (Extent × List Insn) Refusal → Type 0
-ReadsFor asked bytes (Ok pair) = HasShape asked × (pair.0 ≡ asked_extent asked) × ReadsImage bytes (Ok pair.1)
-ReadsFor asked bytes (Err refusal) = IsRefused asked bytes refusal
 
 -- the line of a refusal, without its end (docs/COMMANDS.md, "What exec prints")
 abbrev pub refusal_line : Refusal → List ℕ

@@ -16,6 +16,9 @@ pub mod Run
 pub mod Lines
 pub mod Stress
 pub mod Sweep
+pub mod NodeText
 pub mod TracedRun
+pub mod NodeProgram
+pub mod Scenarios
 pub mod Perform
 pub mod inner

@@ -4,6 +4,7 @@ use Rattle.std.specs.Io.KnownBytes.{Appends, Keeps}
 use Rattle.commands.specs.declared.ending.Ending.{Ending}
 use Rattle.commands.specs.declared.fault.Fault.{Fault}
 use Rattle.commands.specs.declared.fault.Fault.TheVariants as faults
+use Rattle.commands.specs.Faults.{IsBeforeWriting}
 
 -- The whole text, with this ending; the first bytes of the text, as many as the fault says and not all, where a write
 -- failed; and nothing where memory ran out. No other fault comes.
@@ -14,6 +15,11 @@ Leaves old new text ending (Err faults.Read) = ⊥
 Leaves old new text ending (Err faults.Memory) = Keeps old new
 Leaves old new text ending (Err faults.Thread) = ⊥
 Leaves old new text ending (Err (faults.CommandLine said)) = ⊥
+
+-- nothing was written, at a fault before that
+abbrev pub LeavesNothing : Option (List ℕ) → Option (List ℕ) → Result Ending Fault → Type 0
+LeavesNothing old new (Ok ending) = ⊥
+LeavesNothing old new (Err fault) = IsBeforeWriting fault × Keeps old new
 
 -- The whole text of what the command answers, with its ending; the first bytes of that text, as many as the fault says
 -- and not all, where a write failed; and nothing at every other fault.

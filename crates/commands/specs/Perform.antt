@@ -8,25 +8,21 @@ use Rattle.commands.specs.declared.fault.Fault.{Fault}
 use Rattle.commands.specs.declared.image.TheConstants.{IMAGE_BYTES}
 use Rattle.commands.specs.declared.request.ShapeOptions.{ShapeOptions}
 use Rattle.commands.specs.declared.request.Request.{Request}
-use Rattle.commands.specs.declared.request.Request.TheVariants.{Exec, Asm, Compile, Dis, Clock, Verify, Explain, Run, Lines, TracedRun, Stress, Sweep, Explore, Help}
+use Rattle.commands.specs.declared.request.Request.TheVariants.{Exec, Asm, Compile, Dis, Clock, Verify, Explain, Scenario, Stress, Help}
 use Rattle.commands.specs.Asm.{LeavesImage}
 use Rattle.commands.specs.Compile.{LeavesCompiled}
 use Rattle.commands.specs.Dis.{LeavesClock, LeavesListing}
 use Rattle.commands.specs.Ending.{status_of}
 use Rattle.commands.specs.Exec.{LeavesExec}
 use Rattle.commands.specs.Explained.{LeavesExplained}
-use Rattle.commands.specs.Explore.{LeavesExplored}
 use Rattle.commands.specs.Faults.{Says, fault_status, fault_text}
 use Rattle.commands.specs.Image.{HasShape}
 use Rattle.commands.specs.Input.{most_read}
-use Rattle.commands.specs.Lines.{LeavesJson}
 use Rattle.commands.specs.Output.{Leaves}
-use Rattle.commands.specs.Run.{LeavesTold, WantsThread}
 use Rattle.rule_notes.specs.Words.{IsNote}
 use Rattle.bench_scenario.specs.declared.run.TheConstants.{MOST_BYTES}
+use Rattle.commands.specs.Scenarios.{LeavesFor}
 use Rattle.commands.specs.Stress.{LeavesStressed}
-use Rattle.commands.specs.Sweep.{LeavesSwept}
-use Rattle.commands.specs.TracedRun.{LeavesTracedRun}
 use Rattle.commands.specs.Verdict.{LeavesVerdict}
 
 -- what each command leaves on its output, where the bytes of its input are known, and how it ends
@@ -44,16 +40,8 @@ CarriesOut (Verify asked) input old new ended = IfSome input
     (λ bytes. LeavesVerdict old new asked (take IMAGE_BYTES bytes) ended)
 CarriesOut (Explain asked) input old new ended = IfSome input
     (λ bytes. LeavesExplained old new asked (take (most_read asked.text) bytes) ended)
-CarriesOut (Run asked) input old new ended = IfSome input
-    (λ bytes. LeavesTold asked.check old new bytes ended × WantsThread bytes ended)
-CarriesOut (Lines asked) input old new ended = IfSome input
-    (λ bytes. LeavesJson asked.run.check old new bytes asked.span ended)
-CarriesOut (TracedRun asked) input old new ended = IfSome input
-    (λ bytes. LeavesTracedRun old new asked (take MOST_BYTES bytes) ended)
 CarriesOut (Stress asked) input old new ended = LeavesStressed asked old new ended
-CarriesOut (Sweep asked) input old new ended = IfSome input (λ bytes. LeavesSwept old new bytes asked.keys ended)
-CarriesOut (Explore asked) input old new ended = IfSome input
-    (λ bytes. LeavesExplored old new asked (take MOST_BYTES bytes) ended)
+CarriesOut (Scenario asked) input old new ended = IfSome input (λ text. LeavesFor asked old new text ended)
 CarriesOut (Help text) input old new ended = Leaves old new (string_bytes text) Done ended
 
 -- the status of an ending, or of a fault
@@ -65,13 +53,17 @@ status_for (Err fault) = fault_status
 abbrev pub SaysNote : Option (List ℕ) → Option (List ℕ) → Type 0
 SaysNote old new = (new ≡ old) ⊎ ((note : List ℕ) × IsNote note × Says old new note)
 
--- what is said of how it ended: the fault; of a refusal a note, or nothing; of another ending nothing
+-- what is said of an ending: of a refusal a note, or nothing; of another ending nothing
+abbrev pub SaysAt : Ending → Option (List ℕ) → Option (List ℕ) → Type 0
+SaysAt Refused old new = SaysNote old new
+SaysAt Done old new = new ≡ old
+SaysAt Mismatched old new = new ≡ old
+SaysAt Violated old new = new ≡ old
+SaysAt Unfinished old new = new ≡ old
+
+-- what is said of how it ended
 abbrev pub SaysOf : Result Ending Fault → Option (List ℕ) → Option (List ℕ) → Type 0
-SaysOf (Ok Refused) old new = SaysNote old new
-SaysOf (Ok Done) old new = new ≡ old
-SaysOf (Ok Mismatched) old new = new ≡ old
-SaysOf (Ok Violated) old new = new ≡ old
-SaysOf (Ok Unfinished) old new = new ≡ old
+SaysOf (Ok ending) old new = SaysAt ending old new
 SaysOf (Err fault) old new = Says old new (fault_text fault)
 
 -- the command is carried out, and told are the status and the fault of how it ended
@@ -96,10 +88,6 @@ TakesFor (Clock asked) old new = new ≡ old
 TakesFor (Verify asked) old new = TakesShaped asked old new
 TakesFor (Explain asked) old new =
     TakesAtMost (most_read asked.text) old new × ((HasShape asked.shape → ⊥) → new ≡ old)
-TakesFor (Run asked) old new = TakesAtMost MOST_BYTES old new
-TakesFor (Lines asked) old new = TakesAtMost MOST_BYTES old new
-TakesFor (TracedRun asked) old new = TakesAtMost MOST_BYTES old new
 TakesFor (Stress asked) old new = new ≡ old
-TakesFor (Sweep asked) old new = TakesAtMost MOST_BYTES old new
-TakesFor (Explore asked) old new = TakesAtMost MOST_BYTES old new
+TakesFor (Scenario asked) old new = TakesAtMost MOST_BYTES old new
 TakesFor (Help text) old new = new ≡ old

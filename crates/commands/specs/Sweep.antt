@@ -1,52 +1,29 @@
 -- What `sweep` leaves on its output (docs/COMMANDS.md, "What sweep prints").
-use Rattle.std.specs.Prelude.{◌≢◌, ◌⊎◌, ℕ, List, ◌++◌, codes, Option, Result, Ok, Err}
-use Rattle.std.specs.Io.KnownBytes.{Keeps}
+use Rattle.std.specs.Prelude.{◌≡◌, ◌⊎◌, false, ℕ, List, codes, Option, Result, Ok, Err}
 use Rattle.key_sweep.specs.Keys.{Span}
-use Rattle.key_sweep.specs.Sweeps.{LeavesSweep}
+use Rattle.key_sweep.specs.Sweeps.{LeavesSweep, uses_key}
 use Rattle.key_sweep.specs.declared.sweeping.SweepFault.TheVariants as sweeps
-use Rattle.scenario_text.specs.declared.refusal.ScenarioError.{ScenarioError}
-use Rattle.scenario_text.specs.declared.scenario.Coins.TheVariants.{Chacha}
 use Rattle.scenario_text.specs.declared.scenario.Scenario.{Scenario}
-use Rattle.scenario_text.specs.Lines.{refusal_line}
-use Rattle.scenario_text.specs.Texts.{IsDue, ReadsText}
 use Rattle.commands.specs.declared.ending.Ending.{Ending}
-use Rattle.commands.specs.declared.ending.Ending.TheVariants.{Violated, Done, Mismatched, Refused, Unfinished}
+use Rattle.commands.specs.declared.ending.Ending.TheVariants.{Done, Refused}
 use Rattle.commands.specs.declared.fault.Fault.{Fault}
 use Rattle.commands.specs.declared.fault.Fault.TheVariants as faults
 use Rattle.commands.specs.Output.{Leaves}
 
--- why nothing is swept
-pub data Unswept : Type 0 where
-  Refusal : (error : ScenarioError) → Unswept
-  NoKey : Unswept
-
-abbrev pub IsUnswept : List ℕ → Unswept → Type 0
-IsUnswept text (Refusal error) = IsDue text error
-IsUnswept text NoKey = (s : Scenario) × ReadsText text s × (s.coins ≢ Chacha)
-
+-- the line that refuses a scenario of which nothing is drawn by a key
 abbrev pub no_key_line : List ℕ
 no_key_line = codes "refused sweep NoKey\n"
 
-abbrev pub unswept_text : Unswept → List ℕ
-unswept_text (Refusal error) = refusal_line error ++ codes "\n"
-unswept_text NoKey = no_key_line
+-- the lines of the keys; their front if a write failed; whole lines if memory ran out
+abbrev pub LeavesKeys : Option (List ℕ) → Option (List ℕ) → Scenario → Span → Result Ending Fault → Type 0
+LeavesKeys old new s keys (Ok ending) = (ending ≡ Done) × LeavesSweep old new s keys (Ok tt)
+LeavesKeys old new s keys (Err (faults.Write after)) = LeavesSweep old new s keys (Err (sweeps.Write after))
+LeavesKeys old new s keys (Err faults.Memory) = LeavesSweep old new s keys (Err sweeps.Memory)
+LeavesKeys old new s keys (Err faults.Read) = ⊥
+LeavesKeys old new s keys (Err faults.Thread) = ⊥
+LeavesKeys old new s keys (Err (faults.CommandLine said)) = ⊥
 
--- the line of a refusal, or its front
-abbrev pub LeavesUnswept : Option (List ℕ) → Option (List ℕ) → List ℕ → Result Ending Fault → Type 0
-LeavesUnswept old new text result =
-    (why : Unswept) × IsUnswept text why × Leaves old new (unswept_text why) Refused result
-
--- the lines of the keys, or the line that refuses the text; their front where a write failed; whole lines where there
--- was no memory for one more
-abbrev pub LeavesSwept : Option (List ℕ) → Option (List ℕ) → List ℕ → Span → Result Ending Fault → Type 0
-LeavesSwept old new text keys (Ok Done) = LeavesSweep old new text keys (Ok tt)
-LeavesSwept old new text keys (Ok Refused) = LeavesUnswept old new text (Ok Refused)
-LeavesSwept old new text keys (Ok Mismatched) = ⊥
-LeavesSwept old new text keys (Ok Violated) = ⊥
-LeavesSwept old new text keys (Ok Unfinished) = ⊥
-LeavesSwept old new text keys (Err faults.Read) = Keeps old new
-LeavesSwept old new text keys (Err (faults.Write after)) =
-    LeavesSweep old new text keys (Err (sweeps.Write after)) ⊎ LeavesUnswept old new text (Err (faults.Write after))
-LeavesSwept old new text keys (Err faults.Memory) = LeavesSweep old new text keys (Err sweeps.Memory)
-LeavesSwept old new text keys (Err faults.Thread) = ⊥
-LeavesSwept old new text keys (Err (faults.CommandLine said)) = ⊥
+-- the same, or the line of the refusal
+abbrev pub LeavesSwept : Option (List ℕ) → Option (List ℕ) → Scenario → Span → Result Ending Fault → Type 0
+LeavesSwept old new s keys ended =
+    LeavesKeys old new s keys ended ⊎ ((uses_key s ≡ false) × Leaves old new no_key_line Refused ended)

@@ -1,5 +1,5 @@
 -- What `run --trace` leaves on its output (docs/COMMANDS.md, "What run --trace prints").
-use Rattle.std.specs.Prelude.{◌≡◌, ◌<◌, ◌≤◌, ℕ, List, ◌++◌, codes, Option, Result}
+use Rattle.std.specs.Prelude.{◌≡◌, ℕ, List, ◌++◌, codes, Option, Result}
 use Rattle.std.specs.Fmt.{decimal}
 use Rattle.node_env.specs.Env.{Extent}
 use Rattle.bpf_machine.specs.Run.{End}
@@ -7,21 +7,17 @@ use Rattle.bench_core.specs.State.{State}
 use Rattle.bench_core.specs.Told.{RanTo}
 use Rattle.bench_workers.specs.Opening.{OpensPulse}
 use Rattle.scenario_text.specs.declared.scenario.Scenario.{Scenario}
-use Rattle.scenario_text.specs.Lines.{refusal_line}
-use Rattle.scenario_text.specs.Texts.{IsDue, ReadsText}
 use Rattle.bench_scenario.specs.declared.inputs.NodeInput.{NodeInput}
 use Rattle.bench_scenario.specs.Events.{events_of}
-use Rattle.bench_scenario.specs.Inputs.{HasPulse, IsInputOf, RestsIn, setting_in}
+use Rattle.bench_scenario.specs.Inputs.{IsInputOf, setting_in}
 use Rattle.bench_scenario.specs.Runs.{bench_of}
 use Rattle.run_trace.specs.Lines.{trace_text}
 use Rattle.run_trace.specs.Steps.{steps_of}
 use Rattle.commands.specs.declared.ending.Ending.{Ending}
-use Rattle.commands.specs.declared.ending.Ending.TheVariants as endings
 use Rattle.commands.specs.declared.fault.Fault.{Fault}
-use Rattle.commands.specs.declared.request.TracedRunOptions.{TracedRunOptions}
-use Rattle.commands.specs.declared.traced_run.NodeTrace.{NodeTrace}
-use Rattle.commands.specs.declared.traced_run.NodeTrace.TheVariants as traces
+use Rattle.commands.specs.declared.request.NodeInPulse.{NodeInPulse}
 use Rattle.commands.specs.Case.{left_lines, mail_text, memory_line}
+use Rattle.commands.specs.NodeText.{IsNodeText, node_text, node_text_ending}
 use Rattle.commands.specs.Output.{LeavesAny}
 
 -- ---- the lines
@@ -56,46 +52,19 @@ run_lines shape pulse node x end =
 
 -- ---- the answer
 
--- the text says a scenario; the pulse is opened in its run; this is what the node runs there, and this its complete
--- run, of which the pulse tells the steps; and these are their lines
-pub record IsRunOf (asked : TracedRunOptions) (text lines : List ℕ) : Type 0 where
-  pub scenario : Scenario
+-- the pulse is opened in the run of the scenario; this is what the node runs there, and this its complete run, of which
+-- the pulse tells the steps; and these are their lines
+pub record IsRunOf (asked : NodeInPulse) (s : Scenario) (lines : List ℕ) : Type 0 where
   pub coins : List ℕ
   pub state : State
   pub input : NodeInput
   pub end : End
-  pub reads : ReadsText text scenario
-  pub opened : OpensPulse (bench_of scenario) (events_of scenario) asked.pulse coins state
+  pub opened : OpensPulse (bench_of s) (events_of s) asked.pulse coins state
   pub is_input : IsInputOf state coins asked.node input
-  pub run : RanTo (bench_of scenario) state coins asked.node end
-  pub whole : lines ≡ run_lines (bench_of scenario).shape asked.pulse asked.node input end
-
--- the first refusal that holds
-abbrev pub IsTrace : TracedRunOptions → List ℕ → NodeTrace → Type 0
-IsTrace asked text (traces.Refused error) = IsDue text error
-IsTrace asked text traces.NoPulse = (s : Scenario) × ReadsText text s × (HasPulse s asked.pulse → ⊥)
-IsTrace asked text traces.NoNode =
-    (s : Scenario) × ReadsText text s × HasPulse s asked.pulse × (s.nodes ≤ asked.node)
-IsTrace asked text traces.NoProgram =
-    (s : Scenario) × ReadsText text s × HasPulse s asked.pulse × (asked.node < s.nodes)
-    × RestsIn s asked.pulse asked.node
-IsTrace asked text (traces.Lines lines) = IsRunOf asked text lines.items
-
-abbrev pub trace_of : NodeTrace → List ℕ
-trace_of (traces.Refused error) = refusal_line error ++ codes "\n"
-trace_of traces.NoPulse = codes "refused trace NoPulse\n"
-trace_of traces.NoNode = codes "refused trace NoNode\n"
-trace_of traces.NoProgram = codes "refused trace NoProgram\n"
-trace_of (traces.Lines lines) = lines.items
-
-abbrev pub trace_ending : NodeTrace → Ending
-trace_ending (traces.Refused error) = endings.Refused
-trace_ending traces.NoPulse = endings.Refused
-trace_ending traces.NoNode = endings.Refused
-trace_ending traces.NoProgram = endings.Refused
-trace_ending (traces.Lines lines) = endings.Done
+  pub run : RanTo (bench_of s) state coins asked.node end
+  pub whole : lines ≡ run_lines (bench_of s).shape asked.pulse asked.node input end
 
 -- the whole text, its first bytes if a write failed, or nothing at another fault
-abbrev pub LeavesTracedRun : Option (List ℕ) → Option (List ℕ) → TracedRunOptions → List ℕ → Result Ending Fault
-    → Type 0
-LeavesTracedRun old new asked text result = LeavesAny (IsTrace asked text) trace_of trace_ending old new result
+abbrev pub LeavesTracedRun : Option (List ℕ) → Option (List ℕ) → NodeInPulse → Scenario → Result Ending Fault → Type 0
+LeavesTracedRun old new asked s result =
+    LeavesAny (IsNodeText (IsRunOf asked s) asked s) (node_text (codes "trace")) node_text_ending old new result

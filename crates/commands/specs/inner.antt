@@ -1,5 +1,4 @@
 -- What proofs and private contracts alone cite.
-pub mod Ahead
 pub mod Exec
 pub mod Faults
 pub mod Input

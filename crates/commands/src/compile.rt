@@ -5,10 +5,12 @@ ghost use Rattle.commands.specs.declared.asm.TheConstants.{TEXT_BYTES};
 ghost use Rattle.commands.specs.Compile.{Compiles, LeavesCompiled, compiled_ending, compiled_text, uncompiled_line};
 ghost use Rattle.commands.specs.Faults.{IsBeforeWriting};
 ghost use Rattle.commands.specs.Output.{Leaves};
+ghost use Rattle.commands.specs.Perform.{SaysAt};
 
 use crate::asm::{TEXT_BYTES, read_text};
 use crate::ending::Ending;
 use crate::fault::Fault;
+use crate::note::tell_uncompiled_note;
 use crate::output::write_whole;
 use crate::request::CompileOptions;
 use bpf_insn::{Program, encode};
@@ -19,25 +21,32 @@ use std::alloc::Global;
 use std::fmt;
 use std::io::{Read, Write};
 
-/// Writes the image of the rule that is read, or the line that refuses it. A text of more than [`TEXT_BYTES`] is a fault
-/// of reading.
-pub fn compile<R: Read, W: Write>(
+/// Writes the image of the rule that is read, or the line that refuses it, of which a note is said on `err`. A text of
+/// more than [`TEXT_BYTES`] is a fault of reading.
+pub fn compile<R: Read, W: Write, E: Write>(
     alloc: Global,
     options: CompileOptions,
     reader: &mut R,
     out: &mut W,
+    err: &mut E,
 ) -> Result<Ending, Fault>
     ensures compiled { IfSome (R.remaining reader.old) (λ input.
         LeavesCompiled (W.contents out.old) (W.contents out.new) options (take (TEXT_BYTES + 1) input) result) }
+    ensures said { IfOk result (λ ending. SaysAt ending (E.contents err.old) (E.contents err.new)) }
+    ensures unsaid { IfErr result (λ fault. E.contents err.new ≡ E.contents err.old) }
     ensures front { TakesAtMost (TEXT_BYTES + 1) (R.remaining reader.old) (R.remaining reader.new) }
 {
     let text = read_text(alloc, reader)?;
     let compiled = compiled(alloc, options, text.as_slice())?;
-    write_compiled(alloc, &compiled, out)
+    let ending = write_compiled(alloc, &compiled, out)?;
+    if let Err(uncompiled) = compiled {
+        tell_uncompiled_note(alloc, options.shape, text.as_slice(), uncompiled, err);
+    }
+    Ok(ending)
 }
 
 /// The program of the rule that a text is, or why there is none.
-pub(crate) fn compiled(
+fn compiled(
     alloc: Global,
     options: CompileOptions,
     text: &[u8],

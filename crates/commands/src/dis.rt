@@ -5,11 +5,12 @@ ghost use Rattle.commands.specs.declared.image.TheConstants.{IMAGE_BYTES};
 ghost use Rattle.clock_nodes.specs.Listings.{clock_listing};
 ghost use Rattle.commands.specs.Dis.{LeavesClock, LeavesListing, listing_ending, listing_text};
 ghost use Rattle.commands.specs.Faults.{IsBeforeWriting};
-ghost use Rattle.commands.specs.Image.{ReadsImage};
+ghost use Rattle.commands.specs.Perform.{SaysAt};
 
 use crate::ending::Ending;
 use crate::fault::Fault;
 use crate::image::{Refusal, program_in, read_image};
+use crate::note::tell_image_note;
 use crate::output::write_whole;
 use crate::request::ClockOptions;
 use bpf_asm::{disassemble, list_program};
@@ -19,33 +20,29 @@ use node_env::{MEMORY_UNIT, Shape};
 use std::alloc::{AllocError, Global};
 use std::io::{Read, Write};
 
-/// Writes the canonical text of the program whose image is read, or its listing, or the line that refuses it.
-pub fn dis<R: Read, W: Write>(
+/// Writes the canonical text of the program whose image is read, or its listing, or the line that refuses it. Of an image
+/// that is none a note is said on `err`.
+pub fn dis<R: Read, W: Write, E: Write>(
     alloc: Global,
     list: bool,
     reader: &mut R,
     out: &mut W,
+    err: &mut E,
 ) -> Result<Ending, Fault>
     ensures listing { IfSome (R.remaining reader.old) (λ input.
         LeavesListing (W.contents out.old) (W.contents out.new) list (take IMAGE_BYTES input) result) }
-    ensures front { TakesAtMost IMAGE_BYTES (R.remaining reader.old) (R.remaining reader.new) }
-{
-    let read = read_program(alloc, reader)?;
-    let text = listing(alloc, list, &read)?;
-    write_whole(out, text.as_slice(), ending(&read))
-}
-
-fn read_program<R: Read>(
-    alloc: Global,
-    reader: &mut R,
-) -> Result<Result<Program, ImageError>, Fault>
-    ensures read { IfOk result (λ read.
-        IfSome (R.remaining reader.old) (λ input. ReadsImage (take IMAGE_BYTES input) read)) }
-    ensures fault { IfErr result IsBeforeWriting }
+    ensures said { IfOk result (λ ending. SaysAt ending (E.contents err.old) (E.contents err.new)) }
+    ensures unsaid { IfErr result (λ fault. E.contents err.new ≡ E.contents err.old) }
     ensures front { TakesAtMost IMAGE_BYTES (R.remaining reader.old) (R.remaining reader.new) }
 {
     let image = read_image(alloc, reader)?;
-    program_in(alloc, image.as_slice())
+    let read = program_in(alloc, image.as_slice())?;
+    let text = listing(alloc, list, &read)?;
+    let ending = write_whole(out, text.as_slice(), ending(&read))?;
+    if read.is_err() {
+        tell_image_note(image.as_slice(), err);
+    }
+    Ok(ending)
 }
 
 fn listing(alloc: Global, list: bool, read: &Result<Program, ImageError>) -> Result<Vec<u8>, Fault>
@@ -60,7 +57,7 @@ fn listing(alloc: Global, list: bool, read: &Result<Program, ImageError>) -> Res
 }
 
 /// The canonical text of a program, or its listing.
-fn text_of(alloc: Global, list: bool, program: &Program) -> Result<Vec<u8>, AllocError>
+pub(crate) fn text_of(alloc: Global, list: bool, program: &Program) -> Result<Vec<u8>, AllocError>
     ensures { IfOk result (λ text. text.items ≡ listing_text list (Ok program.now)) }
 {
     if list {

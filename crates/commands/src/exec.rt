@@ -1,26 +1,26 @@
 //! `exec`: runs the image or the text on standard input in the case of a node of a shape.
-ghost use Rattle.std.specs.Prelude.{◌≡◌, ◌++◌, Ok, IfOk, IfErr, IfSome, OnOk, string_bytes, take};
+ghost use Rattle.std.specs.Prelude.{◌≡◌, ◌++◌, IfOk, IfErr, IfSome, OnOk, string_bytes, take};
 ghost use Rattle.stream_io.specs.Streams.{TakesAtMost};
 ghost use Rattle.commands.specs.declared.answer.Answer.TheVariants.{Refused};
-ghost use Rattle.commands.specs.declared.exec.Reply.TheVariants as replies;
 ghost use Rattle.commands.specs.declared.image.Refusal.TheVariants.{Shape as NoShape};
 ghost use Rattle.commands.specs.declared.input.Unread.TheVariants as unreads;
-ghost use Rattle.commands.specs.Answer.{AnswersLeaving, ending_of, shown_lines, told_text};
-ghost use Rattle.commands.specs.Exec.{LeavesAnswer, LeavesExec, LeavesLine};
-ghost use Rattle.commands.specs.Faults.{IsBeforeWriting};
+ghost use Rattle.commands.specs.Answer.{ending_of, shown_lines, told_text};
+ghost use Rattle.commands.specs.Exec.{LeavesExec, LeavesLine};
 ghost use Rattle.commands.specs.Image.{HasShape, asked_extent};
 ghost use Rattle.commands.specs.Input.{most_read};
 ghost use Rattle.commands.specs.Output.{Leaves};
-ghost use Rattle.commands.specs.inner.Exec.{RunsCase, answer_in, left_of};
+ghost use Rattle.commands.specs.Perform.{SaysAt};
+ghost use Rattle.commands.specs.inner.Exec.{LeavesRunOf, RunsCase, answer_in, left_of};
 
 use crate::answer::Answer;
 use crate::ending::Ending;
 use crate::fault::Fault;
 use crate::input::{Unread, program_asked};
 use crate::left::{LeftByRun, add_left};
+use crate::note::tell_rejected_note;
 use crate::output::write_whole;
 use crate::request::ExecOptions;
-use crate::traced::exec_traced;
+use crate::traced::trace_program;
 use bpf_insn::Program;
 use bpf_machine::{Outcome, run_checked};
 use node_env::{Outbox, Shape};
@@ -29,43 +29,50 @@ use std::io::{Read, Write};
 
 /// Writes the line of the answer to the image or the text that is read, and what its run leaves, where that is asked
 /// for; where the steps are asked for, before them the line of each. Where the options have no shape, nothing is read.
-pub fn exec<R: Read, W: Write>(
+/// Of an image that is none a note is said on `err`.
+pub fn exec<R: Read, W: Write, E: Write>(
     alloc: Global,
     options: &ExecOptions,
     reader: &mut R,
     out: &mut W,
+    err: &mut E,
 ) -> Result<Ending, Fault>
     ensures answer { IfSome (R.remaining reader.old) (λ input.
         LeavesExec (W.contents out.old) (W.contents out.new) options.now
         (take (most_read options.now.text) input) result) }
     ensures no_shape { (HasShape options.now.shape → ⊥)
         → LeavesLine (W.contents out.old) (W.contents out.new) (Refused (unreads.Refused NoShape)) result }
+    ensures said { IfOk result (λ ending. SaysAt ending (E.contents err.old) (E.contents err.new)) }
+    ensures unsaid { IfErr result (λ fault. E.contents err.new ≡ E.contents err.old) }
     ensures unread { (HasShape options.now.shape → ⊥) → R.remaining reader.new ≡ R.remaining reader.old }
     ensures front { TakesAtMost (most_read options.now.text) (R.remaining reader.old) (R.remaining reader.new) }
 {
-    if options.trace {
-        exec_traced(alloc, options, reader, out)
-    } else {
-        exec_answered(alloc, options, reader, out)
+    let found = program_asked(alloc, options.shape, options.text, reader)?;
+    match found {
+        Ok(read) => exec_program(alloc, options, read.shape, &read.program, out),
+        Err(rejected) => {
+            let ending = write_reply(alloc, options, &Reply::Refused(rejected.why), out)?;
+            tell_rejected_note(&rejected, err);
+            Ok(ending)
+        }
     }
 }
 
-/// The same where the steps aren't asked for.
-fn exec_answered<R: Read, W: Write>(
+/// Writes what is told of the run of a program in the case that is asked for, with its steps where these are.
+fn exec_program<W: Write>(
     alloc: Global,
     options: &ExecOptions,
-    reader: &mut R,
+    shape: Shape,
+    program: &Program,
     out: &mut W,
 ) -> Result<Ending, Fault>
-    ensures answer { IfSome (R.remaining reader.old) (λ input.
-        LeavesAnswer (W.contents out.old) (W.contents out.new) options.now
-        (take (most_read options.now.text) input) result) }
-    ensures no_shape { (HasShape options.now.shape → ⊥)
-        → LeavesLine (W.contents out.old) (W.contents out.new) (Refused (unreads.Refused NoShape)) result }
-    ensures unread { (HasShape options.now.shape → ⊥) → R.remaining reader.new ≡ R.remaining reader.old }
-    ensures front { TakesAtMost (most_read options.now.text) (R.remaining reader.old) (R.remaining reader.new) }
+    requires { shape ≡ asked_extent options.now.shape }
+    ensures { LeavesRunOf options.now.trace (W.contents out.old) (W.contents out.new) options.now program.now result }
 {
-    let reply = reply_to(alloc, options, reader)?;
+    if options.trace {
+        return trace_program(alloc, shape, program, options, out);
+    }
+    let reply = run_case(alloc, shape, program, options).map_err(|_| Fault::Memory)?;
     write_reply(alloc, options, &reply, out)
 }
 
@@ -92,23 +99,6 @@ impl Reply {
                 fuel,
             },
         }
-    }
-}
-
-fn reply_to<R: Read>(alloc: Global, options: &ExecOptions, reader: &mut R) -> Result<Reply, Fault>
-    ensures answer { IfOk result (λ reply. IfSome (R.remaining reader.old) (λ input.
-        AnswersLeaving options.now (take (most_read options.now.text) input)
-        (answer_in options.now.fuel reply) (left_of reply))) }
-    ensures fault { IfErr result IsBeforeWriting }
-    ensures no_shape { (HasShape options.now.shape → ⊥) → result ≡ Ok (replies.Refused (unreads.Refused NoShape)) }
-    ensures unread { (HasShape options.now.shape → ⊥) → R.remaining reader.new ≡ R.remaining reader.old }
-    ensures front { TakesAtMost (most_read options.now.text) (R.remaining reader.old) (R.remaining reader.new) }
-{
-    match program_asked(alloc, options.shape, options.text, reader)? {
-        Ok(read) => {
-            run_case(alloc, read.shape, &read.program, options).map_err(|_| Fault::Memory)
-        }
-        Err(unread) => Ok(Reply::Refused(unread)),
     }
 }
 

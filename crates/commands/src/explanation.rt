@@ -6,10 +6,12 @@ ghost use Rattle.commands.specs.Explained as told_specs;
 ghost use Rattle.commands.specs.Faults.{IsBeforeWriting};
 ghost use Rattle.commands.specs.Image.{HasShape, asked_extent};
 ghost use Rattle.commands.specs.Input.{most_read, unread_line};
+ghost use Rattle.commands.specs.Perform.{SaysAt};
 
 use crate::ending::Ending;
 use crate::fault::Fault;
 use crate::input::{ProgramRead, Unread, program_asked};
+use crate::note::tell_rejected_note;
 use crate::output::write_whole;
 use crate::request::ExplainOptions;
 use crate::verdict::Verdict;
@@ -155,34 +157,34 @@ fn told_of_read(alloc: Global, options: ExplainOptions, read: &ProgramRead) -> R
     told_of_program(alloc, options, &read.program, lines.as_slice(), read.shape)
 }
 
-/// What is told of the text or the image that is read. Where the options have no shape, nothing is read.
-fn told_of<R: Read>(alloc: Global, options: ExplainOptions, reader: &mut R) -> Result<Told, Fault>
-    ensures told { IfOk result (λ told. IfSome (R.remaining reader.old) (λ input.
-        told_specs.Explains options (take (most_read options.text) input)
-        (told_specs.explanation (string_bytes told.text) told.ending))) }
-    ensures fault { IfErr result IsBeforeWriting }
-    ensures unread { (HasShape options.shape → ⊥) → R.remaining reader.new ≡ R.remaining reader.old }
-    ensures front { TakesAtMost (most_read options.text) (R.remaining reader.old) (R.remaining reader.new) }
-{
-    match program_asked(alloc, options.shape, options.text, reader)? {
-        Ok(read) => told_of_read(alloc, options, &read),
-        Err(unread) => refused(alloc, unread),
-    }
-}
-
-/// Writes what is told of the text or the image that is read. Where the options have no shape, nothing is read.
-pub fn explained<R: Read, W: Write>(
+/// Writes what is told of the text or the image that is read. Where the options have no shape, nothing is read. Of an
+/// image that is none a note is said on `err`.
+pub fn explained<R: Read, W: Write, E: Write>(
     alloc: Global,
     options: ExplainOptions,
     reader: &mut R,
     out: &mut W,
+    err: &mut E,
 ) -> Result<Ending, Fault>
     ensures told { IfSome (R.remaining reader.old) (λ input.
         told_specs.LeavesExplained (W.contents out.old) (W.contents out.new) options
         (take (most_read options.text) input) result) }
+    ensures said { IfOk result (λ ending. SaysAt ending (E.contents err.old) (E.contents err.new)) }
+    ensures unsaid { IfErr result (λ fault. E.contents err.new ≡ E.contents err.old) }
     ensures unread { (HasShape options.shape → ⊥) → R.remaining reader.new ≡ R.remaining reader.old }
     ensures front { TakesAtMost (most_read options.text) (R.remaining reader.old) (R.remaining reader.new) }
 {
-    let told = told_of(alloc, options, reader)?;
-    write_whole(out, told.text.as_bytes(), told.ending)
+    let found = program_asked(alloc, options.shape, options.text, reader)?;
+    match found {
+        Ok(read) => {
+            let told = told_of_read(alloc, options, &read)?;
+            write_whole(out, told.text.as_bytes(), told.ending)
+        }
+        Err(rejected) => {
+            let told = refused(alloc, rejected.why)?;
+            let ending = write_whole(out, told.text.as_bytes(), told.ending)?;
+            tell_rejected_note(&rejected, err);
+            Ok(ending)
+        }
+    }
 }

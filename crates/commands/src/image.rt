@@ -1,14 +1,11 @@
 //! The image on standard input, as the commands read it.
-ghost use Rattle.std.specs.Prelude.{◌≡◌, Some, Ok, Err, IfOk, IfErr, IfSome, take};
-ghost use Rattle.commands.specs.declared.image.Refusal.TheVariants as refusals;
+ghost use Rattle.std.specs.Prelude.{◌≡◌, Some, IfOk, IfErr, IfSome, take};
 ghost use Rattle.stream_io.specs.Streams.{TakesAtMost};
 ghost use Rattle.commands.specs.Faults.{IsBeforeWriting};
-ghost use Rattle.commands.specs.Image.{HasShape, ReadsFor, ReadsImage, asked_extent, refusal_line};
+ghost use Rattle.commands.specs.Image.{ReadsImage, refusal_line};
 
 use crate::fault::Fault;
-use crate::request::ShapeOptions;
 use bpf_insn::{ImageError, MAX_SLOTS, Program, decode};
-use node_env::Shape;
 use std::alloc::Global;
 use std::fmt;
 use std::io::Read;
@@ -53,30 +50,6 @@ pub enum Refusal {
     Shape,
     /// The bytes are the image of no program.
     Image(ImageError),
-}
-
-/// Returns the program of the image that is read, with the shape of the options. If they have none, nothing is read.
-pub fn program_for<R: Read>(
-    alloc: Global,
-    options: ShapeOptions,
-    reader: &mut R,
-) -> Result<Result<(Shape, Program), Refusal>, Fault>
-    ensures read { IfOk result (λ read.
-        IfSome (R.remaining reader.old) (λ input. ReadsFor options (take IMAGE_BYTES input) read)) }
-    ensures shape { IfOk result (λ read. IfOk read (λ pair. pair.0 ≡ asked_extent options)) }
-    ensures fault { IfErr result IsBeforeWriting }
-    ensures no_shape { (HasShape options → ⊥) → result ≡ Ok (Err refusals.Shape) }
-    ensures unread { (HasShape options → ⊥) → R.remaining reader.new ≡ R.remaining reader.old }
-    ensures front { TakesAtMost IMAGE_BYTES (R.remaining reader.old) (R.remaining reader.new) }
-{
-    let Some(shape) = Shape::of(options.nodes, options.memory) else {
-        return Ok(Err(Refusal::Shape));
-    };
-    let image = read_image(alloc, reader)?;
-    match program_in(alloc, image.as_slice())? {
-        Ok(program) => Ok(Ok((shape, program))),
-        Err(error) => Ok(Err(Refusal::Image(error))),
-    }
 }
 
 impl fmt::Display for Refusal {

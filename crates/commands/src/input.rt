@@ -1,5 +1,5 @@
 //! The program on standard input, as `exec` and `verify` read it: that of an image, or of a text if that is asked for.
-ghost use Rattle.std.specs.Prelude.{◌≡◌, ◌≤◌, Some, Ok, Err, IfOk, IfErr, IfSome, length, take, false, true};
+ghost use Rattle.std.specs.Prelude.{◌≡◌, ◌≤◌, Some, IfOk, IfErr, IfSome, IsErrAnd, IsOkAnd, length, take, false, true};
 ghost use Rattle.stream_io.specs.Streams.{TakesAtMost};
 ghost use Rattle.commands.specs.declared.asm.TheConstants.{TEXT_BYTES};
 ghost use Rattle.commands.specs.declared.image.Refusal.TheVariants.{Shape as NoShape};
@@ -30,6 +30,13 @@ pub enum Unread {
     Text(TextError),
 }
 
+/// Why there is no program to work on, and the bytes that were read.
+#[derive(Drop)]
+pub(crate) struct Rejected {
+    pub(crate) why: Unread,
+    pub(crate) bytes: Vec<u8>,
+}
+
 /// A program with the shape of the options, and the bytes that it was read from.
 #[derive(Drop)]
 pub(crate) struct ProgramRead {
@@ -44,17 +51,21 @@ pub(crate) fn program_asked<R: Read>(
     options: ShapeOptions,
     text: bool,
     reader: &mut R,
-) -> Result<Result<ProgramRead, Unread>, Fault>
+) -> Result<Result<ProgramRead, Rejected>, Fault>
     ensures read { IfOk result (λ read. IfSome (R.remaining reader.old) (λ input.
         ReadsInput options text (take (most_read text) input) read)) }
     ensures shape { IfOk result (λ read. IfOk read (λ found. found.shape ≡ asked_extent options)) }
     ensures fault { IfErr result IsBeforeWriting }
-    ensures no_shape { (HasShape options → ⊥) → result ≡ Ok (Err (unreads.Refused NoShape)) }
+    ensures no_shape { (HasShape options → ⊥) → IsOkAnd result (λ read. IsErrAnd read (λ rejected.
+        rejected.why ≡ unreads.Refused NoShape)) }
     ensures unread { (HasShape options → ⊥) → R.remaining reader.new ≡ R.remaining reader.old }
     ensures front { TakesAtMost (most_read text) (R.remaining reader.old) (R.remaining reader.new) }
 {
     let Some(shape) = Shape::of(options.nodes, options.memory) else {
-        return Ok(Err(Unread::Refused(Refusal::Shape)));
+        return Ok(Err(Rejected {
+            why: Unread::Refused(Refusal::Shape),
+            bytes: Vec::new(alloc),
+        }));
     };
     let bytes = read_bytes(alloc, text, reader)?;
     match program_of(alloc, text, bytes.as_slice())? {
@@ -63,7 +74,7 @@ pub(crate) fn program_asked<R: Read>(
             program,
             bytes,
         })),
-        Err(unread) => Ok(Err(unread)),
+        Err(why) => Ok(Err(Rejected { why, bytes })),
     }
 }
 

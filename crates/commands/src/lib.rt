@@ -1,7 +1,6 @@
 //! What `clockbed COMMAND` does once its command line is read: each command over any streams.
 #![tactic(auto)]
 
-mod ahead;
 mod answer;
 pub mod asm;
 mod case;
@@ -12,19 +11,20 @@ pub mod exec;
 mod explanation;
 mod explore;
 mod fault;
-mod finding;
 pub mod image;
 mod input;
 pub mod laws;
 mod left;
 mod lines;
 mod node_lines;
+mod node_program;
+mod node_text;
 mod note;
 mod output;
 pub mod perform;
 pub mod request;
 mod run;
-mod shown;
+mod scenario;
 mod stress;
 mod sweep;
 mod trace_note;

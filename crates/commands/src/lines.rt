@@ -1,50 +1,28 @@
-//! `run --json`: the lines of the run of the scenario on standard input.
-ghost use Rattle.std.specs.Prelude.{◌≡◌, ◌<◌, ℕ, List, IfSome, MatchResult, string_bytes};
-ghost use Rattle.bench_scenario.specs.declared.run.TheConstants.{MOST_BYTES};
+//! `run --json`: the lines of a scenario's run.
+ghost use Rattle.std.specs.Prelude.{ℕ, List};
 ghost use Rattle.scenario_text.specs.Texts.{ReadsText};
-ghost use Rattle.stream_io.specs.Streams.{TakesAtMost};
-ghost use Rattle.commands.specs.Lines.{LeavesJson, LeavesLined};
+ghost use Rattle.commands.specs.Lines.{LeavesLined};
 ghost use Rattle.commands.specs.inner.Lines.{IsPast};
 
 use crate::ending::Ending;
 use crate::fault::Fault;
 use crate::request::LinesOptions;
-use crate::run::{ending_of, fault_of, write_refusal};
-use bench_scenario::{Scenario, TextFault, read_scenario};
+use crate::run::{ending_of, fault_of};
 use bench_workers::MOST_WORKERS;
 use run_lines::{LinesFault, PulseSpan, tell_lines};
+use scenario_text::Scenario;
 use std::alloc::Global;
-use std::io::{Read, Write};
+use std::io::Write;
 use std::sync::Wait;
 use std::thread::Threads;
 
-/// Writes the lines of the run of the scenario that is read, or the line that refuses it. Where that is to be checked,
-/// the ending tells of a pulse that doesn't agree.
-pub fn lines<T: Threads + Wait + Sync, R: Read, W: Write>(
+/// Writes the lines of the run of a scenario that was read. If that is to be checked, the ending tells of a pulse that
+/// doesn't agree.
+pub(crate) fn lines<T: Threads + Wait + Sync, W: Write>(
     rt: &T,
     alloc: Global,
     options: LinesOptions,
-    reader: &mut R,
-    out: &mut W,
-) -> Result<Ending, Fault>
-    ensures told { IfSome (R.remaining reader.old) (λ input.
-        LeavesJson options.run.check (W.contents out.old) (W.contents out.new) input options.span result) }
-    ensures front { TakesAtMost MOST_BYTES (R.remaining reader.old) (R.remaining reader.new) }
-{
-    match read_scenario(alloc, reader) {
-        Ok(scenario) => lines_of(rt, alloc, &scenario, options, out),
-        Err(TextFault::Refused(error)) => write_refusal(alloc, &error, out),
-        Err(TextFault::Read) => Err(Fault::Read),
-        Err(TextFault::Memory) => Err(Fault::Memory),
-    }
-}
-
-/// The same of a scenario that was read.
-fn lines_of<T: Threads + Wait + Sync, W: Write>(
-    rt: &T,
-    alloc: Global,
     scenario: &Scenario,
-    options: LinesOptions,
     out: &mut W,
 ) -> Result<Ending, Fault>
     requires reads { (text : List ℕ) × ReadsText text scenario.now }

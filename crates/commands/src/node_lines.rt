@@ -8,7 +8,7 @@ ghost use Rattle.commands.specs.TracedRun.{end_lines, input_lines, place_lines, 
 ghost use Rattle.commands.specs.inner.TracedRun.{end_in};
 
 use crate::left::{LeftByRun, add_left, add_mail};
-use crate::request::TracedRunOptions;
+use crate::request::NodeInPulse;
 use bench_scenario::NodeInput;
 use bpf_insn::Program;
 use bpf_run::run;
@@ -29,7 +29,7 @@ pub(crate) struct RunEnd {
 /// The lines of a node's run.
 pub(crate) fn lines_of(
     alloc: Global,
-    options: TracedRunOptions,
+    options: NodeInPulse,
     input: NodeInput,
 ) -> Result<Vec<u8>, AllocError>
     requires { FitsShape input.program.shape options.node input }
@@ -60,11 +60,7 @@ pub(crate) fn lines_of(
 }
 
 /// The lines of what a node runs in a pulse.
-fn input_text(
-    alloc: Global,
-    options: TracedRunOptions,
-    input: &NodeInput,
-) -> Result<String, AllocError>
+fn input_text(alloc: Global, options: NodeInPulse, input: &NodeInput) -> Result<String, AllocError>
     ensures { IfOk result (λ text. string_bytes text ≡ input_lines options.pulse options.node input.now) }
 {
     let mut text = place_text(alloc, options, &input.memory)?;
@@ -76,10 +72,10 @@ fn input_text(
 }
 
 /// The pulse, the node and its memory.
-fn place_text(alloc: Global, options: TracedRunOptions, memory: &[u8]) -> Result<String, AllocError>
+fn place_text(alloc: Global, options: NodeInPulse, memory: &[u8]) -> Result<String, AllocError>
     ensures { IfOk result (λ text. string_bytes text ≡ place_lines options.pulse options.node memory.now) }
 {
-    let TracedRunOptions { pulse, node } = options;
+    let NodeInPulse { pulse, node } = options;
     let memory = hex::encode(alloc, memory)?;
     format!(in alloc; "pulse {pulse} node {node}\nmemory {memory}\n")
 }

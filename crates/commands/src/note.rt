@@ -1,18 +1,18 @@
 //! What is said after a refusal: where it comes from.
-ghost use Rattle.std.specs.Prelude.{Ok};
 ghost use Rattle.rule_notes.specs.Words.{IsNote};
-ghost use Rattle.commands.specs.Perform.{SaysNote, SaysOf};
+ghost use Rattle.commands.specs.Perform.{SaysAt, SaysNote};
 
-use crate::compile::{Uncompiled, compiled};
+use crate::compile::Uncompiled;
 use crate::ending::Ending;
-use crate::explore::unfit_of;
-use crate::finding::Unfit;
-use crate::request::{CompileOptions, Request, ShapeOptions};
+use crate::image::Refusal;
+use crate::input::{Rejected, Unread};
+use crate::request::{NodeInPulse, ScenarioRequest, ShapeOptions};
 use crate::trace_note::note_on_trace;
 use rule_notes::note_on_rule;
 use rule_text::{RuleRefusal, read_rule};
+use scenario_explorer::{Unfit, unfit_of};
 use scenario_notes::note_on;
-use scenario_text::{Scenario, ScenarioError, scenario_in};
+use scenario_text::{Scenario, ScenarioError};
 use std::alloc::Global;
 use std::io::Write;
 use std::str;
@@ -53,51 +53,8 @@ const NUMBERS_NOTE: &[u8] =
 const LONG_NOTE: &[u8] =
     b"note: a program has at most 2048 slots, and for and count are written out for each node: use fewer of both, or fewer --nodes\n";
 
-/// Says of an ending what is to be said: the note on a refusal, where there is one. What `err` doesn't take is dropped.
-pub(crate) fn tell_ending<E: Write>(
-    alloc: Global,
-    request: &Request,
-    ending: Ending,
-    input: &[u8],
-    err: &mut E,
-)
-    ensures { SaysOf (Ok ending) (E.contents err.old) (E.contents err.new) }
-{
-    match ending {
-        Ending::Refused => tell_note(alloc, request, input, err),
-        Ending::Done | Ending::Mismatched | Ending::Violated | Ending::Unfinished => {}
-    }
-}
-
-/// Says the note on the refusal of an input, where there is one.
-fn tell_note<E: Write>(alloc: Global, request: &Request, input: &[u8], err: &mut E)
-    ensures { SaysNote (E.contents err.old) (E.contents err.new) }
-{
-    match request {
-        Request::Exec(_) | Request::Dis { .. } | Request::Verify(_) | Request::Explain(_) => {
-            tell_image_note(input, err);
-        }
-        Request::Run(_)
-        | Request::Lines(_)
-        | Request::TracedRun(_)
-        | Request::Sweep(_)
-        | Request::Explore(_) => tell_scenario_note(alloc, request, input, err),
-        Request::Compile(options) => tell_rule_note(alloc, *options, input, err),
-        Request::Asm { .. } | Request::Clock(_) | Request::Stress(_) | Request::Help { .. } => {}
-    }
-}
-
 /// Says why a text has no program.
-fn tell_rule_note<E: Write>(alloc: Global, options: CompileOptions, text: &[u8], err: &mut E)
-    ensures { SaysNote (E.contents err.old) (E.contents err.new) }
-{
-    match compiled(alloc, options, text) {
-        Ok(Err(uncompiled)) => tell_uncompiled_note(alloc, options.shape, text, uncompiled, err),
-        Ok(Ok(_)) | Err(_) => {}
-    }
-}
-
-fn tell_uncompiled_note<E: Write>(
+pub(crate) fn tell_uncompiled_note<E: Write>(
     alloc: Global,
     shape: ShapeOptions,
     text: &[u8],
@@ -138,7 +95,18 @@ fn tell_room_note<E: Write>(alloc: Global, shape: ShapeOptions, text: &[u8], err
     }
 }
 
-fn tell_image_note<E: Write>(image: &[u8], err: &mut E)
+/// Says why there is no program: of an image what its bytes are, if that is known.
+pub(crate) fn tell_rejected_note<E: Write>(rejected: &Rejected, err: &mut E)
+    ensures { SaysNote (E.contents err.old) (E.contents err.new) }
+{
+    match rejected.why {
+        Unread::Refused(Refusal::Image(_)) => tell_image_note(rejected.bytes.as_slice(), err),
+        Unread::Refused(Refusal::Shape) | Unread::Text(_) => {}
+    }
+}
+
+/// Says what bytes are that are no image, if that is known.
+pub(crate) fn tell_image_note<E: Write>(image: &[u8], err: &mut E)
     ensures { SaysNote (E.contents err.old) (E.contents err.new) }
 {
     if image.starts_with(ELF_BEGINNING) {
@@ -168,42 +136,51 @@ fn may_be_of_text(byte: u8) -> bool {
     !byte.is_ascii_control() || byte.is_ascii_whitespace()
 }
 
-fn tell_scenario_note<E: Write>(alloc: Global, request: &Request, text: &[u8], err: &mut E)
-    ensures { SaysNote (E.contents err.old) (E.contents err.new) }
+/// Says why a command refused a scenario. Of another ending nothing is said.
+pub(crate) fn tell_unfit_note<E: Write>(
+    alloc: Global,
+    asked: &ScenarioRequest,
+    scenario: &Scenario,
+    ending: Ending,
+    err: &mut E,
+)
+    ensures { SaysAt ending (E.contents err.old) (E.contents err.new) }
 {
-    match scenario_in(alloc, text) {
-        Ok(scenario) => tell_unfit_note(alloc, request, &scenario, err),
-        Err(error) => tell_refusal_note(alloc, text, &error, err),
+    match ending {
+        Ending::Refused => tell_unused_note(alloc, asked, scenario, err),
+        Ending::Done | Ending::Mismatched | Ending::Violated | Ending::Unfinished => {}
     }
 }
 
-/// Says why a scenario can't be used that is one.
-fn tell_unfit_note<E: Write>(alloc: Global, request: &Request, scenario: &Scenario, err: &mut E)
+fn tell_unused_note<E: Write>(
+    alloc: Global,
+    asked: &ScenarioRequest,
+    scenario: &Scenario,
+    err: &mut E,
+)
     ensures { SaysNote (E.contents err.old) (E.contents err.new) }
 {
-    match request {
-        Request::Sweep(_) => say(SEED_NOTE, err),
-        Request::TracedRun(options) => {
-            if let Ok(Some(note)) = note_on_trace(alloc, *options, scenario) {
-                say(note.as_bytes(), err);
-            }
+    match asked {
+        ScenarioRequest::Sweep(_) => say(SEED_NOTE, err),
+        ScenarioRequest::TracedRun(place) => tell_place_note(alloc, *place, scenario, err),
+        ScenarioRequest::NodeProgram(options) => {
+            tell_place_note(alloc, options.place, scenario, err);
         }
-        Request::Explore(_) => {
+        ScenarioRequest::Explore(_) => {
             if let Some(unfit) = unfit_of(scenario) {
                 say(unexplored_note(unfit), err);
             }
         }
-        Request::Exec(_)
-        | Request::Asm { .. }
-        | Request::Compile(_)
-        | Request::Dis { .. }
-        | Request::Clock(_)
-        | Request::Verify(_)
-        | Request::Explain(_)
-        | Request::Run(_)
-        | Request::Lines(_)
-        | Request::Stress(_)
-        | Request::Help { .. } => {}
+        ScenarioRequest::Run(_) | ScenarioRequest::Lines(_) => {}
+    }
+}
+
+/// Says what a scenario has in place of a node in a pulse.
+fn tell_place_note<E: Write>(alloc: Global, place: NodeInPulse, scenario: &Scenario, err: &mut E)
+    ensures { SaysNote (E.contents err.old) (E.contents err.new) }
+{
+    if let Ok(Some(note)) = note_on_trace(alloc, place, scenario) {
+        say(note.as_bytes(), err);
     }
 }
 
@@ -223,8 +200,13 @@ fn unexplored_note(unfit: Unfit) -> &'static [u8]
     }
 }
 
-/// Says where a text is refused, if there is something to say.
-fn tell_refusal_note<E: Write>(alloc: Global, text: &[u8], error: &ScenarioError, err: &mut E)
+/// Says where a scenario's text is refused, if there is something to say.
+pub(crate) fn tell_error_note<E: Write>(
+    alloc: Global,
+    text: &[u8],
+    error: &ScenarioError,
+    err: &mut E,
+)
     ensures { SaysNote (E.contents err.old) (E.contents err.new) }
 {
     if let Ok(Some(note)) = note_on(alloc, text, error) {

@@ -2,12 +2,12 @@
 ghost use Rattle.std.specs.Prelude.{◌<◌};
 
 pub use crate::case::Case;
-pub use bench_space::Question;
 pub use bench_stress::StressOptions;
 pub use bpf_explain::Detail;
 pub use clock_nodes::ClockRule;
 use key_sweep::KeySpan;
 use run_lines::PulseSpan;
+pub use scenario_explorer::{AnyStart, ByteSpan, Cells, ExploreOptions, MailSpan, Question};
 
 /// A command with its options, or the help that is asked for in its place.
 #[derive(Debug, Drop)]
@@ -24,16 +24,25 @@ pub enum Request {
     Verify(ShapeOptions),
     /// `verify --text`, `verify --explain`.
     Explain(ExplainOptions),
+    /// A command that reads a scenario.
+    Scenario(ScenarioRequest),
+    Stress(StressOptions),
+    /// A text whose last line ends.
+    Help { text: String },
+}
+
+/// A command that reads a scenario, with its options.
+#[derive(Debug, Drop)]
+pub enum ScenarioRequest {
     Run(RunOptions),
     /// `run --json`.
     Lines(LinesOptions),
     /// `run --trace`.
-    TracedRun(TracedRunOptions),
-    Stress(StressOptions),
+    TracedRun(NodeInPulse),
+    /// `dis --node`.
+    NodeProgram(NodeProgramOptions),
     Sweep(SweepOptions),
     Explore(ExploreOptions),
-    /// A text whose last line ends.
-    Help { text: String },
 }
 
 /// The nodes and the memory that are asked for. They may make no shape.
@@ -87,11 +96,19 @@ pub struct LinesOptions {
     pub span: PulseSpan,
 }
 
-/// The options of `run --trace`. A scenario may have no such pulse or node.
+/// A node in a pulse. A scenario may have no such pulse or node.
 #[derive(Clone, Copy, Debug, PartialEq, Eq)]
-pub struct TracedRunOptions {
+pub struct NodeInPulse {
     pub pulse: u32,
     pub node: u32,
+}
+
+/// The options of `dis --node`.
+#[derive(Clone, Copy, Debug, PartialEq, Eq)]
+pub struct NodeProgramOptions {
+    pub place: NodeInPulse,
+    /// Whether a listing is asked for.
+    pub list: bool,
 }
 
 /// The options of `sweep`.
@@ -100,53 +117,6 @@ pub struct SweepOptions {
     pub keys: KeySpan,
     /// How many workers run whole scenarios; as many as there are processors where none are named.
     pub workers: Option<u32>,
-}
-
-/// The numbers from the first to the last, both among them.
-#[derive(Clone, Copy, Debug, PartialEq, Eq)]
-pub struct MailSpan {
-    pub first: u32,
-    pub last: u32,
-}
-
-/// The bytes from the first to the last, both among them.
-#[derive(Clone, Copy, Debug, PartialEq, Eq)]
-pub struct ByteSpan {
-    pub first: u8,
-    pub last: u8,
-}
-
-/// What the bytes of these places of a memory may be at the start.
-#[derive(Debug, Drop)]
-pub struct Cells {
-    /// The first place.
-    pub first: u32,
-    /// The last place.
-    pub last: u32,
-    pub values: Vec<ByteSpan>,
-}
-
-/// The memories and messages at the start, if they aren't zero and none.
-#[derive(Debug, Drop)]
-pub struct AnyStart {
-    /// Of entries with the same place the first counts. A byte of no entry is zero.
-    pub cells: Vec<Cells>,
-    /// The numbers that nodes with a program may have sent: those of nodes without one, if none are named.
-    pub said: Option<Vec<MailSpan>>,
-}
-
-/// The options of `explore`.
-#[derive(Debug, Drop)]
-pub struct ExploreOptions {
-    pub question: Question,
-    /// The numbers that a node without a program may send: 0 to the modulus, if none are named.
-    pub mail: Option<Vec<MailSpan>>,
-    /// The memories and messages at the start: zeros and none, if nothing is named.
-    pub start: Option<AnyStart>,
-    /// The most states.
-    pub states: u32,
-    /// The last pulse whose transitions are tried.
-    pub depth: u32,
 }
 
 /// The options of `exec`.

@@ -1,55 +1,47 @@
-//! `run`: the report of the scenario on standard input.
-ghost use Rattle.std.specs.Prelude.{◌≡◌, ◌&&◌, not, if◌then◌else◌, IfSome};
-ghost use Rattle.bench_scenario.specs.declared.run.TheConstants.{MOST_BYTES};
+//! `run`: the report of a scenario's run.
+ghost use Rattle.std.specs.Prelude.{◌≡◌, List, ℕ};
 ghost use Rattle.bench_scenario.specs.Runs.{IsMemoryOrThread};
-ghost use Rattle.stream_io.specs.Streams.{TakesAtMost};
-ghost use Rattle.commands.specs.declared.ending.Ending.TheVariants.{Violated, Done, Refused};
+ghost use Rattle.scenario_text.specs.Texts.{ReadsText};
 ghost use Rattle.commands.specs.inner.Faults.{IsRunFault};
-ghost use Rattle.commands.specs.Output.{Leaves};
-ghost use Rattle.commands.specs.Run.{LeavesTold, Refusal, WantsThread, told_text};
+ghost use Rattle.commands.specs.Run.{LeavesReported, report_ending};
 
 use crate::ending::Ending;
 use crate::fault::Fault;
-use crate::output::write_whole;
 use crate::request::RunOptions;
-use bench_scenario::{ScenarioFault, run_scenario_judged};
+use bench_scenario::{ReportFault, write_report};
 use bench_workers::{MOST_WORKERS, RunRefusal};
-use scenario_text::{RefusalLine, ScenarioError};
+use scenario_text::Scenario;
 use std::alloc::Global;
-use std::io::{Read, Write};
+use std::io::Write;
 use std::sync::Wait;
 use std::thread::Threads;
 
-/// Writes the report of the run of the scenario that is read, or the line that refuses it. Where that is to be checked,
-/// the ending tells of a pulse that doesn't agree. A number of workers that is none is the nearest that is one.
-pub fn run<T: Threads + Wait + Sync, R: Read, W: Write>(
+/// Writes the report of the run of a scenario that was read. If that is to be checked, the ending tells of a pulse that
+/// doesn't agree. Clamps the number of workers to `1..=MOST_WORKERS`.
+pub(crate) fn run<T: Threads + Wait + Sync, W: Write>(
     rt: &T,
     alloc: Global,
     options: RunOptions,
-    reader: &mut R,
+    scenario: &Scenario,
     out: &mut W,
 ) -> Result<Ending, Fault>
-    ensures told { IfSome (R.remaining reader.old) (λ input.
-        LeavesTold options.check (W.contents out.old) (W.contents out.new) input result) }
-    ensures thread { IfSome (R.remaining reader.old) (λ input. WantsThread input result) }
-    ensures front { TakesAtMost MOST_BYTES (R.remaining reader.old) (R.remaining reader.new) }
+    requires reads { (text : List ℕ) × ReadsText text scenario.now }
+    ensures { LeavesReported options.check (W.contents out.old) (W.contents out.new) scenario.now result }
 {
     let workers = options.workers.clamp(1, MOST_WORKERS);
-    match run_scenario_judged(rt, alloc, reader, out, workers) {
+    match write_report(rt, alloc, scenario, workers, out) {
         Ok(agrees) => Ok(ending_of(options.check, agrees)),
-        Err(ScenarioFault::Read) => Err(Fault::Read),
-        Err(ScenarioFault::Refused(error)) => write_refusal(alloc, &error, out),
-        Err(ScenarioFault::Run(fault)) => Err(fault_of(fault.fault)),
-        Err(ScenarioFault::Write { written }) => Err(Fault::Write {
+        Err(ReportFault::Run(fault)) => Err(fault_of(fault.fault)),
+        Err(ReportFault::Write { written }) => Err(Fault::Write {
             after: written as usize,
         }),
-        Err(ScenarioFault::Memory) => Err(Fault::Memory),
+        Err(ReportFault::Memory) => Err(Fault::Memory),
     }
 }
 
 /// How a run ends whose report is written.
 pub(crate) fn ending_of(check: bool, agrees: bool) -> Ending
-    ensures { result ≡ (if check && not agrees then Violated else Done) }
+    ensures { result ≡ report_ending check agrees }
 {
     if check && !agrees {
         Ending::Violated
@@ -73,15 +65,4 @@ pub(crate) fn fault_of(refusal: RunRefusal) -> Fault
         | RunRefusal::BadCoins
         | RunRefusal::GateShut => unreachable!(),
     }
-}
-
-pub(crate) fn write_refusal<W: Write>(
-    alloc: Global,
-    error: &ScenarioError,
-    out: &mut W,
-) -> Result<Ending, Fault>
-    ensures { Leaves (W.contents out.old) (W.contents out.new) (told_text (Refusal error.now)) Refused result }
-{
-    let line = format!(in alloc; "{}\n", RefusalLine(error)).map_err(|_| Fault::Memory)?;
-    write_whole(out, line.as_bytes(), Ending::Refused)
 }

@@ -1,8 +1,7 @@
-//! `sweep`: a line for each key of the scenario on standard input.
-ghost use Rattle.std.specs.Prelude.{◌≡◌, ◌≤◌, IfSome};
+//! `sweep`: a line for each key of a scenario.
+ghost use Rattle.std.specs.Prelude.{◌≤◌, List, ℕ};
 ghost use Rattle.key_sweep.specs.declared.sweeping.TheConstants.{MOST_SWEEPERS};
-ghost use Rattle.bench_scenario.specs.declared.run.TheConstants.{MOST_BYTES};
-ghost use Rattle.stream_io.specs.Streams.{TakesAtMost};
+ghost use Rattle.scenario_text.specs.Texts.{ReadsText};
 ghost use Rattle.commands.specs.declared.ending.Ending.TheVariants.{Refused};
 ghost use Rattle.commands.specs.Output.{Leaves};
 ghost use Rattle.commands.specs.Sweep.{LeavesSwept, no_key_line};
@@ -11,30 +10,27 @@ use crate::ending::Ending;
 use crate::fault::Fault;
 use crate::output::write_whole;
 use crate::request::SweepOptions;
-use crate::run::write_refusal;
 use key_sweep::{MOST_SWEEPERS, SweepFault};
+use scenario_text::Scenario;
 use std::alloc::Global;
-use std::io::{Read, Write};
+use std::io::Write;
 use std::sync::Wait;
 use std::thread::{Threads, available_parallelism};
 
-/// Writes a line for each of the keys, or the line that refuses the scenario.
-pub fn sweep<T: Threads + Wait + Sync, R: Read, W: Write>(
+/// Writes a line for each of the keys of a scenario that was read, or the line that refuses it.
+pub(crate) fn sweep<T: Threads + Wait + Sync, W: Write>(
     rt: &T,
     alloc: Global,
     options: SweepOptions,
-    reader: &mut R,
+    scenario: &Scenario,
     out: &mut W,
 ) -> Result<Ending, Fault>
-    ensures told { IfSome (R.remaining reader.old) (λ input.
-        LeavesSwept (W.contents out.old) (W.contents out.new) input options.keys result) }
-    ensures front { TakesAtMost MOST_BYTES (R.remaining reader.old) (R.remaining reader.new) }
+    requires reads { (text : List ℕ) × ReadsText text scenario.now }
+    ensures { LeavesSwept (W.contents out.old) (W.contents out.new) scenario.now options.keys result }
 {
     let workers = workers_for(rt, options.workers);
-    match key_sweep::sweep(rt, alloc, options.keys, workers, reader, out) {
+    match key_sweep::sweep(rt, alloc, scenario, options.keys, workers, out) {
         Ok(()) => Ok(Ending::Done),
-        Err(SweepFault::Read) => Err(Fault::Read),
-        Err(SweepFault::Refused(error)) => write_refusal(alloc, &error, out),
         Err(SweepFault::NoKey) => write_no_key(out),
         Err(SweepFault::Write { written }) => Err(Fault::Write {
             after: written as usize,
@@ -43,7 +39,7 @@ pub fn sweep<T: Threads + Wait + Sync, R: Read, W: Write>(
     }
 }
 
-/// So many workers as are asked for, or one for each processor. A number that is none is the nearest that is one.
+/// As many workers as are asked for, or one for each processor, clamped to `1..=MOST_SWEEPERS`.
 fn workers_for<T: Threads>(rt: &T, asked: Option<u32>) -> u32
     ensures some { 1 ≤ result }
     ensures few { result ≤ MOST_SWEEPERS }

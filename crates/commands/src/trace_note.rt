@@ -2,14 +2,14 @@
 ghost use Rattle.std.specs.Prelude.{IfOk, IfSome, string_bytes};
 ghost use Rattle.rule_notes.specs.Words.{IsNote};
 
-use crate::request::TracedRunOptions;
+use crate::request::NodeInPulse;
 use scenario_text::{Load, Scenario};
 use std::alloc::{AllocError, Global};
 
 /// Returns the note on a run of a node that a scenario doesn't have, with its end.
 pub(crate) fn note_on_trace(
     alloc: Global,
-    options: TracedRunOptions,
+    options: NodeInPulse,
     scenario: &Scenario,
 ) -> Result<Option<String>, AllocError>
     ensures { IfOk result (λ found. IfSome found (λ note. IsNote (string_bytes note))) }
@@ -25,10 +25,10 @@ pub(crate) fn note_on_trace(
 /// What the scenario has in its place.
 fn words_on(
     alloc: Global,
-    options: TracedRunOptions,
+    options: NodeInPulse,
     scenario: &Scenario,
 ) -> Result<String, AllocError> {
-    let TracedRunOptions { pulse, node } = options;
+    let NodeInPulse { pulse, node } = options;
     if pulse == 0 || scenario.pulses < pulse {
         let last = scenario.pulses;
         return format!(in alloc; "the scenario's pulses are 1 to {last}");

@@ -1,51 +1,23 @@
 //! `exec --trace`: the steps of the run, and then what it comes to.
-ghost use Rattle.std.specs.Prelude.{◌≡◌, IfErr, IfOk, IfSome, Err, length, take};
-ghost use Rattle.stream_io.specs.Streams.{TakesAtMost};
-ghost use Rattle.commands.specs.declared.answer.Answer.TheVariants.{Refused};
-ghost use Rattle.commands.specs.declared.image.Refusal.TheVariants.{Shape as NoShape};
-ghost use Rattle.commands.specs.declared.input.Unread.TheVariants as unreads;
+ghost use Rattle.std.specs.Prelude.{◌≡◌, IfErr, IfOk, Err, length};
 ghost use Rattle.commands.specs.Case.{case_memory, case_setting};
-ghost use Rattle.commands.specs.Exec.{LeavesLine, LeavesSteps, LeavesTraced};
-ghost use Rattle.commands.specs.Image.{HasShape, asked_extent};
-ghost use Rattle.commands.specs.Input.{most_read};
+ghost use Rattle.commands.specs.Exec.{LeavesSteps};
+ghost use Rattle.commands.specs.Image.{asked_extent};
 ghost use Rattle.commands.specs.inner.Exec.{RunsCase, WroteTrace};
 
 use crate::ending::Ending;
 use crate::exec::{Reply, write_reply};
 use crate::fault::Fault;
-use crate::input::program_asked;
 use crate::left::LeftByRun;
 use crate::request::ExecOptions;
 use bpf_insn::Program;
 use node_env::{Env, Outbox, Shape};
 use run_trace::{TraceFault, trace};
 use std::alloc::{AllocError, Global};
-use std::io::{Read, Write};
+use std::io::Write;
 
-/// Writes the line of each step of the run of what is read, and then what is told of its answer. Where the
-/// options have no shape, nothing is read.
-pub(crate) fn exec_traced<R: Read, W: Write>(
-    alloc: Global,
-    options: &ExecOptions,
-    reader: &mut R,
-    out: &mut W,
-) -> Result<Ending, Fault>
-    ensures answer { IfSome (R.remaining reader.old) (λ input.
-        LeavesTraced (W.contents out.old) (W.contents out.new) options.now
-        (take (most_read options.now.text) input) result) }
-    ensures no_shape { (HasShape options.now.shape → ⊥)
-        → LeavesLine (W.contents out.old) (W.contents out.new) (Refused (unreads.Refused NoShape)) result }
-    ensures unread { (HasShape options.now.shape → ⊥) → R.remaining reader.new ≡ R.remaining reader.old }
-    ensures front { TakesAtMost (most_read options.now.text) (R.remaining reader.old) (R.remaining reader.new) }
-{
-    match program_asked(alloc, options.shape, options.text, reader)? {
-        Ok(read) => trace_program(alloc, read.shape, &read.program, options, out),
-        Err(unread) => write_reply(alloc, options, &Reply::Refused(unread), out),
-    }
-}
-
-/// The same of a program that was read.
-fn trace_program<W: Write>(
+/// Writes the line of each step of the run of a program, and then what is told of its answer.
+pub(crate) fn trace_program<W: Write>(
     alloc: Global,
     shape: Shape,
     program: &Program,

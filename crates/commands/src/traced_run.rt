@@ -1,89 +1,53 @@
-//! `run --trace`: a node's run in a pulse of the scenario on standard input.
-ghost use Rattle.std.specs.Prelude.{IfErr, IfOk, IfSome, take};
-ghost use Rattle.bench_scenario.specs.declared.run.TheConstants.{MOST_BYTES};
-ghost use Rattle.stream_io.specs.Streams.{TakesAtMost};
+//! `run --trace`: a node's run in a pulse of a scenario.
+ghost use Rattle.std.specs.Prelude.{IfErr, IfOk, List, ℕ};
+ghost use Rattle.scenario_text.specs.Texts.{ReadsText};
 ghost use Rattle.commands.specs.Faults.{IsBeforeWriting};
-ghost use Rattle.commands.specs.Output.{Leaves};
-ghost use Rattle.commands.specs.TracedRun.{IsTrace, LeavesTracedRun, trace_ending, trace_of};
+ghost use Rattle.commands.specs.NodeText.{IsNodeText};
+ghost use Rattle.commands.specs.TracedRun.{IsRunOf, LeavesTracedRun};
 
 use crate::ending::Ending;
-use crate::explore::read_text;
 use crate::fault::Fault;
 use crate::node_lines::lines_of;
-use crate::output::write_whole;
-use crate::request::TracedRunOptions;
-use crate::run::write_refusal;
-use bench_scenario::{InputFault, node_input};
-use scenario_text::{ScenarioError, scenario_in};
+use crate::node_text::{NodeText, input_at, write_node_text};
+use crate::request::NodeInPulse;
+use scenario_text::Scenario;
 use std::alloc::Global;
-use std::io::{Read, Write};
+use std::io::Write;
 use std::sync::Wait;
 use std::thread::Threads;
 
-/// What a text has of a node's run in a pulse: its lines, or why there are none.
-#[derive(Drop)]
-pub enum NodeTrace {
-    Refused(ScenarioError),
-    NoPulse,
-    NoNode,
-    NoProgram,
-    Lines(Vec<u8>),
-}
-
-/// Writes the lines of a node's run in a pulse of the scenario that is read, or the line that refuses it.
-pub fn traced_run<T: Threads + Wait + Sync, R: Read, W: Write>(
+/// Writes the lines of a node's run in a pulse of a scenario that was read, or the line that refuses to.
+pub(crate) fn traced_run<T: Threads + Wait + Sync, W: Write>(
     rt: &T,
     alloc: Global,
-    options: TracedRunOptions,
-    reader: &mut R,
+    place: NodeInPulse,
+    scenario: &Scenario,
     out: &mut W,
 ) -> Result<Ending, Fault>
-    ensures told { IfSome (R.remaining reader.old) (λ input.
-        LeavesTracedRun (W.contents out.old) (W.contents out.new) options (take MOST_BYTES input) result) }
-    ensures front { TakesAtMost MOST_BYTES (R.remaining reader.old) (R.remaining reader.new) }
+    requires reads { (text : List ℕ) × ReadsText text scenario.now }
+    ensures { LeavesTracedRun (W.contents out.old) (W.contents out.new) place scenario.now result }
 {
-    let bytes = read_text(alloc, reader)?;
-    let trace = trace_in(rt, alloc, options, &bytes)?;
-    write_trace(alloc, &trace, out)
+    let trace = trace_in(rt, alloc, place, scenario)?;
+    write_node_text(alloc, "trace", &trace, out)
 }
 
-/// What a text has of the run.
+/// What a scenario has of the run.
 fn trace_in<T: Threads + Wait + Sync>(
     rt: &T,
     alloc: Global,
-    options: TracedRunOptions,
-    bytes: &[u8],
-) -> Result<NodeTrace, Fault>
-    ensures told { IfOk result (IsTrace options bytes.now) }
+    place: NodeInPulse,
+    scenario: &Scenario,
+) -> Result<NodeText, Fault>
+    requires reads { (text : List ℕ) × ReadsText text scenario.now }
+    ensures told { IfOk result (IsNodeText (IsRunOf place scenario.now) place scenario.now) }
     ensures fault { IfErr result IsBeforeWriting }
 {
-    let scenario = match scenario_in(alloc, bytes) {
-        Ok(scenario) => scenario,
-        Err(ScenarioError::Memory(_)) => return Err(Fault::Memory),
-        Err(error) => return Ok(NodeTrace::Refused(error)),
-    };
-    let input = match node_input(rt, alloc, &scenario, options.pulse, options.node) {
-        Ok(input) => input,
-        Err(InputFault::NoPulse) => return Ok(NodeTrace::NoPulse),
-        Err(InputFault::NoNode) => return Ok(NodeTrace::NoNode),
-        Err(InputFault::NoProgram) => return Ok(NodeTrace::NoProgram),
-        Err(InputFault::Memory) => return Err(Fault::Memory),
-    };
-    match lines_of(alloc, options, input) {
-        Ok(lines) => Ok(NodeTrace::Lines(lines)),
-        Err(_) => Err(Fault::Memory),
-    }
-}
-
-/// Writes the lines, or the line of a refusal.
-fn write_trace<W: Write>(alloc: Global, trace: &NodeTrace, out: &mut W) -> Result<Ending, Fault>
-    ensures { Leaves (W.contents out.old) (W.contents out.new) (trace_of trace.now) (trace_ending trace.now) result }
-{
-    match trace {
-        NodeTrace::Refused(error) => write_refusal(alloc, error, out),
-        NodeTrace::NoPulse => write_whole(out, b"refused trace NoPulse\n", Ending::Refused),
-        NodeTrace::NoNode => write_whole(out, b"refused trace NoNode\n", Ending::Refused),
-        NodeTrace::NoProgram => write_whole(out, b"refused trace NoProgram\n", Ending::Refused),
-        NodeTrace::Lines(lines) => write_whole(out, lines, Ending::Done),
+    let found = input_at(rt, alloc, place, scenario)?;
+    match found {
+        Ok(input) => match lines_of(alloc, place, input) {
+            Ok(lines) => Ok(NodeText::Lines(lines)),
+            Err(_) => Err(Fault::Memory),
+        },
+        Err(absent) => Ok(NodeText::Absent(absent)),
     }
 }

@@ -1,16 +1,18 @@
 //! `verify`: accepts the program of the image on standard input for nodes of a shape, or refuses it.
-ghost use Rattle.std.specs.Prelude.{◌≡◌, Ok, IfOk, IfErr, IfSome, take};
+ghost use Rattle.std.specs.Prelude.{◌≡◌, IfOk, IfErr, IfSome, take};
 ghost use Rattle.stream_io.specs.Streams.{TakesAtMost};
 ghost use Rattle.commands.specs.declared.image.Refusal.TheVariants.{Shape as NoShape};
 ghost use Rattle.commands.specs.declared.image.TheConstants.{IMAGE_BYTES};
 ghost use Rattle.commands.specs.declared.verdict.Verdict.TheVariants.{NoProgram};
 ghost use Rattle.commands.specs.Faults.{IsBeforeWriting};
 ghost use Rattle.commands.specs.Image.{HasShape};
-ghost use Rattle.commands.specs.Verdict.{Judges, LeavesVerdict, LeavesVerdictLine, JudgesProgram};
+ghost use Rattle.commands.specs.Perform.{SaysAt};
+ghost use Rattle.commands.specs.Verdict.{JudgesProgram, LeavesVerdict, LeavesVerdictLine};
 
 use crate::ending::Ending;
 use crate::fault::Fault;
-use crate::image::program_for;
+use crate::image::{Refusal, program_in, read_image};
+use crate::note::tell_image_note;
 use crate::output::write_whole;
 use crate::request::ShapeOptions;
 use crate::verdict::Verdict;
@@ -20,39 +22,40 @@ use node_env::Shape;
 use std::alloc::Global;
 use std::io::{Read, Write};
 
-/// Writes the line of the verdict on the image that is read. Where the options have no shape, nothing is read.
-pub fn verify<R: Read, W: Write>(
+/// Writes the line of the verdict on the image that is read. Where the options have no shape, nothing is read. Of an
+/// image that is none a note is said on `err`.
+pub fn verify<R: Read, W: Write, E: Write>(
     alloc: Global,
     options: ShapeOptions,
     reader: &mut R,
     out: &mut W,
+    err: &mut E,
 ) -> Result<Ending, Fault>
     ensures verdict { IfSome (R.remaining reader.old) (λ input.
         LeavesVerdict (W.contents out.old) (W.contents out.new) options (take IMAGE_BYTES input) result) }
     ensures no_shape { (HasShape options → ⊥) → LeavesVerdictLine (W.contents out.old) (W.contents out.new)
         (NoProgram NoShape) result }
+    ensures said { IfOk result (λ ending. SaysAt ending (E.contents err.old) (E.contents err.new)) }
+    ensures unsaid { IfErr result (λ fault. E.contents err.new ≡ E.contents err.old) }
     ensures unread { (HasShape options → ⊥) → R.remaining reader.new ≡ R.remaining reader.old }
     ensures front { TakesAtMost IMAGE_BYTES (R.remaining reader.old) (R.remaining reader.new) }
 {
-    let verdict = verdict_of(alloc, options, reader)?;
-    write_verdict(alloc, &verdict, out)
-}
-
-fn verdict_of<R: Read>(
-    alloc: Global,
-    options: ShapeOptions,
-    reader: &mut R,
-) -> Result<Verdict, Fault>
-    ensures verdict { IfOk result (λ verdict.
-        IfSome (R.remaining reader.old) (λ input. Judges options (take IMAGE_BYTES input) verdict)) }
-    ensures fault { IfErr result IsBeforeWriting }
-    ensures no_shape { (HasShape options → ⊥) → result ≡ Ok (NoProgram NoShape) }
-    ensures unread { (HasShape options → ⊥) → R.remaining reader.new ≡ R.remaining reader.old }
-    ensures front { TakesAtMost IMAGE_BYTES (R.remaining reader.old) (R.remaining reader.new) }
-{
-    match program_for(alloc, options, reader)? {
-        Ok((shape, program)) => verdict_on(alloc, &program, shape),
-        Err(refusal) => Ok(Verdict::NoProgram(refusal)),
+    let Some(shape) = Shape::of(options.nodes, options.memory) else {
+        return write_verdict(alloc, &Verdict::NoProgram(Refusal::Shape), out);
+    };
+    let image = read_image(alloc, reader)?;
+    let read = program_in(alloc, image.as_slice())?;
+    match read {
+        Ok(program) => {
+            let verdict = verdict_on(alloc, &program, shape)?;
+            write_verdict(alloc, &verdict, out)
+        }
+        Err(error) => {
+            let verdict = Verdict::NoProgram(Refusal::Image(error));
+            let ending = write_verdict(alloc, &verdict, out)?;
+            tell_image_note(image.as_slice(), err);
+            Ok(ending)
+        }
     }
 }
 

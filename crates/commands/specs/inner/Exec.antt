@@ -1,5 +1,5 @@
 -- Beside Exec: what proofs and private contracts alone cite.
-use Rattle.std.specs.Prelude.{◌≡◌, ℕ, min, List, [], length, Option}
+use Rattle.std.specs.Prelude.{◌≡◌, ℕ, min, Bool, true, false, List, [], length, Option, Result}
 use Rattle.std.specs.Io.KnownBytes.{Appends}
 use Rattle.std.specs.FinMap.{empty}
 use Rattle.bpf_insn.specs.declared.forms.Insn.{Insn}
@@ -7,13 +7,17 @@ use Rattle.bpf_machine.specs.Run.{RunAnswers}
 use Rattle.run_trace.specs.Traces.{MOST_TOLD}
 use Rattle.commands.specs.declared.answer.Answer.{Answer}
 use Rattle.commands.specs.declared.answer.Answer.TheVariants as answers
+use Rattle.commands.specs.declared.ending.Ending.{Ending}
 use Rattle.commands.specs.declared.exec.Reply.{Reply}
 use Rattle.commands.specs.declared.exec.Reply.TheVariants.{Refused, Ran}
+use Rattle.commands.specs.declared.fault.Fault.{Fault}
 use Rattle.commands.specs.declared.left.LeftByRun.{LeftByRun}
 use Rattle.commands.specs.declared.request.ExecOptions.{ExecOptions}
+use Rattle.commands.specs.Answer.{ending_of, told_text}
 use Rattle.commands.specs.Case.{Left, case_memory, case_setting}
-use Rattle.commands.specs.Exec.{case_trace}
+use Rattle.commands.specs.Exec.{LeavesSteps, case_trace}
 use Rattle.commands.specs.Image.{asked_extent}
+use Rattle.commands.specs.Output.{LeavesAny}
 
 -- what a run leaves, as contracts see it
 abbrev pub left_in : LeftByRun → Left
@@ -42,3 +46,10 @@ pub record WroteTrace (old new : Option (List ℕ)) (asked : ExecOptions) (progr
     : Type 0 where
   pub left : Appends old new (case_trace asked program)
   pub number : written ≡ min (length (case_trace asked program)) MOST_TOLD
+
+-- what the run of a program in the case that is asked for leaves, with the lines of its steps or without
+abbrev pub LeavesRunOf : Bool → Option (List ℕ) → Option (List ℕ) → ExecOptions → List Insn → Result Ending Fault → Type 0
+LeavesRunOf true old new asked program ended = LeavesSteps old new asked program ended
+LeavesRunOf false old new asked program ended =
+    LeavesAny {A = Reply} (RunsCase asked program) (λ reply. told_text asked (answer_in asked.fuel reply) (left_of reply))
+    (λ reply. ending_of (answer_in asked.fuel reply)) old new ended

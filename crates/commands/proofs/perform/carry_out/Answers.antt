@@ -1,4 +1,17 @@
+use Rattle.commands.proofs.RunLemmas.{unsaid_in}
 use Rattle.commands.proofs.perform.carry_out.Goals as goal
 
 pub returns-in-Exec-clause-taken : goal.returns-in-Exec-clause-taken
 returns-in-Exec-clause-taken g c = rw c.in-Exec.is (c.exec.ensures.front, c.exec.ensures.unread)
+
+pub returns-in-Asm-clause-said : goal.returns-in-Asm-clause-said
+returns-in-Asm-clause-said g c = unsaid_in c.asm.result (g.E.Write.contents c.args.err.now)
+
+pub returns-in-Clock-clause-said : goal.returns-in-Clock-clause-said
+returns-in-Clock-clause-said g c = unsaid_in c.clock.result (g.E.Write.contents c.args.err.now)
+
+pub returns-in-Stress-clause-said : goal.returns-in-Stress-clause-said
+returns-in-Stress-clause-said g c = unsaid_in c.stress.result (g.E.Write.contents c.args.err.now)
+
+pub returns-in-Help-clause-said : goal.returns-in-Help-clause-said
+returns-in-Help-clause-said g c = unsaid_in c.write_whole.result (g.E.Write.contents c.args.err.now)

@@ -1,9 +1,0 @@
-use Rattle.std.proofs.Common.{◌≡◌, ◌++◌, drop, string_bytes}
-use Rattle.std.specs.Prelude.{flat_map}
-use Rattle.commands.specs.Explore.{cells_text}
-use Rattle.commands.proofs.finding.add_cells.Given as goal
-
--- what is written and what is still to come are the whole
-abbrev pub invariant-loop-cells : goal.invariant-loop-cells
-invariant-loop-cells l = string_bytes l.text ++ flat_map cells_text (drop l.cells-index l.all)
-    ≡ string_bytes l.fn.text ++ flat_map cells_text l.all

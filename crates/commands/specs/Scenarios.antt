@@ -1,0 +1,39 @@
+-- What the commands that read a scenario leave on their output (docs/COMMANDS.md).
+use Rattle.std.specs.Prelude.{◌⊎◌, List, ℕ, ◌++◌, codes, Option, Result}
+use Rattle.scenario_text.specs.declared.refusal.ScenarioError.{ScenarioError}
+use Rattle.scenario_text.specs.declared.scenario.Scenario.{Scenario}
+use Rattle.scenario_text.specs.Lines.{refusal_line}
+use Rattle.scenario_text.specs.Texts.{IsDue, ReadsText}
+use Rattle.commands.specs.declared.ending.Ending.{Ending}
+use Rattle.commands.specs.declared.ending.Ending.TheVariants.{Refused}
+use Rattle.commands.specs.declared.fault.Fault.{Fault}
+use Rattle.commands.specs.declared.request.ScenarioRequest.{ScenarioRequest}
+use Rattle.commands.specs.declared.request.ScenarioRequest.TheVariants.{Run, Lines, TracedRun, NodeProgram, Sweep, Explore}
+use Rattle.commands.specs.Explore.{LeavesExplored}
+use Rattle.commands.specs.Lines.{LeavesLined}
+use Rattle.commands.specs.NodeProgram.{LeavesNodeProgram}
+use Rattle.commands.specs.Output.{Leaves, LeavesNothing}
+use Rattle.commands.specs.Run.{LeavesReported}
+use Rattle.commands.specs.Sweep.{LeavesSwept}
+use Rattle.commands.specs.TracedRun.{LeavesTracedRun}
+
+-- what a command leaves of the scenario that it read
+abbrev pub LeavesOf : ScenarioRequest → Option (List ℕ) → Option (List ℕ) → Scenario → Result Ending Fault → Type 0
+LeavesOf (Run asked) old new s ended = LeavesReported asked.check old new s ended
+LeavesOf (Lines asked) old new s ended = LeavesLined asked.run.check old new s asked.span ended
+LeavesOf (TracedRun asked) old new s ended = LeavesTracedRun old new asked s ended
+LeavesOf (NodeProgram asked) old new s ended = LeavesNodeProgram old new asked s ended
+LeavesOf (Sweep asked) old new s ended = LeavesSwept old new s asked.keys ended
+LeavesOf (Explore asked) old new s ended = LeavesExplored old new asked s ended
+
+-- the line that refuses a text, or its first bytes if a write failed
+abbrev pub LeavesRefusal : Option (List ℕ) → Option (List ℕ) → List ℕ → Result Ending Fault → Type 0
+LeavesRefusal old new text ended =
+    (error : ScenarioError) × IsDue text error × Leaves old new (refusal_line error ++ codes "\n") Refused ended
+
+-- of a text: what the command leaves of the scenario that it says, or the line that refuses it; or nothing, if the text
+-- couldn't be read
+abbrev pub LeavesFor : ScenarioRequest → Option (List ℕ) → Option (List ℕ) → List ℕ → Result Ending Fault → Type 0
+LeavesFor asked old new text ended =
+    ((s : Scenario) × ReadsText text s × LeavesOf asked old new s ended)
+    ⊎ (LeavesRefusal old new text ended ⊎ LeavesNothing old new ended)

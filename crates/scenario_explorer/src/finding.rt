@@ -1,0 +1,489 @@
+//! What `explore` answers, and the lines that say it.
+ghost use Rattle.std.specs.Prelude.{◌≡◌, ◌+◌, ◌++◌, [], IfOk, OnOk, Some, flat_map, length, string_bytes};
+ghost use Rattle.std.specs.Option.{option_map_or};
+ghost use Rattle.bench_space.specs.declared.recovery.Recovery.TheVariants.{InStep, Luck};
+ghost use Rattle.scenario_explorer.specs.Explore.{agreement_text, any_start_text, byte_span_text, byzantine_text, cause_text, cells_text, correct_text, count_text, counted, finding_text, found_text, liars_text, mark_of, marked, nodes_text, programmed_text, range_text, recovery_text, shown_of, spans_text, tried_text, unfinished_text, unfit_name, violation_text};
+ghost use Rattle.scenario_explorer.specs.declared.finding.Finding.TheVariants.{Searched};
+
+use crate::options::{AnyStart, ByteSpan, Cells, MailSpan};
+use bench_space::{Cause, MOST_MAILS, Recovery};
+use std::alloc::{AllocError, Global};
+use std::fmt;
+use std::fmt::Write;
+
+/// What of a scenario can't be explored.
+#[derive(Clone, Copy, Debug, PartialEq, Eq)]
+pub enum Unfit {
+    /// A load after pulse 1.
+    Load,
+    Unload,
+    Corrupt,
+    /// A coin for a node.
+    Coin,
+    /// No node is loaded.
+    Unloaded,
+}
+
+/// Who is who, and what was tried beside both coins.
+#[derive(Debug, Drop)]
+pub struct Tried {
+    pub correct: Vec<u32>,
+    /// Whether the correct nodes run the clock. Otherwise no node does, and they are all that are loaded.
+    pub has_clock: bool,
+    /// The Byzantine nodes that have programs.
+    pub programmed: Vec<u32>,
+    /// Those that have none.
+    pub liars: Vec<u32>,
+    /// How many faults the rule allows for.
+    pub faults: u32,
+    /// The numbers that nodes without a program send.
+    pub mail: Vec<MailSpan>,
+    /// What the line says of the memories and messages at the start: nothing if they are zero and none.
+    pub start: String,
+}
+
+/// What was found.
+#[derive(Debug, Drop)]
+pub enum Found {
+    /// Every transition was tried. Whether agreement was asked, and so holds; if it was asked, how the clocks
+    /// stabilise, with the text of a counterexample if that can be prevented and one was made.
+    Closed {
+        agrees: bool,
+        states: u64,
+        moves: u64,
+        recovery: Option<Recovery>,
+        shown: Option<String>,
+    },
+    /// Agreement is violated in this pulse of the counterexample of this text.
+    Parts {
+        pulse: u64,
+        states: u64,
+        shown: String,
+    },
+    /// After so many states, and why.
+    Unfinished {
+        states: u64,
+        cause: Cause,
+    },
+}
+
+/// Why nothing is explored, or what was tried and found.
+#[derive(Debug, Drop)]
+pub enum Finding {
+    Unfit(Unfit),
+    Searched { tried: Tried, found: Found },
+}
+
+/// The numbers from the first to the last, after a blank: one or two, or a range.
+#[derive(Clone, Copy)]
+struct Range {
+    first: u32,
+    last: u32,
+}
+
+impl fmt::Display for Range {
+    ghost output = { λ range. Some (range_text range.first range.last) };
+
+    fn fmt<W: fmt::Write>(&self, f: &mut fmt::Formatter<W>) -> fmt::Result {
+        let Range { first, last } = *self;
+        if last == first {
+            write!(f, " {first}")
+        } else if first.checked_add(1) == Some(last) {
+            write!(f, " {first} {last}")
+        } else {
+            write!(f, " {first}..{last}")
+        }
+    }
+}
+
+impl fmt::Display for Unfit {
+    ghost output = { λ unfit. Some (unfit_name unfit) };
+
+    fn fmt<W: fmt::Write>(&self, f: &mut fmt::Formatter<W>) -> fmt::Result {
+        match self {
+            Unfit::Load => write!(f, "load"),
+            Unfit::Unload => write!(f, "unload"),
+            Unfit::Corrupt => write!(f, "corrupt"),
+            Unfit::Coin => write!(f, "coin"),
+            Unfit::Unloaded => write!(f, "NoCorrectNode"),
+        }
+    }
+}
+
+/// Adds the numbers of nodes, each after a blank.
+fn add_nodes(alloc: Global, text: &mut String, nodes: &[u32]) -> Result<(), AllocError>
+    ensures { OnOk result (string_bytes text.new ≡ string_bytes text.old ++ nodes_text nodes.now) }
+{
+    for node in nodes {
+        let part = format!(in alloc; " {node}")?;
+        text.push_str(part.as_str())?;
+    }
+    Ok(())
+}
+
+/// Adds the spans, each after a blank.
+fn add_spans(alloc: Global, text: &mut String, mail: &[MailSpan]) -> Result<(), AllocError>
+    ensures { OnOk result (string_bytes text.new ≡ string_bytes text.old ++ spans_text mail.now) }
+{
+    for span in mail {
+        let range = Range {
+            first: span.first,
+            last: span.last,
+        };
+        let part = format!(in alloc; "{range}")?;
+        text.push_str(part.as_str())?;
+    }
+    Ok(())
+}
+
+/// Adds the bytes of spans, each span after a blank.
+fn add_byte_spans(alloc: Global, text: &mut String, values: &[ByteSpan]) -> Result<(), AllocError>
+    ensures { OnOk result (string_bytes text.new
+        ≡ string_bytes text.old ++ flat_map byte_span_text values.now) }
+{
+    for span in values {
+        let range = Range {
+            first: u32::from(span.first),
+            last: u32::from(span.last),
+        };
+        let part = format!(in alloc; "{range}")?;
+        text.push_str(part.as_str())?;
+    }
+    Ok(())
+}
+
+/// The places of an entry, and what their bytes may be.
+fn cells_line(alloc: Global, cells: &Cells) -> Result<String, AllocError>
+    ensures { IfOk result (λ text. string_bytes text ≡ cells_text cells.now) }
+{
+    let places = Range {
+        first: cells.first,
+        last: cells.last,
+    };
+    let mut values = String::new(alloc);
+    add_byte_spans(alloc, &mut values, &cells.values)?;
+    if cells.first == cells.last {
+        format!(in alloc; " byte{places} of{values},")
+    } else {
+        format!(in alloc; " bytes{places} of{values},")
+    }
+}
+
+/// Adds the entries.
+fn add_cells(alloc: Global, text: &mut String, all: &[Cells]) -> Result<(), AllocError>
+    ensures { OnOk result (string_bytes text.new ≡ string_bytes text.old ++ flat_map cells_text all.now) }
+{
+    for cells in all {
+        let part = cells_line(alloc, cells)?;
+        text.push_str(part.as_str())?;
+    }
+    Ok(())
+}
+
+/// What the line says of a start that isn't at zero: its memories, and the numbers of its messages.
+pub(crate) fn any_start_line(
+    alloc: Global,
+    any: &AnyStart,
+    said: &[MailSpan],
+) -> Result<String, AllocError>
+    ensures { IfOk result (λ text. string_bytes text ≡ any_start_text any.now said.now) }
+{
+    let mut cells = String::new(alloc);
+    add_cells(alloc, &mut cells, &any.cells)?;
+    let mut spans = String::new(alloc);
+    add_spans(alloc, &mut spans, said)?;
+    format!(in alloc; ", any start:{cells} messages none{spans}")
+}
+
+/// The correct nodes, and that they are all that are loaded if no node runs the clock.
+fn correct_line(alloc: Global, nodes: &[u32], has_clock: bool) -> Result<String, AllocError>
+    ensures { IfOk result (λ text. string_bytes text ≡ correct_text nodes.now has_clock) }
+{
+    let mut named = String::new(alloc);
+    add_nodes(alloc, &mut named, nodes)?;
+    if has_clock {
+        format!(in alloc; "correct{named}")
+    } else {
+        format!(in alloc; "correct{named} (no node runs the clock, so all that are loaded)")
+    }
+}
+
+/// The Byzantine nodes that have programs.
+fn programmed_line(alloc: Global, tried: &Tried) -> Result<String, AllocError>
+    ensures { IfOk result (λ text. string_bytes text ≡ programmed_text tried.now.programmed.items) }
+{
+    if tried.programmed.len() == 0 {
+        return Ok(String::new(alloc));
+    }
+    let mut named = String::new(alloc);
+    add_nodes(alloc, &mut named, &tried.programmed)?;
+    format!(in alloc; ", Byzantine{named} (as loaded)")
+}
+
+/// Those that have none, and what each may send.
+fn liars_line(alloc: Global, tried: &Tried) -> Result<String, AllocError>
+    ensures { IfOk result (λ text. string_bytes text ≡ liars_text tried.now.liars.items tried.now.mail.items) }
+{
+    if tried.liars.len() == 0 {
+        return Ok(String::new(alloc));
+    }
+    let mut named = String::new(alloc);
+    add_nodes(alloc, &mut named, &tried.liars)?;
+    let mut spans = String::new(alloc);
+    add_spans(alloc, &mut spans, &tried.mail)?;
+    format!(in alloc; ", Byzantine{named} (any message of none{spans})")
+}
+
+/// How many nodes are Byzantine.
+fn byzantine_count(tried: &Tried) -> usize
+    ensures { result ≡ length tried.now.programmed.items + length tried.now.liars.items }
+{
+    tried.programmed.len() + tried.liars.len()
+}
+
+/// How many that are, if none is, or more than the rule allows for.
+fn count_line(alloc: Global, tried: &Tried) -> Result<String, AllocError>
+    ensures { IfOk result (λ text. string_bytes text
+        ≡ count_text (length tried.now.programmed.items + length tried.now.liars.items) tried.now.faults) }
+{
+    let count = byzantine_count(tried);
+    let faults = tried.faults;
+    if count == 0 {
+        format!(in alloc; ", no Byzantine node")
+    } else if count as u64 > u64::from(faults) {
+        format!(in alloc; ", more Byzantine nodes than faults ({faults})")
+    } else {
+        Ok(String::new(alloc))
+    }
+}
+
+/// The Byzantine nodes.
+fn byzantine_line(alloc: Global, tried: &Tried) -> Result<String, AllocError>
+    ensures { IfOk result (λ text. string_bytes text ≡ byzantine_text tried.now) }
+{
+    let programmed = programmed_line(alloc, tried)?;
+    let liars = liars_line(alloc, tried)?;
+    let count = count_line(alloc, tried)?;
+    format!(in alloc; "{programmed}{liars}{count}")
+}
+
+/// Who is who, and what was tried.
+fn tried_line(alloc: Global, tried: &Tried) -> Result<String, AllocError>
+    ensures { IfOk result (λ text. string_bytes text ≡ tried_text tried.now) }
+{
+    let correct = correct_line(alloc, &tried.correct, tried.has_clock)?;
+    let byzantine = byzantine_line(alloc, tried)?;
+    let start = &tried.start;
+    format!(in alloc; "{correct}{byzantine}{start}")
+}
+
+/// So many of this.
+fn counted(alloc: Global, count: u64, word: &str) -> Result<String, AllocError>
+    ensures { IfOk result (λ text. string_bytes text ≡ counted count word.now) }
+{
+    if count == 1 {
+        format!(in alloc; "{count} {word}")
+    } else {
+        format!(in alloc; "{count} {word}s")
+    }
+}
+
+/// That agreement holds, or wasn't asked.
+fn agreement_line(
+    alloc: Global,
+    agrees: bool,
+    states: u64,
+    moves: u64,
+) -> Result<String, AllocError>
+    ensures { IfOk result (λ text. string_bytes text ≡ agreement_text agrees states moves) }
+{
+    let states = counted(alloc, states, "state")?;
+    let moves = counted(alloc, moves, "transition")?;
+    if agrees {
+        format!(in alloc; "agreement holds: {states}, {moves}")
+    } else {
+        format!(in alloc; "agreement not asked: {states}, {moves}")
+    }
+}
+
+/// That they stabilise whatever the coins.
+fn in_step_line(alloc: Global, pulses: u64) -> Result<String, AllocError>
+    ensures { IfOk result (λ text. string_bytes text ≡ recovery_text (InStep pulses)) }
+{
+    let pulses = counted(alloc, pulses, "pulse")?;
+    format!(in alloc; "stabilises within {pulses}")
+}
+
+/// That they stabilise with some coins.
+fn luck_line(alloc: Global, pulses: u64) -> Result<String, AllocError>
+    ensures { IfOk result (λ text. string_bytes text ≡ recovery_text (Luck pulses)) }
+{
+    let pulses = counted(alloc, pulses, "pulse")?;
+    format!(in alloc;
+        "may stabilise within {pulses}: from every reachable state some coins lead there"
+    )
+}
+
+/// How the clocks stabilise.
+fn recovery_line(alloc: Global, recovery: &Recovery) -> Result<String, AllocError>
+    ensures { IfOk result (λ text. string_bytes text ≡ recovery_text recovery.now) }
+{
+    match recovery {
+        Recovery::InStep { pulses } => in_step_line(alloc, *pulses),
+        Recovery::Luck { pulses } => luck_line(alloc, *pulses),
+        Recovery::HeldOff { .. } => format!(in alloc; "stabilisation can be prevented for ever"),
+        Recovery::Unknown => format!(in alloc;
+            "stabilisation not decided: a state has more choices of coins than --states allows"
+        ),
+    }
+}
+
+/// Why the search isn't finished.
+fn cause_line(alloc: Global, cause: Cause) -> Result<String, AllocError>
+    ensures { IfOk result (λ text. string_bytes text ≡ cause_text cause) }
+{
+    match cause {
+        Cause::States => format!(in alloc; "--states allows no more"),
+        Cause::Transitions => format!(in alloc;
+            "a state has more transitions than --states allows"
+        ),
+        Cause::Pulses => format!(in alloc; "--depth allows no more pulses"),
+        Cause::Inboxes => format!(in alloc;
+            "a node has more than {MOST_MAILS} choices of memory and inbox"
+        ),
+        Cause::Counterexample => format!(in alloc;
+            "agreement is violated, but no counterexample was made"
+        ),
+    }
+}
+
+/// That agreement is violated.
+fn violation_line(alloc: Global, pulse: u64, states: u64) -> Result<String, AllocError>
+    ensures { IfOk result (λ text. string_bytes text ≡ violation_text pulse states) }
+{
+    let states = counted(alloc, states, "state")?;
+    format!(in alloc; "agreement violated in pulse {pulse} ({states}); a counterexample follows")
+}
+
+/// That the search isn't finished.
+fn unfinished_line(alloc: Global, states: u64, cause: Cause) -> Result<String, AllocError>
+    ensures { IfOk result (λ text. string_bytes text ≡ unfinished_text states cause) }
+{
+    let states = counted(alloc, states, "state")?;
+    let cause = cause_line(alloc, cause)?;
+    format!(in alloc; "not finished: {states}; {cause}")
+}
+
+/// The line with its end, behind its mark.
+fn marked(alloc: Global, mark: &str, line: &str) -> Result<String, AllocError>
+    ensures { IfOk result (λ text. string_bytes text ≡ marked mark.now line.now) }
+{
+    format!(in alloc; "{mark}{line}\n")
+}
+
+/// How the clocks stabilise, behind the mark, if that was asked.
+fn recovery_told(
+    alloc: Global,
+    mark: &str,
+    recovery: &Option<Recovery>,
+) -> Result<String, AllocError>
+    ensures { IfOk result (λ text. string_bytes text
+        ≡ option_map_or (λ how. marked mark.now (recovery_text how)) recovery.now []) }
+{
+    match recovery {
+        Some(how) => {
+            let line = recovery_line(alloc, how)?;
+            marked(alloc, mark, line.as_str())
+        }
+        None => Ok(String::new(alloc)),
+    }
+}
+
+/// The line on agreement, and how the clocks stabilise if that was asked, each behind the mark.
+fn answers_told(
+    alloc: Global,
+    mark: &str,
+    agreement: &str,
+    recovery: &Option<Recovery>,
+) -> Result<String, AllocError>
+    ensures { IfOk result (λ text. string_bytes text ≡ marked mark.now agreement.now
+        ++ option_map_or (λ how. marked mark.now (recovery_text how)) recovery.now []) }
+{
+    let mut text = marked(alloc, mark, agreement)?;
+    let second = recovery_told(alloc, mark, recovery)?;
+    text.push_str(second.as_str())?;
+    Ok(text)
+}
+
+impl Found {
+    /// The counterexample, if there is one.
+    fn shown(&self) -> &str
+        ensures { result.now ≡ shown_of self.now }
+    {
+        match self {
+            Found::Parts { shown, .. } => shown.as_str(),
+            Found::Closed { shown, .. } => match shown {
+                Some(shown) => shown.as_str(),
+                None => "",
+            },
+            Found::Unfinished { .. } => "",
+        }
+    }
+
+    /// What makes a line a comment of the counterexample, if there is one.
+    fn mark(&self) -> &str
+        ensures { result.now ≡ mark_of (shown_of self.now) }
+    {
+        if self.shown().len() == 0 { "" } else { "# " }
+    }
+
+    /// What was found, in a line or two, each behind the mark.
+    fn text(&self, alloc: Global, mark: &str) -> Result<String, AllocError>
+        ensures { IfOk result (λ text. string_bytes text ≡ found_text mark.now self.now) }
+    {
+        match self {
+            Found::Closed {
+                agrees,
+                states,
+                moves,
+                recovery,
+                ..
+            } => {
+                let line = agreement_line(alloc, *agrees, *states, *moves)?;
+                answers_told(alloc, mark, line.as_str(), recovery)
+            }
+            Found::Parts { pulse, states, .. } => {
+                let line = violation_line(alloc, *pulse, *states)?;
+                marked(alloc, mark, line.as_str())
+            }
+            Found::Unfinished { states, cause } => {
+                let line = unfinished_line(alloc, *states, *cause)?;
+                marked(alloc, mark, line.as_str())
+            }
+        }
+    }
+}
+
+/// The lines of what was tried and found, with the counterexample if there is one.
+fn searched_text(alloc: Global, tried: &Tried, found: &Found) -> Result<String, AllocError>
+    ensures { IfOk result (λ text. string_bytes text ≡ finding_text (Searched tried.now found.now)) }
+{
+    let tried = tried_line(alloc, tried)?;
+    let mut text = marked(alloc, found.mark(), tried.as_str())?;
+    let lines = found.text(alloc, found.mark())?;
+    text.push_str(lines.as_str())?;
+    text.push_str(found.shown())?;
+    Ok(text)
+}
+
+impl Finding {
+    /// Returns the lines with their ends, and the counterexample if there is one.
+    pub fn text(&self, alloc: Global) -> Result<String, AllocError>
+        ensures { IfOk result (λ text. string_bytes text ≡ finding_text self.now) }
+    {
+        match self {
+            Finding::Unfit(unfit) => format!(in alloc; "refused explore {unfit}\n"),
+            Finding::Searched { tried, found } => searched_text(alloc, tried, found),
+        }
+    }
+}

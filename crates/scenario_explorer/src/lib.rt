@@ -1,0 +1,12 @@
+//! The bench of a scenario, explored over all coins and messages: docs/EXPLORE.md.
+#![tactic(auto)]
+
+mod exploring;
+mod finding;
+mod options;
+mod shown;
+
+pub use bench_space::Question;
+pub use exploring::{finding_on, unfit_of};
+pub use finding::{Finding, Found, Tried, Unfit};
+pub use options::{AnyStart, ByteSpan, Cells, ExploreOptions, MailSpan};
