@@ -15,6 +15,10 @@ use std::alloc::{AllocError, Global};
 /// The help of `--list`.
 const LIST: &str = "Print slot and bytes of each instruction beside its line";
 
+/// The help of `--list` of `compile`.
+const LIST_OF_RULE: &str =
+    "Print slot and bytes of each instruction below the line of the rule that made it";
+
 /// The help of `--text`.
 const TEXT: &str = "Read an assembler text in place of an image";
 
@@ -76,6 +80,7 @@ fn compile<'a>(alloc: Global, helps: &'a Helps) -> Building<'a> {
             LEAST_MODULUS,
             MOST_MODULUS,
         ))
+        .arg(flag(alloc, "list", LIST_OF_RULE))
         .arg(file(alloc))
 }
 

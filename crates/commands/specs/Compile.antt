@@ -1,17 +1,20 @@
 -- What `compile` leaves on its output (docs/COMMANDS.md, "What compile prints").
-use Rattle.std.specs.Prelude.{◌≡◌, ℕ, List, ◌++◌, codes, Option, Result, Ok, Err}
+use Rattle.std.specs.Prelude.{◌≡◌, ℕ, Bool, true, false, List, ◌++◌, codes, Option, Result}
 use Rattle.std.specs.Fmt.{decimal}
 use Rattle.bpf_insn.specs.declared.forms.Insn.{Insn}
 use Rattle.bpf_insn.specs.Programs.{image_of}
 use Rattle.clock_nodes.specs.Rule.{IsRule}
 use Rattle.rule_nodes.specs.Ends.{sizes_of}
 use Rattle.rule_nodes.specs.declared.syntax.Sizes as rules
+use Rattle.rule_listing.specs.Listing.{IsListingOf}
 use Rattle.rule_text.specs.Programs.{IsProgramOfText, IsRefusalOfText, error_name}
 use Rattle.rule_text.specs.declared.program.RuleRefusal.TheVariants.{Text, NoRoom, TooLong}
 use Rattle.commands.specs.declared.compile.Uncompiled.{Uncompiled}
 use Rattle.commands.specs.declared.compile.Uncompiled.TheVariants.{Shape, Sizes, Rule}
+use Rattle.commands.specs.declared.compile.Compiled.{Compiled}
+use Rattle.commands.specs.declared.compile.Compiled.TheVariants.{Bytes, Refused}
 use Rattle.commands.specs.declared.ending.Ending.{Ending}
-use Rattle.commands.specs.declared.ending.Ending.TheVariants.{Done, Refused}
+use Rattle.commands.specs.declared.ending.Ending.TheVariants as endings
 use Rattle.commands.specs.declared.fault.Fault.{Fault}
 use Rattle.commands.specs.declared.request.CompileOptions.{CompileOptions}
 use Rattle.commands.specs.Image.{HasShape, asked_extent}
@@ -21,13 +24,19 @@ use Rattle.commands.specs.Output.{LeavesAny}
 abbrev pub asked_sizes : CompileOptions → rules.Sizes
 asked_sizes asked = sizes_of (asked_extent asked.shape) asked.faults asked.modulus
 
+-- the image of a rule's program, or its listing where that is asked for
+abbrev pub IsShown : Bool → rules.Sizes → List ℕ → List Insn → List ℕ → Type 0
+IsShown true z text program bytes = IsListingOf z text program bytes
+IsShown false z text program bytes = bytes ≡ image_of program
+
 -- the program of the text, or why it has none: the shape comes first, then the sizes, then what is wrong with the text
-abbrev pub Compiles : CompileOptions → List ℕ → Result (List Insn) Uncompiled → Type 0
-Compiles asked text (Ok program) = IsProgramOfText (asked_sizes asked) text program
-Compiles asked text (Err Shape) = HasShape asked.shape → ⊥
-Compiles asked text (Err Sizes) =
+abbrev pub Compiles : CompileOptions → List ℕ → Compiled → Type 0
+Compiles asked text (Bytes bytes) = (program : List Insn) × IsProgramOfText (asked_sizes asked) text program
+    × IsShown asked.list (asked_sizes asked) text program bytes.items
+Compiles asked text (Refused Shape) = HasShape asked.shape → ⊥
+Compiles asked text (Refused Sizes) =
     HasShape asked.shape × (IsRule asked.shape.nodes asked.faults asked.modulus → ⊥)
-Compiles asked text (Err (Rule refusal)) = IsRefusalOfText (asked_sizes asked) text refusal
+Compiles asked text (Refused (Rule refusal)) = IsRefusalOfText (asked_sizes asked) text refusal
 
 -- the line of a refusal, without its end
 abbrev pub uncompiled_line : Uncompiled → List ℕ
@@ -38,15 +47,15 @@ uncompiled_line (Rule (Text error line column)) = codes "refused rule " ++ (erro
 uncompiled_line (Rule NoRoom) = codes "refused rule NoRoom"
 uncompiled_line (Rule TooLong) = codes "refused rule TooLong"
 
--- what is printed: the image of the program, or the line of the refusal
-abbrev pub compiled_text : Result (List Insn) Uncompiled → List ℕ
-compiled_text (Ok program) = image_of program
-compiled_text (Err error) = uncompiled_line error ++ codes "\n"
+-- what is printed: the image or the listing of the program, or the line of the refusal
+abbrev pub compiled_text : Compiled → List ℕ
+compiled_text (Bytes bytes) = bytes.items
+compiled_text (Refused error) = uncompiled_line error ++ codes "\n"
 
-abbrev pub compiled_ending : Result (List Insn) Uncompiled → Ending
-compiled_ending (Ok program) = Done
-compiled_ending (Err error) = Refused
+abbrev pub compiled_ending : Compiled → Ending
+compiled_ending (Bytes bytes) = endings.Done
+compiled_ending (Refused error) = endings.Refused
 
--- the image of the program of the rule of these bytes, or the line that refuses them
+-- what is printed of the rule of these bytes, or the line that refuses them
 abbrev pub LeavesCompiled : Option (List ℕ) → Option (List ℕ) → CompileOptions → List ℕ → Result Ending Fault → Type 0
 LeavesCompiled old new asked text ended = LeavesAny (Compiles asked text) compiled_text compiled_ending old new ended

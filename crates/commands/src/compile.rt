@@ -1,9 +1,11 @@
-//! `compile`: the image of the rule on standard input.
-ghost use Rattle.std.specs.Prelude.{◌≡◌, ◌+◌, Some, IfOk, IfErr, IfSome, take};
+//! `compile`: the image of the rule on standard input, or its listing.
+ghost use Rattle.std.specs.Prelude.{◌≡◌, ◌+◌, IfOk, IfErr, IfSome, IsTrue, Some, take};
 ghost use Rattle.stream_io.specs.Streams.{TakesAtMost};
+ghost use Rattle.rule_text.specs.Programs.{IsProgramOfText};
 ghost use Rattle.commands.specs.declared.asm.TheConstants.{TEXT_BYTES};
-ghost use Rattle.commands.specs.Compile.{Compiles, LeavesCompiled, compiled_ending, compiled_text, uncompiled_line};
+ghost use Rattle.commands.specs.Compile.{Compiles, LeavesCompiled, asked_sizes, compiled_ending, compiled_text, uncompiled_line};
 ghost use Rattle.commands.specs.Faults.{IsBeforeWriting};
+ghost use Rattle.commands.specs.Image.{asked_extent};
 ghost use Rattle.commands.specs.Output.{Leaves};
 ghost use Rattle.commands.specs.Perform.{SaysAt};
 
@@ -16,13 +18,22 @@ use crate::request::CompileOptions;
 use bpf_insn::{Program, encode};
 use clock_nodes::ClockRule;
 use node_env::Shape;
+use rule_listing::list_rule;
 use rule_text::{RuleRefusal, program_of_text};
 use std::alloc::Global;
 use std::fmt;
 use std::io::{Read, Write};
 
-/// Writes the image of the rule that is read, or the line that refuses it, of which a note is said on `err`. A text of
-/// more than [`TEXT_BYTES`] is a fault of reading.
+/// What is written of a text.
+#[derive(Drop)]
+pub enum Compiled {
+    /// The image of its program, or the listing.
+    Bytes(Vec<u8>),
+    Refused(Uncompiled),
+}
+
+/// Writes the image of the rule that is read, or its listing, or the line that refuses it, of which a note is said on
+/// `err`. A text of more than [`TEXT_BYTES`] is a fault of reading.
 pub fn compile<R: Read, W: Write, E: Write>(
     alloc: Global,
     options: CompileOptions,
@@ -37,50 +48,84 @@ pub fn compile<R: Read, W: Write, E: Write>(
     ensures front { TakesAtMost (TEXT_BYTES + 1) (R.remaining reader.old) (R.remaining reader.new) }
 {
     let text = read_text(alloc, reader)?;
-    let compiled = compiled(alloc, options, text.as_slice())?;
+    let compiled = compile_text(alloc, options, text.as_slice())?;
     let ending = write_compiled(alloc, &compiled, out)?;
-    if let Err(uncompiled) = compiled {
+    if let Compiled::Refused(uncompiled) = compiled {
         tell_uncompiled_note(alloc, options.shape, text.as_slice(), uncompiled, err);
     }
     Ok(ending)
 }
 
-/// The program of the rule that a text is, or why there is none.
-fn compiled(
-    alloc: Global,
-    options: CompileOptions,
-    text: &[u8],
-) -> Result<Result<Program, Uncompiled>, Fault>
+/// What is written of the rule that a text is.
+fn compile_text(alloc: Global, options: CompileOptions, text: &[u8]) -> Result<Compiled, Fault>
     ensures compiled { IfOk result (Compiles options text.now) }
     ensures fault { IfErr result IsBeforeWriting }
 {
     let Some(shape) = Shape::of(options.shape.nodes, options.shape.memory) else {
-        return Ok(Err(Uncompiled::Shape));
+        return Ok(Compiled::Refused(Uncompiled::Shape));
     };
     if ClockRule::of(options.shape.nodes, options.faults, options.modulus).is_none() {
-        return Ok(Err(Uncompiled::Sizes));
+        return Ok(Compiled::Refused(Uncompiled::Sizes));
     }
     match program_of_text(alloc, text, shape, options.faults, options.modulus) {
-        Ok(Ok(program)) => Ok(Ok(program)),
-        Ok(Err(refusal)) => Ok(Err(Uncompiled::Rule(refusal))),
+        Ok(Ok(program)) => shown(alloc, options, shape, text, &program),
+        Ok(Err(refusal)) => Ok(Compiled::Refused(Uncompiled::Rule(refusal))),
+        Err(_) => Err(Fault::Memory),
+    }
+}
+
+/// The image of a rule's program, or its listing.
+fn shown(
+    alloc: Global,
+    options: CompileOptions,
+    shape: Shape,
+    text: &[u8],
+    program: &Program,
+) -> Result<Compiled, Fault>
+    requires shape { shape ≡ asked_extent options.shape }
+    requires program { IsProgramOfText (asked_sizes options) text.now program.now }
+    ensures compiled { IfOk result (Compiles options text.now) }
+    ensures fault { IfErr result IsBeforeWriting }
+{
+    if options.list {
+        return listed(alloc, options, shape, text, program);
+    }
+    let image = encode(alloc, program).map_err(|_| Fault::Memory)?;
+    Ok(Compiled::Bytes(image))
+}
+
+/// The listing of a rule's program.
+fn listed(
+    alloc: Global,
+    options: CompileOptions,
+    shape: Shape,
+    text: &[u8],
+    program: &Program,
+) -> Result<Compiled, Fault>
+    requires list { IsTrue options.list }
+    requires shape { shape ≡ asked_extent options.shape }
+    requires program { IsProgramOfText (asked_sizes options) text.now program.now }
+    ensures compiled { IfOk result (Compiles options text.now) }
+    ensures fault { IfErr result IsBeforeWriting }
+{
+    match list_rule(alloc, text, program, shape, options.faults, options.modulus) {
+        Ok(Ok(listing)) => Ok(Compiled::Bytes(listing)),
+        Ok(Err(refusal)) => Ok(Compiled::Refused(Uncompiled::Rule(refusal))),
         Err(_) => Err(Fault::Memory),
     }
 }
 
 fn write_compiled<W: Write>(
     alloc: Global,
-    compiled: &Result<Program, Uncompiled>,
+    compiled: &Compiled,
     out: &mut W,
 ) -> Result<Ending, Fault>
     ensures { Leaves (W.contents out.old) (W.contents out.new) (compiled_text compiled.now)
         (compiled_ending compiled.now) result }
 {
     match compiled {
-        Ok(program) => {
-            let image = encode(alloc, program).map_err(|_| Fault::Memory)?;
-            write_whole(out, image.as_slice(), Ending::Done)
-        }
-        Err(error) => {
+        Compiled::Bytes(bytes) => write_whole(out, bytes.as_slice(), Ending::Done),
+        Compiled::Refused(error) => {
             let line = format!(in alloc; "{error}\n").map_err(|_| Fault::Memory)?;
             write_whole(out, line.as_bytes(), Ending::Refused)
         }

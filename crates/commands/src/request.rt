@@ -15,7 +15,7 @@ pub enum Request {
     Exec(ExecOptions),
     /// `asm`: the image of a text, or its listing.
     Asm { list: bool },
-    /// `compile`: the image of a rule.
+    /// `compile`: the image of a rule, or its listing.
     Compile(CompileOptions),
     /// `dis`: the text of an image, or its listing.
     Dis { list: bool },
@@ -59,6 +59,8 @@ pub struct CompileOptions {
     pub shape: ShapeOptions,
     pub faults: u32,
     pub modulus: u32,
+    /// Whether a listing is asked for.
+    pub list: bool,
 }
 
 /// The options of `dis --clock`.
