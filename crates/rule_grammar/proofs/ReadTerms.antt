@@ -1,0 +1,229 @@
+-- A term that is spelled is read.
+use Rattle.std.proofs.Common.{◌≡◌, inl, inr, ℕ, zero, suc, cond, List, [], ◌∷◌, ◌++◌, length, refl, sym, ap, subst, ◌∙◌, arith, append_assoc}
+use Rattle.std.specs.Prelude.{Bool, option_map, Option, Some, None, Ok, Err}
+use Rattle.std.proofs.lemmas.Bool.{lt-leb}
+use Rattle.rule_nodes.specs.declared.syntax.Comparison.{Comparison}
+use Rattle.rule_text.specs.declared.errors.RuleError.TheVariants.{TooDeep, TooLong}
+use Rattle.rule_text.specs.declared.signs.Sign.{Sign}
+use Rattle.rule_text.specs.declared.signs.Sign.TheVariants as signs
+use Rattle.rule_text.specs.declared.lexemes.Kind.{Kind}
+use Rattle.rule_text.specs.declared.lexemes.Kind.TheVariants.{Mark}
+use Rattle.rule_text.specs.declared.lexemes.Token.{Token}
+use Rattle.rule_text.specs.declared.layout.TheConstants.{MAX_LINE_TOKENS}
+use Rattle.rule_text.specs.declared.scope.Meaning.{Meaning}
+use Rattle.rule_text.specs.declared.scope.Entry.{Entry}
+use Rattle.rule_text.specs.declared.scope.Maker.{Maker}
+use Rattle.rule_text.specs.declared.scope.Maker.TheVariants as makers
+use Rattle.rule_text.specs.declared.scope.TheConstants.{MAX_NAMES}
+use Rattle.rule_text.specs.declared.joints.Joint.{Joint}
+use Rattle.rule_text.specs.declared.joints.Chain.{Chain}
+use Rattle.rule_text.specs.declared.joints.Chain.TheVariants as chains
+use Rattle.rule_text.specs.declared.terms.Grade.TheVariants.{Whole, Inverse}
+use Rattle.rule_text.specs.declared.terms.TheConstants.{MAX_PARTS}
+use Rattle.rule_text.specs.Forms.{TermForm}
+use Rattle.rule_text.specs.Scopes.{error_at, meaning_of, entry, next_meaning, added, named_entry_by, named_entry, new_name}
+use Rattle.rule_text.specs.Terms.{joint_of, join, named_term, leaf_of, Reader, Inner, leaf, named_atom, marked_atom, atom, chain_step, chain_rest, compare_read, inverse_read, operand_read, chain_read, whole_read, part, term_read}
+use Rattle.rule_text.specs.Spelling as s
+use Rattle.rule_grammar.proofs.Readings.{Gives, found, bind, by_some, by_none, IsClear, Clear, limit_in, after_sign, wanted_sign, first_no}
+use Rattle.rule_grammar.proofs.Levels.{Ends, ends_tighter, ends_at, ends_clear, no_if, no_joint, joint_ends, no_comparison, comparison_ends, opening, starts, term_clear}
+
+module _ (text : List ℕ) where
+  -- ---- names
+
+  entry_gives : (maker : Maker) (names more : List Entry) (t : Token) → s.IsNew text maker names t more
+      → named_entry text maker names t ≡ Ok more
+  entry_gives maker names more t new =
+      ap (λ (kind : Kind). named_entry_by text maker names kind t) new.named.is
+      ∙ ap (λ (known : Option Meaning). added known maker new.name names t) new.new
+      ∙ ap (λ (full : Bool). cond full (Err (error_at TooDeep t))
+      (Ok (names ++ entry new.name (next_meaning maker names) ∷ []))) (lt-leb MAX_NAMES (length names) new.room)
+      ∙ ap Ok (sym new.added)
+
+  pub new_gives : (maker : Maker) (names more : List Entry) (t : Token) (ts : List Token)
+      → s.IsNew text maker names t more → Gives (new_name text maker names (t ∷ ts)) (more, ts)
+  new_gives maker names more t ts new = bind _ (found (entry_gives maker names more t new)) (found refl)
+
+  -- ---- the readers of the levels
+
+  abbrev reader : ℕ → List Entry → s.Level → Reader
+  reader room names s.whole = whole_read (part room text) text names
+  reader room names (s.chain kind) = chain_read (part room text) text names kind
+  reader room names s.inverted = inverse_read (part room text) text names
+  reader room names s.compared = compare_read (part room text) text names
+  reader room names s.atom = atom (part room text) text names
+
+  abbrev operand : ℕ → List Entry → Chain → Reader
+  operand room names kind = operand_read (part room text) text names kind
+
+  -- a term is read of these tokens, where it ends
+  abbrev Plain : s.Level → List Entry → List Token → TermForm → Type 0
+  Plain level names ts a =
+      (room : ℕ) (rest : List Token) → Ends level rest → Gives (reader room names level (ts ++ rest)) (a, rest)
+
+  -- a chain is read of these tokens, whether or not it goes on
+  abbrev Chained : Chain → List Entry → List Token → TermForm → Type 0
+  Chained kind names ts a = (room : ℕ) (rest : List Token) (y : TermForm × List Token)
+      → Ends (s.tighter (s.chain kind)) rest → ((n : ℕ) → Gives (chain_rest n kind (operand room names kind) a rest) y)
+      → Gives (chain_read (part room text) text names kind (ts ++ rest)) y
+
+  abbrev Holds : s.Level → List Entry → List Token → TermForm → Type 0
+  Holds (s.chain kind) = Chained kind
+  Holds level = Plain level
+
+  -- ---- parts
+
+  -- if there is room for one more part
+  whole_part : (names : List Entry) (ts : List Token) (y : TermForm × List Token) → Clear ts
+      → ((room : ℕ) → Gives (whole_read (part room text) text names ts) y) → (room : ℕ)
+      → Gives (part room text Whole names ts) y
+  unfolding part
+  whole_part names ts y clear h zero = limit_in TooDeep ts y (inl refl) clear
+  whole_part names ts y clear h (suc room) = h room
+
+  inverse_part : (names : List Entry) (ts : List Token) (y : TermForm × List Token) → Clear ts
+      → ((room : ℕ) → Gives (inverse_read (part room text) text names ts) y) → (room : ℕ)
+      → Gives (part room text Inverse names ts) y
+  unfolding part
+  inverse_part names ts y clear h zero = limit_in TooDeep ts y (inl refl) clear
+  inverse_part names ts y clear h (suc room) = h room
+
+  -- a whole term as a part
+  inner_gives : {names : List Entry} {ts : List Token} {a : TermForm} → s.IsTerm text s.whole names ts a
+      → Plain s.whole names ts a → (room : ℕ) (rest : List Token) → Ends s.whole rest
+      → Gives (part room text Whole names (ts ++ rest)) (a, rest)
+  inner_gives {names} {ts} {a} d h room rest ends =
+      whole_part names (ts ++ rest) (a, rest) (term_clear d rest) (λ r. h r rest ends) room
+
+  -- ---- chains
+
+  -- no operator of the chain is next
+  chain_over : (n : ℕ) (kind : Chain) (read : Reader) (a : TermForm) (rest : List Token) → Ends (s.chain kind) rest
+      → Gives (chain_rest n kind read a rest) (a, rest)
+  unfolding chain_rest
+  chain_over zero kind read a rest ends =
+      limit_in TooLong rest (a, rest) (inr refl) (ends_clear (s.chain kind) rest ends)
+  chain_over (suc n) kind read a rest ends =
+      subst (λ (o : Option (Joint × List Token)). Gives (chain_step (chain_rest n kind read) read a rest o) (a, rest))
+      (sym (no_joint kind rest ends)) (found refl)
+
+  -- an operator and one more operand
+  chain_more : (n : ℕ) (kind : Chain) (read : Reader) (a b : TermForm) (joint : Joint) (o : Token)
+      (us rest : List Token) (y : TermForm × List Token) → joint_of kind o.kind ≡ Some joint → IsClear o.kind
+      → Gives (read us) (b, rest)
+      → ((n : ℕ) → Gives (chain_rest n kind read (join joint a b) rest) y)
+      → Gives (chain_rest n kind read a (o ∷ us)) y
+  unfolding chain_rest
+  chain_more zero kind read a b joint o us rest y e plainly h k = limit_in TooLong (o ∷ us) y (inr refl) plainly
+  chain_more (suc n) kind read a b joint o us rest y e plainly h k =
+      subst (λ (x : Option Joint). Gives (chain_step (chain_rest n kind read) read a (o ∷ us)
+      (option_map (λ joint. (joint, us)) x)) y) (sym e) (bind _ h (k n))
+
+  plain_of : (level : s.Level) (names : List Entry) (ts : List Token) (a : TermForm) → Holds level names ts a
+      → Plain level names ts a
+  plain_of (s.chain kind) names ts a h = λ room rest ends.
+      h room rest (a, rest) (ends_tighter (s.chain kind) rest ends)
+      (λ n. chain_over n kind (operand room names kind) a rest ends)
+  plain_of level names ts a h = h
+
+  plain : {level : s.Level} {names : List Entry} {ts : List Token} {a : TermForm} → s.IsTerm text level names ts a
+      → Holds level names ts a → Plain level names ts a
+  plain {level} {names} {ts} {a} d h = plain_of level names ts a h
+
+  operand_of : (kind : Chain) (names : List Entry) (ts : List Token) (a : TermForm)
+      → Plain (s.tighter (s.chain kind)) names ts a → (room : ℕ) (rest : List Token)
+      → Ends (s.tighter (s.chain kind)) rest → Gives (operand room names kind (ts ++ rest)) (a, rest)
+  operand_of chains.Product names ts a h = h
+  operand_of kind names ts a h = h
+
+  alone_holds : (level : s.Level) (names : List Entry) (ts : List Token) (a : TermForm)
+      → s.IsTerm text (s.tighter level) names ts a → Plain (s.tighter level) names ts a → Holds level names ts a
+  alone_holds s.whole names ts a d h = λ room rest ends.
+      by_none _ _ (first_no opening 6 signs.Count (ts ++ rest) (starts d rest) (omega arith))
+      (bind _ (h room rest (ends_tighter s.whole rest ends)) (by_none _ _ (no_if rest ends) (found refl)))
+  alone_holds (s.chain kind) names ts a d h = λ room rest y ends k.
+      bind _ (operand_of kind names ts a h room rest ends) (k MAX_LINE_TOKENS)
+  alone_holds s.inverted names ts a d h = λ room rest ends.
+      by_none _ _ (first_no opening 3 signs.Not (ts ++ rest) (starts d rest) (omega arith))
+      (h room rest (ends_tighter s.inverted rest ends))
+  alone_holds s.compared names ts a d h = λ room rest ends.
+      bind _ (h room rest (ends_tighter s.compared rest ends)) (by_none _ _ (no_comparison rest ends) (found refl))
+  alone_holds s.atom names ts a d h = h
+
+  -- ---- atoms
+
+  leaf_read : (o : Option TermForm) (t : Token) (a : TermForm) → o ≡ Some a → Gives (leaf o t) a
+  leaf_read o t a e = subst (λ (q : Option TermForm). Gives (leaf q t) a) (sym e) (found refl)
+
+  given_gives : (inner : Inner) (names : List Entry) (sign : Sign) (t : Token) (rest : List Token) (a : TermForm)
+      → leaf_of sign ≡ Some a → Gives (marked_atom inner names sign t rest) (a, rest)
+  given_gives inner names signs.Open t rest a e = absurd (let no : None ≡ Some a = e in cc)
+  given_gives inner names signs.Mail t rest a e = absurd (let no : None ≡ Some a = e in cc)
+  given_gives inner names sign t rest a e = bind (λ x. Ok (x, rest)) (leaf_read (leaf_of sign) t a e) (found refl)
+
+  named_read : (o : Option Meaning) (t : Token) (meaning : Meaning) → o ≡ Some meaning
+      → Gives (named_atom o t) (named_term meaning)
+  named_read o t meaning e =
+      subst (λ (q : Option Meaning). Gives (named_atom q t) (named_term meaning)) (sym e) (found refl)
+
+  -- ---- every term: a chain by what it is when it goes on, since its operators group from the left
+
+  holds : {level : s.Level} {names : List Entry} {ts : List Token} {a : TermForm} → s.IsTerm text level names ts a
+      → Holds level names ts a
+  holds (s.alone {level = level} {names = names} {ts = ts} {a = a} d) =
+      alone_holds level names ts a d (plain d (holds d))
+  holds (s.chosen {names = names} {xs = xs} {ts = ts} {ys = ys} {i = i} {e = e} dx is_if dt is_else dy) =
+      λ room rest ends.
+      let others = ys ++ rest in
+      let test = ts ++ (e ∷ others) in
+      rw (append_assoc xs (i ∷ (ts ++ (e ∷ ys))) rest, append_assoc ts (e ∷ ys) rest)
+      (by_none _ _ (first_no opening 6 signs.Count (xs ++ (i ∷ test)) (starts dx (i ∷ test)) (omega arith))
+      (bind _ (plain dx (holds dx) room (i ∷ test)
+      (ends_at (s.chain chains.Either) (Mark signs.If) i test is_if (omega arith)))
+      (by_some _ _ (after_sign signs.If i test is_if)
+      (bind _ (plain dt (holds dt) room (e ∷ others)
+      (ends_at (s.chain chains.Either) (Mark signs.Else) e others is_else (omega arith)))
+      (bind _ (wanted_sign signs.Else e others is_else)
+      (bind _ (inner_gives dy (holds dy) room rest ends) (found refl)))))))
+  holds (s.counted {names = names} {more = more} {ts = ts} {c = c} {n = n} {d = d} is_count new colon da) =
+      λ room rest ends.
+      by_some _ _ (after_sign signs.Count c (n ∷ d ∷ (ts ++ rest)) is_count)
+      (bind _ (new_gives makers.Loop names more n (d ∷ (ts ++ rest)) new)
+      (bind _ (wanted_sign signs.Colon d (ts ++ rest) colon)
+      (bind _ (inner_gives da (holds da) room rest ends) (found refl))))
+  holds (s.joined {kind = kind} {names = names} {xs = xs} {ys = ys} {a = a} {b = b} {joint = joint} o dx e dy) =
+      λ room rest y ends k.
+      let ending = joint_ends kind o (ys ++ rest) joint e in
+      rw (append_assoc xs (o ∷ ys) rest)
+      (holds dx room (o ∷ (ys ++ rest)) y ending
+      (λ n. chain_more n kind (operand room names kind) a b joint o (ys ++ rest) rest y e
+      (ends_clear (s.tighter (s.chain kind)) (o ∷ (ys ++ rest)) ending)
+      (operand_of kind names ys b (plain dy (holds dy)) room rest ends) k))
+  holds (s.not_so {names = names} {ts = ts} {o = o} {a = a} is_not d) = λ room rest ends.
+      by_some _ _ (after_sign signs.Not o (ts ++ rest) is_not)
+      (bind _ (inverse_part names (ts ++ rest) (a, rest) (term_clear d rest) (λ r. holds d r rest ends) room)
+      (found refl))
+  holds (s.beside {names = names} {xs = xs} {ys = ys} {comparison = comparison} o dx e dy) = λ room rest ends.
+      rw (append_assoc xs (o ∷ ys) rest)
+      (bind _ (plain dx (holds dx) room (o ∷ (ys ++ rest)) (comparison_ends o (ys ++ rest) comparison e))
+      (by_some _ _ (ap (λ (x : Option Comparison). option_map (λ comparison. (comparison, ys ++ rest)) x) e)
+      (bind _ (plain dy (holds dy) room rest (ends_tighter s.compared rest ends)) (found refl))))
+  holds (s.numeral h) = λ room rest ends. rw h.is (found refl)
+  holds (s.named {names = names} {t = t} {name = name} {meaning = meaning} h e) = λ room rest ends.
+      rw h.is (bind _ (named_read (meaning_of text names name) _ meaning e) (found refl))
+  holds (s.given {names = names} {t = t} {s = sign} {a = a} h e) = λ room rest ends.
+      rw h.is (given_gives (part room text) names sign _ rest a e)
+  holds (s.received {ts = ts} {o = o} {c = c} is_mail opens d closes) = λ room rest ends.
+      rw (is_mail.is, append_assoc ts (c ∷ []) rest)
+      (bind _ (wanted_sign signs.OpenSquare o (ts ++ (c ∷ rest)) opens)
+      (bind _ (inner_gives d (holds d) room (c ∷ rest)
+      (ends_at s.whole (Mark signs.CloseSquare) c rest closes (omega arith)))
+      (bind _ (wanted_sign signs.CloseSquare c rest closes) (found refl))))
+  holds (s.bracketed {ts = ts} {c = c} opens d closes) = λ room rest ends.
+      rw (opens.is, append_assoc ts (c ∷ []) rest)
+      (bind _ (inner_gives d (holds d) room (c ∷ rest)
+      (ends_at s.whole (Mark signs.Close) c rest closes (omega arith)))
+      (bind _ (wanted_sign signs.Close c rest closes) (found refl)))
+
+  pub term_gives : {names : List Entry} {ts : List Token} {a : TermForm} → s.IsTerm text s.whole names ts a
+      → (rest : List Token) → Ends s.whole rest → Gives (term_read text names (ts ++ rest)) (a, rest)
+  term_gives d rest ends = inner_gives d (holds d) MAX_PARTS rest ends
