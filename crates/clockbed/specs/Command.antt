@@ -1,13 +1,15 @@
--- What the program does over its streams (docs/COMMANDS.md). Which words ask for which request isn't said.
+-- What the program does over its streams (docs/COMMANDS.md). Which words give which options is the part of `clap`.
 use Rattle.std.specs.Prelude.{◌≡◌, ◌⊎◌, ℕ, List, Option}
+use Rattle.clockbed.specs.Requests.{IsAsked}
 use Rattle.commands.specs.declared.fault.Fault.{Fault}
 use Rattle.commands.specs.declared.request.Request.{Request}
 use Rattle.commands.specs.Faults.{IsOfCommandLine, Says, fault_status, fault_text}
 use Rattle.commands.specs.Perform.{Performs, TakesFor}
 
--- the words ask for a request, also for help, and it is performed
+-- the words ask for a request, by options or for help, and it is performed
 pub record DoesRequest (input left old new said_old said_new : Option (List ℕ)) (status : ℕ) : Type 0 where
   pub request : Request
+  pub asked : IsAsked request
   pub performed : Performs request input old new said_old said_new status
   pub taken : TakesFor request input left
 

@@ -1,5 +1,9 @@
 //! What the words of `exec` ask for.
+ghost use Rattle.std.specs.Prelude.{◌↔◌, IfOk, IsTrue, codes};
+ghost use Rattle.clap.specs.Matches.{found_of};
+ghost use Rattle.clockbed.specs.Requests.{AsksCase, AsksExec, HasNone, HasNumber};
 
+use crate::options::{flag, long_number, number, number_if_named};
 use crate::request::shape_options;
 use clap::ArgMatches;
 use command_words::DEFAULT_FUEL;
@@ -20,7 +24,9 @@ pub(crate) enum CaseFault {
 pub(crate) fn exec_options(
     alloc: Global,
     options: &ArgMatches<'_>,
-) -> Result<ExecOptions, CaseFault> {
+) -> Result<ExecOptions, CaseFault>
+    ensures { IfOk result (AsksExec (found_of options.now)) }
+{
     let shape = shape_options(options);
     let case = case_in(alloc, options, shape)?;
     if case.id >= shape.nodes {
@@ -28,29 +34,54 @@ pub(crate) fn exec_options(
     }
     Ok(ExecOptions {
         shape,
-        text: options.get_flag("text"),
-        fuel: options.get_one::<u64>("fuel").unwrap_or(DEFAULT_FUEL),
+        text: flag(options, "text"),
+        fuel: long_number(options, "fuel", DEFAULT_FUEL),
         case,
-        show: options.get_flag("show"),
-        trace: options.get_flag("trace"),
+        show: flag(options, "show"),
+        trace: flag(options, "trace"),
     })
 }
 
-fn case_in(
+fn case_in(alloc: Global, options: &ArgMatches<'_>, shape: ShapeOptions) -> Result<Case, CaseFault>
+    ensures { IfOk result (AsksCase (found_of options.now)) }
+{
+    let mut case = Case::bare(alloc);
+    case.id = number(options, "id", 0);
+    case.coin = coin_asked(options);
+    case.mail = mail_asked(alloc, options, shape.nodes)?;
+    case.contents = contents_asked(alloc, options, shape.memory)?;
+    Ok(case)
+}
+
+/// Whether the coin is 1.
+fn coin_asked(options: &ArgMatches<'_>) -> bool
+    ensures { IsTrue result ↔ HasNumber 32 (found_of options.now) (codes "coin") (Some 1) }
+{
+    number_if_named(options, "coin") == Some(1)
+}
+
+/// The mail, which is empty if none is named.
+fn mail_asked(
     alloc: Global,
     options: &ArgMatches<'_>,
-    shape: ShapeOptions,
-) -> Result<Case, CaseFault> {
-    let mut case = Case::bare(alloc);
-    case.id = options.get_one::<u32>("id").unwrap_or(0);
-    case.coin = options.get_one::<u32>("coin") == Some(1);
-    if let Some(mail) = options.get_str("mail") {
-        case.mail = mail_in(alloc, mail, shape.nodes)?;
+    nodes: u32,
+) -> Result<Vec<Option<u32>>, CaseFault>
+    ensures { IfOk result (λ mail. HasNone (found_of options.now) (codes "mail") mail.items) }
+{
+    match options.get_str("mail") {
+        Some(list) => mail_in(alloc, list, nodes),
+        None => Ok(Vec::new(alloc)),
     }
-    if let Some(contents) = options.get_str("contents") {
-        case.contents = contents_in(alloc, contents, shape.memory)?;
+}
+
+/// The contents of the memory, which are empty if none are named.
+fn contents_asked(alloc: Global, options: &ArgMatches<'_>, room: u32) -> Result<Vec<u8>, CaseFault>
+    ensures { IfOk result (λ contents. HasNone (found_of options.now) (codes "contents") contents.items) }
+{
+    match options.get_str("contents") {
+        Some(text) => contents_in(alloc, text, room),
+        None => Ok(Vec::new(alloc)),
     }
-    Ok(case)
 }
 
 /// The mail of a list that has as many places as there are nodes.

@@ -1,4 +1,7 @@
 //! The lists of `--mail`, `--said`, `--bytes` and `--cells`: numbers and ranges, with commas between.
+ghost use Rattle.std.specs.Prelude.{IfSome};
+ghost use Rattle.clockbed.specs.Requests.{IsNumber};
+
 use commands::request::{ByteSpan, Cells, MailSpan};
 use node_env::MAX_MEMORY;
 use std::alloc::{AllocError, Global};
@@ -187,7 +190,9 @@ fn span_in(part: &str) -> Result<MailSpan, MailFault> {
 }
 
 /// Returns the number of a text of digits alone, if it is below 2 to the 32.
-pub fn number_in(text: &str) -> Option<u32> {
+pub fn number_in(text: &str) -> Option<u32>
+    ensures { IfSome result (IsNumber 32 text.now) }
+{
     if text.bytes().all(|byte| byte.is_ascii_digit()) {
         text.parse().ok()
     } else {

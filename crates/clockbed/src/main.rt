@@ -4,6 +4,7 @@
 pub mod command;
 mod exec_words;
 mod mail;
+mod options;
 mod progress;
 mod request;
 mod source;

@@ -1,9 +1,15 @@
 //! What a command line asks for, as `clap` reads it.
-ghost use Rattle.std.specs.Prelude.{IfErr};
+ghost use Rattle.std.specs.Prelude.{◌≡◌, IfErr, IfOk, IfSome, codes, option_map, string_bytes};
+ghost use Rattle.clap.specs.Matches.{found_of};
+ghost use Rattle.clockbed.specs.Requests.{Asks, AsksCells, AsksCompile, AsksDetail, AsksExplore, AsksFile};
+ghost use Rattle.clockbed.specs.Requests.{AsksQuestion, AsksRule, AsksRun, AsksShape, AsksSpan, AsksStart, AsksStress};
+ghost use Rattle.clockbed.specs.Requests.{AsksSweep, AsksWithFile, HasList, IsAskedWithFile, IsHelp, IsKeys, IsNumber};
+ghost use Rattle.clockbed.specs.Requests.{IsPlace};
 ghost use Rattle.commands.specs.Faults.{IsOfCommandLine};
 
 use crate::exec_words::{CaseFault, exec_options};
 use crate::mail::{MailFault, bytes_in, cells_in, mail_in, number_in};
+use crate::options::{flag, number, number_if_named};
 use clap::error::ErrorKind;
 use clap::{ArgMatches, Error};
 use command_words::{
@@ -50,6 +56,12 @@ enum OptionsFault {
     Memory,
 }
 
+impl From<AllocError> for OptionsFault {
+    fn from(_: AllocError) -> OptionsFault {
+        OptionsFault::Memory
+    }
+}
+
 impl From<CaseFault> for OptionsFault {
     fn from(fault: CaseFault) -> OptionsFault {
         match fault {
@@ -74,7 +86,8 @@ impl From<MailFault> for OptionsFault {
 
 /// Returns what the words ask for, of which the first is the program's name.
 pub fn asked_by<S: AsStr>(alloc: Global, words: &[S]) -> Result<Asked, Fault>
-    ensures { IfErr result IsOfCommandLine }
+    ensures fault { IfErr result IsOfCommandLine }
+    ensures asked { IfOk result IsAskedWithFile }
 {
     match parse(alloc, words) {
         Ok(asked) => Ok(asked),
@@ -82,34 +95,41 @@ pub fn asked_by<S: AsStr>(alloc: Global, words: &[S]) -> Result<Asked, Fault>
     }
 }
 
-fn parse<S: AsStr>(alloc: Global, words: &[S]) -> Result<Asked, Error> {
+fn parse<S: AsStr>(alloc: Global, words: &[S]) -> Result<Asked, Error>
+    ensures { IfOk result IsAskedWithFile }
+{
     let helps = Helps::new();
     let mut command = command_line(alloc, &helps)?;
     let matches = command.try_get_matches_from_mut(words)?;
     let Some((name, options)) = matches.subcommand() else {
         return Err(command.error(ErrorKind::MissingSubcommand, "a command is needed")?);
     };
-    let request = match request_in(alloc, name, options) {
-        Ok(request) => request,
-        Err(OptionsFault::Memory) => return Err(Error::from(AllocError)),
+    match asked_of(alloc, name, options) {
+        Ok(asked) => Ok(asked),
+        Err(OptionsFault::Memory) => Err(Error::from(AllocError)),
         Err(OptionsFault::Reason(reason)) => {
-            return Err(command.error(ErrorKind::ValueValidation, reason)?);
+            Err(command.error(ErrorKind::ValueValidation, reason)?)
         }
-    };
+    }
+}
+
+/// What the command of this name is asked for by its options, and the file that it reads.
+fn asked_of(alloc: Global, name: &str, options: &ArgMatches<'_>) -> Result<Asked, OptionsFault>
+    ensures { IfOk result (AsksWithFile name.now (found_of options.now)) }
+{
+    let request = request_in(alloc, name, options)?;
     let file = file_in(alloc, name, options)?;
     Ok(Asked { request, file })
 }
 
 /// What the command of this name is asked for by its options.
-fn request_in(
-    alloc: Global,
-    name: &str,
-    options: &ArgMatches<'_>,
-) -> Result<Request, OptionsFault> {
+fn request_in(alloc: Global, name: &str, options: &ArgMatches<'_>) -> Result<Request, OptionsFault>
+    ensures { IfOk result (Asks name.now (found_of options.now)) }
+{
     match name {
         "exec" => Ok(Request::Exec(exec_options(alloc, options)?)),
         "asm" => Ok(Request::Asm {
-            list: options.get_flag("list"),
+            list: flag(options, "list"),
         }),
         "compile" => Ok(Request::Compile(compile_options(options))),
         "dis" => dis_request(options),
@@ -134,8 +154,10 @@ fn file_in(
     alloc: Global,
     name: &str,
     options: &ArgMatches<'_>,
-) -> Result<Option<String>, AllocError> {
-    if name == "stress" || name == "dis" && options.get_flag("clock") {
+) -> Result<Option<String>, AllocError>
+    ensures { IfOk result (λ file. AsksFile name.now (found_of options.now) (option_map string_bytes file)) }
+{
+    if name == "stress" || name == "dis" && flag(options, "clock") {
         return Ok(None);
     }
     match options.get_str("file") {
@@ -144,35 +166,44 @@ fn file_in(
     }
 }
 
-pub(crate) fn shape_options(options: &ArgMatches<'_>) -> ShapeOptions {
+pub(crate) fn shape_options(options: &ArgMatches<'_>) -> ShapeOptions
+    ensures { AsksShape (found_of options.now) result }
+{
     ShapeOptions {
-        nodes: options.get_one::<u32>("nodes").unwrap_or(DEFAULT_NODES),
-        memory: options.get_one::<u32>("memory").unwrap_or(DEFAULT_MEMORY),
+        nodes: number(options, "nodes", DEFAULT_NODES),
+        memory: number(options, "memory", DEFAULT_MEMORY),
     }
 }
 
 /// What is told of each slot, where that is asked for.
-fn detail(options: &ArgMatches<'_>) -> Option<Detail> {
-    if !options.get_flag("explain") {
+fn detail(options: &ArgMatches<'_>) -> Option<Detail>
+    ensures { AsksDetail (found_of options.now) result }
+{
+    if !flag(options, "explain") {
         None
-    } else if options.get_flag("all") {
+    } else if flag(options, "all") {
         Some(Detail::All)
     } else {
         Some(Detail::Read)
     }
 }
 
-fn compile_options(options: &ArgMatches<'_>) -> CompileOptions {
+fn compile_options(options: &ArgMatches<'_>) -> CompileOptions
+    ensures { AsksCompile (found_of options.now) result }
+{
     CompileOptions {
         shape: shape_options(options),
-        faults: options.get_one::<u32>("faults").unwrap_or(DEFAULT_FAULTS),
-        modulus: options.get_one::<u32>("modulus").unwrap_or(DEFAULT_MODULUS),
+        faults: number(options, "faults", DEFAULT_FAULTS),
+        modulus: number(options, "modulus", DEFAULT_MODULUS),
+        list: flag(options, "list"),
     }
 }
 
 /// The text of an image, or that of the clock of a rule.
-fn dis_request(options: &ArgMatches<'_>) -> Result<Request, OptionsFault> {
-    let list = options.get_flag("list");
+fn dis_request(options: &ArgMatches<'_>) -> Result<Request, OptionsFault>
+    ensures { IfOk result (Asks (codes "dis") (found_of options.now)) }
+{
+    let list = flag(options, "list");
     if let Some(text) = options.get_str("node") {
         return match place_in(text) {
             Some(place) => Ok(Request::Scenario(ScenarioRequest::NodeProgram(NodeProgramOptions {
@@ -182,24 +213,33 @@ fn dis_request(options: &ArgMatches<'_>) -> Result<Request, OptionsFault> {
             None => Err(OptionsFault::Reason(NODE_REASON)),
         };
     }
-    if !options.get_flag("clock") {
+    if !flag(options, "clock") {
         return Ok(Request::Dis { list });
     }
     if options.get_str("file").is_some() {
         return Err(OptionsFault::Reason("--clock reads no file"));
     }
-    let nodes = options.get_one::<u32>("nodes").unwrap_or(DEFAULT_NODES);
-    let faults = options.get_one::<u32>("faults").unwrap_or(DEFAULT_FAULTS);
-    let modulus = options.get_one::<u32>("modulus").unwrap_or(DEFAULT_MODULUS);
-    match ClockRule::of(nodes, faults, modulus) {
+    match rule_asked(options) {
         Some(rule) => Ok(Request::Clock(ClockOptions { rule, list })),
         None => Err(OptionsFault::Reason("--faults has to be below --nodes")),
     }
 }
 
-fn verify_request(options: &ArgMatches<'_>) -> Request {
+/// The rule of a clock, if the numbers of its options make one.
+fn rule_asked(options: &ArgMatches<'_>) -> Option<ClockRule>
+    ensures { IfSome result (λ rule. AsksRule (found_of options.now) rule.nodes rule.faults rule.modulus) }
+{
+    let nodes = number(options, "nodes", DEFAULT_NODES);
+    let faults = number(options, "faults", DEFAULT_FAULTS);
+    let modulus = number(options, "modulus", DEFAULT_MODULUS);
+    ClockRule::of(nodes, faults, modulus)
+}
+
+fn verify_request(options: &ArgMatches<'_>) -> Request
+    ensures { Asks (codes "verify") (found_of options.now) result }
+{
     let shape = shape_options(options);
-    let text = options.get_flag("text");
+    let text = flag(options, "text");
     let detail = detail(options);
     if !text && detail.is_none() {
         return Request::Verify(shape);
@@ -211,15 +251,19 @@ fn verify_request(options: &ArgMatches<'_>) -> Request {
     })
 }
 
-fn run_options(options: &ArgMatches<'_>) -> RunOptions {
+fn run_options(options: &ArgMatches<'_>) -> RunOptions
+    ensures { AsksRun (found_of options.now) result }
+{
     RunOptions {
-        workers: options.get_one::<u32>("workers").unwrap_or(DEFAULT_WORKERS),
-        check: options.get_flag("check"),
+        workers: number(options, "workers", DEFAULT_WORKERS),
+        check: flag(options, "check"),
     }
 }
 
 /// The pulse and the node of a text PULSE:NODE.
-fn place_in(text: &str) -> Option<NodeInPulse> {
+fn place_in(text: &str) -> Option<NodeInPulse>
+    ensures { IfSome result (IsPlace text.now) }
+{
     let (pulse, node) = text.split_once(':')?;
     Some(NodeInPulse {
         pulse: number_in(pulse)?,
@@ -228,7 +272,9 @@ fn place_in(text: &str) -> Option<NodeInPulse> {
 }
 
 /// A report, the run of a node in a pulse, or the lines of a span of pulses.
-fn run_request(options: &ArgMatches<'_>) -> Result<Request, OptionsFault> {
+fn run_request(options: &ArgMatches<'_>) -> Result<Request, OptionsFault>
+    ensures { IfOk result (Asks (codes "run") (found_of options.now)) }
+{
     if let Some(text) = options.get_str("trace") {
         return match place_in(text) {
             Some(options) => Ok(Request::Scenario(ScenarioRequest::TracedRun(options))),
@@ -236,41 +282,64 @@ fn run_request(options: &ArgMatches<'_>) -> Result<Request, OptionsFault> {
         };
     }
     let run = run_options(options);
-    if !options.get_flag("json") {
+    if !flag(options, "json") {
         return Ok(Request::Scenario(ScenarioRequest::Run(run)));
     }
-    let from = options.get_one::<u32>("from").unwrap_or(1);
-    let until = options.get_one::<u32>("until").unwrap_or(u32::MAX);
-    match PulseSpan::of(from, until) {
+    match span_asked(options) {
         Some(span) => Ok(Request::Scenario(ScenarioRequest::Lines(LinesOptions { run, span }))),
         None => Err(OptionsFault::Reason("--from is past --until")),
     }
 }
 
-fn stress_options(options: &ArgMatches<'_>) -> StressOptions {
+/// The pulses whose lines are told, if there are any.
+fn span_asked(options: &ArgMatches<'_>) -> Option<PulseSpan>
+    ensures { IfSome result (AsksSpan (found_of options.now)) }
+{
+    let from = number(options, "from", 1);
+    let until = number(options, "until", u32::MAX);
+    PulseSpan::of(from, until)
+}
+
+fn stress_options(options: &ArgMatches<'_>) -> StressOptions
+    ensures { AsksStress (found_of options.now) result }
+{
     StressOptions {
-        loaders: options.get_one::<u32>("loaders").unwrap_or(DEFAULT_LOADERS),
-        loads: options.get_one::<u32>("loads").unwrap_or(DEFAULT_LOADS),
-        pulses: options.get_one::<u32>("pulses").unwrap_or(DEFAULT_PULSES),
-        workers: options.get_one::<u32>("workers").unwrap_or(DEFAULT_WORKERS),
+        loaders: number(options, "loaders", DEFAULT_LOADERS),
+        loads: number(options, "loads", DEFAULT_LOADS),
+        pulses: number(options, "pulses", DEFAULT_PULSES),
+        workers: number(options, "workers", DEFAULT_WORKERS),
     }
 }
 
 /// The options of `sweep`, where the keys are two numbers in order.
-fn sweep_options(options: &ArgMatches<'_>) -> Option<SweepOptions> {
-    let (first, last) = options.get_str("keys")?.split_once("..")?;
-    let keys = KeySpan::of(first.parse().ok()?, last.parse().ok()?)?;
+fn sweep_options(options: &ArgMatches<'_>) -> Option<SweepOptions>
+    ensures { IfSome result (AsksSweep (found_of options.now)) }
+{
     Some(SweepOptions {
-        keys,
-        workers: options.get_one::<u32>("workers"),
+        keys: keys_in(options.get_str("keys")?)?,
+        workers: number_if_named(options, "workers"),
     })
 }
 
+/// The keys of a text FIRST..LAST, if there are any.
+fn keys_in(text: &str) -> Option<KeySpan>
+    ensures { IfSome result (IsKeys text.now) }
+{
+    let (first, last) = text.split_once("..")?;
+    KeySpan::of(key_in(first)?, key_in(last)?)
+}
+
+/// The key of a text, if it is one below 2 to the 64.
+fn key_in(text: &str) -> Option<u64>
+    ensures { IfSome result (IsNumber 64 text.now) }
+{
+    text.parse().ok()
+}
+
 /// What the bytes of memories may be at the start, if that is named.
-fn cells_asked(
-    alloc: Global,
-    options: &ArgMatches<'_>,
-) -> Result<Option<Vec<Cells>>, OptionsFault> {
+fn cells_asked(alloc: Global, options: &ArgMatches<'_>) -> Result<Option<Vec<Cells>>, OptionsFault>
+    ensures { IfOk result (AsksCells (found_of options.now)) }
+{
     let (named, reason) = match (options.get_str("bytes"), options.get_str("cells")) {
         (None, None) => return Ok(None),
         (Some(_), Some(_)) => {
@@ -293,7 +362,9 @@ fn list_asked(
     alloc: Global,
     options: &ArgMatches<'_>,
     name: &str,
-) -> Result<Option<Vec<MailSpan>>, OptionsFault> {
+) -> Result<Option<Vec<MailSpan>>, OptionsFault>
+    ensures { IfOk result (HasList (found_of options.now) name.now) }
+{
     match options.get_str(name) {
         Some(text) => Ok(Some(mail_in(alloc, text)?)),
         None => Ok(None),
@@ -301,7 +372,9 @@ fn list_asked(
 }
 
 /// The memories and messages at the start, if they may be any.
-fn any_start(alloc: Global, options: &ArgMatches<'_>) -> Result<Option<AnyStart>, OptionsFault> {
+fn any_start(alloc: Global, options: &ArgMatches<'_>) -> Result<Option<AnyStart>, OptionsFault>
+    ensures { IfOk result (AsksStart (found_of options.now)) }
+{
     let cells = cells_asked(alloc, options)?;
     let said = list_asked(alloc, options, "said")?;
     match options.get_str("start").unwrap_or("zero") {
@@ -320,7 +393,9 @@ fn any_start(alloc: Global, options: &ArgMatches<'_>) -> Result<Option<AnyStart>
 }
 
 /// What is asked of a bench.
-fn question(options: &ArgMatches<'_>) -> Result<Question, OptionsFault> {
+fn question(options: &ArgMatches<'_>) -> Result<Question, OptionsFault>
+    ensures { IfOk result (AsksQuestion (found_of options.now)) }
+{
     match options.get_str("ask").unwrap_or("both") {
         "agreement" => Ok(Question::Agreement),
         "stabilisation" => Ok(Question::Stabilisation),
@@ -329,10 +404,9 @@ fn question(options: &ArgMatches<'_>) -> Result<Question, OptionsFault> {
     }
 }
 
-fn explore_options(
-    alloc: Global,
-    options: &ArgMatches<'_>,
-) -> Result<ExploreOptions, OptionsFault> {
+fn explore_options(alloc: Global, options: &ArgMatches<'_>) -> Result<ExploreOptions, OptionsFault>
+    ensures { IfOk result (AsksExplore (found_of options.now)) }
+{
     let question = question(options)?;
     let mail = list_asked(alloc, options, "mail")?;
     let start = any_start(alloc, options)?;
@@ -340,14 +414,15 @@ fn explore_options(
         question,
         mail,
         start,
-        states: options.get_one::<u32>("states").unwrap_or(DEFAULT_STATES),
-        depth: options.get_one::<u32>("depth").unwrap_or(MOST_STATES),
+        states: number(options, "states", DEFAULT_STATES),
+        depth: number(options, "depth", MOST_STATES),
     })
 }
 
 /// What `clap` says in place of a request: the help, or why it refuses the words.
 fn said_by(alloc: Global, error: &Error) -> Result<Asked, Fault>
-    ensures { IfErr result IsOfCommandLine }
+    ensures fault { IfErr result IsOfCommandLine }
+    ensures help { IfOk result (λ asked. IsHelp asked.request × (asked.file ≡ None)) }
 {
     if error.kind() == ErrorKind::OutOfMemory {
         return Err(Fault::Memory);

@@ -1,0 +1,241 @@
+-- Which request the options of a command ask for (docs/COMMANDS.md), by what `clap` read of them: a text for each option
+-- that is there. That the words give these texts is the part of `clap`.
+use Rattle.std.specs.Prelude.{◌≡◌, ◌≢◌, ◌⊎◌, ◌↔◌, ◌<◌, ◌^◌, ℕ, Bool, true, false, List, [], ◌++◌, Option, Some, None}
+use Rattle.std.specs.Prelude.{IsTrue, codes, is_some, option_map, string_bytes}
+use Rattle.std.specs.Str.Parse.{IsNumeral, digits_value, without_leading_plus}
+use Rattle.clap.specs.Matches.{first_value, one_text}
+use Rattle.clap.specs.declared.parser.matches.Found.{Found}
+use Rattle.clockbed.specs.declared.request.Asked.{Asked}
+use Rattle.command_words.specs.declared.helps.TheConstants.{DEFAULT_FAULTS, DEFAULT_FUEL, DEFAULT_LOADERS}
+use Rattle.command_words.specs.declared.helps.TheConstants.{DEFAULT_LOADS, DEFAULT_MEMORY, DEFAULT_MODULUS}
+use Rattle.command_words.specs.declared.helps.TheConstants.{DEFAULT_NODES, DEFAULT_PULSES, DEFAULT_STATES}
+use Rattle.command_words.specs.declared.helps.TheConstants.{DEFAULT_WORKERS, MOST_STATES}
+use Rattle.commands.specs.declared.case.Case.{Case}
+use Rattle.commands.specs.declared.request.AnyStart.{AnyStart}
+use Rattle.commands.specs.declared.request.ClockOptions.{ClockOptions}
+use Rattle.commands.specs.declared.request.CompileOptions.{CompileOptions}
+use Rattle.commands.specs.declared.request.Detail.{Detail}
+use Rattle.commands.specs.declared.request.Detail.TheVariants.{Read, All}
+use Rattle.commands.specs.declared.request.ExecOptions.{ExecOptions}
+use Rattle.commands.specs.declared.request.ExplainOptions.{ExplainOptions}
+use Rattle.commands.specs.declared.request.ExploreOptions.{ExploreOptions}
+use Rattle.commands.specs.declared.request.LinesOptions.{LinesOptions}
+use Rattle.commands.specs.declared.request.NodeInPulse.{NodeInPulse}
+use Rattle.commands.specs.declared.request.Question.{Question}
+use Rattle.commands.specs.declared.request.Question.TheVariants.{Agreement, Stabilisation, Both}
+use Rattle.commands.specs.declared.request.Request.{Request}
+use Rattle.commands.specs.declared.request.Request.TheVariants as requests
+use Rattle.commands.specs.declared.request.RunOptions.{RunOptions}
+use Rattle.commands.specs.declared.request.ScenarioRequest.{ScenarioRequest}
+use Rattle.commands.specs.declared.request.ScenarioRequest.TheVariants as scenarios
+use Rattle.commands.specs.declared.request.ShapeOptions.{ShapeOptions}
+use Rattle.commands.specs.declared.request.StressOptions.{StressOptions}
+use Rattle.commands.specs.declared.request.SweepOptions.{SweepOptions}
+use Rattle.key_sweep.specs.Keys.{Span}
+use Rattle.run_lines.specs.Spans.{Span as PulseSpan}
+
+-- ---- values of options
+
+-- a text is this number, below 2 to the bits
+abbrev pub IsNumber : ℕ → List ℕ → ℕ → Type 0
+IsNumber bits text n = IsNumeral 10 (without_leading_plus text)
+    × (digits_value 10 (without_leading_plus text) ≡ n) × (n < 2 ^ bits)
+
+-- the number that an option has; none if it isn't there, or if its text is no such number
+abbrev pub HasNumber : ℕ → Found → List ℕ → Option ℕ → Type 0
+HasNumber bits f name (Some n) = (text : List ℕ) × (one_text f name ≡ Some text) × IsNumber bits text n
+HasNumber bits f name None = (text : List ℕ) (n : ℕ) → one_text f name ≡ Some text → IsNumber bits text n → ⊥
+
+-- the number that an option has, or its default
+abbrev pub IsNumberOr : ℕ → ℕ → Found → List ℕ → ℕ → Type 0
+IsNumberOr bits default f name n = HasNumber bits f name (Some n) ⊎ (HasNumber bits f name None × (n ≡ default))
+
+-- whether a flag is there
+abbrev pub HasFlag : Found → List ℕ → Bool → Type 0
+HasFlag f name there = (one_text f name ≡ None → there ≡ false)
+    × (one_text f name ≡ Some (codes "false") → there ≡ false)
+    × (one_text f name ≡ Some (codes "true") → there ≡ true)
+
+-- PULSE:NODE
+abbrev pub IsPlace : List ℕ → NodeInPulse → Type 0
+IsPlace text place = (pulse : List ℕ) × (node : List ℕ) × (text ≡ pulse ++ (codes ":" ++ node))
+    × IsNumber 32 pulse place.pulse × IsNumber 32 node place.node
+
+abbrev pub HasPlace : Found → List ℕ → NodeInPulse → Type 0
+HasPlace f name place = (text : List ℕ) × (first_value f name ≡ Some text) × IsPlace text place
+
+-- FIRST..LAST
+abbrev pub IsKeys : List ℕ → Span → Type 0
+IsKeys text keys = (first : List ℕ) × (last : List ℕ) × (text ≡ first ++ (codes ".." ++ last))
+    × IsNumber 64 first keys.first × IsNumber 64 last keys.last
+
+-- a list is there exactly if its option is
+abbrev pub HasList : {A : Type 0} → Found → List ℕ → Option A → Type 0
+HasList f name list = is_some list ≡ is_some (first_value f name)
+
+-- nothing is listed if the option isn't there
+abbrev pub HasNone : {A : Type 0} → Found → List ℕ → List A → Type 0
+HasNone f name items = first_value f name ≡ None → items ≡ []
+
+-- ---- options of commands
+
+abbrev pub AsksShape : Found → ShapeOptions → Type 0
+AsksShape f shape = IsNumberOr 32 DEFAULT_NODES f (codes "nodes") shape.nodes
+    × IsNumberOr 32 DEFAULT_MEMORY f (codes "memory") shape.memory
+
+-- the contents and the mail are there if they are named; which numbers they are isn't said
+pub record AsksCase (f : Found) (case : Case) : Type 0 where
+  pub id : IsNumberOr 32 0 f (codes "id") case.id
+  pub coin : IsTrue case.coin ↔ HasNumber 32 f (codes "coin") (Some 1)
+  pub mail : HasNone f (codes "mail") case.mail.items
+  pub contents : HasNone f (codes "contents") case.contents.items
+
+pub record AsksExec (f : Found) (asked : ExecOptions) : Type 0 where
+  pub shape : AsksShape f asked.shape
+  pub text : HasFlag f (codes "text") asked.text
+  pub fuel : IsNumberOr 64 DEFAULT_FUEL f (codes "fuel") asked.fuel
+  pub case : AsksCase f asked.case
+  pub show : HasFlag f (codes "show") asked.show
+  pub trace : HasFlag f (codes "trace") asked.trace
+
+pub record AsksCompile (f : Found) (asked : CompileOptions) : Type 0 where
+  pub shape : AsksShape f asked.shape
+  pub faults : IsNumberOr 32 DEFAULT_FAULTS f (codes "faults") asked.faults
+  pub modulus : IsNumberOr 32 DEFAULT_MODULUS f (codes "modulus") asked.modulus
+  pub list : HasFlag f (codes "list") asked.list
+
+pub record AsksRule (f : Found) (nodes faults modulus : ℕ) : Type 0 where
+  pub node_count : IsNumberOr 32 DEFAULT_NODES f (codes "nodes") nodes
+  pub fault_count : IsNumberOr 32 DEFAULT_FAULTS f (codes "faults") faults
+  pub clock_modulus : IsNumberOr 32 DEFAULT_MODULUS f (codes "modulus") modulus
+
+pub record AsksClock (f : Found) (asked : ClockOptions) : Type 0 where
+  pub rule : AsksRule f asked.rule.nodes asked.rule.faults asked.rule.modulus
+  pub list : HasFlag f (codes "list") asked.list
+
+-- what is told of each slot
+abbrev pub AsksDetail : Found → Option Detail → Type 0
+AsksDetail f None = HasFlag f (codes "explain") false
+AsksDetail f (Some Read) = HasFlag f (codes "explain") true × HasFlag f (codes "all") false
+AsksDetail f (Some All) = HasFlag f (codes "explain") true × HasFlag f (codes "all") true
+
+-- a text is read, or more is told than the verdict
+pub record AsksExplained (f : Found) (asked : ExplainOptions) : Type 0 where
+  pub shape : AsksShape f asked.shape
+  pub text : HasFlag f (codes "text") asked.text
+  pub detail : AsksDetail f asked.detail
+  pub more : asked.detail ≡ None → IsTrue asked.text
+
+abbrev pub AsksRun : Found → RunOptions → Type 0
+AsksRun f asked = IsNumberOr 32 DEFAULT_WORKERS f (codes "workers") asked.workers
+    × HasFlag f (codes "check") asked.check
+
+pub record AsksSpan (f : Found) (span : PulseSpan) : Type 0 where
+  pub from : IsNumberOr 32 1 f (codes "from") span.first
+  pub until : IsNumberOr 32 4294967295 f (codes "until") span.last
+
+pub record AsksLines (f : Found) (asked : LinesOptions) : Type 0 where
+  pub run : AsksRun f asked.run
+  pub span : AsksSpan f asked.span
+
+abbrev pub AsksSweep : Found → SweepOptions → Type 0
+AsksSweep f asked = ((text : List ℕ) × (first_value f (codes "keys") ≡ Some text) × IsKeys text asked.keys)
+    × HasNumber 32 f (codes "workers") asked.workers
+
+abbrev pub AsksQuestion : Found → Question → Type 0
+AsksQuestion f Agreement = first_value f (codes "ask") ≡ Some (codes "agreement")
+AsksQuestion f Stabilisation = first_value f (codes "ask") ≡ Some (codes "stabilisation")
+AsksQuestion f Both = (first_value f (codes "ask") ≡ None) ⊎ (first_value f (codes "ask") ≡ Some (codes "both"))
+
+-- the entries of the bytes at the start are there if they are named, by one of the two options
+abbrev pub AsksCells : {A : Type 0} → Found → Option A → Type 0
+AsksCells f None = (first_value f (codes "bytes") ≡ None) × (first_value f (codes "cells") ≡ None)
+AsksCells f (Some cells) = is_some (first_value f (codes "bytes")) ≢ is_some (first_value f (codes "cells"))
+
+-- any start has bytes of one of the two options, and the list of what was sent if it is named
+abbrev pub AsksStart : Found → Option AnyStart → Type 0
+AsksStart f None = ((first_value f (codes "start") ≡ None) ⊎ (first_value f (codes "start") ≡ Some (codes "zero")))
+    × (first_value f (codes "bytes") ≡ None) × (first_value f (codes "cells") ≡ None)
+    × (first_value f (codes "said") ≡ None)
+AsksStart f (Some any) = (first_value f (codes "start") ≡ Some (codes "any"))
+    × (is_some (first_value f (codes "bytes")) ≢ is_some (first_value f (codes "cells")))
+    × HasList f (codes "said") any.said
+
+pub record AsksExplore (f : Found) (asked : ExploreOptions) : Type 0 where
+  pub question : AsksQuestion f asked.question
+  pub mail : HasList f (codes "mail") asked.mail
+  pub start : AsksStart f asked.start
+  pub states : IsNumberOr 32 DEFAULT_STATES f (codes "states") asked.states
+  pub depth : IsNumberOr 32 MOST_STATES f (codes "depth") asked.depth
+
+pub record AsksStress (f : Found) (asked : StressOptions) : Type 0 where
+  pub loaders : IsNumberOr 32 DEFAULT_LOADERS f (codes "loaders") asked.loaders
+  pub loads : IsNumberOr 32 DEFAULT_LOADS f (codes "loads") asked.loads
+  pub pulses : IsNumberOr 32 DEFAULT_PULSES f (codes "pulses") asked.pulses
+  pub workers : IsNumberOr 32 DEFAULT_WORKERS f (codes "workers") asked.workers
+
+-- ---- requests
+
+abbrev pub IsUntraced : Found → Type 0
+IsUntraced f = first_value f (codes "trace") ≡ None
+
+-- what a command that reads a scenario is asked for
+abbrev pub AsksOfScenario : List ℕ → Found → ScenarioRequest → Type 0
+AsksOfScenario name f (scenarios.Run asked) =
+    (name ≡ codes "run") × IsUntraced f × HasFlag f (codes "json") false × AsksRun f asked
+AsksOfScenario name f (scenarios.Lines asked) =
+    (name ≡ codes "run") × IsUntraced f × HasFlag f (codes "json") true × AsksLines f asked
+AsksOfScenario name f (scenarios.TracedRun place) = (name ≡ codes "run") × HasPlace f (codes "trace") place
+AsksOfScenario name f (scenarios.NodeProgram asked) =
+    (name ≡ codes "dis") × HasPlace f (codes "node") asked.place × HasFlag f (codes "list") asked.list
+AsksOfScenario name f (scenarios.Sweep asked) = (name ≡ codes "sweep") × AsksSweep f asked
+AsksOfScenario name f (scenarios.Explore asked) = (name ≡ codes "explore") × AsksExplore f asked
+
+-- what the command of this name is asked for by its options; help isn't asked for in this way
+abbrev pub Asks : List ℕ → Found → Request → Type 0
+Asks name f (requests.Exec asked) = (name ≡ codes "exec") × AsksExec f asked
+Asks name f (requests.Asm list) = (name ≡ codes "asm") × HasFlag f (codes "list") list
+Asks name f (requests.Compile asked) = (name ≡ codes "compile") × AsksCompile f asked
+Asks name f (requests.Dis list) = (name ≡ codes "dis") × (first_value f (codes "node") ≡ None)
+    × HasFlag f (codes "clock") false × HasFlag f (codes "list") list
+Asks name f (requests.Clock asked) = (name ≡ codes "dis") × (first_value f (codes "node") ≡ None)
+    × HasFlag f (codes "clock") true × AsksClock f asked
+Asks name f (requests.Verify shape) = (name ≡ codes "verify") × AsksShape f shape × HasFlag f (codes "text") false
+    × HasFlag f (codes "explain") false
+Asks name f (requests.Explain asked) = (name ≡ codes "verify") × AsksExplained f asked
+Asks name f (requests.Scenario asked) = AsksOfScenario name f asked
+Asks name f (requests.Stress asked) = (name ≡ codes "stress") × AsksStress f asked
+Asks name f (requests.Help text) = ⊥
+
+-- the file that is read: `stress` and `dis --clock` read none, and a dash is none
+abbrev pub AsksFile : List ℕ → Found → Option (List ℕ) → Type 0
+AsksFile name f (Some path) = (first_value f (codes "file") ≡ Some path) × (path ≢ codes "-")
+    × (name ≢ codes "stress") × (name ≡ codes "dis" → HasFlag f (codes "clock") false)
+AsksFile name f None = (name ≡ codes "stress") ⊎ (((name ≡ codes "dis") × HasFlag f (codes "clock") true)
+    ⊎ ((first_value f (codes "file") ≡ None) ⊎ (first_value f (codes "file") ≡ Some (codes "-"))))
+
+-- a request for help
+abbrev pub IsHelp : Request → Type 0
+IsHelp (requests.Exec asked) = ⊥
+IsHelp (requests.Asm list) = ⊥
+IsHelp (requests.Compile asked) = ⊥
+IsHelp (requests.Dis list) = ⊥
+IsHelp (requests.Clock asked) = ⊥
+IsHelp (requests.Verify shape) = ⊥
+IsHelp (requests.Explain asked) = ⊥
+IsHelp (requests.Scenario asked) = ⊥
+IsHelp (requests.Stress asked) = ⊥
+IsHelp (requests.Help text) = Unit {0}
+
+-- what the words ask for: help, or what a command with some options asks for
+abbrev pub IsAsked : Request → Type 0
+IsAsked request = IsHelp request ⊎ ((name : List ℕ) × (f : Found) × Asks name f request)
+
+-- what the command of this name is asked for by its options, with the file that it reads
+abbrev pub AsksWithFile : List ℕ → Found → Asked → Type 0
+AsksWithFile name f asked = Asks name f asked.request × AsksFile name f (option_map string_bytes asked.file)
+
+-- what the words ask for, with the file that is read: for help none
+abbrev pub IsAskedWithFile : Asked → Type 0
+IsAskedWithFile asked = (IsHelp asked.request × (asked.file ≡ None))
+    ⊎ ((name : List ℕ) × (f : Found) × AsksWithFile name f asked)
