@@ -190,7 +190,7 @@ def title(run, shape, told):
     if shape.look.is_settled:
         words.append("settled")
     if shape.look.is_wrong:
-        words.append("contradicts")
+        words.append("violates agreement")
     if pulse.inside and shape.count == 1 and name != "empty":
         words.append(f"coin {pulse.inside['coins'][shape.node]}, {pulse.inside['steps'][shape.node]} steps")
     return ": ".join([words[0], ", ".join(words[1:])])
@@ -320,7 +320,7 @@ def draw_names(run, sheet, told):
 def caption(run):
     nodes = f"{run.nodes} node{'s' * (run.nodes > 1)}"
     allowed = f"{run.faults or 'no'} fault{'s' * (run.faults != 1)} allowed"
-    step = f"in step from pulse {run.in_step_since} on" if run.in_step_since else "not in step at the end"
+    step = f"synchronised from pulse {run.in_step_since} on" if run.in_step_since else "not synchronised at the end"
     first, last = run.pulses[0].number, run.pulses[-1].number
     span = "" if (first, last) == (1, run.count) else f"; here pulses {first} to {last} of {run.count}"
     return f"{nodes}, {allowed}, clocks below {run.modulus}; {run.agreed} of {run.judged} pulses agree; {step}{span}"
@@ -336,7 +336,7 @@ def rows_of_key(run, looks, phases):
         (BLANK, f' stroke="{GREY}" stroke-dasharray="2 2"', "empty", BLANK in fills),
         (INK, "", "past the modulus", INK in fills),
         (BLANK, f' stroke="{INK}"', "settled", any(it.is_settled and not it.is_wrong for it in looks)),
-        (BLANK, f' stroke="{RED}" stroke-width="3"', "contradicts another", any(it.is_wrong for it in looks)),
+        (BLANK, f' stroke="{RED}" stroke-width="3"', "violates agreement", any(it.is_wrong for it in looks)),
     ]
     return [row[:3] for row in rows if row[3]]
 
