@@ -27,6 +27,7 @@ PLACEHOLDER = re.compile(r"\bNAME\b")
 TOOLCHAIN = re.compile(r"rattle-kit-\w+ logic [0-9a-f]+")
 WORDS = (
     "none one two three four five six seven eight nine ten eleven twelve thirteen fourteen fifteen sixteen seventeen"
+    " eighteen nineteen twenty"
 ).split()
 NUMBER = rf"(\d[\d,]*|{'|'.join(WORDS)})"
 COUNTED = re.compile(r"`tools/believed\.py ((?:[^\s`]+ )*[^\s`]+)`: ")

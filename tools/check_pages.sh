@@ -98,7 +98,10 @@ check_archive() {
   done
 }
 
-if [ "${1:-}" = --archive ] && [ $# -ge 2 ]; then
+if [ "${1:-}" = --help ]; then
+  sed -n '2,/^set /s/^# \{0,1\}//p' "${BASH_SOURCE[0]}"
+  exit 0
+elif [ "${1:-}" = --archive ] && [ $# -ge 2 ]; then
   shift
   check_archive "$@"
 else

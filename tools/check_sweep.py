@@ -31,7 +31,7 @@ def line_of(key, text):
     """The line of a key, from a report."""
     report = read_run(text)
     agreed, judged = re.search(r"^agreed (\d+) of (\d+)", text, re.M).groups()
-    disagreed = re.search(r"^pulse (\d+) .* agree no", text, re.M)
+    disagreed = re.search(r"^pulse (\d+) .* agree no\b", text, re.M)
     since = in_step_since(report.pulses, report.modulus)
     steps = max(int(count) for count in re.findall(r" steps (\d+) ", text))
     fields = [key, agreed, judged, disagreed.group(1) if disagreed else "", "" if since is None else since, steps]

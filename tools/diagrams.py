@@ -508,11 +508,12 @@ def threads():
 LEFT_OUT = re.compile(r".*_tests|trials")
 AREAS = (
     (BLUE, "machine, verifier, runner", ("bpf_", "node_env", "value_range")),
-    (ORANGE, "clocks, bench, threads", ("bench_", "clock_")),
-    (GREEN, "scenarios and output", ("scenario_", "run_", "key_sweep", "stream_io")),
+    (ORANGE, "clocks, rules, bench", ("bench_", "clock_", "rule_nodes", "rule_text", "rule_grammar")),
+    (GREEN, "scenarios and output", ("scenario_", "run_", "key_sweep", "stream_io", "rule_")),
     (INK, "commands and programs", ("",)),
 )
 CRATE, ROOM, ROW, LANE = (96, 26), 101, 60, 15
+LONG_NAME = 16
 
 
 def crates_with_uses():
@@ -530,7 +531,7 @@ def crate_style(name):
     """The look of a crate: of `bench_scenario`, which writes reports, as of other output."""
     name = name.replace("bench_scenario", "scenario_")
     colour = next(colour for colour, _, heads in AREAS if name.startswith(heads))
-    return Style(colour, size=11)
+    return Style(colour, size=11 if len(name) < LONG_NAME else 10)
 
 
 def draw_route(canvas, route, at):

@@ -1,7 +1,7 @@
 #!/usr/bin/env python3
 """Writes the text of a clock of one's own for so many nodes: tools/own_clock.py NAME NODES FAULTS MODULUS
 
-NAME is one of: greatest, majority, middle (docs/OWN_CLOCK.md, "Three clocks to learn from"), rule (docs/CLOCK.md, as
+NAME is one of: greatest, majority, middle (docs/OWN_CLOCK.md, "Five clocks to learn from"), rule (docs/CLOCK.md, as
 `clockbed dis --clock` prints it). The text is that of the key `clock` of a scenario of version 3.
 """
 import pathlib

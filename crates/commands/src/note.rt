@@ -31,7 +31,7 @@ const TEXT_NOTE: &[u8] =
 
 /// The note on a scenario without a seed, where `sweep` needs one.
 const SEED_NOTE: &[u8] =
-    b"note: sweep runs a scenario once for each seed: it needs coins = \"chacha\" and a key\n";
+    b"note: sweep runs a scenario once for each seed: it needs a key, and coins = \"chacha\" or a load of noise\n";
 
 /// The note on nodes and memory that are no shape.
 const SHAPE_NOTE: &[u8] =
