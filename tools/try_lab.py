@@ -674,9 +674,14 @@ def try_other_hands(trial, page, loaded):
         "a load takes the unload before it out", page.is_shown() and "unload" not in page.scenario(), page.scenario()
     )
     trial.equal("the program of the node", ring(page)[2][0], "echo")
-    for _ in range(6):
+    page.choose("#kind", "noise")
+    page.click("#load")
+    trial.holds("noise runs", page.is_shown() and 'program = "noise"' in page.scenario(), page.scenario())
+    trial.holds("it has its version and key", "version = 4\nfaults" in page.scenario(), page.scenario())
+    trial.equal("the noise of the node", ring(page)[2][0], "noise")
+    for _ in range(7):
         page.click("#undo")
-    trial.equal("six undos", page.scenario(), FOUR)
+    trial.equal("seven undos", page.scenario(), FOUR)
     page.click("#redo")
     trial.equal("a redo", page.scenario(), loaded)
 
@@ -992,7 +997,7 @@ def try_keyboard(trial, page):
     page.key("ArrowDown", times=3)
     trial.equal("arrows show a pulse and a node", page.text("#node-name"), "Node 3 after pulse 3")
     trial.holds("Tab reaches the program's menu", tab_to(page, "kind"))
-    page.key("ArrowUp", times=3)
+    page.key("ArrowUp", times=4)
     tab_to(page, "message to node 0")
     page.write("1")
     page.key("Tab")

@@ -63,6 +63,14 @@ export function setTop(text, name, value, after) {
   return { text: cut(text, at, at, `${end < 0 ? "\n" : ""}${name} = ${value}\n`), at };
 }
 
+/** Loads noise, for which the scenario has version 4 and a key. */
+export function loadNoise(text, pulse, node) {
+  const versioned = setTop(text, "version", "4", "nodes")?.text ?? text;
+  const hasKey = "key" in (read(versioned)?.top ?? {});
+  const keyed = hasKey ? versioned : (setTop(versioned, "key", "1", "coins")?.text ?? versioned);
+  return loadNamed(keyed, pulse, node, "noise");
+}
+
 /** Draws the coins by this key. */
 export function setKey(text, key) {
   const coins = setTop(text, "coins", '"chacha"', "pulses");

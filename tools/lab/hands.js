@@ -1,6 +1,6 @@
 // Changes of the chosen node from the pulse shown on. Each is an edit of the scenario's text.
 import { get, make, on, say, state, tell } from "./page.js";
-import { corrupt, loadNamed, loadSay, loadText, setCoin, unload } from "./edits.js";
+import { corrupt, loadNamed, loadNoise, loadSay, loadText, setCoin, unload } from "./edits.js";
 import { loadAt } from "./programs.js";
 import { insideOf, memoryBefore } from "./run.js";
 import { valueOf } from "./toml.js";
@@ -58,6 +58,8 @@ function loadChosen() {
   } else if (kind === "asm") {
     const text = get("program-editor").editor.text;
     edit((...it) => loadText(...it, text), `Node ${node} runs the program text from pulse ${at} on.`);
+  } else if (kind === "noise") {
+    edit(loadNoise, `Node ${node} sends drawn messages from pulse ${at} on.`);
   } else {
     edit((...it) => loadNamed(...it, kind), words);
   }
