@@ -48,6 +48,7 @@ ROWS = {
     ("compile", "memory"): ([], WORDS, "24"),
     ("compile", "faults"): (["--nodes", "64"], RULE, "2"),
     ("compile", "modulus"): ([], RULE, "9"),
+    ("compile", "list"): ([], RULE, None),
     ("dis", "list"): ([], IMAGE, None),
     ("dis", "clock"): ([], IMAGE, None),
     ("dis", "nodes"): (["--clock", "--faults", "0"], IMAGE, "5"),
