@@ -416,6 +416,7 @@ fn explore_options(alloc: Global, options: &ArgMatches<'_>) -> Result<ExploreOpt
         start,
         states: number(options, "states", DEFAULT_STATES),
         depth: number(options, "depth", MOST_STATES),
+        json: flag(options, "json"),
     })
 }
 

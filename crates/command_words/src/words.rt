@@ -223,6 +223,7 @@ fn explore<'a>(alloc: Global, helps: &'a Helps) -> Building<'a> {
     with_states(alloc, explore)
         .arg(count_option(alloc, "states", helps.states.as_str(), MOST_STATES))
         .arg(count_option(alloc, "depth", helps.depth.as_str(), MOST_STATES))
+        .arg(flag(alloc, "json", "Print the answer as one line of JSON"))
         .arg(file(alloc))
 }
 

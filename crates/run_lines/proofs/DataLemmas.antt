@@ -12,11 +12,11 @@ use Rattle.scenario_text.specs.declared.scenario.Frame.{Frame}
 use Rattle.bench_scenario.specs.Coins.{places_below}
 use Rattle.bench_scenario.specs.Reports.{clock_name}
 use Rattle.bench_scenario.specs.declared.summary.RunSummary.{RunSummary}
+use Rattle.json_values.proofs.PlainLemmas.{IsPlain, plain_boolean, plain_list, plain_null, plain_number, plain_object, plain_option, plain_string}
+use Rattle.json_values.specs.Values.{Member, number_data, option_data}
 use Rattle.run_lines.specs.Data.{clock_members, frame_data, frame_members, kind_text, last_data, memory_data, pulse_data, pulse_members, ran_data, sent_data, staged_data, verdict_members}
 use Rattle.run_lines.specs.Judging.{agree_of, counts_of}
 use Rattle.run_lines.specs.Staged.{StagedTold, Loaded, Unloaded, Corrupted}
-use Rattle.run_lines.specs.Values.{Member, number_data, option_data}
-use Rattle.run_lines.proofs.PlainLemmas.{IsPlain, plain_boolean, plain_list, plain_null, plain_number, plain_object, plain_option, plain_string}
 
 abbrev AllPlain : ℕ → List Member → Type 0
 AllPlain levels ms = AllByRecursion (λ m. IsPlain levels m.1) ms

@@ -3,5 +3,4 @@ mod JudgingLaws
 mod MailLaws
 mod LineLaws
 mod LineLemmas
-mod PlainLemmas
 mod ToldLemmas

@@ -19,12 +19,13 @@ use Rattle.bench_workers.specs.Watching.{Seen}
 use Rattle.scenario_text.specs.Views.{is_judged}
 use Rattle.scenario_text.specs.declared.scenario.Frame.{Frame}
 use Rattle.bench_scenario.specs.Coins.{places_below}
-use Rattle.run_lines.specs.Data.{line_of, memory_data, pulse_data, ran_data, sent_data, staged_data, verdict_members}
+use Rattle.json_values.specs.Texts.{ReadsBack, line_of}
+use Rattle.json_values.specs.Values.{Member, list_data, number_data, option_data, with_members}
+use Rattle.run_lines.specs.Data.{memory_data, pulse_data, ran_data, sent_data, staged_data, verdict_members}
 use Rattle.run_lines.specs.Judging.{agree_of, counts_of}
-use Rattle.run_lines.specs.Laws.{AreAlike, ReadsBack, TellsSeen, memories_in, slots_in}
+use Rattle.run_lines.specs.Laws.{AreAlike, TellsSeen, memories_in, slots_in}
 use Rattle.run_lines.specs.Readers.{bytes_in, each_in, list_in, number_in, option_in, told_clocks, told_coins, told_memory, told_pulse, told_sent, told_settled, told_steps}
 use Rattle.run_lines.specs.Staged.{StagedTold}
-use Rattle.run_lines.specs.Values.{Member, list_data, number_data, option_data, with_members}
 use Rattle.run_lines.proofs.MailLaws.{mail_same}
 use Rattle.run_lines.proofs.ToldLemmas.{get_with_others, list_back, list_told, number_back, option_back}
 

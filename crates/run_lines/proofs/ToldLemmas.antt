@@ -6,8 +6,8 @@ use Rattle.serde_json.specs.Data.{Data, Members, put}
 use Rattle.serde_json.specs.Find.{as_null, get_member}
 use Rattle.serde_json.specs.View.{items_of}
 use Rattle.serde_json.proofs.Views.{get_member-put_other}
+use Rattle.json_values.specs.Values.{Member, number_data, option_data, with_members}
 use Rattle.run_lines.specs.Readers.{each_in, number_in, option_in}
-use Rattle.run_lines.specs.Values.{Member, number_data, option_data, with_members}
 
 pub list_told : {A B : Type 0} (f : A → Data) (r : Data → Option B) (g : A → B) (xs : List A)
     → AllByRecursion (λ x. r (f x) ≡ Some (g x)) xs → each_in r (items_of (map f xs)) ≡ Some (map g xs)

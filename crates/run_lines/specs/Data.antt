@@ -1,10 +1,9 @@
 -- What the lines of a run tell, as values of JSON (docs/OUTPUT.md, "JSON lines").
-use Rattle.std.specs.Prelude.{ℕ, if◌then◌else◌, is_some, Bool, List, [], ◌∷◌, ◌++◌, length, codes}
+use Rattle.std.specs.Prelude.{ℕ, if◌then◌else◌, is_some, Bool, List, [], ◌∷◌, length, codes}
 use Rattle.std.specs.Ordering.{nat_cmp}
 use Rattle.std.specs.FinMap.{FinMap, get}
 use Rattle.hex.specs.Hex.{encode_lower}
 use Rattle.serde_json.specs.Data.{Data, null, boolean, string}
-use Rattle.serde_json.specs.Written.{compact_text}
 use Rattle.bench_core.specs.State.{Node}
 use Rattle.bench_workers.specs.Watching.{Seen}
 use Rattle.scenario_text.specs.Views.{is_judged}
@@ -14,13 +13,9 @@ use Rattle.scenario_text.specs.declared.scenario.Kind.TheVariants.{Clock, Say, E
 use Rattle.bench_scenario.specs.Coins.{places_below}
 use Rattle.bench_scenario.specs.Reports.{clock_name}
 use Rattle.bench_scenario.specs.declared.summary.RunSummary.{RunSummary}
+use Rattle.json_values.specs.Values.{Member, list_data, number_data, object_data, option_data}
 use Rattle.run_lines.specs.Judging.{agree_of, counts_of}
 use Rattle.run_lines.specs.Staged.{StagedTold, Loaded, Unloaded, Corrupted}
-use Rattle.run_lines.specs.Values.{Member, list_data, number_data, object_data, option_data}
-
--- the text of a value, and the end of a line
-abbrev pub line_of : Data → List ℕ
-line_of d = compact_text d ++ codes "\n"
 
 -- ---- the first line
 

@@ -1,9 +1,6 @@
 -- What the lines of pulses let their reader know (docs/OUTPUT.md, "JSON lines").
 use Rattle.std.specs.Prelude.{◌≡◌, ℕ, ◌<◌, Bool, List, Option, Some, None, All, length, map}
 use Rattle.std.specs.FinMap.{get}
-use Rattle.serde_json.specs.Data.{Data}
-use Rattle.serde_json.specs.Read.{read}
-use Rattle.serde_json.specs.Written.{compact_text}
 use Rattle.node_env.specs.Env.{AreNumbers}
 use Rattle.bench_core.specs.Setup.{Setup}
 use Rattle.bench_core.specs.State.{State, new_state}
@@ -13,14 +10,11 @@ use Rattle.scenario_text.specs.declared.scenario.Frame.{Frame}
 use Rattle.bench_scenario.specs.Coins.{places_below}
 use Rattle.bench_scenario.specs.Summary.{agreements}
 use Rattle.bench_scenario.specs.Verdicts.{judged_of}
-use Rattle.run_lines.specs.Data.{line_of, pulse_data}
+use Rattle.json_values.specs.Texts.{ReadsBack, line_of}
+use Rattle.run_lines.specs.Data.{pulse_data}
 use Rattle.run_lines.specs.Judging.{agree_of, counts_of}
 use Rattle.run_lines.specs.Readers.{told_clocks, told_coins, told_memory, told_pulse, told_sent, told_settled, told_steps}
 use Rattle.run_lines.specs.Staged.{StagedTold}
-
--- the text of the value reads as it
-abbrev pub ReadsBack : Data → Type 0
-ReadsBack d = read (compact_text d) ≡ Some d
 
 -- each memory is of bytes
 abbrev pub HoldsBytes : State → Type 0

@@ -1,4 +1,3 @@
-pub mod Values
 pub mod Staged
 pub mod Judging
 pub mod Data

@@ -4,7 +4,8 @@ use Rattle.bench_workers.specs.Watching.{Seen}
 use Rattle.scenario_text.specs.declared.scenario.Scenario.{Scenario}
 use Rattle.scenario_text.specs.Views.{frame_of}
 use Rattle.bench_scenario.specs.declared.summary.RunSummary.{RunSummary}
-use Rattle.run_lines.specs.Data.{frame_data, last_data, line_of, pulse_data}
+use Rattle.json_values.specs.Texts.{line_of}
+use Rattle.run_lines.specs.Data.{frame_data, last_data, pulse_data}
 use Rattle.run_lines.specs.Spans.{Span, is_within}
 use Rattle.run_lines.specs.Staged.{staged_at}
 

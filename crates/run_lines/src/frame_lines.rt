@@ -2,12 +2,12 @@
 ghost use Rattle.std.specs.Prelude.{◌≡◌, ◌∷◌, [], IfOk, OnOk, codes, is_some, string_bytes};
 ghost use Rattle.serde_json.specs.View.{members_view, view};
 ghost use Rattle.scenario_text.specs.Views.{frame_of};
-ghost use Rattle.run_lines.specs.Data.{clock_members, frame_data, last_data, line_of};
-ghost use Rattle.run_lines.specs.Values.{number_data, with_members};
+ghost use Rattle.json_values.specs.Texts.{line_of};
+ghost use Rattle.json_values.specs.Values.{number_data, with_members};
+ghost use Rattle.run_lines.specs.Data.{clock_members, frame_data, last_data};
 
-use crate::text::line_of;
-use crate::values::place_or_null;
 use bench_scenario::{RunSummary, clock_name};
+use json_values::{line_of, place_or_null};
 use scenario_text::Scenario;
 use serde_json::{Map, Value, put};
 use std::alloc::{AllocError, Global};

@@ -9,8 +9,6 @@ mod pulse_lines;
 mod span;
 mod staged;
 mod telling;
-mod text;
-mod values;
 mod writer;
 
 pub use fault::LinesFault;

@@ -2,11 +2,11 @@
 ghost use Rattle.std.specs.Prelude.{◌≡◌, ◌<◌, IfOk, length};
 ghost use Rattle.serde_json.specs.View.{view};
 ghost use Rattle.bench_core.specs.State.{node_at, mail_from};
+ghost use Rattle.json_values.specs.Values.{list_data};
 ghost use Rattle.run_lines.specs.Data.{memory_data, ran_data, sent_data};
-ghost use Rattle.run_lines.specs.Values.{list_data};
 
-use crate::values::number_or_null;
 use bench_core::Bench;
+use json_values::number_or_null;
 use node_env::Mail;
 use serde_json::Value;
 use std::alloc::{AllocError, Global};

@@ -1,9 +1,9 @@
 //! What was staged before a pulse.
 ghost use Rattle.std.specs.Prelude.{◌≡◌, ◌++◌, IfOk, OnOk, flat_map, map};
 ghost use Rattle.serde_json.specs.View.{view};
+ghost use Rattle.json_values.specs.Values.{list_data};
 ghost use Rattle.run_lines.specs.Data.{kind_text, staged_data};
 ghost use Rattle.run_lines.specs.Staged.{Corrupted, Loaded, Unloaded, staged_at, told_corrupt, told_load, told_unload};
-ghost use Rattle.run_lines.specs.Values.{list_data};
 
 use scenario_text::{Corrupt, Kind, Load, Scenario, Unload};
 use serde_json::{Map, Value, put};

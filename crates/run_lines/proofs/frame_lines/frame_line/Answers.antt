@@ -1,8 +1,8 @@
 use Rattle.std.proofs.Common.{arith}
 use Rattle.std.specs.Prelude.{is_some}
 use Rattle.scenario_text.specs.Views.{frame_of}
+use Rattle.json_values.proofs.PlainLemmas.{flat_as, whole_as}
 use Rattle.run_lines.proofs.DataLemmas.{plain_frame}
-use Rattle.run_lines.proofs.PlainLemmas.{flat_as, whole_as}
 use Rattle.run_lines.proofs.frame_lines.frame_line.Goals as goal
 
 pub line_of-requires : goal.line_of-requires

@@ -1,6 +1,6 @@
 use Rattle.std.proofs.Common.{arith}
+use Rattle.json_values.proofs.PlainLemmas.{flat_as, whole_as}
 use Rattle.run_lines.proofs.DataLemmas.{plain_last}
-use Rattle.run_lines.proofs.PlainLemmas.{flat_as, whole_as}
 use Rattle.run_lines.proofs.frame_lines.last_line.Goals as goal
 
 pub line_of-requires : goal.line_of-requires

@@ -2,9 +2,9 @@ use Rattle.std.proofs.Common.{arith}
 use Rattle.std.specs.Prelude.{is_some}
 use Rattle.bench_workers.specs.Watching.{seen_of}
 use Rattle.scenario_text.specs.Views.{frame_of}
+use Rattle.json_values.proofs.PlainLemmas.{flat_as, whole_as}
 use Rattle.run_lines.specs.Staged.{staged_at}
 use Rattle.run_lines.proofs.DataLemmas.{plain_pulse}
-use Rattle.run_lines.proofs.PlainLemmas.{flat_as, whole_as}
 use Rattle.run_lines.proofs.pulse_lines.pulse_line.Goals as goal
 
 pub line_of-requires : goal.line_of-requires

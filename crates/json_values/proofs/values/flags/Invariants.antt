@@ -1,7 +1,7 @@
 use Rattle.std.proofs.Common.{◌≡◌, ◌++◌, drop, map}
 use Rattle.serde_json.specs.Data.{boolean}
 use Rattle.serde_json.specs.View.{view}
-use Rattle.run_lines.proofs.values.flags.Given as goal
+use Rattle.json_values.proofs.values.flags.Given as goal
 
 -- what is told and what is still to come are the whole
 abbrev pub invariant-loop-flag : goal.invariant-loop-flag

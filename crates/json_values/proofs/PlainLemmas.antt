@@ -9,7 +9,7 @@ use Rattle.serde_json.specs.Data.{Data, Members, boolean, null, string, no_membe
 use Rattle.serde_json.specs.Read.{max_depth}
 use Rattle.serde_json.specs.View.{items_of}
 use Rattle.serde_json.specs.Written.{has_float, items_have_float, members_have_float}
-use Rattle.run_lines.specs.Values.{Member, list_data, number_data, object_data, option_data, with_members}
+use Rattle.json_values.specs.Values.{Member, list_data, number_data, object_data, option_data, with_members}
 
 pub record IsPlain (levels : ℕ) (d : Data) : Type 0 where
   pub whole : has_float d ≡ false

@@ -1,7 +1,7 @@
 use Rattle.std.proofs.Common.{◌≡◌, ◌++◌, drop, map}
-use Rattle.run_lines.specs.Values.{number_data, option_data}
+use Rattle.json_values.specs.Values.{number_data, option_data}
 use Rattle.serde_json.specs.View.{view}
-use Rattle.run_lines.proofs.values.numbers_or_null.Given as goal
+use Rattle.json_values.proofs.values.numbers_or_null.Given as goal
 
 -- what is told and what is still to come are the whole
 abbrev pub invariant-loop-number : goal.invariant-loop-number

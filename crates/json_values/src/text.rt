@@ -4,14 +4,13 @@ ghost use Rattle.serde_json.specs.Data.{depth};
 ghost use Rattle.serde_json.specs.Read.{max_depth};
 ghost use Rattle.serde_json.specs.View.{view};
 ghost use Rattle.serde_json.specs.Written.{has_float};
-ghost use Rattle.run_lines.specs.Data.{line_of};
-ghost use Rattle.run_lines.specs.Laws.{ReadsBack};
+ghost use Rattle.json_values.specs.Texts.{ReadsBack, line_of};
 
 use serde_json::Value;
 use std::alloc::{AllocError, Global};
 
-/// The line of a value that has no float.
-pub(crate) fn line_of(alloc: Global, value: &Value) -> Result<String, AllocError>
+/// Returns the line of a value that has no float.
+pub fn line_of(alloc: Global, value: &Value) -> Result<String, AllocError>
     requires whole { has_float (view value.now) ≡ false }
     requires flat { depth (view value.now) ≤ max_depth }
     ensures line { IfOk result (λ s. string_bytes s ≡ line_of (view value.now)) }

@@ -1,0 +1,106 @@
+-- The value of an exploration has no float, and nests no deeper than six levels.
+use Rattle.std.proofs.Common.{ℕ, suc, List, [], ◌∷◌, ◌++◌}
+use Rattle.std.specs.Prelude.{codes, Option, Some, None, option_map}
+use Rattle.std.specs.List.{AllByRecursion}
+use Rattle.serde_json.specs.Data.{Data, boolean, string}
+use Rattle.json_values.specs.Values.{Member, list_data, number_data, object_data, option_data}
+use Rattle.json_values.proofs.PlainLemmas.{IsPlain, plain_boolean, plain_list, plain_number, plain_object, plain_option, plain_string}
+use Rattle.scenario_explorer.specs.declared.finding.Found.{Found}
+use Rattle.scenario_explorer.specs.declared.finding.Tried.{Tried}
+use Rattle.scenario_explorer.specs.declared.options.AnyStart.{AnyStart}
+use Rattle.scenario_explorer.specs.declared.options.ByteSpan.{ByteSpan}
+use Rattle.scenario_explorer.specs.declared.options.Cells.{Cells}
+use Rattle.scenario_explorer.specs.declared.options.ExploreOptions.{ExploreOptions}
+use Rattle.scenario_explorer.specs.declared.options.MailSpan.{MailSpan}
+use Rattle.exploration_json.specs.Data.{agreement_word, answer_members, byte_span_data, cells_data, exploration_data, exploration_members, limit_of, node_members, pulses_of, question_members, question_word, scenario_of, search_members, span_data, spans_data, stabilisation_of, stabilisation_word, start_data, states_of, transitions_of, violated_in, word_data}
+
+abbrev AllPlain : ℕ → List Member → Type 0
+AllPlain levels ms = AllByRecursion (λ m. IsPlain levels m.1) ms
+
+both_plain : (levels : ℕ) (ms ns : List Member) → AllPlain levels ms → AllPlain levels ns → AllPlain levels (ms ++ ns)
+both_plain levels [] ns first second = second
+both_plain levels (m ∷ ms) ns first second = (first.0, both_plain levels ms ns first.1 second)
+
+plain_word : (levels : ℕ) (word : Option (List ℕ)) → IsPlain levels (word_data word)
+plain_word levels word = plain_option string levels (plain_string levels) word
+
+plain_count : (levels : ℕ) (count : Option ℕ) → IsPlain levels (option_data number_data count)
+plain_count levels count = plain_option number_data levels (plain_number levels) count
+
+plain_numbers : (numbers : List ℕ) → IsPlain 5 (list_data number_data numbers)
+plain_numbers numbers = plain_list number_data 4 (plain_number 4) numbers
+
+plain_byte_span : (span : ByteSpan) → IsPlain 1 (byte_span_data span)
+plain_byte_span span = plain_list number_data 0 (plain_number 0) (span.first ∷ span.last ∷ [])
+
+plain_cells : (cells : Cells) → IsPlain 3 (cells_data cells)
+plain_cells cells =
+    plain_object 2 (
+      (codes "first", number_data cells.first) ∷ (codes "last", number_data cells.last)
+          ∷ (codes "values", list_data byte_span_data cells.values.items) ∷ []
+    ) (
+      plain_number 2 cells.first,
+      (plain_number 2 cells.last, (plain_list byte_span_data 1 plain_byte_span cells.values.items, tt)),
+    )
+
+plain_span : (levels : ℕ) (span : MailSpan) → IsPlain (suc levels) (span_data span)
+plain_span levels span = plain_list number_data levels (plain_number levels) (span.first ∷ span.last ∷ [])
+
+plain_spans : (levels : ℕ) (spans : List MailSpan) → IsPlain (suc (suc levels)) (spans_data spans)
+plain_spans levels spans = plain_list span_data (suc levels) (plain_span levels) spans
+
+plain_start : (any : AnyStart) → IsPlain 5 (start_data any)
+plain_start any =
+    plain_object 4 (
+      (codes "bytes", list_data cells_data any.cells.items)
+          ∷ (codes "messages", option_data (λ said. spans_data said.items) any.said) ∷ []
+    ) (
+      plain_list cells_data 3 plain_cells any.cells.items,
+      (plain_option (λ said. spans_data said.items) 4 (λ said. plain_spans 2 said.items) any.said, tt),
+    )
+
+plain_nodes : (tried : Tried) → AllPlain 5 (node_members tried)
+plain_nodes tried = (
+      plain_numbers tried.correct.items,
+      (
+        plain_boolean 5 tried.has_clock,
+        (
+          plain_numbers tried.programmed.items,
+          (plain_numbers tried.liars.items, (plain_number 5 tried.faults, tt)),
+        ),
+      ),
+    )
+
+plain_question : (asked : ExploreOptions) (tried : Tried) → AllPlain 5 (question_members asked tried)
+plain_question asked tried = (
+      plain_string 5 (question_word asked.question),
+      (plain_spans 3 tried.mail.items, (plain_option start_data 5 plain_start asked.start, tt)),
+    )
+
+plain_search : (found : Found) → AllPlain 5 (search_members found)
+plain_search found = (
+      plain_number 5 (states_of found),
+      (plain_count 5 (transitions_of found), (plain_word 5 (limit_of found), tt)),
+    )
+
+plain_answer : (found : Found) → AllPlain 5 (answer_members found)
+plain_answer found = (
+      plain_word 5 (agreement_word found),
+      (
+        plain_count 5 (violated_in found),
+        (
+          plain_word 5 (option_map stabilisation_word (stabilisation_of found)),
+          (plain_count 5 (pulses_of (stabilisation_of found)), (plain_word 5 (scenario_of found), tt)),
+        ),
+      ),
+    )
+
+pub plain_exploration : (asked : ExploreOptions) (tried : Tried) (found : Found)
+    → IsPlain 6 (exploration_data asked tried found)
+plain_exploration asked tried found =
+    let last = both_plain 5 (search_members found) (answer_members found) (plain_search found) (plain_answer found) in
+    let more = both_plain 5 (question_members asked tried) (search_members found ++ answer_members found)
+    (plain_question asked tried) last in
+    let all = both_plain 5 (node_members tried)
+    (question_members asked tried ++ (search_members found ++ answer_members found)) (plain_nodes tried) more in
+    plain_object 5 (exploration_members asked tried found) all

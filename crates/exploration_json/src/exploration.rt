@@ -1,0 +1,163 @@
+//! The line of an exploration.
+ghost use Rattle.std.specs.Prelude.{◌≡◌, IfOk, OnOk, map, option_map, string_bytes};
+ghost use Rattle.serde_json.specs.Data.{string};
+ghost use Rattle.serde_json.specs.View.{members_view, view};
+ghost use Rattle.json_values.specs.Texts.{ReadsBack, line_of};
+ghost use Rattle.json_values.specs.Values.{number_data, option_data, with_members};
+ghost use Rattle.exploration_json.specs.Data.{answer_members, exploration_data, node_members, pulses_of, question_members, scenario_of, search_members, stabilisation_of, stabilisation_word, word_data};
+
+use crate::spans::{spans_value, start_value};
+use crate::words::{
+    agreement_word, limit_of, question_word, stabilisation_word, states_of, transitions_of,
+    violated_in, within,
+};
+use bench_space::Recovery;
+use json_values::{count_or_null, line_of, numbers, word_or_null};
+use scenario_explorer::{ExploreOptions, Found, Tried};
+use serde_json::{Map, Value, put};
+use std::alloc::{AllocError, Global};
+
+/// Adds who is who.
+fn add_nodes(
+    alloc: Global,
+    members: &mut Map<String, Value>,
+    tried: &Tried,
+) -> Result<(), AllocError>
+    ensures { OnOk result (members_view members.new.entries ≡ with_members (members_view members.old.entries)
+        (node_members tried.now)) }
+{
+    let correct = numbers(alloc, &tried.correct)?;
+    let programmed = numbers(alloc, &tried.programmed)?;
+    let liars = numbers(alloc, &tried.liars)?;
+    put(members, alloc, "correct", correct)?;
+    put(members, alloc, "runs_clock", Value::Bool(tried.has_clock))?;
+    put(members, alloc, "byzantine_loaded", programmed)?;
+    put(members, alloc, "byzantine", liars)?;
+    put(members, alloc, "faults", Value::from(tried.faults))
+}
+
+/// Adds what was asked and tried.
+fn add_question(
+    alloc: Global,
+    members: &mut Map<String, Value>,
+    options: &ExploreOptions,
+    tried: &Tried,
+) -> Result<(), AllocError>
+    ensures { OnOk result (members_view members.new.entries ≡ with_members (members_view members.old.entries)
+        (question_members options.now tried.now)) }
+{
+    let ask = Value::try_from_str(alloc, question_word(options.question))?;
+    let messages = spans_value(alloc, &tried.mail)?;
+    let start = start_value(alloc, &options.start)?;
+    put(members, alloc, "ask", ask)?;
+    put(members, alloc, "messages", messages)?;
+    put(members, alloc, "start", start)
+}
+
+/// Adds how far the search came.
+fn add_search(
+    alloc: Global,
+    members: &mut Map<String, Value>,
+    found: &Found,
+) -> Result<(), AllocError>
+    ensures { OnOk result (members_view members.new.entries ≡ with_members (members_view members.old.entries)
+        (search_members found.now)) }
+{
+    let limit = word_or_null(alloc, limit_of(found))?;
+    put(members, alloc, "states", Value::from(states_of(found)))?;
+    put(members, alloc, "transitions", count_or_null(transitions_of(found)))?;
+    put(members, alloc, "limit", limit)
+}
+
+/// How clocks stabilise, if that was asked and found.
+fn stabilisation_of(found: &Found) -> Option<&Recovery>
+    ensures { option_map (λ recovery. recovery.now) result ≡ stabilisation_of found.now }
+{
+    match found {
+        Found::Closed { recovery, .. } => recovery.as_ref(),
+        Found::Parts { .. } | Found::Unfinished { .. } => None,
+    }
+}
+
+/// The word for how clocks stabilise, or null.
+fn stabilisation_value(alloc: Global, found: &Found) -> Result<Value, AllocError>
+    ensures { IfOk result (λ v. view v ≡ word_data (option_map stabilisation_word (stabilisation_of found.now))) }
+{
+    match stabilisation_of(found) {
+        Some(recovery) => Value::try_from_str(alloc, stabilisation_word(recovery)),
+        None => Ok(Value::Null),
+    }
+}
+
+/// The bound on the stabilisation time, or null.
+fn pulses_value(found: &Found) -> Value
+    ensures { view result ≡ option_data number_data (pulses_of (stabilisation_of found.now)) }
+{
+    match stabilisation_of(found) {
+        Some(recovery) => count_or_null(within(recovery)),
+        None => Value::Null,
+    }
+}
+
+/// The text of the counterexample, or null.
+fn scenario_value(alloc: Global, found: &Found) -> Result<Value, AllocError>
+    ensures { IfOk result (λ v. view v ≡ word_data (scenario_of found.now)) }
+{
+    match found {
+        Found::Parts { shown, .. } => Value::try_from_str(alloc, shown.as_str()),
+        Found::Closed {
+            shown: Some(shown), ..
+        } => Value::try_from_str(alloc, shown.as_str()),
+        Found::Closed { .. } | Found::Unfinished { .. } => Ok(Value::Null),
+    }
+}
+
+/// Adds what was found.
+fn add_answer(
+    alloc: Global,
+    members: &mut Map<String, Value>,
+    found: &Found,
+) -> Result<(), AllocError>
+    ensures { OnOk result (members_view members.new.entries ≡ with_members (members_view members.old.entries)
+        (answer_members found.now)) }
+{
+    let agreement = word_or_null(alloc, agreement_word(found))?;
+    let stabilisation = stabilisation_value(alloc, found)?;
+    let scenario = scenario_value(alloc, found)?;
+    put(members, alloc, "agreement", agreement)?;
+    put(members, alloc, "violated_in", count_or_null(violated_in(found)))?;
+    put(members, alloc, "stabilisation", stabilisation)?;
+    put(members, alloc, "pulses", pulses_value(found))?;
+    put(members, alloc, "scenario", scenario)
+}
+
+/// What the line tells.
+fn exploration_value(
+    alloc: Global,
+    options: &ExploreOptions,
+    tried: &Tried,
+    found: &Found,
+) -> Result<Value, AllocError>
+    ensures { IfOk result (λ v. view v ≡ exploration_data options.now tried.now found.now) }
+{
+    let mut members = Map::new(alloc);
+    add_nodes(alloc, &mut members, tried)?;
+    add_question(alloc, &mut members, options, tried)?;
+    add_search(alloc, &mut members, found)?;
+    add_answer(alloc, &mut members, found)?;
+    Ok(Value::Object(members))
+}
+
+/// Returns the line of what was tried and found.
+pub fn exploration_line(
+    alloc: Global,
+    options: &ExploreOptions,
+    tried: &Tried,
+    found: &Found,
+) -> Result<String, AllocError>
+    ensures line { IfOk result (λ s. string_bytes s ≡ line_of (exploration_data options.now tried.now found.now)) }
+    ensures reads { OnOk result (ReadsBack (exploration_data options.now tried.now found.now)) }
+{
+    let value = exploration_value(alloc, options, tried, found)?;
+    line_of(alloc, &value)
+}

@@ -1,0 +1,104 @@
+//! Words and numbers of what was found.
+ghost use Rattle.std.specs.Prelude.{◌≡◌, Option, map, option_map};
+ghost use Rattle.exploration_json.specs.Data.{agreement_word, limit_of, limit_word, pulses_of, question_word, scenario_of, stabilisation_of, stabilisation_word, states_of, transitions_of, violated_in, within};
+
+use bench_space::{Cause, Question, Recovery};
+use scenario_explorer::Found;
+
+/// The word for a question.
+pub(crate) fn question_word(question: Question) -> &'static str
+    ensures { result.now ≡ question_word question }
+{
+    match question {
+        Question::Agreement => "agreement",
+        Question::Stabilisation => "stabilisation",
+        Question::Both => "both",
+    }
+}
+
+/// The word for agreement, if it is known.
+pub(crate) fn agreement_word(found: &Found) -> Option<&'static str>
+    ensures { option_map (λ word. word.now) result ≡ agreement_word found.now }
+{
+    match found {
+        Found::Closed { agrees: true, .. } => Some("holds"),
+        Found::Parts { .. } => Some("violated"),
+        Found::Closed { .. } | Found::Unfinished { .. } => None,
+    }
+}
+
+/// The word for how clocks stabilise.
+pub(crate) fn stabilisation_word(recovery: &Recovery) -> &'static str
+    ensures { result.now ≡ stabilisation_word recovery.now }
+{
+    match recovery {
+        Recovery::InStep { .. } => "certain",
+        Recovery::Luck { .. } => "possible",
+        Recovery::HeldOff { .. } => "preventable",
+        Recovery::Unknown => "undecided",
+    }
+}
+
+/// The word for a limit.
+fn limit_word(cause: Cause) -> &'static str
+    ensures { result.now ≡ limit_word cause }
+{
+    match cause {
+        Cause::States => "states",
+        Cause::Transitions => "transitions",
+        Cause::Pulses => "depth",
+        Cause::Inboxes => "inboxes",
+        Cause::Counterexample => "counterexample",
+    }
+}
+
+/// The word for the limit that ended the search, if one did.
+pub(crate) fn limit_of(found: &Found) -> Option<&'static str>
+    ensures { option_map (λ word. word.now) result ≡ limit_of found.now }
+{
+    match found {
+        Found::Closed { .. } | Found::Parts { .. } => None,
+        Found::Unfinished { cause, .. } => Some(limit_word(*cause)),
+    }
+}
+
+/// How many states were seen.
+pub(crate) fn states_of(found: &Found) -> u64
+    ensures { result ≡ states_of found.now }
+{
+    match found {
+        Found::Closed { states, .. }
+        | Found::Parts { states, .. }
+        | Found::Unfinished { states, .. } => *states,
+    }
+}
+
+/// How many transitions were tried, if all were.
+pub(crate) fn transitions_of(found: &Found) -> Option<u64>
+    ensures { result ≡ transitions_of found.now }
+{
+    match found {
+        Found::Closed { moves, .. } => Some(*moves),
+        Found::Parts { .. } | Found::Unfinished { .. } => None,
+    }
+}
+
+/// The pulse of the counterexample that violates agreement.
+pub(crate) fn violated_in(found: &Found) -> Option<u64>
+    ensures { result ≡ violated_in found.now }
+{
+    match found {
+        Found::Parts { pulse, .. } => Some(*pulse),
+        Found::Closed { .. } | Found::Unfinished { .. } => None,
+    }
+}
+
+/// The bound on the stabilisation time, if there is one.
+pub(crate) fn within(recovery: &Recovery) -> Option<u64>
+    ensures { result ≡ within recovery.now }
+{
+    match recovery {
+        Recovery::InStep { pulses } | Recovery::Luck { pulses } => Some(*pulses),
+        Recovery::HeldOff { .. } | Recovery::Unknown => None,
+    }
+}
