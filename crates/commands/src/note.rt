@@ -166,8 +166,8 @@ fn tell_unused_note<E: Write>(
         ScenarioRequest::NodeProgram(options) => {
             tell_place_note(alloc, options.place, scenario, err);
         }
-        ScenarioRequest::Explore(_) => {
-            if let Some(unfit) = unfit_of(scenario) {
+        ScenarioRequest::Explore(options) => {
+            if let Some(unfit) = unfit_of(options, scenario) {
                 say(unexplored_note(unfit), err);
             }
         }
@@ -197,6 +197,8 @@ fn unexplored_note(unfit: Unfit) -> &'static [u8]
         Unfit::Coin => b"note: explore takes no [[coin]]: it tries both coins of each node\n",
         Unfit::Unloaded =>
             b"note: explore needs a node with a program: add a [[load]] of pulse 1\n",
+        Unfit::Byte =>
+            b"note: --cells names a place past the memory: places go from 0 to one below `memory`\n",
     }
 }
 

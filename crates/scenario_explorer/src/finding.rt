@@ -22,6 +22,8 @@ pub enum Unfit {
     Coin,
     /// No node is loaded.
     Unloaded,
+    /// The start names a byte past the memory.
+    Byte,
 }
 
 /// Who is who, and what was tried beside both coins.
@@ -106,6 +108,7 @@ impl fmt::Display for Unfit {
             Unfit::Corrupt => write!(f, "corrupt"),
             Unfit::Coin => write!(f, "coin"),
             Unfit::Unloaded => write!(f, "NoCorrectNode"),
+            Unfit::Byte => write!(f, "NoByte"),
         }
     }
 }
