@@ -7,7 +7,7 @@ use Rattle.scenario_text.specs.inner.Arrays.{HasArrays}
 use Rattle.scenario_text.specs.Drafts.{Draft}
 use Rattle.scenario_text.specs.Noise.{HasNoise}
 use Rattle.scenario_text.specs.Tables.{knows, IsTable, MayBeArray}
-use Rattle.scenario_text.specs.Spelling.{HasFrame, HasCoins, HasKey, HasClock, Spelled, SpelledLoad, SpelledUnload, SpelledCorrupt, SpelledCoin, SpellsNothing, clock_key, top_keys}
+use Rattle.scenario_text.specs.Spelling.{HasFrame, HasCoins, HasKey, HasClock, Spelled, SpelledLoad, SpelledUnload, SpelledCorrupt, SpelledCoin, SpellsNothing, clock_key, clock_text, top_keys}
 use Rattle.scenario_text.proofs.TableLemmas.{tables_read, entries_read, loads_read}
 
 -- a table that spells a scenario has its arrays
@@ -34,13 +34,13 @@ no_arrays ms none d spelled = none (spelled_arrays ms d spelled)
 -- what is read of all keys is spelled, where the arrays aren't too long
 pub spelled_whole : (ms : Members) (d : Draft) → knows (top_keys (clock_key ms)) ms ≡ true
     → HasFrame ms d.frame → HasCoins ms d.coins
-    → HasKey ms d.coins d.key → HasClock d.frame ms d.clock
+    → HasKey ms d.coins d.key → d.clock_text ≡ clock_text (clock_key ms) ms → HasClock d.frame ms d.clock
     → MayBeArray (IsTable (SpelledLoad d.frame d.clock)) (get_member (codes "load") ms) d.loads
     → MayBeArray (IsTable (SpelledUnload d.frame)) (get_member (codes "unload") ms) d.unloads
     → MayBeArray (IsTable (SpelledCorrupt d.frame)) (get_member (codes "corrupt") ms) d.corruptions
     → MayBeArray (IsTable (SpelledCoin d.frame)) (get_member (codes "coin") ms) d.entries
     → HasArrays ms → HasNoise d.key d.frame.pulses d.loads → Spelled ms d
-spelled_whole ms d known frame coins key clock loads unloads corruptions entries has noise =
+spelled_whole ms d known frame coins key text clock loads unloads corruptions entries has noise =
     let loads_are = loads_read d.frame d.clock _ d.loads loads in
     let unloads_are = entries_read _ _ d.unloads unloads in
     let corruptions_are = entries_read _ _ d.corruptions corruptions in
@@ -52,6 +52,7 @@ spelled_whole ms d known frame coins key clock loads unloads corruptions entries
       frame = frame;
       coins = coins;
       key = key;
+      clock_text = text;
       clock = clock;
       loads = loads;
       unloads = unloads;

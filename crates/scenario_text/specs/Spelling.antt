@@ -1,5 +1,5 @@
 -- How a table spells a scenario (docs/SCENARIOS.md, "Keys").
-use Rattle.std.specs.Prelude.{◌≡◌, ℕ, pos, negsuc, ◌+◌, ◌-◌, ◌%◌, ◌≤◌, ◌==◌, ◌++◌, ◌⊎◌, if◌then◌else◌, Bool, true, List, [], ◌∷◌, codes, length, replicate, Option, Some, None, is_some}
+use Rattle.std.specs.Prelude.{◌≡◌, ℕ, pos, negsuc, ◌+◌, ◌-◌, ◌%◌, ◌≤◌, ◌==◌, ◌++◌, ◌⊎◌, if◌then◌else◌, Bool, true, List, [], ◌∷◌, codes, length, replicate, Option, Some, None, is_some, option_map}
 use Rattle.toml.specs.Data.{Data, string, integer, Members, get_member}
 use Rattle.bpf_insn.specs.declared.forms.Insn.{Insn}
 use Rattle.bpf_asm.specs.Meaning.{Means}
@@ -11,7 +11,7 @@ use Rattle.scenario_text.specs.declared.scenario.ClockKey.{ClockKey}
 use Rattle.scenario_text.specs.declared.scenario.ClockKey.TheVariants as keys
 use Rattle.scenario_text.specs.declared.scenario.Unload.{Unload}
 use Rattle.scenario_text.specs.declared.scenario.CoinEntry.{CoinEntry}
-use Rattle.scenario_text.specs.Drafts.{LoadDraft, CorruptDraft, Draft}
+use Rattle.scenario_text.specs.Drafts.{LoadDraft, CorruptDraft, Draft, TextDraft, assembler_text, rule_text}
 use Rattle.scenario_text.specs.Noise.{HasNoise}
 use Rattle.clock_nodes.specs.Rule as clocks
 use Rattle.clock_nodes.specs.Listings.{clock_listing, say_listing, echo_listing}
@@ -20,7 +20,7 @@ use Rattle.rule_nodes.specs.declared.syntax.Sizes.{Sizes}
 use Rattle.rule_text.specs.Programs.{IsProgramOfText}
 use Rattle.node_env.specs.declared.shape.TheConstants.{MAX_NODES, MAX_MEMORY, MEMORY_UNIT}
 use Rattle.scenario_text.specs.declared.limits.TheConstants.{FIRST_VERSION, LAST_VERSION, CLOCK_VERSION, RULE_VERSION, NOISE_VERSION, FIRST_MAX_NODES, MAX_PULSES, MAX_KEY, MAX_SAID, MAX_CHANGES, MAX_COIN_ENTRIES}
-use Rattle.scenario_text.specs.Tables.{knows, IsNumber, HasNumber, HasText, IsArray, MayBeArray, IsTable}
+use Rattle.scenario_text.specs.Tables.{knows, IsNumber, HasNumber, HasText, text_under, IsArray, MayBeArray, IsTable}
 use Rattle.scenario_text.specs.declared.scenario.Frame.{Frame}
 
 -- ---- the top keys
@@ -151,6 +151,12 @@ HasNoText keys.Absent _ = Unit {0}
 HasNoText keys.Clock members = get_member (codes "clock") members ≡ None
 HasNoText keys.Rule members = get_member (codes "rule") members ≡ None
 
+-- the text of the clock, under the key that there is for it
+abbrev pub clock_text : ClockKey → Members → Option TextDraft
+clock_text keys.Absent _ = None
+clock_text keys.Clock members = option_map assembler_text (text_under (codes "clock") members)
+clock_text keys.Rule members = option_map rule_text (text_under (codes "rule") members)
+
 -- a clock of one's own is what its text means, if that isn't the rule's clock
 abbrev pub HasClock : Frame → Members → Option (List Insn) → Type 0
 HasClock f members None =
@@ -162,6 +168,15 @@ HasClock f members (Some insns) =
 abbrev pub clock_insns : Frame → Option (List Insn) → List Insn
 clock_insns f None = clock_listing (rule_of f)
 clock_insns f (Some insns) = insns
+
+-- the text of a load, if its program is that of a text
+abbrev pub load_text : Kind → Members → Option (List ℕ)
+load_text Asm members = text_under (codes "text") members
+load_text Rule members = text_under (codes "text") members
+load_text Clock _ = None
+load_text Say _ = None
+load_text Echo _ = None
+load_text Noise _ = None
 
 -- the clock, the listing that is named, or what the text means. That of noise sends nothing
 abbrev pub IsProgramOf : Frame → Option (List Insn) → Kind → Members → List Insn → Type 0
@@ -180,6 +195,7 @@ pub record SpelledLoad (f : Frame) (clock : Option (List Insn)) (members : Membe
   pub named : HasText members (codes "program") (kind_name load.kind)
   pub kind : HasKind f.version load.kind
   pub known : knows (load_keys load.kind) members ≡ true
+  pub text : load.text ≡ load_text load.kind members
   pub program : IsProgramOf f clock load.kind members load.program
 
 -- ---- the other entries
@@ -223,6 +239,7 @@ pub record Spelled (members : Members) (d : Draft) : Type 0 where
   pub frame : HasFrame members d.frame
   pub coins : HasCoins members d.coins
   pub key : HasKey members d.coins d.key
+  pub clock_text : d.clock_text ≡ clock_text (clock_key members) members
   pub clock : HasClock d.frame members d.clock
   pub loads : MayBeArray (IsTable (SpelledLoad d.frame d.clock)) (get_member (codes "load") members) d.loads
   pub unloads : MayBeArray (IsTable (SpelledUnload d.frame)) (get_member (codes "unload") members) d.unloads

@@ -1,19 +1,31 @@
 -- What a scenario is as plain data, and when a table reads as it.
-use Rattle.std.specs.Prelude.{◌≡◌, ℕ, Bool, nat_le, map, All, IfSome, option_map}
+use Rattle.std.specs.Prelude.{◌≡◌, ℕ, Bool, nat_le, map, All, IfSome, option_map, string_bytes}
 use Rattle.toml.specs.Data.{Members}
 use Rattle.node_env.specs.Env.{Extent}
 use Rattle.bpf_verify.specs.Accepted.{Accepted}
 use Rattle.bpf_verify.specs.Typable.{Typable}
 use Rattle.scenario_text.specs.declared.limits.TheConstants.{CLOCK_VERSION}
 use Rattle.scenario_text.specs.declared.scenario.Scenario.{Scenario}
+use Rattle.scenario_text.specs.declared.scenario.ClockText.{ClockText}
+use Rattle.scenario_text.specs.declared.scenario.ClockText.TheVariants as clocks
 use Rattle.scenario_text.specs.declared.scenario.Load.{Load}
 use Rattle.scenario_text.specs.declared.scenario.Corrupt.{Corrupt}
 use Rattle.scenario_text.specs.declared.scenario.Frame.{Frame}
-use Rattle.scenario_text.specs.Drafts.{LoadDraft, CorruptDraft, Draft}
+use Rattle.scenario_text.specs.Drafts.{LoadDraft, CorruptDraft, Draft, TextDraft, assembler_text, rule_text}
 use Rattle.scenario_text.specs.Spelling.{Spelled}
 
+abbrev pub text_of : ClockText → TextDraft
+text_of (clocks.Assembler text) = assembler_text (string_bytes text)
+text_of (clocks.Rule text) = rule_text (string_bytes text)
+
 abbrev pub load_of : Load → LoadDraft
-load_of l = record { pulse = l.pulse; nodes = l.nodes.items; kind = l.kind; program = l.program.program }
+load_of l = record {
+  pulse = l.pulse;
+  nodes = l.nodes.items;
+  kind = l.kind;
+  text = option_map (λ t. string_bytes t) l.text;
+  program = l.program.program;
+}
 
 abbrev pub corrupt_of : Corrupt → CorruptDraft
 corrupt_of c = record { pulse = c.pulse; node = c.node; image = c.image.items }
@@ -33,6 +45,7 @@ draft_of s = record {
   frame = frame_of s;
   coins = s.coins;
   key = s.key;
+  clock_text = option_map text_of s.clock_text;
   clock = option_map (λ v. v.program) s.clock;
   loads = map load_of s.loads.items;
   unloads = s.unloads.items;

@@ -1,5 +1,5 @@
 //! The entries `[[load]]`.
-ghost use Rattle.std.specs.Prelude.{◌≡◌, ◌↔◌, ℕ, List, Option, IfOk, IfErr, IsTrue, MatchResult, None, length, codes, replicate};
+ghost use Rattle.std.specs.Prelude.{◌≡◌, ◌↔◌, ℕ, List, Option, IfOk, IfErr, IsTrue, MatchResult, None, length, codes, option_map, replicate, string_bytes};
 ghost use Rattle.toml.specs.Data.{get_member};
 ghost use Rattle.toml.specs.View.{table_view};
 ghost use Rattle.bpf_insn.specs.declared.forms.Insn.{Insn};
@@ -13,7 +13,7 @@ ghost use Rattle.scenario_text.specs.Faults.{Excludes, Refuses};
 ghost use Rattle.scenario_text.specs.inner.Faults.{IsOfSpelling};
 ghost use Rattle.scenario_text.specs.inner.Setups.{IsSetup, own_clock};
 ghost use Rattle.scenario_text.specs.Tables.{knows, HasText, IsArray};
-ghost use Rattle.scenario_text.specs.Spelling.{load_keys, kind_name, HasKind, IsSaid, IsProgramOf, MeansAt, SpelledLoad};
+ghost use Rattle.scenario_text.specs.Spelling.{load_keys, load_text, kind_name, HasKind, IsSaid, IsProgramOf, MeansAt, SpelledLoad};
 ghost use Rattle.scenario_text.specs.Views.{load_of, extent_of, FitsFrame, FitsLoad};
 
 use crate::entries::Entry;
@@ -23,7 +23,7 @@ use crate::programs::{accepted, program_in, rule_in, say_program};
 use crate::refusal::{Place, ScenarioError};
 use crate::scenario::{Kind, Load};
 use crate::setup::Setup;
-use crate::table::{knows_keys, number_at, value_at};
+use crate::table::{knows_keys, number_at, text_at, value_at};
 use crate::top::kind_named;
 use bpf_verify::VerifiedProgram;
 use std::alloc::{AllocError, Global};
@@ -232,6 +232,16 @@ fn program_of(
     }
 }
 
+/// The text of a load, if its program is that of a text.
+fn text_of(alloc: Global, kind: Kind, table: &Table) -> Result<Option<String>, AllocError>
+    ensures { IfOk result (λ text. option_map (λ t. string_bytes t) text ≡ load_text kind (table_view table.now)) }
+{
+    match kind {
+        Kind::Asm | Kind::Rule => text_at(alloc, table, "text"),
+        Kind::Clock | Kind::Say | Kind::Echo | Kind::Noise => Ok(None),
+    }
+}
+
 impl Entry for Load {
     ghost Draft = { LoadDraft };
 
@@ -263,10 +273,14 @@ impl Entry for Load {
             return Err(ScenarioError::UnknownKey { place });
         }
         let program = program_of(alloc, setup, kind, table, index)?;
+        let Ok(text) = text_of(alloc, kind, table) else {
+            return Err(ScenarioError::Memory(AllocError));
+        };
         Ok(Load {
             pulse: pulse as u32,
             nodes,
             kind,
+            text,
             program,
         })
     }

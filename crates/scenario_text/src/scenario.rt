@@ -48,6 +48,13 @@ pub enum ClockKey {
     Rule,
 }
 
+/// The text of a scenario's clock: of the assembler, or of a rule.
+#[derive(Debug, Drop)]
+pub enum ClockText {
+    Assembler(String),
+    Rule(String),
+}
+
 /// The numbers of the top keys, on which the ranges of the entries rest.
 #[derive(Clone, Copy, Debug, PartialEq, Eq)]
 pub struct Frame {
@@ -59,12 +66,14 @@ pub struct Frame {
     pub pulses: u32,
 }
 
-/// One `[[load]]`: before this pulse the program, of the kind that its table names, comes into each of the nodes.
+/// One `[[load]]`: before this pulse the program, of the kind that its table names, comes into each of the nodes. `text`
+/// is there exactly if the program is that of a text.
 #[derive(Drop)]
 pub struct Load {
     pub pulse: u32,
     pub nodes: Vec<u32>,
     pub kind: Kind,
+    pub text: Option<String>,
     pub program: VerifiedProgram,
 }
 
@@ -91,8 +100,8 @@ pub struct CoinEntry {
     pub value: u32,
 }
 
-/// A scenario: docs/SCENARIOS.md has each key. `clock` is there if the scenario's isn't that of its rule,
-/// `corruptions` are those of `corrupt`, `entries` those of `coin`.
+/// A scenario: docs/SCENARIOS.md has each key. `clock_text` is the text under `clock` or `rule`. `clock` is there if its
+/// program isn't that of docs/CLOCK.md. `corruptions` are those of `corrupt`, `entries` those of `coin`.
 #[derive(Drop)]
 pub struct Scenario {
     pub version: u32,
@@ -103,6 +112,7 @@ pub struct Scenario {
     pub pulses: u32,
     pub coins: Coins,
     pub key: Option<u64>,
+    pub clock_text: Option<ClockText>,
     pub clock: Option<VerifiedProgram>,
     pub loads: Vec<Load>,
     pub unloads: Vec<Unload>,

@@ -7,9 +7,10 @@ ghost use Rattle.toml.specs.Data.{get_member, array as array_data};
 ghost use Rattle.toml.specs.View.{view, table_view, array_view};
 ghost use Rattle.scenario_text.specs.inner.Arrays.{are_tables, is_table, all_tables};
 ghost use Rattle.scenario_text.specs.inner.Faults.{IsOfSpelling};
-ghost use Rattle.scenario_text.specs.Tables.{HasNumber, knows};
+ghost use Rattle.scenario_text.specs.Tables.{HasNumber, knows, text_under};
 
 use crate::refusal::{Place, ScenarioError};
+use std::alloc::{AllocError, Global};
 use toml::value::Array;
 use toml::{Table, Value};
 
@@ -18,6 +19,23 @@ pub(crate) fn value_at<'a>(table: &'a Table, key: &str) -> Option<&'a Value>
     ensures { option_map (λ v. view v.now) result ≡ get_member key.now (table_view table.now) }
 {
     table.get(key)
+}
+
+/// The text under a key, if the key holds one.
+pub(crate) fn text_at(
+    alloc: Global,
+    table: &Table,
+    key: &str,
+) -> Result<Option<String>, AllocError>
+    ensures { IfOk result (λ text. option_map (λ t. string_bytes t) text ≡ text_under key.now (table_view table.now)) }
+{
+    let Some(value) = value_at(table, key) else {
+        return Ok(None);
+    };
+    let Some(text) = value.as_str() else {
+        return Ok(None);
+    };
+    Ok(Some(String::from_str(alloc, text)?))
 }
 
 fn is_one_of(names: &[&str], key: &str) -> bool

@@ -1,22 +1,22 @@
 //! A whole table.
-ghost use Rattle.std.specs.Prelude.{◌≡◌, IfOk, IfErr};
+ghost use Rattle.std.specs.Prelude.{◌≡◌, IfOk, IfErr, option_map};
 ghost use Rattle.toml.specs.View.{table_view};
 ghost use Rattle.scenario_text.specs.Broken.{BrokenAt};
 ghost use Rattle.scenario_text.specs.Faults.{Refuses};
-ghost use Rattle.scenario_text.specs.Spelling.{SpellsNothing, clock_key, key_of_version, top_keys};
+ghost use Rattle.scenario_text.specs.Spelling.{SpellsNothing, clock_key, clock_text, key_of_version, top_keys};
 ghost use Rattle.scenario_text.specs.Tables.{knows};
-ghost use Rattle.scenario_text.specs.Views.{Reads};
+ghost use Rattle.scenario_text.specs.Views.{Reads, text_of};
 
 use crate::arrays::arrays_at;
 use crate::entries::entries_of;
 use crate::limits::{CLOCK_VERSION, RULE_VERSION};
 use crate::noise::judge_noise;
 use crate::refusal::{Place, ScenarioError};
-use crate::scenario::{ClockKey, Scenario};
+use crate::scenario::{ClockKey, ClockText, Scenario};
 use crate::setup::{Setup, setup_at};
-use crate::table::{knows_keys, value_at};
+use crate::table::{knows_keys, text_at, value_at};
 use crate::top::{coins_at, frame_at, key_at};
-use std::alloc::Global;
+use std::alloc::{AllocError, Global};
 use toml::Table;
 
 /// The key of a clock's text in a version, where there is a key `clock` or isn't.
@@ -81,6 +81,21 @@ fn has_top_keys(table: &Table, clock: ClockKey) -> bool
     }
 }
 
+/// The text of the clock, if there is one.
+fn clock_text_at(
+    alloc: Global,
+    table: &Table,
+    key: ClockKey,
+) -> Result<Option<ClockText>, AllocError>
+    ensures { IfOk result (λ text. option_map text_of text ≡ clock_text key (table_view table.now)) }
+{
+    match key {
+        ClockKey::Absent => Ok(None),
+        ClockKey::Clock => Ok(text_at(alloc, table, "clock")?.map(ClockText::Assembler)),
+        ClockKey::Rule => Ok(text_at(alloc, table, "rule")?.map(ClockText::Rule)),
+    }
+}
+
 /// Returns the scenario that a table spells, each of whose programs is accepted. The refusal is never `TooLong` or
 /// `NotToml`; `Memory` comes whenever memory is short.
 pub fn scenario_of(alloc: Global, table: &Table) -> Result<Scenario, ScenarioError>
@@ -96,6 +111,9 @@ pub fn scenario_of(alloc: Global, table: &Table) -> Result<Scenario, ScenarioErr
     let coins = coins_at(table)?;
     let key = key_at(table, coins)?;
     let setup = setup_at(alloc, table, clock, frame)?;
+    let Ok(clock_text) = clock_text_at(alloc, table, clock) else {
+        return Err(ScenarioError::Memory(AllocError));
+    };
     let arrays = arrays_at(table)?;
     let loads = entries_of(alloc, &setup, arrays.loads)?;
     judge_noise(&loads, key, setup.frame.pulses)?;
@@ -112,6 +130,7 @@ pub fn scenario_of(alloc: Global, table: &Table) -> Result<Scenario, ScenarioErr
         pulses: frame.pulses,
         coins,
         key,
+        clock_text,
         clock: own,
         loads,
         unloads,

@@ -113,7 +113,7 @@ returns-clause-reads c =
     record {
       spelled = spelled_whole _ _ (search rules)
           (subst (HasFrame ms) (sym c.in_ok-setup.ensures.frame) c.in_ok-frame.ensures.frame)
-          c.in_ok-coins.ensures.coins c.in_ok-key.ensures.key c.in_ok-setup.ensures.clock
+          c.in_ok-coins.ensures.coins c.in_ok-key.ensures.key (search rules) c.in_ok-setup.ensures.clock
           (subst (λ o. MayBeArray (IsTable (SpelledLoad f (own_clock setup))) o (map load_of c.in_ok-loads.loads.items))
           held.loads c.in_ok-loads.ensures.entries)
           (plain_entries (IsTable (SpelledUnload f)) _ _ _ held.unloads c.in_ok-unloads.ensures.entries)

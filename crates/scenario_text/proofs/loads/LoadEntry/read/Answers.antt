@@ -1,4 +1,4 @@
-use Rattle.std.proofs.Common.{rules, ◌≡◌, ℕ, List, subst, sym}
+use Rattle.std.proofs.Common.{rules, ◌≡◌, ℕ, List, refl, subst, sym}
 use Rattle.std.specs.Prelude.{codes}
 use Rattle.bpf_insn.specs.declared.forms.Insn.{Insn}
 use Rattle.toml.specs.View.{table_view}
@@ -9,7 +9,7 @@ use Rattle.scenario_text.specs.declared.scenario.Kind.TheVariants.{Asm}
 use Rattle.scenario_text.specs.Drafts.{LoadDraft}
 use Rattle.scenario_text.specs.Broken.{BrokenLoad, BrokenText}
 use Rattle.scenario_text.specs.inner.Setups.{own_clock}
-use Rattle.scenario_text.specs.Spelling.{HasKind, IsProgramOf, SpelledLoad, kind_name}
+use Rattle.scenario_text.specs.Spelling.{HasKind, IsProgramOf, SpelledLoad, kind_name, load_text}
 use Rattle.scenario_text.specs.Tables.{HasText}
 use Rattle.scenario_text.specs.Views.{extent_of}
 use Rattle.scenario_text.proofs.FrameLemmas.{refuses_more}
@@ -29,6 +29,7 @@ returns-in_err-program-clause-refused c =
       pulse = c.in_ok-pulse.pulse;
       nodes = c.in_ok-nodes.nodes.items;
       kind = kind;
+      text = load_text kind ms;
       program = program;
     } in
     let spelled : (program : List Insn) → IsProgramOf f clock kind ms program → SpelledLoad f clock ms (draft program) =
@@ -38,6 +39,7 @@ returns-in_err-program-clause-refused c =
       named = named;
       kind = has;
       known = search rules;
+      text = refl;
       program = is;
     } in
     let none : Type 0 = (program : List Insn) → IsProgramOf f clock kind ms program → ⊥ in
