@@ -1,2 +1,4 @@
 pub mod Command
+pub mod Lists
 pub mod Requests
+pub mod inner

@@ -1,10 +1,12 @@
 -- Which request the options of a command ask for (docs/COMMANDS.md), by what `clap` read of them: a text for each option
--- that is there. That the words give these texts is the part of `clap`.
+-- that is there. That the words give these texts is the part of `clap`. What the texts of lists name is in Lists; which
+-- entries `--cells` names isn't said.
 use Rattle.std.specs.Prelude.{◌≡◌, ◌≢◌, ◌⊎◌, ◌↔◌, ◌<◌, ◌^◌, ℕ, Bool, true, false, List, [], ◌++◌, Option, Some, None}
-use Rattle.std.specs.Prelude.{IsTrue, codes, is_some, option_map, string_bytes}
+use Rattle.std.specs.Prelude.{IsSome, IsTrue, MatchOption, Vec, codes, option_map, string_bytes}
 use Rattle.std.specs.Str.Parse.{IsNumeral, digits_value, without_leading_plus}
 use Rattle.clap.specs.Matches.{first_value, one_text}
 use Rattle.clap.specs.declared.parser.matches.Found.{Found}
+use Rattle.clockbed.specs.Lists.{AreContents, AreSlots, IsBytes, IsMail}
 use Rattle.clockbed.specs.declared.request.Asked.{Asked}
 use Rattle.command_words.specs.declared.helps.TheConstants.{DEFAULT_FAULTS, DEFAULT_FUEL, DEFAULT_LOADERS}
 use Rattle.command_words.specs.declared.helps.TheConstants.{DEFAULT_LOADS, DEFAULT_MEMORY, DEFAULT_MODULUS}
@@ -12,6 +14,7 @@ use Rattle.command_words.specs.declared.helps.TheConstants.{DEFAULT_NODES, DEFAU
 use Rattle.command_words.specs.declared.helps.TheConstants.{DEFAULT_WORKERS, MOST_STATES}
 use Rattle.commands.specs.declared.case.Case.{Case}
 use Rattle.commands.specs.declared.request.AnyStart.{AnyStart}
+use Rattle.commands.specs.declared.request.Cells.{Cells}
 use Rattle.commands.specs.declared.request.ClockOptions.{ClockOptions}
 use Rattle.commands.specs.declared.request.CompileOptions.{CompileOptions}
 use Rattle.commands.specs.declared.request.Detail.{Detail}
@@ -20,6 +23,7 @@ use Rattle.commands.specs.declared.request.ExecOptions.{ExecOptions}
 use Rattle.commands.specs.declared.request.ExplainOptions.{ExplainOptions}
 use Rattle.commands.specs.declared.request.ExploreOptions.{ExploreOptions}
 use Rattle.commands.specs.declared.request.LinesOptions.{LinesOptions}
+use Rattle.commands.specs.declared.request.MailSpan.{MailSpan}
 use Rattle.commands.specs.declared.request.NodeInPulse.{NodeInPulse}
 use Rattle.commands.specs.declared.request.Question.{Question}
 use Rattle.commands.specs.declared.request.Question.TheVariants.{Agreement, Stabilisation, Both}
@@ -69,13 +73,10 @@ abbrev pub IsKeys : List ℕ → Span → Type 0
 IsKeys text keys = (first : List ℕ) × (last : List ℕ) × (text ≡ first ++ (codes ".." ++ last))
     × IsNumber 64 first keys.first × IsNumber 64 last keys.last
 
--- a list is there exactly if its option is
-abbrev pub HasList : {A : Type 0} → Found → List ℕ → Option A → Type 0
-HasList f name list = is_some list ≡ is_some (first_value f name)
-
--- nothing is listed if the option isn't there
-abbrev pub HasNone : {A : Type 0} → Found → List ℕ → List A → Type 0
-HasNone f name items = first_value f name ≡ None → items ≡ []
+-- the list that the text of an option means, which is there exactly if the option is
+abbrev pub HasMail : {Z : Type 0} → Found → List ℕ → Option (Vec MailSpan Z) → Type 0
+HasMail f name None = first_value f name ≡ None
+HasMail f name (Some mail) = (text : List ℕ) × (first_value f name ≡ Some text) × IsMail text mail.items
 
 -- ---- options of commands
 
@@ -83,18 +84,26 @@ abbrev pub AsksShape : Found → ShapeOptions → Type 0
 AsksShape f shape = IsNumberOr 32 DEFAULT_NODES f (codes "nodes") shape.nodes
     × IsNumberOr 32 DEFAULT_MEMORY f (codes "memory") shape.memory
 
--- the contents and the mail are there if they are named; which numbers they are isn't said
-pub record AsksCase (f : Found) (case : Case) : Type 0 where
+-- a slot for each node, as its part of the text says; no slot if the option isn't there
+abbrev pub HasSlots : Found → ℕ → List (Option ℕ) → Type 0
+HasSlots f nodes mail = MatchOption (first_value f (codes "mail")) (mail ≡ []) (λ text. AreSlots nodes text mail)
+
+-- the bytes of the pairs of digits, which the memory has room for; none if the option isn't there
+abbrev pub HasContents : Found → ℕ → List ℕ → Type 0
+HasContents f room contents = MatchOption (first_value f (codes "contents")) (contents ≡ [])
+    (λ text. AreContents room text contents)
+
+pub record AsksCase (f : Found) (shape : ShapeOptions) (case : Case) : Type 0 where
   pub id : IsNumberOr 32 0 f (codes "id") case.id
   pub coin : IsTrue case.coin ↔ HasNumber 32 f (codes "coin") (Some 1)
-  pub mail : HasNone f (codes "mail") case.mail.items
-  pub contents : HasNone f (codes "contents") case.contents.items
+  pub mail : HasSlots f shape.nodes case.mail.items
+  pub contents : HasContents f shape.memory case.contents.items
 
 pub record AsksExec (f : Found) (asked : ExecOptions) : Type 0 where
   pub shape : AsksShape f asked.shape
   pub text : HasFlag f (codes "text") asked.text
   pub fuel : IsNumberOr 64 DEFAULT_FUEL f (codes "fuel") asked.fuel
-  pub case : AsksCase f asked.case
+  pub case : AsksCase f asked.shape asked.case
   pub show : HasFlag f (codes "show") asked.show
   pub trace : HasFlag f (codes "trace") asked.trace
 
@@ -147,10 +156,15 @@ AsksQuestion f Agreement = first_value f (codes "ask") ≡ Some (codes "agreemen
 AsksQuestion f Stabilisation = first_value f (codes "ask") ≡ Some (codes "stabilisation")
 AsksQuestion f Both = (first_value f (codes "ask") ≡ None) ⊎ (first_value f (codes "ask") ≡ Some (codes "both"))
 
--- the entries of the bytes at the start are there if they are named, by one of the two options
-abbrev pub AsksCells : {A : Type 0} → Found → Option A → Type 0
+-- the entries of the bytes at the start: those of `--bytes`, or some of `--cells`
+abbrev pub HasCells : Found → List Cells → Type 0
+HasCells f cells = ((text : List ℕ) × (first_value f (codes "bytes") ≡ Some text)
+    × (first_value f (codes "cells") ≡ None) × IsBytes text cells)
+    ⊎ ((first_value f (codes "bytes") ≡ None) × IsSome (first_value f (codes "cells")))
+
+abbrev pub AsksCells : {Z : Type 0} → Found → Option (Vec Cells Z) → Type 0
 AsksCells f None = (first_value f (codes "bytes") ≡ None) × (first_value f (codes "cells") ≡ None)
-AsksCells f (Some cells) = is_some (first_value f (codes "bytes")) ≢ is_some (first_value f (codes "cells"))
+AsksCells f (Some cells) = HasCells f cells.items
 
 -- any start has bytes of one of the two options, and the list of what was sent if it is named
 abbrev pub AsksStart : Found → Option AnyStart → Type 0
@@ -158,12 +172,11 @@ AsksStart f None = ((first_value f (codes "start") ≡ None) ⊎ (first_value f 
     × (first_value f (codes "bytes") ≡ None) × (first_value f (codes "cells") ≡ None)
     × (first_value f (codes "said") ≡ None)
 AsksStart f (Some any) = (first_value f (codes "start") ≡ Some (codes "any"))
-    × (is_some (first_value f (codes "bytes")) ≢ is_some (first_value f (codes "cells")))
-    × HasList f (codes "said") any.said
+    × HasCells f any.cells.items × HasMail f (codes "said") any.said
 
 pub record AsksExplore (f : Found) (asked : ExploreOptions) : Type 0 where
   pub question : AsksQuestion f asked.question
-  pub mail : HasList f (codes "mail") asked.mail
+  pub mail : HasMail f (codes "mail") asked.mail
   pub start : AsksStart f asked.start
   pub states : IsNumberOr 32 DEFAULT_STATES f (codes "states") asked.states
   pub depth : IsNumberOr 32 MOST_STATES f (codes "depth") asked.depth

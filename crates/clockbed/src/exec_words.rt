@@ -1,7 +1,8 @@
 //! What the words of `exec` ask for.
 ghost use Rattle.std.specs.Prelude.{◌↔◌, IfOk, IsTrue, codes};
 ghost use Rattle.clap.specs.Matches.{found_of};
-ghost use Rattle.clockbed.specs.Requests.{AsksCase, AsksExec, HasNone, HasNumber};
+ghost use Rattle.clockbed.specs.Lists.{AreContents, AreSlots, IsSlot};
+ghost use Rattle.clockbed.specs.Requests.{AsksCase, AsksExec, HasContents, HasNumber, HasSlots};
 
 use crate::options::{flag, long_number, number, number_if_named};
 use crate::request::shape_options;
@@ -43,7 +44,7 @@ pub(crate) fn exec_options(
 }
 
 fn case_in(alloc: Global, options: &ArgMatches<'_>, shape: ShapeOptions) -> Result<Case, CaseFault>
-    ensures { IfOk result (AsksCase (found_of options.now)) }
+    ensures { IfOk result (AsksCase (found_of options.now) shape) }
 {
     let mut case = Case::bare(alloc);
     case.id = number(options, "id", 0);
@@ -66,7 +67,7 @@ fn mail_asked(
     options: &ArgMatches<'_>,
     nodes: u32,
 ) -> Result<Vec<Option<u32>>, CaseFault>
-    ensures { IfOk result (λ mail. HasNone (found_of options.now) (codes "mail") mail.items) }
+    ensures { IfOk result (λ mail. HasSlots (found_of options.now) nodes mail.items) }
 {
     match options.get_str("mail") {
         Some(list) => mail_in(alloc, list, nodes),
@@ -76,7 +77,7 @@ fn mail_asked(
 
 /// The contents of the memory, which are empty if none are named.
 fn contents_asked(alloc: Global, options: &ArgMatches<'_>, room: u32) -> Result<Vec<u8>, CaseFault>
-    ensures { IfOk result (λ contents. HasNone (found_of options.now) (codes "contents") contents.items) }
+    ensures { IfOk result (λ contents. HasContents (found_of options.now) room contents.items) }
 {
     match options.get_str("contents") {
         Some(text) => contents_in(alloc, text, room),
@@ -85,7 +86,9 @@ fn contents_asked(alloc: Global, options: &ArgMatches<'_>, room: u32) -> Result<
 }
 
 /// The mail of a list that has as many places as there are nodes.
-fn mail_in(alloc: Global, list: &str, nodes: u32) -> Result<Vec<Option<u32>>, CaseFault> {
+fn mail_in(alloc: Global, list: &str, nodes: u32) -> Result<Vec<Option<u32>>, CaseFault>
+    ensures { IfOk result (λ mail. AreSlots nodes list.now mail.items) }
+{
     let mut mail = Vec::new(alloc);
     for word in list.split(',') {
         let slot = slot_in(word)?;
@@ -99,7 +102,9 @@ fn mail_in(alloc: Global, list: &str, nodes: u32) -> Result<Vec<Option<u32>>, Ca
 }
 
 /// A number, or a dash for none.
-fn slot_in(word: &str) -> Result<Option<u32>, CaseFault> {
+fn slot_in(word: &str) -> Result<Option<u32>, CaseFault>
+    ensures { IfOk result (IsSlot word.now) }
+{
     if word == "-" {
         return Ok(None);
     }
@@ -110,7 +115,9 @@ fn slot_in(word: &str) -> Result<Option<u32>, CaseFault> {
 }
 
 /// Bytes for which there is room.
-fn contents_in(alloc: Global, text: &str, room: u32) -> Result<Vec<u8>, CaseFault> {
+fn contents_in(alloc: Global, text: &str, room: u32) -> Result<Vec<u8>, CaseFault>
+    ensures { IfOk result (λ contents. AreContents room text.now contents.items) }
+{
     match hex::decode(alloc, text) {
         Ok(bytes) if bytes.len() <= room as usize => Ok(bytes),
         Err(FromHexError::OutOfMemory) => Err(CaseFault::Memory),

@@ -1,6 +1,13 @@
 //! The lists of `--mail`, `--said`, `--bytes` and `--cells`: numbers and ranges, with commas between.
-ghost use Rattle.std.specs.Prelude.{IfSome};
+ghost use Rattle.std.specs.Prelude.{◌≡◌, ◌↔◌, ◌<◌, ◌≤◌, ◌+◌, ◌^◌, All, Any, Contains, IfOk, IfSome, IsTrue, OnOk, SomeIff, ℕ};
+ghost use Rattle.std.specs.Bool.{OnTrue};
+ghost use Rattle.std.specs.BTreeSet.{btree_set_len};
+ghost use Rattle.std.specs.Str.Parse.{IsNumeral, digits_value};
+ghost use Rattle.clockbed.specs.Lists.{AreLongest, IsBytes, IsDecimal, IsMail, IsPart, IsRange, IsSpan};
+ghost use Rattle.clockbed.specs.Lists.{IsWithin, byte_spans, count_of, mail_spans};
 ghost use Rattle.clockbed.specs.Requests.{IsNumber};
+ghost use Rattle.clockbed.specs.declared.mail.TheConstants.{MOST_MAIL};
+ghost use Rattle.clockbed.specs.inner.Spans.{AddsPart, AddsSpan, with_number};
 
 use commands::request::{ByteSpan, Cells, MailSpan};
 use node_env::MAX_MEMORY;
@@ -12,6 +19,9 @@ const MOST_MAIL: usize = 4_096;
 
 /// The last byte of a memory that `--bytes` names.
 const LAST_OF_BYTES: u32 = 7;
+
+/// The greatest byte.
+const LAST_BYTE: u32 = 255;
 
 /// Why a text is no list.
 #[derive(Clone, Copy, Debug, PartialEq, Eq)]
@@ -47,40 +57,68 @@ impl MailFault {
 }
 
 /// Returns the list of a text, in rising order, each number once.
-pub fn mail_in(alloc: Global, text: &str) -> Result<Vec<MailSpan>, MailFault> {
+pub fn mail_in(alloc: Global, text: &str) -> Result<Vec<MailSpan>, MailFault>
+    ensures list { IfOk result (λ mail. IsMail text.now mail.items) }
+    ensures few { IfOk result (λ mail. count_of (mail_spans mail.items) ≤ MOST_MAIL) }
+{
     let mut numbers = BTreeSet::new(alloc);
     for part in text.split(',') {
-        let span = span_in(part)?;
-        if span.last < span.first {
-            return Err(MailFault::Falls);
-        }
-        if (span.last - span.first) as usize >= MOST_MAIL {
-            return Err(MailFault::TooMany);
-        }
-        for number in span.first..=span.last {
-            numbers.insert(number).map_err(|_| MailFault::Memory)?;
-        }
-        if numbers.len() > MOST_MAIL {
-            return Err(MailFault::TooMany);
-        }
+        add_part_numbers(&mut numbers, part)?;
     }
     Ok(spans_of(alloc, &numbers)?)
 }
 
+/// Adds the numbers of a part.
+fn add_part_numbers(numbers: &mut BTreeSet<u32>, part: &str) -> Result<(), MailFault>
+    ensures part { OnOk result (IsPart (2 ^ 32) part.now) }
+    ensures added { OnOk result (AddsPart numbers.old.keys numbers.new.keys part.now) }
+    ensures few { OnOk result (btree_set_len numbers.new ≤ MOST_MAIL) }
+{
+    let span = span_in(part)?;
+    if span.last < span.first {
+        return Err(MailFault::Falls);
+    }
+    if (span.last - span.first) as usize >= MOST_MAIL {
+        return Err(MailFault::TooMany);
+    }
+    insert_span(numbers, span)?;
+    if numbers.len() > MOST_MAIL {
+        return Err(MailFault::TooMany);
+    }
+    Ok(())
+}
+
+/// Adds the numbers of a span.
+fn insert_span(numbers: &mut BTreeSet<u32>, span: MailSpan) -> Result<(), AllocError>
+    requires { span.first ≤ span.last }
+    ensures { OnOk result (AddsSpan numbers.old.keys numbers.new.keys (span.first, span.last)) }
+{
+    for number in span.first..=span.last {
+        numbers.insert(number)?;
+    }
+    Ok(())
+}
+
 /// Returns the entry of `--bytes`: these values for the first eight bytes; none if the text isn't a list of bytes.
-pub fn bytes_in(alloc: Global, text: &str) -> Result<Option<Vec<Cells>>, AllocError> {
+pub fn bytes_in(alloc: Global, text: &str) -> Result<Option<Vec<Cells>>, AllocError>
+    ensures { IfOk result (λ named. IfSome named (λ all. IsBytes text.now all.items)) }
+{
+    let mut bytes = BTreeSet::new(alloc);
+    for part in text.split(',') {
+        if !add_bytes(&mut bytes, part)? {
+            return Ok(None);
+        }
+    }
+    let Some(values) = byte_spans_of(alloc, &bytes)? else {
+        return Ok(None);
+    };
     let mut all = Vec::new(alloc);
     all.push(Cells {
         first: 0,
         last: LAST_OF_BYTES,
-        values: Vec::new(alloc),
+        values,
     })?;
-    for part in text.split(',') {
-        if !add_values(&mut all, part)? {
-            return Ok(None);
-        }
-    }
-    Ok(Some(normal(alloc, &all)?))
+    Ok(Some(all))
 }
 
 /// Returns the entries of `--cells`, each PLACES=VALUES with more values after commas; none if the text isn't that.
@@ -115,7 +153,7 @@ fn add_part(alloc: Global, all: &mut Vec<Cells>, part: &str) -> Result<bool, All
 
 /// Adds values to the last entry. Answers whether there is one and the values are bytes.
 fn add_values(all: &mut Vec<Cells>, part: &str) -> Result<bool, AllocError> {
-    let Some(values) = byte_span_in(part) else {
+    let Some(values) = byte_span_in(part).and_then(byte_span_of) else {
         return Ok(false);
     };
     match all.last_mut() {
@@ -162,8 +200,22 @@ fn normal_values(alloc: Global, values: &[ByteSpan]) -> Result<Vec<ByteSpan>, Al
     Ok(spans)
 }
 
+/// Adds the bytes of a part. Answers whether it names bytes.
+fn add_bytes(bytes: &mut BTreeSet<u32>, part: &str) -> Result<bool, AllocError>
+    ensures part { IfOk result (λ fits. OnTrue fits (IsPart 256 part.now)) }
+    ensures added { IfOk result (λ fits. OnTrue fits (AddsPart bytes.old.keys bytes.new.keys part.now)) }
+{
+    let Some(span) = byte_span_in(part) else {
+        return Ok(false);
+    };
+    insert_span(bytes, span)?;
+    Ok(true)
+}
+
 /// A number, or a range that doesn't fall.
-fn rising(part: &str) -> Option<MailSpan> {
+fn rising(part: &str) -> Option<MailSpan>
+    ensures { IfSome result (λ span. IsSpan (2 ^ 32) part.now span.first span.last) }
+{
     let span = span_in(part).ok()?;
     if span.last < span.first {
         return None;
@@ -172,26 +224,37 @@ fn rising(part: &str) -> Option<MailSpan> {
 }
 
 /// A byte, or a range of bytes that doesn't fall.
-fn byte_span_in(part: &str) -> Option<ByteSpan> {
+fn byte_span_in(part: &str) -> Option<MailSpan>
+    ensures { IfSome result (λ span. IsSpan 256 part.now span.first span.last) }
+{
     let span = rising(part)?;
-    Some(ByteSpan {
-        first: u8::try_from(span.first).ok()?,
-        last: u8::try_from(span.last).ok()?,
-    })
+    if span.last > LAST_BYTE {
+        return None;
+    }
+    Some(span)
 }
 
 /// A number, or a range of two.
-fn span_in(part: &str) -> Result<MailSpan, MailFault> {
-    let (first, last) = part.split_once("..").unwrap_or((part, part));
-    match (number_in(first), number_in(last)) {
-        (Some(first), Some(last)) => Ok(MailSpan { first, last }),
-        _ => Err(MailFault::NotNumbers),
-    }
+fn span_in(part: &str) -> Result<MailSpan, MailFault>
+    ensures range { IfOk result (λ span. IsRange part.now span.first span.last) }
+    ensures below { IfOk result (λ span. span.last < 2 ^ 32) }
+{
+    let Some((left, right)) = part.split_once("..") else {
+        let number = number_in(part).ok_or(MailFault::NotNumbers)?;
+        return Ok(MailSpan {
+            first: number,
+            last: number,
+        });
+    };
+    let first = number_in(left).ok_or(MailFault::NotNumbers)?;
+    let last = number_in(right).ok_or(MailFault::NotNumbers)?;
+    Ok(MailSpan { first, last })
 }
 
 /// Returns the number of a text of digits alone, if it is below 2 to the 32.
 pub fn number_in(text: &str) -> Option<u32>
-    ensures { IfSome result (IsNumber 32 text.now) }
+    ensures number { IfSome result (IsNumber 32 text.now) }
+    ensures digits { IfSome result (IsDecimal text.now) }
 {
     if text.bytes().all(|byte| byte.is_ascii_digit()) {
         text.parse().ok()
@@ -201,17 +264,78 @@ pub fn number_in(text: &str) -> Option<u32>
 }
 
 /// The longest spans of the numbers.
-fn spans_of(alloc: Global, numbers: &BTreeSet<u32>) -> Result<Vec<MailSpan>, AllocError> {
+fn spans_of(alloc: Global, numbers: &BTreeSet<u32>) -> Result<Vec<MailSpan>, AllocError>
+    ensures numbers { IfOk result (λ spans.
+        (n : ℕ) → Any (IsWithin n) (mail_spans spans.items) ↔ Contains numbers.now.keys n) }
+    ensures longest { IfOk result (λ spans. AreLongest (mail_spans spans.items)) }
+    ensures count { IfOk result (λ spans. count_of (mail_spans spans.items) ≡ btree_set_len numbers.now) }
+{
     let mut spans: Vec<MailSpan> = Vec::new(alloc);
     for number in numbers {
-        let number = *number;
-        match spans.last_mut() {
-            Some(span) if span.last.checked_add(1) == Some(number) => span.last = number,
-            _ => spans.push(MailSpan {
-                first: number,
-                last: number,
-            })?,
-        }
+        add_number(&mut spans, *number)?;
     }
     Ok(spans)
+}
+
+/// Adds a number that is greater than those of the spans.
+fn add_number(spans: &mut Vec<MailSpan>, number: u32) -> Result<(), AllocError>
+    ensures { OnOk result (mail_spans spans.new.items ≡ with_number (mail_spans spans.old.items) number) }
+{
+    match spans.last_mut() {
+        Some(span) if is_next(*span, number) => {
+            span.last = number;
+            Ok(())
+        }
+        _ => {
+            spans.push(MailSpan {
+                first: number,
+                last: number,
+            })?;
+            Ok(())
+        }
+    }
+}
+
+/// The longest spans of bytes; none if a number is no byte.
+fn byte_spans_of(alloc: Global, bytes: &BTreeSet<u32>) -> Result<Option<Vec<ByteSpan>>, AllocError>
+    ensures numbers { IfOk result (λ named. IfSome named (λ spans.
+        (n : ℕ) → Any (IsWithin n) (byte_spans spans.items) ↔ Contains bytes.now.keys n)) }
+    ensures longest { IfOk result (λ named. IfSome named (λ spans. AreLongest (byte_spans spans.items))) }
+{
+    let wide = spans_of(alloc, bytes)?;
+    let Some(spans) = narrowed(alloc, wide.as_slice())? else {
+        return Ok(None);
+    };
+    Ok(Some(spans))
+}
+
+/// The same spans, as spans of bytes.
+fn narrowed(alloc: Global, wide: &[MailSpan]) -> Result<Option<Vec<ByteSpan>>, AllocError>
+    ensures { IfOk result (λ named. IfSome named (λ spans. byte_spans spans.items ≡ mail_spans wide.now)) }
+{
+    let mut spans = Vec::new(alloc);
+    for span in wide {
+        let Some(narrow) = byte_span_of(*span) else {
+            return Ok(None);
+        };
+        spans.push(narrow)?;
+    }
+    Ok(Some(spans))
+}
+
+/// The span, if its numbers are bytes.
+fn byte_span_of(span: MailSpan) -> Option<ByteSpan>
+    ensures { IfSome result (λ bytes. (bytes.first ≡ span.first) × (bytes.last ≡ span.last)) }
+{
+    Some(ByteSpan {
+        first: u8::try_from(span.first).ok()?,
+        last: u8::try_from(span.last).ok()?,
+    })
+}
+
+/// Whether the number is the next one after the span.
+fn is_next(span: MailSpan, number: u32) -> bool
+    ensures { IsTrue result ↔ (span.last + 1 ≡ number) }
+{
+    span.last < number && number - span.last == 1
 }

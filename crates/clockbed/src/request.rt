@@ -3,7 +3,7 @@ ghost use Rattle.std.specs.Prelude.{◌≡◌, IfErr, IfOk, IfSome, codes, optio
 ghost use Rattle.clap.specs.Matches.{found_of};
 ghost use Rattle.clockbed.specs.Requests.{Asks, AsksCells, AsksCompile, AsksDetail, AsksExplore, AsksFile};
 ghost use Rattle.clockbed.specs.Requests.{AsksQuestion, AsksRule, AsksRun, AsksShape, AsksSpan, AsksStart, AsksStress};
-ghost use Rattle.clockbed.specs.Requests.{AsksSweep, AsksWithFile, HasList, IsAskedWithFile, IsHelp, IsKeys, IsNumber};
+ghost use Rattle.clockbed.specs.Requests.{AsksSweep, AsksWithFile, HasMail, IsAskedWithFile, IsHelp, IsKeys, IsNumber};
 ghost use Rattle.clockbed.specs.Requests.{IsPlace};
 ghost use Rattle.commands.specs.Faults.{IsOfCommandLine};
 
@@ -363,7 +363,7 @@ fn list_asked(
     options: &ArgMatches<'_>,
     name: &str,
 ) -> Result<Option<Vec<MailSpan>>, OptionsFault>
-    ensures { IfOk result (HasList (found_of options.now) name.now) }
+    ensures { IfOk result (HasMail (found_of options.now) name.now) }
 {
     match options.get_str(name) {
         Some(text) => Ok(Some(mail_in(alloc, text)?)),

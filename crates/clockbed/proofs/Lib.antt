@@ -1,0 +1,4 @@
+mod Among
+mod NumberLemmas
+mod RangeLemmas
+mod SpanLemmas
