@@ -36,8 +36,8 @@ plain_byte_span span = plain_list number_data 0 (plain_number 0) (span.first ∷
 plain_cells : (cells : Cells) → IsPlain 3 (cells_data cells)
 plain_cells cells =
     plain_object 2 (
-      (codes "first", number_data cells.first) ∷ (codes "last", number_data cells.last)
-          ∷ (codes "values", list_data byte_span_data cells.values.items) ∷ []
+    (codes "first", number_data cells.first) ∷ (codes "last", number_data cells.last)
+    ∷ (codes "values", list_data byte_span_data cells.values.items) ∷ []
     ) (
       plain_number 2 cells.first,
       (plain_number 2 cells.last, (plain_list byte_span_data 1 plain_byte_span cells.values.items, tt)),
@@ -52,8 +52,8 @@ plain_spans levels spans = plain_list span_data (suc levels) (plain_span levels)
 plain_start : (any : AnyStart) → IsPlain 5 (start_data any)
 plain_start any =
     plain_object 4 (
-      (codes "bytes", list_data cells_data any.cells.items)
-          ∷ (codes "messages", option_data (λ said. spans_data said.items) any.said) ∷ []
+    (codes "bytes", list_data cells_data any.cells.items)
+    ∷ (codes "messages", option_data (λ said. spans_data said.items) any.said) ∷ []
     ) (
       plain_list cells_data 3 plain_cells any.cells.items,
       (plain_option (λ said. spans_data said.items) 4 (λ said. plain_spans 2 said.items) any.said, tt),
@@ -61,39 +61,39 @@ plain_start any =
 
 plain_nodes : (tried : Tried) → AllPlain 5 (node_members tried)
 plain_nodes tried = (
-      plain_numbers tried.correct.items,
-      (
-        plain_boolean 5 tried.has_clock,
-        (
-          plain_numbers tried.programmed.items,
-          (plain_numbers tried.liars.items, (plain_number 5 tried.faults, tt)),
-        ),
-      ),
-    )
+  plain_numbers tried.correct.items,
+  (
+    plain_boolean 5 tried.has_clock,
+    (
+      plain_numbers tried.programmed.items,
+      (plain_numbers tried.liars.items, (plain_number 5 tried.faults, tt)),
+    ),
+  ),
+)
 
 plain_question : (asked : ExploreOptions) (tried : Tried) → AllPlain 5 (question_members asked tried)
 plain_question asked tried = (
-      plain_string 5 (question_word asked.question),
-      (plain_spans 3 tried.mail.items, (plain_option start_data 5 plain_start asked.start, tt)),
-    )
+  plain_string 5 (question_word asked.question),
+  (plain_spans 3 tried.mail.items, (plain_option start_data 5 plain_start asked.start, tt)),
+)
 
 plain_search : (found : Found) → AllPlain 5 (search_members found)
 plain_search found = (
-      plain_number 5 (states_of found),
-      (plain_count 5 (transitions_of found), (plain_word 5 (limit_of found), tt)),
-    )
+  plain_number 5 (states_of found),
+  (plain_count 5 (transitions_of found), (plain_word 5 (limit_of found), tt)),
+)
 
 plain_answer : (found : Found) → AllPlain 5 (answer_members found)
 plain_answer found = (
-      plain_word 5 (agreement_word found),
-      (
-        plain_count 5 (violated_in found),
-        (
-          plain_word 5 (option_map stabilisation_word (stabilisation_of found)),
-          (plain_count 5 (pulses_of (stabilisation_of found)), (plain_word 5 (scenario_of found), tt)),
-        ),
-      ),
-    )
+  plain_word 5 (agreement_word found),
+  (
+    plain_count 5 (violated_in found),
+    (
+      plain_word 5 (option_map stabilisation_word (stabilisation_of found)),
+      (plain_count 5 (pulses_of (stabilisation_of found)), (plain_word 5 (scenario_of found), tt)),
+    ),
+  ),
+)
 
 pub plain_exploration : (asked : ExploreOptions) (tried : Tried) (found : Found)
     → IsPlain 6 (exploration_data asked tried found)

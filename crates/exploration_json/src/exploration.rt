@@ -65,7 +65,12 @@ fn add_search(
 {
     let limit = word_or_null(alloc, limit_of(found))?;
     put(members, alloc, "states", Value::from(states_of(found)))?;
-    put(members, alloc, "transitions", count_or_null(transitions_of(found)))?;
+    put(
+        members,
+        alloc,
+        "transitions",
+        count_or_null(transitions_of(found)),
+    )?;
     put(members, alloc, "limit", limit)
 }
 
@@ -106,7 +111,8 @@ fn scenario_value(alloc: Global, found: &Found) -> Result<Value, AllocError>
     match found {
         Found::Parts { shown, .. } => Value::try_from_str(alloc, shown.as_str()),
         Found::Closed {
-            shown: Some(shown), ..
+            shown: Some(shown),
+            ..
         } => Value::try_from_str(alloc, shown.as_str()),
         Found::Closed { .. } | Found::Unfinished { .. } => Ok(Value::Null),
     }
@@ -125,7 +131,12 @@ fn add_answer(
     let stabilisation = stabilisation_value(alloc, found)?;
     let scenario = scenario_value(alloc, found)?;
     put(members, alloc, "agreement", agreement)?;
-    put(members, alloc, "violated_in", count_or_null(violated_in(found)))?;
+    put(
+        members,
+        alloc,
+        "violated_in",
+        count_or_null(violated_in(found)),
+    )?;
     put(members, alloc, "stabilisation", stabilisation)?;
     put(members, alloc, "pulses", pulses_value(found))?;
     put(members, alloc, "scenario", scenario)

@@ -22,11 +22,7 @@ pub(crate) fn value_at<'a>(table: &'a Table, key: &str) -> Option<&'a Value>
 }
 
 /// The text under a key, if the key holds one.
-pub(crate) fn text_at(
-    alloc: Global,
-    table: &Table,
-    key: &str,
-) -> Result<Option<String>, AllocError>
+pub(crate) fn text_at(alloc: Global, table: &Table, key: &str) -> Result<Option<String>, AllocError>
     ensures { IfOk result (λ text. option_map (λ t. string_bytes t) text ≡ text_under key.now (table_view table.now)) }
 {
     let Some(value) = value_at(table, key) else {
