@@ -7,7 +7,7 @@ use Rattle.scenario_text.specs.declared.scenario.Kind.{Kind}
 use Rattle.scenario_text.specs.declared.scenario.Unload.{Unload}
 use Rattle.scenario_text.specs.declared.scenario.CoinEntry.{CoinEntry}
 
--- the text of a clock: of the assembler, or of a rule
+-- the text of a program: of the assembler, or of a rule
 pub data TextDraft : Type 0 where
   assembler_text : (text : List ℕ) → TextDraft
   rule_text : (text : List ℕ) → TextDraft

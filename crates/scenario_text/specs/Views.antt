@@ -6,17 +6,17 @@ use Rattle.bpf_verify.specs.Accepted.{Accepted}
 use Rattle.bpf_verify.specs.Typable.{Typable}
 use Rattle.scenario_text.specs.declared.limits.TheConstants.{CLOCK_VERSION}
 use Rattle.scenario_text.specs.declared.scenario.Scenario.{Scenario}
-use Rattle.scenario_text.specs.declared.scenario.ClockText.{ClockText}
-use Rattle.scenario_text.specs.declared.scenario.ClockText.TheVariants as clocks
+use Rattle.scenario_text.specs.declared.scenario.ProgramText.{ProgramText}
+use Rattle.scenario_text.specs.declared.scenario.ProgramText.TheVariants as texts
 use Rattle.scenario_text.specs.declared.scenario.Load.{Load}
 use Rattle.scenario_text.specs.declared.scenario.Corrupt.{Corrupt}
 use Rattle.scenario_text.specs.declared.scenario.Frame.{Frame}
 use Rattle.scenario_text.specs.Drafts.{LoadDraft, CorruptDraft, Draft, TextDraft, assembler_text, rule_text}
 use Rattle.scenario_text.specs.Spelling.{Spelled}
 
-abbrev pub text_of : ClockText → TextDraft
-text_of (clocks.Assembler text) = assembler_text (string_bytes text)
-text_of (clocks.Rule text) = rule_text (string_bytes text)
+abbrev pub text_of : ProgramText → TextDraft
+text_of (texts.Assembler text) = assembler_text (string_bytes text)
+text_of (texts.Rule text) = rule_text (string_bytes text)
 
 abbrev pub load_of : Load → LoadDraft
 load_of l = record {

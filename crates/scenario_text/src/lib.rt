@@ -28,6 +28,6 @@ pub use limits::{
 pub use line::RefusalLine;
 pub use programs::say_program;
 pub use refusal::{Place, ScenarioError};
-pub use scenario::{ClockText, CoinEntry, Coins, Corrupt, Frame, Kind, Load, Scenario, Unload};
+pub use scenario::{CoinEntry, Coins, Corrupt, Frame, Kind, Load, ProgramText, Scenario, Unload};
 pub use text::scenario_in;
 pub use whole::scenario_of;

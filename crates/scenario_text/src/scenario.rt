@@ -48,9 +48,9 @@ pub enum ClockKey {
     Rule,
 }
 
-/// The text of a scenario's clock: of the assembler, or of a rule.
+/// The text of a program: of the assembler, or of a rule.
 #[derive(Debug, Drop)]
-pub enum ClockText {
+pub enum ProgramText {
     Assembler(String),
     Rule(String),
 }
@@ -112,7 +112,7 @@ pub struct Scenario {
     pub pulses: u32,
     pub coins: Coins,
     pub key: Option<u64>,
-    pub clock_text: Option<ClockText>,
+    pub clock_text: Option<ProgramText>,
     pub clock: Option<VerifiedProgram>,
     pub loads: Vec<Load>,
     pub unloads: Vec<Unload>,

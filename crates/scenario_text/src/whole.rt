@@ -12,7 +12,7 @@ use crate::entries::entries_of;
 use crate::limits::{CLOCK_VERSION, RULE_VERSION};
 use crate::noise::judge_noise;
 use crate::refusal::{Place, ScenarioError};
-use crate::scenario::{ClockKey, ClockText, Scenario};
+use crate::scenario::{ClockKey, ProgramText, Scenario};
 use crate::setup::{Setup, setup_at};
 use crate::table::{knows_keys, text_at, value_at};
 use crate::top::{coins_at, frame_at, key_at};
@@ -86,13 +86,13 @@ fn clock_text_at(
     alloc: Global,
     table: &Table,
     key: ClockKey,
-) -> Result<Option<ClockText>, AllocError>
+) -> Result<Option<ProgramText>, AllocError>
     ensures { IfOk result (λ text. option_map text_of text ≡ clock_text key (table_view table.now)) }
 {
     match key {
         ClockKey::Absent => Ok(None),
-        ClockKey::Clock => Ok(text_at(alloc, table, "clock")?.map(ClockText::Assembler)),
-        ClockKey::Rule => Ok(text_at(alloc, table, "rule")?.map(ClockText::Rule)),
+        ClockKey::Clock => Ok(text_at(alloc, table, "clock")?.map(ProgramText::Assembler)),
+        ClockKey::Rule => Ok(text_at(alloc, table, "rule")?.map(ProgramText::Rule)),
     }
 }
 
