@@ -1,4 +1,5 @@
 mod Among
+mod EntryLemmas
 mod NumberLemmas
 mod RangeLemmas
 mod SpanLemmas

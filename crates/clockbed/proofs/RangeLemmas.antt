@@ -1,9 +1,9 @@
 -- A part of a list is one range.
-use Rattle.std.proofs.Common.{◌≡◌, ◌≢◌, ◌⊎◌, ◌↔◌, ◌+◌, ◌<◌, ◌≤◌, ◌^◌, ℕ, List, [], ◌∷◌, ◌++◌, length}
-use Rattle.std.proofs.Common.{arith, codes, inl, inr, ⊎_elim, refl, sym, ap, subst, ◌∙◌, Contains}
+use Rattle.std.proofs.Common.{◌≡◌, ◌↔◌, ◌<◌, ℕ, List, [], ◌∷◌, ◌++◌}
+use Rattle.std.proofs.Common.{arith, inl, inr, ⊎_elim, refl, sym, ap, subst, ◌∙◌}
 use Rattle.std.specs.Char.{digit_value}
 use Rattle.std.specs.Str.Parse.{AllDigits, digits_value}
-use Rattle.clockbed.specs.Lists.{IsDecimal, IsPart, IsRange, IsSpan, IsWithin, Names}
+use Rattle.clockbed.specs.Lists.{IsRange, IsWithin, Names}
 use Rattle.clockbed.specs.inner.Spans.{AddsPart, AddsSpan}
 
 no_dot : (a b : List ℕ) → AllDigits 10 (a ++ (46 ∷ b)) → ⊥

@@ -1,6 +1,6 @@
 -- Longest spans: which numbers they have, and how many.
-use Rattle.std.proofs.Common.{◌≡◌, ◌⊎◌, ◌↔◌, ◌+◌, ◌-◌, ◌<◌, ◌≤◌, ℕ, Bool, true, false, cond, List, [], ◌∷◌, length, ◌≢◌}
-use Rattle.std.proofs.Common.{Any, Contains, map, take, subst, fold, get_or, set, zero, suc, ◌++◌, sum_by, arith, eqb, eq-eqb, ne_eqb}
+use Rattle.std.proofs.Common.{◌≡◌, ◌⊎◌, ◌↔◌, ◌+◌, ◌-◌, ◌<◌, ◌≤◌, ℕ, List, [], ◌∷◌, length, ◌≢◌}
+use Rattle.std.proofs.Common.{Any, Contains, take, subst, fold, get_or, set, zero, suc, ◌++◌, arith, eq-eqb, ne_eqb}
 use Rattle.std.proofs.Common.{inl, inr, ⊎_elim, refl, sym, ap, ◌∙◌}
 use Rattle.std.proofs.lemmas.Bool.{cases_eq}
 use Rattle.std.proofs.lemmas.List.{take_more}

@@ -1,6 +1,6 @@
 -- Which numbers, bytes, places and messages the lists of options name (docs/EXPLORE.md, "Options"; docs/COMMANDS.md,
 -- "The case").
-use Rattle.std.specs.Prelude.{◌≡◌, ◌≢◌, ◌⊎◌, ◌↔◌, ◌+◌, ◌-◌, ◌<◌, ◌≤◌, ◌^◌, ◌==◌, ℕ, List, [], ◌∷◌, ◌++◌, map, length}
+use Rattle.std.specs.Prelude.{◌≡◌, ◌⊎◌, ◌↔◌, ◌+◌, ◌-◌, ◌<◌, ◌≤◌, ◌^◌, ◌==◌, ℕ, List, [], ◌∷◌, ◌++◌, map, length}
 use Rattle.std.specs.Prelude.{All, Any, Option, Some, None, Ok, codes, sum_by}
 use Rattle.std.specs.List.{AllZip, slice_split}
 use Rattle.std.specs.Str.Parse.{IsNumeral, digits_value, without_leading_plus}
@@ -78,6 +78,24 @@ IsBytes text [] = ⊥
 IsBytes text (cells ∷ []) = (cells.first ≡ 0) × (cells.last ≡ 7)
     × IsListOf 256 (parts_of text) (byte_spans cells.values.items)
 IsBytes text (cells ∷ other ∷ more) = ⊥
+
+-- an entry: PLACES=VALUE in its first part, and more values in the others
+pub record IsEntry (head : List ℕ) (more : List (List ℕ)) (cells : Cells) : Type 0 where
+  pub places : List ℕ
+  pub value : List ℕ
+  pub cut : head ≡ places ++ (codes "=" ++ value)
+  pub placed : IsSpan MAX_MEMORY places cells.first cells.last
+  pub values : IsListOf 256 (value ∷ more) (byte_spans cells.values.items)
+
+-- the parts are those of the entries, one entry after another
+abbrev pub AreEntries : List (List ℕ) → List Cells → Type 0
+AreEntries parts [] = parts ≡ []
+AreEntries parts (cells ∷ rest) = (head : List ℕ) × (more : List (List ℕ)) × (others : List (List ℕ))
+    × (parts ≡ (head ∷ more) ++ others) × IsEntry head more cells × AreEntries others rest
+
+-- `--cells`
+abbrev pub AreCells : List ℕ → List Cells → Type 0
+AreCells text all = AreEntries (parts_of text) all
 
 -- ---- the lists of `exec`
 

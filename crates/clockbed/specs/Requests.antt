@@ -1,12 +1,11 @@
 -- Which request the options of a command ask for (docs/COMMANDS.md), by what `clap` read of them: a text for each option
--- that is there. That the words give these texts is the part of `clap`. What the texts of lists name is in Lists; which
--- entries `--cells` names isn't said.
+-- that is there. That the words give these texts is the part of `clap`. What the texts of lists name is in Lists.
 use Rattle.std.specs.Prelude.{◌≡◌, ◌≢◌, ◌⊎◌, ◌↔◌, ◌<◌, ◌^◌, ℕ, Bool, true, false, List, [], ◌++◌, Option, Some, None}
-use Rattle.std.specs.Prelude.{IsSome, IsTrue, MatchOption, Vec, codes, option_map, string_bytes}
+use Rattle.std.specs.Prelude.{IsTrue, MatchOption, Vec, codes, option_map, string_bytes}
 use Rattle.std.specs.Str.Parse.{IsNumeral, digits_value, without_leading_plus}
 use Rattle.clap.specs.Matches.{first_value, one_text}
 use Rattle.clap.specs.declared.parser.matches.Found.{Found}
-use Rattle.clockbed.specs.Lists.{AreContents, AreSlots, IsBytes, IsMail}
+use Rattle.clockbed.specs.Lists.{AreCells, AreContents, AreSlots, IsBytes, IsMail}
 use Rattle.clockbed.specs.declared.request.Asked.{Asked}
 use Rattle.command_words.specs.declared.helps.TheConstants.{DEFAULT_FAULTS, DEFAULT_FUEL, DEFAULT_LOADERS}
 use Rattle.command_words.specs.declared.helps.TheConstants.{DEFAULT_LOADS, DEFAULT_MEMORY, DEFAULT_MODULUS}
@@ -156,11 +155,12 @@ AsksQuestion f Agreement = first_value f (codes "ask") ≡ Some (codes "agreemen
 AsksQuestion f Stabilisation = first_value f (codes "ask") ≡ Some (codes "stabilisation")
 AsksQuestion f Both = (first_value f (codes "ask") ≡ None) ⊎ (first_value f (codes "ask") ≡ Some (codes "both"))
 
--- the entries of the bytes at the start: those of `--bytes`, or some of `--cells`
+-- the entries of the bytes at the start: those of one of the two options
 abbrev pub HasCells : Found → List Cells → Type 0
 HasCells f cells = ((text : List ℕ) × (first_value f (codes "bytes") ≡ Some text)
     × (first_value f (codes "cells") ≡ None) × IsBytes text cells)
-    ⊎ ((first_value f (codes "bytes") ≡ None) × IsSome (first_value f (codes "cells")))
+    ⊎ ((text : List ℕ) × (first_value f (codes "bytes") ≡ None)
+    × (first_value f (codes "cells") ≡ Some text) × AreCells text cells)
 
 abbrev pub AsksCells : {Z : Type 0} → Found → Option (Vec Cells Z) → Type 0
 AsksCells f None = (first_value f (codes "bytes") ≡ None) × (first_value f (codes "cells") ≡ None)

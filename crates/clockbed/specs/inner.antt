@@ -1,2 +1,3 @@
 -- What proofs and private contracts alone cite.
 pub mod Spans
+pub mod Entries

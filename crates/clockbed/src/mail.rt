@@ -1,13 +1,14 @@
 //! The lists of `--mail`, `--said`, `--bytes` and `--cells`: numbers and ranges, with commas between.
-ghost use Rattle.std.specs.Prelude.{◌≡◌, ◌↔◌, ◌<◌, ◌≤◌, ◌+◌, ◌^◌, All, Any, Contains, IfOk, IfSome, IsTrue, OnOk, SomeIff, ℕ};
+ghost use Rattle.std.specs.Prelude.{◌≡◌, ◌↔◌, ◌<◌, ◌≤◌, ◌+◌, ◌^◌, Any, Contains, IfOk, IfSome, IsTrue, OnOk, ℕ};
 ghost use Rattle.std.specs.Bool.{OnTrue};
 ghost use Rattle.std.specs.BTreeSet.{btree_set_len};
-ghost use Rattle.std.specs.Str.Parse.{IsNumeral, digits_value};
-ghost use Rattle.clockbed.specs.Lists.{AreLongest, IsBytes, IsDecimal, IsMail, IsPart, IsRange, IsSpan};
+ghost use Rattle.clockbed.specs.Lists.{AreCells, AreLongest, IsBytes, IsDecimal, IsMail, IsPart, IsRange, IsSpan};
 ghost use Rattle.clockbed.specs.Lists.{IsWithin, byte_spans, count_of, mail_spans};
 ghost use Rattle.clockbed.specs.Requests.{IsNumber};
 ghost use Rattle.clockbed.specs.declared.mail.TheConstants.{MOST_MAIL};
-ghost use Rattle.clockbed.specs.inner.Spans.{AddsPart, AddsSpan, with_number};
+ghost use Rattle.clockbed.specs.inner.Spans.{AddsPart, AddsSpan, JoinsSpan, with_number};
+ghost use Rattle.clockbed.specs.inner.Entries.{AddsCells, AddsValue, BeginsEntry};
+ghost use Rattle.node_env.specs.declared.shape.TheConstants.{MAX_MEMORY};
 
 use commands::request::{ByteSpan, Cells, MailSpan};
 use node_env::MAX_MEMORY;
@@ -90,9 +91,11 @@ fn add_part_numbers(numbers: &mut BTreeSet<u32>, part: &str) -> Result<(), MailF
 
 /// Adds the numbers of a span.
 fn insert_span(numbers: &mut BTreeSet<u32>, span: MailSpan) -> Result<(), AllocError>
-    requires { span.first ≤ span.last }
     ensures { OnOk result (AddsSpan numbers.old.keys numbers.new.keys (span.first, span.last)) }
 {
+    if span.last < span.first {
+        return Ok(());
+    }
     for number in span.first..=span.last {
         numbers.insert(number)?;
     }
@@ -122,82 +125,121 @@ pub fn bytes_in(alloc: Global, text: &str) -> Result<Option<Vec<Cells>>, AllocEr
 }
 
 /// Returns the entries of `--cells`, each PLACES=VALUES with more values after commas; none if the text isn't that.
-pub fn cells_in(alloc: Global, text: &str) -> Result<Option<Vec<Cells>>, AllocError> {
+pub fn cells_in(alloc: Global, text: &str) -> Result<Option<Vec<Cells>>, AllocError>
+    ensures { IfOk result (λ named. IfSome named (λ all. AreCells text.now all.items)) }
+{
     let mut all = Vec::new(alloc);
     for part in text.split(',') {
-        if !add_part(alloc, &mut all, part)? {
+        if !add_cells(alloc, &mut all, part)? {
             return Ok(None);
         }
     }
-    Ok(Some(normal(alloc, &all)?))
+    Ok(Some(all))
 }
 
 /// Adds the entry that a part begins, or the values that it adds to the last one. Answers whether the part is right.
-fn add_part(alloc: Global, all: &mut Vec<Cells>, part: &str) -> Result<bool, AllocError> {
-    let Some((places, values)) = part.split_once('=') else {
-        return add_values(all, part);
-    };
-    let Some(places) = rising(places) else {
-        return Ok(false);
-    };
-    if places.last >= MAX_MEMORY {
-        return Ok(false);
+fn add_cells(alloc: Global, all: &mut Vec<Cells>, part: &str) -> Result<bool, AllocError>
+    ensures { IfOk result (λ fits. OnTrue fits (AddsCells all.old.items all.new.items part.now)) }
+{
+    match part.split_once('=') {
+        Some((places, value)) => begin_entry(alloc, all, places, value),
+        None => add_value(alloc, all, part),
     }
+}
+
+/// Adds the entry of these places. Answers whether they are places, and the values bytes.
+fn begin_entry(
+    alloc: Global,
+    all: &mut Vec<Cells>,
+    places: &str,
+    value: &str,
+) -> Result<bool, AllocError>
+    ensures { IfOk result (λ fits. OnTrue fits (BeginsEntry all.old.items all.new.items places.now value.now)) }
+{
+    let (Some(places), Some(span)) = (places_in(places), byte_span_in(value)) else {
+        return Ok(false);
+    };
+    let Some(values) = joined_values(alloc, &[], span)? else {
+        return Ok(false);
+    };
     all.push(Cells {
         first: places.first,
         last: places.last,
-        values: Vec::new(alloc),
+        values,
     })?;
-    add_values(all, values)
+    Ok(true)
+}
+
+/// A place, or a range of places that doesn't fall.
+fn places_in(part: &str) -> Option<MailSpan>
+    ensures { IfSome result (λ span. IsSpan MAX_MEMORY part.now span.first span.last) }
+{
+    let span = rising(part)?;
+    if span.last >= MAX_MEMORY {
+        return None;
+    }
+    Some(span)
 }
 
 /// Adds values to the last entry. Answers whether there is one and the values are bytes.
-fn add_values(all: &mut Vec<Cells>, part: &str) -> Result<bool, AllocError> {
-    let Some(values) = byte_span_in(part).and_then(byte_span_of) else {
+fn add_value(alloc: Global, all: &mut Vec<Cells>, part: &str) -> Result<bool, AllocError>
+    ensures { IfOk result (λ fits. OnTrue fits (AddsValue all.old.items all.new.items part.now)) }
+{
+    let Some(span) = byte_span_in(part) else {
         return Ok(false);
     };
-    match all.last_mut() {
-        Some(cells) => {
-            cells.values.push(values)?;
-            Ok(true)
-        }
-        None => Ok(false),
-    }
+    let Some(cells) = all.pop() else {
+        return Ok(false);
+    };
+    let Some(values) = joined_values(alloc, cells.values.as_slice(), span)? else {
+        return Ok(false);
+    };
+    all.push(Cells {
+        first: cells.first,
+        last: cells.last,
+        values,
+    })?;
+    Ok(true)
 }
 
-/// The entries with their values in rising order, each once.
-fn normal(alloc: Global, all: &[Cells]) -> Result<Vec<Cells>, AllocError> {
-    let mut entries = Vec::new(alloc);
-    for cells in all {
-        entries.push(Cells {
-            first: cells.first,
-            last: cells.last,
-            values: normal_values(alloc, &cells.values)?,
-        })?;
-    }
-    Ok(entries)
+/// The longest spans of the bytes of these spans and one more; none if a number is no byte.
+fn joined_values(
+    alloc: Global,
+    values: &[ByteSpan],
+    span: MailSpan,
+) -> Result<Option<Vec<ByteSpan>>, AllocError>
+    ensures numbers { IfOk result (λ named. IfSome named (λ spans.
+        JoinsSpan (byte_spans values.now) (byte_spans spans.items) (span.first, span.last))) }
+    ensures longest { IfOk result (λ named. IfSome named (λ spans. AreLongest (byte_spans spans.items))) }
+{
+    let mut bytes = bytes_of(alloc, values)?;
+    insert_span(&mut bytes, span)?;
+    let Some(spans) = byte_spans_of(alloc, &bytes)? else {
+        return Ok(None);
+    };
+    Ok(Some(spans))
 }
 
-/// The longest spans of the bytes of these.
-fn normal_values(alloc: Global, values: &[ByteSpan]) -> Result<Vec<ByteSpan>, AllocError> {
+/// The bytes of spans.
+fn bytes_of(alloc: Global, values: &[ByteSpan]) -> Result<BTreeSet<u32>, AllocError>
+    ensures { IfOk result (λ bytes. (n : ℕ) → Contains bytes.keys n ↔ Any (IsWithin n) (byte_spans values.now)) }
+{
     let mut bytes = BTreeSet::new(alloc);
     for span in values {
-        for byte in span.first..=span.last {
-            bytes.insert(byte)?;
-        }
+        insert_span(&mut bytes, wide_span(*span))?;
     }
-    let mut spans: Vec<ByteSpan> = Vec::new(alloc);
-    for byte in &bytes {
-        let byte = *byte;
-        match spans.last_mut() {
-            Some(span) if span.last.checked_add(1) == Some(byte) => span.last = byte,
-            _ => spans.push(ByteSpan {
-                first: byte,
-                last: byte,
-            })?,
-        }
+    Ok(bytes)
+}
+
+/// The same span, of numbers.
+fn wide_span(span: ByteSpan) -> MailSpan
+    ensures first { result.first ≡ span.first }
+    ensures last { result.last ≡ span.last }
+{
+    MailSpan {
+        first: u32::from(span.first),
+        last: u32::from(span.last),
     }
-    Ok(spans)
 }
 
 /// Adds the bytes of a part. Answers whether it names bytes.

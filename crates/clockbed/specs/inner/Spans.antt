@@ -1,5 +1,5 @@
 -- The longest spans of rising numbers, one number after another.
-use Rattle.std.specs.Prelude.{◌≡◌, ◌⊎◌, ◌↔◌, ◌+◌, ◌==◌, ◌<◌, ◌≤◌, if◌then◌else◌, ℕ, List, [], ◌∷◌, All, Any, Contains}
+use Rattle.std.specs.Prelude.{◌⊎◌, ◌↔◌, ◌+◌, ◌==◌, ◌<◌, ◌≤◌, if◌then◌else◌, ℕ, List, [], ◌∷◌, All, Any, Contains}
 use Rattle.clockbed.specs.Lists.{IsPart, IsWithin, Names}
 
 -- spans with one more number, which is greater than all of theirs: it joins the last one, or it is one of its own
@@ -25,3 +25,7 @@ AddsUpTo old new first end = (n : ℕ) → Contains new n ↔ (Contains old n �
 pub record AreNumbersOf (limit : ℕ) (parts : List (List ℕ)) (numbers : List ℕ) : Type 0 where
   pub written : All (IsPart limit) parts
   pub named : (n : ℕ) → Contains numbers n ↔ Any (λ part. Names part n) parts
+
+-- the numbers of the new spans are those of the old ones and those of a span
+abbrev pub JoinsSpan : List (ℕ × ℕ) → List (ℕ × ℕ) → ℕ × ℕ → Type 0
+JoinsSpan old new span = (n : ℕ) → Any (IsWithin n) new ↔ (Any (IsWithin n) old ⊎ IsWithin n span)

@@ -1,4 +1,4 @@
-use Rattle.std.proofs.Common.{◌≡◌, ◌+◌, ◌-◌, ◌<◌, ◌++◌, [], ◌∷◌, ap, ℕ, length, get_or, set, arith, refl, sym, ◌∙◌, rules, vec_len}
+use Rattle.std.proofs.Common.{◌≡◌, ◌-◌, ◌<◌, ◌++◌, [], ◌∷◌, ap, set, arith, sym, ◌∙◌, rules, vec_len}
 use Rattle.std.proofs.lemmas.Grind.{common_steps}
 use Rattle.clockbed.proofs.SpanLemmas.{joined, apart, alone}
 use Rattle.clockbed.specs.Lists.{mail_spans}

@@ -10,12 +10,6 @@ loop-number-preserved c = one_more c.args.numbers.now.keys c.loop-number.numbers
     c.args.span.first c.loop-number.number c.loop-number.auto.number c.loop-number.invariant
     c.in_ok-insert.ensures.keys
 
-pub returns : goal.returns
-returns c = λ n. (
-  (λ h. ⊎_elim (λ old. inl old) (λ w. inr (w.0, omega arith)) ((c.loop-number.invariant n).0 h)),
-  (λ h. (c.loop-number.invariant n).1 (⊎_elim (λ old. inl old) (λ w. inr (w.0, omega arith)) h)),
-)
-
 pub returns-in_ok-insert : goal.returns-in_ok-insert
 returns-in_ok-insert c =
     let more = one_more c.args.numbers.now.keys c.loop-number.numbers.keys c.insert.new.self.keys c.args.span.first

@@ -1,4 +1,4 @@
-use Rattle.std.proofs.Common.{◌≡◌, get_or, ◌<◌, length, arith, rules}
+use Rattle.std.proofs.Common.{rules}
 use Rattle.clockbed.proofs.SpanLemmas.{narrow_more}
 use Rattle.clockbed.proofs.mail.narrowed.Goals as goal
 

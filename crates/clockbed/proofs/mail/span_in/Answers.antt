@@ -1,4 +1,4 @@
-use Rattle.std.proofs.Common.{◌≡◌, ◌++◌, codes, Some, inl, inr}
+use Rattle.std.proofs.Common.{◌≡◌, ◌++◌, codes, Some, inr}
 use Rattle.std.proofs.lemmas.Str.Pattern.{split_text_parts}
 use Rattle.clockbed.proofs.mail.span_in.Goals as goal
 

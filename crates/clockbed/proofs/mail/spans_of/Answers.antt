@@ -1,4 +1,4 @@
-use Rattle.std.proofs.Common.{◌≡◌, ◌∙◌, [], fold, map, arith, rules, ap}
+use Rattle.std.proofs.Common.{◌≡◌, ◌∙◌, [], fold, map, rules, ap}
 use Rattle.std.specs.Map.Iter.{deref}
 use Rattle.std.proofs.lemmas.Map.Iter.{iter_end}
 use Rattle.clockbed.specs.Lists.{mail_spans}

@@ -2,7 +2,6 @@ use Rattle.std.proofs.Common.{◌≡◌, [], fold, map}
 use Rattle.std.specs.Map.Iter.{deref}
 use Rattle.clockbed.specs.Lists.{mail_spans}
 use Rattle.clockbed.specs.inner.Spans.{with_number}
-use Rattle.clockbed.proofs.SpanLemmas.{with_among}
 use Rattle.clockbed.proofs.mail.spans_of.Given as goal
 
 abbrev pub invariant-loop-number : goal.invariant-loop-number
