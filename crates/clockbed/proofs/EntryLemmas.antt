@@ -94,7 +94,8 @@ more_cells old new parts part (inr (places, value, cut, begins)) before =
 
 -- ---- a set of the bytes of spans
 
-pub one_more_span : (values : List ByteSpan) (i : ℕ) (d : ByteSpan) (old new : List ℕ) (span : ℕ × ℕ) → i < length values
+pub one_more_span : (values : List ByteSpan) (i : ℕ) (d : ByteSpan) (old new : List ℕ) (span : ℕ × ℕ)
+    → i < length values
     → span.0 ≡ (get_or values i d).first → span.1 ≡ (get_or values i d).last
     → AddsSpan old new span → (n : ℕ) → (Contains old n ↔ Any (IsWithin n) (byte_spans (take i values)))
     → Contains new n ↔ Any (IsWithin n) (byte_spans (take (i + 1) values))

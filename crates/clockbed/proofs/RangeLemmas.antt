@@ -11,7 +11,8 @@ no_dot [] b h = absurd (omega (arith, h.0))
 no_dot (x ∷ a) b h = no_dot a b h.1
 
 dot_is_no_digit : (x : ℕ) → digit_value x < 10 → x ≡ 46 → ⊥
-dot_is_no_digit x h e = let dot : digit_value 46 < 10 = subst (λ y. digit_value y < 10) e h in absurd (omega (arith, dot))
+dot_is_no_digit x h e =
+    let dot : digit_value 46 < 10 = subst (λ y. digit_value y < 10) e h in absurd (omega (arith, dot))
 
 one_cut : (a c b d : List ℕ) → AllDigits 10 a → AllDigits 10 c → a ++ (46 ∷ b) ≡ c ++ (46 ∷ d) → (a ≡ c) × (b ≡ d)
 one_cut [] [] b d left right e = (refl, cc)
