@@ -1,5 +1,5 @@
 //! A scenario from the first byte that is read to the last that is written.
-ghost use Rattle.std.specs.Prelude.{◌≡◌, ◌≤◌, ◌<◌, ℕ, List, [], IfErr, IfOk, IfSome, MatchResult, string_bytes};
+ghost use Rattle.std.specs.Prelude.{◌≡◌, ◌≤◌, ◌<◌, ℕ, List, Option, [], IfErr, IfOk, IfSome, MatchResult, string_bytes};
 ghost use Rattle.bench_core.specs.State.{new_state};
 ghost use Rattle.scenario_text.specs.Texts.{ReadsText};
 ghost use Rattle.stream_io.specs.Streams.{TakesAtMost};
@@ -139,6 +139,29 @@ pub fn write_report<T: Threads + Wait + Sync, W: Write>(
     }
 }
 
+/// Runs a scenario that was read, and writes the report.
+fn report_on<T: Threads + Wait + Sync, W: Write>(
+    rt: &T,
+    alloc: Global,
+    scenario: &Scenario,
+    workers: u32,
+    writer: &mut W,
+) -> Result<(), ScenarioFault>
+    requires some { 1 ≤ workers }
+    requires few { workers ≤ MOST_WORKERS }
+    requires reads { (text : List ℕ) × ReadsText text scenario.now }
+    ensures left { (known : Option (List ℕ)) → IfSome known (λ text. ReadsText text scenario.now)
+        → IfSome known (λ text. LeavesReport (W.contents writer.old) (W.contents writer.new) text result) }
+    ensures want { IfErr result StopsForWant }
+{
+    match write_report(rt, alloc, scenario, workers, writer) {
+        Ok(_agrees) => Ok(()),
+        Err(ReportFault::Run(fault)) => Err(ScenarioFault::Run(fault)),
+        Err(ReportFault::Write { written }) => Err(ScenarioFault::Write { written }),
+        Err(ReportFault::Memory) => Err(ScenarioFault::Memory),
+    }
+}
+
 /// Reads a scenario's text, runs it on as many of the workers as pay, and writes the report. At most [`MOST_BYTES`]
 /// bytes are read, by at most [`MOST_CALLS`] calls of `read`. The report is whole before its first byte is written.
 pub fn run_scenario<T: Threads + Wait + Sync, R: Read, W: Write>(
@@ -163,10 +186,5 @@ pub fn run_scenario<T: Threads + Wait + Sync, R: Read, W: Write>(
         }
         Err(TextFault::Memory) => return Err(ScenarioFault::Memory),
     };
-    match write_report(rt, alloc, &scenario, workers, writer) {
-        Ok(_agrees) => Ok(()),
-        Err(ReportFault::Run(fault)) => Err(ScenarioFault::Run(fault)),
-        Err(ReportFault::Write { written }) => Err(ScenarioFault::Write { written }),
-        Err(ReportFault::Memory) => Err(ScenarioFault::Memory),
-    }
+    report_on(rt, alloc, &scenario, workers, writer)
 }
