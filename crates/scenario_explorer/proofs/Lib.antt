@@ -1,2 +1,5 @@
 pub mod PlaceLemmas
 pub mod ExploreLemmas
+pub mod RuleSteps
+pub mod RulePaths
+pub mod RulesFound

@@ -1,1 +1,3 @@
 pub mod Explore
+pub mod RuleSystem
+pub mod RuleBeds
