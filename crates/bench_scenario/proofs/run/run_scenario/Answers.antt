@@ -8,3 +8,6 @@ returns-in-Err-Refused-clause-left g c =
     c.in-Err-Refused.error c.in-Err-Refused._text
     (rw c.in-Err-Refused.field-0-is at c.in-Err-Refused.ensures.scenario) (Keeps-refl _) in
     rw (← c.in-Err-Refused.error-is) at refused
+
+pub returns-clause-left : goal.returns-clause-left
+returns-clause-left g c = c.report_on.ensures.left _ c.in-Ok.ensures.scenario
