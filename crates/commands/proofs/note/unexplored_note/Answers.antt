@@ -36,3 +36,10 @@ returns-in-Unloaded g = record {
   one_line = refl;
   line_is = refl;
 }
+
+pub returns-in-Byte : goal.returns-in-Byte
+returns-in-Byte g = record {
+  words = codes "--cells names a place past the memory: places go from 0 to one below `memory`";
+  one_line = refl;
+  line_is = refl;
+}
