@@ -1,6 +1,7 @@
 -- What the lines of pulses let their reader know (docs/OUTPUT.md, "JSON lines").
 use Rattle.std.specs.Prelude.{◌≡◌, ℕ, ◌<◌, Bool, List, Option, Some, None, All, length, map}
 use Rattle.std.specs.FinMap.{get}
+use Rattle.serde_json.specs.Data.{Data}
 use Rattle.node_env.specs.Env.{AreNumbers}
 use Rattle.bench_core.specs.Setup.{Setup}
 use Rattle.bench_core.specs.State.{State, new_state}
