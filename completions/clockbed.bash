@@ -26,7 +26,7 @@ _clockbed() {
     run) _clockbed_offer "--workers --check --json --from --until --trace --help" files ;;
     stress) _clockbed_offer "--loaders --loads --pulses --workers --help" ;;
     sweep) _clockbed_offer "--keys --workers --help" files ;;
-    explore) _clockbed_offer "--ask --mail --start --bytes --cells --said --states --depth --help" files ;;
+    explore) _clockbed_offer "--ask --mail --start --bytes --cells --said --states --depth --json --help" files ;;
   esac
 }
 
