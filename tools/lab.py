@@ -43,7 +43,7 @@ RUN_SECONDS, SEARCH_SECONDS, MAX_SECONDS, IDLE_SECONDS, LOOK_SECONDS = 10, 600, 
 MAX_PORT = 65535
 PROCESSES = max(2, os.cpu_count() or 2)
 WORD = 1 << 32
-MAX_KEY, MAX_STATES, MAX_NODES, MAX_MEMORY, MAX_PULSES = (1 << 63) - 1, 10**9, 64, 256, 1000
+MAX_KEY, MAX_STATES, MAX_NODES, MAX_MEMORY, MAX_PULSES, MAX_MODULUS = (1 << 63) - 1, 10**9, 64, 256, 1000, 65536
 # What the page may load and do: its own files and requests, and nothing else.
 POLICY = (
     "default-src 'none'; script-src 'self'; style-src 'self'; connect-src 'self'; img-src 'self' data:;"
@@ -358,14 +358,21 @@ class Lab:
         words = ["verify", "--text", "--explain", *self.shape(body)]
         return self.asked(words, body, self.run_seconds, is_gone).told()
 
+    def maker(self, body):
+        """The words of the command that makes the image of a text."""
+        if "modulus" not in body:
+            return ["asm"]
+        faults, modulus = number(body, "faults", 0, MAX_NODES - 1), number(body, "modulus", 2, MAX_MODULUS)
+        return ["compile", *self.shape(body), f"--faults={faults}", f"--modulus={modulus}"]
+
     def trace(self, body, is_gone):
-        """The steps of a text in the very case of a node."""
+        """The steps of a text in the very case of a node; it is a rule if the request has the clock's numbers."""
         case = [
             f"--id={number(body, 'id', 0, MAX_NODES - 1)}", f"--coin={number(body, 'coin', 0, 1)}",
             f"--mail={text(body, 'mail', '[0-9,-]+')}", f"--contents={text(body, 'contents', '([0-9a-f]{2})+')}",
         ]
         words = ["exec", "--trace", "--show", *self.shape(body), *case]
-        image = self.asked(["asm"], body, self.run_seconds, is_gone)
+        image = self.asked(self.maker(body), body, self.run_seconds, is_gone)
         if image.status != 0:
             return image.told()
         return self.jobs.run(words, image.out, self.run_seconds, is_gone).told()

@@ -35,17 +35,20 @@ const chosenNodes = () => [...get("correct").querySelectorAll("input:checked")].
 /** The load of a node before pulse 1, as lines of an entry that several nodes may share. */
 function loadLines(scenario, node) {
   const load = loadAt(scenario, node, 1), program = load ? valueOf(load.keys, "program") : "clock";
-  if (program === "asm") return `program = "asm"\ntext = ${longText(valueOf(load.keys, "text"))}`;
+  if (program === "asm" || program === "rule") {
+    return `program = "${program}"\ntext = ${longText(valueOf(load.keys, "text"))}`;
+  }
   if (program === "say") return `program = "say"\nvalues = [${valueOf(load.keys, "values").join(", ")}]`;
   return `program = "${program}"`;
 }
 
 function headOf({ frame, scenario }) {
-  const own = valueOf(scenario.top, "clock"), least = frame.nodes > MAX_OF_FIRST ? VERSION_OF_MANY : 1;
+  const own = ["clock", "rule"].filter((key) => valueOf(scenario.top, key) !== undefined);
+  const least = frame.nodes > MAX_OF_FIRST ? VERSION_OF_MANY : 1;
   const version = Math.max(frame.format, least);
   const numbers = ["nodes", "faults", "modulus", "memory", "pulses"].map((it) => `${it} = ${frame[it]}`);
   const head = [...(version > 1 ? [`version = ${version}`] : []), ...numbers, 'coins = "zeros"'];
-  return own === undefined ? head : [...head, `clock = ${longText(own)}`];
+  return [...head, ...own.map((key) => `${key} = ${longText(valueOf(scenario.top, key))}`)];
 }
 
 /** The scenario that is explored: the correct nodes alone, loaded before pulse 1. */

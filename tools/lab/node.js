@@ -1,7 +1,7 @@
 // The chosen node: its memory, messages and program, and the trace of its run in the pulse shown.
 import { Line, isCancelled, wordsOf } from "./ask.js";
 import { button, get, make, on, say, state, tell } from "./page.js";
-import { loadAt, namesAt, textOf } from "./programs.js";
+import { loadAt, namesAt, ruleOf, textOf } from "./programs.js";
 import { insideOf, memoryBefore, received } from "./run.js";
 
 const CLOCK_BYTES = 4, MARK_BYTES = 8;
@@ -70,11 +70,12 @@ function before(run) {
 }
 
 function program(run, node) {
-  const text = run.scenario && textOf(run.scenario, run.frame, loadAt(run.scenario, node, state.at));
+  const load = run.scenario && loadAt(run.scenario, node, state.at), rule = run.scenario && ruleOf(run.scenario, load);
+  const text = rule ?? (run.scenario && textOf(run.scenario, run.frame, load));
   if (run.pulses[state.at - 1].ran[node] === null) return [];
   if (!text) return [make("p", {}, "The lab can't find the text of this program in the scenario.")];
-  const copy = button("Edit a copy", () => tell("copy", text), { id: "copy" });
-  const parts = make("details", { id: "program-text" }, make("summary", {}, "Program"), copy);
+  const parts = make("details", { id: "program-text" }, make("summary", {}, rule ? "Rule" : "Program"));
+  if (!rule) parts.append(button("Edit a copy", () => tell("copy", text), { id: "copy" }));
   parts.append(make("pre", { tabindex: "0" }, text));
   parts.open = state.isProgramOpen;
   parts.addEventListener("toggle", () => {
@@ -121,11 +122,13 @@ function isOfRun(run, pulse, node, answer) {
 }
 
 async function trace(run, pulse, node) {
-  const text = run.scenario && textOf(run.scenario, run.frame, loadAt(run.scenario, node, pulse));
+  const load = run.scenario && loadAt(run.scenario, node, pulse), rule = run.scenario && ruleOf(run.scenario, load);
+  const text = rule ?? (run.scenario && textOf(run.scenario, run.frame, load));
   if (!text) throw new Error("The lab can't find the text of this program in the scenario.");
-  const contents = await memoryAtOpening(run, pulse, node), { nodes, memory: bytes } = run.frame;
+  const contents = await memoryAtOpening(run, pulse, node), { nodes, faults, modulus, memory: bytes } = run.frame;
+  const sizes = rule === null ? {} : { faults, modulus };
   const coin = run.pulses[pulse - 1].coins[node], sent = mailOf(run, pulse, node);
-  const answer = await traces.ask("trace", { text, nodes, memory: bytes, id: node, mail: sent, coin, contents });
+  const answer = await traces.ask("trace", { text, nodes, memory: bytes, ...sizes, id: node, mail: sent, coin, contents });
   if (answer.status !== 0) throw new Error(wordsOf(answer));
   if (!isOfRun(run, pulse, node, answer)) throw new Error("The trace doesn't end as this run did: it isn't shown.");
   return answer.out.trim().split("\n");

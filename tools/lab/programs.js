@@ -45,6 +45,13 @@ export function loadAt(scenario, node, pulse) {
   return scenario.entries.filter(isOf).sort((one, other) => pulseOf(one) - pulseOf(other)).at(-1);
 }
 
+/** The rule that a load puts into its nodes, or null. */
+export function ruleOf(scenario, load) {
+  const program = load && valueOf(load.keys, "program");
+  if (program === "rule") return valueOf(load.keys, "text") ?? null;
+  return program === "clock" ? valueOf(scenario.top, "rule") ?? null : null;
+}
+
 /** The assembler text that a load puts into its nodes, or null. */
 export function textOf(scenario, frame, load) {
   const program = load && valueOf(load.keys, "program");
