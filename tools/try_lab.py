@@ -694,6 +694,7 @@ def try_traces(trial, page):
         ("one_corrupted.toml", (2,)),
         ("echo.toml", (3,)),
         ("clocks/middle_liar.toml", (0, 3)),
+        ("clocks/convergence.toml", (0, 3)),
     ):
         page.open((EXAMPLES / name).read_text())
         frame, pulses, _ = lines_of((EXAMPLES / name).read_text())
