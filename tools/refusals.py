@@ -249,6 +249,8 @@ def commands(library, room, kind):
         Command("run --check --workers 1", four),
         Command("run --trace 2:1", four),
         Command("run --trace 2:4", four),
+        Command("run --trace 2:0", contents("examples/clocks/greatest.toml")),
+        Command("dis --node 2:0 --list", contents("examples/clocks/greatest.toml")),
         Command("run --json --workers 1", three),
         Command("run --json --from 4", three),
         Command("run --json", b"nodes = 33\n"),

@@ -9,3 +9,4 @@ mod InputLemmas
 mod TracedLemmas
 mod TracedRunLemmas
 mod LeavesLemmas
+mod NodeRuleLemmas

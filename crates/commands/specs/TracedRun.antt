@@ -11,12 +11,12 @@ use Rattle.bench_scenario.specs.declared.inputs.NodeInput.{NodeInput}
 use Rattle.bench_scenario.specs.Events.{events_of}
 use Rattle.bench_scenario.specs.Inputs.{IsInputOf, setting_in}
 use Rattle.bench_scenario.specs.Runs.{bench_of}
-use Rattle.run_trace.specs.Lines.{trace_text}
-use Rattle.run_trace.specs.Steps.{steps_of}
+use Rattle.run_trace.specs.Steps.{Step, steps_of}
 use Rattle.commands.specs.declared.ending.Ending.{Ending}
 use Rattle.commands.specs.declared.fault.Fault.{Fault}
 use Rattle.commands.specs.declared.request.NodeInPulse.{NodeInPulse}
 use Rattle.commands.specs.Case.{left_lines, mail_text, memory_line}
+use Rattle.commands.specs.NodeRule.{AreStepLines, IsRuleOf, sizes_for}
 use Rattle.commands.specs.NodeText.{IsNodeText, node_text, node_text_ending}
 use Rattle.commands.specs.Output.{LeavesAny}
 
@@ -34,11 +34,9 @@ input_lines pulse node x =
     place_lines pulse node x.memory.items
     ++ (codes "mail " ++ (mail_text x.heard.items ++ (codes "\ncoin " ++ (decimal x.coin ++ codes "\n"))))
 
--- a line for each step of the run of this many steps
-abbrev pub step_lines : Extent → ℕ → NodeInput → ℕ → List ℕ
-step_lines shape node x steps =
-    let program = x.program.program in
-    trace_text program (steps_of program (setting_in shape node x) x.memory.items steps)
+-- the steps of the run of this many
+abbrev pub steps_in : Extent → ℕ → NodeInput → ℕ → List Step
+steps_in shape node x steps = steps_of x.program.program (setting_in shape node x) x.memory.items steps
 
 -- how it ends in a bench of so many nodes: r0 and steps, then memory and messages, as `exec --show` prints them
 abbrev pub end_lines : ℕ → End → List ℕ
@@ -46,15 +44,20 @@ end_lines nodes end =
     codes "r0 " ++ (decimal end.r0 ++ (codes " steps " ++ (decimal end.steps ++ (codes "\n"
     ++ left_lines (record { memory = end.memory; outbox = record { nodes = nodes; sent = end.sent } })))))
 
-abbrev pub run_lines : Extent → ℕ → ℕ → NodeInput → End → List ℕ
-run_lines shape pulse node x end =
-    input_lines pulse node x ++ (step_lines shape node x end.steps ++ end_lines shape.nodes end)
+-- the rule of the program, if the scenario has one, and the lines of the input, of the steps and of the end
+pub record AreRunLines (s : Scenario) (shape : Extent) (pulse node : ℕ) (x : NodeInput) (end : End) (lines : List ℕ)
+    : Type 0 where
+  pub rule : Option (List ℕ)
+  pub is_rule : IsRuleOf s x.program.program rule
+  pub told : List ℕ
+  pub steps : AreStepLines (sizes_for s) x.program.program rule (steps_in shape node x end.steps) told
+  pub whole : lines ≡ input_lines pulse node x ++ (told ++ end_lines shape.nodes end)
 
 -- ---- the answer
 
 -- the pulse is opened in the run of the scenario; this is what the node runs there, and this its complete run, of which
 -- the pulse tells the steps; and these are their lines
-pub record IsRunOf (asked : NodeInPulse) (s : Scenario) (lines : List ℕ) : Type 0 where
+pub record IsRunOf (asked : NodeInPulse) (s : Scenario) (told : List ℕ) : Type 0 where
   pub coins : List ℕ
   pub state : State
   pub input : NodeInput
@@ -62,7 +65,7 @@ pub record IsRunOf (asked : NodeInPulse) (s : Scenario) (lines : List ℕ) : Typ
   pub opened : OpensPulse (bench_of s) (events_of s) asked.pulse coins state
   pub is_input : IsInputOf state coins asked.node input
   pub run : RanTo (bench_of s) state coins asked.node end
-  pub whole : lines ≡ run_lines (bench_of s).shape asked.pulse asked.node input end
+  pub lines : AreRunLines s (bench_of s).shape asked.pulse asked.node input end told
 
 -- the whole text, its first bytes if a write failed, or nothing at another fault
 abbrev pub LeavesTracedRun : Option (List ℕ) → Option (List ℕ) → NodeInPulse → Scenario → Result Ending Fault → Type 0

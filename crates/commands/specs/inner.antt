@@ -3,4 +3,5 @@ pub mod Exec
 pub mod Faults
 pub mod Input
 pub mod Lines
+pub mod NodeRule
 pub mod TracedRun

@@ -18,6 +18,7 @@ mod left;
 mod lines;
 mod node_lines;
 mod node_program;
+mod node_rule;
 mod node_text;
 mod note;
 mod output;

@@ -1,20 +1,25 @@
 //! The lines of a node's run in a pulse.
-ghost use Rattle.std.specs.Prelude.{◌≡◌, ◌++◌, IfOk, OnOk, length, string_bytes};
+ghost use Rattle.std.specs.Prelude.{◌≡◌, ◌++◌, IfOk, List, OnOk, Option, length, string_bytes, ℕ};
 ghost use Rattle.bpf_machine.specs.Run.{CompleteRun, End};
 ghost use Rattle.bench_scenario.specs.Inputs.{FitsShape, setting_in};
 ghost use Rattle.run_trace.specs.Lines.{trace_text};
 ghost use Rattle.run_trace.specs.Steps.{steps_of};
-ghost use Rattle.commands.specs.TracedRun.{end_lines, input_lines, place_lines, run_lines};
+ghost use Rattle.scenario_text.specs.Texts.{ReadsText};
+ghost use Rattle.scenario_text.specs.Views.{extent_of, frame_of};
+ghost use Rattle.commands.specs.NodeRule.{AreStepLines, IsRuleOf, sizes_for};
+ghost use Rattle.commands.specs.TracedRun.{AreRunLines, end_lines, input_lines, place_lines};
 ghost use Rattle.commands.specs.inner.TracedRun.{end_in};
 
 use crate::left::{LeftByRun, add_left, add_mail};
+use crate::node_rule::{rule_lines, rule_of};
 use crate::request::NodeInPulse;
 use bench_scenario::NodeInput;
 use bpf_insn::Program;
 use bpf_run::run;
 use bpf_verify::VerifiedProgram;
 use node_env::{Env, Outbox};
-use run_trace::trace;
+use run_trace::{RuleCode, listed_trace, trace};
+use scenario_text::Scenario;
 use std::alloc::{AllocError, Global};
 use std::fmt::Write as _;
 
@@ -26,16 +31,28 @@ pub(crate) struct RunEnd {
     pub left: LeftByRun,
 }
 
-/// The lines of a node's run.
+/// A run of this many steps that begins with this memory.
+#[derive(Clone, Copy)]
+struct NodeRun<'a> {
+    program: &'a Program,
+    env: &'a Env,
+    memory: &'a [u8],
+    steps: u32,
+}
+
+/// The lines of a node's run in a pulse of the scenario.
 pub(crate) fn lines_of(
     alloc: Global,
     options: NodeInPulse,
+    scenario: &Scenario,
     input: NodeInput,
 ) -> Result<Vec<u8>, AllocError>
-    requires { FitsShape input.program.shape options.node input }
+    requires reads { (text : List ℕ) × ReadsText text scenario.now }
+    requires shape { input.program.shape ≡ extent_of (frame_of scenario.now) }
+    requires fits { FitsShape input.program.shape options.node input }
     ensures { IfOk result (λ lines. (end : End)
         × CompleteRun input.program.program (setting_in input.program.shape options.node input) input.memory.items end
-        × (lines.items ≡ run_lines input.program.shape options.pulse options.node input end)) }
+        × AreRunLines scenario.now input.program.shape options.pulse options.node input end lines.items) }
 {
     let text = input_text(alloc, options, &input)?;
     let mut lines = Vec::from_slice(alloc, text.as_bytes())?;
@@ -47,14 +64,14 @@ pub(crate) fn lines_of(
     } = input;
     let env = Env::new(program.shape(), options.node, heard, coin);
     let end = end_of(alloc, &program, &env, &memory)?;
-    add_steps(
-        alloc,
-        &mut lines,
-        program.program(),
-        &env,
-        &memory,
-        end.steps,
-    )?;
+    let run = NodeRun {
+        program: program.program(),
+        env: &env,
+        memory: &memory,
+        steps: end.steps,
+    };
+    let told = step_lines(alloc, scenario, &run)?;
+    lines.extend_from_slice(&told)?;
     add_end(alloc, &mut lines, &end)?;
     Ok(lines)
 }
@@ -103,21 +120,52 @@ fn end_of(
     })
 }
 
-/// Adds the lines of this many steps of a run.
-fn add_steps(
-    alloc: Global,
-    lines: &mut Vec<u8>,
-    program: &Program,
-    env: &Env,
-    memory: &[u8],
-    steps: u32,
-) -> Result<(), AllocError>
-    requires { length memory.now ≡ env.now.shape.memory }
-    ensures { OnOk result (lines.new.items ≡ lines.old.items
-        ++ trace_text program.now (steps_of program.now env.now memory.now steps)) }
+/// The lines of a run's steps: of a rule's program below the lines of the rule.
+fn step_lines(alloc: Global, scenario: &Scenario, run: &NodeRun) -> Result<Vec<u8>, AllocError>
+    requires reads { (text : List ℕ) × ReadsText text scenario.now }
+    requires shape { run.now.env.now.shape ≡ extent_of (frame_of scenario.now) }
+    requires memory { length run.now.memory.now ≡ run.now.env.now.shape.memory }
+    ensures { IfOk result (λ told. (rule : Option (List ℕ)) × IsRuleOf scenario.now run.now.program.now rule
+        × AreStepLines (sizes_for scenario.now) run.now.program.now rule
+        (steps_of run.now.program.now run.now.env.now run.now.memory.now run.now.steps) told.items) }
 {
+    let NodeRun {
+        program,
+        env,
+        memory,
+        steps,
+    } = *run;
+    let shape = env.shape();
+    match rule_of(alloc, scenario, shape, program)? {
+        None => plain_lines(alloc, run),
+        Some(text) => {
+            let lines = rule_lines(alloc, scenario, shape, program, text)?;
+            let code = RuleCode {
+                program,
+                text,
+                lines: &lines,
+            };
+            listed_trace(alloc, &code, env, memory, u64::from(steps))
+        }
+    }
+}
+
+/// The lines of a run's steps, and nothing else.
+fn plain_lines(alloc: Global, run: &NodeRun) -> Result<Vec<u8>, AllocError>
+    requires { length run.now.memory.now ≡ run.now.env.now.shape.memory }
+    ensures { IfOk result (λ told. told.items
+        ≡ trace_text run.now.program.now
+        (steps_of run.now.program.now run.now.env.now run.now.memory.now run.now.steps)) }
+{
+    let NodeRun {
+        program,
+        env,
+        memory,
+        steps,
+    } = *run;
     let mut memory = Vec::from_slice(alloc, memory)?;
     let mut outbox = Outbox::new(alloc, env.shape())?;
+    let mut told = Vec::new(alloc);
     match trace(
         alloc,
         program,
@@ -125,9 +173,9 @@ fn add_steps(
         &mut memory,
         &mut outbox,
         u64::from(steps),
-        lines,
+        &mut told,
     ) {
-        Ok(_traced) => Ok(()),
+        Ok(_traced) => Ok(told),
         Err(_) => Err(AllocError),
     }
 }

@@ -1,17 +1,21 @@
 //! `dis --node`: the text of the program that a node runs in a pulse of a scenario.
-ghost use Rattle.std.specs.Prelude.{◌≡◌, IfErr, IfOk, List, Ok, ℕ};
+ghost use Rattle.std.specs.Prelude.{◌≡◌, IfErr, IfOk, List, Option, ℕ};
 ghost use Rattle.scenario_text.specs.Texts.{ReadsText};
+ghost use Rattle.scenario_text.specs.Views.{extent_of, frame_of};
 ghost use Rattle.commands.specs.Faults.{IsBeforeWriting};
 ghost use Rattle.commands.specs.NodeProgram.{IsTextOf, LeavesNodeProgram};
+ghost use Rattle.commands.specs.NodeRule.{IsProgramText, IsRuleOf, sizes_for};
 ghost use Rattle.commands.specs.NodeText.{IsNodeText};
 
 use crate::dis::text_of;
 use crate::ending::Ending;
 use crate::fault::Fault;
+use crate::node_rule::{rule_listed, rule_of};
 use crate::node_text::{NodeText, input_at, write_node_text};
 use crate::request::NodeProgramOptions;
+use bpf_verify::VerifiedProgram;
 use scenario_text::Scenario;
-use std::alloc::Global;
+use std::alloc::{AllocError, Global};
 use std::io::Write;
 use std::sync::Wait;
 use std::thread::Threads;
@@ -45,10 +49,36 @@ fn text_in<T: Threads + Wait + Sync>(
 {
     let found = input_at(rt, alloc, options.place, scenario)?;
     match found {
-        Ok(input) => match text_of(alloc, options.list, input.program.program()) {
+        Ok(input) => match program_text(alloc, options.list, scenario, &input.program) {
             Ok(text) => Ok(NodeText::Lines(text)),
             Err(_) => Err(Fault::Memory),
         },
         Err(absent) => Ok(NodeText::Absent(absent)),
+    }
+}
+
+/// The text of a program, or its listing: of a rule's program below the lines of the rule.
+fn program_text(
+    alloc: Global,
+    list: bool,
+    scenario: &Scenario,
+    program: &VerifiedProgram,
+) -> Result<Vec<u8>, AllocError>
+    requires reads { (text : List ℕ) × ReadsText text scenario.now }
+    requires shape { program.now.shape ≡ extent_of (frame_of scenario.now) }
+    ensures { IfOk result (λ told. (rule : Option (List ℕ)) × IsRuleOf scenario.now program.now.program rule
+        × IsProgramText (sizes_for scenario.now) program.now.program rule list told.items) }
+{
+    let shape = program.shape();
+    let program = program.program();
+    match rule_of(alloc, scenario, shape, program)? {
+        None => text_of(alloc, list, program),
+        Some(text) => {
+            if list {
+                rule_listed(alloc, scenario, shape, program, text)
+            } else {
+                text_of(alloc, false, program)
+            }
+        }
     }
 }

@@ -44,7 +44,7 @@ fn trace_in<T: Threads + Wait + Sync>(
 {
     let found = input_at(rt, alloc, place, scenario)?;
     match found {
-        Ok(input) => match lines_of(alloc, place, input) {
+        Ok(input) => match lines_of(alloc, place, scenario, input) {
             Ok(lines) => Ok(NodeText::Lines(lines)),
             Err(_) => Err(Fault::Memory),
         },

@@ -4,4 +4,4 @@
 mod lines;
 mod listing;
 
-pub use listing::list_rule;
+pub use listing::{line_at, list_rule, push_heading};

@@ -14,8 +14,8 @@ use node_env::Shape;
 use rule_text::{RuleRefusal, instruction_lines};
 use std::alloc::{AllocError, Global};
 
-/// Returns the line of the instruction at a slot, where entry k is for slot k + 1; 0 if it is of no line.
-fn line_at(lines: &[usize], slot: usize) -> usize
+/// Returns the line of the instruction at a slot, where entry k of `lines` is for slot k + 1; 0 if it is of no line.
+pub fn line_at(lines: &[usize], slot: usize) -> usize
     ensures { result ≡ line_at lines.now slot }
 {
     if slot == 0 || lines.len() < slot {
@@ -41,9 +41,10 @@ fn push_line(
     listing.extend_from_slice(b"\n")
 }
 
-/// Adds the row of a line if the instruction before is of another one; 0 is the end.
+/// Adds the row of a line of this text if the instruction before is of another one; 0 is the end. Fails only if memory
+/// runs out.
 #[tactic(auto, using(crate::proofs::LineLemmas::heading_of))]
-fn push_heading(
+pub fn push_heading(
     alloc: Global,
     listing: &mut Vec<u8>,
     text: &[u8],

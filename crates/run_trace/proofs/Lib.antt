@@ -1,2 +1,3 @@
+mod ListedLemmas
 mod StepLemmas
 mod TextLemmas

@@ -15,6 +15,7 @@ use Rattle.bpf_machine.specs.Machine.{Frame, Phase, Running, Ended}
 use Rattle.bpf_machine.specs.Traps.{held}
 use Rattle.bpf_asm.specs.Canonical.{after_word, canonical_line}
 use Rattle.bpf_asm.specs.Words.{register_word}
+use Rattle.rule_listing.specs.Listing.{heading_by, line_at}
 use Rattle.run_trace.specs.Steps.{Step}
 
 -- ---- registers
@@ -85,3 +86,17 @@ lines_from program number (s ∷ rest) =
 -- the first step's number is 1
 abbrev pub trace_text : List Insn → List Step → List ℕ
 trace_text program steps = lines_from program 1 steps
+
+-- ---- the lines of a rule's program (docs/RULES.md, "Lines and instructions")
+
+-- the same, each below the row of the line that made its instruction, if the step before is of another one: `lines` has
+-- the line of each slot
+abbrev pub listed_from : List ℕ → List ℕ → List Insn → ℕ → ℕ → List Step → List ℕ
+listed_from text lines program before number [] = []
+listed_from text lines program before number (s ∷ rest) =
+    let line = line_at lines s.state.frame.slot in
+    heading_by text before line ++ (trace_line program number s
+    ++ (codes "\n" ++ listed_from text lines program line (suc number) rest))
+
+abbrev pub listed_text : List ℕ → List ℕ → List Insn → List Step → List ℕ
+listed_text text lines program steps = listed_from text lines program 0 1 steps

@@ -1,4 +1,4 @@
-use Rattle.std.proofs.Common.{sym, ap, ◌∙◌}
+use Rattle.std.proofs.Common.{ℕ, List, ◌++◌, ap, ◌∙◌}
 use Rattle.commands.proofs.TracedRunLemmas.{lines_made, setting_made}
 use Rattle.commands.proofs.node_lines.lines_of.Goals as goal
 
@@ -10,8 +10,9 @@ returns c =
     let end = c.in_ok-end.end in
     let sees = setting_made new.result x.program.shape asked.node x (new.ensures.shape ∙ c.shape.ensures)
     new.ensures.id new.ensures.inbox new.ensures.coin in
-    lines_made asked.pulse asked.node x new.result c.deref.result.now c.deref-2.result.now c.program-2.result.now end
-    c.in_ok-lines.lines.items _ _ sees c.deref.ensures.value c.deref-2.ensures.value c.program-2.ensures.value
-    c.in_ok-end.ensures.complete c.in_ok-end.ensures.nodes
-    (c.in_ok-lines.ensures.items ∙ (c.as_bytes.ensures.value ∙ c.in_ok-text.ensures)) c.in_ok-add_steps.ensures
-    c.in_ok-add_end.ensures
+    lines_made c.args.scenario.now asked.pulse asked.node x new.result c.deref.result.now c.deref-2.result.now
+    c.program-2.result.now end c.in_ok-told.told.items c.in_ok-lines.lines.items _ _ sees c.deref.ensures.value
+    c.deref-2.ensures.value c.program-2.ensures.value c.in_ok-end.ensures.complete c.in_ok-end.ensures.nodes
+    (c.in_ok-lines.ensures.items ∙ (c.as_bytes.ensures.value ∙ c.in_ok-text.ensures)) c.in_ok-told.ensures
+    (c.in_ok-extend_from_slice.ensures.items
+    ∙ ap (λ (l : List ℕ). c.in_ok-lines.lines.items ++ l) c.deref-3.ensures.value) c.in_ok-add_end.ensures

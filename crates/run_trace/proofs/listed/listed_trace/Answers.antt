@@ -1,0 +1,64 @@
+use Rattle.std.proofs.Common.{◌≡◌, ◌+◌, ◌-◌, ◌++◌, ◌∙◌, List, ap, rules, subst}
+use Rattle.bpf_machine.specs.Machine.{state_of}
+use Rattle.bpf_machine.specs.Run.{Turns}
+use Rattle.rule_listing.specs.Listing.{line_at}
+use Rattle.run_trace.specs.Lines.{listed_from, listed_text}
+use Rattle.run_trace.specs.Steps.{Step, step_at, steps_from, steps_of}
+use Rattle.run_trace.proofs.ListedLemmas.{listed_all, listed_more}
+use Rattle.run_trace.proofs.StepLemmas.{end_follows, first_step, next_follows, trap_follows}
+use Rattle.run_trace.proofs.listed.listed_trace.Goals as goal
+
+pub returns-in-Ended : goal.returns-in-Ended
+returns-in-Ended c =
+    let rule = c.args.rule.now in
+    let program = rule.program.now in
+    let env = c.args.env.now in
+    let old = state_of c.loop-taken.state c.loop-taken.after c.loop-taken.outbox.sent in
+    let new = state_of c.told_step-turn.new.state c.told_step-turn.new.memory c.told_step-turn.new.outbox.sent in
+    let more = steps_from program env (c.args.fuel - (c.loop-taken.taken + 1)) in
+    listed_all rule.text.now rule.lines.now program _ _ c.line_at-line.result (c.loop-taken.taken + 1 + 1) _
+    (listed_more rule.text.now rule.lines.now program _ _ _ _ _ _ _ (c.loop-taken.taken + 1) (step_at program env old)
+    _ _ c.loop-taken.invariant.told (first_step program env old c.loop-taken.taken c.args.fuel c.loop-taken-test.true)
+    (c.line_at-line.ensures ∙ ap (line_at rule.lines.now) c.slot.ensures) c.in_ok-push_heading.ensures
+    c.told_step-turn.ensures.line c.in_ok-push_step.ensures)
+    (end_follows program env old new c.in-Ended._r0 more
+    (subst (Turns program env old new) c.in-Ended.is c.told_step-turn.ensures.turns))
+
+pub returns-in-Trap : goal.returns-in-Trap
+returns-in-Trap c =
+    let rule = c.args.rule.now in
+    let program = rule.program.now in
+    let env = c.args.env.now in
+    let old = state_of c.loop-taken.state c.loop-taken.after c.loop-taken.outbox.sent in
+    let new = state_of c.told_step-turn.new.state c.told_step-turn.new.memory c.told_step-turn.new.outbox.sent in
+    let more = steps_from program env (c.args.fuel - (c.loop-taken.taken + 1)) in
+    listed_all rule.text.now rule.lines.now program _ _ c.line_at-line.result (c.loop-taken.taken + 1 + 1) _
+    (listed_more rule.text.now rule.lines.now program _ _ _ _ _ _ _ (c.loop-taken.taken + 1) (step_at program env old)
+    _ _ c.loop-taken.invariant.told (first_step program env old c.loop-taken.taken c.args.fuel c.loop-taken-test.true)
+    (c.line_at-line.ensures ∙ ap (line_at rule.lines.now) c.slot.ensures) c.in_ok-push_heading.ensures
+    c.told_step-turn.ensures.line c.in_ok-push_step.ensures)
+    (trap_follows program env old new c.in-Trap._kind more
+    (subst (Turns program env old new) c.in-Trap.is c.told_step-turn.ensures.turns))
+
+pub loop-taken-preserved : goal.loop-taken-preserved
+loop-taken-preserved c =
+    let rule = c.args.rule.now in
+    let program = rule.program.now in
+    let env = c.args.env.now in
+    let old = state_of c.loop-taken.state c.loop-taken.after c.loop-taken.outbox.sent in
+    let new = state_of c.told_step-turn.new.state c.told_step-turn.new.memory c.told_step-turn.new.outbox.sent in
+    let more = steps_from program env (c.args.fuel - (c.loop-taken.taken + 1)) in
+    record {
+      told = subst (λ (rest : List Step). listed_text rule.text.now rule.lines.now program
+          (steps_of program env c.args.memory.now c.args.fuel) ≡ c.push_step.new.listing.items
+          ++ listed_from rule.text.now rule.lines.now program c.line_at-line.result (c.loop-taken.taken + 1 + 1) rest)
+          (next_follows program env old new more
+          (subst (Turns program env old new) c.in-Next.is c.told_step-turn.ensures.turns))
+          (listed_more rule.text.now rule.lines.now program _ _ _ _ _ _ _ (c.loop-taken.taken + 1)
+          (step_at program env old) _ _ c.loop-taken.invariant.told
+          (first_step program env old c.loop-taken.taken c.args.fuel c.loop-taken-test.true)
+          (c.line_at-line.ensures ∙ ap (line_at rule.lines.now) c.slot.ensures) c.in_ok-push_heading.ensures
+          c.told_step-turn.ensures.line c.in_ok-push_step.ensures);
+      nodes = search rules;
+      memory = search rules;
+    }

@@ -1,0 +1,71 @@
+//! A run of a rule's program, told below the lines of the rule.
+
+ghost use Rattle.std.specs.Prelude.{◌≡◌, ◌++◌, IfOk, OnOk, codes, length};
+ghost use Rattle.rule_listing.specs.Listing.{heading_by};
+ghost use Rattle.run_trace.specs.Lines.{listed_text};
+ghost use Rattle.run_trace.specs.Steps.{steps_of};
+ghost use Rattle.run_trace.specs.inner.Parts.{line_in};
+
+use crate::line::Line;
+use crate::telling::told_step;
+use bpf_insn::Program;
+use bpf_machine::{State, Turn};
+use node_env::{Env, Outbox};
+use rule_listing::{line_at, push_heading};
+use std::alloc::{AllocError, Global};
+
+/// The program of a rule, the rule's text, and the line of each instruction: entry k of `lines` is for slot k + 1, as
+/// `instruction_lines` of `rule_text` returns them.
+#[derive(Clone, Copy)]
+pub struct RuleCode<'a> {
+    pub program: &'a Program,
+    pub text: &'a [u8],
+    pub lines: &'a [usize],
+}
+
+/// Adds the line of a step.
+fn push_step(alloc: Global, listing: &mut Vec<u8>, line: &Line) -> Result<(), AllocError>
+    ensures { OnOk result (listing.new.items ≡ listing.old.items ++ (line_in line.now ++ codes "\n")) }
+{
+    let text = format!(in alloc; "{line}\n")?;
+    listing.extend_from_slice(text.as_bytes())
+}
+
+/// Returns the lines of the first steps of a run, at most as many as there is fuel, as `trace` writes them, each below
+/// the row of the rule's line that made its instruction, if the step before is of another one (docs/RULES.md, "Lines and
+/// instructions"). The run begins with this memory. Fails only if memory runs out.
+pub fn listed_trace(
+    alloc: Global,
+    rule: &RuleCode,
+    env: &Env,
+    memory: &[u8],
+    fuel: u64,
+) -> Result<Vec<u8>, AllocError>
+    requires { length memory.now ≡ env.now.shape.memory }
+    ensures { IfOk result (λ listing. listing.items ≡ listed_text rule.now.text.now rule.now.lines.now rule.now.program.now
+        (steps_of rule.now.program.now env.now memory.now fuel)) }
+{
+    let RuleCode {
+        program,
+        text,
+        lines,
+    } = *rule;
+    let mut copy = Vec::from_slice(alloc, memory)?;
+    let after = copy.as_mut_slice();
+    let mut outbox = Outbox::new(alloc, env.shape())?;
+    let mut state = State::entry(env);
+    let mut listing = Vec::new(alloc);
+    let mut before = 0;
+    for taken in 0..fuel {
+        let line = line_at(lines, state.slot() as usize);
+        push_heading(alloc, &mut listing, text, before, line)?;
+        let (turn, told) = told_step(program, env, &mut state, after, &mut outbox, taken + 1);
+        push_step(alloc, &mut listing, &told)?;
+        match turn {
+            Turn::Next => before = line,
+            Turn::Ended(_r0) => return Ok(listing),
+            Turn::Trap(_kind) => return Ok(listing),
+        }
+    }
+    Ok(listing)
+}
