@@ -180,6 +180,7 @@ pub record AsksExplore (f : Found) (asked : ExploreOptions) : Type 0 where
   pub start : AsksStart f asked.start
   pub states : IsNumberOr 32 DEFAULT_STATES f (codes "states") asked.states
   pub depth : IsNumberOr 32 MOST_STATES f (codes "depth") asked.depth
+  pub odds : HasNumber 32 f (codes "odds") asked.odds
   pub json : HasFlag f (codes "json") asked.json
 
 pub record AsksStress (f : Found) (asked : StressOptions) : Type 0 where

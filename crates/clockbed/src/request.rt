@@ -3,7 +3,7 @@ ghost use Rattle.std.specs.Prelude.{◌≡◌, IfErr, IfOk, IfSome, codes, optio
 ghost use Rattle.clap.specs.Matches.{found_of};
 ghost use Rattle.clockbed.specs.Requests.{Asks, AsksCells, AsksCompile, AsksDetail, AsksExplore, AsksFile};
 ghost use Rattle.clockbed.specs.Requests.{AsksQuestion, AsksRule, AsksRun, AsksShape, AsksSpan, AsksStart, AsksStress};
-ghost use Rattle.clockbed.specs.Requests.{AsksSweep, AsksWithFile, HasMail, IsAskedWithFile, IsHelp, IsKeys, IsNumber};
+ghost use Rattle.clockbed.specs.Requests.{AsksSweep, AsksWithFile, HasMail, HasNumber, IsAskedWithFile, IsHelp, IsKeys, IsNumber};
 ghost use Rattle.clockbed.specs.Requests.{IsPlace};
 ghost use Rattle.commands.specs.Faults.{IsOfCommandLine};
 
@@ -404,10 +404,24 @@ fn question(options: &ArgMatches<'_>) -> Result<Question, OptionsFault>
     }
 }
 
+/// The last number of pulses whose odds are asked, if the question is how clocks stabilise.
+fn odds_asked(options: &ArgMatches<'_>, question: Question) -> Result<Option<u32>, OptionsFault>
+    ensures { IfOk result (HasNumber 32 (found_of options.now) (codes "odds")) }
+{
+    let odds = number_if_named(options, "odds");
+    if odds.is_some() && !question.asks_stabilisation() {
+        return Err(OptionsFault::Reason(
+            "--odds asks how likely clocks stabilise: use --ask stabilisation or both",
+        ));
+    }
+    Ok(odds)
+}
+
 fn explore_options(alloc: Global, options: &ArgMatches<'_>) -> Result<ExploreOptions, OptionsFault>
     ensures { IfOk result (AsksExplore (found_of options.now)) }
 {
     let question = question(options)?;
+    let odds = odds_asked(options, question)?;
     let mail = list_asked(alloc, options, "mail")?;
     let start = any_start(alloc, options)?;
     Ok(ExploreOptions {
@@ -416,6 +430,7 @@ fn explore_options(alloc: Global, options: &ArgMatches<'_>) -> Result<ExploreOpt
         start,
         states: number(options, "states", DEFAULT_STATES),
         depth: number(options, "depth", MOST_STATES),
+        odds,
         json: flag(options, "json"),
     })
 }

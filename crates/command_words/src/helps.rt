@@ -47,6 +47,9 @@ pub const DEFAULT_STATES: u32 = 1_000_000;
 /// The most states and the last pulse of an exploration that can be named.
 pub const MOST_STATES: u32 = 1_000_000_000;
 
+/// The most pulses whose odds can be asked.
+pub(crate) const MOST_ODDS: u32 = 100_000;
+
 const HELP_BYTES: usize = 96;
 
 type Help = InlineText<HELP_BYTES>;
@@ -68,6 +71,7 @@ pub struct Helps {
     pub(crate) pulses: Help,
     pub(crate) states: Help,
     pub(crate) depth: Help,
+    pub(crate) odds: Help,
     pub(crate) keys: Help,
 }
 
@@ -119,6 +123,9 @@ impl Helps {
             states: numbers("Most states to explore", 1, MOST_STATES, DEFAULT_STATES),
             depth: Help::of(format_args!(
                 "Last pulse to explore [1..={MOST_STATES}; default: all]"
+            )),
+            odds: Help::of(format_args!(
+                "Odds that the clocks stabilise within so many pulses [1..={MOST_ODDS}; default: not asked]"
             )),
             keys: Help::of(format_args!(
                 "Seeds of the coins, both ends included [0..={MOST_KEY}; required]"

@@ -1,7 +1,7 @@
 //! The commands and their arguments.
 
 use crate::building::Building;
-use crate::helps::{Helps, MOST_FUEL, MOST_LOADS, MOST_PULSES, MOST_STATES};
+use crate::helps::{Helps, MOST_FUEL, MOST_LOADS, MOST_ODDS, MOST_PULSES, MOST_STATES};
 use crate::options::{clock_option, count_option, file, flag, pulse_option, text_option, within};
 use crate::version::VERSION;
 use bench_shared::MOST_LOADERS;
@@ -223,6 +223,7 @@ fn explore<'a>(alloc: Global, helps: &'a Helps) -> Building<'a> {
     with_states(alloc, explore)
         .arg(count_option(alloc, "states", helps.states.as_str(), MOST_STATES))
         .arg(count_option(alloc, "depth", helps.depth.as_str(), MOST_STATES))
+        .arg(count_option(alloc, "odds", helps.odds.as_str(), MOST_ODDS))
         .arg(flag(alloc, "json", "Print the answer as one line of JSON"))
         .arg(file(alloc))
 }

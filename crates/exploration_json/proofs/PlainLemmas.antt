@@ -5,6 +5,8 @@ use Rattle.std.specs.List.{AllByRecursion}
 use Rattle.serde_json.specs.Data.{Data, boolean, string}
 use Rattle.json_values.specs.Values.{Member, list_data, number_data, object_data, option_data}
 use Rattle.json_values.proofs.PlainLemmas.{IsPlain, plain_boolean, plain_list, plain_number, plain_object, plain_option, plain_string}
+use Rattle.bench_space.specs.declared.odds.Odds.{Odds}
+use Rattle.bench_space.specs.declared.odds.TheConstants.{ODDS_WHOLE}
 use Rattle.scenario_explorer.specs.declared.finding.Found.{Found}
 use Rattle.scenario_explorer.specs.declared.finding.Tried.{Tried}
 use Rattle.scenario_explorer.specs.declared.options.AnyStart.{AnyStart}
@@ -12,7 +14,7 @@ use Rattle.scenario_explorer.specs.declared.options.ByteSpan.{ByteSpan}
 use Rattle.scenario_explorer.specs.declared.options.Cells.{Cells}
 use Rattle.scenario_explorer.specs.declared.options.ExploreOptions.{ExploreOptions}
 use Rattle.scenario_explorer.specs.declared.options.MailSpan.{MailSpan}
-use Rattle.exploration_json.specs.Data.{agreement_word, answer_members, byte_span_data, cells_data, exploration_data, exploration_members, limit_of, node_members, pulses_of, question_members, question_word, scenario_of, search_members, span_data, spans_data, stabilisation_of, stabilisation_word, start_data, states_of, transitions_of, violated_in, word_data}
+use Rattle.exploration_json.specs.Data.{agreement_word, answer_members, byte_span_data, cells_data, exploration_data, exploration_members, limit_of, node_members, odds_data, odds_of, parts_of, pulses_of, question_members, question_word, scenario_of, search_members, span_data, spans_data, stabilisation_of, stabilisation_word, start_data, states_of, transitions_of, violated_in, word_data}
 
 abbrev AllPlain : ℕ → List Member → Type 0
 AllPlain levels ms = AllByRecursion (λ m. IsPlain levels m.1) ms
@@ -83,6 +85,20 @@ plain_search found = (
   (plain_count 5 (transitions_of found), (plain_word 5 (limit_of found), tt)),
 )
 
+plain_odds : (told : Odds) → IsPlain 5 (odds_data told)
+plain_odds told =
+    plain_object 4 (
+    (codes "of", number_data ODDS_WHOLE)
+    ∷ (codes "parts", option_data (list_data number_data) (parts_of told)) ∷ []
+    ) (
+      plain_number 4 ODDS_WHOLE,
+      (
+        plain_option (list_data number_data) 4 (λ parts. plain_list number_data 3 (plain_number 3) parts)
+            (parts_of told),
+        tt,
+      ),
+    )
+
 plain_answer : (found : Found) → AllPlain 5 (answer_members found)
 plain_answer found = (
   plain_word 5 (agreement_word found),
@@ -90,7 +106,10 @@ plain_answer found = (
     plain_count 5 (violated_in found),
     (
       plain_word 5 (option_map stabilisation_word (stabilisation_of found)),
-      (plain_count 5 (pulses_of (stabilisation_of found)), (plain_word 5 (scenario_of found), tt)),
+      (
+        plain_count 5 (pulses_of (stabilisation_of found)),
+        (plain_option odds_data 5 plain_odds (odds_of found), (plain_word 5 (scenario_of found), tt)),
+      ),
     ),
   ),
 )

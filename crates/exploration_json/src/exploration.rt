@@ -3,15 +3,15 @@ ghost use Rattle.std.specs.Prelude.{◌≡◌, IfOk, OnOk, map, option_map, stri
 ghost use Rattle.serde_json.specs.Data.{string};
 ghost use Rattle.serde_json.specs.View.{members_view, view};
 ghost use Rattle.json_values.specs.Texts.{ReadsBack, line_of};
-ghost use Rattle.json_values.specs.Values.{number_data, option_data, with_members};
-ghost use Rattle.exploration_json.specs.Data.{answer_members, exploration_data, node_members, pulses_of, question_members, scenario_of, search_members, stabilisation_of, stabilisation_word, word_data};
+ghost use Rattle.json_values.specs.Values.{list_data, number_data, option_data, with_members};
+ghost use Rattle.exploration_json.specs.Data.{answer_members, exploration_data, node_members, odds_data, odds_of, parts_of, pulses_of, question_members, scenario_of, search_members, stabilisation_of, stabilisation_word, word_data};
 
 use crate::spans::{spans_value, start_value};
 use crate::words::{
     agreement_word, limit_of, question_word, stabilisation_word, states_of, transitions_of,
     violated_in, within,
 };
-use bench_space::Recovery;
+use bench_space::{ODDS_WHOLE, Odds, Recovery};
 use json_values::{count_or_null, line_of, numbers, word_or_null};
 use scenario_explorer::{ExploreOptions, Found, Tried};
 use serde_json::{Map, Value, put};
@@ -104,6 +104,58 @@ fn pulses_value(found: &Found) -> Value
     }
 }
 
+/// The odds, if they were asked.
+fn odds_of(found: &Found) -> Option<&Odds>
+    ensures { option_map (λ odds. odds.now) result ≡ odds_of found.now }
+{
+    match found {
+        Found::Closed { odds, .. } => odds.as_ref(),
+        Found::Parts { .. } | Found::Unfinished { .. } => None,
+    }
+}
+
+/// The counts.
+fn counts(alloc: Global, counts: &[u64]) -> Result<Value, AllocError>
+    ensures { IfOk result (λ v. view v ≡ list_data number_data counts.now) }
+{
+    let mut values = Vec::with_capacity(alloc, counts.len())?;
+    for count in counts {
+        values.push(Value::from(*count))?;
+    }
+    Ok(Value::Array(values))
+}
+
+/// The parts of the whole, for each number of pulses, or null.
+fn parts_value(alloc: Global, odds: &Odds) -> Result<Value, AllocError>
+    ensures { IfOk result (λ v. view v ≡ option_data (list_data number_data) (parts_of odds.now)) }
+{
+    match odds {
+        Odds::Known { parts } => counts(alloc, parts),
+        Odds::Unknown => Ok(Value::Null),
+    }
+}
+
+/// The whole and its parts.
+fn odds_object(alloc: Global, odds: &Odds) -> Result<Value, AllocError>
+    ensures { IfOk result (λ v. view v ≡ odds_data odds.now) }
+{
+    let parts = parts_value(alloc, odds)?;
+    let mut members = Map::new(alloc);
+    put(&mut members, alloc, "of", Value::from(ODDS_WHOLE))?;
+    put(&mut members, alloc, "parts", parts)?;
+    Ok(Value::Object(members))
+}
+
+/// The odds, or null.
+fn odds_value(alloc: Global, found: &Found) -> Result<Value, AllocError>
+    ensures { IfOk result (λ v. view v ≡ option_data odds_data (odds_of found.now)) }
+{
+    match odds_of(found) {
+        Some(odds) => odds_object(alloc, odds),
+        None => Ok(Value::Null),
+    }
+}
+
 /// The text of the counterexample, or null.
 fn scenario_value(alloc: Global, found: &Found) -> Result<Value, AllocError>
     ensures { IfOk result (λ v. view v ≡ word_data (scenario_of found.now)) }
@@ -129,6 +181,7 @@ fn add_answer(
 {
     let agreement = word_or_null(alloc, agreement_word(found))?;
     let stabilisation = stabilisation_value(alloc, found)?;
+    let odds = odds_value(alloc, found)?;
     let scenario = scenario_value(alloc, found)?;
     put(members, alloc, "agreement", agreement)?;
     put(
@@ -139,6 +192,7 @@ fn add_answer(
     )?;
     put(members, alloc, "stabilisation", stabilisation)?;
     put(members, alloc, "pulses", pulses_value(found))?;
+    put(members, alloc, "odds", odds)?;
     put(members, alloc, "scenario", scenario)
 }
 

@@ -1,12 +1,12 @@
 //! What `explore` answers, and the lines that say it.
-ghost use Rattle.std.specs.Prelude.{◌≡◌, ◌+◌, ◌++◌, [], IfOk, OnOk, Some, flat_map, length, string_bytes};
+ghost use Rattle.std.specs.Prelude.{◌≡◌, ◌+◌, ◌-◌, ◌++◌, [], IfOk, OnOk, Some, flat_map, get_or, length, string_bytes};
 ghost use Rattle.std.specs.Option.{option_map_or};
 ghost use Rattle.bench_space.specs.declared.recovery.Recovery.TheVariants.{InStep, Luck};
-ghost use Rattle.scenario_explorer.specs.Explore.{agreement_text, any_start_text, byte_span_text, byzantine_text, cause_text, cells_text, correct_text, count_text, counted, finding_text, found_text, liars_text, mark_of, marked, nodes_text, programmed_text, range_text, recovery_text, shown_of, spans_text, tried_text, unfinished_text, unfit_name, violation_text};
+ghost use Rattle.scenario_explorer.specs.Explore.{agreement_text, any_start_text, byte_span_text, byzantine_text, cause_text, cells_text, correct_text, count_text, counted, finding_text, found_text, liars_text, mark_of, marked, nodes_text, odds_text, percent_text, programmed_text, range_text, recovery_text, shown_of, spans_text, tried_text, unfinished_text, unfit_name, violation_text};
 ghost use Rattle.scenario_explorer.specs.declared.finding.Finding.TheVariants.{Searched};
 
 use crate::options::{AnyStart, ByteSpan, Cells, MailSpan};
-use bench_space::{Cause, MOST_MAILS, Recovery};
+use bench_space::{Cause, MOST_MAILS, ODDS_WHOLE, Odds, Recovery};
 use std::alloc::{AllocError, Global};
 use std::fmt;
 use std::fmt::Write;
@@ -48,12 +48,14 @@ pub struct Tried {
 #[derive(Debug, Drop)]
 pub enum Found {
     /// Every transition was tried. Whether agreement was asked, and so holds; if it was asked, how the clocks
-    /// stabilise, with the text of a counterexample if that can be prevented and one was made.
+    /// stabilise, with the text of a counterexample if that can be prevented and one was made; and the odds that were
+    /// asked.
     Closed {
         agrees: bool,
         states: u64,
         moves: u64,
         recovery: Option<Recovery>,
+        odds: Option<Odds>,
         shown: Option<String>,
     },
     /// Agreement is violated in this pulse of the counterexample of this text.
@@ -341,6 +343,47 @@ fn recovery_line(alloc: Global, recovery: &Recovery) -> Result<String, AllocErro
     }
 }
 
+/// So many of the parts of the whole, in percent with one decimal place, rounded down.
+fn percent(alloc: Global, parts: u64) -> Result<String, AllocError>
+    ensures { IfOk result (λ text. string_bytes text ≡ percent_text parts) }
+{
+    let tenths = u128::from(parts) * 1000 / u128::from(ODDS_WHOLE);
+    let whole = tenths / 10;
+    let rest = tenths % 10;
+    format!(in alloc; "{whole}.{rest} %")
+}
+
+/// The number of the last entry, and the entry: 0 of none.
+fn last_of(parts: &[u64]) -> (u64, u64)
+    ensures last { result.0 ≡ length parts.now - 1 }
+    ensures share { result.1 ≡ get_or parts.now (length parts.now - 1) 0 }
+{
+    let last = parts.len().saturating_sub(1);
+    match parts.get(last) {
+        Some(share) => (last as u64, *share),
+        None => (last as u64, 0),
+    }
+}
+
+/// How likely they stabilise.
+fn odds_line(alloc: Global, odds: &Odds) -> Result<String, AllocError>
+    ensures { IfOk result (λ text. string_bytes text ≡ odds_text odds.now) }
+{
+    match odds {
+        Odds::Known { parts } => {
+            let (last, share) = last_of(parts);
+            let percent = percent(alloc, share)?;
+            let pulses = counted(alloc, last, "pulse")?;
+            format!(in alloc;
+                "odds: at least {percent} within {pulses} ({share} of {ODDS_WHOLE} parts), whatever the adversary sends"
+            )
+        }
+        Odds::Unknown => format!(in alloc;
+            "odds not decided: a state has more choices than --states allows"
+        ),
+    }
+}
+
 /// Why the search isn't finished.
 fn cause_line(alloc: Global, cause: Cause) -> Result<String, AllocError>
     ensures { IfOk result (λ text. string_bytes text ≡ cause_text cause) }
@@ -402,20 +445,36 @@ fn recovery_told(
     }
 }
 
-/// The line on agreement, and how the clocks stabilise if that was asked, each behind the mark.
+/// How likely they stabilise, behind the mark, if that was asked.
+fn odds_told(alloc: Global, mark: &str, odds: &Option<Odds>) -> Result<String, AllocError>
+    ensures { IfOk result (λ text. string_bytes text
+        ≡ option_map_or (λ told. marked mark.now (odds_text told)) odds.now []) }
+{
+    match odds {
+        Some(told) => {
+            let line = odds_line(alloc, told)?;
+            marked(alloc, mark, line.as_str())
+        }
+        None => Ok(String::new(alloc)),
+    }
+}
+
+/// The line on agreement, and how the clocks stabilise and how likely if that was asked, each behind the mark.
 fn answers_told(
     alloc: Global,
     mark: &str,
     agreement: &str,
     recovery: &Option<Recovery>,
+    odds: &Option<Odds>,
 ) -> Result<String, AllocError>
     ensures { IfOk result (λ text. string_bytes text ≡ marked mark.now agreement.now
-        ++ option_map_or (λ how. marked mark.now (recovery_text how)) recovery.now []) }
+        ++ (option_map_or (λ how. marked mark.now (recovery_text how)) recovery.now []
+        ++ option_map_or (λ told. marked mark.now (odds_text told)) odds.now [])) }
 {
-    let mut text = marked(alloc, mark, agreement)?;
+    let first = marked(alloc, mark, agreement)?;
     let second = recovery_told(alloc, mark, recovery)?;
-    text.push_str(second.as_str())?;
-    Ok(text)
+    let third = odds_told(alloc, mark, odds)?;
+    format!(in alloc; "{first}{second}{third}")
 }
 
 impl Found {
@@ -440,7 +499,7 @@ impl Found {
         if self.shown().len() == 0 { "" } else { "# " }
     }
 
-    /// What was found, in a line or two, each behind the mark.
+    /// What was found, in up to three lines, each behind the mark.
     fn text(&self, alloc: Global, mark: &str) -> Result<String, AllocError>
         ensures { IfOk result (λ text. string_bytes text ≡ found_text mark.now self.now) }
     {
@@ -450,10 +509,11 @@ impl Found {
                 states,
                 moves,
                 recovery,
+                odds,
                 ..
             } => {
                 let line = agreement_line(alloc, *agrees, *states, *moves)?;
-                answers_told(alloc, mark, line.as_str(), recovery)
+                answers_told(alloc, mark, line.as_str(), recovery, odds)
             }
             Found::Parts { pulse, states, .. } => {
                 let line = violation_line(alloc, *pulse, *states)?;
