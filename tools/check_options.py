@@ -80,6 +80,7 @@ ROWS = {
     ("explore", "ask"): ([], THREE, "stabilisation"),
     ("explore", "states"): ([], THREE, "2"),
     ("explore", "depth"): ([], THREE, "2"),
+    ("explore", "odds"): (["--ask", "stabilisation"], THREE, "2"),
     ("explore", "json"): ([], THREE, None),
 }
 
