@@ -44,6 +44,7 @@ MAX_PORT = 65535
 PROCESSES = max(2, os.cpu_count() or 2)
 WORD = 1 << 32
 MAX_KEY, MAX_STATES, MAX_NODES, MAX_MEMORY, MAX_PULSES, MAX_MODULUS = (1 << 63) - 1, 10**9, 64, 256, 1000, 65536
+MAX_ODDS = 100_000
 # What the page may load and do: its own files and requests, and nothing else.
 POLICY = (
     "default-src 'none'; script-src 'self'; style-src 'self'; connect-src 'self'; img-src 'self' data:;"
@@ -381,6 +382,8 @@ class Lab:
         words = ["explore", f"--states={number(body, 'states', 1, MAX_STATES)}"]
         if "depth" in body:
             words.append(f"--depth={number(body, 'depth', 1, MAX_STATES)}")
+        if "odds" in body:
+            words.append(f"--odds={number(body, 'odds', 1, MAX_ODDS)}")
         if "mail" in body:
             words.append(f"--mail={text(body, 'mail', '[0-9.,]+')}")
         if "ask" in body:

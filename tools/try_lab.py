@@ -176,7 +176,7 @@ def try_rejections(trial, lab):
     trial.equal("an unknown question", lab.request(here + "shell", "{}")[0], 404)
     trial.equal("a file beside the page", lab.request(here + "../lab.py", method="GET")[0], 404)
     trial.equal("the method OPTIONS", lab.request(here + "run", method="OPTIONS")[0], 501)
-    options = {"mail": "--states=5", "depth": "1;ls", "bytes": "x", "cells": "0=x", "ask": "--both"}
+    options = {"mail": "--states=5", "depth": "1;ls", "odds": "0", "bytes": "x", "cells": "0=x", "ask": "--both"}
     for name, value in options.items():
         trial.equal(f"{name} {value}", lab.ask("explore", text=FOUR, states=5, **{name: value})[0], 400)
     trial.equal("the page itself", lab.request(here, method="GET")[0], 200)
@@ -749,6 +749,22 @@ def try_counter(trial, page):
     trial.holds("the counter's stabilisation time", page.until(shown), page.text("#explored"))
     page.choose("#question", "both")
     page.choose("#start", "zero")
+    try_odds(trial, page)
+
+
+def try_odds(trial, page):
+    """The odds of the rule's clocks, which aren't asked with agreement alone."""
+    page.open((TOP / "examples/explore/four_nodes.toml").read_text(encoding="utf-8"))
+    page.put("#odds", "8")
+    page.click("#explore")
+    shown = "document.getElementById('explored').textContent.includes('odds: at least')"
+    trial.holds("odds", page.until(shown), page.text("#explored"))
+    told = asked(["explore", "--states=2000", "--odds=8"], page.scenario())
+    trial.holds("the odds that explore tells", told.splitlines()[-1] in page.text("#explored"), page.text("#explored"))
+    page.choose("#question", "agreement")
+    trial.holds("no odds of agreement", page.value("document.getElementById('odds').disabled"), "enabled")
+    page.choose("#question", "both")
+    page.put("#odds", "")
 
 
 def held_off():

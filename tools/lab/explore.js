@@ -65,6 +65,7 @@ export function exploredText(run, nodes) {
 function options() {
   const asked = { states: Number(get("most-states").value), ask: get("question").value };
   if (get("depth").value) asked.depth = Number(get("depth").value);
+  if (get("odds").value && !get("odds").disabled) asked.odds = Number(get("odds").value);
   if (get("sent").value.trim()) asked.mail = get("sent").value.replace(/\s+/g, "");
   if (get("start").value === "any") {
     const bytes = get("start-bytes").value.replace(/\s+/g, "");
@@ -162,6 +163,9 @@ export function begin() {
   const showStart = () => {
     get("start-bytes").disabled = get("start").value !== "any";
   };
+  get("question").addEventListener("change", () => {
+    get("odds").disabled = get("question").value === "agreement";
+  });
   get("start").addEventListener("change", showStart);
   showStart();
   on("run", drawNodes);
