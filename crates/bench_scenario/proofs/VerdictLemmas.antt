@@ -5,9 +5,10 @@ use Rattle.std.proofs.lemmas.Bool.{cases_lt}
 use Rattle.std.proofs.lemmas.List.{append_assoc, append-nil, drop_more, drop_all}
 use Rattle.std.proofs.Math.Nat.{min-eq_left, min-eq_right, min-le_left, min-le_right}
 use Rattle.bench_core.specs.Told.{PulseTold}
+use Rattle.scenario_text.specs.declared.scenario.Frame.{Frame}
 use Rattle.bench_scenario.specs.declared.verdicts.Judged.{Judged}
 use Rattle.bench_scenario.specs.Verdicts.{told_clocks, counting, joined, step_of}
-use Rattle.bench_scenario.specs.Reports.{judged_line, judged_lines}
+use Rattle.bench_scenario.specs.Reports.{record_line, record_lines}
 
 -- past the shorter one of two lists
 past_min : (a b n i : ℕ) → n ≡ min a b → n ≤ i → (a ≤ i) ⊎ (b ≤ i)
@@ -99,25 +100,25 @@ count_whole m before after v n i e le so_far =
     let none = count_end m before after i (past_min (length before) (length after) n i e le) in
     sym (joined_none v) ∙ (ap (λ (t : Option Bool). joined v t) (sym none) ∙ so_far)
 
-lines_none : (m : ℕ) (rs : List PulseTold) → judged_lines m rs [] ≡ []
-lines_none m [] = refl
-lines_none m (r ∷ rs) = refl
+lines_none : (f : Frame) (rs : List PulseTold) → record_lines f rs [] ≡ []
+lines_none f [] = refl
+lines_none f (r ∷ rs) = refl
 
-lines_end : (m : ℕ) (rs : List PulseTold) (js : List Judged) (i : ℕ) → (length rs ≤ i) ⊎ (length js ≤ i)
-    → judged_lines m (drop i rs) (drop i js) ≡ []
-lines_end m rs js i (inl past) = rw (drop_all i rs past) refl
-lines_end m rs js i (inr past) = rw (drop_all i js past) (lines_none m (drop i rs))
+lines_end : (f : Frame) (rs : List PulseTold) (js : List Judged) (i : ℕ) → (length rs ≤ i) ⊎ (length js ≤ i)
+    → record_lines f (drop i rs) (drop i js) ≡ []
+lines_end f rs js i (inl past) = rw (drop_all i rs past) refl
+lines_end f rs js i (inr past) = rw (drop_all i js past) (lines_none f (drop i rs))
 
-pub lines_more : (m : ℕ) (rs : List PulseTold) (js : List Judged) (i : ℕ) (r : PulseTold) (j : Judged)
+pub lines_more : (f : Frame) (rs : List PulseTold) (js : List Judged) (i : ℕ) (r : PulseTold) (j : Judged)
     → drop i rs ≡ r ∷ drop (i + 1) rs → drop i js ≡ j ∷ drop (i + 1) js
-    → judged_lines m (drop i rs) (drop i js) ≡ judged_line m r j ++ judged_lines m (drop (i + 1) rs) (drop (i + 1) js)
-lines_more m rs js i r j e f = rw (e, f) refl
+    → record_lines f (drop i rs) (drop i js) ≡ record_line f r j ++ record_lines f (drop (i + 1) rs) (drop (i + 1) js)
+lines_more f rs js i r j e e2 = rw (e, e2) refl
 
 -- all lines are written
-pub lines_whole : (m : ℕ) (rs : List PulseTold) (js : List Judged) (done front : List ℕ) (n i : ℕ)
+pub lines_whole : (f : Frame) (rs : List PulseTold) (js : List Judged) (done front : List ℕ) (n i : ℕ)
     → n ≡ min (length rs) (length js) → n ≤ i
-    → done ++ judged_lines m (drop i rs) (drop i js) ≡ front ++ judged_lines m rs js
-    → done ≡ front ++ judged_lines m rs js
-lines_whole m rs js done front n i e le so_far =
-    nothing_more done (judged_lines m (drop i rs) (drop i js)) (front ++ judged_lines m rs js)
-    (lines_end m rs js i (past_min (length rs) (length js) n i e le)) so_far
+    → done ++ record_lines f (drop i rs) (drop i js) ≡ front ++ record_lines f rs js
+    → done ≡ front ++ record_lines f rs js
+lines_whole f rs js done front n i e le so_far =
+    nothing_more done (record_lines f (drop i rs) (drop i js)) (front ++ record_lines f rs js)
+    (lines_end f rs js i (past_min (length rs) (length js) n i e le)) so_far

@@ -1,7 +1,9 @@
 -- What a report judges of closed pulses (docs/SCENARIOS.md, "Verdicts").
-use Rattle.std.specs.Prelude.{ℕ, ◌+◌, ◌%◌, ◌==◌, ◌&&◌, nat_lt, if◌then◌else◌, Bool, true, List, [], ◌∷◌, Option, Some, None}
+use Rattle.std.specs.Prelude.{ℕ, ◌+◌, ◌%◌, ◌==◌, ◌&&◌, nat_lt, if◌then◌else◌, Bool, true, List, [], ◌∷◌, map, Option, Some, None, unwrap_or}
 use Rattle.std.specs.List.{list_all}
 use Rattle.bench_core.specs.Told.{PulseTold}
+use Rattle.scenario_text.specs.declared.scenario.Frame.{Frame}
+use Rattle.scenario_text.specs.Views.{is_judged}
 use Rattle.bench_scenario.specs.declared.verdicts.TheConstants.{FEWEST}
 use Rattle.bench_scenario.specs.declared.verdicts.Judged.{Judged}
 
@@ -61,15 +63,41 @@ counting modulus [] after = None
 counting modulus (b ∷ before) [] = None
 counting modulus (b ∷ before) (a ∷ after) = joined (step_of modulus b a) (counting modulus before after)
 
+-- ---- a pulse
+
+-- from version 3 on, with the settled clocks of the pulse before
+abbrev pub judged_by : Bool → ℕ → List (Option ℕ) → PulseTold → Judged
+judged_by own modulus before r = record {
+  agree = agreement own modulus r;
+  counts = counting modulus before (settled_in r);
+}
+
+-- versions 1 and 2 judge agreement alone, as the record has it
+abbrev pub judged_plainly : PulseTold → Judged
+judged_plainly r = record { agree = Some r.agree; counts = None }
+
+-- the first pulse has none before it
+abbrev pub settled_before : Option PulseTold → List (Option ℕ)
+settled_before None = []
+settled_before (Some earlier) = settled_in earlier
+
+-- by the record of the pulse and that of the pulse before
+abbrev pub judgement : Frame → Bool → Option PulseTold → PulseTold → Judged
+judgement f own earlier r =
+    if is_judged f.version then judged_by own f.modulus (settled_before earlier) r else judged_plainly r
+
 -- ---- a run
 
 -- pulse after pulse, each with the settled clocks of the one before
 abbrev pub judged_after : Bool → ℕ → List (Option ℕ) → List PulseTold → List Judged
 judged_after own modulus before [] = []
 judged_after own modulus before (r ∷ rs) =
-    record { agree = agreement own modulus r; counts = counting modulus before (settled_in r) }
-    ∷ judged_after own modulus (settled_in r) rs
+    judged_by own modulus before r ∷ judged_after own modulus (settled_in r) rs
 
--- the first pulse has none before it
-abbrev pub judged_of : Bool → ℕ → List PulseTold → List Judged
-judged_of own modulus rs = judged_after own modulus [] rs
+-- what is judged of each pulse
+abbrev pub judged_of : Frame → Bool → List PulseTold → List Judged
+judged_of f own rs = if is_judged f.version then judged_after own f.modulus [] rs else map judged_plainly rs
+
+-- no verdict on agreement is no
+abbrev pub none_disagrees : List Judged → Bool
+none_disagrees js = list_all (λ j. unwrap_or j.agree true) js

@@ -4,7 +4,6 @@
 mod coins;
 mod in_step;
 mod inputs;
-mod judged;
 mod keyed;
 pub mod laws;
 mod noise;
@@ -20,13 +19,12 @@ mod watched;
 
 pub use in_step::in_step_since;
 pub use inputs::{InputFault, NodeInput, node_input};
-pub use judged::clock_name;
 pub use keyed::run_with_key;
-pub use printing::{all_agree, report};
+pub use printing::{RunReport, clock_name, report};
 pub use reading::{TextFault, read_scenario};
 pub use run::{MOST_BYTES, MOST_CALLS, ReportFault, ScenarioFault, run_scenario, write_report};
 pub use scenario_text::{RefusalLine, Scenario, ScenarioError, scenario_of};
 pub use schedule::events;
 pub use summary::{RunSummary, summary_of};
-pub use verdicts::{Judged, agreement, counting, told_clocks};
+pub use verdicts::{Judged, judged_of, judgement, none_disagrees};
 pub use watched::{WatchedFault, run_watched};

@@ -1,36 +1,102 @@
-//! The report of a run.
-ghost use Rattle.std.specs.Prelude.{◌≡◌, true, unwrap_or, ◌++◌, IfOk, OnOk, IfSome, is_some, string_bytes, codes, count_by, length};
-ghost use Rattle.std.specs.List.{list_all};
+//! The report of a run: the text, and whether no pulse disagrees.
+ghost use Rattle.std.specs.Prelude.{◌≡◌, ◌++◌, IfOk, OnOk, IfSome, is_some, string_bytes, codes, count_by};
 ghost use Rattle.std.specs.Fmt.{decimal};
-ghost use Rattle.bench_scenario.specs.Reports.{report_of, plain_report, all_agree, clock_text, clocks_text, record_line, record_lines, shape_text, last_line, head_line, yes_or_no};
+ghost use Rattle.bench_scenario.specs.Reports.{agreed, agreement_judged, all_agree, clock_end, clock_name, clock_text};
+ghost use Rattle.bench_scenario.specs.Reports.{clocks_text, counted_end, counts_end, head_line, is_past, is_yes, last_line};
+ghost use Rattle.bench_scenario.specs.Reports.{record_line, record_lines, report_of, report_text, shape_text, verdict_text};
+ghost use Rattle.bench_scenario.specs.Reports.{version_text};
 ghost use Rattle.scenario_text.specs.Views.{frame_of};
 
-use crate::judged::judged_report;
-use crate::verdicts::{Judged, judged_of};
+use crate::verdicts::{Judged, judged_of, none_disagrees};
 use bench_core::PulseRecord;
 use bench_workers::Run;
 use itoa::Buffer;
-use scenario_text::{FIRST_VERSION, Scenario};
+use scenario_text::{CLOCK_VERSION, FIRST_VERSION, Scenario};
 use std::alloc::{AllocError, Global};
 use std::fmt::Write;
 
-pub(crate) fn add(report: &mut String, part: &str) -> Result<(), AllocError>
+fn add(report: &mut String, part: &str) -> Result<(), AllocError>
     ensures { OnOk result (string_bytes report.new ≡ string_bytes report.old ++ part.now) }
 {
     report.push_str(part)
 }
 
-pub(crate) fn add_number(report: &mut String, number: u32) -> Result<(), AllocError>
+fn add_number(report: &mut String, number: u32) -> Result<(), AllocError>
     ensures { OnOk result (string_bytes report.new ≡ string_bytes report.old ++ decimal number) }
 {
     let mut digits = Buffer::new();
     add(report, digits.format(number))
 }
 
+// ---- the first line
+
+/// The version, but for the first one.
+fn add_version(report: &mut String, scenario: &Scenario) -> Result<(), AllocError>
+    ensures { OnOk result (string_bytes report.new
+        ≡ string_bytes report.old ++ version_text (frame_of scenario.now)) }
+{
+    if scenario.version as u64 == FIRST_VERSION {
+        return Ok(());
+    }
+    add(report, "version ")?;
+    add_number(report, scenario.version)?;
+    add(report, " ")
+}
+
+fn add_shape(report: &mut String, scenario: &Scenario) -> Result<(), AllocError>
+    ensures { OnOk result (string_bytes report.new
+        ≡ string_bytes report.old ++ shape_text (frame_of scenario.now)) }
+{
+    add(report, "nodes ")?;
+    add_number(report, scenario.nodes)?;
+    add(report, " faults ")?;
+    add_number(report, scenario.faults)?;
+    add(report, " modulus ")?;
+    add_number(report, scenario.modulus)
+}
+
+/// Returns whose clock it is: the scenario's own, or this project's, by the name that the version has for it.
+pub fn clock_name(version: u32, own: bool) -> &'static str
+    ensures { result.now ≡ clock_name version own }
+{
+    if own {
+        "own"
+    } else if version as u64 == CLOCK_VERSION {
+        "rule"
+    } else {
+        "bed"
+    }
+}
+
+fn add_clock_end(report: &mut String, scenario: &Scenario) -> Result<(), AllocError>
+    ensures { OnOk result (string_bytes report.new
+        ≡ string_bytes report.old ++ clock_end (frame_of scenario.now) (is_some scenario.now.clock)) }
+{
+    if scenario.is_judged() {
+        add(report, " clock ")?;
+        add(
+            report,
+            clock_name(scenario.version, scenario.clock.is_some()),
+        )?;
+    }
+    add(report, "\n")
+}
+
+fn add_head(report: &mut String, scenario: &Scenario) -> Result<(), AllocError>
+    ensures { OnOk result (string_bytes report.new
+        ≡ string_bytes report.old ++ head_line (frame_of scenario.now) (is_some scenario.now.clock)) }
+{
+    add_version(report, scenario)?;
+    add_shape(report, scenario)?;
+    add_clock_end(report, scenario)
+}
+
+// ---- the lines of pulses
+
 /// A clock of one digit, as most are, with the space before it.
 #[tactic(auto, using(std::proofs::lemmas::Fmt::decimal_digit))]
 fn short_clock(clock: u32) -> Option<&'static str>
-    ensures { IfSome result (λ text. text.now ≡ clock_text (Some clock)) }
+    ensures { IfSome result (λ text. text.now ≡ codes " " ++ decimal clock) }
 {
     match clock {
         0 => Some(" 0"),
@@ -47,9 +113,9 @@ fn short_clock(clock: u32) -> Option<&'static str>
     }
 }
 
-/// A clock that is told, with the space before it.
-pub(crate) fn add_told(report: &mut String, clock: u32) -> Result<(), AllocError>
-    ensures { OnOk result (string_bytes report.new ≡ string_bytes report.old ++ clock_text (Some clock)) }
+/// A clock that has a value, with the space before it.
+fn add_value(report: &mut String, clock: u32) -> Result<(), AllocError>
+    ensures { OnOk result (string_bytes report.new ≡ string_bytes report.old ++ (codes " " ++ decimal clock)) }
 {
     match short_clock(clock) {
         Some(text) => add(report, text),
@@ -60,26 +126,45 @@ pub(crate) fn add_told(report: &mut String, clock: u32) -> Result<(), AllocError
     }
 }
 
-fn add_clock(report: &mut String, clock: Option<u32>) -> Result<(), AllocError>
-    ensures { OnOk result (string_bytes report.new ≡ string_bytes report.old ++ clock_text clock) }
+/// Whether a clock has no value.
+fn is_past(scenario: &Scenario, clock: u32) -> bool
+    ensures { result ≡ is_past (frame_of scenario.now) clock }
+{
+    scenario.is_judged() && scenario.modulus <= clock
+}
+
+fn add_clock(report: &mut String, scenario: &Scenario, clock: Option<u32>) -> Result<(), AllocError>
+    ensures { OnOk result (string_bytes report.new
+        ≡ string_bytes report.old ++ clock_text (frame_of scenario.now) clock) }
 {
     match clock {
         None => add(report, " -"),
-        Some(clock) => add_told(report, clock),
+        Some(clock) => {
+            if is_past(scenario, clock) {
+                add(report, " !")
+            } else {
+                add_value(report, clock)
+            }
+        }
     }
 }
 
-fn add_clocks(report: &mut String, clocks: &[Option<u32>]) -> Result<(), AllocError>
-    ensures { OnOk result (string_bytes report.new ≡ string_bytes report.old ++ clocks_text clocks.now) }
+fn add_clocks(
+    report: &mut String,
+    scenario: &Scenario,
+    clocks: &[Option<u32>],
+) -> Result<(), AllocError>
+    ensures { OnOk result (string_bytes report.new
+        ≡ string_bytes report.old ++ clocks_text (frame_of scenario.now) clocks.now) }
 {
     for clock in clocks {
-        add_clock(report, *clock)?;
+        add_clock(report, scenario, *clock)?;
     }
     Ok(())
 }
 
 /// The line up to its clocks.
-pub(crate) fn add_front(report: &mut String, pulse: u32) -> Result<(), AllocError>
+fn add_front(report: &mut String, pulse: u32) -> Result<(), AllocError>
     ensures { OnOk result (string_bytes report.new
         ≡ string_bytes report.old ++ (codes "pulse " ++ (decimal pulse ++ codes " clocks"))) }
 {
@@ -88,8 +173,8 @@ pub(crate) fn add_front(report: &mut String, pulse: u32) -> Result<(), AllocErro
     add(report, " clocks")
 }
 
-/// What is after them in the lines of all versions.
-pub(crate) fn add_counts(report: &mut String, settled: u32, steps: u32) -> Result<(), AllocError>
+/// What is between the clocks and the verdicts.
+fn add_counts(report: &mut String, settled: u32, steps: u32) -> Result<(), AllocError>
     ensures { OnOk result (string_bytes report.new
         ≡ string_bytes report.old ++ (codes " settled " ++ (decimal settled ++ (codes " steps "
         ++ (decimal steps ++ codes " agree "))))) }
@@ -101,99 +186,156 @@ pub(crate) fn add_counts(report: &mut String, settled: u32, steps: u32) -> Resul
     add(report, " agree ")
 }
 
-fn add_record(report: &mut String, one: &PulseRecord) -> Result<(), AllocError>
-    ensures { OnOk result (string_bytes report.new ≡ string_bytes report.old ++ record_line one.now) }
+fn verdict_text(verdict: Option<bool>) -> &'static str
+    ensures { result.now ≡ verdict_text verdict }
 {
-    add_front(report, one.row.pulse)?;
-    add_clocks(report, one.clocks.as_slice())?;
-    add_counts(report, one.row.settled, one.steps)?;
-    add(report, if one.agree { "yes\n" } else { "no\n" })
+    match verdict {
+        None => "none",
+        Some(true) => "yes",
+        Some(false) => "no",
+    }
 }
 
-fn add_records(report: &mut String, records: &[PulseRecord]) -> Result<(), AllocError>
-    ensures { OnOk result (string_bytes report.new ≡ string_bytes report.old ++ record_lines records.now) }
+fn add_counts_end(
+    report: &mut String,
+    scenario: &Scenario,
+    counts: Option<bool>,
+) -> Result<(), AllocError>
+    ensures { OnOk result (string_bytes report.new
+        ≡ string_bytes report.old ++ counts_end (frame_of scenario.now) counts) }
 {
-    for one in records {
-        add_record(report, one)?;
+    if scenario.is_judged() {
+        add(report, " counts ")?;
+        add(report, verdict_text(counts))?;
+    }
+    add(report, "\n")
+}
+
+fn add_record(
+    report: &mut String,
+    scenario: &Scenario,
+    one: &PulseRecord,
+    judged: Judged,
+) -> Result<(), AllocError>
+    ensures { OnOk result (string_bytes report.new
+        ≡ string_bytes report.old ++ record_line (frame_of scenario.now) one.now judged) }
+{
+    add_front(report, one.row.pulse)?;
+    add_clocks(report, scenario, one.clocks.as_slice())?;
+    add_counts(report, one.row.settled, one.steps)?;
+    add(report, verdict_text(judged.agree))?;
+    add_counts_end(report, scenario, judged.counts)
+}
+
+fn add_records(
+    report: &mut String,
+    scenario: &Scenario,
+    records: &[PulseRecord],
+    judged: &[Judged],
+) -> Result<(), AllocError>
+    ensures { OnOk result (string_bytes report.new
+        ≡ string_bytes report.old ++ record_lines (frame_of scenario.now) records.now judged.now) }
+{
+    let count = records.len().min(judged.len());
+    for pulse in 0..count {
+        let one = &records[pulse];
+        add_record(report, scenario, one, judged[pulse])?;
     }
     Ok(())
 }
 
-fn agreed(records: &[PulseRecord]) -> usize
-    ensures { result ≡ count_by (λ r. r.agree) records.now }
+// ---- the last line
+
+fn is_yes(verdict: Option<bool>) -> bool
+    ensures { result ≡ is_yes verdict }
 {
-    records.iter().filter(|one| one.agree).count()
+    verdict.unwrap_or(false)
 }
 
-fn head(alloc: Global, scenario: &Scenario) -> Result<String, AllocError>
-    ensures { IfOk result (λ text. string_bytes text ≡ head_line (frame_of scenario.now)) }
+/// How many pulses agree.
+pub(crate) fn agreed(judged: &[Judged]) -> usize
+    ensures { result ≡ agreed judged.now }
 {
-    let version = scenario.version;
-    let nodes = scenario.nodes;
-    let faults = scenario.faults;
-    let modulus = scenario.modulus;
-    if version as u64 == FIRST_VERSION {
-        format!(in alloc; "nodes {nodes} faults {faults} modulus {modulus}\n")
-    } else {
-        format!(in alloc; "version {version} nodes {nodes} faults {faults} modulus {modulus}\n")
+    judged.iter().filter(|one| is_yes(one.agree)).count()
+}
+
+/// Of how many pulses it is judged whether they agree.
+pub(crate) fn agreement_judged(judged: &[Judged]) -> usize
+    ensures { result ≡ agreement_judged judged.now }
+{
+    judged.iter().filter(|one| one.agree.is_some()).count()
+}
+
+fn counted(judged: &[Judged]) -> usize
+    ensures { result ≡ count_by (λ j. is_yes j.counts) judged.now }
+{
+    judged.iter().filter(|one| is_yes(one.counts)).count()
+}
+
+fn counting_judged(judged: &[Judged]) -> usize
+    ensures { result ≡ count_by (λ j. is_some j.counts) judged.now }
+{
+    judged.iter().filter(|one| one.counts.is_some()).count()
+}
+
+fn counted_end(alloc: Global, scenario: &Scenario, judged: &[Judged]) -> Result<String, AllocError>
+    ensures { IfOk result (λ text. string_bytes text ≡ counted_end (frame_of scenario.now) judged.now) }
+{
+    if !scenario.is_judged() {
+        return String::from_str(alloc, "\n");
     }
+    let counted = counted(judged);
+    let counting = counting_judged(judged);
+    format!(in alloc; " counted {counted} of {counting}\n")
 }
 
-/// The report of a run of versions 1 and 2.
-fn plain_report(
+fn last_line(alloc: Global, scenario: &Scenario, judged: &[Judged]) -> Result<String, AllocError>
+    ensures { IfOk result (λ text. string_bytes text ≡ last_line (frame_of scenario.now) judged.now) }
+{
+    let agreed = agreed(judged);
+    let agreement = agreement_judged(judged);
+    let end = counted_end(alloc, scenario, judged)?;
+    format!(in alloc; "agreed {agreed} of {agreement}{end}")
+}
+
+// ---- the report
+
+/// The report of these records, of which this is judged.
+fn report_text(
     alloc: Global,
     scenario: &Scenario,
     records: &[PulseRecord],
+    judged: &[Judged],
 ) -> Result<String, AllocError>
-    ensures { IfOk result (λ text. string_bytes text ≡ plain_report (frame_of scenario.now) records.now) }
+    ensures { IfOk result (λ text. string_bytes text
+        ≡ report_text (frame_of scenario.now) (is_some scenario.now.clock) records.now judged.now) }
 {
-    let mut text = head(alloc, scenario)?;
-    add_records(&mut text, records)?;
-    let agreed = agreed(records);
-    let count = records.len();
-    let last = format!(in alloc; "agreed {agreed} of {count}\n")?;
+    let mut text = String::new(alloc);
+    add_head(&mut text, scenario)?;
+    add_records(&mut text, scenario, records, judged)?;
+    let last = last_line(alloc, scenario, judged)?;
     add(&mut text, last.as_str())?;
     Ok(text)
 }
 
-/// Returns the report of a scenario's run: a line for the scenario, one for each closed pulse, and one for all.
-pub fn report(alloc: Global, scenario: &Scenario, run: &Run) -> Result<String, AllocError>
-    ensures { IfOk result (λ text. string_bytes text
+/// The report of a run, and whether no pulse's verdict on agreement is no.
+#[derive(Drop)]
+pub struct RunReport {
+    pub text: String,
+    pub agrees: bool,
+}
+
+/// Returns the report of a scenario's run: a line for the scenario, one for each closed pulse, and one for all. Each
+/// pulse is judged once.
+pub fn report(alloc: Global, scenario: &Scenario, run: &Run) -> Result<RunReport, AllocError>
+    ensures text { IfOk result (λ report. string_bytes report.text
         ≡ report_of (frame_of scenario.now) (is_some scenario.now.clock) run.now.records.items) }
-{
-    let records = run.records.as_slice();
-    let own = scenario.clock.is_some();
-    if scenario.is_judged() {
-        judged_report(alloc, scenario, own, records)
-    } else {
-        plain_report(alloc, scenario, records)
-    }
-}
-
-/// Whether no verdict on agreement is no.
-fn all_verdicts_agree(judged: &[Judged]) -> bool
-    ensures { result ≡ list_all (λ j. unwrap_or j.agree true) judged.now }
-{
-    judged.iter().all(|one| one.agree.unwrap_or(true))
-}
-
-fn all_records_agree(records: &[PulseRecord]) -> bool
-    ensures { result ≡ list_all (λ r. r.agree) records.now }
-{
-    records.iter().all(|one| one.agree)
-}
-
-/// Returns whether no pulse's verdict on agreement is no.
-pub fn all_agree(alloc: Global, scenario: &Scenario, run: &Run) -> Result<bool, AllocError>
-    ensures { IfOk result (λ agrees. agrees
+    ensures agrees { IfOk result (λ report. report.agrees
         ≡ all_agree (frame_of scenario.now) (is_some scenario.now.clock) run.now.records.items) }
 {
     let records = run.records.as_slice();
-    let own = scenario.clock.is_some();
-    if scenario.is_judged() {
-        let judged = judged_of(alloc, own, scenario.modulus, records)?;
-        Ok(all_verdicts_agree(judged.as_slice()))
-    } else {
-        Ok(all_records_agree(records))
-    }
+    let judged = judged_of(alloc, scenario, records)?;
+    let text = report_text(alloc, scenario, records, judged.as_slice())?;
+    let agrees = none_disagrees(judged.as_slice());
+    Ok(RunReport { text, agrees })
 }

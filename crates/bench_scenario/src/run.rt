@@ -7,7 +7,7 @@ ghost use Rattle.bench_scenario.specs.Runs.{LeavesReport, LeavesRun, ReportsRun,
 ghost use Rattle.bench_scenario.specs.inner.Runs.{IsDueOfRun};
 
 use crate::paying::paying_workers;
-use crate::printing::{all_agree, report};
+use crate::printing::{RunReport, report};
 use crate::reading::{TextFault, read_scenario};
 use crate::schedule::events;
 use bench_core::Bench;
@@ -76,24 +76,17 @@ pub(crate) fn bench_for(alloc: Global, scenario: &Scenario) -> Result<Bench, All
     }
 }
 
-/// A report, and whether no pulse's verdict on agreement is no.
-#[derive(Drop)]
-struct Judgement {
-    line: String,
-    agrees: bool,
-}
-
 /// The report of the run of a scenario that was read.
 fn report_of<T: Threads + Wait + Sync>(
     rt: &T,
     alloc: Global,
     scenario: &Scenario,
     workers: u32,
-) -> Result<Judgement, ReportFault>
+) -> Result<RunReport, ReportFault>
     requires some { 1 ≤ workers }
     requires few { workers ≤ MOST_WORKERS }
     requires reads { (text : List ℕ) × ReadsText text scenario.now }
-    ensures { MatchResult result (λ told. ReportsRun scenario.now (string_bytes told.line) told.agrees)
+    ensures { MatchResult result (λ told. ReportsRun scenario.now (string_bytes told.text) told.agrees)
         (IsDueOfRun scenario.now) }
 {
     let Ok(events) = events(alloc, scenario) else {
@@ -107,13 +100,10 @@ fn report_of<T: Threads + Wait + Sync>(
         Ok(run) => run,
         Err(fault) => return Err(ReportFault::Run(fault)),
     };
-    let Ok(line) = report(alloc, scenario, &run) else {
+    let Ok(report) = report(alloc, scenario, &run) else {
         return Err(ReportFault::Memory);
     };
-    let Ok(agrees) = all_agree(alloc, scenario, &run) else {
-        return Err(ReportFault::Memory);
-    };
-    Ok(Judgement { line, agrees })
+    Ok(report)
 }
 
 /// Runs a scenario that was read, on as many of the workers as pay, and writes the report. Returns true if no pulse's
@@ -131,7 +121,7 @@ pub fn write_report<T: Threads + Wait + Sync, W: Write>(
     ensures { LeavesRun (W.contents writer.old) (W.contents writer.new) scenario.now result }
 {
     let report = report_of(rt, alloc, scenario, workers)?;
-    match write_fully(writer, report.line.as_bytes()) {
+    match write_fully(writer, report.text.as_bytes()) {
         Ok(()) => Ok(report.agrees),
         Err(WriteFault { written }) => Err(ReportFault::Write {
             written: written as u64,

@@ -1,16 +1,20 @@
 //! What a report judges of closed pulses.
-ghost use Rattle.std.specs.Prelude.{◌≡◌, if◌then◌else◌, IfOk, None};
+ghost use Rattle.std.specs.Prelude.{◌≡◌, [], true, if◌then◌else◌, IfOk, None, is_some, map, option_copied, unwrap_or};
 ghost use Rattle.std.specs.List.{list_all};
 ghost use Rattle.bench_scenario.specs.Verdicts.{agreement, are_one, counting, counts_on, first_clock, is_clock, joined};
-ghost use Rattle.bench_scenario.specs.Verdicts.{judged_of, settled_in, step_of, told_clocks};
+ghost use Rattle.bench_scenario.specs.Verdicts.{judged_after, judged_by, judged_of, judged_plainly, judgement, none_disagrees};
+ghost use Rattle.bench_scenario.specs.Verdicts.{settled_before, settled_in, step_of, told_clocks};
+ghost use Rattle.scenario_text.specs.Views.{frame_of};
 
 use bench_core::PulseRecord;
+use scenario_text::Scenario;
 use std::alloc::{AllocError, Global};
 
 /// The fewest settled nodes of which it is judged whether they agree.
 const FEWEST: u32 = 2;
 
-/// What is judged of a pulse: nothing if there are too few settled nodes.
+/// What is judged of a pulse: from version 3 on whether its settled clocks agree and whether they counted, nothing of
+/// too few nodes; in versions 1 and 2 agreement alone.
 #[derive(Clone, Copy, Debug, PartialEq, Eq)]
 pub struct Judged {
     pub agree: Option<bool>,
@@ -24,8 +28,8 @@ fn told_clock(settled: bool, clock: Option<u32>) -> Option<u32>
     if settled { clock } else { None }
 }
 
-/// Returns the clock of each node that is settled, node by node.
-pub fn told_clocks(
+/// The clock of each node that is settled, node by node.
+fn told_clocks(
     alloc: Global,
     settled: &[bool],
     clocks: &[Option<u32>],
@@ -76,9 +80,9 @@ pub(crate) fn are_one(modulus: u32, clocks: &[Option<u32>]) -> bool
     }
 }
 
-/// Returns whether the settled clocks of a pulse agree: nothing if fewer than two nodes are settled. Another clock than
-/// the rule's (`own`) is held to one value below the modulus; for the rule's, the pulse's record has the answer.
-pub fn agreement(own: bool, modulus: u32, one: &PulseRecord, clocks: &[Option<u32>]) -> Option<bool>
+/// Whether the settled clocks of a pulse agree: nothing if fewer than two nodes are settled. Another clock than the
+/// rule's (`own`) is held to one value below the modulus; for the rule's, the pulse's record has the answer.
+fn agreement(own: bool, modulus: u32, one: &PulseRecord, clocks: &[Option<u32>]) -> Option<bool>
     requires { clocks.now ≡ settled_in one.now }
     ensures { result ≡ agreement own modulus one.now }
 {
@@ -117,8 +121,8 @@ fn joined(one: Option<bool>, other: Option<bool>) -> Option<bool>
     }
 }
 
-/// Returns whether the clocks of nodes that are settled in two pulses counted.
-pub fn counting(modulus: u32, before: &[Option<u32>], after: &[Option<u32>]) -> Option<bool>
+/// Whether the clocks of nodes that are settled in two pulses counted.
+pub(crate) fn counting(modulus: u32, before: &[Option<u32>], after: &[Option<u32>]) -> Option<bool>
     ensures { result ≡ counting modulus before.now after.now }
 {
     let mut verdict = None;
@@ -129,24 +133,127 @@ pub fn counting(modulus: u32, before: &[Option<u32>], after: &[Option<u32>]) -> 
     verdict
 }
 
-/// What is judged of each pulse of a run.
-pub(crate) fn judged_of(
+/// What is judged of a pulse from version 3 on, with the settled clocks of the pulse before and its own.
+fn judged_by(
+    own: bool,
+    modulus: u32,
+    one: &PulseRecord,
+    before: &[Option<u32>],
+    clocks: &[Option<u32>],
+) -> Judged
+    requires { clocks.now ≡ settled_in one.now }
+    ensures { result ≡ judged_by own modulus before.now one.now }
+{
+    Judged {
+        agree: agreement(own, modulus, one, clocks),
+        counts: counting(modulus, before, clocks),
+    }
+}
+
+/// What is judged of a pulse in versions 1 and 2.
+fn judged_plainly(one: &PulseRecord) -> Judged
+    ensures { result ≡ judged_plainly one.now }
+{
+    Judged {
+        agree: Some(one.agree),
+        counts: None,
+    }
+}
+
+/// The clock of each settled node, node by node.
+fn settled_in(alloc: Global, one: &PulseRecord) -> Result<Vec<Option<u32>>, AllocError>
+    ensures { IfOk result (λ clocks. clocks.items ≡ settled_in one.now) }
+{
+    told_clocks(alloc, one.settled.as_slice(), one.clocks.as_slice())
+}
+
+/// The same of the pulse before, which the first pulse doesn't have.
+fn settled_before(
+    alloc: Global,
+    earlier: Option<&PulseRecord>,
+) -> Result<Vec<Option<u32>>, AllocError>
+    ensures { IfOk result (λ clocks. clocks.items ≡ settled_before (option_copied earlier.entry)) }
+{
+    match earlier {
+        Some(earlier) => settled_in(alloc, earlier),
+        None => Ok(Vec::new(alloc)),
+    }
+}
+
+/// Returns what is judged of a pulse of a scenario's run, by its record and that of the pulse before.
+pub fn judgement(
+    alloc: Global,
+    scenario: &Scenario,
+    earlier: Option<&PulseRecord>,
+    one: &PulseRecord,
+) -> Result<Judged, AllocError>
+    ensures { IfOk result (λ judged. judged ≡ judgement (frame_of scenario.now) (is_some scenario.now.clock)
+        (option_copied earlier.entry) one.now) }
+{
+    if !scenario.is_judged() {
+        return Ok(judged_plainly(one));
+    }
+    let own = scenario.clock.is_some();
+    let before = settled_before(alloc, earlier)?;
+    let clocks = settled_in(alloc, one)?;
+    Ok(judged_by(
+        own,
+        scenario.modulus,
+        one,
+        before.as_slice(),
+        clocks.as_slice(),
+    ))
+}
+
+/// What is judged of each pulse of a run from version 3 on. The settled clocks of a pulse are kept for the next one.
+fn judged_in_turn(
     alloc: Global,
     own: bool,
     modulus: u32,
     records: &[PulseRecord],
 ) -> Result<Vec<Judged>, AllocError>
-    ensures { IfOk result (λ js. js.items ≡ judged_of own modulus records.now) }
+    ensures { IfOk result (λ judged. judged.items ≡ judged_after own modulus [] records.now) }
 {
-    let mut judged = Vec::new(alloc);
+    let mut judged = Vec::with_capacity(alloc, records.len())?;
     let mut before = Vec::new(alloc);
     for one in records {
-        let clocks = told_clocks(alloc, one.settled.as_slice(), one.clocks.as_slice())?;
-        judged.push(Judged {
-            agree: agreement(own, modulus, one, clocks.as_slice()),
-            counts: counting(modulus, before.as_slice(), clocks.as_slice()),
-        })?;
+        let clocks = settled_in(alloc, one)?;
+        judged.push(judged_by(own, modulus, one, before.as_slice(), clocks.as_slice()))?;
         before = clocks;
     }
     Ok(judged)
+}
+
+/// What is judged of each pulse of a run in versions 1 and 2.
+fn all_judged_plainly(alloc: Global, records: &[PulseRecord]) -> Result<Vec<Judged>, AllocError>
+    ensures { IfOk result (λ judged. judged.items ≡ map judged_plainly records.now) }
+{
+    let mut judged = Vec::with_capacity(alloc, records.len())?;
+    for one in records {
+        judged.push(judged_plainly(one))?;
+    }
+    Ok(judged)
+}
+
+/// Returns what is judged of each pulse of a scenario's run, of which these are the records.
+pub fn judged_of(
+    alloc: Global,
+    scenario: &Scenario,
+    records: &[PulseRecord],
+) -> Result<Vec<Judged>, AllocError>
+    ensures { IfOk result (λ judged. judged.items
+        ≡ judged_of (frame_of scenario.now) (is_some scenario.now.clock) records.now) }
+{
+    if scenario.is_judged() {
+        judged_in_turn(alloc, scenario.clock.is_some(), scenario.modulus, records)
+    } else {
+        all_judged_plainly(alloc, records)
+    }
+}
+
+/// Returns true if no verdict on agreement is no.
+pub fn none_disagrees(judged: &[Judged]) -> bool
+    ensures { result ≡ none_disagrees judged.now }
+{
+    judged.iter().all(|one| one.agree.unwrap_or(true))
 }

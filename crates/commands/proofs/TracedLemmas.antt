@@ -1,12 +1,13 @@
 -- What `exec --trace` leaves, from the lines of the steps and what is written behind them.
-use Rattle.std.proofs.Common.{ℕ, ◌+◌, List, length, take, Option, Ok, Err, inr, arith, refl, sym, subst}
+use Rattle.std.proofs.Common.{ℕ, List, length, Option, Ok, Err, inr, refl, sym, subst}
 use Rattle.std.specs.Io.KnownBytes.{Appends}
 use Rattle.std.proofs.KnownBytes.{Appends-kept, Appends-trans}
-use Rattle.std.proofs.Math.Seq.{take-append-add, take-length}
-use Rattle.std.proofs.lemmas.List.{length-append}
+use Rattle.std.proofs.Math.Seq.{take-length}
 use Rattle.bpf_insn.specs.declared.forms.Insn.{Insn}
 use Rattle.bpf_machine.specs.declared.word.Outcome.{Outcome}
 use Rattle.run_trace.specs.Lines.{trace_text}
+use Rattle.stream_io.specs.Parts.{Wrote}
+use Rattle.stream_io.proofs.PartLemmas.{broken}
 use Rattle.commands.specs.declared.ending.Ending.{Ending}
 use Rattle.commands.specs.declared.exec.Reply.{Reply}
 use Rattle.commands.specs.declared.exec.Reply.TheVariants.{Refused, Ran}
@@ -17,7 +18,7 @@ use Rattle.commands.specs.declared.request.ExecOptions.{ExecOptions}
 use Rattle.commands.specs.Answer.{ending_of, told_text}
 use Rattle.commands.specs.Exec.{LeavesSteps, Traces, case_steps, case_trace, traced_text}
 use Rattle.commands.specs.Output.{Leaves}
-use Rattle.commands.specs.inner.Exec.{RunsCase, WroteTrace, answer_in, left_in, left_of}
+use Rattle.commands.specs.inner.Exec.{RunsCase, answer_in, left_in, left_of}
 use Rattle.commands.specs.inner.Faults.{fault_behind}
 
 traces : (asked : ExecOptions) (program : List Insn) (outcome : Outcome) (left : LeftByRun)
@@ -31,7 +32,7 @@ traces asked program outcome left run = record {
 }
 
 pub traced_whole : (old mid new : Option (List ℕ)) (asked : ExecOptions) (program : List Insn) (reply : Reply)
-    (written : ℕ) (ending : Ending) → RunsCase asked program reply → WroteTrace old mid asked program written
+    (written : ℕ) (ending : Ending) → RunsCase asked program reply → Wrote old mid (case_trace asked program) written
     → Leaves mid new (told_text asked (answer_in asked.fuel reply) (left_of reply))
     (ending_of (answer_in asked.fuel reply)) (Ok ending)
     → LeavesSteps old new asked program (Ok ending)
@@ -46,25 +47,16 @@ traced_whole old mid new asked program (Ran outcome left) written ending run wro
 -- the first bytes of what is behind the lines of the steps
 behind : (old mid new : Option (List ℕ)) (asked : ExecOptions) (program : List Insn) (outcome : Outcome)
     (left : LeftByRun) (written : ℕ) (fault : Fault) → RunsCase asked program (Ran outcome left)
-    → WroteTrace old mid asked program written
+    → Wrote old mid (case_trace asked program) written
     → Leaves mid new (told_text asked (answer_in asked.fuel (Ran outcome left)) (left_in left))
     (ending_of (answer_in asked.fuel (Ran outcome left))) (Err fault)
     → LeavesSteps old new asked program (Err (fault_behind written fault))
 behind old mid new asked program outcome left written (faults.Write after) run wrote told =
-    let trace = case_trace asked program in
-    let text = told_text asked (answer_in asked.fuel (Ran outcome left)) (left_in left) in
-    let number = wrote.number in
-    let part = told.0 in
     inr (
       traced_text asked program outcome (left_in left),
       traces asked program outcome left run,
-      record {
-        taken = length trace + after;
-        part = omega (arith, part, length-append trace text);
-        number = omega (arith, number);
-        left = subst (Appends old new) (sym (take-append-add trace text after))
-            (Appends-trans old mid new trace (take after text) wrote.left told.1);
-      },
+      broken mid new old written _ after (told_text asked (answer_in asked.fuel (Ran outcome left)) (left_in left))
+          (case_trace asked program) told.0 refl told.1 wrote,
     )
 behind old mid new asked program outcome left written faults.Memory run wrote told =
     let steps = case_steps asked program in (
@@ -77,7 +69,7 @@ behind old mid new asked program outcome left written faults.Thread run wrote to
 behind old mid new asked program outcome left written (faults.CommandLine said) run wrote told = absurd told
 
 pub traced_broken : (old mid new : Option (List ℕ)) (asked : ExecOptions) (program : List Insn) (reply : Reply)
-    (written : ℕ) (fault : Fault) → RunsCase asked program reply → WroteTrace old mid asked program written
+    (written : ℕ) (fault : Fault) → RunsCase asked program reply → Wrote old mid (case_trace asked program) written
     → Leaves mid new (told_text asked (answer_in asked.fuel reply) (left_of reply))
     (ending_of (answer_in asked.fuel reply)) (Err fault)
     → LeavesSteps old new asked program (Err (fault_behind written fault))

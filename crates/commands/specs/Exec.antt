@@ -6,7 +6,7 @@ use Rattle.bpf_machine.specs.declared.word.Outcome.{Outcome}
 use Rattle.bpf_machine.specs.Run.{RunAnswers}
 use Rattle.run_trace.specs.Lines.{trace_text}
 use Rattle.run_trace.specs.Steps.{Step, steps_of}
-use Rattle.run_trace.specs.Traces.{Breaks}
+use Rattle.stream_io.specs.Parts.{Breaks}
 use Rattle.commands.specs.declared.request.ExecOptions.{ExecOptions}
 use Rattle.commands.specs.declared.answer.Answer.{Answer}
 use Rattle.commands.specs.declared.answer.Answer.TheVariants as answers

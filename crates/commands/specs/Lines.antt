@@ -1,5 +1,5 @@
 -- What `run --json` leaves on its output (docs/COMMANDS.md, "What run --json prints").
-use Rattle.std.specs.Prelude.{◌≡◌, ◌⊎◌, ◌<◌, ℕ, Bool, List, ◌++◌, codes, string_bytes, Option, Result, Ok, Err}
+use Rattle.std.specs.Prelude.{◌≡◌, ◌<◌, ℕ, Bool, List, ◌++◌, codes, string_bytes, Option, Result, Ok, Err}
 use Rattle.std.specs.Fmt.{decimal}
 use Rattle.std.specs.Io.KnownBytes.{Keeps}
 use Rattle.bench_workers.specs.declared.event.RunRefusal.TheVariants.{NoThread}
@@ -8,7 +8,9 @@ use Rattle.scenario_text.specs.declared.scenario.Scenario.{Scenario}
 use Rattle.bench_scenario.specs.Events.{events_of}
 use Rattle.bench_scenario.specs.Runs.{bench_of}
 use Rattle.run_lines.specs.Spans.{Span}
-use Rattle.run_lines.specs.Telling.{Breaks, LeavesFront, LeavesLines}
+use Rattle.run_lines.specs.declared.fault.LinesFault.TheVariants as lines
+use Rattle.run_lines.specs.Telling.{LeavesFront, LeavesLines}
+use Rattle.stream_io.specs.declared.parts.PartFault.TheVariants as parts
 use Rattle.commands.specs.declared.ending.Ending.{Ending}
 use Rattle.commands.specs.declared.fault.Fault.{Fault}
 use Rattle.commands.specs.declared.fault.Fault.TheVariants as faults
@@ -25,9 +27,9 @@ past_text span pulses = codes "error: --from " ++ (decimal span.first ++ (codes 
 abbrev pub LeavesLined : Bool → Option (List ℕ) → Option (List ℕ) → Scenario → Span → Result Ending Fault → Type 0
 LeavesLined check old new s span (Ok ending) =
     (agrees : Bool) × (ending ≡ report_ending check agrees) × LeavesLines old new s span (Ok agrees)
-LeavesLined check old new s span (Err (faults.Write after)) = Breaks old new s span after
-LeavesLined check old new s span (Err faults.Memory) =
-    Keeps old new ⊎ ((events : ℕ) × LeavesFront old new s span events)
+LeavesLined check old new s span (Err (faults.Write after)) =
+    LeavesLines old new s span (Err (lines.Part (parts.Write after)))
+LeavesLined check old new s span (Err faults.Memory) = LeavesLines old new s span (Err (lines.Part parts.Memory))
 LeavesLined check old new s span (Err faults.Thread) =
     (event : ℕ) × IsFault (bench_of s) (events_of s) event NoThread × LeavesFront old new s span event
 LeavesLined check old new s span (Err (faults.CommandLine said)) =

@@ -4,6 +4,7 @@ use Rattle.key_sweep.specs.Keys.{Span}
 use Rattle.key_sweep.specs.Sweeps.{LeavesSweep, uses_key}
 use Rattle.key_sweep.specs.declared.sweeping.SweepFault.TheVariants as sweeps
 use Rattle.scenario_text.specs.declared.scenario.Scenario.{Scenario}
+use Rattle.stream_io.specs.declared.parts.PartFault.TheVariants as parts
 use Rattle.commands.specs.declared.ending.Ending.{Ending}
 use Rattle.commands.specs.declared.ending.Ending.TheVariants.{Done, Refused}
 use Rattle.commands.specs.declared.fault.Fault.{Fault}
@@ -17,8 +18,8 @@ no_key_line = codes "refused sweep NoKey\n"
 -- the lines of the keys; their front if a write failed; whole lines if memory ran out
 abbrev pub LeavesKeys : Option (List ℕ) → Option (List ℕ) → Scenario → Span → Result Ending Fault → Type 0
 LeavesKeys old new s keys (Ok ending) = (ending ≡ Done) × LeavesSweep old new s keys (Ok tt)
-LeavesKeys old new s keys (Err (faults.Write after)) = LeavesSweep old new s keys (Err (sweeps.Write after))
-LeavesKeys old new s keys (Err faults.Memory) = LeavesSweep old new s keys (Err sweeps.Memory)
+LeavesKeys old new s keys (Err (faults.Write after)) = LeavesSweep old new s keys (Err (sweeps.Part (parts.Write after)))
+LeavesKeys old new s keys (Err faults.Memory) = LeavesSweep old new s keys (Err (sweeps.Part parts.Memory))
 LeavesKeys old new s keys (Err faults.Read) = ⊥
 LeavesKeys old new s keys (Err faults.Thread) = ⊥
 LeavesKeys old new s keys (Err (faults.CommandLine said)) = ⊥

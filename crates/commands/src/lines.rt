@@ -15,6 +15,7 @@ use std::alloc::Global;
 use std::io::Write;
 use std::sync::Wait;
 use std::thread::Threads;
+use stream_io::PartFault;
 
 /// Writes the lines of the run of a scenario that was read. If that is to be checked, the ending tells of a pulse that
 /// doesn't agree.
@@ -35,10 +36,10 @@ pub(crate) fn lines<T: Threads + Wait + Sync, W: Write>(
     match tell_lines(rt, alloc, scenario, workers, options.span, out) {
         Ok(agrees) => Ok(ending_of(options.run.check, agrees)),
         Err(LinesFault::Run(fault)) => Err(fault_of(fault.fault)),
-        Err(LinesFault::Write { written }) => Err(Fault::Write {
+        Err(LinesFault::Part(PartFault::Write { written })) => Err(Fault::Write {
             after: written as usize,
         }),
-        Err(LinesFault::Memory) => Err(Fault::Memory),
+        Err(LinesFault::Part(PartFault::Memory)) => Err(Fault::Memory),
     }
 }
 

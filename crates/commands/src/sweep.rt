@@ -16,6 +16,7 @@ use std::alloc::Global;
 use std::io::Write;
 use std::sync::Wait;
 use std::thread::{Threads, available_parallelism};
+use stream_io::PartFault;
 
 /// Writes a line for each of the keys of a scenario that was read, or the line that refuses it.
 pub(crate) fn sweep<T: Threads + Wait + Sync, W: Write>(
@@ -32,10 +33,10 @@ pub(crate) fn sweep<T: Threads + Wait + Sync, W: Write>(
     match key_sweep::sweep(rt, alloc, scenario, options.keys, workers, out) {
         Ok(()) => Ok(Ending::Done),
         Err(SweepFault::NoKey) => write_no_key(out),
-        Err(SweepFault::Write { written }) => Err(Fault::Write {
+        Err(SweepFault::Part(PartFault::Write { written })) => Err(Fault::Write {
             after: written as usize,
         }),
-        Err(SweepFault::Memory) => Err(Fault::Memory),
+        Err(SweepFault::Part(PartFault::Memory)) => Err(Fault::Memory),
     }
 }
 

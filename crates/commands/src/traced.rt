@@ -1,9 +1,10 @@
 //! `exec --trace`: the steps of the run, and then what it comes to.
 ghost use Rattle.std.specs.Prelude.{◌≡◌, IfErr, IfOk, Err, length};
 ghost use Rattle.commands.specs.Case.{case_memory, case_setting};
-ghost use Rattle.commands.specs.Exec.{LeavesSteps};
+ghost use Rattle.commands.specs.Exec.{LeavesSteps, case_trace};
 ghost use Rattle.commands.specs.Image.{asked_extent};
-ghost use Rattle.commands.specs.inner.Exec.{RunsCase, WroteTrace};
+ghost use Rattle.commands.specs.inner.Exec.{RunsCase};
+ghost use Rattle.stream_io.specs.Parts.{Wrote};
 
 use crate::ending::Ending;
 use crate::exec::{Reply, write_reply};
@@ -12,9 +13,10 @@ use crate::left::LeftByRun;
 use crate::request::ExecOptions;
 use bpf_insn::Program;
 use node_env::{Env, Outbox, Shape};
-use run_trace::{TraceFault, trace};
+use run_trace::trace;
 use std::alloc::{AllocError, Global};
 use std::io::Write;
+use stream_io::PartFault;
 
 /// Writes the line of each step of the run of a program, and then what is told of its answer.
 pub(crate) fn trace_program<W: Write>(
@@ -63,7 +65,7 @@ fn trace_case<W: Write>(
     requires { shape ≡ asked_extent options.now.shape }
     ensures run { IfOk result (λ told. RunsCase options.now program.now told.0) }
     ensures written { IfOk result (λ told.
-        WroteTrace (W.contents out.old) (W.contents out.new) options.now program.now told.1) }
+        Wrote (W.contents out.old) (W.contents out.new) (case_trace options.now program.now) told.1) }
     ensures fault { IfErr result (λ fault.
         LeavesSteps (W.contents out.old) (W.contents out.new) options.now program.now (Err fault)) }
 {
@@ -84,9 +86,9 @@ fn trace_case<W: Write>(
             let outcome = traced.outcome;
             Ok((Reply::Ran { outcome, left }, traced.written))
         }
-        Err(TraceFault::Write { written }) => Err(Fault::Write {
+        Err(PartFault::Write { written }) => Err(Fault::Write {
             after: written as usize,
         }),
-        Err(TraceFault::Memory) => Err(Fault::Memory),
+        Err(PartFault::Memory) => Err(Fault::Memory),
     }
 }

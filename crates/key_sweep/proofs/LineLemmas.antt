@@ -1,18 +1,20 @@
 -- Lines one after the other.
-use Rattle.std.proofs.Common.{◌≡◌, ℕ, zero, suc, ◌+◌, ◌≤◌, ◌⊎◌, inl, inr, List, [], ◌∷◌, ◌++◌, length, take, min, Ok, Err, arith, refl, ap, sym, subst, ◌∙◌}
-use Rattle.std.specs.Prelude.{IsErrAnd, IsTrue, Bool, true, false, Option, Result, Some, None, slice_get}
-use Rattle.std.specs.Io.KnownBytes.{Appends}
-use Rattle.std.proofs.KnownBytes.{Appends-trans}
+use Rattle.std.proofs.Common.{◌≡◌, ℕ, zero, suc, ◌+◌, ◌≤◌, ◌⊎◌, inl, inr, List, [], ◌∷◌, ◌++◌, length, Ok, Err, arith, refl, ap, sym, subst, ◌∙◌}
+use Rattle.std.specs.Prelude.{IsErrAnd, IsTrue, Option, Result, Some, slice_get}
+use Rattle.std.proofs.KnownBytes.{Appends-kept}
 use Rattle.std.proofs.lemmas.List.{append_assoc, append-nil, length-append}
 use Rattle.csv.specs.Writing.{default_writer, row_text}
 use Rattle.scenario_text.specs.declared.scenario.Scenario.{Scenario}
 use Rattle.bench_scenario.specs.declared.summary.RunSummary.{RunSummary}
 use Rattle.key_sweep.specs.Keys.{Span, count_of}
 use Rattle.key_sweep.specs.Rows.{fields_of, names, rows_text, sweep_text}
-use Rattle.key_sweep.specs.Sweeps.{AreOfKeys, IsOfKey, LeavesLines, LeavesSweep, Lines, MOST_TOLD, uses_key}
+use Rattle.key_sweep.specs.Sweeps.{AreOfKeys, IsOfKey, LeavesLines, LeavesSweep, Lines, uses_key}
 use Rattle.key_sweep.specs.declared.sweeping.SweepFault.{SweepFault}
 use Rattle.key_sweep.specs.declared.sweeping.SweepFault.TheVariants as faults
-use Rattle.key_sweep.specs.inner.Writing.{IsFront}
+use Rattle.stream_io.specs.declared.parts.PartFault.{PartFault}
+use Rattle.stream_io.specs.declared.parts.PartFault.TheVariants as parts
+use Rattle.stream_io.specs.Parts.{Adds, IsPartFault, Wrote}
+use Rattle.stream_io.proofs.PartLemmas.{handed_on, wrote_nothing}
 
 -- ---- rows
 
@@ -68,8 +70,7 @@ pub record Swept (old now : Option (List ℕ)) (s : Scenario) (first next told :
   pub count : ℕ
   pub place : next ≡ first + count
   pub lines : Lines s first count text
-  pub left : Appends old now text
-  pub number : told ≡ min (length text) MOST_TOLD
+  pub wrote : Wrote old now text told
 
 more_lines : (s : Scenario) (first next count : ℕ) (text rows : List ℕ) (ms : List RunSummary) → next ≡ first + count
     → Lines s first count text → AreOfKeys s next ms → rows ≡ rows_text next ms
@@ -94,61 +95,39 @@ no_lines s first top is = record {
 }
 
 pub swept_names : (old new : Option (List ℕ)) (s : Scenario) (first next told : ℕ) (top : List ℕ)
-    → top ≡ row_text default_writer names → next ≡ first → Appends old new top
-    → told ≡ min (0 + length top) MOST_TOLD → Swept old new s first next told
-swept_names old new s first next told top is at left number = record {
+    → top ≡ row_text default_writer names → next ≡ first → Adds old new 0 top told → Swept old new s first next told
+swept_names old new s first next told top is at adds = record {
   text = top;
   count = 0;
   place = omega (arith, at);
   lines = no_lines s first top is;
-  left = left;
-  number = omega (arith, number);
+  wrote = adds old [] (wrote_nothing old);
 }
 
--- the front of the names
-names_broken : (old new : Option (List ℕ)) (s : Scenario) (keys : Span) (top : List ℕ) (fault : SweepFault)
-    → top ≡ row_text default_writer names → IsFront old new 0 top fault → LeavesLines old new s keys (Err fault)
-names_broken old new s keys top (faults.Write written) is front =
-    let number = front.2 in
-    record {
-      told = top;
-      count = 0;
-      within = omega arith;
-      lines = no_lines s keys.first top is;
-      taken = front.0;
-      part = front.1;
-      number = omega (arith, number);
-      left = front.3;
-    }
-names_broken old new s keys top faults.NoKey is front = absurd front
-names_broken old new s keys top faults.Memory is front = absurd front
+-- the names aren't written
+names_broken : (old new : Option (List ℕ)) (s : Scenario) (keys : Span) (top : List ℕ) (fault : PartFault)
+    → top ≡ row_text default_writer names → IsPartFault old new 0 top fault → LeavesLines old new s keys (Err fault)
+names_broken old new s keys top (parts.Write written) is broke =
+    (top, 0, omega arith, no_lines s keys.first top is, broke old [] (wrote_nothing old))
+names_broken old new s keys top parts.Memory is kept = inl kept
 
-told_so : (old new : Option (List ℕ)) (s : Scenario) (keys : Span) (fault : SweepFault)
-    (result : Result (Unit {0}) SweepFault)
-    → LeavesLines old new s keys (Err fault) → IsErrAnd result (λ e. e ≡ fault) → LeavesLines old new s keys result
-told_so old new s keys fault (Ok done) left is = absurd is
-told_so old new s keys fault (Err e) left is = subst (λ x. LeavesLines old new s keys (Err x)) (sym is) left
-
-pub front_of_names : (old new : Option (List ℕ)) (s : Scenario) (keys : Span) (top : List ℕ) (fault : SweepFault)
-    (result : Result (Unit {0}) SweepFault) → top ≡ row_text default_writer names → IsFront old new 0 top fault
+pub front_of_names : (old new : Option (List ℕ)) (s : Scenario) (keys : Span) (top : List ℕ) (fault : PartFault)
+    (result : Result (Unit {0}) PartFault) → top ≡ row_text default_writer names → IsPartFault old new 0 top fault
     → IsErrAnd result (λ e. e ≡ fault) → LeavesLines old new s keys result
-front_of_names old new s keys top fault result is front given =
-    told_so old new s keys fault result (names_broken old new s keys top fault is front) given
+front_of_names old new s keys top fault result is broke given =
+    handed_on (LeavesLines old new s keys) fault result (names_broken old new s keys top fault is broke) given
 
 pub swept_more : (old now new : Option (List ℕ)) (s : Scenario) (first next past told after : ℕ) (rows : List ℕ)
     (ms : List RunSummary) → past ≡ next + length ms → Swept old now s first next told → AreOfKeys s next ms
-    → rows ≡ rows_text next ms → Appends now new rows → after ≡ min (told + length rows) MOST_TOLD
-    → Swept old new s first past after
-swept_more old now new s first next past told after rows ms at swept each is left number =
+    → rows ≡ rows_text next ms → Adds now new told rows after → Swept old new s first past after
+swept_more old now new s first next past told after rows ms at swept each is adds =
     let place = swept.place in
-    let before = swept.number in
     record {
       text = swept.text ++ rows;
       count = swept.count + length ms;
       place = omega (arith, place, at);
       lines = more_lines s first next swept.count swept.text rows ms swept.place swept.lines each is;
-      left = Appends-trans old now new swept.text rows swept.left left;
-      number = omega (arith, before, number, length-append swept.text rows);
+      wrote = adds old swept.text swept.wrote;
     }
 
 pub all_swept : (old now : Option (List ℕ)) (s : Scenario) (keys : Span) (next told : ℕ)
@@ -160,64 +139,54 @@ all_swept old now s keys next told swept order at = (
       subst (λ n. Lines s keys.first n swept.text) (let e : swept.count ≡ count_of keys =
       omega (arith, place, order, at) in e)
       swept.lines),
-  swept.left,
+  swept.wrote.left,
 )
 
 pub some_swept : (old now : Option (List ℕ)) (s : Scenario) (keys : Span) (next told : ℕ)
     → Swept old now s keys.first next told
-    → next ≤ keys.last → LeavesLines old now s keys (Err faults.Memory)
+    → next ≤ keys.last → LeavesLines old now s keys (Err parts.Memory)
 some_swept old now s keys next told swept before = inr (record {
   told = swept.text;
   count = swept.count;
   fewer = (let place = swept.place in omega (arith, place, before));
   lines = swept.lines;
-  left = swept.left;
+  left = swept.wrote.left;
 })
 
-front_of_both : (text rows : List ℕ) (taken : ℕ) → take (length text + taken) (text ++ rows) ≡ text ++ take taken rows
-front_of_both [] rows taken = ap (λ n. take n rows) (omega arith)
-front_of_both (t ∷ text) rows taken =
-    let one : length (t ∷ text) + taken ≡ suc (length text + taken) = omega arith in
-    ap (λ n. take n (t ∷ (text ++ rows))) one ∙ ap (λ x. t ∷ x) (front_of_both text rows taken)
-
--- the front of more lines
+-- more lines aren't written
 rows_broken : (old now new : Option (List ℕ)) (s : Scenario) (keys : Span) (next told : ℕ) (rows : List ℕ)
-    (ms : List RunSummary) (fault : SweepFault) → Swept old now s keys.first next told → AreOfKeys s next ms
-    → rows ≡ rows_text next ms → next + length ms ≤ keys.last + 1 → IsFront now new told rows fault
-    → LeavesLines old new s keys (Err fault)
-rows_broken old now new s keys next told rows ms (faults.Write written) swept each is few front =
-    let place = swept.place in
-    let before = swept.number in
-    let part = front.1 in
-    let number = front.2 in
-    record {
-      told = swept.text ++ rows;
-      count = swept.count + length ms;
-      within = omega (arith, place, few);
-      lines = more_lines s keys.first next swept.count swept.text rows ms swept.place swept.lines each is;
-      taken = length swept.text + front.0;
-      part = omega (arith, part, length-append swept.text rows);
-      number = omega (arith, before, number);
-      left = subst (λ t. Appends old new t) (sym (front_of_both swept.text rows front.0))
-          (Appends-trans old now new swept.text (take front.0 rows) swept.left front.3);
-    }
-rows_broken old now new s keys next told rows ms faults.NoKey swept each is few front = absurd front
-rows_broken old now new s keys next told rows ms faults.Memory swept each is few front = absurd front
+    (ms : List RunSummary) (fault : PartFault) → Swept old now s keys.first next told → AreOfKeys s next ms
+    → rows ≡ rows_text next ms → next ≤ keys.last → next + length ms ≤ keys.last + 1
+    → IsPartFault now new told rows fault → LeavesLines old new s keys (Err fault)
+rows_broken old now new s keys next told rows ms (parts.Write written) swept each is before few broke =
+    let place = swept.place in (
+      swept.text ++ rows,
+      swept.count + length ms,
+      omega (arith, place, few),
+      more_lines s keys.first next swept.count swept.text rows ms swept.place swept.lines each is,
+      broke old swept.text swept.wrote,
+    )
+rows_broken old now new s keys next told rows ms parts.Memory swept each is before few kept = inr (record {
+  told = swept.text;
+  count = swept.count;
+  fewer = (let place = swept.place in omega (arith, place, before));
+  lines = swept.lines;
+  left = Appends-kept old now new swept.text swept.wrote.left kept;
+})
 
 pub front_of_rows : (old now new : Option (List ℕ)) (s : Scenario) (keys : Span) (next told : ℕ) (rows : List ℕ)
-    (ms : List RunSummary) (fault : SweepFault) (result : Result (Unit {0}) SweepFault)
-    → Swept old now s keys.first next told → AreOfKeys s next ms → rows ≡ rows_text next ms
-    → next + length ms ≤ keys.last + 1 → IsFront now new told rows fault → IsErrAnd result (λ e. e ≡ fault)
+    (ms : List RunSummary) (fault : PartFault) (result : Result (Unit {0}) PartFault)
+    → Swept old now s keys.first next told → AreOfKeys s next ms → rows ≡ rows_text next ms → next ≤ keys.last
+    → next + length ms ≤ keys.last + 1 → IsPartFault now new told rows fault → IsErrAnd result (λ e. e ≡ fault)
     → LeavesLines old new s keys result
-front_of_rows old now new s keys next told rows ms fault result swept each is few front given =
-    told_so old new s keys fault result
-    (rows_broken old now new s keys next told rows ms fault swept each is few front) given
+front_of_rows old now new s keys next told rows ms fault result swept each is before few broke given =
+    handed_on (LeavesLines old new s keys) fault result
+    (rows_broken old now new s keys next told rows ms fault swept each is before few broke) given
 
 -- ---- if something is drawn by the key
 
-pub keyed_lines : (old new : Option (List ℕ)) (s : Scenario) (keys : Span) (result : Result (Unit {0}) SweepFault)
-    → IsTrue (uses_key s) → LeavesLines old new s keys result → LeavesSweep old new s keys result
-keyed_lines old new s keys (Ok done) has left = (has, left)
-keyed_lines old new s keys (Err (faults.Write written)) has left = (has, left)
-keyed_lines old new s keys (Err faults.Memory) has left = (has, left)
-keyed_lines old new s keys (Err faults.NoKey) has left = absurd left
+pub keyed_fault : (old new : Option (List ℕ)) (s : Scenario) (keys : Span) (fault : PartFault)
+    (result : Result (Unit {0}) SweepFault) → IsTrue (uses_key s) → LeavesLines old new s keys (Err fault)
+    → IsErrAnd result (λ e. e ≡ faults.Part fault) → LeavesSweep old new s keys result
+keyed_fault old new s keys fault result has left given =
+    handed_on (LeavesSweep old new s keys) (faults.Part fault) result (has, left) given

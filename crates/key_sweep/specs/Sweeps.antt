@@ -1,5 +1,5 @@
 -- What a sweep leaves on its writer (docs/LUCK.md, "What is promised").
-use Rattle.std.specs.Prelude.{◌≡◌, ◌⊎◌, ◌||◌, Bool, true, false, IsTrue, map, ℕ, ◌+◌, ◌-◌, ◌^◌, ◌<◌, ◌≤◌, is_some, min, List, length, take, slice_get, Option, Some, Result, Ok, Err}
+use Rattle.std.specs.Prelude.{◌≡◌, ◌⊎◌, ◌||◌, Bool, true, false, IsTrue, map, ℕ, ◌+◌, ◌<◌, ◌≤◌, is_some, List, length, slice_get, Option, Some, Result, Ok, Err}
 use Rattle.std.specs.Io.KnownBytes.{Appends, Keeps}
 use Rattle.bench_core.specs.Told.{PulseTold}
 use Rattle.bench_workers.specs.Runs.{IsRun}
@@ -13,6 +13,9 @@ use Rattle.bench_scenario.specs.Events.{events_of}
 use Rattle.bench_scenario.specs.Runs.{bench_of}
 use Rattle.bench_scenario.specs.Summary.{IsSummary}
 use Rattle.bench_scenario.specs.declared.summary.RunSummary.{RunSummary}
+use Rattle.stream_io.specs.declared.parts.PartFault.{PartFault}
+use Rattle.stream_io.specs.declared.parts.PartFault.TheVariants as parts
+use Rattle.stream_io.specs.Parts.{Breaks}
 use Rattle.key_sweep.specs.Keys.{Span, count_of}
 use Rattle.key_sweep.specs.declared.sweeping.SweepFault.{SweepFault}
 use Rattle.key_sweep.specs.declared.sweeping.SweepFault.TheVariants as faults
@@ -44,29 +47,14 @@ pub record Stops (old new : Option (List ℕ)) (s : Scenario) (keys : Span) : Ty
   pub lines : Lines s keys.first count told
   pub left : Appends old new told
 
--- the greatest number of bytes that a fault reports; more are reported as this
-abbrev pub MOST_TOLD : ℕ
-MOST_TOLD = 2 ^ 64 - 1
-
--- the first bytes of the lines of some keys, as many as were taken
-pub record Breaks (old new : Option (List ℕ)) (s : Scenario) (keys : Span) (written : ℕ) : Type 0 where
-  pub told : List ℕ
-  pub count : ℕ
-  pub within : count ≤ count_of keys
-  pub lines : Lines s keys.first count told
-  pub taken : ℕ
-  pub part : taken < length told
-  pub number : written ≡ min taken MOST_TOLD
-  pub left : Appends old new (take taken told)
-
 -- the lines of all keys; the front of them if a write failed; those of the first keys if there was no memory for
 -- one more
-abbrev pub LeavesLines : Option (List ℕ) → Option (List ℕ) → Scenario → Span → Result (Unit {0}) SweepFault → Type 0
+abbrev pub LeavesLines : Option (List ℕ) → Option (List ℕ) → Scenario → Span → Result (Unit {0}) PartFault → Type 0
 LeavesLines old new s keys (Ok done) =
     (told : List ℕ) × Lines s keys.first (count_of keys) told × Appends old new told
-LeavesLines old new s keys (Err (faults.Write written)) = Breaks old new s keys written
-LeavesLines old new s keys (Err faults.Memory) = Keeps old new ⊎ Stops old new s keys
-LeavesLines old new s keys (Err faults.NoKey) = ⊥
+LeavesLines old new s keys (Err (parts.Write written)) =
+    (told : List ℕ) × (count : ℕ) × (count ≤ count_of keys) × Lines s keys.first count told × Breaks old new told written
+LeavesLines old new s keys (Err parts.Memory) = Keeps old new ⊎ Stops old new s keys
 
 abbrev pub are_drawn : Coins → Bool
 are_drawn Zeros = false
@@ -80,7 +68,5 @@ uses_key s = are_drawn s.coins || any_noise (map load_of s.loads.items)
 -- the same, and nothing if nothing is drawn by the key
 abbrev pub LeavesSweep : Option (List ℕ) → Option (List ℕ) → Scenario → Span → Result (Unit {0}) SweepFault → Type 0
 LeavesSweep old new s keys (Err faults.NoKey) = (uses_key s ≡ false) × Keeps old new
-LeavesSweep old new s keys (Err faults.Memory) = IsTrue (uses_key s) × LeavesLines old new s keys (Err faults.Memory)
-LeavesSweep old new s keys (Err (faults.Write written)) =
-    IsTrue (uses_key s) × LeavesLines old new s keys (Err (faults.Write written))
+LeavesSweep old new s keys (Err (faults.Part fault)) = IsTrue (uses_key s) × LeavesLines old new s keys (Err fault)
 LeavesSweep old new s keys (Ok done) = IsTrue (uses_key s) × LeavesLines old new s keys (Ok done)

@@ -4,7 +4,7 @@ ghost use Rattle.scenario_text.specs.Texts.{ReadsText};
 ghost use Rattle.key_sweep.specs.Sweeps.{AreOfKeys, IsOfKey};
 ghost use Rattle.key_sweep.specs.inner.Blocks.{AreSlots, somes_front};
 
-use bench_scenario::{RunSummary, run_with_key, summary_of};
+use bench_scenario::{RunSummary, judged_of, run_with_key, summary_of};
 use scenario_text::Scenario;
 use std::alloc::{AllocError, Global};
 use std::sync::Wait;
@@ -22,7 +22,9 @@ fn summary_with_key<T: Threads + Wait + Sync>(
     ensures { IfSome result (IsOfKey scenario.now key) }
 {
     let run = run_with_key(rt, alloc, scenario, key).ok()?;
-    summary_of(alloc, scenario, run.records.as_slice()).ok()
+    let records = run.records.as_slice();
+    let judged = judged_of(alloc, scenario, records).ok()?;
+    Some(summary_of(scenario.modulus, records, judged.as_slice()))
 }
 
 /// What the run with each of this many keys comes to, in their order, by at most this many workers.

@@ -1,9 +1,7 @@
 //! A sweep, from the scenario that was read to the last byte that is written.
-ghost use Rattle.std.specs.Prelude.{◌≡◌, ℕ, List, ◌+◌, ◌<◌, ◌≤◌, IfOk, IfErr, min, length};
-ghost use Rattle.std.specs.Io.KnownBytes.{Appends};
+ghost use Rattle.std.specs.Prelude.{◌≡◌, ℕ, List, ◌≤◌};
 ghost use Rattle.scenario_text.specs.Texts.{ReadsText};
-ghost use Rattle.key_sweep.specs.Sweeps.{LeavesLines, LeavesSweep, MOST_TOLD, are_drawn, uses_key};
-ghost use Rattle.key_sweep.specs.inner.Writing.{IsFront};
+ghost use Rattle.key_sweep.specs.Sweeps.{LeavesLines, LeavesSweep, are_drawn, uses_key};
 
 use crate::block::summaries_of;
 use crate::keys::KeySpan;
@@ -13,7 +11,7 @@ use std::alloc::Global;
 use std::io::Write;
 use std::sync::Wait;
 use std::thread::Threads;
-use stream_io::{WriteFault, write_fully};
+use stream_io::{PartFault, write_part};
 use thiserror::Error;
 
 /// The most workers that are of use: one for each key that is shared out at once.
@@ -28,11 +26,19 @@ pub enum SweepFault {
     /// Nothing of the scenario is drawn by a key.
     #[error("nothing is drawn by a key")]
     NoKey,
-    /// A call of `write` failed or took nothing, when this many bytes were taken.
-    #[error("writing failed after {written} bytes")]
-    Write { written: u64 },
-    #[error("out of memory")]
-    Memory,
+    #[error(transparent)]
+    Part(PartFault),
+}
+
+impl From<PartFault> for SweepFault {
+    ghost use Rattle.std.specs.Prelude.{◌≡◌};
+    ghost use Rattle.key_sweep.specs.declared.sweeping.SweepFault.TheVariants.{Part};
+
+    ghost from_gives = { λ part e. e ≡ Part part };
+
+    fn from(part: PartFault) -> SweepFault {
+        SweepFault::Part(part)
+    }
 }
 
 /// Whether something of the scenario is drawn by its key: coins, or the messages of noise.
@@ -51,20 +57,6 @@ fn are_drawn(coins: Coins) -> bool
     }
 }
 
-/// Writes bytes after this many, and answers how many there are then.
-fn write_part<W: Write>(writer: &mut W, before: u64, bytes: &[u8]) -> Result<u64, SweepFault>
-    ensures all { IfOk result (λ after. (after ≡ min (before + length bytes.now) MOST_TOLD)
-        × Appends (W.contents writer.old) (W.contents writer.new) bytes.now) }
-    ensures front { IfErr result (IsFront (W.contents writer.old) (W.contents writer.new) before bytes.now) }
-{
-    match write_fully(writer, bytes) {
-        Ok(()) => Ok(before.saturating_add(bytes.len() as u64)),
-        Err(WriteFault { written }) => Err(SweepFault::Write {
-            written: before.saturating_add(written as u64),
-        }),
-    }
-}
-
 /// Runs the keys block by block, and writes their lines.
 fn write_keys<T: Threads + Wait + Sync, W: Write>(
     rt: &T,
@@ -73,13 +65,13 @@ fn write_keys<T: Threads + Wait + Sync, W: Write>(
     keys: KeySpan,
     workers: u32,
     writer: &mut W,
-) -> Result<(), SweepFault>
+) -> Result<(), PartFault>
     requires reads { (text : List ℕ) × ReadsText text scenario.now }
     requires workers { 1 ≤ workers }
     ensures { LeavesLines (W.contents writer.old) (W.contents writer.new) scenario.now keys result }
 {
     let Ok(names) = names_row(alloc) else {
-        return Err(SweepFault::Memory);
+        return Err(PartFault::Memory);
     };
     let mut told = write_part(writer, 0, names.as_slice())?;
     let mut next = keys.first();
@@ -87,15 +79,15 @@ fn write_keys<T: Threads + Wait + Sync, W: Write>(
     while next < past {
         let count = (past - next).min(KEYS_AT_ONCE);
         let Ok(summaries) = summaries_of(rt, alloc, scenario, workers, next, count as usize) else {
-            return Err(SweepFault::Memory);
+            return Err(PartFault::Memory);
         };
         let front = summaries.as_slice();
         let Ok(rows) = rows_text(alloc, next, front) else {
-            return Err(SweepFault::Memory);
+            return Err(PartFault::Memory);
         };
         told = write_part(writer, told, rows.as_slice())?;
         if (front.len() as u64) < count {
-            return Err(SweepFault::Memory);
+            return Err(PartFault::Memory);
         }
         next += count;
     }
@@ -120,5 +112,6 @@ pub fn sweep<T: Threads + Wait + Sync, W: Write>(
     if !uses_key(scenario) {
         return Err(SweepFault::NoKey);
     }
-    write_keys(rt, alloc, scenario, keys, workers, writer)
+    write_keys(rt, alloc, scenario, keys, workers, writer)?;
+    Ok(())
 }

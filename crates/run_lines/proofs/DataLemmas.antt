@@ -12,10 +12,10 @@ use Rattle.scenario_text.specs.declared.scenario.Frame.{Frame}
 use Rattle.bench_scenario.specs.Coins.{places_below}
 use Rattle.bench_scenario.specs.Reports.{clock_name}
 use Rattle.bench_scenario.specs.declared.summary.RunSummary.{RunSummary}
+use Rattle.bench_scenario.specs.declared.verdicts.Judged.{Judged}
 use Rattle.json_values.proofs.PlainLemmas.{IsPlain, plain_boolean, plain_list, plain_null, plain_number, plain_object, plain_option, plain_string}
 use Rattle.json_values.specs.Values.{Member, number_data, option_data}
 use Rattle.run_lines.specs.Data.{clock_members, frame_data, frame_members, kind_text, last_data, memory_data, pulse_data, pulse_members, ran_data, sent_data, staged_data, verdict_members}
-use Rattle.run_lines.specs.Judging.{agree_of, counts_of}
 use Rattle.run_lines.specs.Staged.{StagedTold, Loaded, Unloaded, Corrupted}
 
 abbrev AllPlain : ℕ → List Member → Type 0
@@ -81,18 +81,17 @@ plain_sent nodes row = plain_list _ 0 (λ receiver. plain_slot (get row receiver
 plain_verdict : (verdict : Option Bool) → IsPlain 2 (option_data boolean verdict)
 plain_verdict verdict = plain_option boolean 2 (plain_boolean 2) verdict
 
-plain_verdicts : (f : Frame) (own : Bool) (x : Seen) → AllPlain 2 (verdict_members f own x)
-plain_verdicts f own x =
-    let counts = counts_of f.modulus x.earlier x.told in (
-      plain_verdict (agree_of f own x.told),
-      either_plain (is_judged f.version) 2 ((codes "counts", option_data boolean counts) ∷ []) []
-          (plain_verdict counts, tt) tt,
-    )
+plain_verdicts : (f : Frame) (j : Judged) → AllPlain 2 (verdict_members f j)
+plain_verdicts f j = (
+  plain_verdict j.agree,
+  either_plain (is_judged f.version) 2 ((codes "counts", option_data boolean j.counts) ∷ []) []
+      (plain_verdict j.counts, tt) tt,
+)
 
-pub plain_pulse : (f : Frame) (own : Bool) (staged : List StagedTold) (x : Seen)
-    → IsPlain 3 (pulse_data f own staged x)
-plain_pulse f own staged x =
-    plain_object 2 (pulse_members f own staged x) (
+pub plain_pulse : (f : Frame) (j : Judged) (staged : List StagedTold) (x : Seen)
+    → IsPlain 3 (pulse_data f j staged x)
+plain_pulse f j staged x =
+    plain_object 2 (pulse_members f j staged x) (
       plain_number 2 x.told.row.pulse,
       (
         plain_list staged_data 1 plain_staged staged,
@@ -108,7 +107,7 @@ plain_pulse f own staged x =
                   plain_list number_data 1 (plain_number 1) x.steps,
                   (
                     plain_list memory_data 1 plain_memory x.after.nodes,
-                    (plain_list _ 1 (plain_sent (length x.after.mail)) x.after.mail, plain_verdicts f own x),
+                    (plain_list _ 1 (plain_sent (length x.after.mail)) x.after.mail, plain_verdicts f j),
                   ),
                 ),
               ),

@@ -19,10 +19,10 @@ use Rattle.bench_workers.specs.Watching.{Seen}
 use Rattle.scenario_text.specs.Views.{is_judged}
 use Rattle.scenario_text.specs.declared.scenario.Frame.{Frame}
 use Rattle.bench_scenario.specs.Coins.{places_below}
+use Rattle.bench_scenario.specs.declared.verdicts.Judged.{Judged}
 use Rattle.json_values.specs.Texts.{ReadsBack, line_of}
 use Rattle.json_values.specs.Values.{Member, list_data, number_data, option_data, with_members}
 use Rattle.run_lines.specs.Data.{memory_data, pulse_data, ran_data, sent_data, staged_data, verdict_members}
-use Rattle.run_lines.specs.Judging.{agree_of, counts_of}
 use Rattle.run_lines.specs.Laws.{AreAlike, TellsSeen, memories_in, slots_in}
 use Rattle.run_lines.specs.Readers.{bytes_in, each_in, list_in, number_in, option_in, told_clocks, told_coins, told_memory, told_pulse, told_sent, told_settled, told_steps}
 use Rattle.run_lines.specs.Staged.{StagedTold}
@@ -43,13 +43,13 @@ other_names true name a c first second =
 other_names false name a c first second = (apart name (codes "agree") first, tt)
 
 -- a name that is no verdict's is found as if there were no verdicts
-before_verdicts : (name : List ℕ) (f : Frame) (own : Bool) (x : Seen) (ms : Members) (d : Data)
+before_verdicts : (name : List ℕ) (f : Frame) (j : Judged) (ms : Members) (d : Data)
     → bytes_eq name (codes "agree") ≡ false → bytes_eq name (codes "counts") ≡ false → get_member name ms ≡ Some d
-    → get_member name (with_members ms (verdict_members f own x)) ≡ Some d
-before_verdicts name f own x ms d first second found =
-    let agree = option_data boolean (agree_of f own x.told) in
-    let counts = option_data boolean (counts_of f.modulus x.earlier x.told) in
-    get_with_others name ms (verdict_members f own x)
+    → get_member name (with_members ms (verdict_members f j)) ≡ Some d
+before_verdicts name f j ms d first second found =
+    let agree = option_data boolean j.agree in
+    let counts = option_data boolean j.counts in
+    get_with_others name ms (verdict_members f j)
     (other_names (is_judged f.version) name agree counts first second) ∙ found
 
 -- the members before the verdicts
@@ -65,13 +65,13 @@ seen_members staged x =
     ∷ (codes "memory", list_data memory_data x.after.nodes)
     ∷ (codes "sent", list_data (sent_data (length x.after.mail)) x.after.mail) ∷ []
 
-found_as : {A : Type 0} (r : Data → Option A) (name : List ℕ) (f : Frame) (own : Bool) (staged : List StagedTold)
+found_as : {A : Type 0} (r : Data → Option A) (name : List ℕ) (f : Frame) (j : Judged) (staged : List StagedTold)
     (x : Seen) (d : Data) (a : A) → bytes_eq name (codes "agree") ≡ false → bytes_eq name (codes "counts") ≡ false
     → get_member name (with_members no_members (seen_members staged x)) ≡ Some d → r d ≡ Some a
-    → option_and_then r (get name (pulse_data f own staged x)) ≡ Some a
-found_as r name f own staged x d a first second found is =
+    → option_and_then r (get name (pulse_data f j staged x)) ≡ Some a
+found_as r name f j staged x d a first second found is =
     ap (option_and_then r)
-    (before_verdicts name f own x (with_members no_members (seen_members staged x)) d first second found) ∙ is
+    (before_verdicts name f j (with_members no_members (seen_members staged x)) d first second found) ∙ is
 
 -- ---- what is told of each node
 
@@ -111,27 +111,27 @@ rows_back nodes (row ∷ rows) = rw (row_back row (places_below nodes), rows_bac
 
 -- ---- the pulse
 
-pub tells_its_pulse : (f : Frame) (own : Bool) (staged : List StagedTold) (x : Seen)
-    → TellsSeen x (pulse_data f own staged x)
-tells_its_pulse f own staged x =
+pub tells_its_pulse : (f : Frame) (j : Judged) (staged : List StagedTold) (x : Seen)
+    → TellsSeen x (pulse_data f j staged x)
+tells_its_pulse f j staged x =
     let clocks = list_data (option_data number_data) x.told.clocks in
     let sent = list_data (sent_data (length x.after.mail)) x.after.mail in
     record {
-      pulse = found_as number_in (codes "pulse") f own staged x (number_data x.told.row.pulse) x.told.row.pulse
+      pulse = found_as number_in (codes "pulse") f j staged x (number_data x.told.row.pulse) x.told.row.pulse
           refl refl refl refl;
-      coins = found_as (list_in number_in) (codes "coins") f own staged x (list_data number_data x.coins) x.coins
+      coins = found_as (list_in number_in) (codes "coins") f j staged x (list_data number_data x.coins) x.coins
           refl refl refl (list_back number_data number_in number_back x.coins);
-      clocks = found_as (list_in (option_in number_in)) (codes "clocks") f own staged x clocks x.told.clocks
+      clocks = found_as (list_in (option_in number_in)) (codes "clocks") f j staged x clocks x.told.clocks
           refl refl refl (slots_back x.told.clocks);
-      settled = found_as (list_in as_bool) (codes "settled") f own staged x (list_data boolean x.told.settled)
+      settled = found_as (list_in as_bool) (codes "settled") f j staged x (list_data boolean x.told.settled)
           x.told.settled refl refl refl (list_back boolean as_bool (λ b. refl) x.told.settled);
-      steps = found_as (list_in number_in) (codes "steps") f own staged x (list_data number_data x.steps) x.steps
+      steps = found_as (list_in number_in) (codes "steps") f j staged x (list_data number_data x.steps) x.steps
           refl refl refl (list_back number_data number_in number_back x.steps);
-      memory = λ bytes. found_as (list_in bytes_in) (codes "memory") f own staged x
+      memory = λ bytes. found_as (list_in bytes_in) (codes "memory") f j staged x
           (list_data memory_data x.after.nodes) (memories_in x.after) refl refl refl
           (list_told memory_data bytes_in (λ (n : Node). n.memory) x.after.nodes
           (each_memory x.after.nodes (recursion_from_All _ x.after.nodes bytes)));
-      sent = found_as (list_in (list_in (option_in number_in))) (codes "sent") f own staged x sent (slots_in x.after)
+      sent = found_as (list_in (list_in (option_in number_in))) (codes "sent") f j staged x sent (slots_in x.after)
           refl refl refl (rows_back (length x.after.mail) x.after.mail);
     }
 
@@ -159,8 +159,8 @@ alike x y d e same a b = record {
   mail = λ mine other. mail_same x.after.mail y.after.mail mine other (one_of told_sent d e _ _ same a.sent b.sent);
 }
 
-pub one_line_one_pulse : (f g : Frame) (own other : Bool) (staged before : List StagedTold) (x y : Seen)
-    → ReadsBack (pulse_data f own staged x) → ReadsBack (pulse_data g other before y)
-    → line_of (pulse_data f own staged x) ≡ line_of (pulse_data g other before y) → AreAlike x y
-one_line_one_pulse f g own other staged before x y first second same =
-    alike x y _ _ (same_data _ _ first second same) (tells_its_pulse f own staged x) (tells_its_pulse g other before y)
+pub one_line_one_pulse : (f g : Frame) (j k : Judged) (staged before : List StagedTold) (x y : Seen)
+    → ReadsBack (pulse_data f j staged x) → ReadsBack (pulse_data g k before y)
+    → line_of (pulse_data f j staged x) ≡ line_of (pulse_data g k before y) → AreAlike x y
+one_line_one_pulse f g j k staged before x y first second same =
+    alike x y _ _ (same_data _ _ first second same) (tells_its_pulse f j staged x) (tells_its_pulse g k before y)

@@ -1,9 +1,8 @@
 -- Lines one after the other.
-use Rattle.std.proofs.Common.{◌≡◌, ℕ, zero, suc, ◌+◌, ◌≤◌, inl, inr, List, [], ◌∷◌, ◌++◌, length, map, take, min, Ok, Err, arith, refl, ap, sym, subst, ◌∙◌, append_assoc, append-nil, length-append}
-use Rattle.std.specs.Prelude.{if◌then◌else◌, Bool, true, false, is_some, IfSome, IsErrAnd, Option, None, Some, Result}
-use Rattle.std.specs.Io.KnownBytes.{Appends, Keeps}
-use Rattle.std.proofs.KnownBytes.{Appends-nil, Appends-trans}
-use Rattle.std.proofs.lemmas.List.{flat_map_more, take_all}
+use Rattle.std.proofs.Common.{◌≡◌, ℕ, zero, suc, ◌+◌, inl, inr, List, [], ◌∷◌, ◌++◌, length, map, take, Ok, Err, arith, refl, ap, sym, subst, ◌∙◌, append_assoc, append-nil}
+use Rattle.std.specs.Prelude.{if◌then◌else◌, Bool, false, is_some, IfSome, IsErrAnd, Option, None, Some, Result}
+use Rattle.std.proofs.KnownBytes.{Appends-kept}
+use Rattle.std.proofs.lemmas.List.{flat_map_more, map-append, take_all}
 use Rattle.bench_core.specs.Setup.{Setup}
 use Rattle.bench_core.specs.State.{State, new_state, staged_state}
 use Rattle.bench_core.specs.Told.{PulseTold}
@@ -16,72 +15,24 @@ use Rattle.scenario_text.specs.Views.{frame_of}
 use Rattle.bench_scenario.specs.Events.{events_of}
 use Rattle.bench_scenario.specs.Reports.{all_agree}
 use Rattle.bench_scenario.specs.Runs.{bench_of}
-use Rattle.bench_scenario.specs.Summary.{IsSummary}
+use Rattle.bench_scenario.specs.Verdicts.{judged_of}
 use Rattle.bench_scenario.specs.Watching.{EndsAt}
-use Rattle.bench_scenario.specs.declared.summary.RunSummary.{RunSummary}
+use Rattle.bench_scenario.specs.declared.verdicts.Judged.{Judged}
 use Rattle.bench_scenario.specs.declared.watched.WatchedFault.{WatchedFault}
 use Rattle.bench_scenario.specs.declared.watched.WatchedFault.TheVariants as watched
+use Rattle.stream_io.specs.declared.parts.PartFault.{PartFault}
+use Rattle.stream_io.specs.declared.parts.PartFault.TheVariants as parts
+use Rattle.stream_io.specs.Parts.{Adds, IsPartFault, Wrote}
+use Rattle.stream_io.proofs.PartLemmas.{adds_nothing, handed_on, wrote_nothing}
 use Rattle.run_lines.specs.declared.fault.LinesFault.{LinesFault}
 use Rattle.run_lines.specs.declared.fault.LinesFault.TheVariants as faults
 use Rattle.run_lines.specs.declared.writer.LineWriter.{LineWriter}
+use Rattle.run_lines.specs.Data.{judged_seen}
 use Rattle.run_lines.specs.Lines.{first_line, front_text, last_line, line_within, told_line, whole_text}
 use Rattle.run_lines.specs.Spans.{Span, is_within}
-use Rattle.run_lines.specs.Telling.{AreLines, AreShown, Breaks, IsFrontText, IsWholeText, LeavesFront, LeavesLines, MOST_TOLD}
-use Rattle.run_lines.specs.inner.Writing.{Adds, BreaksOff, IsEnd, IsLineFault, IsReason, Stops, Tells}
-
--- ---- bytes
-
--- this text is written, of so many bytes
-pub record Told (old now : Option (List ℕ)) (text : List ℕ) (written : ℕ) : Type 0 where
-  pub left : Appends old now text
-  pub number : written ≡ min (length text) MOST_TOLD
-
-told_first : (old now : Option (List ℕ)) (text : List ℕ) (n : ℕ) → Adds old now 0 text n → Told old now text n
-told_first old now text n adds = record {
-  left = adds.left;
-  number = let number = adds.number in omega (arith, number);
-}
-
-told_more : (old now new : Option (List ℕ)) (text more : List ℕ) (n m : ℕ) → Told old now text n → Adds now new n more m
-    → Told old new (text ++ more) m
-told_more old now new text more n m told adds = record {
-  left = Appends-trans old now new text more told.left adds.left;
-  number =
-      let before = told.number in
-      let number = adds.number in
-      omega (arith, before, number, length-append text more);
-}
-
-appends_kept : (old now new : Option (List ℕ)) (text : List ℕ) → Appends old now text → Keeps now new
-    → Appends old new text
-appends_kept None now new text left kept = tt
-appends_kept (Some x) None new text left kept = absurd left
-appends_kept (Some x) (Some y) None text left kept = absurd kept
-appends_kept (Some x) (Some y) (Some z) text left kept = kept ∙ left
-
-front_of_both : (text more : List ℕ) (taken : ℕ) → take (length text + taken) (text ++ more) ≡ text ++ take taken more
-front_of_both [] more taken = ap (λ n. take n more) (omega arith)
-front_of_both (t ∷ text) more taken =
-    let one : length (t ∷ text) + taken ≡ suc (length text + taken) = omega arith in
-    ap (λ n. take n (t ∷ (text ++ more))) one ∙ ap (λ x. t ∷ x) (front_of_both text more taken)
-
--- a text whose last part broke off
-breaks_more : (old now new : Option (List ℕ)) (s : Scenario) (span : Span) (text more : List ℕ) (n written : ℕ)
-    → AreLines s span (text ++ more) → Told old now text n → BreaksOff now new n more written
-    → Breaks old new s span written
-breaks_more old now new s span text more n written lines told off =
-    let before = told.number in
-    let part = off.part in
-    let number = off.number in
-    record {
-      told = text ++ more;
-      lines = lines;
-      taken = length text + off.taken;
-      part = omega (arith, part, length-append text more);
-      number = omega (arith, before, number);
-      left = subst (λ t. Appends old new t) (sym (front_of_both text more off.taken))
-          (Appends-trans old now new text (take off.taken more) told.left off.left);
-    }
+use Rattle.run_lines.specs.Telling.{AreShown, IsFrontText, IsWholeText, LeavesFront, LeavesLines}
+use Rattle.run_lines.proofs.JudgingLaws.{judges_as_the_report}
+use Rattle.run_lines.specs.inner.Writing.{IsEnd, IsReason, Stops, Tells}
 
 -- ---- pulses
 
@@ -115,12 +66,17 @@ shown_before s k xs x shown =
 
 -- ---- the watcher
 
--- the lines up to some pulse are written
+-- what is judged of pulses of the scenario
+abbrev pub judged_all : Scenario → List Seen → List Judged
+judged_all s seen = map (judged_seen (frame_of s) (is_some s.clock)) seen
+
+-- the pulses up to some one are judged, and their lines are written
 pub record Stands {S : Type 0} (contents : S → Option (List ℕ)) (old : Option (List ℕ)) (s : Scenario) (span : Span)
     (seen : List Seen) (k : LineWriter) (o : S) : Type 0 where
   pub scenario : k.scenario.now ≡ s
   pub within : k.span ≡ span
-  pub told : Told old (contents o) (front_text s span seen) k.written
+  pub judged : k.judged.items ≡ judged_all s seen
+  pub wrote : Wrote old (contents o) (front_text s span seen) k.written
 
 line_same : (s t : Scenario) (p q : Span) (x : Seen) → s ≡ t → p ≡ q → line_within s p x ≡ line_within t q x
 line_same s t p q x same as_well = ap (λ u. line_within u p x) same ∙ ap (λ r. line_within t r x) as_well
@@ -133,9 +89,13 @@ stands_one contents old s span seen x k k1 o o1 stands tells =
     record {
       scenario = tells.same.scenario ∙ stands.scenario;
       within = tells.same.span ∙ stands.within;
-      told = subst (λ t. Told old (contents o1) t k1.written) (flat_map_more (line_within s span) (first_line s) seen x)
-          (told_more old (contents o) (contents o1) (front_text s span seen) (line_within s span x) k.written k1.written
-          stands.told (subst (λ t. Adds (contents o) (contents o1) k.written t k1.written) line tells.adds));
+      judged = tells.judged ∙ (ap (λ js. js ++ judged_all k.scenario.now (x ∷ [])) stands.judged
+          ∙ (ap (λ (u : Scenario). judged_all s seen ++ judged_all u (x ∷ [])) stands.scenario
+          ∙ sym (map-append (judged_seen (frame_of s) (is_some s.clock)) seen (x ∷ []))));
+      wrote =
+          subst (λ t. Wrote old (contents o1) t k1.written) (flat_map_more (line_within s span) (first_line s) seen x)
+          (subst (λ t. Adds (contents o) (contents o1) k.written t k1.written) line tells.adds old
+          (front_text s span seen) stands.wrote);
     }
 
 stands_all : {S : Type 0} (contents : S → Option (List ℕ)) (old : Option (List ℕ)) (s : Scenario) (span : Span)
@@ -152,12 +112,6 @@ stands_all contents old s span seen (x ∷ xs) k k' o o' stands watches =
 
 -- ---- how it ends
 
-told_so : (old new : Option (List ℕ)) (s : Scenario) (span : Span) (fault : LinesFault)
-    (result : Result Bool LinesFault) → LeavesLines old new s span (Err fault) → IsErrAnd result (λ e. e ≡ fault)
-    → LeavesLines old new s span result
-told_so old new s span fault (Ok agrees) left is = absurd is
-told_so old new s span fault (Err e) left is = subst (λ f. LeavesLines old new s span (Err f)) (sym is) left
-
 no_pulse : (s : Scenario) (span : Span) → IsFrontText s span 0 (first_line s)
 no_pulse s span = record {
   seen = [];
@@ -165,37 +119,30 @@ no_pulse s span = record {
   text = sym (append-nil (first_line s));
 }
 
-first_broken : (old new : Option (List ℕ)) (s : Scenario) (span : Span) (fault : LinesFault)
-    → IsLineFault old new 0 (first_line s) fault → LeavesLines old new s span (Err fault)
-first_broken old new s span (faults.Write written) off = record {
-  told = first_line s;
-  lines = inl (0, no_pulse s span);
-  taken = off.taken;
-  part = off.part;
-  number = let number = off.number in omega (arith, number);
-  left = off.left;
-}
-first_broken old new s span faults.Memory kept = inl kept
-first_broken old new s span (faults.Run stop) none = absurd none
+first_broken : (old new : Option (List ℕ)) (s : Scenario) (span : Span) (fault : PartFault)
+    → IsPartFault old new 0 (first_line s) fault → LeavesLines old new s span (Err (faults.Part fault))
+first_broken old new s span (parts.Write written) broke =
+    (first_line s, inl (0, no_pulse s span), broke old [] (wrote_nothing old))
+first_broken old new s span parts.Memory kept = inl kept
 
 -- the first line isn't written
-pub first_fault : (old new : Option (List ℕ)) (s : Scenario) (span : Span) (fault : LinesFault)
-    (result : Result Bool LinesFault) → IsLineFault old new 0 (first_line s) fault
-    → IsErrAnd result (λ e. e ≡ fault) → LeavesLines old new s span result
+pub first_fault : (old new : Option (List ℕ)) (s : Scenario) (span : Span) (fault : PartFault)
+    (result : Result Bool LinesFault) → IsPartFault old new 0 (first_line s) fault
+    → IsErrAnd result (λ e. e ≡ faults.Part fault) → LeavesLines old new s span result
 first_fault old new s span fault result broken given =
-    told_so old new s span fault result (first_broken old new s span fault broken) given
+    handed_on (LeavesLines old new s span) (faults.Part fault) result (first_broken old new s span fault broken) given
 
 -- it is, and the watcher begins
 pub begins : {S : Type 0} (contents : S → Option (List ℕ)) (old : Option (List ℕ)) (s : Scenario) (span : Span) (n : ℕ)
     (k : LineWriter) (o : S) → Adds old (contents o) 0 (first_line s) n → k.scenario.now ≡ s → k.span ≡ span
-    → k.written ≡ n → Stands contents old s span [] k o
+    → k.judged.items ≡ [] → k.written ≡ n → Stands contents old s span [] k o
 unfolding no_pulse
-begins contents old s span n k o adds same as_well number = record {
+begins contents old s span n k o adds same as_well none number = record {
   scenario = same;
   within = as_well;
-  told = subst (λ t. Told old (contents o) t k.written) (no_pulse s span).text
-      (told_first old (contents o) (first_line s) k.written
-      (subst (λ m. Adds old (contents o) 0 (first_line s) m) (sym number) adds));
+  judged = none;
+  wrote = subst (λ t. Wrote old (contents o) t k.written) (no_pulse s span).text
+      (subst (λ m. Wrote old (contents o) (first_line s) m) (sym number) (adds old [] (wrote_nothing old)));
 }
 
 front_left : {S : Type 0} (contents : S → Option (List ℕ)) (old : Option (List ℕ)) (s : Scenario) (span : Span)
@@ -204,42 +151,45 @@ front_left : {S : Type 0} (contents : S → Option (List ℕ)) (old : Option (Li
 front_left contents old s span seen events k o stands shown = record {
   told = front_text s span seen;
   front = record { seen = seen; shown = shown; text = refl };
-  left = stands.told.left;
+  left = stands.wrote.left;
 }
 
 line_broken : {S : Type 0} (contents : S → Option (List ℕ)) (old new : Option (List ℕ)) (s : Scenario) (span : Span)
-    (seen : List Seen) (x : Seen) (event : ℕ) (k : LineWriter) (o : S) (fault : LinesFault)
+    (seen : List Seen) (x : Seen) (event : ℕ) (k : LineWriter) (o : S) (fault : PartFault)
     → Stands contents old s span seen k o → AreShown s (take (event + 1) (events_of s)) (seen ++ x ∷ [])
-    → IsLineFault (contents o) new k.written (line_within s span x) fault → LeavesLines old new s span (Err fault)
-line_broken contents old new s span seen x event k o (faults.Write written) stands shown off =
+    → IsPartFault (contents o) new k.written (line_within s span x) fault
+    → LeavesLines old new s span (Err (faults.Part fault))
+line_broken contents old new s span seen x event k o (parts.Write written) stands shown broke =
     let front : IsFrontText s span (event + 1) (front_text s span seen ++ line_within s span x) = record {
       seen = seen ++ x ∷ [];
       shown = shown;
       text = flat_map_more (line_within s span) (first_line s) seen x;
-    } in
-    breaks_more old (contents o) new s span (front_text s span seen) (line_within s span x) k.written written
-    (inl (event + 1, front)) stands.told off
-line_broken contents old new s span seen x event k o faults.Memory stands shown kept =
+    } in (
+      front_text s span seen ++ line_within s span x,
+      inl (event + 1, front),
+      broke old (front_text s span seen) stands.wrote,
+    )
+line_broken contents old new s span seen x event k o parts.Memory stands shown kept =
     let before = shown_before s (event + 1) seen x shown in
     inr (
       before.0,
       record {
         told = front_text s span seen;
         front = record { seen = seen; shown = before.1; text = refl };
-        left = appends_kept old (contents o) new (front_text s span seen) stands.told.left kept;
+        left = Appends-kept old (contents o) new (front_text s span seen) stands.wrote.left kept;
       },
     )
-line_broken contents old new s span seen x event k o (faults.Run stop) stands shown none = absurd none
 
 line_stopped : {S : Type 0} (contents : S → Option (List ℕ)) (old : Option (List ℕ)) (s : Scenario) (span : Span)
     (k k' : LineWriter) (o o' : S) (event : ℕ) (fault : LinesFault) → Stands contents old s span [] k o
     → StoppedAt (Tells contents) (Stops contents) (bench_of s) (events_of s) event k o k' o'
-    → IfSome k'.stopped (λ why. fault ≡ why) → LeavesLines old (contents o') s span (Err fault)
+    → IfSome k'.stopped (λ why. fault ≡ faults.Part why) → LeavesLines old (contents o') s span (Err fault)
 line_stopped contents old s span k k' o o' event fault stands ends told =
     let now = stands_all contents old s span [] ends.before k ends.k1 o ends.o1 stands ends.watches in
-    let same : fault ≡ ends.stops.fault = subst (λ kept. IfSome kept (λ f. fault ≡ f)) ends.stops.kept told in
+    let same : fault ≡ faults.Part ends.stops.fault =
+    subst (λ kept. IfSome kept (λ f. fault ≡ faults.Part f)) ends.stops.kept told in
     let line = line_same ends.k1.scenario.now s ends.k1.span span ends.here now.scenario now.within in
-    let broken = subst (λ t. IsLineFault (contents ends.o1) (contents o') ends.k1.written t ends.stops.fault) line
+    let broken = subst (λ t. IsPartFault (contents ends.o1) (contents o') ends.k1.written t ends.stops.fault) line
     ends.stops.why in
     subst (λ f. LeavesLines old (contents o') s span (Err f)) (sym same)
     (line_broken contents old (contents o') s span ends.before ends.here event ends.k1 ends.o1 ends.stops.fault now
@@ -272,28 +222,18 @@ ends_early contents old s span k k' o o' (watched.Stopped event) fault stands en
 
 -- ---- the last line
 
-last_broken : (old new : Option (List ℕ)) (s : Scenario) (before : ℕ) (rs : List PulseTold) (m : RunSummary)
-    (fault : LinesFault) → IsSummary (frame_of s) (is_some s.clock) rs m
-    → IsLineFault old new before (last_line m) fault
-    → IsEnd old new s before rs (Err fault)
-last_broken old new s before rs m (faults.Write written) summed off = (m, summed, off)
-last_broken old new s before rs m faults.Memory summed kept = kept
-last_broken old new s before rs m (faults.Run stop) summed none = absurd none
-
-pub last_fault : (old new : Option (List ℕ)) (s : Scenario) (before : ℕ) (rs : List PulseTold) (m : RunSummary)
-    (fault : LinesFault) (result : Result Bool LinesFault) → IsSummary (frame_of s) (is_some s.clock) rs m
-    → IsLineFault old new before (last_line m) fault → IsErrAnd result (λ e. e ≡ fault)
-    → IsEnd old new s before rs result
-last_fault old new s before rs m fault (Ok agrees) summed broken is = absurd is
-last_fault old new s before rs m fault (Err e) summed broken is =
-    subst (λ f. IsEnd old new s before rs (Err f)) (sym is) (last_broken old new s before rs m fault summed broken)
+-- what came of the last line is what comes of the run
+abbrev pub in_run : Result Bool PartFault → Result Bool LinesFault
+in_run (Ok agrees) = Ok agrees
+in_run (Err fault) = Err (faults.Part fault)
 
 -- all pulses were shown
 ended : {S : Type 0} (contents : S → Option (List ℕ)) (old new : Option (List ℕ)) (s : Scenario) (span : Span)
-    (xs : List Seen) (memories : List (List ℕ)) (k : LineWriter) (o : S) (result : Result Bool LinesFault)
+    (xs : List Seen) (memories : List (List ℕ)) (k : LineWriter) (o : S) (result : Result Bool PartFault)
     → Stands contents old s span xs k o → AreShown s (events_of s) xs
     → IsRun (bench_of s) (events_of s) (map (λ x. x.told) xs) memories
-    → IsEnd (contents o) new s k.written (map (λ x. x.told) xs) result → LeavesLines old new s span result
+    → IsEnd (contents o) new s k.written (map (λ x. x.told) xs) result
+    → LeavesLines old new s span (in_run result)
 ended contents old new s span xs memories k o (Ok agrees) stands shown run end =
     let m = end.1.0 in (
       whole_text s span xs m,
@@ -303,13 +243,13 @@ ended contents old new s span xs memories k o (Ok agrees) stands shown run end =
         memories = memories;
         shown = shown;
         run = run;
-        summed = end.1.1;
+        summed = end.1.2;
         verdict = end.0;
         text = refl;
       },
-      Appends-trans old (contents o) new (front_text s span xs) (last_line m) stands.told.left end.1.2,
+      (end.1.3 old (front_text s span xs) stands.wrote).left,
     )
-ended contents old new s span xs memories k o (Err (faults.Write written)) stands shown run end =
+ended contents old new s span xs memories k o (Err (parts.Write written)) stands shown run end =
     let agrees = all_agree (frame_of s) (is_some s.clock) (map (λ x. x.told) xs) in
     let whole : IsWholeText s span (front_text s span xs ++ last_line end.0) agrees = record {
       seen = xs;
@@ -320,10 +260,12 @@ ended contents old new s span xs memories k o (Err (faults.Write written)) stand
       summed = end.1;
       verdict = refl;
       text = refl;
-    } in
-    breaks_more old (contents o) new s span (front_text s span xs) (last_line end.0) k.written written
-    (inr (agrees, whole)) stands.told end.2
-ended contents old new s span xs memories k o (Err faults.Memory) stands shown run kept =
+    } in (
+      front_text s span xs ++ last_line end.0,
+      inr (agrees, whole),
+      end.2 old (front_text s span xs) stands.wrote,
+    )
+ended contents old new s span xs memories k o (Err parts.Memory) stands shown run end =
     let es = events_of s in
     let all : take (length es) es ≡ es = take_all (length es) es (omega arith) in
     inr (
@@ -338,31 +280,42 @@ ended contents old new s span xs memories k o (Err faults.Memory) stands shown r
           );
           text = refl;
         };
-        left = appends_kept old (contents o) new (front_text s span xs) stands.told.left kept;
+        left = Appends-kept old (contents o) new (front_text s span xs) stands.wrote.left end.2;
       },
     )
-ended contents old new s span xs memories k o (Err (faults.Run stop)) stands shown run none = absurd none
 
 pub ends_whole : {S : Type 0} (contents : S → Option (List ℕ)) (old new : Option (List ℕ)) (s : Scenario) (span : Span)
-    (rs : List PulseTold) (memories : List (List ℕ)) (n : ℕ) (k k' : LineWriter) (o o' : S)
-    (result : Result Bool LinesFault) → Stands contents old s span [] k o
+    (rs : List PulseTold) (memories : List (List ℕ)) (k k' : LineWriter) (o o' : S)
+    (result : Result Bool PartFault) → Stands contents old s span [] k o
     → IsRun (bench_of s) (events_of s) rs memories
     → (xs : List Seen) × (rs ≡ map (λ x. x.told) xs) × Watched (Tells contents) (bench_of s) (events_of s) k o xs k' o'
-    → n ≡ k'.written → IsEnd (contents o') new s n rs result → LeavesLines old new s span result
-ends_whole contents old new s span rs memories n k k' o o' result stands run shown number end =
+    → IsEnd (contents o') new k'.scenario.now k'.written rs result → LeavesLines old new s span (in_run result)
+ends_whole contents old new s span rs memories k k' o o' result stands run shown end =
     let xs = shown.0 in
     let now = stands_all contents old s span [] xs k k' o o' stands shown.2.watches in
     ended contents old new s span xs memories k' o' result now (shown.2.last, shown.2.shows)
     (subst (λ ts. IsRun (bench_of s) (events_of s) ts memories) shown.1 run)
     (subst (λ ts. IsEnd (contents o') new s k'.written ts result) shown.1
-    (subst (λ m. IsEnd (contents o') new s m rs result) number end))
+    (subst (λ (u : Scenario). IsEnd (contents o') new u k'.written rs result) now.scenario end))
+
+-- what the watcher judged is what the report judges
+pub all_judged : {S : Type 0} (contents : S → Option (List ℕ)) (old : Option (List ℕ)) (s : Scenario) (span : Span)
+    (rs : List PulseTold) (k k' : LineWriter) (o o' : S) → Stands contents old s span [] k o
+    → (xs : List Seen) × (rs ≡ map (λ x. x.told) xs) × Watched (Tells contents) (bench_of s) (events_of s) k o xs k' o'
+    → k'.judged.items ≡ judged_of (frame_of k'.scenario.now) (is_some k'.scenario.now.clock) rs
+all_judged contents old s span rs k k' o o' stands shown =
+    let xs = shown.0 in
+    let now = stands_all contents old s span [] xs k k' o o' stands shown.2.watches in
+    let own = is_some s.clock in
+    now.judged ∙ (judges_as_the_report (frame_of s) own (bench_of s) (events_of s) xs shown.2.last shown.2.shows
+    ∙ (ap (judged_of (frame_of s) own) (sym shown.1)
+    ∙ ap (λ (u : Scenario). judged_of (frame_of u) (is_some u.clock) rs) (sym now.scenario)))
 
 -- ---- one pulse
 
 -- outside the span it has no line
 pub none_told : (s : Scenario) (span : Span) (x : Seen) (known : Option (List ℕ)) (n : ℕ)
-    → is_within span x.told.row.pulse ≡ false → n ≤ MOST_TOLD → Adds known known n (line_within s span x) n
-none_told s span x known n out few =
+    → is_within span x.told.row.pulse ≡ false → Adds known known n (line_within s span x) n
+none_told s span x known n out =
     let none : line_within s span x ≡ [] = ap (λ b. if b then told_line s x else []) out in
-    subst (λ t. Adds known known n t n) (sym none)
-    (record { left = Appends-nil known; number = omega (arith, few) })
+    subst (λ t. Adds known known n t n) (sym none) (adds_nothing known n)

@@ -12,9 +12,10 @@ use Rattle.scenario_text.specs.declared.scenario.Kind.{Kind}
 use Rattle.scenario_text.specs.declared.scenario.Kind.TheVariants.{Clock, Say, Echo, Asm, Rule, Noise}
 use Rattle.bench_scenario.specs.Coins.{places_below}
 use Rattle.bench_scenario.specs.Reports.{clock_name}
+use Rattle.bench_scenario.specs.Verdicts.{judgement}
 use Rattle.bench_scenario.specs.declared.summary.RunSummary.{RunSummary}
+use Rattle.bench_scenario.specs.declared.verdicts.Judged.{Judged}
 use Rattle.json_values.specs.Values.{Member, list_data, number_data, object_data, option_data}
-use Rattle.run_lines.specs.Judging.{agree_of, counts_of}
 use Rattle.run_lines.specs.Staged.{StagedTold, Loaded, Unloaded, Corrupted}
 
 -- ---- the first line
@@ -65,15 +66,18 @@ memory_data x = string (encode_lower x.memory)
 abbrev pub sent_data : ℕ → FinMap nat_cmp ℕ → Data
 sent_data nodes row = list_data (λ receiver. option_data number_data (get row receiver)) (places_below nodes)
 
--- the verdict on agreement, and that on counting if the version judges it
-abbrev pub verdict_members : Frame → Bool → Seen → List Member
-verdict_members f own x =
-    (codes "agree", option_data boolean (agree_of f own x.told))
-    ∷ (if is_judged f.version
-    then (codes "counts", option_data boolean (counts_of f.modulus x.earlier x.told)) ∷ [] else [])
+-- what is judged of a pulse that was seen
+abbrev pub judged_seen : Frame → Bool → Seen → Judged
+judged_seen f own x = judgement f own x.earlier x.told
 
-abbrev pub pulse_members : Frame → Bool → List StagedTold → Seen → List Member
-pulse_members f own staged x =
+-- the verdict on agreement, and that on counting if the version judges it
+abbrev pub verdict_members : Frame → Judged → List Member
+verdict_members f j =
+    (codes "agree", option_data boolean j.agree)
+    ∷ (if is_judged f.version then (codes "counts", option_data boolean j.counts) ∷ [] else [])
+
+abbrev pub pulse_members : Frame → Judged → List StagedTold → Seen → List Member
+pulse_members f j staged x =
     (codes "pulse", number_data x.told.row.pulse)
     ∷ (codes "staged", list_data staged_data staged)
     ∷ (codes "coins", list_data number_data x.coins)
@@ -83,11 +87,11 @@ pulse_members f own staged x =
     ∷ (codes "steps", list_data number_data x.steps)
     ∷ (codes "memory", list_data memory_data x.after.nodes)
     ∷ (codes "sent", list_data (sent_data (length x.after.mail)) x.after.mail)
-    ∷ verdict_members f own x
+    ∷ verdict_members f j
 
--- before the pulse this was staged, and it was seen so
-abbrev pub pulse_data : Frame → Bool → List StagedTold → Seen → Data
-pulse_data f own staged x = object_data (pulse_members f own staged x)
+-- a pulse that was seen so, of which this is judged, and before which this was staged
+abbrev pub pulse_data : Frame → Judged → List StagedTold → Seen → Data
+pulse_data f j staged x = object_data (pulse_members f j staged x)
 
 -- ---- the last line
 

@@ -9,11 +9,10 @@ use Rattle.bench_workers.specs.Events.{Event}
 use Rattle.bench_workers.specs.Watching.{Seen, Shows}
 use Rattle.scenario_text.specs.declared.scenario.Frame.{Frame}
 use Rattle.bench_scenario.specs.Coins.{places_below}
-use Rattle.bench_scenario.specs.Summary.{agreements}
 use Rattle.bench_scenario.specs.Verdicts.{judged_of}
+use Rattle.bench_scenario.specs.declared.verdicts.Judged.{Judged}
 use Rattle.json_values.specs.Texts.{ReadsBack, line_of}
-use Rattle.run_lines.specs.Data.{pulse_data}
-use Rattle.run_lines.specs.Judging.{agree_of, counts_of}
+use Rattle.run_lines.specs.Data.{judged_seen, pulse_data}
 use Rattle.run_lines.specs.Readers.{told_clocks, told_coins, told_memory, told_pulse, told_sent, told_settled, told_steps}
 use Rattle.run_lines.specs.Staged.{StagedTold}
 
@@ -43,7 +42,7 @@ pub record TellsSeen (x : Seen) (d : Data) : Type 0 where
   pub sent : told_sent d ≡ Some (slots_in x.after)
 
 abbrev pub TellsItsPulse : Type 0
-TellsItsPulse = (f : Frame) (own : Bool) (staged : List StagedTold) (x : Seen) → TellsSeen x (pulse_data f own staged x)
+TellsItsPulse = (f : Frame) (j : Judged) (staged : List StagedTold) (x : Seen) → TellsSeen x (pulse_data f j staged x)
 
 pub record AreAlike (x y : Seen) : Type 0 where
   pub pulse : x.told.row.pulse ≡ y.told.row.pulse
@@ -57,15 +56,13 @@ pub record AreAlike (x y : Seen) : Type 0 where
 
 -- if the values of two pulses read back and have the same line, the pulses are alike
 abbrev pub OneLineOnePulse : Type 0
-OneLineOnePulse = (f g : Frame) (own other : Bool) (staged before : List StagedTold) (x y : Seen)
-    → ReadsBack (pulse_data f own staged x) → ReadsBack (pulse_data g other before y)
-    → line_of (pulse_data f own staged x) ≡ line_of (pulse_data g other before y) → AreAlike x y
+OneLineOnePulse = (f g : Frame) (j k : Judged) (staged before : List StagedTold) (x y : Seen)
+    → ReadsBack (pulse_data f j staged x) → ReadsBack (pulse_data g k before y)
+    → line_of (pulse_data f j staged x) ≡ line_of (pulse_data g k before y) → AreAlike x y
 
--- the verdicts of these pulses are those that the report judges of their records
-pub record AreOfReport (f : Frame) (own : Bool) (xs : List Seen) : Type 0 where
-  pub agree : map (λ x. agree_of f own x.told) xs ≡ agreements f own (map (λ x. x.told) xs)
-  pub counts : map (λ x. counts_of f.modulus x.earlier x.told) xs
-      ≡ map (λ j. j.counts) (judged_of own f.modulus (map (λ x. x.told) xs))
+-- what is judged of these pulses is what the report judges of their records
+abbrev pub AreOfReport : Frame → Bool → List Seen → Type 0
+AreOfReport f own xs = map (judged_seen f own) xs ≡ judged_of f own (map (λ x. x.told) xs)
 
 -- pulse by pulse the lines of a run judge what its report judges
 abbrev pub JudgesAsTheReport : Type 0

@@ -1,5 +1,4 @@
 pub mod Staged
-pub mod Judging
 pub mod Data
 pub mod Readers
 pub mod Laws

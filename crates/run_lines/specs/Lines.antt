@@ -5,7 +5,7 @@ use Rattle.scenario_text.specs.declared.scenario.Scenario.{Scenario}
 use Rattle.scenario_text.specs.Views.{frame_of}
 use Rattle.bench_scenario.specs.declared.summary.RunSummary.{RunSummary}
 use Rattle.json_values.specs.Texts.{line_of}
-use Rattle.run_lines.specs.Data.{frame_data, last_data, pulse_data}
+use Rattle.run_lines.specs.Data.{frame_data, judged_seen, last_data, pulse_data}
 use Rattle.run_lines.specs.Spans.{Span, is_within}
 use Rattle.run_lines.specs.Staged.{staged_at}
 
@@ -14,7 +14,8 @@ first_line s = line_of (frame_data (frame_of s) (is_some s.clock))
 
 -- of a pulse, with what the scenario staged before it
 abbrev pub told_line : Scenario → Seen → List ℕ
-told_line s x = line_of (pulse_data (frame_of s) (is_some s.clock) (staged_at s x.told.row.pulse) x)
+told_line s x =
+    line_of (pulse_data (frame_of s) (judged_seen (frame_of s) (is_some s.clock) x) (staged_at s x.told.row.pulse) x)
 
 abbrev pub last_line : RunSummary → List ℕ
 last_line m = line_of (last_data m)

@@ -1,5 +1,5 @@
 -- What a told run leaves on its writer (docs/OUTPUT.md, "JSON lines").
-use Rattle.std.specs.Prelude.{◌≡◌, ◌⊎◌, ℕ, ◌-◌, ◌^◌, ◌<◌, is_some, min, Bool, List, length, map, take, Option, None, Result, Ok, Err}
+use Rattle.std.specs.Prelude.{◌≡◌, ◌⊎◌, ℕ, is_some, Bool, List, map, take, Option, None, Result, Ok, Err}
 use Rattle.std.specs.Io.KnownBytes.{Appends, Keeps}
 use Rattle.bench_core.specs.State.{State, new_state}
 use Rattle.bench_workers.specs.Events.{Event}
@@ -12,6 +12,8 @@ use Rattle.bench_scenario.specs.Events.{events_of}
 use Rattle.bench_scenario.specs.Reports.{all_agree}
 use Rattle.bench_scenario.specs.Runs.{IsMemoryOrThread, bench_of}
 use Rattle.bench_scenario.specs.Summary.{IsSummary}
+use Rattle.stream_io.specs.declared.parts.PartFault.TheVariants as parts
+use Rattle.stream_io.specs.Parts.{Breaks}
 use Rattle.run_lines.specs.declared.fault.LinesFault.{LinesFault}
 use Rattle.run_lines.specs.declared.fault.LinesFault.TheVariants as faults
 use Rattle.run_lines.specs.Lines.{front_text, whole_text}
@@ -49,25 +51,14 @@ abbrev pub AreLines : Scenario → Span → List ℕ → Type 0
 AreLines s span told =
     ((events : ℕ) × IsFrontText s span events told) ⊎ ((agrees : Bool) × IsWholeText s span told agrees)
 
--- the greatest number of bytes that a fault reports; more are reported as this
-abbrev pub MOST_TOLD : ℕ
-MOST_TOLD = 2 ^ 64 - 1
-
--- the first bytes of lines, as many as were taken
-pub record Breaks (old new : Option (List ℕ)) (s : Scenario) (span : Span) (written : ℕ) : Type 0 where
-  pub told : List ℕ
-  pub lines : AreLines s span told
-  pub taken : ℕ
-  pub part : taken < length told
-  pub number : written ≡ min taken MOST_TOLD
-  pub left : Appends old new (take taken told)
-
 -- all lines; the first bytes of lines if a write failed; where the run stopped at an event, whole lines of the
 -- pulses before it; if there was no memory, nothing or whole lines
 abbrev pub LeavesLines : Option (List ℕ) → Option (List ℕ) → Scenario → Span → Result Bool LinesFault → Type 0
 LeavesLines old new s span (Ok agrees) = (told : List ℕ) × IsWholeText s span told agrees × Appends old new told
-LeavesLines old new s span (Err (faults.Write written)) = Breaks old new s span written
-LeavesLines old new s span (Err faults.Memory) = Keeps old new ⊎ ((events : ℕ) × LeavesFront old new s span events)
+LeavesLines old new s span (Err (faults.Part (parts.Write written))) =
+    (told : List ℕ) × AreLines s span told × Breaks old new told written
+LeavesLines old new s span (Err (faults.Part parts.Memory)) =
+    Keeps old new ⊎ ((events : ℕ) × LeavesFront old new s span events)
 LeavesLines old new s span (Err (faults.Run stop)) =
     IsFault (bench_of s) (events_of s) stop.event stop.fault × IsMemoryOrThread stop.fault
     × LeavesFront old new s span stop.event

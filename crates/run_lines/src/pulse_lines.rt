@@ -1,5 +1,5 @@
 //! The line of a pulse.
-ghost use Rattle.std.specs.Prelude.{◌≡◌, ◌∷◌, [], IfOk, OnOk, codes, is_some, length, option_copied, string_bytes};
+ghost use Rattle.std.specs.Prelude.{◌≡◌, ◌∷◌, [], IfOk, OnOk, codes, length, string_bytes};
 ghost use Rattle.serde_json.specs.Data.{boolean};
 ghost use Rattle.serde_json.specs.View.{members_view, view};
 ghost use Rattle.bench_workers.specs.Watching.{seen_of};
@@ -7,13 +7,11 @@ ghost use Rattle.scenario_text.specs.Views.{frame_of};
 ghost use Rattle.json_values.specs.Texts.{ReadsBack, line_of};
 ghost use Rattle.json_values.specs.Values.{list_data, number_data, option_data, with_members};
 ghost use Rattle.run_lines.specs.Data.{memory_data, pulse_data, ran_data, sent_data, staged_data, verdict_members};
-ghost use Rattle.run_lines.specs.Judging.{agree_of, counts_of};
 ghost use Rattle.run_lines.specs.Staged.{staged_at};
 
 use crate::nodes::{memories, ran, sent};
 use crate::staged::staged;
-use bench_core::PulseRecord;
-use bench_scenario::{agreement, counting, told_clocks};
+use bench_scenario::Judged;
 use bench_workers::Shown;
 use json_values::{flags, line_of, numbers, numbers_or_null, verdict_or_null};
 use scenario_text::Scenario;
@@ -79,80 +77,54 @@ fn add_left(
     put(members, alloc, "sent", sent(alloc, shown.bench.mail())?)
 }
 
-/// Whether a pulse agrees, as the report says it.
-fn agree_of(
-    alloc: Global,
-    scenario: &Scenario,
-    told: &PulseRecord,
-) -> Result<Option<bool>, AllocError>
-    ensures { IfOk result (λ verdict. verdict
-        ≡ agree_of (frame_of scenario.now) (is_some scenario.now.clock) told.now) }
-{
-    if !scenario.is_judged() {
-        return Ok(Some(told.agree));
-    }
-    let clocks = told_clocks(alloc, told.settled.as_slice(), told.clocks.as_slice())?;
-    let own = scenario.clock.is_some();
-    Ok(agreement(own, scenario.modulus, told, clocks.as_slice()))
-}
-
-/// Whether the clocks counted from the pulse before to this one.
-fn counts_of(
-    alloc: Global,
-    modulus: u32,
-    earlier: Option<&PulseRecord>,
-    told: &PulseRecord,
-) -> Result<Option<bool>, AllocError>
-    ensures { IfOk result (λ verdict. verdict ≡ counts_of modulus (option_copied earlier.entry) told.now) }
-{
-    let Some(earlier) = earlier else {
-        return Ok(None);
-    };
-    let before = told_clocks(alloc, earlier.settled.as_slice(), earlier.clocks.as_slice())?;
-    let after = told_clocks(alloc, told.settled.as_slice(), told.clocks.as_slice())?;
-    Ok(counting(modulus, before.as_slice(), after.as_slice()))
-}
-
 /// What is judged of it.
 fn add_verdicts(
     alloc: Global,
     members: &mut Map<String, Value>,
     scenario: &Scenario,
-    shown: &Shown,
+    judged: Judged,
 ) -> Result<(), AllocError>
     ensures { OnOk result (members_view members.new.entries ≡ with_members (members_view members.old.entries)
-        (verdict_members (frame_of scenario.now) (is_some scenario.now.clock) (seen_of shown.now))) }
+        (verdict_members (frame_of scenario.now) judged)) }
 {
-    let agree = agree_of(alloc, scenario, shown.told)?;
-    put(members, alloc, "agree", verdict_or_null(agree))?;
+    put(members, alloc, "agree", verdict_or_null(judged.agree))?;
     if !scenario.is_judged() {
         return Ok(());
     }
-    let counts = counts_of(alloc, scenario.modulus, shown.earlier, shown.told)?;
-    put(members, alloc, "counts", verdict_or_null(counts))
+    put(members, alloc, "counts", verdict_or_null(judged.counts))
 }
 
 /// What the line of a pulse tells.
-fn pulse_value(alloc: Global, scenario: &Scenario, shown: &Shown) -> Result<Value, AllocError>
-    ensures { IfOk result (λ v. view v ≡ pulse_data (frame_of scenario.now) (is_some scenario.now.clock)
+fn pulse_value(
+    alloc: Global,
+    scenario: &Scenario,
+    shown: &Shown,
+    judged: Judged,
+) -> Result<Value, AllocError>
+    ensures { IfOk result (λ v. view v ≡ pulse_data (frame_of scenario.now) judged
         (staged_at scenario.now (seen_of shown.now).told.row.pulse) (seen_of shown.now)) }
 {
     let mut members = Map::new(alloc);
     add_doings(alloc, &mut members, scenario, shown)?;
     add_record(alloc, &mut members, shown)?;
     add_left(alloc, &mut members, shown)?;
-    add_verdicts(alloc, &mut members, scenario, shown)?;
+    add_verdicts(alloc, &mut members, scenario, judged)?;
     Ok(Value::Object(members))
 }
 
-/// Returns the line of a closed pulse of a scenario's run, whose text reads back as what it tells.
-pub fn pulse_line(alloc: Global, scenario: &Scenario, shown: &Shown) -> Result<String, AllocError>
-    ensures line { IfOk result (λ s. string_bytes s
-        ≡ line_of (pulse_data (frame_of scenario.now) (is_some scenario.now.clock)
+/// Returns the line of a closed pulse of a scenario's run, of which this is judged. The text reads back as what the line
+/// tells.
+pub fn pulse_line(
+    alloc: Global,
+    scenario: &Scenario,
+    shown: &Shown,
+    judged: Judged,
+) -> Result<String, AllocError>
+    ensures line { IfOk result (λ s. string_bytes s ≡ line_of (pulse_data (frame_of scenario.now) judged
         (staged_at scenario.now (seen_of shown.now).told.row.pulse) (seen_of shown.now))) }
-    ensures reads { OnOk result (ReadsBack (pulse_data (frame_of scenario.now) (is_some scenario.now.clock)
+    ensures reads { OnOk result (ReadsBack (pulse_data (frame_of scenario.now) judged
         (staged_at scenario.now (seen_of shown.now).told.row.pulse) (seen_of shown.now))) }
 {
-    let value = pulse_value(alloc, scenario, shown)?;
+    let value = pulse_value(alloc, scenario, shown, judged)?;
     line_of(alloc, &value)
 }

@@ -3,52 +3,28 @@ ghost use Rattle.std.specs.Prelude.{◌≡◌, ◌≤◌, ℕ, List, IfErr, IfOk
 ghost use Rattle.scenario_text.specs.Texts.{ReadsText};
 ghost use Rattle.run_lines.specs.Lines.{first_line};
 ghost use Rattle.run_lines.specs.Telling.{LeavesLines};
-ghost use Rattle.run_lines.specs.inner.Writing.{Adds, IsEnd, IsLineFault};
+ghost use Rattle.stream_io.specs.Parts.{Adds, IsPartFault};
 
 use crate::fault::LinesFault;
-use crate::frame_lines::{frame_line, last_line};
+use crate::frame_lines::frame_line;
 use crate::span::PulseSpan;
-use crate::writer::{LineWriter, write_line};
-use bench_scenario::{all_agree, run_watched, summary_of};
-use bench_workers::{MOST_WORKERS, Run};
+use crate::writer::LineWriter;
+use bench_scenario::run_watched;
+use bench_workers::MOST_WORKERS;
 use scenario_text::Scenario;
 use std::alloc::Global;
 use std::io::Write;
 use std::sync::Wait;
 use std::thread::Threads;
+use stream_io::{PartFault, write_part};
 
 /// Writes the first line, and answers how many bytes it has.
-fn write_first<W: Write>(alloc: Global, scenario: &Scenario, out: &mut W) -> Result<u64, LinesFault>
+fn write_first<W: Write>(alloc: Global, scenario: &Scenario, out: &mut W) -> Result<u64, PartFault>
     ensures told { IfOk result (Adds (W.contents out.old) (W.contents out.new) 0 (first_line scenario.now)) }
-    ensures fault { IfErr result (IsLineFault (W.contents out.old) (W.contents out.new) 0 (first_line scenario.now)) }
+    ensures fault { IfErr result (IsPartFault (W.contents out.old) (W.contents out.new) 0 (first_line scenario.now)) }
 {
-    let Ok(line) = frame_line(alloc, scenario) else {
-        return Err(LinesFault::Memory);
-    };
-    write_line(out, 0, line.as_bytes())
-}
-
-/// Writes the last line after this many bytes, and answers whether no pulse's verdict on agreement is no.
-fn write_last<W: Write>(
-    alloc: Global,
-    scenario: &Scenario,
-    run: &Run,
-    before: u64,
-    out: &mut W,
-) -> Result<bool, LinesFault>
-    ensures { IsEnd (W.contents out.old) (W.contents out.new) scenario.now before run.now.records.items result }
-{
-    let Ok(agrees) = all_agree(alloc, scenario, run) else {
-        return Err(LinesFault::Memory);
-    };
-    let Ok(summary) = summary_of(alloc, scenario, run.records.as_slice()) else {
-        return Err(LinesFault::Memory);
-    };
-    let Ok(line) = last_line(alloc, &summary) else {
-        return Err(LinesFault::Memory);
-    };
-    write_line(out, before, line.as_bytes())?;
-    Ok(agrees)
+    let line = frame_line(alloc, scenario)?;
+    write_part(out, 0, line.as_bytes())
 }
 
 /// Runs a scenario that was read, and writes its lines: the first, those of the pulses within the span, each as its
@@ -73,5 +49,6 @@ pub fn tell_lines<T: Threads + Wait + Sync, W: Write>(
         Ok(run) => run,
         Err(end) => return Err(writer.fault(end)),
     };
-    write_last(alloc, scenario, &run, writer.written(), out)
+    let agrees = writer.write_last(run.records.as_slice(), out)?;
+    Ok(agrees)
 }

@@ -1,31 +1,23 @@
 //! The watcher of a run that writes its lines.
-ghost use Rattle.std.specs.Prelude.{◌≡◌, IfErr, IfOk};
+ghost use Rattle.std.specs.Prelude.{◌≡◌, [], IfErr, OnOk, is_some};
 ghost use Rattle.bench_workers.specs.Watching.{seen_of};
-ghost use Rattle.run_lines.specs.inner.Writing.{Adds, IsLineFault, IsReason};
+ghost use Rattle.scenario_text.specs.Views.{frame_of};
+ghost use Rattle.bench_scenario.specs.Verdicts.{judged_of};
+ghost use Rattle.stream_io.specs.Parts.{IsPartFault};
+ghost use Rattle.run_lines.specs.inner.Writing.{IsEnd, IsReason, Tells};
 ghost use Rattle.run_lines.specs.Lines.{line_within};
 
 use crate::fault::LinesFault;
+use crate::frame_lines::last_line;
 use crate::pulse_lines::pulse_line;
 use crate::span::PulseSpan;
-use bench_scenario::WatchedFault;
+use bench_core::PulseRecord;
+use bench_scenario::{Judged, WatchedFault, judgement, none_disagrees, summary_of};
 use bench_workers::{Shown, Stop, Watcher};
 use scenario_text::Scenario;
 use std::alloc::Global;
 use std::io::Write;
-use stream_io::{WriteFault, write_fully};
-
-/// Writes a line after this many bytes, and answers how many there are then.
-pub(crate) fn write_line<W: Write>(out: &mut W, before: u64, line: &[u8]) -> Result<u64, LinesFault>
-    ensures told { IfOk result (Adds (W.contents out.old) (W.contents out.new) before line.now) }
-    ensures fault { IfErr result (IsLineFault (W.contents out.old) (W.contents out.new) before line.now) }
-{
-    match write_fully(out, line) {
-        Ok(()) => Ok(before.saturating_add(line.len() as u64)),
-        Err(WriteFault { written }) => Err(LinesFault::Write {
-            written: before.saturating_add(written as u64),
-        }),
-    }
-}
+use stream_io::{PartFault, write_part};
 
 /// The number of a pulse.
 fn pulse_of(shown: &Shown) -> u32
@@ -35,15 +27,17 @@ fn pulse_of(shown: &Shown) -> u32
     told.row.pulse
 }
 
-/// Writes the line of each pulse within the span, and keeps why it stopped.
+/// Judges each pulse, writes the lines of those within the span, and keeps why it stopped.
 #[derive(Drop)]
 pub(crate) struct LineWriter<'a> {
     alloc: Global,
     scenario: &'a Scenario,
     span: PulseSpan,
+    /// What is judged of the pulses that it was shown.
+    judged: Vec<Judged>,
     /// How many bytes were written, those before its first line included.
     written: u64,
-    stopped: Option<LinesFault>,
+    stopped: Option<PartFault>,
 }
 
 impl<'a> LineWriter<'a> {
@@ -56,21 +50,17 @@ impl<'a> LineWriter<'a> {
     ) -> LineWriter<'a>
         ensures scenario { result.scenario.now ≡ scenario.now }
         ensures span { result.span ≡ span }
+        ensures judged { result.judged.items ≡ [] }
         ensures written { result.written ≡ written }
     {
         LineWriter {
             alloc,
             scenario,
             span,
+            judged: Vec::new(alloc),
             written,
             stopped: None,
         }
-    }
-
-    pub(crate) fn written(&self) -> u64
-        ensures { result ≡ self.now.written }
-    {
-        self.written
     }
 
     /// Why the run that it watched has no end.
@@ -79,26 +69,48 @@ impl<'a> LineWriter<'a> {
     {
         match (end, self.stopped) {
             (WatchedFault::Run(stop), _) => LinesFault::Run(stop),
-            (WatchedFault::Stopped(_event), Some(fault)) => fault,
-            (WatchedFault::Stopped(_), None) | (WatchedFault::Memory, _) => LinesFault::Memory,
+            (WatchedFault::Stopped(_event), Some(fault)) => LinesFault::Part(fault),
+            (WatchedFault::Stopped(_), None) | (WatchedFault::Memory, _) => {
+                LinesFault::Part(PartFault::Memory)
+            }
         }
     }
 
-    /// Writes the line of a pulse, if it is within the span, and answers how many bytes were written then.
-    fn tell<W: Write>(&self, out: &mut W, shown: &Shown) -> Result<u64, LinesFault>
-        ensures told { IfOk result (Adds (W.contents out.old) (W.contents out.new) self.now.written
-            (line_within self.now.scenario.now self.now.span (seen_of shown.now))) }
-        ensures fault { IfErr result (IsLineFault (W.contents out.old) (W.contents out.new) self.now.written
-            (line_within self.now.scenario.now self.now.span (seen_of shown.now))) }
+    /// Judges a pulse, and writes its line if it is within the span.
+    fn tell<W: Write>(&mut self, out: &mut W, shown: &Shown) -> Result<(), PartFault>
+        ensures told { OnOk result (Tells W.contents self.old out.old (seen_of shown.now) self.new out.new) }
+        ensures fault { IfErr result (IsPartFault (W.contents out.old) (W.contents out.new) self.old.written
+            (line_within self.old.scenario.now self.old.span (seen_of shown.now))) }
     {
-        let before = self.written;
-        if !self.span.contains(pulse_of(shown)) {
-            return Ok(before);
+        let judged = judgement(self.alloc, self.scenario, shown.earlier, shown.told)?;
+        if self.judged.push(judged).is_err() {
+            return Err(PartFault::Memory);
         }
-        let Ok(line) = pulse_line(self.alloc, self.scenario, shown) else {
-            return Err(LinesFault::Memory);
-        };
-        write_line(out, before, line.as_bytes())
+        if !self.span.contains(pulse_of(shown)) {
+            return Ok(());
+        }
+        let line = pulse_line(self.alloc, self.scenario, shown, judged)?;
+        self.written = write_part(out, self.written, line.as_bytes())?;
+        Ok(())
+    }
+
+    /// Writes the last line, and answers whether no pulse's verdict on agreement is no.
+    pub(crate) fn write_last<W: Write>(
+        &self,
+        records: &[PulseRecord],
+        out: &mut W,
+    ) -> Result<bool, PartFault>
+        requires { self.now.judged.items
+            ≡ judged_of (frame_of self.now.scenario.now) (is_some self.now.scenario.now.clock) records.now }
+        ensures { IsEnd (W.contents out.old) (W.contents out.new) self.now.scenario.now self.now.written records.now
+            result }
+    {
+        let judged = self.judged.as_slice();
+        let agrees = none_disagrees(judged);
+        let summary = summary_of(self.scenario.modulus, records, judged);
+        let line = last_line(self.alloc, &summary)?;
+        write_part(out, self.written, line.as_bytes())?;
+        Ok(agrees)
     }
 }
 
@@ -111,10 +123,7 @@ impl<'a, W: Write> Watcher<W> for LineWriter<'a> {
 
     fn see(&mut self, sink: &mut W, shown: &Shown) -> Result<(), Stop> {
         match self.tell(sink, shown) {
-            Ok(written) => {
-                self.written = written;
-                Ok(())
-            }
+            Ok(()) => Ok(()),
             Err(fault) => {
                 self.stopped = Some(fault);
                 Err(Stop)

@@ -1,23 +1,13 @@
 -- What a traced run leaves on its writer (docs/COMMANDS.md, "A trace").
-use Rattle.std.specs.Prelude.{◌≡◌, ℕ, ◌-◌, ◌^◌, ◌<◌, min, List, length, take, Option, Result, Ok, Err}
+use Rattle.std.specs.Prelude.{ℕ, ◌<◌, List, length, take, Option, Result, Ok, Err}
 use Rattle.std.specs.Io.KnownBytes.{Appends}
 use Rattle.bpf_insn.specs.declared.forms.Insn.{Insn}
-use Rattle.run_trace.specs.declared.fault.TraceFault.{TraceFault}
-use Rattle.run_trace.specs.declared.fault.TraceFault.TheVariants as faults
+use Rattle.stream_io.specs.declared.parts.PartFault.{PartFault}
+use Rattle.stream_io.specs.declared.parts.PartFault.TheVariants as faults
+use Rattle.stream_io.specs.Parts.{Breaks, Wrote}
 use Rattle.run_trace.specs.declared.tracing.Traced.{Traced}
 use Rattle.run_trace.specs.Lines.{trace_text}
 use Rattle.run_trace.specs.Steps.{Step}
-
--- the greatest number of bytes that a fault reports; more are reported as this
-abbrev pub MOST_TOLD : ℕ
-MOST_TOLD = 2 ^ 64 - 1
-
--- the first bytes of a text, and not all, of which the number tells
-pub record Breaks (old new : Option (List ℕ)) (text : List ℕ) (written : ℕ) : Type 0 where
-  pub taken : ℕ
-  pub part : taken < length text
-  pub number : written ≡ min taken MOST_TOLD
-  pub left : Appends old new (take taken text)
 
 -- the whole lines of the first steps, and not of all
 pub record Stops (old new : Option (List ℕ)) (program : List Insn) (steps : List Step) : Type 0 where
@@ -27,8 +17,7 @@ pub record Stops (old new : Option (List ℕ)) (program : List Insn) (steps : Li
 
 -- the lines of all steps; their first bytes if a write failed; whole lines of the first steps if there was no
 -- memory for one more
-abbrev pub LeavesTrace : Option (List ℕ) → Option (List ℕ) → List Insn → List Step → Result Traced TraceFault → Type 0
-LeavesTrace old new program steps (Ok traced) =
-    Appends old new (trace_text program steps) × (traced.written ≡ min (length (trace_text program steps)) MOST_TOLD)
+abbrev pub LeavesTrace : Option (List ℕ) → Option (List ℕ) → List Insn → List Step → Result Traced PartFault → Type 0
+LeavesTrace old new program steps (Ok traced) = Wrote old new (trace_text program steps) traced.written
 LeavesTrace old new program steps (Err (faults.Write written)) = Breaks old new (trace_text program steps) written
 LeavesTrace old new program steps (Err faults.Memory) = Stops old new program steps

@@ -1,3 +1,2 @@
 -- What proofs and private contracts alone cite.
 pub mod Parts
-pub mod Writing

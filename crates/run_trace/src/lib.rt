@@ -1,7 +1,6 @@
 //! A run told step by step, as it goes: docs/COMMANDS.md, "A trace".
 #![tactic(auto)]
 
-mod fault;
 mod laws;
 mod line;
 mod listed;
@@ -9,7 +8,6 @@ mod operands;
 mod telling;
 mod tracing;
 
-pub use fault::TraceFault;
 pub use laws::{as_many_lines_as_steps, tells_the_run};
 pub use listed::{RuleCode, listed_trace};
 pub use tracing::{Traced, trace};

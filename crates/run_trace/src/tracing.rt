@@ -1,14 +1,12 @@
 //! A run, from its first line to its last.
 
-ghost use Rattle.std.specs.Prelude.{◌≡◌, ◌+◌, ◌++◌, IfErr, IfOk, codes, length, min};
-ghost use Rattle.std.specs.Io.KnownBytes.{Appends};
+ghost use Rattle.std.specs.Prelude.{◌≡◌, ◌++◌, IfErr, IfOk, codes, length};
 ghost use Rattle.bpf_machine.specs.Run.{RunAnswers};
 ghost use Rattle.run_trace.specs.Steps.{steps_of};
-ghost use Rattle.run_trace.specs.Traces.{LeavesTrace, MOST_TOLD};
+ghost use Rattle.run_trace.specs.Traces.{LeavesTrace};
 ghost use Rattle.run_trace.specs.inner.Parts.{line_in};
-ghost use Rattle.run_trace.specs.inner.Writing.{Adds, IsLineFault};
+ghost use Rattle.stream_io.specs.Parts.{Adds, IsPartFault};
 
-use crate::fault::TraceFault;
 use crate::line::Line;
 use crate::telling::told_step;
 use bpf_insn::Program;
@@ -16,7 +14,7 @@ use bpf_machine::{Outcome, State, Turn};
 use node_env::{Env, Outbox};
 use std::alloc::Global;
 use std::io::Write;
-use stream_io::{WriteFault, write_fully};
+use stream_io::{PartFault, write_part};
 
 /// What a run came to whose steps were told, and how many bytes were written: no more are counted than the number has
 /// room for.
@@ -32,21 +30,14 @@ fn write_line<W: Write>(
     out: &mut W,
     before: u64,
     line: &Line,
-) -> Result<u64, TraceFault>
+) -> Result<u64, PartFault>
     ensures told { IfOk result
         (Adds (W.contents out.old) (W.contents out.new) before (line_in line.now ++ codes "\n")) }
     ensures fault { IfErr result
-        (IsLineFault (W.contents out.old) (W.contents out.new) before (line_in line.now ++ codes "\n")) }
+        (IsPartFault (W.contents out.old) (W.contents out.new) before (line_in line.now ++ codes "\n")) }
 {
-    let Ok(text) = format!(in alloc; "{line}\n") else {
-        return Err(TraceFault::Memory);
-    };
-    match write_fully(out, text.as_bytes()) {
-        Ok(()) => Ok(before.saturating_add(text.len() as u64)),
-        Err(WriteFault { written }) => Err(TraceFault::Write {
-            written: before.saturating_add(written as u64),
-        }),
-    }
+    let text = format!(in alloc; "{line}\n")?;
+    write_part(out, before, text.as_bytes())
 }
 
 /// Runs a program as `run_checked` of `bpf_machine` does, and writes a line for each step once it is taken, and for the
@@ -60,7 +51,7 @@ pub fn trace<W: Write>(
     outbox: &mut Outbox,
     fuel: u64,
     out: &mut W,
-) -> Result<Traced, TraceFault>
+) -> Result<Traced, PartFault>
     requires memory { length memory.old ≡ env.now.shape.memory }
     requires nodes { outbox.old.nodes ≡ env.now.shape.nodes }
     ensures run { IfOk result (λ traced. RunAnswers program.now env.now memory.old fuel memory.new outbox.new.sent

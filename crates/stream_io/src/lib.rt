@@ -6,9 +6,11 @@ ghost use Rattle.std.specs.Io.KnownBytes.{Appends, Consumes, IsAtEnd};
 ghost use Rattle.stream_io.specs.Streams.{TakesAtMost};
 
 mod counted;
+mod parts;
 mod steps;
 
 pub use counted::read_counted;
+pub use parts::{PartFault, write_part};
 use std::alloc::Global;
 use std::io::{Read, Write};
 use std::marker::Brand;

@@ -1,7 +1,7 @@
 //! Streams that give and take little at a time, fail in the middle, or take nothing.
 ghost use Rattle.std.specs.Prelude.{◌≡◌, IfOk};
 
-use crate::{ReadFault, WriteFault, read_at_most, write_fully};
+use crate::{PartFault, ReadFault, WriteFault, read_at_most, write_fully, write_part};
 use std::alloc::Global;
 use std::io;
 use std::io::{ErrorKind, Read, Write};
@@ -178,4 +178,27 @@ fn writes_nothing_without_a_call(rt: HostRuntime) {
     let mut writer = Narrow::new(rt.alloc(), 1, 0, Last::Nothing);
     assert_eq!(rt; write_fully(&mut writer, b""), Ok(()));
     assert_eq!(rt; writer.calls, 0);
+}
+
+#[test]
+fn counts_the_bytes_of_all_parts(rt: HostRuntime) {
+    for room in 0..=16usize {
+        let mut writer = Narrow::new(rt.alloc(), 3, room, Last::Nothing);
+        let front = write_part(&mut writer, 0, &TEXT[..10]);
+        if room < 10 {
+            let written = room as u64;
+            assert_eq!(rt; front, Err(PartFault::Write { written }));
+        } else {
+            assert_eq!(rt; front, Ok(10));
+            let whole = write_part(&mut writer, 10, &TEXT[10..]);
+            let written = room as u64;
+            let wanted = if room < 16 {
+                Err(PartFault::Write { written })
+            } else {
+                Ok(16)
+            };
+            assert_eq!(rt; whole, wanted);
+        }
+        assert_eq!(rt; writer.taken.as_slice(), &TEXT[..room]);
+    }
 }

@@ -99,8 +99,11 @@ pub fn reports<R: Threads + Wait + Sync>(rt: &R, alloc: Global) -> Result<Ended,
         Ok(run) => run,
         Err(fault) => return Err(stop_of(fault)),
     };
-    let (text, ended) = stubbornly(|| Ok(report(alloc, &scenario, &run)?))?;
-    expect(text.as_bytes() == REPORT, Wrong::Answer)?;
+    let (report, ended) = stubbornly(|| Ok(report(alloc, &scenario, &run)?))?;
+    expect(
+        report.text.as_bytes() == REPORT && report.agrees,
+        Wrong::Answer,
+    )?;
     Ok(ended)
 }
 

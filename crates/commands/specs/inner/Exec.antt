@@ -1,10 +1,8 @@
 -- Beside Exec: what proofs and private contracts alone cite.
-use Rattle.std.specs.Prelude.{◌≡◌, ℕ, min, Bool, true, false, List, [], length, Option, Result}
-use Rattle.std.specs.Io.KnownBytes.{Appends}
+use Rattle.std.specs.Prelude.{◌≡◌, ℕ, Bool, true, false, List, [], Option, Result}
 use Rattle.std.specs.FinMap.{empty}
 use Rattle.bpf_insn.specs.declared.forms.Insn.{Insn}
 use Rattle.bpf_machine.specs.Run.{RunAnswers}
-use Rattle.run_trace.specs.Traces.{MOST_TOLD}
 use Rattle.commands.specs.declared.answer.Answer.{Answer}
 use Rattle.commands.specs.declared.answer.Answer.TheVariants as answers
 use Rattle.commands.specs.declared.ending.Ending.{Ending}
@@ -15,7 +13,7 @@ use Rattle.commands.specs.declared.left.LeftByRun.{LeftByRun}
 use Rattle.commands.specs.declared.request.ExecOptions.{ExecOptions}
 use Rattle.commands.specs.Answer.{ending_of, told_text}
 use Rattle.commands.specs.Case.{Left, case_memory, case_setting}
-use Rattle.commands.specs.Exec.{LeavesSteps, case_trace}
+use Rattle.commands.specs.Exec.{LeavesSteps}
 use Rattle.commands.specs.Image.{asked_extent}
 use Rattle.commands.specs.Output.{LeavesAny}
 
@@ -40,12 +38,6 @@ RunsCase asked program (Ran outcome left) =
     RunAnswers program (case_setting (asked_extent asked.shape) asked.case)
     (case_memory (asked_extent asked.shape) asked.case) asked.fuel left.memory.items left.outbox.sent outcome
     × (left.outbox.nodes ≡ asked.shape.nodes)
-
--- the lines of the steps were written, of which so many bytes are told
-pub record WroteTrace (old new : Option (List ℕ)) (asked : ExecOptions) (program : List Insn) (written : ℕ)
-    : Type 0 where
-  pub left : Appends old new (case_trace asked program)
-  pub number : written ≡ min (length (case_trace asked program)) MOST_TOLD
 
 -- what the run of a program in the case that is asked for leaves, with the lines of its steps or without
 abbrev pub LeavesRunOf : Bool → Option (List ℕ) → Option (List ℕ) → ExecOptions → List Insn → Result Ending Fault → Type 0

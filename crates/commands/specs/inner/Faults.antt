@@ -5,7 +5,7 @@ use Rattle.bench_workers.specs.declared.event.RunRefusal.{RunRefusal}
 use Rattle.bench_workers.specs.declared.event.RunRefusal.TheVariants as refusals
 use Rattle.bench_stress.specs.declared.stop.Stop.{Stop}
 use Rattle.bench_stress.specs.declared.stop.Stop.TheVariants as stops
-use Rattle.run_trace.specs.Traces.{MOST_TOLD}
+use Rattle.stream_io.specs.Parts.{MOST_TOLD}
 use Rattle.commands.specs.declared.fault.Fault.{Fault}
 use Rattle.commands.specs.declared.fault.Fault.TheVariants.{Read, Write, Memory, Thread, CommandLine}
 

@@ -20,6 +20,6 @@ returns g c = record {
   memories = _;
   run = run_met c.args.scenario.now _ _ _ _ c.in-Ok-bench_for.ensures.setup c.in-Ok.ensures
       c.in-Ok-run_events_on.ensures.run;
-  whole = c.in-Ok-report.ensures;
-  verdict = c.in-Ok-all_agree.ensures;
+  whole = c.in-Ok-report.ensures.text;
+  verdict = c.in-Ok-report.ensures.agrees;
 }

@@ -6,14 +6,14 @@ use Rattle.key_sweep.proofs.sweeping.write_keys.Goals as goal
 pub returns-in_err-told : goal.returns-in_err-told
 returns-in_err-told g c =
     front_of_names _ _ c.args.scenario.now c.args.keys c.as_slice.result.now c.in_err-told.field-0.0
-    c.from_residual.result (c.as_slice.ensures.value ∙ c.in-Ok.ensures) c.in_err-told.ensures.front
+    c.from_residual.result (c.as_slice.ensures.value ∙ c.in-Ok.ensures) c.in_err-told.ensures.fault
     c.from_residual.ensures.1
 
 pub loop-next-init : goal.loop-next-init
 loop-next-init g c = record {
   swept = swept_names _ _ c.args.scenario.now c.args.keys.first c.first-next.result c.in_ok-told.told
       c.as_slice.result.now (c.as_slice.ensures.value ∙ c.in-Ok.ensures) c.first-next.ensures.value
-      c.in_ok-told.ensures.all.1 c.in_ok-told.ensures.all.0;
+      c.in_ok-told.ensures.whole;
   past = let last = c.last-past.ensures.value in omega (arith, last);
   within =
       let first = c.first-next.ensures.value in
@@ -33,7 +33,7 @@ returns-in_err-told-2 g c =
     c.from_residual-in_err-told-2.result c.loop-next.invariant.swept c.in-Ok-summaries_of.ensures.each
     (c.as_slice-in-loop-next.ensures.value ∙ (c.in-Ok-rows_text.ensures
     ∙ ap (rows_text c.loop-next.next) c.as_slice-front.ensures.value))
-    (omega (arith, past, count, few, before)) c.in_err-told-2.ensures.front
+    (omega (arith, past, before)) (omega (arith, past, count, few, before)) c.in_err-told-2.ensures.fault
     c.from_residual-in_err-told-2.ensures.1
 
 pub returns-then-front-count : goal.returns-then-front-count
@@ -50,7 +50,7 @@ returns-then-front-count g c =
     c.in-Ok-summaries_of.ensures.each
     (c.as_slice-in-loop-next.ensures.value ∙ (c.in-Ok-rows_text.ensures
     ∙ ap (rows_text c.loop-next.next) c.as_slice-front.ensures.value))
-    c.in_ok-told-2.ensures.all.1 c.in_ok-told-2.ensures.all.0)
+    c.in_ok-told-2.ensures.whole)
     (omega (arith, past, count, fewer, same))
 
 pub loop-next-preserved : goal.loop-next-preserved
@@ -69,7 +69,7 @@ loop-next-preserved g c =
           c.loop-next.invariant.swept c.in-Ok-summaries_of.ensures.each
           (c.as_slice-in-loop-next.ensures.value ∙ (c.in-Ok-rows_text.ensures
           ∙ ap (rows_text c.loop-next.next) c.as_slice-front.ensures.value))
-          c.in_ok-told-2.ensures.all.1 c.in_ok-told-2.ensures.all.0;
+          c.in_ok-told-2.ensures.whole;
       past = past;
       within = omega (arith, count, before);
     }

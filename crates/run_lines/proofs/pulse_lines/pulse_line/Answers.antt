@@ -1,5 +1,4 @@
 use Rattle.std.proofs.Common.{arith}
-use Rattle.std.specs.Prelude.{is_some}
 use Rattle.bench_workers.specs.Watching.{seen_of}
 use Rattle.scenario_text.specs.Views.{frame_of}
 use Rattle.json_values.proofs.PlainLemmas.{flat_as, whole_as}
@@ -11,6 +10,6 @@ pub line_of-requires : goal.line_of-requires
 line_of-requires c =
     let s = c.args.scenario.now in
     let x = seen_of c.args.shown.now in
-    let plain = plain_pulse (frame_of s) (is_some s.clock) (staged_at s x.told.row.pulse) x in
+    let plain = plain_pulse (frame_of s) c.args.judged (staged_at s x.told.row.pulse) x in
     let is = c.in_ok-value.ensures in
     record { whole = whole_as 3 _ _ is plain; flat = flat_as 3 _ _ (omega arith) is plain }

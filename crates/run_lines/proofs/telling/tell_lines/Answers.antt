@@ -1,4 +1,8 @@
-use Rattle.run_lines.proofs.LineLemmas.{begins, ends_early, ends_whole, first_fault}
+use Rattle.std.specs.Prelude.{Err, Ok}
+use Rattle.stream_io.proofs.PartLemmas.{handed_on}
+use Rattle.run_lines.specs.declared.fault.LinesFault.TheVariants.{Part}
+use Rattle.run_lines.specs.Telling.{LeavesLines}
+use Rattle.run_lines.proofs.LineLemmas.{all_judged, begins, ends_early, ends_whole, first_fault}
 use Rattle.run_lines.proofs.telling.tell_lines.Goals as goal
 
 pub returns-in_err-written : goal.returns-in_err-written
@@ -7,6 +11,18 @@ returns-in_err-written g c = record {
       c.in_err-written.ensures.fault c.from_residual.ensures.1;
 }
 
+pub write_last-requires : goal.write_last-requires
+write_last-requires g c =
+    let contents = g.W.Write.contents in
+    let old = contents c.args.out.now in
+    let s = c.args.scenario.now in
+    let stands = begins contents old s c.args.span c.in_ok-written.written c.new-writer.result c.write_first.new.out
+    c.in_ok-written.ensures.told c.new-writer.ensures.scenario c.new-writer.ensures.span
+    c.new-writer.ensures.judged c.new-writer.ensures.written in
+    rw c.as_slice.ensures.value
+    (all_judged contents old s c.args.span c.in-Ok.run'.records.items c.new-writer.result c.run_watched.new.watcher
+    c.write_first.new.out c.run_watched.new.sink stands c.in-Ok.ensures.watched)
+
 pub returns-in-Err : goal.returns-in-Err
 returns-in-Err g c =
     let contents = g.W.Write.contents in
@@ -14,10 +30,27 @@ returns-in-Err g c =
     let s = c.args.scenario.now in
     let stands = begins contents old s c.args.span c.in_ok-written.written c.new-writer.result c.write_first.new.out
     c.in_ok-written.ensures.told c.new-writer.ensures.scenario c.new-writer.ensures.span
-    c.new-writer.ensures.written in
+    c.new-writer.ensures.judged c.new-writer.ensures.written in
     record {
       left = ends_early contents old s c.args.span c.new-writer.result c.run_watched.new.watcher c.write_first.new.out
           c.run_watched.new.sink c.in-Err.end c.fault.result stands c.in-Err.ensures.ends c.fault.ensures;
+    }
+
+pub returns-in_err-agrees : goal.returns-in_err-agrees
+returns-in_err-agrees g c =
+    let contents = g.W.Write.contents in
+    let old = contents c.args.out.now in
+    let s = c.args.scenario.now in
+    let stands = begins contents old s c.args.span c.in_ok-written.written c.new-writer.result c.write_first.new.out
+    c.in_ok-written.ensures.told c.new-writer.ensures.scenario c.new-writer.ensures.span
+    c.new-writer.ensures.judged c.new-writer.ensures.written in
+    record {
+      left = handed_on (LeavesLines old (contents c.write_last.new.out) s c.args.span)
+          (Part c.in_err-agrees.field-0.0) c.from_residual-in_err-agrees.result
+          (ends_whole contents old (contents c.write_last.new.out) s c.args.span c.in-Ok.run'.records.items _
+          c.new-writer.result c.run_watched.new.watcher c.write_first.new.out c.run_watched.new.sink
+          (Err c.in_err-agrees.field-0.0) stands c.in-Ok.ensures.run c.in-Ok.ensures.watched
+          (rw c.as_slice.ensures.value at c.in_err-agrees.ensures)) c.from_residual-in_err-agrees.ensures.1;
     }
 
 pub returns : goal.returns
@@ -27,10 +60,10 @@ returns g c =
     let s = c.args.scenario.now in
     let stands = begins contents old s c.args.span c.in_ok-written.written c.new-writer.result c.write_first.new.out
     c.in_ok-written.ensures.told c.new-writer.ensures.scenario c.new-writer.ensures.span
-    c.new-writer.ensures.written in
+    c.new-writer.ensures.judged c.new-writer.ensures.written in
     record {
-      left = ends_whole contents old (contents c.write_last.new.out) s c.args.span _ _ c.written.result
-          c.new-writer.result
-          c.run_watched.new.watcher c.write_first.new.out c.run_watched.new.sink c.write_last.result stands
-          c.in-Ok.ensures.run c.in-Ok.ensures.watched c.written.ensures c.write_last.ensures;
+      left = ends_whole contents old (contents c.write_last.new.out) s c.args.span c.in-Ok.run'.records.items _
+          c.new-writer.result c.run_watched.new.watcher c.write_first.new.out c.run_watched.new.sink
+          (Ok c.in_ok-agrees.agrees) stands c.in-Ok.ensures.run c.in-Ok.ensures.watched
+          (rw c.as_slice.ensures.value at c.in_ok-agrees.ensures);
     }

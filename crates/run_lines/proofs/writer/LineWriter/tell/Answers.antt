@@ -1,12 +1,14 @@
-use Rattle.std.proofs.Common.{◌≤◌, ◌∙◌, ap, arith, sym}
+use Rattle.std.proofs.Common.{◌∙◌, ap, refl, rules, sym}
 use Rattle.bench_workers.specs.Watching.{seen_of}
 use Rattle.run_lines.proofs.LineLemmas.{none_told}
 use Rattle.run_lines.specs.Spans.{is_within}
-use Rattle.run_lines.specs.Telling.{MOST_TOLD}
 use Rattle.run_lines.proofs.writer.LineWriter.tell.Goals as goal
 
 pub returns-then-not-contains-clause-told : goal.returns-then-not-contains-clause-told
-returns-then-not-contains-clause-told g c =
-    let few : c.args.self.now.written ≤ MOST_TOLD = omega arith in
-    none_told c.args.self.now.scenario.now c.args.self.now.span (seen_of c.args.shown.now) _ c.args.self.now.written
-    (sym (c.contains.ensures ∙ ap (is_within c.args.self.now.span) c.pulse_of.ensures) ∙ c.if-not-contains.true) few
+returns-then-not-contains-clause-told g c = record {
+  same = record { scenario = refl; span = refl };
+  judged = search rules;
+  adds = none_told c.args.self.now.scenario.now c.args.self.now.span (seen_of c.args.shown.now) _
+      c.args.self.now.written
+      (sym (c.contains.ensures ∙ ap (is_within c.args.self.now.span) c.pulse_of.ensures) ∙ c.if-not-contains.true);
+}

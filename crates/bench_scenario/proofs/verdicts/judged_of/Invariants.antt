@@ -1,9 +1,0 @@
-use Rattle.std.proofs.Common.{◌≡◌, ◌++◌, drop}
-use Rattle.bench_scenario.specs.Verdicts.{judged_after, judged_of}
-use Rattle.bench_scenario.proofs.verdicts.judged_of.Given as goal
-
--- what is judged and what is still to come are the whole
-abbrev pub invariant-loop-one : goal.invariant-loop-one
-invariant-loop-one l =
-    l.judged.items ++ judged_after l.own l.modulus l.before.items (drop l.one-index l.records)
-    ≡ judged_of l.own l.modulus l.records
