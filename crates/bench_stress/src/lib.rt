@@ -10,6 +10,3 @@ mod stop;
 pub use hands::{StressOptions, stress_bench};
 pub use setup::{FAULTS, MEMORY, MODULUS, NODES};
 pub use stop::Stop;
-
-#[cfg(test)]
-mod tests;

@@ -1,4 +1,4 @@
-//! The tests of `bench_engine`.
+//! The tests of `bench_engine` and `bench_stress`.
 #![tactic(auto)]
 
 #[cfg(test)]

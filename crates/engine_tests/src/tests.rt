@@ -14,6 +14,7 @@ use std::thread::Threads;
 mod gates;
 mod records;
 mod shared;
+mod stress;
 mod watching;
 
 use gates::{Counting, Meeting, Shut};

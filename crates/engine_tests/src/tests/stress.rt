@@ -1,6 +1,6 @@
-//! What each loader stages.
-use crate::*;
+//! What each loader of `bench_stress` stages.
 use bench_core::{Actor, Change, Entry};
+use bench_stress::{StressOptions, stress_bench};
 use std::alloc::Global;
 use std::test::Fail;
 
