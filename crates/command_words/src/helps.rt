@@ -125,7 +125,7 @@ impl Helps {
                 "Last pulse to explore [1..={MOST_STATES}; default: all]"
             )),
             odds: Help::of(format_args!(
-                "Odds that the clocks stabilise within so many pulses [1..={MOST_ODDS}; default: not asked]"
+                "Bound the odds of stabilisation within COUNT pulses [1..={MOST_ODDS}; default: not asked]"
             )),
             keys: Help::of(format_args!(
                 "Seeds of the coins, both ends included [0..={MOST_KEY}; required]"

@@ -6,6 +6,7 @@ use Rattle.serde_json.specs.Data.{Data, boolean, string}
 use Rattle.json_values.specs.Values.{Member, list_data, number_data, object_data, option_data}
 use Rattle.json_values.proofs.PlainLemmas.{IsPlain, plain_boolean, plain_list, plain_number, plain_object, plain_option, plain_string}
 use Rattle.bench_space.specs.declared.odds.Odds.{Odds}
+use Rattle.bench_space.specs.declared.mean.TheConstants.{MEAN_UNIT}
 use Rattle.bench_space.specs.declared.odds.TheConstants.{ODDS_WHOLE}
 use Rattle.scenario_explorer.specs.declared.finding.Found.{Found}
 use Rattle.scenario_explorer.specs.declared.finding.Tried.{Tried}
@@ -14,7 +15,7 @@ use Rattle.scenario_explorer.specs.declared.options.ByteSpan.{ByteSpan}
 use Rattle.scenario_explorer.specs.declared.options.Cells.{Cells}
 use Rattle.scenario_explorer.specs.declared.options.ExploreOptions.{ExploreOptions}
 use Rattle.scenario_explorer.specs.declared.options.MailSpan.{MailSpan}
-use Rattle.exploration_json.specs.Data.{agreement_word, answer_members, byte_span_data, cells_data, exploration_data, exploration_members, limit_of, node_members, odds_data, odds_of, parts_of, pulses_of, question_members, question_word, scenario_of, search_members, span_data, spans_data, stabilisation_of, stabilisation_word, start_data, states_of, transitions_of, violated_in, word_data}
+use Rattle.exploration_json.specs.Data.{agreement_word, answer_members, byte_span_data, cells_data, exploration_data, exploration_members, limit_of, mean_data, mean_of, node_members, odds_data, odds_of, parts_of, pulses_of, question_members, question_word, scenario_of, search_members, span_data, spans_data, stabilisation_of, stabilisation_word, start_data, states_of, transitions_of, violated_in, word_data}
 
 abbrev AllPlain : ℕ → List Member → Type 0
 AllPlain levels ms = AllByRecursion (λ m. IsPlain levels m.1) ms
@@ -85,17 +86,26 @@ plain_search found = (
   (plain_count 5 (transitions_of found), (plain_word 5 (limit_of found), tt)),
 )
 
+plain_mean : (parts : ℕ) → IsPlain 4 (mean_data parts)
+plain_mean parts =
+    plain_object 3 ((codes "of", number_data MEAN_UNIT) ∷ (codes "parts", number_data parts) ∷ [])
+    (plain_number 3 MEAN_UNIT, (plain_number 3 parts, tt))
+
 plain_odds : (told : Odds) → IsPlain 5 (odds_data told)
 plain_odds told =
     plain_object 4 (
-    (codes "of", number_data ODDS_WHOLE)
+    (codes "mean", option_data mean_data (mean_of told))
+    ∷ (codes "of", number_data ODDS_WHOLE)
     ∷ (codes "parts", option_data (list_data number_data) (parts_of told)) ∷ []
     ) (
-      plain_number 4 ODDS_WHOLE,
+      plain_option mean_data 4 plain_mean (mean_of told),
       (
-        plain_option (list_data number_data) 4 (λ parts. plain_list number_data 3 (plain_number 3) parts)
-            (parts_of told),
-        tt,
+        plain_number 4 ODDS_WHOLE,
+        (
+          plain_option (list_data number_data) 4 (λ parts. plain_list number_data 3 (plain_number 3) parts)
+              (parts_of told),
+          tt,
+        ),
       ),
     )
 

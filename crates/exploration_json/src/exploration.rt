@@ -4,14 +4,14 @@ ghost use Rattle.serde_json.specs.Data.{string};
 ghost use Rattle.serde_json.specs.View.{members_view, view};
 ghost use Rattle.json_values.specs.Texts.{ReadsBack, line_of};
 ghost use Rattle.json_values.specs.Values.{list_data, number_data, option_data, with_members};
-ghost use Rattle.exploration_json.specs.Data.{answer_members, exploration_data, node_members, odds_data, odds_of, parts_of, pulses_of, question_members, scenario_of, search_members, stabilisation_of, stabilisation_word, word_data};
+ghost use Rattle.exploration_json.specs.Data.{answer_members, exploration_data, mean_data, mean_of, node_members, odds_data, odds_of, parts_of, pulses_of, question_members, scenario_of, search_members, stabilisation_of, stabilisation_word, word_data};
 
 use crate::spans::{spans_value, start_value};
 use crate::words::{
     agreement_word, limit_of, question_word, stabilisation_word, states_of, transitions_of,
     violated_in, within,
 };
-use bench_space::{ODDS_WHOLE, Odds, Recovery};
+use bench_space::{MEAN_UNIT, ODDS_WHOLE, Odds, Recovery};
 use json_values::{count_or_null, line_of, numbers, word_or_null};
 use scenario_explorer::{ExploreOptions, Found, Tried};
 use serde_json::{Map, Value, put};
@@ -130,17 +130,42 @@ fn parts_value(alloc: Global, odds: &Odds) -> Result<Value, AllocError>
     ensures { IfOk result (λ v. view v ≡ option_data (list_data number_data) (parts_of odds.now)) }
 {
     match odds {
-        Odds::Known { parts } => counts(alloc, parts),
+        Odds::Known { parts, .. } => counts(alloc, parts),
         Odds::Unknown => Ok(Value::Null),
     }
 }
 
-/// The whole and its parts.
+/// The bound on the mean number of pulses, or null.
+fn mean_value(alloc: Global, odds: &Odds) -> Result<Value, AllocError>
+    ensures { IfOk result (λ v. view v ≡ option_data mean_data (mean_of odds.now)) }
+{
+    match odds {
+        Odds::Known {
+            mean: Some(parts),
+            ..
+        } => mean_object(alloc, *parts),
+        Odds::Known { mean: None, .. } | Odds::Unknown => Ok(Value::Null),
+    }
+}
+
+/// The parts of a pulse that a unit has, and the bound in them.
+fn mean_object(alloc: Global, parts: u64) -> Result<Value, AllocError>
+    ensures { IfOk result (λ v. view v ≡ mean_data parts) }
+{
+    let mut members = Map::new(alloc);
+    put(&mut members, alloc, "of", Value::from(MEAN_UNIT))?;
+    put(&mut members, alloc, "parts", Value::from(parts))?;
+    Ok(Value::Object(members))
+}
+
+/// The mean, the whole and its parts.
 fn odds_object(alloc: Global, odds: &Odds) -> Result<Value, AllocError>
     ensures { IfOk result (λ v. view v ≡ odds_data odds.now) }
 {
+    let mean = mean_value(alloc, odds)?;
     let parts = parts_value(alloc, odds)?;
     let mut members = Map::new(alloc);
+    put(&mut members, alloc, "mean", mean)?;
     put(&mut members, alloc, "of", Value::from(ODDS_WHOLE))?;
     put(&mut members, alloc, "parts", parts)?;
     Ok(Value::Object(members))

@@ -2,11 +2,11 @@
 ghost use Rattle.std.specs.Prelude.{◌≡◌, ◌+◌, ◌-◌, ◌++◌, [], IfOk, OnOk, Some, flat_map, get_or, length, string_bytes};
 ghost use Rattle.std.specs.Option.{option_map_or};
 ghost use Rattle.bench_space.specs.declared.recovery.Recovery.TheVariants.{InStep, Luck};
-ghost use Rattle.scenario_explorer.specs.Explore.{agreement_text, any_start_text, byte_span_text, byzantine_text, cause_text, cells_text, correct_text, count_text, counted, finding_text, found_text, liars_text, mark_of, marked, nodes_text, odds_text, percent_text, programmed_text, range_text, recovery_text, shown_of, spans_text, tried_text, unfinished_text, unfit_name, violation_text};
+ghost use Rattle.scenario_explorer.specs.Explore.{agreement_text, any_start_text, byte_span_text, byzantine_text, cause_text, cells_text, correct_text, count_text, counted, finding_text, found_text, liars_text, mark_of, marked, mean_text, nodes_text, odds_lines, odds_text, percent_text, programmed_text, pulses_text, range_text, recovery_text, shown_of, spans_text, tried_text, unfinished_text, unfit_name, violation_text};
 ghost use Rattle.scenario_explorer.specs.declared.finding.Finding.TheVariants.{Searched};
 
 use crate::options::{AnyStart, ByteSpan, Cells, MailSpan};
-use bench_space::{Cause, MOST_MAILS, ODDS_WHOLE, Odds, Recovery};
+use bench_space::{Cause, MEAN_UNIT, MOST_MAILS, ODDS_WHOLE, Odds, Recovery};
 use std::alloc::{AllocError, Global};
 use std::fmt;
 use std::fmt::Write;
@@ -370,7 +370,7 @@ fn odds_line(alloc: Global, odds: &Odds) -> Result<String, AllocError>
     ensures { IfOk result (λ text. string_bytes text ≡ odds_text odds.now) }
 {
     match odds {
-        Odds::Known { parts } => {
+        Odds::Known { parts, .. } => {
             let (last, share) = last_of(parts);
             let percent = percent(alloc, share)?;
             let pulses = counted(alloc, last, "pulse")?;
@@ -381,6 +381,32 @@ fn odds_line(alloc: Global, odds: &Odds) -> Result<String, AllocError>
         Odds::Unknown => format!(in alloc;
             "odds not decided: a state has more choices than --states allows"
         ),
+    }
+}
+
+/// The parts of a pulse in pulses with two decimal places, rounded up.
+fn pulses_text(alloc: Global, parts: u64) -> Result<String, AllocError>
+    ensures { IfOk result (λ text. string_bytes text ≡ pulses_text parts) }
+{
+    let hundredths = (u128::from(parts) * 100 + u128::from(MEAN_UNIT - 1)) / u128::from(MEAN_UNIT);
+    let whole = hundredths / 100;
+    let tenth = hundredths / 10 % 10;
+    let hundredth = hundredths % 10;
+    format!(in alloc; "{whole}.{tenth}{hundredth}")
+}
+
+/// How many pulses pass on average.
+fn mean_line(alloc: Global, mean: Option<u64>) -> Result<String, AllocError>
+    ensures { IfOk result (λ text. string_bytes text ≡ mean_text mean) }
+{
+    match mean {
+        Some(parts) => {
+            let pulses = pulses_text(alloc, parts)?;
+            format!(in alloc;
+                "mean: at most {pulses} pulses until the clocks stabilise, whatever the adversary sends"
+            )
+        }
+        None => format!(in alloc; "mean: no bound found"),
     }
 }
 
@@ -445,16 +471,28 @@ fn recovery_told(
     }
 }
 
-/// How likely they stabilise, behind the mark, if that was asked.
+/// How likely they stabilise, and after how many pulses on average, behind the mark.
+fn odds_lines(alloc: Global, mark: &str, odds: &Odds) -> Result<String, AllocError>
+    ensures { IfOk result (λ text. string_bytes text ≡ odds_lines mark.now odds.now) }
+{
+    let line = odds_line(alloc, odds)?;
+    let first = marked(alloc, mark, line.as_str())?;
+    match odds {
+        Odds::Known { mean, .. } => {
+            let line = mean_line(alloc, *mean)?;
+            let second = marked(alloc, mark, line.as_str())?;
+            format!(in alloc; "{first}{second}")
+        }
+        Odds::Unknown => Ok(first),
+    }
+}
+
+/// The same, if that was asked.
 fn odds_told(alloc: Global, mark: &str, odds: &Option<Odds>) -> Result<String, AllocError>
-    ensures { IfOk result (λ text. string_bytes text
-        ≡ option_map_or (λ told. marked mark.now (odds_text told)) odds.now []) }
+    ensures { IfOk result (λ text. string_bytes text ≡ option_map_or (odds_lines mark.now) odds.now []) }
 {
     match odds {
-        Some(told) => {
-            let line = odds_line(alloc, told)?;
-            marked(alloc, mark, line.as_str())
-        }
+        Some(told) => odds_lines(alloc, mark, told),
         None => Ok(String::new(alloc)),
     }
 }
@@ -469,7 +507,7 @@ fn answers_told(
 ) -> Result<String, AllocError>
     ensures { IfOk result (λ text. string_bytes text ≡ marked mark.now agreement.now
         ++ (option_map_or (λ how. marked mark.now (recovery_text how)) recovery.now []
-        ++ option_map_or (λ told. marked mark.now (odds_text told)) odds.now [])) }
+        ++ option_map_or (odds_lines mark.now) odds.now [])) }
 {
     let first = marked(alloc, mark, agreement)?;
     let second = recovery_told(alloc, mark, recovery)?;
@@ -499,7 +537,7 @@ impl Found {
         if self.shown().len() == 0 { "" } else { "# " }
     }
 
-    /// What was found, in up to three lines, each behind the mark.
+    /// What was found, in up to four lines, each behind the mark.
     fn text(&self, alloc: Global, mark: &str) -> Result<String, AllocError>
         ensures { IfOk result (λ text. string_bytes text ≡ found_text mark.now self.now) }
     {
