@@ -1,4 +1,6 @@
 pub mod Command
+pub mod Explore
 pub mod Lists
+pub mod Numbers
 pub mod Requests
 pub mod inner

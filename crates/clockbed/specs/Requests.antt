@@ -2,30 +2,25 @@
 -- that is there. That the words give these texts is the part of `clap`. What the texts of lists name is in Lists.
 use Rattle.std.specs.Prelude.{◌≡◌, ◌≢◌, ◌⊎◌, ◌↔◌, ◌<◌, ◌^◌, ℕ, Bool, true, false, List, [], ◌++◌, Option, Some, None}
 use Rattle.std.specs.Prelude.{IsTrue, MatchOption, Vec, codes, option_map, string_bytes}
-use Rattle.std.specs.Str.Parse.{IsNumeral, digits_value, without_leading_plus}
-use Rattle.clap.specs.Matches.{first_value, one_text}
+use Rattle.clap.specs.Matches.{first_value}
 use Rattle.clap.specs.declared.parser.matches.Found.{Found}
-use Rattle.clockbed.specs.Lists.{AreCells, AreContents, AreSlots, IsBytes, IsMail}
-use Rattle.clockbed.specs.declared.request.Asked.{Asked}
+use Rattle.clockbed.specs.Explore.{AsksExplore}
+use Rattle.clockbed.specs.Lists.{AreContents, AreSlots}
+use Rattle.clockbed.specs.Numbers.{HasFlag, HasNumber, IsNumber, IsNumberOr}
+use Rattle.clockbed.specs.declared.request.Invocation.{Invocation}
 use Rattle.command_words.specs.declared.helps.TheConstants.{DEFAULT_FAULTS, DEFAULT_FUEL, DEFAULT_LOADERS}
 use Rattle.command_words.specs.declared.helps.TheConstants.{DEFAULT_LOADS, DEFAULT_MEMORY, DEFAULT_MODULUS}
-use Rattle.command_words.specs.declared.helps.TheConstants.{DEFAULT_NODES, DEFAULT_PULSES, DEFAULT_STATES}
-use Rattle.command_words.specs.declared.helps.TheConstants.{DEFAULT_WORKERS, MOST_STATES}
+use Rattle.command_words.specs.declared.helps.TheConstants.{DEFAULT_NODES, DEFAULT_PULSES}
+use Rattle.command_words.specs.declared.helps.TheConstants.{DEFAULT_WORKERS}
 use Rattle.commands.specs.declared.case.Case.{Case}
-use Rattle.commands.specs.declared.request.AnyStart.{AnyStart}
-use Rattle.commands.specs.declared.request.Cells.{Cells}
 use Rattle.commands.specs.declared.request.ClockOptions.{ClockOptions}
 use Rattle.commands.specs.declared.request.CompileOptions.{CompileOptions}
 use Rattle.commands.specs.declared.request.Detail.{Detail}
 use Rattle.commands.specs.declared.request.Detail.TheVariants.{Read, All}
 use Rattle.commands.specs.declared.request.ExecOptions.{ExecOptions}
 use Rattle.commands.specs.declared.request.ExplainOptions.{ExplainOptions}
-use Rattle.commands.specs.declared.request.ExploreOptions.{ExploreOptions}
 use Rattle.commands.specs.declared.request.LinesOptions.{LinesOptions}
-use Rattle.commands.specs.declared.request.MailSpan.{MailSpan}
 use Rattle.commands.specs.declared.request.NodeInPulse.{NodeInPulse}
-use Rattle.commands.specs.declared.request.Question.{Question}
-use Rattle.commands.specs.declared.request.Question.TheVariants.{Agreement, Stabilisation, Both}
 use Rattle.commands.specs.declared.request.Request.{Request}
 use Rattle.commands.specs.declared.request.Request.TheVariants as requests
 use Rattle.commands.specs.declared.request.RunOptions.{RunOptions}
@@ -39,26 +34,6 @@ use Rattle.run_lines.specs.Spans.{Span as PulseSpan}
 
 -- ---- values of options
 
--- a text is this number, below 2 to the bits
-abbrev pub IsNumber : ℕ → List ℕ → ℕ → Type 0
-IsNumber bits text n = IsNumeral 10 (without_leading_plus text)
-    × (digits_value 10 (without_leading_plus text) ≡ n) × (n < 2 ^ bits)
-
--- the number that an option has; none if it isn't there, or if its text is no such number
-abbrev pub HasNumber : ℕ → Found → List ℕ → Option ℕ → Type 0
-HasNumber bits f name (Some n) = (text : List ℕ) × (one_text f name ≡ Some text) × IsNumber bits text n
-HasNumber bits f name None = (text : List ℕ) (n : ℕ) → one_text f name ≡ Some text → IsNumber bits text n → ⊥
-
--- the number that an option has, or its default
-abbrev pub IsNumberOr : ℕ → ℕ → Found → List ℕ → ℕ → Type 0
-IsNumberOr bits default f name n = HasNumber bits f name (Some n) ⊎ (HasNumber bits f name None × (n ≡ default))
-
--- whether a flag is there
-abbrev pub HasFlag : Found → List ℕ → Bool → Type 0
-HasFlag f name there = (one_text f name ≡ None → there ≡ false)
-    × (one_text f name ≡ Some (codes "false") → there ≡ false)
-    × (one_text f name ≡ Some (codes "true") → there ≡ true)
-
 -- PULSE:NODE
 abbrev pub IsPlace : List ℕ → NodeInPulse → Type 0
 IsPlace text place = (pulse : List ℕ) × (node : List ℕ) × (text ≡ pulse ++ (codes ":" ++ node))
@@ -71,11 +46,6 @@ HasPlace f name place = (text : List ℕ) × (first_value f name ≡ Some text) 
 abbrev pub IsKeys : List ℕ → Span → Type 0
 IsKeys text keys = (first : List ℕ) × (last : List ℕ) × (text ≡ first ++ (codes ".." ++ last))
     × IsNumber 64 first keys.first × IsNumber 64 last keys.last
-
--- the list that the text of an option means, which is there exactly if the option is
-abbrev pub HasMail : {Z : Type 0} → Found → List ℕ → Option (Vec MailSpan Z) → Type 0
-HasMail f name None = first_value f name ≡ None
-HasMail f name (Some mail) = (text : List ℕ) × (first_value f name ≡ Some text) × IsMail text mail.items
 
 -- ---- options of commands
 
@@ -150,39 +120,6 @@ abbrev pub AsksSweep : Found → SweepOptions → Type 0
 AsksSweep f asked = ((text : List ℕ) × (first_value f (codes "keys") ≡ Some text) × IsKeys text asked.keys)
     × HasNumber 32 f (codes "workers") asked.workers
 
-abbrev pub AsksQuestion : Found → Question → Type 0
-AsksQuestion f Agreement = first_value f (codes "ask") ≡ Some (codes "agreement")
-AsksQuestion f Stabilisation = first_value f (codes "ask") ≡ Some (codes "stabilisation")
-AsksQuestion f Both = (first_value f (codes "ask") ≡ None) ⊎ (first_value f (codes "ask") ≡ Some (codes "both"))
-
--- the entries of the bytes at the start: those of one of the two options
-abbrev pub HasCells : Found → List Cells → Type 0
-HasCells f cells = ((text : List ℕ) × (first_value f (codes "bytes") ≡ Some text)
-    × (first_value f (codes "cells") ≡ None) × IsBytes text cells)
-    ⊎ ((text : List ℕ) × (first_value f (codes "bytes") ≡ None)
-    × (first_value f (codes "cells") ≡ Some text) × AreCells text cells)
-
-abbrev pub AsksCells : {Z : Type 0} → Found → Option (Vec Cells Z) → Type 0
-AsksCells f None = (first_value f (codes "bytes") ≡ None) × (first_value f (codes "cells") ≡ None)
-AsksCells f (Some cells) = HasCells f cells.items
-
--- any start has bytes of one of the two options, and the list of what was sent if it is named
-abbrev pub AsksStart : Found → Option AnyStart → Type 0
-AsksStart f None = ((first_value f (codes "start") ≡ None) ⊎ (first_value f (codes "start") ≡ Some (codes "zero")))
-    × (first_value f (codes "bytes") ≡ None) × (first_value f (codes "cells") ≡ None)
-    × (first_value f (codes "said") ≡ None)
-AsksStart f (Some any) = (first_value f (codes "start") ≡ Some (codes "any"))
-    × HasCells f any.cells.items × HasMail f (codes "said") any.said
-
-pub record AsksExplore (f : Found) (asked : ExploreOptions) : Type 0 where
-  pub question : AsksQuestion f asked.question
-  pub mail : HasMail f (codes "mail") asked.mail
-  pub start : AsksStart f asked.start
-  pub states : IsNumberOr 32 DEFAULT_STATES f (codes "states") asked.states
-  pub depth : IsNumberOr 32 MOST_STATES f (codes "depth") asked.depth
-  pub odds : HasNumber 32 f (codes "odds") asked.odds
-  pub json : HasFlag f (codes "json") asked.json
-
 pub record AsksStress (f : Found) (asked : StressOptions) : Type 0 where
   pub loaders : IsNumberOr 32 DEFAULT_LOADERS f (codes "loaders") asked.loaders
   pub loads : IsNumberOr 32 DEFAULT_LOADS f (codes "loads") asked.loads
@@ -247,10 +184,10 @@ abbrev pub IsAsked : Request → Type 0
 IsAsked request = IsHelp request ⊎ ((name : List ℕ) × (f : Found) × Asks name f request)
 
 -- what the command of this name is asked for by its options, with the file that it reads
-abbrev pub AsksWithFile : List ℕ → Found → Asked → Type 0
+abbrev pub AsksWithFile : List ℕ → Found → Invocation → Type 0
 AsksWithFile name f asked = Asks name f asked.request × AsksFile name f (option_map string_bytes asked.file)
 
 -- what the words ask for, with the file that is read: for help none
-abbrev pub IsAskedWithFile : Asked → Type 0
+abbrev pub IsAskedWithFile : Invocation → Type 0
 IsAskedWithFile asked = (IsHelp asked.request × (asked.file ≡ None))
     ⊎ ((name : List ℕ) × (f : Found) × AsksWithFile name f asked)

@@ -1,7 +1,8 @@
 //! The program over any streams.
 ghost use Rattle.clockbed.specs.Command.{Commands};
 
-use crate::request::asked_by;
+use crate::request::parse_args;
+use bench_space::Silent;
 use commands::perform::perform;
 use std::alloc::Global;
 use std::convert::AsStr;
@@ -22,8 +23,16 @@ pub fn command<T: Threads + Wait + Sync, S: AsStr, R: Read, W: Write, E: Write>(
     ensures { Commands (R.remaining reader.old) (R.remaining reader.new) (W.contents out.old) (W.contents out.new)
         (E.contents err.old) (E.contents err.new) result }
 {
-    match asked_by(alloc, words) {
-        Ok(asked) => perform(rt, alloc, &asked.request, reader, out, err),
+    match parse_args(alloc, words) {
+        Ok(invocation) => perform(
+            rt,
+            alloc,
+            &invocation.request,
+            reader,
+            out,
+            err,
+            &mut Silent,
+        ),
         Err(fault) => fault.tell(err),
     }
 }

@@ -2,7 +2,8 @@
 ghost use Rattle.std.specs.Prelude.{◌↔◌, IfOk, IsTrue, codes};
 ghost use Rattle.clap.specs.Matches.{found_of};
 ghost use Rattle.clockbed.specs.Lists.{AreContents, AreSlots, IsSlot};
-ghost use Rattle.clockbed.specs.Requests.{AsksCase, AsksExec, HasContents, HasNumber, HasSlots};
+ghost use Rattle.clockbed.specs.Requests.{AsksCase, AsksExec, HasContents, HasSlots};
+ghost use Rattle.clockbed.specs.Numbers.{HasNumber};
 
 use crate::options::{flag, long_number, number, number_if_named};
 use crate::request::shape_options;

@@ -4,8 +4,8 @@ ghost use Rattle.std.specs.Bool.{OnTrue};
 ghost use Rattle.std.specs.BTreeSet.{btree_set_len};
 ghost use Rattle.clockbed.specs.Lists.{AreCells, AreLongest, IsBytes, IsDecimal, IsMail, IsPart, IsRange, IsSpan};
 ghost use Rattle.clockbed.specs.Lists.{IsWithin, byte_spans, count_of, mail_spans};
-ghost use Rattle.clockbed.specs.Requests.{IsNumber};
-ghost use Rattle.clockbed.specs.declared.mail.TheConstants.{MOST_MAIL};
+ghost use Rattle.clockbed.specs.Numbers.{IsNumber};
+ghost use Rattle.clockbed.specs.declared.mail.TheConstants.{MAX_MAIL};
 ghost use Rattle.clockbed.specs.inner.Spans.{AddsPart, AddsSpan, JoinsSpan, with_number};
 ghost use Rattle.clockbed.specs.inner.Entries.{AddsCells, AddsValue, BeginsEntry};
 ghost use Rattle.node_env.specs.declared.shape.TheConstants.{MAX_MEMORY};
@@ -16,7 +16,7 @@ use std::alloc::{AllocError, Global};
 use std::collections::BTreeSet;
 
 /// The most numbers of a list.
-const MOST_MAIL: usize = 4_096;
+const MAX_MAIL: usize = 4_096;
 
 /// The last byte of a memory that `--bytes` names.
 const LAST_OF_BYTES: u32 = 7;
@@ -60,7 +60,7 @@ impl MailFault {
 /// Returns the list of a text, in rising order, each number once.
 pub fn mail_in(alloc: Global, text: &str) -> Result<Vec<MailSpan>, MailFault>
     ensures list { IfOk result (λ mail. IsMail text.now mail.items) }
-    ensures few { IfOk result (λ mail. count_of (mail_spans mail.items) ≤ MOST_MAIL) }
+    ensures few { IfOk result (λ mail. count_of (mail_spans mail.items) ≤ MAX_MAIL) }
 {
     let mut numbers = BTreeSet::new(alloc);
     for part in text.split(',') {
@@ -73,17 +73,17 @@ pub fn mail_in(alloc: Global, text: &str) -> Result<Vec<MailSpan>, MailFault>
 fn add_part_numbers(numbers: &mut BTreeSet<u32>, part: &str) -> Result<(), MailFault>
     ensures part { OnOk result (IsPart (2 ^ 32) part.now) }
     ensures added { OnOk result (AddsPart numbers.old.keys numbers.new.keys part.now) }
-    ensures few { OnOk result (btree_set_len numbers.new ≤ MOST_MAIL) }
+    ensures few { OnOk result (btree_set_len numbers.new ≤ MAX_MAIL) }
 {
     let span = span_in(part)?;
     if span.last < span.first {
         return Err(MailFault::Falls);
     }
-    if (span.last - span.first) as usize >= MOST_MAIL {
+    if (span.last - span.first) as usize >= MAX_MAIL {
         return Err(MailFault::TooMany);
     }
     insert_span(numbers, span)?;
-    if numbers.len() > MOST_MAIL {
+    if numbers.len() > MAX_MAIL {
         return Err(MailFault::TooMany);
     }
     Ok(())

@@ -3,14 +3,15 @@
 
 pub mod command;
 mod exec_words;
+mod explore_words;
 mod mail;
 mod options;
 mod progress;
 mod request;
 mod source;
 
-use crate::progress::Progress;
-use crate::request::asked_by;
+use crate::progress::{SearchProgress, SweepProgress};
+use crate::request::parse_args;
 use crate::source::{Reasoned, open, tell_reason};
 use commands::Fault;
 use commands::perform::perform;
@@ -47,16 +48,16 @@ fn answer<T: Threads + Wait + Sync>(
     words: &[String],
     err: &mut Stderr,
 ) -> u8 {
-    let asked = match asked_by(rt.alloc(), words) {
-        Ok(asked) => asked,
+    let invocation = match parse_args(rt.alloc(), words) {
+        Ok(invocation) => invocation,
         Err(fault) => return fault.tell(err),
     };
     let program = Program { rt, threads };
-    match &asked.file {
-        Some(path) => program.answer_on_file(&asked.request, path.as_str(), err),
+    match &invocation.file {
+        Some(path) => program.answer_on_file(&invocation.request, path.as_str(), err),
         None => {
             let input = Reasoned::of(rt.stdin());
-            program.answer_on(&asked.request, input, "standard input", err)
+            program.answer_on(&invocation.request, input, "standard input", err)
         }
     }
 }
@@ -95,7 +96,7 @@ impl<T: Threads + Wait + Sync> Program<'_, T> {
         let status = match request {
             Request::Scenario(ScenarioRequest::Sweep(options)) if is_apart => {
                 let keys = options.keys.count();
-                let mut told = Progress::new(&mut out, self.rt.stderr(), self.rt, keys);
+                let mut told = SweepProgress::new(&mut out, self.rt.stderr(), self.rt, keys);
                 self.perform(request, &mut input, &mut told, err)
             }
             _ => self.perform(request, &mut input, &mut out, err),
@@ -113,6 +114,20 @@ impl<T: Threads + Wait + Sync> Program<'_, T> {
         out: &mut W,
         err: &mut Stderr,
     ) -> u8 {
-        perform(self.threads, self.rt.alloc(), request, reader, out, err)
+        let terminal = if err.is_terminal() {
+            Some(self.rt.stderr())
+        } else {
+            None
+        };
+        let mut progress = SearchProgress::new(terminal, self.rt);
+        perform(
+            self.threads,
+            self.rt.alloc(),
+            request,
+            reader,
+            out,
+            err,
+            &mut progress,
+        )
     }
 }

@@ -1,6 +1,6 @@
 //! Numbers and flags of options, as `clap` reads them.
 ghost use Rattle.clap.specs.Matches.{found_of};
-ghost use Rattle.clockbed.specs.Requests.{HasFlag, HasNumber, IsNumberOr};
+ghost use Rattle.clockbed.specs.Numbers.{HasFlag, HasNumber, IsNumberOr};
 
 use clap::ArgMatches;
 

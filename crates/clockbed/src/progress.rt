@@ -1,13 +1,14 @@
-//! How far a sweep is, told on a terminal beside the lines that it writes.
+//! How far a sweep or an exploration is, told on a terminal.
 ghost use Rattle.std.specs.Prelude.{◌≡◌};
 
+use bench_space::Progress;
 use std::io;
 use std::io::Write;
 use std::time::{Clock, Duration, Instant};
 
 /// A writer that passes on what it is given, and tells after each write how many lines of keys went by, of how many.
 #[derive(Drop)]
-pub struct Progress<'a, W, E, C> {
+pub struct SweepProgress<'a, W, E, C> {
     out: W,
     terminal: E,
     clock: &'a C,
@@ -16,13 +17,13 @@ pub struct Progress<'a, W, E, C> {
     lines: u64,
 }
 
-impl<'a, W: Write, E: Write, C: Clock> Progress<'a, W, E, C> {
+impl<'a, W: Write, E: Write, C: Clock> SweepProgress<'a, W, E, C> {
     /// Returns a writer of the lines of so many keys, after a line of names.
-    pub fn new(out: W, terminal: E, clock: &'a C, keys: u64) -> Progress<'a, W, E, C>
+    pub fn new(out: W, terminal: E, clock: &'a C, keys: u64) -> SweepProgress<'a, W, E, C>
         ensures { result.out ≡ out }
     {
         let began = Instant::now(clock).ok();
-        Progress {
+        SweepProgress {
             out,
             terminal,
             clock,
@@ -33,7 +34,7 @@ impl<'a, W: Write, E: Write, C: Clock> Progress<'a, W, E, C> {
     }
 }
 
-impl<W: Write, E: Write, C: Clock> Write for Progress<'_, W, E, C> {
+impl<W: Write, E: Write, C: Clock> Write for SweepProgress<'_, W, E, C> {
     ghost contents = { λ p. W.contents p.out };
 
     fn write(&mut self, buf: &[u8]) -> io::Result<usize> {
@@ -81,4 +82,52 @@ fn tell<E: Write>(terminal: &mut E, done: u64, keys: u64, time: Duration) {
         terminal,
         "\r{done} of {keys} keys, {rate} a second, {left} s left {ending}"
     );
+}
+
+/// Tells on a terminal, once a second, how far an exploration is.
+#[derive(Drop)]
+pub struct SearchProgress<'a, E, C> {
+    /// None if nothing is told.
+    terminal: Option<E>,
+    clock: &'a C,
+    began: Option<Instant>,
+    /// The second in which it was told last.
+    told: u64,
+}
+
+impl<'a, E: Write, C: Clock> SearchProgress<'a, E, C> {
+    /// Begins to tell it on the terminal, if there is one.
+    pub fn new(terminal: Option<E>, clock: &'a C) -> SearchProgress<'a, E, C> {
+        let began = Instant::now(clock).ok();
+        SearchProgress {
+            terminal,
+            clock,
+            began,
+            told: 0,
+        }
+    }
+}
+
+impl<E: Write, C: Clock> Progress for SearchProgress<'_, E, C> {
+    fn show(&mut self, states: u64, transitions: u64) {
+        let Some(terminal) = &mut self.terminal else {
+            return;
+        };
+        let seconds = passed(&self.began, self.clock).as_secs();
+        if seconds > self.told {
+            self.told = seconds;
+            let _ = write!(
+                terminal,
+                "\r{states} states, {transitions} transitions, {seconds} s "
+            );
+        }
+    }
+
+    fn end(&mut self) {
+        if self.told > 0 {
+            if let Some(terminal) = &mut self.terminal {
+                let _ = write!(terminal, "\n");
+            }
+        }
+    }
 }

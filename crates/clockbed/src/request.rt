@@ -1,39 +1,33 @@
 //! What a command line asks for, as `clap` reads it.
 ghost use Rattle.std.specs.Prelude.{◌≡◌, IfErr, IfOk, IfSome, codes, option_map, string_bytes};
 ghost use Rattle.clap.specs.Matches.{found_of};
-ghost use Rattle.clockbed.specs.Requests.{Asks, AsksCells, AsksCompile, AsksDetail, AsksExplore, AsksFile};
-ghost use Rattle.clockbed.specs.Requests.{AsksQuestion, AsksRule, AsksRun, AsksShape, AsksSpan, AsksStart, AsksStress};
-ghost use Rattle.clockbed.specs.Requests.{AsksSweep, AsksWithFile, HasMail, HasNumber, IsAskedWithFile, IsHelp, IsKeys, IsNumber};
+ghost use Rattle.clockbed.specs.Requests.{Asks, AsksCompile, AsksDetail, AsksFile};
+ghost use Rattle.clockbed.specs.Requests.{AsksRule, AsksRun, AsksShape, AsksSpan, AsksStress};
+ghost use Rattle.clockbed.specs.Requests.{AsksSweep, AsksWithFile, IsAskedWithFile, IsHelp, IsKeys};
+ghost use Rattle.clockbed.specs.Numbers.{IsNumber};
 ghost use Rattle.clockbed.specs.Requests.{IsPlace};
 ghost use Rattle.commands.specs.Faults.{IsOfCommandLine};
 
 use crate::exec_words::{CaseFault, exec_options};
-use crate::mail::{MailFault, bytes_in, cells_in, mail_in, number_in};
+use crate::explore_words::explore_options;
+use crate::mail::{MailFault, number_in};
 use crate::options::{flag, number, number_if_named};
 use clap::error::ErrorKind;
 use clap::{ArgMatches, Error};
 use command_words::{
     DEFAULT_FAULTS, DEFAULT_LOADERS, DEFAULT_LOADS, DEFAULT_MEMORY, DEFAULT_MODULUS, DEFAULT_NODES,
-    DEFAULT_PULSES, DEFAULT_STATES, DEFAULT_WORKERS, Helps, MOST_STATES, command_line,
+    DEFAULT_PULSES, DEFAULT_WORKERS, Helps, command_line,
 };
 use commands::Fault;
 use commands::request::{
-    AnyStart, Cells, ClockOptions, ClockRule, CompileOptions, Detail, ExplainOptions,
-    ExploreOptions, LinesOptions, MailSpan, NodeInPulse, NodeProgramOptions, Question, Request,
-    RunOptions, ScenarioRequest, ShapeOptions, StressOptions, SweepOptions,
+    ClockOptions, ClockRule, CompileOptions, Detail, ExplainOptions, LinesOptions, NodeInPulse,
+    NodeProgramOptions, Request, RunOptions, ScenarioRequest, ShapeOptions, StressOptions,
+    SweepOptions,
 };
 use key_sweep::KeySpan;
 use run_lines::PulseSpan;
 use std::alloc::{AllocError, Global};
 use std::convert::AsStr;
-
-/// Why a text is no list of bytes.
-const BYTES_REASON: &str =
-    "the bytes are a list such as 0,254..255: numbers below 256, and ranges of them that rise";
-
-/// Why a text doesn't say what bytes may be.
-const CELLS_REASON: &str =
-    "the cells are places and bytes such as 0=0..7,4=0,1: places and bytes below 256, and ranges that rise";
 
 /// Why a text names no node's run in a pulse.
 const TRACE_REASON: &str =
@@ -45,13 +39,13 @@ const NODE_REASON: &str =
 
 /// What the words ask for, and the file that they name for it to read.
 #[derive(Drop)]
-pub struct Asked {
+pub struct Invocation {
     pub request: Request,
     pub file: Option<String>,
 }
 
 /// Why the values of options make no request.
-enum OptionsFault {
+pub(crate) enum OptionsFault {
     Reason(&'static str),
     Memory,
 }
@@ -85,7 +79,7 @@ impl From<MailFault> for OptionsFault {
 }
 
 /// Returns what the words ask for, of which the first is the program's name.
-pub fn asked_by<S: AsStr>(alloc: Global, words: &[S]) -> Result<Asked, Fault>
+pub fn parse_args<S: AsStr>(alloc: Global, words: &[S]) -> Result<Invocation, Fault>
     ensures fault { IfErr result IsOfCommandLine }
     ensures asked { IfOk result IsAskedWithFile }
 {
@@ -95,7 +89,7 @@ pub fn asked_by<S: AsStr>(alloc: Global, words: &[S]) -> Result<Asked, Fault>
     }
 }
 
-fn parse<S: AsStr>(alloc: Global, words: &[S]) -> Result<Asked, Error>
+fn parse<S: AsStr>(alloc: Global, words: &[S]) -> Result<Invocation, Error>
     ensures { IfOk result IsAskedWithFile }
 {
     let helps = Helps::new();
@@ -114,12 +108,12 @@ fn parse<S: AsStr>(alloc: Global, words: &[S]) -> Result<Asked, Error>
 }
 
 /// What the command of this name is asked for by its options, and the file that it reads.
-fn asked_of(alloc: Global, name: &str, options: &ArgMatches<'_>) -> Result<Asked, OptionsFault>
+fn asked_of(alloc: Global, name: &str, options: &ArgMatches<'_>) -> Result<Invocation, OptionsFault>
     ensures { IfOk result (AsksWithFile name.now (found_of options.now)) }
 {
     let request = request_in(alloc, name, options)?;
     let file = file_in(alloc, name, options)?;
-    Ok(Asked { request, file })
+    Ok(Invocation { request, file })
 }
 
 /// What the command of this name is asked for by its options.
@@ -336,107 +330,8 @@ fn key_in(text: &str) -> Option<u64>
     text.parse().ok()
 }
 
-/// What the bytes of memories may be at the start, if that is named.
-fn cells_asked(alloc: Global, options: &ArgMatches<'_>) -> Result<Option<Vec<Cells>>, OptionsFault>
-    ensures { IfOk result (AsksCells (found_of options.now)) }
-{
-    let (named, reason) = match (options.get_str("bytes"), options.get_str("cells")) {
-        (None, None) => return Ok(None),
-        (Some(_), Some(_)) => {
-            return Err(OptionsFault::Reason(
-                "--bytes and --cells name the same bytes: take one of them",
-            ));
-        }
-        (Some(text), None) => (bytes_in(alloc, text), BYTES_REASON),
-        (None, Some(text)) => (cells_in(alloc, text), CELLS_REASON),
-    };
-    match named {
-        Ok(Some(cells)) => Ok(Some(cells)),
-        Ok(None) => Err(OptionsFault::Reason(reason)),
-        Err(_) => Err(OptionsFault::Memory),
-    }
-}
-
-/// The list of numbers of the option of this name, if it is there.
-fn list_asked(
-    alloc: Global,
-    options: &ArgMatches<'_>,
-    name: &str,
-) -> Result<Option<Vec<MailSpan>>, OptionsFault>
-    ensures { IfOk result (HasMail (found_of options.now) name.now) }
-{
-    match options.get_str(name) {
-        Some(text) => Ok(Some(mail_in(alloc, text)?)),
-        None => Ok(None),
-    }
-}
-
-/// The memories and messages at the start, if they may be any.
-fn any_start(alloc: Global, options: &ArgMatches<'_>) -> Result<Option<AnyStart>, OptionsFault>
-    ensures { IfOk result (AsksStart (found_of options.now)) }
-{
-    let cells = cells_asked(alloc, options)?;
-    let said = list_asked(alloc, options, "said")?;
-    match options.get_str("start").unwrap_or("zero") {
-        "zero" => {
-            if cells.is_some() || said.is_some() {
-                return Err(OptionsFault::Reason("--bytes, --cells and --said go with --start any"));
-            }
-            Ok(None)
-        }
-        "any" => match cells {
-            Some(cells) => Ok(Some(AnyStart { cells, said })),
-            None => Err(OptionsFault::Reason("--start any needs --bytes LIST or --cells LIST")),
-        },
-        _ => Err(OptionsFault::Reason("--start is zero or any")),
-    }
-}
-
-/// What is asked of a bench.
-fn question(options: &ArgMatches<'_>) -> Result<Question, OptionsFault>
-    ensures { IfOk result (AsksQuestion (found_of options.now)) }
-{
-    match options.get_str("ask").unwrap_or("both") {
-        "agreement" => Ok(Question::Agreement),
-        "stabilisation" => Ok(Question::Stabilisation),
-        "both" => Ok(Question::Both),
-        _ => Err(OptionsFault::Reason("--ask is agreement, stabilisation or both")),
-    }
-}
-
-/// The last number of pulses whose odds are asked, if the question is how clocks stabilise.
-fn odds_asked(options: &ArgMatches<'_>, question: Question) -> Result<Option<u32>, OptionsFault>
-    ensures { IfOk result (HasNumber 32 (found_of options.now) (codes "odds")) }
-{
-    let odds = number_if_named(options, "odds");
-    if odds.is_some() && !question.asks_stabilisation() {
-        return Err(OptionsFault::Reason(
-            "--odds asks how likely clocks stabilise: use --ask stabilisation or both",
-        ));
-    }
-    Ok(odds)
-}
-
-fn explore_options(alloc: Global, options: &ArgMatches<'_>) -> Result<ExploreOptions, OptionsFault>
-    ensures { IfOk result (AsksExplore (found_of options.now)) }
-{
-    let question = question(options)?;
-    let odds = odds_asked(options, question)?;
-    let mail = list_asked(alloc, options, "mail")?;
-    let start = any_start(alloc, options)?;
-    Ok(ExploreOptions {
-        question,
-        mail,
-        start,
-        states: number(options, "states", DEFAULT_STATES),
-        depth: number(options, "depth", MOST_STATES),
-        odds,
-        json: flag(options, "json"),
-    })
-}
-
 /// What `clap` says in place of a request: the help, or why it refuses the words.
-fn said_by(alloc: Global, error: &Error) -> Result<Asked, Fault>
+fn said_by(alloc: Global, error: &Error) -> Result<Invocation, Fault>
     ensures fault { IfErr result IsOfCommandLine }
     ensures help { IfOk result (λ asked. IsHelp asked.request × (asked.file ≡ None)) }
 {
@@ -447,7 +342,7 @@ fn said_by(alloc: Global, error: &Error) -> Result<Asked, Fault>
     if error.use_stderr() {
         Err(Fault::CommandLine { text })
     } else {
-        Ok(Asked {
+        Ok(Invocation {
             request: Request::Help { text },
             file: None,
         })

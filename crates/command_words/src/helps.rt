@@ -23,7 +23,7 @@ pub const DEFAULT_MODULUS: u32 = 8;
 pub const DEFAULT_FUEL: u64 = 1_000_000;
 
 /// The most fuel that can be named.
-pub(crate) const MOST_FUEL: i64 = 1_000_000_000;
+pub(crate) const MAX_FUEL: i64 = 1_000_000_000;
 
 /// The workers of a pulse for which none are named.
 pub const DEFAULT_WORKERS: u32 = 2;
@@ -34,21 +34,26 @@ pub const DEFAULT_LOADERS: u32 = 2;
 /// The loads of each loader if none are named, and the most that can be named.
 pub const DEFAULT_LOADS: u32 = 8;
 
-pub(crate) const MOST_LOADS: u32 = 100;
+pub(crate) const MAX_LOADS: u32 = 100;
 
 /// The pulses of a stressed bench for which none are named, and the most that can be named.
 pub const DEFAULT_PULSES: u32 = 8;
 
-pub(crate) const MOST_PULSES: u32 = 1_000;
+pub(crate) const MAX_PULSES: u32 = 1_000;
 
 /// The most states that are explored if none are named, and the most that can be named.
 pub const DEFAULT_STATES: u32 = 1_000_000;
 
 /// The most states and the last pulse of an exploration that can be named.
-pub const MOST_STATES: u32 = 1_000_000_000;
+pub const MAX_STATES: u32 = 1_000_000_000;
 
 /// The most pulses whose odds can be asked.
-pub(crate) const MOST_ODDS: u32 = 100_000;
+pub const MAX_ODDS: u32 = 100_000;
+
+/// The most mebibytes of an exploration if none are named, and the most that can be named.
+pub const DEFAULT_MEBIBYTES: u32 = 1_024;
+
+pub(crate) const MAX_MEBIBYTES: u32 = 1_048_576;
 
 const HELP_BYTES: usize = 96;
 
@@ -71,6 +76,7 @@ pub struct Helps {
     pub(crate) pulses: Help,
     pub(crate) states: Help,
     pub(crate) depth: Help,
+    pub(crate) mebibytes: Help,
     pub(crate) odds: Help,
     pub(crate) keys: Help,
 }
@@ -94,7 +100,7 @@ impl Helps {
                 DEFAULT_MODULUS,
             ),
             fuel: Help::of(format_args!(
-                "Most steps of the run [0..={MOST_FUEL}; default: {DEFAULT_FUEL}]"
+                "Most steps of the run [0..={MAX_FUEL}; default: {DEFAULT_FUEL}]"
             )),
             id: numbers(
                 "Number of the node that runs the program",
@@ -118,14 +124,13 @@ impl Helps {
                 MOST_LOADERS,
                 DEFAULT_LOADERS,
             ),
-            loads: numbers("Loads of each loader", 1, MOST_LOADS, DEFAULT_LOADS),
-            pulses: numbers("Pulses", 1, MOST_PULSES, DEFAULT_PULSES),
-            states: numbers("Most states to explore", 1, MOST_STATES, DEFAULT_STATES),
-            depth: Help::of(format_args!(
-                "Last pulse to explore [1..={MOST_STATES}; default: all]"
-            )),
+            loads: numbers("Loads of each loader", 1, MAX_LOADS, DEFAULT_LOADS),
+            pulses: numbers("Pulses", 1, MAX_PULSES, DEFAULT_PULSES),
+            states: numbers("Most states to explore", 1, MAX_STATES, DEFAULT_STATES),
+            depth: Help::of(format_args!("Last pulse to explore [1..={MAX_STATES}; default: all]")),
+            mebibytes: numbers("Most mebibytes to use", 1, MAX_MEBIBYTES, DEFAULT_MEBIBYTES),
             odds: Help::of(format_args!(
-                "Bound the odds of stabilisation within COUNT pulses [1..={MOST_ODDS}; default: not asked]"
+                "Bound odds of stabilisation; FIRST..LAST: as CSV [1..={MAX_ODDS}; default: not asked]"
             )),
             keys: Help::of(format_args!(
                 "Seeds of the coins, both ends included [0..={MOST_KEY}; required]"

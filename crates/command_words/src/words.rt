@@ -1,7 +1,7 @@
 //! The commands and their arguments.
 
 use crate::building::Building;
-use crate::helps::{Helps, MOST_FUEL, MOST_LOADS, MOST_ODDS, MOST_PULSES, MOST_STATES};
+use crate::helps::{Helps, MAX_FUEL, MAX_LOADS, MAX_MEBIBYTES, MAX_PULSES, MAX_STATES};
 use crate::options::{clock_option, count_option, file, flag, pulse_option, text_option, within};
 use crate::version::VERSION;
 use bench_shared::MOST_LOADERS;
@@ -18,6 +18,13 @@ const LIST: &str = "Print slot and bytes of each instruction beside its line";
 /// The help of `--list` of `compile`.
 const LIST_OF_RULE: &str =
     "Print slot and bytes of each instruction below the line of the rule that made it";
+
+/// The help of `--reach`.
+const REACH: &str = "Find the least number of pulses with such odds, as 99/100; needs --odds";
+
+/// The help of `--graph`.
+const GRAPH: &str =
+    "Print the state space: dot for Graphviz, tra and lab (transitions and labels) for PRISM and Storm";
 
 /// The help of `--text`.
 const TEXT: &str = "Read an assembler text in place of an image";
@@ -211,7 +218,7 @@ fn explore<'a>(alloc: Global, helps: &'a Helps) -> Building<'a> {
     let explore = Building::named(
         alloc,
         "explore",
-        "Explore all coins and all messages of --mail on a small bench",
+        "Search all runs of a small bench for a violation of agreement",
         "Example: clockbed explore examples/explore/four_nodes.toml\nPage: docs/EXPLORE.md",
     );
     let explore = explore.arg(text_option(
@@ -221,9 +228,16 @@ fn explore<'a>(alloc: Global, helps: &'a Helps) -> Building<'a> {
         "What is asked: agreement, stabilisation or both [default: both]",
     ));
     with_states(alloc, explore)
-        .arg(count_option(alloc, "states", helps.states.as_str(), MOST_STATES))
-        .arg(count_option(alloc, "depth", helps.depth.as_str(), MOST_STATES))
-        .arg(count_option(alloc, "odds", helps.odds.as_str(), MOST_ODDS))
+        .arg(count_option(alloc, "states", helps.states.as_str(), MAX_STATES))
+        .arg(count_option(alloc, "depth", helps.depth.as_str(), MAX_STATES))
+        .arg(within(
+            text_option(alloc, "memory", "MIB", helps.mebibytes.as_str()),
+            1,
+            MAX_MEBIBYTES,
+        ))
+        .arg(text_option(alloc, "odds", "COUNT|FIRST..LAST", helps.odds.as_str()))
+        .made_arg(text_option(alloc, "reach", "PARTS/WHOLE", REACH).requires_arg("odds"))
+        .arg(text_option(alloc, "graph", "dot|tra|lab", GRAPH))
         .arg(flag(alloc, "json", "Print the answer as one line of JSON"))
         .arg(file(alloc))
 }
@@ -235,13 +249,13 @@ fn with_states<'a>(alloc: Global, command: Building<'a>) -> Building<'a> {
             alloc,
             "mail",
             "LIST",
-            "Messages of Byzantine nodes, beside none: 32-bit numbers, as 0..7,9 [default: 0 to the modulus]",
+            "Messages of Byzantine nodes, beside none: all, or as 0..7,9 [default: all for the rule's clock, otherwise 0 to the modulus]",
         ))
         .arg(text_option(
             alloc,
             "start",
-            "zero|any",
-            "Initial states: zeroed memories and no messages, or any of --bytes or --cells [default: zero]",
+            "zero|any|every",
+            "Initial states: zeroed memories and no messages, those of --bytes, --cells or --images, or every state [default: zero]",
         ))
         .arg(text_option(
             alloc,
@@ -254,6 +268,12 @@ fn with_states<'a>(alloc: Global, command: Building<'a>) -> Building<'a> {
             "cells",
             "LIST",
             "What named bytes of a memory may be at --start any, as 0=0..7,4=0,1; the others are zero",
+        ))
+        .arg(text_option(
+            alloc,
+            "images",
+            "LIST",
+            "What a memory may be at --start any, each in hexadecimal, as 0500000001000000,0600000001000000",
         ))
         .arg(text_option(
             alloc,
@@ -285,8 +305,8 @@ fn stress<'a>(alloc: Global, helps: &'a Helps) -> Building<'a> {
         "Example: clockbed stress --loaders 4 --pulses 100\nPage: docs/THREADS.md",
     )
     .arg(count_option(alloc, "loaders", helps.loaders.as_str(), MOST_LOADERS))
-    .arg(count_option(alloc, "loads", helps.loads.as_str(), MOST_LOADS))
-    .arg(count_option(alloc, "pulses", helps.pulses.as_str(), MOST_PULSES))
+    .arg(count_option(alloc, "loads", helps.loads.as_str(), MAX_LOADS))
+    .arg(count_option(alloc, "pulses", helps.pulses.as_str(), MAX_PULSES))
     .arg(count_option(alloc, "workers", helps.workers.as_str(), MOST_WORKERS))
 }
 
@@ -309,7 +329,7 @@ fn exec<'a>(alloc: Global, helps: &'a Helps) -> Building<'a> {
 
 /// The option for the most steps of a run.
 fn fuel_option<'a>(alloc: Global, help: &'a str) -> Arg<'a> {
-    text_option(alloc, "fuel", "STEPS", help).value_parser(value_parser!(u64).range(0..=MOST_FUEL))
+    text_option(alloc, "fuel", "STEPS", help).value_parser(value_parser!(u64).range(0..=MAX_FUEL))
 }
 
 /// Adds the options that ask for a shape.

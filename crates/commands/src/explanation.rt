@@ -97,7 +97,7 @@ fn explained_text(
 }
 
 /// What is told of a program whose instructions stand on these lines of a text; of an image there are none.
-fn told_of_program(
+fn explain_program(
     alloc: Global,
     options: ExplainOptions,
     program: &Program,
@@ -144,7 +144,7 @@ fn lines_of(alloc: Global, text: bool, bytes: &[u8]) -> Result<Vec<usize>, Alloc
 }
 
 /// What is told of a program that was read.
-fn told_of_read(alloc: Global, options: ExplainOptions, read: &ProgramRead) -> Result<Told, Fault>
+fn explain_read(alloc: Global, options: ExplainOptions, read: &ProgramRead) -> Result<Told, Fault>
     requires { read.now.shape ≡ asked_extent options.shape }
     ensures told { IfOk result (λ told. told_specs.ExplainsProgram options
         (told_specs.lines_read options.text read.now.bytes.items) read.now.program
@@ -154,7 +154,7 @@ fn told_of_read(alloc: Global, options: ExplainOptions, read: &ProgramRead) -> R
     let Ok(lines) = lines_of(alloc, options.text, read.bytes.as_slice()) else {
         return Err(Fault::Memory);
     };
-    told_of_program(alloc, options, &read.program, lines.as_slice(), read.shape)
+    explain_program(alloc, options, &read.program, lines.as_slice(), read.shape)
 }
 
 /// Writes what is told of the text or the image that is read. Where the options have no shape, nothing is read. Of an
@@ -177,7 +177,7 @@ pub fn explained<R: Read, W: Write, E: Write>(
     let found = program_asked(alloc, options.shape, options.text, reader)?;
     match found {
         Ok(read) => {
-            let told = told_of_read(alloc, options, &read)?;
+            let told = explain_read(alloc, options, &read)?;
             write_whole(out, told.text.as_bytes(), told.ending)
         }
         Err(rejected) => {

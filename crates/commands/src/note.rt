@@ -199,6 +199,12 @@ fn unexplored_note(unfit: Unfit) -> &'static [u8]
             b"note: explore needs a node with a program: add a [[load]] of pulse 1\n",
         Unfit::Byte =>
             b"note: --cells names a place past the memory: places go from 0 to one below `memory`\n",
+        Unfit::Image =>
+            b"note: --images has a memory of another length: each has two digits for each byte of `memory`\n",
+        Unfit::AnyMessage =>
+            b"note: --mail all needs loads of the rule's clock alone: name numbers, as --mail 0..8\n",
+        Unfit::NoLaw { .. } =>
+            b"note: --start every needs loads of the rule's clock alone and `memory = 8`: use --start any --cells\n",
     }
 }
 

@@ -7,7 +7,10 @@ pub use bpf_explain::Detail;
 pub use clock_nodes::ClockRule;
 use key_sweep::KeySpan;
 use run_lines::PulseSpan;
-pub use scenario_explorer::{AnyStart, ByteSpan, Cells, ExploreOptions, MailSpan, Question};
+pub use scenario_explorer::{
+    AnyStart, ByteSpan, Cells, ExploreOptions, Form, GraphFormat, Mail, MailSpan, Memories,
+    Question, Share, Starts,
+};
 
 /// A command with its options, or the help that is asked for in its place.
 #[derive(Debug, Drop)]

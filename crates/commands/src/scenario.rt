@@ -21,6 +21,7 @@ use crate::run::run;
 use crate::sweep::sweep;
 use crate::traced_run::traced_run;
 use bench_scenario::{TextFault, read_scenario};
+use bench_space::Progress;
 use scenario_text::{RefusalLine, Scenario, ScenarioError};
 use std::alloc::Global;
 use std::io::{Read, Write};
@@ -28,13 +29,14 @@ use std::sync::Wait;
 use std::thread::Threads;
 
 /// Reads a scenario, and does what is asked for on it. Of a refusal a note is said on `err`.
-pub(crate) fn on_scenario<T: Threads + Wait + Sync, R: Read, W: Write, E: Write>(
+pub(crate) fn on_scenario<T: Threads + Wait + Sync, R: Read, W: Write, E: Write, P: Progress>(
     rt: &T,
     alloc: Global,
     asked: &ScenarioRequest,
     reader: &mut R,
     out: &mut W,
     err: &mut E,
+    progress: &mut P,
 ) -> Result<Ending, Fault>
     ensures left { IfSome (R.remaining reader.old) (λ text.
         LeavesFor asked.now (W.contents out.old) (W.contents out.new) text result) }
@@ -44,7 +46,7 @@ pub(crate) fn on_scenario<T: Threads + Wait + Sync, R: Read, W: Write, E: Write>
 {
     match read_scenario(alloc, reader) {
         Ok(scenario) => {
-            let ending = carry_out(rt, alloc, asked, &scenario, out)?;
+            let ending = carry_out(rt, alloc, asked, &scenario, out, progress)?;
             tell_unfit_note(alloc, asked, &scenario, ending, err);
             Ok(ending)
         }
@@ -59,12 +61,13 @@ pub(crate) fn on_scenario<T: Threads + Wait + Sync, R: Read, W: Write, E: Write>
 }
 
 /// Does what is asked for on a scenario that was read.
-fn carry_out<T: Threads + Wait + Sync, W: Write>(
+fn carry_out<T: Threads + Wait + Sync, W: Write, P: Progress>(
     rt: &T,
     alloc: Global,
     asked: &ScenarioRequest,
     scenario: &Scenario,
     out: &mut W,
+    progress: &mut P,
 ) -> Result<Ending, Fault>
     requires reads { (text : List ℕ) × ReadsText text scenario.now }
     ensures { LeavesOf asked.now (W.contents out.old) (W.contents out.new) scenario.now result }
@@ -75,7 +78,7 @@ fn carry_out<T: Threads + Wait + Sync, W: Write>(
         ScenarioRequest::TracedRun(place) => traced_run(rt, alloc, *place, scenario, out),
         ScenarioRequest::NodeProgram(options) => node_program(rt, alloc, *options, scenario, out),
         ScenarioRequest::Sweep(options) => sweep(rt, alloc, *options, scenario, out),
-        ScenarioRequest::Explore(options) => explore(rt, alloc, options, scenario, out),
+        ScenarioRequest::Explore(options) => explore(rt, alloc, options, scenario, out, progress),
     }
 }
 

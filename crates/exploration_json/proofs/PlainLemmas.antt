@@ -1,21 +1,27 @@
 -- The value of an exploration has no float, and nests no deeper than six levels.
 use Rattle.std.proofs.Common.{ℕ, suc, List, [], ◌∷◌, ◌++◌}
-use Rattle.std.specs.Prelude.{codes, Option, Some, None, option_map}
+use Rattle.std.specs.Prelude.{codes, map, Option, option_map}
 use Rattle.std.specs.List.{AllByRecursion}
-use Rattle.serde_json.specs.Data.{Data, boolean, string}
-use Rattle.json_values.specs.Values.{Member, list_data, number_data, object_data, option_data}
-use Rattle.json_values.proofs.PlainLemmas.{IsPlain, plain_boolean, plain_list, plain_number, plain_object, plain_option, plain_string}
+use Rattle.hex.specs.Hex.{encode_lower}
+use Rattle.serde_json.specs.Data.{string}
+use Rattle.json_values.specs.Values.{Member, list_data, number_data, option_data}
+use Rattle.json_values.proofs.PlainLemmas.{IsPlain, plain_boolean, plain_list, plain_number, plain_null, plain_object, plain_option, plain_string}
 use Rattle.bench_space.specs.declared.odds.Odds.{Odds}
 use Rattle.bench_space.specs.declared.mean.TheConstants.{MEAN_UNIT}
 use Rattle.bench_space.specs.declared.odds.TheConstants.{ODDS_WHOLE}
 use Rattle.scenario_explorer.specs.declared.finding.Found.{Found}
+use Rattle.scenario_explorer.specs.declared.finding.Reach.{Reach}
 use Rattle.scenario_explorer.specs.declared.finding.Tried.{Tried}
 use Rattle.scenario_explorer.specs.declared.options.AnyStart.{AnyStart}
 use Rattle.scenario_explorer.specs.declared.options.ByteSpan.{ByteSpan}
 use Rattle.scenario_explorer.specs.declared.options.Cells.{Cells}
 use Rattle.scenario_explorer.specs.declared.options.ExploreOptions.{ExploreOptions}
 use Rattle.scenario_explorer.specs.declared.options.MailSpan.{MailSpan}
-use Rattle.exploration_json.specs.Data.{agreement_word, answer_members, byte_span_data, cells_data, exploration_data, exploration_members, limit_of, mean_data, mean_of, node_members, odds_data, odds_of, parts_of, pulses_of, question_members, question_word, scenario_of, search_members, span_data, spans_data, stabilisation_of, stabilisation_word, start_data, states_of, transitions_of, violated_in, word_data}
+use Rattle.scenario_explorer.specs.declared.options.Memories.{Memories}
+use Rattle.scenario_explorer.specs.declared.options.Memories.TheVariants as memories
+use Rattle.scenario_explorer.specs.declared.options.Starts.{Starts}
+use Rattle.scenario_explorer.specs.declared.options.Starts.TheVariants as starts
+use Rattle.exploration_json.specs.Data.{agreed_of, agreement_word, answer_members, any_data, byte_span_data, cells_data, exploration_data, exploration_members, image_data, limit_of, mean_data, mean_of, memories_member, node_members, odds_data, odds_of, parts_of, pulses_of, question_members, question_word, reach_data, reach_of, scenario_of, search_members, span_data, spans_data, stabilisation_of, stabilisation_word, start_data, states_of, transitions_of, violated_in, word_data}
 
 abbrev AllPlain : ℕ → List Member → Type 0
 AllPlain levels ms = AllByRecursion (λ m. IsPlain levels m.1) ms
@@ -52,15 +58,27 @@ plain_span levels span = plain_list number_data levels (plain_number levels) (sp
 plain_spans : (levels : ℕ) (spans : List MailSpan) → IsPlain (suc (suc levels)) (spans_data spans)
 plain_spans levels spans = plain_list span_data (suc levels) (plain_span levels) spans
 
-plain_start : (any : AnyStart) → IsPlain 5 (start_data any)
-plain_start any =
+plain_image : (levels : ℕ) (image : List ℕ) → IsPlain levels (image_data image)
+plain_image levels image = plain_string levels (encode_lower image)
+
+plain_memories : (named : Memories) → IsPlain 4 (memories_member named).1
+plain_memories (memories.Cells all) = plain_list cells_data 3 plain_cells all.items
+plain_memories (memories.Images images) =
+    plain_list image_data 3 (plain_image 3) (map (λ v. v.items) images.items)
+
+plain_any : (any : AnyStart) → IsPlain 5 (any_data any)
+plain_any any =
     plain_object 4 (
-    (codes "bytes", list_data cells_data any.cells.items)
-    ∷ (codes "messages", option_data (λ said. spans_data said.items) any.said) ∷ []
+    memories_member any.memories ∷ (codes "messages", option_data (λ said. spans_data said.items) any.said) ∷ []
     ) (
-      plain_list cells_data 3 plain_cells any.cells.items,
+      plain_memories any.memories,
       (plain_option (λ said. spans_data said.items) 4 (λ said. plain_spans 2 said.items) any.said, tt),
     )
+
+plain_start : (start : Starts) → IsPlain 5 (start_data start)
+plain_start starts.Zero = plain_null 5
+plain_start (starts.Any any) = plain_any any
+plain_start starts.Every = plain_string 5 (codes "every")
 
 plain_nodes : (tried : Tried) → AllPlain 5 (node_members tried)
 plain_nodes tried = (
@@ -77,7 +95,7 @@ plain_nodes tried = (
 plain_question : (asked : ExploreOptions) (tried : Tried) → AllPlain 5 (question_members asked tried)
 plain_question asked tried = (
   plain_string 5 (question_word asked.question),
-  (plain_spans 3 tried.mail.items, (plain_option start_data 5 plain_start asked.start, tt)),
+  (plain_spans 3 tried.mail.items, (plain_start asked.start, tt)),
 )
 
 plain_search : (found : Found) → AllPlain 5 (search_members found)
@@ -91,12 +109,20 @@ plain_mean parts =
     plain_object 3 ((codes "of", number_data MEAN_UNIT) ∷ (codes "parts", number_data parts) ∷ [])
     (plain_number 3 MEAN_UNIT, (plain_number 3 parts, tt))
 
-plain_odds : (told : Odds) → IsPlain 5 (odds_data told)
-plain_odds told =
+plain_reach : (reach : Reach) → IsPlain 4 (reach_data reach)
+plain_reach reach =
+    plain_object 3 (
+    (codes "of", number_data reach.share.of) ∷ (codes "parts", number_data reach.share.parts)
+    ∷ (codes "pulses", option_data number_data reach.pulses) ∷ []
+    ) (plain_number 3 reach.share.of, (plain_number 3 reach.share.parts, (plain_count 3 reach.pulses, tt)))
+
+plain_odds : (reach : Option Reach) (told : Odds) → IsPlain 5 (odds_data reach told)
+plain_odds reach told =
     plain_object 4 (
     (codes "mean", option_data mean_data (mean_of told))
     ∷ (codes "of", number_data ODDS_WHOLE)
-    ∷ (codes "parts", option_data (list_data number_data) (parts_of told)) ∷ []
+    ∷ (codes "parts", option_data (list_data number_data) (parts_of told))
+    ∷ (codes "reach", option_data reach_data reach) ∷ []
     ) (
       plain_option mean_data 4 plain_mean (mean_of told),
       (
@@ -104,7 +130,7 @@ plain_odds told =
         (
           plain_option (list_data number_data) 4 (λ parts. plain_list number_data 3 (plain_number 3) parts)
               (parts_of told),
-          tt,
+          (plain_option reach_data 4 plain_reach reach, tt),
         ),
       ),
     )
@@ -113,12 +139,18 @@ plain_answer : (found : Found) → AllPlain 5 (answer_members found)
 plain_answer found = (
   plain_word 5 (agreement_word found),
   (
-    plain_count 5 (violated_in found),
+    plain_count 5 (agreed_of found),
     (
-      plain_word 5 (option_map stabilisation_word (stabilisation_of found)),
+      plain_count 5 (violated_in found),
       (
-        plain_count 5 (pulses_of (stabilisation_of found)),
-        (plain_option odds_data 5 plain_odds (odds_of found), (plain_word 5 (scenario_of found), tt)),
+        plain_word 5 (option_map stabilisation_word (stabilisation_of found)),
+        (
+          plain_count 5 (pulses_of (stabilisation_of found)),
+          (
+            plain_option (odds_data (reach_of found)) 5 (plain_odds (reach_of found)) (odds_of found),
+            (plain_word 5 (scenario_of found), tt),
+          ),
+        ),
       ),
     ),
   ),

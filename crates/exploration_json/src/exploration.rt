@@ -4,16 +4,16 @@ ghost use Rattle.serde_json.specs.Data.{string};
 ghost use Rattle.serde_json.specs.View.{members_view, view};
 ghost use Rattle.json_values.specs.Texts.{ReadsBack, line_of};
 ghost use Rattle.json_values.specs.Values.{list_data, number_data, option_data, with_members};
-ghost use Rattle.exploration_json.specs.Data.{answer_members, exploration_data, mean_data, mean_of, node_members, odds_data, odds_of, parts_of, pulses_of, question_members, scenario_of, search_members, stabilisation_of, stabilisation_word, word_data};
+ghost use Rattle.exploration_json.specs.Data.{answer_members, exploration_data, mean_data, mean_of, node_members, odds_data, odds_of, parts_of, pulses_of, question_members, reach_data, reach_of, scenario_of, search_members, stabilisation_of, stabilisation_word, word_data};
 
 use crate::spans::{spans_value, start_value};
 use crate::words::{
-    agreement_word, limit_of, question_word, stabilisation_word, states_of, transitions_of,
-    violated_in, within,
+    agreed_of, agreement_word, limit_of, question_word, stabilisation_word, states_of,
+    transitions_of, violated_in, within,
 };
 use bench_space::{MEAN_UNIT, ODDS_WHOLE, Odds, Recovery};
 use json_values::{count_or_null, line_of, numbers, word_or_null};
-use scenario_explorer::{ExploreOptions, Found, Tried};
+use scenario_explorer::{ExploreOptions, Found, Reach, Tried};
 use serde_json::{Map, Value, put};
 use std::alloc::{AllocError, Global};
 
@@ -131,7 +131,7 @@ fn parts_value(alloc: Global, odds: &Odds) -> Result<Value, AllocError>
 {
     match odds {
         Odds::Known { parts, .. } => counts(alloc, parts),
-        Odds::Unknown => Ok(Value::Null),
+        Odds::Unknown { .. } => Ok(Value::Null),
     }
 }
 
@@ -144,7 +144,7 @@ fn mean_value(alloc: Global, odds: &Odds) -> Result<Value, AllocError>
             mean: Some(parts),
             ..
         } => mean_object(alloc, *parts),
-        Odds::Known { mean: None, .. } | Odds::Unknown => Ok(Value::Null),
+        Odds::Known { mean: None, .. } | Odds::Unknown { .. } => Ok(Value::Null),
     }
 }
 
@@ -158,25 +158,58 @@ fn mean_object(alloc: Global, parts: u64) -> Result<Value, AllocError>
     Ok(Value::Object(members))
 }
 
-/// The mean, the whole and its parts.
-fn odds_object(alloc: Global, odds: &Odds) -> Result<Value, AllocError>
-    ensures { IfOk result (λ v. view v ≡ odds_data odds.now) }
+/// After how many pulses a share has stabilised, if that was asked and the odds are known.
+fn reach_of(found: &Found) -> Option<Reach>
+    ensures { result ≡ reach_of found.now }
+{
+    match found {
+        Found::Closed { reach, .. } => *reach,
+        Found::Parts { .. } | Found::Unfinished { .. } => None,
+    }
+}
+
+/// A share, and the number of pulses or null.
+fn reach_object(alloc: Global, reach: Reach) -> Result<Value, AllocError>
+    ensures { IfOk result (λ v. view v ≡ reach_data reach) }
+{
+    let mut members = Map::new(alloc);
+    put(&mut members, alloc, "of", Value::from(reach.share.of))?;
+    put(&mut members, alloc, "parts", Value::from(reach.share.parts))?;
+    put(&mut members, alloc, "pulses", count_or_null(reach.pulses))?;
+    Ok(Value::Object(members))
+}
+
+/// The same, or null.
+fn reach_value(alloc: Global, reach: Option<Reach>) -> Result<Value, AllocError>
+    ensures { IfOk result (λ v. view v ≡ option_data reach_data reach) }
+{
+    match reach {
+        Some(reach) => reach_object(alloc, reach),
+        None => Ok(Value::Null),
+    }
+}
+
+/// The mean, the whole and its parts, and when a share has stabilised.
+fn odds_object(alloc: Global, odds: &Odds, reach: Option<Reach>) -> Result<Value, AllocError>
+    ensures { IfOk result (λ v. view v ≡ odds_data reach odds.now) }
 {
     let mean = mean_value(alloc, odds)?;
     let parts = parts_value(alloc, odds)?;
+    let reached = reach_value(alloc, reach)?;
     let mut members = Map::new(alloc);
     put(&mut members, alloc, "mean", mean)?;
     put(&mut members, alloc, "of", Value::from(ODDS_WHOLE))?;
     put(&mut members, alloc, "parts", parts)?;
+    put(&mut members, alloc, "reach", reached)?;
     Ok(Value::Object(members))
 }
 
 /// The odds, or null.
 fn odds_value(alloc: Global, found: &Found) -> Result<Value, AllocError>
-    ensures { IfOk result (λ v. view v ≡ option_data odds_data (odds_of found.now)) }
+    ensures { IfOk result (λ v. view v ≡ option_data (odds_data (reach_of found.now)) (odds_of found.now)) }
 {
     match odds_of(found) {
-        Some(odds) => odds_object(alloc, odds),
+        Some(odds) => odds_object(alloc, odds, reach_of(found)),
         None => Ok(Value::Null),
     }
 }
@@ -209,6 +242,12 @@ fn add_answer(
     let odds = odds_value(alloc, found)?;
     let scenario = scenario_value(alloc, found)?;
     put(members, alloc, "agreement", agreement)?;
+    put(
+        members,
+        alloc,
+        "agreement_after",
+        count_or_null(agreed_of(found)),
+    )?;
     put(
         members,
         alloc,

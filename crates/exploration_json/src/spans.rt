@@ -1,11 +1,11 @@
 //! Spans of numbers and bytes, and starts, as values of JSON.
-ghost use Rattle.std.specs.Prelude.{◌≡◌, IfOk, map};
-ghost use Rattle.serde_json.specs.View.{view};
-ghost use Rattle.json_values.specs.Values.{list_data, option_data};
-ghost use Rattle.exploration_json.specs.Data.{byte_span_data, cells_data, span_data, spans_data, start_data};
+ghost use Rattle.std.specs.Prelude.{◌≡◌, ◌∷◌, [], IfOk, OnOk, map};
+ghost use Rattle.serde_json.specs.View.{members_view, view};
+ghost use Rattle.json_values.specs.Values.{list_data, option_data, with_members};
+ghost use Rattle.exploration_json.specs.Data.{any_data, byte_span_data, cells_data, image_data, memories_member, span_data, spans_data, start_data};
 
 use json_values::numbers;
-use scenario_explorer::{AnyStart, ByteSpan, Cells, MailSpan};
+use scenario_explorer::{AnyStart, ByteSpan, Cells, MailSpan, Memories, Starts};
 use serde_json::{Map, Value, put};
 use std::alloc::{AllocError, Global};
 
@@ -78,24 +78,63 @@ fn said_value(alloc: Global, said: &Option<Vec<MailSpan>>) -> Result<Value, Allo
     }
 }
 
-/// The bytes and the messages at the start.
-fn any_value(alloc: Global, any: &AnyStart) -> Result<Value, AllocError>
-    ensures { IfOk result (λ v. view v ≡ start_data any.now) }
+/// A whole memory.
+fn image_value(alloc: Global, image: &[u8]) -> Result<Value, AllocError>
+    ensures { IfOk result (λ v. view v ≡ image_data image.now) }
 {
-    let bytes = all_cells_value(alloc, &any.cells)?;
+    Ok(Value::String(hex::encode(alloc, image)?))
+}
+
+/// The whole memories.
+fn images_value(alloc: Global, images: &[Vec<u8>]) -> Result<Value, AllocError>
+    ensures { IfOk result (λ v. view v ≡ list_data image_data (map (λ v. v.items) images.now)) }
+{
+    let mut values = Vec::with_capacity(alloc, images.len())?;
+    for image in images {
+        values.push(image_value(alloc, image)?)?;
+    }
+    Ok(Value::Array(values))
+}
+
+/// Adds the bytes that were named, or the whole memories.
+fn add_memories(
+    alloc: Global,
+    members: &mut Map<String, Value>,
+    memories: &Memories,
+) -> Result<(), AllocError>
+    ensures { OnOk result (members_view members.new.entries ≡ with_members (members_view members.old.entries)
+        (memories_member memories.now ∷ [])) }
+{
+    match memories {
+        Memories::Cells(all) => {
+            let bytes = all_cells_value(alloc, all)?;
+            put(members, alloc, "bytes", bytes)
+        }
+        Memories::Images(images) => {
+            let images = images_value(alloc, images)?;
+            put(members, alloc, "images", images)
+        }
+    }
+}
+
+/// The memories and the messages at the start.
+fn any_value(alloc: Global, any: &AnyStart) -> Result<Value, AllocError>
+    ensures { IfOk result (λ v. view v ≡ any_data any.now) }
+{
     let messages = said_value(alloc, &any.said)?;
     let mut members = Map::new(alloc);
-    put(&mut members, alloc, "bytes", bytes)?;
+    add_memories(alloc, &mut members, &any.memories)?;
     put(&mut members, alloc, "messages", messages)?;
     Ok(Value::Object(members))
 }
 
-/// A start that isn't at zero, or null.
-pub(crate) fn start_value(alloc: Global, start: &Option<AnyStart>) -> Result<Value, AllocError>
-    ensures { IfOk result (λ v. view v ≡ option_data start_data start.now) }
+/// Where it begins: null for zeros and no messages.
+pub(crate) fn start_value(alloc: Global, start: &Starts) -> Result<Value, AllocError>
+    ensures { IfOk result (λ v. view v ≡ start_data start.now) }
 {
     match start {
-        Some(any) => any_value(alloc, any),
-        None => Ok(Value::Null),
+        Starts::Zero => Ok(Value::Null),
+        Starts::Any(any) => any_value(alloc, any),
+        Starts::Every => Value::try_from_str(alloc, "every"),
     }
 }

@@ -1,6 +1,6 @@
 //! Words and numbers of what was found.
 ghost use Rattle.std.specs.Prelude.{◌≡◌, Option, map, option_map};
-ghost use Rattle.exploration_json.specs.Data.{agreement_word, limit_of, limit_word, pulses_of, question_word, scenario_of, stabilisation_of, stabilisation_word, states_of, transitions_of, violated_in, within};
+ghost use Rattle.exploration_json.specs.Data.{agreed_of, agreement_word, limit_of, limit_word, pulses_of, question_word, scenario_of, stabilisation_of, stabilisation_word, states_of, transitions_of, violated_in, within};
 
 use bench_space::{Cause, Question, Recovery};
 use scenario_explorer::Found;
@@ -35,7 +35,7 @@ pub(crate) fn stabilisation_word(recovery: &Recovery) -> &'static str
         Recovery::InStep { .. } => "certain",
         Recovery::Luck { .. } => "possible",
         Recovery::HeldOff { .. } => "preventable",
-        Recovery::Unknown => "undecided",
+        Recovery::Unknown { .. } => "undecided",
     }
 }
 
@@ -49,6 +49,7 @@ fn limit_word(cause: Cause) -> &'static str
         Cause::Pulses => "depth",
         Cause::Inboxes => "inboxes",
         Cause::Counterexample => "counterexample",
+        Cause::Memory => "memory",
     }
 }
 
@@ -93,12 +94,22 @@ pub(crate) fn violated_in(found: &Found) -> Option<u64>
     }
 }
 
+/// After how many pulses clocks agree for good, if that is told.
+pub(crate) fn agreed_of(found: &Found) -> Option<u64>
+    ensures { result ≡ agreed_of found.now }
+{
+    match found {
+        Found::Closed { agreed, .. } => *agreed,
+        Found::Parts { .. } | Found::Unfinished { .. } => None,
+    }
+}
+
 /// The bound on the stabilisation time, if there is one.
 pub(crate) fn within(recovery: &Recovery) -> Option<u64>
     ensures { result ≡ within recovery.now }
 {
     match recovery {
         Recovery::InStep { pulses } | Recovery::Luck { pulses } => Some(*pulses),
-        Recovery::HeldOff { .. } | Recovery::Unknown => None,
+        Recovery::HeldOff { .. } | Recovery::Unknown { .. } => None,
     }
 }

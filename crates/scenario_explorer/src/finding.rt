@@ -1,12 +1,13 @@
 //! What `explore` answers, and the lines that say it.
-ghost use Rattle.std.specs.Prelude.{◌≡◌, ◌+◌, ◌-◌, ◌++◌, [], IfOk, OnOk, Some, flat_map, get_or, length, string_bytes};
+ghost use Rattle.std.specs.Prelude.{◌≡◌, ◌+◌, ◌-◌, ◌++◌, [], IfOk, OnOk, Some, flat_map, get_or, length, map, string_bytes, take};
 ghost use Rattle.std.specs.Option.{option_map_or};
-ghost use Rattle.bench_space.specs.declared.recovery.Recovery.TheVariants.{InStep, Luck};
-ghost use Rattle.scenario_explorer.specs.Explore.{agreement_text, any_start_text, byte_span_text, byzantine_text, cause_text, cells_text, correct_text, count_text, counted, finding_text, found_text, liars_text, mark_of, marked, mean_text, nodes_text, odds_lines, odds_text, percent_text, programmed_text, pulses_text, range_text, recovery_text, shown_of, spans_text, tried_text, unfinished_text, unfit_name, violation_text};
+ghost use Rattle.bench_space.specs.declared.odds.Odds.TheVariants as odds;
+ghost use Rattle.bench_space.specs.declared.recovery.Recovery.TheVariants.{InStep, Luck, Unknown};
+ghost use Rattle.scenario_explorer.specs.Explore.{agreed_text, agreement_text, any_start_text, byte_span_text, byzantine_text, cause_text, cells_text, chances_text, correct_text, count_text, counted, finding_text, found_text, image_text, images_shown, images_text, last_pulses, liars_text, mark_of, marked, mean_text, memories_text, messages_text, nodes_text, odds_lines, odds_text, percent_text, programmed_text, pulses_text, range_text, reach_text, recovery_text, shown_of, spans_text, stability_text, told_line, tried_text, unfinished_text, unfit_name, violation_text};
 ghost use Rattle.scenario_explorer.specs.declared.finding.Finding.TheVariants.{Searched};
 
-use crate::options::{AnyStart, ByteSpan, Cells, MailSpan};
-use bench_space::{Cause, MEAN_UNIT, MOST_MAILS, ODDS_WHOLE, Odds, Recovery};
+use crate::options::{AnyStart, ByteSpan, Cells, MailSpan, Memories, Share};
+use bench_space::{Cause, MAX_INBOXES, MEAN_UNIT, ODDS_WHOLE, Odds, Recovery};
 use std::alloc::{AllocError, Global};
 use std::fmt;
 use std::fmt::Write;
@@ -24,6 +25,12 @@ pub enum Unfit {
     Unloaded,
     /// The start names a byte past the memory.
     Byte,
+    /// An image of the start isn't as long as a memory.
+    Image,
+    /// Any message is named, and some loaded node doesn't run the rule's clock.
+    AnyMessage,
+    /// Every start is named, and from this byte of a memory on nothing is known of it.
+    NoLaw { byte: u32 },
 }
 
 /// Who is who, and what was tried beside both coins.
@@ -38,10 +45,19 @@ pub struct Tried {
     pub liars: Vec<u32>,
     /// How many faults the rule allows for.
     pub faults: u32,
-    /// The numbers that nodes without a program send.
+    /// Whether nodes without a program send any number.
+    pub any: bool,
+    /// The numbers that they send.
     pub mail: Vec<MailSpan>,
     /// What the line says of the memories and messages at the start: nothing if they are zero and none.
     pub start: String,
+}
+
+/// The least number of pulses after which at least this share has stabilised, if there is one among the odds.
+#[derive(Clone, Copy, Debug, PartialEq, Eq)]
+pub struct Reach {
+    pub share: Share,
+    pub pulses: Option<u64>,
 }
 
 /// What was found.
@@ -54,8 +70,14 @@ pub enum Found {
         agrees: bool,
         states: u64,
         moves: u64,
+        /// After how many pulses the clocks agree for good, if agreement wasn't asked and that was found.
+        agreed: Option<u64>,
         recovery: Option<Recovery>,
         odds: Option<Odds>,
+        /// When the share that was asked has stabilised, if the odds are known.
+        reach: Option<Reach>,
+        /// The text of the state space, if it was asked and isn't too large. Nothing is promised of it.
+        graph: Option<String>,
         shown: Option<String>,
     },
     /// Agreement is violated in this pulse of the counterexample of this text.
@@ -111,6 +133,9 @@ impl fmt::Display for Unfit {
             Unfit::Coin => write!(f, "coin"),
             Unfit::Unloaded => write!(f, "NoCorrectNode"),
             Unfit::Byte => write!(f, "NoByte"),
+            Unfit::Image => write!(f, "Image"),
+            Unfit::AnyMessage => write!(f, "AnyMessage"),
+            Unfit::NoLaw { byte } => write!(f, "NoLaw {byte}"),
         }
     }
 }
@@ -185,6 +210,63 @@ fn add_cells(alloc: Global, text: &mut String, all: &[Cells]) -> Result<(), Allo
     Ok(())
 }
 
+/// The most whole memories that a line says.
+const IMAGES_SHOWN: usize = 8;
+
+/// The whole memories that a line says.
+fn shown_images(images: &[Vec<u8>]) -> &[Vec<u8>]
+    ensures { result.now ≡ take images_shown images.now }
+{
+    if images.len() <= IMAGES_SHOWN {
+        images
+    } else {
+        &images[..IMAGES_SHOWN]
+    }
+}
+
+/// Adds whole memories, each after a blank.
+fn add_images(alloc: Global, text: &mut String, images: &[Vec<u8>]) -> Result<(), AllocError>
+    ensures { OnOk result (string_bytes text.new
+        ≡ string_bytes text.old ++ flat_map image_text (map (λ v. v.items) images.now)) }
+{
+    for image in images {
+        let digits = hex::encode(alloc, image.as_slice())?;
+        let part = format!(in alloc; " {digits}")?;
+        text.push_str(part.as_str())?;
+    }
+    Ok(())
+}
+
+/// The first of whole memories, and how many more there are.
+fn images_line(alloc: Global, images: &[Vec<u8>]) -> Result<String, AllocError>
+    ensures { IfOk result (λ text. string_bytes text ≡ images_text (map (λ v. v.items) images.now)) }
+{
+    let mut shown = String::new(alloc);
+    add_images(alloc, &mut shown, shown_images(images))?;
+    if images.len() <= IMAGES_SHOWN {
+        return Ok(shown);
+    }
+    let more = images.len() - IMAGES_SHOWN;
+    format!(in alloc; "{shown} and {more} more")
+}
+
+/// The memories of a start.
+fn memories_line(alloc: Global, memories: &Memories) -> Result<String, AllocError>
+    ensures { IfOk result (λ text. string_bytes text ≡ memories_text memories.now) }
+{
+    match memories {
+        Memories::Cells(all) => {
+            let mut text = String::new(alloc);
+            add_cells(alloc, &mut text, all)?;
+            Ok(text)
+        }
+        Memories::Images(images) => {
+            let images = images_line(alloc, images)?;
+            format!(in alloc; " memories of{images},")
+        }
+    }
+}
+
 /// What the line says of a start that isn't at zero: its memories, and the numbers of its messages.
 pub(crate) fn any_start_line(
     alloc: Global,
@@ -193,11 +275,10 @@ pub(crate) fn any_start_line(
 ) -> Result<String, AllocError>
     ensures { IfOk result (λ text. string_bytes text ≡ any_start_text any.now said.now) }
 {
-    let mut cells = String::new(alloc);
-    add_cells(alloc, &mut cells, &any.cells)?;
+    let memories = memories_line(alloc, &any.memories)?;
     let mut spans = String::new(alloc);
     add_spans(alloc, &mut spans, said)?;
-    format!(in alloc; ", any start:{cells} messages none{spans}")
+    format!(in alloc; ", any start:{memories} messages none{spans}")
 }
 
 /// The correct nodes, and that they are all that are loaded if no node runs the clock.
@@ -225,18 +306,30 @@ fn programmed_line(alloc: Global, tried: &Tried) -> Result<String, AllocError>
     format!(in alloc; ", Byzantine{named} (as loaded)")
 }
 
+/// What each node without a program may send.
+fn messages_line(alloc: Global, tried: &Tried) -> Result<String, AllocError>
+    ensures { IfOk result (λ text. string_bytes text ≡ messages_text tried.now.any tried.now.mail.items) }
+{
+    if tried.any {
+        return format!(in alloc; " (any message)");
+    }
+    let mut spans = String::new(alloc);
+    add_spans(alloc, &mut spans, &tried.mail)?;
+    format!(in alloc; " (any message of none{spans})")
+}
+
 /// Those that have none, and what each may send.
 fn liars_line(alloc: Global, tried: &Tried) -> Result<String, AllocError>
-    ensures { IfOk result (λ text. string_bytes text ≡ liars_text tried.now.liars.items tried.now.mail.items) }
+    ensures { IfOk result (λ text. string_bytes text
+        ≡ liars_text tried.now.liars.items tried.now.any tried.now.mail.items) }
 {
     if tried.liars.len() == 0 {
         return Ok(String::new(alloc));
     }
     let mut named = String::new(alloc);
     add_nodes(alloc, &mut named, &tried.liars)?;
-    let mut spans = String::new(alloc);
-    add_spans(alloc, &mut spans, &tried.mail)?;
-    format!(in alloc; ", Byzantine{named} (any message of none{spans})")
+    let messages = messages_line(alloc, tried)?;
+    format!(in alloc; ", Byzantine{named}{messages}")
 }
 
 /// How many nodes are Byzantine.
@@ -329,6 +422,19 @@ fn luck_line(alloc: Global, pulses: u64) -> Result<String, AllocError>
     )
 }
 
+/// That it isn't known how they stabilise, and why.
+fn unknown_line(alloc: Global, memory: bool) -> Result<String, AllocError>
+    ensures { IfOk result (λ text. string_bytes text ≡ recovery_text (Unknown memory)) }
+{
+    if memory {
+        format!(in alloc; "stabilisation not decided: --memory allows no more")
+    } else {
+        format!(in alloc;
+            "stabilisation not decided: a state has more choices of coins than --states allows"
+        )
+    }
+}
+
 /// How the clocks stabilise.
 fn recovery_line(alloc: Global, recovery: &Recovery) -> Result<String, AllocError>
     ensures { IfOk result (λ text. string_bytes text ≡ recovery_text recovery.now) }
@@ -337,9 +443,7 @@ fn recovery_line(alloc: Global, recovery: &Recovery) -> Result<String, AllocErro
         Recovery::InStep { pulses } => in_step_line(alloc, *pulses),
         Recovery::Luck { pulses } => luck_line(alloc, *pulses),
         Recovery::HeldOff { .. } => format!(in alloc; "stabilisation can be prevented for ever"),
-        Recovery::Unknown => format!(in alloc;
-            "stabilisation not decided: a state has more choices of coins than --states allows"
-        ),
+        Recovery::Unknown { memory } => unknown_line(alloc, *memory),
     }
 }
 
@@ -365,6 +469,17 @@ fn last_of(parts: &[u64]) -> (u64, u64)
     }
 }
 
+/// That it isn't known how likely they stabilise, and why.
+fn unknown_odds_line(alloc: Global, memory: bool) -> Result<String, AllocError>
+    ensures { IfOk result (λ text. string_bytes text ≡ odds_text (odds.Unknown memory)) }
+{
+    if memory {
+        format!(in alloc; "odds not decided: --memory allows no more")
+    } else {
+        format!(in alloc; "odds not decided: a state has more choices than --states allows")
+    }
+}
+
 /// How likely they stabilise.
 fn odds_line(alloc: Global, odds: &Odds) -> Result<String, AllocError>
     ensures { IfOk result (λ text. string_bytes text ≡ odds_text odds.now) }
@@ -378,9 +493,7 @@ fn odds_line(alloc: Global, odds: &Odds) -> Result<String, AllocError>
                 "odds: at least {percent} within {pulses} ({share} of {ODDS_WHOLE} parts), whatever the adversary sends"
             )
         }
-        Odds::Unknown => format!(in alloc;
-            "odds not decided: a state has more choices than --states allows"
-        ),
+        Odds::Unknown { memory } => unknown_odds_line(alloc, *memory),
     }
 }
 
@@ -421,11 +534,12 @@ fn cause_line(alloc: Global, cause: Cause) -> Result<String, AllocError>
         ),
         Cause::Pulses => format!(in alloc; "--depth allows no more pulses"),
         Cause::Inboxes => format!(in alloc;
-            "a node has more than {MOST_MAILS} choices of memory and inbox"
+            "a node has more than {MAX_INBOXES} choices of memory and inbox: name fewer with --mail, --said or --cells"
         ),
         Cause::Counterexample => format!(in alloc;
             "agreement is violated, but no counterexample was made"
         ),
+        Cause::Memory => format!(in alloc; "--memory allows no more"),
     }
 }
 
@@ -460,7 +574,7 @@ fn recovery_told(
     recovery: &Option<Recovery>,
 ) -> Result<String, AllocError>
     ensures { IfOk result (λ text. string_bytes text
-        ≡ option_map_or (λ how. marked mark.now (recovery_text how)) recovery.now []) }
+        ≡ told_line mark.now recovery_text recovery.now) }
 {
     match recovery {
         Some(how) => {
@@ -483,7 +597,7 @@ fn odds_lines(alloc: Global, mark: &str, odds: &Odds) -> Result<String, AllocErr
             let second = marked(alloc, mark, line.as_str())?;
             format!(in alloc; "{first}{second}")
         }
-        Odds::Unknown => Ok(first),
+        Odds::Unknown { .. } => Ok(first),
     }
 }
 
@@ -497,22 +611,112 @@ fn odds_told(alloc: Global, mark: &str, odds: &Option<Odds>) -> Result<String, A
     }
 }
 
-/// The line on agreement, and how the clocks stabilise and how likely if that was asked, each behind the mark.
-fn answers_told(
+/// After how many pulses the clocks agree for good.
+fn agreed_line(alloc: Global, pulses: u64) -> Result<String, AllocError>
+    ensures { IfOk result (λ text. string_bytes text ≡ agreed_text pulses) }
+{
+    let pulses = counted(alloc, pulses, "pulse")?;
+    format!(in alloc; "agreement holds after {pulses}")
+}
+
+/// The same behind the mark, if that is told.
+fn agreed_told(alloc: Global, mark: &str, agreed: Option<u64>) -> Result<String, AllocError>
+    ensures { IfOk result (λ text. string_bytes text ≡ told_line mark.now agreed_text agreed) }
+{
+    match agreed {
+        Some(pulses) => {
+            let line = agreed_line(alloc, pulses)?;
+            marked(alloc, mark, line.as_str())
+        }
+        None => Ok(String::new(alloc)),
+    }
+}
+
+/// How the clocks stabilise and after how many pulses they agree, behind the mark, if that is told.
+fn stability_told(
     alloc: Global,
     mark: &str,
-    agreement: &str,
     recovery: &Option<Recovery>,
-    odds: &Option<Odds>,
+    agreed: Option<u64>,
 ) -> Result<String, AllocError>
-    ensures { IfOk result (λ text. string_bytes text ≡ marked mark.now agreement.now
-        ++ (option_map_or (λ how. marked mark.now (recovery_text how)) recovery.now []
-        ++ option_map_or (odds_lines mark.now) odds.now [])) }
+    ensures { IfOk result (λ text. string_bytes text ≡ stability_text mark.now recovery.now agreed) }
 {
-    let first = marked(alloc, mark, agreement)?;
-    let second = recovery_told(alloc, mark, recovery)?;
-    let third = odds_told(alloc, mark, odds)?;
-    format!(in alloc; "{first}{second}{third}")
+    let how = recovery_told(alloc, mark, recovery)?;
+    let agreed = agreed_told(alloc, mark, agreed)?;
+    format!(in alloc; "{how}{agreed}")
+}
+
+/// The last number of pulses whose odds are told.
+fn last_pulses(odds: &Option<Odds>) -> u64
+    ensures { result ≡ last_pulses odds.now }
+{
+    match odds {
+        Some(Odds::Known { parts, .. }) => last_of(parts).0,
+        Some(Odds::Unknown { .. }) | None => 0,
+    }
+}
+
+/// After how many pulses a share has stabilised, if it has after this last number of them.
+fn reach_line(alloc: Global, last: u64, reach: Reach) -> Result<String, AllocError>
+    ensures { IfOk result (λ text. string_bytes text ≡ reach_text last reach) }
+{
+    let Share { parts, of } = reach.share;
+    match reach.pulses {
+        Some(pulses) => {
+            let pulses = counted(alloc, pulses, "pulse")?;
+            format!(in alloc; "reach: at least {parts} of {of} within {pulses}")
+        }
+        None => {
+            let pulses = counted(alloc, last, "pulse")?;
+            format!(in alloc; "reach: less than {parts} of {of} within {pulses}")
+        }
+    }
+}
+
+/// The same behind the mark, if that is told.
+fn reach_told(
+    alloc: Global,
+    mark: &str,
+    last: u64,
+    reach: Option<Reach>,
+) -> Result<String, AllocError>
+    ensures { IfOk result (λ text. string_bytes text ≡ told_line mark.now (reach_text last) reach) }
+{
+    match reach {
+        Some(reach) => {
+            let line = reach_line(alloc, last, reach)?;
+            marked(alloc, mark, line.as_str())
+        }
+        None => Ok(String::new(alloc)),
+    }
+}
+
+/// How likely the clocks stabilise, and when a share of the ways of the coins has, if that was asked.
+fn chances_told(
+    alloc: Global,
+    mark: &str,
+    odds: &Option<Odds>,
+    reach: Option<Reach>,
+) -> Result<String, AllocError>
+    ensures { IfOk result (λ text. string_bytes text ≡ chances_text mark.now odds.now reach) }
+{
+    let lines = odds_told(alloc, mark, odds)?;
+    let reached = reach_told(alloc, mark, last_pulses(odds), reach)?;
+    format!(in alloc; "{lines}{reached}")
+}
+
+/// The line on agreement, behind the mark.
+fn agreement_told(
+    alloc: Global,
+    mark: &str,
+    agrees: bool,
+    states: u64,
+    moves: u64,
+) -> Result<String, AllocError>
+    ensures { IfOk result (λ text. string_bytes text ≡ marked mark.now (agreement_text agrees states moves)) }
+{
+    let line = agreement_line(alloc, agrees, states, moves)?;
+    marked(alloc, mark, line.as_str())
 }
 
 impl Found {
@@ -537,7 +741,7 @@ impl Found {
         if self.shown().len() == 0 { "" } else { "# " }
     }
 
-    /// What was found, in up to four lines, each behind the mark.
+    /// What was found, line by line, each behind the mark.
     fn text(&self, alloc: Global, mark: &str) -> Result<String, AllocError>
         ensures { IfOk result (λ text. string_bytes text ≡ found_text mark.now self.now) }
     {
@@ -546,12 +750,16 @@ impl Found {
                 agrees,
                 states,
                 moves,
+                agreed,
                 recovery,
                 odds,
+                reach,
                 ..
             } => {
-                let line = agreement_line(alloc, *agrees, *states, *moves)?;
-                answers_told(alloc, mark, line.as_str(), recovery, odds)
+                let first = agreement_told(alloc, mark, *agrees, *states, *moves)?;
+                let second = stability_told(alloc, mark, recovery, *agreed)?;
+                let third = chances_told(alloc, mark, odds, *reach)?;
+                format!(in alloc; "{first}{second}{third}")
             }
             Found::Parts { pulse, states, .. } => {
                 let line = violation_line(alloc, *pulse, *states)?;

@@ -3,12 +3,21 @@
 
 mod exploring;
 mod finding;
+mod fit;
+mod graph_text;
 mod laws;
 mod options;
+mod reached;
 mod shown;
+mod table;
 
 pub use bench_space::Question;
-pub use exploring::{finding_on, unfit_of};
-pub use finding::{Finding, Found, Tried, Unfit};
+pub use exploring::finding_on;
+pub use finding::{Finding, Found, Reach, Tried, Unfit};
+pub use fit::unfit_of;
 pub use laws::{rules_explored, rules_move};
-pub use options::{AnyStart, ByteSpan, Cells, ExploreOptions, MailSpan};
+pub use options::{
+    AnyStart, ByteSpan, Cells, ExploreOptions, Form, GraphFormat, Mail, MailSpan, Memories, Share,
+    Starts,
+};
+pub use table::odds_table;

@@ -43,3 +43,24 @@ returns-in-Byte g = record {
   one_line = refl;
   line_is = refl;
 }
+
+pub returns-in-Image : goal.returns-in-Image
+returns-in-Image g = record {
+  words = codes "--images has a memory of another length: each has two digits for each byte of `memory`";
+  one_line = refl;
+  line_is = refl;
+}
+
+pub returns-in-AnyMessage : goal.returns-in-AnyMessage
+returns-in-AnyMessage g = record {
+  words = codes "--mail all needs loads of the rule's clock alone: name numbers, as --mail 0..8";
+  one_line = refl;
+  line_is = refl;
+}
+
+pub returns-in-NoLaw : goal.returns-in-NoLaw
+returns-in-NoLaw g = record {
+  words = codes "--start every needs loads of the rule's clock alone and `memory = 8`: use --start any --cells";
+  one_line = refl;
+  line_is = refl;
+}

@@ -1,8 +1,0 @@
-use Rattle.std.proofs.Common.{rules}
-use Rattle.commands.proofs.ExplainLemmas.{read_told}
-use Rattle.commands.proofs.explanation.told_of_read.Goals as goal
-
-pub returns-clause-told : goal.returns-clause-told
-returns-clause-told c =
-    read_told c.args.options c.args.read.now.bytes.items _ c.args.read.now.program c.told_of_program.result
-    (search rules) c.told_of_program.ensures.told
