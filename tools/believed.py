@@ -3,7 +3,7 @@
 
     tools/believed.py [--list] [NAME ..]
 
-With --list it prints each definition that they reach, with its file and line. With no names, those of the clauses `headline` and `replays` (theorem 1 of docs/THEOREMS.md), and once more with that of
+A NAME that several crates define is written CRATE.NAME. With --list it prints each definition that they reach, with its file and line. With no names, those of the clauses `headline` and `replays` (theorem 1 of docs/THEOREMS.md), and once more with that of
 the clause `accepted`. A definition is a paragraph of a file of specs/, with its comment; specs/inner/ is cited by proofs
 and private contracts alone, and counted apart.
 """
@@ -57,9 +57,16 @@ def modules():
     return read
 
 
+def defined(read, name):
+    """Where a name is defined, as (module, name): NAME in all crates, CRATE.NAME in one of them."""
+    crate, _, bare = name.rpartition(".")
+    within = f"Rattle.{crate}." if crate else ""
+    return [(it, bare) for it in read if it.startswith(within) and bare in read[it].definitions]
+
+
 def reached(read, names):
     """Each definition that these names reach: its file, its name and its lines."""
-    found, open_ones = {}, [(module, name) for name in names for module in read if name in read[module].definitions]
+    found, open_ones = {}, [it for name in names for it in defined(read, name)]
     while open_ones:
         module, name = open_ones.pop()
         if module not in read or name not in read[module].definitions:

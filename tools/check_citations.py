@@ -11,7 +11,7 @@ import re
 import sys
 
 sys.dont_write_bytecode = True
-from believed import ACCEPTED, HEADLINE, believed_lines, modules, reached_lines
+from believed import ACCEPTED, HEADLINE, believed_lines, defined, modules, reached_lines
 from built_program import TOP
 from toolchain import toolchain_here
 
@@ -173,9 +173,9 @@ def count_faults():
 
 def name_faults():
     """Names that a page gives to tools/believed.py, and that no definition has."""
-    known = {name for module in modules().values() for name in module.definitions}
+    read = modules()
     for names in sorted(counted_names()):
-        for name in sorted(set(names.split()) - known):
+        for name in sorted(it for it in set(names.split()) if not defined(read, it)):
             yield f"tools/believed.py {names}: no definition is {name}"
 
 

@@ -25,6 +25,16 @@ def text(name):
 IMAGE = text("examples/seven.bpf")
 PARTED, AGREED, SEEDED = text("examples/splitter_of_three.toml"), text("examples/four_clocks.toml"), text("examples/chacha.toml")
 THREE = text("examples/explore/three_nodes.toml")
+COUNTING = b"""version = 4
+nodes = 4
+faults = 1
+modulus = 2
+memory = 8
+pulses = 10
+coins = "zeros"
+rule = "clock = (clock + 1) % M"
+load = [{pulse = 1, nodes = [0, 1, 2, 3], program = "clock"}]
+"""
 OWN = b"mov64 r0, 7\nexit\n"
 RULE = text("examples/rules/clock.rule")
 WORDS = b"state a, b, c, d\nd = clock\nsend d\n"
@@ -82,6 +92,10 @@ ROWS = {
     ("explore", "depth"): ([], THREE, "2"),
     ("explore", "odds"): (["--ask", "stabilisation"], THREE, "2"),
     ("explore", "json"): ([], THREE, None),
+    ("explore", "images"): (["--start", "any"], THREE, "0500000000000000"),
+    ("explore", "memory"): (["--ask", "stabilisation", "--start", "any", "--cells", "0=0,1,4..6=0,1"], COUNTING, "1"),
+    ("explore", "reach"): (["--ask", "stabilisation", "--odds", "8"], THREE, "1/2"),
+    ("explore", "graph"): (["--ask", "stabilisation"], THREE, "tra"),
 }
 
 

@@ -392,6 +392,8 @@ class Lab:
             words += ["--start=any", f"--bytes={text(body, 'bytes', '[0-9.,]+')}"]
         elif "cells" in body:
             words += ["--start=any", f"--cells={text(body, 'cells', '[0-9.,=]+')}"]
+        elif "start" in body:
+            words.append(f"--start={text(body, 'start', 'every')}")
         return self.asked(words, body, self.search_seconds, is_gone).told()
 
     def sweep(self, body, is_gone):

@@ -250,7 +250,7 @@ def slow_question(lab):
 
 def explored(nodes):
     faults = (nodes - 1) // 3
-    numbers = f'nodes = {nodes}\nfaults = {faults}\nmodulus = 2000\nmemory = 8\npulses = 10\ncoins = "zeros"\n'
+    numbers = f'nodes = {nodes}\nfaults = {faults}\nmodulus = 60000\nmemory = 8\npulses = 10\ncoins = "zeros"\n'
     return f'{numbers}\n[[load]]\npulse = 1\nnodes = {list(range(nodes - faults))}\nprogram = "clock"\n'
 
 
@@ -715,7 +715,7 @@ def try_exploration(trial, page):
     page.click("#explore-tab")
     page.open(
         explored(4).replace("nodes = 4", "nodes = 3").replace("[0, 1, 2]", "[0, 1]").replace(
-            "modulus = 2000", "modulus = 8"
+            "modulus = 60000", "modulus = 8"
         ),
     )
     page.click("#explore")
@@ -748,8 +748,18 @@ def try_counter(trial, page):
     shown = "document.getElementById('explored').textContent.includes('stabilises within 7 pulses')"
     trial.holds("the counter's stabilisation time", page.until(shown), page.text("#explored"))
     page.choose("#question", "both")
+    try_every_start(trial, page)
     page.choose("#start", "zero")
     try_odds(trial, page)
+
+
+def try_every_start(trial, page):
+    """All memories and all messages of the rule's clocks."""
+    page.open((TOP / "examples/explore/four_nodes.toml").read_text(encoding="utf-8"))
+    page.choose("#start", "every")
+    page.click("#explore")
+    shown = "document.getElementById('explored').textContent.includes('730 states')"
+    trial.holds("every start", page.until(shown), page.text("#explored"))
 
 
 def try_odds(trial, page):
@@ -770,7 +780,7 @@ def try_odds(trial, page):
 def held_off():
     """A clock of one's own that counts by two, so that it never synchronises."""
     clock = "ldxw r7, [r1+0]\nadd64 r7, 2\nmod64 r7, 4\nstxw [r1+0], r7\nmov64 r0, 0\nexit\n"
-    head = explored(4).replace("nodes = 4", "version = 3\nnodes = 3").replace("modulus = 2000", "modulus = 4")
+    head = explored(4).replace("nodes = 4", "version = 3\nnodes = 3").replace("modulus = 60000", "modulus = 4")
     return head.replace("\n\n", f"\nclock = '''\n{clock}'''\n\n", 1).replace("[0, 1, 2]", "[0, 1]")
 
 

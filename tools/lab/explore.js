@@ -71,6 +71,7 @@ function options() {
     const bytes = get("start-bytes").value.replace(/\s+/g, "");
     asked[bytes.includes("=") ? "cells" : "bytes"] = bytes;
   }
+  if (get("start").value === "every") asked.start = "every";
   return asked;
 }
 
