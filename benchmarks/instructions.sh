@@ -37,7 +37,7 @@ echo "the verifier, a slot"
 for image in straight-64 straight-1024 branchy-64 branchy-1024 clock-55 clock-251 spills-64 spills-1024; do
   printf '%s: ' "$image"
   driver=$folder/verify/crates/verify_driver/out/verify_driver
-  count "$folder/verify/$image.bpf" 20 60 "${image##*-}" verify "$driver {}" judge "$driver {} judge" \
+  count "$folder/verify/$image.bpf" 20 60 "${image##*-}" verify "$driver {}" check "$driver {} check" \
     c "$folder/verify/in_c --nodes 32 --rounds {}"
 done
 

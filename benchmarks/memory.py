@@ -11,7 +11,7 @@ import tempfile
 import time
 
 TOP = os.path.dirname(os.path.dirname(os.path.abspath(__file__)))
-MOST_TEXT = 1 << 20
+MAX_TEXT = 1 << 20
 HEAD = """version = 2
 nodes = 64
 faults = 21
@@ -32,7 +32,7 @@ PROGRAMS = {
 
 def text_of(program):
     load = f"[[load]]\npulse = 1\nnodes = []\n{program}\n"
-    count = (MOST_TEXT - len(HEAD)) // len(load)
+    count = (MAX_TEXT - len(HEAD)) // len(load)
     return HEAD + load * count, count
 
 

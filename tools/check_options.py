@@ -12,7 +12,7 @@ import sys
 sys.dont_write_bytecode = True
 from built_program import TOP, answer, named_program, tell
 
-COMMANDS = ["exec", "asm", "compile", "dis", "verify", "run", "stress", "sweep", "explore"]
+COMMAND = re.compile(r"^  ([a-z]+) +\S", re.M)
 OPTION = re.compile(r"^ {6}--([a-z]+)(?: <([^>]+)>)? +(.*)$", re.M)
 RANGE = re.compile(r"\[(\d+)\.\.(?:=(\d+))?(?:, multiple of \d+)?; (?:default: (\w+)|required)")
 MANY = 2**32
@@ -99,6 +99,11 @@ ROWS = {
 }
 
 
+def commands_of(program):
+    """The commands that the help names, without `help` itself."""
+    return [name for name in COMMAND.findall(answer(program, ["--help"], b"").out.decode()) if name != "help"]
+
+
 def options_of(program, command):
     """By name: the range of the option, if it has one."""
     told = answer(program, [command, "--help"], b"").out.decode()
@@ -154,7 +159,7 @@ def try_range(tried, command, name, row, found):
 
 def main():
     tried = Tried(named_program())
-    options = {(command, name): found for command in COMMANDS for name, found in options_of(tried.program, command).items()}
+    options = {(command, name): found for command in commands_of(tried.program) for name, found in options_of(tried.program, command).items()}
     for key in options.keys() ^ ROWS.keys():
         tried.must(False, f"{' --'.join(key)}: {'has no row' if key in options else 'is no option'}")
     for (command, name), found in options.items():

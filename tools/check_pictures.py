@@ -17,7 +17,7 @@ from readings import read_run
 
 SVG = "{http://www.w3.org/2000/svg}"
 CLOCKS = [*COLOURS, PALE]
-MOST_RECTANGLES, MOST_BYTES = 20_000, 2 << 20
+MAX_RECTANGLES, MAX_BYTES = 20_000, 2 << 20
 TOP = 'nodes = 64\nfaults = 21\nmemory = 8\npulses = 1000\ncoins = "ones"\n'
 RESTLESS = """
         mov64 r7, r2            # each node by itself, and no two pulses alike
@@ -111,9 +111,9 @@ def faults_of(text, least_part, least_colours):
     rectangles = sum(1 for _ in picture.iter(SVG + "rect"))
     greatest = max(area.values(), default=0) / (sum(area.values()) or 1)
     print(f"{rectangles} rectangles, {len(text)} bytes, {len(area)} colours, {greatest:.0%} in the commonest")
-    if rectangles >= MOST_RECTANGLES:
+    if rectangles >= MAX_RECTANGLES:
         yield f"{rectangles} rectangles"
-    if len(text.encode()) >= MOST_BYTES:
+    if len(text.encode()) >= MAX_BYTES:
         yield f"{len(text.encode())} bytes"
     if least_frame(picture) < LEAST_FRAME:
         yield f"a frame of {least_frame(picture)}"

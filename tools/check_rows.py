@@ -20,7 +20,7 @@ COMMENT = "#### "
 REPEATED = re.compile(r"^\\ (\d+) times: (.*\n)", re.M)
 NO_LAST_LF = "\n\\ no LF at the end\n"
 ANY = b"..."
-MOST_SHOWN = 400
+MAX_SHOWN = 400
 
 
 @dataclasses.dataclass
@@ -149,7 +149,7 @@ def is_wanted(wanted, got):
 
 
 def shown(it):
-    return f"status {it.status}, output {it.out[:MOST_SHOWN]!r}, errors {it.err[:MOST_SHOWN]!r}"
+    return f"status {it.status}, output {it.out[:MAX_SHOWN]!r}, errors {it.err[:MAX_SHOWN]!r}"
 
 
 def rows_of(path, wanted=""):

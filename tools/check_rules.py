@@ -12,7 +12,7 @@ import sys
 
 sys.dont_write_bytecode = True
 from built_program import TOP, answer, named_program, on_all_processors, tell
-from rule_meaning import MOST_FRAMES, Refused, Reader, pulse
+from rule_meaning import MAX_FRAMES, Refused, Reader, pulse
 
 SEED, DRAWN, FAULTY, CASES = 9669, 300, 400, 3
 NODES = (1, 4, 7)
@@ -159,7 +159,7 @@ def text_fault(program, row):
 
 def main():
     program, dice = named_program(), random.Random(SEED)
-    sys.setrecursionlimit(MOST_FRAMES)
+    sys.setrecursionlimit(MAX_FRAMES)
     rules = [*samples(), *(Drawing(dice).rule() for _ in range(DRAWN))]
     texts = [spoiled(dice, dice.choice(rules)) for _ in range(FAULTY)]
     numbered = [(text, number) for number, text in enumerate(rules)]

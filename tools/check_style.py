@@ -15,8 +15,8 @@ import sys
 from built_program import TOP
 
 PAGES = [*sorted(TOP.glob("*.md")), *sorted(TOP.glob("*/*.md"))]
-MOST_WORDS = 25
-MOST_TURNS = 1.0
+MAX_WORDS = 25
+MAX_TURNS = 1.0
 
 # turns of phrase: how they read, and the plain way; ^ is the beginning of a sentence
 TURNS = {
@@ -120,7 +120,7 @@ class Page:
             words = len(WORD.findall(sentence))
             self.words += words
             self.turns += [(number, turn, instead) for turn, instead in turns_in(self.name, sentence)]
-            if words > MOST_WORDS:
+            if words > MAX_WORDS:
                 self.long.append((number, words, sentence))
 
     def rate(self):
@@ -147,9 +147,9 @@ def main():
             print(f"  {find}")
     if "--limit" not in words:
         return 0
-    over = [it.name for it in pages if it.rate() > MOST_TURNS]
+    over = [it.name for it in pages if it.rate() > MAX_TURNS]
     for name in over:
-        print(f"check_style: {name} has more than {MOST_TURNS:g} turn in 1,000 words")
+        print(f"check_style: {name} has more than {MAX_TURNS:g} turn in 1,000 words")
     return 1 if over or not pages else 0
 
 

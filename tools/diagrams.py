@@ -689,7 +689,7 @@ PARTS = (
     ("check_pages.sh", "pages, archive", "every command line, the archive alone, pictures, the lab", BLUE),
     ("refusals.py memory", "failures", "memory, threads and streams fail, one request after the other", ORANGE),
 )
-PART_HIGH, SCRIPT_LEFT, MOST_LETTERS = 76, 190, 84
+PART_HIGH, SCRIPT_LEFT, MAX_LETTERS = 76, 190, 84
 
 
 def parts_of_gate():
@@ -704,7 +704,7 @@ def script_lines(steps):
     lines = [""]
     for step in steps:
         name = re.sub(r' "\$.*|\.(py|sh)\b', "", step)
-        if len(lines[-1]) + len(name) > MOST_LETTERS:
+        if len(lines[-1]) + len(name) > MAX_LETTERS:
             lines.append("")
         lines[-1] += f", {name}" if lines[-1] else name
     return lines

@@ -33,7 +33,7 @@ load = [{pulse = 1, nodes = [0, 1], program = "clock"}]
 """
 CHACHA = contents("examples/chacha.toml")
 LIMIT = 1 << 20
-MOST_IMAGE = 8 * 2048
+MAX_IMAGE = 8 * 2048
 FAULT, REFUSED, VIOLATED = 1, 2, 3
 READ_FAULT = b"fault read\n"
 
@@ -212,9 +212,9 @@ def bound_checks(clockbed):
     """How often `read` is called, where each call gives a byte."""
     long_image, long_text = b"refused image TooLong\n", b"refused scenario TooLong\n"
     rows = [
-        ("exec", (REFUSED, long_image, MOST_IMAGE + 1)),
-        ("verify", (REFUSED, long_image, MOST_IMAGE + 1)),
-        ("dis", (REFUSED, long_image, MOST_IMAGE + 1)),
+        ("exec", (REFUSED, long_image, MAX_IMAGE + 1)),
+        ("verify", (REFUSED, long_image, MAX_IMAGE + 1)),
+        ("dis", (REFUSED, long_image, MAX_IMAGE + 1)),
         ("asm", (FAULT, b"", LIMIT + 1)),
         ("run", (REFUSED, long_text, LIMIT + 1)),
         ("sweep --keys 7..8", (REFUSED, long_text, LIMIT + 1)),

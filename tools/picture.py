@@ -14,9 +14,9 @@ from typing import List, NamedTuple
 sys.dont_write_bytecode = True
 from readings import PAST, UNTOLD, NoReport, contradicts, read_run
 
-MOST_CELLS_ALONE = 40
+MAX_CELLS_ALONE = 40
 # With more shapes and marks than this all cells of one colour are drawn as one, and nothing has a title.
-MOST_TITLES = 6000
+MAX_TITLES = 6000
 LEAST_FRAME, LEAST_NUMBER, WIDEST = 8, 18, 1200
 TOP, BAR, LINE, NAMES = 54, 6, 16, 54
 PALE, INK, RED, BLANK, GREY = "#fbf3d9", "#222222", "#c8102e", "#ffffff", "#666666"
@@ -359,7 +359,7 @@ def draw_key(run, looks, phases, y):
 
 def draw_cells(run, sheet, found, told):
     marks = sum(len(staged(pulse)) for pulse in run.pulses)
-    has_titles = len(found) + marks <= MOST_TITLES
+    has_titles = len(found) + marks <= MAX_TITLES
     cells = [part for shape in found for part in draw_shape(run, sheet, shape, told)] if has_titles else []
     return [
         *(cells or draw_alike(sheet, found)),
@@ -370,13 +370,13 @@ def draw_cells(run, sheet, found, told):
 
 def sheet_for(run, told):
     count = len(run.pulses)
-    wide = 30 if count <= MOST_CELLS_ALONE else max(1, WIDEST // count)
+    wide = 30 if count <= MAX_CELLS_ALONE else max(1, WIDEST // count)
     longest = max(len(in_turn(it)) for it in told)
     return Sheet(math.ceil(NAMES + longest * 5.4 + 8), wide, 26 if run.nodes <= 16 else 13)
 
 
 def draw(run, is_phase):
-    phases = phase_colours(run) if is_phase or len(run.pulses) > MOST_CELLS_ALONE else None
+    phases = phase_colours(run) if is_phase or len(run.pulses) > MAX_CELLS_ALONE else None
     told = names(run)
     sheet = sheet_for(run, told)
     found = shapes(run, phases)

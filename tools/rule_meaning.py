@@ -15,9 +15,9 @@ import sys
 WORDS = "state let if elif else for count send to and or not mail n f M me coin none clock table sorted".split()
 TOKEN = re.compile(rb"(?P<number>[0-9]+)|(?P<name>[A-Za-z_][A-Za-z0-9_]*)|(?P<sign>==|!=|<=|>=|[-+*/%<>=,:()\[\]])")
 NONE, LIMIT = 2**32 - 1, 2**32
-MOST_LETTERS, MOST_PARTS, MOST_NAMES, MOST_LINES, MOST_TOKENS = 32, 200, 200, 512, 1000
+MAX_LETTERS, MAX_PARTS, MAX_NAMES, MAX_LINES, MAX_TOKENS = 32, 200, 200, 512, 1000
 # Frames of a reader that is as deep as a rule may be.
-MOST_FRAMES = 20_000
+MAX_FRAMES = 20_000
 FIXED = ("n", "f", "M", "me", "coin", "none")
 DEEPER = {"(": 1, "[": 1, ")": -1, "]": -1}
 COMPARISONS = {
@@ -71,14 +71,14 @@ def sound_tokens(text):
             place = found[0].place
             if lines:
                 yield Token("end", "end of line", place)
-            if lines == MOST_LINES or code[column : column + 1] in b"\t\r":
+            if lines == MAX_LINES or code[column : column + 1] in b"\t\r":
                 raise Refused("TooLong" if code[column : column + 1] not in b"\t\r" else "BadIndent", place)
             yield from indented(columns, column, place, not lines)
             lines, count = lines + 1, 0
         for token in found:
             if token.kind == "fault":
                 raise Refused(token.text, token.place)
-            if count == MOST_TOKENS:
+            if count == MAX_TOKENS:
                 raise Refused("TooLong", token.place)
             depth, count = max(depth + DEEPER.get(token.text, 0), 0), count + 1
             yield token
@@ -121,7 +121,7 @@ def token_at(code, at, place):
     if not found:
         raise Refused("BadCharacter", place)
     kind, text = found.lastgroup, found[0].decode()
-    if kind == "number" and int(text) >= LIMIT or kind == "name" and len(text) > MOST_LETTERS:
+    if kind == "number" and int(text) >= LIMIT or kind == "name" and len(text) > MAX_LETTERS:
         raise Refused("OutOfRange", place)
     if kind == "name" and code[at - 1 : at].isdigit():
         raise Refused("BadCharacter", place)
@@ -166,7 +166,7 @@ class Reader:
     def within(self, read):
         """Reads a part that is inside another one."""
         self.parts += 1
-        if self.parts > MOST_PARTS:
+        if self.parts > MAX_PARTS:
             raise Refused("TooDeep", self.now.place)
         found = read()
         self.parts -= 1
@@ -180,7 +180,7 @@ class Reader:
             raise unexpected(token)
         if token.text in self.names:
             raise Refused("NameTwice", token.place)
-        if len(self.names) > MOST_NAMES:
+        if len(self.names) > MAX_NAMES:
             raise Refused("TooDeep", token.place)
         return token.text
 
@@ -237,7 +237,7 @@ class Reader:
             raise Refused("Expected", self.now.place)
         self.expect_kind("in")
         self.blocks += 1
-        if self.blocks > MOST_PARTS:
+        if self.blocks > MAX_PARTS:
             raise Refused("TooDeep", self.now.place)
         act = self.statements_to("out")
         self.blocks -= 1
@@ -489,7 +489,7 @@ def options_of(words):
 
 def main(words):
     options = options_of(words)
-    sys.setrecursionlimit(MOST_FRAMES)
+    sys.setrecursionlimit(MAX_FRAMES)
     mail = [None if it == "-" else int(it) for it in options.mail.split(",") if it] or [None] * options.nodes
     if len(mail) != options.nodes:
         sys.exit("rule_meaning: --mail needs a number or - for each node")

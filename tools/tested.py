@@ -26,7 +26,7 @@ FOLDER = "tested"
 FINDS = "found by: "
 PROGRAM = "out/unproved/clockbed"
 ENDED = re.compile(r"^run=ended\b", re.M)
-MOST_SHOWN = 160
+MAX_SHOWN = 160
 
 
 class Unbuilt(Exception):
@@ -76,7 +76,7 @@ class Copy:
         if not path.exists():
             said = self.run(["./clockbed", "--version"])[1]
             if not path.exists():
-                raise Unbuilt(first_error(said)[:MOST_SHOWN])
+                raise Unbuilt(first_error(said)[:MAX_SHOWN])
         return str(path)
 
     def fails(self, command):
@@ -84,7 +84,7 @@ class Copy:
         if is_of_tests(command):
             status, said = self.run(["rt", "try", "--test"], f"crates/{command[2]}")
             if status and not ENDED.search(said):
-                raise Unbuilt(first_error(said)[:MOST_SHOWN])
+                raise Unbuilt(first_error(said)[:MAX_SHOWN])
         else:
             path = self.program()
             status, said = self.run([command[0], path, *command[1:]], CLOCKBED_PROGRAM=path)
@@ -95,7 +95,7 @@ def first_line(said, word=""):
     """The first line with a word, or the first one that isn't empty."""
     lines = [line for line in said.splitlines() if line.strip()]
     lines = [line for line in lines if word in line] or lines
-    return lines[0][:MOST_SHOWN] if lines else "nothing was said"
+    return lines[0][:MAX_SHOWN] if lines else "nothing was said"
 
 
 class Trial:

@@ -7,7 +7,7 @@ use Rattle.bpf_verify.specs.Accepted.{Accepted, IsVerified}
 use Rattle.bench_core.specs.Setup.{Setup}
 use Rattle.bench_core.specs.State.{Node, Change, Load, Unload, Corrupt, State, no_node, node_at, new_node, new_state, applied, all_applied}
 use Rattle.bench_core.specs.Pulse.{Pulse}
-use Rattle.bench_core.specs.Replay.{Entry, Staged, Opened, Closed, Abandoned, LoadsAccepted, StagesAccepted, Step, Leads, Replays}
+use Rattle.bench_core.specs.Replay.{Entry, Staged, Opened, Closed, Abandoned, LoadsAccepted, StagesAccepted, Step, LeadsByEntries, Replays}
 
 abbrev RunsAccepted : Node → Type 0
 RunsAccepted x = IfSome x.program IsVerified
@@ -65,7 +65,7 @@ accepted_step s b Abandoned b' is has h =
     subst HasAccepted (sym h.1) (record { nodes = has.nodes; staged = has.staged })
 
 accepted_run : (s : Setup) (b : State) (es : List Entry) (b' : State) → All StagesAccepted es → HasAccepted b
-    → Leads s b es b' → HasAccepted b'
+    → LeadsByEntries s b es b' → HasAccepted b'
 accepted_run s b [] b' are has h = subst HasAccepted (sym h) has
 accepted_run s b (e ∷ es) b' are has h =
     accepted_run s h.0 es b' (All-tail StagesAccepted e es are)

@@ -13,7 +13,7 @@ use Rattle.bench_core.specs.State.{Node, State, new_state, no_node, node_at, mai
 use Rattle.node_env.specs.Env.{inbox_of}
 use Rattle.bench_core.specs.Pulse.{Pulse}
 use Rattle.bench_core.specs.Settled.{settled_flags, settled_clocks, clocks_where, moving_clocks, value_of}
-use Rattle.bench_core.specs.Replay.{Entry, Staged, Opened, Closed, Abandoned, Leads}
+use Rattle.bench_core.specs.Replay.{Entry, Staged, Opened, Closed, Abandoned, LeadsByEntries}
 use Rattle.bench_core.specs.StepList.{entries_of}
 use Rattle.bench_core.specs.Laws.{ClocksAgree, StepsAgree, PairMovesOn, RuleClockBelow, ran_to_pair, IsQuiet}
 use Rattle.bench_core.proofs.Counting.{came, support_came, two_values, enough_came, some_passes}
@@ -135,7 +135,7 @@ rule_clock_below s history b b' i ok own replay p lt marked =
 -- ---- the pair moves on
 
 -- entries that close no pulse keep the mail
-quiet_mail : (s : Setup) (b : State) (es : List Entry) (c : State) → Leads s b es c → All IsQuiet es → c.mail ≡ b.mail
+quiet_mail : (s : Setup) (b : State) (es : List Entry) (c : State) → LeadsByEntries s b es c → All IsQuiet es → c.mail ≡ b.mail
 quiet_mail s b [] c h quiet = ap (λ (x : State). x.mail) h
 quiet_mail s b (Staged actor change ∷ es) c h quiet = quiet_mail s h.0 es c h.2 (All-tail IsQuiet _ es quiet)
     ∙ ap (λ (x : State). x.mail) h.1.1

@@ -13,8 +13,8 @@ use Rattle.bpf_insn.specs.declared.forms.Insn.{Insn}
 use Rattle.bpf_machine.specs.Run.{CompleteRun, End}
 use Rattle.bpf_machine.proofs.OneRun.{one_complete_run}
 use Rattle.bpf_verify.specs.Accepted.{Accepted}
-use Rattle.clock_nodes.specs.declared.rule.TheConstants.{MOST_MODULUS}
-use Rattle.bench_core.specs.declared.limits.TheConstants.{MOST_ENTRIES, MOST_PULSES, CLOCKS_DIFFER}
+use Rattle.clock_nodes.specs.declared.rule.TheConstants.{MAX_MODULUS}
+use Rattle.bench_core.specs.declared.limits.TheConstants.{MAX_ENTRIES, MAX_BENCH_PULSES, CLOCKS_DIFFER}
 use Rattle.bench_core.specs.declared.bench.Bench.TheInside.{Inside}
 use Rattle.bench_core.specs.declared.entry.Entry.TheVariants.{Closed}
 use Rattle.bench_core.specs.Setup.{Setup, IsSetup}
@@ -161,21 +161,21 @@ enough_memory s b ok sound =
 
 pub small_clocks : (s : Setup) (b b' : State) (marks : List Bool) → IsSetup s → Sound s b → Pulse s b b'
     → marks ≡ map (λ x. x.mark) b.nodes
-    → All (λ c. c < MOST_MODULUS) (clocks_where s.modulus (both_marked marks b'.nodes) b'.nodes)
+    → All (λ c. c < MAX_MODULUS) (clocks_where s.modulus (both_marked marks b'.nodes) b'.nodes)
 small_clocks s b b' marks ok sound p e =
     let same : both_marked marks b'.nodes ≡ settled_flags b.nodes b'.nodes = ap (λ ms. both_marked ms b'.nodes) e
     ∙ both_settled b.nodes b'.nodes in
-    subst (λ flags. All (λ c. c < MOST_MODULUS) (clocks_where s.modulus flags b'.nodes)) (sym same)
+    subst (λ flags. All (λ c. c < MAX_MODULUS) (clocks_where s.modulus flags b'.nodes)) (sym same)
     (clocks_small s b b' ok sound p)
 
 -- the history keeps a place for the end of an open pulse
-pub place_left : (b : BenchValue) → IsSome b.state.coins → places_of b ≤ MOST_ENTRIES → length b.history < MOST_ENTRIES
+pub place_left : (b : BenchValue) → IsSome b.state.coins → places_of b ≤ MAX_ENTRIES → length b.history < MAX_ENTRIES
 place_left b is_open h =
     let one : ◌≡◌ {A = ℕ} (cond (is_some b.state.coins) 1 0) 1 = ap (λ (o : Bool). cond o 1 0) is_open in
     omega (arith, h, one)
 
 pub few_pulses : (b : BenchValue) (b' : State) → IsSetup b.setup → Replays b.setup b.history b.state
-    → places_of b ≤ MOST_ENTRIES → Pulse b.setup b.state b' → b.state.closed + 1 ≤ MOST_PULSES
+    → places_of b ≤ MAX_ENTRIES → Pulse b.setup b.state b' → b.state.closed + 1 ≤ MAX_BENCH_PULSES
 few_pulses b b' ok replays limit p =
     let row = rows_fit b.setup b.history b.state b' ok replays p (place_left b (ap is_some p.is_open) limit) in
     omega (arith, row.last, p.closed)

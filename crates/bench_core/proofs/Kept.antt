@@ -4,7 +4,7 @@ use Rattle.std.specs.Prelude.{option_map}
 use Rattle.std.specs.declared.alloc.Global.{Global}
 use Rattle.std.proofs.lemmas.List.{append-nil, map_push, length-map}
 use Rattle.std.proofs.lemmas.List.Elements.{All-push}
-use Rattle.bench_core.specs.declared.limits.TheConstants.{MOST_ENTRIES}
+use Rattle.bench_core.specs.declared.limits.TheConstants.{MAX_ENTRIES}
 use Rattle.bench_core.specs.declared.actor.Actor.{Actor}
 use Rattle.bench_core.specs.declared.bench.Bench.TheInside.{Inside}
 use Rattle.bench_core.specs.declared.change.Change.{Change}
@@ -43,7 +43,7 @@ pub kept_step : (b b' : Inside) (e : EntryValue) → IsKept b → StagesAccepted
     → KnowsFirsts b'.nodes.items b'.firsts.items → length b'.spare ≡ b'.shape.nodes
     → b'.opened ≡ b.opened + openings (e ∷ []) → (IsSome b'.coins → 1 ≤ b'.opened)
     → b'.staged_from ≤ length b'.history.items
-    → places_of (view_of b') ≤ MOST_ENTRIES → places_of (view_of b') ≤ vec_capacity b'.history → IsKept b'
+    → places_of (view_of b') ≤ MAX_ENTRIES → places_of (view_of b') ≤ vec_capacity b'.history → IsKept b'
 kept_step b b' e kept accepted step same flags firsts spare opened counted staged limit room =
     record {
       replays = advances_replay (view_of b) (view_of b') e kept.replays step;

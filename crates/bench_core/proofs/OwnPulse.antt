@@ -13,8 +13,8 @@ use Rattle.bench_core.specs.Setup.{Setup, rule_of}
 use Rattle.bench_core.specs.State.{Node, State, new_state, node_at, mail_from, setting_at}
 use Rattle.bench_core.specs.Pulse.{RunsClock, Runs, Rests, NodePulse, Pulse}
 use Rattle.bench_core.specs.Told.{row_of}
-use Rattle.bench_core.specs.Replay.{Entry, Closed, Leads, Replays}
-use Rattle.bench_core.specs.Laws.{OnlyItsOwn, OnlyItsOwnFor, SameNode, PairMovesOnFor, SharePair, IsIn, ran_to_pair, coin_at}
+use Rattle.bench_core.specs.Replay.{Entry, Closed, LeadsByEntries, Replays}
+use Rattle.bench_core.specs.Laws.{OnlyItsOwn, OnlyItsOwnFor, SameNode, PairMovesOnFor, SharePair, IsIn, ran_to_pair, node_coin}
 use Rattle.bench_core.proofs.Replays.{one_node, run_push}
 use Rattle.bench_core.proofs.Counting.{unit_of, count_cons}
 use Rattle.bench_core.proofs.Sound.{Sound, sound_replay, sound_pulse, ran_pulse}
@@ -41,9 +41,9 @@ only_its_own s b b' c c' i h g inbox coin lt below program memory =
     let env = setting_at s b.mail h.coins i in
     let mine = h.each i lt in
     let other = g.each i below in
-    let hcoin : coin_at b i ≡ slice_index h.coins i = ap
+    let hcoin : node_coin b i ≡ slice_index h.coins i = ap
     (λ (o : Option (List ℕ)). slice_index (unwrap_or o []) i) h.is_open in
-    let gcoin : coin_at c i ≡ slice_index g.coins i = ap
+    let gcoin : node_coin c i ≡ slice_index g.coins i = ap
     (λ (o : Option (List ℕ)). slice_index (unwrap_or o []) i) g.is_open in
     let same_coin : slice_index g.coins i ≡ slice_index h.coins i = sym gcoin ∙ (coin ∙ hcoin) in
     let same_env : setting_at s c.mail g.coins i ≡ env = ap
@@ -78,9 +78,9 @@ only_its_own_for s i (suc k) b b' c c' same h =
 
 -- ---- a shared pair for any number of pulses
 
-run_append : (s : Setup) (b : State) (es fs : List Entry) (mid b' : State) → Leads s b es mid → Leads s mid fs b'
-    → Leads s b (es ++ fs) b'
-run_append s b [] fs mid b' h g = subst (λ (x : State). Leads s x fs b') h g
+run_append : (s : Setup) (b : State) (es fs : List Entry) (mid b' : State) → LeadsByEntries s b es mid → LeadsByEntries s mid fs b'
+    → LeadsByEntries s b (es ++ fs) b'
+run_append s b [] fs mid b' h g = subst (λ (x : State). LeadsByEntries s x fs b') h g
 run_append s b (e ∷ es) fs mid b' h g = (h.0, h.1, run_append s h.0 es fs mid b' h.2 g)
 
 -- each of the group passes

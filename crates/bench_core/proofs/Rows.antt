@@ -6,14 +6,14 @@ use Rattle.std.proofs.lemmas.List.{get_or_default}
 use Rattle.std.proofs.lemmas.List.Elements.{All-head, All-cons, All-weaker, All-filter, All-contains}
 use Rattle.std.proofs.lemmas.List.Sums.{count_by-le-length, AllPass-from_list_all, list_all-from_AllPass}
 use Rattle.clock_nodes.specs.Rule.{clock_of}
-use Rattle.clock_nodes.specs.declared.rule.TheConstants.{MOST_MODULUS}
+use Rattle.clock_nodes.specs.declared.rule.TheConstants.{MAX_MODULUS}
 use Rattle.bench_core.specs.declared.limits.TheConstants.{CLOCKS_DIFFER}
 use Rattle.bench_core.specs.Setup.{Setup, IsSetup}
 use Rattle.bench_core.specs.State.{Node, State, new_state, node_at}
 use Rattle.bench_core.specs.Pulse.{Pulse}
 use Rattle.bench_core.specs.Settled.{settled_flags, settled_clocks, clocks_where, moving_clocks, value_of}
 use Rattle.bench_core.specs.Told.{common_of}
-use Rattle.bench_core.specs.Replay.{Entry, Staged, Opened, Closed, Abandoned, Step, Leads}
+use Rattle.bench_core.specs.Replay.{Entry, Staged, Opened, Closed, Abandoned, Step, LeadsByEntries}
 use Rattle.bench_core.specs.Laws.{RowsFit, RowsTell}
 use Rattle.bench_core.proofs.Sound.{Sound, sound_replay}
 use Rattle.bench_core.proofs.Rules.{clock_below_modulus}
@@ -50,30 +50,30 @@ step_weight s b Abandoned b' h =
     let coins : open_of b'.coins ≡ 0 = ap (λ (x : State). open_of x.coins) h.1 in
     omega (arith, closed, coins)
 
-run_weight : (s : Setup) (b : State) (es : List Entry) (b' : State) → Leads s b es b' → weight b' ≤ weight b + length es
+run_weight : (s : Setup) (b : State) (es : List Entry) (b' : State) → LeadsByEntries s b es b' → weight b' ≤ weight b + length es
 run_weight s b [] b' h = let e : weight b' ≡ weight b = ap weight h in omega (arith, e)
 run_weight s b (e ∷ es) b' h = omega (arith, step_weight s b e h.0 h.1, run_weight s h.0 es b' h.2)
 
 -- ---- clocks
 
 pub clocks_small : (s : Setup) (b b' : State) → IsSetup s → Sound s b → Pulse s b b'
-    → All (λ c. c < MOST_MODULUS) (settled_clocks s b b')
-clocks_small s b b' ok sound p = All-weaker (At s.modulus b.nodes b'.nodes) (λ c. c < MOST_MODULUS) small
+    → All (λ c. c < MAX_MODULUS) (settled_clocks s b b')
+clocks_small s b b' ok sound p = All-weaker (At s.modulus b.nodes b'.nodes) (λ c. c < MAX_MODULUS) small
     (settled_clocks s b b')
     (all_at s.modulus b.nodes b'.nodes)
   where
-    small : (c : ℕ) → At s.modulus b.nodes b'.nodes c → c < MOST_MODULUS
+    small : (c : ℕ) → At s.modulus b.nodes b'.nodes c → c < MAX_MODULUS
     small c h =
         let below : c < s.modulus = subst (λ (n : ℕ). n < s.modulus) h.clock
         (clock_below_modulus s.modulus (clock_of (node_at b'.nodes h.node).memory) (omega (arith, ok.least))) in
         omega (arith, below, ok.most)
 
-common_small : (cs : List ℕ) → All (λ c. c < MOST_MODULUS) cs → (common_of cs < MOST_MODULUS)
+common_small : (cs : List ℕ) → All (λ c. c < MAX_MODULUS) cs → (common_of cs < MAX_MODULUS)
     ⊎ (common_of cs ≡ CLOCKS_DIFFER)
 common_small [] small = inl (omega arith)
 common_small (c ∷ cs) small =
-    cond_both (list_all (λ d. d == c) cs) c CLOCKS_DIFFER (λ n. (n < MOST_MODULUS) ⊎ (n ≡ CLOCKS_DIFFER))
-    (λ e. inl (All-head (λ d. d < MOST_MODULUS) c cs small))
+    cond_both (list_all (λ d. d == c) cs) c CLOCKS_DIFFER (λ n. (n < MAX_MODULUS) ⊎ (n ≡ CLOCKS_DIFFER))
+    (λ e. inl (All-head (λ d. d < MAX_MODULUS) c cs small))
     (λ e. inr refl)
 
 clocks_few : (m : ℕ) (flags : List Bool) (nodes : List Node) → length (clocks_where m flags nodes) ≤ length flags
@@ -96,7 +96,7 @@ rows_fit s history b b' ok replay p room =
       first = omega (arith, p.closed);
       last = omega (arith, p.closed, weighs, is_open, room);
       common = common_small (moving_clocks s b b')
-          (All-filter (λ c. not (c == 0)) (λ c. c < MOST_MODULUS) clocks (clocks_small s b b' ok sound p));
+          (All-filter (λ c. not (c == 0)) (λ c. c < MAX_MODULUS) clocks (clocks_small s b b' ok sound p));
       zeros = omega (
         arith,
         count_by-le-length (λ c. c == 0) clocks,
@@ -112,14 +112,14 @@ rows_fit s history b b' ok replay p room =
 abbrev AllAgree : List ℕ → Type 0
 AllAgree cs = (c d : ℕ) → Contains cs c → Contains cs d → c ≡ d
 
-agree_told : (cs : List ℕ) → All (λ c. c < MOST_MODULUS) cs → AllAgree cs → common_of cs ≢ CLOCKS_DIFFER
+agree_told : (cs : List ℕ) → All (λ c. c < MAX_MODULUS) cs → AllAgree cs → common_of cs ≢ CLOCKS_DIFFER
 agree_told [] small same e = omega (arith, e)
 agree_told (c ∷ cs) small same e =
     let all : list_all (λ d. d == c) cs ≡ true = list_all-from_AllPass (λ d. d == c) cs
     (λ k d lt. eq-eqb (get_or cs k d) c (same (get_or cs k d) c
     (suc k, omega arith, get_or_default cs k (get_or cs k d) d lt) (0, omega arith, refl))) in
     let is : common_of (c ∷ cs) ≡ c = cond-true (list_all (λ d. d == c) cs) c CLOCKS_DIFFER all in
-    omega (arith, e, is, All-head (λ d. d < MOST_MODULUS) c cs small)
+    omega (arith, e, is, All-head (λ d. d < MAX_MODULUS) c cs small)
 
 told_agree : (cs : List ℕ) → common_of cs ≢ CLOCKS_DIFFER → AllAgree cs
 told_agree [] told c d at at' = absurd (omega (arith, at.1))
@@ -134,6 +134,6 @@ told_agree (x ∷ xs) told c d at at' =
 
 pub rows_tell : RowsTell
 rows_tell s history b b' ok replay p =
-    let small = All-filter (λ c. not (c == 0)) (λ c. c < MOST_MODULUS) (settled_clocks s b b')
+    let small = All-filter (λ c. not (c == 0)) (λ c. c < MAX_MODULUS) (settled_clocks s b b')
     (clocks_small s b b' ok (sound_replay s history b ok replay) p) in
     (agree_told (moving_clocks s b b') small, told_agree (moving_clocks s b b'))

@@ -18,7 +18,7 @@ use Rattle.clock_nodes.specs.Listings.{clock_listing}
 use Rattle.bench_core.specs.State.{Node, Change, Load, Unload, Corrupt, State, no_node, node_at, mail_from, setting_at, new_node, new_state, IsMemory, IsChange, AreCoins, applied, all_applied, opened_state, staged_state, abandoned_state}
 use Rattle.bench_core.specs.Pulse.{Runs, Rests, Pulse}
 use Rattle.bench_core.specs.Settled.{value_of}
-use Rattle.bench_core.specs.Replay.{Entry, Staged, Opened, Closed, Abandoned, Step, Leads}
+use Rattle.bench_core.specs.Replay.{Entry, Staged, Opened, Closed, Abandoned, Step, LeadsByEntries}
 use Rattle.bench_core.proofs.AnyRuns.{any_run_leaves}
 use Rattle.bench_core.proofs.Counting.{SentOne, inbox_numbers}
 use Rattle.bench_core.proofs.Rules.{IsMoved, moved_after, clock_below_same}
@@ -270,11 +270,11 @@ sound_step s b (Opened coins) b' ok sound h = subst (Sound s) (sym h.2) (sound_o
 sound_step s b (Closed row) b' ok sound h = sound_pulse s b b' ok sound h.0
 sound_step s b Abandoned b' ok sound h = subst (Sound s) (sym h.1) (sound_abandoned s b sound)
 
-pub sound_run : (s : Setup) (b : State) (es : List Entry) (b' : State) → IsSetup s → Sound s b → Leads s b es b'
+pub sound_run : (s : Setup) (b : State) (es : List Entry) (b' : State) → IsSetup s → Sound s b → LeadsByEntries s b es b'
     → Sound s b'
 sound_run s b [] b' ok sound h = subst (Sound s) (sym h) sound
 sound_run s b (e ∷ es) b' ok sound h = sound_run s h.0 es b' ok (sound_step s b e h.0 ok sound h.1) h.2
 
-pub sound_replay : (s : Setup) (history : List Entry) (b : State) → IsSetup s → Leads s (new_state s) history b
+pub sound_replay : (s : Setup) (history : List Entry) (b : State) → IsSetup s → LeadsByEntries s (new_state s) history b
     → Sound s b
 sound_replay s history b ok h = sound_run s (new_state s) history b ok (sound_new s) h

@@ -5,7 +5,7 @@ use Rattle.std.proofs.lemmas.Bool.{cases_eq, cases_Bool, cond-true, cond-false, 
 use Rattle.std.proofs.lemmas.Bool.Decides.{nat_tests}
 use Rattle.std.proofs.lemmas.List.Sums.{sum_by-cons}
 use Rattle.std.proofs.lemmas.List.Elements.{All-head, All-tail, All-nil, All-cons, All-weaker}
-use Rattle.clock_nodes.specs.declared.rule.TheConstants.{MOST_MODULUS}
+use Rattle.clock_nodes.specs.declared.rule.TheConstants.{MAX_MODULUS}
 use Rattle.bench_core.specs.declared.limits.TheConstants.{CLOCKS_DIFFER}
 use Rattle.bench_core.specs.Told.{common_of}
 use Rattle.bench_core.specs.inner.Told.{joined_of, joined_all}
@@ -18,7 +18,7 @@ pub record Tally (flags : List Bool) (clocks : List ℕ) (common zeros settled C
   pub of_settled : settled + count_by (λ x. x) flags ≡ S
   pub of_zeros : zeros + count_by (λ c. c == 0) clocks ≡ Z
   pub of_common : joined_all common (moving clocks) ≡ C
-  pub small : All (λ c. c < MOST_MODULUS) clocks
+  pub small : All (λ c. c < MAX_MODULUS) clocks
 
 flag_cons : (b : Bool) (flags : List Bool) → count_by (λ x. x) (b ∷ flags) ≡ cond b 1 0 + count_by (λ x. x) flags
 flag_cons b flags = sum_by-cons (λ (x : Bool). cond x 1 0) b flags
@@ -45,7 +45,7 @@ tally_zero c flags clocks m z s C Z S e h =
       of_settled = omega (arith, h.of_settled, flag_cons true flags);
       of_zeros = omega (arith, h.of_zeros, zero_cons c clocks, one);
       of_common = ap (joined_all m) (sym none) ∙ h.of_common;
-      small = All-tail (λ (x : ℕ). x < MOST_MODULUS) c clocks h.small;
+      small = All-tail (λ (x : ℕ). x < MAX_MODULUS) c clocks h.small;
     }
 
 pub tally_other : (c : ℕ) (flags : List Bool) (clocks : List ℕ) (m z s C Z S : ℕ) → (c == 0) ≡ false
@@ -58,11 +58,11 @@ tally_other c flags clocks m z s C Z S e h =
       of_settled = omega (arith, h.of_settled, flag_cons true flags);
       of_zeros = omega (arith, h.of_zeros, zero_cons c clocks, zero');
       of_common = ap (joined_all m) (sym more) ∙ h.of_common;
-      small = All-tail (λ (x : ℕ). x < MOST_MODULUS) c clocks h.small;
+      small = All-tail (λ (x : ℕ). x < MAX_MODULUS) c clocks h.small;
     }
 
 -- of the range of a row
-pub joined_range : (m c : ℕ) → c < MOST_MODULUS → (joined_of m c < MOST_MODULUS) ⊎ (joined_of m c ≡ CLOCKS_DIFFER)
+pub joined_range : (m c : ℕ) → c < MAX_MODULUS → (joined_of m c < MAX_MODULUS) ⊎ (joined_of m c ≡ CLOCKS_DIFFER)
 joined_range m c lt =
     elim (cases_Bool ((m == 0) || (m == c))) [
       | inl e ↦ inl (rw (cond-true ((m == 0) || (m == c)) c CLOCKS_DIFFER e) lt)
@@ -70,20 +70,20 @@ joined_range m c lt =
     ]
 
 -- where two differ, it stays so
-differs : (cs : List ℕ) → All (λ c. c < MOST_MODULUS) cs → joined_all CLOCKS_DIFFER cs ≡ CLOCKS_DIFFER
+differs : (cs : List ℕ) → All (λ c. c < MAX_MODULUS) cs → joined_all CLOCKS_DIFFER cs ≡ CLOCKS_DIFFER
 differs [] h = refl
 differs (c ∷ cs) h =
-    let lt = All-head (λ (x : ℕ). x < MOST_MODULUS) c cs h in
+    let lt = All-head (λ (x : ℕ). x < MAX_MODULUS) c cs h in
     let apart : (CLOCKS_DIFFER == c) ≡ false = ne_eqb CLOCKS_DIFFER c (λ e. omega (arith, lt, e)) in
     ap (λ (n : ℕ). joined_all n cs) (cond-false ((CLOCKS_DIFFER == 0) || (CLOCKS_DIFFER == c)) c CLOCKS_DIFFER apart)
-    ∙ differs cs (All-tail (λ (x : ℕ). x < MOST_MODULUS) c cs h)
+    ∙ differs cs (All-tail (λ (x : ℕ). x < MAX_MODULUS) c cs h)
 
 -- after a first clock that isn't 0
-after_first : (m : ℕ) (cs : List ℕ) → m ≢ 0 → All (λ c. c < MOST_MODULUS) cs
+after_first : (m : ℕ) (cs : List ℕ) → m ≢ 0 → All (λ c. c < MAX_MODULUS) cs
     → joined_all m cs ≡ cond (list_all (λ d. d == m) cs) m CLOCKS_DIFFER
 after_first m [] ne h = refl
 after_first m (c ∷ cs) ne h =
-    let rest = All-tail (λ (x : ℕ). x < MOST_MODULUS) c cs h in
+    let rest = All-tail (λ (x : ℕ). x < MAX_MODULUS) c cs h in
     let not_zero : (m == 0) ≡ false = ne_eqb m 0 ne in
     elim (cases_eq m c) [
       | inl e ↦
@@ -102,19 +102,19 @@ after_first m (c ∷ cs) ne h =
           ∙ (differs cs rest ∙ ap (λ (b : Bool). cond b m CLOCKS_DIFFER) (sym test))
     ]
 
-pub joined_common : (cs : List ℕ) → All (λ c. (c < MOST_MODULUS) × (c ≢ 0)) cs → joined_all 0 cs ≡ common_of cs
+pub joined_common : (cs : List ℕ) → All (λ c. (c < MAX_MODULUS) × (c ≢ 0)) cs → joined_all 0 cs ≡ common_of cs
 joined_common [] h = refl
 joined_common (c ∷ cs) h =
-    after_first c cs (All-head (λ (x : ℕ). (x < MOST_MODULUS) × (x ≢ 0)) c cs h).1
-    (All-weaker (λ (x : ℕ). (x < MOST_MODULUS) × (x ≢ 0)) (λ (x : ℕ). x < MOST_MODULUS) (λ x k. k.0) cs
-    (All-tail (λ (x : ℕ). (x < MOST_MODULUS) × (x ≢ 0)) c cs h))
+    after_first c cs (All-head (λ (x : ℕ). (x < MAX_MODULUS) × (x ≢ 0)) c cs h).1
+    (All-weaker (λ (x : ℕ). (x < MAX_MODULUS) × (x ≢ 0)) (λ (x : ℕ). x < MAX_MODULUS) (λ x k. k.0) cs
+    (All-tail (λ (x : ℕ). (x < MAX_MODULUS) × (x ≢ 0)) c cs h))
 
 -- the moving ones of small clocks
-pub moving_small : (cs : List ℕ) → All (λ c. c < MOST_MODULUS) cs → All (λ c. (c < MOST_MODULUS) × (c ≢ 0)) (moving cs)
+pub moving_small : (cs : List ℕ) → All (λ c. c < MAX_MODULUS) cs → All (λ c. (c < MAX_MODULUS) × (c ≢ 0)) (moving cs)
 moving_small [] h = All-nil _
 moving_small (c ∷ cs) h =
-    let rest = moving_small cs (All-tail (λ (x : ℕ). x < MOST_MODULUS) c cs h) in
-    cond_both (not (c == 0)) (c ∷ moving cs) (moving cs) (All (λ (x : ℕ). (x < MOST_MODULUS) × (x ≢ 0)))
-    (λ e. All-cons (λ (x : ℕ). (x < MOST_MODULUS) × (x ≢ 0)) c (moving cs)
-    (All-head (λ (x : ℕ). x < MOST_MODULUS) c cs h, (λ z. grind (arith, nat_tests))) rest)
+    let rest = moving_small cs (All-tail (λ (x : ℕ). x < MAX_MODULUS) c cs h) in
+    cond_both (not (c == 0)) (c ∷ moving cs) (moving cs) (All (λ (x : ℕ). (x < MAX_MODULUS) × (x ≢ 0)))
+    (λ e. All-cons (λ (x : ℕ). (x < MAX_MODULUS) × (x ≢ 0)) c (moving cs)
+    (All-head (λ (x : ℕ). x < MAX_MODULUS) c cs h, (λ z. grind (arith, nat_tests))) rest)
     (λ e. rest)

@@ -3,7 +3,7 @@ use Rattle.std.specs.Prelude.{◌≡◌, ◌≢◌, ◌↔◌, ℕ, zero, suc, f
 use Rattle.node_env.specs.Env.{inbox_of}
 use Rattle.clock_nodes.specs.Rule.{clock_of, mark_of, quorum_of}
 use Rattle.bpf_machine.specs.Run.{End}
-use Rattle.bench_core.specs.declared.limits.TheConstants.{MOST_ENTRIES, CLOCKS_DIFFER}
+use Rattle.bench_core.specs.declared.limits.TheConstants.{MAX_ENTRIES, CLOCKS_DIFFER}
 use Rattle.bench_core.specs.declared.refusal.StageError.{StageError}
 use Rattle.bench_core.specs.declared.refusal.OpenError.{OpenError}
 use Rattle.bench_core.specs.declared.refusal.CloseError.{CloseError}
@@ -12,7 +12,7 @@ use Rattle.bench_core.specs.State.{Change, Node, State, new_state, node_at, mail
 use Rattle.bench_core.specs.Pulse.{Pulse}
 use Rattle.bench_core.specs.Settled.{value_of, faulty_count, Agree}
 use Rattle.bench_core.specs.Told.{Row, IsRow, row_of, RanTo}
-use Rattle.bench_core.specs.Replay.{Entry, Staged, Closed, Leads, Replays, BenchValue, Advances, rows_of}
+use Rattle.bench_core.specs.Replay.{Entry, Staged, Closed, LeadsByEntries, Replays, BenchValue, Advances, rows_of}
 use Rattle.bench_core.specs.StepList.{Act, Locked, Ran, Performs, entries_of}
 use Rattle.bench_core.specs.Tasks.{Done, tasks_of, HandedOut, RanEach, IsExact}
 use Rattle.bench_core.specs.Refusals.{IsStageRefusal, IsOpenRefusal, IsCloseRefusal}
@@ -29,7 +29,7 @@ AdvancesReplay = (old new : BenchValue) (entry : Entry) → Replays old.setup ol
 -- what any list of steps does is what its entries do
 abbrev pub StepsAreEntries : Type 0
 StepsAreEntries = (s : Setup) (b : State) (acts : List Act) (b' : State) → Performs s b acts b'
-    → Leads s b (entries_of acts) b'
+    → LeadsByEntries s b (entries_of acts) b'
 
 -- within an open pulse: runs of nodes, and changes that are staged
 abbrev pub IsWithinPulse : Act → Type 0
@@ -75,7 +75,7 @@ abbrev pub PairMovesOn : Type 0
 PairMovesOn = (s : Setup) (history between : List Entry) (b b' c c' : State) (clock i : ℕ) → IsSetup s
     → HasRuleClock s
     → Replays s history b → Pulse s b b' → quorum_of (rule_of s) ≤ count_by (ran_to_pair clock 1) b'.nodes
-    → Leads s b' between c → All IsQuiet between → Pulse s c c'
+    → LeadsByEntries s b' between c → All IsQuiet between → Pulse s c c'
     → i < s.shape.nodes → IsTrue (node_at c'.nodes i).mark → clock_of (node_at c.nodes i).memory ≡ clock
     → mark_of (node_at c.nodes i).memory ≡ 1
     → (clock_of (node_at c'.nodes i).memory ≡ (clock + 1) % s.modulus) × (mark_of (node_at c'.nodes i).memory ≡ 1)
@@ -92,7 +92,7 @@ SharePair s group clock b = (i : ℕ) → i < s.shape.nodes → IsIn group i
 
 -- entries that close no pulse, and after which these nodes have the program and the memory that they had
 pub record LeavesAlone (s : Setup) (group : List Bool) (b : State) (es : List Entry) (c : State) : Type 0 where
-  pub run : Leads s b es c
+  pub run : LeadsByEntries s b es c
   pub quiet : All IsQuiet es
   pub program : (i : ℕ) → i < s.shape.nodes → IsIn group i
       → (node_at c.nodes i).program ≡ (node_at b.nodes i).program
@@ -116,14 +116,14 @@ PairMovesOnFor = (s : Setup) (history : List Entry) (b0 b b' : State) (group : L
 -- ---- a node's own
 
 -- the coin of a node in an open pulse
-abbrev pub coin_at : State → ℕ → ℕ
-coin_at b i = slice_index (coins_of b) i
+abbrev pub node_coin : State → ℕ → ℕ
+node_coin b i = slice_index (coins_of b) i
 
 -- noninterference: a node's next state and messages depend only on its own program, memory, coin and inbox. Two pulses
 -- in which these are equal give equal results, whatever all other nodes run, hold and send elsewhere
 abbrev pub OnlyItsOwn : Type 0
 OnlyItsOwn = (s : Setup) (b b' c c' : State) (i : ℕ) → Pulse s b b' → Pulse s c c'
-    → inbox_of i c.mail ≡ inbox_of i b.mail → coin_at c i ≡ coin_at b i
+    → inbox_of i c.mail ≡ inbox_of i b.mail → node_coin c i ≡ node_coin b i
     → i < length b.nodes → i < length c.nodes
     → (node_at c.nodes i).program ≡ (node_at b.nodes i).program
     → (node_at c.nodes i).memory ≡ (node_at b.nodes i).memory
@@ -141,7 +141,7 @@ pub record BothClose (s : Setup) (i : ℕ) (b b' c c' : State) : Type 0 where
   pub within : i < length b.nodes
   pub below : i < length c.nodes
   pub mail : inbox_of i c.mail ≡ inbox_of i b.mail
-  pub coin : coin_at c i ≡ coin_at b i
+  pub coin : node_coin c i ≡ node_coin b i
 
 -- this many closed pulses of two beds side by side. Before each, whatever was done, node i was left as it was
 abbrev pub SideBySide : Setup → ℕ → ℕ → State → State → State → State → Type 0
@@ -168,7 +168,7 @@ RowsInOrder = (s : Setup) (history : List Entry) (b : State) (k : ℕ) (row : Ro
 -- if the history has a place left for the close, the row is within its ranges
 abbrev pub RowsFit : Type 0
 RowsFit = (s : Setup) (history : List Entry) (b b' : State) → IsSetup s → Replays s history b → Pulse s b b'
-    → length history < MOST_ENTRIES → IsRow (row_of s b b')
+    → length history < MAX_ENTRIES → IsRow (row_of s b b')
 
 -- the row tells whether settled clocks agree
 abbrev pub RowsTell : Type 0

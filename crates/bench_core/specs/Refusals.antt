@@ -1,6 +1,6 @@
 -- When each refusal comes: this one applies, and none before it. Where a step is taken, none applies.
 use Rattle.std.specs.Prelude.{◌≡◌, ◌≢◌, ℕ, ◌+◌, ◌<◌, ◌≤◌, List, length, slice_get, Some, IsSome, IsNone}
-use Rattle.bench_core.specs.declared.limits.TheConstants.{MOST_ENTRIES}
+use Rattle.bench_core.specs.declared.limits.TheConstants.{MAX_ENTRIES}
 use Rattle.bench_core.specs.declared.refusal.StageError.{StageError}
 use Rattle.bench_core.specs.declared.refusal.StageError.TheVariants as stage
 use Rattle.bench_core.specs.declared.refusal.OpenError.{OpenError}
@@ -29,8 +29,8 @@ IsMisfit shape c stage.HistoryFull = ⊥
 IsMisfit shape c stage.Memory = ⊥
 
 abbrev pub IsStageRefusal : BenchValue → Change → StageError → Type 0
-IsStageRefusal b c stage.HistoryFull = IsChange b.setup.shape c × (MOST_ENTRIES ≤ places_of b)
-IsStageRefusal b c stage.Memory = IsChange b.setup.shape c × (places_of b < MOST_ENTRIES)
+IsStageRefusal b c stage.HistoryFull = IsChange b.setup.shape c × (MAX_ENTRIES ≤ places_of b)
+IsStageRefusal b c stage.Memory = IsChange b.setup.shape c × (places_of b < MAX_ENTRIES)
 IsStageRefusal b c e = IsMisfit b.setup.shape c e
 
 abbrev pub CanOpen : BenchValue → List ℕ → Type 0
@@ -40,8 +40,8 @@ CanOpen b coins = IsNone b.state.coins × AreCoins b.setup.shape coins
 abbrev pub IsOpenRefusal : BenchValue → List ℕ → OpenError → Type 0
 IsOpenRefusal b coins opening.PulseOpen = IsSome b.state.coins
 IsOpenRefusal b coins opening.BadCoins = IsNone b.state.coins × ¬ AreCoins b.setup.shape coins
-IsOpenRefusal b coins opening.HistoryFull = CanOpen b coins × (MOST_ENTRIES < length b.history + 2)
-IsOpenRefusal b coins opening.Memory = CanOpen b coins × (length b.history + 2 ≤ MOST_ENTRIES)
+IsOpenRefusal b coins opening.HistoryFull = CanOpen b coins × (MAX_ENTRIES < length b.history + 2)
+IsOpenRefusal b coins opening.Memory = CanOpen b coins × (length b.history + 2 ≤ MAX_ENTRIES)
 
 -- no lower number has the property
 abbrev pub IsLowest : (ℕ → Type 0) → ℕ → Type 0

@@ -21,13 +21,13 @@ Step s b (Closed row) b' = Pulse s b b' × (row ≡ row_of s b b')
 Step s b Abandoned b' = IsSome b.coins × (b' ≡ abandoned_state b)
 
 -- the entries lead from one state to the other
-abbrev pub Leads : Setup → State → List Entry → State → Type 0
-Leads s b [] b' = b' ≡ b
-Leads s b (e ∷ es) b' = (mid : State) × Step s b e mid × Leads s mid es b'
+abbrev pub LeadsByEntries : Setup → State → List Entry → State → Type 0
+LeadsByEntries s b [] b' = b' ≡ b
+LeadsByEntries s b (e ∷ es) b' = (mid : State) × Step s b e mid × LeadsByEntries s mid es b'
 
 -- the history leads a new bench to this state
 abbrev pub Replays : Setup → List Entry → State → Type 0
-Replays s history b = Leads s (new_state s) history b
+Replays s history b = LeadsByEntries s (new_state s) history b
 
 -- a program that is loaded is accepted for its shape, and its announced count is its longest path
 abbrev pub LoadsAccepted : Change → Type 0

@@ -5,7 +5,7 @@ use Rattle.bpf_insn.specs.declared.forms.Insn.{Insn}
 use Rattle.bpf_insn.specs.Programs.{IsProgram}
 use Rattle.clock_nodes.specs.Rule.{Rule}
 use Rattle.clock_nodes.specs.Listings.{clock_listing}
-use Rattle.clock_nodes.specs.declared.rule.TheConstants.{LEAST_MODULUS, MOST_MODULUS}
+use Rattle.clock_nodes.specs.declared.rule.TheConstants.{LEAST_MODULUS, MAX_MODULUS}
 
 -- the shape of its nodes, the rule of their clocks, and the instructions that count as their clock
 pub record Setup : Type 0 where
@@ -18,7 +18,7 @@ pub record IsSetup (s : Setup) : Type 0 where
   pub extent : IsExtent s.shape.nodes s.shape.memory
   pub faults : s.faults < s.shape.nodes
   pub least : LEAST_MODULUS ≤ s.modulus
-  pub most : s.modulus ≤ MOST_MODULUS
+  pub most : s.modulus ≤ MAX_MODULUS
   pub clock : IsProgram s.clock
 
 -- the rule of the clocks of its nodes

@@ -4,8 +4,8 @@ use Rattle.std.specs.List.{list_all}
 use Rattle.clock_nodes.specs.Rule.{clock_of}
 use Rattle.bpf_machine.specs.Run.{CompleteRun, End}
 use Rattle.bpf_verify.specs.Accepted.{Accepted}
-use Rattle.clock_nodes.specs.declared.rule.TheConstants.{MOST_MODULUS}
-use Rattle.bench_core.specs.declared.limits.TheConstants.{MOST_PULSES, CLOCKS_DIFFER, MOST_COUNTED}
+use Rattle.clock_nodes.specs.declared.rule.TheConstants.{MAX_MODULUS}
+use Rattle.bench_core.specs.declared.limits.TheConstants.{MAX_BENCH_PULSES, CLOCKS_DIFFER, MAX_COUNTED}
 use Rattle.bench_core.specs.Setup.{Setup}
 use Rattle.bench_core.specs.State.{Node, State, node_at, setting_at, coins_of}
 use Rattle.bench_core.specs.Settled.{settled_flags, clocks_where, Agree}
@@ -18,10 +18,10 @@ pub record Row : Type 0 where
 
 pub record IsRow (r : Row) : Type 0 where
   pub first : 1 ≤ r.pulse
-  pub last : r.pulse ≤ MOST_PULSES
-  pub common : (r.common < MOST_MODULUS) ⊎ (r.common ≡ CLOCKS_DIFFER)
-  pub zeros : r.zeros ≤ MOST_COUNTED
-  pub settled : r.settled ≤ MOST_COUNTED
+  pub last : r.pulse ≤ MAX_BENCH_PULSES
+  pub common : (r.common < MAX_MODULUS) ⊎ (r.common ≡ CLOCKS_DIFFER)
+  pub zeros : r.zeros ≤ MAX_COUNTED
+  pub settled : r.settled ≤ MAX_COUNTED
 
 -- the one of these clocks, 0 if there is none, CLOCKS_DIFFER if two differ
 abbrev pub common_of : List ℕ → ℕ

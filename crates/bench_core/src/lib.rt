@@ -30,7 +30,7 @@ pub use laws::{
     clocks_agree, every_run, one_refusal, one_replay, only_its_own, pair_moves_on, results_fit,
     rows_count, steps_are_entries,
 };
-pub use limits::{CLOCKS_DIFFER, MOST_COUNTED, MOST_ENTRIES, MOST_PULSES};
+pub use limits::{CLOCKS_DIFFER, MAX_BENCH_PULSES, MAX_COUNTED, MAX_ENTRIES};
 pub use recent::Recent;
 pub use record::{PulseRecord, Ran};
 pub use refusal::{CloseError, OpenError, StageError};

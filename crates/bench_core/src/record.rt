@@ -1,7 +1,7 @@
 //! What is told of a closed pulse.
 ghost use Rattle.std.specs.Prelude.{◌≡◌, ◌≢◌, ◌↔◌, ◌<◌, ◌≤◌, All, IfOk, IsTrue, length, map};
-ghost use Rattle.clock_nodes.specs.declared.rule.TheConstants.{MOST_MODULUS};
-ghost use Rattle.bench_core.specs.declared.limits.TheConstants.{MOST_COUNTED, MOST_PULSES};
+ghost use Rattle.clock_nodes.specs.declared.rule.TheConstants.{MAX_MODULUS};
+ghost use Rattle.bench_core.specs.declared.limits.TheConstants.{MAX_COUNTED, MAX_BENCH_PULSES};
 ghost use Rattle.bench_core.specs.Settled.{clocks_where};
 ghost use Rattle.bench_core.specs.Told.{row_from, told_clock};
 ghost use Rattle.bench_core.specs.inner.Told.{both_marked, joined_of, IsMostSteps};
@@ -50,17 +50,17 @@ pub struct Ran {
 
 /// Room for what will be told of a pulse: the marks before its close, and a place for each clock.
 #[derive(Drop)]
-pub(crate) struct Room {
+pub(crate) struct RecordScratch {
     pub(crate) settled: Vec<bool>,
     pub(crate) clocks: Vec<Option<u32>>,
 }
 
 /// Room for what will be told of a pulse of these nodes.
-pub(crate) fn make_room(alloc: Global, nodes: &[NodeSlot]) -> Result<Room, AllocError>
+pub(crate) fn make_room(alloc: Global, nodes: &[NodeSlot]) -> Result<RecordScratch, AllocError>
     ensures settled { IfOk result (λ r. r.settled.items ≡ map (λ x. x.mark) nodes.now) }
     ensures clocks { IfOk result (λ r. length r.clocks.items ≡ length nodes.now) }
 {
-    Ok(Room {
+    Ok(RecordScratch {
         settled: marks(alloc, nodes)?,
         clocks: vec![in alloc; None; nodes.len()]?,
     })
@@ -68,19 +68,19 @@ pub(crate) fn make_room(alloc: Global, nodes: &[NodeSlot]) -> Result<Room, Alloc
 
 /// What is told of a pulse, the one of this number, that these results closed and that left these nodes.
 pub(crate) fn tell(
-    room: Room,
+    room: RecordScratch,
     modulus: u32,
     pulse: u32,
     nodes: &[NodeSlot],
     dones: &[NodeDone],
 ) -> PulseRecord
     requires first { 1 ≤ pulse }
-    requires last { pulse ≤ MOST_PULSES }
+    requires last { pulse ≤ MAX_BENCH_PULSES }
     requires settled { length room.settled.items ≡ length nodes.now }
     requires clocks { length room.clocks.items ≡ length nodes.now }
-    requires few { length nodes.now ≤ MOST_COUNTED }
+    requires few { length nodes.now ≤ MAX_COUNTED }
     requires memory { All (λ x. 4 ≤ length x.memory) nodes.now }
-    requires small { All (λ c. c < MOST_MODULUS)
+    requires small { All (λ c. c < MAX_MODULUS)
         (clocks_where modulus (both_marked room.settled.items nodes.now) nodes.now) }
     ensures row { result.row ≡ row_from modulus pulse (both_marked room.settled.items nodes.now) nodes.now }
     ensures clocks { result.clocks ≡ map told_clock nodes.now }
@@ -88,7 +88,7 @@ pub(crate) fn tell(
     ensures steps { IsMostSteps dones.now result.steps }
     ensures agree { IsTrue result.agree ↔ (result.row.common ≢ CLOCKS_DIFFER) }
 {
-    let Room {
+    let RecordScratch {
         mut settled,
         mut clocks,
     } = room;
@@ -141,11 +141,11 @@ fn tell_clocks(clocks: &mut [Option<u32>], nodes: &[NodeSlot])
 /// The row of settled nodes.
 fn row_told(modulus: u32, pulse: u32, settled: &[bool], nodes: &[NodeSlot]) -> Row
     requires first { 1 ≤ pulse }
-    requires last { pulse ≤ MOST_PULSES }
+    requires last { pulse ≤ MAX_BENCH_PULSES }
     requires count { length settled.now ≡ length nodes.now }
-    requires few { length settled.now ≤ MOST_COUNTED }
+    requires few { length settled.now ≤ MAX_COUNTED }
     requires room { All (λ x. 4 ≤ length x.memory) nodes.now }
-    requires small { All (λ c. c < MOST_MODULUS) (clocks_where modulus settled.now nodes.now) }
+    requires small { All (λ c. c < MAX_MODULUS) (clocks_where modulus settled.now nodes.now) }
     ensures { result ≡ row_from modulus pulse settled.now nodes.now }
 {
     let mut common = 0;

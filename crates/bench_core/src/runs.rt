@@ -5,7 +5,7 @@ ghost use Rattle.bench_core.specs.Tasks.{Done, IsEnd};
 ghost use Rattle.bench_core.specs.declared.found.Found.TheVariants.{Missing};
 ghost use Rattle.bench_core.specs.inner.Found.{found_at};
 ghost use Rattle.bench_core.specs.inner.Nodes.{KnowsFirsts};
-ghost use Rattle.bench_core.specs.inner.OpenPulse.{PartsFit, setup_in, state_in};
+ghost use Rattle.bench_core.specs.inner.OpenPulse.{PartsFit, setup_in, state_of_open};
 ghost use Rattle.bench_core.specs.inner.Served.{AreRuns, AreServed, IsServed, IsRunOf, SeesAlike, steps_at};
 
 use crate::found::Found;
@@ -13,7 +13,7 @@ use crate::pulse::OpenPulse;
 use crate::recent::Recent;
 use crate::task::{NodeDone, NodeTask};
 use crate::task_lists::TaskLists;
-use bpf_run::Room;
+use bpf_run::RunScratch;
 use bpf_verify::VerifiedProgram;
 use node_env::{Env, InboxRoom};
 use std::alloc::{AllocError, Global};
@@ -25,7 +25,7 @@ pub(crate) struct Runs {
     pub(crate) dones: Vec<NodeDone>,
     inbox: InboxRoom,
     recent: Recent,
-    room: Room,
+    room: RunScratch,
 }
 
 /// What a node's program gets: memory and all that it sees.
@@ -82,7 +82,7 @@ impl Runs {
             dones: Vec::new(alloc),
             inbox: InboxRoom::new(alloc),
             recent: Recent::none(0),
-            room: Room::new(),
+            room: RunScratch::new(),
         }
     }
 
@@ -133,7 +133,7 @@ impl Runs {
         requires runs { AreRuns pulse.now self.old.dones.items }
         ensures runs { OnOk result (AreRuns pulse.now self.new.dones.items) }
         ensures more { OnOk result ((more : List Done) × (self.new.dones.items ≡ self.old.dones.items ++ more)) }
-        ensures served { IfOk result (λ found. IsServed (setup_in pulse.now) (state_in pulse.now) pulse.now.coins.now
+        ensures served { IfOk result (λ found. IsServed (setup_in pulse.now) (state_of_open pulse.now) pulse.now.coins.now
             self.new.dones.items node found) }
     {
         let slot = &pulse.nodes[node as usize];
@@ -172,7 +172,7 @@ pub(crate) fn run_nodes(
     requires parts { PartsFit pulse.now }
     requires firsts { KnowsFirsts pulse.now.nodes.now firsts.now }
     requires room { pulse.now.shape.nodes ≤ length found.old }
-    ensures { OnOk result (AreServed (setup_in pulse.now) (state_in pulse.now) pulse.now.coins.now runs.new.dones.items
+    ensures { OnOk result (AreServed (setup_in pulse.now) (state_of_open pulse.now) pulse.now.coins.now runs.new.dones.items
         found.new) }
 {
     let count = pulse.shape.nodes();

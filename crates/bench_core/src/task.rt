@@ -3,7 +3,7 @@
 ghost use Rattle.std.specs.Prelude.{◌≡◌, ◌↔◌, ◌<◌, IfOk, IsTrue, length};
 
 use crate::task_lists::{ResultLists, TaskLists};
-use bpf_run::Room;
+use bpf_run::RunScratch;
 use bpf_verify::VerifiedProgram;
 use node_env::{Env, Mail, Outbox, Shape};
 use std::alloc::{AllocError, Global};
@@ -139,11 +139,11 @@ impl NodeTask {
         ensures end { IsEnd result }
         ensures within { result.end.steps ≤ result.task.program.budget }
     {
-        self.run_in(&mut Room::new())
+        self.run_in(&mut RunScratch::new())
     }
 
     /// Does as `run`, in room that is kept.
-    pub fn run_in(self, room: &mut Room) -> NodeDone
+    pub fn run_in(self, room: &mut RunScratch) -> NodeDone
         ensures input { result.task ≡ self }
         ensures end { IsEnd result }
         ensures within { result.end.steps ≤ result.task.program.budget }

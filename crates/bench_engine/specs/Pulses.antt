@@ -9,19 +9,19 @@ use Rattle.bench_engine.specs.declared.engine_error.EngineError.{EngineError}
 use Rattle.bench_engine.specs.declared.engine_error.EngineError.TheVariants.{Open, Work, Close}
 
 -- receipts more, for these entries
-abbrev pub Adds : List Placed → List Entry → List Placed → Type 0
-Adds old entries new = (more : List Placed) × (map entry_in more ≡ entries) × (new ≡ old ++ more)
+abbrev pub AddsReceipts : List Placed → List Entry → List Placed → Type 0
+AddsReceipts old entries new = (more : List Placed) × (map entry_in more ≡ entries) × (new ≡ old ++ more)
 
 -- a failed opening adds no receipt. A later error adds those of Opened and Abandoned; NotOpen may add only Opened, if
 -- abandoning failed
 abbrev pub Stopped : EngineError → List Placed → List ℕ → List Placed → Type 0
 Stopped (Open e) old coins new = new ≡ old
-Stopped (Work e) old coins new = Adds old (Opened coins ∷ Abandoned ∷ []) new
-Stopped (Close (Missing i)) old coins new = Adds old (Opened coins ∷ Abandoned ∷ []) new
-Stopped (Close (Twice i)) old coins new = Adds old (Opened coins ∷ Abandoned ∷ []) new
-Stopped (Close (Stranger i)) old coins new = Adds old (Opened coins ∷ Abandoned ∷ []) new
-Stopped (Close Memory) old coins new = Adds old (Opened coins ∷ Abandoned ∷ []) new
-Stopped (Close NotOpen) old coins new = Adds old (Opened coins ∷ []) new ⊎ Adds old (Opened coins ∷ Abandoned ∷ []) new
+Stopped (Work e) old coins new = AddsReceipts old (Opened coins ∷ Abandoned ∷ []) new
+Stopped (Close (Missing i)) old coins new = AddsReceipts old (Opened coins ∷ Abandoned ∷ []) new
+Stopped (Close (Twice i)) old coins new = AddsReceipts old (Opened coins ∷ Abandoned ∷ []) new
+Stopped (Close (Stranger i)) old coins new = AddsReceipts old (Opened coins ∷ Abandoned ∷ []) new
+Stopped (Close Memory) old coins new = AddsReceipts old (Opened coins ∷ Abandoned ∷ []) new
+Stopped (Close NotOpen) old coins new = AddsReceipts old (Opened coins ∷ []) new ⊎ AddsReceipts old (Opened coins ∷ Abandoned ∷ []) new
 
 -- what the refusal says of the coins
 abbrev pub IsPulseRefusal : Plan → List ℕ → EngineError → Type 0

@@ -5,7 +5,7 @@ mod engine_error;
 mod shared_pulse;
 
 pub use bench_workers::{
-    Event, Gate, MOST_WORKERS, Open, Run, RunFault, RunRefusal, Shown, Stop, WatchFault, Watcher,
+    Event, Gate, MAX_WORKERS, Open, Run, RunFault, RunRefusal, Shown, Stop, WatchFault, Watcher,
     WorkError, laws, run_events, run_events_on, run_events_watched,
 };
 pub use engine_error::EngineError;

@@ -7,8 +7,8 @@ ghost use Rattle.bench_shared.specs.Passes.{OneMore};
 ghost use Rattle.bench_shared.specs.Told.{OpenedLast, TellsClose, TellsAgreement};
 ghost use Rattle.bench_engine.specs.declared.engine_error.EngineError.TheVariants.{Work};
 ghost use Rattle.bench_workers.specs.declared.work_error.WorkError.TheVariants.{GateShut, NoThread};
-ghost use Rattle.bench_workers.specs.declared.tasks.TheConstants.{MOST_WORKERS};
-ghost use Rattle.bench_engine.specs.Pulses.{Adds, IsPulseRefusal, Stopped};
+ghost use Rattle.bench_workers.specs.declared.tasks.TheConstants.{MAX_WORKERS};
+ghost use Rattle.bench_engine.specs.Pulses.{AddsReceipts, IsPulseRefusal, Stopped};
 ghost use Rattle.bench_engine.specs.inner.Pulses.{IsLater};
 
 use crate::engine_error::EngineError;
@@ -20,7 +20,7 @@ use std::sync::Wait;
 use std::sync::ledger::Ledger;
 use std::thread::Threads;
 
-/// Opens a pulse, runs its tasks on 1 to [`MOST_WORKERS`](crate::MOST_WORKERS) workers, closes it and posts its row.
+/// Opens a pulse, runs its tasks on 1 to [`MAX_WORKERS`](crate::MAX_WORKERS) workers, closes it and posts its row.
 /// What is refused past the opening is abandoned once all workers have ended; if that is refused, it is told as a
 /// refused close, `NotOpen`.
 pub fn pulse<B: Ledger, C: Ledger, R: Threads + Wait + Sync, G: Gate + Sync>(
@@ -34,11 +34,11 @@ pub fn pulse<B: Ledger, C: Ledger, R: Threads + Wait + Sync, G: Gate + Sync>(
     coins: &[u32],
 ) -> Result<PulseRecord, EngineError>
     requires some { 1 ≤ workers }
-    requires few { workers ≤ MOST_WORKERS }
+    requires few { workers ≤ MAX_WORKERS }
     requires board { engine.old.board ≡ board.now }
     requires paid { engine.old.owed ≡ None }
     ensures closed { IfOk result (λ told.
-        Adds engine.old.receipts (Opened coins.now ∷ Closed told.row ∷ []) engine.new.receipts) }
+        AddsReceipts engine.old.receipts (Opened coins.now ∷ Closed told.row ∷ []) engine.new.receipts) }
     ensures told { IfOk result (TellsClose shared.now.setup coins.now) }
     ensures agrees { IfOk result (TellsAgreement shared.now.setup) }
     ensures posted { IfOk result (λ told. engine.new.posted ≡ engine.old.posted ++ told.row ∷ []) }
@@ -78,7 +78,7 @@ fn run_and_close<B: Ledger, C: Ledger, R: Threads + Wait + Sync, G: Gate + Sync>
     tasks: Vec<NodeTask>,
 ) -> Result<PulseRecord, EngineError>
     requires some { 1 ≤ workers }
-    requires few { workers ≤ MOST_WORKERS }
+    requires few { workers ≤ MAX_WORKERS }
     requires paid { engine.old.owed ≡ None }
     ensures closed { IfOk result (λ told. OneMore engine.old.receipts (Closed told.row) engine.new.receipts) }
     ensures owed { IfOk result (λ told. engine.new.owed ≡ Some told.row) }

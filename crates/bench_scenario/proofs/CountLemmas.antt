@@ -10,8 +10,8 @@ use Rattle.scenario_text.specs.declared.scenario.Unload.{Unload}
 use Rattle.scenario_text.specs.declared.scenario.Corrupt.{Corrupt}
 use Rattle.scenario_text.specs.declared.scenario.Scenario.{Scenario}
 use Rattle.scenario_text.specs.Spelling.{load_count}
-use Rattle.scenario_text.specs.Views.{load_of}
-use Rattle.bench_scenario.specs.Coins.{coins_of}
+use Rattle.scenario_text.specs.Views.{load_draft}
+use Rattle.bench_scenario.specs.Coins.{coins_in_pulse}
 use Rattle.bench_scenario.specs.Events.{changes_at, corrupt_events, events_at, events_of, events_to, load_events, unload_events}
 use Rattle.bench_scenario.specs.Noise.{noise_events}
 use Rattle.scenario_text.specs.Noise.{noise_count}
@@ -72,8 +72,8 @@ entries_at s p =
     (flat_map (unload_events p) s.unloads.items ++ flat_map (corrupt_events p) s.corruptions.items) in
     let later = entries_append (flat_map (unload_events p) s.unloads.items)
     (flat_map (corrupt_events p) s.corruptions.items) in
-    let noise = entries_append (noise_events s p) (Pulse (coins_of s p) ∷ []) in
-    let all = entries_append (changes_at s p) (noise_events s p ++ Pulse (coins_of s p) ∷ []) in
+    let noise = entries_append (noise_events s p) (Pulse (coins_in_pulse s p) ∷ []) in
+    let all = entries_append (changes_at s p) (noise_events s p ++ Pulse (coins_in_pulse s p) ∷ []) in
     omega arith
 
 entries_to : (s : Scenario) (n : ℕ) → entries_after (events_to s n)
@@ -86,7 +86,7 @@ entries_to s (suc n) =
     let all = entries_append (events_to s n) (events_at s (suc n)) in
     omega arith
 
-weight_of_loads : (ls : List Load) → weight_of load_weight ls ≡ load_count (map load_of ls)
+weight_of_loads : (ls : List Load) → weight_of load_weight ls ≡ load_count (map load_draft ls)
 weight_of_loads [] = refl
 weight_of_loads (l ∷ ls) = ap (λ n. length l.nodes.items + n) (weight_of_loads ls)
 
@@ -96,8 +96,8 @@ weight_of_ones (x ∷ xs) = let rest = weight_of_ones xs in omega arith
 
 -- a load counts once for each node, everything else once, a pulse twice, and noise once for each node and pulse
 pub entries_within : (s : Scenario) → entries_after (events_of s)
-    ≤ load_count (map load_of s.loads.items) + length s.unloads.items + length s.corruptions.items + 2 * s.pulses
-    + noise_count s.pulses (map load_of s.loads.items)
+    ≤ load_count (map load_draft s.loads.items) + length s.unloads.items + length s.corruptions.items + 2 * s.pulses
+    + noise_count s.pulses (map load_draft s.loads.items)
 entries_within s =
     let all = entries_to s s.pulses in
     let loads = each_once load_pulse load_weight s.loads.items s.pulses in

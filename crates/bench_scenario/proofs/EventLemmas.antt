@@ -14,9 +14,9 @@ use Rattle.scenario_text.specs.declared.scenario.Unload.{Unload}
 use Rattle.scenario_text.specs.declared.scenario.Corrupt.{Corrupt}
 use Rattle.scenario_text.specs.declared.scenario.Scenario.{Scenario}
 use Rattle.scenario_text.specs.Texts.{ReadsText}
-use Rattle.scenario_text.specs.Views.{FitsLoad, corrupt_of, frame_of, load_of}
+use Rattle.scenario_text.specs.Views.{FitsLoad, corrupt_of, frame_of, load_draft}
 use Rattle.scenario_text.proofs.EntryLemmas.{Each, HasCoin, HasImage, HasNode, HasNodes, coins_there, corruptions_there, loads_fit, loads_there, unloads_there}
-use Rattle.bench_scenario.specs.Coins.{coin_of, coins_of, drawn, keyed, places_below, replaced}
+use Rattle.bench_scenario.specs.Coins.{coin_of, coins_in_pulse, drawn, keyed, places_below, replaced}
 use Rattle.bench_scenario.specs.Events.{changes_at, corrupt_events, events_at, events_of, events_to, load_events, unload_events}
 use Rattle.bench_scenario.specs.Noise.{has_noise, noise_events, noise_of, noise_program}
 use Rattle.bench_scenario.specs.Runs.{bench_of}
@@ -56,7 +56,7 @@ coins_below f (suc n) below =
     subst (All (λ c. c < 2)) (sym (map_more f (places_below n) n))
     (All-append (λ c. c < 2) (map f (places_below n)) (f n ∷ []) (coins_below f n below) (one_below (f n) (below n)))
 
-pulse_fits : (s : Scenario) (pulse : ℕ) → Each HasCoin s.entries.items → AreCoins (bench_of s).shape (coins_of s pulse)
+pulse_fits : (s : Scenario) (pulse : ℕ) → Each HasCoin s.entries.items → AreCoins (bench_of s).shape (coins_in_pulse s pulse)
 pulse_fits s pulse each = (
   places_length (coin_of s pulse) s.nodes,
   coins_below (coin_of s pulse) s.nodes
@@ -82,9 +82,9 @@ each_if s false es each = tt
 
 -- what is asked of a load
 abbrev LoadThere : Scenario → Load → Type 0
-LoadThere s l = HasNodes (frame_of s) (load_of l) × FitsLoad (frame_of s) l
+LoadThere s l = HasNodes (frame_of s) (load_draft l) × FitsLoad (frame_of s) l
 
-both : (s : Scenario) (ls : List Load) → Each (λ (l : Load). HasNodes (frame_of s) (load_of l)) ls
+both : (s : Scenario) (ls : List Load) → Each (λ (l : Load). HasNodes (frame_of s) (load_draft l)) ls
     → Each (FitsLoad (frame_of s)) ls → Each (LoadThere s) ls
 both s [] there fit = tt
 both s (l ∷ ls) there fit = ((there.0, fit.0), both s ls there.1 fit.1)
@@ -138,9 +138,9 @@ events_fit_to text s key (suc n) reads =
     let b = bench_of s in
     let k = keyed s key in
     each_append (Fits b) (events_to k n) (events_at k (suc n)) (events_fit_to text s key n reads)
-    (each_append (Fits b) (changes_at s (suc n)) (noise_events k (suc n) ++ Pulse (coins_of k (suc n)) ∷ [])
+    (each_append (Fits b) (changes_at s (suc n)) (noise_events k (suc n) ++ Pulse (coins_in_pulse k (suc n)) ∷ [])
     (changes_fit text s (suc n) reads)
-    (each_append (Fits b) (noise_events k (suc n)) (Pulse (coins_of k (suc n)) ∷ []) (noise_fits k (suc n))
+    (each_append (Fits b) (noise_events k (suc n)) (Pulse (coins_in_pulse k (suc n)) ∷ []) (noise_fits k (suc n))
     (pulse_fits k (suc n) (coins_there text s reads), tt)))
 
 pub keyed_fit : (text : List ℕ) (s : Scenario) (key : ℕ) → ReadsText text s

@@ -1,7 +1,7 @@
 -- Events that a bench takes, wherever there is room.
 use Rattle.std.proofs.Common.{◌≡◌, ℕ, zero, suc, ◌+◌, ◌≤◌, List, [], ◌∷◌, ◌++◌, map, take, arith, subst, refl}
 use Rattle.std.specs.Prelude.{◌≢◌, flat_map, slice_get, Some}
-use Rattle.bench_core.specs.declared.limits.TheConstants.{MOST_ENTRIES}
+use Rattle.bench_core.specs.declared.limits.TheConstants.{MAX_ENTRIES}
 use Rattle.bench_core.specs.declared.refusal.StageError.TheVariants as stage
 use Rattle.bench_core.specs.Setup.{Setup}
 use Rattle.bench_core.specs.State.{AreCoins}
@@ -58,7 +58,7 @@ entries_before (Pulse coins ∷ es) zero e at = let same : Pulse coins ≡ e = c
 entries_before (Stage c ∷ es) (suc k) e at = let rest = entries_before es k e at in omega arith
 entries_before (Pulse coins ∷ es) (suc k) e at = let rest = entries_before es k e at in omega arith
 
-refused_here : (s : Setup) (n : ℕ) (e : Event) (refusal : RunRefusal) → Fits s e → n + entries_of e ≤ MOST_ENTRIES
+refused_here : (s : Setup) (n : ℕ) (e : Event) (refusal : RunRefusal) → Fits s e → n + entries_of e ≤ MAX_ENTRIES
     → refusal ≢ refusals.GateShut
     → IsRefusalOf s n e refusal → IsMemoryOrThread refusal
 refused_here s n (Stage c) refusals.BadNode fits room ungated refused = fits.0 refused
@@ -80,7 +80,7 @@ refused_here s n (Pulse coins) refusals.NoThread fits room ungated refused = tt
 refused_here s n (Pulse coins) refusals.GateShut fits room ungated refused = ungated refl
 
 first_refused : (s : Setup) (es : List Event) (k : ℕ) (refusal : RunRefusal) → Each (Fits s) es
-    → entries_after es ≤ MOST_ENTRIES → refusal ≢ refusals.GateShut
+    → entries_after es ≤ MAX_ENTRIES → refusal ≢ refusals.GateShut
     → IsFirstRefused s es k refusal → IsMemoryOrThread refusal
 first_refused s es k refusal each few ungated first =
     let room = entries_before es k first.event first.here in
@@ -89,7 +89,7 @@ first_refused s es k refusal each few ungated first =
 
 -- where the bench takes each event, and has room for all, none is refused for itself
 pub none_refused : (s : Setup) (es : List Event) (k : ℕ) (refusal : RunRefusal) → Each (Fits s) es
-    → entries_after es ≤ MOST_ENTRIES → refusal ≢ refusals.GateShut
+    → entries_after es ≤ MAX_ENTRIES → refusal ≢ refusals.GateShut
     → IsFault s es k refusal → IsMemoryOrThread refusal
 none_refused s es k refusals.BadNode each few ungated fault =
     first_refused s es k refusals.BadNode each few ungated fault

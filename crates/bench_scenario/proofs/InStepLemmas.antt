@@ -6,7 +6,7 @@ use Rattle.std.proofs.lemmas.List.{drop_all, drop-drop, length-drop, take_all}
 use Rattle.bench_core.specs.Told.{PulseTold}
 use Rattle.bench_scenario.specs.Verdicts.{first_clock, are_one, counting}
 use Rattle.bench_scenario.specs.InStep.{HaveOne, EachWentOn, InStepFrom, IsInStepSince}
-use Rattle.bench_scenario.specs.inner.InStep.{Begins, StaysFrom, StaysSince}
+use Rattle.bench_scenario.specs.inner.InStep.{BeginsInStep, StaysFrom, StaysSince}
 use Rattle.bench_scenario.proofs.VerdictLaws.{Tells, first_there, none_there, one_of, tells}
 
 -- ---- one clock
@@ -101,7 +101,7 @@ first_on m r next rs first rest (suc k) b a e f = rest k b a e f
 none_after : (r : PulseTold) (k : ℕ) (a : PulseTold) → slice_get (r ∷ []) (suc k) ≡ Some a → ⊥
 none_after r k a e = cc
 
-in_step_more : (m : ℕ) (rs : List PulseTold) → Begins m rs → (length rs ≡ 1) ⊎ StaysFrom m (drop 1 rs) → StaysFrom m rs
+in_step_more : (m : ℕ) (rs : List PulseTold) → BeginsInStep m rs → (length rs ≡ 1) ⊎ StaysFrom m (drop 1 rs) → StaysFrom m rs
 in_step_more m [] begins after = absurd begins
 in_step_more m (r ∷ []) begins after = record {
   some = omega arith;
@@ -115,7 +115,7 @@ in_step_more m (r ∷ next ∷ rs) begins (inr after) = record {
   on = first_on m r next rs begins.1 after.on;
 }
 
-begins_in_step : (m : ℕ) (rs : List PulseTold) → StaysFrom m rs → Begins m rs
+begins_in_step : (m : ℕ) (rs : List PulseTold) → StaysFrom m rs → BeginsInStep m rs
 begins_in_step m [] is = let none : 0 < 0 = is.some in absurd (omega arith)
 begins_in_step m (r ∷ []) is = is.one 0 r refl
 begins_in_step m (r ∷ next ∷ rs) is = (is.one 0 r refl, is.on 0 r next refl refl)
@@ -157,16 +157,16 @@ length_last zero xs e = sym e
 length_last (suc k) [] e = absurd (omega (arith, e))
 length_last (suc k) (x ∷ xs) e = length_last k xs (omega (arith, e))
 
-one_before : (m : ℕ) (rs : List PulseTold) (k : ℕ) (since : Option ℕ) → Begins m (drop k rs) → Kept m rs (k + 1) since
+one_before : (m : ℕ) (rs : List PulseTold) (k : ℕ) (since : Option ℕ) → BeginsInStep m (drop k rs) → Kept m rs (k + 1) since
     → (length (drop k rs) ≡ 1) ⊎ StaysFrom m (drop 1 (drop k rs))
 one_before m rs k None begins kept = inl (length_last k rs kept)
 one_before m rs k (Some pulse) begins kept =
     inr (subst (λ (xs : List PulseTold). StaysFrom m xs) (sym (drop_suc k rs)) kept.2)
 
 pub kept_before : (m : ℕ) (rs rest : List PulseTold) (n k : ℕ) (since : Option ℕ) → n ≡ k + 1 → k < length rs
-    → rest ≡ drop k rs → Begins m rest → Kept m rs n since → Kept m rs k (Some (k + 1))
+    → rest ≡ drop k rs → BeginsInStep m rest → Kept m rs n since → Kept m rs k (Some (k + 1))
 kept_before m rs rest n k since next within is begins kept =
-    let first : Begins m (drop k rs) = subst (λ (xs : List PulseTold). Begins m xs) is begins in
+    let first : BeginsInStep m (drop k rs) = subst (λ (xs : List PulseTold). BeginsInStep m xs) is begins in
     let after : Kept m rs (k + 1) since = subst (λ (i : ℕ). Kept m rs i since) next kept in
     (within, refl, in_step_more m (drop k rs) first (one_before m rs k since first after))
 
@@ -178,10 +178,10 @@ past_all m rs k past is =
 
 -- where the record before doesn't begin in step, no earlier one does
 pub none_before : (m : ℕ) (rs rest : List PulseTold) (n k : ℕ) → n ≡ k + 1 → k < length rs → rest ≡ drop k rs
-    → (Begins m rest → IsTrue false) → (j : ℕ) → j < n → StaysFrom m (drop j rs) → ⊥
+    → (BeginsInStep m rest → IsTrue false) → (j : ℕ) → j < n → StaysFrom m (drop j rs) → ⊥
 none_before m rs rest n k next within here not j early is =
     let begins = begins_in_step m (drop k rs) (still_in_step m rs j k (omega (arith, next, early)) within is) in
-    let untrue : false ≡ true = not (subst (λ (xs : List PulseTold). Begins m xs) (sym here) begins) in
+    let untrue : false ≡ true = not (subst (λ (xs : List PulseTold). BeginsInStep m xs) (sym here) begins) in
     cc
 
 -- the records from a place on

@@ -17,9 +17,9 @@ use Rattle.bench_workers.specs.Opening.{OpensPulse, pulses_in}
 use Rattle.bench_workers.proofs.OpeningLemmas.{pulses-append}
 use Rattle.scenario_text.specs.declared.scenario.Scenario.{Scenario}
 use Rattle.bench_scenario.specs.declared.inputs.NodeInput.{NodeInput}
-use Rattle.bench_scenario.specs.Coins.{coins_of, places_below}
+use Rattle.bench_scenario.specs.Coins.{coins_in_pulse, places_below}
 use Rattle.bench_scenario.specs.Events.{changes_at, corrupt_events, events_at, events_of, events_to, load_events, unload_events}
-use Rattle.bench_scenario.specs.Inputs.{FitsShape, IsInputOf, setting_in}
+use Rattle.bench_scenario.specs.Inputs.{FitsShape, IsInputOf, input_setting}
 use Rattle.bench_scenario.specs.Noise.{has_noise, noise_events, noise_of}
 use Rattle.bench_scenario.specs.Runs.{bench_of}
 
@@ -63,8 +63,8 @@ pulses_to s (suc n) =
     let changes = none_changed s (suc n) in
     let both = pulses-append (events_to s n) (events_at s (suc n)) in
     let noise = none_noise s (suc n) in
-    let rest = pulses-append (changes_at s (suc n)) (noise_events s (suc n) ++ Pulse (coins_of s (suc n)) ∷ []) in
-    let last = pulses-append (noise_events s (suc n)) (Pulse (coins_of s (suc n)) ∷ []) in
+    let rest = pulses-append (changes_at s (suc n)) (noise_events s (suc n) ++ Pulse (coins_in_pulse s (suc n)) ∷ []) in
+    let last = pulses-append (noise_events s (suc n)) (Pulse (coins_in_pulse s (suc n)) ∷ []) in
     omega arith
 
 pub last_there : (s : Scenario) (es : List Event) (pulse : ℕ) → es ≡ events_of s → pulse ≤ s.pulses
@@ -102,14 +102,14 @@ fits_so b coins node x ok replays low fit is =
 -- ---- what its program sees
 
 pub sees : (s : Setup) (b : State) (coins : List ℕ) (node : ℕ) (x : NodeInput) → IsInputOf b coins node x
-    → setting_in s.shape node x ≡ setting_at s b.mail coins node
+    → input_setting s.shape node x ≡ setting_at s b.mail coins node
 sees s b coins node x is =
     λ k. record { shape = s.shape; id = node; inbox = map_of (is.heard k); coin = is.coin k }
 
 -- its complete run is that of which the pulse tells the steps
 pub ran_so : (s : Setup) (b : State) (coins : List ℕ) (node : ℕ) (x : NodeInput) (end : End)
     → IsInputOf b coins node x → FitsShape s.shape node x
-    → CompleteRun x.program.program (setting_in s.shape node x) x.memory.items end → RanTo s b coins node end
+    → CompleteRun x.program.program (input_setting s.shape node x) x.memory.items end → RanTo s b coins node end
 ran_so s b coins node x end is fits run = record {
   program = x.program;
   node = fits.id;

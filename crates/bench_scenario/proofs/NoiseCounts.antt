@@ -11,7 +11,7 @@ use Rattle.scenario_text.specs.declared.scenario.Load.{Load}
 use Rattle.scenario_text.specs.declared.scenario.Unload.{Unload}
 use Rattle.scenario_text.specs.declared.scenario.Scenario.{Scenario}
 use Rattle.scenario_text.specs.Noise.{is_noise, noise_count}
-use Rattle.scenario_text.specs.Views.{load_of}
+use Rattle.scenario_text.specs.Views.{load_draft}
 use Rattle.bench_scenario.specs.Coins.{places_below}
 use Rattle.bench_scenario.specs.Noise.{after_loads, after_unloads, has_noise, loads_node, noise_after, noise_events, noise_of, noise_program}
 use Rattle.bench_scenario.proofs.FitLemmas.{entries_append}
@@ -305,7 +305,7 @@ if_times true m k = refl
 if_times false m k = zero-mul k
 
 total_weights : (n : ℕ) (ls : List Load)
-    → total_to (λ p. weight_to load_pulse noise_weight p ls) n ≤ noise_count n (map load_of ls)
+    → total_to (λ p. weight_to load_pulse noise_weight p ls) n ≤ noise_count n (map load_draft ls)
 total_weights n [] = let none = total_none n in omega (arith, none)
 total_weights n (l ∷ ls) =
     let both = total_both (once_to l.pulse (noise_weight l)) (λ p. weight_to load_pulse noise_weight p ls)
@@ -318,7 +318,7 @@ total_weights n (l ∷ ls) =
 
 -- as many loads of drawn messages as pulses of noise, at most
 pub noise_total : (s : Scenario) (n : ℕ)
-    → total_to (λ p. entries_after (noise_events s p)) n ≤ noise_count n (map load_of s.loads.items)
+    → total_to (λ p. entries_after (noise_events s p)) n ≤ noise_count n (map load_draft s.loads.items)
 noise_total s n =
     let less = total_less (λ p. entries_after (noise_events s p))
     (λ p. weight_to load_pulse noise_weight p s.loads.items) n

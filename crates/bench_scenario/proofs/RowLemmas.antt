@@ -9,10 +9,10 @@ use Rattle.bench_workers.specs.Events.{Event, Pulse, Stage, event_of}
 use Rattle.bench_workers.specs.declared.event.Event.{Event as EventCode}
 use Rattle.scenario_text.specs.declared.scenario.Load.{Load}
 use Rattle.scenario_text.specs.declared.scenario.Scenario.{Scenario}
-use Rattle.bench_scenario.specs.Coins.{coins_of, keyed}
+use Rattle.bench_scenario.specs.Coins.{coins_in_pulse, keyed}
 use Rattle.bench_scenario.specs.Events.{changes_at, events_to, load_events}
 use Rattle.bench_scenario.specs.Noise.{noise_events}
-use Rattle.bench_scenario.specs.inner.Rows.{Adds, AreChanges, Grew, of_pulse, told}
+use Rattle.bench_scenario.specs.inner.Rows.{Adds, AreChanges, Grew, of_pulse, told_events}
 
 -- ---- a row is replaced
 
@@ -38,7 +38,7 @@ put_count f (first ∷ rows) (suc place) row = ap suc (put_count f rows place ro
 
 -- what stands in a row
 told_at : {X : Type 0} (items : X → List EventCode) (rows : List X) (place : ℕ) (row : X) → place < length rows
-    → row ≡ get_or rows place row → get_or (told items rows) place [] ≡ map event_of (items row)
+    → row ≡ get_or rows place row → get_or (told_events items rows) place [] ≡ map event_of (items row)
 told_at items rows place row within at =
     get_or-map (λ r. map event_of (items r)) rows place row [] within ∙ ap (λ r. map event_of (items r)) (sym at)
 
@@ -46,29 +46,29 @@ told_at items rows place row within at =
 grew_at : {X : Type 0} (items : X → List EventCode) (rows : List X) (place pulse k : ℕ) (old new : X)
     (event : EventCode) (same : Bool) → pulse ≡ place + 1 → place < length rows
     → old ≡ get_or rows place old → items new ≡ items old ++ event ∷ [] → (pulse == suc k) ≡ same
-    → get_or (told items (slice_set rows place new)) k []
-    ≡ get_or (told items rows) k [] ++ of_pulse pulse (event_of event ∷ []) (suc k)
+    → get_or (told_events items (slice_set rows place new)) k []
+    ≡ get_or (told_events items rows) k [] ++ of_pulse pulse (event_of event ∷ []) (suc k)
 grew_at items rows place pulse k old new event true next within at more is =
     let here : k ≡ place = omega (arith, eqb-true pulse (suc k) is, next) in
     let added : of_pulse pulse (event_of event ∷ []) (suc k) ≡ event_of event ∷ [] =
     cond-true (pulse == suc k) (event_of event ∷ []) [] is in
-    subst (λ n. get_or (told items (slice_set rows place new)) n [] ≡ get_or (told items rows) n []
+    subst (λ n. get_or (told_events items (slice_set rows place new)) n [] ≡ get_or (told_events items rows) n []
     ++ of_pulse pulse (event_of event ∷ []) (suc k)) (sym here)
     (put_same (λ r. map event_of (items r)) rows place new within
     ∙ (ap (map event_of) more ∙ (map-append event_of (items old) (event ∷ [])
     ∙ (ap (λ es. es ++ event_of event ∷ []) (sym (told_at items rows place old within at))
-    ∙ ap (λ es. get_or (told items rows) place [] ++ es) (sym added)))))
+    ∙ ap (λ es. get_or (told_events items rows) place [] ++ es) (sym added)))))
 grew_at items rows place pulse k old new event false next within at more is =
     let none : of_pulse pulse (event_of event ∷ []) (suc k) ≡ [] =
     cond-false (pulse == suc k) (event_of event ∷ []) [] is in
     put_other (λ r. map event_of (items r)) rows place k new
     (λ here. eqb-false pulse (suc k) is (omega (arith, here, next)))
-    ∙ (sym (append-nil (get_or (told items rows) k [])) ∙ ap (λ es. get_or (told items rows) k [] ++ es) (sym none))
+    ∙ (sym (append-nil (get_or (told_events items rows) k [])) ∙ ap (λ es. get_or (told_events items rows) k [] ++ es) (sym none))
 
 pub put_grew : {X : Type 0} (items : X → List EventCode) (rows : List X) (place pulse : ℕ) (old new : X)
     (event : EventCode) → pulse ≡ place + 1 → place < length rows
     → old ≡ get_or rows place old → items new ≡ items old ++ event ∷ []
-    → Grew (told items rows) (told items (slice_set rows place new)) (of_pulse pulse (event_of event ∷ []))
+    → Grew (told_events items rows) (told_events items (slice_set rows place new)) (of_pulse pulse (event_of event ∷ []))
 put_grew items rows place pulse old new event next within at more =
     record {
       count = put_count (λ row. map event_of (items row)) rows place new;
@@ -110,7 +110,7 @@ nodes_added old new load grew =
 -- ---- rows are taken, one after the other
 
 pub one_taken : {X : Type 0} (items : X → List EventCode) (s : Scenario) (rows : List X) (place : ℕ) (row : X)
-    → AreChanges s (told items rows) place → AreChanges s (told items (slice_set rows place row)) (place + 1)
+    → AreChanges s (told_events items rows) place → AreChanges s (told_events items (slice_set rows place row)) (place + 1)
 one_taken items s rows place row are =
     record {
       count = put_count (λ r. map event_of (items r)) rows place row ∙ are.count;
@@ -121,7 +121,7 @@ one_taken items s rows place row are =
 
 -- the row at a place is what its pulse stages
 pub row_of : {X : Type 0} (items : X → List EventCode) (s : Scenario) (rows : List X) (place : ℕ) (row : X)
-    → place < s.pulses → row ≡ get_or rows place row → AreChanges s (told items rows) place
+    → place < s.pulses → row ≡ get_or rows place row → AreChanges s (told_events items rows) place
     → map event_of (items row) ≡ changes_at s (suc place)
 row_of items s rows place row below at are =
     let within : place < length rows =
@@ -129,17 +129,17 @@ row_of items s rows place row below at are =
     sym (told_at items rows place row within at) ∙ are.each place below (omega arith)
 
 pub one_pulse_more : (s : Scenario) (key before : ℕ) (old row new : List Event)
-    → new ≡ old ++ (row ++ Pulse (coins_of (keyed s key) (before + 1)) ∷ []) → old ≡ events_to (keyed s key) before
+    → new ≡ old ++ (row ++ Pulse (coins_in_pulse (keyed s key) (before + 1)) ∷ []) → old ≡ events_to (keyed s key) before
     → row ≡ changes_at s (suc before) ++ noise_events (keyed s key) (before + 1)
     → new ≡ events_to (keyed s key) (before + 1)
 one_pulse_more s key before old row new added so_far staged =
     let k = keyed s key in
     let next : suc before ≡ before + 1 = omega arith in
-    let pulse = Pulse (coins_of k (before + 1)) ∷ [] in
+    let pulse = Pulse (coins_in_pulse k (before + 1)) ∷ [] in
     let changes = changes_at s (suc before) in
     let noise = noise_events k (before + 1) in
     subst (λ n. new ≡ events_to k n) next
     (added ∙ (ap (λ es. es ++ (row ++ pulse)) so_far
     ∙ (ap (λ es. events_to k before ++ (es ++ pulse)) staged
     ∙ (ap (λ es. events_to k before ++ es) (append_assoc changes noise pulse)
-    ∙ ap (λ n. events_to k before ++ (changes ++ (noise_events k n ++ Pulse (coins_of k n) ∷ []))) (sym next)))))
+    ∙ ap (λ n. events_to k before ++ (changes ++ (noise_events k n ++ Pulse (coins_in_pulse k n) ∷ []))) (sym next)))))

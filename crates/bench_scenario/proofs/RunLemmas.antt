@@ -1,8 +1,7 @@
--- A scenario that was read makes a shape and a rule, and its run is that of its bench.
+-- The run of a scenario that was read is that of its bench.
 use Rattle.std.proofs.Common.{◌≡◌, ℕ, List, arith, refl, subst}
 use Rattle.std.specs.Prelude.{◌≢◌}
 use Rattle.std.proofs.lemmas.List.{length-map}
-use Rattle.node_env.specs.Env.{Extent}
 use Rattle.bench_core.specs.Setup.{Setup}
 use Rattle.bench_core.specs.Told.{PulseTold}
 use Rattle.bench_workers.specs.Events.{Event}
@@ -11,17 +10,13 @@ use Rattle.bench_workers.specs.declared.event.RunRefusal.TheVariants as refusals
 use Rattle.bench_workers.specs.Runs.{IsFault, IsRun}
 use Rattle.scenario_text.specs.declared.scenario.Scenario.{Scenario}
 use Rattle.scenario_text.specs.Texts.{ReadsText}
-use Rattle.scenario_text.specs.Views.{corrupt_of, extent_of, frame_of}
+use Rattle.scenario_text.specs.Views.{corrupt_of}
 use Rattle.bench_scenario.specs.Coins.{keyed}
 use Rattle.bench_scenario.specs.Events.{events_of}
 use Rattle.bench_scenario.specs.Runs.{IsMemoryOrThread, bench_of}
 use Rattle.bench_scenario.proofs.FitLemmas.{none_refused}
 use Rattle.bench_scenario.proofs.CountLemmas.{entries_within}
 use Rattle.bench_scenario.proofs.EventLemmas.{events_fit, keyed_fit}
-
-pub extent_is : (s : Scenario) (shape : Extent) → (shape.nodes ≡ s.nodes) × (shape.memory ≡ s.memory)
-    → shape ≡ extent_of (frame_of s)
-extent_is s shape same = λ k. record { nodes = same.0 k; memory = same.1 k }
 
 pub run_met : (s : Scenario) (bench : Setup) (es : List Event) (records : List PulseTold) (left : List (List ℕ))
     → bench ≡ bench_of s → es ≡ events_of s → IsRun bench es records left

@@ -9,7 +9,7 @@ use Rattle.scenario_text.specs.declared.refusal.ScenarioError.{ScenarioError}
 use Rattle.scenario_text.specs.declared.refusal.ScenarioError.TheVariants as errors
 use Rattle.scenario_text.specs.declared.scenario.Scenario.{Scenario}
 use Rattle.scenario_text.specs.Texts.{IsDue, IsDueUnlessMemory, ReadsText}
-use Rattle.bench_scenario.specs.declared.run.TheConstants.{MOST_BYTES}
+use Rattle.bench_scenario.specs.declared.run.TheConstants.{MAX_BYTES}
 use Rattle.std.specs.declared.alloc.AllocError.{AllocError}
 use Rattle.bench_workers.specs.declared.event.RunFault.{RunFault}
 use Rattle.bench_scenario.specs.declared.reading.TextFault.{TextFault}
@@ -22,12 +22,12 @@ use Rattle.bench_scenario.specs.Runs.{IsDueOfText, LeavesReport, LeavesRun}
 pub record IsFront (bytes text : List ℕ) : Type 0 where
   pub front : (bytes ≡ text) ⊎ ((MAX_TEXT < length bytes) × (MAX_TEXT < length text))
 
-front_of : (bytes text : List ℕ) → bytes ≡ take MOST_BYTES text → IsFront bytes text
+front_of : (bytes text : List ℕ) → bytes ≡ take MAX_BYTES text → IsFront bytes text
 front_of bytes text taken =
-    elim (cases_lt (length text) MOST_BYTES) [
-      | inl short ↦ record { front = inl (taken ∙ take_all MOST_BYTES text (omega arith)) }
+    elim (cases_lt (length text) MAX_BYTES) [
+      | inl short ↦ record { front = inl (taken ∙ take_all MAX_BYTES text (omega arith)) }
       | inr long ↦
-          let size : length bytes ≡ MOST_BYTES = ap length taken ∙ length-take-le MOST_BYTES text long in
+          let size : length bytes ≡ MAX_BYTES = ap length taken ∙ length-take-le MAX_BYTES text long in
           record { front = inr (omega arith, omega arith) }
     ]
 
@@ -62,7 +62,7 @@ due_whole bytes text (errors.Memory gone) is due = due
 
 -- the scenario is that of the whole text, and so is a refusal
 pub text_read : (known : Option (List ℕ)) (bytes slice : List ℕ) (s : Scenario)
-    → IfSome known (λ text. bytes ≡ take MOST_BYTES text) → slice ≡ bytes → ReadsText slice s
+    → IfSome known (λ text. bytes ≡ take MAX_BYTES text) → slice ≡ bytes → ReadsText slice s
     → IfSome known (λ text. ReadsText text s)
 text_read None bytes slice s taken same reads = tt
 text_read (Some text) bytes slice s taken same reads =
@@ -102,8 +102,8 @@ due_refused text (errors.NotAccepted place key slot rule) isnt due = due
 due_refused text (errors.Memory gone) isnt due = absurd (isnt gone refl)
 
 pub text_refused : (known : Option (List ℕ)) (bytes slice : List ℕ) (error : ScenarioError) (fault : TextFault)
-    → IfSome known (λ text. bytes ≡ take MOST_BYTES text) → slice ≡ bytes → IsDueUnlessMemory slice error
-    → ((input : List ℕ) → IsDueUnlessMemory input error → bytes ≡ take MOST_BYTES input → IsDueOfText input fault)
+    → IfSome known (λ text. bytes ≡ take MAX_BYTES text) → slice ≡ bytes → IsDueUnlessMemory slice error
+    → ((input : List ℕ) → IsDueUnlessMemory input error → bytes ≡ take MAX_BYTES input → IsDueOfText input fault)
     → IfSome known (λ text. IsDueOfText text fault)
 text_refused None bytes slice error fault taken same due told = tt
 text_refused (Some text) bytes slice error fault taken same due told =

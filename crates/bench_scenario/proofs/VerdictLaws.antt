@@ -5,8 +5,8 @@ use Rattle.std.specs.List.{list_all}
 use Rattle.std.proofs.lemmas.Bool.{and_from, and_parts, eq-eqb, eqb-true, lt-ltb, ltb-true}
 use Rattle.bench_core.specs.Told.{PulseTold}
 use Rattle.bench_scenario.specs.declared.verdicts.TheConstants.{FEWEST}
-use Rattle.bench_scenario.specs.Verdicts.{told_clocks, settled_in, first_clock, is_clock, are_one, counts_on, joined, counting}
-use Rattle.bench_scenario.specs.Laws.{SettledWith, OwnAgrees, Counts, CountsNothing}
+use Rattle.bench_scenario.specs.Verdicts.{told_clocks, settled_in, first_clock, is_clock, are_one, counts_on, joined_verdict, counting}
+use Rattle.bench_scenario.specs.Laws.{SettledWith, OwnAgrees, PulsesAreCounted, CountsNothing}
 
 -- ---- settled clocks, one node after the other
 
@@ -150,7 +150,7 @@ Tells modulus before after None = Apart before after
 Tells modulus before after (Some told) = (IsTrue told ↔ On modulus before after) × (Apart before after → ⊥)
 
 joins : (modulus : ℕ) (b a : ℕ) (before after : List (Option ℕ)) (rest : Option Bool) → Tells modulus before after rest
-    → Tells modulus (Some b ∷ before) (Some a ∷ after) (joined (Some (counts_on modulus b a)) rest)
+    → Tells modulus (Some b ∷ before) (Some a ∷ after) (joined_verdict (Some (counts_on modulus b a)) rest)
 joins modulus b a before after None apart = (
   (
     λ is. on_more modulus (Some b) (Some a) before after
@@ -200,7 +200,7 @@ tells modulus (Some b ∷ before) (None ∷ after) =
 tells modulus (None ∷ before) (a ∷ after) =
     skips modulus None a before after (counting modulus before after) (λ c d e f. cc) (tells modulus before after)
 
-pub counts : Counts
+pub counts : PulsesAreCounted
 counts modulus before after verdict e =
     let told = subst (λ (v : Option Bool). Tells modulus (settled_in before) (settled_in after) v) e
     (tells modulus (settled_in before) (settled_in after)) in (

@@ -7,7 +7,7 @@ use Rattle.std.proofs.Math.Nat.{min-eq_left, min-eq_right, min-le_left, min-le_r
 use Rattle.bench_core.specs.Told.{PulseTold}
 use Rattle.scenario_text.specs.declared.scenario.Frame.{Frame}
 use Rattle.bench_scenario.specs.declared.verdicts.Judged.{Judged}
-use Rattle.bench_scenario.specs.Verdicts.{told_clocks, counting, joined, step_of}
+use Rattle.bench_scenario.specs.Verdicts.{told_clocks, counting, joined_verdict, step_of}
 use Rattle.bench_scenario.specs.Reports.{record_line, record_lines}
 
 -- past the shorter one of two lists
@@ -70,7 +70,7 @@ count_end : (m : ℕ) (before after : List (Option ℕ)) (i : ℕ) → (length b
 count_end m before after i (inl past) = rw (drop_all i before past) refl
 count_end m before after i (inr past) = rw (drop_all i after past) (count_none m (drop i before))
 
-joined_none : (v : Option Bool) → joined v None ≡ v
+joined_none : (v : Option Bool) → joined_verdict v None ≡ v
 joined_none None = refl
 joined_none (Some v) = refl
 
@@ -78,7 +78,7 @@ and_assoc : (a b c : Bool) → ((a && b) && c) ≡ (a && (b && c))
 and_assoc true b c = refl
 and_assoc false b c = refl
 
-joined_assoc : (a b c : Option Bool) → joined (joined a b) c ≡ joined a (joined b c)
+joined_assoc : (a b c : Option Bool) → joined_verdict (joined_verdict a b) c ≡ joined_verdict a (joined_verdict b c)
 joined_assoc None b c = refl
 joined_assoc (Some a) None c = refl
 joined_assoc (Some a) (Some b) None = refl
@@ -87,18 +87,18 @@ joined_assoc (Some a) (Some b) (Some c) = ap (λ v. Some v) (and_assoc a b c)
 -- one node more
 pub count_more : (m : ℕ) (before after : List (Option ℕ)) (i : ℕ) (v : Option Bool) (b a : Option ℕ)
     → drop i before ≡ b ∷ drop (i + 1) before → drop i after ≡ a ∷ drop (i + 1) after
-    → joined (joined v (step_of m b a)) (counting m (drop (i + 1) before) (drop (i + 1) after))
-    ≡ joined v (counting m (drop i before) (drop i after))
+    → joined_verdict (joined_verdict v (step_of m b a)) (counting m (drop (i + 1) before) (drop (i + 1) after))
+    ≡ joined_verdict v (counting m (drop i before) (drop i after))
 count_more m before after i v b a e f =
     joined_assoc v (step_of m b a) (counting m (drop (i + 1) before) (drop (i + 1) after)) ∙ rw (e, f) refl
 
 -- all nodes have counted
 pub count_whole : (m : ℕ) (before after : List (Option ℕ)) (v : Option Bool) (n i : ℕ)
     → n ≡ min (length before) (length after) → n ≤ i
-    → joined v (counting m (drop i before) (drop i after)) ≡ counting m before after → v ≡ counting m before after
+    → joined_verdict v (counting m (drop i before) (drop i after)) ≡ counting m before after → v ≡ counting m before after
 count_whole m before after v n i e le so_far =
     let none = count_end m before after i (past_min (length before) (length after) n i e le) in
-    sym (joined_none v) ∙ (ap (λ (t : Option Bool). joined v t) (sym none) ∙ so_far)
+    sym (joined_none v) ∙ (ap (λ (t : Option Bool). joined_verdict v t) (sym none) ∙ so_far)
 
 lines_none : (f : Frame) (rs : List PulseTold) → record_lines f rs [] ≡ []
 lines_none f [] = refl

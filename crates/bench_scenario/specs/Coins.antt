@@ -37,8 +37,8 @@ coin_of s pulse node =
     replaced s.entries.items pulse node (drawn s.coins (unwrap_or s.key 0) ((pulse - 1) * s.nodes + node))
 
 -- the coins of a pulse, by node
-abbrev pub coins_of : Scenario → ℕ → List ℕ
-coins_of s pulse = map (coin_of s pulse) (places_below s.nodes)
+abbrev pub coins_in_pulse : Scenario → ℕ → List ℕ
+coins_in_pulse s pulse = map (coin_of s pulse) (places_below s.nodes)
 
 -- the scenario with this key in place of its own
 abbrev pub keyed : Scenario → ℕ → Scenario

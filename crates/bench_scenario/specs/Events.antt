@@ -6,7 +6,7 @@ use Rattle.scenario_text.specs.declared.scenario.Load.{Load}
 use Rattle.scenario_text.specs.declared.scenario.Unload.{Unload}
 use Rattle.scenario_text.specs.declared.scenario.Corrupt.{Corrupt}
 use Rattle.scenario_text.specs.declared.scenario.Scenario.{Scenario}
-use Rattle.bench_scenario.specs.Coins.{coins_of}
+use Rattle.bench_scenario.specs.Coins.{coins_in_pulse}
 use Rattle.bench_scenario.specs.Noise.{noise_events}
 
 -- a load of this pulse comes into each of its nodes, in order
@@ -27,7 +27,7 @@ changes_at s p =
 
 -- then the messages of noise are drawn, and then comes the pulse itself
 abbrev pub events_at : Scenario → ℕ → List Event
-events_at s p = changes_at s p ++ (noise_events s p ++ Pulse (coins_of s p) ∷ [])
+events_at s p = changes_at s p ++ (noise_events s p ++ Pulse (coins_in_pulse s p) ∷ [])
 
 -- of this many pulses, from 1 on
 abbrev pub events_to : Scenario → ℕ → List Event

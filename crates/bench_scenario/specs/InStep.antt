@@ -4,19 +4,19 @@ use Rattle.std.specs.Prelude.{◌≡◌, ℕ, suc, ◌+◌, ◌%◌, ◌<◌, Li
 use Rattle.bench_core.specs.Told.{PulseTold}
 
 -- the node ran the clock in this pulse, which left it at this clock
-abbrev pub HasClock : PulseTold → ℕ → ℕ → Type 0
-HasClock r node c = slice_get r.clocks node ≡ Some (Some c)
+abbrev pub ShowsClock : PulseTold → ℕ → ℕ → Type 0
+ShowsClock r node c = slice_get r.clocks node ≡ Some (Some c)
 
 -- some node ran the clock, each that did has this one, and it is below the modulus
 pub record HaveOne (modulus : ℕ) (r : PulseTold) (c : ℕ) : Type 0 where
-  pub some : (node : ℕ) × HasClock r node c
-  pub each : (node d : ℕ) → HasClock r node d → d ≡ c
+  pub some : (node : ℕ) × ShowsClock r node c
+  pub each : (node d : ℕ) → ShowsClock r node d → d ≡ c
   pub below : c < modulus
 
 -- each node that has a clock in both pulses went on by one
 abbrev pub EachWentOn : ℕ → PulseTold → PulseTold → Type 0
 EachWentOn modulus before after =
-    (node c d : ℕ) → HasClock before node c → HasClock after node d → d ≡ (c + 1) % modulus
+    (node c d : ℕ) → ShowsClock before node c → ShowsClock after node d → d ≡ (c + 1) % modulus
 
 -- in each record all have one clock, and from each to the next each node went on. One record alone shows no going on
 pub record InStepFrom (modulus : ℕ) (rs : List PulseTold) : Type 0 where

@@ -20,8 +20,8 @@ pub record IsInputOf (b : State) (coins : List ℕ) (node : ℕ) (x : NodeInput)
   pub coin : x.coin ≡ slice_index coins node
 
 -- what the program sees
-abbrev pub setting_in : Extent → ℕ → NodeInput → Setting
-setting_in shape node x = record { shape = shape; id = node; inbox = map_of x.heard.items; coin = x.coin }
+abbrev pub input_setting : Extent → ℕ → NodeInput → Setting
+input_setting shape node x = record { shape = shape; id = node; inbox = map_of x.heard.items; coin = x.coin }
 
 -- the pulse is opened in the run of the scenario, and the node runs this there
 pub record RunsIn (s : Scenario) (pulse node : ℕ) (x : NodeInput) : Type 0 where

@@ -27,8 +27,8 @@ OwnAgrees = (modulus : ℕ) (r : PulseTold) (verdict : Bool) → agreement true 
     → (IsTrue verdict ↔ AreOne modulus r)
 
 -- a clock counts exactly if all nodes that are settled in both pulses went on by one, and none did if none stayed
-abbrev pub Counts : Type 0
-Counts = (modulus : ℕ) (before after : PulseTold) (verdict : Bool)
+abbrev pub PulsesAreCounted : Type 0
+PulsesAreCounted = (modulus : ℕ) (before after : PulseTold) (verdict : Bool)
     → counting modulus (settled_in before) (settled_in after) ≡ Some verdict
     → (IsTrue verdict ↔ AllCount modulus before after)
 

@@ -8,7 +8,7 @@ use Rattle.bench_workers.specs.declared.event.RunRefusal.{RunRefusal}
 use Rattle.bench_workers.specs.declared.event.RunRefusal.TheVariants as refusals
 use Rattle.bench_workers.specs.Runs.{IsFault, IsRun}
 use Rattle.scenario_text.specs.declared.scenario.Scenario.{Scenario}
-use Rattle.scenario_text.specs.Spelling.{clock_insns, rule_of}
+use Rattle.scenario_text.specs.Spelling.{clock_insns, clock_rule_of}
 use Rattle.scenario_text.specs.Texts.{IsDue, ReadsText}
 use Rattle.scenario_text.specs.Views.{draft_of, extent_of, frame_of}
 use Rattle.bench_scenario.specs.declared.reading.TextFault.{TextFault}
@@ -17,13 +17,14 @@ use Rattle.bench_scenario.specs.declared.run.ReportFault.{ReportFault}
 use Rattle.bench_scenario.specs.declared.run.ReportFault.TheVariants as report_faults
 use Rattle.bench_scenario.specs.declared.run.ScenarioFault.{ScenarioFault}
 use Rattle.bench_scenario.specs.declared.run.ScenarioFault.TheVariants as faults
-use Rattle.bench_scenario.specs.declared.run.TheConstants.{MOST_BYTES}
+use Rattle.bench_scenario.specs.declared.run.TheConstants.{MAX_BYTES}
 use Rattle.bench_scenario.specs.Events.{events_of}
 use Rattle.bench_scenario.specs.Reports.{all_agree, report_of}
 
 -- the bench that a scenario is run on
 abbrev pub bench_of : Scenario → Setup
-bench_of s = setup_with (extent_of (frame_of s)) (rule_of (frame_of s)) (clock_insns (frame_of s) (draft_of s).clock)
+bench_of s = setup_with (extent_of (frame_of s)) (clock_rule_of (frame_of s))
+    (clock_insns (frame_of s) (draft_of s).clock)
 
 -- the line is the report of the run of this scenario, and the verdict is whether no pulse's verdict on agreement is no
 pub record ReportsRun (s : Scenario) (line : List ℕ) (agrees : Bool) : Type 0 where
@@ -95,5 +96,5 @@ LeavesReport old new text (Err faults.Memory) = Keeps old new
 -- memory ran out
 abbrev pub IsDueOfText : List ℕ → TextFault → Type 0
 IsDueOfText text text_faults.Read = Unit {0}
-IsDueOfText text (text_faults.Refused error bytes) = IsDue text error × (bytes.items ≡ take MOST_BYTES text)
+IsDueOfText text (text_faults.Refused error bytes) = IsDue text error × (bytes.items ≡ take MAX_BYTES text)
 IsDueOfText text text_faults.Memory = Unit {0}

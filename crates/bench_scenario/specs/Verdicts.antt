@@ -52,16 +52,16 @@ step_of modulus (Some before) None = None
 step_of modulus None after = None
 
 -- both verdicts together: none if both are none, no if one is no, otherwise yes
-abbrev pub joined : Option Bool → Option Bool → Option Bool
-joined None other = other
-joined (Some one) None = Some one
-joined (Some one) (Some other) = Some (one && other)
+abbrev pub joined_verdict : Option Bool → Option Bool → Option Bool
+joined_verdict None other = other
+joined_verdict (Some one) None = Some one
+joined_verdict (Some one) (Some other) = Some (one && other)
 
 -- of the settled clocks of two pulses, the later one's after the earlier one's
 abbrev pub counting : ℕ → List (Option ℕ) → List (Option ℕ) → Option Bool
 counting modulus [] after = None
 counting modulus (b ∷ before) [] = None
-counting modulus (b ∷ before) (a ∷ after) = joined (step_of modulus b a) (counting modulus before after)
+counting modulus (b ∷ before) (a ∷ after) = joined_verdict (step_of modulus b a) (counting modulus before after)
 
 -- ---- a pulse
 

@@ -10,10 +10,11 @@ use Rattle.bench_scenario.specs.Runs.{IsMemoryOrThread, bench_of}
 
 -- before anything was shown; at an event that is refused for lack of memory or of a thread, with the pulses of those
 -- before it shown; or at the pulse at which the watcher stopped it
-abbrev pub EndsAt : {K S : Type 0} → (T E : K → S → Seen → K → S → Type 0) → Scenario → K → S → K → S → WatchedFault
+abbrev pub ScenarioEndsAt : {K S : Type 0} → (T E : K → S → Seen → K → S → Type 0) → Scenario → K → S → K → S
+    → WatchedFault
     → Type 0
-EndsAt T E s k o k' o' faults.Memory = (k' ≡ k) × (o' ≡ o)
-EndsAt T E s k o k' o' (faults.Run fault) =
+ScenarioEndsAt T E s k o k' o' faults.Memory = (k' ≡ k) × (o' ≡ o)
+ScenarioEndsAt T E s k o k' o' (faults.Run fault) =
     IsFault (bench_of s) (events_of s) fault.event fault.fault × IsMemoryOrThread fault.fault
     × ((xs : List Seen) × Watched T (bench_of s) (take fault.event (events_of s)) k o xs k' o')
-EndsAt T E s k o k' o' (faults.Stopped event) = StoppedAt T E (bench_of s) (events_of s) event k o k' o'
+ScenarioEndsAt T E s k o k' o' (faults.Stopped event) = StoppedAt T E (bench_of s) (events_of s) event k o k' o'

@@ -1,7 +1,7 @@
 //! The coins of a scenario.
 ghost use Rattle.std.specs.Prelude.{◌≡◌, ℕ, ◌+◌, ◌-◌, ◌*◌, ◌<◌, ◌≤◌, ◌^◌, ◌%◌, ◌==◌, ◌&&◌, if◌then◌else◌, IfOk, map};
 ghost use Rattle.rand_chacha.specs.ChaCha.{key_of};
-ghost use Rattle.bench_scenario.specs.Coins.{coin_at, coins_of, drawn, keyed, places_below, replaced, seed_of};
+ghost use Rattle.bench_scenario.specs.Coins.{coin_at, coins_in_pulse, drawn, keyed, places_below, replaced, seed_of};
 
 use rand_chacha::ChaCha8Rng;
 use rand_core::SeedableRng;
@@ -87,7 +87,7 @@ pub(crate) fn coins_of(
     pulse: u32,
 ) -> Result<Vec<u32>, AllocError>
     requires { 1 ≤ pulse }
-    ensures { IfOk result (λ coins. coins.items ≡ coins_of (keyed scenario.now key) pulse) }
+    ensures { IfOk result (λ coins. coins.items ≡ coins_in_pulse (keyed scenario.now key) pulse) }
 {
     let place = (pulse - 1) as u64 * scenario.nodes as u64;
     let mut coins = drawn_coins(alloc, scenario.coins, key, place, scenario.nodes)?;

@@ -1,7 +1,7 @@
 //! From which pulse on a run is in step.
 ghost use Rattle.std.specs.Prelude.{ℕ, ◌↔◌, IsTrue};
 ghost use Rattle.bench_scenario.specs.InStep.{EachWentOn, HaveOne, IsInStepSince};
-ghost use Rattle.bench_scenario.specs.inner.InStep.{Begins, StaysSince};
+ghost use Rattle.bench_scenario.specs.inner.InStep.{BeginsInStep, StaysSince};
 
 use crate::verdicts::{are_one, counting, first_clock};
 use bench_core::PulseRecord;
@@ -24,7 +24,7 @@ fn went_on(modulus: u32, before: &PulseRecord, after: &PulseRecord) -> bool
 
 /// Whether all have one clock in the first of these records, and went on from it to the second, if there is one.
 fn begins_in_step(modulus: u32, records: &[PulseRecord]) -> bool
-    ensures { IsTrue result ↔ Begins modulus records.now }
+    ensures { IsTrue result ↔ BeginsInStep modulus records.now }
 {
     let Some((first, rest)) = records.split_first() else {
         return false;

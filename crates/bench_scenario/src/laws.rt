@@ -1,12 +1,12 @@
 //! Laws of reports.
 
-ghost use Rattle.bench_scenario.specs.Laws.{Counts, CountsNothing, OwnAgrees};
+ghost use Rattle.bench_scenario.specs.Laws.{PulsesAreCounted, CountsNothing, OwnAgrees};
 ghost use Rattle.bench_scenario.specs.RuleRuns.{RulesRun};
 
 /// States what the verdicts of a report say of its records (docs/SCENARIOS.md, "Verdicts").
 pub fn verdicts()
     ensures agree { OwnAgrees }
-    ensures counts { Counts }
+    ensures counts { PulsesAreCounted }
     ensures nothing { CountsNothing }
 {}
 

@@ -22,7 +22,7 @@ pub use inputs::{InputFault, NodeInput, node_input};
 pub use keyed::run_with_key;
 pub use printing::{RunReport, clock_name, report};
 pub use reading::{TextFault, read_scenario};
-pub use run::{MOST_BYTES, MOST_CALLS, ReportFault, ScenarioFault, run_scenario, write_report};
+pub use run::{MAX_BYTES, MAX_CALLS, ReportFault, ScenarioFault, run_scenario, write_report};
 pub use scenario_text::{RefusalLine, Scenario, ScenarioError, scenario_of};
 pub use schedule::events;
 pub use summary::{RunSummary, summary_of};

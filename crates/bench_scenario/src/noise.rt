@@ -8,7 +8,7 @@ use crate::coins::generator_at;
 use bench_core::Change;
 use bench_workers::Event;
 use bpf_verify::VerifiedProgram;
-use node_env::{MAX_NODES, Shape};
+use node_env::MAX_NODES;
 use rand_core::utils::NextWord;
 use scenario_text::{Scenario, say_program};
 use std::alloc::{AllocError, Global};
@@ -75,9 +75,7 @@ fn noise_program(
     requires { 1 ≤ draw.pulse }
     ensures { IfOk result (λ v. v ≡ noise_program (keyed scenario.now draw.key) draw.pulse node) }
 {
-    let Some(shape) = Shape::of(scenario.nodes, scenario.memory) else {
-        unreachable!()
-    };
+    let shape = scenario.shape();
     let sent = messages(alloc, scenario, draw, node)?;
     let program = say_program(alloc, shape, sent.as_slice())?;
     let _announced = program.budget(); // brings that it is the longest path

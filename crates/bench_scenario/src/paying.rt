@@ -1,6 +1,6 @@
 //! On how many workers a scenario is run: on threads only where they pay (docs/THREADS.md, "When workers pay").
 ghost use Rattle.std.specs.Prelude.{◌≡◌};
-ghost use Rattle.bench_scenario.specs.inner.Paying.{announced_at, announced_by, announced_of, paying_workers};
+ghost use Rattle.bench_scenario.specs.inner.Paying.{announced_at, announced_by, announced_of, useful_workers};
 
 use scenario_text::{Load, Scenario};
 
@@ -41,8 +41,8 @@ fn announced_by(scenario: &Scenario) -> u64
 }
 
 /// This many of the workers as pay.
-pub(crate) fn paying_workers(scenario: &Scenario, workers: u32) -> u32
-    ensures { result ≡ paying_workers scenario.now workers }
+pub(crate) fn useful_workers(scenario: &Scenario, workers: u32) -> u32
+    ensures { result ≡ useful_workers scenario.now workers }
 {
     if announced_by(scenario) < PAYING_STEPS {
         1

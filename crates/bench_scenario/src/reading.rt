@@ -4,7 +4,7 @@ ghost use Rattle.scenario_text.specs.Texts.{IsDueUnlessMemory, ReadsText};
 ghost use Rattle.stream_io.specs.Streams.{TakesAtMost};
 ghost use Rattle.bench_scenario.specs.Runs.{IsDueOfText};
 
-use crate::run::{MOST_BYTES, MOST_CALLS};
+use crate::run::{MAX_BYTES, MAX_CALLS};
 use scenario_text::{Scenario, ScenarioError, scenario_in};
 use std::alloc::Global;
 use std::io::Read;
@@ -20,14 +20,14 @@ pub enum TextFault {
     Memory,
 }
 
-/// Reads a scenario: at most [`MOST_BYTES`] bytes, by at most [`MOST_CALLS`] calls of `read`.
+/// Reads a scenario: at most [`MAX_BYTES`] bytes, by at most [`MAX_CALLS`] calls of `read`.
 pub fn read_scenario<R: Read>(alloc: Global, reader: &mut R) -> Result<Scenario, TextFault>
-    ensures taken { TakesAtMost MOST_BYTES (R.remaining reader.old) (R.remaining reader.new) }
+    ensures taken { TakesAtMost MAX_BYTES (R.remaining reader.old) (R.remaining reader.new) }
     ensures scenario { IfSome (R.remaining reader.old)
         (λ text. MatchResult result (ReadsText text) (IsDueOfText text)) }
     ensures reads { IfOk result (λ s. (text : List ℕ) × ReadsText text s) }
 {
-    let bytes = match read_at_most(alloc, reader, MOST_BYTES, MOST_CALLS) {
+    let bytes = match read_at_most(alloc, reader, MAX_BYTES, MAX_CALLS) {
         Ok(bytes) => bytes,
         Err(ReadFault::Stream) => return Err(TextFault::Read),
         Err(ReadFault::Memory) => return Err(TextFault::Memory),
@@ -40,7 +40,7 @@ pub fn read_scenario<R: Read>(alloc: Global, reader: &mut R) -> Result<Scenario,
 
 /// What a refusal of these bytes is to a reader: lack of memory is none.
 fn fault_of(error: ScenarioError, text: Vec<u8>) -> TextFault
-    ensures { (input : List ℕ) → IsDueUnlessMemory input error → text.items ≡ take MOST_BYTES input
+    ensures { (input : List ℕ) → IsDueUnlessMemory input error → text.items ≡ take MAX_BYTES input
         → IsDueOfText input result }
 {
     match error {

@@ -6,14 +6,12 @@ ghost use Rattle.stream_io.specs.Streams.{TakesAtMost};
 ghost use Rattle.bench_scenario.specs.Runs.{LeavesReport, LeavesRun, ReportsRun, StopsForWant, bench_of};
 ghost use Rattle.bench_scenario.specs.inner.Runs.{IsDueOfRun};
 
-use crate::paying::paying_workers;
+use crate::paying::useful_workers;
 use crate::printing::{RunReport, report};
 use crate::reading::{TextFault, read_scenario};
 use crate::schedule::events;
 use bench_core::Bench;
-use bench_workers::{MOST_WORKERS, Open, RunFault, run_events_on};
-use clock_nodes::ClockRule;
-use node_env::Shape;
+use bench_workers::{MAX_WORKERS, Open, RunFault, run_events_on};
 use scenario_text::{MAX_TEXT, Scenario, ScenarioError};
 use std::alloc::{AllocError, Global};
 use std::io::{Read, Write};
@@ -23,10 +21,10 @@ use stream_io::{WriteFault, write_fully};
 use thiserror::Error;
 
 /// The most bytes that are read: one more than a text may have, by which a text that is too long is known.
-pub const MOST_BYTES: usize = MAX_TEXT + 1;
+pub const MAX_BYTES: usize = MAX_TEXT + 1;
 
 /// The most calls of `read`.
-pub const MOST_CALLS: usize = 2_097_152;
+pub const MAX_CALLS: usize = 2_097_152;
 
 /// Why a scenario left no whole report.
 #[derive(Debug, Drop, Error)]
@@ -61,12 +59,8 @@ pub(crate) fn bench_for(alloc: Global, scenario: &Scenario) -> Result<Bench, All
     ensures state { IfOk result (λ b. b.state ≡ new_state (bench_of scenario.now)) }
     ensures history { IfOk result (λ b. b.history ≡ []) }
 {
-    let Some(shape) = Shape::of(scenario.nodes, scenario.memory) else {
-        unreachable!()
-    };
-    let Some(rule) = ClockRule::of(scenario.nodes, scenario.faults, scenario.modulus) else {
-        unreachable!()
-    };
+    let shape = scenario.shape();
+    let rule = scenario.rule();
     match &scenario.clock {
         None => Bench::new(alloc, shape, rule),
         Some(clock) => {
@@ -84,7 +78,7 @@ fn report_of<T: Threads + Wait + Sync>(
     workers: u32,
 ) -> Result<RunReport, ReportFault>
     requires some { 1 ≤ workers }
-    requires few { workers ≤ MOST_WORKERS }
+    requires few { workers ≤ MAX_WORKERS }
     requires reads { (text : List ℕ) × ReadsText text scenario.now }
     ensures { MatchResult result (λ told. ReportsRun scenario.now (string_bytes told.text) told.agrees)
         (IsDueOfRun scenario.now) }
@@ -95,7 +89,7 @@ fn report_of<T: Threads + Wait + Sync>(
     let Ok(bench) = bench_for(alloc, scenario) else {
         return Err(ReportFault::Memory);
     };
-    let workers = paying_workers(scenario, workers);
+    let workers = useful_workers(scenario, workers);
     let run = match run_events_on(rt, alloc, &Open, workers, bench, events) {
         Ok(run) => run,
         Err(fault) => return Err(ReportFault::Run(fault)),
@@ -116,7 +110,7 @@ pub fn write_report<T: Threads + Wait + Sync, W: Write>(
     writer: &mut W,
 ) -> Result<bool, ReportFault>
     requires some { 1 ≤ workers }
-    requires few { workers ≤ MOST_WORKERS }
+    requires few { workers ≤ MAX_WORKERS }
     requires reads { (text : List ℕ) × ReadsText text scenario.now }
     ensures { LeavesRun (W.contents writer.old) (W.contents writer.new) scenario.now result }
 {
@@ -138,7 +132,7 @@ fn report_on<T: Threads + Wait + Sync, W: Write>(
     writer: &mut W,
 ) -> Result<(), ScenarioFault>
     requires some { 1 ≤ workers }
-    requires few { workers ≤ MOST_WORKERS }
+    requires few { workers ≤ MAX_WORKERS }
     requires reads { (text : List ℕ) × ReadsText text scenario.now }
     ensures left { (known : Option (List ℕ)) → IfSome known (λ text. ReadsText text scenario.now)
         → IfSome known (λ text. LeavesReport (W.contents writer.old) (W.contents writer.new) text result) }
@@ -152,8 +146,8 @@ fn report_on<T: Threads + Wait + Sync, W: Write>(
     }
 }
 
-/// Reads a scenario's text, runs it on as many of the workers as pay, and writes the report. At most [`MOST_BYTES`]
-/// bytes are read, by at most [`MOST_CALLS`] calls of `read`. The report is whole before its first byte is written.
+/// Reads a scenario's text, runs it on as many of the workers as pay, and writes the report. At most [`MAX_BYTES`]
+/// bytes are read, by at most [`MAX_CALLS`] calls of `read`. The report is whole before its first byte is written.
 pub fn run_scenario<T: Threads + Wait + Sync, R: Read, W: Write>(
     rt: &T,
     alloc: Global,
@@ -162,8 +156,8 @@ pub fn run_scenario<T: Threads + Wait + Sync, R: Read, W: Write>(
     workers: u32,
 ) -> Result<(), ScenarioFault>
     requires some { 1 ≤ workers }
-    requires few { workers ≤ MOST_WORKERS }
-    ensures taken { TakesAtMost MOST_BYTES (R.remaining reader.old) (R.remaining reader.new) }
+    requires few { workers ≤ MAX_WORKERS }
+    ensures taken { TakesAtMost MAX_BYTES (R.remaining reader.old) (R.remaining reader.new) }
     ensures left { IfSome (R.remaining reader.old) (λ text.
         LeavesReport (W.contents writer.old) (W.contents writer.new) text result) }
     ensures want { IfErr result StopsForWant }

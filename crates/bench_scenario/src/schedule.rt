@@ -2,9 +2,9 @@
 
 ghost use Rattle.std.specs.Prelude.{◌≡◌, ◌++◌, ◌∷◌, [], ℕ, ◌≤◌, IfOk, OnOk, flat_map, get_or, length, map};
 ghost use Rattle.bench_workers.specs.Events.{Pulse, event_of};
-ghost use Rattle.bench_scenario.specs.Coins.{coins_of, keyed};
+ghost use Rattle.bench_scenario.specs.Coins.{coins_in_pulse, keyed};
 ghost use Rattle.bench_scenario.specs.Events.{corrupt_events, events_of, load_events, unload_events};
-ghost use Rattle.bench_scenario.specs.inner.Rows.{AreChanges, Grew, of_pulse, told};
+ghost use Rattle.bench_scenario.specs.inner.Rows.{AreChanges, Grew, of_pulse, told_events};
 
 use crate::coins::coins_of;
 use crate::noise::{Draw, add_noise};
@@ -16,7 +16,7 @@ use std::alloc::{AllocError, Global};
 
 /// Puts an event at the end of the row of this pulse. There is no row of pulse 0, and none past the last.
 fn put(rows: &mut Vec<Vec<Event>>, pulse: u32, event: Event) -> Result<(), AllocError>
-    ensures { OnOk result (Grew (told (λ r. r.items) rows.old.items) (told (λ r. r.items) rows.new.items)
+    ensures { OnOk result (Grew (told_events (λ r. r.items) rows.old.items) (told_events (λ r. r.items) rows.new.items)
         (of_pulse pulse (event_of event ∷ []))) }
 {
     if pulse == 0 {
@@ -32,7 +32,7 @@ fn put(rows: &mut Vec<Vec<Event>>, pulse: u32, event: Event) -> Result<(), Alloc
 }
 
 fn put_load(rows: &mut Vec<Vec<Event>>, load: &Load) -> Result<(), AllocError>
-    ensures { OnOk result (Grew (told (λ r. r.items) rows.old.items) (told (λ r. r.items) rows.new.items)
+    ensures { OnOk result (Grew (told_events (λ r. r.items) rows.old.items) (told_events (λ r. r.items) rows.new.items)
         (λ p. load_events p load.now)) }
 {
     for node in &load.nodes {
@@ -47,7 +47,7 @@ fn put_load(rows: &mut Vec<Vec<Event>>, load: &Load) -> Result<(), AllocError>
 }
 
 fn put_loads(rows: &mut Vec<Vec<Event>>, loads: &[Load]) -> Result<(), AllocError>
-    ensures { OnOk result (Grew (told (λ r. r.items) rows.old.items) (told (λ r. r.items) rows.new.items)
+    ensures { OnOk result (Grew (told_events (λ r. r.items) rows.old.items) (told_events (λ r. r.items) rows.new.items)
         (λ p. flat_map (load_events p) loads.now)) }
 {
     for load in loads {
@@ -57,7 +57,7 @@ fn put_loads(rows: &mut Vec<Vec<Event>>, loads: &[Load]) -> Result<(), AllocErro
 }
 
 fn put_unloads(rows: &mut Vec<Vec<Event>>, unloads: &[Unload]) -> Result<(), AllocError>
-    ensures { OnOk result (Grew (told (λ r. r.items) rows.old.items) (told (λ r. r.items) rows.new.items)
+    ensures { OnOk result (Grew (told_events (λ r. r.items) rows.old.items) (told_events (λ r. r.items) rows.new.items)
         (λ p. flat_map (unload_events p) unloads.now)) }
 {
     for unload in unloads {
@@ -72,7 +72,7 @@ fn put_corruptions(
     rows: &mut Vec<Vec<Event>>,
     corruptions: &[Corrupt],
 ) -> Result<(), AllocError>
-    ensures { OnOk result (Grew (told (λ r. r.items) rows.old.items) (told (λ r. r.items) rows.new.items)
+    ensures { OnOk result (Grew (told_events (λ r. r.items) rows.old.items) (told_events (λ r. r.items) rows.new.items)
         (λ p. flat_map (corrupt_events p) corruptions.now)) }
 {
     for corruption in corruptions {
@@ -87,8 +87,8 @@ fn put_corruptions(
 }
 
 fn empty_rows(alloc: Global, pulses: u32) -> Result<Vec<Vec<Event>>, AllocError>
-    ensures count { IfOk result (λ rows. length (told (λ r. r.items) rows.items) ≡ pulses) }
-    ensures none { IfOk result (λ rows. (k : ℕ) → get_or (told (λ r. r.items) rows.items) k [] ≡ []) }
+    ensures count { IfOk result (λ rows. length (told_events (λ r. r.items) rows.items) ≡ pulses) }
+    ensures none { IfOk result (λ rows. (k : ℕ) → get_or (told_events (λ r. r.items) rows.items) k [] ≡ []) }
 {
     let mut rows = Vec::new(alloc);
     for _pulse in 0..pulses {
@@ -99,7 +99,7 @@ fn empty_rows(alloc: Global, pulses: u32) -> Result<Vec<Vec<Event>>, AllocError>
 
 /// What is staged before each pulse: its loads, unloads and corruptions, each in order.
 fn changes(alloc: Global, scenario: &Scenario) -> Result<Vec<Vec<Event>>, AllocError>
-    ensures { IfOk result (λ rows. AreChanges scenario.now (told (λ r. r.items) rows.items) 0) }
+    ensures { IfOk result (λ rows. AreChanges scenario.now (told_events (λ r. r.items) rows.items) 0) }
 {
     let mut rows = empty_rows(alloc, scenario.pulses)?;
     put_loads(&mut rows, scenario.loads.as_slice())?;
@@ -118,7 +118,7 @@ fn add_events(
 ) -> Result<(), AllocError>
     requires { 1 ≤ pulse }
     ensures { OnOk result (map event_of events.new.items ≡ map event_of events.old.items
-        ++ (map event_of row.old.items ++ Pulse (coins_of (keyed scenario.now key) pulse) ∷ [])) }
+        ++ (map event_of row.old.items ++ Pulse (coins_in_pulse (keyed scenario.now key) pulse) ∷ [])) }
 {
     events.append(row)?;
     let coins = coins_of(alloc, scenario, key, pulse)?;

@@ -1,7 +1,7 @@
 //! What a report judges of closed pulses.
 ghost use Rattle.std.specs.Prelude.{◌≡◌, [], true, if◌then◌else◌, IfOk, None, is_some, map, option_copied, unwrap_or};
 ghost use Rattle.std.specs.List.{list_all};
-ghost use Rattle.bench_scenario.specs.Verdicts.{agreement, are_one, counting, counts_on, first_clock, is_clock, joined};
+ghost use Rattle.bench_scenario.specs.Verdicts.{agreement, are_one, counting, counts_on, first_clock, is_clock, joined_verdict};
 ghost use Rattle.bench_scenario.specs.Verdicts.{judged_after, judged_by, judged_of, judged_plainly, judgement, none_disagrees};
 ghost use Rattle.bench_scenario.specs.Verdicts.{settled_before, settled_in, step_of, told_clocks};
 ghost use Rattle.scenario_text.specs.Views.{frame_of};
@@ -112,7 +112,7 @@ fn step_of(modulus: u32, before: Option<u32>, after: Option<u32>) -> Option<bool
 }
 
 fn joined(one: Option<bool>, other: Option<bool>) -> Option<bool>
-    ensures { result ≡ joined one other }
+    ensures { result ≡ joined_verdict one other }
 {
     match (one, other) {
         (None, other) => other,

@@ -5,12 +5,12 @@ ghost use Rattle.bench_workers.specs.Watching.{Seen, Watched};
 ghost use Rattle.scenario_text.specs.Texts.{ReadsText};
 ghost use Rattle.bench_scenario.specs.Events.{events_of};
 ghost use Rattle.bench_scenario.specs.Runs.{bench_of};
-ghost use Rattle.bench_scenario.specs.Watching.{EndsAt};
+ghost use Rattle.bench_scenario.specs.Watching.{ScenarioEndsAt};
 
-use crate::paying::paying_workers;
+use crate::paying::useful_workers;
 use crate::run::bench_for;
 use crate::schedule::events;
-use bench_workers::{MOST_WORKERS, Open, Run, RunFault, WatchFault, Watcher, run_events_watched};
+use bench_workers::{MAX_WORKERS, Open, Run, RunFault, WatchFault, Watcher, run_events_watched};
 use scenario_text::Scenario;
 use std::alloc::Global;
 use std::sync::Wait;
@@ -37,14 +37,15 @@ pub fn run_watched<T: Threads + Wait + Sync, S, K: Watcher<S>>(
     sink: &mut S,
 ) -> Result<Run, WatchedFault>
     requires some { 1 ≤ workers }
-    requires few { workers ≤ MOST_WORKERS }
+    requires few { workers ≤ MAX_WORKERS }
     requires reads { (text : List ℕ) × ReadsText text scenario.now }
     ensures run { IfOk result (λ run. IsRun (bench_of scenario.now) (events_of scenario.now) run.records.items
         (map (λ memory. memory.items) run.memories.items)) }
     ensures watched { IfOk result (λ run. (xs : List Seen) × (run.records.items ≡ map (λ x. x.told) xs)
         × Watched K.tells (bench_of scenario.now) (events_of scenario.now) watcher.old sink.old xs watcher.new
         sink.new) }
-    ensures ends { IfErr result (EndsAt K.tells K.stops scenario.now watcher.old sink.old watcher.new sink.new) }
+    ensures ends { IfErr result
+        (ScenarioEndsAt K.tells K.stops scenario.now watcher.old sink.old watcher.new sink.new) }
 {
     let Ok(events) = events(alloc, scenario) else {
         return Err(WatchedFault::Memory);
@@ -52,7 +53,7 @@ pub fn run_watched<T: Threads + Wait + Sync, S, K: Watcher<S>>(
     let Ok(bench) = bench_for(alloc, scenario) else {
         return Err(WatchedFault::Memory);
     };
-    let workers = paying_workers(scenario, workers);
+    let workers = useful_workers(scenario, workers);
     match run_events_watched(rt, alloc, &Open, workers, bench, events, watcher, sink) {
         Ok(run) => Ok(run),
         Err(WatchFault::Run(fault)) => Err(WatchedFault::Run(fault)),

@@ -7,7 +7,7 @@ use Rattle.atomic_table.specs.Table.{Me, keeps, step, opening, Allows, Splits, J
 use Rattle.atomic_table.proofs.Lists.{at_set, at_snoc, set_again}
 use Rattle.bench_core.specs.Told.{Row, IsRow}
 use Rattle.bench_shared.specs.Rows.{InOrder, StartsWith}
-use Rattle.bench_shared.specs.inner.Rows.{word_of, word_at, word_of_last}
+use Rattle.bench_shared.specs.inner.Rows.{row_word, row_word_at, word_of_last}
 use Rattle.bench_shared.specs.inner.Boards.{engine, watcher, hearing, Fits, Kept, Posts, Looks, Compares}
 use Rattle.bench_shared.specs.declared.rule.View.{View}
 use Rattle.bench_shared.proofs.Rowing.{starts-refl, starts-same, starts-more, starts-none, last_row-push, in_order-push}
@@ -57,7 +57,7 @@ looks slots id me s h size at below =
       (
         posted,
         h.1,
-        same_word s.words (word_at posted) h.2,
+        same_word s.words (row_word_at posted) h.2,
         h.3,
         fits_set h.1 posted s.views id (watcher posted)
             (λ j u _ e. h.4 j u e) (watcher_fits h.1 posted posted id (starts-refl posted)),
@@ -78,7 +78,7 @@ compares slots id me is_engine s h size at below =
       (
         posted,
         h.1,
-        same_word s.words (word_at posted) h.2,
+        same_word s.words (row_word_at posted) h.2,
         h.3,
         fits_set h.1 posted s.views id w
             (λ j u _ e. h.4 j u e) record { whole = λ _. known; seen = mine.seen; heard = starts-none posted },
@@ -87,7 +87,7 @@ compares slots id me is_engine s h size at below =
     )
 
 pub posts : (slots id : ℕ) (me : Me (Unit {0}) View) (r : Row) (new : ℕ) → me.0.posts ≡ true → IsRow r
-    → r.pulse ≡ length me.0.rows + 1 → new ≡ word_of r
+    → r.pulse ≡ length me.0.rows + 1 → new ≡ row_word r
     → Allows Kept slots id me 0 (λ _. new) (λ _. Posts (step slots 0 new 0 none) me new)
 posts slots id me r new is_engine is next word s h size at below =
     let posted = h.0 in

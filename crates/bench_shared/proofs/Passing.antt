@@ -7,24 +7,24 @@ use Rattle.bench_core.specs.Told.{Row}
 use Rattle.bench_core.specs.Replay.{Entry, Opened, rows_of}
 use Rattle.bench_core.specs.Views.{entry_of}
 use Rattle.bench_shared.specs.Passes.{Placed, OneMore, entry_in, rows_in}
-use Rattle.bench_shared.specs.Receipts.{placed_of, all_placed}
+use Rattle.bench_shared.specs.Receipts.{placed_of, placed_receipts}
 use Rattle.bench_shared.specs.Told.{OpenedLast}
 use Rattle.bench_shared.specs.declared.passes.Receipt.{Receipt}
 use Rattle.bench_shared.proofs.Counting.{rows_of-push}
 
 -- the rows of the closes among these receipts
 abbrev pub rows_among : List Receipt → List Row
-rows_among rs = rows_in (all_placed rs)
+rows_among rs = rows_in (placed_receipts rs)
 
 entries-push : (rs : List Receipt) (r : Receipt)
-    → map entry_in (all_placed (rs ++ r ∷ [])) ≡ map entry_in (all_placed rs) ++ entry_of r.entry ∷ []
+    → map entry_in (placed_receipts (rs ++ r ∷ [])) ≡ map entry_in (placed_receipts rs) ++ entry_of r.entry ∷ []
 entries-push [] r = refl
 entries-push (x ∷ xs) r = ap (λ l. entry_of x.entry ∷ l) (entries-push xs r)
 
 pub rows_after : (rs : List Receipt) (r : Receipt) (now : List Receipt) → now ≡ rs ++ r ∷ []
     → rows_among now ≡ rows_among rs ++ rows_of (entry_of r.entry ∷ [])
 rows_after rs r now is = ap rows_among is ∙ ap rows_of (entries-push rs r)
-    ∙ rows_of-push (map entry_in (all_placed rs)) (entry_of r.entry)
+    ∙ rows_of-push (map entry_in (placed_receipts rs)) (entry_of r.entry)
 
 -- the rows stay, where the entry is no close
 pub rows_stay : (rs : List Receipt) (r : Receipt) (now : List Receipt) → now ≡ rs ++ r ∷ []
@@ -37,11 +37,11 @@ count_after rs r now n m is was more = omega (arith, ap length is, length-append
 
 -- the receipts as plain data, with one more
 pub placed_after : (rs : List Receipt) (r : Receipt) (now : List Receipt) (was : List Placed) (e : Entry)
-    → now ≡ rs ++ r ∷ [] → all_placed rs ≡ was
-    → entry_of r.entry ≡ e → OneMore was e (all_placed now)
+    → now ≡ rs ++ r ∷ [] → placed_receipts rs ≡ was
+    → entry_of r.entry ≡ e → OneMore was e (placed_receipts now)
 placed_after rs r now was e is before entry = (
   r.place,
-  ap all_placed is ∙ map-append placed_of rs (r ∷ []) ∙ ap (λ l. l ++ placed_of r ∷ []) before
+  ap placed_receipts is ∙ map-append placed_of rs (r ∷ []) ∙ ap (λ l. l ++ placed_of r ∷ []) before
       ∙ ap (λ x. was ++ (r.place, x) ∷ []) entry,
 )
 
@@ -54,10 +54,10 @@ grown rs mid now r is room = is ∙ ap (λ l. l ++ r ∷ []) room
 
 -- the last receipt, as plain data
 pub opened_last : (rs : List Receipt) (r : Receipt) (coins : List ℕ) → 0 < length rs
-    → r ≡ get_or rs (length rs - 1) r → entry_of r.entry ≡ Opened coins → OpenedLast (all_placed rs) coins
+    → r ≡ get_or rs (length rs - 1) r → entry_of r.entry ≡ Opened coins → OpenedLast (placed_receipts rs) coins
 opened_last rs r coins several at is = (
   r.place,
-  ap (λ n. slice_get (all_placed rs) (n - 1)) (length-map rs placed_of) ∙ slice_get-map placed_of rs (length rs - 1)
+  ap (λ n. slice_get (placed_receipts rs) (n - 1)) (length-map rs placed_of) ∙ slice_get-map placed_of rs (length rs - 1)
       ∙ ap (option_map placed_of) (slice_get-get_or rs (length rs - 1) r (omega (arith, several)) ∙ ap Some (sym at))
       ∙ ap (λ (e : Entry). Some (r.place, e)) is,
 )

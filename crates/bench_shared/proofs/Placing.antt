@@ -11,7 +11,7 @@ use Rattle.bench_core.specs.Replay.{Entry, Staged, Opened, Closed, Abandoned, ro
 use Rattle.bench_core.specs.Views.{entry_of}
 use Rattle.bench_shared.specs.Passes.{Placed, rows_in}
 use Rattle.bench_shared.specs.Ends.{same_actor, is_by, placed_from, placed_by}
-use Rattle.bench_shared.specs.Receipts.{placed_of, all_placed}
+use Rattle.bench_shared.specs.Receipts.{placed_of, placed_receipts}
 use Rattle.bench_shared.specs.declared.passes.Receipt.{Receipt}
 
 -- the entry with its place, if it is the actor's
@@ -61,9 +61,9 @@ entry_passed history i e actor below at is = one_taken history i e actor below a
 
 pub receipt_taken : (rs : List Receipt) (k : ℕ) (r : Receipt) (p : Placed) → k < length rs → r ≡ get_or rs k r
     → placed_of r ≡ p
-    → all_placed (take (k + 1) rs) ≡ all_placed (take k rs) ++ p ∷ []
-receipt_taken rs k r p below at is = ap all_placed (take_more rs k r below ∙ ap (λ x. take k rs ++ x ∷ []) (sym at))
-    ∙ map-append placed_of (take k rs) (r ∷ []) ∙ ap (λ x. all_placed (take k rs) ++ x ∷ []) is
+    → placed_receipts (take (k + 1) rs) ≡ placed_receipts (take k rs) ++ p ∷ []
+receipt_taken rs k r p below at is = ap placed_receipts (take_more rs k r below ∙ ap (λ x. take k rs ++ x ∷ []) (sym at))
+    ∙ map-append placed_of (take k rs) (r ∷ []) ∙ ap (λ x. placed_receipts (take k rs) ++ x ∷ []) is
 
 -- the answer to whether two actors are one is the test's
 pub same_actor-told : (a b : Actor) (r : Bool) → (IsTrue r ↔ (a ≡ b)) → same_actor a b ≡ r

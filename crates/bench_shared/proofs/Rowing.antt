@@ -2,11 +2,11 @@
 use Rattle.std.proofs.Common.{◌≡◌, ◌⊎◌, ◌<◌, ◌≤◌, ℕ, ◌+◌, ◌*◌, List, [], ◌∷◌, ◌++◌, length, Some, None, refl, sym, ap, ◌∙◌, subst, arith, append_assoc, length-append}
 use Rattle.std.proofs.lemmas.Bool.Decides.{nat_tests}
 use Rattle.bench_core.specs.Told.{Row, IsRow}
-use Rattle.clock_nodes.specs.declared.rule.TheConstants.{MOST_MODULUS}
-use Rattle.bench_core.specs.declared.limits.TheConstants.{CLOCKS_DIFFER, MOST_COUNTED}
+use Rattle.clock_nodes.specs.declared.rule.TheConstants.{MAX_MODULUS}
+use Rattle.bench_core.specs.declared.limits.TheConstants.{CLOCKS_DIFFER, MAX_COUNTED}
 use Rattle.bench_shared.specs.declared.word.TheConstants.{ZERO_UNIT, COMMON_UNIT, PULSE_UNIT}
 use Rattle.bench_shared.specs.Rows.{last_row, InOrderFrom, InOrder, StartsWith}
-use Rattle.bench_shared.specs.inner.Rows.{short_of, word_of}
+use Rattle.bench_shared.specs.inner.Rows.{short_of, row_word}
 
 pub starts-refl : (rows : List Row) → StartsWith rows rows
 starts-refl rows = ([], append-nil' rows)
@@ -52,24 +52,24 @@ in_order-none n (x ∷ y ∷ ys) e = absurd (ne x y ys e)
 
 -- a clock, or the number for clocks that differ
 abbrev IsCommon : ℕ → Type 0
-IsCommon a = (a < MOST_MODULUS) ⊎ (a ≡ CLOCKS_DIFFER)
+IsCommon a = (a < MAX_MODULUS) ⊎ (a ≡ CLOCKS_DIFFER)
 
-short_of-bound : (a : ℕ) → IsCommon a → short_of a ≤ MOST_MODULUS
+short_of-bound : (a : ℕ) → IsCommon a → short_of a ≤ MAX_MODULUS
 short_of-bound a h = grind (arith, nat_tests)
 
 short_of-injective : (a b : ℕ) → IsCommon a → IsCommon b → short_of a ≡ short_of b → a ≡ b
 short_of-injective a b h k e = grind (arith, nat_tests)
 
 -- the parts of a word
-digits : (p q a b c d e f : ℕ) → a ≤ MOST_MODULUS → b ≤ MOST_MODULUS → c ≤ MOST_COUNTED → d ≤ MOST_COUNTED
-    → e ≤ MOST_COUNTED → f ≤ MOST_COUNTED
+digits : (p q a b c d e f : ℕ) → a ≤ MAX_MODULUS → b ≤ MAX_MODULUS → c ≤ MAX_COUNTED → d ≤ MAX_COUNTED
+    → e ≤ MAX_COUNTED → f ≤ MAX_COUNTED
     → ((p * PULSE_UNIT + a * COMMON_UNIT) + c * ZERO_UNIT) + e ≡
     ((q * PULSE_UNIT + b * COMMON_UNIT) + d * ZERO_UNIT) + f
     → (p ≡ q) × (a ≡ b) × (c ≡ d) × (e ≡ f)
 digits p q a b c d e f ha hb hc hd he hf eq = (omega arith, omega arith, omega arith, omega arith)
 
 -- rows of one word are one row
-pub word_of-injective : (r s : Row) → IsRow r → IsRow s → word_of r ≡ word_of s → r ≡ s
+pub word_of-injective : (r s : Row) → IsRow r → IsRow s → row_word r ≡ row_word s → r ≡ s
 word_of-injective r s hr hs e =
     let d = digits r.pulse s.pulse (short_of r.common) (short_of s.common) r.zeros s.zeros r.settled s.settled
     (short_of-bound r.common hr.common) (short_of-bound s.common hs.common) hr.zeros hs.zeros hr.settled hs.settled e in

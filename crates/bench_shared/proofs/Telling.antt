@@ -4,7 +4,7 @@ use mathlib.Core.Option.{none}
 use Rattle.atomic_table.specs.Table.{Me, step}
 use Rattle.bench_core.specs.Told.{Row, IsRow}
 use Rattle.bench_shared.specs.Rows.{last_row, InOrder, StartsWith}
-use Rattle.bench_shared.specs.inner.Rows.{word_of, word_at, word_of_last, pulse_of}
+use Rattle.bench_shared.specs.inner.Rows.{row_word, row_word_at, word_of_last, pulse_of}
 use Rattle.bench_shared.specs.inner.Boards.{engine, watcher, Posts, Looks}
 use Rattle.bench_shared.specs.declared.rule.View.{View}
 use Rattle.bench_shared.proofs.Rowing.{word_of-injective, in_order-push, in_order-last, in_order-none}
@@ -13,17 +13,17 @@ abbrev pub SeatMe : Type 0
 SeatMe = Me (Unit {0}) View
 
 pub looked : (old : SeatMe) (n : ℕ) (me : SeatMe) → old ≡ (watcher old.0.rows, []) → Looks (step 0 0 0 0 none) old n me
-    → (me ≡ (watcher me.0.rows, [])) × (n ≡ word_at me.0.rows) × InOrder me.0.rows × StartsWith me.0.rows old.0.rows
+    → (me ≡ (watcher me.0.rows, [])) × (n ≡ row_word_at me.0.rows) × InOrder me.0.rows × StartsWith me.0.rows old.0.rows
 looked old n me is l =
     let r : me.0.rows ≡ l.0 = ap (λ (m : SeatMe). m.0.rows) l.1 in (
       l.1 ∙ (λ i. (watcher (sym r i), ap (λ (m : SeatMe). m.1) is i)),
-      l.2 ∙ ap word_at (sym r),
+      l.2 ∙ ap row_word_at (sym r),
       subst (λ rows. InOrder rows) (sym r) l.3,
       subst (λ rows. StartsWith rows old.0.rows) (sym r) l.4,
     )
 
-pub found : (rows : List Row) (n : ℕ) (o : Option Row) → n ≡ word_at rows → InOrder rows → (n ≡ 0 → o ≡ None)
-    → ((r : Row) → IsRow r → n ≡ word_of r → o ≡ Some r) → o ≡ last_row rows
+pub found : (rows : List Row) (n : ℕ) (o : Option Row) → n ≡ row_word_at rows → InOrder rows → (n ≡ 0 → o ≡ None)
+    → ((r : Row) → IsRow r → n ≡ row_word r → o ≡ Some r) → o ≡ last_row rows
 found rows n o is order none_is some_is = by_last (last_row rows) refl
   where
     by_last : (l : Option Row) → last_row rows ≡ l → o ≡ last_row rows
@@ -38,7 +38,7 @@ last_pulse rows order = by_last (last_row rows) refl
     by_last (Some r) e = ap pulse_of e ∙ omega (arith, (in_order-last 0 rows r order e).1)
 
 pub posted : (old : SeatMe) (n : ℕ) (me : SeatMe) (r : Row) → old ≡ (engine old.0.rows, []) → InOrder old.0.rows
-    → IsRow r → n ≡ word_of r → r.pulse ≡ length old.0.rows + 1 → Posts (step 0 0 0 0 none) old n me
+    → IsRow r → n ≡ row_word r → r.pulse ≡ length old.0.rows + 1 → Posts (step 0 0 0 0 none) old n me
     → (me ≡ (engine me.0.rows, [])) × (me.0.rows ≡ old.0.rows ++ r ∷ []) × InOrder me.0.rows
 posted old n me r is order ranges word next p =
     let same : p.0 ≡ r = word_of-injective p.0 r p.1 ranges (p.2 ∙ word) in

@@ -7,5 +7,5 @@ use Rattle.bench_shared.specs.declared.passes.Receipt.{Receipt}
 abbrev pub placed_of : Receipt → Placed
 placed_of r = (r.place, entry_of r.entry)
 
-abbrev pub all_placed : List Receipt → List Placed
-all_placed receipts = map placed_of receipts
+abbrev pub placed_receipts : List Receipt → List Placed
+placed_receipts receipts = map placed_of receipts

@@ -5,7 +5,7 @@ ghost use Rattle.bench_core.specs.declared.actor.Actor.TheVariants.{Loader, Engi
 ghost use Rattle.bench_core.specs.Replay.{rows_of};
 ghost use Rattle.bench_core.specs.Views.{entry_of};
 ghost use Rattle.bench_shared.specs.Ends.{placed_by, EachOnce, is_close, is_load};
-ghost use Rattle.bench_shared.specs.Receipts.{placed_of, all_placed};
+ghost use Rattle.bench_shared.specs.Receipts.{placed_of, placed_receipts};
 
 use crate::passes::{EnginePass, LoaderPass, Receipt};
 use bench_core::{Actor, Change, Entry};
@@ -109,7 +109,7 @@ fn is_for(receipt: &Receipt, place: usize, entry: &Entry) -> bool
 
 /// Whether the receipts are for the entries of the actor, in order, at their places.
 fn are_for(history: &[Entry], actor: Actor, receipts: &[Receipt]) -> bool
-    ensures { IsTrue result → placed_by actor (map entry_of history.now) ≡ all_placed receipts.now }
+    ensures { IsTrue result → placed_by actor (map entry_of history.now) ≡ placed_receipts receipts.now }
 {
     let mut count = 0;
     for (place, entry) in history.iter().enumerate() {

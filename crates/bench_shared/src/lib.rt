@@ -3,8 +3,8 @@
 
 mod board;
 mod finish;
+mod locked_bench;
 mod passes;
-mod round;
 mod rule;
 mod shared;
 mod word;
@@ -12,4 +12,4 @@ mod word;
 pub use board::{Board, WatchPass};
 pub use finish::Finished;
 pub use passes::{EnginePass, LoaderPass, Receipt};
-pub use shared::{MOST_LOADERS, MOST_WATCHERS, SharedBench};
+pub use shared::{MAX_LOADERS, MAX_WATCHERS, SharedBench};

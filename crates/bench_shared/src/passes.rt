@@ -2,7 +2,7 @@
 ghost use Rattle.std.specs.Prelude.{◌≡◌, ◌+◌, ◌∷◌, [], ◌++◌, length, None, Some, option_to_list};
 ghost use Rattle.bench_shared.specs.Rows.{InOrder, StartsWith};
 ghost use Rattle.bench_shared.specs.Passes.{rows_in};
-ghost use Rattle.bench_shared.specs.Receipts.{all_placed};
+ghost use Rattle.bench_shared.specs.Receipts.{placed_receipts};
 
 use crate::board::{Board, EngineSeat, WatchPass};
 use bench_core::{Entry, Row};
@@ -28,11 +28,11 @@ pub struct LoaderPass<B: Ledger, C: Ledger> {
 impl<B: Ledger, C: Ledger> Model for LoaderPass<B, C> {
     ghost use Rattle.std.specs.Prelude.{◌≡◌, length};
     ghost use Rattle.bench_shared.specs.Passes.{LoaderView};
-    ghost use Rattle.bench_shared.specs.Receipts.{all_placed};
+    ghost use Rattle.bench_shared.specs.Receipts.{placed_receipts};
 
     ghost Value = { LoaderView };
 
-    ghost view = { λ p. record { number = p.number; receipts = all_placed p.receipts.items } };
+    ghost view = { λ p. record { number = p.number; receipts = placed_receipts p.receipts.items } };
 
     ghost invariant = { λ p. record {
       part : p.share.parts ≡ 1;
@@ -55,14 +55,14 @@ pub struct EnginePass<B: Ledger, C: Ledger> {
 impl<B: Ledger, C: Ledger> Model for EnginePass<B, C> {
     ghost use Rattle.std.specs.Prelude.{◌≡◌, ◌++◌, ◌<◌, true, length, vec_len, vec_capacity, option_to_list};
     ghost use Rattle.bench_shared.specs.Passes.{EngineView, rows_in};
-    ghost use Rattle.bench_shared.specs.Receipts.{all_placed};
+    ghost use Rattle.bench_shared.specs.Receipts.{placed_receipts};
     ghost use Rattle.bench_shared.specs.Rows.{InOrder};
 
     ghost Value = { EngineView };
 
     ghost view = { λ p. record {
       board = p.seat.board;
-      receipts = all_placed p.receipts.items;
+      receipts = placed_receipts p.receipts.items;
       posted = p.seat.rows;
       owed = p.owed;
     } };
@@ -72,9 +72,9 @@ impl<B: Ledger, C: Ledger> Model for EnginePass<B, C> {
       counted : p.share.amount ≡ length p.receipts.items;
       close_part : p.closes.parts ≡ 1;
       close_whole : p.closes.parts ≡ C.parts;
-      closes_counted : p.closes.amount ≡ length (rows_in (all_placed p.receipts.items));
-      rows : rows_in (all_placed p.receipts.items) ≡ p.seat.rows ++ option_to_list p.owed;
-      order : InOrder (rows_in (all_placed p.receipts.items));
+      closes_counted : p.closes.amount ≡ length (rows_in (placed_receipts p.receipts.items));
+      rows : rows_in (placed_receipts p.receipts.items) ≡ p.seat.rows ++ option_to_list p.owed;
+      order : InOrder (rows_in (placed_receipts p.receipts.items));
       room : p.is_open ≡ true → vec_len p.receipts < vec_capacity p.receipts;
     } };
 }
@@ -82,7 +82,7 @@ impl<B: Ledger, C: Ledger> Model for EnginePass<B, C> {
 impl<B: Ledger, C: Ledger> LoaderPass<B, C> {
     /// Returns what it staged, in order.
     pub fn receipts(&self) -> &[Receipt]
-        ensures { all_placed result.now ≡ self.now.receipts }
+        ensures { placed_receipts result.now ≡ self.now.receipts }
     {
         &self.receipts
     }
@@ -91,7 +91,7 @@ impl<B: Ledger, C: Ledger> LoaderPass<B, C> {
 impl<B: Ledger, C: Ledger> EnginePass<B, C> {
     /// Returns what it opened, closed and abandoned, in order.
     pub fn receipts(&self) -> &[Receipt]
-        ensures receipts { all_placed result.now ≡ self.now.receipts }
+        ensures receipts { placed_receipts result.now ≡ self.now.receipts }
         ensures rows { rows_in self.now.receipts ≡ self.now.posted ++ option_to_list self.now.owed }
         ensures order { InOrder (rows_in self.now.receipts) }
     {

@@ -12,8 +12,8 @@ ghost use Rattle.bench_shared.specs.Told.{OpenedLast, TellsClose, TellsAgreement
 
 use crate::board::{Board, EngineSeat, WatchPass};
 use crate::finish::{Finished, are_all};
+use crate::locked_bench::LockedBench;
 use crate::passes::{EnginePass, LoaderPass, Receipt};
-use crate::round::Round;
 use bench_core::{
     Actor, Bench, Change, ClockProgram, CloseError, Entry, NodeDone, NodeTask, OpenError,
     PulseRecord, StageError, are_coins, stage_error,
@@ -28,16 +28,16 @@ use std::sync::ledger::{Blank, Ledger, Share};
 use std::sync::{Mutex, Wait};
 
 /// The most loaders of a bench. It has one at least.
-pub const MOST_LOADERS: u32 = 8;
+pub const MAX_LOADERS: u32 = 8;
 
 /// The most watchers of a bench.
-pub const MOST_WATCHERS: u32 = 8;
+pub const MAX_WATCHERS: u32 = 8;
 
 /// A bench under a lock. Each change, opening, close and abandon is one entry of its history, put there under the lock.
 /// `B` and `C` name the bench, so that no pass of another one fits.
 #[derive(Drop)]
 pub struct SharedBench<B: Ledger, C: Ledger> {
-    round: Mutex<Round<B, C>>,
+    round: Mutex<LockedBench<B, C>>,
     shape: Shape,
     rule: ClockRule,
     clock: ClockProgram,
@@ -123,8 +123,8 @@ impl<B: Ledger, C: Ledger> SharedBench<B, C> {
         requires closes { (closes.name ≡ C.name) × (closes.parts ≡ C.parts) × (closes.parts ≡ 1) }
         requires nodes { rule.nodes ≡ shape.nodes }
         requires some { 1 ≤ loaders }
-        requires few { loaders ≤ MOST_LOADERS }
-        requires watchers { watchers ≤ MOST_WATCHERS }
+        requires few { loaders ≤ MAX_LOADERS }
+        requires watchers { watchers ≤ MAX_WATCHERS }
         ensures plan { IfOk result (λ r. r.0 ≡ record { setup = setup_of shape rule; loaders = loaders }) }
         ensures engine { IfOk result (λ r. r.2 ≡ record { board = r.1; receipts = []; posted = []; owed = None }) }
         ensures loaders { IfOk result (λ r. (vec_len r.3 ≡ loaders) × AreNew r.3.items) }
@@ -161,8 +161,8 @@ impl<B: Ledger, C: Ledger> SharedBench<B, C> {
         requires closes { (closes.name ≡ C.name) × (closes.parts ≡ C.parts) × (closes.parts ≡ 1) }
         requires nodes { rule.nodes ≡ shape.nodes }
         requires some { 1 ≤ loaders }
-        requires few { loaders ≤ MOST_LOADERS }
-        requires watchers { watchers ≤ MOST_WATCHERS }
+        requires few { loaders ≤ MAX_LOADERS }
+        requires watchers { watchers ≤ MAX_WATCHERS }
         ensures plan { IfOk result (λ r. r.0 ≡ record { setup = setup_with shape rule clock; loaders = loaders }) }
         ensures engine { IfOk result (λ r. r.2 ≡ record { board = r.1; receipts = []; posted = []; owed = None }) }
         ensures loaders { IfOk result (λ r. (vec_len r.3 ≡ loaders) × AreNew r.3.items) }
@@ -177,7 +177,7 @@ impl<B: Ledger, C: Ledger> SharedBench<B, C> {
         let bench = Bench::with_clock(alloc, shape, rule, clock)?;
         let clock = bench.clock_program().copy(alloc)?;
         let shared = SharedBench {
-            round: Mutex::new(Round::new(bench, entries, closes)),
+            round: Mutex::new(LockedBench::new(bench, entries, closes)),
             shape,
             rule,
             clock,

@@ -1,10 +1,10 @@
 //! A row as one word of 64 bits. The word 0 is no row.
 ghost use Rattle.std.specs.Prelude.{◌≡◌, None, Some};
 ghost use Rattle.bench_core.specs.Told.{Row as RowValue, IsRow};
-ghost use Rattle.bench_shared.specs.inner.Rows.{short_of, word_of};
+ghost use Rattle.bench_shared.specs.inner.Rows.{short_of, row_word};
 
-use bench_core::{CLOCKS_DIFFER, MOST_COUNTED, MOST_PULSES, Row};
-use clock_nodes::MOST_MODULUS;
+use bench_core::{CLOCKS_DIFFER, MAX_BENCH_PULSES, MAX_COUNTED, Row};
+use clock_nodes::MAX_MODULUS;
 
 /// What one node at zero, one of the common clock and one pulse add to a word. One settled node adds 1.
 pub(crate) const ZERO_UNIT: u64 = 128;
@@ -17,16 +17,16 @@ pub(crate) const PULSE_UNIT: u64 = 2_147_483_648;
 fn short(common: u32) -> u64
     ensures { result ≡ short_of common }
 {
-    if common < MOST_MODULUS {
+    if common < MAX_MODULUS {
         u64::from(common)
     } else {
-        u64::from(MOST_MODULUS)
+        u64::from(MAX_MODULUS)
     }
 }
 
 /// The word of a row.
 pub(crate) fn word(row: Row) -> u64
-    ensures word { result ≡ word_of row }
+    ensures word { result ≡ row_word row }
     ensures ranges { IsRow row }
 {
     u64::from(row.pulse) * PULSE_UNIT
@@ -38,21 +38,21 @@ pub(crate) fn word(row: Row) -> u64
 /// The row of a word, or none of a word that isn't a row's.
 pub(crate) fn row(word: u64) -> Option<Row>
     ensures none { word ≡ 0 → result ≡ None }
-    ensures some { (r : RowValue) → IsRow r → word ≡ word_of r → result ≡ Some r }
+    ensures some { (r : RowValue) → IsRow r → word ≡ row_word r → result ≡ Some r }
 {
     let pulse = word / PULSE_UNIT;
     let common = word % PULSE_UNIT / COMMON_UNIT;
     let zeros = word % COMMON_UNIT / ZERO_UNIT;
     let settled = word % ZERO_UNIT;
     if pulse == 0
-        || pulse > u64::from(MOST_PULSES)
-        || common > u64::from(MOST_MODULUS)
-        || zeros > u64::from(MOST_COUNTED)
-        || settled > u64::from(MOST_COUNTED)
+        || pulse > u64::from(MAX_BENCH_PULSES)
+        || common > u64::from(MAX_MODULUS)
+        || zeros > u64::from(MAX_COUNTED)
+        || settled > u64::from(MAX_COUNTED)
     {
         return None;
     }
-    let common = if common == u64::from(MOST_MODULUS) {
+    let common = if common == u64::from(MAX_MODULUS) {
         CLOCKS_DIFFER
     } else {
         common as u32

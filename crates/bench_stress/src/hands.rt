@@ -3,16 +3,16 @@
 ghost use Rattle.std.specs.Prelude.{◌≡◌, ◌+◌, ◌≤◌, None, All, IfOk, IsTrue, vec_len, Contains};
 ghost use Rattle.bench_core.specs.Replay.{StagesAccepted};
 ghost use Rattle.bench_shared.specs.Ends.{HasReplay};
-ghost use Rattle.bench_shared.specs.declared.shared.TheConstants.{MOST_LOADERS};
-ghost use Rattle.bench_workers.specs.declared.tasks.TheConstants.{MOST_WORKERS};
+ghost use Rattle.bench_shared.specs.declared.shared.TheConstants.{MAX_LOADERS};
+ghost use Rattle.bench_workers.specs.declared.tasks.TheConstants.{MAX_WORKERS};
 ghost use Rattle.bench_stress.specs.Stressed.{HasEntries, nearest, stressed_setup};
 
 use crate::loaders::{Programs, accept_both, begin, join_all};
 use crate::setup::setup;
 use crate::stop::{Stop, first_of};
 use bench_core::{CloseError, OpenError};
-use bench_engine::{EngineError, MOST_WORKERS, Open, WorkError, pulse};
-use bench_shared::{Board, EnginePass, Finished, LoaderPass, MOST_LOADERS, SharedBench, WatchPass};
+use bench_engine::{EngineError, MAX_WORKERS, Open, WorkError, pulse};
+use bench_shared::{Board, EnginePass, Finished, LoaderPass, MAX_LOADERS, SharedBench, WatchPass};
 use std::alloc::Global;
 use std::marker::Brand;
 use std::sync::Wait;
@@ -58,7 +58,7 @@ fn all_pulses<B: Ledger, C: Ledger, R: Threads + Wait + Sync>(
     watch: &mut WatchPass,
 ) -> Option<Stop>
     requires some { 1 ≤ options.workers }
-    requires few { options.workers ≤ MOST_WORKERS }
+    requires few { options.workers ≤ MAX_WORKERS }
     requires board { engine.old.board ≡ board.now }
     requires watcher { watch.old.board ≡ board.now }
     requires paid { engine.old.owed ≡ None }
@@ -99,7 +99,7 @@ fn run_in<'s, E, B: Ledger + Send + Sync, C: Ledger + Send + Sync, R: Threads + 
     passes: Vec<LoaderPass<B, C>>,
 ) -> (Vec<LoaderPass<B, C>>, Option<Stop>)
     requires some { 1 ≤ options.workers }
-    requires few { options.workers ≤ MOST_WORKERS }
+    requires few { options.workers ≤ MAX_WORKERS }
     requires board { engine.old.board ≡ board.now }
     requires watcher { watch.old.board ≡ board.now }
     requires paid { engine.old.owed ≡ None }
@@ -127,7 +127,7 @@ fn beside<B: Ledger + Send + Sync, C: Ledger + Send + Sync, R: Threads + Wait + 
     passes: Vec<LoaderPass<B, C>>,
 ) -> (EnginePass<B, C>, Vec<LoaderPass<B, C>>, Option<Stop>)
     requires some { 1 ≤ options.workers }
-    requires few { options.workers ≤ MOST_WORKERS }
+    requires few { options.workers ≤ MAX_WORKERS }
     requires board { engine.board ≡ board.now }
     requires watcher { watch.board ≡ board.now }
     requires paid { engine.owed ≡ None }
@@ -138,7 +138,7 @@ fn beside<B: Ledger + Send + Sync, C: Ledger + Send + Sync, R: Threads + Wait + 
         rt,
         move |scope| -> (EnginePass<B, C>, Vec<LoaderPass<B, C>>, Option<Stop>)
             requires some { 1 ≤ options.workers }
-            requires few { options.workers ≤ MOST_WORKERS }
+            requires few { options.workers ≤ MAX_WORKERS }
             requires board { engine.board ≡ board.now }
             requires watcher { watch.board ≡ board.now }
             requires paid { engine.owed ≡ None }
@@ -195,8 +195,8 @@ fn hands<B: Ledger + Send + Sync, C: Ledger + Send + Sync, R: Threads + Wait + S
 ) -> Result<Finished, Stop>
     requires entries { (entries.name ≡ B.name) × (entries.parts ≡ B.parts) × (entries.parts ≡ options.loaders + 1) }
     requires closes { (closes.name ≡ C.name) × (closes.parts ≡ C.parts) × (closes.parts ≡ 1) }
-    requires loaders { (1 ≤ options.loaders) × (options.loaders ≤ MOST_LOADERS) }
-    requires workers { (1 ≤ options.workers) × (options.workers ≤ MOST_WORKERS) }
+    requires loaders { (1 ≤ options.loaders) × (options.loaders ≤ MAX_LOADERS) }
+    requires workers { (1 ≤ options.workers) × (options.workers ≤ MAX_WORKERS) }
     ensures replays { IfOk result (HasReplay stressed_setup) }
     ensures accepted { IfOk result (All StagesAccepted) }
     ensures entries { IfOk result (HasEntries options.loaders options.loads options.pulses) }
@@ -236,8 +236,8 @@ pub fn stress_bench<R: Threads + Wait + Sync>(
     ensures accepted { IfOk result (All StagesAccepted) }
     ensures entries { IfOk result (HasEntries (nearest options.loaders) options.loads options.pulses) }
 {
-    let loaders = options.loaders.clamp(1, MOST_LOADERS);
-    let workers = options.workers.clamp(1, MOST_WORKERS);
+    let loaders = options.loaders.clamp(1, MAX_LOADERS);
+    let workers = options.workers.clamp(1, MAX_WORKERS);
     let options = StressOptions {
         loaders,
         workers,

@@ -2,7 +2,7 @@
 use Rattle.std.proofs.Common.{◌≡◌, ℕ, ◌+◌, ◌<◌, ◌^◌, ◌≤◌, List, [], ◌∷◌, ◌++◌, length, map, refl, sym, ap, ◌∙◌, subst, arith, length-append}
 use Rattle.std.proofs.lemmas.List.{length-map, map-append}
 use Rattle.std.specs.Prelude.{None, Result, Ok, Err, IfErr, IfOk}
-use Rattle.bench_core.specs.declared.limits.TheConstants.{MOST_ENTRIES}
+use Rattle.bench_core.specs.declared.limits.TheConstants.{MAX_ENTRIES}
 use Rattle.bench_core.specs.Setup.{Setup}
 use Rattle.bench_core.specs.State.{State, new_state, opened_state, AreCoins}
 use Rattle.bench_core.specs.Told.{PulseTold}
@@ -114,7 +114,7 @@ opening_fault (Err f) s b all done rest x place stands at kept here stopped =
 
 -- numbers of events and pulses fit their types
 pub places_fit : (s : Setup) (b : BenchValue) (done : List EventCode) (place pulses : ℕ) → AreDone s done b
-    → place ≡ length done → pulses ≡ pulses_in (map event_of done) → length b.history ≤ MOST_ENTRIES
+    → place ≡ length done → pulses ≡ pulses_in (map event_of done) → length b.history ≤ MAX_ENTRIES
     → (place + 1 < 2 ^ 32) × (pulses + 1 < 2 ^ 32)
 places_fit s b done place pulses kept at count few =
     let entries = entries-count (map event_of done) in

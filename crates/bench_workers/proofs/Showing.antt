@@ -9,7 +9,7 @@ use Rattle.bench_core.specs.Told.{PulseTold, IsRecord, AreSteps}
 use Rattle.bench_core.specs.Pulse.{Pulse}
 use Rattle.bench_core.specs.Replay.{Advances, BenchValue, Opened, Replays}
 use Rattle.bench_core.specs.Tasks.{Task, Done, HandedOut, IsExact, RanEach, tasks_of}
-use Rattle.bench_core.specs.declared.limits.TheConstants.{MOST_ENTRIES}
+use Rattle.bench_core.specs.declared.limits.TheConstants.{MAX_ENTRIES}
 use Rattle.bench_core.proofs.Results.{results_fit}
 use Rattle.bench_workers.specs.declared.event.Event.{Event as EventCode}
 use Rattle.bench_workers.specs.declared.event.RunFault.{RunFault}
@@ -228,7 +228,7 @@ kept_seen T s old new done x records more k k1 k2 o o1 o2 kept watched =
 pub place_fits_seen : {K S : Type 0} (T : K → S → Seen → K → S → Type 0) (s : Setup) (old new : BenchValue)
     (done : List EventCode) (x : EventCode) (records more : List PulseTold) (k k1 k2 : K) (o o1 o2 : S) (place : ℕ)
     → IsKeptSeen T s done records old k o k1 o1 → IsWatched T old records k1 o1 (event_of x) new more k2 o2
-    → place ≡ length done → length new.history ≤ MOST_ENTRIES → place + 1 < 2 ^ 32
+    → place ≡ length done → length new.history ≤ MAX_ENTRIES → place + 1 < 2 ^ 32
 place_fits_seen T s old new done x records more k k1 k2 o o1 o2 place kept watched at few =
     omega (arith, entries-count (map event_of done), length-map done event_of, watched.goes.count, kept.count)
 

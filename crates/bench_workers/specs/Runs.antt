@@ -1,6 +1,6 @@
 -- The run of a list of events, and the fault of one (docs/SCENARIOS.md, "Runs").
 use Rattle.std.specs.Prelude.{◌≡◌, ℕ, ◌+◌, ◌<◌, ◌≤◌, List, [], ◌∷◌, length, map, take, slice_get, Some}
-use Rattle.bench_core.specs.declared.limits.TheConstants.{MOST_ENTRIES}
+use Rattle.bench_core.specs.declared.limits.TheConstants.{MAX_ENTRIES}
 use Rattle.bench_core.specs.declared.refusal.StageError.TheVariants as stage
 use Rattle.bench_core.specs.Setup.{Setup}
 use Rattle.bench_core.specs.State.{State, new_state, staged_state, opened_state, IsChange, AreCoins}
@@ -15,10 +15,10 @@ use Rattle.bench_workers.specs.declared.event.RunRefusal.TheVariants as refusals
 -- from this state, with this many entries so far, the events give these records and lead to that state
 abbrev pub Goes : Setup → State → ℕ → List Event → List PulseTold → State → Type 0
 Goes s b n [] rs b' = (rs ≡ []) × (b' ≡ b)
-Goes s b n (Stage c ∷ es) rs b' = IsChange s.shape c × (n < MOST_ENTRIES) × Goes s (staged_state b c) (n + 1) es rs b'
+Goes s b n (Stage c ∷ es) rs b' = IsChange s.shape c × (n < MAX_ENTRIES) × Goes s (staged_state b c) (n + 1) es rs b'
 Goes s b n (PulseEvent coins ∷ es) [] b' = ⊥
 Goes s b n (PulseEvent coins ∷ es) (r ∷ rs) b' =
-    AreCoins s.shape coins × (n + 2 ≤ MOST_ENTRIES)
+    AreCoins s.shape coins × (n + 2 ≤ MAX_ENTRIES)
     × ((mid : State) × Pulse s (opened_state b coins) mid × IsRecord s (opened_state b coins) mid r
     × Goes s mid (n + 2) es rs b')
 
@@ -39,13 +39,13 @@ abbrev pub IsRefusalOf : Setup → ℕ → Event → RunRefusal → Type 0
 IsRefusalOf s n (Stage c) refusals.BadNode = IsMisfit s.shape c stage.BadNode
 IsRefusalOf s n (Stage c) refusals.OtherShape = IsMisfit s.shape c stage.OtherShape
 IsRefusalOf s n (Stage c) refusals.BadImage = IsMisfit s.shape c stage.BadImage
-IsRefusalOf s n (Stage c) refusals.HistoryFull = IsChange s.shape c × (MOST_ENTRIES < n + 1)
+IsRefusalOf s n (Stage c) refusals.HistoryFull = IsChange s.shape c × (MAX_ENTRIES < n + 1)
 IsRefusalOf s n (PulseEvent coins) refusals.BadCoins = AreCoins s.shape coins → ⊥
-IsRefusalOf s n (PulseEvent coins) refusals.HistoryFull = AreCoins s.shape coins × (MOST_ENTRIES < n + 2)
-IsRefusalOf s n (PulseEvent coins) refusals.NoThread = AreCoins s.shape coins × (n + 2 ≤ MOST_ENTRIES)
-IsRefusalOf s n (PulseEvent coins) refusals.GateShut = AreCoins s.shape coins × (n + 2 ≤ MOST_ENTRIES)
-IsRefusalOf s n (Stage c) refusals.Memory = IsChange s.shape c × (n + 1 ≤ MOST_ENTRIES)
-IsRefusalOf s n (PulseEvent coins) refusals.Memory = AreCoins s.shape coins × (n + 2 ≤ MOST_ENTRIES)
+IsRefusalOf s n (PulseEvent coins) refusals.HistoryFull = AreCoins s.shape coins × (MAX_ENTRIES < n + 2)
+IsRefusalOf s n (PulseEvent coins) refusals.NoThread = AreCoins s.shape coins × (n + 2 ≤ MAX_ENTRIES)
+IsRefusalOf s n (PulseEvent coins) refusals.GateShut = AreCoins s.shape coins × (n + 2 ≤ MAX_ENTRIES)
+IsRefusalOf s n (Stage c) refusals.Memory = IsChange s.shape c × (n + 1 ≤ MAX_ENTRIES)
+IsRefusalOf s n (PulseEvent coins) refusals.Memory = AreCoins s.shape coins × (n + 2 ≤ MAX_ENTRIES)
 IsRefusalOf s n _ _ = ⊥
 
 -- the events before this one give some run, and it is refused after that

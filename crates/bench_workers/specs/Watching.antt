@@ -1,6 +1,6 @@
 -- What a watcher of a run is shown, and what comes of it (docs/ARCHITECTURE.md, "Watchers of a run").
 use Rattle.std.specs.Prelude.{◌≡◌, ◌≢◌, ℕ, ◌+◌, ◌<◌, ◌≤◌, Option, Some, None, List, [], ◌∷◌, ◌++◌, take, option_copied}
-use Rattle.bench_core.specs.declared.limits.TheConstants.{MOST_ENTRIES}
+use Rattle.bench_core.specs.declared.limits.TheConstants.{MAX_ENTRIES}
 use Rattle.bench_core.specs.Setup.{Setup}
 use Rattle.bench_core.specs.State.{State, new_state, staged_state, opened_state, IsChange, AreCoins}
 use Rattle.bench_core.specs.Pulse.{Pulse}
@@ -43,10 +43,10 @@ pub record IsSeen (s : Setup) (b : State) (earlier : Option PulseTold) (x : Seen
 abbrev pub Shows : Setup → State → ℕ → Option PulseTold → List Event → List Seen → State → Type 0
 Shows s b n earlier [] xs b' = (xs ≡ []) × (b' ≡ b)
 Shows s b n earlier (Stage c ∷ es) xs b' =
-    IsChange s.shape c × (n < MOST_ENTRIES) × Shows s (staged_state b c) (n + 1) earlier es xs b'
+    IsChange s.shape c × (n < MAX_ENTRIES) × Shows s (staged_state b c) (n + 1) earlier es xs b'
 Shows s b n earlier (PulseEvent coins ∷ es) [] b' = ⊥
 Shows s b n earlier (PulseEvent coins ∷ es) (x ∷ xs) b' =
-    AreCoins s.shape coins × (n + 2 ≤ MOST_ENTRIES) × IsSeen s (opened_state b coins) earlier x
+    AreCoins s.shape coins × (n + 2 ≤ MAX_ENTRIES) × IsSeen s (opened_state b coins) earlier x
     × Shows s x.after (n + 2) (Some x.told) es xs b'
 
 -- T relates watcher and sink before and after one pulse; this relates them before and after all of them, in order

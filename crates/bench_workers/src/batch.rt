@@ -6,7 +6,7 @@ ghost use Rattle.bench_workers.specs.inner.Batches.{RanInOrder};
 use crate::gate::Gate;
 use crate::waiting::Waiting;
 use bench_core::{NodeDone, NodeTask, Recent};
-use bpf_run::Room;
+use bpf_run::RunScratch;
 use std::snapshot::Snapshot;
 use std::thread::Promise;
 
@@ -90,7 +90,7 @@ pub(crate) fn run_batch<G: Gate>(
 {
     let tasks = waiting.enter(gate, worker)?;
     let mut dones = room;
-    let mut bytes = Room::new();
+    let mut bytes = RunScratch::new();
     let mut recent = recent_of(tasks.len());
     for task in tasks {
         let done = match alike(&mut recent, &task, &dones) {

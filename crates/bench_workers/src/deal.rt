@@ -4,7 +4,7 @@ ghost use Rattle.std.specs.List.{flat_map};
 ghost use Rattle.std.specs.List.Sorted.{IsPermutation};
 ghost use Rattle.bench_workers.specs.inner.Batches.{AreDealt};
 ghost use Rattle.bench_workers.specs.declared.work_error.WorkError.TheVariants.{Memory};
-ghost use Rattle.bench_workers.specs.declared.tasks.TheConstants.{MOST_WORKERS};
+ghost use Rattle.bench_workers.specs.declared.tasks.TheConstants.{MAX_WORKERS};
 
 use crate::work_error::WorkError;
 use bench_core::NodeTask;
@@ -17,7 +17,7 @@ pub(crate) fn deal(
     workers: usize,
 ) -> Result<Vec<Vec<NodeTask>>, WorkError>
     requires some { 1 ≤ workers }
-    requires few { workers ≤ MOST_WORKERS }
+    requires few { workers ≤ MAX_WORKERS }
     ensures count { IfOk result (λ batches. vec_len batches ≡ workers) }
     ensures each { IfOk result (λ batches. AreDealt workers tasks.items (map (λ b. b.items) batches.items)) }
     ensures dealt { IfOk result (λ batches. IsPermutation tasks.items (flat_map (λ b. b.items) batches.items)) }

@@ -1,12 +1,12 @@
 //! The run of a list of events on a bench of its own.
 ghost use Rattle.std.specs.Prelude.{◌≡◌, ◌≢◌, ◌≤◌, ◌∷◌, [], true, None, IfOk, IfErr, OnOk, length, map};
-ghost use Rattle.bench_core.specs.declared.limits.TheConstants.{MOST_ENTRIES};
+ghost use Rattle.bench_core.specs.declared.limits.TheConstants.{MAX_ENTRIES};
 ghost use Rattle.bench_core.specs.Told.{AreSteps};
 ghost use Rattle.bench_core.specs.State.{new_state, opened_state};
 ghost use Rattle.bench_core.specs.Views.{change_of, setup_of};
 ghost use Rattle.bench_workers.specs.declared.event.RunRefusal.TheVariants.{GateShut, Memory, NoThread};
 ghost use Rattle.bench_workers.specs.declared.work_error.WorkError.TheVariants as work;
-ghost use Rattle.bench_workers.specs.declared.tasks.TheConstants.{MOST_WORKERS};
+ghost use Rattle.bench_workers.specs.declared.tasks.TheConstants.{MAX_WORKERS};
 ghost use Rattle.bench_workers.specs.Events.{Stage, Pulse, event_of};
 ghost use Rattle.bench_workers.specs.inner.Going.{GoesOn, IsOfWorkers};
 ghost use Rattle.bench_workers.specs.declared.watcher.WatchFault.TheVariants as WatchFault;
@@ -65,7 +65,7 @@ pub(crate) fn pulse<R: Threads + Wait + Sync, G: Gate + Sync>(
     coins: &[u32],
 ) -> Result<Closed, RunRefusal>
     requires some { 1 ≤ workers }
-    requires few { workers ≤ MOST_WORKERS }
+    requires few { workers ≤ MAX_WORKERS }
     requires closed { bench.old.state.coins ≡ None }
     ensures ok { IfOk result (λ c. GoesOn bench.old (Pulse coins.now) (c.told ∷ []) bench.new) }
     ensures steps { IfOk result (λ c.
@@ -197,7 +197,7 @@ fn first_refusal(shape: Shape, rule: ClockRule, events: &[Event]) -> RunRefusal
     }
 }
 
-/// Runs the events on a new bench, whose pulses are run by 1 to [`MOST_WORKERS`] workers. The fault of an event that
+/// Runs the events on a new bench, whose pulses are run by 1 to [`MAX_WORKERS`] workers. The fault of an event that
 /// can't be done has its place, from 0 on; lack of memory after the last has their number. The run is the same for
 /// every number of workers (docs/SCENARIOS.md, "Runs").
 pub fn run_events<R: Threads + Wait + Sync, G: Gate + Sync>(
@@ -210,7 +210,7 @@ pub fn run_events<R: Threads + Wait + Sync, G: Gate + Sync>(
     events: Vec<Event>,
 ) -> Result<Run, RunFault>
     requires some { 1 ≤ workers }
-    requires few { workers ≤ MOST_WORKERS }
+    requires few { workers ≤ MAX_WORKERS }
     requires nodes { rule.nodes ≡ shape.nodes }
     ensures run { IfOk result (λ run. IsRun (setup_of shape rule) (map event_of events.items) run.records.items
         (map (λ memory. memory.items) run.memories.items)) }
@@ -246,7 +246,7 @@ pub fn run_events_on<R: Threads + Wait + Sync, G: Gate + Sync>(
     events: Vec<Event>,
 ) -> Result<Run, RunFault>
     requires some { 1 ≤ workers }
-    requires few { workers ≤ MOST_WORKERS }
+    requires few { workers ≤ MAX_WORKERS }
     requires state { bench.state ≡ new_state bench.setup }
     requires history { bench.history ≡ [] }
     ensures run { IfOk result (λ run. IsRun bench.setup (map event_of events.items) run.records.items

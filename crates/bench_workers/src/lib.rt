@@ -19,7 +19,7 @@ pub use engine::{run_events, run_events_on};
 pub use event::{Event, Run, RunFault, RunRefusal};
 pub use gate::{Gate, Open};
 pub use opening::{OpenBench, open_pulse_of};
-pub use tasks::{MOST_WORKERS, run_tasks};
+pub use tasks::{MAX_WORKERS, run_tasks};
 pub use watched::run_events_watched;
 pub use watcher::{Shown, Stop, WatchFault, Watcher};
 pub use work_error::WorkError;

@@ -1,6 +1,6 @@
 //! A pulse of a list of events, opened and not run.
 ghost use Rattle.std.specs.Prelude.{◌≡◌, ◌≢◌, ◌≤◌, ◌∷◌, [], List, None, IfOk, IfErr, OnOk, length, map};
-ghost use Rattle.bench_core.specs.declared.limits.TheConstants.{MOST_ENTRIES};
+ghost use Rattle.bench_core.specs.declared.limits.TheConstants.{MAX_ENTRIES};
 ghost use Rattle.bench_core.specs.State.{new_state, opened_state, AreCoins};
 ghost use Rattle.bench_core.specs.Told.{PulseTold};
 ghost use Rattle.bench_workers.specs.declared.event.RunRefusal.TheVariants.{GateShut, NoThread};
@@ -43,7 +43,7 @@ fn go_on<R: Threads + Wait + Sync>(
 ) -> Result<(), RunRefusal>
     requires { bench.old.state.coins ≡ None }
     ensures ok { OnOk result ((records : List PulseTold) × GoesOn bench.old (event_of event) records bench.new) }
-    ensures few { OnOk result (length bench.new.history ≤ MOST_ENTRIES) }
+    ensures few { OnOk result (length bench.new.history ≤ MAX_ENTRIES) }
     ensures refusal { IfErr result (IsRefusalOf bench.old.setup (length bench.old.history) (event_of event)) }
     ensures open { IfErr result (λ e. e ≢ GateShut) }
     ensures alone { IfErr result (λ e. e ≢ NoThread) }

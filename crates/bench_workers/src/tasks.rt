@@ -2,7 +2,7 @@
 ghost use Rattle.std.specs.Prelude.{◌≡◌, ◌≢◌, ◌≤◌, true, IfOk, IfErr, OnOk};
 ghost use Rattle.bench_core.specs.Tasks.{RanEach};
 ghost use Rattle.bench_workers.specs.declared.work_error.WorkError.TheVariants.{GateShut, NoThread};
-ghost use Rattle.bench_workers.specs.declared.tasks.TheConstants.{MOST_WORKERS};
+ghost use Rattle.bench_workers.specs.declared.tasks.TheConstants.{MAX_WORKERS};
 
 use crate::batch::run_batch;
 use crate::deal::deal;
@@ -17,7 +17,7 @@ use std::thread;
 use std::thread::{Scope, Threads};
 
 /// The most workers of a pulse.
-pub const MOST_WORKERS: u32 = 8;
+pub const MAX_WORKERS: u32 = 8;
 
 /// Runs each task once, by this many workers, each of which enters the gate once before its first task. One worker is
 /// the caller's thread; for more, that many threads are started, and all are joined before this answers.
@@ -29,7 +29,7 @@ pub fn run_tasks<R: Threads + Wait + Sync, G: Gate + Sync>(
     tasks: Vec<NodeTask>,
 ) -> Result<Vec<NodeDone>, WorkError>
     requires some { 1 ≤ workers }
-    requires few { workers ≤ MOST_WORKERS }
+    requires few { workers ≤ MAX_WORKERS }
     ensures ran { IfOk result (λ dones. RanEach tasks.items dones.items) }
     ensures open { G.always gate.now ≡ true → IfErr result (λ e. e ≢ GateShut) }
     ensures alone { workers ≡ 1 → IfErr result (λ e. e ≢ NoThread) }
@@ -42,7 +42,7 @@ pub fn run_tasks<R: Threads + Wait + Sync, G: Gate + Sync>(
         rt,
         |scope| -> Result<Vec<NodeDone>, WorkError>
             requires some { 1 ≤ workers }
-            requires few { workers ≤ MOST_WORKERS }
+            requires few { workers ≤ MAX_WORKERS }
             ensures ran { IfOk result (λ dones. RanEach tasks.items dones.items) }
             ensures open { G.always gate.entry.now ≡ true → IfErr result (λ e. e ≢ GateShut) }
         { run_in(scope, rt, alloc, gate, workers, tasks) },
@@ -79,7 +79,7 @@ fn run_in<'s, E, R: Threads, G: Gate + Sync>(
     tasks: Vec<NodeTask>,
 ) -> Result<Vec<NodeDone>, WorkError>
     requires some { 1 ≤ workers }
-    requires few { workers ≤ MOST_WORKERS }
+    requires few { workers ≤ MAX_WORKERS }
     ensures ran { IfOk result (λ dones. RanEach tasks.items dones.items) }
     ensures open { G.always gate.now ≡ true → IfErr result (λ e. e ≢ GateShut) }
 {

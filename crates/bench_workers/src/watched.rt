@@ -1,9 +1,9 @@
 //! The run of a list of events before a watcher.
 ghost use Rattle.std.specs.Prelude.{◌≡◌, ◌≢◌, ◌≤◌, ◌<◌, ◌++◌, ◌∷◌, [], List, true, None, IfOk, IfErr, OnOk, length, map, vec_len, vec_capacity};
-ghost use Rattle.bench_core.specs.declared.limits.TheConstants.{MOST_ENTRIES};
+ghost use Rattle.bench_core.specs.declared.limits.TheConstants.{MAX_ENTRIES};
 ghost use Rattle.bench_core.specs.State.{new_state};
 ghost use Rattle.bench_workers.specs.declared.event.RunRefusal.TheVariants.{GateShut, NoThread};
-ghost use Rattle.bench_workers.specs.declared.tasks.TheConstants.{MOST_WORKERS};
+ghost use Rattle.bench_workers.specs.declared.tasks.TheConstants.{MAX_WORKERS};
 ghost use Rattle.bench_workers.specs.declared.watched.Halt.TheVariants.{Refused};
 ghost use Rattle.bench_workers.specs.Events.{Pulse, event_of};
 ghost use Rattle.bench_workers.specs.Runs.{IsRun};
@@ -62,7 +62,7 @@ fn show_pulse<R: Threads + Wait + Sync, G: Gate + Sync, S, K: Watcher<S>>(
     sink: &mut S,
 ) -> Result<(), Halt>
     requires some { 1 ≤ workers }
-    requires few { workers ≤ MOST_WORKERS }
+    requires few { workers ≤ MAX_WORKERS }
     requires closed { bench.old.state.coins ≡ None }
     ensures ok { OnOk result (IsWatched K.tells bench.old records.old.items watcher.old sink.old (Pulse coins.now)
         bench.new records.new.items watcher.new sink.new) }
@@ -108,11 +108,11 @@ fn apply<R: Threads + Wait + Sync, G: Gate + Sync, S, K: Watcher<S>>(
     sink: &mut S,
 ) -> Result<(), Halt>
     requires some { 1 ≤ workers }
-    requires few { workers ≤ MOST_WORKERS }
+    requires few { workers ≤ MAX_WORKERS }
     requires closed { bench.old.state.coins ≡ None }
     ensures ok { OnOk result (IsWatched K.tells bench.old records.old.items watcher.old sink.old (event_of event)
         bench.new records.new.items watcher.new sink.new) }
-    ensures few { OnOk result (length bench.new.history ≤ MOST_ENTRIES) }
+    ensures few { OnOk result (length bench.new.history ≤ MAX_ENTRIES) }
     ensures halt { IfErr result (IsHalted K.stops bench.old records.old.items watcher.old sink.old (event_of event)
         bench.new watcher.new sink.new) }
     ensures open { G.always gate.now ≡ true → IfErr result (λ e. e ≢ Refused GateShut) }
@@ -148,7 +148,7 @@ pub fn run_events_watched<R: Threads + Wait + Sync, G: Gate + Sync, S, K: Watche
     sink: &mut S,
 ) -> Result<Run, WatchFault>
     requires some { 1 ≤ workers }
-    requires few { workers ≤ MOST_WORKERS }
+    requires few { workers ≤ MAX_WORKERS }
     requires state { bench.state ≡ new_state bench.setup }
     requires history { bench.history ≡ [] }
     ensures run { IfOk result (λ run. IsRun bench.setup (map event_of events.items) run.records.items

@@ -4,7 +4,7 @@ ghost use Rattle.std.specs.Prelude.{IfOk, IfErr, IfSome, IfNone, IsSome, IsOk, O
 ghost use Rattle.std.specs.List.{flat_map};
 ghost use Rattle.bench_workers.specs.inner.Batches.{AreNumbered, RanInOrder};
 ghost use Rattle.bench_workers.specs.declared.work_error.WorkError.TheVariants.{GateShut, NoThread};
-ghost use Rattle.bench_workers.specs.declared.tasks.TheConstants.{MOST_WORKERS};
+ghost use Rattle.bench_workers.specs.declared.tasks.TheConstants.{MAX_WORKERS};
 
 use crate::batch::{Batch, run_batch};
 use crate::gate::Gate;
@@ -61,7 +61,7 @@ pub(crate) fn start_all<'s, E, G: Gate + Sync>(
     gate: &'s G,
     batches: Vec<Vec<NodeTask>>,
 ) -> (Vec<Worker<G>>, Option<WorkError>)
-    requires { vec_len batches ≤ MOST_WORKERS }
+    requires { vec_len batches ≤ MAX_WORKERS }
     ensures gate { All (λ h. h.promise.gate.value ≡ gate.now) result.0.items }
     ensures tasks { IfNone result.1 (map (λ h. h.promise.tasks.value) result.0.items
         ≡ map (λ b. b.items) batches.items) }

@@ -23,12 +23,12 @@ use Rattle.node_env.specs.declared.helper.Helper.{Helper}
 use Rattle.node_env.specs.declared.helper.Helper.TheVariants.{Id, Recv, Send, Coin}
 use Rattle.node_env.specs.Helpers.{helper_word, helper_by_word, helper_of}
 use Rattle.bpf_asm.specs.Canonical.{with_sign, operand_text, address_text, callee_text, form_in, operand_texts, after_commas, after_word, canonical_line, canonical_text}
-use Rattle.bpf_asm.specs.Meaning.{lines_in, is_map, insns_from, places_from, slot_of, before_all, Means}
+use Rattle.bpf_asm.specs.Meaning.{lines_in, is_map, insns_from, places_from, label_slot, before_all, Means}
 use Rattle.bpf_asm.specs.Numbers.{numeral_of, magnitude_of, in_field, wide_of}
-use Rattle.bpf_asm.specs.Operands.{option_both, immediate_of, operand_of, operand_by, callee_of, id_by, wide_number_of, offset_of, address_between, address_of, address_by, target_of, distance, one, two, three, operands_of, operands_by}
+use Rattle.bpf_asm.specs.Operands.{option_both, immediate_of, operand_spelled, operand_by, callee_of, id_by, wide_number_of, offset_in, address_between, address_of, address_by, target_of, distance, one, two, three, operands_of, operands_by}
 use Rattle.bpf_asm.specs.Pieces.{pieces_of, is_blank, is_word_letter, front_of, rest_of, trimmed, first_of}
 use Rattle.bpf_asm.specs.Statements.{Line, whole, jump_to, source_by, source_behind, ends_word, line_by, line_of}
-use Rattle.bpf_asm.specs.Words.{word_of, register_word, register_by_word}
+use Rattle.bpf_asm.specs.Words.{form_word, register_word, register_by_word}
 use Rattle.bpf_asm.proofs.PlainLemmas.{IsPlain, plain-append, piece-mark, piece-alone, front_before, rest_behind, trimmed_behind, decimal_plain, no_digit, digit_no_blank, numeral-decimal, magnitude-decimal, number-decimal, first_digit, Within, within16, within32, in_field-written, number-signed, signed_number-sign}
 use Rattle.bpf_asm.proofs.StatementLemmas.{word_read, line_read}
 use Rattle.bpf_asm.proofs.WordLaws.{form_named, register_named, register_word_named, helper_named, helper_word_named, helper_number_named}
@@ -241,7 +241,7 @@ source_operand : (src : Operand) → SourceInRange src → IsOperand (operand_te
 source_operand (operands.Imm value) fits = signed_operand 2147483647 value (omega arith) (within32 value fits)
 source_operand (operands.Reg src) fits = (registers src).operand
 
-source_read : (src : Operand) → SourceInRange src → operand_of (operand_text src) ≡ Some src
+source_read : (src : Operand) → SourceInRange src → operand_spelled (operand_text src) ≡ Some src
 source_read (operands.Imm value) fits =
     ap (λ o. operand_by o (signed_decimal value)) (no_register 2147483647 value (omega arith) (within32 value fits))
     ∙ ap (option_map operands.Imm) (immediate_read value fits)
@@ -269,7 +269,7 @@ target_read most (negsuc n) small within =
     (signed_number-sign (numeral_of 10) numeral-decimal most (negsuc n) small within)
     ∙ ap (option_map distance) (in_field-written most (negsuc n) within)
 
-offset_read : (z : ℤ) → Within 32767 z → offset_of (with_sign z) ≡ Some z
+offset_read : (z : ℤ) → Within 32767 z → offset_in (with_sign z) ≡ Some z
 offset_read (pos n) within =
     ap (option_and_then (in_field 32767)) (signed_number-sign magnitude_of magnitude-decimal 32767 (pos n)
     (omega arith) within) ∙ in_field-written 32767 (pos n) within
@@ -303,10 +303,10 @@ address_read base off fits =
     let ends = sign_ends off in
     ap address_between inside
     ∙ ap (λ w. option_map address_by (option_both (register_by_word w)
-    (offset_of (rest_of is_word_letter (word ++ sign))))) (front_before is_word_letter word sign r.letters ends.0)
-    ∙ ap (λ o. option_map address_by (option_both (register_by_word word) (offset_of o)))
+    (offset_in (rest_of is_word_letter (word ++ sign))))) (front_before is_word_letter word sign r.letters ends.0)
+    ∙ ap (λ o. option_map address_by (option_both (register_by_word word) (offset_in o)))
     (rest_behind is_word_letter word sign r.letters ends.1)
-    ∙ ap (λ o. option_map address_by (option_both o (offset_of sign))) (register_named base)
+    ∙ ap (λ o. option_map address_by (option_both o (offset_in sign))) (register_named base)
     ∙ ap (λ o. option_map address_by (option_both (Some base) o)) (offset_read off within)
 
 address_operand : (base : Reg) (off : ℤ) → FitsSigned w16 off → IsOperand (address_text base off)
@@ -371,9 +371,9 @@ branch_reads cond width dst src off in_range fits =
     (sign_operand 32767 off (omega arith) (within16 off fits)))
     ∙ ap (option_map (λ x. jump_to (insn.Branch cond width x.0 x.1.0) x.1.1))
     (both_read (register_by_word (register_word dst))
-    (option_both (operand_of (operand_text src)) (target_of 32767 (with_sign off))) dst (src, distance off)
+    (option_both (operand_spelled (operand_text src)) (target_of 32767 (with_sign off))) dst (src, distance off)
     (register_named dst)
-    (both_read (operand_of (operand_text src)) (target_of 32767 (with_sign off)) src (distance off)
+    (both_read (operand_spelled (operand_text src)) (target_of 32767 (with_sign off)) src (distance off)
     (source_read src in_range) (target_read 32767 off (omega arith) (within16 off fits))))
 
 alu_reads : (op : _) (width : _) (dst : Reg) (src : Operand) → SourceInRange src → InsnReads (insn.Alu op width dst src)
@@ -381,7 +381,7 @@ alu_reads op width dst src in_range =
     ap (source_by (forms.Alu op width)) (operands_two (register_word dst) (operand_text src) (registers dst).operand
     (source_operand src in_range))
     ∙ ap (option_map (λ x. whole (insn.Alu op width x.0 x.1)))
-    (both_read (register_by_word (register_word dst)) (operand_of (operand_text src)) dst src (register_named dst)
+    (both_read (register_by_word (register_word dst)) (operand_spelled (operand_text src)) dst src (register_named dst)
     (source_read src in_range))
 
 insn_reads : (i : Insn) → InRange i → InsnReads i
@@ -455,7 +455,7 @@ is_good word =
     && (list_all (λ c. not (is_blank c)) word &&
     (list_all (λ c. not (c == 10)) word && (list_all (λ c. not (c == 35)) word && not (length word == 0))))
 
-goods : list_all (λ f. is_good (word_of f)) FORMS ≡ true
+goods : list_all (λ f. is_good (form_word f)) FORMS ≡ true
 goods = refl
 
 both_hold : (a b : Bool) → (a && b) ≡ true → (a ≡ true) × (b ≡ true)
@@ -479,10 +479,10 @@ record IsWord (word : List ℕ) : Type 0 where
   hash : IsPlain (λ c. c == 35) word
   some : (length word == 0) ≡ false
 
-words : (form : Form) → IsWord (word_of form)
+words : (form : Form) → IsWord (form_word form)
 words form =
-    let w = word_of form in
-    let all = found_all (λ f. bytes_eq (word_of f) w) (λ f. is_good (word_of f)) FORMS form goods (form_named form) in
+    let w = form_word form in
+    let all = found_all (λ f. bytes_eq (form_word f) w) (λ f. is_good (form_word f)) FORMS form goods (form_named form) in
     let a = both_hold (list_all is_word_letter w)
     (list_all (λ c. not (is_blank c)) w && (list_all (λ c. not (c == 10)) w
     && (list_all (λ c. not (c == 35)) w && not (length w == 0)))) all in
@@ -571,7 +571,7 @@ line_for i = record { name = None; source = Some (Some (whole i)) }
 
 line_means : (i : Insn) → InRange i → line_of (canonical_line i) ≡ line_for i
 line_means i in_range =
-    let word = word_of (form_in i) in
+    let word = form_word (form_in i) in
     let os = operand_texts i in
     let rest = after_word os in
     let w = words (form_in i) in
@@ -591,7 +591,7 @@ line_means i in_range =
 
 line_unbroken : (i : Insn) → InRange i → IsPlain (λ c. c == 10) (canonical_line i)
 line_unbroken i in_range =
-    plain-append (λ c. c == 10) (word_of (form_in i)) (after_word (operand_texts i)) (words (form_in i)).line
+    plain-append (λ c. c == 10) (form_word (form_in i)) (after_word (operand_texts i)) (words (form_in i)).line
     (plain_after_word (λ c. c == 10) refl refl (λ o operand. operand.line) (operand_texts i) (insn_operands i in_range))
 
 -- ---- programs
@@ -619,10 +619,10 @@ insns_read slots slot (i ∷ is) = ap (before_all (Some i)) (insns_read slots (s
 
 pub canonical_means : (p : List Insn) → IsProgram p → Means (canonical_text p) p
 canonical_means p is_program = record {
-  reads = ap (λ ls. cond (is_map (places_from 0 ls)) (insns_from (slot_of (places_from 0 ls)) 0 ls) None)
+  reads = ap (λ ls. cond (is_map (places_from 0 ls)) (insns_from (label_slot (places_from 0 ls)) 0 ls) None)
       (lines_read p is_program.in_range)
-      ∙ ap (λ ps. cond (is_map ps) (insns_from (slot_of ps) 0 (lines_for p)) None) (no_places 0 p)
-      ∙ insns_read (slot_of []) 0 p;
+      ∙ ap (λ ps. cond (is_map ps) (insns_from (label_slot ps) 0 (lines_for p)) None) (no_places 0 p)
+      ∙ insns_read (label_slot []) 0 p;
   is_program = is_program;
 }
 

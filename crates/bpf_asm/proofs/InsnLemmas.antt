@@ -13,8 +13,8 @@ use Rattle.bpf_asm.specs.declared.labels.Labels.{Labels}
 use Rattle.bpf_asm.specs.declared.text_error.TextError.{TextError}
 use Rattle.bpf_asm.specs.declared.text_error.TextError.TheVariants.{Memory}
 use Rattle.bpf_asm.specs.Statements.{Line, Source}
-use Rattle.bpf_asm.specs.Meaning.{slot_of, is_map, places_from, slots_in, lines_in, with_distance, insn_to, insn_by, before_all, insns_before, insns_from, insns_of, Means}
-use Rattle.bpf_asm.specs.inner.Meaning.{known, HasPlaces, near_places, slots_of_lines, lines_left, Resolves, Refuses, insns_found, slots_found}
+use Rattle.bpf_asm.specs.Meaning.{label_slot, is_map, places_from, source_slots, lines_in, with_distance, insn_to, insn_by, before_all, insns_before, insns_from, insns_of, Means}
+use Rattle.bpf_asm.specs.inner.Meaning.{known, HasPlaces, near_places, slots_of_lines, lines_left, Resolves, RefusesText, insns_found, slots_found}
 use Rattle.bpf_asm.proofs.LabelLemmas.{near_all}
 
 -- ---- one line
@@ -106,7 +106,7 @@ prepend_one insns i None = refl
 prepend_one insns i (Some later) = ap Some (sym (append_assoc insns (i ∷ []) later))
 
 found_slots : (labels : Labels) (slot : ℕ) (source : Option (Option Source)) (found : Option Insn)
-    → Resolves labels slot source (Ok found) → slots_in source ≡ slots_found found
+    → Resolves labels slot source (Ok found) → source_slots source ≡ slots_found found
 found_slots labels slot source None r = r.1
 found_slots labels slot source (Some i) r = r.1
 
@@ -128,7 +128,7 @@ next_so_far labels text insns slot rest front line behind found here first r bef
     f : List ℕ → Option ℕ
     f = known labels
 
-    same : slots_in line.source ≡ slots_found found
+    same : source_slots line.source ≡ slots_found found
     same = found_slots labels slot line.source found r
 
     by_found : (o : Option Insn) → Resolves labels slot line.source (Ok o)
@@ -148,7 +148,7 @@ next_so_far labels text insns slot rest front line behind found here first r bef
 pub line_refuses : (labels : Labels) (text : List ℕ) (insns : List Insn) (slot : ℕ) (rest : Option (Bor (List ℕ)))
     (front : Bor (List ℕ)) (line : Line) (behind : Option (Bor (List ℕ))) (error : TextError)
     → rest ≡ Some front → lines_in front.now ≡ line ∷ lines_left behind → Resolves labels slot line.source (Err error)
-    → SoFar labels text insns slot rest → Refuses (known labels) (lines_in text) error
+    → SoFar labels text insns slot rest → RefusesText (known labels) (lines_in text) error
 line_refuses labels text insns slot rest front line behind error here first r before other = by_cause r
   where
     by_cause : Resolves labels slot line.source (Err error) → (insns_from (known labels) 0 (lines_in text) ≡ None)
@@ -156,7 +156,7 @@ line_refuses labels text insns slot rest front line behind error here first r be
     by_cause (inl missing) = inl (before.read ∙ ap
         (λ x. prepend_all insns (insns_from (known labels) slot (lines_left x))) here
         ∙ ap (λ ls. prepend_all insns (insns_from (known labels) slot ls)) first
-        ∙ ap (prepend_all insns) (missing (insns_from (known labels) (slot + slots_in line.source)
+        ∙ ap (prepend_all insns) (missing (insns_from (known labels) (slot + source_slots line.source)
         (lines_left behind))))
     by_cause (inr past) =
         let all = before.count ∙ ap (λ x. slot + slots_of_lines (lines_left x)) here
@@ -187,8 +187,8 @@ pub slots_of_insns : (slots : List ℕ → Option ℕ) (slot : ℕ) (lines : Lis
     → insns_from slots slot lines ≡ Some insns → slots_of insns ≡ slots_of_lines lines
 slots_of_insns slots slot [] insns read = let same : [] ≡ insns = cc in ap slots_of (sym same)
 slots_of_insns slots slot (line ∷ lines) insns read =
-    by_source line.source (insns_from slots (slot + slots_in line.source) lines) refl
-    (slots_of_insns slots (slot + slots_in line.source) lines) read
+    by_source line.source (insns_from slots (slot + source_slots line.source) lines) refl
+    (slots_of_insns slots (slot + source_slots line.source) lines) read
   where
     by_insn : (s : Source) (o : Option Insn) (later : Option (List Insn)) → insn_by slots slot s ≡ o
         → ((is : List Insn) → later ≡ Some is → slots_of is ≡ slots_of_lines lines)
@@ -201,9 +201,9 @@ slots_of_insns slots slot (line ∷ lines) insns read =
         ∙ ap (λ n. slots_taken s.insn + n) (counts is refl)
 
     by_source : (source : Option (Option Source)) (later : Option (List Insn))
-        → insns_from slots (slot + slots_in line.source) lines ≡ later
+        → insns_from slots (slot + source_slots line.source) lines ≡ later
         → ((is : List Insn) → later ≡ Some is → slots_of is ≡ slots_of_lines lines)
-        → insns_before slots slot source later ≡ Some insns → slots_of insns ≡ slots_in source + slots_of_lines lines
+        → insns_before slots slot source later ≡ Some insns → slots_of insns ≡ source_slots source + slots_of_lines lines
     by_source None later is_later counts read = absurd (cc)
     by_source (Some None) later is_later counts read = counts insns read ∙ omega arith
     by_source (Some (Some s)) later is_later counts read = by_insn s (insn_by slots slot s) later refl counts read
@@ -213,8 +213,8 @@ same_slots : (f g : List ℕ → Option ℕ) → ((q : List ℕ) → f q ≡ g q
     → insns_from f slot lines ≡ insns_from g slot lines
 same_slots f g same slot [] = refl
 same_slots f g same slot (line ∷ lines) =
-    by_source line.source (insns_from f (slot + slots_in line.source) lines)
-    ∙ ap (insns_before g slot line.source) (same_slots f g same (slot + slots_in line.source) lines)
+    by_source line.source (insns_from f (slot + source_slots line.source) lines)
+    ∙ ap (insns_before g slot line.source) (same_slots f g same (slot + source_slots line.source) lines)
   where
     by_label : (i : Insn) (label : Option (List ℕ)) → insn_to f slot i label ≡ insn_to g slot i label
     by_label i None = refl
@@ -238,9 +238,9 @@ pub text_read : (labels : Labels) (text : List ℕ) (insns : List Insn)
     → insns_of text ≡ Some insns
 text_read labels text insns has once read few =
     let places = known_places labels text has few in
-    ap (λ b. cond b (insns_from (slot_of (places_from 0 (lines_in text))) 0 (lines_in text)) None)
+    ap (λ b. cond b (insns_from (label_slot (places_from 0 (lines_in text))) 0 (lines_in text)) None)
     (sym places.once ∙ ap is_none once)
-    ∙ sym (same_slots (known labels) (slot_of (places_from 0 (lines_in text))) places.slots 0 (lines_in text)) ∙ read
+    ∙ sym (same_slots (known labels) (label_slot (places_from 0 (lines_in text))) places.slots 0 (lines_in text)) ∙ read
 
 when_map : (b : Bool) (o : Option (List Insn)) (p : List Insn) → cond b o None ≡ Some p → (b ≡ true) × (o ≡ Some p)
 when_map true o p read = (refl, read)
@@ -249,8 +249,8 @@ when_map false o p read = absurd (cc)
 meant_few : (text : List ℕ) (p : List Insn) → Means text p → slots_of_lines (lines_in text) ≤ MAX_SLOTS
 meant_few text p means =
     let read = when_map (is_map (places_from 0 (lines_in text)))
-    (insns_from (slot_of (places_from 0 (lines_in text))) 0 (lines_in text)) p means.reads in
-    let same = slots_of_insns (slot_of (places_from 0 (lines_in text))) 0 (lines_in text) p read.1 in
+    (insns_from (label_slot (places_from 0 (lines_in text))) 0 (lines_in text)) p means.reads in
+    let same = slots_of_insns (label_slot (places_from 0 (lines_in text))) 0 (lines_in text) p read.1 in
     omega (arith, same, means.is_program.few_slots)
 
 -- a second label leaves no meaning
@@ -259,13 +259,13 @@ pub twice_means_nothing : (labels : Labels) (text : List ℕ) (line : ℕ) (p : 
 twice_means_nothing labels text line p has twice means =
     let places = known_places labels text has (meant_few text p means) in
     let read = when_map (is_map (places_from 0 (lines_in text)))
-    (insns_from (slot_of (places_from 0 (lines_in text))) 0 (lines_in text)) p means.reads in
+    (insns_from (label_slot (places_from 0 (lines_in text))) 0 (lines_in text)) p means.reads in
     false≢true (sym (ap is_none twice) ∙ places.once ∙ read.0)
 
 -- and so does a line's refusal
 pub refused_means_nothing : (labels : Labels) (text : List ℕ) (error : TextError) (p : List Insn)
     → HasPlaces labels (near_places 0 (lines_in text)) → error ≢ Memory
-    → Refuses (known labels) (lines_in text) error → Means text p → ⊥
+    → RefusesText (known labels) (lines_in text) error → Means text p → ⊥
 refused_means_nothing labels text error p has other refuses means = by_cause (refuses other)
   where
     few : slots_of_lines (lines_in text) ≤ MAX_SLOTS
@@ -275,8 +275,8 @@ refused_means_nothing labels text error p has other refuses means = by_cause (re
     read =
         let places = known_places labels text has few in
         let meant = when_map (is_map (places_from 0 (lines_in text)))
-        (insns_from (slot_of (places_from 0 (lines_in text))) 0 (lines_in text)) p means.reads in
-        same_slots (known labels) (slot_of (places_from 0 (lines_in text))) places.slots 0 (lines_in text) ∙ meant.1
+        (insns_from (label_slot (places_from 0 (lines_in text))) 0 (lines_in text)) p means.reads in
+        same_slots (known labels) (label_slot (places_from 0 (lines_in text))) places.slots 0 (lines_in text) ∙ meant.1
 
     by_cause : (insns_from (known labels) 0 (lines_in text) ≡ None) ⊎ (MAX_SLOTS < slots_of_lines (lines_in text)) → ⊥
     by_cause (inl missing) = absurd (let e = sym missing ∙ read in cc)

@@ -7,7 +7,7 @@ use Rattle.bpf_insn.specs.declared.forms.Insn.{Insn}
 use Rattle.bpf_insn.specs.Encoding.{slots_taken}
 use Rattle.bpf_insn.proofs.LayoutLaws.{one_or_two}
 use Rattle.bpf_asm.specs.Pieces.{lines_of}
-use Rattle.bpf_asm.specs.Meaning.{Means, before_all, insn_by, insns_before, insns_from, is_map, lines_in, places_from, slot_of, slots_in}
+use Rattle.bpf_asm.specs.Meaning.{Means, before_all, insn_by, insns_before, insns_from, is_map, lines_in, places_from, label_slot, source_slots}
 use Rattle.bpf_asm.specs.Statements.{Source, line_of}
 use Rattle.bpf_asm.specs.Listing.{Listed, beginnings_from, has_instruction, instruction_lines, instruction_slots, listed_from, listed_lines, without_empty_end}
 use Rattle.bpf_asm.proofs.InsnLemmas.{keeps_slots}
@@ -22,11 +22,11 @@ nonzero n (inl one) = ap (λ k. not (k == 0)) one
 nonzero n (inr two) = ap (λ k. not (k == 0)) two
 
 abbrev line_by : ℕ → ℕ → Option (Option Source) → List ℕ → Listed
-line_by number slot source text = record { number = number; slot = slot; slots = slots_in source; text = text }
+line_by number slot source text = record { number = number; slot = slot; slots = source_slots source; text = text }
 
 abbrev slots_with : ℕ → ℕ → Option (Option Source) → List ℕ → List Listed → List ℕ
 slots_with number slot source text rest =
-    map (λ l. l.slot) (cond (not (slots_in source == 0)) (line_by number slot source text ∷ rest) rest)
+    map (λ l. l.slot) (cond (not (source_slots source == 0)) (line_by number slot source text ∷ rest) rest)
 
 found_step : (number slot : ℕ) (text : List ℕ) (source : Source) (rest : List Listed) (i : Insn) (is insns : List Insn)
     → slots_taken i ≡ slots_taken source.insn → i ∷ is ≡ insns
@@ -40,7 +40,7 @@ found_step number slot text source rest i is insns taken all later =
 
 next_slots : (slots : Slots) (number slot : ℕ) (text : List ℕ) (source : Option (Option Source)) (rest : List Listed)
     (later : Option (List Insn)) (insns : List Insn)
-    → ((is : List Insn) → later ≡ Some is → map (λ l. l.slot) rest ≡ beginnings_from (slot + slots_in source) is)
+    → ((is : List Insn) → later ≡ Some is → map (λ l. l.slot) rest ≡ beginnings_from (slot + source_slots source) is)
     → insns_before slots slot source later ≡ Some insns
     → slots_with number slot source text rest ≡ beginnings_from slot insns
 next_slots slots number slot text None rest later insns behind read = absurd (cc)
@@ -72,24 +72,24 @@ all_slots slots number slot [] insns read = let none : [] ≡ insns = cc in ap (
 all_slots slots number slot ([] ∷ []) insns read = let none : [] ≡ insns = cc in ap (beginnings_from slot) none
 all_slots slots number slot ([] ∷ text ∷ texts) insns read =
     next_slots slots number slot [] (line_of []).source
-    (filter has_instruction (listed_from (number + 1) (slot + slots_in (line_of []).source)
+    (filter has_instruction (listed_from (number + 1) (slot + source_slots (line_of []).source)
     (without_empty_end (text ∷ texts))))
-    (insns_from slots (slot + slots_in (line_of []).source) (map line_of (text ∷ texts))) insns
-    (λ is later. all_slots slots (number + 1) (slot + slots_in (line_of []).source) (text ∷ texts) is later) read
+    (insns_from slots (slot + source_slots (line_of []).source) (map line_of (text ∷ texts))) insns
+    (λ is later. all_slots slots (number + 1) (slot + source_slots (line_of []).source) (text ∷ texts) is later) read
 all_slots slots number slot ((c ∷ cs) ∷ texts) insns read =
     next_slots slots number slot (c ∷ cs) (line_of (c ∷ cs)).source
-    (filter has_instruction (listed_from (number + 1) (slot + slots_in (line_of (c ∷ cs)).source)
+    (filter has_instruction (listed_from (number + 1) (slot + source_slots (line_of (c ∷ cs)).source)
     (without_empty_end texts)))
-    (insns_from slots (slot + slots_in (line_of (c ∷ cs)).source) (map line_of texts)) insns
-    (λ is later. all_slots slots (number + 1) (slot + slots_in (line_of (c ∷ cs)).source) texts is later) read
+    (insns_from slots (slot + source_slots (line_of (c ∷ cs)).source) (map line_of texts)) insns
+    (λ is later. all_slots slots (number + 1) (slot + source_slots (line_of (c ∷ cs)).source) texts is later) read
 
 pub listed_slots : (text : List ℕ) (program : List Insn) → Means text program
     → instruction_slots text ≡ beginnings_from 0 program
 listed_slots text program means = by_map (is_map (places_from 0 (lines_in text))) means.reads
   where
-    by_map : (t : Bool) → cond t (insns_from (slot_of (places_from 0 (lines_in text))) 0 (lines_in text)) None
+    by_map : (t : Bool) → cond t (insns_from (label_slot (places_from 0 (lines_in text))) 0 (lines_in text)) None
         ≡ Some program → instruction_slots text ≡ beginnings_from 0 program
-    by_map true read = all_slots (slot_of (places_from 0 (lines_in text))) 1 0 (lines_of text) program read
+    by_map true read = all_slots (label_slot (places_from 0 (lines_in text))) 1 0 (lines_of text) program read
     by_map false read = absurd (cc)
 
 length_beginnings : (slot : ℕ) (insns : List Insn) → length (beginnings_from slot insns) ≡ length insns

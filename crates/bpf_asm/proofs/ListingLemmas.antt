@@ -11,7 +11,7 @@ use Rattle.bpf_insn.proofs.LayoutLaws.{one_or_two}
 use Rattle.bpf_asm.specs.Pieces.{pieces_of, prepend, lines_of}
 use Rattle.bpf_asm.specs.inner.Listing.{left_of, number_by}
 use Rattle.bpf_asm.specs.inner.Pieces.{pieces_left}
-use Rattle.bpf_asm.specs.Meaning.{slots_in}
+use Rattle.bpf_asm.specs.Meaning.{source_slots}
 use Rattle.bpf_asm.specs.Statements.{Line, Source, line_of}
 use Rattle.bpf_asm.specs.Listing.{bytes_at, insn_row, has_instruction, line_row, listed, listed_from, without_empty_end}
 
@@ -77,13 +77,13 @@ rows_left image number slot rest =
 -- a row more, of a line whose instruction has these bytes
 pub next_row : (image text line all old new bytes : List ℕ) (behind : Option (Bor (List ℕ))) (number slot slots : ℕ)
     → (text ≡ [] → ⊥) → pieces_of (λ c. c == 10) text ≡ line ∷ pieces_left (λ c. c == 10) behind
-    → slots ≡ slots_in (line_of line).source → bytes ≡ bytes_at image slot slots
+    → slots ≡ source_slots (line_of line).source → bytes ≡ bytes_at image slot slots
     → all ≡ old ++ rows_left image number slot text
     → new ≡ old ++ line_row (record { number = number; slot = slot; slots = slots; text = line }) bytes
     → all ≡ new ++ rows_left image (number + 1) (slot + slots) (left_of behind)
 next_row image text line all old new bytes behind number slot slots some first taken own before more =
-    let row : List ℕ = line_row (listed number slot line) (bytes_at image slot (slots_in (line_of line).source)) in
-    let rest : List ℕ = rows_left image (number + 1) (slot + slots_in (line_of line).source) (left_of behind) in
+    let row : List ℕ = line_row (listed number slot line) (bytes_at image slot (source_slots (line_of line).source)) in
+    let rest : List ℕ = rows_left image (number + 1) (slot + source_slots (line_of line).source) (left_of behind) in
     let opened : rows_left image number slot text ≡ row ++ rest =
     ap (λ texts. flat_map (λ l. line_row l (bytes_at image l.slot l.slots)) (listed_from number slot texts))
     (next_line text line behind some first) in
@@ -106,11 +106,11 @@ pub same_bytes : (image left : List ℕ) (slot slots : ℕ) → left ≡ drop (8
 same_bytes image left slot slots before = ap (take (8 * slots)) before
 
 -- the slots of the instruction of a line that is read
-pub same_slots : (slots : ℕ) (line : Line) (text : List ℕ) → slots ≡ slots_in line.source → line ≡ line_of text
-    → slots ≡ slots_in (line_of text).source
-same_slots slots line text taken said = taken ∙ ap (λ l. slots_in l.source) said
+pub same_slots : (slots : ℕ) (line : Line) (text : List ℕ) → slots ≡ source_slots line.source → line ≡ line_of text
+    → slots ≡ source_slots (line_of text).source
+same_slots slots line text taken said = taken ∙ ap (λ l. source_slots l.source) said
 
-pub few_slots : (slots : ℕ) (source : Option (Option Source)) → slots ≡ slots_in source → slots ≤ 2
+pub few_slots : (slots : ℕ) (source : Option (Option Source)) → slots ≡ source_slots source → slots ≤ 2
 few_slots slots None taken = omega (arith, taken)
 few_slots slots (Some None) taken = omega (arith, taken)
 few_slots slots (Some (Some source)) taken = by_form (one_or_two source.insn)
@@ -135,24 +135,24 @@ numbers_from number slot texts = map (λ l. l.number) (filter has_instruction (l
 pub same_numbers : (texts : List (List ℕ)) (number slot other : ℕ)
     → numbers_from number slot texts ≡ numbers_from number other texts
 same_numbers [] number slot other = refl
-same_numbers (text ∷ texts) number slot other = by_test (not (slots_in (line_of text).source == 0))
-    (same_numbers texts (number + 1) (slot + slots_in (line_of text).source) (other + slots_in (line_of text).source))
+same_numbers (text ∷ texts) number slot other = by_test (not (source_slots (line_of text).source == 0))
+    (same_numbers texts (number + 1) (slot + source_slots (line_of text).source) (other + source_slots (line_of text).source))
   where
     by_test : (t : Bool)
-        → numbers_from (number + 1) (slot + slots_in (line_of text).source) texts
-        ≡ numbers_from (number + 1) (other + slots_in (line_of text).source) texts
+        → numbers_from (number + 1) (slot + source_slots (line_of text).source) texts
+        ≡ numbers_from (number + 1) (other + source_slots (line_of text).source) texts
         → map (λ l. l.number) (cond t (listed number slot text
-        ∷ filter has_instruction (listed_from (number + 1) (slot + slots_in (line_of text).source) texts))
-        (filter has_instruction (listed_from (number + 1) (slot + slots_in (line_of text).source) texts)))
+        ∷ filter has_instruction (listed_from (number + 1) (slot + source_slots (line_of text).source) texts))
+        (filter has_instruction (listed_from (number + 1) (slot + source_slots (line_of text).source) texts)))
         ≡ map (λ l. l.number) (cond t (listed number other text
-        ∷ filter has_instruction (listed_from (number + 1) (other + slots_in (line_of text).source) texts))
-        (filter has_instruction (listed_from (number + 1) (other + slots_in (line_of text).source) texts)))
+        ∷ filter has_instruction (listed_from (number + 1) (other + source_slots (line_of text).source) texts))
+        (filter has_instruction (listed_from (number + 1) (other + source_slots (line_of text).source) texts)))
     by_test true rest = ap (λ numbers. number ∷ numbers) rest
     by_test false rest = rest
 
 pub next_number : (text line all old new : List ℕ) (behind : Option (Bor (List ℕ))) (number slots : ℕ)
     → (text ≡ [] → ⊥) → pieces_of (λ c. c == 10) text ≡ line ∷ pieces_left (λ c. c == 10) behind
-    → slots ≡ slots_in (line_of line).source
+    → slots ≡ source_slots (line_of line).source
     → all ≡ old ++ numbers_from number 0 (without_empty_end (lines_of text))
     → new ≡ old ++ number_by number slots
     → all ≡ new ++ numbers_from (number + 1) 0 (without_empty_end (lines_of (left_of behind)))
@@ -160,18 +160,18 @@ next_number text line all old new behind number slots some first taken before mo
     let texts : List (List ℕ) = without_empty_end (lines_of (left_of behind)) in
     let rest : List ℕ = numbers_from (number + 1) 0 texts in
     before ∙ ap (λ ts. old ++ numbers_from number 0 ts) (next_line text line behind some first)
-    ∙ ap (λ ns. old ++ ns) (by_test (slots_in (line_of line).source == 0)
-    (same_numbers texts (number + 1) (0 + slots_in (line_of line).source) 0))
+    ∙ ap (λ ns. old ++ ns) (by_test (source_slots (line_of line).source == 0)
+    (same_numbers texts (number + 1) (0 + source_slots (line_of line).source) 0))
     ∙ ap (λ n. old ++ (number_by number n ++ rest)) (sym taken)
     ∙ sym (append_assoc old (number_by number slots) rest) ∙ ap (λ ns. ns ++ rest) (sym more)
   where
     by_test : (t : Bool)
-        → numbers_from (number + 1) (0 + slots_in (line_of line).source) (without_empty_end (lines_of (left_of behind)))
+        → numbers_from (number + 1) (0 + source_slots (line_of line).source) (without_empty_end (lines_of (left_of behind)))
         ≡ numbers_from (number + 1) 0 (without_empty_end (lines_of (left_of behind)))
         → map (λ l. l.number) (cond (not t) (listed number 0 line ∷ filter has_instruction (listed_from (number + 1)
-        (0 + slots_in (line_of line).source) (without_empty_end (lines_of (left_of behind)))))
+        (0 + source_slots (line_of line).source) (without_empty_end (lines_of (left_of behind)))))
         (filter has_instruction (listed_from (number + 1)
-        (0 + slots_in (line_of line).source) (without_empty_end (lines_of (left_of behind))))))
+        (0 + source_slots (line_of line).source) (without_empty_end (lines_of (left_of behind))))))
         ≡ cond t [] (number ∷ []) ++ numbers_from (number + 1) 0 (without_empty_end (lines_of (left_of behind)))
     by_test true rest = rest
     by_test false rest = ap (λ numbers. number ∷ numbers) rest

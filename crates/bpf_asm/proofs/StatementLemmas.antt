@@ -6,7 +6,7 @@ use Rattle.bpf_asm.specs.declared.words.Form.{Form}
 use Rattle.bpf_asm.specs.Operands.{Operands, one, two, three, more, option_both, operands_of}
 use Rattle.bpf_asm.specs.inner.Operands.{Reads}
 use Rattle.bpf_asm.specs.Pieces.{is_blank, is_word_letter, front_of, rest_of, without_comment}
-use Rattle.bpf_asm.specs.Statements.{Source, Line, pair_by, source_by, source_behind, source_of, ends_word, line_by, line_of}
+use Rattle.bpf_asm.specs.Statements.{Source, Line, pair_by, source_by, source_behind, source_spelled, ends_word, line_by, line_of}
 use Rattle.bpf_asm.specs.Words.{form_of}
 
 second_missing : {A B : Type 0} (a : Option A) (b : Option B) → b ≡ None → option_both a b ≡ None
@@ -60,7 +60,7 @@ word_read (w ∷ ws) rest form source some named ends reads =
 
 pub source_read : (text front word rest : List ℕ) (source : Option (Option Source)) → front ≡ rest_of is_blank text
     → word ≡ front_of is_word_letter front → rest ≡ rest_of is_word_letter front → source ≡ source_behind word rest
-    → source ≡ source_of text
+    → source ≡ source_spelled text
 source_read text front word rest source opened before behind reads =
     reads ∙ ap (λ w. source_behind w rest) before ∙ ap (source_behind (front_of is_word_letter front)) behind
     ∙ ap (λ f. source_behind (front_of is_word_letter f) (rest_of is_word_letter f)) opened

@@ -23,7 +23,7 @@ use Rattle.node_env.specs.declared.helper.Helper.TheVariants.{Id, Recv, Send, Co
 use Rattle.node_env.specs.declared.helper.TheConstants.{HELPERS}
 use Rattle.node_env.specs.Helpers.{helper_word, helper_number, helper_by_word, helper_of}
 use Rattle.bpf_asm.specs.declared.registers.TheConstants.{REGISTERS}
-use Rattle.bpf_asm.specs.Words.{word_of, form_of, register_word, register_by_word}
+use Rattle.bpf_asm.specs.Words.{form_word, form_of, register_word, register_by_word}
 
 -- what is found passes the test
 pub found_passes : {X : Type 0} (p : X → Bool) (xs : List X) (x : X) → find p xs ≡ Some x → p x ≡ true
@@ -38,11 +38,11 @@ found_passes p (y ∷ ys) x found = by_test (p y) refl found (found_passes p ys 
 same_bytes : (a b : List ℕ) → bytes_eq a b ≡ true → a ≡ b
 same_bytes a b same = grind (arith, bytes_eq-Decides a b)
 
-pub word_named : (word : List ℕ) (form : Form) → form_of word ≡ Some form → word ≡ word_of form
-word_named word form found = sym (same_bytes (word_of form) word
-    (found_passes (λ f. bytes_eq (word_of f) word) FORMS form found))
+pub word_named : (word : List ℕ) (form : Form) → form_of word ≡ Some form → word ≡ form_word form
+word_named word form found = sym (same_bytes (form_word form) word
+    (found_passes (λ f. bytes_eq (form_word f) word) FORMS form found))
 
-pub form_named : (form : Form) → form_of (word_of form) ≡ Some form
+pub form_named : (form : Form) → form_of (form_word form) ≡ Some form
 form_named (forms.Alu ops.Add W32) = refl
 form_named (forms.Alu ops.Sub W32) = refl
 form_named (forms.Alu ops.Mul W32) = refl
@@ -188,7 +188,7 @@ passes_found p test (y ∷ ys) x all found = by_tests (p y) (test y) refl all fo
     by_tests false false passes rest e others = cc
 
 pub every_form : (test : Form → Bool) → list_all test FORMS ≡ true → (form : Form) → test form ≡ true
-every_form test all form = passes_found (λ f. bytes_eq (word_of f) (word_of form)) test FORMS form all (form_named form)
+every_form test all form = passes_found (λ f. bytes_eq (form_word f) (form_word form)) test FORMS form all (form_named form)
 
 pub every_register : (test : Reg → Bool) → list_all test REGISTERS ≡ true → (register : Reg) → test register ≡ true
 every_register test all register = passes_found

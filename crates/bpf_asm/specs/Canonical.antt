@@ -13,7 +13,7 @@ use Rattle.bpf_asm.specs.declared.words.Form.{Form}
 use Rattle.bpf_asm.specs.declared.words.Form.TheVariants as forms
 use Rattle.node_env.specs.declared.helper.Helper.{Helper}
 use Rattle.node_env.specs.Helpers.{helper_of, helper_word}
-use Rattle.bpf_asm.specs.Words.{word_of, register_word}
+use Rattle.bpf_asm.specs.Words.{form_word, register_word}
 
 -- a number with its sign always, as of distances and offsets
 abbrev pub with_sign : ℤ → List ℕ
@@ -85,7 +85,7 @@ after_word (operand ∷ []) = codes " " ++ operand
 after_word (operand ∷ rest) = codes " " ++ (operand ++ after_commas rest)
 
 abbrev pub canonical_line : Insn → List ℕ
-canonical_line insn = word_of (form_in insn) ++ after_word (operand_texts insn)
+canonical_line insn = form_word (form_in insn) ++ after_word (operand_texts insn)
 
 -- one instruction a line
 abbrev pub canonical_text : List Insn → List ℕ

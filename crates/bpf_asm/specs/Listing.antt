@@ -8,7 +8,7 @@ use Rattle.bpf_insn.specs.Encoding.{slots_taken}
 use Rattle.bpf_insn.specs.Programs.{image_of, insn_at, slots_of}
 use Rattle.bpf_asm.specs.declared.listing.TheConstants.{LINE_WIDTH, SLOT_WIDTH, BYTES_WIDTH}
 use Rattle.bpf_asm.specs.Canonical.{canonical_line}
-use Rattle.bpf_asm.specs.Meaning.{slots_in}
+use Rattle.bpf_asm.specs.Meaning.{source_slots}
 use Rattle.bpf_asm.specs.Pieces.{lines_of}
 use Rattle.bpf_asm.specs.Statements.{line_of}
 
@@ -23,12 +23,12 @@ pub record Listed : Type 0 where
 
 abbrev pub listed : ℕ → ℕ → List ℕ → Listed
 listed number slot text =
-    record { number = number; slot = slot; slots = slots_in (line_of text).source; text = text }
+    record { number = number; slot = slot; slots = source_slots (line_of text).source; text = text }
 
 abbrev pub listed_from : ℕ → ℕ → List (List ℕ) → List Listed
 listed_from number slot [] = []
 listed_from number slot (text ∷ texts) =
-    listed number slot text ∷ listed_from (number + 1) (slot + slots_in (line_of text).source) texts
+    listed number slot text ∷ listed_from (number + 1) (slot + source_slots (line_of text).source) texts
 
 -- after the last LF there is a line only if text follows
 abbrev pub without_empty_end : List (List ℕ) → List (List ℕ)

@@ -16,9 +16,9 @@ lines_in text = map line_of (lines_of text)
 -- ---- labels
 
 -- the slots that a line's instruction takes
-abbrev pub slots_in : Option (Option Source) → ℕ
-slots_in (Some (Some source)) = slots_taken source.insn
-slots_in _ = 0
+abbrev pub source_slots : Option (Option Source) → ℕ
+source_slots (Some (Some source)) = slots_taken source.insn
+source_slots _ = 0
 
 -- names with slots
 abbrev pub Places : Type 0
@@ -31,12 +31,12 @@ place_at (Some name) slot = (name, slot) ∷ []
 -- each label with the slot of the next instruction, or the slot after the last
 abbrev pub places_from : ℕ → List Line → Places
 places_from slot [] = []
-places_from slot (line ∷ lines) = place_at line.name slot ++ places_from (slot + slots_in line.source) lines
+places_from slot (line ∷ lines) = place_at line.name slot ++ places_from (slot + source_slots line.source) lines
 
 -- the slot of a name
-abbrev pub slot_of : Places → List ℕ → Option ℕ
-slot_of [] name = None
-slot_of (p ∷ ps) name = if bytes_eq p.0 name then Some p.1 else slot_of ps name
+abbrev pub label_slot : Places → List ℕ → Option ℕ
+label_slot [] name = None
+label_slot (p ∷ ps) name = if bytes_eq p.0 name then Some p.1 else label_slot ps name
 
 -- no name is defined twice
 abbrev pub is_map : Places → Bool
@@ -75,13 +75,13 @@ insns_before slots slot (Some (Some source)) later = before_all (insn_by slots s
 abbrev pub insns_from : (List ℕ → Option ℕ) → ℕ → List Line → Option (List Insn)
 insns_from slots slot [] = Some []
 insns_from slots slot (line ∷ lines) =
-    insns_before slots slot line.source (insns_from slots (slot + slots_in line.source) lines)
+    insns_before slots slot line.source (insns_from slots (slot + source_slots line.source) lines)
 
 -- the instructions of a text
 abbrev pub insns_of : List ℕ → Option (List Insn)
 insns_of text =
     let places = places_from 0 (lines_in text) in
-    if is_map places then insns_from (slot_of places) 0 (lines_in text) else None
+    if is_map places then insns_from (label_slot places) 0 (lines_in text) else None
 
 -- a text means a program: its instructions are the program's, which has 1 to MAX_SLOTS slots
 pub record Means (text : List ℕ) (program : List Insn) : Type 0 where

@@ -30,8 +30,8 @@ abbrev pub operand_by : Option registers.Reg → List ℕ → Option Operand
 operand_by (Some register) text = Some (Reg register)
 operand_by None text = option_map Imm (immediate_of text)
 
-abbrev pub operand_of : List ℕ → Option Operand
-operand_of text = operand_by (register_by_word text) text
+abbrev pub operand_spelled : List ℕ → Option Operand
+operand_spelled text = operand_by (register_by_word text) text
 
 -- what a call names: a helper by its word, or otherwise by an immediate
 abbrev pub id_by : Option Helper → List ℕ → Option ℤ
@@ -45,9 +45,9 @@ abbrev pub wide_number_of : List ℕ → Option ℕ
 wide_number_of text = option_and_then wide_of (number_of text)
 
 -- the bytes from the base of an address: 0 if nothing is written
-abbrev pub offset_of : List ℕ → Option ℤ
-offset_of [] = Some (pos 0)
-offset_of (c ∷ cs) = option_and_then (in_field GREATEST_OFFSET) (signed_number_of magnitude_of (c ∷ cs))
+abbrev pub offset_in : List ℕ → Option ℤ
+offset_in [] = Some (pos 0)
+offset_in (c ∷ cs) = option_and_then (in_field GREATEST_OFFSET) (signed_number_of magnitude_of (c ∷ cs))
 
 abbrev pub address_by : registers.Reg × ℤ → Address
 address_by parts = record { base = parts.0; off = parts.1 }
@@ -56,7 +56,7 @@ address_by parts = record { base = parts.0; off = parts.1 }
 abbrev pub address_inside : List ℕ → Option Address
 address_inside inside =
     option_map address_by
-    (option_both (register_by_word (front_of is_word_letter inside)) (offset_of (rest_of is_word_letter inside)))
+    (option_both (register_by_word (front_of is_word_letter inside)) (offset_in (rest_of is_word_letter inside)))
 
 abbrev pub address_between : List (List ℕ) → Option Address
 address_between (inside ∷ [] ∷ []) = address_inside inside

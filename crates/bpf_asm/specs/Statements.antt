@@ -11,7 +11,7 @@ use Rattle.bpf_asm.specs.declared.words.Form.{Form}
 use Rattle.bpf_asm.specs.declared.words.Form.TheVariants.{Alu, Neg, Movsx, Swap, Ja, JaLong, Branch, Call, Exit, Load}
 use Rattle.bpf_asm.specs.declared.words.Form.TheVariants.{LoadSx, StoreReg, StoreImm, LoadImm64}
 use Rattle.bpf_asm.specs.Operands.{Operands, one, two, three, operands_of, option_both, Target, distance, label}
-use Rattle.bpf_asm.specs.Operands.{target_of, immediate_of, operand_of, callee_of, wide_number_of}
+use Rattle.bpf_asm.specs.Operands.{target_of, immediate_of, operand_spelled, callee_of, wide_number_of}
 use Rattle.bpf_asm.specs.Operands.{address_of, is_name}
 use Rattle.bpf_asm.specs.Pieces.{is_blank, is_word_letter, front_of, rest_of, without_comment}
 use Rattle.bpf_asm.specs.Words.{form_of, register_by_word}
@@ -48,13 +48,13 @@ nothing_of [] = Some tt
 nothing_of _ = None
 
 -- a register, what it is compared with, and where the jump goes
-abbrev pub condition_of : Operands → Option (Reg × (Operand × Target))
-condition_of (three a b c) = option_both (register_by_word a) (option_both (operand_of b) (target_of GREATEST_OFFSET c))
-condition_of _ = None
+abbrev pub compared_in : Operands → Option (Reg × (Operand × Target))
+compared_in (three a b c) = option_both (register_by_word a) (option_both (operand_spelled b) (target_of GREATEST_OFFSET c))
+compared_in _ = None
 
 abbrev pub source_by : Form → Operands → Option Source
 source_by (Alu op width) operands =
-    option_map (λ x. whole (insn.Alu op width x.0 x.1)) (pair_by register_by_word operand_of operands)
+    option_map (λ x. whole (insn.Alu op width x.0 x.1)) (pair_by register_by_word operand_spelled operands)
 source_by (Neg width) operands = option_map (λ dst. whole (insn.Neg width dst)) (single_by register_by_word operands)
 source_by (Movsx kind) operands =
     option_map (λ x. whole (insn.Movsx kind x.0 x.1)) (pair_by register_by_word register_by_word operands)
@@ -63,7 +63,7 @@ source_by (Swap order bits) operands =
 source_by Ja operands = option_map (jump_to insn.Ja) (single_by (target_of GREATEST_OFFSET) operands)
 source_by JaLong operands = option_map (jump_to insn.JaLong) (single_by (target_of GREATEST_IMMEDIATE) operands)
 source_by (Branch cond width) operands =
-    option_map (λ x. jump_to (insn.Branch cond width x.0 x.1.0) x.1.1) (condition_of operands)
+    option_map (λ x. jump_to (insn.Branch cond width x.0 x.1.0) x.1.1) (compared_in operands)
 source_by Call operands = option_map (λ id. whole (insn.Call id)) (single_by callee_of operands)
 source_by Exit operands = option_map (λ x. whole insn.Exit) (single_by nothing_of operands)
 source_by (Load size) operands =
@@ -92,14 +92,14 @@ source_behind (w ∷ ws) rest =
     if ends_word rest
     then option_map Some (option_and_then (λ form. source_by form (operands_of rest)) (form_of (w ∷ ws))) else None
 
-abbrev pub source_of : List ℕ → Option (Option Source)
-source_of text =
+abbrev pub source_spelled : List ℕ → Option (Option Source)
+source_spelled text =
     let front = rest_of is_blank text in source_behind (front_of is_word_letter front) (rest_of is_word_letter front)
 
 -- a label, and what is after its colon
 abbrev pub named : List ℕ → List ℕ → Line
 named name rest =
-    if is_name name then record { name = Some name; source = source_of rest } else record { name = None; source = None }
+    if is_name name then record { name = Some name; source = source_spelled rest } else record { name = None; source = None }
 
 -- the letters at the front of a line are a label where a colon (58) follows at once
 abbrev pub line_by : List ℕ → List ℕ → Line

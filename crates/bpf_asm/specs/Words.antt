@@ -90,8 +90,8 @@ sx_size_letters sx_sizes.W = codes "w"
 
 -- ---- the words
 
-abbrev pub alu_word : AluOp → Width → List ℕ
-alu_word op width = op_name op ++ width_digits width
+abbrev pub alu_name : AluOp → Width → List ℕ
+alu_name op width = op_name op ++ width_digits width
 
 abbrev pub neg_word : Width → List ℕ
 neg_word width = codes "neg" ++ width_digits width
@@ -123,25 +123,25 @@ abbrev pub store_imm_word : Size → List ℕ
 store_imm_word size = codes "st" ++ size_letters size
 
 -- the word of a form
-abbrev pub word_of : Form → List ℕ
-word_of (forms.Alu op width) = alu_word op width
-word_of (forms.Neg width) = neg_word width
-word_of (forms.Movsx kind) = movsx_word kind
-word_of (forms.Swap order bits) = swap_word order bits
-word_of forms.Ja = codes "ja"
-word_of forms.JaLong = codes "jal"
-word_of (forms.Branch cond width) = branch_word cond width
-word_of forms.Call = codes "call"
-word_of forms.Exit = codes "exit"
-word_of (forms.Load size) = load_word size
-word_of (forms.LoadSx size) = load_sx_word size
-word_of (forms.StoreReg size) = store_reg_word size
-word_of (forms.StoreImm size) = store_imm_word size
-word_of forms.LoadImm64 = codes "lddw"
+abbrev pub form_word : Form → List ℕ
+form_word (forms.Alu op width) = alu_name op width
+form_word (forms.Neg width) = neg_word width
+form_word (forms.Movsx kind) = movsx_word kind
+form_word (forms.Swap order bits) = swap_word order bits
+form_word forms.Ja = codes "ja"
+form_word forms.JaLong = codes "jal"
+form_word (forms.Branch cond width) = branch_word cond width
+form_word forms.Call = codes "call"
+form_word forms.Exit = codes "exit"
+form_word (forms.Load size) = load_word size
+form_word (forms.LoadSx size) = load_sx_word size
+form_word (forms.StoreReg size) = store_reg_word size
+form_word (forms.StoreImm size) = store_imm_word size
+form_word forms.LoadImm64 = codes "lddw"
 
 -- the form that a word names, of all forms
 abbrev pub form_of : List ℕ → Option Form
-form_of word = find (λ form. bytes_eq (word_of form) word) FORMS
+form_of word = find (λ form. bytes_eq (form_word form) word) FORMS
 
 -- ---- the registers
 

@@ -7,9 +7,9 @@ ghost use Rattle.bpf_insn.specs.declared.listing.TheConstants.{MAX_SLOTS};
 ghost use Rattle.bpf_asm.specs.Meaning.{lines_in, Means, insn_by, insns_from};
 ghost use Rattle.bpf_asm.specs.inner.Meaning.{Resolves, Near, known, insns_found};
 ghost use Rattle.bpf_asm.specs.Meaning.{with_distance, insns_of};
-ghost use Rattle.bpf_asm.specs.inner.Meaning.{slots_found, slots_of_lines, Refuses, HasPlaces};
+ghost use Rattle.bpf_asm.specs.inner.Meaning.{slots_found, slots_of_lines, RefusesText, HasPlaces};
 ghost use Rattle.bpf_insn.specs.Programs.{slots_of};
-ghost use Rattle.bpf_asm.specs.inner.Statements.{source_in, written_in};
+ghost use Rattle.bpf_asm.specs.inner.Statements.{source_in, source_written};
 
 use crate::labels::{Labels, next_line, read_labels};
 use crate::operands::Fault;
@@ -87,7 +87,7 @@ fn resolve(
 ) -> Result<Option<Insn>, TextError>
     requires at { slot ≤ MAX_SLOTS }
     requires near { Near (known labels.now) }
-    ensures { Resolves labels.now slot (written_in source.entry) result }
+    ensures { Resolves labels.now slot (source_written source.entry) result }
 {
     let source = match source {
         Ok(Some(source)) => source,
@@ -122,7 +122,7 @@ fn read_insns(alloc: Global, text: &[u8], labels: &Labels) -> Result<Vec<Insn>, 
     requires near { Near (known labels.now) }
     ensures insns { IfOk result (λ insns. insns_from (known labels.now) 0 (lines_in text.now) ≡ Some insns.items) }
     ensures few { OnOk result (slots_of_lines (lines_in text.now) ≤ MAX_SLOTS) }
-    ensures refusal { IfErr result (Refuses (known labels.now) (lines_in text.now)) }
+    ensures refusal { IfErr result (RefusesText (known labels.now) (lines_in text.now)) }
 {
     let mut insns = Vec::new(alloc);
     let mut rest = Some(text);

@@ -2,9 +2,9 @@
 
 ghost use Rattle.std.specs.Prelude.{◌≡◌, ◌≤◌, ◌<◌, ◌+◌, ◌∷◌, ◌++◌, [], ℕ, Some, IfOk, IfSome, OnOk, length};
 ghost use Rattle.bpf_insn.specs.declared.listing.TheConstants.{MAX_SLOTS};
-ghost use Rattle.bpf_asm.specs.Meaning.{lines_in, slots_in, Places, place_at};
+ghost use Rattle.bpf_asm.specs.Meaning.{lines_in, source_slots, Places, place_at};
 ghost use Rattle.bpf_asm.specs.inner.Meaning.{lines_left, near_places, near, HasPlaces};
-ghost use Rattle.bpf_asm.specs.inner.Statements.{line_in, name_in, written_in};
+ghost use Rattle.bpf_asm.specs.inner.Statements.{line_in, name_in, source_written};
 
 use crate::operands::Fault;
 use crate::pieces::first_piece;
@@ -32,7 +32,7 @@ pub fn next_line(text: &[u8]) -> (Line<'_>, Option<&[u8]>)
 
 /// The slots of a line's instruction.
 pub(crate) fn slots_in(source: Result<Option<Source<'_>>, Fault>) -> usize
-    ensures { result ≡ slots_in (written_in source.entry) }
+    ensures { result ≡ source_slots (source_written source.entry) }
 {
     match source {
         Ok(Some(source)) => source.insn.slots(),

@@ -3,7 +3,7 @@ ghost use Rattle.std.specs.Prelude.{◌≡◌, ◌≤◌, ◌<◌, ◌^◌, Matc
 ghost use Rattle.std.specs.Prelude.{pos, neg_ℤ, ◌≤ℤ◌, ℕ, Option, Some, None, option_map};
 ghost use Rattle.bpf_asm.specs.Numbers.{magnitude_of, numeral_of, number_of, signed_number_of, in_field, wide_of};
 ghost use Rattle.bpf_asm.specs.Numbers.{Written, written};
-ghost use Rattle.bpf_asm.specs.inner.Numbers.{Counts, CountsSigned};
+ghost use Rattle.bpf_asm.specs.inner.Numbers.{CountsTo, CountsSigned};
 
 /// The greatest immediate and distance of 32 bits; below zero it goes one further.
 pub const GREATEST_IMMEDIATE: u32 = 0x7fff_ffff;
@@ -29,7 +29,7 @@ pub struct Number {
 pub fn numeral(digits: &[u8], radix: u32) -> Option<Magnitude>
     requires least { 2 ≤ radix }
     requires most { radix ≤ 16 }
-    ensures { Counts (numeral_of radix digits.now) result }
+    ensures { CountsTo (numeral_of radix digits.now) result }
 {
     if digits.is_empty() {
         return None;
@@ -57,7 +57,7 @@ fn next_total(total: Option<u64>, radix: u32, digit: u32) -> Option<u64>
 
 /// The number that a text writes without a sign.
 fn unsigned_number(text: &[u8]) -> Option<Magnitude>
-    ensures { Counts (magnitude_of text.now) result }
+    ensures { CountsTo (magnitude_of text.now) result }
 {
     match text {
         [b'0', b'x', digits @ ..] => numeral(digits, 16),
@@ -67,7 +67,7 @@ fn unsigned_number(text: &[u8]) -> Option<Magnitude>
 
 /// The number with its sign.
 fn with_sign(below_zero: bool, magnitude: Option<Magnitude>) -> Option<Number>
-    ensures { (size : Option ℕ) → Counts size magnitude → CountsSigned (option_map (written below_zero) size) result }
+    ensures { (size : Option ℕ) → CountsTo size magnitude → CountsSigned (option_map (written below_zero) size) result }
 {
     Some(Number {
         below_zero,

@@ -7,9 +7,9 @@ ghost use Rattle.bpf_asm.specs.declared.numbers.TheConstants.{GREATEST_IMMEDIATE
 ghost use Rattle.bpf_asm.specs.Numbers.{Written, in_field, wide_of};
 ghost use Rattle.bpf_asm.specs.inner.Numbers.{CountsSigned};
 ghost use Rattle.bpf_asm.specs.Pieces.{is_word_letter, pieces_of};
-ghost use Rattle.bpf_asm.specs.Operands.{immediate_of, operand_of, callee_of};
-ghost use Rattle.bpf_asm.specs.inner.Operands.{Reads, ReadsTarget, IsWithin};
-ghost use Rattle.bpf_asm.specs.Operands.{wide_number_of, offset_of, address_inside, address_of, address_between};
+ghost use Rattle.bpf_asm.specs.Operands.{immediate_of, operand_spelled, callee_of};
+ghost use Rattle.bpf_asm.specs.inner.Operands.{Reads, ReadsTarget, IsTargetWithin};
+ghost use Rattle.bpf_asm.specs.Operands.{wide_number_of, offset_in, address_inside, address_of, address_between};
 ghost use Rattle.bpf_asm.specs.Operands.{starts_name, is_name, target_of, operands_of, operands_by, parts_of};
 ghost use Rattle.bpf_asm.specs.inner.Operands.{operands_in};
 ghost use Rattle.bpf_asm.specs.Words.{register_by_word};
@@ -92,7 +92,7 @@ pub fn read_immediate(text: &[u8]) -> Result<i32, Fault>
 
 /// Reads a register or an immediate.
 pub fn read_operand(text: &[u8]) -> Result<Operand, Fault>
-    ensures { Reads (operand_of text.now) result }
+    ensures { Reads (operand_spelled text.now) result }
 {
     match register_by_word(text) {
         Some(register) => Ok(Operand::Reg(register)),
@@ -133,7 +133,7 @@ pub fn read_wide_number(text: &[u8]) -> Result<u64, Fault>
 }
 
 fn read_offset(text: &[u8]) -> Result<i16, Fault>
-    ensures { Reads (offset_of text.now) result }
+    ensures { Reads (offset_in text.now) result }
 {
     if text.is_empty() {
         return Ok(0);
@@ -204,7 +204,7 @@ pub fn is_name(text: &[u8]) -> bool
 pub fn read_target(text: &[u8], most: u32) -> Result<Target<'_>, Fault>
     requires { most ≤ GREATEST_IMMEDIATE }
     ensures target { ReadsTarget (target_of most text.now) result }
-    ensures within { IfOk result (IsWithin most) }
+    ensures within { IfOk result (IsTargetWithin most) }
 {
     match text {
         [b'+' | b'-', ..] => {

@@ -4,16 +4,16 @@ ghost use Rattle.std.specs.Prelude.{◌≡◌, ◌≢◌, ◌≤◌, ◌⊎◌, 
 ghost use Rattle.bpf_insn.specs.declared.forms.Insn.TheVariants as insn;
 ghost use Rattle.bpf_asm.specs.declared.words.Form.TheVariants as form;
 ghost use Rattle.bpf_asm.specs.declared.numbers.TheConstants.{GREATEST_IMMEDIATE, GREATEST_OFFSET};
-ghost use Rattle.bpf_asm.specs.Operands.{two, operand_of};
-ghost use Rattle.bpf_asm.specs.inner.Operands.{Reads, ReadsTarget, IsWithin, target_in, operands_in};
+ghost use Rattle.bpf_asm.specs.Operands.{two, operand_spelled};
+ghost use Rattle.bpf_asm.specs.inner.Operands.{Reads, ReadsTarget, IsTargetWithin, target_in, operands_in};
 ghost use Rattle.bpf_asm.specs.Operands.{address_of, immediate_of, wide_number_of, callee_of, target_of};
 ghost use Rattle.bpf_asm.specs.Pieces.{without_comment};
-ghost use Rattle.bpf_asm.specs.Statements.{single_by, pair_by, nothing_of, condition_of, whole};
+ghost use Rattle.bpf_asm.specs.Statements.{single_by, pair_by, nothing_of, compared_in, whole};
 ghost use Rattle.bpf_asm.specs.inner.Statements.{ReadsCondition};
 ghost use Rattle.bpf_asm.specs.Statements.{jump_to, source_by, ends_word, source_behind};
 ghost use Rattle.bpf_asm.specs.inner.Statements.{source_in, ReadsSource};
-ghost use Rattle.bpf_asm.specs.Statements.{source_of, named, line_by, line_of};
-ghost use Rattle.bpf_asm.specs.inner.Statements.{written_in, line_in};
+ghost use Rattle.bpf_asm.specs.Statements.{source_spelled, named, line_by, line_of};
+ghost use Rattle.bpf_asm.specs.inner.Statements.{source_written, line_in};
 ghost use Rattle.bpf_asm.specs.Words.{register_by_word};
 
 use crate::forms::form_of;
@@ -70,7 +70,7 @@ fn one_helper(parts: Parts) -> Result<i32, Fault>
 fn one_target(parts: Parts<'_>, most: u32) -> Result<Target<'_>, Fault>
     requires { most ≤ GREATEST_IMMEDIATE }
     ensures target { ReadsTarget (single_by (target_of most) (operands_in parts.entry)) result }
-    ensures within { IfOk result (IsWithin most) }
+    ensures within { IfOk result (IsTargetWithin most) }
 {
     match parts {
         Parts::One(a) => read_target(a, most),
@@ -114,7 +114,7 @@ fn two_registers(parts: Parts) -> Result<(Reg, Reg), Fault>
 
 #[tactic(auto, using(crate::proofs::StatementLemmas::pair_read, crate::proofs::StatementLemmas::no_pair))]
 fn register_and_operand(parts: Parts) -> Result<(Reg, Operand), Fault>
-    ensures { Reads (pair_by register_by_word operand_of (operands_in parts.entry)) result }
+    ensures { Reads (pair_by register_by_word operand_spelled (operands_in parts.entry)) result }
 {
     let (a, b) = two(parts)?;
     both(read_register(a), read_operand(b))
@@ -154,8 +154,8 @@ fn address_and_immediate(parts: Parts) -> Result<(Address, i32), Fault>
 
 /// A register, what it is compared with, and where the jump goes.
 fn condition(parts: Parts<'_>) -> Result<(Reg, Operand, Target<'_>), Fault>
-    ensures condition { ReadsCondition (condition_of (operands_in parts.entry)) result }
-    ensures within { IfOk result (λ x. IsWithin GREATEST_OFFSET x.2) }
+    ensures condition { ReadsCondition (compared_in (operands_in parts.entry)) result }
+    ensures within { IfOk result (λ x. IsTargetWithin GREATEST_OFFSET x.2) }
 {
     let Parts::Three(a, b, c) = parts else {
         return Err(Fault::BadOperand);
@@ -172,7 +172,7 @@ fn whole(insn: Insn) -> Source<'static>
 }
 
 fn jump(target: Target<'_>) -> Source<'_>
-    requires { IsWithin GREATEST_OFFSET target }
+    requires { IsTargetWithin GREATEST_OFFSET target }
     ensures { source_in result ≡ jump_to insn.Ja (target_in target.entry) }
 {
     match target {
@@ -203,7 +203,7 @@ fn long_jump(target: Target<'_>) -> Source<'_>
 }
 
 fn branch(cond: Cond, width: Width, dst: Reg, src: Operand, target: Target<'_>) -> Source<'_>
-    requires { IsWithin GREATEST_OFFSET target }
+    requires { IsTargetWithin GREATEST_OFFSET target }
     ensures { source_in result ≡ jump_to (insn.Branch cond width dst src) (target_in target.entry) }
 {
     let (off, label) = match target {
@@ -327,7 +327,7 @@ fn ends_word(rest: &[u8]) -> bool
 
 /// The instruction of a word and of what is after it.
 fn source_behind<'a>(word: &'a [u8], rest: &'a [u8]) -> Result<Option<Source<'a>>, Fault>
-    ensures { written_in result ≡ source_behind word.now rest.now }
+    ensures { source_written result ≡ source_behind word.now rest.now }
 {
     if word.is_empty() {
         return if rest.is_empty() {
@@ -347,7 +347,7 @@ fn source_behind<'a>(word: &'a [u8], rest: &'a [u8]) -> Result<Option<Source<'a>
 
 /// The instruction of a line without its label.
 fn source_of(text: &[u8]) -> Result<Option<Source<'_>>, Fault>
-    ensures { written_in result ≡ source_of text.now }
+    ensures { source_written result ≡ source_spelled text.now }
 {
     let (_, front) = split_front(text, Letters::Blank);
     let (word, rest) = split_front(front, Letters::Word);

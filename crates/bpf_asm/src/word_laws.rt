@@ -5,13 +5,13 @@ ghost use Rattle.bpf_insn.specs.declared.forms.Reg.{Reg};
 ghost use Rattle.bpf_asm.specs.declared.words.Form.{Form};
 ghost use Rattle.node_env.specs.declared.helper.Helper.{Helper};
 ghost use Rattle.node_env.specs.Helpers.{helper_word, helper_number, helper_by_word, helper_of};
-ghost use Rattle.bpf_asm.specs.Words.{word_of, form_of};
+ghost use Rattle.bpf_asm.specs.Words.{form_word, form_of};
 ghost use Rattle.bpf_asm.specs.Words.{register_word, register_by_word};
 
 /// States that each form has a word of its own, and that no other word names one.
 pub fn one_word_each()
-    ensures form { (form : Form) → form_of (word_of form) ≡ Some form }
-    ensures word { (word : List ℕ) (form : Form) → form_of word ≡ Some form → word ≡ word_of form }
+    ensures form { (form : Form) → form_of (form_word form) ≡ Some form }
+    ensures word { (word : List ℕ) (form : Form) → form_of word ≡ Some form → word ≡ form_word form }
 {}
 
 /// States that each helper has a word and a number of its own, and that no other names one.

@@ -2,7 +2,7 @@
 //! `Form::word`; reading looks it up there.
 
 ghost use Rattle.std.specs.Prelude.{◌≡◌};
-ghost use Rattle.bpf_asm.specs.Words.{alu_word, branch_word, movsx_word, swap_word, load_word, load_sx_word};
+ghost use Rattle.bpf_asm.specs.Words.{alu_name, branch_word, movsx_word, swap_word, load_word, load_sx_word};
 ghost use Rattle.bpf_asm.specs.Words.{store_reg_word, store_imm_word, neg_word};
 
 use bpf_insn::{AluOp, Cond, MovsxKind, Order, Size, SwapBits, SxSize, Width};
@@ -27,7 +27,7 @@ pub enum Form {
 }
 
 fn alu_word(op: AluOp, width: Width) -> &'static str
-    ensures { result.now ≡ alu_word op width }
+    ensures { result.now ≡ alu_name op width }
 {
     match width {
         Width::W32 => match op {
@@ -186,11 +186,11 @@ fn store_imm_word(size: Size) -> &'static str
 
 impl Form {
     ghost use Rattle.std.specs.Prelude.{◌≡◌};
-    ghost use Rattle.bpf_asm.specs.Words.{word_of};
+    ghost use Rattle.bpf_asm.specs.Words.{form_word};
 
     /// Its word.
     pub fn word(self) -> &'static str
-        ensures { result.now ≡ word_of self }
+        ensures { result.now ≡ form_word self }
     {
         match self {
             Form::Alu(op, width) => alu_word(op, width),

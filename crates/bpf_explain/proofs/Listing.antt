@@ -6,21 +6,21 @@ use Rattle.std.proofs.lemmas.Grind.{flat_map-append}
 use Rattle.std.proofs.lemmas.List.{append_assoc, append-nil}
 use Rattle.bpf_verify.specs.States.{AbstractState}
 use Rattle.bpf_explain.specs.declared.fact.Fact.{Fact}
-use Rattle.bpf_explain.specs.Facts.{fact_text, listed, remark}
+use Rattle.bpf_explain.specs.Facts.{fact_text, fact_list, remark}
 use Rattle.bpf_explain.specs.Known.{facts_below, first_unwritten}
 
-pub listed_both : (xs ys : List Fact) → listed (xs ++ ys) ≡ listed xs ++ listed ys
+pub listed_both : (xs ys : List Fact) → fact_list (xs ++ ys) ≡ fact_list xs ++ fact_list ys
 listed_both xs ys = flat_map-append (λ fact. codes ", " ++ fact_text fact) xs ys
 
 -- behind the first comma stands what is told
-pub remarked : (facts : List Fact) (rest : List ℕ) → listed facts ≡ 44 ∷ rest → codes " #" ++ rest ≡ remark facts
+pub remarked : (facts : List Fact) (rest : List ℕ) → fact_list facts ≡ 44 ∷ rest → codes " #" ++ rest ≡ remark facts
 remarked [] rest e = absurd cc
 remarked (first ∷ more) rest e = ap (λ bytes. 32 ∷ 35 ∷ bytes) (sym (tails e))
   where
     tails : {xs ys : List ℕ} → 44 ∷ xs ≡ 44 ∷ ys → xs ≡ ys
     tails f = cc
 
-pub unremarked : (facts : List Fact) → ((rest : List ℕ) → listed facts ≢ 44 ∷ rest) → remark facts ≡ []
+pub unremarked : (facts : List Fact) → ((rest : List ℕ) → fact_list facts ≢ 44 ∷ rest) → remark facts ≡ []
 unremarked [] none = refl
 unremarked (first ∷ more) none = absurd (none _ refl)
 
@@ -44,22 +44,22 @@ below_more facts number =
     ∙ flat_map-append facts (range_with_len 0 number) (number ∷ [])
     ∙ ap (λ more. flat_map facts (range_with_len 0 number) ++ more) (append-nil (facts number))
 
-pub told_none : (facts : ℕ → List Fact) (old : List ℕ) → old ≡ old ++ listed (facts_below facts 0)
+pub told_none : (facts : ℕ → List Fact) (old : List ℕ) → old ≡ old ++ fact_list (facts_below facts 0)
 unfolding facts_below
 told_none facts old = sym (append-nil old)
 
 pub told_more : (facts : ℕ → List Fact) (number : ℕ) (old told after : List ℕ)
-    → told ≡ old ++ listed (facts_below facts number) → after ≡ told ++ listed (facts number)
-    → after ≡ old ++ listed (facts_below facts (number + 1))
+    → told ≡ old ++ fact_list (facts_below facts number) → after ≡ told ++ fact_list (facts number)
+    → after ≡ old ++ fact_list (facts_below facts (number + 1))
 told_more facts number old told after before adds =
-    adds ∙ ap (λ bytes. bytes ++ listed (facts number)) before
-    ∙ append_assoc old (listed (facts_below facts number)) (listed (facts number))
+    adds ∙ ap (λ bytes. bytes ++ fact_list (facts number)) before
+    ∙ append_assoc old (fact_list (facts_below facts number)) (fact_list (facts number))
     ∙ ap (λ bytes. old ++ bytes) (sym (listed_both (facts_below facts number) (facts number)))
-    ∙ ap (λ more. old ++ listed more) (sym (below_more facts number))
+    ∙ ap (λ more. old ++ fact_list more) (sym (below_more facts number))
 
 pub told_all : (facts : ℕ → List Fact) (number end : ℕ) (old told : List ℕ) → number ≡ end
-    → told ≡ old ++ listed (facts_below facts number) → told ≡ old ++ listed (facts_below facts end)
-told_all facts number end old told e before = before ∙ ap (λ n. old ++ listed (facts_below facts n)) e
+    → told ≡ old ++ fact_list (facts_below facts number) → told ≡ old ++ fact_list (facts_below facts end)
+told_all facts number end old told e before = before ∙ ap (λ n. old ++ fact_list (facts_below facts n)) e
 
 -- ---- bytes that may be unwritten
 

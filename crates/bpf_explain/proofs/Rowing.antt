@@ -13,7 +13,7 @@ use Rattle.bpf_verify.specs.declared.rule.Rule.{Rule}
 use Rattle.bpf_verify.specs.Findings.{AreFindings, IsVerdict, table_in}
 use Rattle.bpf_verify.specs.Typable.{Table}
 use Rattle.bpf_explain.specs.declared.detail.Detail.{Detail}
-use Rattle.bpf_explain.specs.Rows.{insns_in, insns_before, row_at, row_of, rows_before}
+use Rattle.bpf_explain.specs.Rows.{insn_listed, insns_before, row_at, slot_row, rows_before}
 use Rattle.bpf_explain.proofs.Listing.{range_next}
 
 -- one slot more
@@ -30,14 +30,14 @@ unfolding insns_before
 none_before program = refl
 
 pub insns_next : (program : List Insn) (slot count after : ℕ) → count ≡ insns_before program slot
-    → after ≡ count + length (insns_in (insn_at program slot)) → after ≡ insns_before program (slot + 1)
+    → after ≡ count + length (insn_listed (insn_at program slot)) → after ≡ insns_before program (slot + 1)
 unfolding insns_before
 insns_next program slot count after before is =
-    let found : ℕ → List Insn = λ at. insns_in (insn_at program at) in
+    let found : ℕ → List Insn = λ at. insn_listed (insn_at program at) in
     is ∙ ap (λ n. n + length (found slot)) before
     ∙ sym (length-append (flat_map found (range_with_len 0 slot)) (found slot)) ∙ ap length (sym (over_next found slot))
 
-pub few_more : (found : Option Insn) → length (insns_in found) ≤ 1
+pub few_more : (found : Option Insn) → length (insn_listed found) ≤ 1
 few_more None = omega arith
 few_more (Some insn) = omega arith
 
@@ -50,12 +50,12 @@ pub rows_next : (program : List Insn) (shape : Extent) (table : Table) (detail :
     (slot count : ℕ) (line : Option ℕ) (text after : List ℕ)
     → count ≡ insns_before program slot → line ≡ slice_get lines count
     → text ≡ rows_before program shape table detail lines slot
-    → after ≡ text ++ row_of shape table detail line slot (insn_at program slot)
+    → after ≡ text ++ slot_row shape table detail line slot (insn_at program slot)
     → after ≡ rows_before program shape table detail lines (slot + 1)
 unfolding rows_before
 rows_next program shape table detail lines slot count line text after counted found before adds =
-    adds ∙ ap (λ bytes. bytes ++ row_of shape table detail line slot (insn_at program slot)) before
-    ∙ ap (λ l. rows ++ row_of shape table detail l slot (insn_at program slot)) (found ∙ ap (slice_get lines) counted)
+    adds ∙ ap (λ bytes. bytes ++ slot_row shape table detail line slot (insn_at program slot)) before
+    ∙ ap (λ l. rows ++ slot_row shape table detail l slot (insn_at program slot)) (found ∙ ap (slice_get lines) counted)
     ∙ sym (over_next (row_at program shape table detail lines) slot)
   where
     rows : List ℕ

@@ -4,8 +4,8 @@ use Rattle.std.specs.List.{flat_map}
 use Rattle.std.specs.Fmt.{decimal}
 use Rattle.node_env.specs.declared.region.Region.{Region}
 use Rattle.node_env.specs.declared.region.Region.TheVariants.{Mem, Stack}
-use Rattle.bpf_verify.specs.declared.kind.Kind.{Kind}
-use Rattle.bpf_verify.specs.declared.kind.Kind.TheVariants.{Unset, Number, Pointer}
+use Rattle.bpf_verify.specs.declared.abstract_value.AbstractValue.{AbstractValue}
+use Rattle.bpf_verify.specs.declared.abstract_value.AbstractValue.TheVariants.{Unset, Number, Pointer}
 use Rattle.bpf_explain.specs.declared.fact.Fact.{Fact}
 use Rattle.bpf_explain.specs.declared.fact.Fact.TheVariants as facts
 
@@ -17,7 +17,7 @@ abbrev pub region_word : Region → List ℕ
 region_word Mem = codes "memory"
 region_word Stack = codes "stack"
 
-abbrev pub kind_text : Kind → List ℕ
+abbrev pub kind_text : AbstractValue → List ℕ
 kind_text Unset = codes "unset"
 kind_text (Number a) = range_text a.lo a.hi
 kind_text (Pointer region a) = region_word region ++ (codes "+" ++ range_text a.lo a.hi)
@@ -33,10 +33,10 @@ fact_text (facts.HasWritten first last) = codes "stack " ++ (range_text first la
 fact_text (facts.MayLack byte) = codes "stack " ++ (decimal byte ++ codes " unwritten")
 
 -- facts, each after a comma and a blank
-abbrev pub listed : List Fact → List ℕ
-listed facts = flat_map (λ fact. codes ", " ++ fact_text fact) facts
+abbrev pub fact_list : List Fact → List ℕ
+fact_list facts = flat_map (λ fact. codes ", " ++ fact_text fact) facts
 
 -- what is told after an instruction
 abbrev pub remark : List Fact → List ℕ
 remark [] = []
-remark (first ∷ rest) = codes " # " ++ (fact_text first ++ listed rest)
+remark (first ∷ rest) = codes " # " ++ (fact_text first ++ fact_list rest)

@@ -12,9 +12,9 @@ use Rattle.bpf_insn.specs.declared.operands.Access.{Access}
 use Rattle.bpf_insn.specs.Registers.{register_number}
 use Rattle.bpf_insn.specs.Edges.{moved}
 use Rattle.bpf_insn.specs.Operands.{reads, load_of}
-use Rattle.bpf_verify.specs.declared.kind.Kind.{Kind}
-use Rattle.bpf_verify.specs.declared.kind.Kind.TheVariants.{Unset, Number, Pointer}
-use Rattle.bpf_verify.specs.declared.known.TheConstants.{REGISTERS}
+use Rattle.bpf_verify.specs.declared.abstract_value.AbstractValue.{AbstractValue}
+use Rattle.bpf_verify.specs.declared.abstract_value.AbstractValue.TheVariants.{Unset, Number, Pointer}
+use Rattle.bpf_verify.specs.declared.abstract_state.TheConstants.{REGISTERS}
 use Rattle.bpf_verify.specs.States.{AbstractState, kind_of, is_unset_kind}
 use Rattle.bpf_verify.specs.Rules.{may_leave_region, takes_dword}
 use Rattle.bpf_explain.specs.declared.detail.Detail.{Detail}
@@ -25,19 +25,19 @@ use Rattle.bpf_explain.specs.declared.fact.Fact.TheVariants as facts
 -- ---- accesses
 
 -- from the one place to the end of this many bytes at the other
-abbrev pub between : Option ℕ → Option ℕ → ℕ → Option (ℕ × ℕ)
-between (Some first) (Some last) count = Some (first, last + count)
-between first last count = None
+abbrev pub words_between : Option ℕ → Option ℕ → ℕ → Option (ℕ × ℕ)
+words_between (Some first) (Some last) count = Some (first, last + count)
+words_between first last count = None
 
 -- the first of the stack bytes that an access may take, and their end: none where it goes elsewhere, or may leave the
 -- stack
-abbrev pub stack_bytes : Extent → Kind → ℤ → ℕ → Option (ℕ × ℕ)
+abbrev pub stack_bytes : Extent → AbstractValue → ℤ → ℕ → Option (ℕ × ℕ)
 stack_bytes shape Unset off count = None
 stack_bytes shape (Number a) off count = None
 stack_bytes shape (Pointer Mem a) off count = None
 stack_bytes shape (Pointer Stack a) off count =
     if may_leave_region shape (Pointer Stack a) off count then None
-    else between (moved a.lo off) (moved a.hi off) count
+    else words_between (moved a.lo off) (moved a.hi off) count
 
 -- the first stack byte from one on, before an end, that may be unwritten
 abbrev pub first_unwritten : AbstractState → ℕ → ℕ → Option ℕ
@@ -73,10 +73,10 @@ read_facts shape insn A = map (register_fact A) (reads arguments_of insn) ++ loa
 
 -- ---- all that is known
 
-abbrev pub known_register : ℕ → Kind → List Fact
+abbrev pub known_register : ℕ → AbstractValue → List Fact
 known_register number kind = if is_unset_kind kind then [] else facts.Register number kind ∷ []
 
-abbrev pub known_dword : ℕ → Kind → List Fact
+abbrev pub known_dword : ℕ → AbstractValue → List Fact
 known_dword number kind = if is_unset_kind kind then [] else facts.Dword number kind ∷ []
 
 abbrev pub follows_written : AbstractState → ℕ → Bool

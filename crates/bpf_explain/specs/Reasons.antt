@@ -17,8 +17,8 @@ use Rattle.bpf_insn.specs.Edges.{distance, moved, target}
 use Rattle.bpf_insn.specs.declared.operands.Access.{Access}
 use Rattle.bpf_insn.specs.Operands.{access_of, reads, call_of, load_of}
 use Rattle.bpf_insn.specs.Registers.{register_number}
-use Rattle.bpf_verify.specs.declared.kind.Kind.{Kind}
-use Rattle.bpf_verify.specs.declared.kind.Kind.TheVariants.{Unset, Number, Pointer}
+use Rattle.bpf_verify.specs.declared.abstract_value.AbstractValue.{AbstractValue}
+use Rattle.bpf_verify.specs.declared.abstract_value.AbstractValue.TheVariants.{Unset, Number, Pointer}
 use Rattle.bpf_verify.specs.declared.rule.Rule.{Rule}
 use Rattle.bpf_verify.specs.declared.rule.Rule.TheVariants.{NotForward, BadTarget, UnknownHelper, UnsetRegister, FrameWrite, PointerMisuse, OutOfRegion, UnsetStackByte, BadArgument, ExitNotNumber, NotPointer}
 use Rattle.bpf_verify.specs.declared.findings.Verdict.{Verdict}
@@ -85,7 +85,7 @@ place_text shape region place =
 
 -- the reason, by the kind of the operation's result: a pointer that may leave its region, or a pointer where a number
 -- is required
-abbrev pub result_text : Extent → Reg → Kind → List ℕ
+abbrev pub result_text : Extent → Reg → AbstractValue → List ℕ
 result_text shape register Unset = pointer_text register
 result_text shape register (Number a) = pointer_text register
 result_text shape register (Pointer region a) = place_text shape region a.hi
@@ -128,7 +128,7 @@ abbrev pub taken_text : Option ℕ → Option ℕ → ℕ → Region → ℕ →
 taken_text (Some first) (Some last) count region size = bytes_line first (last + count - 1) region size
 taken_text first last count region size = codes "a byte below 0 may be taken"
 
-abbrev pub region_text : Extent → Kind → ℤ → ℕ → List ℕ
+abbrev pub region_text : Extent → AbstractValue → ℤ → ℕ → List ℕ
 region_text shape Unset off count = []
 region_text shape (Number a) off count = []
 region_text shape (Pointer region a) off count =
@@ -157,7 +157,7 @@ base_text (Some access) = register_text access.base ++ codes " is a number, and 
 
 -- ---- arguments
 
-abbrev pub argument_text : Reg → Kind → List ℕ
+abbrev pub argument_text : Reg → AbstractValue → List ℕ
 argument_text register Unset = register_text register ++ codes " may be unset"
 argument_text register (Number a) = register_text register ++ (codes " may be " ++ decimal a.hi)
 argument_text register (Pointer region a) = register_text register ++ codes " is a pointer"

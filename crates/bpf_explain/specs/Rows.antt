@@ -26,23 +26,23 @@ row_text line slot insn facts =
     line_part line ++ (codes "slot " ++ (decimal slot
     ++ (codes " " ++ (canonical_line insn ++ (remark facts ++ codes "\n")))))
 
-abbrev pub insns_in : Option Insn → List Insn
-insns_in None = []
-insns_in (Some insn) = insn ∷ []
+abbrev pub insn_listed : Option Insn → List Insn
+insn_listed None = []
+insn_listed (Some insn) = insn ∷ []
 
 -- how many instructions begin before a slot
 unfoldable pub insns_before : List Insn → ℕ → ℕ
-insns_before program slot = length (flat_map (λ before. insns_in (insn_at program before)) (range_with_len 0 slot))
+insns_before program slot = length (flat_map (λ before. insn_listed (insn_at program before)) (range_with_len 0 slot))
 
 -- the row of a slot where an instruction begins
-abbrev pub row_of : Extent → Table → Detail → Option ℕ → ℕ → Option Insn → List ℕ
-row_of shape table detail line slot None = []
-row_of shape table detail line slot (Some insn) = row_text line slot insn (facts_at detail shape insn (table slot))
+abbrev pub slot_row : Extent → Table → Detail → Option ℕ → ℕ → Option Insn → List ℕ
+slot_row shape table detail line slot None = []
+slot_row shape table detail line slot (Some insn) = row_text line slot insn (facts_at detail shape insn (table slot))
 
 -- the lines are those of the instructions, in their order
 abbrev pub row_at : List Insn → Extent → Table → Detail → List ℕ → ℕ → List ℕ
 row_at program shape table detail lines slot =
-    row_of shape table detail (slice_get lines (insns_before program slot)) slot (insn_at program slot)
+    slot_row shape table detail (slice_get lines (insns_before program slot)) slot (insn_at program slot)
 
 -- the rows of the slots before an end
 unfoldable pub rows_before : List Insn → Extent → Table → Detail → List ℕ → ℕ → List ℕ

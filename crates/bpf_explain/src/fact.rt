@@ -2,9 +2,9 @@
 
 ghost use Rattle.std.specs.Prelude.{◌≡◌, ◌++◌, List, OnOk, Some, codes, string_bytes};
 ghost use Rattle.bpf_explain.specs.declared.fact.Fact.{Fact as FactOf};
-ghost use Rattle.bpf_explain.specs.Facts.{fact_text, kind_text, listed, range_text, region_word, remark};
+ghost use Rattle.bpf_explain.specs.Facts.{fact_text, kind_text, fact_list, range_text, region_word, remark};
 
-use bpf_verify::Kind;
+use bpf_verify::AbstractValue;
 use node_env::Region;
 use std::alloc::AllocError;
 use std::fmt;
@@ -17,17 +17,35 @@ pub(crate) enum Fact {
     /// Nothing reaches the slot.
     NotReached,
     /// A register is of a kind.
-    Register { number: u32, kind: Kind },
+    Register {
+        number: u32,
+        kind: AbstractValue,
+    },
     /// A double word of the stack is of a kind.
-    Dword { number: u32, kind: Kind },
+    Dword {
+        number: u32,
+        kind: AbstractValue,
+    },
     /// The stack bytes from the first to the last are written, and neither the one before nor the one after surely is.
-    Written { first: u32, last: u32 },
+    Written {
+        first: u32,
+        last: u32,
+    },
     /// A load takes the double word of these stack bytes whole.
-    Holds { first: u32, last: u32, kind: Kind },
+    Holds {
+        first: u32,
+        last: u32,
+        kind: AbstractValue,
+    },
     /// A load may take these stack bytes, and all are written.
-    HasWritten { first: u32, last: u32 },
+    HasWritten {
+        first: u32,
+        last: u32,
+    },
     /// A load may take this stack byte, and it may be unwritten.
-    MayLack { byte: u32 },
+    MayLack {
+        byte: u32,
+    },
 }
 
 /// One number, or two with those between them.
@@ -84,16 +102,16 @@ fn bytes(first: u32, last: u32) -> RangeText
 
 /// A kind.
 #[derive(Clone, Copy)]
-struct KindText(Kind);
+struct KindText(AbstractValue);
 
 impl fmt::Display for KindText {
     ghost output = { λ text. Some (kind_text text.0) };
 
     fn fmt<W: fmt::Write>(&self, f: &mut fmt::Formatter<W>) -> fmt::Result {
         match self.0 {
-            Kind::Unset => write!(f, "unset"),
-            Kind::Number(range) => write!(f, "{}", numbers(range)),
-            Kind::Pointer(region, range) => {
+            AbstractValue::Unset => write!(f, "unset"),
+            AbstractValue::Number(range) => write!(f, "{}", numbers(range)),
+            AbstractValue::Pointer(region, range) => {
                 write!(f, "{}+{}", region_word(region), numbers(range))
             }
         }
@@ -128,7 +146,7 @@ pub(crate) fn add_fact(told: &mut String, fact: Fact) -> Result<(), AllocError>
 /// Adds what is told after an instruction: the facts, of which each is after a comma.
 #[tactic(auto, using(crate::proofs::Listing::remarked, crate::proofs::Listing::unremarked))]
 pub(crate) fn add_remark(text: &mut String, told: &str) -> Result<(), AllocError>
-    ensures { (facts : List FactOf) → told.now ≡ listed facts →
+    ensures { (facts : List FactOf) → told.now ≡ fact_list facts →
         OnOk result (string_bytes text.new ≡ string_bytes text.old ++ remark facts) }
 {
     match told.strip_prefix(',') {

@@ -3,7 +3,7 @@
 ghost use Rattle.std.specs.Prelude.{◌≡◌, ◌<◌, ◌++◌, [], ◌∷◌, OnOk, map, string_bytes};
 ghost use Rattle.bpf_insn.specs.Operands.{registers_in};
 ghost use Rattle.bpf_verify.specs.Findings.{abstract_of};
-ghost use Rattle.bpf_explain.specs.Facts.{listed};
+ghost use Rattle.bpf_explain.specs.Facts.{fact_list};
 ghost use Rattle.bpf_explain.specs.Known as known_facts;
 ghost use Rattle.bpf_explain.specs.declared.fact.Fact.TheVariants.{NotReached};
 
@@ -11,13 +11,13 @@ use crate::detail::Detail;
 use crate::fact::{Fact, add_fact};
 use crate::loaded::{add_load_facts, first_unwritten};
 use bpf_insn::{Insn, Reads, Reg};
-use bpf_verify::{Known, REGISTERS, is_unset, registers_of};
+use bpf_verify::{AbstractState, REGISTERS, is_unset, registers_of};
 use node_env::{STACK_BYTES, STACK_DWORDS, Shape};
 use std::alloc::AllocError;
 
-fn add_register(told: &mut String, known: &Known, register: Reg) -> Result<(), AllocError>
+fn add_register(told: &mut String, known: &AbstractState, register: Reg) -> Result<(), AllocError>
     ensures { OnOk result (string_bytes told.new ≡ string_bytes told.old
-        ++ listed (known_facts.register_fact (abstract_of known.now) register ∷ [])) }
+        ++ fact_list (known_facts.register_fact (abstract_of known.now) register ∷ [])) }
 {
     let number = u32::from(register.number());
     let kind = known.kind(register);
@@ -26,9 +26,13 @@ fn add_register(told: &mut String, known: &Known, register: Reg) -> Result<(), A
 
 /// Adds what is known of registers.
 #[tactic(auto, using(crate::proofs::Listing::listed_both))]
-fn add_registers(told: &mut String, known: &Known, registers: Reads) -> Result<(), AllocError>
+fn add_registers(
+    told: &mut String,
+    known: &AbstractState,
+    registers: Reads,
+) -> Result<(), AllocError>
     ensures { OnOk result (string_bytes told.new ≡ string_bytes told.old
-        ++ listed (map (known_facts.register_fact (abstract_of known.now)) (registers_in registers))) }
+        ++ fact_list (map (known_facts.register_fact (abstract_of known.now)) (registers_in registers))) }
 {
     match registers {
         Reads::Nothing => Ok(()),
@@ -42,18 +46,27 @@ fn add_registers(told: &mut String, known: &Known, registers: Reads) -> Result<(
 
 /// Adds what is known of what an instruction reads.
 #[tactic(auto, using(crate::proofs::Listing::listed_both))]
-fn add_read(told: &mut String, shape: Shape, insn: &Insn, known: &Known) -> Result<(), AllocError>
+fn add_read(
+    told: &mut String,
+    shape: Shape,
+    insn: &Insn,
+    known: &AbstractState,
+) -> Result<(), AllocError>
     ensures { OnOk result (string_bytes told.new ≡ string_bytes told.old
-        ++ listed (known_facts.read_facts shape insn.now (abstract_of known.now))) }
+        ++ fact_list (known_facts.read_facts shape insn.now (abstract_of known.now))) }
 {
     add_registers(told, known, registers_of(insn))?;
     add_load_facts(told, shape, insn, known)
 }
 
-fn add_known_register(told: &mut String, known: &Known, number: u32) -> Result<(), AllocError>
+fn add_known_register(
+    told: &mut String,
+    known: &AbstractState,
+    number: u32,
+) -> Result<(), AllocError>
     requires { number < REGISTERS }
     ensures { OnOk result (string_bytes told.new ≡ string_bytes told.old
-        ++ listed (known_facts.known_register number ((abstract_of known.now).kinds number))) }
+        ++ fact_list (known_facts.known_register number ((abstract_of known.now).kinds number))) }
 {
     if is_unset(known.kind_numbered(number)) {
         return Ok(());
@@ -62,9 +75,9 @@ fn add_known_register(told: &mut String, known: &Known, number: u32) -> Result<(
     add_fact(told, Fact::Register { number, kind })
 }
 
-fn add_known_registers(told: &mut String, known: &Known) -> Result<(), AllocError>
+fn add_known_registers(told: &mut String, known: &AbstractState) -> Result<(), AllocError>
     ensures { OnOk result (string_bytes told.new ≡ string_bytes told.old
-        ++ listed (known_facts.register_facts (abstract_of known.now))) }
+        ++ fact_list (known_facts.register_facts (abstract_of known.now))) }
 {
     for number in 0..REGISTERS as u32 {
         add_known_register(told, known, number)?;
@@ -72,10 +85,10 @@ fn add_known_registers(told: &mut String, known: &Known) -> Result<(), AllocErro
     Ok(())
 }
 
-fn add_dword(told: &mut String, known: &Known, number: u32) -> Result<(), AllocError>
+fn add_dword(told: &mut String, known: &AbstractState, number: u32) -> Result<(), AllocError>
     requires { number < STACK_DWORDS }
     ensures { OnOk result (string_bytes told.new ≡ string_bytes told.old
-        ++ listed (known_facts.known_dword number ((abstract_of known.now).entries number))) }
+        ++ fact_list (known_facts.known_dword number ((abstract_of known.now).entries number))) }
 {
     if is_unset(known.dword(number)) {
         return Ok(());
@@ -84,9 +97,9 @@ fn add_dword(told: &mut String, known: &Known, number: u32) -> Result<(), AllocE
     add_fact(told, Fact::Dword { number, kind })
 }
 
-fn add_dwords(told: &mut String, known: &Known) -> Result<(), AllocError>
+fn add_dwords(told: &mut String, known: &AbstractState) -> Result<(), AllocError>
     ensures { OnOk result (string_bytes told.new ≡ string_bytes told.old
-        ++ listed (known_facts.dword_facts (abstract_of known.now))) }
+        ++ fact_list (known_facts.dword_facts (abstract_of known.now))) }
 {
     for number in 0..STACK_DWORDS as u32 {
         add_dword(told, known, number)?;
@@ -95,7 +108,7 @@ fn add_dwords(told: &mut String, known: &Known) -> Result<(), AllocError>
 }
 
 /// Whether the byte before is written.
-fn follows_written(known: &Known, byte: u32) -> bool
+fn follows_written(known: &AbstractState, byte: u32) -> bool
     requires { byte < STACK_BYTES }
     ensures { result ≡ known_facts.follows_written (abstract_of known.now) byte }
 {
@@ -105,7 +118,7 @@ fn follows_written(known: &Known, byte: u32) -> bool
     known.is_written(byte - 1)
 }
 
-fn begins_written(known: &Known, byte: u32) -> bool
+fn begins_written(known: &AbstractState, byte: u32) -> bool
     requires { byte < STACK_BYTES }
     ensures { result ≡ known_facts.begins_written (abstract_of known.now) byte }
 {
@@ -113,7 +126,7 @@ fn begins_written(known: &Known, byte: u32) -> bool
 }
 
 /// The last of the bytes from one on that are written.
-fn last_written(known: &Known, byte: u32) -> u32
+fn last_written(known: &AbstractState, byte: u32) -> u32
     requires { byte < STACK_BYTES }
     ensures { result ≡ known_facts.last_written (abstract_of known.now) byte }
 {
@@ -124,10 +137,10 @@ fn last_written(known: &Known, byte: u32) -> u32
 }
 
 /// Adds the bytes from one on that are written, if that is the first of them.
-fn add_written_from(told: &mut String, known: &Known, byte: u32) -> Result<(), AllocError>
+fn add_written_from(told: &mut String, known: &AbstractState, byte: u32) -> Result<(), AllocError>
     requires { byte < STACK_BYTES }
     ensures { OnOk result (string_bytes told.new ≡ string_bytes told.old
-        ++ listed (known_facts.written_from (abstract_of known.now) byte)) }
+        ++ fact_list (known_facts.written_from (abstract_of known.now) byte)) }
 {
     if !begins_written(known, byte) {
         return Ok(());
@@ -136,9 +149,9 @@ fn add_written_from(told: &mut String, known: &Known, byte: u32) -> Result<(), A
     add_fact(told, Fact::Written { first: byte, last })
 }
 
-fn add_written(told: &mut String, known: &Known) -> Result<(), AllocError>
+fn add_written(told: &mut String, known: &AbstractState) -> Result<(), AllocError>
     ensures { OnOk result (string_bytes told.new ≡ string_bytes told.old
-        ++ listed (known_facts.written_facts (abstract_of known.now))) }
+        ++ fact_list (known_facts.written_facts (abstract_of known.now))) }
 {
     for byte in 0..STACK_BYTES {
         add_written_from(told, known, byte)?;
@@ -148,9 +161,9 @@ fn add_written(told: &mut String, known: &Known) -> Result<(), AllocError>
 
 /// Adds all that is known.
 #[tactic(auto, using(crate::proofs::Listing::listed_both))]
-fn add_all(told: &mut String, known: &Known) -> Result<(), AllocError>
+fn add_all(told: &mut String, known: &AbstractState) -> Result<(), AllocError>
     ensures { OnOk result (string_bytes told.new ≡ string_bytes told.old
-        ++ listed (known_facts.all_facts (abstract_of known.now))) }
+        ++ fact_list (known_facts.all_facts (abstract_of known.now))) }
 {
     add_known_registers(told, known)?;
     add_dwords(told, known)?;
@@ -163,10 +176,10 @@ pub(crate) fn add_facts(
     detail: Detail,
     shape: Shape,
     insn: &Insn,
-    known: &Known,
+    known: &AbstractState,
 ) -> Result<(), AllocError>
     ensures { OnOk result (string_bytes told.new ≡ string_bytes told.old
-        ++ listed (known_facts.facts_of detail shape insn.now (abstract_of known.now))) }
+        ++ fact_list (known_facts.facts_of detail shape insn.now (abstract_of known.now))) }
 {
     match detail {
         Detail::Read => add_read(told, shape, insn, known),
@@ -176,7 +189,7 @@ pub(crate) fn add_facts(
 
 /// Adds what is told of a slot that nothing reaches.
 pub(crate) fn add_unreached(told: &mut String) -> Result<(), AllocError>
-    ensures { OnOk result (string_bytes told.new ≡ string_bytes told.old ++ listed (NotReached ∷ [])) }
+    ensures { OnOk result (string_bytes told.new ≡ string_bytes told.old ++ fact_list (NotReached ∷ [])) }
 {
     add_fact(told, Fact::NotReached)
 }

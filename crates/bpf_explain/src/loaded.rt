@@ -3,19 +3,19 @@
 ghost use Rattle.std.specs.Prelude.{◌≡◌, ◌<◌, ◌≤◌, ◌++◌, ◌∷◌, [], IfSome, OnOk, string_bytes};
 ghost use Rattle.bpf_insn.specs.Operands.{load_of};
 ghost use Rattle.bpf_verify.specs.Findings.{abstract_of};
-ghost use Rattle.bpf_explain.specs.Facts.{listed};
+ghost use Rattle.bpf_explain.specs.Facts.{fact_list};
 ghost use Rattle.bpf_explain.specs.Known.{first_unwritten, load_facts, taken_fact, written_fact};
 
 use crate::access::stack_bytes;
 use crate::fact::{Fact, add_fact};
 use bpf_insn::{Access, Insn, load_of};
-use bpf_verify::{Known, is_unset, takes_dword};
+use bpf_verify::{AbstractState, is_unset, takes_dword};
 use node_env::{STACK_BYTES, Shape};
 use std::alloc::AllocError;
 
 /// The first stack byte from one on, before an end, that may be unwritten.
 #[tactic(auto, using(crate::proofs::Listing::unwritten_here, crate::proofs::Listing::unwritten_past, crate::proofs::Listing::unwritten_end))]
-pub(crate) fn first_unwritten(known: &Known, first: u32, end: u32) -> Option<u32>
+pub(crate) fn first_unwritten(known: &AbstractState, first: u32, end: u32) -> Option<u32>
     requires { end ≤ STACK_BYTES }
     ensures byte { result ≡ first_unwritten (abstract_of known.now) first end }
     ensures within { IfSome result (λ byte. (first ≤ byte) × (byte < end)) }
@@ -31,14 +31,14 @@ pub(crate) fn first_unwritten(known: &Known, first: u32, end: u32) -> Option<u32
 /// Adds whether the stack bytes that a load may take are written.
 fn add_written_fact(
     told: &mut String,
-    known: &Known,
+    known: &AbstractState,
     first: u32,
     end: u32,
 ) -> Result<(), AllocError>
     requires some { first < end }
     requires inside { end ≤ STACK_BYTES }
     ensures { OnOk result (string_bytes told.new ≡ string_bytes told.old
-        ++ listed (written_fact first end (first_unwritten (abstract_of known.now) first end) ∷ [])) }
+        ++ fact_list (written_fact first end (first_unwritten (abstract_of known.now) first end) ∷ [])) }
 {
     match first_unwritten(known, first, end) {
         Some(byte) => add_fact(told, Fact::MayLack { byte }),
@@ -55,7 +55,7 @@ fn add_written_fact(
 /// Adds what is known of the stack bytes that a load may take.
 fn add_taken_fact(
     told: &mut String,
-    known: &Known,
+    known: &AbstractState,
     first: u32,
     end: u32,
     whole: bool,
@@ -63,7 +63,7 @@ fn add_taken_fact(
     requires some { first < end }
     requires inside { end ≤ STACK_BYTES }
     ensures { OnOk result (string_bytes told.new ≡ string_bytes told.old
-        ++ listed (taken_fact (abstract_of known.now) first end whole ∷ [])) }
+        ++ fact_list (taken_fact (abstract_of known.now) first end whole ∷ [])) }
 {
     if !whole || is_unset(known.dword(first / 8)) {
         return add_written_fact(told, known, first, end);
@@ -84,10 +84,10 @@ pub(crate) fn add_load_facts(
     told: &mut String,
     shape: Shape,
     insn: &Insn,
-    known: &Known,
+    known: &AbstractState,
 ) -> Result<(), AllocError>
     ensures { OnOk result (string_bytes told.new ≡ string_bytes told.old
-        ++ listed (load_facts shape (abstract_of known.now) (load_of insn.now))) }
+        ++ fact_list (load_facts shape (abstract_of known.now) (load_of insn.now))) }
 {
     let Some(Access { base, off, count }) = load_of(insn) else {
         return Ok(());

@@ -20,8 +20,8 @@ use bpf_insn::{
     Access, Insn, Operand, Program, Reads, Reg, Way, access_of, call_of, distance, load_of, target,
 };
 use bpf_verify::{
-    Findings, Kind, Known, Rule, Verdict, alu_kind, is_astray, is_pointer, is_unset, moved,
-    operand_kind, registers_of,
+    AbstractState, AbstractValue, Findings, Rule, Verdict, alu_kind, is_astray, is_pointer,
+    is_unset, moved, operand_kind, registers_of,
 };
 use node_env::{Region, Shape};
 use std::alloc::{AllocError, Global};
@@ -85,7 +85,7 @@ fn exit_reason(alloc: Global) -> Result<String, AllocError>
 }
 
 /// The register, where it may be unset.
-fn unset(known: &Known, register: Reg) -> Option<Reg>
+fn unset(known: &AbstractState, register: Reg) -> Option<Reg>
     ensures { result ≡ find (λ register. is_unset_kind (kind_of (abstract_of known.now) register)) (register ∷ []) }
 {
     if is_unset(known.kind(register)) {
@@ -96,7 +96,7 @@ fn unset(known: &Known, register: Reg) -> Option<Reg>
 }
 
 /// The first of the registers that may be unset.
-fn first_unset(known: &Known, registers: Reads) -> Option<Reg>
+fn first_unset(known: &AbstractState, registers: Reads) -> Option<Reg>
     ensures { result ≡ find (λ register. is_unset_kind (kind_of (abstract_of known.now) register))
         (registers_in registers) }
 {
@@ -118,7 +118,7 @@ fn register_reason(alloc: Global, register: Reg) -> Result<String, AllocError>
     format!(in alloc; "r{} may be unset", register.number())
 }
 
-fn unset_reason(alloc: Global, insn: &Insn, known: &Known) -> Result<String, AllocError>
+fn unset_reason(alloc: Global, insn: &Insn, known: &AbstractState) -> Result<String, AllocError>
     ensures { IfOk result (λ text. string_bytes text
         ≡ reasons.unset_text (reasons.first_unset (abstract_of known.now) insn.now)) }
 {
@@ -129,7 +129,7 @@ fn unset_reason(alloc: Global, insn: &Insn, known: &Known) -> Result<String, All
 }
 
 /// The second operand if it is a pointer, otherwise the first.
-fn pointer_operand(known: &Known, dst: Reg, src: Operand) -> Reg
+fn pointer_operand(known: &AbstractState, dst: Reg, src: Operand) -> Reg
     ensures { result ≡ reasons.pointer_operand (abstract_of known.now) dst src }
 {
     match src {
@@ -180,13 +180,13 @@ fn result_reason(
     alloc: Global,
     shape: Shape,
     register: Reg,
-    given: Kind,
+    given: AbstractValue,
 ) -> Result<String, AllocError>
     ensures { IfOk result (λ text. string_bytes text ≡ reasons.result_text shape register given) }
 {
     match given {
-        Kind::Unset | Kind::Number(_) => pointer_reason(alloc, register),
-        Kind::Pointer(region, range) => place_reason(alloc, shape, region, range.hi()),
+        AbstractValue::Unset | AbstractValue::Number(_) => pointer_reason(alloc, register),
+        AbstractValue::Pointer(region, range) => place_reason(alloc, shape, region, range.hi()),
     }
 }
 
@@ -210,7 +210,7 @@ fn misuse_reason(
     alloc: Global,
     shape: Shape,
     insn: &Insn,
-    known: &Known,
+    known: &AbstractState,
 ) -> Result<String, AllocError>
     ensures { IfOk result (λ text. string_bytes text
         ≡ reasons.misuse_text shape (abstract_of known.now) insn.now) }
@@ -325,7 +325,7 @@ fn taken_reason(
 fn region_reason(
     alloc: Global,
     shape: Shape,
-    base: Kind,
+    base: AbstractValue,
     off: i16,
     count: u32,
 ) -> Result<String, AllocError>
@@ -333,8 +333,8 @@ fn region_reason(
     ensures { IfOk result (λ text. string_bytes text ≡ reasons.region_text shape base off count) }
 {
     match base {
-        Kind::Unset | Kind::Number(_) => Ok(String::new(alloc)),
-        Kind::Pointer(region, range) => {
+        AbstractValue::Unset | AbstractValue::Number(_) => Ok(String::new(alloc)),
+        AbstractValue::Pointer(region, range) => {
             let (first, last) = (moved(range.lo(), off), moved(range.hi(), off));
             taken_reason(alloc, first, last, count, region, shape.region_size(region))
         }
@@ -345,7 +345,7 @@ fn leaves_reason(
     alloc: Global,
     shape: Shape,
     insn: &Insn,
-    known: &Known,
+    known: &AbstractState,
 ) -> Result<String, AllocError>
     ensures { IfOk result (λ text. string_bytes text
         ≡ reasons.leaves_text shape (abstract_of known.now) (access_of insn.now)) }
@@ -371,7 +371,7 @@ fn unwritten_reason(
     alloc: Global,
     shape: Shape,
     insn: &Insn,
-    known: &Known,
+    known: &AbstractState,
 ) -> Result<String, AllocError>
     ensures { IfOk result (λ text. string_bytes text
         ≡ reasons.unwritten_text shape (abstract_of known.now) (load_of insn.now)) }
@@ -398,25 +398,25 @@ fn base_reason(alloc: Global, insn: &Insn) -> Result<String, AllocError>
 }
 
 /// What is known of an argument.
-fn argument_text(alloc: Global, register: Reg, kind: Kind) -> Result<String, AllocError>
+fn argument_text(alloc: Global, register: Reg, kind: AbstractValue) -> Result<String, AllocError>
     ensures { IfOk result (λ text. string_bytes text ≡ reasons.argument_text register kind) }
 {
     let number = register.number();
     match kind {
-        Kind::Unset => format!(in alloc; "r{number} may be unset"),
-        Kind::Number(range) => format!(in alloc; "r{number} may be {}", range.hi()),
-        Kind::Pointer(..) => format!(in alloc; "r{number} is a pointer"),
+        AbstractValue::Unset => format!(in alloc; "r{number} may be unset"),
+        AbstractValue::Number(range) => format!(in alloc; "r{number} may be {}", range.hi()),
+        AbstractValue::Pointer(..) => format!(in alloc; "r{number} is a pointer"),
     }
 }
 
 /// Whether an argument may be refused as the number of a node.
-fn may_reach(limit: u32, kind: Kind) -> bool
+fn may_reach(limit: u32, kind: AbstractValue) -> bool
     ensures { result ≡ may_reach limit kind }
 {
     match kind {
-        Kind::Unset => false,
-        Kind::Number(range) => range.hi() >= u64::from(limit),
-        Kind::Pointer(..) => true,
+        AbstractValue::Unset => false,
+        AbstractValue::Number(range) => range.hi() >= u64::from(limit),
+        AbstractValue::Pointer(..) => true,
     }
 }
 
@@ -427,21 +427,21 @@ fn limited(alloc: Global, told: &str, nodes: u32) -> Result<String, AllocError>
     format!(in alloc; "{told}, and a node's number is below {nodes}")
 }
 
-fn node_reason(alloc: Global, shape: Shape, known: &Known) -> Result<String, AllocError>
+fn node_reason(alloc: Global, shape: Shape, known: &AbstractState) -> Result<String, AllocError>
     ensures { IfOk result (λ text. string_bytes text ≡ reasons.node_text shape (abstract_of known.now)) }
 {
     let told = argument_text(alloc, Reg::R1, known.kind(Reg::R1))?;
     limited(alloc, told.as_str(), shape.nodes())
 }
 
-fn sent_reason(alloc: Global, known: &Known) -> Result<String, AllocError>
+fn sent_reason(alloc: Global, known: &AbstractState) -> Result<String, AllocError>
     ensures { IfOk result (λ text. string_bytes text ≡ reasons.sent_text (abstract_of known.now)) }
 {
     let told = argument_text(alloc, Reg::R2, known.kind(Reg::R2))?;
     format!(in alloc; "{told}, and a number sent is below 4294967296")
 }
 
-fn argument_reason(alloc: Global, shape: Shape, known: &Known) -> Result<String, AllocError>
+fn argument_reason(alloc: Global, shape: Shape, known: &AbstractState) -> Result<String, AllocError>
     ensures { IfOk result (λ text. string_bytes text
         ≡ reasons.arguments_text shape (abstract_of known.now)) }
 {
@@ -486,7 +486,7 @@ fn reached_reason(
     shape: Shape,
     slot: u32,
     insn: &Insn,
-    known: &Known,
+    known: &AbstractState,
     rule: Rule,
 ) -> Result<String, AllocError>
     ensures { IfOk result (λ text. string_bytes text

@@ -4,7 +4,7 @@ ghost use Rattle.std.specs.Prelude.{◌≡◌, ◌++◌, ◌+◌, ◌≤◌, IfO
 ghost use Rattle.bpf_insn.specs.Programs.{insn_at};
 ghost use Rattle.bpf_verify.specs.Findings.{AreFindings, table_in};
 ghost use Rattle.bpf_explain.specs.declared.fact.Fact.{Fact as FactOf};
-ghost use Rattle.bpf_explain.specs.Facts.{listed};
+ghost use Rattle.bpf_explain.specs.Facts.{fact_list};
 ghost use Rattle.bpf_explain.specs.Known.{facts_at};
 ghost use Rattle.bpf_explain.specs.Rows as texts;
 
@@ -28,7 +28,7 @@ fn told_at(
     insn: &Insn,
 ) -> Result<String, AllocError>
     ensures { IfOk result (λ told. string_bytes told
-        ≡ listed (facts_at detail shape insn.now (table_in findings.now slot))) }
+        ≡ fact_list (facts_at detail shape insn.now (table_in findings.now slot))) }
 {
     let mut told = String::new(alloc);
     match findings.known_at(slot) {
@@ -55,7 +55,7 @@ fn add_row(
     insn: Insn,
     told: &str,
 ) -> Result<(), AllocError>
-    ensures { (facts : List FactOf) → told.now ≡ listed facts → OnOk result (string_bytes text.new
+    ensures { (facts : List FactOf) → told.now ≡ fact_list facts → OnOk result (string_bytes text.new
         ≡ string_bytes text.old ++ texts.row_text line slot insn facts) }
 {
     add_line(text, line)?;
@@ -76,7 +76,7 @@ fn add_row_at(
     line: Option<usize>,
 ) -> Result<(), AllocError>
     ensures { OnOk result (string_bytes text.new ≡ string_bytes text.old
-        ++ texts.row_of shape (table_in findings.now) detail line slot (insn_at program.now slot)) }
+        ++ texts.slot_row shape (table_in findings.now) detail line slot (insn_at program.now slot)) }
 {
     match program.insn_at(slot) {
         None => Ok(()),
@@ -100,7 +100,7 @@ fn line_at(lines: &[usize], place: usize) -> Option<usize>
 /// How many instructions begin up to a slot, where this many begin before it.
 fn count_to(program: &Program, slot: u32, before: usize) -> usize
     requires { before ≤ slot }
-    ensures { result ≡ before + length (texts.insns_in (insn_at program.now slot)) }
+    ensures { result ≡ before + length (texts.insn_listed (insn_at program.now slot)) }
 {
     match program.insn_at(slot) {
         None => before,

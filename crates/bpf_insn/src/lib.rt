@@ -23,6 +23,6 @@ pub use laws::{one_reading, one_spelling, round_trip, spelling_length};
 pub use listing::{MAX_SLOTS, Program, ProgramError, program_of};
 pub use opcode::{AluCode, FieldUse, Opcode, Source, Uses};
 pub use operands::{
-    Access, MOST_ARGUMENTS, Reads, access_of, call_of, is_exit, load_of, registers_read, written_by,
+    Access, MAX_ARGUMENTS, Reads, access_of, call_of, is_exit, load_of, registers_read, written_by,
 };
 pub use slot::{Slot, SlotFault};

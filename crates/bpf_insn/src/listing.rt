@@ -29,13 +29,13 @@ impl Model for Program {
     ghost use Rattle.bpf_insn.specs.declared.forms.Insn.{Insn};
     ghost use Rattle.std.specs.Prelude.{◌≡◌};
     ghost use Rattle.bpf_insn.specs.Programs.{image_of};
-    ghost use Rattle.bpf_insn.specs.inner.Programs.{insns_in, IsLaidOut};
+    ghost use Rattle.bpf_insn.specs.inner.Programs.{insns_at_slots, IsLaidOut};
 
     ghost Value = { List Insn };
 
-    ghost view = { λ p. insns_in p.slots.items };
+    ghost view = { λ p. insns_at_slots p.slots.items };
 
-    ghost invariant = { λ p. IsLaidOut p.slots.items × (p.image.items ≡ image_of (insns_in p.slots.items)) };
+    ghost invariant = { λ p. IsLaidOut p.slots.items × (p.image.items ≡ image_of (insns_at_slots p.slots.items)) };
 }
 
 /// Why instructions are no program.

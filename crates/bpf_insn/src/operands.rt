@@ -23,7 +23,7 @@ pub enum Reads {
 }
 
 /// The most arguments of a call.
-pub const MOST_ARGUMENTS: u32 = 2;
+pub const MAX_ARGUMENTS: u32 = 2;
 
 #[inline(always)]
 fn operand_reads(src: Operand) -> Reads
@@ -71,7 +71,7 @@ fn alu_reads(op: AluOp, dst: Reg, src: Operand) -> Reads
 /// The registers of this many arguments.
 #[inline(always)]
 fn argument_reads(arguments: u32) -> Reads
-    requires { arguments ≤ MOST_ARGUMENTS }
+    requires { arguments ≤ MAX_ARGUMENTS }
     ensures { registers_in result ≡ argument_registers arguments }
 {
     match arguments {
@@ -85,7 +85,7 @@ fn argument_reads(arguments: u32) -> Reads
 /// Returns the registers that an instruction reads, if a call takes this many arguments.
 #[inline(always)]
 pub fn registers_read(insn: &Insn, arguments: u32) -> Reads
-    requires { arguments ≤ MOST_ARGUMENTS }
+    requires { arguments ≤ MAX_ARGUMENTS }
     ensures { (arguments_of : ℤ → ℕ) → IfSome (call_of insn.now) (λ id. arguments_of id ≡ arguments)
         → registers_in result ≡ reads arguments_of insn.now }
 {

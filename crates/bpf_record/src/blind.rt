@@ -4,7 +4,7 @@ ghost use Rattle.bpf_insn.specs.Registers.{register_number};
 ghost use Rattle.bpf_insn.specs.Operands.{call_of};
 ghost use Rattle.bpf_insn.specs.Programs.{insn_at};
 ghost use Rattle.bpf_record.specs.Blind.{IsBlind, reads_register, replaces, calls_id, is_id, is_numbered, changed_by_call};
-ghost use Rattle.bpf_record.specs.inner.Marks.{is_marked, GrowsAfter, HidesBefore, IsPassed};
+ghost use Rattle.bpf_record.specs.inner.Marks.{is_marked_at, GrowsAfter, HidesBefore, IsPassed};
 
 use bpf_insn::{Insn, Program, Reads, Reg, Way, call_of, registers_read, target, written_by};
 use node_env::{Helper, arguments_of};
@@ -87,8 +87,8 @@ fn calls_id(insn: &Insn) -> bool
 #[inline(always)]
 fn mark(marks: &mut [bool], slot: u32, to: Option<u64>) -> bool
     ensures long { length marks.new ≡ length marks.old }
-    ensures grows { GrowsAfter slot (is_marked marks.old) (is_marked marks.new) }
-    ensures marked { result ≡ true → (at : ℕ) → to ≡ Some at → is_marked marks.new at ≡ true }
+    ensures grows { GrowsAfter slot (is_marked_at marks.old) (is_marked_at marks.new) }
+    ensures marked { result ≡ true → (at : ℕ) → to ≡ Some at → is_marked_at marks.new at ≡ true }
 {
     let Some(to) = to else {
         return true;
@@ -104,8 +104,8 @@ fn mark(marks: &mut [bool], slot: u32, to: Option<u64>) -> bool
 /// marked. Returns false if it reads r2, or if a successor can't be marked.
 fn pass(marks: &mut [bool], slot: u32, insn: &Insn) -> bool
     ensures long { length marks.new ≡ length marks.old }
-    ensures grows { GrowsAfter slot (is_marked marks.old) (is_marked marks.new) }
-    ensures passed { result ≡ true → IsPassed insn.now slot (is_marked marks.new) }
+    ensures grows { GrowsAfter slot (is_marked_at marks.old) (is_marked_at marks.new) }
+    ensures passed { result ≡ true → IsPassed insn.now slot (is_marked_at marks.new) }
 {
     if reads_r2(insn) {
         return false;
@@ -120,9 +120,9 @@ fn pass(marks: &mut [bool], slot: u32, insn: &Insn) -> bool
 /// Reads the instruction at a slot. Returns false if it may read the node's number.
 fn read_slot(program: &Program, marks: &mut [bool], slot: u32) -> bool
     requires within { slot < length marks.old }
-    requires before { HidesBefore program.now slot (is_marked marks.old) }
+    requires before { HidesBefore program.now slot (is_marked_at marks.old) }
     ensures long { length marks.new ≡ length marks.old }
-    ensures hides { result ≡ true → HidesBefore program.now (slot + 1) (is_marked marks.new) }
+    ensures hides { result ≡ true → HidesBefore program.now (slot + 1) (is_marked_at marks.new) }
 {
     let Some(insn) = program.at(slot) else {
         return true;

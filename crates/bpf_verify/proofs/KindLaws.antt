@@ -3,8 +3,8 @@ use Rattle.std.proofs.Common.{◌≡◌, ℕ, zero, suc, ◌+◌, ◌/◌, ◌<�
 use Rattle.std.proofs.lemmas.List.{get_or-set_same, get_or-set_other}
 use Rattle.std.proofs.lemmas.Bool.{cases_eq}
 use borrow.Author.Tests.{ne_eqb, eq-eqb}
-use Rattle.bpf_verify.specs.declared.kind.Kind.{Kind}
-use Rattle.bpf_verify.specs.declared.kind.Kind.TheVariants.{Unset, Number, Pointer}
+use Rattle.bpf_verify.specs.declared.abstract_value.AbstractValue.{AbstractValue}
+use Rattle.bpf_verify.specs.declared.abstract_value.AbstractValue.TheVariants.{Unset, Number, Pointer}
 use Rattle.bpf_verify.specs.States.{AbstractState, joined_kind}
 use Rattle.std.specs.Prelude.{Option}
 use Rattle.std.proofs.lemmas.Bool.Decides.{nat_tests}
@@ -23,7 +23,7 @@ same_state A C p q r = λ i. record {
   entries = λ dword. r dword i;
 }
 
-pub kind_set : (kinds : List Kind) (number : ℕ) (kind : Kind) (other : ℕ) → number < length kinds
+pub kind_set : (kinds : List AbstractValue) (number : ℕ) (kind : AbstractValue) (other : ℕ) → number < length kinds
     → kind_numbered (slice_set kinds number kind) other ≡ put_kind (kind_numbered kinds) number kind other
 kind_set kinds number kind other h =
     elim (cases_eq other number) [
@@ -33,12 +33,12 @@ kind_set kinds number kind other h =
     ]
 
 -- r0 has the answer, and r1 to r5 are unset, one after another
-called_one : (answer : Kind) (kinds : ℕ → Kind) (number : ℕ)
+called_one : (answer : AbstractValue) (kinds : ℕ → AbstractValue) (number : ℕ)
     → put_kind (put_kind (put_kind (put_kind (put_kind (put_kind kinds 0 answer) 1 Unset) 2 Unset) 3 Unset) 4 Unset) 5
     Unset number ≡ called_kinds answer kinds number
 called_one answer kinds number = grind (arith, nat_tests)
 
-pub called_built : (shape : Extent) (helper : Option Helper) (A a b c d e f : AbstractState) (answer : Kind)
+pub called_built : (shape : Extent) (helper : Option Helper) (A a b c d e f : AbstractState) (answer : AbstractValue)
     → answer ≡ answer_kind shape helper → a ≡ with_kind A R0 answer → b ≡ with_kind a R1 Unset
     → c ≡ with_kind b R2 Unset
     → d ≡ with_kind c R3 Unset → e ≡ with_kind d R4 Unset → f ≡ with_kind e R5 Unset → f ≡ call_outcome shape helper A
@@ -47,7 +47,7 @@ called_built shape helper A a b c d e f answer g h i j k l m =
     (called_one (answer_kind shape helper) A.kinds) (λ _. refl) (λ _. refl))
 
 -- one more double word is forgotten
-pub forgotten : (before after : List Kind) (first dword : ℕ) → dword < length after → first ≤ dword
+pub forgotten : (before after : List AbstractValue) (first dword : ℕ) → dword < length after → first ≤ dword
     → ((other : ℕ) → kind_numbered after other
     ≡ (if is_between first dword other then Unset else kind_numbered before other)) → (other : ℕ)
     → kind_numbered (slice_set after dword Unset) other
@@ -76,7 +76,7 @@ forgotten_state A C first end k w e =
     same_state C (with_entries A (cleared A.entries first end)) (λ number. ap (λ f. f number) k)
     (λ byte. ap (λ f. f byte) w) e
 
-pub joined_unset : (k : Kind) → joined_kind k Unset ≡ Unset
+pub joined_unset : (k : AbstractValue) → joined_kind k Unset ≡ Unset
 joined_unset Unset = refl
 joined_unset (Number a) = refl
 joined_unset (Pointer region a) = refl

@@ -28,8 +28,8 @@ use Rattle.value_range.specs.Results.{alu_of, neg_of, movsx_of, swap_of}
 use Rattle.value_range.specs.Conditions.{branch_of, ArePairsInside, IsOptionInside}
 use Rattle.value_range.proofs.Growing.{alu_grows, neg_grows, movsx_grows, swap_grows, single_inside, single_below}
 use Rattle.value_range.proofs.GrowingPairs.{branch_grows, meet_grows}
-use Rattle.bpf_verify.specs.declared.kind.Kind.{Kind}
-use Rattle.bpf_verify.specs.declared.kind.Kind.TheVariants.{Unset, Number, Pointer}
+use Rattle.bpf_verify.specs.declared.abstract_value.AbstractValue.{AbstractValue}
+use Rattle.bpf_verify.specs.declared.abstract_value.AbstractValue.TheVariants.{Unset, Number, Pointer}
 use Rattle.bpf_verify.specs.declared.rule.Rule.TheVariants.{UnsetRegister, PointerMisuse, OutOfRegion, UnsetStackByte}
 use Rattle.bpf_verify.specs.States.{AbstractState, kind_of, IsKindIn, IsContainedIn, IsProperKind, IsProper}
 use Rattle.bpf_verify.specs.Rules.{is_unset_kind, is_pointer_kind, is_number_kind, operand_kind, may_leave_region, lacks_byte, misses_byte, is_whole, takes_dword, touches_byte, may_take_part, KeepsRules}
@@ -40,7 +40,7 @@ use Rattle.bpf_verify.proofs.ProperLaws.{aligned_place, whole_parts}
 
 -- ---- registers
 
-with_grows : (A C : AbstractState) (register : Reg) (k l : Kind) → IsContainedIn A C → IsKindIn k l
+with_grows : (A C : AbstractState) (register : Reg) (k l : AbstractValue) → IsContainedIn A C → IsKindIn k l
     → IsContainedIn (with_kind A register k) (with_kind C register l)
 with_grows A C register k l p q =
     record {
@@ -54,14 +54,14 @@ with_grows A C register k l p q =
 
 -- ---- arithmetic
 
-one_grows : (result : Span → Span) (k l : Kind)
+one_grows : (result : Span → Span) (k l : AbstractValue)
     → ((a c : Span) → HasMembers a → IsInside a c → IsInside (result a) (result c)) → IsProperKind k → IsKindIn k l
     → IsKindIn (of_number_kind result k) (of_number_kind result l)
 one_grows result k Unset h x p = tt
 one_grows result k (Number c) h x (a, is, p) = rw is (result a, refl, h a c (subst IsProperKind is x) p)
 one_grows result k (Pointer region c) h x p = tt
 
-numbers_grow : (op : AluOp) (width : Width) (k l m n : Kind) → IsProperKind k → IsProperKind l → IsKindIn k m
+numbers_grow : (op : AluOp) (width : Width) (k l m n : AbstractValue) → IsProperKind k → IsProperKind l → IsKindIn k m
     → IsKindIn l n
     → IsKindIn (of_number_kinds (alu_of op width) k l) (of_number_kinds (alu_of op width) m n)
 numbers_grow op width k l Unset n x y p q = tt
@@ -76,7 +76,7 @@ numbers_grow op width k l (Number c) (Number d) x y (a, is, p) (b, js, q) =
 numbers_grow op width k l (Number c) (Pointer region d) x y p q = tt
 numbers_grow op width k l (Pointer region c) n x y p q = tt
 
-sums_grow : (k l m n : Kind) → IsProperKind k → IsProperKind l → IsKindIn k m → IsKindIn l n
+sums_grow : (k l m n : AbstractValue) → IsProperKind k → IsProperKind l → IsKindIn k m → IsKindIn l n
     → IsKindIn (sum_kind k l) (sum_kind m n)
 sums_grow k l Unset n x y p q = tt
 sums_grow k l (Number c) Unset x y p q = tt
@@ -104,7 +104,7 @@ sums_grow k l (Pointer region c) (Number d) x y (a, is, p) (b, js, q) =
     )
 sums_grow k l (Pointer region c) (Pointer other d) x y p q = tt
 
-differences_grow : (k l m n : Kind) → IsProperKind k → IsProperKind l → IsKindIn k m → IsKindIn l n
+differences_grow : (k l m n : AbstractValue) → IsProperKind k → IsProperKind l → IsKindIn k m → IsKindIn l n
     → IsKindIn (difference_kind k l) (difference_kind m n)
 differences_grow k l Unset n x y p q = tt
 differences_grow k l (Number c) Unset x y p q = tt
@@ -126,11 +126,11 @@ differences_grow k l (Pointer region c) (Number d) x y (a, is, p) (b, js, q) =
     )
 differences_grow k l (Pointer region c) (Pointer other d) x y p q = tt
 
-moved_grows : (k l : Kind) → IsProperKind k → IsKindIn k l
+moved_grows : (k l : AbstractValue) → IsProperKind k → IsKindIn k l
     → IsKindIn (of_number_kind (λ n. alu_of Mov W32 n n) k) (of_number_kind (λ n. alu_of Mov W32 n n) l)
 moved_grows k l x p = one_grows (λ n. alu_of Mov W32 n n) k l (λ a c m q. alu_grows Mov W32 a a c c m m q q) x p
 
-alu_kinds_grow : (op : AluOp) (width : Width) (k l m n : Kind) → IsProperKind k → IsProperKind l → IsKindIn k m
+alu_kinds_grow : (op : AluOp) (width : Width) (k l m n : AbstractValue) → IsProperKind k → IsProperKind l → IsKindIn k m
     → IsKindIn l n → IsKindIn (alu_kind op width k l) (alu_kind op width m n)
 alu_kinds_grow Mov W64 k l m n x y p q = q
 alu_kinds_grow Mov W32 k l m n x y p q = moved_grows l n y q
@@ -159,13 +159,13 @@ bytes_full : (count : ℕ) (a : Span) → IsInside (of_bytes count a) (full_of (
 bytes_full count a = record { low = omega arith; high = omega arith }
 
 -- what isn't a kept pointer is any number at most
-full_above : (k : Kind) (count : ℕ) → is_pointer_kind k ≡ false
+full_above : (k : AbstractValue) (count : ℕ) → is_pointer_kind k ≡ false
     → IsKindIn (or_full k count) (Number (full_of (8 * count)))
 full_above Unset count e = kind_in_itself (Number (full_of (8 * count)))
 full_above (Number a) count e = (of_bytes count a, refl, bytes_full count a)
 full_above (Pointer region a) count e = absurd cc
 
-or_full_grows : (k l : Kind) (count : ℕ) → IsKindIn k l → (is_unset_kind l ≡ true → is_pointer_kind k ≡ false)
+or_full_grows : (k l : AbstractValue) (count : ℕ) → IsKindIn k l → (is_unset_kind l ≡ true → is_pointer_kind k ≡ false)
     → IsKindIn (or_full k count) (or_full l count)
 or_full_grows k Unset count p h = full_above k count (h refl)
 or_full_grows k (Number b) count (a, is, p) h = rw is (of_bytes count a, refl, bytes_inside count a b p)
@@ -175,7 +175,7 @@ or_full_grows k (Pointer region b) count (a, is, p) h = rw is (a, refl, p)
 in_dword : (first byte : ℕ) → first % 8 ≡ 0 → first ≤ byte → byte < first + 8 → dword_of byte ≡ dword_of first
 in_dword first byte aligned p q = omega (arith, aligned, p, q)
 
-loaded_grows : (shape : Extent) (A C : AbstractState) (k l : Kind) (off : ℤ) (count : ℕ) → IsContainedIn A C
+loaded_grows : (shape : Extent) (A C : AbstractState) (k l : AbstractValue) (off : ℤ) (count : ℕ) → IsContainedIn A C
     → IsProper A → IsProperKind k → IsKindIn k l → is_unset_kind l ≡ false → may_leave_region shape l off count ≡ false
     → misses_byte C l off count ≡ false → may_take_part shape C l off count ≡ false
     → IsKindIn (loaded_kind A k off count) (loaded_kind C l off count)
@@ -238,12 +238,12 @@ loaded_grows shape A C k (Pointer Stack b) off count c proper x (a, is, p) e f g
             let aligned = aligned_place a.lo at.low' off at.first' (whole_parts a off count i).2 in
             rw (in_dword at.low' byte aligned q r) (not_pointer (C.entries (dword_of at.low')) unset)
           where
-            not_pointer : (k : Kind) → is_unset_kind k ≡ true → is_pointer_kind k ≡ false
+            not_pointer : (k : AbstractValue) → is_unset_kind k ≡ true → is_pointer_kind k ≡ false
             not_pointer Unset e = refl
             not_pointer (Number a) e = absurd cc
             not_pointer (Pointer region a) e = absurd cc
 
-        touched : (k : Kind) → C.entries (dword_of at.low') ≡ k → is_unset_kind (C.entries (dword_of at.low')) ≡ true
+        touched : (k : AbstractValue) → C.entries (dword_of at.low') ≡ k → is_unset_kind (C.entries (dword_of at.low')) ≡ true
             → touches_byte C (Pointer Stack b) off count ≡ true → ⊥
         touched k e unset some =
             let ends = whole_grows a b off count m p j in
@@ -276,7 +276,7 @@ written_grows A C (Some first) count p =
     by false a c h e = h e
 
 -- what is known after a store to a double word
-entry_written_grows : (v w : Kind) (A C : ℕ → Bool) (first byte : ℕ) → IsKindIn v w → (C byte ≡ true → A byte ≡ true)
+entry_written_grows : (v w : AbstractValue) (A C : ℕ → Bool) (first byte : ℕ) → IsKindIn v w → (C byte ≡ true → A byte ≡ true)
     → entry_written w C first byte ≡ true → entry_written v A first byte ≡ true
 entry_written_grows Unset Unset A C first byte p h e = by (is_between first (first + 8) byte) (A byte) (C byte) h e
   where
@@ -307,7 +307,7 @@ entry_written_grows v (Pointer region d) A C first byte (b, is, p) h e =
     by true a c h e = absurd cc
     by false a c h e = h e
 
-entry_grows : (A C : AbstractState) (first : Option ℕ) (v w : Kind) → IsContainedIn A C → IsKindIn v w
+entry_grows : (A C : AbstractState) (first : Option ℕ) (v w : AbstractValue) → IsContainedIn A C → IsKindIn v w
     → IsContainedIn (with_entry A first v) (with_entry C first w)
 entry_grows A C None v w p q = p
 entry_grows A C (Some first) v w p q =
@@ -317,12 +317,12 @@ entry_grows A C (Some first) v w p q =
       entries = λ dword. by (dword == dword_of first) (A.entries dword) (C.entries dword) (p.entries dword);
     }
   where
-    by : (b : Bool) (k l : Kind) → IsKindIn k l → IsKindIn (if b then v else k) (if b then w else l)
+    by : (b : Bool) (k l : AbstractValue) → IsKindIn k l → IsKindIn (if b then v else k) (if b then w else l)
     by true k l h = q
     by false k l h = h
 
 -- more is known of a double word that is cleared only where less is known of the place
-cleared_kind_grows : (s t : Bool) (k l : Kind) → (s ≡ true → t ≡ true) → IsKindIn k l
+cleared_kind_grows : (s t : Bool) (k l : AbstractValue) → (s ≡ true → t ≡ true) → IsKindIn k l
     → IsKindIn (if s then Unset else k) (if t then Unset else l)
 cleared_kind_grows s true k l h p = tt
 cleared_kind_grows true false k l h p = let no : false ≡ true = h refl in absurd cc
@@ -366,7 +366,7 @@ more_written A C first count p =
     or_true false = refl
 
 -- a number in a double word that may be touched where less is known of the place
-entry_below_cleared : (A C : AbstractState) (low high first count : ℕ) (v : Kind) → count ≡ 8
+entry_below_cleared : (A C : AbstractState) (low high first count : ℕ) (v : AbstractValue) → count ≡ 8
     → is_number_kind v ≡ true → low ≤ first → first ≤ high → IsContainedIn A C
     → IsContainedIn (with_entry A (Some first) v) (with_cleared C (Some low) (Some high) count)
 entry_below_cleared A C low high first count Unset eight n q r p = absurd cc
@@ -395,7 +395,7 @@ entry_below_cleared A C low high first count (Number a) eight n q r p =
           lt-ltb dword (dword_of (high + count + 7)) (omega (arith, r, same, eight)),
         ) refl
 
-stored_grows : (shape : Extent) (A C : AbstractState) (k l : Kind) (off : ℤ) (count : ℕ) (v w : Kind)
+stored_grows : (shape : Extent) (A C : AbstractState) (k l : AbstractValue) (off : ℤ) (count : ℕ) (v w : AbstractValue)
     → IsContainedIn A C → IsProperKind k → IsKindIn k l → IsKindIn v w → is_unset_kind w ≡ false
     → may_leave_region shape l off count ≡ false → (is_pointer_kind w && not (takes_dword l off count)) ≡ false
     → is_unset_kind l ≡ false
@@ -419,7 +419,7 @@ stored_grows shape A C k (Pointer Stack b) off count v w p x (a, is, q) y e f g 
         last true t e f = let no : true ≡ false = sym (ap not f) ∙ e in absurd cc
         last false t e f = refl
 
-        sort : (v w : Kind) → IsKindIn v w → is_unset_kind w ≡ false → is_pointer_kind w ≡ false
+        sort : (v w : AbstractValue) → IsKindIn v w → is_unset_kind w ≡ false → is_pointer_kind w ≡ false
             → is_number_kind v ≡ true
         sort v Unset y e f = absurd cc
         sort v (Number d) (b, is, y) e f = rw is refl
@@ -511,7 +511,7 @@ refined_grow A C D dst (operand.Reg register) (Some pair) (Some other) p q e = b
         (with_grows A C dst (Number pair.0) (Number other.0) p (pair.0, refl, q.0)) (pair.1, refl, q.1))
 
 branches_grow : (A C D : AbstractState) (test : Cond) (width : Width) (dst : Reg) (src : Operand) (taken : Bool)
-    (k l m n : Kind) → IsContainedIn A C
+    (k l m n : AbstractValue) → IsContainedIn A C
     → IsProperKind k → IsProperKind l → IsKindIn k m → IsKindIn l n → is_unset_kind m ≡ false → is_unset_kind n ≡ false
     → (is_pointer_kind m || is_pointer_kind n) ≡ false
     → branch_outcome A test width dst src taken k l ≡ Some D → Within (branch_outcome C test width dst src taken m n) D
@@ -536,7 +536,7 @@ called_grows A C shape given p =
       entries = λ dword. p.entries dword;
     }
   where
-    by : (b c : Bool) (k l : Kind) → IsKindIn k l
+    by : (b c : Bool) (k l : AbstractValue) → IsKindIn k l
         → IsKindIn (if b then (if c then answer_kind shape given else Unset) else k)
         (if b then (if c then answer_kind shape given else Unset) else l)
     by true true k l q = kind_in_itself (answer_kind shape given)
@@ -557,13 +557,13 @@ module _ (program : List Insn) (shape : Extent) (slot : ℕ) (way : Way) (A C D 
   proper_operand width (operand.Imm imm) = record { ordered = omega arith }
   proper_operand width (operand.Reg register) = proper_of register
 
-  put : (register : Reg) (k l : Kind) → IsKindIn k l
+  put : (register : Reg) (k l : AbstractValue) → IsKindIn k l
       → ◌≡◌ {A = Option AbstractState} (Some (with_kind A register k)) (Some D)
       → IsContainedIn D (with_kind C register l)
   put register k l q e = subst (λ E. IsContainedIn E (with_kind C register l)) (same_Some (with_kind A register k) D e)
       (with_grows A C register k l p q)
 
-  put_stored : (base : Reg) (off : ℤ) (count : ℕ) (rest : List Reg) (v w : Kind) → IsKindIn v w
+  put_stored : (base : Reg) (off : ℤ) (count : ℕ) (rest : List Reg) (v w : AbstractValue) → IsKindIn v w
       → is_unset_kind w ≡ false → Unread C (base ∷ rest) → may_leave_region shape (kind_of C base) off count ≡ false
       → (is_pointer_kind w && not (takes_dword (kind_of C base) off count)) ≡ false
       → ◌≡◌ {A = Option AbstractState} (Some (stored_at A (kind_of A base) off count v)) (Some D)

@@ -28,8 +28,8 @@ use Rattle.value_range.specs.Span.{Span, span, full_of, is_single, meet_of, HasM
 use Rattle.value_range.specs.Results.{alu_of, neg_of, movsx_of, swap_of}
 use Rattle.value_range.specs.Conditions.{branch_of}
 use Rattle.value_range.proofs.Members.{HasMembersIfSome, HaveMembers, alu_members, neg_members, movsx_members, swap_members, hull_members, meet_members, branch_members}
-use Rattle.bpf_verify.specs.declared.kind.Kind.{Kind}
-use Rattle.bpf_verify.specs.declared.kind.Kind.TheVariants.{Unset, Number, Pointer}
+use Rattle.bpf_verify.specs.declared.abstract_value.AbstractValue.{AbstractValue}
+use Rattle.bpf_verify.specs.declared.abstract_value.AbstractValue.TheVariants.{Unset, Number, Pointer}
 use Rattle.bpf_verify.specs.States.{AbstractState, kind_of, IsProperKind, IsProper, joined_kind, joined_state, stack_base, entry_state, is_number_kind, is_pointer_kind}
 use Rattle.bpf_verify.specs.Rules.{operand_kind, is_whole, takes_dword}
 use Rattle.bpf_verify.specs.Outcomes.{with_kind, sum_kind, difference_kind, of_number_kind, of_number_kinds, alu_kind, put_kind, of_bytes, or_full, entry_at, lowest_place, loaded_kind, is_between, with_written, entry_written, with_entry, with_cleared, stored_at, is_taken, with_meet, refined_by, branch_outcome, answer_kind, call_outcome, outcome}
@@ -37,13 +37,13 @@ use Rattle.bpf_verify.specs.inner.Walk.{IsProperRow}
 
 -- ---- arithmetic
 
-one_proper : (result : Span → Span) → ((a : Span) → HasMembers a → HasMembers (result a)) → (k : Kind) → IsProperKind k
+one_proper : (result : Span → Span) → ((a : Span) → HasMembers a → HasMembers (result a)) → (k : AbstractValue) → IsProperKind k
     → IsProperKind (of_number_kind result k)
 one_proper result gives Unset p = tt
 one_proper result gives (Number a) p = gives a p
 one_proper result gives (Pointer region a) p = tt
 
-both_proper : (op : AluOp) (width : Width) (k l : Kind) → IsProperKind k → IsProperKind l
+both_proper : (op : AluOp) (width : Width) (k l : AbstractValue) → IsProperKind k → IsProperKind l
     → IsProperKind (of_number_kinds (alu_of op width) k l)
 both_proper op width Unset l p q = tt
 both_proper op width (Number a) Unset p q = tt
@@ -51,7 +51,7 @@ both_proper op width (Number a) (Number b) p q = alu_members op width a b p q
 both_proper op width (Number a) (Pointer region b) p q = tt
 both_proper op width (Pointer region a) l p q = tt
 
-sum_proper : (k l : Kind) → IsProperKind k → IsProperKind l → IsProperKind (sum_kind k l)
+sum_proper : (k l : AbstractValue) → IsProperKind k → IsProperKind l → IsProperKind (sum_kind k l)
 sum_proper Unset l p q = tt
 sum_proper (Number a) Unset p q = tt
 sum_proper (Number a) (Number b) p q = alu_members Add W64 a b p q
@@ -60,7 +60,7 @@ sum_proper (Pointer region a) Unset p q = tt
 sum_proper (Pointer region a) (Number b) p q = alu_members Add W64 a b p q
 sum_proper (Pointer region a) (Pointer other b) p q = tt
 
-difference_proper : (k l : Kind) → IsProperKind k → IsProperKind l → IsProperKind (difference_kind k l)
+difference_proper : (k l : AbstractValue) → IsProperKind k → IsProperKind l → IsProperKind (difference_kind k l)
 difference_proper Unset l p q = tt
 difference_proper (Number a) Unset p q = tt
 difference_proper (Number a) (Number b) p q = alu_members Sub W64 a b p q
@@ -69,7 +69,7 @@ difference_proper (Pointer region a) Unset p q = tt
 difference_proper (Pointer region a) (Number b) p q = alu_members Sub W64 a b p q
 difference_proper (Pointer region a) (Pointer other b) p q = tt
 
-alu_proper : (op : AluOp) (width : Width) (k l : Kind) → IsProperKind k → IsProperKind l
+alu_proper : (op : AluOp) (width : Width) (k l : AbstractValue) → IsProperKind k → IsProperKind l
     → IsProperKind (alu_kind op width k l)
 alu_proper Mov W64 k l p q = q
 alu_proper Mov W32 k l p q = one_proper (λ n. alu_of Mov W32 n n) (λ a m. alu_members Mov W32 a a m m) l q
@@ -91,7 +91,7 @@ alu_proper Arsh width k l p q = both_proper Arsh width k l p q
 
 -- ---- states
 
-with_proper : (A : AbstractState) (register : Reg) (k : Kind) → IsProper A → IsProperKind k
+with_proper : (A : AbstractState) (register : Reg) (k : AbstractValue) → IsProper A → IsProperKind k
     → IsProper (with_kind A register k)
 with_proper A register k p q =
     record {
@@ -101,14 +101,14 @@ with_proper A register k p q =
       apart = p.apart;
     }
   where
-    by : (b : Bool) (l : Kind) → IsProperKind l → IsProperKind (if b then k else l)
+    by : (b : Bool) (l : AbstractValue) → IsProperKind l → IsProperKind (if b then k else l)
     by true l h = q
     by false l h = h
 
 bytes_proper : (count : ℕ) (a : Span) → HasMembers a → HasMembers (of_bytes count a)
 bytes_proper count a p = record { ordered = omega (arith, p.ordered) }
 
-or_full_proper : (k : Kind) (count : ℕ) → IsProperKind k → IsProperKind (or_full k count)
+or_full_proper : (k : AbstractValue) (count : ℕ) → IsProperKind k → IsProperKind (or_full k count)
 or_full_proper Unset count p = record { ordered = omega arith }
 or_full_proper (Number a) count p = bytes_proper count a p
 or_full_proper (Pointer region a) count p = p
@@ -118,7 +118,7 @@ entry_at_proper : (A : AbstractState) (first : Option ℕ) (count : ℕ) → IsP
 entry_at_proper A None count p = record { ordered = omega arith }
 entry_at_proper A (Some first) count p = or_full_proper (A.entries (dword_of first)) count (p.entries (dword_of first))
 
-loaded_proper : (A : AbstractState) (k : Kind) (off : ℤ) (count : ℕ) → IsProper A
+loaded_proper : (A : AbstractState) (k : AbstractValue) (off : ℤ) (count : ℕ) → IsProper A
     → IsProperKind (loaded_kind A k off count)
 loaded_proper A k off count p = by (takes_dword k off count)
   where
@@ -149,7 +149,7 @@ pub beside_entry : (first byte : ℕ) → first % 8 ≡ 0 → (dword_of byte ≡
     → is_between first (first + 8) byte ≡ false
 beside_entry first byte aligned other = grind (arith, nat_tests, aligned, other)
 
-pub pointer_or : (k : Kind) → is_number_kind k ≡ true → is_pointer_kind k ≡ true → ⊥
+pub pointer_or : (k : AbstractValue) → is_number_kind k ≡ true → is_pointer_kind k ≡ true → ⊥
 pointer_or Unset e f = absurd cc
 pointer_or (Number a) e f = absurd cc
 pointer_or (Pointer region a) e f = absurd cc
@@ -163,7 +163,7 @@ or_true true c e = refl
 or_true false c e = e
 
 -- what the double word at a place is once it holds a value, and what the others are
-module _ (A : AbstractState) (first : ℕ) (v : Kind) (aligned : first % 8 ≡ 0) (p : IsProper A)
+module _ (A : AbstractState) (first : ℕ) (v : AbstractValue) (aligned : first % 8 ≡ 0) (p : IsProper A)
     (q : IsProperKind v) where
   entry_kind : (dword : ℕ) → IsProperKind (put_kind A.entries (dword_of first) v dword)
   entry_kind dword = by (dword == dword_of first) (p.entries dword)
@@ -172,25 +172,25 @@ module _ (A : AbstractState) (first : ℕ) (v : Kind) (aligned : first % 8 ≡ 0
       by true h = q
       by false h = h
 
-  now_spelled : (k : Kind) (byte : ℕ) → is_number_kind k ≡ true → is_between first (first + 8) byte ≡ true
+  now_spelled : (k : AbstractValue) (byte : ℕ) → is_number_kind k ≡ true → is_between first (first + 8) byte ≡ true
       → entry_written k A.written first byte ≡ true
   now_spelled Unset byte e b = absurd cc
   now_spelled (Number a) byte e b = rw b refl
   now_spelled (Pointer region a) byte e b = absurd cc
 
-  still_spelled : (k : Kind) (byte : ℕ) → A.written byte ≡ true → is_between first (first + 8) byte ≡ false
+  still_spelled : (k : AbstractValue) (byte : ℕ) → A.written byte ≡ true → is_between first (first + 8) byte ≡ false
       → entry_written k A.written first byte ≡ true
   still_spelled Unset byte e b = rw (b, e) refl
   still_spelled (Number a) byte e b = rw (b, e) refl
   still_spelled (Pointer region a) byte e b = rw (b, e) refl
 
-  now_apart : (k : Kind) (byte : ℕ) → is_pointer_kind k ≡ true → is_between first (first + 8) byte ≡ true
+  now_apart : (k : AbstractValue) (byte : ℕ) → is_pointer_kind k ≡ true → is_between first (first + 8) byte ≡ true
       → entry_written k A.written first byte ≡ false
   now_apart Unset byte e b = absurd cc
   now_apart (Number a) byte e b = absurd cc
   now_apart (Pointer region a) byte e b = rw b refl
 
-  still_apart : (k : Kind) (byte : ℕ) → A.written byte ≡ false → is_between first (first + 8) byte ≡ false
+  still_apart : (k : AbstractValue) (byte : ℕ) → A.written byte ≡ false → is_between first (first + 8) byte ≡ false
       → entry_written k A.written first byte ≡ false
   still_apart Unset byte e b = rw (b, e) refl
   still_apart (Number a) byte e b = rw (b, e) refl
@@ -227,15 +227,15 @@ module _ (A : AbstractState) (first : ℕ) (v : Kind) (aligned : first % 8 ≡ 0
   }
 
 -- what is left of what was known of a double word
-cleared_kind : (b : Bool) (k : Kind) → IsProperKind k → IsProperKind (if b then Unset else k)
+cleared_kind : (b : Bool) (k : AbstractValue) → IsProperKind k → IsProperKind (if b then Unset else k)
 cleared_kind true k p = tt
 cleared_kind false k p = p
 
-cleared_number : (b : Bool) (k : Kind) → is_number_kind (if b then Unset else k) ≡ true → is_number_kind k ≡ true
+cleared_number : (b : Bool) (k : AbstractValue) → is_number_kind (if b then Unset else k) ≡ true → is_number_kind k ≡ true
 cleared_number true k e = absurd cc
 cleared_number false k e = e
 
-cleared_pointer : (b : Bool) (k : Kind) → is_pointer_kind (if b then Unset else k) ≡ true
+cleared_pointer : (b : Bool) (k : AbstractValue) → is_pointer_kind (if b then Unset else k) ≡ true
     → (b ≡ false) × (is_pointer_kind k ≡ true)
 cleared_pointer true k e = absurd cc
 cleared_pointer false k e = (refl, e)
@@ -278,7 +278,7 @@ cleared_written_proper A (Some first) (Some last) count same p =
           rw (beside, p.apart byte left.1) refl;
     }
 
-with_entry_proper : (A : AbstractState) (lo : ℕ) (off : ℤ) (first : Option ℕ) (v : Kind) → moved lo off ≡ first
+with_entry_proper : (A : AbstractState) (lo : ℕ) (off : ℤ) (first : Option ℕ) (v : AbstractValue) → moved lo off ≡ first
     → is_aligned (pos lo +ℤ off) ≡ true → IsProper A → IsProperKind v → IsProper (with_entry A first v)
 with_entry_proper A lo off None v e aligned p q = p
 with_entry_proper A lo off (Some first) v e aligned p q =
@@ -291,7 +291,7 @@ whole_parts a off count e =
     let y = and_parts (count == 8) (is_aligned (pos a.lo +ℤ off)) x.1 in
     (x.0, eqb-true count 8 y.0, y.1)
 
-stored_proper : (A : AbstractState) (k : Kind) (off : ℤ) (count : ℕ) (v : Kind) → IsProper A → IsProperKind v
+stored_proper : (A : AbstractState) (k : AbstractValue) (off : ℤ) (count : ℕ) (v : AbstractValue) → IsProper A → IsProperKind v
     → IsProper (stored_at A k off count v)
 stored_proper A Unset off count v p q = p
 stored_proper A (Number a) off count v p q = p
@@ -331,7 +331,7 @@ refined_proper A dst (operand.Reg register) (Some pair) p q = by (register_numbe
         (with_proper A dst (Number pair.0) p q.0) q.1
 
 branch_proper : (A : AbstractState) (test : Cond) (width : Width) (dst : Reg) (src : Operand) (taken : Bool)
-    (k l : Kind) → IsProper A → IsProperKind k → IsProperKind l
+    (k l : AbstractValue) → IsProper A → IsProperKind k → IsProperKind l
     → IsProperRow (branch_outcome A test width dst src taken k l)
 branch_proper A test width dst src taken Unset l p q r = tt
 branch_proper A test width dst src taken (Pointer region a) l p q r = tt
@@ -357,7 +357,7 @@ called_proper shape given A p =
       apart = p.apart;
     }
   where
-    by : (b c : Bool) (k : Kind) → IsProperKind k
+    by : (b c : Bool) (k : AbstractValue) → IsProperKind k
         → IsProperKind (if b then (if c then answer_kind shape given else Unset) else k)
     by true true k q = answer_proper shape given
     by true false k q = tt
@@ -401,7 +401,7 @@ module _ (shape : Extent) (way : Way) (A : AbstractState) (p : IsProper A) where
       (proper_operand W64 (operand.Imm imm))
   outcome_proper (i.LoadImm64 dst value) = with_proper A dst _ p (record { ordered = omega arith })
 
-joined_kind_proper : (k l : Kind) → IsProperKind k → IsProperKind l → IsProperKind (joined_kind k l)
+joined_kind_proper : (k l : AbstractValue) → IsProperKind k → IsProperKind l → IsProperKind (joined_kind k l)
 joined_kind_proper Unset l p q = tt
 joined_kind_proper (Number a) Unset p q = tt
 joined_kind_proper (Number a) (Number b) p q = hull_members a b p q
@@ -425,7 +425,7 @@ joined_proper A C p q =
           rw (p.apart byte (joined_pointer (A.entries (dword_of byte)) (C.entries (dword_of byte)) e)) refl;
     }
   where
-    joined_number : (k l : Kind) → is_number_kind (joined_kind k l) ≡ true
+    joined_number : (k l : AbstractValue) → is_number_kind (joined_kind k l) ≡ true
         → (is_number_kind k ≡ true) × (is_number_kind l ≡ true)
     joined_number Unset l e = absurd cc
     joined_number (Number a) Unset e = absurd cc
@@ -438,7 +438,7 @@ joined_proper A C p q =
     joined_number (Pointer Mem a) (Pointer Stack b) e = absurd cc
     joined_number (Pointer Stack a) (Pointer Mem b) e = absurd cc
 
-    joined_pointer : (k l : Kind) → is_pointer_kind (joined_kind k l) ≡ true → is_pointer_kind k ≡ true
+    joined_pointer : (k l : AbstractValue) → is_pointer_kind (joined_kind k l) ≡ true → is_pointer_kind k ≡ true
     joined_pointer Unset l e = absurd cc
     joined_pointer (Number a) Unset e = absurd cc
     joined_pointer (Number a) (Number b) e = absurd cc

@@ -19,11 +19,11 @@ use Rattle.bpf_insn.proofs.LayoutLaws.{next_stop, past_end}
 use Rattle.bpf_verify.specs.declared.rule.Rule.{Rule}
 use Rattle.bpf_verify.specs.declared.rule.Rule.TheVariants.{NotForward, BadTarget, UnknownHelper, UnsetRegister, FrameWrite, PointerMisuse, OutOfRegion, UnsetStackByte, BadArgument, ExitNotNumber, NotPointer}
 use Rattle.value_range.specs.Span.{full_of}
-use Rattle.bpf_verify.specs.declared.kind.Kind.{Kind}
-use Rattle.bpf_verify.specs.declared.kind.Kind.TheVariants.{Unset, Number}
+use Rattle.bpf_verify.specs.declared.abstract_value.AbstractValue.{AbstractValue}
+use Rattle.bpf_verify.specs.declared.abstract_value.AbstractValue.TheVariants.{Unset, Number}
 use Rattle.bpf_verify.specs.States.{AbstractState, is_pointer_kind}
 use Rattle.bpf_verify.specs.Outcomes.{or_full, entry_at, lowest_place, loaded_kind}
-use Rattle.bpf_verify.specs.Rules.{on_base, takes_dword, lacks, touches, is_negative, goes_back, is_astray, leads_astray, breaks, KeepsRules, lowest_broken}
+use Rattle.bpf_verify.specs.Rules.{on_base, takes_dword, lacks, touches_written, is_negative, goes_back, is_astray, leads_astray, breaks, KeepsRules, lowest_broken}
 
 -- a byte that is written tells nothing of those after it
 pub lacks_past : (A : AbstractState) (place end : ℕ) → place < end → A.written place ≡ true
@@ -35,7 +35,7 @@ lacks_past A place end before written =
 -- a byte that is of no kept pointer tells nothing of those after it
 pub touches_past : (A : AbstractState) (place end : ℕ) → place < end
     → is_pointer_kind (A.entries (dword_of place)) ≡ false
-    → touches A place (end - place) ≡ touches A (place + 1) (end - (place + 1))
+    → touches_written A place (end - place) ≡ touches_written A (place + 1) (end - (place + 1))
 touches_past A place end before none =
     let count : end - place ≡ suc (end - (place + 1)) = omega arith in
     rw (count, none) refl
@@ -196,7 +196,7 @@ onward_next (StoreImm size base off imm) slot to e = sym cc
 onward_next (LoadImm64 dst value) slot to e = sym cc
 
 -- where nothing is known of any double word, a load gives any number
-pub nothing_held : (A : AbstractState) (k : Kind) (off : ℤ) (count : ℕ) → ((dword : ℕ) → A.entries dword ≡ Unset)
+pub nothing_held : (A : AbstractState) (k : AbstractValue) (off : ℤ) (count : ℕ) → ((dword : ℕ) → A.entries dword ≡ Unset)
     → loaded_kind A k off count ≡ Number (full_of (8 * count))
 nothing_held A k off count none = by (takes_dword k off count)
   where
@@ -229,7 +229,7 @@ onward_astray program slot next insn here goes =
     there None e = absurd cc
 
 -- what is asked of an access is asked of the load or of the store
-pub on_access : (asked : Kind → ℤ → ℕ → Bool) (A : AbstractState) (insn : Insn)
+pub on_access : (asked : AbstractValue → ℤ → ℕ → Bool) (A : AbstractState) (insn : Insn)
     → on_base asked A (access_of insn) ≡ (on_base asked A (load_of insn) || on_base asked A (store_of insn))
 on_access asked A (Alu op width dst src) = refl
 on_access asked A (Neg width dst) = refl

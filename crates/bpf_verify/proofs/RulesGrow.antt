@@ -4,7 +4,7 @@ use Rattle.std.specs.Prelude.{ℤ, pos, negsuc, ◌+ℤ◌, nat_lt, if◌then◌
 use Rattle.std.proofs.lemmas.Bool.{cases_lt, le-ltb, lt-ltb, ltb-false, and_parts, or_cases, eqb-true}
 use Rattle.std.proofs.lemmas.Option.{same_Some}
 use Rattle.node_env.specs.Env.{Extent, region_size}
-use Rattle.node_env.specs.Helpers.{helper_of, arguments_of, counted}
+use Rattle.node_env.specs.Helpers.{helper_of, arguments_of, argument_count_of}
 use Rattle.node_env.specs.declared.helper.Helper.{Helper}
 use Rattle.node_env.specs.declared.helper.Helper.TheVariants.{Id, Recv, Send, Coin}
 use Rattle.node_env.specs.declared.region.Region.TheVariants.{Mem, Stack}
@@ -25,11 +25,11 @@ use Rattle.bpf_insn.specs.Operands.{reads, operand_reads, alu_reads, argument_re
 use Rattle.value_range.specs.Span.{Span, IsInside, HasMembers, is_single}
 use Rattle.value_range.specs.Results.{alu_of}
 use Rattle.value_range.proofs.Growing.{alu_grows, single_inside, single_below}
-use Rattle.bpf_verify.specs.declared.kind.Kind.{Kind}
-use Rattle.bpf_verify.specs.declared.kind.Kind.TheVariants.{Unset, Number, Pointer}
+use Rattle.bpf_verify.specs.declared.abstract_value.AbstractValue.{AbstractValue}
+use Rattle.bpf_verify.specs.declared.abstract_value.AbstractValue.TheVariants.{Unset, Number, Pointer}
 use Rattle.bpf_verify.specs.declared.rule.Rule.TheVariants.{NotForward, BadTarget, UnknownHelper, UnsetRegister, FrameWrite, PointerMisuse, OutOfRegion, UnsetStackByte, BadArgument, ExitNotNumber, NotPointer}
 use Rattle.bpf_verify.specs.States.{AbstractState, kind_of, IsKindIn, IsContainedIn, IsProperKind, IsProper}
-use Rattle.bpf_verify.specs.Rules.{some_unset, is_unset_kind, is_pointer_kind, is_number_kind, operand_kind, reads_unset, passes, misuses_sum, misuses_difference, misuses_operands, may_misuse_pointer, may_leave, may_leave_region, may_leave_regions, lacks, lacks_between, lacks_byte, misses_byte, is_whole, takes_dword, touches, touches_between, touches_byte, may_take_part, loads_unset, may_reach, helper_may_refuse, misses_argument, may_exit_with_pointer, accesses_number, KeepsRules}
+use Rattle.bpf_verify.specs.Rules.{some_unset, is_unset_kind, is_pointer_kind, is_number_kind, operand_kind, reads_unset, passes, misuses_sum, misuses_difference, misuses_operands, may_misuse_pointer, may_leave, may_leave_region, may_leave_regions, lacks, lacks_between, lacks_byte, misses_byte, is_whole, takes_dword, touches_written, touches_between, touches_byte, may_take_part, loads_unset, may_reach, helper_may_refuse, misses_argument, may_exit_with_pointer, accesses_number, KeepsRules}
 use Rattle.bpf_verify.proofs.StateLaws.{kind_in_itself}
 
 pub or_false : (a b : Bool) → (a || b) ≡ false → (a ≡ false) × (b ≡ false)
@@ -41,18 +41,18 @@ both_false a b e f = rw (e, f) refl
 
 -- ---- kinds: where the one that says less is set, the other is of the same sort
 
-unset_grows : (k l : Kind) → IsKindIn k l → is_unset_kind l ≡ false → is_unset_kind k ≡ false
+unset_grows : (k l : AbstractValue) → IsKindIn k l → is_unset_kind l ≡ false → is_unset_kind k ≡ false
 unset_grows k Unset p e = absurd cc
 unset_grows k (Number b) (a, is, inside) e = rw is refl
 unset_grows k (Pointer region b) (a, is, inside) e = rw is refl
 
-pointer_grows : (k l : Kind) → IsKindIn k l → is_unset_kind l ≡ false → is_pointer_kind l ≡ false
+pointer_grows : (k l : AbstractValue) → IsKindIn k l → is_unset_kind l ≡ false → is_pointer_kind l ≡ false
     → is_pointer_kind k ≡ false
 pointer_grows k Unset p e f = absurd cc
 pointer_grows k (Number b) (a, is, inside) e f = rw is refl
 pointer_grows k (Pointer region b) p e f = absurd cc
 
-number_grows : (k l : Kind) → IsKindIn k l → is_unset_kind l ≡ false → is_number_kind l ≡ false
+number_grows : (k l : AbstractValue) → IsKindIn k l → is_unset_kind l ≡ false → is_number_kind l ≡ false
     → is_number_kind k ≡ false
 number_grows k Unset p e f = absurd cc
 number_grows k (Number b) p e f = absurd cc
@@ -69,7 +69,7 @@ lt_of a b e = elim (cases_lt a b) [ inl h ↦ h | inr h ↦ absurd (apart (nat_l
     apart true f g = absurd cc
     apart false f g = absurd cc
 
-below_grows : (limit : ℕ) (k l : Kind) → IsKindIn k l → is_unset_kind l ≡ false → may_reach limit l ≡ false
+below_grows : (limit : ℕ) (k l : AbstractValue) → IsKindIn k l → is_unset_kind l ≡ false → may_reach limit l ≡ false
     → may_reach limit k ≡ false
 below_grows limit k Unset p e f = absurd cc
 below_grows limit k (Number b) (a, is, inside) e f =
@@ -115,7 +115,7 @@ passes_grows shape op region a b c d m n p q e =
     let within = ltb-false (region_size shape region) (alu_of op W64 c d).hi e in
     le-ltb (region_size shape region) (alu_of op W64 a b).hi (omega (arith, less.high))
 
-sum_grows : (shape : Extent) (k l m n : Kind) → IsProperKind k → IsProperKind l → IsKindIn k m → IsKindIn l n
+sum_grows : (shape : Extent) (k l m n : AbstractValue) → IsProperKind k → IsProperKind l → IsKindIn k m → IsKindIn l n
     → is_unset_kind m ≡ false → is_unset_kind n ≡ false
     → misuses_sum shape m n ≡ false → misuses_sum shape k l ≡ false
 sum_grows shape k l Unset n x y p q e f g = absurd cc
@@ -128,7 +128,7 @@ sum_grows shape k l (Pointer region c) (Number d) x y (a, is, p) (b, js, q) e f 
     rw (is, js) (passes_grows shape Add region a b c d (subst IsProperKind is x) (subst IsProperKind js y) p q g)
 sum_grows shape k l (Pointer region c) (Pointer other d) x y p q e f g = absurd cc
 
-difference_grows : (shape : Extent) (k l m n : Kind) → IsProperKind k → IsProperKind l → IsKindIn k m → IsKindIn l n
+difference_grows : (shape : Extent) (k l m n : AbstractValue) → IsProperKind k → IsProperKind l → IsKindIn k m → IsKindIn l n
     → is_unset_kind m ≡ false → is_unset_kind n ≡ false
     → misuses_difference shape m n ≡ false → misuses_difference shape k l ≡ false
 difference_grows shape k l Unset n x y p q e f g = absurd cc
@@ -140,7 +140,7 @@ difference_grows shape k l (Pointer region c) (Number d) x y (a, is, p) (b, js, 
     rw (is, js) (passes_grows shape Sub region a b c d (subst IsProperKind is x) (subst IsProperKind js y) p q g)
 difference_grows shape k l (Pointer region c) (Pointer other d) x y p q e f g = absurd cc
 
-plain_grows : (k l m n : Kind) → IsKindIn k m → IsKindIn l n → is_unset_kind m ≡ false → is_unset_kind n ≡ false
+plain_grows : (k l m n : AbstractValue) → IsKindIn k m → IsKindIn l n → is_unset_kind m ≡ false → is_unset_kind n ≡ false
     → (is_pointer_kind m || is_pointer_kind n) ≡ false → (is_pointer_kind k || is_pointer_kind l) ≡ false
 plain_grows k l m n p q e f g =
     let h = or_false (is_pointer_kind m) (is_pointer_kind n) g in
@@ -206,7 +206,7 @@ places a b off count size members p e =
       inside = s.4;
     }
 
-region_grows : (shape : Extent) (k l : Kind) (off : ℤ) (count : ℕ) → IsProperKind k → IsKindIn k l
+region_grows : (shape : Extent) (k l : AbstractValue) (off : ℤ) (count : ℕ) → IsProperKind k → IsKindIn k l
     → is_unset_kind l ≡ false
     → may_leave_region shape l off count ≡ false → may_leave_region shape k off count ≡ false
 region_grows shape k Unset off count x p e f = absurd cc
@@ -240,7 +240,7 @@ none_lacks A first (suc count) h =
     rw (h first (omega arith) (omega arith)) (none_lacks A (first + 1) count
     (λ byte p q. h byte (omega arith) (omega arith)))
 
-bytes_grow : (shape : Extent) (A C : AbstractState) (k l : Kind) (off : ℤ) (count : ℕ) → IsContainedIn A C
+bytes_grow : (shape : Extent) (A C : AbstractState) (k l : AbstractValue) (off : ℤ) (count : ℕ) → IsContainedIn A C
     → IsProperKind k → IsKindIn k l → is_unset_kind l ≡ false
     → may_leave_region shape l off count ≡ false → lacks_byte C l off count ≡ false → lacks_byte A k off count ≡ false
 bytes_grow shape A C k Unset off count c x p e f g = absurd cc
@@ -270,21 +270,21 @@ whole_grows a b off count m p e =
     let single : b.lo ≡ b.hi = eqb-true b.lo b.hi parts.0 in
     (rw (single_below a b m p parts.0, same.0) parts.1, same.0, same.1 ∙ single)
 
-pub pointer_in : (k l : Kind) → IsKindIn k l → is_pointer_kind l ≡ true → is_pointer_kind k ≡ true
+pub pointer_in : (k l : AbstractValue) → IsKindIn k l → is_pointer_kind l ≡ true → is_pointer_kind k ≡ true
 pointer_in k Unset p e = absurd cc
 pointer_in k (Number b) p e = absurd cc
 pointer_in k (Pointer region b) (a, is, p) e = rw is refl
 
 pub no_touch : (A : AbstractState) (first count : ℕ)
     → ((byte : ℕ) → first ≤ byte → byte < first + count → is_pointer_kind (A.entries (dword_of byte)) ≡ false)
-    → touches A first count ≡ false
+    → touches_written A first count ≡ false
 no_touch A first zero h = refl
 no_touch A first (suc count) h =
     rw (h first (omega arith) (omega arith)) (no_touch A (first + 1) count
     (λ byte p q. h byte (omega arith) (omega arith)))
 
 -- where nothing is known of any double word, no load takes a part of a pointer
-pub takes_no_part : (shape : Extent) (A : AbstractState) (k : Kind) (off : ℤ) (count : ℕ)
+pub takes_no_part : (shape : Extent) (A : AbstractState) (k : AbstractValue) (off : ℤ) (count : ℕ)
     → ((dword : ℕ) → A.entries dword ≡ Unset) → may_take_part shape A k off count ≡ false
 takes_no_part shape A k off count none =
     and_false (not (may_leave_region shape k off count)) (touches_byte A k off count && not (takes_dword k off count))
@@ -296,20 +296,20 @@ takes_no_part shape A k off count none =
     between (Some first) None = refl
     between None last = refl
 
-    untouched : (k : Kind) → touches_byte A k off count ≡ false
+    untouched : (k : AbstractValue) → touches_byte A k off count ≡ false
     untouched Unset = refl
     untouched (Number a) = refl
     untouched (Pointer Mem a) = refl
     untouched (Pointer Stack a) = between (moved a.lo off) (moved a.hi off)
 
-touches_grow : (A C : AbstractState) (first count : ℕ) → IsContainedIn A C → touches C first count ≡ true
-    → touches A first count ≡ true
+touches_grow : (A C : AbstractState) (first count : ℕ) → IsContainedIn A C → touches_written C first count ≡ true
+    → touches_written A first count ≡ true
 touches_grow A C first zero p e = absurd cc
 touches_grow A C first (suc count) p e =
-    elim (or_cases (is_pointer_kind (C.entries (dword_of first))) (touches C (first + 1) count) e) [
+    elim (or_cases (is_pointer_kind (C.entries (dword_of first))) (touches_written C (first + 1) count) e) [
       | inl here ↦ rw (pointer_in (A.entries (dword_of first)) (C.entries (dword_of first))
           (p.entries (dword_of first)) here) refl
-      | inr later ↦ or_right (is_pointer_kind (A.entries (dword_of first))) (touches A (first + 1) count)
+      | inr later ↦ or_right (is_pointer_kind (A.entries (dword_of first))) (touches_written A (first + 1) count)
           (touches_grow A C (first + 1) count p later)
     ]
   where
@@ -378,7 +378,7 @@ beside_grows shape A C a b off count c proper m p f g =
     not_kept A byte proper (written_there shape A C a b off count c m p f g at.low' at.high' byte at.first' at.last' q
     (omega (arith, q, r)))))
 
-part_grows : (shape : Extent) (A C : AbstractState) (k l : Kind) (off : ℤ) (count : ℕ) → IsContainedIn A C → IsProper A
+part_grows : (shape : Extent) (A C : AbstractState) (k l : AbstractValue) (off : ℤ) (count : ℕ) → IsContainedIn A C → IsProper A
     → IsProperKind k → IsKindIn k l → is_unset_kind l ≡ false → may_leave_region shape l off count ≡ false
     → misses_byte C l off count ≡ false → may_take_part shape C l off count ≡ false
     → may_take_part shape A k off count ≡ false
@@ -396,7 +396,7 @@ part_grows shape A C k (Pointer Stack b) off count c proper x (a, is, p) e f g h
           (ap not (whole_grows a b off count m p whole).0)
     ]))
 
-misses_grow : (shape : Extent) (A C : AbstractState) (k l : Kind) (off : ℤ) (count : ℕ) → IsContainedIn A C → IsProper A
+misses_grow : (shape : Extent) (A C : AbstractState) (k l : AbstractValue) (off : ℤ) (count : ℕ) → IsContainedIn A C → IsProper A
     → IsProperKind k → IsKindIn k l → is_unset_kind l ≡ false → may_leave_region shape l off count ≡ false
     → may_take_part shape C l off count ≡ false → misses_byte C l off count ≡ false → misses_byte A k off count ≡ false
 misses_grow shape A C k Unset off count c proper x p e f h g = absurd cc
@@ -413,7 +413,7 @@ misses_grow shape A C k (Pointer Stack b) off count c proper x (a, is, p) e f h 
           let s = stays (region_size shape Stack) (moved b.lo off) (moved b.hi off) count f in
           let first : moved a.lo off ≡ Some s.0 = ap (λ n. moved n off) same.1 ∙ s.2 in
           let last : moved a.hi off ≡ Some s.1 = ap (λ n. moved n off) same.2 ∙ s.3 in
-          let there : touches C s.0 (s.1 + count - s.0) ≡ true =
+          let there : touches_written C s.0 (s.1 + count - s.0) ≡ true =
           sym (ap (λ o. touches_between C o (moved b.hi off) count) s.2
           ∙ ap (λ o. touches_between C (Some s.0) o count) s.3) ∙ some in
           let here : touches_byte A (Pointer Stack a) off count ≡ true =
@@ -423,7 +423,7 @@ misses_grow shape A C k (Pointer Stack b) off count c proper x (a, is, p) e f h 
     ]
 
 -- a pointer that may be kept may be kept where more is known
-keep_grows : (k l m n : Kind) (off : ℤ) (count : ℕ) → IsProperKind k → IsKindIn k l → IsKindIn m n
+keep_grows : (k l m n : AbstractValue) (off : ℤ) (count : ℕ) → IsProperKind k → IsKindIn k l → IsKindIn m n
     → is_unset_kind n ≡ false → (is_pointer_kind n && not (takes_dword l off count)) ≡ false
     → (is_pointer_kind m && not (takes_dword k off count)) ≡ false
 keep_grows k l m Unset off count x p q e f = absurd cc
@@ -528,7 +528,7 @@ helper_registers (Some Recv) = R1 ∷ []
 helper_registers (Some Send) = R1 ∷ R2 ∷ []
 helper_registers (Some Coin) = []
 
-called_registers : (given : Option Helper) → argument_registers (counted given) ≡ helper_registers given
+called_registers : (given : Option Helper) → argument_registers (argument_count_of given) ≡ helper_registers given
 called_registers None = refl
 called_registers (Some Id) = refl
 called_registers (Some Recv) = refl

@@ -2,8 +2,8 @@
 use Rattle.std.proofs.Common.{◌≡◌, Bool, true, false, ◌&&◌, min, max, refl, ap, subst, arith}
 use Rattle.value_range.specs.Span.{Span, IsInside, hull_of}
 use Rattle.node_env.specs.declared.region.Region.TheVariants.{Mem, Stack}
-use Rattle.bpf_verify.specs.declared.kind.Kind.{Kind}
-use Rattle.bpf_verify.specs.declared.kind.Kind.TheVariants.{Unset, Number, Pointer}
+use Rattle.bpf_verify.specs.declared.abstract_value.AbstractValue.{AbstractValue}
+use Rattle.bpf_verify.specs.declared.abstract_value.AbstractValue.TheVariants.{Unset, Number, Pointer}
 use Rattle.bpf_verify.specs.States.{AbstractState, IsKindIn, IsContainedIn, joined_kind, joined_state}
 use Rattle.bpf_verify.proofs.KindLaws.{same_state}
 
@@ -19,19 +19,19 @@ hull_first a b = record { low = omega arith; high = omega arith }
 pub hull_second : (a b : Span) → IsInside b (hull_of a b)
 hull_second a b = record { low = omega arith; high = omega arith }
 
-pub kind_in_itself : (k : Kind) → IsKindIn k k
+pub kind_in_itself : (k : AbstractValue) → IsKindIn k k
 kind_in_itself Unset = tt
 kind_in_itself (Number a) = (a, refl, inside_itself a)
 kind_in_itself (Pointer region a) = (a, refl, inside_itself a)
 
-pub kind_further : (k l m : Kind) → IsKindIn k l → IsKindIn l m → IsKindIn k m
+pub kind_further : (k l m : AbstractValue) → IsKindIn k l → IsKindIn l m → IsKindIn k m
 kind_further k l Unset p q = tt
 kind_further k l (Number c) p (b, e, g) =
     let h = subst (IsKindIn k) e p in (h.0, h.1, inside_further h.0 b c h.2 g)
 kind_further k l (Pointer region c) p (b, e, g) =
     let h = subst (IsKindIn k) e p in (h.0, h.1, inside_further h.0 b c h.2 g)
 
-joined_first_kind : (k l : Kind) → IsKindIn k (joined_kind k l)
+joined_first_kind : (k l : AbstractValue) → IsKindIn k (joined_kind k l)
 joined_first_kind Unset l = tt
 joined_first_kind (Number a) Unset = tt
 joined_first_kind (Number a) (Number b) = (a, refl, hull_first a b)
@@ -43,7 +43,7 @@ joined_first_kind (Pointer Stack a) (Pointer Stack b) = (a, refl, hull_first a b
 joined_first_kind (Pointer Mem a) (Pointer Stack b) = tt
 joined_first_kind (Pointer Stack a) (Pointer Mem b) = tt
 
-joined_second_kind : (k l : Kind) → IsKindIn l (joined_kind k l)
+joined_second_kind : (k l : AbstractValue) → IsKindIn l (joined_kind k l)
 joined_second_kind Unset l = tt
 joined_second_kind (Number a) Unset = tt
 joined_second_kind (Number a) (Number b) = (b, refl, hull_second a b)
@@ -93,7 +93,7 @@ joined_second A C = record {
 hull_within : (a b c : Span) → IsInside a c → IsInside b c → IsInside (hull_of a b) c
 hull_within a b c p q = record { low = omega (arith, p.low, q.low); high = omega (arith, p.high, q.high) }
 
-joined_kind_within : (k l m : Kind) → IsKindIn k m → IsKindIn l m → IsKindIn (joined_kind k l) m
+joined_kind_within : (k l m : AbstractValue) → IsKindIn k m → IsKindIn l m → IsKindIn (joined_kind k l) m
 joined_kind_within k l Unset p q = tt
 joined_kind_within k l (Number c) (a, e, f) (b, g, h) = rw (e, g) (hull_of a b, refl, hull_within a b c f h)
 joined_kind_within k l (Pointer Mem c) (a, e, f) (b, g, h) = rw (e, g) (hull_of a b, refl, hull_within a b c f h)
@@ -115,7 +115,7 @@ hull_either_way a b =
     let high : max a.hi b.hi ≡ max b.hi a.hi = omega arith in
     rw (low, high) refl
 
-joined_kinds_either_way : (k l : Kind) → joined_kind k l ≡ joined_kind l k
+joined_kinds_either_way : (k l : AbstractValue) → joined_kind k l ≡ joined_kind l k
 joined_kinds_either_way Unset Unset = refl
 joined_kinds_either_way Unset (Number b) = refl
 joined_kinds_either_way Unset (Pointer region b) = refl

@@ -1,10 +1,9 @@
 -- What is known after an instruction that keeps the rules (docs/VERIFIER.md, "Outcomes").
 use Rattle.std.specs.Prelude.{ℕ, ◌+◌, ◌-◌, ◌*◌, ◌^◌, min, ◌==◌, Bool, true, false, ◌||◌, ◌&&◌, not, nat_le, nat_lt, Option, Some, None, if◌then◌else◌, ℤ}
 use Rattle.node_env.specs.Env.{Extent}
-use Rattle.node_env.specs.Helpers.{helper_of}
+use Rattle.node_env.specs.Helpers.{helper_of, answer_limit}
 use Rattle.node_env.specs.declared.region.Region.TheVariants.{Mem, Stack}
 use Rattle.node_env.specs.declared.helper.Helper.{Helper}
-use Rattle.node_env.specs.declared.helper.Helper.TheVariants.{Id, Recv, Send, Coin}
 use Rattle.node_env.specs.Dwords.{dword_of}
 use Rattle.bpf_insn.specs.declared.forms.Reg.{Reg}
 use Rattle.bpf_insn.specs.declared.forms.Width.{Width}
@@ -24,25 +23,25 @@ use Rattle.bpf_insn.specs.Operands.{access_bytes}
 use Rattle.value_range.specs.Span.{Span, span, just, full_of, is_single, meet_of}
 use Rattle.value_range.specs.Results.{alu_of, neg_of, movsx_of, swap_of}
 use Rattle.value_range.specs.Conditions.{branch_of}
-use Rattle.bpf_verify.specs.declared.kind.Kind.{Kind}
-use Rattle.bpf_verify.specs.declared.kind.Kind.TheVariants.{Unset, Number, Pointer}
+use Rattle.bpf_verify.specs.declared.abstract_value.AbstractValue.{AbstractValue}
+use Rattle.bpf_verify.specs.declared.abstract_value.AbstractValue.TheVariants.{Unset, Number, Pointer}
 use Rattle.bpf_verify.specs.States.{AbstractState, kind_of}
 use Rattle.bpf_verify.specs.Rules.{operand_kind, is_whole, takes_dword}
 
 -- ---- registers
 
-abbrev pub put_kind : (ℕ → Kind) → ℕ → Kind → ℕ → Kind
+abbrev pub put_kind : (ℕ → AbstractValue) → ℕ → AbstractValue → ℕ → AbstractValue
 put_kind kinds number kind other = if other == number then kind else kinds other
 
-abbrev pub with_kinds : AbstractState → (ℕ → Kind) → AbstractState
+abbrev pub with_kinds : AbstractState → (ℕ → AbstractValue) → AbstractState
 with_kinds A kinds = record A { kinds = kinds }
 
-abbrev pub with_kind : AbstractState → Reg → Kind → AbstractState
+abbrev pub with_kind : AbstractState → Reg → AbstractValue → AbstractState
 with_kind A register kind = with_kinds A (put_kind A.kinds (register_number register) kind)
 
 -- ---- arithmetic
 
-abbrev pub sum_kind : Kind → Kind → Kind
+abbrev pub sum_kind : AbstractValue → AbstractValue → AbstractValue
 sum_kind Unset b = Unset
 sum_kind (Number a) Unset = Unset
 sum_kind (Number a) (Number b) = Number (alu_of Add W64 a b)
@@ -51,7 +50,7 @@ sum_kind (Pointer region a) Unset = Unset
 sum_kind (Pointer region a) (Number b) = Pointer region (alu_of Add W64 a b)
 sum_kind (Pointer region a) (Pointer other b) = Unset
 
-abbrev pub difference_kind : Kind → Kind → Kind
+abbrev pub difference_kind : AbstractValue → AbstractValue → AbstractValue
 difference_kind Unset b = Unset
 difference_kind (Number a) Unset = Unset
 difference_kind (Number a) (Number b) = Number (alu_of Sub W64 a b)
@@ -60,18 +59,18 @@ difference_kind (Pointer region a) Unset = Unset
 difference_kind (Pointer region a) (Number b) = Pointer region (alu_of Sub W64 a b)
 difference_kind (Pointer region a) (Pointer other b) = Unset
 
-abbrev pub of_number_kind : (Span → Span) → Kind → Kind
+abbrev pub of_number_kind : (Span → Span) → AbstractValue → AbstractValue
 of_number_kind result Unset = Unset
 of_number_kind result (Number a) = Number (result a)
 of_number_kind result (Pointer region a) = Unset
 
-abbrev pub of_number_kinds : (Span → Span → Span) → Kind → Kind → Kind
+abbrev pub of_number_kinds : (Span → Span → Span) → AbstractValue → AbstractValue → AbstractValue
 of_number_kinds result Unset b = Unset
 of_number_kinds result (Number a) b = of_number_kind (result a) b
 of_number_kinds result (Pointer region a) b = Unset
 
 -- of a move the first operand is taken equal to the second; one of 64 bits copies a kind
-abbrev pub alu_kind : AluOp → Width → Kind → Kind → Kind
+abbrev pub alu_kind : AluOp → Width → AbstractValue → AbstractValue → AbstractValue
 alu_kind Mov W64 a b = b
 alu_kind Mov W32 a b = of_number_kind (λ n. alu_of Mov W32 n n) b
 alu_kind Add W64 a b = sum_kind a b
@@ -88,23 +87,23 @@ abbrev pub of_bytes : ℕ → Span → Span
 of_bytes count a = span (min a.lo (2 ^ (8 * count) - 1)) (min a.hi (2 ^ (8 * count) - 1))
 
 -- what this many bytes hold, by what is known of their double word
-abbrev pub or_full : Kind → ℕ → Kind
+abbrev pub or_full : AbstractValue → ℕ → AbstractValue
 or_full Unset count = Number (full_of (8 * count))
 or_full (Number a) count = Number (of_bytes count a)
 or_full (Pointer region a) count = Pointer region a
 
-abbrev pub entry_at : AbstractState → Option ℕ → ℕ → Kind
+abbrev pub entry_at : AbstractState → Option ℕ → ℕ → AbstractValue
 entry_at A None count = Number (full_of (8 * count))
 entry_at A (Some first) count = or_full (A.entries (dword_of first)) count
 
-abbrev pub lowest_place : Kind → ℤ → Option ℕ
+abbrev pub lowest_place : AbstractValue → ℤ → Option ℕ
 lowest_place Unset off = None
 lowest_place (Number a) off = None
 lowest_place (Pointer region a) off = moved a.lo off
 
 -- what a load of this many bytes gives, by a pointer of a kind: what is known of the double word that it takes whole,
 -- or any number
-abbrev pub loaded_kind : AbstractState → Kind → ℤ → ℕ → Kind
+abbrev pub loaded_kind : AbstractState → AbstractValue → ℤ → ℕ → AbstractValue
 loaded_kind A base off count = if takes_dword base off count then entry_at A (lowest_place base off) count
     else Number (full_of (8 * count))
 
@@ -120,13 +119,13 @@ with_written A None count = A
 with_written A (Some first) count = record A { written = put_written A.written first count }
 
 -- the bytes surely written after a store of 8 bytes from `first` on: these too for a number, without these otherwise
-abbrev pub entry_written : Kind → (ℕ → Bool) → ℕ → ℕ → Bool
+abbrev pub entry_written : AbstractValue → (ℕ → Bool) → ℕ → ℕ → Bool
 entry_written Unset written first byte = not (is_between first (first + 8) byte) && written byte
 entry_written (Number a) written first byte = is_between first (first + 8) byte || written byte
 entry_written (Pointer region a) written first byte = not (is_between first (first + 8) byte) && written byte
 
 -- a double word holds a value
-abbrev pub with_entry : AbstractState → Option ℕ → Kind → AbstractState
+abbrev pub with_entry : AbstractState → Option ℕ → AbstractValue → AbstractState
 with_entry A None value = A
 with_entry A (Some first) value = record A {
   written = entry_written value A.written first;
@@ -134,11 +133,11 @@ with_entry A (Some first) value = record A {
 }
 
 -- nothing is known any more of the double words of the bytes from first on, before end
-abbrev pub cleared : (ℕ → Kind) → ℕ → ℕ → ℕ → Kind
+abbrev pub cleared : (ℕ → AbstractValue) → ℕ → ℕ → ℕ → AbstractValue
 cleared entries first end dword =
     if is_between (dword_of first) (dword_of (end + 7)) dword then Unset else entries dword
 
-abbrev pub with_entries : AbstractState → (ℕ → Kind) → AbstractState
+abbrev pub with_entries : AbstractState → (ℕ → AbstractValue) → AbstractState
 with_entries A entries = record A { entries = entries }
 
 abbrev pub with_cleared : AbstractState → Option ℕ → Option ℕ → ℕ → AbstractState
@@ -147,7 +146,7 @@ with_cleared A first last count = A
 
 -- a store of one whole double word sets its kind; any other store unsets the double words that it may touch, and writes
 -- its bytes if its place is one known offset
-abbrev pub stored_at : AbstractState → Kind → ℤ → ℕ → Kind → AbstractState
+abbrev pub stored_at : AbstractState → AbstractValue → ℤ → ℕ → AbstractValue → AbstractState
 stored_at A Unset off count value = A
 stored_at A (Number a) off count value = A
 stored_at A (Pointer Mem a) off count value = A
@@ -176,7 +175,7 @@ refined_by A dst (operand.Reg register) (Some pair) =
     then with_meet A dst (meet_of pair.0 pair.1)
     else Some (with_kind (with_kind A dst (Number pair.0)) register (Number pair.1))
 
-abbrev pub branch_outcome : AbstractState → Cond → Width → Reg → Operand → Bool → Kind → Kind → Option AbstractState
+abbrev pub branch_outcome : AbstractState → Cond → Width → Reg → Operand → Bool → AbstractValue → AbstractValue → Option AbstractState
 branch_outcome A cond width dst src taken Unset b = None
 branch_outcome A cond width dst src taken (Pointer region a) b = None
 branch_outcome A cond width dst src taken (Number a) Unset = None
@@ -190,15 +189,12 @@ way_outcome A cond width dst src taken =
 
 -- ---- calls
 
-abbrev pub answer_kind : Extent → Option Helper → Kind
+abbrev pub answer_kind : Extent → Option Helper → AbstractValue
 answer_kind shape None = Unset
-answer_kind shape (Some Id) = Number (span 0 (shape.nodes - 1))
-answer_kind shape (Some Recv) = Number (full_of 32)
-answer_kind shape (Some Send) = Number (just 0)
-answer_kind shape (Some Coin) = Number (span 0 1)
+answer_kind shape (Some helper) = Number (span 0 (answer_limit shape.nodes helper - 1))
 
 -- r0 has the answer, and r1 to r5 are unset
-abbrev pub called_kinds : Kind → (ℕ → Kind) → ℕ → Kind
+abbrev pub called_kinds : AbstractValue → (ℕ → AbstractValue) → ℕ → AbstractValue
 called_kinds answer kinds number = if nat_le number 5 then (if number == 0 then answer else Unset) else kinds number
 
 abbrev pub call_outcome : Extent → Option Helper → AbstractState → AbstractState

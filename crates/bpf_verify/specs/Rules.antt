@@ -3,11 +3,10 @@ use Rattle.std.specs.Prelude.{◌≡◌, codes, ℕ, ◌+◌, ◌-◌, ◌%◌, 
 use Rattle.std.specs.Int.{w64, cast_unsigned}
 use Rattle.std.specs.List.{list_any, find, range_with_len}
 use Rattle.node_env.specs.Env.{Extent, region_size}
-use Rattle.node_env.specs.Helpers.{helper_of, arguments_of}
+use Rattle.node_env.specs.Helpers.{helper_of, arguments_of, argument_limits}
 use Rattle.node_env.specs.declared.region.Region.{Region}
 use Rattle.node_env.specs.declared.region.Region.TheVariants.{Mem, Stack}
 use Rattle.node_env.specs.declared.helper.Helper.{Helper}
-use Rattle.node_env.specs.declared.helper.Helper.TheVariants.{Id, Recv, Send, Coin}
 use Rattle.node_env.specs.Dwords.{dword_of, is_aligned}
 use Rattle.bpf_insn.specs.declared.forms.Reg.{Reg}
 use Rattle.bpf_insn.specs.declared.forms.Reg.TheVariants.{R0, R1, R2}
@@ -27,8 +26,8 @@ use Rattle.bpf_insn.specs.declared.operands.Access.{Access}
 use Rattle.bpf_insn.specs.Operands.{access_bytes, sx_access_bytes, reads, written_by, is_frame_pointer, load_of, store_of, call_of, is_exit}
 use Rattle.value_range.specs.Span.{Span, just, is_single}
 use Rattle.value_range.specs.Results.{alu_of}
-use Rattle.bpf_verify.specs.declared.kind.Kind.{Kind}
-use Rattle.bpf_verify.specs.declared.kind.Kind.TheVariants.{Unset, Number, Pointer}
+use Rattle.bpf_verify.specs.declared.abstract_value.AbstractValue.{AbstractValue}
+use Rattle.bpf_verify.specs.declared.abstract_value.AbstractValue.TheVariants.{Unset, Number, Pointer}
 use Rattle.bpf_verify.specs.declared.rule.Rule.{Rule}
 use Rattle.bpf_verify.specs.declared.rule.Rule.TheVariants.{NotForward, BadTarget, UnknownHelper, UnsetRegister, FrameWrite, PointerMisuse, OutOfRegion, UnsetStackByte, BadArgument, ExitNotNumber, NotPointer}
 use Rattle.bpf_verify.specs.States.{AbstractState, kind_of}
@@ -37,7 +36,7 @@ pub use Rattle.bpf_verify.specs.States.{is_unset_kind, is_pointer_kind, is_numbe
 -- ---- kinds
 
 -- an immediate is one number of the width's bits, its sign extended
-abbrev pub operand_kind : Width → Operand → AbstractState → Kind
+abbrev pub operand_kind : Width → Operand → AbstractState → AbstractValue
 operand_kind width (operand.Imm imm) A = Number (just (cast_unsigned w64 imm % 2 ^ bits_of width))
 operand_kind width (operand.Reg register) A = kind_of A register
 
@@ -88,7 +87,7 @@ abbrev pub passes : Extent → Region → Span → Bool
 passes shape region a = nat_lt (region_size shape region) a.hi
 
 -- true if two pointers are added, or the sum of a pointer and a number may leave the pointer's region
-abbrev pub misuses_sum : Extent → Kind → Kind → Bool
+abbrev pub misuses_sum : Extent → AbstractValue → AbstractValue → Bool
 misuses_sum shape Unset b = false
 misuses_sum shape (Number a) Unset = false
 misuses_sum shape (Number a) (Number b) = false
@@ -98,7 +97,7 @@ misuses_sum shape (Pointer region a) (Number b) = passes shape region (alu_of Ad
 misuses_sum shape (Pointer region a) (Pointer other b) = true
 
 -- true if a pointer is subtracted, or a pointer less a number may leave its region
-abbrev pub misuses_difference : Extent → Kind → Kind → Bool
+abbrev pub misuses_difference : Extent → AbstractValue → AbstractValue → Bool
 misuses_difference shape a Unset = false
 misuses_difference shape Unset (Number b) = false
 misuses_difference shape (Number a) (Number b) = false
@@ -107,7 +106,7 @@ misuses_difference shape a (Pointer region b) = true
 
 -- true if the operation misuses a pointer: a move of 64 bits copies one, add64 and sub64 may move one, every other
 -- operation takes numbers
-abbrev pub misuses_operands : Extent → AluOp → Width → Kind → Kind → Bool
+abbrev pub misuses_operands : Extent → AluOp → Width → AbstractValue → AbstractValue → Bool
 misuses_operands shape Mov W64 a b = false
 misuses_operands shape Mov W32 a b = is_pointer_kind b
 misuses_operands shape Add W64 a b = misuses_sum shape a b
@@ -119,21 +118,21 @@ abbrev pub is_whole : Span → ℤ → ℕ → Bool
 is_whole a off count = is_single a && (count == 8 && is_aligned (pos a.lo +ℤ off))
 
 -- an access by a pointer of this kind takes one known double word of the stack whole
-abbrev pub takes_dword : Kind → ℤ → ℕ → Bool
+abbrev pub takes_dword : AbstractValue → ℤ → ℕ → Bool
 takes_dword Unset off count = false
 takes_dword (Number a) off count = false
 takes_dword (Pointer Mem a) off count = false
 takes_dword (Pointer Stack a) off count = is_whole a off count
 
 -- one of this many bytes from a place on is of a kept pointer
-abbrev pub touches : AbstractState → ℕ → ℕ → Bool
-touches A place count = list_any (λ byte. is_pointer_kind (A.entries (dword_of byte))) (range_with_len place count)
+abbrev pub touches_written : AbstractState → ℕ → ℕ → Bool
+touches_written A place count = list_any (λ byte. is_pointer_kind (A.entries (dword_of byte))) (range_with_len place count)
 
 abbrev pub touches_between : AbstractState → Option ℕ → Option ℕ → ℕ → Bool
-touches_between A (Some first) (Some last) count = touches A first (last + count - first)
+touches_between A (Some first) (Some last) count = touches_written A first (last + count - first)
 touches_between A first last count = false
 
-abbrev pub touches_byte : AbstractState → Kind → ℤ → ℕ → Bool
+abbrev pub touches_byte : AbstractState → AbstractValue → ℤ → ℕ → Bool
 touches_byte A Unset off count = false
 touches_byte A (Number a) off count = false
 touches_byte A (Pointer Mem a) off count = false
@@ -144,14 +143,14 @@ abbrev pub may_leave : ℕ → Option ℕ → Option ℕ → ℕ → Bool
 may_leave size (Some first) (Some last) count = nat_lt size (last + count)
 may_leave size first last count = true
 
-abbrev pub may_leave_region : Extent → Kind → ℤ → ℕ → Bool
+abbrev pub may_leave_region : Extent → AbstractValue → ℤ → ℕ → Bool
 may_leave_region shape Unset off count = false
 may_leave_region shape (Number a) off count = false
 may_leave_region shape (Pointer region a) off count =
     may_leave (region_size shape region) (moved a.lo off) (moved a.hi off) count
 
 -- a load inside the stack may take a byte of a kept pointer, and doesn't take it back
-abbrev pub may_take_part : Extent → AbstractState → Kind → ℤ → ℕ → Bool
+abbrev pub may_take_part : Extent → AbstractState → AbstractValue → ℤ → ℕ → Bool
 may_take_part shape A kind off count =
     not (may_leave_region shape kind off count) && (touches_byte A kind off count && not (takes_dword kind off count))
 
@@ -178,7 +177,7 @@ may_misuse_pointer shape (i.LoadImm64 dst value) A = false
 -- ---- 7, out of region: an access may take a byte below the region or past its end
 
 -- what is asked of an access' base
-abbrev pub on_base : (Kind → ℤ → ℕ → Bool) → AbstractState → Option Access → Bool
+abbrev pub on_base : (AbstractValue → ℤ → ℕ → Bool) → AbstractState → Option Access → Bool
 on_base asked A None = false
 on_base asked A (Some access) = asked (kind_of A access.base) access.off access.count
 
@@ -196,31 +195,34 @@ abbrev pub lacks_between : AbstractState → Option ℕ → Option ℕ → ℕ �
 lacks_between A (Some first) (Some last) count = lacks A first (last + count - first)
 lacks_between A first last count = false
 
-abbrev pub lacks_byte : AbstractState → Kind → ℤ → ℕ → Bool
+abbrev pub lacks_byte : AbstractState → AbstractValue → ℤ → ℕ → Bool
 lacks_byte A Unset off count = false
 lacks_byte A (Number a) off count = false
 lacks_byte A (Pointer Mem a) off count = false
 lacks_byte A (Pointer Stack a) off count = lacks_between A (moved a.lo off) (moved a.hi off) count
 
-abbrev pub misses_byte : AbstractState → Kind → ℤ → ℕ → Bool
+abbrev pub misses_byte : AbstractState → AbstractValue → ℤ → ℕ → Bool
 misses_byte A kind off count = lacks_byte A kind off count && not (touches_byte A kind off count)
 
 abbrev pub loads_unset : Insn → AbstractState → Bool
 loads_unset insn A = on_base (misses_byte A) A (load_of insn)
 
--- ---- 9, bad argument: r1 of recv and send, and r2 of send
+-- ---- 9, bad argument: a register that the helper reads may reach its limit
 
-abbrev pub may_reach : ℕ → Kind → Bool
+abbrev pub may_reach : ℕ → AbstractValue → Bool
 may_reach limit Unset = false
 may_reach limit (Number a) = not (nat_lt a.hi limit)
 may_reach limit (Pointer region a) = true
 
+-- r1 or r2 may reach its limit
+abbrev pub some_may_reach : List ℕ → AbstractState → Bool
+some_may_reach [] A = false
+some_may_reach (first ∷ []) A = may_reach first (kind_of A R1)
+some_may_reach (first ∷ second ∷ more) A = may_reach first (kind_of A R1) || may_reach second (kind_of A R2)
+
 abbrev pub helper_may_refuse : Extent → Option Helper → AbstractState → Bool
 helper_may_refuse shape None A = false
-helper_may_refuse shape (Some Id) A = false
-helper_may_refuse shape (Some Recv) A = may_reach shape.nodes (kind_of A R1)
-helper_may_refuse shape (Some Send) A = may_reach shape.nodes (kind_of A R1) || may_reach (2 ^ 32) (kind_of A R2)
-helper_may_refuse shape (Some Coin) A = false
+helper_may_refuse shape (Some helper) A = some_may_reach (argument_limits shape.nodes helper) A
 
 abbrev pub call_may_refuse : Extent → Option ℤ → AbstractState → Bool
 call_may_refuse shape None A = false
@@ -234,7 +236,7 @@ misses_argument shape insn A = call_may_refuse shape (call_of insn) A
 abbrev pub may_exit_with_pointer : Insn → AbstractState → Bool
 may_exit_with_pointer insn A = is_exit insn && is_pointer_kind (kind_of A R0)
 
-abbrev pub is_number_base : Kind → ℤ → ℕ → Bool
+abbrev pub is_number_base : AbstractValue → ℤ → ℕ → Bool
 is_number_base kind off count = is_number_kind kind
 
 abbrev pub accesses_number : Insn → AbstractState → Bool

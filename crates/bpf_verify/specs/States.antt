@@ -8,34 +8,34 @@ use Rattle.node_env.specs.Dwords.{dword_of}
 use Rattle.bpf_insn.specs.declared.forms.Reg.{Reg}
 use Rattle.bpf_insn.specs.Registers.{register_number}
 use Rattle.value_range.specs.Span.{Span, span, just, IsInside, HasMembers, hull_of}
-use Rattle.bpf_verify.specs.declared.kind.Kind.{Kind}
-use Rattle.bpf_verify.specs.declared.kind.Kind.TheVariants.{Unset, Number, Pointer}
+use Rattle.bpf_verify.specs.declared.abstract_value.AbstractValue.{AbstractValue}
+use Rattle.bpf_verify.specs.declared.abstract_value.AbstractValue.TheVariants.{Unset, Number, Pointer}
 
 -- what is known of each register, by its number, the stack bytes that are surely written, and what is known of each
 -- double word of the stack, by its number: that its bytes spell a number of the range, or that it keeps a pointer
 pub record AbstractState : Type 0 where
-  pub kinds : ℕ → Kind
+  pub kinds : ℕ → AbstractValue
   pub written : ℕ → Bool
-  pub entries : ℕ → Kind
+  pub entries : ℕ → AbstractValue
 
-abbrev pub kind_of : AbstractState → Reg → Kind
+abbrev pub kind_of : AbstractState → Reg → AbstractValue
 kind_of A register = A.kinds (register_number register)
 
 -- an abstract state from its three parts
-abbrev pub abstract_state : (ℕ → Kind) → (ℕ → Bool) → (ℕ → Kind) → AbstractState
+abbrev pub abstract_state : (ℕ → AbstractValue) → (ℕ → Bool) → (ℕ → AbstractValue) → AbstractState
 abstract_state kinds written entries = record { kinds = kinds; written = written; entries = entries }
 
-abbrev pub is_unset_kind : Kind → Bool
+abbrev pub is_unset_kind : AbstractValue → Bool
 is_unset_kind Unset = true
 is_unset_kind (Number a) = false
 is_unset_kind (Pointer region a) = false
 
-abbrev pub is_pointer_kind : Kind → Bool
+abbrev pub is_pointer_kind : AbstractValue → Bool
 is_pointer_kind Unset = false
 is_pointer_kind (Number a) = false
 is_pointer_kind (Pointer region a) = true
 
-abbrev pub is_number_kind : Kind → Bool
+abbrev pub is_number_kind : AbstractValue → Bool
 is_number_kind Unset = false
 is_number_kind (Number a) = true
 is_number_kind (Pointer region a) = false
@@ -43,7 +43,7 @@ is_number_kind (Pointer region a) = false
 -- ---- containment
 
 -- a kind that says as much or more: Unset says nothing
-abbrev pub IsKindIn : Kind → Kind → Type 0
+abbrev pub IsKindIn : AbstractValue → AbstractValue → Type 0
 IsKindIn k Unset = Unit {0}
 IsKindIn k (Number b) = (a : Span) × (k ≡ Number a) × IsInside a b
 IsKindIn k (Pointer region b) = (a : Span) × (k ≡ Pointer region a) × IsInside a b
@@ -55,7 +55,7 @@ pub record IsContainedIn (A C : AbstractState) : Type 0 where
   pub entries : (dword : ℕ) → IsKindIn (A.entries dword) (C.entries dword)
 
 -- each range has members
-abbrev pub IsProperKind : Kind → Type 0
+abbrev pub IsProperKind : AbstractValue → Type 0
 IsProperKind Unset = Unit {0}
 IsProperKind (Number a) = HasMembers a
 IsProperKind (Pointer region a) = HasMembers a
@@ -69,14 +69,14 @@ pub record IsProper (A : AbstractState) : Type 0 where
 
 -- ---- where edges meet
 
-abbrev pub in_region : Region → Region → Span → Kind
+abbrev pub in_region : Region → Region → Span → AbstractValue
 in_region Mem Mem a = Pointer Mem a
 in_region Stack Stack a = Pointer Stack a
 in_region Mem Stack a = Unset
 in_region Stack Mem a = Unset
 
 -- two numbers, or two pointers into one region, give the hull of their ranges; any other pair gives Unset
-abbrev pub joined_kind : Kind → Kind → Kind
+abbrev pub joined_kind : AbstractValue → AbstractValue → AbstractValue
 joined_kind Unset b = Unset
 joined_kind (Number a) Unset = Unset
 joined_kind (Number a) (Number b) = Number (hull_of a b)
@@ -94,11 +94,11 @@ joined_state A C =
 -- ---- entry
 
 -- the stack grows down from its end
-abbrev pub stack_base : Kind
+abbrev pub stack_base : AbstractValue
 stack_base = Pointer Stack (just STACK_BYTES)
 
 -- r1 points at the node's memory, r2 is the node's number, r10 is the stack's base
-abbrev pub entry_kinds : Extent → ℕ → Kind
+abbrev pub entry_kinds : Extent → ℕ → AbstractValue
 entry_kinds shape number =
     if number == 1 then Pointer Mem (just 0)
     else if number == 2 then Number (span 0 (shape.nodes - 1))

@@ -1,17 +1,15 @@
 //! What the verifier finds out about a program: the verdict, and what is known at each slot up to it. The walk is that
-//! of [`crate::judge`], and keeps what it knew.
+//! of [`crate::check`], and keeps what it knew.
 
 ghost use Rattle.std.specs.Prelude.{◌≡◌, ℕ, ◌+◌, ◌<◌, Some, IfOk, OnOk, vec_len};
 ghost use Rattle.bpf_insn.specs.Programs.{insn_at, slots_of};
-ghost use Rattle.bpf_verify.specs.inner.Walk.{come_of, table_of, met_state, with_row, rows_after, front_after, Keeps, IsStep};
-ghost use Rattle.bpf_verify.specs.Rules.{KeepsRules, lowest_broken};
+ghost use Rattle.bpf_verify.specs.inner.Walk.{come_of, table_of, met_state, with_row, Keeps, IsStep};
 ghost use Rattle.bpf_verify.specs.Findings.{AreFindings};
 
-use crate::known::Known;
+use crate::abstract_state::AbstractState;
 use crate::longest::longest;
 use crate::rule::Rule;
-use crate::rules::{broken_reached, broken_unreached};
-use crate::walk::{Front, Rows, jump, no_rows};
+use crate::walk::{Front, Rows, broken, no_rows, send};
 use bpf_insn::{Insn, Program};
 use node_env::Shape;
 use std::alloc::{AllocError, Global};
@@ -44,7 +42,7 @@ impl Findings {
     }
 
     /// Returns what is known at a slot; none if no path reaches it.
-    pub fn known_at(&self, slot: u32) -> Option<&Known>
+    pub fn known_at(&self, slot: u32) -> Option<&AbstractState>
         ensures { option_map (λ known. abstract_of known.now) result ≡ table_in self.now slot }
     {
         match self.states.get(slot as usize) {
@@ -63,48 +61,12 @@ fn settle(alloc: Global, rows: &mut Rows, slot: usize, front: &mut Front) -> Res
         ≡ with_row (table_of rows.old.items) slot (come_of front.new) other) }
 {
     let row = rows[slot].take();
-    front.meet(row);
+    front.join_incoming(row);
     if front.reached {
         let known = front.known.copied(alloc)?;
         rows[slot] = Some(Box::new(alloc, known)?);
     }
     Ok(())
-}
-
-/// The lowest rule that an instruction breaks.
-fn broken(program: &Program, shape: Shape, slot: u32, insn: &Insn, front: &Front) -> Option<Rule>
-    requires { insn_at program.now slot ≡ Some insn.now }
-    ensures { result ≡ lowest_broken program.now shape slot insn.now (come_of front.now) }
-{
-    if front.reached {
-        broken_reached(program, shape, slot, insn, &front.known)
-    } else {
-        broken_unreached(program, shape, slot, insn)
-    }
-}
-
-/// Sends on what is known after an instruction that keeps the rules.
-fn send(
-    alloc: Global,
-    program: &Program,
-    shape: Shape,
-    rows: &mut Rows,
-    slot: u32,
-    insn: &Insn,
-    front: &mut Front,
-) -> Result<(), AllocError>
-    requires kept { KeepsRules program.now shape slot insn.now (come_of front.old) }
-    requires long { vec_len rows.old ≡ slots_of program.now }
-    ensures long { vec_len rows.new ≡ vec_len rows.old }
-    ensures rows { OnOk result ((other : ℕ) → table_of rows.new.items other
-        ≡ rows_after shape insn.now slot (come_of front.old) (table_of rows.old.items) other) }
-    ensures front { OnOk result (come_of front.new ≡ front_after shape insn.now slot (come_of front.old)) }
-{
-    if !front.reached {
-        return Ok(());
-    }
-    jump(alloc, shape, rows, slot, insn, &front.known)?;
-    front.go_on(alloc, shape, slot, insn)
 }
 
 /// Takes the instruction at a slot into the walk, unless it breaks a rule.
@@ -133,13 +95,13 @@ fn step(
     }
 }
 
-/// Returns the verdict of [`crate::judge`], and what is known at each slot up to the one that is refused.
+/// Returns the verdict of [`crate::check`], and what is known at each slot up to the one that is refused.
 pub fn explain(alloc: Global, program: &Program, shape: Shape) -> Result<Findings, AllocError>
     ensures { IfOk result (AreFindings program.now shape) }
 {
     let mut states = no_rows(alloc, program.slot_count() as usize)?;
     let mut front = Front {
-        known: Known::entry(shape),
+        known: AbstractState::entry(shape),
         reached: true,
     };
     let mut slot = 0;

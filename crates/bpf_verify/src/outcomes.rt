@@ -14,71 +14,80 @@ ghost use Rattle.bpf_insn.specs.declared.forms.Operand.TheVariants as operand;
 ghost use Rattle.bpf_insn.specs.declared.forms.Width.TheVariants.{W64};
 ghost use Rattle.node_env.specs.declared.region.Region.TheVariants.{Stack};
 
-use crate::kind::Kind;
-use crate::known::{Known, below, up_to};
+use crate::abstract_state::{AbstractState, below, up_to};
+use crate::abstract_value::AbstractValue;
 use crate::rules::{bytes_taken, is_whole, operand_kind, takes_dword};
 use bpf_insn::{AluOp, Cond, Insn, MovsxKind, Operand, Order, Reg, Size, SwapBits, Way, Width};
 use node_env::{Helper, Region, STACK_BYTES, Shape};
 use std::alloc::{AllocError, Global};
 use value_range::{Range, alu, branch, meet, movsx, neg, swap};
 
-fn sum(a: Kind, b: Kind) -> Kind
+fn sum(a: AbstractValue, b: AbstractValue) -> AbstractValue
     ensures { result ≡ outcomes.sum_kind a b }
 {
     match a {
-        Kind::Unset => Kind::Unset,
-        Kind::Number(x) => match b {
-            Kind::Unset => Kind::Unset,
-            Kind::Number(y) => Kind::Number(alu(AluOp::Add, Width::W64, x, y)),
-            Kind::Pointer(region, y) => Kind::Pointer(region, alu(AluOp::Add, Width::W64, x, y)),
+        AbstractValue::Unset => AbstractValue::Unset,
+        AbstractValue::Number(x) => match b {
+            AbstractValue::Unset => AbstractValue::Unset,
+            AbstractValue::Number(y) => AbstractValue::Number(alu(AluOp::Add, Width::W64, x, y)),
+            AbstractValue::Pointer(region, y) => AbstractValue::Pointer(
+                region,
+                alu(AluOp::Add, Width::W64, x, y),
+            ),
         },
-        Kind::Pointer(region, x) => match b {
-            Kind::Unset | Kind::Pointer(..) => Kind::Unset,
-            Kind::Number(y) => Kind::Pointer(region, alu(AluOp::Add, Width::W64, x, y)),
+        AbstractValue::Pointer(region, x) => match b {
+            AbstractValue::Unset | AbstractValue::Pointer(..) => AbstractValue::Unset,
+            AbstractValue::Number(y) => AbstractValue::Pointer(
+                region,
+                alu(AluOp::Add, Width::W64, x, y),
+            ),
         },
     }
 }
 
-fn difference(a: Kind, b: Kind) -> Kind
+fn difference(a: AbstractValue, b: AbstractValue) -> AbstractValue
     ensures { result ≡ outcomes.difference_kind a b }
 {
     match b {
-        Kind::Unset | Kind::Pointer(..) => Kind::Unset,
-        Kind::Number(y) => match a {
-            Kind::Unset => Kind::Unset,
-            Kind::Number(x) => Kind::Number(alu(AluOp::Sub, Width::W64, x, y)),
-            Kind::Pointer(region, x) => Kind::Pointer(region, alu(AluOp::Sub, Width::W64, x, y)),
+        AbstractValue::Unset | AbstractValue::Pointer(..) => AbstractValue::Unset,
+        AbstractValue::Number(y) => match a {
+            AbstractValue::Unset => AbstractValue::Unset,
+            AbstractValue::Number(x) => AbstractValue::Number(alu(AluOp::Sub, Width::W64, x, y)),
+            AbstractValue::Pointer(region, x) => AbstractValue::Pointer(
+                region,
+                alu(AluOp::Sub, Width::W64, x, y),
+            ),
         },
     }
 }
 
-fn of_numbers(op: AluOp, width: Width, a: Kind, b: Kind) -> Kind
+fn of_numbers(op: AluOp, width: Width, a: AbstractValue, b: AbstractValue) -> AbstractValue
     ensures { result ≡ outcomes.of_number_kinds (alu_of op width) a b }
 {
     match a {
-        Kind::Unset | Kind::Pointer(..) => Kind::Unset,
-        Kind::Number(x) => match b {
-            Kind::Unset | Kind::Pointer(..) => Kind::Unset,
-            Kind::Number(y) => Kind::Number(alu(op, width, x, y)),
+        AbstractValue::Unset | AbstractValue::Pointer(..) => AbstractValue::Unset,
+        AbstractValue::Number(x) => match b {
+            AbstractValue::Unset | AbstractValue::Pointer(..) => AbstractValue::Unset,
+            AbstractValue::Number(y) => AbstractValue::Number(alu(op, width, x, y)),
         },
     }
 }
 
 /// What a move copies.
-fn moved_kind(width: Width, b: Kind) -> Kind
-    ensures { (a : Kind) → result ≡ outcomes.alu_kind AluOp.Mov width a b }
+fn moved_kind(width: Width, b: AbstractValue) -> AbstractValue
+    ensures { (a : AbstractValue) → result ≡ outcomes.alu_kind AluOp.Mov width a b }
 {
     match width {
         Width::W64 => b,
         Width::W32 => match b {
-            Kind::Unset | Kind::Pointer(..) => Kind::Unset,
-            Kind::Number(y) => Kind::Number(alu(AluOp::Mov, Width::W32, y, y)),
+            AbstractValue::Unset | AbstractValue::Pointer(..) => AbstractValue::Unset,
+            AbstractValue::Number(y) => AbstractValue::Number(alu(AluOp::Mov, Width::W32, y, y)),
         },
     }
 }
 
 /// Returns what is known of the result of an operation.
-pub fn alu_kind(op: AluOp, width: Width, a: Kind, b: Kind) -> Kind
+pub fn alu_kind(op: AluOp, width: Width, a: AbstractValue, b: AbstractValue) -> AbstractValue
     ensures { result ≡ outcomes.alu_kind op width a b }
 {
     match op {
@@ -118,63 +127,75 @@ fn loaded(size: Size) -> Range
 }
 
 /// What eight bytes hold, by what is known of their double word.
-fn or_full(kind: Kind) -> Kind
+fn or_full(kind: AbstractValue) -> AbstractValue
     ensures { result ≡ outcomes.or_full kind 8 }
 {
     match kind {
-        Kind::Unset => Kind::Number(Range::full(Width::W64)),
-        Kind::Number(a) => {
+        AbstractValue::Unset => AbstractValue::Number(Range::full(Width::W64)),
+        AbstractValue::Number(a) => {
             let (_least, _greatest) = (a.lo(), a.hi());
-            Kind::Number(a)
+            AbstractValue::Number(a)
         }
-        Kind::Pointer(region, a) => Kind::Pointer(region, a),
+        AbstractValue::Pointer(region, a) => AbstractValue::Pointer(region, a),
     }
 }
 
 /// What a load by a pointer gives.
 #[inline(always)]
 #[tactic(auto, using(crate::proofs::RuleLaws::nothing_held))]
-fn loaded_kind(shape: Shape, known: &Known, base: Reg, off: i16, size: Size) -> Kind
+fn loaded_kind(
+    shape: Shape,
+    known: &AbstractState,
+    base: Reg,
+    off: i16,
+    size: Size,
+) -> AbstractValue
     requires { may_leave_region shape (kind_of (abstract_of known.now) base) off (access_bytes size) ≡ false }
     ensures { result ≡ outcomes.loaded_kind (abstract_of known.now) (kind_of (abstract_of known.now) base) off
         (access_bytes size) }
 {
     if known.holds_none() || !takes_dword(known.kind(base), off, size.bytes()) {
-        return Kind::Number(loaded(size));
+        return AbstractValue::Number(loaded(size));
     }
     match known.kind(base) {
-        Kind::Unset | Kind::Number(_) => Kind::Number(loaded(size)),
-        Kind::Pointer(region, a) => match bytes_taken(shape, region, a, off, size.bytes()) {
+        AbstractValue::Unset | AbstractValue::Number(_) => AbstractValue::Number(loaded(size)),
+        AbstractValue::Pointer(region, a) => match bytes_taken(
+            shape,
+            region,
+            a,
+            off,
+            size.bytes(),
+        ) {
             Some((first, _end)) => or_full(known.entry_of(first)),
             None => unreachable!(),
         },
     }
 }
 
-fn answer(shape: Shape, helper: Option<Helper>) -> Kind
+fn answer(shape: Shape, helper: Option<Helper>) -> AbstractValue
     ensures { result ≡ outcomes.answer_kind shape helper }
 {
     match helper {
-        None => Kind::Unset,
+        None => AbstractValue::Unset,
         Some(called) => match called {
-            Helper::Id => Kind::Number(below(shape.nodes())),
-            Helper::Recv => Kind::Number(Range::full(Width::W32)),
-            Helper::Send => Kind::Number(Range::single(0)),
-            Helper::Coin => Kind::Number(up_to(1)),
+            Helper::Id => AbstractValue::Number(below(shape.nodes())),
+            Helper::Recv => AbstractValue::Number(Range::full(Width::W32)),
+            Helper::Send => AbstractValue::Number(Range::single(0)),
+            Helper::Coin => AbstractValue::Number(up_to(1)),
         },
     }
 }
 
-fn call(shape: Shape, helper: Option<Helper>, known: &mut Known)
+fn call(shape: Shape, helper: Option<Helper>, known: &mut AbstractState)
     ensures { abstract_of known.new ≡ outcomes.call_outcome shape helper (abstract_of known.old) }
 {
     let answer = answer(shape, helper);
     known.set_kind(Reg::R0, answer);
-    known.set_kind(Reg::R1, Kind::Unset);
-    known.set_kind(Reg::R2, Kind::Unset);
-    known.set_kind(Reg::R3, Kind::Unset);
-    known.set_kind(Reg::R4, Kind::Unset);
-    known.set_kind(Reg::R5, Kind::Unset);
+    known.set_kind(Reg::R1, AbstractValue::Unset);
+    known.set_kind(Reg::R2, AbstractValue::Unset);
+    known.set_kind(Reg::R3, AbstractValue::Unset);
+    known.set_kind(Reg::R4, AbstractValue::Unset);
+    known.set_kind(Reg::R5, AbstractValue::Unset);
 }
 
 /// What is known after a store of an operand by a pointer into the stack, of bytes from a first on, before an end.
@@ -186,12 +207,12 @@ fn store_there(
     count: u32,
     bytes: (u32, u32),
     src: Operand,
-    known: &mut Known,
+    known: &mut AbstractState,
 ) -> Result<(), AllocError>
     requires first { moved a.lo off ≡ Some bytes.0 }
     requires last { moved a.hi off ≡ Some (bytes.1 - count) }
     requires inside { (count ≤ bytes.1) × (bytes.0 + count ≤ bytes.1) × (bytes.1 ≤ STACK_BYTES) }
-    ensures { OnOk result (abstract_of known.new ≡ outcomes.stored_at (abstract_of known.old) (Kind.Pointer Stack a) off
+    ensures { OnOk result (abstract_of known.new ≡ outcomes.stored_at (abstract_of known.old) (AbstractValue.Pointer Stack a) off
         count (operand_kind W64 src (abstract_of known.old))) }
 {
     let (first, end) = bytes;
@@ -213,14 +234,14 @@ fn store(
     off: i16,
     count: u32,
     src: Operand,
-    known: &mut Known,
+    known: &mut AbstractState,
 ) -> Result<(), AllocError>
     requires few { count ≤ 8 }
     requires inside { may_leave_region shape (kind_of (abstract_of known.old) base) off count ≡ false }
     ensures { OnOk result (abstract_of known.new ≡ outcomes.stored_at (abstract_of known.old)
         (kind_of (abstract_of known.old) base) off count (operand_kind W64 src (abstract_of known.old))) }
 {
-    if let Kind::Pointer(region, a) = known.kind(base) {
+    if let AbstractValue::Pointer(region, a) = known.kind(base) {
         if region == Region::Stack {
             if let Some(bytes) = bytes_taken(shape, region, a, off, count) {
                 return store_there(alloc, a, off, count, bytes, src, known);
@@ -231,27 +252,27 @@ fn store(
 }
 
 /// One register on both sides has what the condition leaves of both.
-fn set_meet(known: &mut Known, register: Reg, a: Range, b: Range) -> bool
+fn set_meet(known: &mut AbstractState, register: Reg, a: Range, b: Range) -> bool
     ensures { Becomes (outcomes.with_meet (abstract_of known.old) register (meet_of a b))
         (abstract_of known.new) result }
 {
     match meet(a, b) {
         None => false,
         Some(common) => {
-            known.set_kind(register, Kind::Number(common));
+            known.set_kind(register, AbstractValue::Number(common));
             true
         }
     }
 }
 
-fn refine(known: &mut Known, dst: Reg, src: Operand, pair: Option<(Range, Range)>) -> bool
+fn refine(known: &mut AbstractState, dst: Reg, src: Operand, pair: Option<(Range, Range)>) -> bool
     ensures { Becomes (outcomes.refined_by (abstract_of known.old) dst src pair) (abstract_of known.new) result }
 {
     match pair {
         None => false,
         Some((a, b)) => match src {
             Operand::Imm(_imm) => {
-                known.set_kind(dst, Kind::Number(a));
+                known.set_kind(dst, AbstractValue::Number(a));
                 true
             }
             Operand::Reg(register) => refine_both(known, dst, register, a, b),
@@ -259,15 +280,15 @@ fn refine(known: &mut Known, dst: Reg, src: Operand, pair: Option<(Range, Range)
     }
 }
 
-fn refine_both(known: &mut Known, dst: Reg, src: Reg, a: Range, b: Range) -> bool
+fn refine_both(known: &mut AbstractState, dst: Reg, src: Reg, a: Range, b: Range) -> bool
     ensures { Becomes (outcomes.refined_by (abstract_of known.old) dst (operand.Reg src) (Some (a, b)))
         (abstract_of known.new) result }
 {
     if src.number() == dst.number() {
         return set_meet(known, dst, a, b);
     }
-    known.set_kind(dst, Kind::Number(a));
-    known.set_kind(src, Kind::Number(b));
+    known.set_kind(dst, AbstractValue::Number(a));
+    known.set_kind(src, AbstractValue::Number(b));
     true
 }
 
@@ -280,15 +301,22 @@ fn is_taken(way: Way) -> bool
     }
 }
 
-fn take(known: &mut Known, cond: Cond, width: Width, dst: Reg, src: Operand, taken: bool) -> bool
+fn take(
+    known: &mut AbstractState,
+    cond: Cond,
+    width: Width,
+    dst: Reg,
+    src: Operand,
+    taken: bool,
+) -> bool
     ensures { Becomes (outcomes.way_outcome (abstract_of known.old) cond width dst src taken)
         (abstract_of known.new) result }
 {
     match known.kind(dst) {
-        Kind::Unset | Kind::Pointer(..) => false,
-        Kind::Number(a) => match operand_kind(width, src, known) {
-            Kind::Unset | Kind::Pointer(..) => false,
-            Kind::Number(b) => {
+        AbstractValue::Unset | AbstractValue::Pointer(..) => false,
+        AbstractValue::Number(a) => match operand_kind(width, src, known) {
+            AbstractValue::Unset | AbstractValue::Pointer(..) => false,
+            AbstractValue::Number(b) => {
                 let pair = branch(cond, width, a, b, taken);
                 refine(known, dst, src, pair)
             }
@@ -296,37 +324,37 @@ fn take(known: &mut Known, cond: Cond, width: Width, dst: Reg, src: Operand, tak
     }
 }
 
-fn apply_alu(known: &mut Known, op: AluOp, width: Width, dst: Reg, src: Operand)
+fn apply_alu(known: &mut AbstractState, op: AluOp, width: Width, dst: Reg, src: Operand)
     ensures { abstract_of known.new ≡ outcomes.alu_outcome (abstract_of known.old) op width dst src }
 {
     let kind = alu_kind(op, width, known.kind(dst), operand_kind(width, src, known));
     known.set_kind(dst, kind);
 }
 
-fn negated(width: Width, kind: Kind) -> Kind
+fn negated(width: Width, kind: AbstractValue) -> AbstractValue
     ensures { result ≡ outcomes.of_number_kind (neg_of width) kind }
 {
     match kind {
-        Kind::Unset | Kind::Pointer(..) => Kind::Unset,
-        Kind::Number(a) => Kind::Number(neg(width, a)),
+        AbstractValue::Unset | AbstractValue::Pointer(..) => AbstractValue::Unset,
+        AbstractValue::Number(a) => AbstractValue::Number(neg(width, a)),
     }
 }
 
-fn extended(kind: MovsxKind, value: Kind) -> Kind
+fn extended(kind: MovsxKind, value: AbstractValue) -> AbstractValue
     ensures { result ≡ outcomes.of_number_kind (movsx_of kind) value }
 {
     match value {
-        Kind::Unset | Kind::Pointer(..) => Kind::Unset,
-        Kind::Number(a) => Kind::Number(movsx(kind, a)),
+        AbstractValue::Unset | AbstractValue::Pointer(..) => AbstractValue::Unset,
+        AbstractValue::Number(a) => AbstractValue::Number(movsx(kind, a)),
     }
 }
 
-fn swapped(order: Order, bits: SwapBits, kind: Kind) -> Kind
+fn swapped(order: Order, bits: SwapBits, kind: AbstractValue) -> AbstractValue
     ensures { result ≡ outcomes.of_number_kind (swap_of order bits) kind }
 {
     match kind {
-        Kind::Unset | Kind::Pointer(..) => Kind::Unset,
-        Kind::Number(a) => Kind::Number(swap(order, bits, a)),
+        AbstractValue::Unset | AbstractValue::Pointer(..) => AbstractValue::Unset,
+        AbstractValue::Number(a) => AbstractValue::Number(swap(order, bits, a)),
     }
 }
 
@@ -335,7 +363,7 @@ pub(crate) fn apply(
     alloc: Global,
     shape: Shape,
     insn: &Insn,
-    known: &mut Known,
+    known: &mut AbstractState,
     way: Way,
 ) -> Result<bool, AllocError>
     requires { may_leave_regions shape insn.now (abstract_of known.old) ≡ false }
@@ -373,7 +401,10 @@ pub(crate) fn apply(
             let kind = loaded_kind(shape, known, base, off, size);
             known.set_kind(dst, kind);
         }
-        Insn::LoadSx { dst, .. } => known.set_kind(dst, Kind::Number(Range::full(Width::W64))),
+        Insn::LoadSx { dst, .. } => known.set_kind(
+            dst,
+            AbstractValue::Number(Range::full(Width::W64)),
+        ),
         Insn::StoreReg {
             size,
             base,
@@ -402,7 +433,10 @@ pub(crate) fn apply(
             Operand::Imm(imm),
             known,
         )?,
-        Insn::LoadImm64 { dst, value } => known.set_kind(dst, Kind::Number(Range::single(value))),
+        Insn::LoadImm64 { dst, value } => known.set_kind(
+            dst,
+            AbstractValue::Number(Range::single(value)),
+        ),
     }
     Ok(true)
 }

@@ -13,42 +13,42 @@ ghost use Rattle.node_env.specs.Helpers.{arguments_of};
 ghost use Rattle.node_env.specs.Env.{region_size};
 ghost use Rattle.bpf_insn.specs.Operands.{alu_reads, argument_registers, call_of, is_frame_pointer, operand_reads, reads, registers_in};
 
-use crate::kind::Kind;
-use crate::known::Known;
+use crate::abstract_state::AbstractState;
+use crate::abstract_value::AbstractValue;
 use crate::rule::Rule;
 use bpf_insn::{
-    Access, AluOp, Insn, MOST_ARGUMENTS, Operand, Program, Reads, Reg, Way, Width, access_of,
+    Access, AluOp, Insn, MAX_ARGUMENTS, Operand, Program, Reads, Reg, Way, Width, access_of,
     call_of, distance, is_exit, load_of, registers_read, target, written_by,
 };
 use node_env::{Helper, Region, STACK_BYTES, Shape, arguments_of};
 use value_range::{Range, alu};
 
 /// Returns whether nothing is known.
-pub fn is_unset(kind: Kind) -> bool
+pub fn is_unset(kind: AbstractValue) -> bool
     ensures { result ≡ rules.is_unset_kind kind }
 {
     match kind {
-        Kind::Unset => true,
-        Kind::Number(_) | Kind::Pointer(..) => false,
+        AbstractValue::Unset => true,
+        AbstractValue::Number(_) | AbstractValue::Pointer(..) => false,
     }
 }
 
 /// Returns whether it is a pointer.
-pub fn is_pointer(kind: Kind) -> bool
+pub fn is_pointer(kind: AbstractValue) -> bool
     ensures { result ≡ rules.is_pointer_kind kind }
 {
     match kind {
-        Kind::Pointer(..) => true,
-        Kind::Unset | Kind::Number(_) => false,
+        AbstractValue::Pointer(..) => true,
+        AbstractValue::Unset | AbstractValue::Number(_) => false,
     }
 }
 
-fn is_number(kind: Kind) -> bool
+fn is_number(kind: AbstractValue) -> bool
     ensures { result ≡ rules.is_number_kind kind }
 {
     match kind {
-        Kind::Number(_) => true,
-        Kind::Unset | Kind::Pointer(..) => false,
+        AbstractValue::Number(_) => true,
+        AbstractValue::Unset | AbstractValue::Pointer(..) => false,
     }
 }
 
@@ -63,11 +63,11 @@ fn immediate(width: Width, imm: i32) -> u64
 }
 
 /// Returns what is known of a second operand.
-pub fn operand_kind(width: Width, src: Operand, known: &Known) -> Kind
+pub fn operand_kind(width: Width, src: Operand, known: &AbstractState) -> AbstractValue
     ensures { result ≡ rules.operand_kind width src (abstract_of known.now) }
 {
     match src {
-        Operand::Imm(imm) => Kind::Number(Range::single(immediate(width, imm))),
+        Operand::Imm(imm) => AbstractValue::Number(Range::single(immediate(width, imm))),
         Operand::Reg(register) => known.kind(register),
     }
 }
@@ -123,7 +123,7 @@ fn calls_unknown(insn: &Insn) -> bool
     }
 }
 
-fn holds_nothing(known: &Known, register: Reg) -> bool
+fn holds_nothing(known: &AbstractState, register: Reg) -> bool
     ensures { result ≡ rules.is_unset_kind (kind_of (abstract_of known.now) register) }
 {
     is_unset(known.kind(register))
@@ -132,7 +132,7 @@ fn holds_nothing(known: &Known, register: Reg) -> bool
 /// How many arguments the instruction's call takes, none if it is no call.
 fn arguments(insn: &Insn) -> u32
     ensures count { IfSome (call_of insn.now) (λ id. arguments_of id ≡ result) }
-    ensures few { result ≤ MOST_ARGUMENTS }
+    ensures few { result ≤ MAX_ARGUMENTS }
 {
     match call_of(insn) {
         Some(id) => arguments_of(id),
@@ -147,7 +147,7 @@ pub fn registers_of(insn: &Insn) -> Reads
     registers_read(insn, arguments(insn))
 }
 
-fn operand_unset(known: &Known, src: Operand) -> bool
+fn operand_unset(known: &AbstractState, src: Operand) -> bool
     ensures { result ≡ rules.some_unset (abstract_of known.now) (operand_reads src) }
 {
     match src {
@@ -156,7 +156,7 @@ fn operand_unset(known: &Known, src: Operand) -> bool
     }
 }
 
-fn alu_reads_unset(known: &Known, op: AluOp, dst: Reg, src: Operand) -> bool
+fn alu_reads_unset(known: &AbstractState, op: AluOp, dst: Reg, src: Operand) -> bool
     ensures { result ≡ rules.some_unset (abstract_of known.now) (alu_reads op dst src) }
 {
     match op {
@@ -177,7 +177,7 @@ fn alu_reads_unset(known: &Known, op: AluOp, dst: Reg, src: Operand) -> bool
     }
 }
 
-fn call_reads_unset(known: &Known, id: i32) -> bool
+fn call_reads_unset(known: &AbstractState, id: i32) -> bool
     ensures { result ≡ rules.some_unset (abstract_of known.now) (argument_registers (arguments_of id)) }
 {
     match Helper::of(id) {
@@ -190,7 +190,7 @@ fn call_reads_unset(known: &Known, id: i32) -> bool
     }
 }
 
-fn reads_unset(insn: &Insn, known: &Known) -> bool
+fn reads_unset(insn: &Insn, known: &AbstractState) -> bool
     ensures { result ≡ rules.reads_unset insn.now (abstract_of known.now) }
 {
     match *insn {
@@ -230,32 +230,40 @@ fn passes(shape: Shape, region: Region, a: Range) -> bool
     a.hi() > u64::from(shape.region_size(region))
 }
 
-fn misuses_sum(shape: Shape, a: Kind, b: Kind) -> bool
+fn misuses_sum(shape: Shape, a: AbstractValue, b: AbstractValue) -> bool
     ensures { result ≡ rules.misuses_sum shape a b }
 {
     match a {
-        Kind::Unset => false,
-        Kind::Number(x) => match b {
-            Kind::Unset | Kind::Number(_) => false,
-            Kind::Pointer(region, y) => passes(shape, region, alu(AluOp::Add, Width::W64, x, y)),
+        AbstractValue::Unset => false,
+        AbstractValue::Number(x) => match b {
+            AbstractValue::Unset | AbstractValue::Number(_) => false,
+            AbstractValue::Pointer(region, y) => passes(
+                shape,
+                region,
+                alu(AluOp::Add, Width::W64, x, y),
+            ),
         },
-        Kind::Pointer(region, x) => match b {
-            Kind::Unset => false,
-            Kind::Number(y) => passes(shape, region, alu(AluOp::Add, Width::W64, x, y)),
-            Kind::Pointer(..) => true,
+        AbstractValue::Pointer(region, x) => match b {
+            AbstractValue::Unset => false,
+            AbstractValue::Number(y) => passes(shape, region, alu(AluOp::Add, Width::W64, x, y)),
+            AbstractValue::Pointer(..) => true,
         },
     }
 }
 
-fn misuses_difference(shape: Shape, a: Kind, b: Kind) -> bool
+fn misuses_difference(shape: Shape, a: AbstractValue, b: AbstractValue) -> bool
     ensures { result ≡ rules.misuses_difference shape a b }
 {
     match b {
-        Kind::Unset => false,
-        Kind::Pointer(..) => true,
-        Kind::Number(y) => match a {
-            Kind::Unset | Kind::Number(_) => false,
-            Kind::Pointer(region, x) => passes(shape, region, alu(AluOp::Sub, Width::W64, x, y)),
+        AbstractValue::Unset => false,
+        AbstractValue::Pointer(..) => true,
+        AbstractValue::Number(y) => match a {
+            AbstractValue::Unset | AbstractValue::Number(_) => false,
+            AbstractValue::Pointer(region, x) => passes(
+                shape,
+                region,
+                alu(AluOp::Sub, Width::W64, x, y),
+            ),
         },
     }
 }
@@ -266,7 +274,13 @@ fn is_move(op: AluOp) -> bool
     op == AluOp::Mov
 }
 
-fn misuses_operands(shape: Shape, op: AluOp, width: Width, a: Kind, b: Kind) -> bool
+fn misuses_operands(
+    shape: Shape,
+    op: AluOp,
+    width: Width,
+    a: AbstractValue,
+    b: AbstractValue,
+) -> bool
     ensures { result ≡ rules.misuses_operands shape op width a b }
 {
     match width {
@@ -302,12 +316,12 @@ pub(crate) fn is_whole(a: Range, off: i16, count: u32) -> bool
 }
 
 /// Returns whether an access takes one double word of the stack whole, whichever pointer of the kind it uses.
-pub fn takes_dword(kind: Kind, off: i16, count: u32) -> bool
+pub fn takes_dword(kind: AbstractValue, off: i16, count: u32) -> bool
     ensures { result ≡ rules.takes_dword kind off count }
 {
     match kind {
-        Kind::Unset | Kind::Number(_) => false,
-        Kind::Pointer(region, a) => match region {
+        AbstractValue::Unset | AbstractValue::Number(_) => false,
+        AbstractValue::Pointer(region, a) => match region {
             Region::Mem => false,
             Region::Stack => is_whole(a, off, count),
         },
@@ -315,9 +329,9 @@ pub fn takes_dword(kind: Kind, off: i16, count: u32) -> bool
 }
 
 /// Whether one of the stack's bytes from `first` on, before `end`, is of a kept pointer.
-fn touches(known: &Known, first: u32, end: u32) -> bool
+fn touches(known: &AbstractState, first: u32, end: u32) -> bool
     requires { end ≤ STACK_BYTES }
-    ensures { result ≡ rules.touches (abstract_of known.now) first (end - first) }
+    ensures { result ≡ rules.touches_written (abstract_of known.now) first (end - first) }
 {
     if known.holds_none() {
         return false;
@@ -331,14 +345,20 @@ fn touches(known: &Known, first: u32, end: u32) -> bool
 }
 
 #[inline(always)]
-fn touches_byte(shape: Shape, known: &Known, kind: Kind, off: i16, count: u32) -> bool
+fn touches_byte(
+    shape: Shape,
+    known: &AbstractState,
+    kind: AbstractValue,
+    off: i16,
+    count: u32,
+) -> bool
     requires few { count ≤ 8 }
     requires inside { rules.may_leave_region shape kind off count ≡ false }
     ensures { result ≡ rules.touches_byte (abstract_of known.now) kind off count }
 {
     match kind {
-        Kind::Unset | Kind::Number(_) => false,
-        Kind::Pointer(region, a) => match region {
+        AbstractValue::Unset | AbstractValue::Number(_) => false,
+        AbstractValue::Pointer(region, a) => match region {
             Region::Mem => false,
             Region::Stack => match bytes_taken(shape, region, a, off, count) {
                 Some((first, end)) => touches(known, first, end),
@@ -350,7 +370,7 @@ fn touches_byte(shape: Shape, known: &Known, kind: Kind, off: i16, count: u32) -
 
 /// Whether a load may take a part of a kept pointer.
 #[inline(always)]
-fn may_take_part(shape: Shape, known: &Known, base: Reg, off: i16, count: u32) -> bool
+fn may_take_part(shape: Shape, known: &AbstractState, base: Reg, off: i16, count: u32) -> bool
     requires { count ≤ 8 }
     ensures { result ≡ rules.may_take_part shape (abstract_of known.now) (kind_of (abstract_of known.now) base) off
         count }
@@ -365,7 +385,7 @@ fn may_take_part(shape: Shape, known: &Known, base: Reg, off: i16, count: u32) -
         && !takes_dword(known.kind(base), off, count)
 }
 
-fn misuses_pointer(shape: Shape, insn: &Insn, known: &Known) -> bool
+fn misuses_pointer(shape: Shape, insn: &Insn, known: &AbstractState) -> bool
     ensures { result ≡ rules.may_misuse_pointer shape insn.now (abstract_of known.now) }
 {
     match *insn {
@@ -442,12 +462,12 @@ fn leave(size: u32, first: Option<u128>, last: Option<u128>, count: u32) -> bool
     }
 }
 
-fn leaves_region(shape: Shape, kind: Kind, off: i16, count: u32) -> bool
+fn leaves_region(shape: Shape, kind: AbstractValue, off: i16, count: u32) -> bool
     ensures { result ≡ rules.may_leave_region shape kind off count }
 {
     match kind {
-        Kind::Unset | Kind::Number(_) => false,
-        Kind::Pointer(region, a) => leave(
+        AbstractValue::Unset | AbstractValue::Number(_) => false,
+        AbstractValue::Pointer(region, a) => leave(
             shape.region_size(region),
             moved(a.lo(), off),
             moved(a.hi(), off),
@@ -456,7 +476,7 @@ fn leaves_region(shape: Shape, kind: Kind, off: i16, count: u32) -> bool
     }
 }
 
-fn leaves(shape: Shape, known: &Known, access: Option<Access>) -> bool
+fn leaves(shape: Shape, known: &AbstractState, access: Option<Access>) -> bool
     ensures { result ≡ rules.on_base (rules.may_leave_region shape) (abstract_of known.now) access }
 {
     match access {
@@ -466,14 +486,14 @@ fn leaves(shape: Shape, known: &Known, access: Option<Access>) -> bool
 }
 
 #[tactic(auto, using(crate::proofs::RuleLaws::on_access))]
-fn leaves_regions(shape: Shape, insn: &Insn, known: &Known) -> bool
+fn leaves_regions(shape: Shape, insn: &Insn, known: &AbstractState) -> bool
     ensures { result ≡ rules.may_leave_regions shape insn.now (abstract_of known.now) }
 {
     leaves(shape, known, access_of(insn))
 }
 
 /// Whether one of the stack's bytes from `first` on, before `end`, isn't surely written.
-fn lacks(known: &Known, first: u32, end: u32) -> bool
+fn lacks(known: &AbstractState, first: u32, end: u32) -> bool
     requires { end ≤ STACK_BYTES }
     ensures { result ≡ rules.lacks (abstract_of known.now) first (end - first) }
 {
@@ -494,7 +514,7 @@ pub fn bytes_taken(
     count: u32,
 ) -> Option<(u32, u32)>
     requires { count ≤ 8 }
-    ensures none { IsNone result → rules.may_leave_region shape (Kind.Pointer region a) off count ≡ true }
+    ensures none { IsNone result → rules.may_leave_region shape (AbstractValue.Pointer region a) off count ≡ true }
     ensures some { IfSome result (λ p. (moved a.lo off ≡ Some p.0) × (moved a.hi off ≡ Some (p.1 - count))
         × (count ≤ p.1) × (p.0 + count ≤ p.1) × (p.1 ≤ region_size shape region)) }
 {
@@ -512,14 +532,20 @@ pub fn bytes_taken(
     }
 }
 
-fn lacks_byte(shape: Shape, known: &Known, kind: Kind, off: i16, count: u32) -> bool
+fn lacks_byte(
+    shape: Shape,
+    known: &AbstractState,
+    kind: AbstractValue,
+    off: i16,
+    count: u32,
+) -> bool
     requires few { count ≤ 8 }
     requires inside { rules.may_leave_region shape kind off count ≡ false }
     ensures { result ≡ rules.lacks_byte (abstract_of known.now) kind off count }
 {
     match kind {
-        Kind::Unset | Kind::Number(_) => false,
-        Kind::Pointer(region, a) => match region {
+        AbstractValue::Unset | AbstractValue::Number(_) => false,
+        AbstractValue::Pointer(region, a) => match region {
             Region::Mem => false,
             Region::Stack => match bytes_taken(shape, region, a, off, count) {
                 Some((first, end)) => lacks(known, first, end),
@@ -530,7 +556,7 @@ fn lacks_byte(shape: Shape, known: &Known, kind: Kind, off: i16, count: u32) -> 
 }
 
 #[inline(always)]
-fn misses_byte(shape: Shape, known: &Known, base: Reg, off: i16, count: u32) -> bool
+fn misses_byte(shape: Shape, known: &AbstractState, base: Reg, off: i16, count: u32) -> bool
     requires few { count ≤ 8 }
     requires inside { rules.may_leave_region shape (kind_of (abstract_of known.now) base) off count ≡ false }
     ensures { result ≡ rules.misses_byte (abstract_of known.now) (kind_of (abstract_of known.now) base) off count }
@@ -539,7 +565,7 @@ fn misses_byte(shape: Shape, known: &Known, base: Reg, off: i16, count: u32) -> 
         && !touches_byte(shape, known, known.kind(base), off, count)
 }
 
-fn loads_unset(shape: Shape, insn: &Insn, known: &Known) -> bool
+fn loads_unset(shape: Shape, insn: &Insn, known: &AbstractState) -> bool
     requires { rules.may_leave_regions shape insn.now (abstract_of known.now) ≡ false }
     ensures { result ≡ rules.loads_unset insn.now (abstract_of known.now) }
 {
@@ -549,17 +575,17 @@ fn loads_unset(shape: Shape, insn: &Insn, known: &Known) -> bool
     }
 }
 
-fn not_below(limit: u64, kind: Kind) -> bool
+fn not_below(limit: u64, kind: AbstractValue) -> bool
     ensures { result ≡ rules.may_reach limit kind }
 {
     match kind {
-        Kind::Unset => false,
-        Kind::Number(a) => a.hi() >= limit,
-        Kind::Pointer(..) => true,
+        AbstractValue::Unset => false,
+        AbstractValue::Number(a) => a.hi() >= limit,
+        AbstractValue::Pointer(..) => true,
     }
 }
 
-fn misses_argument(shape: Shape, insn: &Insn, known: &Known) -> bool
+fn misses_argument(shape: Shape, insn: &Insn, known: &AbstractState) -> bool
     ensures { result ≡ rules.misses_argument shape insn.now (abstract_of known.now) }
 {
     match call_of(insn) {
@@ -568,7 +594,7 @@ fn misses_argument(shape: Shape, insn: &Insn, known: &Known) -> bool
     }
 }
 
-fn helper_refuses(shape: Shape, helper: Option<Helper>, known: &Known) -> bool
+fn helper_refuses(shape: Shape, helper: Option<Helper>, known: &AbstractState) -> bool
     ensures { result ≡ rules.helper_may_refuse shape helper (abstract_of known.now) }
 {
     let nodes = u64::from(shape.nodes());
@@ -583,13 +609,13 @@ fn helper_refuses(shape: Shape, helper: Option<Helper>, known: &Known) -> bool
     }
 }
 
-fn exits_with_pointer(insn: &Insn, known: &Known) -> bool
+fn exits_with_pointer(insn: &Insn, known: &AbstractState) -> bool
     ensures { result ≡ rules.may_exit_with_pointer insn.now (abstract_of known.now) }
 {
     is_exit(insn) && is_pointer(known.kind(Reg::R0))
 }
 
-fn has_number_base(known: &Known, access: Option<Access>) -> bool
+fn has_number_base(known: &AbstractState, access: Option<Access>) -> bool
     ensures { result ≡ rules.on_base rules.is_number_base (abstract_of known.now) access }
 {
     match access {
@@ -599,7 +625,7 @@ fn has_number_base(known: &Known, access: Option<Access>) -> bool
 }
 
 #[tactic(auto, using(crate::proofs::RuleLaws::on_access))]
-fn accesses_number(insn: &Insn, known: &Known) -> bool
+fn accesses_number(insn: &Insn, known: &AbstractState) -> bool
     ensures { result ≡ rules.accesses_number insn.now (abstract_of known.now) }
 {
     has_number_base(known, access_of(insn))
@@ -636,7 +662,7 @@ pub(crate) fn broken_reached(
     shape: Shape,
     slot: u32,
     insn: &Insn,
-    known: &Known,
+    known: &AbstractState,
 ) -> Option<Rule>
     requires { insn_at program.now slot ≡ Some insn.now }
     ensures { result ≡ rules.lowest_broken program.now shape slot insn.now (Some (abstract_of known.now)) }

@@ -10,7 +10,7 @@ use crate::longest::longest;
 use crate::refusal::VerifyError;
 use crate::walk::walk;
 use bpf_insn::Program;
-use bpf_record::{Record, is_blind, records_of};
+use bpf_record::{DecodedInsn, is_blind, records_of};
 use node_env::Shape;
 use std::alloc::{AllocError, Global};
 use std::marker::Model;
@@ -29,7 +29,7 @@ pub struct VerifiedProgram {
 #[derive(Drop)]
 struct Recorded {
     program: Program,
-    records: Vec<Record>,
+    records: Vec<DecodedInsn>,
     /// True only if the program never reads its node's number.
     blind: bool,
 }
@@ -49,7 +49,7 @@ impl Model for VerifiedProgram {
 /// Returns the announced count of a program that would be accepted, without making an accepted program. It refuses what
 /// [`verify`] refuses, for the same reason.
 #[tactic(auto, using(crate::proofs::VerdictLaws::typable_refusal))]
-pub fn judge(alloc: Global, program: &Program, shape: Shape) -> Result<u32, VerifyError>
+pub fn check(alloc: Global, program: &Program, shape: Shape) -> Result<u32, VerifyError>
     ensures typable { OnOk result (Typable program.now shape) }
     ensures longest { IfOk result (IsLongestPath program.now) }
     ensures refused { IfErr result (IsRefusal program.now shape) }
@@ -76,7 +76,7 @@ pub fn verify(
     ensures refused { IfErr result (IsRefusal program.now shape) }
     ensures exact { Typable program.now shape → IfErr result (λ e. e ≡ Memory) }
 {
-    let budget = judge(alloc, program, shape)?;
+    let budget = check(alloc, program, shape)?;
     match accepted(alloc, program, shape, budget) {
         Ok(verified) => Ok(verified),
         Err(_) => Err(VerifyError::Memory),
@@ -143,7 +143,7 @@ impl VerifiedProgram {
 
     /// Returns the records of its slots (docs/RUNNER.md, "Records"): at the slot of each instruction there is one that
     /// represents it.
-    pub fn records(&self) -> &[Record]
+    pub fn records(&self) -> &[DecodedInsn]
         ensures records { AreRecords self.now.program result.now }
         ensures verified { IsVerified self.now }
     {

@@ -5,7 +5,7 @@ ghost use Rattle.std.specs.Prelude.{◌≡◌, ℕ, ◌+◌, ◌<◌, ◌≤◌,
 ghost use Rattle.bpf_insn.specs.Programs.{insn_at, slots_of};
 ghost use Rattle.bpf_verify.specs.inner.Walk.{come_of, row_state, table_of, met_state, with_come, sent_on, rows_after, front_after, RefusesInsn, IsStop, Walks};
 ghost use Rattle.bpf_verify.specs.inner.Rows.{abstract_of};
-ghost use Rattle.bpf_verify.specs.Rules.{may_leave_regions, KeepsRules};
+ghost use Rattle.bpf_verify.specs.Rules.{may_leave_regions, lowest_broken, KeepsRules};
 ghost use Rattle.bpf_verify.specs.Outcomes.{outcome};
 ghost use Rattle.bpf_insn.specs.declared.edges.Way.TheVariants.{Jumping};
 ghost use Rattle.bpf_insn.specs.Edges.{target};
@@ -13,9 +13,10 @@ ghost use Rattle.bpf_insn.specs.Encoding.{slots_taken};
 ghost use Rattle.bpf_verify.specs.Typable.{Typable};
 ghost use Rattle.bpf_verify.specs.Accepted.{IsRefusal};
 
-use crate::known::Known;
+use crate::abstract_state::AbstractState;
 use crate::outcomes::apply;
 use crate::refusal::VerifyError;
+use crate::rule::Rule;
 use crate::rules::{broken_reached, broken_unreached};
 use bpf_insn::{Insn, Program, Way, target};
 use node_env::Shape;
@@ -25,12 +26,12 @@ use std::mem;
 /// What comes to the next instruction from the one before it, where anything does.
 #[derive(Drop)]
 pub(crate) struct Front {
-    pub(crate) known: Known,
+    pub(crate) known: AbstractState,
     pub(crate) reached: bool,
 }
 
 /// What has come to each slot by jumps.
-pub(crate) type Rows = Vec<Option<Box<Known>>>;
+pub(crate) type Rows = Vec<Option<Box<AbstractState>>>;
 
 pub(crate) fn no_rows(alloc: Global, count: usize) -> Result<Rows, AllocError>
     ensures long { IfOk result (λ rows. vec_len rows ≡ count) }
@@ -44,7 +45,12 @@ pub(crate) fn no_rows(alloc: Global, count: usize) -> Result<Rows, AllocError>
 }
 
 /// Joins what comes to a slot by a jump to what has come there.
-fn lead(alloc: Global, rows: &mut Rows, to: usize, known: Known) -> Result<(), AllocError>
+fn propagate(
+    alloc: Global,
+    rows: &mut Rows,
+    to: usize,
+    known: AbstractState,
+) -> Result<(), AllocError>
     requires { to < vec_len rows.old }
     ensures long { vec_len rows.new ≡ vec_len rows.old }
     ensures come { OnOk result ((slot : ℕ) → table_of rows.new.items slot
@@ -58,7 +64,7 @@ fn lead(alloc: Global, rows: &mut Rows, to: usize, known: Known) -> Result<(), A
 }
 
 /// Takes what has come to a slot by jumps.
-fn take_row(rows: &mut Rows, slot: usize) -> Option<Box<Known>>
+fn take_row(rows: &mut Rows, slot: usize) -> Option<Box<AbstractState>>
     requires { slot < vec_len rows.old }
     ensures long { vec_len rows.new ≡ vec_len rows.old }
     ensures row { row_state result ≡ table_of rows.old.items slot }
@@ -72,7 +78,7 @@ impl Front {
     ghost use Rattle.bpf_verify.specs.inner.Walk.{come_of, row_state, met_state};
 
     /// Joins what has come by jumps to what comes from the instruction before.
-    pub(crate) fn meet(&mut self, row: Option<Box<Known>>)
+    pub(crate) fn join_incoming(&mut self, row: Option<Box<AbstractState>>)
         ensures { come_of self.new ≡ met_state (row_state row) (come_of self.old) }
     {
         if let Some(mut known) = row {
@@ -87,13 +93,13 @@ impl Front {
 }
 
 /// Sends what is known after an instruction on by its jump.
-pub(crate) fn jump(
+fn jump(
     alloc: Global,
     shape: Shape,
     rows: &mut Rows,
     slot: u32,
     insn: &Insn,
-    known: &Known,
+    known: &AbstractState,
 ) -> Result<(), AllocError>
     requires inside { may_leave_regions shape insn.now (abstract_of known.now) ≡ false }
     requires target { IfSome (target insn.now slot Jumping) (λ to. (slot < to) × (to < vec_len rows.old)) }
@@ -109,7 +115,7 @@ pub(crate) fn jump(
     if !apply(alloc, shape, insn, &mut after, Way::Jumping)? {
         return Ok(());
     }
-    lead(alloc, rows, to as usize, after)
+    propagate(alloc, rows, to as usize, after)
 }
 
 impl Front {
@@ -122,7 +128,7 @@ impl Front {
     ghost use Rattle.bpf_verify.specs.inner.Walk.{come_of, come_after};
 
     /// Goes on to the next instruction.
-    pub(crate) fn go_on(
+    fn go_on(
         &mut self,
         alloc: Global,
         shape: Shape,
@@ -144,37 +150,46 @@ impl Front {
     }
 }
 
-fn pass_unreached(
+/// The lowest rule that an instruction breaks.
+pub(crate) fn broken(
     program: &Program,
     shape: Shape,
     slot: u32,
     insn: &Insn,
-) -> Result<(), VerifyError>
+    front: &Front,
+) -> Option<Rule>
     requires { insn_at program.now slot ≡ Some insn.now }
-    ensures kept { OnOk result (KeepsRules program.now shape slot insn.now None) }
-    ensures refused { IfErr result (RefusesInsn program.now shape slot insn.now None) }
+    ensures { result ≡ lowest_broken program.now shape slot insn.now (come_of front.now) }
 {
-    match broken_unreached(program, shape, slot, insn) {
-        Some(rule) => Err(VerifyError::Refused { slot, rule }),
-        None => Ok(()),
+    if front.reached {
+        broken_reached(program, shape, slot, insn, &front.known)
+    } else {
+        broken_unreached(program, shape, slot, insn)
     }
 }
 
-fn keep(
+/// Sends on what is known after an instruction that keeps the rules.
+pub(crate) fn send(
+    alloc: Global,
     program: &Program,
     shape: Shape,
+    rows: &mut Rows,
     slot: u32,
     insn: &Insn,
-    known: &Known,
-) -> Result<(), VerifyError>
-    requires { insn_at program.now slot ≡ Some insn.now }
-    ensures kept { OnOk result (KeepsRules program.now shape slot insn.now (Some (abstract_of known.now))) }
-    ensures refused { IfErr result (RefusesInsn program.now shape slot insn.now (Some (abstract_of known.now))) }
+    front: &mut Front,
+) -> Result<(), AllocError>
+    requires kept { KeepsRules program.now shape slot insn.now (come_of front.old) }
+    requires long { vec_len rows.old ≡ slots_of program.now }
+    ensures long { vec_len rows.new ≡ vec_len rows.old }
+    ensures rows { OnOk result ((other : ℕ) → table_of rows.new.items other
+        ≡ rows_after shape insn.now slot (come_of front.old) (table_of rows.old.items) other) }
+    ensures front { OnOk result (come_of front.new ≡ front_after shape insn.now slot (come_of front.old)) }
 {
-    match broken_reached(program, shape, slot, insn, known) {
-        Some(rule) => Err(VerifyError::Refused { slot, rule }),
-        None => Ok(()),
+    if !front.reached {
+        return Ok(());
     }
+    jump(alloc, shape, rows, slot, insn, &front.known)?;
+    front.go_on(alloc, shape, slot, insn)
 }
 
 /// Takes an instruction into the walk: it keeps the rules, and what is known after it is sent on.
@@ -196,17 +211,13 @@ fn pass(
         ≡ rows_after shape insn.now slot (come_of front.old) (table_of rows.old.items) other) }
     ensures front { OnOk result (come_of front.new ≡ front_after shape insn.now slot (come_of front.old)) }
 {
-    if !front.reached {
-        return pass_unreached(program, shape, slot, insn);
+    match broken(program, shape, slot, insn, front) {
+        Some(rule) => Err(VerifyError::Refused { slot, rule }),
+        None => match send(alloc, program, shape, rows, slot, insn, front) {
+            Ok(()) => Ok(()),
+            Err(_) => Err(VerifyError::Memory),
+        },
     }
-    keep(program, shape, slot, insn, &front.known)?;
-    let Ok(()) = jump(alloc, shape, rows, slot, insn, &front.known) else {
-        return Err(VerifyError::Memory);
-    };
-    let Ok(()) = front.go_on(alloc, shape, slot, insn) else {
-        return Err(VerifyError::Memory);
-    };
-    Ok(())
 }
 
 /// Takes the instruction at a slot into the walk.
@@ -228,7 +239,7 @@ fn walk_slot(
     ensures refused { IfErr result (IsRefusal program.now shape) }
 {
     let row = take_row(rows, slot as usize);
-    front.meet(row);
+    front.join_incoming(row);
     pass(alloc, program, shape, rows, slot, insn, front)
 }
 
@@ -241,7 +252,7 @@ pub(crate) fn walk(alloc: Global, program: &Program, shape: Shape) -> Result<(),
         return Err(VerifyError::Memory);
     };
     let mut front = Front {
-        known: Known::entry(shape),
+        known: AbstractState::entry(shape),
         reached: true,
     };
     let mut slot = 0;

@@ -16,7 +16,7 @@ use Rattle.bpf_machine.specs.Machine.{MachineState, Running, Ended, entry}
 use Rattle.bpf_machine.specs.Step.{number_at, with_number, step}
 use Rattle.bpf_machine.specs.Run.{Leads, End}
 use Rattle.clock_nodes.specs.Rule.{Rule, IsRule, support, clock_below, clock_of, mark_of, pair_from, pair_after, with_pair}
-use Rattle.clock_nodes.specs.Listings.{head, count_blocks, choice, store, send_blocks, tail, listing, clock_listing}
+use Rattle.clock_nodes.specs.Listings.{head, count_blocks, choice, store_listing, send_blocks, tail, listing, clock_listing}
 use Rattle.clock_nodes.specs.Ends.{IsSentTo, IsStart, IsClockEnd, HasRuns, EndsBy}
 use Rattle.clock_nodes.proofs.Places.{Stands, begins, first_begins, stands_behind, Ones, ones_append, stands_whole}
 use Rattle.clock_nodes.proofs.Forms.{put_same, put_other, is_less, put, at, moves, passes, jumps, loads}
@@ -30,7 +30,7 @@ use Rattle.clock_nodes.proofs.Bytes.{HasPair, has_pair}
 -- ---- from the choice on
 
 finish_choice : (program : List Insn) (env : Setting) (s : MachineState) (quorum modulus v mark : ℕ) → IsSetting env
-    → Stands program s.frame.slot (choice quorum modulus ++ (store ++ (send_blocks env.shape.nodes 0 ++ tail)))
+    → Stands program s.frame.slot (choice quorum modulus ++ (store_listing ++ (send_blocks env.shape.nodes 0 ++ tail)))
     → quorum < 2 ^ 32 → 2 ≤ modulus → modulus < 2 ^ 32 → v < modulus → mark < 2 ^ 32
     → Counting v (support env.inbox v env.shape.nodes) s.frame.registers → s.sent ≡ empty
     → number_at (slice_get s.memory) 4 4 ≡ Ok mark
@@ -42,7 +42,7 @@ finish_choice program env s quorum modulus v mark is stands q_small some few v_s
     let n = env.shape.nodes in
     let to = s.frame.slot + 18 in
     let sup = support env.inbox v n in
-    let rest = store ++ (send_blocks n 0 ++ tail) in
+    let rest = store_listing ++ (send_blocks n 0 ++ tail) in
     let behind : Stands program to rest = stands_behind program s.frame.slot to
     (choice quorum modulus) rest refl stands in
     let small = pair_small quorum modulus sup v mark env.coin some is.coin in
@@ -164,7 +164,7 @@ finish_all program env memory quorum modulus is stands q_small some few clock_fi
     let n = env.shape.nodes in
     let v = clock_below modulus (clock_of memory) in
     let v_small : v < modulus = clock_small modulus (clock_of memory) (omega (arith, some)) in
-    let rest = choice quorum modulus ++ (store ++ (send_blocks n 0 ++ tail)) in
+    let rest = choice quorum modulus ++ (store_listing ++ (send_blocks n 0 ++ tail)) in
     let counting : Stands program 5 (count_blocks n 0 ++ rest) = stands.1.1.1.1.1 in
     let a = begun program (count_blocks n 0 ++ rest) env memory modulus (clock_of memory) stands
     (first_begins program 5 (count_blocks n 0) rest refl counting) is.extent.least
@@ -196,7 +196,7 @@ pub ones_clock : (nodes quorum modulus : ℕ) → Ones (listing nodes quorum mod
 ones_clock nodes quorum modulus =
     let ones_rest : Ones (send_blocks nodes 0 ++ tail) = ones_append (send_blocks nodes 0) tail (ones_send nodes 0)
     (refl, (refl, tt)) in
-    let ones_choice : Ones (choice quorum modulus ++ (store ++ (send_blocks nodes 0 ++ tail))) = (
+    let ones_choice : Ones (choice quorum modulus ++ (store_listing ++ (send_blocks nodes 0 ++ tail))) = (
       refl,
       (
         refl,

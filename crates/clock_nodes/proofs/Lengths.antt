@@ -8,7 +8,7 @@ use Rattle.bpf_verify.specs.Paths.{IsLongestFrom, IsLongestPath}
 use Rattle.bpf_verify.specs.inner.Lengths.{IsLongestOn}
 use Rattle.bpf_verify.proofs.LengthLaws.{longest_here, longest_on}
 use Rattle.clock_nodes.specs.Rule.{Rule, quorum_of}
-use Rattle.clock_nodes.specs.Listings.{count_blocks, choice, store, send_blocks, tail, listing, clock_listing}
+use Rattle.clock_nodes.specs.Listings.{count_blocks, choice, store_listing, send_blocks, tail, listing, clock_listing}
 use Rattle.clock_nodes.proofs.Places.{Stands, found_in, stands_behind, stands_whole}
 use Rattle.clock_nodes.proofs.ClockRuns.{ones_clock}
 
@@ -70,7 +70,7 @@ from_sends program rest slot (suc n) j count stands behind =
     let h0 : IsLongestFrom program slot (1 + (1 + (1 + c))) = one_way program _ _ _ _ _ stands.0 refl refl refl h1 in
     as_many program slot _ _ (omega arith) h0
 
-from_store : (program rest : List Insn) (slot count : ℕ) → Stands program slot (store ++ rest)
+from_store : (program rest : List Insn) (slot count : ℕ) → Stands program slot (store_listing ++ rest)
     → IsLongestFrom program (slot + 1 + 1) count → IsLongestFrom program slot (2 + count)
 from_store program rest slot count stands h2 =
     let h1 : IsLongestFrom program (slot + 1) (1 + count) = one_way program _ _ _ _ _ stands.1.0 refl refl refl h2 in
@@ -141,10 +141,10 @@ from_choice program rest base quorum modulus count stands end =
 -- ---- the whole
 
 from_end : (program : List Insn) (slot quorum modulus n : ℕ)
-    → Stands program slot (choice quorum modulus ++ (store ++ (send_blocks n 0 ++ tail)))
+    → Stands program slot (choice quorum modulus ++ (store_listing ++ (send_blocks n 0 ++ tail)))
     → IsLongestFrom program slot (12 + 3 * n)
 from_end program slot quorum modulus n stands =
-    let rest = store ++ (send_blocks n 0 ++ tail) in
+    let rest = store_listing ++ (send_blocks n 0 ++ tail) in
     let sends : Stands program (slot + 18) rest = stands_behind program slot (slot + 18) (choice quorum modulus) rest
     (omega arith) stands in
     let h : IsLongestFrom program (slot + 18 + 1 + 1) (3 * n + 2) = from_sends program tail _ n 0 2 sends.1.1

@@ -14,7 +14,7 @@ use Rattle.bpf_insn.specs.Encoding.{InRange}
 use Rattle.bpf_insn.specs.Programs.{IsProgram, slots_of}
 use Rattle.bpf_insn.proofs.LayoutLaws.{slots_of-cons}
 use Rattle.clock_nodes.specs.Rule.{Rule, IsRule, quorum_of}
-use Rattle.clock_nodes.specs.Listings.{head, count_blocks, choice, store, send_blocks, tail, listing, clock_listing, say_blocks, say_listing, echo_blocks, echo_listing}
+use Rattle.clock_nodes.specs.Listings.{head, count_blocks, choice, store_listing, send_blocks, tail, listing, clock_listing, say_blocks, say_listing, echo_blocks, echo_listing}
 use Rattle.clock_nodes.proofs.Places.{Ones}
 use Rattle.clock_nodes.proofs.ClockRuns.{ones_clock}
 use Rattle.clock_nodes.proofs.HostileRuns.{ones_say, ones_echo}
@@ -73,7 +73,7 @@ clock_slots nodes quorum modulus =
       length_counts nodes 0,
       length_sends nodes 0,
       length-append sends tail,
-      length-append counts (choice quorum modulus ++ (store ++ (sends ++ tail))),
+      length-append counts (choice quorum modulus ++ (store_listing ++ (sends ++ tail))),
     )
 
 program_of : (p : List Insn) → AreInRange p → 1 ≤ slots_of p → slots_of p ≤ MAX_SLOTS → IsProgram p
@@ -89,7 +89,7 @@ clock_is_program rule ok =
     let q_few : q < 2 ^ 31 = omega (arith, ok.few) in
     let m_few : m < 2 ^ 31 = omega (arith, ok.most) in
     let sends = send_blocks n 0 ++ tail in
-    let stores = store ++ sends in
+    let stores = store_listing ++ sends in
     let choices = choice q m ++ stores in
     let in_stores : AreInRange stores = (
       fit16 0 (omega arith),

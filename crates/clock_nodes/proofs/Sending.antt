@@ -10,7 +10,7 @@ use Rattle.bpf_insn.specs.declared.forms.Insn.{Insn}
 use Rattle.bpf_machine.specs.declared.word.Word.TheVariants.{Num, Ptr}
 use Rattle.bpf_machine.specs.Machine.{MachineState, Running}
 use Rattle.bpf_machine.specs.Step.{with_number, step}
-use Rattle.clock_nodes.specs.Listings.{store, send_blocks, tail}
+use Rattle.clock_nodes.specs.Listings.{store_listing, send_blocks, tail}
 use Rattle.clock_nodes.specs.Ends.{IsSentTo}
 use Rattle.clock_nodes.proofs.Places.{Stands, begins, first_begins}
 use Rattle.clock_nodes.proofs.Forms.{put_same, put_other, call_keeps, put, sending, storing, moves, sends, stores}
@@ -51,7 +51,7 @@ finish_sends program env s clock (suc n) j stands all small r7 sent =
 
 -- from the stores of a pair that is in r7 and r9
 pub finish_stores : (program : List Insn) (env : Setting) (s : MachineState) (pair : ℕ × ℕ)
-    → Stands program s.frame.slot (store ++ (send_blocks env.shape.nodes 0 ++ tail)) → 8 ≤ env.shape.memory
+    → Stands program s.frame.slot (store_listing ++ (send_blocks env.shape.nodes 0 ++ tail)) → 8 ≤ env.shape.memory
     → pair.0 < 2 ^ 32
     → get s.frame.registers 6 ≡ Some (Ptr Mem 0) → get s.frame.registers 7 ≡ Some (Num pair.0)
     → get s.frame.registers 9 ≡ Some (Num pair.1) → IsSentTo 0 (λ k. Some pair.0) s.sent

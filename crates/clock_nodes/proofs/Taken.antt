@@ -8,8 +8,8 @@ use Rattle.bpf_insn.specs.declared.edges.Way.{Way}
 use Rattle.bpf_insn.specs.declared.edges.Way.TheVariants.{Onward, Jumping}
 use Rattle.bpf_insn.specs.Programs.{insn_at, slots_of}
 use Rattle.bpf_insn.specs.Edges.{BeginsAt, target}
-use Rattle.bpf_verify.specs.declared.kind.Kind.{Kind}
-use Rattle.bpf_verify.specs.declared.kind.Kind.TheVariants.{Unset}
+use Rattle.bpf_verify.specs.declared.abstract_value.AbstractValue.{AbstractValue}
+use Rattle.bpf_verify.specs.declared.abstract_value.AbstractValue.TheVariants.{Unset}
 use Rattle.bpf_verify.specs.declared.rule.Rule.TheVariants.{NotForward, BadTarget, UnknownHelper, UnsetRegister, FrameWrite, PointerMisuse, OutOfRegion, UnsetStackByte, BadArgument, ExitNotNumber, NotPointer}
 use Rattle.bpf_verify.specs.States.{AbstractState, abstract_state, IsKindIn, IsContainedIn, IsProperKind, IsProper, entry_state}
 use Rattle.bpf_verify.specs.Rules.{KeepsRules, is_astray, leads_astray, goes_back, calls_unknown, reads_unset, writes_frame, may_misuse_pointer, may_leave_regions, loads_unset, misses_argument, may_exit_with_pointer, accesses_number}
@@ -19,7 +19,7 @@ use Rattle.clock_nodes.proofs.Places.{Ones, found}
 
 -- ---- states: what is known of r0, r1, r2 and of r6 to r9
 
-abbrev pub kinds_of : Kind → Kind → Kind → Kind → Kind → Kind → Kind → ℕ → Kind
+abbrev pub kinds_of : AbstractValue → AbstractValue → AbstractValue → AbstractValue → AbstractValue → AbstractValue → AbstractValue → ℕ → AbstractValue
 kinds_of k0 k1 k2 k6 k7 k8 k9 number =
     if number == 0 then k0
     else if number == 1 then k1
@@ -30,10 +30,10 @@ kinds_of k0 k1 k2 k6 k7 k8 k9 number =
     else if number == 9 then k9
     else Unset
 
-abbrev pub state : Kind → Kind → Kind → Kind → Kind → Kind → Kind → AbstractState
+abbrev pub state : AbstractValue → AbstractValue → AbstractValue → AbstractValue → AbstractValue → AbstractValue → AbstractValue → AbstractState
 state k0 k1 k2 k6 k7 k8 k9 = abstract_state (kinds_of k0 k1 k2 k6 k7 k8 k9) (λ byte. false) (λ dword. Unset)
 
-others : (k0 k1 k2 k6 k7 k8 k9 : Kind) (number : ℕ) → 9 < number → kinds_of k0 k1 k2 k6 k7 k8 k9 number ≡ Unset
+others : (k0 k1 k2 k6 k7 k8 k9 : AbstractValue) (number : ℕ) → 9 < number → kinds_of k0 k1 k2 k6 k7 k8 k9 number ≡ Unset
 others k0 k1 k2 k6 k7 k8 k9 number far = rw (
   ne_eqb number 0 (λ e. omega arith),
   ne_eqb number 1 (λ e. omega arith),
@@ -45,7 +45,7 @@ others k0 k1 k2 k6 k7 k8 k9 number far = rw (
 ) refl
 
 -- a fact of each of the seven, and of a register of which nothing is known
-each_kind : (P : ℕ → Kind → Type 0) (k0 k1 k2 k6 k7 k8 k9 : Kind) → P 0 k0 → P 1 k1 → P 2 k2 → P 6 k6 → P 7 k7
+each_kind : (P : ℕ → AbstractValue → Type 0) (k0 k1 k2 k6 k7 k8 k9 : AbstractValue) → P 0 k0 → P 1 k1 → P 2 k2 → P 6 k6 → P 7 k7
     → P 8 k8 → P 9 k9 → ((number : ℕ) → P number Unset) → (number : ℕ) → P number (kinds_of k0 k1 k2 k6 k7 k8 k9 number)
 each_kind P k0 k1 k2 k6 k7 k8 k9 h0 h1 h2 h6 h7 h8 h9 none zero = h0
 each_kind P k0 k1 k2 k6 k7 k8 k9 h0 h1 h2 h6 h7 h8 h9 none (suc zero) = h1
@@ -62,9 +62,9 @@ each_kind P k0 k1 k2 k6 k7 k8 k9 h0 h1 h2 h6 h7 h8 h9 none
     (suc (suc (suc (suc (suc (suc (suc (suc (suc (suc n)))))))))) =
     let number = suc (suc (suc (suc (suc (suc (suc (suc (suc (suc n))))))))) in
     let free = others k0 k1 k2 k6 k7 k8 k9 number (omega arith) in
-    subst (λ (k : Kind). P number k) (sym free) (none number)
+    subst (λ (k : AbstractValue). P number k) (sym free) (none number)
 
-pub proper : (k0 k1 k2 k6 k7 k8 k9 : Kind) → IsProperKind k0 → IsProperKind k1 → IsProperKind k2 → IsProperKind k6
+pub proper : (k0 k1 k2 k6 k7 k8 k9 : AbstractValue) → IsProperKind k0 → IsProperKind k1 → IsProperKind k2 → IsProperKind k6
     → IsProperKind k7 → IsProperKind k8 → IsProperKind k9 → IsProper (state k0 k1 k2 k6 k7 k8 k9)
 proper k0 k1 k2 k6 k7 k8 k9 h0 h1 h2 h6 h7 h8 h9 = record {
   kinds = each_kind (λ number kind. IsProperKind kind) k0 k1 k2 k6 k7 k8 k9 h0 h1 h2 h6 h7 h8 h9 (λ number. tt);
@@ -73,7 +73,7 @@ proper k0 k1 k2 k6 k7 k8 k9 h0 h1 h2 h6 h7 h8 h9 = record {
   apart = λ byte e. absurd (let no : false ≡ true = e in cc);
 }
 
-pub within : (A : AbstractState) (k0 k1 k2 k6 k7 k8 k9 : Kind) → IsKindIn (A.kinds 0) k0 → IsKindIn (A.kinds 1) k1
+pub within : (A : AbstractState) (k0 k1 k2 k6 k7 k8 k9 : AbstractValue) → IsKindIn (A.kinds 0) k0 → IsKindIn (A.kinds 1) k1
     → IsKindIn (A.kinds 2) k2 → IsKindIn (A.kinds 6) k6 → IsKindIn (A.kinds 7) k7 → IsKindIn (A.kinds 8) k8
     → IsKindIn (A.kinds 9) k9 → IsContainedIn A (state k0 k1 k2 k6 k7 k8 k9)
 within A k0 k1 k2 k6 k7 k8 k9 h0 h1 h2 h6 h7 h8 h9 = record {

@@ -15,15 +15,15 @@ use Rattle.bpf_insn.specs.declared.forms.Insn.{Insn}
 use Rattle.bpf_insn.specs.Edges.{BeginsAt}
 use Rattle.value_range.specs.Span.{Span, span, just, full_of, is_single, IsInside}
 use Rattle.value_range.specs.Conditions.{less, branch_of}
-use Rattle.bpf_verify.specs.declared.kind.Kind.{Kind}
-use Rattle.bpf_verify.specs.declared.kind.Kind.TheVariants.{Unset, Number, Pointer}
+use Rattle.bpf_verify.specs.declared.abstract_value.AbstractValue.{AbstractValue}
+use Rattle.bpf_verify.specs.declared.abstract_value.AbstractValue.TheVariants.{Unset, Number, Pointer}
 use Rattle.bpf_verify.specs.States.{AbstractState, IsKindIn, IsContainedIn, IsProperKind, IsProper, entry_state}
 use Rattle.bpf_verify.specs.Outcomes.{with_kind, refined_by}
 use Rattle.bpf_verify.specs.Typable.{Table, Typable}
 use Rattle.bpf_verify.proofs.StateLaws.{kind_in_itself}
-use Rattle.clock_nodes.specs.declared.rule.TheConstants.{MOST_MODULUS}
+use Rattle.clock_nodes.specs.declared.rule.TheConstants.{MAX_MODULUS}
 use Rattle.clock_nodes.specs.Rule.{Rule, IsRule, quorum_of}
-use Rattle.clock_nodes.specs.Listings.{head, count_block, count_blocks, choice, store, send_block, send_blocks, tail, listing, clock_listing}
+use Rattle.clock_nodes.specs.Listings.{head, count_block, count_blocks, choice, store_listing, send_block, send_blocks, tail, listing, clock_listing}
 use Rattle.clock_nodes.proofs.Places.{Stands, begins, first_begins, found_in, stands_behind, stands_whole}
 use Rattle.clock_nodes.proofs.ClockRuns.{ones_clock}
 use Rattle.clock_nodes.proofs.Programs.{length_counts, length_sends}
@@ -31,20 +31,20 @@ use Rattle.clock_nodes.proofs.Taken.{state, proper, within, keeps_own, sound_on,
 
 -- ---- what is known: the memory's place in r6, and numbers of 32 or 64 bits
 
-abbrev place : Kind
+abbrev place : AbstractValue
 place = Pointer Mem (just 0)
 
-abbrev word : Kind
+abbrev word : AbstractValue
 word = Number (full_of 32)
 
-abbrev any : Kind
+abbrev any : AbstractValue
 any = Number (full_of 64)
 
 -- a clock that went on may be the modulus
-abbrev more : Kind
+abbrev more : AbstractValue
 more = Number (span 0 (2 ^ 32))
 
-abbrev pub node : Extent → Kind
+abbrev pub node : Extent → AbstractValue
 node shape = Number (span 0 (shape.nodes - 1))
 
 abbrev at_entry : AbstractState
@@ -150,7 +150,7 @@ pub imm_is : (n : ℕ) → n < 2 ^ 32 → cast_unsigned w64 (pos n) % 2 ^ 64 ≡
 imm_is n h = mod-eq_of_lt (omega (arith, h))
 
 -- of the numbers below the modulus
-less_few : (a : Span) (m : ℕ) (pair : Span × Span) → m ≤ MOST_MODULUS → less a (just m) ≡ Some pair
+less_few : (a : Span) (m : ℕ) (pair : Span × Span) → m ≤ MAX_MODULUS → less a (just m) ≡ Some pair
     → pair.0.hi ≤ 2 ^ 32 - 1
 less_few a m pair few e = by (nat_lt a.lo m) refl
   where
@@ -163,7 +163,7 @@ less_few a m pair few e = by (nat_lt a.lo m) refl
 
 -- a number that is known to be below the modulus
 below : (a : Span) (modulus : ℕ) (pair : Span × Span) → is_single a ≡ false → nat_lt a.hi (2 ^ 64) ≡ true
-    → modulus ≤ MOST_MODULUS
+    → modulus ≤ MAX_MODULUS
     → branch_of Lt W64 a (just (cast_unsigned w64 (pos modulus) % 2 ^ 64)) true ≡ Some pair
     → IsKindIn (Number pair.0) word
 below a modulus pair many high few e =
@@ -313,7 +313,7 @@ still_node shape = kind_in_itself (node shape)
 -- ---- the head
 
 head_sounds : (program rest : List Insn) (shape : Extent) (table : Table) (base modulus : ℕ) (As : List AbstractState)
-    → 8 ≤ shape.memory → modulus ≤ MOST_MODULUS → Stands program base (head modulus ++ rest)
+    → 8 ≤ shape.memory → modulus ≤ MAX_MODULUS → Stands program base (head modulus ++ rest)
     → Marked table base (head_states ++ As) → BeginsAt program (base + 5) → table (base + 5) ≡ Some counting
     → Sounds program shape table base 0 (head modulus)
 head_sounds program rest shape table base modulus As eight few stands marks begun there =
@@ -458,7 +458,7 @@ counts_sound program rest shape table base (suc n) j As few all more stands mark
 -- ---- the choice
 
 choice_sounds : (program rest : List Insn) (shape : Extent) (table : Table) (base quorum modulus : ℕ)
-    (As : List AbstractState) → 8 ≤ shape.memory → modulus ≤ MOST_MODULUS
+    (As : List AbstractState) → 8 ≤ shape.memory → modulus ≤ MAX_MODULUS
     → Stands program base (choice quorum modulus ++ rest) → Marked table base (choice_states ++ As)
     → BeginsAt program (base + 18) → table (base + 18) ≡ Some paired
     → Sounds program shape table base 0 (choice quorum modulus)
@@ -581,11 +581,11 @@ choice_sounds program rest shape table base quorum modulus As eight few stands m
       ),
     )
 
--- ---- the store
+-- ---- the store_listing
 
 store_sounds : (program rest : List Insn) (shape : Extent) (table : Table) (base : ℕ) (As : List AbstractState)
-    → 8 ≤ shape.memory → Stands program base (store ++ rest) → Marked table base (store_states ++ As)
-    → BeginsAt program (base + 2) → table (base + 2) ≡ Some sending → Sounds program shape table base 0 store
+    → 8 ≤ shape.memory → Stands program base (store_listing ++ rest) → Marked table base (store_states ++ As)
+    → BeginsAt program (base + 2) → table (base + 2) ≡ Some sending → Sounds program shape table base 0 store_listing
 store_sounds program rest shape table base As eight stands marks begun there =
     let At = λ (k : ℕ) (A : AbstractState) (e : slice_get (store_states ++ As) k ≡ Some A).
     mark_in table base (store_states ++ As) k A marks e in
@@ -705,20 +705,20 @@ tail_sounds program shape table base stands marks =
 -- ---- the whole
 
 ends_sound : (program : List Insn) (shape : Extent) (table : Table) (base quorum modulus : ℕ)
-    → IsExtent shape.nodes shape.memory → modulus ≤ MOST_MODULUS
-    → Stands program base (choice quorum modulus ++ (store ++ (send_blocks shape.nodes 0 ++ tail)))
+    → IsExtent shape.nodes shape.memory → modulus ≤ MAX_MODULUS
+    → Stands program base (choice quorum modulus ++ (store_listing ++ (send_blocks shape.nodes 0 ++ tail)))
     → Marked table base (choice_states ++ end_states shape shape.nodes)
-    → Sounds program shape table base 0 (choice quorum modulus ++ (store ++ (send_blocks shape.nodes 0 ++ tail)))
+    → Sounds program shape table base 0 (choice quorum modulus ++ (store_listing ++ (send_blocks shape.nodes 0 ++ tail)))
 ends_sound program shape table base quorum modulus is few stands marks =
     let n = shape.nodes in
     let sends = send_blocks n 0 in
     let last = sends ++ tail in
     let at_sends = base + 20 in
-    let stand_store : Stands program (base + 18) (store ++ last) = stands_behind program base (base + 18)
-    (choice quorum modulus) (store ++ last) (omega arith) stands in
+    let stand_store : Stands program (base + 18) (store_listing ++ last) = stands_behind program base (base + 18)
+    (choice quorum modulus) (store_listing ++ last) (omega arith) stands in
     let mark_store : Marked table (base + 18) (end_states shape n) = marks_behind table base (base + 18) choice_states
     (end_states shape n) (omega arith) marks in
-    let stand_sends : Stands program at_sends last = stands_behind program (base + 18) at_sends store last (omega arith)
+    let stand_sends : Stands program at_sends last = stands_behind program (base + 18) at_sends store_listing last (omega arith)
     stand_store in
     let mark_sends : Marked table at_sends (send_states shape n ++ tail_states) = marks_behind table (base + 18)
     at_sends store_states (send_states shape n ++ tail_states) (omega arith) mark_store in
@@ -732,7 +732,7 @@ ends_sound program shape table base quorum modulus is few stands marks =
     let first : table (base + 18 + 2) ≡ Some sending = subst (λ (s : ℕ). table s ≡ Some sending) same
     (first_sending shape table at_sends n mark_sends) in
     let few_nodes : n ≤ 64 = omega (arith, is.few) in
-    let s_choice = choice_sounds program (store ++ last) shape table base quorum modulus (end_states shape n)
+    let s_choice = choice_sounds program (store_listing ++ last) shape table base quorum modulus (end_states shape n)
     (omega (arith, is.least)) few stands marks (begins program (base + 18) _ stand_store.0) mark_store.0 in
     let s_store = store_sounds program last shape table (base + 18) (send_states shape n ++ tail_states)
     (omega (arith, is.least)) stand_store mark_store begun_too first in
@@ -740,20 +740,20 @@ ends_sound program shape table base quorum modulus is few stands marks =
     let s_tail = tail_sounds program shape table at_tail stand_tail mark_tail in
     let s_last : Sounds program shape table at_sends 0 last = sounds_append program shape table at_sends 0 sends tail
     s_sends (counted_from program shape table at_tail at_sends 0 (0 + length sends) tail (omega arith) s_tail) in
-    let s_rest : Sounds program shape table (base + 18) 0 (store ++ last) = sounds_append program shape table
-    (base + 18) 0 store last s_store
+    let s_rest : Sounds program shape table (base + 18) 0 (store_listing ++ last) = sounds_append program shape table
+    (base + 18) 0 store_listing last s_store
     (counted_from program shape table at_sends (base + 18) 0 2 last (omega arith) s_last) in
-    sounds_append program shape table base 0 (choice quorum modulus) (store ++ last) s_choice
-    (counted_from program shape table (base + 18) base 0 18 (store ++ last) (omega arith) s_rest)
+    sounds_append program shape table base 0 (choice quorum modulus) (store_listing ++ last) s_choice
+    (counted_from program shape table (base + 18) base 0 18 (store_listing ++ last) (omega arith) s_rest)
 
 all_sound : (program : List Insn) (shape : Extent) (table : Table) (quorum modulus : ℕ)
-    → IsExtent shape.nodes shape.memory → modulus ≤ MOST_MODULUS
+    → IsExtent shape.nodes shape.memory → modulus ≤ MAX_MODULUS
     → Stands program 0 (listing shape.nodes quorum modulus) → Marked table 0 (clock_states shape shape.nodes)
     → Sounds program shape table 0 0 (listing shape.nodes quorum modulus)
 all_sound program shape table quorum modulus is few stands marks =
     let n = shape.nodes in
     let counts = count_blocks n 0 in
-    let ends = choice quorum modulus ++ (store ++ (send_blocks n 0 ++ tail)) in
+    let ends = choice quorum modulus ++ (store_listing ++ (send_blocks n 0 ++ tail)) in
     let stand_counts : Stands program 5 (counts ++ ends) = stands_behind program 0 5 (head modulus) (counts ++ ends)
     (omega arith) stands in
     let mark_counts : Marked table 5 (count_states shape n ++ (choice_states ++ end_states shape n)) =

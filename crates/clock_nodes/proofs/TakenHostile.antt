@@ -9,8 +9,8 @@ use Rattle.bpf_insn.specs.declared.forms.Width.TheVariants.{W32}
 use Rattle.bpf_insn.specs.declared.forms.AluOp.TheVariants.{Mov}
 use Rattle.value_range.specs.Span.{just, full_of}
 use Rattle.value_range.specs.Results.{alu_of}
-use Rattle.bpf_verify.specs.declared.kind.Kind.{Kind}
-use Rattle.bpf_verify.specs.declared.kind.Kind.TheVariants.{Unset, Number}
+use Rattle.bpf_verify.specs.declared.abstract_value.AbstractValue.{AbstractValue}
+use Rattle.bpf_verify.specs.declared.abstract_value.AbstractValue.TheVariants.{Unset, Number}
 use Rattle.bpf_verify.specs.States.{AbstractState, IsKindIn, IsContainedIn, IsProperKind, IsProper}
 use Rattle.bpf_verify.specs.Typable.{Table, Typable}
 use Rattle.bpf_verify.proofs.StateLaws.{kind_in_itself}
@@ -22,7 +22,7 @@ use Rattle.clock_nodes.proofs.TakenClock.{node, some_node, still_node, small_kin
 
 -- ---- what is known: a node's number in r1, what is said in r2, what was heard in r0
 
-abbrev word : Kind
+abbrev word : AbstractValue
 word = Number (full_of 32)
 
 abbrev nothing : AbstractState

@@ -43,8 +43,8 @@ choice quorum modulus =
     ∷ Branch Lt W64 R7 (Imm (pos modulus)) (pos 1) ∷ Alu Mov W64 R7 (Imm (pos 0)) ∷ []
 
 -- both into the memory
-abbrev pub store : List Insn
-store = StoreReg size.W R6 (pos 0) R7 ∷ StoreReg size.W R6 (pos 4) R9 ∷ []
+abbrev pub store_listing : List Insn
+store_listing = StoreReg size.W R6 (pos 0) R7 ∷ StoreReg size.W R6 (pos 4) R9 ∷ []
 
 -- the clock to node j
 abbrev pub send_block : ℕ → List Insn
@@ -61,7 +61,7 @@ tail = Alu Mov W64 R0 (Imm (pos 0)) ∷ Exit ∷ []
 -- the clock program for `nodes` nodes: a clock that at least `quorum` messages support advances, modulo `modulus`
 abbrev pub listing : ℕ → ℕ → ℕ → List Insn
 listing nodes quorum modulus =
-    head modulus ++ (count_blocks nodes 0 ++ (choice quorum modulus ++ (store ++ (send_blocks nodes 0 ++ tail))))
+    head modulus ++ (count_blocks nodes 0 ++ (choice quorum modulus ++ (store_listing ++ (send_blocks nodes 0 ++ tail))))
 
 -- the clock program of a rule
 abbrev pub clock_listing : Rule → List Insn

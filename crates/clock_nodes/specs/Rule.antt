@@ -6,7 +6,7 @@ use Rattle.std.specs.Ordering.{nat_cmp}
 use Rattle.std.specs.FinMap.{FinMap, get}
 use Rattle.node_env.specs.declared.shape.TheConstants.{MAX_NODES}
 use Rattle.node_env.specs.Env.{Setting}
-use Rattle.clock_nodes.specs.declared.rule.TheConstants.{LEAST_MODULUS, MOST_MODULUS}
+use Rattle.clock_nodes.specs.declared.rule.TheConstants.{LEAST_MODULUS, MAX_MODULUS}
 
 -- a rule: n nodes, at most `faults` of them faulty, clocks below `modulus`
 pub record Rule : Type 0 where
@@ -19,7 +19,7 @@ pub record IsRule (nodes faults modulus : ℕ) : Type 0 where
   pub few : nodes ≤ MAX_NODES
   pub allowed : faults < nodes
   pub least : LEAST_MODULUS ≤ modulus
-  pub most : modulus ≤ MOST_MODULUS
+  pub most : modulus ≤ MAX_MODULUS
 
 -- the support that a clock needs to advance: n - f
 abbrev pub quorum_of : Rule → ℕ

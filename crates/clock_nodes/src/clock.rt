@@ -1,8 +1,8 @@
 //! The clock program.
 ghost use Rattle.std.specs.Prelude.{◌≡◌, ◌≤◌, ◌<◌, ◌++◌, IfOk, OnOk};
 ghost use Rattle.node_env.specs.declared.shape.TheConstants.{MAX_NODES};
-ghost use Rattle.clock_nodes.specs.declared.rule.TheConstants.{MOST_MODULUS};
-ghost use Rattle.clock_nodes.specs.Listings.{head, count_block, count_blocks, choice, store, send_block, send_blocks};
+ghost use Rattle.clock_nodes.specs.declared.rule.TheConstants.{MAX_MODULUS};
+ghost use Rattle.clock_nodes.specs.Listings.{head, count_block, count_blocks, choice, store_listing, send_block, send_blocks};
 ghost use Rattle.clock_nodes.specs.Listings.{listing, clock_listing};
 ghost use Rattle.clock_nodes.specs.Ends.{HasRuns, EndsBy, IsClockEnd};
 
@@ -20,7 +20,7 @@ const MARK: i16 = 4;
 
 /// The clock into r7, or 0 if it is the modulus or more; nothing is counted in r8 yet.
 fn head(modulus: u32) -> [Insn; 5]
-    requires { modulus ≤ MOST_MODULUS }
+    requires { modulus ≤ MAX_MODULUS }
     ensures { result ≡ head modulus }
 {
     let limit = Operand::Imm(modulus as i32);
@@ -49,7 +49,7 @@ fn count_block(sender: u32) -> [Insn; 4]
 /// The new clock into r7 and the new mark into r9.
 fn choice(quorum: u32, modulus: u32) -> [Insn; 18]
     requires quorum { quorum ≤ MAX_NODES }
-    requires modulus { modulus ≤ MOST_MODULUS }
+    requires modulus { modulus ≤ MAX_MODULUS }
     ensures { result ≡ choice quorum modulus }
 {
     let enough = Operand::Imm(quorum as i32);
@@ -80,7 +80,7 @@ fn choice(quorum: u32, modulus: u32) -> [Insn; 18]
 
 /// Both into the memory.
 fn store() -> [Insn; 2]
-    ensures { result ≡ store }
+    ensures { result ≡ store_listing }
 {
     [
         i::store(Reg::R6, CLOCK, Reg::R7),
@@ -128,7 +128,7 @@ fn clock_insns(
 ) -> Result<Vec<Insn>, AllocError>
     requires nodes { nodes ≤ MAX_NODES }
     requires quorum { quorum ≤ MAX_NODES }
-    requires modulus { modulus ≤ MOST_MODULUS }
+    requires modulus { modulus ≤ MAX_MODULUS }
     ensures { IfOk result (λ insns. insns.items ≡ listing nodes quorum modulus) }
 {
     let mut insns = Vec::new(alloc);

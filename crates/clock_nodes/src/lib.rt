@@ -12,4 +12,4 @@ pub use hostile::{echo, say};
 pub use laws::{
     clock_ends, clock_is_taken, echo_ends, hostile_is_taken, pair_is_read_back, say_ends,
 };
-pub use rule::{ClockRule, LEAST_MODULUS, MOST_MODULUS};
+pub use rule::{ClockRule, LEAST_MODULUS, MAX_MODULUS};

@@ -9,7 +9,7 @@ use std::marker::Model;
 pub const LEAST_MODULUS: u32 = 2;
 
 /// The most.
-pub const MOST_MODULUS: u32 = 65_536;
+pub const MAX_MODULUS: u32 = 65_536;
 
 /// The rule of the clocks (docs/CLOCK.md, "The rule") for this many nodes, of which this many may be faulty, with
 /// clocks below the modulus.
@@ -34,7 +34,7 @@ impl Model for ClockRule {
 
 impl ClockRule {
     /// Returns the rule, or none if a number is out of range: 1 to `MAX_NODES` nodes, fewer faults than nodes, and a
-    /// modulus from `LEAST_MODULUS` to `MOST_MODULUS`. It doesn't ask n > 3f; agreement is proved if n > 2f + t, where
+    /// modulus from `LEAST_MODULUS` to `MAX_MODULUS`. It doesn't ask n > 3f; agreement is proved if n > 2f + t, where
     /// t nodes aren't settled (docs/CLOCK.md, "Why it holds").
     pub fn of(nodes: u32, faults: u32, modulus: u32) -> Option<ClockRule>
         ensures value { IfSome result (λ r. r ≡ record { nodes = nodes; faults = faults; modulus = modulus }) }
@@ -43,7 +43,7 @@ impl ClockRule {
         if nodes < 1 || nodes > MAX_NODES || faults >= nodes {
             return None;
         }
-        if modulus < LEAST_MODULUS || modulus > MOST_MODULUS {
+        if modulus < LEAST_MODULUS || modulus > MAX_MODULUS {
             return None;
         }
         Some(ClockRule {

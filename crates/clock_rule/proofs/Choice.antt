@@ -7,11 +7,11 @@ use Rattle.clock_nodes.specs.Rule.{pair_from}
 use Rattle.rule_nodes.specs.declared.syntax.Operation.TheVariants.{Sum, Difference, Remainder}
 use Rattle.rule_nodes.specs.declared.syntax.Sizes.{Sizes}
 use Rattle.rule_nodes.specs.declared.syntax.Target.TheVariants.{ToWord}
-use Rattle.rule_nodes.specs.Meaning.{NodeState, apply, number_of, truth, word_at, assigned}
+use Rattle.rule_nodes.specs.Meaning.{NodeState, apply, bit_of, truth, word_at, assigned}
 use Rattle.clock_rule.specs.Clock.{new_pair}
 use Rattle.clock_rule.proofs.FormMeaning.{form_after}
 
-pub truth_of : (b : Bool) → truth (number_of b) ≡ b
+pub truth_of : (b : Bool) → truth (bit_of b) ≡ b
 truth_of true = refl
 truth_of false = refl
 
@@ -35,9 +35,9 @@ with_both pair u = assigned (ToWord 1) pair.1 (assigned (ToWord 0) pair.0 u)
 
 abbrev chain : Bool → Bool → Bool → ℕ → ℕ → NodeState → NodeState
 chain a b c next k u =
-    if truth (number_of a) then with_both (0, 0) u
-    else if truth (number_of b) then with_both (next, 1) u
-    else if truth (number_of c) then with_both (1, 1) u
+    if truth (bit_of a) then with_both (0, 0) u
+    else if truth (bit_of b) then with_both (next, 1) u
+    else if truth (bit_of c) then with_both (1, 1) u
     else with_both (k, k) u
 
 chained : (a b c : Bool) (next k : ℕ) (u : NodeState)

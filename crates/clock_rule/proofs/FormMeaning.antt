@@ -8,7 +8,7 @@ use Rattle.rule_nodes.specs.declared.syntax.Term.{Term}
 use Rattle.rule_nodes.specs.declared.syntax.Term.TheVariants.{Number, Nodes, Faults, Modulus, Me, Coin, LoopNode, Local, Word, Message', Binary', Logical', Not', Choice', Count'}
 use Rattle.rule_nodes.specs.declared.syntax.Statement.{Statement}
 use Rattle.rule_nodes.specs.declared.syntax.Statement.TheVariants.{Nothing, Then', Let', Assign, If', For', SendAll, SendTo}
-use Rattle.rule_nodes.specs.Meaning.{NodeState, operate, combine, number_of, truth, count_below, word_at, message_from, value, with_local, assigned, all_assigned, with_sent, sent_below, each_below, after, initial_state, pulse}
+use Rattle.rule_nodes.specs.Meaning.{NodeState, apply_operator, combine, bit_of, truth, count_below, word_at, message_from, value, with_local, assigned, all_assigned, with_sent, sent_below, each_below, after, initial_state, pulse}
 use Rattle.rule_text.specs.Forms.{TermForm, number, nodes, faults, modulus, me, coin, loop_node, local, word, message, binary, logical, inverse, choice, count, AssignmentForm, one, also, StatementForm, nothing, sequence, let_in, assign, branch, each, send_all, send_to, term_form, assignment_form, statement_form}
 
 -- ---- terms
@@ -24,17 +24,17 @@ form_value (loop_node i) z env J u = slice_index J i
 form_value (local k) z env J u = u.locals k
 form_value (word k) z env J u = word_at k u.memory
 form_value (message a) z env J u = message_from z env (form_value a z env J u)
-form_value (binary o a b) z env J u = operate o (form_value a z env J u) (form_value b z env J u)
+form_value (binary o a b) z env J u = apply_operator o (form_value a z env J u) (form_value b z env J u)
 form_value (logical c a b) z env J u =
-    number_of (combine c (truth (form_value a z env J u)) (truth (form_value b z env J u)))
-form_value (inverse a) z env J u = number_of (not (truth (form_value a z env J u)))
+    bit_of (combine c (truth (form_value a z env J u)) (truth (form_value b z env J u)))
+form_value (inverse a) z env J u = bit_of (not (truth (form_value a z env J u)))
 form_value (choice t a b) z env J u =
     if truth (form_value t z env J u) then form_value a z env J u else form_value b z env J u
 form_value (count t) z env J u = count_below z.nodes (λ j. form_value t z env (J ++ j ∷ []) u)
 
 count_same : (n : ℕ) (f g : ℕ → ℕ) → ((j : ℕ) → f j ≡ g j) → count_below n f ≡ count_below n g
 count_same zero f g h = refl
-count_same (suc n) f g h = ap₂ (λ (x y : ℕ). x + number_of (truth y)) (count_same n f g h) (h n)
+count_same (suc n) f g h = ap₂ (λ (x y : ℕ). x + bit_of (truth y)) (count_same n f g h) (h n)
 
 chosen_same : (t s a b c d : ℕ) → t ≡ s → a ≡ b → c ≡ d
     → (if truth t then a else c) ≡ (if truth s then b else d)
@@ -53,10 +53,10 @@ value_same (LoopNode i) z env J u = refl
 value_same (Local k) z env J u = refl
 value_same (Word k) z env J u = refl
 value_same (Message' p a) z env J u = ap (message_from z env) (value_same a z env J u)
-value_same (Binary' o p a q b) z env J u = ap₂ (operate o) (value_same a z env J u) (value_same b z env J u)
+value_same (Binary' o p a q b) z env J u = ap₂ (apply_operator o) (value_same a z env J u) (value_same b z env J u)
 value_same (Logical' c p a q b) z env J u =
-    ap₂ (λ (x y : ℕ). number_of (combine c (truth x) (truth y))) (value_same a z env J u) (value_same b z env J u)
-value_same (Not' p a) z env J u = ap (λ (x : ℕ). number_of (not (truth x))) (value_same a z env J u)
+    ap₂ (λ (x y : ℕ). bit_of (combine c (truth x) (truth y))) (value_same a z env J u) (value_same b z env J u)
+value_same (Not' p a) z env J u = ap (λ (x : ℕ). bit_of (not (truth x))) (value_same a z env J u)
 value_same (Choice' p t q a r b) z env J u =
     chosen_same _ _ _ _ _ _ (value_same t z env J u) (value_same a z env J u) (value_same b z env J u)
 value_same (Count' p t) z env J u = count_same z.nodes (λ j. value t z env (J ++ j ∷ []) u)

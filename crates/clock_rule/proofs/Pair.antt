@@ -13,7 +13,7 @@ use Rattle.clock_nodes.proofs.Pairs.{clock_small, pair_small}
 use Rattle.clock_nodes.proofs.Runs.{nothing_sent, sent_next}
 use Rattle.rule_nodes.specs.declared.syntax.Sizes.{Sizes}
 use Rattle.rule_nodes.specs.declared.syntax.Statement.{Statement}
-use Rattle.rule_nodes.specs.Meaning.{NodeState, number_of, truth, count_below, word_at, with_word, message_from, with_local, sent_below, initial_state, pulse}
+use Rattle.rule_nodes.specs.Meaning.{NodeState, bit_of, truth, count_below, word_at, with_memory_word, message_from, with_local, sent_below, initial_state, pulse}
 use Rattle.rule_nodes.specs.Ends.{sizes_of}
 use Rattle.rule_nodes.proofs.Words.{word_loaded, word_stored}
 use Rattle.rule_text.specs.Forms.{statement_form}
@@ -32,9 +32,9 @@ clock_is m l = ok_same _ _ _ (word_loaded 0 m (omega (arith, l))) (has_pair m l)
 mark_is : (m : List ℕ) → 8 ≤ length m → word_at 1 m ≡ mark_of m
 mark_is m l = ok_same _ _ _ (word_loaded 1 m (omega (arith, l))) (has_pair m l).mark
 
-pair_is : (pair : ℕ × ℕ) (m : List ℕ) → 8 ≤ length m → with_word 1 pair.1 (with_word 0 pair.0 m) ≡ with_pair pair m
+pair_is : (pair : ℕ × ℕ) (m : List ℕ) → 8 ≤ length m → with_memory_word 1 pair.1 (with_memory_word 0 pair.0 m) ≡ with_pair pair m
 pair_is pair m l =
-    sym (word_stored 1 pair.1 (with_word 0 pair.0 m))
+    sym (word_stored 1 pair.1 (with_memory_word 0 pair.0 m))
     ∙ ap (λ (bytes : List ℕ). with_number slice_set bytes 4 4 pair.1) (sym (word_stored 0 pair.0 m))
     ∙ (has_pair m l).stored pair
 
@@ -48,13 +48,13 @@ mail_same v None small = ne_eqb NO_MAIL v (λ e. omega (arith, small, e))
 mail_same v (Some m) small = refl
 
 support_is : (z : Sizes) (env : Setting) (v n : ℕ) → n ≤ z.nodes → v < NO_MAIL
-    → count_below n (λ j. number_of (message_from z env j == v)) ≡ support env.inbox v n
+    → count_below n (λ j. bit_of (message_from z env j == v)) ≡ support env.inbox v n
 support_is z env v zero few small = refl
 support_is z env v (suc n) few small =
     let within : nat_lt n z.nodes ≡ true = lt-ltb n z.nodes (omega (arith, few)) in
     let heard : message_from z env n ≡ received env n = ap (λ (b : Bool). if b then received env n else NO_MAIL) within in
-    let one : number_of (truth (number_of (message_from z env n == v))) ≡ cond (is_mail v (get env.inbox n)) 1 0 =
-    ap number_of (truth_of (message_from z env n == v) ∙ ap (λ (x : ℕ). x == v) heard
+    let one : bit_of (truth (bit_of (message_from z env n == v))) ≡ cond (is_mail v (get env.inbox n)) 1 0 =
+    ap bit_of (truth_of (message_from z env n == v) ∙ ap (λ (x : ℕ). x == v) heard
     ∙ mail_same v (get env.inbox n) small) in
     ap₂ ◌+◌ (support_is z env v n (omega (arith, few)) small) one
 
@@ -71,10 +71,10 @@ sent_to_each (suc n) v u e = sent_next n v (λ j. Some v) (sent_below n v u).sen
 -- ---- the lets
 
 abbrev first_let : ℕ → List ℕ → ℕ
-first_let modulus m = if truth (number_of (nat_lt (word_at 0 m) modulus)) then word_at 0 m else 0
+first_let modulus m = if truth (bit_of (nat_lt (word_at 0 m) modulus)) then word_at 0 m else 0
 
 abbrev second_let : Sizes → Setting → ℕ → ℕ
-second_let z env v = count_below z.nodes (λ j. number_of (message_from z env j == v))
+second_let z env v = count_below z.nodes (λ j. bit_of (message_from z env j == v))
 
 abbrev with_lets : Sizes → Setting → List ℕ → NodeState
 with_lets z env m =

@@ -5,11 +5,11 @@ use Rattle.rule_text.specs.declared.errors.ReadRuleError.TheVariants.{Memory}
 use Rattle.rule_text.specs.Tokens.{word_lexeme}
 use Rattle.rule_text.specs.Scopes.{Tells}
 use Rattle.rule_text.specs.Terms.{chain_rest, part}
-use Rattle.rule_text.specs.Statements.{targets_read, lines_read, state_names, header_read, RuleForm, rule_of}
+use Rattle.rule_text.specs.Statements.{targets_read, lines_read, state_names, header_read, RuleForm, rule_read}
 use Rattle.clock_rule.specs.declared.text.TheConstants.{CLOCK_RULE}
 use Rattle.clock_rule.specs.Clock.{clock_rule}
 
-pub text_is_rule : rule_of CLOCK_RULE.now ≡ Ok clock_rule
+pub text_is_rule : rule_read CLOCK_RULE.now ≡ Ok clock_rule
 unfolding word_lexeme chain_rest part targets_read lines_read state_names header_read
 text_is_rule = refl
 

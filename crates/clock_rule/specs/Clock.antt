@@ -13,8 +13,8 @@ use Rattle.rule_text.specs.Statements.{RuleForm}
 abbrev pub v : TermForm
 v = local 0
 
-abbrev pub support : TermForm
-support = local 1
+abbrev pub support_term : TermForm
+support_term = local 1
 
 abbrev pub mark : TermForm
 mark = word 1
@@ -31,7 +31,7 @@ nodes_that_sent_v = count (binary (Compare Equal) (message (loop_node 0)) v)
 
 -- support < n - f
 abbrev pub is_support_low : TermForm
-is_support_low = binary (Compare Less) support (binary (Compute Difference) nodes faults)
+is_support_low = binary (Compare Less) support_term (binary (Compute Difference) nodes faults)
 
 -- (v + 1) % M
 abbrev pub next_clock : TermForm

@@ -7,7 +7,7 @@ ghost use Rattle.rule_nodes.specs.declared.syntax.Statement.{Statement};
 ghost use Rattle.rule_nodes.specs.Meaning.{pulse};
 ghost use Rattle.rule_nodes.specs.Ends.{sizes_of};
 ghost use Rattle.rule_text.specs.Forms.{statement_form};
-ghost use Rattle.rule_text.specs.Statements.{rule_of};
+ghost use Rattle.rule_text.specs.Statements.{rule_read};
 ghost use Rattle.clock_rule.specs.declared.text.TheConstants.{CLOCK_RULE};
 ghost use Rattle.clock_rule.specs.Clock.{clock_statement, clock_rule};
 
@@ -28,5 +28,5 @@ pub fn the_clock_rule_means_the_pair()
 /// States that the text of the rule is read as this rule, so that each rule that `read_rule` of `rule_text` returns for
 /// it means the pair.
 pub fn the_text_reads_as_the_rule()
-    ensures reads { rule_of CLOCK_RULE.now ≡ Ok clock_rule }
+    ensures reads { rule_read CLOCK_RULE.now ≡ Ok clock_rule }
 {}

@@ -3,7 +3,7 @@ mod hostiles;
 mod nodes;
 mod texts;
 
-use clock_nodes::{ClockRule, LEAST_MODULUS, MOST_MODULUS};
+use clock_nodes::{ClockRule, LEAST_MODULUS, MAX_MODULUS};
 use node_env::MAX_NODES;
 
 #[test]
@@ -26,7 +26,7 @@ fn rules_have_limits(rt: HostRuntime) {
             "{nodes} nodes, {faults} faults, modulus {modulus}"
         );
     }
-    assert_eq!(rt; (MAX_NODES, LEAST_MODULUS, MOST_MODULUS), (64, 2, 65_536));
+    assert_eq!(rt; (MAX_NODES, LEAST_MODULUS, MAX_MODULUS), (64, 2, 65_536));
 }
 
 #[test]

@@ -6,7 +6,7 @@ use Rattle.std.proofs.lemmas.List.Elements.{All-push, All-nil}
 use Rattle.clockbed.proofs.Among.{any-among, among-any, among-push, push-among}
 use Rattle.clockbed.proofs.NumberLemmas.{map_push}
 use Rattle.clockbed.proofs.RangeLemmas.{names_within}
-use Rattle.clockbed.specs.Lists.{AreEntries, IsEntry, IsListOf, IsPart, IsSpan, IsWithin, Names, byte_spans}
+use Rattle.clockbed.specs.Lists.{AreEntries, IsEntry, IsListOf, IsPart, IsSpan, IsInSpan, Names, byte_spans}
 use Rattle.clockbed.specs.inner.Spans.{AddsSpan, JoinsSpan}
 use Rattle.clockbed.specs.inner.Entries.{AddsCells, JoinsPart}
 use Rattle.commands.specs.declared.request.ByteSpan.{ByteSpan}
@@ -97,8 +97,8 @@ more_cells old new parts part (inr (places, value, cut, begins)) before =
 pub one_more_span : (values : List ByteSpan) (i : ℕ) (d : ByteSpan) (old new : List ℕ) (span : ℕ × ℕ)
     → i < length values
     → span.0 ≡ (get_or values i d).first → span.1 ≡ (get_or values i d).last
-    → AddsSpan old new span → (n : ℕ) → (Contains old n ↔ Any (IsWithin n) (byte_spans (take i values)))
-    → Contains new n ↔ Any (IsWithin n) (byte_spans (take (i + 1) values))
+    → AddsSpan old new span → (n : ℕ) → (Contains old n ↔ Any (IsInSpan n) (byte_spans (take i values)))
+    → Contains new n ↔ Any (IsInSpan n) (byte_spans (take (i + 1) values))
 one_more_span values i d old new span inside first last adds n before =
     let last_span = get_or values i d in
     let spans = byte_spans (take i values) in
@@ -106,20 +106,20 @@ one_more_span values i d old new span inside first last adds n before =
     let pushed : byte_spans (take (i + 1) values) ≡ spans ++ pair ∷ [] =
     ap byte_spans (take_more values i d inside)
     ∙ map_push (λ s. (s.first, s.last)) (take i values) last_span in
-    let both : Contains new n ↔ Any (IsWithin n) (spans ++ pair ∷ []) = (
-      (λ h. any-among (IsWithin n) (spans ++ pair ∷ []) (push-among (IsWithin n) spans pair (⊎_elim
-          (λ o. inl (among-any (IsWithin n) spans (before.0 o)))
+    let both : Contains new n ↔ Any (IsInSpan n) (spans ++ pair ∷ []) = (
+      (λ h. any-among (IsInSpan n) (spans ++ pair ∷ []) (push-among (IsInSpan n) spans pair (⊎_elim
+          (λ o. inl (among-any (IsInSpan n) spans (before.0 o)))
           (λ w. let low = w.0 in let high = w.1 in inr (omega arith, omega arith)) ((adds n).0 h)))),
       (λ h. (adds n).1 (⊎_elim
-          (λ o. inl (before.1 (any-among (IsWithin n) spans o)))
+          (λ o. inl (before.1 (any-among (IsInSpan n) spans o)))
           (λ w. let low = w.0 in let high = w.1 in inr (omega arith, omega arith))
-          (among-push (IsWithin n) spans pair (among-any (IsWithin n) (spans ++ pair ∷ []) h)))),
+          (among-push (IsInSpan n) spans pair (among-any (IsInSpan n) (spans ++ pair ∷ []) h)))),
     ) in
-    subst (λ xs. Contains new n ↔ Any (IsWithin n) xs) (sym pushed) both
+    subst (λ xs. Contains new n ↔ Any (IsInSpan n) xs) (sym pushed) both
 
 pub join_span : (old new : List (ℕ × ℕ)) (before after : List ℕ) (span : ℕ × ℕ)
-    → ((n : ℕ) → Contains before n ↔ Any (IsWithin n) old) → AddsSpan before after span
-    → ((n : ℕ) → Any (IsWithin n) new ↔ Contains after n) → JoinsSpan old new span
+    → ((n : ℕ) → Contains before n ↔ Any (IsInSpan n) old) → AddsSpan before after span
+    → ((n : ℕ) → Any (IsInSpan n) new ↔ Contains after n) → JoinsSpan old new span
 join_span old new before after span was adds is = λ n. (
   (λ h. ⊎_elim (λ o. inl ((was n).0 o)) (λ w. inr w) ((adds n).0 ((is n).0 h))),
   (λ h. (is n).1 ((adds n).1 (⊎_elim (λ o. inl ((was n).1 o)) (λ w. inr w) h))),

@@ -3,7 +3,7 @@ use Rattle.std.proofs.Common.{◌≡◌, ◌↔◌, ◌<◌, ℕ, List, [], ◌�
 use Rattle.std.proofs.Common.{arith, inl, inr, ⊎_elim, refl, sym, ap, subst, ◌∙◌}
 use Rattle.std.specs.Char.{digit_value}
 use Rattle.std.specs.Str.Parse.{AllDigits, digits_value}
-use Rattle.clockbed.specs.Lists.{IsRange, IsWithin, Names}
+use Rattle.clockbed.specs.Lists.{IsRange, IsInSpan, Names}
 use Rattle.clockbed.specs.inner.Spans.{AddsPart, AddsSpan}
 
 no_dot : (a b : List ℕ) → AllDigits 10 (a ++ (46 ∷ b)) → ⊥
@@ -36,7 +36,7 @@ one_range part first last low high (inr (a, b, e, p, r)) (inr (c, d, f, q, s)) =
     (sym p.1 ∙ ap (digits_value 10) same.0 ∙ q.1, sym r.1 ∙ ap (digits_value 10) rest ∙ s.1)
 
 pub names_within : (part : List ℕ) (first last : ℕ) → IsRange part first last → (n : ℕ)
-    → Names part n ↔ IsWithin n (first, last)
+    → Names part n ↔ IsInSpan n (first, last)
 names_within part first last range n = (
   (λ h. let same = one_range part h.0 h.1 first last h.2 range in
       let low = h.3 in let high = h.4 in let s = same.0 in let t = same.1 in (omega arith, omega arith)),

@@ -13,8 +13,8 @@ use Rattle.std.specs.Ordering.{nat_cmp}
 use Rattle.std.specs.declared.cmp.Ordering.TheVariants.{Less}
 use Rattle.std.proofs.lemmas.Bool.Decides.{nat_tests, eqb_tells}
 use Rattle.clockbed.proofs.Among.{Among, any-among, among-any, contains-among, among-contains}
-use Rattle.clockbed.specs.Lists.{IsWithin, AreLongest, byte_spans, count_of, mail_spans}
-use Rattle.clockbed.specs.inner.Spans.{with_number}
+use Rattle.clockbed.specs.Lists.{IsInSpan, AreLongest, byte_spans, span_length, mail_spans}
+use Rattle.clockbed.specs.inner.Spans.{with_span_number}
 
 -- every span ends below the number
 abbrev pub Below : List (ℕ × ℕ) → ℕ → Type 0
@@ -44,11 +44,11 @@ fold_size (span ∷ more) n = omega (arith, fold_size more (n + (span.1 + 1 - sp
 -- it joins the last span, or is one of its own
 last : (P : List (ℕ × ℕ) → Type 0) (span : ℕ × ℕ) (n : ℕ)
     → (span.1 + 1 ≡ n → P ((span.0, n) ∷ [])) → (span.1 + 1 ≢ n → P (span ∷ (n, n) ∷ []))
-    → P (with_number (span ∷ []) n)
+    → P (with_span_number (span ∷ []) n)
 last P span n same other =
     ⊎_elim (λ yes. rw yes.0 (same yes.1)) (λ no. rw no.0 (other no.1)) (eqb_tells (span.1 + 1) n)
 
-pub with_below : (spans : List (ℕ × ℕ)) (n : ℕ) → Below spans n → Below (with_number spans n) (n + 1)
+pub with_below : (spans : List (ℕ × ℕ)) (n : ℕ) → Below spans n → Below (with_span_number spans n) (n + 1)
 with_below [] n h = (omega arith, tt)
 with_below (span ∷ []) n h = last (λ spans. Below spans (n + 1)) span n
     (λ same. (omega arith, tt)) (λ other. (omega arith, (omega arith, tt)))
@@ -56,21 +56,21 @@ with_below (span ∷ next ∷ more) n h = (omega arith, with_below (next ∷ mor
 
 -- a span before longest spans
 precedes : (span next : ℕ × ℕ) (more : List (ℕ × ℕ)) (n : ℕ) → span.0 ≤ span.1 → span.1 + 1 < next.0
-    → AreLongest (with_number (next ∷ more) n) → AreLongest (span ∷ with_number (next ∷ more) n)
+    → AreLongest (with_span_number (next ∷ more) n) → AreLongest (span ∷ with_span_number (next ∷ more) n)
 precedes span next [] n rises apart = last
     (λ spans. AreLongest spans → AreLongest (span ∷ spans)) next n
     (λ same h. (rises, apart, h)) (λ other h. (rises, apart, h))
 precedes span next (other ∷ more) n rises apart = λ h. (rises, apart, h)
 
 pub with_longest : (spans : List (ℕ × ℕ)) (n : ℕ) → AreLongest spans → Below spans n
-    → AreLongest (with_number spans n)
+    → AreLongest (with_span_number spans n)
 with_longest [] n h below = omega arith
 with_longest (span ∷ []) n h below = last AreLongest span n
     (λ same. omega arith) (λ other. (h, omega arith, omega arith))
 with_longest (span ∷ next ∷ more) n h below =
     precedes span next more n h.0 h.1 (with_longest (next ∷ more) n h.2 below.1)
 
-pub with_size : (spans : List (ℕ × ℕ)) (n : ℕ) → AreLongest spans → size (with_number spans n) ≡ size spans + 1
+pub with_size : (spans : List (ℕ × ℕ)) (n : ℕ) → AreLongest spans → size (with_span_number spans n) ≡ size spans + 1
 unfolding size
 with_size [] n h = omega arith
 with_size (span ∷ []) n h = last (λ spans. size spans ≡ (span.1 + 1 - span.0) + 0 + 1) span n
@@ -78,10 +78,10 @@ with_size (span ∷ []) n h = last (λ spans. size spans ≡ (span.1 + 1 - span.
 with_size (span ∷ next ∷ more) n h = omega (arith, with_size (next ∷ more) n h.2)
 
 pub with_among : (spans : List (ℕ × ℕ)) (n m : ℕ) → AreLongest spans
-    → Among (IsWithin m) (with_number spans n) → Among (IsWithin m) spans ⊎ (m ≡ n)
+    → Among (IsInSpan m) (with_span_number spans n) → Among (IsInSpan m) spans ⊎ (m ≡ n)
 with_among [] n m h = λ p. ⊎_elim (λ w. inr (omega arith)) (λ none. elim none [ ]) p
 with_among (span ∷ []) n m h =
-    last (λ spans. Among (IsWithin m) spans → Among (IsWithin m) (span ∷ []) ⊎ (m ≡ n)) span n
+    last (λ spans. Among (IsInSpan m) spans → Among (IsInSpan m) (span ∷ []) ⊎ (m ≡ n)) span n
     (λ same p. ⊎_elim
     (λ w. ⊎_elim (λ e. inr e) (λ ne. inl (inl (w.0, omega arith))) (cases_eq m n))
     (λ none. elim none [ ]) p)
@@ -91,10 +91,10 @@ with_among (span ∷ next ∷ more) n m h = λ p. ⊎_elim (λ w. inl (inl w))
     (λ later. ⊎_elim (λ a. inl (inr a)) (λ e. inr e) (with_among (next ∷ more) n m h.2 later)) p
 
 pub among_with : (spans : List (ℕ × ℕ)) (n m : ℕ) → AreLongest spans
-    → Among (IsWithin m) spans ⊎ (m ≡ n) → Among (IsWithin m) (with_number spans n)
+    → Among (IsInSpan m) spans ⊎ (m ≡ n) → Among (IsInSpan m) (with_span_number spans n)
 among_with [] n m h = λ p. ⊎_elim (λ none. elim none [ ]) (λ e. inl (omega arith, omega arith)) p
 among_with (span ∷ []) n m h =
-    last (λ spans. Among (IsWithin m) (span ∷ []) ⊎ (m ≡ n) → Among (IsWithin m) spans) span n
+    last (λ spans. Among (IsInSpan m) (span ∷ []) ⊎ (m ≡ n) → Among (IsInSpan m) spans) span n
     (λ same p. inl (⊎_elim (λ a. ⊎_elim (λ w. (w.0, omega arith)) (λ none. elim none [ ]) a)
     (λ e. (omega arith, omega arith)) p))
     (λ other p. ⊎_elim (λ a. ⊎_elim (λ w. inl w) (λ none. elim none [ ]) a)
@@ -115,12 +115,12 @@ below_first n (m ∷ more) spans h below =
 
 -- the spans of rising numbers, after those of others that all of them exceed
 pub record Grows (spans : List (ℕ × ℕ)) (numbers : List ℕ) : Type 0 where
-  pub longest : AreLongest (fold with_number spans numbers)
-  pub size_is : size (fold with_number spans numbers) ≡ size spans + length numbers
-  pub among : (m : ℕ) → Among (IsWithin m) (fold with_number spans numbers)
-      → Among (IsWithin m) spans ⊎ Among (λ n. n ≡ m) numbers
-  pub within : (m : ℕ) → Among (IsWithin m) spans ⊎ Among (λ n. n ≡ m) numbers
-      → Among (IsWithin m) (fold with_number spans numbers)
+  pub longest : AreLongest (fold with_span_number spans numbers)
+  pub size_is : size (fold with_span_number spans numbers) ≡ size spans + length numbers
+  pub among : (m : ℕ) → Among (IsInSpan m) (fold with_span_number spans numbers)
+      → Among (IsInSpan m) spans ⊎ Among (λ n. n ≡ m) numbers
+  pub within : (m : ℕ) → Among (IsInSpan m) spans ⊎ Among (λ n. n ≡ m) numbers
+      → Among (IsInSpan m) (fold with_span_number spans numbers)
 
 pub grows : (spans : List (ℕ × ℕ)) (numbers : List ℕ) → AreLongest spans
     → AllByRecursion (λ n. Below spans n) numbers → IsStrictlySortedBy nat_cmp numbers → Grows spans numbers
@@ -132,8 +132,8 @@ grows spans [] h below sorted = record {
   within = λ m a. ⊎_elim (λ w. w) (λ none. elim none [ ]) a;
 }
 grows spans (n ∷ more) h below sorted =
-    let rest = grows (with_number spans n) more (with_longest spans n h below.0)
-    (below_first n more (with_number spans n) sorted.0 (with_below spans n below.0)) sorted.1 in
+    let rest = grows (with_span_number spans n) more (with_longest spans n h below.0)
+    (below_first n more (with_span_number spans n) sorted.0 (with_below spans n below.0)) sorted.1 in
     record {
       longest = rest.longest;
       size_is = omega (arith, rest.size_is, with_size spans n h);
@@ -149,7 +149,7 @@ grows spans (n ∷ more) h below sorted =
 
 pub joined : (xs : List MailSpan) (i n : ℕ) (span : MailSpan) → i + 1 ≡ length xs → get_or xs i span ≡ span
     → span.last + 1 ≡ n
-    → mail_spans (set xs i (record { first = span.first; last = n })) ≡ with_number (mail_spans xs) n
+    → mail_spans (set xs i (record { first = span.first; last = n })) ≡ with_span_number (mail_spans xs) n
 joined [] i n span l is next = absurd (omega arith)
 joined (x ∷ []) zero n span l is next =
     let same : x.last + 1 ≡ n = ap (λ s. s.last + 1) is ∙ next in
@@ -161,7 +161,7 @@ joined (x ∷ y ∷ more) (suc i) n span l is next =
 
 pub apart : (xs : List MailSpan) (i n : ℕ) (span : MailSpan) → i + 1 ≡ length xs → get_or xs i span ≡ span
     → span.last + 1 ≢ n
-    → mail_spans (xs ++ record { first = n; last = n } ∷ []) ≡ with_number (mail_spans xs) n
+    → mail_spans (xs ++ record { first = n; last = n } ∷ []) ≡ with_span_number (mail_spans xs) n
 apart [] i n span l is other = absurd (omega arith)
 apart (x ∷ []) zero n span l is other =
     rw (ne_eqb (x.last + 1) n (λ same. other (ap (λ s. s.last + 1) (sym is) ∙ same))) refl
@@ -171,7 +171,7 @@ apart (x ∷ y ∷ more) (suc i) n span l is other =
     ap (λ rest. (x.first, x.last) ∷ rest) (apart (y ∷ more) i n span (omega arith) is other)
 
 pub alone : (xs : List MailSpan) (n : ℕ) → length xs ≡ 0
-    → mail_spans (xs ++ record { first = n; last = n } ∷ []) ≡ with_number (mail_spans xs) n
+    → mail_spans (xs ++ record { first = n; last = n } ∷ []) ≡ with_span_number (mail_spans xs) n
 alone [] n none = refl
 alone (x ∷ xs) n none = absurd (omega arith)
 
@@ -182,7 +182,7 @@ below_none [] = tt
 below_none (n ∷ more) = (tt, below_none more)
 
 -- what spans that were made one number after another have
-module _ (spans : List (ℕ × ℕ)) (numbers : List ℕ) (made : spans ≡ fold with_number [] numbers)
+module _ (spans : List (ℕ × ℕ)) (numbers : List ℕ) (made : spans ≡ fold with_span_number [] numbers)
     (sorted : IsStrictlySortedBy nat_cmp numbers) where
   all_grow : Grows [] numbers
   all_grow = grows [] numbers tt (below_none numbers) sorted
@@ -190,14 +190,14 @@ module _ (spans : List (ℕ × ℕ)) (numbers : List ℕ) (made : spans ≡ fold
   pub made_longest : AreLongest spans
   made_longest = subst AreLongest (sym made) all_grow.longest
 
-  pub made_count : count_of spans ≡ length numbers
+  pub made_count : span_length spans ≡ length numbers
   made_count = omega (arith, fold_size spans 0, ap size made, all_grow.size_is, size_none)
 
-  pub made_numbers : (n : ℕ) → Any (IsWithin n) spans ↔ Contains numbers n
+  pub made_numbers : (n : ℕ) → Any (IsInSpan n) spans ↔ Contains numbers n
   made_numbers n = (
     (λ h. contains-among numbers n (⊎_elim (λ none. elim none [ ]) (λ a. a)
-        (all_grow.among n (subst (Among (IsWithin n)) made (among-any (IsWithin n) spans h))))),
-    (λ h. any-among (IsWithin n) spans (subst (Among (IsWithin n)) (sym made)
+        (all_grow.among n (subst (Among (IsInSpan n)) made (among-any (IsInSpan n) spans h))))),
+    (λ h. any-among (IsInSpan n) spans (subst (Among (IsInSpan n)) (sym made)
         (all_grow.within n (inr (among-contains numbers n h))))),
   )
 

@@ -1,14 +1,13 @@
 -- What the options of `explore` ask for (docs/EXPLORE.md, "Options"), by what `clap` read of them.
-use Rattle.std.specs.Prelude.{◌≡◌, ◌⊎◌, ◌≤◌, ◌++◌, ℕ, List, [], Option, Some, None, Ok, Vec, codes, map, true, false}
+use Rattle.std.specs.Prelude.{◌≡◌, ◌⊎◌, ◌≤◌, ◌++◌, ℕ, List, Option, Some, None, Ok, Vec, codes, map, true, false}
 use Rattle.std.specs.List.{AllZip}
 use Rattle.hex.specs.Hex.{decode_of}
 use Rattle.clap.specs.Matches.{first_value}
 use Rattle.clap.specs.declared.parser.matches.Found.{Found}
-use Rattle.clockbed.specs.Lists.{AreCells, IsBytes, IsDecimal, IsMail, parts_of}
-use Rattle.clockbed.specs.Numbers.{HasFlag, HasNumber, IsNumber, IsNumberOr}
+use Rattle.clockbed.specs.Lists.{AreCells, IsBytes, IsMail, parts_of}
+use Rattle.clockbed.specs.Numbers.{HasFlag, IsNumeralOf, IsNumberOf}
 use Rattle.clockbed.specs.declared.explore_words.OddsAsked.{OddsAsked}
-use Rattle.command_words.specs.declared.helps.TheConstants.{DEFAULT_MEBIBYTES, DEFAULT_STATES, MAX_STATES}
-use Rattle.commands.specs.declared.request.AnyStart.{AnyStart}
+use Rattle.command_words.specs.declared.options.TheConstants.{DEPTH, MEBIBYTES, STATES}
 use Rattle.commands.specs.declared.request.Cells.{Cells}
 use Rattle.commands.specs.declared.request.ExploreOptions.{ExploreOptions}
 use Rattle.commands.specs.declared.request.Form.{Form}
@@ -30,43 +29,43 @@ use Rattle.commands.specs.declared.request.Starts.TheVariants as starts
 abbrev pub HasNone : Found → List ℕ → Type 0
 HasNone f name = first_value f name ≡ None
 
-abbrev pub HasText : Found → List ℕ → List ℕ → Type 0
-HasText f name text = first_value f name ≡ Some text
+abbrev pub OptionHasText : Found → List ℕ → List ℕ → Type 0
+OptionHasText f name text = first_value f name ≡ Some text
 
 -- ---- messages
 
 -- the list that the text of an option means, which is there exactly if the option is
 abbrev pub HasMail : {Z : Type 0} → Found → List ℕ → Option (Vec MailSpan Z) → Type 0
 HasMail f name None = HasNone f name
-HasMail f name (Some mail) = (text : List ℕ) × HasText f name text × IsMail text mail.items
+HasMail f name (Some mail) = (text : List ℕ) × OptionHasText f name text × IsMail text mail.items
 
 -- all, or a list
 abbrev pub AsksMail : Found → Option Mail → Type 0
 AsksMail f None = HasNone f (codes "mail")
-AsksMail f (Some mails.All) = HasText f (codes "mail") (codes "all")
-AsksMail f (Some (mails.Listed mail)) = (text : List ℕ) × HasText f (codes "mail") text × IsMail text mail.items
+AsksMail f (Some mails.All) = OptionHasText f (codes "mail") (codes "all")
+AsksMail f (Some (mails.Listed mail)) = (text : List ℕ) × OptionHasText f (codes "mail") text × IsMail text mail.items
 
 -- ---- the start
 
 -- the bytes of pairs of hexadecimal digits
-abbrev pub IsImage : List ℕ → List ℕ → Type 0
-IsImage part image = decode_of part ≡ Ok image
+abbrev pub IsMemoryImage : List ℕ → List ℕ → Type 0
+IsMemoryImage part image = decode_of part ≡ Ok image
 
 -- a memory for each part
 abbrev pub AreImages : List ℕ → List (List ℕ) → Type 0
-AreImages text images = AllZip IsImage (parts_of text) images
+AreImages text images = AllZip IsMemoryImage (parts_of text) images
 
 -- the entries of the bytes at the start: those of one of the two options
 abbrev pub HasCells : Found → List Cells → Type 0
 HasCells f cells =
-    ((text : List ℕ) × HasText f (codes "bytes") text × HasNone f (codes "cells") × IsBytes text cells)
-    ⊎ ((text : List ℕ) × HasNone f (codes "bytes") × HasText f (codes "cells") text × AreCells text cells)
+    ((text : List ℕ) × OptionHasText f (codes "bytes") text × HasNone f (codes "cells") × IsBytes text cells)
+    ⊎ ((text : List ℕ) × HasNone f (codes "bytes") × OptionHasText f (codes "cells") text × AreCells text cells)
 
 -- what memories may be, by one of three options
 abbrev pub HasMemories : Found → Memories → Type 0
 HasMemories f (memories.Cells cells) = HasCells f cells.items × HasNone f (codes "images")
 HasMemories f (memories.Images images) = HasNone f (codes "bytes") × HasNone f (codes "cells")
-    × ((text : List ℕ) × HasText f (codes "images") text × AreImages text (map (λ v. v.items) images.items))
+    × ((text : List ℕ) × OptionHasText f (codes "images") text × AreImages text (map (λ v. v.items) images.items))
 
 abbrev pub HasNoMemories : Found → Type 0
 HasNoMemories f = HasNone f (codes "bytes") × HasNone f (codes "cells") × HasNone f (codes "images")
@@ -77,34 +76,35 @@ AsksMemories f (Some named) = HasMemories f named
 
 -- any start has memories of one of the options, and the list of what was sent if it is named; others have neither
 abbrev pub AsksStart : Found → Starts → Type 0
-AsksStart f starts.Zero = (HasNone f (codes "start") ⊎ HasText f (codes "start") (codes "zero"))
+AsksStart f starts.Zero = (HasNone f (codes "start") ⊎ OptionHasText f (codes "start") (codes "zero"))
     × HasNoMemories f × HasNone f (codes "said")
-AsksStart f (starts.Any any) = HasText f (codes "start") (codes "any") × HasMemories f any.memories
+AsksStart f (starts.Any any) = OptionHasText f (codes "start") (codes "any") × HasMemories f any.memories
     × HasMail f (codes "said") any.said
-AsksStart f starts.Every = HasText f (codes "start") (codes "every") × HasNoMemories f × HasNone f (codes "said")
+AsksStart f starts.Every = OptionHasText f (codes "start") (codes "every") × HasNoMemories f × HasNone f (codes "said")
 
 -- ---- odds
 
 -- COUNT, or FIRST..LAST
-abbrev pub IsOdds : List ℕ → OddsAsked → Type 0
-IsOdds text odds = ((last : ℕ) × (odds.last ≡ Some last) × (odds.first ≡ None) × IsNumber 32 text last)
+abbrev pub IsOddsText : List ℕ → OddsAsked → Type 0
+IsOddsText text odds = ((last : ℕ) × (odds.last ≡ Some last) × (odds.first ≡ None) × IsNumeralOf 32 text last)
     ⊎ ((first : ℕ) × (last : ℕ) × (left : List ℕ) × (right : List ℕ) × (odds.first ≡ Some first)
-    × (odds.last ≡ Some last) × (text ≡ left ++ (codes ".." ++ right)) × IsNumber 32 left first × IsNumber 32 right last)
+    × (odds.last ≡ Some last) × (text ≡ left ++ (codes ".." ++ right))
+    × IsNumeralOf 32 left first × IsNumeralOf 32 right last)
 
 abbrev pub AsksOdds : Found → OddsAsked → Type 0
 AsksOdds f odds = (HasNone f (codes "odds") × (odds.first ≡ None) × (odds.last ≡ None))
-    ⊎ ((text : List ℕ) × HasText f (codes "odds") text × IsOdds text odds)
+    ⊎ ((text : List ℕ) × OptionHasText f (codes "odds") text × IsOddsText text odds)
 
 -- PARTS/WHOLE
-abbrev pub IsShare : List ℕ → Share → Type 0
-IsShare text share = (parts : List ℕ) × (of : List ℕ) × (text ≡ parts ++ (codes "/" ++ of))
-    × IsNumber 32 parts share.parts × IsNumber 32 of share.of
+abbrev pub IsShareText : List ℕ → Share → Type 0
+IsShareText text share = (parts : List ℕ) × (of : List ℕ) × (text ≡ parts ++ (codes "/" ++ of))
+    × IsNumeralOf 32 parts share.parts × IsNumeralOf 32 of share.of
 
 -- a share of a whole, at least one part of it
 pub record HasShare (f : Found) (share : Share) : Type 0 where
   pub text : List ℕ
-  pub named : HasText f (codes "reach") text
-  pub written : IsShare text share
+  pub named : OptionHasText f (codes "reach") text
+  pub written : IsShareText text share
   pub some : 1 ≤ share.parts
   pub within : share.parts ≤ share.of
 
@@ -126,14 +126,14 @@ AsksForm f first forms.Json = (first ≡ None) × HasFlag f (codes "json") true 
 AsksForm f first (forms.OddsTable begin) =
     (first ≡ Some begin) × HasFlag f (codes "json") false × HasNone f (codes "graph")
 AsksForm f first (forms.Graph format) = (first ≡ None) × HasFlag f (codes "json") false
-    × ((name : List ℕ) × HasText f (codes "graph") name × AsksGraph name format)
+    × ((name : List ℕ) × OptionHasText f (codes "graph") name × AsksGraph name format)
 
 -- ---- the request
 
 abbrev pub AsksQuestion : Found → Question → Type 0
-AsksQuestion f Agreement = HasText f (codes "ask") (codes "agreement")
-AsksQuestion f Stabilisation = HasText f (codes "ask") (codes "stabilisation")
-AsksQuestion f Both = HasNone f (codes "ask") ⊎ HasText f (codes "ask") (codes "both")
+AsksQuestion f Agreement = OptionHasText f (codes "ask") (codes "agreement")
+AsksQuestion f Stabilisation = OptionHasText f (codes "ask") (codes "stabilisation")
+AsksQuestion f Both = HasNone f (codes "ask") ⊎ OptionHasText f (codes "ask") (codes "both")
 
 -- the odds and the form of the answer
 abbrev pub AsksAnswer : Found → Option ℕ → Form → Type 0
@@ -144,8 +144,8 @@ pub record AsksExplore (f : Found) (asked : ExploreOptions) : Type 0 where
   pub question : AsksQuestion f asked.question
   pub mail : AsksMail f asked.mail
   pub start : AsksStart f asked.start
-  pub states : IsNumberOr 32 DEFAULT_STATES f (codes "states") asked.states
-  pub depth : IsNumberOr 32 MAX_STATES f (codes "depth") asked.depth
-  pub memory : IsNumberOr 32 DEFAULT_MEBIBYTES f (codes "memory") asked.memory
+  pub states : IsNumberOf STATES f asked.states
+  pub depth : IsNumberOf DEPTH f asked.depth
+  pub memory : IsNumberOf MEBIBYTES f asked.memory
   pub answer : AsksAnswer f asked.odds asked.form
   pub reach : AsksReach f asked.reach

@@ -41,8 +41,8 @@ Names part n = (first : ℕ) × (last : ℕ) × IsRange part first last × (firs
 
 -- ---- spans: each a first and a last number
 
-abbrev pub IsWithin : ℕ → ℕ × ℕ → Type 0
-IsWithin n span = (span.0 ≤ n) × (n ≤ span.1)
+abbrev pub IsInSpan : ℕ → ℕ × ℕ → Type 0
+IsInSpan n span = (span.0 ≤ n) × (n ≤ span.1)
 
 -- each begins after the one before it, with some number between them that is in neither
 abbrev pub AreLongest : List (ℕ × ℕ) → Type 0
@@ -51,13 +51,13 @@ AreLongest (span ∷ []) = span.0 ≤ span.1
 AreLongest (span ∷ next ∷ more) = (span.0 ≤ span.1) × (span.1 + 1 < next.0) × AreLongest (next ∷ more)
 
 -- how many numbers are in them
-abbrev pub count_of : List (ℕ × ℕ) → ℕ
-count_of spans = sum_by (λ span. span.1 + 1 - span.0) spans
+abbrev pub span_length : List (ℕ × ℕ) → ℕ
+span_length spans = sum_by (λ span. span.1 + 1 - span.0) spans
 
 -- the parts are a list, and the spans are exactly the numbers that some part names
 pub record IsListOf (limit : ℕ) (parts : List (List ℕ)) (spans : List (ℕ × ℕ)) : Type 0 where
   pub written : All (IsPart limit) parts
-  pub numbers : (n : ℕ) → Any (IsWithin n) spans ↔ Any (λ part. Names part n) parts
+  pub numbers : (n : ℕ) → Any (IsInSpan n) spans ↔ Any (λ part. Names part n) parts
   pub longest : AreLongest spans
 
 -- ---- the lists of `explore`
@@ -100,14 +100,14 @@ AreCells text all = AreEntries (parts_of text) all
 -- ---- the lists of `exec`
 
 -- a number, or a dash for none
-abbrev pub IsSlot : List ℕ → Option ℕ → Type 0
-IsSlot word None = word ≡ codes "-"
-IsSlot word (Some n) = IsNumeral 10 (without_leading_plus word)
+abbrev pub IsMailSlot : List ℕ → Option ℕ → Type 0
+IsMailSlot word None = word ≡ codes "-"
+IsMailSlot word (Some n) = IsNumeral 10 (without_leading_plus word)
     × (digits_value 10 (without_leading_plus word) ≡ n) × (n < 2 ^ 32)
 
 -- `--mail`: a slot for each part, and for each node
-abbrev pub AreSlots : ℕ → List ℕ → List (Option ℕ) → Type 0
-AreSlots nodes text mail = AllZip IsSlot (parts_of text) mail × (length mail ≡ nodes)
+abbrev pub AreMailSlots : ℕ → List ℕ → List (Option ℕ) → Type 0
+AreMailSlots nodes text mail = AllZip IsMailSlot (parts_of text) mail × (length mail ≡ nodes)
 
 -- `--contents`: pairs of hexadecimal digits, at most as many as there is room for
 abbrev pub AreContents : ℕ → List ℕ → List ℕ → Type 0

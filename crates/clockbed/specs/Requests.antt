@@ -1,17 +1,15 @@
 -- Which request the options of a command ask for (docs/COMMANDS.md), by what `clap` read of them: a text for each option
 -- that is there. That the words give these texts is the part of `clap`. What the texts of lists name is in Lists.
-use Rattle.std.specs.Prelude.{◌≡◌, ◌≢◌, ◌⊎◌, ◌↔◌, ◌<◌, ◌^◌, ℕ, Bool, true, false, List, [], ◌++◌, Option, Some, None}
-use Rattle.std.specs.Prelude.{IsTrue, MatchOption, Vec, codes, option_map, string_bytes}
+use Rattle.std.specs.Prelude.{◌≡◌, ◌≢◌, ◌⊎◌, ◌↔◌, ℕ, true, false, List, [], ◌++◌, Option, Some, None}
+use Rattle.std.specs.Prelude.{IsTrue, MatchOption, codes, option_map, string_bytes}
 use Rattle.clap.specs.Matches.{first_value}
 use Rattle.clap.specs.declared.parser.matches.Found.{Found}
 use Rattle.clockbed.specs.Explore.{AsksExplore}
-use Rattle.clockbed.specs.Lists.{AreContents, AreSlots}
-use Rattle.clockbed.specs.Numbers.{HasFlag, HasNumber, IsNumber, IsNumberOr}
+use Rattle.clockbed.specs.Lists.{AreContents, AreMailSlots}
+use Rattle.clockbed.specs.Numbers.{HasFlag, OptionHasNumber, IsNumeralOf, IsNumberOf, IsNumberOr}
 use Rattle.clockbed.specs.declared.request.Invocation.{Invocation}
-use Rattle.command_words.specs.declared.helps.TheConstants.{DEFAULT_FAULTS, DEFAULT_FUEL, DEFAULT_LOADERS}
-use Rattle.command_words.specs.declared.helps.TheConstants.{DEFAULT_LOADS, DEFAULT_MEMORY, DEFAULT_MODULUS}
-use Rattle.command_words.specs.declared.helps.TheConstants.{DEFAULT_NODES, DEFAULT_PULSES}
-use Rattle.command_words.specs.declared.helps.TheConstants.{DEFAULT_WORKERS}
+use Rattle.command_words.specs.declared.options.TheConstants.{COIN, FAULTS, FROM, FUEL, ID, LOADERS, LOADS, MEMORY, MODULUS}
+use Rattle.command_words.specs.declared.options.TheConstants.{NODES, PULSES, STRESS_WORKERS, SWEEPERS, UNTIL, WORKERS}
 use Rattle.commands.specs.declared.case.Case.{Case}
 use Rattle.commands.specs.declared.request.ClockOptions.{ClockOptions}
 use Rattle.commands.specs.declared.request.CompileOptions.{CompileOptions}
@@ -37,25 +35,24 @@ use Rattle.run_lines.specs.Spans.{Span as PulseSpan}
 -- PULSE:NODE
 abbrev pub IsPlace : List ℕ → NodeInPulse → Type 0
 IsPlace text place = (pulse : List ℕ) × (node : List ℕ) × (text ≡ pulse ++ (codes ":" ++ node))
-    × IsNumber 32 pulse place.pulse × IsNumber 32 node place.node
+    × IsNumeralOf 32 pulse place.pulse × IsNumeralOf 32 node place.node
 
-abbrev pub HasPlace : Found → List ℕ → NodeInPulse → Type 0
-HasPlace f name place = (text : List ℕ) × (first_value f name ≡ Some text) × IsPlace text place
+abbrev pub OptionHasPlace : Found → List ℕ → NodeInPulse → Type 0
+OptionHasPlace f name place = (text : List ℕ) × (first_value f name ≡ Some text) × IsPlace text place
 
 -- FIRST..LAST
 abbrev pub IsKeys : List ℕ → Span → Type 0
 IsKeys text keys = (first : List ℕ) × (last : List ℕ) × (text ≡ first ++ (codes ".." ++ last))
-    × IsNumber 64 first keys.first × IsNumber 64 last keys.last
+    × IsNumeralOf 64 first keys.first × IsNumeralOf 64 last keys.last
 
 -- ---- options of commands
 
 abbrev pub AsksShape : Found → ShapeOptions → Type 0
-AsksShape f shape = IsNumberOr 32 DEFAULT_NODES f (codes "nodes") shape.nodes
-    × IsNumberOr 32 DEFAULT_MEMORY f (codes "memory") shape.memory
+AsksShape f shape = IsNumberOf NODES f shape.nodes × IsNumberOf MEMORY f shape.memory
 
 -- a slot for each node, as its part of the text says; no slot if the option isn't there
 abbrev pub HasSlots : Found → ℕ → List (Option ℕ) → Type 0
-HasSlots f nodes mail = MatchOption (first_value f (codes "mail")) (mail ≡ []) (λ text. AreSlots nodes text mail)
+HasSlots f nodes mail = MatchOption (first_value f (codes "mail")) (mail ≡ []) (λ text. AreMailSlots nodes text mail)
 
 -- the bytes of the pairs of digits, which the memory has room for; none if the option isn't there
 abbrev pub HasContents : Found → ℕ → List ℕ → Type 0
@@ -63,29 +60,29 @@ HasContents f room contents = MatchOption (first_value f (codes "contents")) (co
     (λ text. AreContents room text contents)
 
 pub record AsksCase (f : Found) (shape : ShapeOptions) (case : Case) : Type 0 where
-  pub id : IsNumberOr 32 0 f (codes "id") case.id
-  pub coin : IsTrue case.coin ↔ HasNumber 32 f (codes "coin") (Some 1)
+  pub id : IsNumberOf ID f case.id
+  pub coin : IsTrue case.coin ↔ OptionHasNumber 32 f COIN.name.now (Some 1)
   pub mail : HasSlots f shape.nodes case.mail.items
   pub contents : HasContents f shape.memory case.contents.items
 
 pub record AsksExec (f : Found) (asked : ExecOptions) : Type 0 where
   pub shape : AsksShape f asked.shape
   pub text : HasFlag f (codes "text") asked.text
-  pub fuel : IsNumberOr 64 DEFAULT_FUEL f (codes "fuel") asked.fuel
+  pub fuel : IsNumberOr 64 FUEL.default f FUEL.name.now asked.fuel
   pub case : AsksCase f asked.shape asked.case
   pub show : HasFlag f (codes "show") asked.show
   pub trace : HasFlag f (codes "trace") asked.trace
 
 pub record AsksCompile (f : Found) (asked : CompileOptions) : Type 0 where
   pub shape : AsksShape f asked.shape
-  pub faults : IsNumberOr 32 DEFAULT_FAULTS f (codes "faults") asked.faults
-  pub modulus : IsNumberOr 32 DEFAULT_MODULUS f (codes "modulus") asked.modulus
+  pub faults : IsNumberOf FAULTS f asked.faults
+  pub modulus : IsNumberOf MODULUS f asked.modulus
   pub list : HasFlag f (codes "list") asked.list
 
 pub record AsksRule (f : Found) (nodes faults modulus : ℕ) : Type 0 where
-  pub node_count : IsNumberOr 32 DEFAULT_NODES f (codes "nodes") nodes
-  pub fault_count : IsNumberOr 32 DEFAULT_FAULTS f (codes "faults") faults
-  pub clock_modulus : IsNumberOr 32 DEFAULT_MODULUS f (codes "modulus") modulus
+  pub node_count : IsNumberOf NODES f nodes
+  pub fault_count : IsNumberOf FAULTS f faults
+  pub clock_modulus : IsNumberOf MODULUS f modulus
 
 pub record AsksClock (f : Found) (asked : ClockOptions) : Type 0 where
   pub rule : AsksRule f asked.rule.nodes asked.rule.faults asked.rule.modulus
@@ -105,12 +102,12 @@ pub record AsksExplained (f : Found) (asked : ExplainOptions) : Type 0 where
   pub more : asked.detail ≡ None → IsTrue asked.text
 
 abbrev pub AsksRun : Found → RunOptions → Type 0
-AsksRun f asked = IsNumberOr 32 DEFAULT_WORKERS f (codes "workers") asked.workers
+AsksRun f asked = IsNumberOf WORKERS f asked.workers
     × HasFlag f (codes "check") asked.check
 
 pub record AsksSpan (f : Found) (span : PulseSpan) : Type 0 where
-  pub from : IsNumberOr 32 1 f (codes "from") span.first
-  pub until : IsNumberOr 32 4294967295 f (codes "until") span.last
+  pub from : IsNumberOf FROM f span.first
+  pub until : IsNumberOf UNTIL f span.last
 
 pub record AsksLines (f : Found) (asked : LinesOptions) : Type 0 where
   pub run : AsksRun f asked.run
@@ -118,13 +115,13 @@ pub record AsksLines (f : Found) (asked : LinesOptions) : Type 0 where
 
 abbrev pub AsksSweep : Found → SweepOptions → Type 0
 AsksSweep f asked = ((text : List ℕ) × (first_value f (codes "keys") ≡ Some text) × IsKeys text asked.keys)
-    × HasNumber 32 f (codes "workers") asked.workers
+    × OptionHasNumber 32 f SWEEPERS.name.now asked.workers
 
 pub record AsksStress (f : Found) (asked : StressOptions) : Type 0 where
-  pub loaders : IsNumberOr 32 DEFAULT_LOADERS f (codes "loaders") asked.loaders
-  pub loads : IsNumberOr 32 DEFAULT_LOADS f (codes "loads") asked.loads
-  pub pulses : IsNumberOr 32 DEFAULT_PULSES f (codes "pulses") asked.pulses
-  pub workers : IsNumberOr 32 DEFAULT_WORKERS f (codes "workers") asked.workers
+  pub loaders : IsNumberOf LOADERS f asked.loaders
+  pub loads : IsNumberOf LOADS f asked.loads
+  pub pulses : IsNumberOf PULSES f asked.pulses
+  pub workers : IsNumberOf STRESS_WORKERS f asked.workers
 
 -- ---- requests
 
@@ -137,9 +134,9 @@ AsksOfScenario name f (scenarios.Run asked) =
     (name ≡ codes "run") × IsUntraced f × HasFlag f (codes "json") false × AsksRun f asked
 AsksOfScenario name f (scenarios.Lines asked) =
     (name ≡ codes "run") × IsUntraced f × HasFlag f (codes "json") true × AsksLines f asked
-AsksOfScenario name f (scenarios.TracedRun place) = (name ≡ codes "run") × HasPlace f (codes "trace") place
+AsksOfScenario name f (scenarios.TracedRun place) = (name ≡ codes "run") × OptionHasPlace f (codes "trace") place
 AsksOfScenario name f (scenarios.NodeProgram asked) =
-    (name ≡ codes "dis") × HasPlace f (codes "node") asked.place × HasFlag f (codes "list") asked.list
+    (name ≡ codes "dis") × OptionHasPlace f (codes "node") asked.place × HasFlag f (codes "list") asked.list
 AsksOfScenario name f (scenarios.Sweep asked) = (name ≡ codes "sweep") × AsksSweep f asked
 AsksOfScenario name f (scenarios.Explore asked) = (name ≡ codes "explore") × AsksExplore f asked
 

@@ -1,14 +1,14 @@
 //! What the words of `exec` ask for.
 ghost use Rattle.std.specs.Prelude.{◌↔◌, IfOk, IsTrue, codes};
 ghost use Rattle.clap.specs.Matches.{found_of};
-ghost use Rattle.clockbed.specs.Lists.{AreContents, AreSlots, IsSlot};
+ghost use Rattle.clockbed.specs.Lists.{AreContents, AreMailSlots, IsMailSlot};
 ghost use Rattle.clockbed.specs.Requests.{AsksCase, AsksExec, HasContents, HasSlots};
-ghost use Rattle.clockbed.specs.Numbers.{HasNumber};
+ghost use Rattle.clockbed.specs.Numbers.{OptionHasNumber};
 
 use crate::options::{flag, long_number, number, number_if_named};
 use crate::request::shape_options;
 use clap::ArgMatches;
-use command_words::DEFAULT_FUEL;
+use command_words::options::{COIN, CONTENTS, FUEL, ID, INBOX, SHOW, STEPS, TEXT};
 use commands::request::{Case, ExecOptions, ShapeOptions};
 use hex::FromHexError;
 use std::alloc::Global;
@@ -36,11 +36,11 @@ pub(crate) fn exec_options(
     }
     Ok(ExecOptions {
         shape,
-        text: flag(options, "text"),
-        fuel: long_number(options, "fuel", DEFAULT_FUEL),
+        text: flag(options, &TEXT),
+        fuel: long_number(options, &FUEL),
         case,
-        show: flag(options, "show"),
-        trace: flag(options, "trace"),
+        show: flag(options, &SHOW),
+        trace: flag(options, &STEPS),
     })
 }
 
@@ -48,7 +48,7 @@ fn case_in(alloc: Global, options: &ArgMatches<'_>, shape: ShapeOptions) -> Resu
     ensures { IfOk result (AsksCase (found_of options.now) shape) }
 {
     let mut case = Case::bare(alloc);
-    case.id = number(options, "id", 0);
+    case.id = number(options, &ID);
     case.coin = coin_asked(options);
     case.mail = mail_asked(alloc, options, shape.nodes)?;
     case.contents = contents_asked(alloc, options, shape.memory)?;
@@ -57,9 +57,9 @@ fn case_in(alloc: Global, options: &ArgMatches<'_>, shape: ShapeOptions) -> Resu
 
 /// Whether the coin is 1.
 fn coin_asked(options: &ArgMatches<'_>) -> bool
-    ensures { IsTrue result ↔ HasNumber 32 (found_of options.now) (codes "coin") (Some 1) }
+    ensures { IsTrue result ↔ OptionHasNumber 32 (found_of options.now) COIN.name.now (Some 1) }
 {
-    number_if_named(options, "coin") == Some(1)
+    number_if_named(options, &COIN) == Some(1)
 }
 
 /// The mail, which is empty if none is named.
@@ -70,7 +70,7 @@ fn mail_asked(
 ) -> Result<Vec<Option<u32>>, CaseFault>
     ensures { IfOk result (λ mail. HasSlots (found_of options.now) nodes mail.items) }
 {
-    match options.get_str("mail") {
+    match options.get_str(INBOX.name) {
         Some(list) => mail_in(alloc, list, nodes),
         None => Ok(Vec::new(alloc)),
     }
@@ -80,7 +80,7 @@ fn mail_asked(
 fn contents_asked(alloc: Global, options: &ArgMatches<'_>, room: u32) -> Result<Vec<u8>, CaseFault>
     ensures { IfOk result (λ contents. HasContents (found_of options.now) room contents.items) }
 {
-    match options.get_str("contents") {
+    match options.get_str(CONTENTS.name) {
         Some(text) => contents_in(alloc, text, room),
         None => Ok(Vec::new(alloc)),
     }
@@ -88,7 +88,7 @@ fn contents_asked(alloc: Global, options: &ArgMatches<'_>, room: u32) -> Result<
 
 /// The mail of a list that has as many places as there are nodes.
 fn mail_in(alloc: Global, list: &str, nodes: u32) -> Result<Vec<Option<u32>>, CaseFault>
-    ensures { IfOk result (λ mail. AreSlots nodes list.now mail.items) }
+    ensures { IfOk result (λ mail. AreMailSlots nodes list.now mail.items) }
 {
     let mut mail = Vec::new(alloc);
     for word in list.split(',') {
@@ -104,7 +104,7 @@ fn mail_in(alloc: Global, list: &str, nodes: u32) -> Result<Vec<Option<u32>>, Ca
 
 /// A number, or a dash for none.
 fn slot_in(word: &str) -> Result<Option<u32>, CaseFault>
-    ensures { IfOk result (IsSlot word.now) }
+    ensures { IfOk result (IsMailSlot word.now) }
 {
     if word == "-" {
         return Ok(None);

@@ -2,13 +2,16 @@
 ghost use Rattle.std.specs.Prelude.{◌≡◌, IfOk, IfSome, Ok, Some, map};
 ghost use Rattle.clap.specs.Matches.{found_of};
 ghost use Rattle.clockbed.specs.Explore.{AreImages, AsksExplore, AsksForm, AsksGraph, AsksMail, AsksMemories};
-ghost use Rattle.clockbed.specs.Explore.{AsksOdds, AsksQuestion, AsksReach, AsksStart, HasMail, IsImage, IsOdds, IsShare};
+ghost use Rattle.clockbed.specs.Explore.{AsksOdds, AsksQuestion, AsksReach, AsksStart, HasMail, IsMemoryImage, IsOddsText, IsShareText};
 
 use crate::mail::{bytes_in, cells_in, mail_in, number_in};
 use crate::options::{flag, number};
 use crate::request::OptionsFault;
 use clap::ArgMatches;
-use command_words::{DEFAULT_MEBIBYTES, DEFAULT_STATES, MAX_ODDS, MAX_STATES};
+use command_words::options::{
+    ASK, BYTES, CELLS, DEPTH, GRAPH, IMAGES, JSON_ANSWER, MAIL, MEBIBYTES, ODDS, REACH, SAID,
+    START, STATES,
+};
 use commands::request::{
     AnyStart, Cells, ExploreOptions, Form, GraphFormat, Mail, MailSpan, Memories, Question, Share,
     Starts,
@@ -27,10 +30,6 @@ const CELLS_REASON: &str =
 /// Why a text is no list of memories.
 const IMAGES_REASON: &str =
     "the images are memories with commas between, each as pairs of hexadecimal digits";
-
-/// Why a text doesn't say of how many pulses the odds are asked.
-const ODDS_REASON: &str =
-    "the odds are of COUNT pulses, or of FIRST..LAST: 1 to 100000, the first at most the last";
 
 /// Why a text is no share.
 const REACH_REASON: &str =
@@ -60,9 +59,9 @@ pub(crate) fn explore_options(
         question,
         mail,
         start,
-        states: number(options, "states", DEFAULT_STATES),
-        depth: number(options, "depth", MAX_STATES),
-        memory: number(options, "memory", DEFAULT_MEBIBYTES),
+        states: number(options, &STATES),
+        depth: number(options, &DEPTH),
+        memory: number(options, &MEBIBYTES),
         odds: odds.last,
         reach,
         form,
@@ -73,7 +72,7 @@ pub(crate) fn explore_options(
 fn question(options: &ArgMatches<'_>) -> Result<Question, OptionsFault>
     ensures { IfOk result (AsksQuestion (found_of options.now)) }
 {
-    match options.get_str("ask").unwrap_or("both") {
+    match options.get_str(ASK.name).unwrap_or("both") {
         "agreement" => Ok(Question::Agreement),
         "stabilisation" => Ok(Question::Stabilisation),
         "both" => Ok(Question::Both),
@@ -92,7 +91,7 @@ pub(crate) struct OddsAsked {
 
 /// The numbers of a text COUNT or FIRST..LAST.
 fn odds_in(text: &str) -> Option<OddsAsked>
-    ensures { IfSome result (IsOdds text.now) }
+    ensures { IfSome result (IsOddsText text.now) }
 {
     let odds = match text.split_once("..") {
         Some((first, last)) => OddsAsked {
@@ -111,14 +110,14 @@ fn odds_in(text: &str) -> Option<OddsAsked>
 fn are_pulses(odds: OddsAsked) -> bool {
     let last = odds.last.unwrap_or(1);
     let first = odds.first.unwrap_or(1);
-    1 <= first && first <= last && last <= MAX_ODDS
+    ODDS.least <= first && first <= last && last <= ODDS.most
 }
 
 /// The numbers of pulses whose odds are asked, if the question is how clocks stabilise.
 fn odds_asked(options: &ArgMatches<'_>, question: Question) -> Result<OddsAsked, OptionsFault>
     ensures { IfOk result (AsksOdds (found_of options.now)) }
 {
-    let Some(text) = options.get_str("odds") else {
+    let Some(text) = options.get_str(ODDS.name) else {
         return Ok(OddsAsked {
             first: None,
             last: None,
@@ -131,13 +130,13 @@ fn odds_asked(options: &ArgMatches<'_>, question: Question) -> Result<OddsAsked,
     }
     match odds_in(text) {
         Some(odds) if are_pulses(odds) => Ok(odds),
-        Some(_) | None => Err(OptionsFault::Reason(ODDS_REASON)),
+        Some(_) | None => Err(OptionsFault::Odds),
     }
 }
 
 /// The share of a text PARTS/WHOLE.
 fn share_in(text: &str) -> Option<Share>
-    ensures { IfSome result (IsShare text.now) }
+    ensures { IfSome result (IsShareText text.now) }
 {
     let (parts, of) = text.split_once('/')?;
     Some(Share {
@@ -150,7 +149,7 @@ fn share_in(text: &str) -> Option<Share>
 fn reach_asked(options: &ArgMatches<'_>) -> Result<Option<Share>, OptionsFault>
     ensures { IfOk result (AsksReach (found_of options.now)) }
 {
-    let Some(text) = options.get_str("reach") else {
+    let Some(text) = options.get_str(REACH.name) else {
         return Ok(None);
     };
     match share_in(text) {
@@ -183,8 +182,8 @@ fn graph_in(name: &str) -> Option<GraphFormat>
 fn form_asked(options: &ArgMatches<'_>, odds: OddsAsked) -> Result<Form, OptionsFault>
     ensures { IfOk result (AsksForm (found_of options.now) odds.first) }
 {
-    let json = flag(options, "json");
-    let graph = options.get_str("graph");
+    let json = flag(options, &JSON_ANSWER);
+    let graph = options.get_str(GRAPH.name);
     match (odds.first, graph) {
         (None, None) if json => Ok(Form::Json),
         (None, None) => Ok(Form::Text),
@@ -217,7 +216,7 @@ fn list_asked(
 fn mail_asked(alloc: Global, options: &ArgMatches<'_>) -> Result<Option<Mail>, OptionsFault>
     ensures { IfOk result (AsksMail (found_of options.now)) }
 {
-    match options.get_str("mail") {
+    match options.get_str(MAIL.name) {
         None => Ok(None),
         Some("all") => Ok(Some(Mail::All)),
         Some(text) => Ok(Some(Mail::Listed(mail_in(alloc, text)?))),
@@ -240,7 +239,7 @@ fn cells_named(
 
 /// The memory of a part of a list.
 fn image_in(alloc: Global, part: &str) -> Result<Vec<u8>, OptionsFault>
-    ensures { IfOk result (λ image. IsImage part.now image.items) }
+    ensures { IfOk result (λ image. IsMemoryImage part.now image.items) }
 {
     match hex::decode(alloc, part) {
         Ok(bytes) => Ok(bytes),
@@ -265,9 +264,9 @@ fn images_in(alloc: Global, text: &str) -> Result<Vec<Vec<u8>>, OptionsFault>
 fn memories_asked(alloc: Global, options: &ArgMatches<'_>) -> Result<Option<Memories>, OptionsFault>
     ensures { IfOk result (AsksMemories (found_of options.now)) }
 {
-    let bytes = options.get_str("bytes");
-    let cells = options.get_str("cells");
-    let images = options.get_str("images");
+    let bytes = options.get_str(BYTES.name);
+    let cells = options.get_str(CELLS.name);
+    let images = options.get_str(IMAGES.name);
     match (bytes, cells, images) {
         (None, None, None) => Ok(None),
         (Some(text), None, None) => {
@@ -290,8 +289,8 @@ fn start_asked(alloc: Global, options: &ArgMatches<'_>) -> Result<Starts, Option
     ensures { IfOk result (AsksStart (found_of options.now)) }
 {
     let memories = memories_asked(alloc, options)?;
-    let said = list_asked(alloc, options, "said")?;
-    let word = options.get_str("start").unwrap_or("zero");
+    let said = list_asked(alloc, options, SAID.name)?;
+    let word = options.get_str(START.name).unwrap_or("zero");
     if word == "any" {
         return match memories {
             Some(memories) => Ok(Starts::Any(AnyStart { memories, said })),

@@ -3,10 +3,10 @@ ghost use Rattle.std.specs.Prelude.{◌≡◌, ◌↔◌, ◌<◌, ◌≤◌, �
 ghost use Rattle.std.specs.Bool.{OnTrue};
 ghost use Rattle.std.specs.BTreeSet.{btree_set_len};
 ghost use Rattle.clockbed.specs.Lists.{AreCells, AreLongest, IsBytes, IsDecimal, IsMail, IsPart, IsRange, IsSpan};
-ghost use Rattle.clockbed.specs.Lists.{IsWithin, byte_spans, count_of, mail_spans};
-ghost use Rattle.clockbed.specs.Numbers.{IsNumber};
+ghost use Rattle.clockbed.specs.Lists.{IsInSpan, byte_spans, span_length, mail_spans};
+ghost use Rattle.clockbed.specs.Numbers.{IsNumeralOf};
 ghost use Rattle.clockbed.specs.declared.mail.TheConstants.{MAX_MAIL};
-ghost use Rattle.clockbed.specs.inner.Spans.{AddsPart, AddsSpan, JoinsSpan, with_number};
+ghost use Rattle.clockbed.specs.inner.Spans.{AddsPart, AddsSpan, JoinsSpan, with_span_number};
 ghost use Rattle.clockbed.specs.inner.Entries.{AddsCells, AddsValue, BeginsEntry};
 ghost use Rattle.node_env.specs.declared.shape.TheConstants.{MAX_MEMORY};
 
@@ -60,7 +60,7 @@ impl MailFault {
 /// Returns the list of a text, in rising order, each number once.
 pub fn mail_in(alloc: Global, text: &str) -> Result<Vec<MailSpan>, MailFault>
     ensures list { IfOk result (λ mail. IsMail text.now mail.items) }
-    ensures few { IfOk result (λ mail. count_of (mail_spans mail.items) ≤ MAX_MAIL) }
+    ensures few { IfOk result (λ mail. span_length (mail_spans mail.items) ≤ MAX_MAIL) }
 {
     let mut numbers = BTreeSet::new(alloc);
     for part in text.split(',') {
@@ -222,7 +222,7 @@ fn joined_values(
 
 /// The bytes of spans.
 fn bytes_of(alloc: Global, values: &[ByteSpan]) -> Result<BTreeSet<u32>, AllocError>
-    ensures { IfOk result (λ bytes. (n : ℕ) → Contains bytes.keys n ↔ Any (IsWithin n) (byte_spans values.now)) }
+    ensures { IfOk result (λ bytes. (n : ℕ) → Contains bytes.keys n ↔ Any (IsInSpan n) (byte_spans values.now)) }
 {
     let mut bytes = BTreeSet::new(alloc);
     for span in values {
@@ -295,7 +295,7 @@ fn span_in(part: &str) -> Result<MailSpan, MailFault>
 
 /// Returns the number of a text of digits alone, if it is below 2 to the 32.
 pub fn number_in(text: &str) -> Option<u32>
-    ensures number { IfSome result (IsNumber 32 text.now) }
+    ensures number { IfSome result (IsNumeralOf 32 text.now) }
     ensures digits { IfSome result (IsDecimal text.now) }
 {
     if text.bytes().all(|byte| byte.is_ascii_digit()) {
@@ -308,9 +308,9 @@ pub fn number_in(text: &str) -> Option<u32>
 /// The longest spans of the numbers.
 fn spans_of(alloc: Global, numbers: &BTreeSet<u32>) -> Result<Vec<MailSpan>, AllocError>
     ensures numbers { IfOk result (λ spans.
-        (n : ℕ) → Any (IsWithin n) (mail_spans spans.items) ↔ Contains numbers.now.keys n) }
+        (n : ℕ) → Any (IsInSpan n) (mail_spans spans.items) ↔ Contains numbers.now.keys n) }
     ensures longest { IfOk result (λ spans. AreLongest (mail_spans spans.items)) }
-    ensures count { IfOk result (λ spans. count_of (mail_spans spans.items) ≡ btree_set_len numbers.now) }
+    ensures count { IfOk result (λ spans. span_length (mail_spans spans.items) ≡ btree_set_len numbers.now) }
 {
     let mut spans: Vec<MailSpan> = Vec::new(alloc);
     for number in numbers {
@@ -321,7 +321,7 @@ fn spans_of(alloc: Global, numbers: &BTreeSet<u32>) -> Result<Vec<MailSpan>, All
 
 /// Adds a number that is greater than those of the spans.
 fn add_number(spans: &mut Vec<MailSpan>, number: u32) -> Result<(), AllocError>
-    ensures { OnOk result (mail_spans spans.new.items ≡ with_number (mail_spans spans.old.items) number) }
+    ensures { OnOk result (mail_spans spans.new.items ≡ with_span_number (mail_spans spans.old.items) number) }
 {
     match spans.last_mut() {
         Some(span) if is_next(*span, number) => {
@@ -341,7 +341,7 @@ fn add_number(spans: &mut Vec<MailSpan>, number: u32) -> Result<(), AllocError>
 /// The longest spans of bytes; none if a number is no byte.
 fn byte_spans_of(alloc: Global, bytes: &BTreeSet<u32>) -> Result<Option<Vec<ByteSpan>>, AllocError>
     ensures numbers { IfOk result (λ named. IfSome named (λ spans.
-        (n : ℕ) → Any (IsWithin n) (byte_spans spans.items) ↔ Contains bytes.now.keys n)) }
+        (n : ℕ) → Any (IsInSpan n) (byte_spans spans.items) ↔ Contains bytes.now.keys n)) }
     ensures longest { IfOk result (λ named. IfSome named (λ spans. AreLongest (byte_spans spans.items))) }
 {
     let wide = spans_of(alloc, bytes)?;

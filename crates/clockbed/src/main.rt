@@ -4,12 +4,14 @@
 pub mod command;
 mod exec_words;
 mod explore_words;
+mod images;
 mod mail;
 mod options;
 mod progress;
 mod request;
 mod source;
 
+use crate::images::with_images;
 use crate::progress::{SearchProgress, SweepProgress};
 use crate::request::parse_args;
 use crate::source::{Reasoned, open, tell_reason};
@@ -26,7 +28,10 @@ use std::{env, io};
 fn main(rt: HostRuntime) -> ExitCode {
     let mut err = rt.stderr();
     let status = match words_of(&rt) {
-        Ok(words) => answer(&rt, &rt, words.as_slice(), &mut err),
+        Ok(words) => match with_images(&rt, words.as_slice(), &mut err) {
+            Ok(words) => answer(&rt, &rt, words.as_slice(), &mut err),
+            Err(status) => status,
+        },
         Err(fault) => fault.tell(&mut err),
     };
     ExitCode::from(status)

@@ -4,7 +4,7 @@ ghost use Rattle.clap.specs.Matches.{found_of};
 ghost use Rattle.clockbed.specs.Requests.{Asks, AsksCompile, AsksDetail, AsksFile};
 ghost use Rattle.clockbed.specs.Requests.{AsksRule, AsksRun, AsksShape, AsksSpan, AsksStress};
 ghost use Rattle.clockbed.specs.Requests.{AsksSweep, AsksWithFile, IsAskedWithFile, IsHelp, IsKeys};
-ghost use Rattle.clockbed.specs.Numbers.{IsNumber};
+ghost use Rattle.clockbed.specs.Numbers.{IsNumeralOf};
 ghost use Rattle.clockbed.specs.Requests.{IsPlace};
 ghost use Rattle.commands.specs.Faults.{IsOfCommandLine};
 
@@ -14,10 +14,11 @@ use crate::mail::{MailFault, number_in};
 use crate::options::{flag, number, number_if_named};
 use clap::error::ErrorKind;
 use clap::{ArgMatches, Error};
-use command_words::{
-    DEFAULT_FAULTS, DEFAULT_LOADERS, DEFAULT_LOADS, DEFAULT_MEMORY, DEFAULT_MODULUS, DEFAULT_NODES,
-    DEFAULT_PULSES, DEFAULT_WORKERS, Helps, command_line,
+use command_words::options::{
+    ALL, CHECK, CLOCK, EXPLAIN, FAULTS, FROM, JSON, KEYS, LISTING, LOADERS, LOADS, MEMORY, MODULUS,
+    NODE, NODES, ODDS, PULSES, RULE_LISTING, STRESS_WORKERS, SWEEPERS, TEXT, TRACE, UNTIL, WORKERS,
 };
+use command_words::{Helps, command_line};
 use commands::Fault;
 use commands::request::{
     ClockOptions, ClockRule, CompileOptions, Detail, ExplainOptions, LinesOptions, NodeInPulse,
@@ -28,6 +29,7 @@ use key_sweep::KeySpan;
 use run_lines::PulseSpan;
 use std::alloc::{AllocError, Global};
 use std::convert::AsStr;
+use std::fmt::InlineText;
 
 /// Why a text names no node's run in a pulse.
 const TRACE_REASON: &str =
@@ -47,6 +49,7 @@ pub struct Invocation {
 /// Why the values of options make no request.
 pub(crate) enum OptionsFault {
     Reason(&'static str),
+    Odds,
     Memory,
 }
 
@@ -92,7 +95,7 @@ pub fn parse_args<S: AsStr>(alloc: Global, words: &[S]) -> Result<Invocation, Fa
 fn parse<S: AsStr>(alloc: Global, words: &[S]) -> Result<Invocation, Error>
     ensures { IfOk result IsAskedWithFile }
 {
-    let helps = Helps::new();
+    let helps = Helps::new(alloc)?;
     let mut command = command_line(alloc, &helps)?;
     let matches = command.try_get_matches_from_mut(words)?;
     let Some((name, options)) = matches.subcommand() else {
@@ -104,7 +107,19 @@ fn parse<S: AsStr>(alloc: Global, words: &[S]) -> Result<Invocation, Error>
         Err(OptionsFault::Reason(reason)) => {
             Err(command.error(ErrorKind::ValueValidation, reason)?)
         }
+        Err(OptionsFault::Odds) => {
+            let reason = odds_reason();
+            Err(command.error(ErrorKind::ValueValidation, reason.as_str())?)
+        }
     }
+}
+
+/// Why a text doesn't say of how many pulses the odds are asked.
+fn odds_reason() -> InlineText<128> {
+    InlineText::of(format_args!(
+        "the odds are of COUNT pulses, or of FIRST..LAST: {} to {}, the first at most the last",
+        ODDS.least, ODDS.most
+    ))
 }
 
 /// What the command of this name is asked for by its options, and the file that it reads.
@@ -123,7 +138,7 @@ fn request_in(alloc: Global, name: &str, options: &ArgMatches<'_>) -> Result<Req
     match name {
         "exec" => Ok(Request::Exec(exec_options(alloc, options)?)),
         "asm" => Ok(Request::Asm {
-            list: flag(options, "list"),
+            list: flag(options, &LISTING),
         }),
         "compile" => Ok(Request::Compile(compile_options(options))),
         "dis" => dis_request(options),
@@ -151,7 +166,7 @@ fn file_in(
 ) -> Result<Option<String>, AllocError>
     ensures { IfOk result (λ file. AsksFile name.now (found_of options.now) (option_map string_bytes file)) }
 {
-    if name == "stress" || name == "dis" && flag(options, "clock") {
+    if name == "stress" || name == "dis" && flag(options, &CLOCK) {
         return Ok(None);
     }
     match options.get_str("file") {
@@ -164,8 +179,8 @@ pub(crate) fn shape_options(options: &ArgMatches<'_>) -> ShapeOptions
     ensures { AsksShape (found_of options.now) result }
 {
     ShapeOptions {
-        nodes: number(options, "nodes", DEFAULT_NODES),
-        memory: number(options, "memory", DEFAULT_MEMORY),
+        nodes: number(options, &NODES),
+        memory: number(options, &MEMORY),
     }
 }
 
@@ -173,9 +188,9 @@ pub(crate) fn shape_options(options: &ArgMatches<'_>) -> ShapeOptions
 fn detail(options: &ArgMatches<'_>) -> Option<Detail>
     ensures { AsksDetail (found_of options.now) result }
 {
-    if !flag(options, "explain") {
+    if !flag(options, &EXPLAIN) {
         None
-    } else if flag(options, "all") {
+    } else if flag(options, &ALL) {
         Some(Detail::All)
     } else {
         Some(Detail::Read)
@@ -187,9 +202,9 @@ fn compile_options(options: &ArgMatches<'_>) -> CompileOptions
 {
     CompileOptions {
         shape: shape_options(options),
-        faults: number(options, "faults", DEFAULT_FAULTS),
-        modulus: number(options, "modulus", DEFAULT_MODULUS),
-        list: flag(options, "list"),
+        faults: number(options, &FAULTS),
+        modulus: number(options, &MODULUS),
+        list: flag(options, &RULE_LISTING),
     }
 }
 
@@ -197,8 +212,8 @@ fn compile_options(options: &ArgMatches<'_>) -> CompileOptions
 fn dis_request(options: &ArgMatches<'_>) -> Result<Request, OptionsFault>
     ensures { IfOk result (Asks (codes "dis") (found_of options.now)) }
 {
-    let list = flag(options, "list");
-    if let Some(text) = options.get_str("node") {
+    let list = flag(options, &LISTING);
+    if let Some(text) = options.get_str(NODE.name) {
         return match place_in(text) {
             Some(place) => Ok(Request::Scenario(ScenarioRequest::NodeProgram(NodeProgramOptions {
                 place,
@@ -207,7 +222,7 @@ fn dis_request(options: &ArgMatches<'_>) -> Result<Request, OptionsFault>
             None => Err(OptionsFault::Reason(NODE_REASON)),
         };
     }
-    if !flag(options, "clock") {
+    if !flag(options, &CLOCK) {
         return Ok(Request::Dis { list });
     }
     if options.get_str("file").is_some() {
@@ -223,9 +238,9 @@ fn dis_request(options: &ArgMatches<'_>) -> Result<Request, OptionsFault>
 fn rule_asked(options: &ArgMatches<'_>) -> Option<ClockRule>
     ensures { IfSome result (λ rule. AsksRule (found_of options.now) rule.nodes rule.faults rule.modulus) }
 {
-    let nodes = number(options, "nodes", DEFAULT_NODES);
-    let faults = number(options, "faults", DEFAULT_FAULTS);
-    let modulus = number(options, "modulus", DEFAULT_MODULUS);
+    let nodes = number(options, &NODES);
+    let faults = number(options, &FAULTS);
+    let modulus = number(options, &MODULUS);
     ClockRule::of(nodes, faults, modulus)
 }
 
@@ -233,7 +248,7 @@ fn verify_request(options: &ArgMatches<'_>) -> Request
     ensures { Asks (codes "verify") (found_of options.now) result }
 {
     let shape = shape_options(options);
-    let text = flag(options, "text");
+    let text = flag(options, &TEXT);
     let detail = detail(options);
     if !text && detail.is_none() {
         return Request::Verify(shape);
@@ -249,8 +264,8 @@ fn run_options(options: &ArgMatches<'_>) -> RunOptions
     ensures { AsksRun (found_of options.now) result }
 {
     RunOptions {
-        workers: number(options, "workers", DEFAULT_WORKERS),
-        check: flag(options, "check"),
+        workers: number(options, &WORKERS),
+        check: flag(options, &CHECK),
     }
 }
 
@@ -269,14 +284,14 @@ fn place_in(text: &str) -> Option<NodeInPulse>
 fn run_request(options: &ArgMatches<'_>) -> Result<Request, OptionsFault>
     ensures { IfOk result (Asks (codes "run") (found_of options.now)) }
 {
-    if let Some(text) = options.get_str("trace") {
+    if let Some(text) = options.get_str(TRACE.name) {
         return match place_in(text) {
             Some(options) => Ok(Request::Scenario(ScenarioRequest::TracedRun(options))),
             None => Err(OptionsFault::Reason(TRACE_REASON)),
         };
     }
     let run = run_options(options);
-    if !flag(options, "json") {
+    if !flag(options, &JSON) {
         return Ok(Request::Scenario(ScenarioRequest::Run(run)));
     }
     match span_asked(options) {
@@ -289,8 +304,8 @@ fn run_request(options: &ArgMatches<'_>) -> Result<Request, OptionsFault>
 fn span_asked(options: &ArgMatches<'_>) -> Option<PulseSpan>
     ensures { IfSome result (AsksSpan (found_of options.now)) }
 {
-    let from = number(options, "from", 1);
-    let until = number(options, "until", u32::MAX);
+    let from = number(options, &FROM);
+    let until = number(options, &UNTIL);
     PulseSpan::of(from, until)
 }
 
@@ -298,10 +313,10 @@ fn stress_options(options: &ArgMatches<'_>) -> StressOptions
     ensures { AsksStress (found_of options.now) result }
 {
     StressOptions {
-        loaders: number(options, "loaders", DEFAULT_LOADERS),
-        loads: number(options, "loads", DEFAULT_LOADS),
-        pulses: number(options, "pulses", DEFAULT_PULSES),
-        workers: number(options, "workers", DEFAULT_WORKERS),
+        loaders: number(options, &LOADERS),
+        loads: number(options, &LOADS),
+        pulses: number(options, &PULSES),
+        workers: number(options, &STRESS_WORKERS),
     }
 }
 
@@ -310,8 +325,8 @@ fn sweep_options(options: &ArgMatches<'_>) -> Option<SweepOptions>
     ensures { IfSome result (AsksSweep (found_of options.now)) }
 {
     Some(SweepOptions {
-        keys: keys_in(options.get_str("keys")?)?,
-        workers: number_if_named(options, "workers"),
+        keys: keys_in(options.get_str(KEYS.name)?)?,
+        workers: number_if_named(options, &SWEEPERS),
     })
 }
 
@@ -325,7 +340,7 @@ fn keys_in(text: &str) -> Option<KeySpan>
 
 /// The key of a text, if it is one below 2 to the 64.
 fn key_in(text: &str) -> Option<u64>
-    ensures { IfSome result (IsNumber 64 text.now) }
+    ensures { IfSome result (IsNumeralOf 64 text.now) }
 {
     text.parse().ok()
 }

@@ -21,10 +21,10 @@ use Rattle.commands.specs.declared.input.Unread.{Unread}
 use Rattle.commands.specs.declared.input.Unread.TheVariants as unreads
 use Rattle.commands.specs.declared.request.ShapeOptions.{ShapeOptions}
 use Rattle.commands.specs.Answer.{Answers, AnswersLeaving, RunsRead, SameAnswer}
-use Rattle.commands.specs.Asm.{ReadsText}
+use Rattle.commands.specs.Asm.{ReadsAsmText}
 use Rattle.commands.specs.Case.{Left, case_memory, case_setting}
 use Rattle.commands.specs.Image.{HasShape, IsRefused, ReadsImage, asked_extent}
-use Rattle.commands.specs.Input.{IsProgramOf, IsUnread}
+use Rattle.commands.specs.Input.{IsProgramOfInput, IsUnread}
 
 -- what the laws of the crates below say
 abbrev pub OneProgram : Type 0
@@ -54,8 +54,8 @@ not_both apart bytes program e read refused =
     apart program e read.0 (subst (λ (l : List ℕ). RefusesImage l e) read.1 refused)
 
 -- an image has one program, and so has a text
-one_read : OneProgram → OneMeaning → (text : Bool) (bytes : List ℕ) (p q : List Insn) → IsProgramOf text bytes p
-    → IsProgramOf text bytes q → p ≡ q
+one_read : OneProgram → OneMeaning → (text : Bool) (bytes : List ℕ) (p q : List Insn) → IsProgramOfInput text bytes p
+    → IsProgramOfInput text bytes q → p ≡ q
 one_read one_program one_meaning true bytes p q first second = one_meaning bytes p q first.1 second.1
 one_read one_program one_meaning false bytes p q first second =
     one_program p q first.0 second.0 (sym first.1 ∙ second.1)
@@ -93,11 +93,11 @@ refused_or_run : Apart → (options : ExecOptions) (bytes : List ℕ) (unread : 
 refused_or_run apart options bytes (unreads.Refused Shape) outcome left refused shape ran = refused shape
 refused_or_run apart options bytes (unreads.Refused (Image e)) outcome left refused shape ran =
     let read : ReadsImage bytes (Ok ran.program) =
-    subst (λ (t : Bool). IsProgramOf t bytes ran.program) refused.1 ran.read in
+    subst (λ (t : Bool). IsProgramOfInput t bytes ran.program) refused.1 ran.read in
     refused.2.1 (not_both apart bytes ran.program e read refused.2.0)
 refused_or_run apart options bytes (unreads.Text e) outcome left refused shape ran =
-    let read : ReadsText bytes (Ok ran.program) =
-    subst (λ (t : Bool). IsProgramOf t bytes ran.program) refused.1 ran.read in
+    let read : ReadsAsmText bytes (Ok ran.program) =
+    subst (λ (t : Bool). IsProgramOfInput t bytes ran.program) refused.1 ran.read in
     refused.2.2 ran.program read.1
 
 -- why options and bytes have no program is one reason, but for the error of a text

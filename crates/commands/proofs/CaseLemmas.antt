@@ -23,9 +23,9 @@ use Rattle.commands.specs.Answer.{AnswersLeaving, ending_of, text_of, told_text}
 use Rattle.commands.specs.Case.{Left, case_memory, case_setting}
 use Rattle.commands.specs.Exec.{LeavesAnswer, LeavesBy, LeavesExec, LeavesLine}
 use Rattle.commands.specs.Image.{HasShape, asked_extent}
-use Rattle.commands.specs.Input.{IsProgramOf, IsUnread}
+use Rattle.commands.specs.Input.{IsProgramOfInput, IsUnread}
 use Rattle.commands.specs.Output.{Leaves}
-use Rattle.commands.specs.inner.Exec.{LeavesRunOf, RunsCase, answer_in, left_of}
+use Rattle.commands.specs.inner.Exec.{LeavesRunOf, RunsCase, answer_in, left_by_reply}
 use Rattle.commands.specs.inner.Input.{ReadsInput}
 use Rattle.commands.proofs.LeavesLemmas.{leaves_any}
 
@@ -44,8 +44,8 @@ case_run asked program shape env memory left sent outcome at run there begins =
     (subst (λ (e : Setting). RunAnswers program e memory asked.fuel left sent outcome) there run))
 
 answers_run : (asked : ExecOptions) (bytes : List ℕ) (program : List Insn) (reply : Reply) → HasShape asked.shape
-    → IsProgramOf asked.text bytes program → RunsCase asked program reply
-    → AnswersLeaving asked bytes (answer_in asked.fuel reply) (left_of reply)
+    → IsProgramOfInput asked.text bytes program → RunsCase asked program reply
+    → AnswersLeaving asked bytes (answer_in asked.fuel reply) (left_by_reply reply)
 answers_run asked bytes program (Refused unread) has read run = absurd run
 answers_run asked bytes program (Ran outcome left) has read run =
     (has, record { program = program; read = read; run = run.0; nodes = run.1 }, refl)
@@ -56,13 +56,13 @@ left_run : (asked : ExecOptions) (bytes : List ℕ) (read : ProgramRead) (old ne
     (ended : Result Ending Fault) → ReadsInput asked.shape asked.text bytes (Ok read)
     → LeavesRunOf false old new asked read.program ended → LeavesAnswer old new asked bytes ended
 left_run asked bytes read old new (Ok ending) reads left = (
-  (answer_in asked.fuel left.0, left_of left.0),
+  (answer_in asked.fuel left.0, left_by_reply left.0),
   answers_run asked bytes read.program left.0 reads.0 reads.2 left.1,
   left.2,
   left.3,
 )
 left_run asked bytes read old new (Err (faults.Write after)) reads left = (
-  (answer_in asked.fuel left.0, left_of left.0),
+  (answer_in asked.fuel left.0, left_by_reply left.0),
   answers_run asked bytes read.program left.0 reads.0 reads.2 left.1,
   left.2,
   left.3,

@@ -18,7 +18,7 @@ use Rattle.commands.specs.declared.request.ExecOptions.{ExecOptions}
 use Rattle.commands.specs.Answer.{ending_of, told_text}
 use Rattle.commands.specs.Exec.{LeavesSteps, Traces, case_steps, case_trace, traced_text}
 use Rattle.commands.specs.Output.{Leaves}
-use Rattle.commands.specs.inner.Exec.{RunsCase, answer_in, left_in, left_of}
+use Rattle.commands.specs.inner.Exec.{RunsCase, answer_in, left_in, left_by_reply}
 use Rattle.commands.specs.inner.Faults.{fault_behind}
 
 traces : (asked : ExecOptions) (program : List Insn) (outcome : Outcome) (left : LeftByRun)
@@ -33,7 +33,7 @@ traces asked program outcome left run = record {
 
 pub traced_whole : (old mid new : Option (List ℕ)) (asked : ExecOptions) (program : List Insn) (reply : Reply)
     (written : ℕ) (ending : Ending) → RunsCase asked program reply → Wrote old mid (case_trace asked program) written
-    → Leaves mid new (told_text asked (answer_in asked.fuel reply) (left_of reply))
+    → Leaves mid new (told_text asked (answer_in asked.fuel reply) (left_by_reply reply))
     (ending_of (answer_in asked.fuel reply)) (Ok ending)
     → LeavesSteps old new asked program (Ok ending)
 traced_whole old mid new asked program (Refused unread) written ending run wrote told = absurd run
@@ -70,7 +70,7 @@ behind old mid new asked program outcome left written (faults.CommandLine said) 
 
 pub traced_broken : (old mid new : Option (List ℕ)) (asked : ExecOptions) (program : List Insn) (reply : Reply)
     (written : ℕ) (fault : Fault) → RunsCase asked program reply → Wrote old mid (case_trace asked program) written
-    → Leaves mid new (told_text asked (answer_in asked.fuel reply) (left_of reply))
+    → Leaves mid new (told_text asked (answer_in asked.fuel reply) (left_by_reply reply))
     (ending_of (answer_in asked.fuel reply)) (Err fault)
     → LeavesSteps old new asked program (Err (fault_behind written fault))
 traced_broken old mid new asked program (Refused unread) written fault run wrote told = absurd run

@@ -12,7 +12,7 @@ use Rattle.bench_scenario.specs.Runs.{bench_of}
 use Rattle.bench_scenario.proofs.InputLemmas.{ran_so}
 use Rattle.commands.specs.declared.request.NodeInPulse.{NodeInPulse}
 use Rattle.commands.specs.declared.node_lines.RunEnd.{RunEnd}
-use Rattle.bench_scenario.specs.Inputs.{FitsShape, RunsIn, setting_in}
+use Rattle.bench_scenario.specs.Inputs.{FitsShape, RunsIn, input_setting}
 use Rattle.commands.specs.NodeRule.{AreStepLines, IsRuleOf, sizes_for}
 use Rattle.commands.specs.TracedRun.{AreRunLines, IsRunOf, end_lines, input_lines}
 use Rattle.commands.specs.inner.TracedRun.{end_in}
@@ -30,7 +30,7 @@ added place mail coin first second third whole a b d e =
 
 -- what the program sees is what the code makes for it
 pub setting_made : (env : Setting) (shape : Extent) (node : ℕ) (x : NodeInput) → env.shape ≡ shape → env.id ≡ node
-    → env.inbox ≡ map_of x.heard.items → env.coin ≡ x.coin → env ≡ setting_in shape node x
+    → env.inbox ≡ map_of x.heard.items → env.coin ≡ x.coin → env ≡ input_setting shape node x
 setting_made env shape node x same id inbox coin =
     λ k. record { shape = same k; id = id k; inbox = inbox k; coin = coin k }
 
@@ -40,27 +40,27 @@ AreLinesOfSteps s program env memory steps told = (rule : Option (List ℕ)) × 
     × AreStepLines (sizes_for s) program rule (steps_of program env memory steps) told
 
 steps_made : (s : Scenario) (node steps : ℕ) (x : NodeInput) (env : Setting) (memory : List ℕ) (program : List Insn)
-    (told : List ℕ) → env ≡ setting_in x.program.shape node x → memory ≡ x.memory.items
+    (told : List ℕ) → env ≡ input_setting x.program.shape node x → memory ≡ x.memory.items
     → program ≡ x.program.program → AreLinesOfSteps s program env memory steps told
-    → AreLinesOfSteps s x.program.program (setting_in x.program.shape node x) x.memory.items steps told
+    → AreLinesOfSteps s x.program.program (input_setting x.program.shape node x) x.memory.items steps told
 steps_made s node steps x env memory program told sees same own are =
-    let sets = setting_in x.program.shape node x in
+    let sets = input_setting x.program.shape node x in
     subst (λ (m : List ℕ). AreLinesOfSteps s x.program.program sets m steps told) same
     (subst (λ (v : Setting). AreLinesOfSteps s x.program.program v memory steps told) sees
     (subst (λ (p : List Insn). AreLinesOfSteps s p env memory steps told) own are))
 
 -- the lines of a run
 pub lines_made : (s : Scenario) (pulse node : ℕ) (x : NodeInput) (env : Setting) (memory again : List ℕ)
-    (program : List Insn) (e : RunEnd) (told first next whole : List ℕ) → env ≡ setting_in x.program.shape node x
+    (program : List Insn) (e : RunEnd) (told first next whole : List ℕ) → env ≡ input_setting x.program.shape node x
     → memory ≡ x.memory.items → again ≡ x.memory.items → program ≡ x.program.program
     → CompleteRun x.program.program env memory (end_in e) → e.left.outbox.nodes ≡ env.shape.nodes
     → first ≡ input_lines pulse node x → AreLinesOfSteps s program env again e.steps told → next ≡ first ++ told
     → whole ≡ next ++ end_lines e.left.outbox.nodes (end_in e)
-    → (end : End) × CompleteRun x.program.program (setting_in x.program.shape node x) x.memory.items end
+    → (end : End) × CompleteRun x.program.program (input_setting x.program.shape node x) x.memory.items end
     × AreRunLines s x.program.shape pulse node x end whole
 lines_made s pulse node x env memory again program e told first next whole sees held same own run nodes a are b d =
     let made = steps_made s node e.steps x env again program told sees same own are in
-    let sets = setting_in x.program.shape node x in
+    let sets = input_setting x.program.shape node x in
     let rest : ℕ → List ℕ = λ n. end_lines n (end_in e) in
     let count : e.left.outbox.nodes ≡ x.program.shape.nodes = nodes ∙ ap (λ (v : Setting). v.shape.nodes) sees in (
       end_in e,
@@ -83,7 +83,7 @@ fits_own shape node x fits = subst (λ (e : Extent). FitsShape e node x) (sym fi
 
 pub run_of : (asked : NodeInPulse) (lines : List ℕ) (s : Scenario) (x : NodeInput)
     → RunsIn s asked.pulse asked.node x → FitsShape (bench_of s).shape asked.node x
-    → (end : End) × CompleteRun x.program.program (setting_in x.program.shape asked.node x) x.memory.items end
+    → (end : End) × CompleteRun x.program.program (input_setting x.program.shape asked.node x) x.memory.items end
     × AreRunLines s x.program.shape asked.pulse asked.node x end lines → IsRunOf asked s lines
 run_of asked lines s x runs fits told = record {
   coins = runs.coins;
@@ -93,7 +93,7 @@ run_of asked lines s x runs fits told = record {
   opened = runs.opened;
   is_input = runs.input;
   run = ran_so (bench_of s) runs.state runs.coins asked.node x told.0 runs.input fits
-      (subst (λ (e : Extent). CompleteRun x.program.program (setting_in e asked.node x) x.memory.items told.0)
+      (subst (λ (e : Extent). CompleteRun x.program.program (input_setting e asked.node x) x.memory.items told.0)
       fits.program told.1);
   lines = subst (λ (e : Extent). AreRunLines s e asked.pulse asked.node x told.0 lines) fits.program told.2;
 }

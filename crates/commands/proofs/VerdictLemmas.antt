@@ -16,7 +16,7 @@ use Rattle.commands.specs.declared.verdict.Verdict.TheVariants.{NoProgram, Accep
 use Rattle.commands.specs.declared.image.Refusal.{Refusal}
 use Rattle.commands.specs.declared.image.Refusal.TheVariants.{Shape, Image}
 use Rattle.commands.specs.Image.{HasShape, IsRefused, ReadsImage, asked_extent}
-use Rattle.commands.specs.Verdict.{Judges, JudgesImage, JudgesProgram, LeavesVerdict, LeavesVerdictLine, SameVerdict, verdict_ending, verdict_text}
+use Rattle.commands.specs.Verdict.{Judges, JudgesImage, JudgesProgram, LeavesVerdict, LeavesVerdictLine, SameVerdict, verdict_ending, text_of_verdict}
 use Rattle.commands.proofs.AnswerLemmas.{OneProgram, OneRefusal, Apart, one_refused}
 use Rattle.commands.proofs.LeavesLemmas.{leaves_any, leaves_known}
 
@@ -48,7 +48,7 @@ pub judged_known : (most : ℕ) (options : ShapeOptions) (shape : Extent) (bytes
     → LeavesVerdictLine old new verdict ended
     → IfSome input (λ i. LeavesVerdict old new options (take most i) ended)
 judged_known most options shape bytes program verdict input old new ended has at read known judged told =
-    leaves_known (Judges options) verdict_text verdict_ending verdict (take most) bytes input old new ended known
+    leaves_known (Judges options) text_of_verdict verdict_ending verdict (take most) bytes input old new ended known
     (judges options bytes program shape verdict has at read.0 read.1 judged) told
 
 -- of bytes that are the image of no program
@@ -57,7 +57,7 @@ pub refused_known : (most : ℕ) (options : ShapeOptions) (bytes : List ℕ) (er
     → IfSome input (λ i. bytes ≡ take most i) → LeavesVerdictLine old new (NoProgram (Image error)) ended
     → IfSome input (λ i. LeavesVerdict old new options (take most i) ended)
 refused_known most options bytes error input old new ended has read known told =
-    leaves_known (Judges options) verdict_text verdict_ending (NoProgram (Image error)) (take most) bytes input old new
+    leaves_known (Judges options) text_of_verdict verdict_ending (NoProgram (Image error)) (take most) bytes input old new
     ended known (has, read) told
 
 -- of options that have no shape
@@ -66,7 +66,7 @@ pub no_shape_known : (most : ℕ) (options : ShapeOptions) (input old new : Opti
     → IfSome input (λ i. LeavesVerdict old new options (take most i) ended)
 no_shape_known most options None old new ended none told = tt
 no_shape_known most options (Some i) old new ended none told =
-    leaves_any (Judges options (take most i)) verdict_text verdict_ending (NoProgram Shape) old new ended none told
+    leaves_any (Judges options (take most i)) text_of_verdict verdict_ending (NoProgram Shape) old new ended none told
 
 -- ---- one verdict
 

@@ -16,12 +16,12 @@ use Rattle.commands.specs.declared.ending.Ending.TheVariants as endings
 use Rattle.commands.specs.declared.input.Unread.TheVariants.{Text}
 use Rattle.commands.specs.Case.{Left, case_memory, case_setting, left_lines}
 use Rattle.commands.specs.Image.{HasShape, asked_extent}
-use Rattle.commands.specs.Input.{IsProgramOf, IsUnread, unread_line}
+use Rattle.commands.specs.Input.{IsProgramOfInput, IsUnread, unread_line}
 
 -- the bytes have a program, and its run in the case that is asked for comes to this and leaves this
 pub record RunsRead (asked : ExecOptions) (bytes : List ℕ) (outcome : Outcome) (left : Left) : Type 0 where
   pub program : List Insn
-  pub read : IsProgramOf asked.text bytes program
+  pub read : IsProgramOfInput asked.text bytes program
   pub run :
       RunAnswers program (case_setting (asked_extent asked.shape) asked.case)
       (case_memory (asked_extent asked.shape) asked.case) asked.fuel left.memory left.outbox.sent outcome
@@ -61,13 +61,13 @@ outcome_line (outcomes.Trap slot kind) fuel =
     codes "trap " ++ (decimal (trap_number kind) ++ (codes " " ++ (trap_name kind ++ (codes " slot " ++ decimal slot))))
 outcome_line outcomes.OutOfFuel fuel = codes "out of fuel " ++ decimal fuel
 
-abbrev pub line_of : Answer → List ℕ
-line_of (Refused unread) = unread_line unread
-line_of (Ran outcome fuel) = outcome_line outcome fuel
+abbrev pub answer_line : Answer → List ℕ
+answer_line (Refused unread) = unread_line unread
+answer_line (Ran outcome fuel) = outcome_line outcome fuel
 
 -- the line with its end
 abbrev pub text_of : Answer → List ℕ
-text_of answer = line_of answer ++ codes "\n"
+text_of answer = answer_line answer ++ codes "\n"
 
 -- what the run left, where that is to be shown
 abbrev pub shown_lines : ExecOptions → Answer → Left → List ℕ

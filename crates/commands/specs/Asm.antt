@@ -25,9 +25,9 @@ text_refusal errors.Empty = codes "refused text Empty line 0"
 text_refusal errors.Memory = codes "refused text Memory"
 
 -- a text that isn't too long to be read means this program, or it means none
-abbrev pub ReadsText : List ℕ → Result (List Insn) TextError → Type 0
-ReadsText text (Ok program) = (length text ≤ TEXT_BYTES) × Means text program
-ReadsText text (Err error) = (length text ≤ TEXT_BYTES) × (error ≢ errors.Memory)
+abbrev pub ReadsAsmText : List ℕ → Result (List Insn) TextError → Type 0
+ReadsAsmText text (Ok program) = (length text ≤ TEXT_BYTES) × Means text program
+ReadsAsmText text (Err error) = (length text ≤ TEXT_BYTES) × (error ≢ errors.Memory)
     × ((program : List Insn) → Means text program → ⊥)
 
 -- what is printed of the program of a text: its image, or the text's listing where that is asked for
@@ -46,4 +46,4 @@ assembled_ending (Err error) = Refused
 -- the image of the program that the text means, or its listing, or the line that refuses it
 abbrev pub LeavesImage : Option (List ℕ) → Option (List ℕ) → Bool → List ℕ → Result Ending Fault → Type 0
 LeavesImage old new list text result =
-    LeavesAny (ReadsText text) (assembled list text) assembled_ending old new result
+    LeavesAny (ReadsAsmText text) (assembled list text) assembled_ending old new result

@@ -25,14 +25,14 @@ abbrev pub asked_sizes : CompileOptions → rules.Sizes
 asked_sizes asked = sizes_of (asked_extent asked.shape) asked.faults asked.modulus
 
 -- the image of a rule's program, or its listing where that is asked for
-abbrev pub IsShown : Bool → rules.Sizes → List ℕ → List Insn → List ℕ → Type 0
-IsShown true z text program bytes = IsListingOf z text program bytes
-IsShown false z text program bytes = bytes ≡ image_of program
+abbrev pub IsCompiledText : Bool → rules.Sizes → List ℕ → List Insn → List ℕ → Type 0
+IsCompiledText true z text program bytes = IsListingOf z text program bytes
+IsCompiledText false z text program bytes = bytes ≡ image_of program
 
 -- the program of the text, or why it has none: the shape comes first, then the sizes, then what is wrong with the text
 abbrev pub Compiles : CompileOptions → List ℕ → Compiled → Type 0
 Compiles asked text (Bytes bytes) = (program : List Insn) × IsProgramOfText (asked_sizes asked) text program
-    × IsShown asked.list (asked_sizes asked) text program bytes.items
+    × IsCompiledText asked.list (asked_sizes asked) text program bytes.items
 Compiles asked text (Refused Shape) = HasShape asked.shape → ⊥
 Compiles asked text (Refused Sizes) =
     HasShape asked.shape × (IsRule asked.shape.nodes asked.faults asked.modulus → ⊥)

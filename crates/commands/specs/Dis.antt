@@ -9,7 +9,7 @@ use Rattle.commands.specs.declared.ending.Ending.{Ending}
 use Rattle.commands.specs.declared.ending.Ending.TheVariants.{Done, Refused}
 use Rattle.commands.specs.declared.fault.Fault.{Fault}
 use Rattle.commands.specs.declared.image.Refusal.TheVariants.{Image}
-use Rattle.commands.specs.Image.{ReadsImage, refusal_line}
+use Rattle.commands.specs.Image.{ReadsImage, image_refusal_line}
 use Rattle.commands.specs.declared.request.ClockOptions.{ClockOptions}
 use Rattle.commands.specs.Output.{Leaves, LeavesAny}
 
@@ -17,7 +17,7 @@ use Rattle.commands.specs.Output.{Leaves, LeavesAny}
 -- refusal (docs/COMMANDS.md, "What dis prints")
 abbrev pub listing_text : Bool → Result (List Insn) ImageError → List ℕ
 listing_text list (Ok program) = if list then program_listing program else canonical_text program
-listing_text list (Err error) = refusal_line (Image error) ++ codes "\n"
+listing_text list (Err error) = image_refusal_line (Image error) ++ codes "\n"
 
 abbrev pub listing_ending : Result (List Insn) ImageError → Ending
 listing_ending (Ok program) = Done

@@ -18,7 +18,7 @@ use Rattle.commands.specs.declared.input.Unread.{Unread}
 use Rattle.commands.specs.Answer.{AnswersLeaving, ending_of, text_of, told_text}
 use Rattle.commands.specs.Case.{Left, case_memory, case_setting}
 use Rattle.commands.specs.Image.{HasShape, asked_extent}
-use Rattle.commands.specs.Input.{IsProgramOf, IsUnread}
+use Rattle.commands.specs.Input.{IsProgramOfInput, IsUnread}
 use Rattle.commands.specs.Output.{Leaves, LeavesAny, LeavesNothing}
 
 -- The whole line of an answer, or its first bytes where a write failed; and nothing where memory ran out. No other
@@ -80,7 +80,7 @@ LeavesSteps old new asked program (Err (faults.CommandLine said)) = ⊥
 -- the options have a shape, and the bytes are this program's
 pub record ReadsProgram (asked : ExecOptions) (bytes : List ℕ) (program : List Insn) : Type 0 where
   pub shape : HasShape asked.shape
-  pub read : IsProgramOf asked.text bytes program
+  pub read : IsProgramOfInput asked.text bytes program
 
 -- the traced run of the program of these bytes, or the line that refuses them, or nothing where they couldn't be read
 abbrev pub LeavesTraced : Option (List ℕ) → Option (List ℕ) → ExecOptions → List ℕ → Result Ending Fault → Type 0

@@ -19,7 +19,7 @@ use Rattle.commands.specs.declared.ending.Ending.{Ending}
 use Rattle.commands.specs.declared.ending.Ending.TheVariants as endings
 use Rattle.commands.specs.declared.fault.Fault.{Fault}
 use Rattle.commands.specs.Image.{HasShape, asked_extent}
-use Rattle.commands.specs.Input.{IsProgramOf, IsUnread, unread_line}
+use Rattle.commands.specs.Input.{IsProgramOfInput, IsUnread, unread_line}
 use Rattle.commands.specs.Output.{LeavesAny}
 use Rattle.commands.specs.Verdict.{verdict_ending, verdict_line}
 
@@ -72,7 +72,7 @@ IsRefusedBy line told = told ≡ explanation (line ++ codes "\n") endings.Refuse
 abbrev pub Explains : ExplainOptions → List ℕ → Explanation → Type 0
 Explains asked bytes told =
     ((unread : Unread) × IsUnread asked.shape asked.text bytes unread × IsRefusedBy (unread_line unread) told)
-    ⊎ (HasShape asked.shape × (program : List Insn) × IsProgramOf asked.text bytes program
+    ⊎ (HasShape asked.shape × (program : List Insn) × IsProgramOfInput asked.text bytes program
     × ExplainsProgram asked (lines_read asked.text bytes) program told)
 
 -- the whole of what is told, its first bytes, or nothing where memory ran out

@@ -29,13 +29,13 @@ IsRefused asked bytes Shape = HasShape asked → ⊥
 IsRefused asked bytes (Image error) = HasShape asked × ReadsImage bytes (Err error)
 
 -- the line of a refusal, without its end (docs/COMMANDS.md, "What exec prints")
-abbrev pub refusal_line : Refusal → List ℕ
-refusal_line Shape = codes "refused shape"
-refusal_line (Image errors.Empty) = codes "refused image Empty"
-refusal_line (Image errors.TooLong) = codes "refused image TooLong"
-refusal_line (Image (errors.Truncated slot)) = codes "refused image Truncated slot " ++ decimal slot
-refusal_line (Image (errors.UnknownOpcode slot)) = codes "refused image UnknownOpcode slot " ++ decimal slot
-refusal_line (Image (errors.BadRegister slot)) = codes "refused image BadRegister slot " ++ decimal slot
-refusal_line (Image (errors.NonZeroField slot)) = codes "refused image NonZeroField slot " ++ decimal slot
-refusal_line (Image (errors.BadWidth slot)) = codes "refused image BadWidth slot " ++ decimal slot
-refusal_line (Image errors.Memory) = codes "refused image Memory"
+abbrev pub image_refusal_line : Refusal → List ℕ
+image_refusal_line Shape = codes "refused shape"
+image_refusal_line (Image errors.Empty) = codes "refused image Empty"
+image_refusal_line (Image errors.TooLong) = codes "refused image TooLong"
+image_refusal_line (Image (errors.Truncated slot)) = codes "refused image Truncated slot " ++ decimal slot
+image_refusal_line (Image (errors.UnknownOpcode slot)) = codes "refused image UnknownOpcode slot " ++ decimal slot
+image_refusal_line (Image (errors.BadRegister slot)) = codes "refused image BadRegister slot " ++ decimal slot
+image_refusal_line (Image (errors.NonZeroField slot)) = codes "refused image NonZeroField slot " ++ decimal slot
+image_refusal_line (Image (errors.BadWidth slot)) = codes "refused image BadWidth slot " ++ decimal slot
+image_refusal_line (Image errors.Memory) = codes "refused image Memory"

@@ -7,8 +7,8 @@ use Rattle.commands.specs.declared.image.Refusal.TheVariants.{Shape, Image}
 use Rattle.commands.specs.declared.input.Unread.{Unread}
 use Rattle.commands.specs.declared.input.Unread.TheVariants.{Refused, Text}
 use Rattle.commands.specs.declared.request.ShapeOptions.{ShapeOptions}
-use Rattle.commands.specs.Asm.{ReadsText, text_refusal}
-use Rattle.commands.specs.Image.{HasShape, ReadsImage, refusal_line}
+use Rattle.commands.specs.Asm.{ReadsAsmText, text_refusal}
+use Rattle.commands.specs.Image.{HasShape, ReadsImage, image_refusal_line}
 
 -- the most bytes that are read of a text, or of an image: one more than it may have
 abbrev pub most_read : Bool → ℕ
@@ -16,17 +16,17 @@ most_read true = TEXT_BYTES + 1
 most_read false = IMAGE_BYTES
 
 -- the bytes are a text that means this program, or its image (RFC 9669, section 3)
-abbrev pub IsProgramOf : Bool → List ℕ → List Insn → Type 0
-IsProgramOf true bytes program = ReadsText bytes (Ok program)
-IsProgramOf false bytes program = ReadsImage bytes (Ok program)
+abbrev pub IsProgramOfInput : Bool → List ℕ → List Insn → Type 0
+IsProgramOfInput true bytes program = ReadsAsmText bytes (Ok program)
+IsProgramOfInput false bytes program = ReadsImage bytes (Ok program)
 
 -- why these options and bytes have no program: the shape comes first. Want of memory is none
 abbrev pub IsUnread : ShapeOptions → Bool → List ℕ → Unread → Type 0
 IsUnread asked text bytes (Refused Shape) = HasShape asked → ⊥
 IsUnread asked text bytes (Refused (Image error)) = HasShape asked × (text ≡ false) × ReadsImage bytes (Err error)
-IsUnread asked text bytes (Text error) = HasShape asked × (text ≡ true) × ReadsText bytes (Err error)
+IsUnread asked text bytes (Text error) = HasShape asked × (text ≡ true) × ReadsAsmText bytes (Err error)
 
 -- the line of a refusal, without its end (docs/COMMANDS.md, "What exec prints")
 abbrev pub unread_line : Unread → List ℕ
-unread_line (Refused refusal) = refusal_line refusal
+unread_line (Refused refusal) = image_refusal_line refusal
 unread_line (Text error) = text_refusal error

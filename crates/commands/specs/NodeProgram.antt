@@ -7,7 +7,7 @@ use Rattle.commands.specs.declared.ending.Ending.{Ending}
 use Rattle.commands.specs.declared.fault.Fault.{Fault}
 use Rattle.commands.specs.declared.request.NodeProgramOptions.{NodeProgramOptions}
 use Rattle.commands.specs.NodeRule.{IsProgramText, IsRuleOf, sizes_for}
-use Rattle.commands.specs.NodeText.{IsNodeText, node_text, node_text_ending}
+use Rattle.commands.specs.NodeText.{IsNodeText, node_output, node_text_ending}
 use Rattle.commands.specs.Output.{LeavesAny}
 
 -- the text, or the listing, of the program that the node runs in that pulse of the scenario's run, and its rule, if the
@@ -23,4 +23,4 @@ pub record IsTextOf (asked : NodeProgramOptions) (s : Scenario) (lines : List �
 abbrev pub LeavesNodeProgram : Option (List ℕ) → Option (List ℕ) → NodeProgramOptions → Scenario → Result Ending Fault
     → Type 0
 LeavesNodeProgram old new asked s result =
-    LeavesAny (IsNodeText (IsTextOf asked s) asked.place s) (node_text (codes "program")) node_text_ending old new result
+    LeavesAny (IsNodeText (IsTextOf asked s) asked.place s) (node_output (codes "program")) node_text_ending old new result

@@ -18,10 +18,10 @@ use Rattle.commands.specs.Dis.{listing_text}
 -- ---- which rule it is
 
 -- the text of the clock, if it is a rule
-abbrev pub clock_rule : Option TextDraft → Option (List ℕ)
-clock_rule None = None
-clock_rule (Some (assembler_text text)) = None
-clock_rule (Some (rule_text text)) = Some text
+abbrev pub clock_rule_text : Option TextDraft → Option (List ℕ)
+clock_rule_text None = None
+clock_rule_text (Some (assembler_text text)) = None
+clock_rule_text (Some (rule_text text)) = Some text
 
 -- the text of a load of this kind, if it is a rule
 abbrev pub load_rule : Kind → Option (List ℕ) → Option (List ℕ)
@@ -29,8 +29,8 @@ load_rule Rule text = text
 load_rule _ text = None
 
 -- the text is the rule of the scenario's clock, or of one of its loads
-abbrev pub HasRule : Scenario → List ℕ → Type 0
-HasRule s text = (clock_rule (draft_of s).clock_text ≡ Some text)
+abbrev pub IsRuleOfNode : Scenario → List ℕ → Type 0
+IsRuleOfNode s text = (clock_rule_text (draft_of s).clock_text ≡ Some text)
     ⊎ ((load : LoadDraft) × Contains (draft_of s).loads load × (load_rule load.kind load.text ≡ Some text))
 
 -- the numbers that its rules are compiled for
@@ -39,7 +39,7 @@ sizes_for s = sizes_in (frame_of s)
 
 -- the text is a rule of the scenario, and this is its program
 abbrev pub IsRuleWith : Scenario → List Insn → List ℕ → Type 0
-IsRuleWith s program text = HasRule s text × IsProgramOfText (sizes_for s) text program
+IsRuleWith s program text = IsRuleOfNode s text × IsProgramOfText (sizes_for s) text program
 
 -- a rule of the scenario that has the program, or none if no rule has it
 abbrev pub IsRuleOf : Scenario → List Insn → Option (List ℕ) → Type 0

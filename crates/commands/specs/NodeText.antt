@@ -32,9 +32,9 @@ abbrev pub absent_text : List ℕ → Reason → List ℕ
 absent_text word reason = codes "refused " ++ (word ++ (codes " " ++ (reason_name reason ++ codes "\n")))
 
 -- what is written
-abbrev pub node_text : List ℕ → NodeText → List ℕ
-node_text word (Lines lines) = lines.items
-node_text word (Absent reason) = absent_text word reason
+abbrev pub node_output : List ℕ → NodeText → List ℕ
+node_output word (Lines lines) = lines.items
+node_output word (Absent reason) = absent_text word reason
 
 abbrev pub node_text_ending : NodeText → Ending
 node_text_ending (Lines lines) = endings.Done

@@ -20,7 +20,7 @@ use Rattle.commands.specs.Image.{HasShape}
 use Rattle.commands.specs.Input.{most_read}
 use Rattle.commands.specs.Output.{Leaves}
 use Rattle.rule_notes.specs.Words.{IsNote}
-use Rattle.bench_scenario.specs.declared.run.TheConstants.{MOST_BYTES}
+use Rattle.bench_scenario.specs.declared.run.TheConstants.{MAX_BYTES}
 use Rattle.commands.specs.Scenarios.{LeavesFor}
 use Rattle.commands.specs.Stress.{LeavesStressed}
 use Rattle.commands.specs.Verdict.{LeavesVerdict}
@@ -89,5 +89,5 @@ TakesFor (Verify asked) old new = TakesShaped asked old new
 TakesFor (Explain asked) old new =
     TakesAtMost (most_read asked.text) old new × ((HasShape asked.shape → ⊥) → new ≡ old)
 TakesFor (Stress asked) old new = new ≡ old
-TakesFor (Scenario asked) old new = TakesAtMost MOST_BYTES old new
+TakesFor (Scenario asked) old new = TakesAtMost MAX_BYTES old new
 TakesFor (Help text) old new = new ≡ old

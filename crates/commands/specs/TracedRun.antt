@@ -9,7 +9,7 @@ use Rattle.bench_workers.specs.Opening.{OpensPulse}
 use Rattle.scenario_text.specs.declared.scenario.Scenario.{Scenario}
 use Rattle.bench_scenario.specs.declared.inputs.NodeInput.{NodeInput}
 use Rattle.bench_scenario.specs.Events.{events_of}
-use Rattle.bench_scenario.specs.Inputs.{IsInputOf, setting_in}
+use Rattle.bench_scenario.specs.Inputs.{IsInputOf, input_setting}
 use Rattle.bench_scenario.specs.Runs.{bench_of}
 use Rattle.run_trace.specs.Steps.{Step, steps_of}
 use Rattle.commands.specs.declared.ending.Ending.{Ending}
@@ -17,7 +17,7 @@ use Rattle.commands.specs.declared.fault.Fault.{Fault}
 use Rattle.commands.specs.declared.request.NodeInPulse.{NodeInPulse}
 use Rattle.commands.specs.Case.{left_lines, mail_text, memory_line}
 use Rattle.commands.specs.NodeRule.{AreStepLines, IsRuleOf, sizes_for}
-use Rattle.commands.specs.NodeText.{IsNodeText, node_text, node_text_ending}
+use Rattle.commands.specs.NodeText.{IsNodeText, node_output, node_text_ending}
 use Rattle.commands.specs.Output.{LeavesAny}
 
 -- ---- the lines
@@ -36,7 +36,7 @@ input_lines pulse node x =
 
 -- the steps of the run of this many
 abbrev pub steps_in : Extent → ℕ → NodeInput → ℕ → List Step
-steps_in shape node x steps = steps_of x.program.program (setting_in shape node x) x.memory.items steps
+steps_in shape node x steps = steps_of x.program.program (input_setting shape node x) x.memory.items steps
 
 -- how it ends in a bench of so many nodes: r0 and steps, then memory and messages, as `exec --show` prints them
 abbrev pub end_lines : ℕ → End → List ℕ
@@ -70,4 +70,4 @@ pub record IsRunOf (asked : NodeInPulse) (s : Scenario) (told : List ℕ) : Type
 -- the whole text, its first bytes if a write failed, or nothing at another fault
 abbrev pub LeavesTracedRun : Option (List ℕ) → Option (List ℕ) → NodeInPulse → Scenario → Result Ending Fault → Type 0
 LeavesTracedRun old new asked s result =
-    LeavesAny (IsNodeText (IsRunOf asked s) asked s) (node_text (codes "trace")) node_text_ending old new result
+    LeavesAny (IsNodeText (IsRunOf asked s) asked s) (node_output (codes "trace")) node_text_ending old new result

@@ -15,7 +15,7 @@ use Rattle.commands.specs.declared.verdict.Verdict.TheVariants.{NoProgram, Accep
 use Rattle.commands.specs.declared.ending.Ending.{Ending}
 use Rattle.commands.specs.declared.ending.Ending.TheVariants as endings
 use Rattle.commands.specs.declared.fault.Fault.{Fault}
-use Rattle.commands.specs.Image.{HasShape, IsRefused, asked_extent, refusal_line}
+use Rattle.commands.specs.Image.{HasShape, IsRefused, asked_extent, image_refusal_line}
 use Rattle.commands.specs.Output.{Leaves, LeavesAny}
 
 -- the program keeps the rules, and these are its slots and the instructions on its longest path; or this slot is the
@@ -51,15 +51,15 @@ SameVerdict verdict other = ⊥
 -- ---- the line of a verdict, without its end
 
 abbrev pub verdict_line : Verdict → List ℕ
-verdict_line (NoProgram refusal) = refusal_line refusal
+verdict_line (NoProgram refusal) = image_refusal_line refusal
 verdict_line (Accepted slots announced) = codes "accepted slots "
     ++ (decimal slots ++ (codes " announced " ++ decimal announced))
 verdict_line (Refused slot rule) = codes "refused rule "
     ++ (decimal (rule_number rule) ++ (codes " slot " ++ decimal slot))
 
 -- the line with its end
-abbrev pub verdict_text : Verdict → List ℕ
-verdict_text verdict = verdict_line verdict ++ codes "\n"
+abbrev pub text_of_verdict : Verdict → List ℕ
+text_of_verdict verdict = verdict_line verdict ++ codes "\n"
 
 -- how the command ends that wrote it
 abbrev pub verdict_ending : Verdict → Ending
@@ -72,8 +72,8 @@ verdict_ending (Refused slot rule) = endings.Refused
 -- the whole line of a verdict, or its first bytes where a write failed; and nothing where memory ran out. No other
 -- fault comes
 abbrev pub LeavesVerdictLine : Option (List ℕ) → Option (List ℕ) → Verdict → Result Ending Fault → Type 0
-LeavesVerdictLine old new verdict result = Leaves old new (verdict_text verdict) (verdict_ending verdict) result
+LeavesVerdictLine old new verdict result = Leaves old new (text_of_verdict verdict) (verdict_ending verdict) result
 
 -- the line of the verdict on these bytes
 abbrev pub LeavesVerdict : Option (List ℕ) → Option (List ℕ) → ShapeOptions → List ℕ → Result Ending Fault → Type 0
-LeavesVerdict old new asked bytes result = LeavesAny (Judges asked bytes) verdict_text verdict_ending old new result
+LeavesVerdict old new asked bytes result = LeavesAny (Judges asked bytes) text_of_verdict verdict_ending old new result

@@ -1,6 +1,6 @@
 //! What `exec` answers to the bytes that it read, and the line that says it.
 ghost use Rattle.std.specs.Prelude.{◌≡◌, Some};
-ghost use Rattle.commands.specs.Answer.{line_of, trap_name};
+ghost use Rattle.commands.specs.Answer.{answer_line, trap_name};
 
 use crate::ending::Ending;
 use crate::input::Unread;
@@ -30,7 +30,7 @@ impl Answer {
 }
 
 impl fmt::Display for Answer {
-    ghost output = { λ answer. Some (line_of answer) };
+    ghost output = { λ answer. Some (answer_line answer) };
 
     fn fmt<W: fmt::Write>(&self, f: &mut fmt::Formatter<W>) -> fmt::Result {
         match self {

@@ -3,7 +3,7 @@ ghost use Rattle.std.specs.Prelude.{◌≡◌, ◌≢◌, ◌≤◌, ◌+◌, Li
 ghost use Rattle.bpf_insn.specs.declared.forms.Insn.{Insn};
 ghost use Rattle.bpf_asm.specs.Meaning.{Means};
 ghost use Rattle.stream_io.specs.Streams.{TakesAtMost};
-ghost use Rattle.commands.specs.Asm.{LeavesImage, ReadsText, assembled, assembled_ending, program_text, text_refusal};
+ghost use Rattle.commands.specs.Asm.{LeavesImage, ReadsAsmText, assembled, assembled_ending, program_text, text_refusal};
 ghost use Rattle.commands.specs.Faults.{IsBeforeWriting};
 ghost use Rattle.commands.specs.Output.{Leaves};
 
@@ -63,7 +63,7 @@ pub(crate) fn read_text<R: Read>(alloc: Global, reader: &mut R) -> Result<Vec<u8
 /// The program that a text means, or why it means none.
 pub(crate) fn program_meant(alloc: Global, text: &[u8]) -> Result<Result<Program, TextError>, Fault>
     requires { length text.now ≤ TEXT_BYTES }
-    ensures read { IfOk result (ReadsText text.now) }
+    ensures read { IfOk result (ReadsAsmText text.now) }
     ensures fault { IfErr result IsBeforeWriting }
 {
     match assemble(alloc, text) {

@@ -10,7 +10,7 @@ ghost use Rattle.commands.specs.Image.{HasShape, asked_extent};
 ghost use Rattle.commands.specs.Input.{most_read};
 ghost use Rattle.commands.specs.Output.{Leaves};
 ghost use Rattle.commands.specs.Perform.{SaysAt};
-ghost use Rattle.commands.specs.inner.Exec.{LeavesRunOf, RunsCase, answer_in, left_of};
+ghost use Rattle.commands.specs.inner.Exec.{LeavesRunOf, RunsCase, answer_in, left_by_reply};
 
 use crate::answer::Answer;
 use crate::ending::Ending;
@@ -128,7 +128,7 @@ fn add_shown(
     reply: &Reply,
 ) -> Result<(), AllocError>
     ensures { OnOk result (string_bytes text.new ≡ string_bytes text.old
-        ++ shown_lines options.now (answer_in options.now.fuel reply.now) (left_of reply.now)) }
+        ++ shown_lines options.now (answer_in options.now.fuel reply.now) (left_by_reply reply.now)) }
 {
     match reply {
         Reply::Refused(_) => Ok(()),
@@ -145,7 +145,7 @@ fn add_shown(
 /// What is told of a reply.
 fn text_of(alloc: Global, options: &ExecOptions, reply: &Reply) -> Result<String, AllocError>
     ensures { IfOk result (λ text. string_bytes text
-        ≡ told_text options.now (answer_in options.now.fuel reply.now) (left_of reply.now)) }
+        ≡ told_text options.now (answer_in options.now.fuel reply.now) (left_by_reply reply.now)) }
 {
     let answer = reply.answer(options.fuel);
     let mut text = format!(in alloc; "{answer}\n")?;
@@ -161,7 +161,7 @@ pub(crate) fn write_reply<W: Write>(
     out: &mut W,
 ) -> Result<Ending, Fault>
     ensures { Leaves (W.contents out.old) (W.contents out.new)
-        (told_text options.now (answer_in options.now.fuel reply.now) (left_of reply.now))
+        (told_text options.now (answer_in options.now.fuel reply.now) (left_by_reply reply.now))
         (ending_of (answer_in options.now.fuel reply.now)) result }
 {
     let text = text_of(alloc, options, reply).map_err(|_| Fault::Memory)?;

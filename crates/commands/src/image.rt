@@ -2,7 +2,7 @@
 ghost use Rattle.std.specs.Prelude.{◌≡◌, Some, IfOk, IfErr, IfSome, take};
 ghost use Rattle.stream_io.specs.Streams.{TakesAtMost};
 ghost use Rattle.commands.specs.Faults.{IsBeforeWriting};
-ghost use Rattle.commands.specs.Image.{ReadsImage, refusal_line};
+ghost use Rattle.commands.specs.Image.{ReadsImage, image_refusal_line};
 
 use crate::fault::Fault;
 use bpf_insn::{ImageError, MAX_SLOTS, Program, decode};
@@ -53,7 +53,7 @@ pub enum Refusal {
 }
 
 impl fmt::Display for Refusal {
-    ghost output = { λ refusal. Some (refusal_line refusal) };
+    ghost output = { λ refusal. Some (image_refusal_line refusal) };
 
     fn fmt<W: fmt::Write>(&self, f: &mut fmt::Formatter<W>) -> fmt::Result {
         match self {

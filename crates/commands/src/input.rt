@@ -7,7 +7,7 @@ ghost use Rattle.commands.specs.declared.input.Unread.TheVariants as unreads;
 ghost use Rattle.commands.specs.declared.request.ShapeOptions.{ShapeOptions};
 ghost use Rattle.commands.specs.Faults.{IsBeforeWriting};
 ghost use Rattle.commands.specs.Image.{HasShape, asked_extent};
-ghost use Rattle.commands.specs.Input.{IsProgramOf, IsUnread, most_read, unread_line};
+ghost use Rattle.commands.specs.Input.{IsProgramOfInput, IsUnread, most_read, unread_line};
 ghost use Rattle.commands.specs.inner.Input.{ReadsInput};
 
 use crate::asm::{TextRefusal, program_meant, read_text};
@@ -96,7 +96,7 @@ fn read_bytes<R: Read>(alloc: Global, text: bool, reader: &mut R) -> Result<Vec<
 /// The program of a text or an image, or why it has none.
 fn program_of(alloc: Global, text: bool, bytes: &[u8]) -> Result<Result<Program, Unread>, Fault>
     requires few { text ≡ true → length bytes.now ≤ TEXT_BYTES }
-    ensures program { IfOk result (λ read. IfOk read (IsProgramOf text bytes.now)) }
+    ensures program { IfOk result (λ read. IfOk read (IsProgramOfInput text bytes.now)) }
     ensures unread { IfOk result (λ read. IfErr read (λ unread.
         (asked : ShapeOptions) → HasShape asked → IsUnread asked text bytes.now unread)) }
     ensures fault { IfErr result IsBeforeWriting }
@@ -110,7 +110,7 @@ fn program_of(alloc: Global, text: bool, bytes: &[u8]) -> Result<Result<Program,
 
 fn program_of_text(alloc: Global, text: &[u8]) -> Result<Result<Program, Unread>, Fault>
     requires few { length text.now ≤ TEXT_BYTES }
-    ensures program { IfOk result (λ read. IfOk read (IsProgramOf true text.now)) }
+    ensures program { IfOk result (λ read. IfOk read (IsProgramOfInput true text.now)) }
     ensures unread { IfOk result (λ read. IfErr read (λ unread.
         (asked : ShapeOptions) → HasShape asked → IsUnread asked true text.now unread)) }
     ensures fault { IfErr result IsBeforeWriting }
@@ -122,7 +122,7 @@ fn program_of_text(alloc: Global, text: &[u8]) -> Result<Result<Program, Unread>
 }
 
 fn program_of_image(alloc: Global, image: &[u8]) -> Result<Result<Program, Unread>, Fault>
-    ensures program { IfOk result (λ read. IfOk read (IsProgramOf false image.now)) }
+    ensures program { IfOk result (λ read. IfOk read (IsProgramOfInput false image.now)) }
     ensures unread { IfOk result (λ read. IfErr read (λ unread.
         (asked : ShapeOptions) → HasShape asked → IsUnread asked false image.now unread)) }
     ensures fault { IfErr result IsBeforeWriting }

@@ -8,7 +8,7 @@ use crate::ending::Ending;
 use crate::fault::Fault;
 use crate::request::LinesOptions;
 use crate::run::{ending_of, fault_of};
-use bench_workers::MOST_WORKERS;
+use bench_workers::MAX_WORKERS;
 use run_lines::{LinesFault, PulseSpan, tell_lines};
 use scenario_text::Scenario;
 use std::alloc::Global;
@@ -32,7 +32,7 @@ pub(crate) fn lines<T: Threads + Wait + Sync, W: Write>(
     if scenario.pulses < options.span.first() {
         return Err(past_pulses(alloc, options.span, scenario.pulses));
     }
-    let workers = options.run.workers.clamp(1, MOST_WORKERS);
+    let workers = options.run.workers.clamp(1, MAX_WORKERS);
     match tell_lines(rt, alloc, scenario, workers, options.span, out) {
         Ok(agrees) => Ok(ending_of(options.run.check, agrees)),
         Err(LinesFault::Run(fault)) => Err(fault_of(fault.fault)),

@@ -1,7 +1,7 @@
 //! The lines of a node's run in a pulse.
 ghost use Rattle.std.specs.Prelude.{◌≡◌, ◌++◌, IfOk, List, OnOk, Option, length, string_bytes, ℕ};
 ghost use Rattle.bpf_machine.specs.Run.{CompleteRun, End};
-ghost use Rattle.bench_scenario.specs.Inputs.{FitsShape, setting_in};
+ghost use Rattle.bench_scenario.specs.Inputs.{FitsShape, input_setting};
 ghost use Rattle.run_trace.specs.Lines.{trace_text};
 ghost use Rattle.run_trace.specs.Steps.{steps_of};
 ghost use Rattle.scenario_text.specs.Texts.{ReadsText};
@@ -51,7 +51,7 @@ pub(crate) fn lines_of(
     requires shape { input.program.shape ≡ extent_of (frame_of scenario.now) }
     requires fits { FitsShape input.program.shape options.node input }
     ensures { IfOk result (λ lines. (end : End)
-        × CompleteRun input.program.program (setting_in input.program.shape options.node input) input.memory.items end
+        × CompleteRun input.program.program (input_setting input.program.shape options.node input) input.memory.items end
         × AreRunLines scenario.now input.program.shape options.pulse options.node input end lines.items) }
 {
     let text = input_text(alloc, options, &input)?;

@@ -3,14 +3,14 @@ ghost use Rattle.std.specs.Prelude.{◌≡◌, ◌↔◌, IfOk, IsTrue, List, Ma
 ghost use Rattle.rule_listing.specs.Listing.{IsListingOf};
 ghost use Rattle.rule_text.specs.ProgramLines.{AreLinesOfText};
 ghost use Rattle.clock_nodes.specs.Listings.{clock_listing};
-ghost use Rattle.scenario_text.specs.Spelling.{clock_insns, rule_of};
+ghost use Rattle.scenario_text.specs.Spelling.{clock_insns, clock_rule_of};
 ghost use Rattle.scenario_text.specs.Texts.{ReadsText};
-ghost use Rattle.scenario_text.specs.Views.{draft_of, extent_of, frame_of, load_of};
-ghost use Rattle.commands.specs.NodeRule.{IsRuleOf, IsRuleWith, clock_rule, load_rule, sizes_for};
+ghost use Rattle.scenario_text.specs.Views.{draft_of, extent_of, frame_of, load_draft};
+ghost use Rattle.commands.specs.NodeRule.{IsRuleOf, IsRuleWith, clock_rule_text, load_rule, sizes_for};
 ghost use Rattle.commands.specs.inner.NodeRule.{ClockHas, LoadHas};
 
 use bpf_insn::Program;
-use clock_nodes::{ClockRule, dolev_welch};
+use clock_nodes::dolev_welch;
 use node_env::Shape;
 use rule_listing::list_rule;
 use rule_text::instruction_lines;
@@ -19,7 +19,7 @@ use std::alloc::{AllocError, Global};
 
 /// The text of the clock, if it is a rule.
 fn rule_of_clock(scenario: &Scenario) -> Option<&[u8]>
-    ensures { option_map (λ text. text.now) result ≡ clock_rule (draft_of scenario.now).clock_text }
+    ensures { option_map (λ text. text.now) result ≡ clock_rule_text (draft_of scenario.now).clock_text }
 {
     match &scenario.clock_text {
         Some(ProgramText::Rule(text)) => Some(text.as_bytes()),
@@ -30,7 +30,7 @@ fn rule_of_clock(scenario: &Scenario) -> Option<&[u8]>
 
 /// The text of a load, if it is a rule.
 fn rule_of_load(load: &Load) -> Option<&[u8]>
-    ensures { option_map (λ text. text.now) result ≡ load_rule load.now.kind (load_of load.now).text }
+    ensures { option_map (λ text. text.now) result ≡ load_rule load.now.kind (load_draft load.now).text }
 {
     match load.kind {
         Kind::Rule => match &load.text {
@@ -45,12 +45,9 @@ fn rule_of_load(load: &Load) -> Option<&[u8]>
 fn listed_clock(alloc: Global, scenario: &Scenario, shape: Shape) -> Result<Program, AllocError>
     requires reads { (text : List ℕ) × ReadsText text scenario.now }
     requires shape { shape ≡ extent_of (frame_of scenario.now) }
-    ensures { IfOk result (λ clock. clock ≡ clock_listing (rule_of (frame_of scenario.now))) }
+    ensures { IfOk result (λ clock. clock ≡ clock_listing (clock_rule_of (frame_of scenario.now))) }
 {
-    let Some(rule) = ClockRule::of(scenario.nodes, scenario.faults, scenario.modulus) else {
-        unreachable!()
-    };
-    dolev_welch(alloc, shape, rule)
+    dolev_welch(alloc, shape, scenario.rule())
 }
 
 /// Whether this is the program of the scenario's clock.

@@ -4,7 +4,7 @@ ghost use Rattle.bench_scenario.specs.Inputs.{FitsShape, RunsIn};
 ghost use Rattle.bench_scenario.specs.Runs.{bench_of};
 ghost use Rattle.scenario_text.specs.Texts.{ReadsText};
 ghost use Rattle.commands.specs.Faults.{IsBeforeWriting};
-ghost use Rattle.commands.specs.NodeText.{IsAbsent, absent_text, node_text, node_text_ending};
+ghost use Rattle.commands.specs.NodeText.{IsAbsent, absent_text, node_output, node_text_ending};
 ghost use Rattle.commands.specs.Output.{Leaves};
 ghost use Rattle.commands.specs.declared.ending.Ending.TheVariants.{Refused};
 
@@ -64,7 +64,7 @@ pub(crate) fn write_node_text<W: Write>(
     text: &NodeText,
     out: &mut W,
 ) -> Result<Ending, Fault>
-    ensures { Leaves (W.contents out.old) (W.contents out.new) (node_text word.now text.now)
+    ensures { Leaves (W.contents out.old) (W.contents out.new) (node_output word.now text.now)
         (node_text_ending text.now) result }
 {
     match text {

@@ -9,7 +9,7 @@ use crate::ending::Ending;
 use crate::fault::Fault;
 use crate::request::RunOptions;
 use bench_scenario::{ReportFault, write_report};
-use bench_workers::{MOST_WORKERS, RunRefusal};
+use bench_workers::{MAX_WORKERS, RunRefusal};
 use scenario_text::Scenario;
 use std::alloc::Global;
 use std::io::Write;
@@ -17,7 +17,7 @@ use std::sync::Wait;
 use std::thread::Threads;
 
 /// Writes the report of the run of a scenario that was read. If that is to be checked, the ending tells of a pulse that
-/// doesn't agree. Clamps the number of workers to `1..=MOST_WORKERS`.
+/// doesn't agree. Clamps the number of workers to `1..=MAX_WORKERS`.
 pub(crate) fn run<T: Threads + Wait + Sync, W: Write>(
     rt: &T,
     alloc: Global,
@@ -28,7 +28,7 @@ pub(crate) fn run<T: Threads + Wait + Sync, W: Write>(
     requires reads { (text : List ℕ) × ReadsText text scenario.now }
     ensures { LeavesReported options.check (W.contents out.old) (W.contents out.new) scenario.now result }
 {
-    let workers = options.workers.clamp(1, MOST_WORKERS);
+    let workers = options.workers.clamp(1, MAX_WORKERS);
     match write_report(rt, alloc, scenario, workers, out) {
         Ok(agrees) => Ok(ending_of(options.check, agrees)),
         Err(ReportFault::Run(fault)) => Err(fault_of(fault.fault)),

@@ -1,6 +1,6 @@
 //! The commands that read a scenario. It is read and parsed once.
 ghost use Rattle.std.specs.Prelude.{◌≡◌, ◌++◌, ℕ, List, IfErr, IfOk, IfSome, codes};
-ghost use Rattle.bench_scenario.specs.declared.run.TheConstants.{MOST_BYTES};
+ghost use Rattle.bench_scenario.specs.declared.run.TheConstants.{MAX_BYTES};
 ghost use Rattle.scenario_text.specs.Lines.{refusal_line};
 ghost use Rattle.scenario_text.specs.Texts.{ReadsText};
 ghost use Rattle.stream_io.specs.Streams.{TakesAtMost};
@@ -42,7 +42,7 @@ pub(crate) fn on_scenario<T: Threads + Wait + Sync, R: Read, W: Write, E: Write,
         LeavesFor asked.now (W.contents out.old) (W.contents out.new) text result) }
     ensures said { IfOk result (λ ending. SaysAt ending (E.contents err.old) (E.contents err.new)) }
     ensures unsaid { IfErr result (λ fault. E.contents err.new ≡ E.contents err.old) }
-    ensures taken { TakesAtMost MOST_BYTES (R.remaining reader.old) (R.remaining reader.new) }
+    ensures taken { TakesAtMost MAX_BYTES (R.remaining reader.old) (R.remaining reader.new) }
 {
     match read_scenario(alloc, reader) {
         Ok(scenario) => {

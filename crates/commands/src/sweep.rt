@@ -1,6 +1,6 @@
 //! `sweep`: a line for each key of a scenario.
 ghost use Rattle.std.specs.Prelude.{◌≤◌, List, ℕ};
-ghost use Rattle.key_sweep.specs.declared.sweeping.TheConstants.{MOST_SWEEPERS};
+ghost use Rattle.key_sweep.specs.declared.sweeping.TheConstants.{MAX_SWEEPERS};
 ghost use Rattle.scenario_text.specs.Texts.{ReadsText};
 ghost use Rattle.commands.specs.declared.ending.Ending.TheVariants.{Refused};
 ghost use Rattle.commands.specs.Output.{Leaves};
@@ -10,7 +10,7 @@ use crate::ending::Ending;
 use crate::fault::Fault;
 use crate::output::write_whole;
 use crate::request::SweepOptions;
-use key_sweep::{MOST_SWEEPERS, SweepFault};
+use key_sweep::{MAX_SWEEPERS, SweepFault};
 use scenario_text::Scenario;
 use std::alloc::Global;
 use std::io::Write;
@@ -40,15 +40,15 @@ pub(crate) fn sweep<T: Threads + Wait + Sync, W: Write>(
     }
 }
 
-/// As many workers as are asked for, or one for each processor, clamped to `1..=MOST_SWEEPERS`.
+/// As many workers as are asked for, or one for each processor, clamped to `1..=MAX_SWEEPERS`.
 fn workers_for<T: Threads>(rt: &T, asked: Option<u32>) -> u32
     ensures some { 1 ≤ result }
-    ensures few { result ≤ MOST_SWEEPERS }
+    ensures few { result ≤ MAX_SWEEPERS }
 {
     match asked {
-        Some(workers) => workers.clamp(1, MOST_SWEEPERS),
+        Some(workers) => workers.clamp(1, MAX_SWEEPERS),
         None => match available_parallelism(rt) {
-            Ok(processors) => processors.get().clamp(1, MOST_SWEEPERS as usize) as u32,
+            Ok(processors) => processors.get().clamp(1, MAX_SWEEPERS as usize) as u32,
             Err(_) => 1,
         },
     }

@@ -17,7 +17,7 @@ use crate::output::write_whole;
 use crate::request::ShapeOptions;
 use crate::verdict::Verdict;
 use bpf_insn::Program;
-use bpf_verify::{VerifyError, judge};
+use bpf_verify::{VerifyError, check};
 use node_env::Shape;
 use std::alloc::Global;
 use std::io::{Read, Write};
@@ -64,7 +64,7 @@ fn verdict_on(alloc: Global, program: &Program, shape: Shape) -> Result<Verdict,
     ensures verdict { IfOk result (JudgesProgram program.now shape) }
     ensures fault { IfErr result IsBeforeWriting }
 {
-    match judge(alloc, program, shape) {
+    match check(alloc, program, shape) {
         Ok(announced) => Ok(Verdict::Accepted {
             slots: program.slot_count(),
             announced,

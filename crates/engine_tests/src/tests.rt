@@ -70,7 +70,7 @@ fn run<R: Threads + Wait + Sync, G: Gate + Sync>(
     events: Vec<Event>,
 ) -> Result<Run, RunFault>
     requires some { 1 ≤ workers }
-    requires few { workers ≤ MOST_WORKERS }
+    requires few { workers ≤ MAX_WORKERS }
     requires nodes { four.now.rule.nodes ≡ four.now.shape.nodes }
 {
     run_events(rt, alloc, gate, workers, four.shape, four.rule, events)
@@ -79,7 +79,7 @@ fn run<R: Threads + Wait + Sync, G: Gate + Sync>(
 #[test]
 fn four_clocks_for_each_number_of_workers(rt: HostRuntime) -> Result<(), Fail> {
     let four = four_nodes()?;
-    for workers in 1..=MOST_WORKERS {
+    for workers in 1..=MAX_WORKERS {
         let gate = Counting::new(100);
         let events = clocks(rt.alloc(), &four, 3)?;
         let Ok(run) = run(&rt, rt.alloc(), &gate, workers, &four, events) else {
@@ -98,7 +98,7 @@ fn four_clocks_for_each_number_of_workers(rt: HostRuntime) -> Result<(), Fail> {
         for memory in &run.memories {
             assert_eq!(rt; memory.as_slice(), [2, 0, 0, 0, 1, 0, 0, 0].as_slice());
         }
-        for worker in 0..MOST_WORKERS {
+        for worker in 0..MAX_WORKERS {
             let times = if worker < workers { 3 } else { 0 };
             assert_eq!(rt; gate.entered_by(worker), times, "{worker} of {workers}");
         }
@@ -131,7 +131,7 @@ fn no_events(rt: HostRuntime) -> Result<(), Fail> {
 #[test]
 fn a_shut_gate_is_told_at_its_pulse(rt: HostRuntime) -> Result<(), Fail> {
     let four = four_nodes()?;
-    for workers in 1..=MOST_WORKERS {
+    for workers in 1..=MAX_WORKERS {
         let gate = Counting::new(2 * workers - 1);
         let events = clocks(rt.alloc(), &four, 3)?;
         let got = run(&rt, rt.alloc(), &gate, workers, &four, events);

@@ -21,7 +21,7 @@ use Rattle.scenario_explorer.specs.declared.options.Memories.{Memories}
 use Rattle.scenario_explorer.specs.declared.options.Memories.TheVariants as memories
 use Rattle.scenario_explorer.specs.declared.options.Starts.{Starts}
 use Rattle.scenario_explorer.specs.declared.options.Starts.TheVariants as starts
-use Rattle.exploration_json.specs.Data.{agreed_of, agreement_word, answer_members, any_data, byte_span_data, cells_data, exploration_data, exploration_members, image_data, limit_of, mean_data, mean_of, memories_member, node_members, odds_data, odds_of, parts_of, pulses_of, question_members, question_word, reach_data, reach_of, scenario_of, search_members, span_data, spans_data, stabilisation_of, stabilisation_word, start_data, states_of, transitions_of, violated_in, word_data}
+use Rattle.exploration_json.specs.Data.{agreed_of, agreement_word, answer_members, any_data, byte_span_data, cells_data, exploration_data, exploration_members, image_data, limit_of, mean_data, mean_of, memories_member, node_members, odds_data, odds_of, odds_parts, pulses_of, question_members, question_word, reach_data, reach_of, scenario_of, search_members, span_data, spans_data, stabilisation_of, stabilisation_word, start_data, states_of, transitions_of, violated_in, word_data}
 
 abbrev AllPlain : ℕ → List Member → Type 0
 AllPlain levels ms = AllByRecursion (λ m. IsPlain levels m.1) ms
@@ -121,7 +121,7 @@ plain_odds reach told =
     plain_object 4 (
     (codes "mean", option_data mean_data (mean_of told))
     ∷ (codes "of", number_data ODDS_WHOLE)
-    ∷ (codes "parts", option_data (list_data number_data) (parts_of told))
+    ∷ (codes "parts", option_data (list_data number_data) (odds_parts told))
     ∷ (codes "reach", option_data reach_data reach) ∷ []
     ) (
       plain_option mean_data 4 plain_mean (mean_of told),
@@ -129,7 +129,7 @@ plain_odds reach told =
         plain_number 4 ODDS_WHOLE,
         (
           plain_option (list_data number_data) 4 (λ parts. plain_list number_data 3 (plain_number 3) parts)
-              (parts_of told),
+              (odds_parts told),
           (plain_option reach_data 4 plain_reach reach, tt),
         ),
       ),

@@ -2,9 +2,9 @@
 ghost use Rattle.std.specs.Prelude.{◌≡◌, IfOk, OnOk, map, option_map, string_bytes};
 ghost use Rattle.serde_json.specs.Data.{string};
 ghost use Rattle.serde_json.specs.View.{members_view, view};
-ghost use Rattle.json_values.specs.Texts.{ReadsBack, line_of};
+ghost use Rattle.json_values.specs.Texts.{ReadsBack, json_line};
 ghost use Rattle.json_values.specs.Values.{list_data, number_data, option_data, with_members};
-ghost use Rattle.exploration_json.specs.Data.{answer_members, exploration_data, mean_data, mean_of, node_members, odds_data, odds_of, parts_of, pulses_of, question_members, reach_data, reach_of, scenario_of, search_members, stabilisation_of, stabilisation_word, word_data};
+ghost use Rattle.exploration_json.specs.Data.{answer_members, exploration_data, mean_data, mean_of, node_members, odds_data, odds_of, odds_parts, pulses_of, question_members, reach_data, reach_of, scenario_of, search_members, stabilisation_of, stabilisation_word, word_data};
 
 use crate::spans::{spans_value, start_value};
 use crate::words::{
@@ -127,7 +127,7 @@ fn counts(alloc: Global, counts: &[u64]) -> Result<Value, AllocError>
 
 /// The parts of the whole, for each number of pulses, or null.
 fn parts_value(alloc: Global, odds: &Odds) -> Result<Value, AllocError>
-    ensures { IfOk result (λ v. view v ≡ option_data (list_data number_data) (parts_of odds.now)) }
+    ensures { IfOk result (λ v. view v ≡ option_data (list_data number_data) (odds_parts odds.now)) }
 {
     match odds {
         Odds::Known { parts, .. } => counts(alloc, parts),
@@ -284,7 +284,7 @@ pub fn exploration_line(
     tried: &Tried,
     found: &Found,
 ) -> Result<String, AllocError>
-    ensures line { IfOk result (λ s. string_bytes s ≡ line_of (exploration_data options.now tried.now found.now)) }
+    ensures line { IfOk result (λ s. string_bytes s ≡ json_line (exploration_data options.now tried.now found.now)) }
     ensures reads { OnOk result (ReadsBack (exploration_data options.now tried.now found.now)) }
 {
     let value = exploration_value(alloc, options, tried, found)?;

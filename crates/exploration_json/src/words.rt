@@ -47,7 +47,7 @@ fn limit_word(cause: Cause) -> &'static str
         Cause::States => "states",
         Cause::Transitions => "transitions",
         Cause::Pulses => "depth",
-        Cause::Inboxes => "inboxes",
+        Cause::Inboxes { .. } => "inboxes",
         Cause::Counterexample => "counterexample",
         Cause::Memory => "memory",
     }

@@ -5,8 +5,8 @@ use Rattle.serde_json.specs.Read.{read}
 use Rattle.serde_json.specs.Written.{compact_text}
 
 -- the text of a value, and the end of a line
-abbrev pub line_of : Data → List ℕ
-line_of d = compact_text d ++ codes "\n"
+abbrev pub json_line : Data → List ℕ
+json_line d = compact_text d ++ codes "\n"
 
 -- the text of the value reads as it
 abbrev pub ReadsBack : Data → Type 0

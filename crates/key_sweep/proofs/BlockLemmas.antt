@@ -6,7 +6,7 @@ use Rattle.std.specs.declared.alloc.AllocError.{AllocError}
 use Rattle.scenario_text.specs.declared.scenario.Scenario.{Scenario}
 use Rattle.bench_scenario.specs.declared.summary.RunSummary.{RunSummary}
 use Rattle.key_sweep.specs.Sweeps.{AreOfKeys}
-use Rattle.key_sweep.specs.inner.Blocks.{AreSlots, somes_front}
+use Rattle.key_sweep.specs.inner.Blocks.{AreRunSlots, somes_front}
 
 front_at : {A : Type 0} (slots : List (Option A)) (i : ℕ) (x : A) → slice_get (somes_front slots) i ≡ Some x
     → slice_get slots i ≡ Some (Some x)
@@ -21,12 +21,12 @@ front_length (None ∷ slots) = omega arith
 front_length (Some y ∷ slots) = let rest = front_length slots in omega (arith, rest)
 
 front_of_keys : (s : Scenario) (first count : ℕ) (slots : List (Option RunSummary)) (front : List RunSummary)
-    → front ≡ somes_front slots → AreSlots s first count slots → AreOfKeys s first front
+    → front ≡ somes_front slots → AreRunSlots s first count slots → AreOfKeys s first front
 front_of_keys s first count slots front is each = λ i m at.
     each.1 i m (front_at slots i m (subst (λ xs. slice_get xs i ≡ Some m) is at))
 
 front_few : (s : Scenario) (first count : ℕ) (slots : List (Option RunSummary)) (front : List RunSummary)
-    → front ≡ somes_front slots → AreSlots s first count slots → length front ≤ count
+    → front ≡ somes_front slots → AreRunSlots s first count slots → length front ≤ count
 front_few s first count slots front is each =
     let few = front_length slots in
     let whole = each.0 in
@@ -35,7 +35,7 @@ front_few s first count slots front is each =
 -- where memory ran out there are none
 pub keys_given : (s : Scenario) (first count : ℕ) (slots slice : List (Option RunSummary))
     (result : Result (Vec RunSummary Global) AllocError) → slice ≡ slots
-    → IfOk result (λ front. front.items ≡ somes_front slice) → AreSlots s first count slots
+    → IfOk result (λ front. front.items ≡ somes_front slice) → AreRunSlots s first count slots
     → IfOk result (λ front. AreOfKeys s first front.items)
 keys_given s first count slots slice (Ok front) same is each =
     front_of_keys s first count slots front.items (is ∙ ap (λ xs. somes_front xs) same) each
@@ -43,7 +43,7 @@ keys_given s first count slots slice (Err e) same is each = tt
 
 pub few_given : (s : Scenario) (first count : ℕ) (slots slice : List (Option RunSummary))
     (result : Result (Vec RunSummary Global) AllocError) → slice ≡ slots
-    → IfOk result (λ front. front.items ≡ somes_front slice) → AreSlots s first count slots
+    → IfOk result (λ front. front.items ≡ somes_front slice) → AreRunSlots s first count slots
     → IfOk result (λ front. length front.items ≤ count)
 few_given s first count slots slice (Ok front) same is each =
     front_few s first count slots front.items (is ∙ ap (λ xs. somes_front xs) same) each

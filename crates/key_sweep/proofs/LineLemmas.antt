@@ -7,8 +7,8 @@ use Rattle.csv.specs.Writing.{default_writer, row_text}
 use Rattle.scenario_text.specs.declared.scenario.Scenario.{Scenario}
 use Rattle.bench_scenario.specs.declared.summary.RunSummary.{RunSummary}
 use Rattle.key_sweep.specs.Keys.{Span, count_of}
-use Rattle.key_sweep.specs.Rows.{fields_of, names, rows_text, sweep_text}
-use Rattle.key_sweep.specs.Sweeps.{AreOfKeys, IsOfKey, LeavesLines, LeavesSweep, Lines, uses_key}
+use Rattle.key_sweep.specs.Rows.{fields_of, names, csv_rows, sweep_text}
+use Rattle.key_sweep.specs.Sweeps.{AreOfKeys, IsOfKey, LeavesRows, LeavesSweep, Lines, uses_key}
 use Rattle.key_sweep.specs.declared.sweeping.SweepFault.{SweepFault}
 use Rattle.key_sweep.specs.declared.sweeping.SweepFault.TheVariants as faults
 use Rattle.stream_io.specs.declared.parts.PartFault.{PartFault}
@@ -19,25 +19,25 @@ use Rattle.stream_io.proofs.PartLemmas.{handed_on, wrote_nothing}
 -- ---- rows
 
 pub rows_more : (key next : ℕ) (m : RunSummary) (ms : List RunSummary) → next ≡ key + 1
-    → rows_text key (m ∷ ms) ≡ row_text default_writer (fields_of key m) ++ rows_text next ms
-rows_more key next m ms e = ap (λ k. row_text default_writer (fields_of key m) ++ rows_text k ms) (sym e)
+    → csv_rows key (m ∷ ms) ≡ row_text default_writer (fields_of key m) ++ csv_rows next ms
+rows_more key next m ms e = ap (λ k. row_text default_writer (fields_of key m) ++ csv_rows k ms) (sym e)
 
 rows_append : (key : ℕ) (xs ys : List RunSummary)
-    → rows_text key (xs ++ ys) ≡ rows_text key xs ++ rows_text (key + length xs) ys
-rows_append key [] ys = ap (λ k. rows_text k ys) (omega arith)
+    → csv_rows key (xs ++ ys) ≡ csv_rows key xs ++ csv_rows (key + length xs) ys
+rows_append key [] ys = ap (λ k. csv_rows k ys) (omega arith)
 rows_append key (x ∷ xs) ys =
     let row = row_text default_writer (fields_of key x) in
     let rest = rows_append (key + 1) xs ys in
     let place : (key + 1) + length xs ≡ key + length (x ∷ xs) = omega arith in
-    ap (λ t. row ++ t) (rest ∙ ap (λ k. rows_text (key + 1) xs ++ rows_text k ys) place)
-    ∙ sym (append_assoc row (rows_text (key + 1) xs) (rows_text (key + length (x ∷ xs)) ys))
+    ap (λ t. row ++ t) (rest ∙ ap (λ k. csv_rows (key + 1) xs ++ csv_rows k ys) place)
+    ∙ sym (append_assoc row (csv_rows (key + 1) xs) (csv_rows (key + length (x ∷ xs)) ys))
 
 text_append : (key : ℕ) (xs ys : List RunSummary)
-    → sweep_text key (xs ++ ys) ≡ sweep_text key xs ++ rows_text (key + length xs) ys
+    → sweep_text key (xs ++ ys) ≡ sweep_text key xs ++ csv_rows (key + length xs) ys
 text_append key xs ys =
     let top = row_text default_writer names in
     ap (λ t. top ++ t) (rows_append key xs ys)
-    ∙ sym (append_assoc top (rows_text key xs) (rows_text (key + length xs) ys))
+    ∙ sym (append_assoc top (csv_rows key xs) (csv_rows (key + length xs) ys))
 
 -- ---- keys
 
@@ -73,7 +73,7 @@ pub record Swept (old now : Option (List ℕ)) (s : Scenario) (first next told :
   pub wrote : Wrote old now text told
 
 more_lines : (s : Scenario) (first next count : ℕ) (text rows : List ℕ) (ms : List RunSummary) → next ≡ first + count
-    → Lines s first count text → AreOfKeys s next ms → rows ≡ rows_text next ms
+    → Lines s first count text → AreOfKeys s next ms → rows ≡ csv_rows next ms
     → Lines s first (count + length ms) (text ++ rows)
 more_lines s first next count text rows ms e lines each is =
     let all = lines.all in
@@ -83,7 +83,7 @@ more_lines s first next count text rows ms e lines each is =
       each = keys_append s first next lines.summaries ms place lines.each each;
       all = length-append lines.summaries ms ∙ ap (λ n. n + length ms) all;
       whole = ap (λ t. t ++ rows) lines.whole ∙ (ap (λ t. sweep_text first lines.summaries ++ t)
-          (is ∙ ap (λ k. rows_text k ms) place) ∙ sym (text_append first lines.summaries ms));
+          (is ∙ ap (λ k. csv_rows k ms) place) ∙ sym (text_append first lines.summaries ms));
     }
 
 no_lines : (s : Scenario) (first : ℕ) (top : List ℕ) → top ≡ row_text default_writer names → Lines s first 0 top
@@ -106,20 +106,20 @@ swept_names old new s first next told top is at adds = record {
 
 -- the names aren't written
 names_broken : (old new : Option (List ℕ)) (s : Scenario) (keys : Span) (top : List ℕ) (fault : PartFault)
-    → top ≡ row_text default_writer names → IsPartFault old new 0 top fault → LeavesLines old new s keys (Err fault)
+    → top ≡ row_text default_writer names → IsPartFault old new 0 top fault → LeavesRows old new s keys (Err fault)
 names_broken old new s keys top (parts.Write written) is broke =
     (top, 0, omega arith, no_lines s keys.first top is, broke old [] (wrote_nothing old))
 names_broken old new s keys top parts.Memory is kept = inl kept
 
 pub front_of_names : (old new : Option (List ℕ)) (s : Scenario) (keys : Span) (top : List ℕ) (fault : PartFault)
     (result : Result (Unit {0}) PartFault) → top ≡ row_text default_writer names → IsPartFault old new 0 top fault
-    → IsErrAnd result (λ e. e ≡ fault) → LeavesLines old new s keys result
+    → IsErrAnd result (λ e. e ≡ fault) → LeavesRows old new s keys result
 front_of_names old new s keys top fault result is broke given =
-    handed_on (LeavesLines old new s keys) fault result (names_broken old new s keys top fault is broke) given
+    handed_on (LeavesRows old new s keys) fault result (names_broken old new s keys top fault is broke) given
 
 pub swept_more : (old now new : Option (List ℕ)) (s : Scenario) (first next past told after : ℕ) (rows : List ℕ)
     (ms : List RunSummary) → past ≡ next + length ms → Swept old now s first next told → AreOfKeys s next ms
-    → rows ≡ rows_text next ms → Adds now new told rows after → Swept old new s first past after
+    → rows ≡ csv_rows next ms → Adds now new told rows after → Swept old new s first past after
 swept_more old now new s first next past told after rows ms at swept each is adds =
     let place = swept.place in
     record {
@@ -132,7 +132,7 @@ swept_more old now new s first next past told after rows ms at swept each is add
 
 pub all_swept : (old now : Option (List ℕ)) (s : Scenario) (keys : Span) (next told : ℕ)
     → Swept old now s keys.first next told
-    → keys.first ≤ keys.last → next ≡ keys.last + 1 → LeavesLines old now s keys (Ok tt)
+    → keys.first ≤ keys.last → next ≡ keys.last + 1 → LeavesRows old now s keys (Ok tt)
 all_swept old now s keys next told swept order at = (
   swept.text,
   (let place = swept.place in
@@ -144,7 +144,7 @@ all_swept old now s keys next told swept order at = (
 
 pub some_swept : (old now : Option (List ℕ)) (s : Scenario) (keys : Span) (next told : ℕ)
     → Swept old now s keys.first next told
-    → next ≤ keys.last → LeavesLines old now s keys (Err parts.Memory)
+    → next ≤ keys.last → LeavesRows old now s keys (Err parts.Memory)
 some_swept old now s keys next told swept before = inr (record {
   told = swept.text;
   count = swept.count;
@@ -156,8 +156,8 @@ some_swept old now s keys next told swept before = inr (record {
 -- more lines aren't written
 rows_broken : (old now new : Option (List ℕ)) (s : Scenario) (keys : Span) (next told : ℕ) (rows : List ℕ)
     (ms : List RunSummary) (fault : PartFault) → Swept old now s keys.first next told → AreOfKeys s next ms
-    → rows ≡ rows_text next ms → next ≤ keys.last → next + length ms ≤ keys.last + 1
-    → IsPartFault now new told rows fault → LeavesLines old new s keys (Err fault)
+    → rows ≡ csv_rows next ms → next ≤ keys.last → next + length ms ≤ keys.last + 1
+    → IsPartFault now new told rows fault → LeavesRows old new s keys (Err fault)
 rows_broken old now new s keys next told rows ms (parts.Write written) swept each is before few broke =
     let place = swept.place in (
       swept.text ++ rows,
@@ -176,17 +176,17 @@ rows_broken old now new s keys next told rows ms parts.Memory swept each is befo
 
 pub front_of_rows : (old now new : Option (List ℕ)) (s : Scenario) (keys : Span) (next told : ℕ) (rows : List ℕ)
     (ms : List RunSummary) (fault : PartFault) (result : Result (Unit {0}) PartFault)
-    → Swept old now s keys.first next told → AreOfKeys s next ms → rows ≡ rows_text next ms → next ≤ keys.last
+    → Swept old now s keys.first next told → AreOfKeys s next ms → rows ≡ csv_rows next ms → next ≤ keys.last
     → next + length ms ≤ keys.last + 1 → IsPartFault now new told rows fault → IsErrAnd result (λ e. e ≡ fault)
-    → LeavesLines old new s keys result
+    → LeavesRows old new s keys result
 front_of_rows old now new s keys next told rows ms fault result swept each is before few broke given =
-    handed_on (LeavesLines old new s keys) fault result
+    handed_on (LeavesRows old new s keys) fault result
     (rows_broken old now new s keys next told rows ms fault swept each is before few broke) given
 
 -- ---- if something is drawn by the key
 
 pub keyed_fault : (old new : Option (List ℕ)) (s : Scenario) (keys : Span) (fault : PartFault)
-    (result : Result (Unit {0}) SweepFault) → IsTrue (uses_key s) → LeavesLines old new s keys (Err fault)
+    (result : Result (Unit {0}) SweepFault) → IsTrue (uses_key s) → LeavesRows old new s keys (Err fault)
     → IsErrAnd result (λ e. e ≡ faults.Part fault) → LeavesSweep old new s keys result
 keyed_fault old new s keys fault result has left given =
     handed_on (LeavesSweep old new s keys) (faults.Part fault) result (has, left) given

@@ -1,13 +1,13 @@
 -- Keys in a row (docs/LUCK.md, "The lines").
 use Rattle.std.specs.Prelude.{ℕ, ◌+◌, ◌-◌, ◌≤◌}
-use Rattle.key_sweep.specs.declared.keys.TheConstants.{MOST_KEY}
+use Rattle.key_sweep.specs.declared.keys.TheConstants.{MAX_SWEEP_KEY}
 
 pub record Span : Type 0 where
   pub first : ℕ
   pub last : ℕ
 
-abbrev pub IsSpan : ℕ → ℕ → Type 0
-IsSpan first last = (first ≤ last) × (last ≤ MOST_KEY)
+abbrev pub IsKeySpan : ℕ → ℕ → Type 0
+IsKeySpan first last = (first ≤ last) × (last ≤ MAX_SWEEP_KEY)
 
 -- how many there are
 abbrev pub count_of : Span → ℕ

@@ -20,9 +20,9 @@ fields_of key m = decimal key ∷ decimal m.agreed ∷ decimal m.judged ∷ numb
     ∷ number_text m.in_step_since ∷ decimal m.steps ∷ []
 
 -- of keys in a row, the first of which is this one
-abbrev pub rows_text : ℕ → List RunSummary → List ℕ
-rows_text key [] = []
-rows_text key (m ∷ ms) = row_text default_writer (fields_of key m) ++ rows_text (key + 1) ms
+abbrev pub csv_rows : ℕ → List RunSummary → List ℕ
+csv_rows key [] = []
+csv_rows key (m ∷ ms) = row_text default_writer (fields_of key m) ++ csv_rows (key + 1) ms
 
 abbrev pub sweep_text : ℕ → List RunSummary → List ℕ
-sweep_text key ms = row_text default_writer names ++ rows_text key ms
+sweep_text key ms = row_text default_writer names ++ csv_rows key ms

@@ -7,7 +7,7 @@ use Rattle.scenario_text.specs.declared.scenario.Coins.{Coins}
 use Rattle.scenario_text.specs.declared.scenario.Coins.TheVariants.{Zeros, Ones, Chacha}
 use Rattle.scenario_text.specs.declared.scenario.Scenario.{Scenario}
 use Rattle.scenario_text.specs.Noise.{any_noise}
-use Rattle.scenario_text.specs.Views.{frame_of, load_of}
+use Rattle.scenario_text.specs.Views.{frame_of, load_draft}
 use Rattle.bench_scenario.specs.Coins.{keyed}
 use Rattle.bench_scenario.specs.Events.{events_of}
 use Rattle.bench_scenario.specs.Runs.{bench_of}
@@ -49,12 +49,12 @@ pub record Stops (old new : Option (List ℕ)) (s : Scenario) (keys : Span) : Ty
 
 -- the lines of all keys; the front of them if a write failed; those of the first keys if there was no memory for
 -- one more
-abbrev pub LeavesLines : Option (List ℕ) → Option (List ℕ) → Scenario → Span → Result (Unit {0}) PartFault → Type 0
-LeavesLines old new s keys (Ok done) =
+abbrev pub LeavesRows : Option (List ℕ) → Option (List ℕ) → Scenario → Span → Result (Unit {0}) PartFault → Type 0
+LeavesRows old new s keys (Ok done) =
     (told : List ℕ) × Lines s keys.first (count_of keys) told × Appends old new told
-LeavesLines old new s keys (Err (parts.Write written)) =
+LeavesRows old new s keys (Err (parts.Write written)) =
     (told : List ℕ) × (count : ℕ) × (count ≤ count_of keys) × Lines s keys.first count told × Breaks old new told written
-LeavesLines old new s keys (Err parts.Memory) = Keeps old new ⊎ Stops old new s keys
+LeavesRows old new s keys (Err parts.Memory) = Keeps old new ⊎ Stops old new s keys
 
 abbrev pub are_drawn : Coins → Bool
 are_drawn Zeros = false
@@ -63,10 +63,10 @@ are_drawn Chacha = true
 
 -- something of the scenario is drawn by its key: coins, or the messages of noise
 abbrev pub uses_key : Scenario → Bool
-uses_key s = are_drawn s.coins || any_noise (map load_of s.loads.items)
+uses_key s = are_drawn s.coins || any_noise (map load_draft s.loads.items)
 
 -- the same, and nothing if nothing is drawn by the key
 abbrev pub LeavesSweep : Option (List ℕ) → Option (List ℕ) → Scenario → Span → Result (Unit {0}) SweepFault → Type 0
 LeavesSweep old new s keys (Err faults.NoKey) = (uses_key s ≡ false) × Keeps old new
-LeavesSweep old new s keys (Err (faults.Part fault)) = IsTrue (uses_key s) × LeavesLines old new s keys (Err fault)
-LeavesSweep old new s keys (Ok done) = IsTrue (uses_key s) × LeavesLines old new s keys (Ok done)
+LeavesSweep old new s keys (Err (faults.Part fault)) = IsTrue (uses_key s) × LeavesRows old new s keys (Err fault)
+LeavesSweep old new s keys (Ok done) = IsTrue (uses_key s) × LeavesRows old new s keys (Ok done)

@@ -2,7 +2,7 @@
 ghost use Rattle.std.specs.Prelude.{◌≡◌, ℕ, List, ◌+◌, ◌<◌, ◌≤◌, ◌^◌, IfOk, IfSome, length, slice_get, Some};
 ghost use Rattle.scenario_text.specs.Texts.{ReadsText};
 ghost use Rattle.key_sweep.specs.Sweeps.{AreOfKeys, IsOfKey};
-ghost use Rattle.key_sweep.specs.inner.Blocks.{AreSlots, somes_front};
+ghost use Rattle.key_sweep.specs.inner.Blocks.{AreRunSlots, somes_front};
 
 use bench_scenario::{RunSummary, judged_of, run_with_key, summary_of};
 use scenario_text::Scenario;
@@ -39,7 +39,7 @@ fn slots_of<T: Threads + Wait + Sync>(
     requires reads { (text : List ℕ) × ReadsText text scenario.now }
     requires workers { 1 ≤ workers }
     requires last { first + count ≤ 2 ^ 63 }
-    ensures { IfOk result (λ slots. AreSlots scenario.now first count slots.items) }
+    ensures { IfOk result (λ slots. AreRunSlots scenario.now first count slots.items) }
 {
     let mut slots = vec![in alloc; None; count]?;
     let fill = |place: usize, slot: &mut Option<RunSummary>|

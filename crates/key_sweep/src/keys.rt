@@ -1,11 +1,11 @@
 //! Keys in a row.
 ghost use Rattle.std.specs.Prelude.{◌≡◌, ◌≤◌, IfSome, IsSome, ◌↔◌};
-ghost use Rattle.key_sweep.specs.Keys.{IsSpan, count_of};
+ghost use Rattle.key_sweep.specs.Keys.{IsKeySpan, count_of};
 
 use std::marker::Model;
 
 /// The greatest key that a scenario's text can say.
-pub const MOST_KEY: u64 = 9_223_372_036_854_775_807;
+pub const MAX_SWEEP_KEY: u64 = 9_223_372_036_854_775_807;
 
 /// The keys from a first to a last one.
 #[derive(Clone, Copy, Debug, PartialEq, Eq)]
@@ -15,25 +15,25 @@ pub struct KeySpan {
 }
 
 impl Model for KeySpan {
-    ghost use Rattle.key_sweep.specs.Keys.{IsSpan, Span};
+    ghost use Rattle.key_sweep.specs.Keys.{IsKeySpan, Span};
 
     ghost Value = { Span };
 
     ghost view = { λ k. record { first = k.first; last = k.last } };
 
-    ghost invariant = { λ k. IsSpan k.first k.last };
+    ghost invariant = { λ k. IsKeySpan k.first k.last };
 
     ghost inverse = { λ k. record { first = k.first; last = k.last } };
 }
 
 impl KeySpan {
     /// Returns the keys from the first to the last, if the first is at most the last one, and that at most
-    /// [`MOST_KEY`].
+    /// [`MAX_SWEEP_KEY`].
     pub fn of(first: u64, last: u64) -> Option<KeySpan>
         ensures value { IfSome result (λ k. k ≡ record { first = first; last = last }) }
-        ensures some { IsSome result ↔ IsSpan first last }
+        ensures some { IsSome result ↔ IsKeySpan first last }
     {
-        if first > last || last > MOST_KEY {
+        if first > last || last > MAX_SWEEP_KEY {
             return None;
         }
         Some(KeySpan { first, last })
@@ -42,7 +42,7 @@ impl KeySpan {
     /// Returns the first key.
     pub fn first(self) -> u64
         ensures value { result ≡ self.first }
-        ensures span { IsSpan self.first self.last }
+        ensures span { IsKeySpan self.first self.last }
     {
         self.first
     }
@@ -50,7 +50,7 @@ impl KeySpan {
     /// Returns the last key.
     pub fn last(self) -> u64
         ensures value { result ≡ self.last }
-        ensures span { IsSpan self.first self.last }
+        ensures span { IsKeySpan self.first self.last }
     {
         self.last
     }

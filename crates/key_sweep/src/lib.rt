@@ -6,5 +6,5 @@ mod keys;
 mod rows;
 mod sweeping;
 
-pub use keys::{KeySpan, MOST_KEY};
-pub use sweeping::{MOST_SWEEPERS, SweepFault, sweep};
+pub use keys::{KeySpan, MAX_SWEEP_KEY};
+pub use sweeping::{MAX_SWEEPERS, SweepFault, sweep};

@@ -1,7 +1,7 @@
 //! The lines of a sweep.
 ghost use Rattle.std.specs.Prelude.{◌≡◌, ◌+◌, ◌++◌, ◌≤◌, ◌^◌, IfOk, OnOk, length, map, string_bytes};
 ghost use Rattle.csv.specs.Writing.{default_writer, row_text};
-ghost use Rattle.key_sweep.specs.Rows.{fields_of, names, number_text, rows_text};
+ghost use Rattle.key_sweep.specs.Rows.{fields_of, names, number_text, csv_rows};
 
 use bench_scenario::RunSummary;
 use csv::WriterBuilder;
@@ -75,7 +75,7 @@ pub(crate) fn rows_text(
     summaries: &[RunSummary],
 ) -> Result<Vec<u8>, AllocError>
     requires { first + length summaries.now ≤ 2 ^ 63 }
-    ensures { IfOk result (λ text. text.items ≡ rows_text first summaries.now) }
+    ensures { IfOk result (λ text. text.items ≡ csv_rows first summaries.now) }
 {
     let mut text = Vec::new(alloc);
     for place in 0..summaries.len() {

@@ -1,7 +1,7 @@
 //! A sweep, from the scenario that was read to the last byte that is written.
 ghost use Rattle.std.specs.Prelude.{◌≡◌, ℕ, List, ◌≤◌};
 ghost use Rattle.scenario_text.specs.Texts.{ReadsText};
-ghost use Rattle.key_sweep.specs.Sweeps.{LeavesLines, LeavesSweep, are_drawn, uses_key};
+ghost use Rattle.key_sweep.specs.Sweeps.{LeavesRows, LeavesSweep, are_drawn, uses_key};
 
 use crate::block::summaries_of;
 use crate::keys::KeySpan;
@@ -15,10 +15,10 @@ use stream_io::{PartFault, write_part};
 use thiserror::Error;
 
 /// The most workers that are of use: one for each key that is shared out at once.
-pub const MOST_SWEEPERS: u32 = 64;
+pub const MAX_SWEEPERS: u32 = 64;
 
 /// How many keys are shared out at once: this many lines are written together.
-const KEYS_AT_ONCE: u64 = MOST_SWEEPERS as u64;
+const KEYS_AT_ONCE: u64 = MAX_SWEEPERS as u64;
 
 /// Why a sweep left not all its lines.
 #[derive(Debug, Drop, Error)]
@@ -68,7 +68,7 @@ fn write_keys<T: Threads + Wait + Sync, W: Write>(
 ) -> Result<(), PartFault>
     requires reads { (text : List ℕ) × ReadsText text scenario.now }
     requires workers { 1 ≤ workers }
-    ensures { LeavesLines (W.contents writer.old) (W.contents writer.new) scenario.now keys result }
+    ensures { LeavesRows (W.contents writer.old) (W.contents writer.new) scenario.now keys result }
 {
     let Ok(names) = names_row(alloc) else {
         return Err(PartFault::Memory);

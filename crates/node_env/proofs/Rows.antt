@@ -13,25 +13,25 @@ use Rattle.std.proofs.Math.Nat.{mul-le-mul_right}
 use Rattle.node_env.specs.declared.word.TheConstants.{EMPTY}
 use Rattle.node_env.specs.Env.{AreNumbers, inbox_of}
 use Rattle.node_env.specs.Slots.{map_of}
-use Rattle.node_env.specs.inner.Slots.{IsWord, slot_of, numbers_of, word_at, row_of, rows_of}
+use Rattle.node_env.specs.inner.Slots.{IsSlotWord, word_slot, numbers_of, slot_word_at, words_row, rows_of}
 use Rattle.node_env.proofs.Slots.{get-map_of, map_of-replicate, map_of-set}
 
 -- the slot of a word at a place is what the map holds there
 pub get-numbers_of : (words : List ℕ) (q d : ℕ) → q < length words
-    → get (numbers_of words) q ≡ slot_of (get_or words q d)
-get-numbers_of words q d h = get-map_of (map slot_of words) q ∙ at words q h
+    → get (numbers_of words) q ≡ word_slot (get_or words q d)
+get-numbers_of words q d h = get-map_of (map word_slot words) q ∙ at words q h
   where
-    at : (words : List ℕ) (q : ℕ) → q < length words → get_or (map slot_of words) q None ≡ slot_of (get_or words q d)
+    at : (words : List ℕ) (q : ℕ) → q < length words → get_or (map word_slot words) q None ≡ word_slot (get_or words q d)
     at [] q h = absurd (omega arith)
     at (w ∷ ws) zero h = refl
     at (w ∷ ws) (suc q) h = at ws q (omega arith)
 
 pub get-numbers_of_past : (words : List ℕ) (q : ℕ) → length words ≤ q → get (numbers_of words) q ≡ None
-get-numbers_of_past words q h = get-map_of (map slot_of words) q
-    ∙ get_or_past (map slot_of words) q None (rw length-map h)
+get-numbers_of_past words q h = get-map_of (map word_slot words) q
+    ∙ get_or_past (map word_slot words) q None (rw length-map h)
 
 -- an empty row
-map-replicate : (n : ℕ) → map slot_of (replicate n EMPTY) ≡ replicate n None
+map-replicate : (n : ℕ) → map word_slot (replicate n EMPTY) ≡ replicate n None
 map-replicate zero = refl
 map-replicate (suc n) = ap (λ xs. None ∷ xs) (map-replicate n)
 
@@ -40,39 +40,39 @@ numbers_of-empty n = rw (map-replicate n) (map_of-replicate n)
 
 pub length-rows_of : (n : ℕ) (words : List ℕ) → length (rows_of n words) ≡ n
 unfolding rows_of
-length-rows_of n words = length-map-range_with_len (row_of n words) 0 n
+length-rows_of n words = length-map-range_with_len (words_row n words) 0 n
 
 -- a sender's row, and a receiver's word there
-get-rows_of_row : (n s : ℕ) (words : List ℕ) → s < n → get_or (rows_of n words) s empty ≡ row_of n words s
+get-rows_of_row : (n s : ℕ) (words : List ℕ) → s < n → get_or (rows_of n words) s empty ≡ words_row n words s
 unfolding rows_of
-get-rows_of_row n s words low = get_or-map-range_with_len (row_of n words) 0 n s s empty low (omega arith)
+get-rows_of_row n s words low = get_or-map-range_with_len (words_row n words) 0 n s s empty low (omega arith)
 
 within_square : (n s r : ℕ) → s < n → r < n → r * n + s < n * n
 within_square n s r low inner = let line : suc r * n ≤ n * n = mul-le-mul_right n inner in omega arith
 
-get-row_of : (n s r : ℕ) (words : List ℕ) → r < n → get (row_of n words s) r ≡ slot_of (word_at n words s r)
+get-row_of : (n s r : ℕ) (words : List ℕ) → r < n → get (words_row n words s) r ≡ word_slot (slot_word_at n words s r)
 get-row_of n s r words inner =
-    get-numbers_of (map (word_at n words s) (range_with_len 0 n)) r EMPTY
-    (rw (length-map-range_with_len (word_at n words s) 0 n) inner)
-    ∙ ap slot_of (get_or-map-range_with_len (word_at n words s) 0 n r r EMPTY inner (omega arith))
+    get-numbers_of (map (slot_word_at n words s) (range_with_len 0 n)) r EMPTY
+    (rw (length-map-range_with_len (slot_word_at n words s) 0 n) inner)
+    ∙ ap word_slot (get_or-map-range_with_len (slot_word_at n words s) 0 n r r EMPTY inner (omega arith))
 
 pub get-rows_of : (n s r d : ℕ) (words : List ℕ) → s < n → r < n → length words ≡ n * n
-    → get (get_or (rows_of n words) s empty) r ≡ slot_of (get_or words (r * n + s) d)
+    → get (get_or (rows_of n words) s empty) r ≡ word_slot (get_or words (r * n + s) d)
 get-rows_of n s r d words low inner whole =
     ap (λ row. get row r) (get-rows_of_row n s words low) ∙ get-row_of n s r words inner
-    ∙ ap slot_of (get_or_default words (r * n + s) EMPTY d (omega (arith, within_square n s r low inner)))
+    ∙ ap word_slot (get_or_default words (r * n + s) EMPTY d (omega (arith, within_square n s r low inner)))
 
 -- nothing was sent
-empty_row : (n s : ℕ) → s < n → row_of n (replicate (n * n) EMPTY) s ≡ empty
+empty_row : (n s : ℕ) → s < n → words_row n (replicate (n * n) EMPTY) s ≡ empty
 empty_row n s low =
-    ap numbers_of (sym (fill_by_all (word_at n (replicate (n * n) EMPTY) s) (replicate n EMPTY) n EMPTY
+    ap numbers_of (sym (fill_by_all (slot_word_at n (replicate (n * n) EMPTY) s) (replicate n EMPTY) n EMPTY
     (length-replicate n EMPTY) (λ r inner. get_or-replicate n r EMPTY EMPTY inner
     ∙ sym (get_or-replicate (n * n) (r * n + s) EMPTY EMPTY (within_square n s r low inner)))))
     ∙ numbers_of-empty n
 
 pub rows_of-empty : (n : ℕ) → rows_of n (replicate (n * n) EMPTY) ≡ replicate n empty
 unfolding rows_of
-rows_of-empty n = sym (fill_by_all (row_of n (replicate (n * n) EMPTY)) (replicate n empty) n empty
+rows_of-empty n = sym (fill_by_all (words_row n (replicate (n * n) EMPTY)) (replicate n empty) n empty
     (length-replicate n empty) (λ s low. get_or-replicate n s empty empty low ∙ sym (empty_row n s low)))
 
 -- after a sender's row was written up to a receiver: its words are there, and others are as they were
@@ -119,32 +119,32 @@ written_more n s k old row new inner line whole long before = record {
 
 -- the whole row
 written_row : (n s : ℕ) (old row new : List ℕ) → length row ≡ n → IsWritten n s n old row new
-    → numbers_of row ≡ row_of n new s
-written_row n s old row new whole done = ap numbers_of (fill_by_all (word_at n new s) row n EMPTY whole
+    → numbers_of row ≡ words_row n new s
+written_row n s old row new whole done = ap numbers_of (fill_by_all (slot_word_at n new s) row n EMPTY whole
     (λ r low. sym (done.there r low)))
 
 kept_row : (n s t : ℕ) (old row new : List ℕ) → t < n → t ≢ s → IsWritten n s n old row new
-    → row_of n old t ≡ row_of n new t
+    → words_row n old t ≡ words_row n new t
 kept_row n s t old row new low differ done =
-    ap numbers_of (fill_by_all (word_at n new t) (map (word_at n old t) (range_with_len 0 n)) n EMPTY
-    (length-map-range_with_len (word_at n old t) 0 n)
-    (λ r inner. get_or-map-range_with_len (word_at n old t) 0 n r r EMPTY inner (omega arith)
+    ap numbers_of (fill_by_all (slot_word_at n new t) (map (slot_word_at n old t) (range_with_len 0 n)) n EMPTY
+    (length-map-range_with_len (slot_word_at n old t) 0 n)
+    (λ r inner. get_or-map-range_with_len (slot_word_at n old t) 0 n r r EMPTY inner (omega arith)
     ∙ sym (done.kept t r low differ)))
 
 pub rows_of-written : (n s : ℕ) (old row new : List ℕ) → s < n → length row ≡ n → IsWritten n s n old row new
     → rows_of n new ≡ slice_set (rows_of n old) s (numbers_of row)
 unfolding rows_of
 rows_of-written n s old row new inner whole done =
-    sym (fill_by_all (row_of n new) (slice_set (rows_of n old) s (numbers_of row)) n empty
+    sym (fill_by_all (words_row n new) (slice_set (rows_of n old) s (numbers_of row)) n empty
     (length-set (rows_of n old) s (numbers_of row) ∙ length-rows_of n old)
     (λ t low. at t low (t == s) refl))
   where
     at : (t : ℕ) → t < n → (b : Bool) → (t == s) ≡ b
-        → get_or (slice_set (rows_of n old) s (numbers_of row)) t empty ≡ row_of n new t
+        → get_or (slice_set (rows_of n old) s (numbers_of row)) t empty ≡ words_row n new t
     at t low true e =
         let same : t ≡ s = grind (arith, nat_tests) in
         get_or-set_at (rows_of n old) s t (numbers_of row) empty same (omega (arith, length-rows_of n old))
-        ∙ written_row n s old row new whole done ∙ ap (row_of n new) (sym same)
+        ∙ written_row n s old row new whole done ∙ ap (words_row n new) (sym same)
     at t low false e =
         let differ : t ≢ s = (λ is. grind (arith, nat_tests)) in
         get_or-set_other (rows_of n old) s t (numbers_of row) empty differ ∙ get-rows_of_row n t old low
@@ -161,23 +161,23 @@ numbers-words n words few j v e = held (nat_lt j (length words)) refl
     held : (b : Bool) → nat_lt j (length words) ≡ b → (j < n) × (v < 2 ^ 32)
     held true t =
         let low : j < length words = grind (arith, nat_tests) in
-        let word : slot_of (get_or words j 0) ≡ Some v = sym (get-numbers_of words j 0 low) ∙ e in
+        let word : word_slot (get_or words j 0) ≡ Some v = sym (get-numbers_of words j 0 low) ∙ e in
         (omega arith, word_fits (get_or words j 0) v (nat_lt (get_or words j 0) EMPTY) refl word)
     held false t = let past : None ≡ Some v = sym (get-numbers_of_past words j (grind (arith, nat_tests))) ∙ e in cc
 
 pub rows-numbers : (n : ℕ) (words : List ℕ) → All (AreNumbers n) (rows_of n words)
 unfolding rows_of
-rows-numbers n words = All-map (AreNumbers n) (row_of n words) (range_with_len 0 n)
-    (λ s d low. numbers-words n (map (word_at n words (get_or (range_with_len 0 n) s d)) (range_with_len 0 n))
-    (omega (arith, length-map-range_with_len (word_at n words (get_or (range_with_len 0 n) s d)) 0 n)))
+rows-numbers n words = All-map (AreNumbers n) (words_row n words) (range_with_len 0 n)
+    (λ s d low. numbers-words n (map (slot_word_at n words (get_or (range_with_len 0 n) s d)) (range_with_len 0 n))
+    (omega (arith, length-map-range_with_len (slot_word_at n words (get_or (range_with_len 0 n) s d)) 0 n)))
 
 -- the words to a receiver are its inbox
 pub inbox_words : (n r : ℕ) (words : List ℕ) → r < n → length words ≡ n * n
     → numbers_of (take n (drop (r * n) words)) ≡ inbox_of r (rows_of n words)
 inbox_words n r words inner whole =
-    ap map_of (ext_get_or None (map slot_of line) (map (λ row. get row r) (rows_of n words))
-    (length-map line slot_of ∙ long ∙ sym (length-map (rows_of n words) (λ (row : FinMap nat_cmp ℕ). get row r)
-    ∙ length-rows_of n words)) (λ s low. at s (omega (arith, length-map line slot_of, long))))
+    ap map_of (ext_get_or None (map word_slot line) (map (λ row. get row r) (rows_of n words))
+    (length-map line word_slot ∙ long ∙ sym (length-map (rows_of n words) (λ (row : FinMap nat_cmp ℕ). get row r)
+    ∙ length-rows_of n words)) (λ s low. at s (omega (arith, length-map line word_slot, long))))
   where
     line : List ℕ
     line = take n (drop (r * n) words)
@@ -188,23 +188,23 @@ inbox_words n r words inner whole =
     long : length line ≡ n
     long = length-take-le n (drop (r * n) words) (omega (arith, length-drop (r * n) words, lines))
 
-    at : (s : ℕ) → s < n → get_or (map slot_of line) s None ≡ get_or (map (λ row. get row r) (rows_of n words)) s None
+    at : (s : ℕ) → s < n → get_or (map word_slot line) s None ≡ get_or (map (λ row. get row r) (rows_of n words)) s None
     at s low =
-        get_or-map slot_of line s 0 None (omega (arith, long))
-        ∙ ap slot_of (get_or-take n (drop (r * n) words) s 0 low ∙ get_or-drop (r * n) words s 0)
+        get_or-map word_slot line s 0 None (omega (arith, long))
+        ∙ ap word_slot (get_or-take n (drop (r * n) words) s 0 low ∙ get_or-drop (r * n) words s 0)
         ∙ sym (get_or-map (λ (row : FinMap nat_cmp ℕ). get row r) (rows_of n words) s empty None
         (omega (arith, length-rows_of n words))
         ∙ get-rows_of n s r 0 words low inner whole)
 
 -- words that stand for the same slots are the same
-same_word : (w v : ℕ) (b c : Bool) → nat_lt w EMPTY ≡ b → nat_lt v EMPTY ≡ c → IsWord w → IsWord v
+same_word : (w v : ℕ) (b c : Bool) → nat_lt w EMPTY ≡ b → nat_lt v EMPTY ≡ c → IsSlotWord w → IsSlotWord v
     → (if b then Some w else None) ≡ (if c then Some v else None) → w ≡ v
 same_word w v true true s t low high e = cc
 same_word w v true false s t low high e = cc
 same_word w v false true s t low high e = cc
 same_word w v false false s t low high e = grind (arith, nat_tests)
 
-pub same_words : (xs ys : List ℕ) → length xs ≡ length ys → All IsWord xs → All IsWord ys
+pub same_words : (xs ys : List ℕ) → length xs ≡ length ys → All IsSlotWord xs → All IsSlotWord ys
     → numbers_of xs ≡ numbers_of ys → xs ≡ ys
 same_words xs ys long left right e = ext_get_or 0 xs ys long (λ i low.
     same_word (get_or xs i 0) (get_or ys i 0) (nat_lt (get_or xs i 0) EMPTY) (nat_lt (get_or ys i 0) EMPTY) refl refl
@@ -215,8 +215,8 @@ same_words xs ys long left right e = ext_get_or 0 xs ys long (λ i low.
 pub numbers_of-set : (words : List ℕ) (i v : ℕ) → i < length words → v < 2 ^ 32
     → numbers_of (slice_set words i v) ≡ insert (numbers_of words) i v
 numbers_of-set words i v low small =
-    let number : slot_of v ≡ Some v = some_number v (nat_lt v EMPTY) refl small in
-    rw (map-set slot_of words i v, number) (map_of-set {A = ℕ} (map slot_of words) i v (rw length-map low))
+    let number : word_slot v ≡ Some v = some_number v (nat_lt v EMPTY) refl small in
+    rw (map-set word_slot words i v, number) (map_of-set {A = ℕ} (map word_slot words) i v (rw length-map low))
   where
     some_number : (v : ℕ) (b : Bool) → nat_lt v EMPTY ≡ b → v < 2 ^ 32 → (if b then Some v else None) ≡ Some v
     some_number v true t small = refl

@@ -3,7 +3,7 @@ ghost use Rattle.std.specs.Prelude.{◌≡◌, ◌+◌, ◌≤◌, ◌<◌, ◌�
 ghost use Rattle.node_env.specs.declared.env.TheConstants.{WORDS_AT_ONCE};
 ghost use Rattle.node_env.specs.Env.{IsSetting, inbox_of, received, setting_of};
 ghost use Rattle.node_env.specs.Slots.{map_of, IsSlot};
-ghost use Rattle.node_env.specs.inner.Slots.{IsWord, numbers_of};
+ghost use Rattle.node_env.specs.inner.Slots.{IsSlotWord, numbers_of};
 
 use crate::mail::Mail;
 use crate::shape::Shape;
@@ -248,8 +248,8 @@ fn is_inbox(inbox: &[Option<u32>], mail: &Mail, receiver: u32) -> bool
 /// Whether the words represent the same slots.
 fn are_alike(words: &[u64], others: &[u64]) -> bool
     requires nodes { length words.now ≡ length others.now }
-    requires words { All IsWord words.now }
-    requires others { All IsWord others.now }
+    requires words { All IsSlotWord words.now }
+    requires others { All IsSlotWord others.now }
     ensures { IsTrue result ↔ (numbers_of words.now ≡ numbers_of others.now) }
 {
     words == others

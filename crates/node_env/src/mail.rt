@@ -4,7 +4,7 @@ ghost use Rattle.std.specs.FinMap as map;
 ghost use Rattle.node_env.specs.Env.{AreNumbers, inbox_of};
 ghost use Rattle.node_env.specs.inner.Env.{IsSquare};
 ghost use Rattle.node_env.specs.Slots.{map_of};
-ghost use Rattle.node_env.specs.inner.Slots.{IsWord, numbers_of, rows_of};
+ghost use Rattle.node_env.specs.inner.Slots.{IsSlotWord, numbers_of, rows_of};
 
 use crate::outbox::Outbox;
 use crate::shape::{MAX_NODES, Shape};
@@ -86,7 +86,7 @@ impl Mail {
         requires { receiver < length self.now }
         ensures nodes { length result.now ≡ length self.now }
         ensures inbox { numbers_of result.now ≡ inbox_of receiver self.now }
-        ensures words { All IsWord result.now }
+        ensures words { All IsSlotWord result.now }
     {
         let first = place_of(self.nodes, receiver, 0);
         part(&self.words, first, self.nodes as usize)
@@ -135,7 +135,7 @@ fn write_row(words: &mut [u64], nodes: u32, sender: u32, row: &[u64])
     requires square { IsSquare nodes words.old }
     requires sender { sender < nodes }
     requires row { length row.now ≡ nodes }
-    requires words { All IsWord row.now }
+    requires words { All IsSlotWord row.now }
     ensures square { IsSquare nodes words.new }
     ensures rows { rows_of nodes words.new ≡ slice_set (rows_of nodes words.old) sender (numbers_of row.now) }
 {

@@ -2,7 +2,7 @@
 ghost use Rattle.std.specs.Prelude.{◌≡◌, ◌<◌, ◌≤◌, ℕ, All, IfOk, None, length};
 ghost use Rattle.std.specs.FinMap as map;
 ghost use Rattle.node_env.specs.Env.{IsSendings};
-ghost use Rattle.node_env.specs.inner.Slots.{IsWord, numbers_of};
+ghost use Rattle.node_env.specs.inner.Slots.{IsSlotWord, numbers_of};
 
 use crate::shape::Shape;
 use crate::word::{EMPTY, slot_in};
@@ -92,7 +92,7 @@ impl Outbox {
     pub(crate) fn words(&self) -> &[u64]
         ensures nodes { length result.now ≡ self.now.nodes }
         ensures sent { numbers_of result.now ≡ self.now.sent }
-        ensures words { All IsWord result.now }
+        ensures words { All IsSlotWord result.now }
     {
         &self.words
     }

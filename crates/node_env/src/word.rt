@@ -1,7 +1,7 @@
 //! Words of 64 bits that represent slots: a number of 32 bits, or empty.
 ghost use Rattle.std.specs.Prelude.{◌≡◌, unwrap_or};
 ghost use Rattle.node_env.specs.declared.env.TheConstants.{NO_MAIL};
-ghost use Rattle.node_env.specs.inner.Slots.{slot_of};
+ghost use Rattle.node_env.specs.inner.Slots.{word_slot};
 
 use crate::env::NO_MAIL;
 
@@ -10,7 +10,7 @@ pub const EMPTY: u64 = 4294967296;
 
 /// Returns the slot that a word represents.
 pub fn slot_in(word: u64) -> Option<u32>
-    ensures { result ≡ slot_of word }
+    ensures { result ≡ word_slot word }
 {
     if word < EMPTY {
         Some(word as u32)
@@ -22,7 +22,7 @@ pub fn slot_in(word: u64) -> Option<u32>
 /// Returns what `recv` answers for the slot that a word represents.
 #[inline(always)]
 pub fn number_in(word: u64) -> u32
-    ensures { result ≡ unwrap_or (slot_of word) NO_MAIL }
+    ensures { result ≡ unwrap_or (word_slot word) NO_MAIL }
 {
     word.min(u64::from(NO_MAIL)) as u32
 }

@@ -9,8 +9,8 @@ use Rattle.rule_text.specs.declared.lexemes.Kind.TheVariants.{Named, Mark, LineS
 use Rattle.rule_text.specs.declared.lexemes.Token.{Token}
 use Rattle.rule_text.specs.declared.scope.Entry.{Entry}
 use Rattle.rule_text.specs.Forms.{TermForm, StatementForm, nothing}
-use Rattle.rule_text.specs.Terms.{after}
-use Rattle.rule_text.specs.Statements.{simple_by, simple_read, assign_read, Inner, is_start, other_by, simple_line, line_by, line_read}
+use Rattle.rule_text.specs.Terms.{rest_after}
+use Rattle.rule_text.specs.Statements.{simple_by, simple_read, assign_read, Inner, is_start, other_by, simple_line, statement_by, line_read}
 use Rattle.rule_text.specs.Spelling as s
 use Rattle.rule_grammar.proofs.Readings.{no_sign, Clear, First, first_is, first_more, first_up, first_clear}
 use Rattle.rule_grammar.proofs.Levels.{Ends, ends_at, ends_clear}
@@ -97,7 +97,7 @@ module _ (text : List ℕ) where
 
   act_by : (inner : Inner) (room column : ℕ) (names : List Entry) (kind : Kind) (t : Token) (ts : List Token)
       → class kind ≤ 2
-      → line_by inner text room column names kind t ts ≡ simple_line inner text room column names (t ∷ ts)
+      → statement_by inner text room column names kind t ts ≡ simple_line inner text room column names (t ∷ ts)
   act_by inner room column names (Mark signs.Let) t ts h = absurd (omega arith)
   act_by inner room column names (Mark signs.For) t ts h = absurd (omega arith)
   act_by inner room column names (Mark signs.If) t ts h = absurd (omega arith)
@@ -149,7 +149,7 @@ pub after_clear : (column : ℕ) (ts : List Token) → After column ts → Clear
 after_clear column ts h = ends_clear s.whole ts (after_ends column ts h)
 
 -- no sign is first
-pub after_no : (a : Sign) (column : ℕ) (ts : List Token) → After column ts → after a ts ≡ None
+pub after_no : (a : Sign) (column : ℕ) (ts : List Token) → After column ts → rest_after a ts ≡ None
 after_no a column ts (at_end {t = t} {ts = us} h) = no_sign a TextEnd t us h refl
 after_no a column ts (at_left {t = t} {ts = us} h left) = no_sign a LineStart t us h refl
 

@@ -12,7 +12,7 @@ use Rattle.rule_text.specs.declared.joints.Joint.{Joint}
 use Rattle.rule_text.specs.declared.joints.Chain.{Chain}
 use Rattle.rule_text.specs.declared.joints.Chain.TheVariants as chains
 use Rattle.rule_text.specs.Forms.{TermForm}
-use Rattle.rule_text.specs.Terms.{after, joint_by, joint_of, comparison_by, comparison_of, joint_in, comparison_in, leaf_of}
+use Rattle.rule_text.specs.Terms.{rest_after, joint_by, joint_of, comparison_by, comparison_of, joint_in, comparison_in, leaf_of}
 use Rattle.rule_text.specs.Spelling as s
 use Rattle.rule_grammar.proofs.Readings.{no_front, Clear, clear_kind, First, first_is, first_more, first_up, first_clear}
 
@@ -83,7 +83,7 @@ ends_clear level [] h = tt
 ends_clear level (t ∷ ts) h =
     clear_kind t.kind (λ e is. let same = ap grip is in let less = h.is in omega arith)
 
-pub no_if : (ts : List Token) → Ends s.whole ts → after signs.If ts ≡ None
+pub no_if : (ts : List Token) → Ends s.whole ts → rest_after signs.If ts ≡ None
 no_if ts h = no_front signs.If ts (λ t us split sign.
     let same = ap grip_in split ∙ ap grip sign.is in let less = h.is in omega arith)
 

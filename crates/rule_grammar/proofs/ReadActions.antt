@@ -13,8 +13,8 @@ use Rattle.rule_text.specs.declared.scope.Entry.{Entry}
 use Rattle.rule_text.specs.declared.scope.Maker.TheVariants as makers
 use Rattle.rule_text.specs.declared.statements.Layer.TheVariants.{Rest}
 use Rattle.rule_text.specs.Forms.{TermForm, AssignmentForm, StatementForm, let_in, assign}
-use Rattle.rule_text.specs.Scopes.{Reading, ◌>>=◌, error_at}
-use Rattle.rule_text.specs.Terms.{after, wanted}
+use Rattle.rule_text.specs.Scopes.{Reading, ◌>>=◌, rule_error_at}
+use Rattle.rule_text.specs.Terms.{rest_after, wanted}
 use Rattle.rule_text.specs.Statements.{target_meant, target_by, has_target, new_target, targets_read, values_read, numbers_read, assign_read, let_read, simple_read, Inner, line_read}
 use Rattle.rule_text.specs.Spelling as s
 use Rattle.rule_grammar.proofs.Readings.{Gives, found, bind, by_some, by_none, limit_in, after_sign, wanted_sign, no_sign}
@@ -38,11 +38,11 @@ module _ (text : List ℕ) (names : List Entry) where
       → Gives (new_target text names done (t ∷ rest)) (done ++ (target ∷ []), rest)
   one_target done target t rest h once =
       bind _ (bind _ (found (target_read t target h))
-      (found (ap (λ (b : Bool). cond b (Err (error_at NameTwice t)) (Ok (done ++ (target ∷ [])))) once))) (found refl)
+      (found (ap (λ (b : Bool). cond b (Err (rule_error_at NameTwice t)) (Ok (done ++ (target ∷ [])))) once))) (found refl)
 
   -- after a target: further ones, or the "=" that follows them
   abbrev further : ℕ → List Target → List Token → Reading (List Target)
-  further left targets ts = elim (after signs.Comma ts) [
+  further left targets ts = elim (rest_after signs.Comma ts) [
     | Some rest ↦ targets_read left text names targets rest
     | None ↦ wanted signs.Becomes ts >>= λ rest. Ok (targets, rest)
   ]

@@ -12,7 +12,7 @@ use Rattle.rule_text.specs.declared.scope.Entry.{Entry}
 use Rattle.rule_text.specs.declared.scope.Maker.TheVariants as makers
 use Rattle.rule_text.specs.declared.statements.Layer.TheVariants.{Rest, Branch}
 use Rattle.rule_text.specs.Forms.{StatementForm, nothing, sequence, let_in, branch}
-use Rattle.rule_text.specs.Scopes.{told}
+use Rattle.rule_text.specs.Scopes.{told_instead}
 use Rattle.rule_text.specs.Statements.{simple_read, Inner, is_start, block_read, body_read, other_read, branch_read, followed, line_read, rest_read, lines_read}
 use Rattle.rule_text.specs.Spelling as s
 use Rattle.rule_grammar.proofs.Readings.{Gives, found, bind, by_true, by_false, IsClear, Clear, limit_at, limit_in, wanted_sign, first_more}
@@ -24,7 +24,7 @@ use Rattle.rule_grammar.proofs.ReadActions.{action_gives, let_line_gives, simple
 -- ---- starts of lines
 
 start_clear : {column : ℕ} {t : Token} → s.IsStart column t → IsClear t.kind
-start_clear start = λ e. subst (λ (k : Kind). told e k ≡ e) (sym start.start.is) refl
+start_clear start = λ e. subst (λ (k : Kind). told_instead e k ≡ e) (sym start.start.is) refl
 
 -- the test of the start of a line of this column
 abbrev pub is_line : ℕ → Token → Bool

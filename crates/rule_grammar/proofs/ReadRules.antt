@@ -17,9 +17,9 @@ use Rattle.rule_text.specs.declared.statements.Layer.TheVariants.{Rest}
 use Rattle.rule_text.specs.declared.statements.TheConstants.{MAX_STEPS}
 use Rattle.rule_text.specs.Forms.{StatementForm, sequence, let_in}
 use Rattle.rule_text.specs.Tokens.{is_end}
-use Rattle.rule_text.specs.Scopes.{◌>>=◌, told, words_of}
-use Rattle.rule_text.specs.Terms.{after}
-use Rattle.rule_text.specs.Statements.{lines_read, state_names_with, state_names, state_in, header_with, header_read, RuleForm, ended, first_column, rule_in, rule_of}
+use Rattle.rule_text.specs.Scopes.{◌>>=◌, told_instead, words_of}
+use Rattle.rule_text.specs.Terms.{rest_after}
+use Rattle.rule_text.specs.Statements.{lines_read, state_names_with, state_names, after_state, header_with, header_read, RuleForm, ended, first_column, rule_in, rule_read}
 use Rattle.rule_text.specs.Spelling as s
 use Rattle.rule_grammar.specs.Limits.{IsLimit, IsPastLimit}
 use Rattle.rule_grammar.proofs.Readings.{Gives, found, stopped, bind, by_some, by_none, by_true, Clear, limit_in, after_sign, first_no}
@@ -40,10 +40,10 @@ module _ (text : List ℕ) where
 
   new_clear : (names more : List Entry) (t : Token) (ts : List Token) → s.IsNew text makers.State names t more
       → Clear (t ∷ ts)
-  new_clear names more t ts new = λ e. subst (λ (k : Kind). told e k ≡ e) (sym new.named.is) refl
+  new_clear names more t ts new = λ e. subst (λ (k : Kind). told_instead e k ≡ e) (sym new.named.is) refl
 
   words_give : {names all : List Entry} {ts : List Token} → s.AreWords text names ts all → (left : ℕ)
-      (rest : List Token) → after signs.Comma rest ≡ None → Gives (state_names left text names (ts ++ rest)) (all, rest)
+      (rest : List Token) → rest_after signs.Comma rest ≡ None → Gives (state_names left text names (ts ++ rest)) (all, rest)
   words_give (s.last_word {names = names} {more = more} {t = t} new) = λ left rest no_comma.
       words_part names (t ∷ rest) (more, rest) (new_clear names more t rest new)
       (λ n. bind _ (new_gives text makers.State names more t rest new) (by_none _ _ no_comma (found refl))) left
@@ -56,21 +56,21 @@ module _ (text : List ℕ) where
   -- ---- the header
 
   state_here : (column : ℕ) (t w : Token) (ts : List Token) → s.IsStart column t → s.IsSign signs.State w
-      → state_in column (t ∷ w ∷ ts) ≡ Some ts
+      → after_state column (t ∷ w ∷ ts) ≡ Some ts
   state_here column t w ts start state =
-      ap (λ (b : Bool). cond b (after signs.State (w ∷ ts)) None) (line_test column t start)
+      ap (λ (b : Bool). cond b (rest_after signs.State (w ∷ ts)) None) (line_test column t start)
       ∙ after_sign signs.State w ts state
 
-  other_line : (column : ℕ) (t : Token) (ts : List Token) → is_line column t ≡ false → state_in column (t ∷ ts) ≡ None
-  other_line column t ts e = ap (λ (b : Bool). cond b (after signs.State ts) None) e
+  other_line : (column : ℕ) (t : Token) (ts : List Token) → is_line column t ≡ false → after_state column (t ∷ ts) ≡ None
+  other_line column t ts e = ap (λ (b : Bool). cond b (rest_after signs.State ts) None) e
 
-  no_state_in : (column : ℕ) (ts : List Token) → Next column ts → state_in column ts ≡ None
+  no_state_in : (column : ℕ) (ts : List Token) → Next column ts → after_state column ts ≡ None
   no_state_in column ts (block_ends (at_end {t = t} {ts = us} h)) =
       other_line column t us (other_kind column TextEnd t h refl)
   no_state_in column ts (block_ends (at_left {t = t} {ts = us} h left)) =
       other_line column t us (other_column column t h left)
   no_state_in column ts (at_line {t = t} {ts = us} start leads) =
-      ap (λ (b : Bool). cond b (after signs.State us) None) (line_test column t start)
+      ap (λ (b : Bool). cond b (rest_after signs.State us) None) (line_test column t start)
       ∙ first_no class 5 signs.State us leads (omega arith)
 
   header_after : {column : ℕ} {names all : List Entry} {ts : List Token} → s.IsHeader text column names ts all
@@ -143,7 +143,7 @@ module _ (text : List ℕ) where
       subst (λ (c : ℕ). Placed c known names header lines a) (sym start.at)
       (record { is_header = s.state_line start state d others; is_block = block })
 
-  pub spelled_gives : (rule : RuleForm) → s.Spells text rule → Gives (rule_of text) rule
+  pub spelled_gives : (rule : RuleForm) → s.Spells text rule → Gives (rule_read text) rule
   spelled_gives rule h =
       let at = placed h.is_header h.lines (h.end ∷ []) rule.statement h.is_block in
       subst (λ (ts : List Token). Gives (rule_in text ts) rule) (sym h.tokens)
@@ -157,8 +157,8 @@ or_limit r rule (found e) = inl e
 or_limit r rule (stopped h) = inr (h.error, h.line, h.column, h.limit, h.is)
 
 pub spelled_read : (text : List ℕ) (rule : RuleForm) → s.Spells text rule
-    → (rule_of text ≡ Ok rule) ⊎ IsPastLimit (rule_of text)
-spelled_read text rule h = or_limit (rule_of text) rule (spelled_gives text rule h)
+    → (rule_read text ≡ Ok rule) ⊎ IsPastLimit (rule_read text)
+spelled_read text rule h = or_limit (rule_read text) rule (spelled_gives text rule h)
 
 -- another error is no limit
 other_error : (r : Result RuleForm ReadRuleError) (rule : RuleForm) (error : RuleError) (line column : ℕ)
@@ -170,9 +170,9 @@ other_error r rule error line column e other (inr h) =
     other (subst IsLimit same_error h.3)
 
 pub spelled_not_rejected : (text : List ℕ) (error : RuleError) (line column : ℕ)
-    → rule_of text ≡ Err (At error line column) → (IsLimit error → ⊥) → (rule : RuleForm) → s.Spells text rule → ⊥
+    → rule_read text ≡ Err (At error line column) → (IsLimit error → ⊥) → (rule : RuleForm) → s.Spells text rule → ⊥
 spelled_not_rejected text error line column e other rule h =
-    other_error (rule_of text) rule error line column e other (spelled_read text rule h)
+    other_error (rule_read text) rule error line column e other (spelled_read text rule h)
 
 same_rule : (r : Result RuleForm ReadRuleError) (a b : RuleForm) → (IsPastLimit r → ⊥) → (r ≡ Ok a) ⊎ IsPastLimit r
     → (r ≡ Ok b) ⊎ IsPastLimit r → a ≡ b
@@ -181,6 +181,6 @@ same_rule r a b within (inr h) g = absurd (within h)
 same_rule r a b within (inl e) (inr h) = absurd (within h)
 
 pub spelled_once : (text : List ℕ) (a b : RuleForm) → s.Spells text a → s.Spells text b
-    → (IsPastLimit (rule_of text) → ⊥) → a ≡ b
+    → (IsPastLimit (rule_read text) → ⊥) → a ≡ b
 spelled_once text a b h g within =
-    same_rule (rule_of text) a b within (spelled_read text a h) (spelled_read text b g)
+    same_rule (rule_read text) a b within (spelled_read text a h) (spelled_read text b g)

@@ -21,7 +21,7 @@ use Rattle.rule_text.specs.declared.joints.Chain.TheVariants as chains
 use Rattle.rule_text.specs.declared.terms.Grade.TheVariants.{Whole, Inverse}
 use Rattle.rule_text.specs.declared.terms.TheConstants.{MAX_PARTS}
 use Rattle.rule_text.specs.Forms.{TermForm}
-use Rattle.rule_text.specs.Scopes.{error_at, meaning_of, entry, next_meaning, added, named_entry_by, named_entry, new_name}
+use Rattle.rule_text.specs.Scopes.{rule_error_at, meaning_of, scope_entry, next_meaning, added, named_entry_by, named_entry, new_name}
 use Rattle.rule_text.specs.Terms.{joint_of, join, named_term, leaf_of, Reader, Inner, leaf, named_atom, marked_atom, atom, chain_step, chain_rest, compare_read, inverse_read, operand_read, chain_read, whole_read, part, term_read}
 use Rattle.rule_text.specs.Spelling as s
 use Rattle.rule_grammar.proofs.Readings.{Gives, found, bind, by_some, by_none, IsClear, Clear, limit_in, after_sign, wanted_sign, first_no}
@@ -35,8 +35,8 @@ module _ (text : List ℕ) where
   entry_gives maker names more t new =
       ap (λ (kind : Kind). named_entry_by text maker names kind t) new.named.is
       ∙ ap (λ (known : Option Meaning). added known maker new.name names t) new.new
-      ∙ ap (λ (full : Bool). cond full (Err (error_at TooDeep t))
-      (Ok (names ++ entry new.name (next_meaning maker names) ∷ []))) (lt-leb MAX_NAMES (length names) new.room)
+      ∙ ap (λ (full : Bool). cond full (Err (rule_error_at TooDeep t))
+      (Ok (names ++ scope_entry new.name (next_meaning maker names) ∷ []))) (lt-leb MAX_NAMES (length names) new.room)
       ∙ ap Ok (sym new.added)
 
   pub new_gives : (maker : Maker) (names more : List Entry) (t : Token) (ts : List Token)

@@ -10,8 +10,8 @@ use Rattle.rule_text.specs.declared.lexemes.Kind.{Kind}
 use Rattle.rule_text.specs.declared.lexemes.Kind.TheVariants.{Mark, Fault}
 use Rattle.rule_text.specs.declared.lexemes.Token.{Token}
 use Rattle.rule_text.specs.Signs.{is_same}
-use Rattle.rule_text.specs.Scopes.{◌>>=◌, told, error_at, error_in}
-use Rattle.rule_text.specs.Terms.{is_marked, after, wanted}
+use Rattle.rule_text.specs.Scopes.{◌>>=◌, told_instead, rule_error_at, error_in}
+use Rattle.rule_text.specs.Terms.{is_of_sign, rest_after, wanted}
 use Rattle.rule_text.specs.Spelling as s
 use Rattle.rule_text.proofs.SpelledTerms.{after_front}
 use Rattle.rule_grammar.specs.Limits.{IsLimit}
@@ -66,24 +66,24 @@ by_false {B} {b} {y} first other e g = subst (λ (q : Bool). Gives (cond q first
 
 -- no first token is this sign
 pub no_front : (a : Sign) (ts : List Token) → ((t : Token) (us : List Token) → ts ≡ t ∷ us → s.IsSign a t → ⊥)
-    → after a ts ≡ None
-no_front a ts never = by (after a ts) refl
+    → rest_after a ts ≡ None
+no_front a ts never = by (rest_after a ts) refl
   where
-    by : (o : Option (List Token)) → after a ts ≡ o → after a ts ≡ None
+    by : (o : Option (List Token)) → rest_after a ts ≡ o → rest_after a ts ≡ None
     by None e = e
     by (Some us) e = let f = after_front a ts us e in absurd (never f.first us f.split f.sign)
 
 -- a token of another kind is first
-pub no_sign : (a : Sign) (kind : Kind) (t : Token) (ts : List Token) → s.HasKind kind t → is_marked a kind ≡ false
-    → after a (t ∷ ts) ≡ None
-no_sign a kind t ts h e = ap (λ (b : Bool). cond b (Some ts) None) (ap (is_marked a) h.is ∙ e)
+pub no_sign : (a : Sign) (kind : Kind) (t : Token) (ts : List Token) → s.HasKind kind t → is_of_sign a kind ≡ false
+    → rest_after a (t ∷ ts) ≡ None
+no_sign a kind t ts h e = ap (λ (b : Bool). cond b (Some ts) None) (ap (is_of_sign a) h.is ∙ e)
 
 same_self : (a : Sign) → is_same a a ≡ true
 same_self signs.State = refl
 same_self a = refl
 
-pub after_sign : (a : Sign) (t : Token) (ts : List Token) → s.IsSign a t → after a (t ∷ ts) ≡ Some ts
-after_sign a t ts h = ap (λ (b : Bool). cond b (Some ts) None) (ap (is_marked a) h.is ∙ same_self a)
+pub after_sign : (a : Sign) (t : Token) (ts : List Token) → s.IsSign a t → rest_after a (t ∷ ts) ≡ Some ts
+after_sign a t ts h = ap (λ (b : Bool). cond b (Some ts) None) (ap (is_of_sign a) h.is ∙ same_self a)
 
 pub wanted_sign : (a : Sign) (t : Token) (ts : List Token) → s.IsSign a t → Gives (wanted a (t ∷ ts)) ts
 wanted_sign a t ts h = by_some _ _ (after_sign a t ts h) (found refl)
@@ -91,7 +91,7 @@ wanted_sign a t ts h = by_some _ _ (after_sign a t ts h) (found refl)
 -- ---- limits
 
 abbrev pub IsClear : Kind → Type 0
-IsClear kind = (e : RuleError) → told e kind ≡ e
+IsClear kind = (e : RuleError) → told_instead e kind ≡ e
 
 -- the first token is no fault
 abbrev pub Clear : List Token → Type 0
@@ -103,7 +103,7 @@ clear_kind (Fault other) never e = absurd (never other refl)
 clear_kind kind never e = refl
 
 pub limit_at : {A : Type 0} (e : RuleError) (t : Token) (y : A) → IsLimit e → IsClear t.kind
-    → Gives (Err (error_at e t)) y
+    → Gives (Err (rule_error_at e t)) y
 limit_at e t y limit clear = stopped (record {
   error = e;
   line = t.line;
@@ -157,7 +157,7 @@ first_clear measure most ts h high =
 
 -- a sign that measures more is not first
 pub first_no : (measure : Kind → ℕ) (most : ℕ) (a : Sign) (ts : List Token) → First measure most ts
-    → most < measure (Mark a) → after a ts ≡ None
+    → most < measure (Mark a) → rest_after a ts ≡ None
 first_no measure most a ts h high =
     no_front a ts (λ t us split sign.
     let token : h.token ≡ t = let both = sym h.split ∙ split in cc in

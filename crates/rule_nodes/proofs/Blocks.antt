@@ -35,9 +35,9 @@ use Rattle.rule_nodes.specs.declared.syntax.Statement.{Statement}
 use Rattle.rule_nodes.specs.declared.syntax.Statement.TheVariants.{Nothing, Then', Let', Assign, If', For', SendAll, SendTo}
 use Rattle.rule_nodes.specs.declared.syntax.Operator.TheVariants.{Compute}
 use Rattle.rule_nodes.specs.Meaning.{NodeState, apply, value, count_below, word_at, truth, with_local, assigned, all_assigned, with_sent, sent_below, each_below, after}
-use Rattle.rule_nodes.specs.Operands.{is_constant, constant_number, is_local, is_operand, is_asked, is_steady, depth_behind, source_of}
+use Rattle.rule_nodes.specs.Operands.{is_constant, constant_number, is_local, is_operand, is_asked, is_steady, depth_behind, term_source}
 use Rattle.rule_nodes.specs.Fits.{HasPlace, Fits, TargetFits, AssignmentFits, BlockFits}
-use Rattle.rule_nodes.specs.Code.{place, copy, cond_of, counted_code, term_code, stored_code, passed_code, send_to_constant_code, assign_code, set_code, given_code, alu_of, change_of, one_code, also_code, assignment_code, get_code, send_code, send_codes, send_all_code, send_to_code, each_code, is_nothing, block_code}
+use Rattle.rule_nodes.specs.Code.{place_register, copy, cond_of, counted_code, term_code, stored_code, passed_code, send_to_constant_code, assign_code, set_code, given_code, alu_op_of, changing_insn, one_code, also_code, assignment_code, get_code, send_code, send_codes, send_all_code, send_to_code, each_code, is_nothing, block_code}
 use Rattle.rule_nodes.proofs.Small.{compared, imm_low, apply_small}
 use Rattle.rule_nodes.proofs.Forms.{copies, operates_in, stores_number, stays, once, chain, further}
 use Rattle.rule_nodes.proofs.Words.{word_small, word_stored, word_low, word_length, word_bytes}
@@ -49,9 +49,9 @@ use Rattle.rule_nodes.proofs.TermRuns.{hop, behind_more, behind_few, IsAt, found
 
 pub holds_local : (env : Setting) (d e k v : ℕ) (u : NodeState) (s : MachineState) (to : ℕ) → k < 3
     → ((j : ℕ) → j < e → j ≢ k → j < d) → v < 2 ^ 32 → Holds env d u s
-    → Holds env e (with_local k v u) (put s to (place k) (Num v))
+    → Holds env e (with_local k v u) (put s to (place_register k) (Num v))
 holds_local env d e k v u s to small below fits h =
-    let p = register_number (place k) in
+    let p = register_number (place_register k) in
     let number : p ≡ 7 + k = place_number k small in
     let m = s.frame.registers in
     record {
@@ -151,9 +151,9 @@ holds_there env d v u t fits there h = record {
 
 -- place d is free
 holds_free : (env : Setting) (lets d v : ℕ) (u : NodeState) (s : MachineState) (to : ℕ) → lets ≤ d → d < 3
-    → Holds env lets u s → Holds env lets u (put s to (place d) (Num v))
+    → Holds env lets u s → Holds env lets u (put s to (place_register d) (Num v))
 holds_free env lets d v u s to le small h =
-    let p = register_number (place d) in
+    let p = register_number (place_register d) in
     let number : p ≡ 7 + d = place_number d small in
     let m = s.frame.registers in
     record {
@@ -276,26 +276,26 @@ module _ (program : List Insn) (env : Setting) (last : ℕ) (solid : (k : ℕ) �
   -- the value, and its copy into place k
   stored_runs : (e : Term) (z : Sizes) (J : List ℕ) (d k : ℕ) (rest : List Insn) (u : NodeState) (s : MachineState)
       (P : MachineState → Type 0) → IsSized z env → All (λ j. j < z.nodes) J → d ≤ 3 → k < 3 → Fits e z (length J) d d
-      → Holds env d u s → Stands program s.frame.slot (term_code e z J d Value ++ (copy (place k) R0 ∷ rest))
-      → s.frame.slot + length (term_code e z J d Value ++ (copy (place k) R0 ∷ rest)) ≤ last
+      → Holds env d u s → Stands program s.frame.slot (term_code e z J d Value ++ (copy (place_register k) R0 ∷ rest))
+      → s.frame.slot + length (term_code e z J d Value ++ (copy (place_register k) R0 ∷ rest)) ≤ last
       → ((t : MachineState) (to : ℕ) → Has d s (value e z env J u) t → Stands program to rest → to + length rest ≤ last
-      → Leads (put t to (place k) (Num (value e z env J u))) rest P)
-      → Leads s (term_code e z J d Value ++ (copy (place k) R0 ∷ rest)) P
+      → Leads (put t to (place_register k) (Num (value e z env J u))) rest P)
+      → Leads s (term_code e z J d Value ++ (copy (place_register k) R0 ∷ rest)) P
   stored_runs e z J d k rest u s P sized nodes few small fits h stands room next =
       let v = value e z env J u in
       let code = term_code e z J d Value in
-      let back = copy (place k) R0 ∷ rest in
-      let number : register_number (place k) ≡ 7 + k = place_number k small in
-      let writable : (register_number (place k) == 10) ≡ false = ap (λ (n : ℕ). n == 10) number
+      let back = copy (place_register k) R0 ∷ rest in
+      let number : register_number (place_register k) ≡ 7 + k = place_number k small in
+      let writable : (register_number (place_register k) == 10) ≡ false = ap (λ (n : ℕ). n == 10) number
       ∙ ne_eqb (7 + k) 10 (λ e. omega arith) in
       let len : length (code ++ back) ≡ length code + (1 + length rest) = omega (arith, length-append code back) in
       let c = term_runs program env last solid e z J d d Value u s sized nodes few (omega arith) fits h
       (stands_front program s.frame.slot code back stands) (omega (arith, len, room)) in
       let t = c.new in
       let there = here_is program env last solid t _ back c.slot (stands_back program s.frame.slot code back stands) in
-      let t1 = put t (t.frame.slot + 1) (place k) (Num v) in
+      let t1 = put t (t.frame.slot + 1) (place_register k) (Num v) in
       let e1 : step program env t ≡ Ok (Running t1) = copies program env t (t.frame.slot + 1)
-      (place k) R0 v there.0 refl (solid _ (omega (arith, len, room, c.slot))) c.fact.r0 c.fact.small writable in
+      (place_register k) R0 v there.0 refl (solid _ (omega (arith, len, room, c.slot))) c.fact.r0 c.fact.small writable in
       let g = next t (t.frame.slot + 1) c.fact there.1 (omega (arith, len, room, c.slot)) in
       record {
         new = g.new;
@@ -446,17 +446,17 @@ module _ (program : List Insn) (env : Setting) (last : ℕ) (solid : (k : ℕ) �
   constant_runs : (e k : Term) (z : Sizes) (J : List ℕ) (d : ℕ) (u : NodeState) (s : MachineState)
       → is_constant k ≡ true → IsSized z env → All (λ j. j < z.nodes) J → d ≤ 3 → Fits e z (length J) d d
       → Holds env d u s
-      → Stands program s.frame.slot (send_to_constant_code (source_of e z J) (constant_number k z J) z.nodes
+      → Stands program s.frame.slot (send_to_constant_code (term_source e z J) (constant_number k z J) z.nodes
       (term_code e z J d Value))
-      → s.frame.slot + length (send_to_constant_code (source_of e z J) (constant_number k z J) z.nodes
+      → s.frame.slot + length (send_to_constant_code (term_source e z J) (constant_number k z J) z.nodes
       (term_code e z J d Value)) ≤ last
-      → Leads s (send_to_constant_code (source_of e z J) (constant_number k z J) z.nodes (term_code e z J d Value))
+      → Leads s (send_to_constant_code (term_source e z J) (constant_number k z J) z.nodes (term_code e z J d Value))
       (Holds env d (after (SendTo e k) z env d J u))
   constant_runs e k z J d u s constant sized nodes few fits h stands room =
       let x = value k z env J u in
       let m = constant_number k z J in
       let v = value e z env J u in
-      let code = passed_code (source_of e z J) m (term_code e z J d Value) in
+      let code = passed_code (term_source e z J) m (term_code e z J d Value) in
       let is : m ≡ x = constant_is program env last solid k z J u constant in
       let End : ℕ → NodeState = λ j. if nat_lt j z.nodes then with_sent j v u else u in
       let P : List Insn → Type 0 = λ c. Stands program s.frame.slot c → s.frame.slot + length c ≤ last
@@ -464,7 +464,7 @@ module _ (program : List Insn) (env : Setting) (last : ℕ) (solid : (k : ℕ) �
       let both : P (if nat_lt m z.nodes then code else []) = elim (cases_Bool (nat_lt m z.nodes)) [
         | inl so ↦ subst P (sym (cond-true (nat_lt m z.nodes) code [] so)) (λ st l.
             subst (λ (w : NodeState). Leads s code (Holds env d w)) (sym (cond-true (nat_lt m z.nodes) (with_sent m v u) u so))
-            (passed_runs (source_of e z J) e z J d m u s (source_is program env last solid e z J d d u sized nodes fits)
+            (passed_runs (term_source e z J) e z J d m u s (source_is program env last solid e z J d d u sized nodes fits)
             sized nodes few (ltb-true m z.nodes so) fits h st l))
         | inr other ↦ subst P (sym (cond-false (nat_lt m z.nodes) code [] other)) (λ st l. record {
           new = s;
@@ -487,7 +487,7 @@ module _ (program : List Insn) (env : Setting) (last : ℕ) (solid : (k : ℕ) �
       let c = branch_leads program env last solid t t 0 3 (cond_of AtLeast) R0 (operand.Imm (pos n)) x n (nat_le n x)
       (stays program env t) stands.0 r0 refl (compared AtLeast x n x_fits few) (omega (arith, room)) in
       let w = c.new in
-      let number : register_number (place d) ≡ 7 + d = place_number d small in
+      let number : register_number (place_register d) ≡ 7 + d = place_number d small in
       let holds : Holds env d u w = record {
         r6 = ap (λ m. get m 6) c.fact.registers ∙ k.holds.r6;
         locals = λ j lt. ap (λ m. get m (7 + j)) c.fact.registers ∙ k.holds.locals j lt;
@@ -501,7 +501,7 @@ module _ (program : List Insn) (env : Setting) (last : ℕ) (solid : (k : ℕ) �
         | inl so ↦
             let miss : hop (nat_le n x) 3 ≡ 0 = rw (lt-leb n x (ltb-true x n so)) refl in
             let slot : w.frame.slot ≡ t.frame.slot + 1 = omega (arith, c.slot, miss) in
-            let there = here_is program env last solid w _ (copy R1 R0 ∷ copy R2 (place d) ∷ i.Call (pos 3) ∷ []) slot
+            let there = here_is program env last solid w _ (copy R1 R0 ∷ copy R2 (place_register d) ∷ i.Call (pos 3) ∷ []) slot
             stands.1 in
             let m0 = w.frame.registers in
             let w1 = put w (w.frame.slot + 1) R1 (Num x) in
@@ -509,13 +509,13 @@ module _ (program : List Insn) (env : Setting) (last : ℕ) (solid : (k : ℕ) �
             let w2 = put w1 (w.frame.slot + 1 + 1) R2 (Num v) in
             let w3 = sending w2 (w.frame.slot + 1 + 1 + 1) x v in
             let from0 : get m0 0 ≡ Some (Num x) = ap (λ m. get m 0) c.fact.registers ∙ r0 in
-            let from : get m1 (register_number (place d)) ≡ Some (Num v) = ap (get m1) number
+            let from : get m1 (register_number (place_register d)) ≡ Some (Num v) = ap (get m1) number
             ∙ put_other m0 1 (Num x) (7 + d) (λ e. omega arith) ∙ ap (λ m. get m (7 + d)) c.fact.registers ∙ k.place in
             let to1 : get w2.frame.registers 1 ≡ Some (Num x) = put_other m1 2 (Num v) 1 (λ e. omega arith)
             ∙ put_same m0 1 (Num x) in
             let e1 : step program env w ≡ Ok (Running w1) = copies program env w (w.frame.slot + 1) R1 R0 x there.0 refl
             (solid _ (omega (arith, room, slot))) from0 x_fits refl in
-            let e2 : step program env w1 ≡ Ok (Running w2) = copies program env w1 (w.frame.slot + 1 + 1) R2 (place d) v
+            let e2 : step program env w1 ≡ Ok (Running w2) = copies program env w1 (w.frame.slot + 1 + 1) R2 (place_register d) v
             there.1.0 refl (solid _ (omega (arith, room, slot))) from fits refl in
             let e3 : step program env w2 ≡ Ok (Running w3) = sends program env w2 (w.frame.slot + 1 + 1 + 1) x v
             there.1.1.0 refl (solid _ (omega (arith, room, slot))) to1 (put_same m1 2 (Num v))
@@ -581,13 +581,13 @@ module _ (program : List Insn) (env : Setting) (last : ℕ) (solid : (k : ℕ) �
       → Holds env lets u t → Stands program t.frame.slot (assign_code target ∷ []) → t.frame.slot + 1 ≤ last
       → Gets program env last solid t (t.frame.slot + 1) 1 (Assigned env lets d (assigned target v u) t)
   assign_runs (ToLocal k) z lets d v u t sized le few fits r0 small h stands room =
-      let p = register_number (place k) in
+      let p = register_number (place_register k) in
       let number : p ≡ 7 + k = place_number k (omega (arith, fits, le, few)) in
       let writable : (p == 10) ≡ false = ap (λ (n : ℕ). n == 10) number
       ∙ ne_eqb (7 + k) 10 (λ e. omega (arith, e, fits, le, few)) in
-      let t1 = put t (t.frame.slot + 1) (place k) (Num v) in
+      let t1 = put t (t.frame.slot + 1) (place_register k) (Num v) in
       let e1 : step program env t ≡ Ok (Running t1) = copies program env t (t.frame.slot + 1)
-      (place k) R0 v stands.0 refl (solid _ room) r0 small writable in
+      (place_register k) R0 v stands.0 refl (solid _ room) r0 small writable in
       record {
         new = t1;
         run = once program env t t1 e1;
@@ -636,13 +636,13 @@ module _ (program : List Insn) (env : Setting) (last : ℕ) (solid : (k : ℕ) �
       → s.frame.slot + length (set_code target x) ≤ last
       → Leads s (set_code target x) (Assigned env lets d (assigned target v u) s)
   set_runs (ToLocal k) x z lets d v u s found is sized le few fits h stands room =
-      let p = register_number (place k) in
+      let p = register_number (place_register k) in
       let number : p ≡ 7 + k = place_number k (omega (arith, fits, le, few)) in
       let writable : (p == 10) ≡ false = ap (λ (n : ℕ). n == 10) number
       ∙ ne_eqb (7 + k) 10 (λ e. omega (arith, e, fits, le, few)) in
-      let g = get_steps program env last solid (place k) x z lets v u s writable found is sized
+      let g = get_steps program env last solid (place_register k) x z lets v u s writable found is sized
       (omega (arith, le, few)) h stands.0 room in
-      let s1 = put s (s.frame.slot + 1) (place k) (Num v) in
+      let s1 = put s (s.frame.slot + 1) (place_register k) (Num v) in
       record {
         new = s1;
         run = once program env s s1 g.fetched;
@@ -673,11 +673,11 @@ module _ (program : List Insn) (env : Setting) (last : ℕ) (solid : (k : ℕ) �
       }
   set_runs (ToWord k) (FromLocal j) z lets d v u s found is sized le few fits h stands room =
       let zero_off : 0 + 4 * k ≡ 4 * k = omega arith in
-      let number : register_number (place j) ≡ 7 + j = place_number j (omega (arith, is.0, le, few)) in
-      let from : get s.frame.registers (register_number (place j)) ≡ Some (Num v) = ap (get s.frame.registers) number
+      let number : register_number (place_register j) ≡ 7 + j = place_number j (omega (arith, is.0, le, few)) in
+      let from : get s.frame.registers (register_number (place_register j)) ≡ Some (Num v) = ap (get s.frame.registers) number
       ∙ h.locals j is.0 ∙ ap (λ n. Some (Num n)) is.1 in
       let s1 = storing s (s.frame.slot + 1) (4 * k) v in
-      let e1 : step program env s ≡ Ok (Running s1) = stores program env s (s.frame.slot + 1) R6 (place j) (pos (4 * k))
+      let e1 : step program env s ≡ Ok (Running s1) = stores program env s (s.frame.slot + 1) R6 (place_register j) (pos (4 * k))
       (4 * k) v stands.0 refl (solid _ room) h.r6 from (ap pos zero_off)
       (le-leb (4 * k + 4) env.shape.memory (omega (arith, fits, sized.memory))) in
       record {
@@ -774,13 +774,13 @@ module _ (program : List Insn) (env : Setting) (last : ℕ) (solid : (k : ℕ) �
       }
   also_runs false y e target first z J d lets u w s steady at_w sized nodes le few ours fits free h stands room before =
       let v = value e z env J u in
-      let p = register_number (place d) in
+      let p = register_number (place_register d) in
       let number : p ≡ 7 + d = place_number d free in
       let writable : (p == 10) ≡ false = ap (λ (n : ℕ). n == 10) number
       ∙ ne_eqb (7 + d) 10 (λ q. omega (arith, q, free)) in
       let code = term_code e z J d Value in
-      let back = copy R0 (place d) ∷ assign_code target ∷ [] in
-      let rest = copy (place d) R0 ∷ (first ++ back) in
+      let back = copy R0 (place_register d) ∷ assign_code target ∷ [] in
+      let rest = copy (place_register d) R0 ∷ (first ++ back) in
       let len : length (code ++ rest) ≡ length code + (1 + (length first + 2)) = omega
       (arith, length-append code rest, length-append first back) in
       let c = term_runs program env last solid e z J d lets Value u s sized nodes (omega (arith, le, few)) le fits h
@@ -788,9 +788,9 @@ module _ (program : List Insn) (env : Setting) (last : ℕ) (solid : (k : ℕ) �
       let t = c.new in
       let at_rest = here_is program env last solid t _ rest c.slot
       (stands_back program s.frame.slot code rest stands) in
-      let t1 = put t (t.frame.slot + 1) (place d) (Num v) in
+      let t1 = put t (t.frame.slot + 1) (place_register d) (Num v) in
       let e1 : step program env t ≡ Ok (Running t1) = copies program env t (t.frame.slot + 1)
-      (place d) R0 v at_rest.0 refl (solid _ (omega (arith, len, room, c.slot))) c.fact.r0 c.fact.small writable in
+      (place_register d) R0 v at_rest.0 refl (solid _ (omega (arith, len, room, c.slot))) c.fact.r0 c.fact.small writable in
       let h1 : Holds env lets u t1 = holds_free env lets d v u t (t.frame.slot + 1) le free
       (still_holds env lets d u s t le h c.fact.same) in
       let f = before t1 h1 (stands_front program t1.frame.slot first back at_rest.1)
@@ -803,7 +803,7 @@ module _ (program : List Insn) (env : Setting) (last : ℕ) (solid : (k : ℕ) �
       ∙ put_same t.frame.registers p (Num v) in
       let x1 = put x (x.frame.slot + 1) R0 (Num v) in
       let e2 : step program env x ≡ Ok (Running x1) = copies program env x (x.frame.slot + 1) R0
-      (place d) v at_back.0 refl (solid _ (omega (arith, len, room, c.slot, f.slot))) kept c.fact.small refl in
+      (place_register d) v at_back.0 refl (solid _ (omega (arith, len, room, c.slot, f.slot))) kept c.fact.small refl in
       let g = assign_runs target z lets d v w x1 sized le few ours (put_same x.frame.registers 0 (Num v)) c.fact.small
       (holds_put env lets w x (x.frame.slot + 1) v R0 (omega arith) f.fact.holds) at_back.1
       (omega (arith, len, room, c.slot, f.slot)) in
@@ -833,21 +833,21 @@ module _ (program : List Insn) (env : Setting) (last : ℕ) (solid : (k : ℕ) �
 
   -- a local that is changed in its place
   change_runs : (target : Target) (e : Term) (insn : Insn) (z : Sizes) (J : List ℕ) (d lets : ℕ) (u : NodeState)
-      (s : MachineState) → change_of target e z J ≡ Some insn → IsSized z env → All (λ j. j < z.nodes) J → lets ≤ d
+      (s : MachineState) → changing_insn target e z J ≡ Some insn → IsSized z env → All (λ j. j < z.nodes) J → lets ≤ d
       → d ≤ 3 → TargetFits target z.memory lets → Fits e z (length J) lets d → Holds env lets u s
       → Stands program s.frame.slot (insn ∷ []) → s.frame.slot + 1 ≤ last
       → Leads s (insn ∷ []) (Assigned env lets d (assigned target (value e z env J u) u) s)
   change_runs (ToLocal k) (Binary' (Compute op) p a q b) insn z J d lets u s is sized nodes le few ours fits h stands
       room =
       let c = constant_number b z J in
-      let act = i.Alu (alu_of op) W32 (place k) (operand.Imm (cast_signed w32 c)) in
+      let act = i.Alu (alu_op_of op) W32 (place_register k) (operand.Imm (cast_signed w32 c)) in
       let test = is_local a k && is_constant b in
       elim (cases_Bool test) [
         | inl so ↦
             let parts = and_parts (is_local a k) (is_constant b) so in
             let same : act ≡ insn = same_Some act insn (sym (cond-true test (Some act) None so) ∙ is) in
             let small : k < 3 = omega (arith, ours, le, few) in
-            let reg = register_number (place k) in
+            let reg = register_number (place_register k) in
             let number : reg ≡ 7 + k = place_number k small in
             let writable : (reg == 10) ≡ false = ap (λ (n : ℕ). n == 10) number
             ∙ ne_eqb (7 + k) 10 (λ e. omega (arith, e, small)) in
@@ -857,10 +857,10 @@ module _ (program : List Insn) (env : Setting) (last : ℕ) (solid : (k : ℕ) �
             let from : get s.frame.registers reg ≡ Some (Num x) = ap (get s.frame.registers) number ∙ h.locals k ours in
             let v = apply op x c in
             let raw = cast_unsigned w64 (cast_signed w32 c) in
-            let s1 = put s (s.frame.slot + 1) (place k) (Num v) in
+            let s1 = put s (s.frame.slot + 1) (place_register k) (Num v) in
             let here : insn_at program s.frame.slot ≡ Some act = stands.0 ∙ ap (λ (y : Insn). Some y) (sym same) in
             let e1 : step program env s ≡ Ok (Running s1) = operates_in program env op s (s.frame.slot + 1) x c raw
-            (place k) (operand.Imm (cast_signed w32 c)) here refl (solid _ room) from refl writable (imm_low c low_c)
+            (place_register k) (operand.Imm (cast_signed w32 c)) here refl (solid _ room) from refl writable (imm_low c low_c)
             (h.small k ours) low_c in
             let means : v ≡ apply op (value a z env J u) (value b z env J u) =
             ap (λ (y : ℕ). apply op y c) (sym (local_is a k z J u parts.0))
@@ -884,14 +884,14 @@ module _ (program : List Insn) (env : Setting) (last : ℕ) (solid : (k : ℕ) �
   change_runs target e insn z J d lets u s is sized nodes le few ours fits h stands room = absurd (none-some insn is)
 
   one_runs : (found : Option Insn) (target : Target) (e : Term) (z : Sizes) (J : List ℕ) (d lets : ℕ) (u : NodeState)
-      (s : MachineState) → change_of target e z J ≡ found → IsSized z env → All (λ j. j < z.nodes) J → lets ≤ d
+      (s : MachineState) → changing_insn target e z J ≡ found → IsSized z env → All (λ j. j < z.nodes) J → lets ≤ d
       → d ≤ 3 → TargetFits target z.memory lets → Fits e z (length J) lets d → Holds env lets u s
-      → Stands program s.frame.slot (one_code found (given_code (source_of e z J) target (term_code e z J d Value)))
-      → s.frame.slot + length (one_code found (given_code (source_of e z J) target (term_code e z J d Value))) ≤ last
-      → Leads s (one_code found (given_code (source_of e z J) target (term_code e z J d Value)))
+      → Stands program s.frame.slot (one_code found (given_code (term_source e z J) target (term_code e z J d Value)))
+      → s.frame.slot + length (one_code found (given_code (term_source e z J) target (term_code e z J d Value))) ≤ last
+      → Leads s (one_code found (given_code (term_source e z J) target (term_code e z J d Value)))
       (Assigned env lets d (assigned target (value e z env J u) u) s)
   one_runs None target e z J d lets u s is sized nodes le few ours fits h stands room =
-      given_runs (source_of e z J) target e z J d lets u s (source_is program env last solid e z J lets d u
+      given_runs (term_source e z J) target e z J d lets u s (source_is program env last solid e z J lets d u
       sized nodes fits) sized nodes le few ours fits h stands room
   one_runs (Some insn) target e z J d lets u s is sized nodes le few ours fits h stands room =
       change_runs target e insn z J d lets u s is sized nodes le few ours fits h stands room
@@ -902,13 +902,13 @@ module _ (program : List Insn) (env : Setting) (last : ℕ) (solid : (k : ℕ) �
       → s.frame.slot + length (assignment_code a z J d) ≤ last
       → Leads s (assignment_code a z J d) (Assigned env lets d (all_assigned a z env J u) s)
   assignment_runs (One target e) z J d lets u s sized nodes le few fits h stands room =
-      one_runs (change_of target e z J) target e z J d lets u s refl sized nodes le few fits.0 fits.1 h stands room
+      one_runs (changing_insn target e z J) target e z J d lets u s refl sized nodes le few fits.0 fits.1 h stands room
   assignment_runs (Also' p front target e) z J d lets u s sized nodes le few fits h stands room =
       let behind = depth_behind (is_steady e) d in
       let w = all_assigned front z env J u in
       let more : d ≤ behind = behind_more (is_steady e) d in
       let deep : behind ≤ 3 = behind_few (is_steady e) d few fits.2 in
-      also_runs (is_steady e) (source_of e z J) e target (assignment_code front z J behind) z J d lets u w s refl
+      also_runs (is_steady e) (term_source e z J) e target (assignment_code front z J behind) z J d lets u w s refl
       (source_is program env last solid e z J lets d w sized nodes fits.1) sized nodes le few fits.0 fits.1
       fits.2 h stands room
       (λ t k st l. assignment_runs front z J behind lets u t sized nodes (omega (arith, le, more)) deep fits.3 k st l)
@@ -931,19 +931,19 @@ module _ (program : List Insn) (env : Setting) (last : ℕ) (solid : (k : ℕ) �
       let codes = send_codes (FromLocal d) z.nodes in
       let end = sent_below z.nodes v u in
       let deep : d < 3 = free refl in
-      let number : register_number (place d) ≡ 7 + d = place_number d deep in
+      let number : register_number (place_register d) ≡ 7 + d = place_number d deep in
       stored_runs e z J d d codes u s (Holds env d end) sized nodes few deep fits h stands room
       (λ t to has st l.
-      let t1 = put t to (place d) (Num v) in
+      let t1 = put t to (place_register d) (Num v) in
       let h1 = still_holds env d d u s t (omega arith) h has.same in
       let h2 : Holds env d u t1 = holds_free env d d v u t to (omega arith) deep h1 in
       let kept : get t1.frame.registers (7 + d) ≡ Some (Num v) = ap (get t1.frame.registers) (sym number)
-      ∙ put_same t.frame.registers (register_number (place d)) (Num v) in
+      ∙ put_same t.frame.registers (register_number (place_register d)) (Num v) in
       gets program env last solid t1 _ _ _ _ (Sending env d end t1) (Holds env d end) refl (omega arith)
       (λ x k. k.holds)
       (sends_run (FromLocal d) d v z.nodes u t1 t1 has.small (omega (arith, sized.nodes)) (near_self t1) h2 st l
       (λ x near here l2. record {
-        fetched = copies program env x (x.frame.slot + 1) R2 (place d) v here refl (solid _ l2)
+        fetched = copies program env x (x.frame.slot + 1) R2 (place_register d) v here refl (solid _ l2)
             (ap (get x.frame.registers) number ∙ near.registers (7 + d) (omega arith) ∙ kept) has.small refl;
         small = has.small;
       })))
@@ -953,24 +953,24 @@ module _ (program : List Insn) (env : Setting) (last : ℕ) (solid : (k : ℕ) �
   -- a found number goes to place d
   found_placed : (x : Source) (z : Sizes) (d v : ℕ) (rest : List Insn) (u : NodeState) (s : MachineState)
       (P : MachineState → Type 0) → is_found x ≡ true → IsAt z d u x v → IsSized z env → d < 3 → Holds env d u s
-      → Stands program s.frame.slot (get_code (place d) x ∷ rest)
-      → s.frame.slot + length (get_code (place d) x ∷ rest) ≤ last
+      → Stands program s.frame.slot (get_code (place_register d) x ∷ rest)
+      → s.frame.slot + length (get_code (place_register d) x ∷ rest) ≤ last
       → ((t : MachineState) → Holds env (d + 1) (with_local d v u) t → Stands program t.frame.slot rest
       → t.frame.slot + length rest ≤ last → Leads t rest P)
-      → Leads s (get_code (place d) x ∷ rest) P
+      → Leads s (get_code (place_register d) x ∷ rest) P
   found_placed x z d v rest u s P found is sized small h stands room next =
-      let number : register_number (place d) ≡ 7 + d = place_number d small in
-      let writable : (register_number (place d) == 10) ≡ false = ap (λ (n : ℕ). n == 10) number
+      let number : register_number (place_register d) ≡ 7 + d = place_number d small in
+      let writable : (register_number (place_register d) == 10) ≡ false = ap (λ (n : ℕ). n == 10) number
       ∙ ne_eqb (7 + d) 10 (λ e. omega (arith, e, small)) in
-      let f = get_steps program env last solid (place d) x z d v u s writable found is sized (omega (arith, small)) h
+      let f = get_steps program env last solid (place_register d) x z d v u s writable found is sized (omega (arith, small)) h
       stands.0 (omega (arith, room)) in
-      let t = put s (s.frame.slot + 1) (place d) (Num v) in
+      let t = put s (s.frame.slot + 1) (place_register d) (Num v) in
       let h1 : Holds env (d + 1) (with_local d v u) t = holds_local env d (d + 1) d v u s (s.frame.slot + 1) small
       (λ j lt other. omega arith) f.small h in
       let g = next t h1 stands.1 (omega (arith, room)) in
       record {
         new = g.new;
-        run = chain program env s t g.new 1 (length rest) (length (get_code (place d) x ∷ rest))
+        run = chain program env s t g.new 1 (length rest) (length (get_code (place_register d) x ∷ rest))
             (once program env s t f.fetched) g.run
             (omega arith);
         slot = omega (arith, g.slot);
@@ -995,7 +995,7 @@ module _ (program : List Insn) (env : Setting) (last : ℕ) (solid : (k : ℕ) �
       let v = value e z env J u in
       stored_runs e z J d d rest u s P sized nodes few small fits h stands room
       (λ t to has st l.
-      let t1 = put t to (place d) (Num v) in
+      let t1 = put t to (place_register d) (Num v) in
       let h1 = still_holds env d d u s t (omega arith) h has.same in
       let h2 : Holds env (d + 1) (with_local d v u) t1 = holds_local env d (d + 1) d v u t to small
       (λ j lt other. omega arith) has.small h1 in
@@ -1006,15 +1006,15 @@ module _ (program : List Insn) (env : Setting) (last : ℕ) (solid : (k : ℕ) �
   to_runs : (constant : Bool) (e k : Term) (z : Sizes) (J : List ℕ) (d : ℕ) (u : NodeState) (s : MachineState)
       → is_constant k ≡ constant → IsSized z env → All (λ j. j < z.nodes) J → d ≤ 3 → HasPlace constant d
       → Fits e z (length J) d d → Fits k z (length J) d (depth_behind constant d) → Holds env d u s
-      → Stands program s.frame.slot (if constant then send_to_constant_code (source_of e z J) (constant_number k z J)
+      → Stands program s.frame.slot (if constant then send_to_constant_code (term_source e z J) (constant_number k z J)
       z.nodes (term_code e z J d Value) else term_code e z J d Value
-      ++ (copy (place d) R0 ∷ (term_code k z J (d + 1) Value ++ send_to_code d z.nodes)))
-      → s.frame.slot + length (if constant then send_to_constant_code (source_of e z J) (constant_number k z J)
+      ++ (copy (place_register d) R0 ∷ (term_code k z J (d + 1) Value ++ send_to_code d z.nodes)))
+      → s.frame.slot + length (if constant then send_to_constant_code (term_source e z J) (constant_number k z J)
       z.nodes (term_code e z J d Value) else term_code e z J d Value
-      ++ (copy (place d) R0 ∷ (term_code k z J (d + 1) Value ++ send_to_code d z.nodes))) ≤ last
-      → Leads s (if constant then send_to_constant_code (source_of e z J) (constant_number k z J)
+      ++ (copy (place_register d) R0 ∷ (term_code k z J (d + 1) Value ++ send_to_code d z.nodes))) ≤ last
+      → Leads s (if constant then send_to_constant_code (term_source e z J) (constant_number k z J)
       z.nodes (term_code e z J d Value) else term_code e z J d Value
-      ++ (copy (place d) R0 ∷ (term_code k z J (d + 1) Value ++ send_to_code d z.nodes)))
+      ++ (copy (place_register d) R0 ∷ (term_code k z J (d + 1) Value ++ send_to_code d z.nodes)))
       (Holds env d (after (SendTo e k) z env d J u))
   to_runs true e k z J d u s is sized nodes few free fits k_fits h stands room =
       constant_runs e k z J d u s is sized nodes few fits h stands room
@@ -1024,11 +1024,11 @@ module _ (program : List Insn) (env : Setting) (last : ℕ) (solid : (k : ℕ) �
       let code = term_code k z J (d + 1) Value in
       let back = send_to_code d z.nodes in
       let end = if nat_lt x z.nodes then with_sent x v u else u in
-      let number : register_number (place d) ≡ 7 + d = place_number d free in
+      let number : register_number (place_register d) ≡ 7 + d = place_number d free in
       let len : length (code ++ back) ≡ length code + 4 = length-append code back in
       stored_runs e z J d d (code ++ back) u s (Holds env d end) sized nodes few free fits h stands room
       (λ t to has st l.
-      let t1 = put t to (place d) (Num v) in
+      let t1 = put t to (place_register d) (Num v) in
       let h1 = still_holds env d d u s t (omega arith) h has.same in
       let h2 : Holds env d u t1 = holds_free env d d v u t to (omega arith) free h1 in
       let c = term_runs program env last solid k z J (d + 1) d Value u t1 sized nodes few (omega arith) k_fits h2
@@ -1037,7 +1037,7 @@ module _ (program : List Insn) (env : Setting) (last : ℕ) (solid : (k : ℕ) �
       let there = here_is program env last solid w _ back c.slot (stands_back program to code back st) in
       let kept : get w.frame.registers (7 + d) ≡ Some (Num v) =
       c.fact.same.registers (7 + d) (omega arith) (omega arith) ∙ ap (get t1.frame.registers) (sym number)
-      ∙ put_same t.frame.registers (register_number (place d)) (Num v) in
+      ∙ put_same t.frame.registers (register_number (place_register d)) (Num v) in
       let h3 = still_holds env d (d + 1) u t1 w (omega arith) h2 c.fact.same in
       let g = send_to_runs d v x z u w sized free has.small c.fact.small (record { holds = h3; place = kept })
       c.fact.r0 there (omega (arith, len, l, c.slot)) in
@@ -1108,7 +1108,7 @@ module _ (program : List Insn) (env : Setting) (last : ℕ) (solid : (k : ℕ) �
   block_runs (Let' e p rest) z J d u s sized nodes few fits h stands room =
       let u1 = with_local d (value e z env J u) u in
       let end = after rest z env (d + 1) J u1 in
-      placed_runs (source_of e z J) e z J d (block_code rest z J (d + 1)) u s (Holds env d end)
+      placed_runs (term_source e z J) e z J d (block_code rest z J (d + 1)) u s (Holds env d end)
       (source_is program env last solid e z J d d u sized nodes fits.1) sized nodes few fits.0 fits.1 h stands room
       (λ t h2 st l.
       gets program env last solid t _ _ _ _ (Holds env (d + 1) end) (Holds env d end) refl (omega arith)
@@ -1147,7 +1147,7 @@ module _ (program : List Insn) (env : Setting) (last : ℕ) (solid : (k : ℕ) �
       (subst (λ (n : ℕ). BlockFits body z n d) more fits) k st l)
   block_runs (SendAll e) z J d u s sized nodes few fits h stands room =
       let v = value e z env J u in
-      send_all_runs (source_of e z J) e z J d u s (source_is program env last solid e z J d d u sized nodes fits.1)
+      send_all_runs (term_source e z J) e z J d u s (source_is program env last solid e z J d d u sized nodes fits.1)
       sized nodes few
       (λ q. computed_place (is_operand e) d (sym (found_same e z J) ∙ q) fits.0) fits.1 h stands room
   block_runs (SendTo e k) z J d u s sized nodes few fits h stands room =

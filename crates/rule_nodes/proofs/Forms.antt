@@ -26,7 +26,7 @@ use Rattle.clock_nodes.proofs.Forms.{put, at, called, storing}
 use Rattle.rule_nodes.specs.declared.syntax.Operation.{Operation}
 use Rattle.rule_nodes.specs.declared.syntax.Operation.TheVariants.{Sum, Difference, Product, Quotient, Remainder}
 use Rattle.rule_nodes.specs.Meaning.{apply}
-use Rattle.rule_nodes.specs.Code.{set_number, copy, alu_of}
+use Rattle.rule_nodes.specs.Code.{set_number, copy, alu_op_of}
 use Rattle.rule_nodes.proofs.Small.{low, moved, said, results}
 
 module _ (program : List Insn) (env : Setting) where
@@ -49,7 +49,7 @@ module _ (program : List Insn) (env : Setting) where
       rw (here, next, there, e, free, same) refl
 
   pub operates : (op : Operation) (s : MachineState) (to a b raw : ℕ) (src : Operand)
-      → insn_at program s.frame.slot ≡ Some (i.Alu (alu_of op) W32 R0 src) → s.frame.slot + 1 ≡ to
+      → insn_at program s.frame.slot ≡ Some (i.Alu (alu_op_of op) W32 R0 src) → s.frame.slot + 1 ≡ to
       → BeginsAt program to → get s.frame.registers 0 ≡ Some (Num a) → operand_of s.frame src ≡ Ok (Num raw)
       → raw % 2 ^ 32 ≡ b → a < 2 ^ 32 → b < 2 ^ 32
       → step program env s ≡ Ok (Running (put s to R0 (Num (apply op a b))))
@@ -66,7 +66,7 @@ module _ (program : List Insn) (env : Setting) where
 
   -- in any register but r10
   pub operates_in : (op : Operation) (s : MachineState) (to a b raw : ℕ) (dst : Reg) (src : Operand)
-      → insn_at program s.frame.slot ≡ Some (i.Alu (alu_of op) W32 dst src) → s.frame.slot + 1 ≡ to
+      → insn_at program s.frame.slot ≡ Some (i.Alu (alu_op_of op) W32 dst src) → s.frame.slot + 1 ≡ to
       → BeginsAt program to → get s.frame.registers (register_number dst) ≡ Some (Num a)
       → operand_of s.frame src ≡ Ok (Num raw) → (register_number dst == 10) ≡ false
       → raw % 2 ^ 32 ≡ b → a < 2 ^ 32 → b < 2 ^ 32

@@ -29,10 +29,10 @@ use Rattle.rule_nodes.specs.declared.syntax.Assignment.{Assignment}
 use Rattle.rule_nodes.specs.declared.syntax.Assignment.TheVariants.{One, Also'}
 use Rattle.rule_nodes.specs.declared.syntax.Statement.{Statement}
 use Rattle.rule_nodes.specs.declared.syntax.Statement.TheVariants.{Let', For', SendAll}
-use Rattle.rule_nodes.specs.Meaning.{operate}
-use Rattle.rule_nodes.specs.Operands.{is_constant, is_local, is_operand, is_steady, constant_number, depth_behind, fetched_source, source_of, IsWithin}
+use Rattle.rule_nodes.specs.Meaning.{apply_operator}
+use Rattle.rule_nodes.specs.Operands.{is_constant, is_local, is_operand, is_steady, constant_number, depth_behind, fetched_source, term_source, IsSourceWithin}
 use Rattle.rule_nodes.specs.Fits.{Fits, AssignmentFits, BlockFits}
-use Rattle.rule_nodes.specs.Code.{place, set_number, set_node, copy, mirror, jump_on, jump_by, jump_at, jump_place, alu_of, far_of, when_of, beyond, behind_test, by_value, truth_code, get_code, load_code, operand_code, by_operator, left_code, two_code, binary_code, message_code, message_by, count_codes, counted_code, count_code, term_code, stored_code, let_code, assign_code, set_code, given_code, change_of, one_code, also_code, send_codes, send_code, send_all_code, passed_code, send_to_constant_code, each_code, assignment_code, block_code}
+use Rattle.rule_nodes.specs.Code.{place_register, set_number, set_node, copy, mirror, jump_on, jump_by, jump_at, jump_place, alu_op_of, far_of, when_of, beyond_purpose, behind_test, by_value, truth_code, get_code, load_code, operand_code, by_operator, left_code, two_code, binary_code, message_code, message_by, count_codes, counted_code, count_code, term_code, stored_code, let_code, assign_code, set_code, given_code, changing_insn, one_code, also_code, send_codes, send_code, send_all_code, passed_code, send_to_constant_code, each_code, assignment_code, block_code}
 use Rattle.rule_nodes.specs.Refusals.{IsUnmade}
 use Rattle.rule_nodes.proofs.Sources.{is_found}
 
@@ -51,15 +51,15 @@ error_longer (Err e) m n le h = longer m n e le h
 -- ---- words
 
 fetched_within : (t : Term) (z : Sizes) (loops lets d : ℕ) → z.memory ≤ 256 → Fits t z loops lets d
-    → IsWithin (fetched_source t) 256
+    → IsSourceWithin (fetched_source t) 256
 fetched_within (Word k) z loops lets d few fits = omega (arith, few, fits)
 fetched_within t z loops lets d few fits = tt
 
 pub source_within : (t : Term) (z : Sizes) (J : List ℕ) (loops lets d : ℕ) → z.memory ≤ 256 → Fits t z loops lets d
-    → IsWithin (source_of t z J) 256
+    → IsSourceWithin (term_source t z J) 256
 source_within t z J loops lets d few fits =
     let c = Constant (constant_number t z J) in
-    let P : Source → Type 0 = λ x. IsWithin x 256 in
+    let P : Source → Type 0 = λ x. IsSourceWithin x 256 in
     elim (cases_Bool (is_constant t)) [
       | inl so ↦ subst P (sym (cond-true (is_constant t) c (fetched_source t) so)) tt
       | inr other ↦ subst P (sym (cond-false (is_constant t) c (fetched_source t) other))
@@ -73,7 +73,7 @@ value_long Value code = omega arith
 value_long (Jump when far) code = omega (arith, length-append code (jump_at (jump_on when NotEqual) 0 far ∷ []))
 
 pub test_long : (purpose : Purpose) (code : List Insn) → length code + far_of purpose
-    ≤ length (behind_test purpose code) + beyond purpose
+    ≤ length (behind_test purpose code) + beyond_purpose purpose
 test_long Value code = omega (arith, length-append code truth_code)
 test_long (Jump when far) code = omega arith
 
@@ -91,7 +91,7 @@ constant_short (Binary' o p a q b) z J d e =
     let B = cond-true (is_constant b) (Constant (constant_number b z J)) (fetched_source b) parts.1 in
     let left = term_code a z J d Value in
     let right = term_code b z J _ Value in
-    ap (λ (y : Source). length (binary_code y (source_of a z J) o d Value left right)) B
+    ap (λ (y : Source). length (binary_code y (term_source a z J) o d Value left right)) B
     ∙ ap (λ (x : Source). length (binary_code (Constant (constant_number b z J)) x o d Value left right)) A
 constant_short t z J d e = absurd (let no : false ≡ true = e in cc)
 
@@ -101,7 +101,7 @@ fetched_short (Local k) z J d e = refl
 fetched_short (Word k) z J d e = refl
 fetched_short t z J d e = absurd (let no : false ≡ true = e in cc)
 
-pub found_short : (t : Term) (z : Sizes) (J : List ℕ) (d : ℕ) → is_found (source_of t z J) ≡ true
+pub found_short : (t : Term) (z : Sizes) (J : List ℕ) (d : ℕ) → is_found (term_source t z J) ≡ true
     → length (term_code t z J d Value) ≡ 1
 found_short t z J d e =
     elim (cases_Bool (is_constant t)) [
@@ -111,16 +111,16 @@ found_short t z J d e =
     ]
 
 operator_long : (o : Operator) (src : Operand) (purpose : Purpose) (code : List Insn)
-    → length code + 1 ≤ length (by_operator o src purpose code) + beyond purpose
+    → length code + 1 ≤ length (by_operator o src purpose code) + beyond_purpose purpose
 operator_long (Compute op) src purpose code =
-    let act = i.Alu (alu_of op) W32 R0 src ∷ [] in
+    let act = i.Alu (alu_op_of op) W32 R0 src ∷ [] in
     omega (arith, value_long purpose (code ++ act), length-append code act)
 operator_long (Compare r) src purpose code =
     let jump = jump_by (jump_on (when_of purpose) r) src (far_of purpose) ∷ [] in
     omega (arith, test_long purpose (code ++ jump), length-append code jump)
 
 right_long : (o : Operator) (y : Source) (purpose : Purpose) (left : List Insn)
-    → length left + 1 ≤ length (by_operator o (operand_code y) purpose (left ++ load_code y)) + beyond purpose
+    → length left + 1 ≤ length (by_operator o (operand_code y) purpose (left ++ load_code y)) + beyond_purpose purpose
 right_long o y purpose left = omega (
   arith,
   operator_long o (operand_code y) purpose (left ++ load_code y),
@@ -128,7 +128,7 @@ right_long o y purpose left = omega (
 )
 
 left_long : (o : Operator) (x : Source) (purpose : Purpose) (right : List Insn)
-    → length right + 1 ≤ length (left_code o x purpose right) + beyond purpose
+    → length right + 1 ≤ length (left_code o x purpose right) + beyond_purpose purpose
 left_long (Compute op) x purpose right =
     let back = copy R1 R0 ∷ get_code R0 x ∷ [] in
     omega (arith, operator_long (Compute op) (operand.Reg R1) purpose (right ++ back), length-append right back)
@@ -137,8 +137,8 @@ left_long (Compare r) x purpose right = right_long (Compare (mirror r)) x purpos
 -- a side whose number is found has one instruction
 pub sides_long : (y x : Source) (o : Operator) (d : ℕ) (purpose : Purpose) (left right : List Insn)
     → (is_found x ≡ true → length left ≡ 1) → (is_found y ≡ true → length right ≡ 1)
-    → (length left ≤ length (binary_code y x o d purpose left right) + beyond purpose)
-    × (length right ≤ length (binary_code y x o d purpose left right) + beyond purpose)
+    → (length left ≤ length (binary_code y x o d purpose left right) + beyond_purpose purpose)
+    × (length right ≤ length (binary_code y x o d purpose left right) + beyond_purpose purpose)
 sides_long (Constant c) (FromLocal k) (Compare r) d purpose left right f g =
     let a = f refl in
     let b = g refl in
@@ -152,7 +152,7 @@ sides_long (Constant c) (FromLocal k) (Compute op) d purpose left right f g =
 sides_long (Constant c) (Constant e) o d purpose left right f g =
     let a = f refl in
     let b = g refl in
-    let l = value_long purpose (set_number R0 (operate o e c) ∷ []) in
+    let l = value_long purpose (set_number R0 (apply_operator o e c) ∷ []) in
     (omega arith, omega arith)
 sides_long (Constant c) (FromWord k) o d purpose left right f g =
     let b = g refl in
@@ -183,8 +183,8 @@ sides_long Computed (FromWord k) o d purpose left right f g =
     let l = left_long o (FromWord k) purpose right in
     (omega arith, omega arith)
 sides_long Computed Computed o d purpose left right f g =
-    let back = copy R1 R0 ∷ copy R0 (place d) ∷ [] in
-    let rest = copy (place d) R0 ∷ (right ++ back) in
+    let back = copy R1 R0 ∷ copy R0 (place_register d) ∷ [] in
+    let rest = copy (place_register d) R0 ∷ (right ++ back) in
     let l = operator_long o (operand.Reg R1) purpose (two_code d left right) in
     let e1 = length-append left rest in
     let e2 = length-append right back in
@@ -214,7 +214,7 @@ cases_last n m le = elim (cases_lt m (suc n)) [
 one_count : (d m : ℕ) (test : ℕ → List Insn)
     → length (count_codes d test (suc m)) ≡ length (count_codes d test m) + (length (test m) + 1)
 one_count d m test =
-    let add = i.Alu Add W32 (place d) (operand.Imm (pos 1)) ∷ [] in
+    let add = i.Alu Add W32 (place_register d) (operand.Imm (pos 1)) ∷ [] in
     omega (arith, length-append (count_codes d test m) (test m ++ add), length-append (test m) add)
 
 pub counts_long : (d n m : ℕ) (test : ℕ → List Insn) → m ≤ n
@@ -232,7 +232,7 @@ pub test_in_counts : (d n m : ℕ) (test : ℕ → List Insn) → m < n
 test_in_counts d n m test lt = omega (arith, one_count d m test, counts_long d n (suc m) test (omega (arith, lt)))
 
 pub count_long : (d n : ℕ) (test : ℕ → List Insn) → length (count_code d n test) ≡ length (count_codes d test n) + 2
-count_long d n test = omega (arith, length-append (counted_code d n test) (copy R0 (place d) ∷ []))
+count_long d n test = omega (arith, length-append (counted_code d n test) (copy R0 (place_register d) ∷ []))
 
 -- ---- statements
 
@@ -259,8 +259,8 @@ also_long true d x target code first f =
     let e = length-append first (given_code x target code) in
     (omega arith, omega arith)
 also_long false d x target code first f =
-    let back = copy R0 (place d) ∷ assign_code target ∷ [] in
-    let e1 = length-append code (copy (place d) R0 ∷ (first ++ back)) in
+    let back = copy R0 (place_register d) ∷ assign_code target ∷ [] in
+    let e1 = length-append code (copy (place_register d) R0 ∷ (first ++ back)) in
     let e2 = length-append first back in
     (omega arith, omega arith)
 
@@ -274,7 +274,7 @@ send_all_long (Constant c) d n code some f = omega (arith, f refl, sends_long (C
 send_all_long (FromLocal k) d n code some f = omega (arith, f refl, sends_long (FromLocal k) n some)
 send_all_long (FromWord k) d n code some f = omega (arith, f refl, sends_long (FromWord k) n some)
 send_all_long Computed d n code some f =
-    omega (arith, length-append code (copy (place d) R0 ∷ send_codes (FromLocal d) n))
+    omega (arith, length-append code (copy (place_register d) R0 ∷ send_codes (FromLocal d) n))
 
 one_each : (m : ℕ) (body : ℕ → List Insn) → length (each_code body (suc m)) ≡ length (each_code body m) + length (body m)
 one_each m body = length-append (each_code body m) (body m)
@@ -300,29 +300,29 @@ passed_on (Err x) e m n le h is = subst (λ (y : CompileError). IsUnmade n y) (s
 
 pub message_part : (whole a a1 : Term) (p : _) (z : Sizes) (J : List ℕ) (d : ℕ) (purpose : Purpose)
     → whole ≡ Message' p a → a1 ≡ a
-    → length (term_code a1 z J d Value) + 0 ≤ length (term_code whole z J d purpose) + beyond purpose
+    → length (term_code a1 z J d Value) + 0 ≤ length (term_code whole z J d purpose) + beyond_purpose purpose
 message_part whole a a1 p z J d purpose e e1 =
     let code = term_code a z J d Value in
-    let l1 = message_long (source_of a z J) z.nodes code (found_short a z J d) in
-    let l2 = value_long purpose (message_by (source_of a z J) z.nodes code) in
+    let l1 = message_long (term_source a z J) z.nodes code (found_short a z J d) in
+    let l2 = value_long purpose (message_by (term_source a z J) z.nodes code) in
     rw (e, e1) (omega (arith, l1, l2))
 
 pub left_part : (whole a b a1 : Term) (p q : _) (o : Operator) (z : Sizes) (J : List ℕ) (d : ℕ) (purpose : Purpose)
     → whole ≡ Binary' o p a q b → a1 ≡ a
-    → length (term_code a1 z J d Value) + 0 ≤ length (term_code whole z J d purpose) + beyond purpose
+    → length (term_code a1 z J d Value) + 0 ≤ length (term_code whole z J d purpose) + beyond_purpose purpose
 left_part whole a b a1 p q o z J d purpose e e1 =
     let deep = depth_behind (is_operand a || is_operand b) d in
-    let l = sides_long (source_of b z J) (source_of a z J) o d purpose (term_code a z J d Value)
+    let l = sides_long (term_source b z J) (term_source a z J) o d purpose (term_code a z J d Value)
     (term_code b z J deep Value) (found_short a z J d) (found_short b z J deep) in
     rw (e, e1) (omega (arith, l.0))
 
 pub right_part : (whole a b a2 b2 b1 : Term) (p q : _) (o : Operator) (z : Sizes) (J : List ℕ) (d behind : ℕ)
     (found : Bool) (purpose : Purpose) → whole ≡ Binary' o p a q b → b1 ≡ b → behind ≡ depth_behind found d
     → found ≡ (is_operand a2 || is_operand b2) → a2 ≡ a → b2 ≡ b
-    → length (term_code b1 z J behind Value) + 0 ≤ length (term_code whole z J d purpose) + beyond purpose
+    → length (term_code b1 z J behind Value) + 0 ≤ length (term_code whole z J d purpose) + beyond_purpose purpose
 right_part whole a b a2 b2 b1 p q o z J d behind found purpose e e1 e2 e3 e4 e5 =
     let deep = depth_behind (is_operand a || is_operand b) d in
-    let l = sides_long (source_of b z J) (source_of a z J) o d purpose (term_code a z J d Value)
+    let l = sides_long (term_source b z J) (term_source a z J) o d purpose (term_code a z J d Value)
     (term_code b z J deep Value) (found_short a z J d) (found_short b z J deep) in
     let is : behind ≡ deep = e2 ∙ ap (λ (x : Bool). depth_behind x d)
     (e3 ∙ ap (λ (x : Term). is_operand x || is_operand b2) e4 ∙ ap (λ (x : Term). is_operand a || is_operand x) e5) in
@@ -330,24 +330,24 @@ right_part whole a b a2 b2 b1 p q o z J d behind found purpose e e1 e2 e3 e4 e5 
 
 pub left_within : (whole a b a1 : Term) (p q : _) (o : Operator) (z : Sizes) (J : List ℕ) (lets d : ℕ)
     → whole ≡ Binary' o p a q b → a1 ≡ a → z.memory ≤ 256 → Fits whole z (length J) lets d
-    → IsWithin (source_of a1 z J) 256
+    → IsSourceWithin (term_source a1 z J) 256
 left_within whole a b a1 p q o z J lets d e e1 few fits =
     let parts : Fits (Binary' o p a q b) z (length J) lets d =
     subst (λ (x : Term). Fits x z (length J) lets d) e fits in
-    subst (λ (x : Term). IsWithin (source_of x z J) 256) (sym e1) (source_within a z J (length J) lets d few parts.1)
+    subst (λ (x : Term). IsSourceWithin (term_source x z J) 256) (sym e1) (source_within a z J (length J) lets d few parts.1)
 
 pub right_within : (whole a b b1 : Term) (p q : _) (o : Operator) (z : Sizes) (J : List ℕ) (lets d : ℕ)
     → whole ≡ Binary' o p a q b → b1 ≡ b → z.memory ≤ 256 → Fits whole z (length J) lets d
-    → IsWithin (source_of b1 z J) 256
+    → IsSourceWithin (term_source b1 z J) 256
 right_within whole a b b1 p q o z J lets d e e1 few fits =
     let parts : Fits (Binary' o p a q b) z (length J) lets d =
     subst (λ (x : Term). Fits x z (length J) lets d) e fits in
-    subst (λ (x : Term). IsWithin (source_of x z J) 256) (sym e1)
+    subst (λ (x : Term). IsSourceWithin (term_source x z J) 256) (sym e1)
     (source_within b z J (length J) lets (depth_behind (is_operand a || is_operand b) d) few parts.2)
 
 pub test_part : (whole t t1 : Term) (p : _) (z : Sizes) (J J1 J2 : List ℕ) (d n : ℕ) (purpose : Purpose)
     → whole ≡ Count' p t → t1 ≡ t → J1 ≡ J ++ n ∷ [] → J2 ≡ J1 → n < z.nodes
-    → length (term_code t1 z J2 (d + 1) (Jump false 1)) + 1 ≤ length (term_code whole z J d purpose) + beyond purpose
+    → length (term_code t1 z J2 (d + 1) (Jump false 1)) + 1 ≤ length (term_code whole z J d purpose) + beyond_purpose purpose
 test_part whole t t1 p z J J1 J2 d n purpose e e1 e2 e3 lt =
     let test = λ (j : ℕ). term_code t z (J ++ j ∷ []) (d + 1) (Jump false 1) in
     let l1 = value_long purpose (count_code d z.nodes test) in
@@ -358,7 +358,7 @@ test_part whole t t1 p z J J1 J2 d n purpose e e1 e2 e3 lt =
 pub counts_part : (whole t : Term) (p : _) (z : Sizes) (J : List ℕ) (d n : ℕ) (purpose : Purpose) (new : List Insn)
     → whole ≡ Count' p t → n + 1 ≤ z.nodes
     → new ≡ count_codes d (λ j. term_code t z (J ++ j ∷ []) (d + 1) (Jump false 1)) (n + 1)
-    → length new ≤ length (term_code whole z J d purpose) + beyond purpose
+    → length new ≤ length (term_code whole z J d purpose) + beyond_purpose purpose
 counts_part whole t p z J d n purpose new e le e1 =
     let test = λ (j : ℕ). term_code t z (J ++ j ∷ []) (d + 1) (Jump false 1) in
     let l1 = value_long purpose (count_code d z.nodes test) in
@@ -372,16 +372,16 @@ local_changed : (a : Term) (k : ℕ) (op : Operation) (p q : _) (b : Term) (z : 
     → is_local a k ≡ true → is_constant b ≡ true → length (term_code (Binary' (Compute op) p a q b) z J d Value) ≡ 2
 local_changed (Local j) k op p q b z J d e f =
     let right = term_code b z J (depth_behind true d) Value in
-    ap (λ (y : Source). length (binary_code y (FromLocal j) (Compute op) d Value (copy R0 (place j) ∷ []) right))
+    ap (λ (y : Source). length (binary_code y (FromLocal j) (Compute op) d Value (copy R0 (place_register j) ∷ []) right))
     (cond-true (is_constant b) (Constant (constant_number b z J)) (fetched_source b) f)
 local_changed a k op p q b z J d e f = absurd (let no : false ≡ true = e in cc)
 
 -- a change in place has one instruction less than the number alone
 changed_long : (target : Target) (e : Term) (z : Sizes) (J : List ℕ) (d : ℕ) (insn : Insn)
-    → change_of target e z J ≡ Some insn → length (term_code e z J d Value) ≡ 2
+    → changing_insn target e z J ≡ Some insn → length (term_code e z J d Value) ≡ 2
 changed_long (ToLocal k) (Binary' (Compute op) p a q b) z J d insn is =
     let test = is_local a k && is_constant b in
-    let act = i.Alu (alu_of op) W32 (place k) (operand.Imm (cast_signed w32 (constant_number b z J))) in
+    let act = i.Alu (alu_op_of op) W32 (place_register k) (operand.Imm (cast_signed w32 (constant_number b z J))) in
     elim (cases_Bool test) [
       | inl so ↦
           let parts = and_parts (is_local a k) (is_constant b) so in
@@ -393,35 +393,35 @@ changed_long target e z J d insn is = absurd (none-some insn is)
 
 pub one_part : (whole : Assignment) (target : Target) (e : Term) (z : Sizes) (J : List ℕ) (d : ℕ)
     → whole ≡ One target e → length (term_code e z J d Value) + 0 ≤ length (assignment_code whole z J d) + 1
-one_part whole target e z J d is = rw is (by (change_of target e z J) refl)
+one_part whole target e z J d is = rw is (by (changing_insn target e z J) refl)
   where
-    by : (found : Option Insn) → change_of target e z J ≡ found → length (term_code e z J d Value) + 0
-        ≤ length (one_code found (given_code (source_of e z J) target (term_code e z J d Value))) + 1
-    by None same = omega (arith, given_long (source_of e z J) target (term_code e z J d Value) (found_short e z J d))
+    by : (found : Option Insn) → changing_insn target e z J ≡ found → length (term_code e z J d Value) + 0
+        ≤ length (one_code found (given_code (term_source e z J) target (term_code e z J d Value))) + 1
+    by None same = omega (arith, given_long (term_source e z J) target (term_code e z J d Value) (found_short e z J d))
     by (Some insn) same = omega (arith, changed_long target e z J d insn same)
 
 pub also_part : (whole front : Assignment) (p : _) (target : Target) (e : Term) (z : Sizes) (J : List ℕ) (d : ℕ)
     → whole ≡ Also' p front target e → length (term_code e z J d Value) + 0 ≤ length (assignment_code whole z J d) + 1
 also_part whole front p target e z J d is =
-    let l = also_long (is_steady e) d (source_of e z J) target (term_code e z J d Value)
+    let l = also_long (is_steady e) d (term_source e z J) target (term_code e z J d Value)
     (assignment_code front z J (depth_behind (is_steady e) d)) (found_short e z J d) in
     rw is (omega (arith, l.0))
 
 pub one_within : (whole : Assignment) (target : Target) (e : Term) (x : Source) (z : Sizes) (J : List ℕ) (lets d : ℕ)
-    → whole ≡ One target e → x ≡ source_of e z J → z.memory ≤ 256 → AssignmentFits whole z (length J) lets d
-    → IsWithin x 256
+    → whole ≡ One target e → x ≡ term_source e z J → z.memory ≤ 256 → AssignmentFits whole z (length J) lets d
+    → IsSourceWithin x 256
 one_within whole target e x z J lets d is same few fits =
     let parts : AssignmentFits (One target e) z (length J) lets d =
     subst (λ (y : Assignment). AssignmentFits y z (length J) lets d) is fits in
-    subst (λ (y : Source). IsWithin y 256) (sym same) (source_within e z J (length J) lets d few parts.1)
+    subst (λ (y : Source). IsSourceWithin y 256) (sym same) (source_within e z J (length J) lets d few parts.1)
 
 pub also_within : (whole front : Assignment) (p : _) (target : Target) (e : Term) (x : Source) (z : Sizes) (J : List ℕ)
-    (lets d : ℕ) → whole ≡ Also' p front target e → x ≡ source_of e z J → z.memory ≤ 256
-    → AssignmentFits whole z (length J) lets d → IsWithin x 256
+    (lets d : ℕ) → whole ≡ Also' p front target e → x ≡ term_source e z J → z.memory ≤ 256
+    → AssignmentFits whole z (length J) lets d → IsSourceWithin x 256
 also_within whole front p target e x z J lets d is same few fits =
     let parts : AssignmentFits (Also' p front target e) z (length J) lets d =
     subst (λ (y : Assignment). AssignmentFits y z (length J) lets d) is fits in
-    subst (λ (y : Source). IsWithin y 256) (sym same) (source_within e z J (length J) lets d few parts.1)
+    subst (λ (y : Source). IsSourceWithin y 256) (sym same) (source_within e z J (length J) lets d few parts.1)
 
 stored_long : (x : Source) (d : ℕ) (code rest : List Insn) → (is_found x ≡ true → length code ≡ 1)
     → (length code ≤ length (stored_code x d code rest) + 1) × (length rest ≤ length (stored_code x d code rest))
@@ -429,7 +429,7 @@ stored_long (Constant c) d code rest f = let one = f refl in (omega arith, omega
 stored_long (FromLocal k) d code rest f = let one = f refl in (omega arith, omega arith)
 stored_long (FromWord k) d code rest f = let one = f refl in (omega arith, omega arith)
 stored_long Computed d code rest f =
-    let l = length-append code (copy (place d) R0 ∷ rest) in
+    let l = length-append code (copy (place_register d) R0 ∷ rest) in
     (omega arith, omega arith)
 
 let_long : (e : Term) (z : Sizes) (J : List ℕ) (d : ℕ) (rest : List Insn)
@@ -437,17 +437,17 @@ let_long : (e : Term) (z : Sizes) (J : List ℕ) (d : ℕ) (rest : List Insn)
     × (length rest ≤ length (let_code e z J d rest))
 let_long (Count' p t) z J d rest =
     let test = λ (j : ℕ). term_code t z (J ++ j ∷ []) (d + 1) (Jump false 1) in
-    let l1 = length-append (counted_code d z.nodes test) (copy R0 (place d) ∷ []) in
+    let l1 = length-append (counted_code d z.nodes test) (copy R0 (place_register d) ∷ []) in
     let l2 = length-append (counted_code d z.nodes test) rest in
     (omega arith, omega arith)
-let_long e z J d rest = stored_long (source_of e z J) d (term_code e z J d Value) rest (found_short e z J d)
+let_long e z J d rest = stored_long (term_source e z J) d (term_code e z J d Value) rest (found_short e z J d)
 
 pub let_within : (whole rest : Statement) (e : Term) (p : _) (x : Source) (z : Sizes) (J : List ℕ) (d : ℕ)
-    → whole ≡ Let' e p rest → x ≡ source_of e z J → z.memory ≤ 256 → BlockFits whole z (length J) d → IsWithin x 256
+    → whole ≡ Let' e p rest → x ≡ term_source e z J → z.memory ≤ 256 → BlockFits whole z (length J) d → IsSourceWithin x 256
 let_within whole rest e p x z J d is same few fits =
     let parts : BlockFits (Let' e p rest) z (length J) d =
     subst (λ (b : Statement). BlockFits b z (length J) d) is fits in
-    subst (λ (y : Source). IsWithin y 256) (sym same) (source_within e z J (length J) d d few parts.1)
+    subst (λ (y : Source). IsSourceWithin y 256) (sym same) (source_within e z J (length J) d d few parts.1)
 
 passed_long : (x : Source) (j : ℕ) (code : List Insn) → (is_found x ≡ true → length code ≡ 1)
     → length code ≤ length (passed_code x j code)
@@ -458,17 +458,17 @@ passed_long Computed j code f = omega (arith, length-append code (send_code Comp
 
 pub passed_part : (e : Term) (z : Sizes) (J : List ℕ) (d j : ℕ) → j < z.nodes
     → length (term_code e z J d Value) + 0
-    ≤ length (send_to_constant_code (source_of e z J) j z.nodes (term_code e z J d Value)) + 1
+    ≤ length (send_to_constant_code (term_source e z J) j z.nodes (term_code e z J d Value)) + 1
 passed_part e z J d j lt =
-    let code = passed_code (source_of e z J) j (term_code e z J d Value) in
-    let l = passed_long (source_of e z J) j (term_code e z J d Value) (found_short e z J d) in
+    let code = passed_code (term_source e z J) j (term_code e z J d Value) in
+    let l = passed_long (term_source e z J) j (term_code e z J d Value) (found_short e z J d) in
     let there : (if nat_lt j z.nodes then code else []) ≡ code = cond-true (nat_lt j z.nodes) code [] (lt-ltb j z.nodes lt) in
     omega (arith, l, ap length there)
 
-pub passed_within : (e : Term) (x : Source) (z : Sizes) (J : List ℕ) (d : ℕ) → x ≡ source_of e z J → z.memory ≤ 256
-    → Fits e z (length J) d d → IsWithin x 256
+pub passed_within : (e : Term) (x : Source) (z : Sizes) (J : List ℕ) (d : ℕ) → x ≡ term_source e z J → z.memory ≤ 256
+    → Fits e z (length J) d d → IsSourceWithin x 256
 passed_within e x z J d same few fits =
-    subst (λ (y : Source). IsWithin y 256) (sym same) (source_within e z J (length J) d d few fits)
+    subst (λ (y : Source). IsSourceWithin y 256) (sym same) (source_within e z J (length J) d d few fits)
 
 pub let_value_part : (whole rest : Statement) (e : Term) (p : _) (z : Sizes) (J : List ℕ) (d : ℕ)
     → whole ≡ Let' e p rest → length (term_code e z J d Value) + 0 ≤ length (block_code whole z J d) + 1
@@ -486,13 +486,13 @@ let_rest_part whole rest rest1 e p z J d is same =
 pub sent_part : (e : Term) (z : Sizes) (J : List ℕ) (d : ℕ) → 1 ≤ z.nodes
     → length (term_code e z J d Value) + 0 ≤ length (block_code (SendAll e) z J d) + 1
 sent_part e z J d some =
-    let l = send_all_long (source_of e z J) d z.nodes (term_code e z J d Value) some (found_short e z J d) in
+    let l = send_all_long (term_source e z J) d z.nodes (term_code e z J d Value) some (found_short e z J d) in
     omega (arith, l)
 
-pub sent_within : (e : Term) (x : Source) (z : Sizes) (J : List ℕ) (d : ℕ) → x ≡ source_of e z J → z.memory ≤ 256
-    → BlockFits (SendAll e) z (length J) d → IsWithin x 256
+pub sent_within : (e : Term) (x : Source) (z : Sizes) (J : List ℕ) (d : ℕ) → x ≡ term_source e z J → z.memory ≤ 256
+    → BlockFits (SendAll e) z (length J) d → IsSourceWithin x 256
 sent_within e x z J d same few fits =
-    subst (λ (y : Source). IsWithin y 256) (sym same) (source_within e z J (length J) d d few fits.1)
+    subst (λ (y : Source). IsSourceWithin y 256) (sym same) (source_within e z J (length J) d d few fits.1)
 
 pub body_part : (whole b b1 : Statement) (p : _) (z : Sizes) (J J1 J2 : List ℕ) (d n : ℕ) → whole ≡ For' p b → b1 ≡ b
     → J1 ≡ J ++ n ∷ [] → J2 ≡ J1 → n < z.nodes → length (block_code b1 z J2 d) + 1 ≤ length (block_code whole z J d) + 1

@@ -13,8 +13,8 @@ use Rattle.rule_nodes.specs.declared.syntax.Term.{Term}
 use Rattle.rule_nodes.specs.declared.syntax.Term.TheVariants.{Count'}
 use Rattle.rule_nodes.specs.declared.syntax.Statement.{Statement}
 use Rattle.rule_nodes.specs.declared.syntax.Statement.TheVariants.{Nothing, Then', Let', Assign, If', For', SendAll, SendTo}
-use Rattle.rule_nodes.specs.Operands.{source_of}
-use Rattle.rule_nodes.specs.Code.{place, copy, counted_code, term_code, stored_code, let_code, if_code, is_nothing, each_code, block_code, tail_code, rule_code}
+use Rattle.rule_nodes.specs.Operands.{term_source}
+use Rattle.rule_nodes.specs.Code.{place_register, copy, counted_code, term_code, stored_code, let_code, if_code, is_nothing, each_code, block_code, tail_code, rule_code}
 use Rattle.rule_nodes.specs.Owners.{statements_in, jump_slots, test_slots, each_owners, owners_of}
 use Rattle.rule_nodes.proofs.Blocks.{nothing_here}
 
@@ -24,8 +24,8 @@ stored_split (Constant c) d code rest = omega arith
 stored_split (FromLocal k) d code rest = omega arith
 stored_split (FromWord k) d code rest = omega arith
 stored_split Computed d code rest =
-    let l = length-append code (copy (place d) R0 ∷ rest) in
-    let l0 = length-append code (copy (place d) R0 ∷ []) in
+    let l = length-append code (copy (place_register d) R0 ∷ rest) in
+    let l0 = length-append code (copy (place_register d) R0 ∷ []) in
     omega arith
 
 let_split : (e : Term) (z : Sizes) (J : List ℕ) (d : ℕ) (rest : List Insn)
@@ -35,7 +35,7 @@ let_split (Count' p t) z J d rest =
     let l = length-append code rest in
     let l0 = length-append code [] in
     omega arith
-let_split e z J d rest = stored_split (source_of e z J) d (term_code e z J d Value) rest
+let_split e z J d rest = stored_split (term_source e z J) d (term_code e z J d Value) rest
 
 if_long : (alone : Bool) (test : ℕ → List Insn) (a b : List Insn) → (alone ≡ true → length b ≡ 0)
     → length a + (if alone then 0 else 1) + length b ≤ length (if_code alone test a b)

@@ -13,8 +13,8 @@ use Rattle.rule_nodes.specs.declared.syntax.Comparison.{Comparison}
 use Rattle.rule_nodes.specs.declared.syntax.Comparison.TheVariants.{Equal, NotEqual, Less, AtMost, Greater, AtLeast}
 use Rattle.rule_nodes.specs.declared.syntax.Operator.{Operator}
 use Rattle.rule_nodes.specs.declared.syntax.Operator.TheVariants.{Compute, Compare}
-use Rattle.rule_nodes.specs.Meaning.{apply, compare, number_of, truth, operate}
-use Rattle.rule_nodes.specs.Code.{alu_of, cond_of, opposite, mirror, jump_on}
+use Rattle.rule_nodes.specs.Meaning.{apply, compare, bit_of, truth, apply_operator}
+use Rattle.rule_nodes.specs.Code.{alu_op_of, cond_of, opposite, mirror, jump_on}
 
 pub low : (v : ℕ) → v < 2 ^ 32 → v % 2 ^ 32 ≡ v
 low v h = mod-eq_of_lt h
@@ -62,7 +62,7 @@ apply_small Remainder a (suc b) f g = rw (ne_eqb (suc b) 0 (λ e. omega arith)) 
 
 -- of the right number only the low 32 bits count
 pub results : (op : Operation) (a b raw : ℕ) → a < 2 ^ 32 → b < 2 ^ 32 → raw % 2 ^ 32 ≡ b
-    → alu_result (alu_of op) W32 a raw ≡ apply op a b
+    → alu_result (alu_op_of op) W32 a raw ≡ apply op a b
 results Sum a b raw f g h = let e = low a f in rw (e, h) refl
 results Difference a b raw f g h = let e = low a f in rw (e, h) refl
 results Product a b raw f g h = let e = low a f in rw (e, h) refl
@@ -130,20 +130,20 @@ abbrev pub taken : Bool → ℕ → Bool
 taken true v = truth v
 taken false v = not (truth v)
 
-pub truth_of : (b : Bool) → truth (number_of b) ≡ b
+pub truth_of : (b : Bool) → truth (bit_of b) ≡ b
 truth_of true = refl
 truth_of false = refl
 
-pub number_small : (b : Bool) → number_of b < 2 ^ 32
+pub number_small : (b : Bool) → bit_of b < 2 ^ 32
 number_small true = omega arith
 number_small false = omega arith
 
-pub operate_small : (o : Operator) (a b : ℕ) → a < 2 ^ 32 → b < 2 ^ 32 → operate o a b < 2 ^ 32
+pub operate_small : (o : Operator) (a b : ℕ) → a < 2 ^ 32 → b < 2 ^ 32 → apply_operator o a b < 2 ^ 32
 operate_small (Compute op) a b f g = apply_small op a b f g
 operate_small (Compare r) a b f g = number_small (compare r a b)
 
 pub jump_compared : (when : Bool) (r : Comparison) (a b raw : ℕ) → a < 2 ^ 32 → raw % 2 ^ 32 ≡ b
-    → holds (cond_of (jump_on when r)) W32 a raw ≡ taken when (number_of (compare r a b))
+    → holds (cond_of (jump_on when r)) W32 a raw ≡ taken when (bit_of (compare r a b))
 jump_compared true r a b raw f h = compared_low r a b raw f h ∙ sym (truth_of (compare r a b))
 jump_compared false r a b raw f h =
     compared_low (opposite r) a b raw f h ∙ opposed r a b ∙ sym (ap not (truth_of (compare r a b)))

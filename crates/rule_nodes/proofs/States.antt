@@ -14,7 +14,7 @@ use Rattle.clock_nodes.proofs.Places.{Stands, stands_behind}
 use Rattle.clock_nodes.proofs.Forms.{put_other, call_keeps, put, at, called}
 use Rattle.rule_nodes.specs.declared.syntax.Sizes.{Sizes}
 use Rattle.rule_nodes.specs.Meaning.{NodeState}
-use Rattle.rule_nodes.specs.Code.{place}
+use Rattle.rule_nodes.specs.Code.{place_register}
 
 -- ---- places
 
@@ -27,7 +27,7 @@ pub stands_back : (program : List Insn) (slot : ℕ) (xs ys : List Insn) → Sta
     → Stands program (slot + length xs) ys
 stands_back program slot xs ys h = stands_behind program slot (slot + length xs) xs ys refl h
 
-pub place_number : (d : ℕ) → d < 3 → register_number (place d) ≡ 7 + d
+pub place_number : (d : ℕ) → d < 3 → register_number (place_register d) ≡ 7 + d
 place_number zero h = refl
 place_number (suc zero) h = refl
 place_number (suc (suc zero)) h = refl
@@ -90,7 +90,7 @@ same_call d s t to answer h = record {
 }
 
 -- a place at or above d is no place below it
-pub free_place : (d e : ℕ) → e < 3 → d ≤ e → (k : ℕ) → 5 < k → k < 7 + d → k ≢ register_number (place e)
+pub free_place : (d e : ℕ) → e < 3 → d ≤ e → (k : ℕ) → 5 < k → k < 7 + d → k ≢ register_number (place_register e)
 free_place d e small le k a b same = let n = place_number e small in omega arith
 
 -- ---- a state beside what the rule has made

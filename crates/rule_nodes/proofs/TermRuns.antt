@@ -39,10 +39,10 @@ use Rattle.rule_nodes.specs.declared.syntax.Source.{Source}
 use Rattle.rule_nodes.specs.declared.syntax.Source.TheVariants.{Constant, FromLocal, FromWord, Computed}
 use Rattle.rule_nodes.specs.declared.syntax.Term.{Term}
 use Rattle.rule_nodes.specs.declared.syntax.Term.TheVariants.{Number, Nodes, Faults, Modulus, Me, Coin, LoopNode, Local, Word, Message', Binary', Logical', Not', Choice', Count'}
-use Rattle.rule_nodes.specs.Meaning.{NodeState, value, word_at, apply, compare, number_of, truth, operate, combine, message_from, count_below}
-use Rattle.rule_nodes.specs.Operands.{is_constant, is_fetched, is_operand, constant_number, depth_behind, fetched_source, source_of}
+use Rattle.rule_nodes.specs.Meaning.{NodeState, value, word_at, apply, compare, bit_of, truth, apply_operator, combine, message_from, count_below}
+use Rattle.rule_nodes.specs.Operands.{is_constant, is_fetched, is_operand, constant_number, depth_behind, fetched_source, term_source}
 use Rattle.rule_nodes.specs.Fits.{HasPlace, Fits}
-use Rattle.rule_nodes.specs.Code.{place, set_number, copy, alu_of, cond_of, jump_on, jump_by, jump_at, beyond, truth_code, by_value, by_test, two_code, get_code, operand_code, load_code, jump_place, by_operator, left_code, binary_code, choice_code, if_code, decides, both_far, both_code, message_code, message_by, mirror, set_node, count_codes, counted_code, count_code, term_code}
+use Rattle.rule_nodes.specs.Code.{place_register, set_number, copy, alu_op_of, cond_of, jump_on, jump_by, jump_at, beyond_purpose, truth_code, by_value, by_test, two_code, get_code, operand_code, load_code, jump_place, by_operator, left_code, binary_code, choice_code, if_code, decides, both_far, both_code, message_code, message_by, mirror, set_node, count_codes, counted_code, count_code, term_code}
 use Rattle.rule_nodes.proofs.Sources.{is_found}
 use Rattle.rule_nodes.proofs.Small.{low, imm_low, mirrored, apply_small, operate_small, taken, compared, truth_of, jump_compared, jump_by_zero, not_not}
 use Rattle.rule_nodes.proofs.Words.{word_loaded, word_small}
@@ -122,7 +122,7 @@ fetched_same (Local k) = refl
 fetched_same (Word k) = refl
 fetched_same t = refl
 
-pub found_same : (t : Term) (z : Sizes) (J : List ℕ) → is_found (source_of t z J) ≡ is_operand t
+pub found_same : (t : Term) (z : Sizes) (J : List ℕ) → is_found (term_source t z J) ≡ is_operand t
 found_same t z J =
     let c = Constant (constant_number t z J) in
     elim (cases_Bool (is_constant t)) [
@@ -256,7 +256,7 @@ module _ (program : List Insn) (env : Setting) (last : ℕ) (solid : (k : ℕ) �
 
   pub by_value_runs : (purpose : Purpose) (code : List Insn) (d v : ℕ) (s : MachineState)
       → Stands program s.frame.slot (by_value purpose code)
-      → s.frame.slot + length (by_value purpose code) + beyond purpose ≤ last
+      → s.frame.slot + length (by_value purpose code) + beyond_purpose purpose ≤ last
       → (Stands program s.frame.slot code → s.frame.slot + length code ≤ last
       → Gets s (s.frame.slot + length code) (length code) (Has d s v))
       → Reached purpose d s (s.frame.slot + length (by_value purpose code)) (length (by_value purpose code)) v
@@ -280,8 +280,8 @@ module _ (program : List Insn) (env : Setting) (last : ℕ) (solid : (k : ℕ) �
 
   -- the number of a test, from its two ends
   truth_runs : (d : ℕ) (b : Bool) (s t : MachineState) (to limit : ℕ) → Reaches program env s t limit → Same d s t
-      → t.frame.slot ≡ to + landing false (number_of b) 2 → Stands program to truth_code → to + 3 ≤ last
-      → Gets s (to + 3) (limit + 3) (Has d s (number_of b))
+      → t.frame.slot ≡ to + landing false (bit_of b) 2 → Stands program to truth_code → to + 3 ≤ last
+      → Gets s (to + 3) (limit + 3) (Has d s (bit_of b))
   truth_runs d true s t to limit run same e stands le =
       let here : t.frame.slot ≡ to = omega (arith, e) in
       let t1 = put t (to + 1) R0 (Num 1) in
@@ -319,16 +319,16 @@ module _ (program : List Insn) (env : Setting) (last : ℕ) (solid : (k : ℕ) �
 
   pub by_test_runs : (purpose : Purpose) (test : Bool → ℕ → List Insn) (d : ℕ) (b : Bool) (s : MachineState)
       → Stands program s.frame.slot (by_test purpose test)
-      → s.frame.slot + length (by_test purpose test) + beyond purpose ≤ last
-      → TestRuns test d (number_of b) s
-      → Reached purpose d s (s.frame.slot + length (by_test purpose test)) (length (by_test purpose test)) (number_of b)
+      → s.frame.slot + length (by_test purpose test) + beyond_purpose purpose ≤ last
+      → TestRuns test d (bit_of b) s
+      → Reached purpose d s (s.frame.slot + length (by_test purpose test)) (length (by_test purpose test)) (bit_of b)
   by_test_runs Value test d b s stands le run =
       let code = test false 2 in
       let len : length (code ++ truth_code) ≡ length code + 3 = length-append code truth_code in
       let c = run false 2 (stands_front program s.frame.slot code truth_code stands) (omega (arith, len, le)) in
       let end = truth_runs d b s c.new (s.frame.slot + length code) (length code) c.run c.fact c.slot
       (stands_back program s.frame.slot code truth_code stands) (omega (arith, len, le)) in
-      gets s _ _ _ _ (Has d s (number_of b)) (Has d s (number_of b)) (omega (arith, len)) (omega (arith, len))
+      gets s _ _ _ _ (Has d s (bit_of b)) (Has d s (bit_of b)) (omega (arith, len)) (omega (arith, len))
       (λ t h. h) end
   by_test_runs (Jump when far) test d b s stands le run = run when far stands le
 
@@ -342,20 +342,20 @@ module _ (program : List Insn) (env : Setting) (last : ℕ) (solid : (k : ℕ) �
       → Gets t (t.frame.slot + length right) (length right) (Has (d + 1) t b))
       → Gets s (s.frame.slot + length (two_code d left right)) (length (two_code d left right)) (HasTwo d s a b)
   two_runs d left right s a b few stands le first second =
-      let p = register_number (place d) in
+      let p = register_number (place_register d) in
       let number : p ≡ 7 + d = place_number d few in
       let free : (p == 10) ≡ false = ap (λ (n : ℕ). n == 10) number ∙ ne_eqb (7 + d) 10 (λ e. omega arith) in
-      let back = copy R1 R0 ∷ copy R0 (place d) ∷ [] in
-      let rest = copy (place d) R0 ∷ (right ++ back) in
+      let back = copy R1 R0 ∷ copy R0 (place_register d) ∷ [] in
+      let rest = copy (place_register d) R0 ∷ (right ++ back) in
       let len : length (left ++ rest) ≡ length left + (1 + (length right + 2)) = omega
       (arith, length-append left rest, length-append right back) in
       let c = first (stands_front program s.frame.slot left rest stands) (omega (arith, len, le)) in
       let t = c.new in
       let at_rest = here_is t _ rest c.slot (stands_back program s.frame.slot left rest stands) in
-      let t1 = put t (t.frame.slot + 1) (place d) (Num a) in
-      let e1 : step program env t ≡ Ok (Running t1) = copies program env t (t.frame.slot + 1) (place d) R0 a at_rest.0
+      let t1 = put t (t.frame.slot + 1) (place_register d) (Num a) in
+      let e1 : step program env t ≡ Ok (Running t1) = copies program env t (t.frame.slot + 1) (place_register d) R0 a at_rest.0
       refl (solid _ (omega (arith, len, le, c.slot))) c.fact.r0 c.fact.small free in
-      let same1 : Same d s t1 = same_put d s t (t.frame.slot + 1) (place d) (Num a) (free_place d d few (omega arith))
+      let same1 : Same d s t1 = same_put d s t (t.frame.slot + 1) (place_register d) (Num a) (free_place d d few (omega arith))
       c.fact.same in
       let g = second t1 same1 (stands_front program t1.frame.slot right back at_rest.1)
       (omega (arith, len, le, c.slot)) in
@@ -369,7 +369,7 @@ module _ (program : List Insn) (env : Setting) (last : ℕ) (solid : (k : ℕ) �
       refl (solid _ (omega (arith, len, le, c.slot, g.slot))) g.fact.r0 g.fact.small refl in
       let kept1 : get w1.frame.registers p ≡ Some (Num a) = put_other w.frame.registers 1 (Num b) p (λ e. omega arith)
       ∙ kept in
-      let e3 : step program env w1 ≡ Ok (Running w2) = copies program env w1 (w.frame.slot + 1 + 1) R0 (place d) a
+      let e3 : step program env w1 ≡ Ok (Running w2) = copies program env w1 (w.frame.slot + 1 + 1) R0 (place_register d) a
       at_back.1.0 refl (solid _ (omega (arith, len, le, c.slot, g.slot))) kept1 c.fact.small refl in
       let run1 = further program env s t t1 (length left) (length left + 1) c.run e1 (omega arith) in
       let run2 = chain program env s t1 w (length left + 1) (length right) (length left + 1 + length right) run1 g.run
@@ -656,11 +656,11 @@ module _ (program : List Insn) (env : Setting) (last : ℕ) (solid : (k : ℕ) �
     fact = record { same = same_self d s; place = start; few = omega arith };
   }
   counts_run d n test holds s (suc m) small few le stands fits start each =
-      let p = register_number (place d) in
+      let p = register_number (place_register d) in
       let number : p ≡ 7 + d = place_number d small in
       let writable : (p == 10) ≡ false = ap (λ (n : ℕ). n == 10) number ∙ ne_eqb (7 + d) 10 (λ e. omega arith) in
       let front = count_codes d test m in
-      let add = i.Alu Add W32 (place d) (operand.Imm (pos 1)) ∷ [] in
+      let add = i.Alu Add W32 (place_register d) (operand.Imm (pos 1)) ∷ [] in
       let back = test m ++ add in
       let len : length (front ++ back) ≡ length front + (length (test m) + 1) = omega
       (arith, length-append front back, length-append (test m) add) in
@@ -682,9 +682,9 @@ module _ (program : List Insn) (env : Setting) (last : ℕ) (solid : (k : ℕ) �
             let none : landing false (holds m) 1 ≡ 0 = rw so refl in
             let slot : w.frame.slot ≡ t.frame.slot + length (test m) = omega (arith, g.slot, none) in
             let there = here_is w _ add slot (stands_back program t.frame.slot (test m) add at_back) in
-            let w1 = put w (w.frame.slot + 1) (place d) (Num (v + 1)) in
+            let w1 = put w (w.frame.slot + 1) (place_register d) (Num (v + 1)) in
             let old : get w.frame.registers p ≡ Some (Num v) = ap (get w.frame.registers) number ∙ kept in
-            let e1 : step program env w ≡ Ok (Running w1) = counts program env w (w.frame.slot + 1) (place d) v there.0
+            let e1 : step program env w ≡ Ok (Running w1) = counts program env w (w.frame.slot + 1) (place_register d) v there.0
             refl (solid _ (omega (arith, len, fits, slot, c.slot))) old writable (omega (arith, c.fact.few, few, le)) in
             let one : v + 1 ≡ count_below (suc m) holds = rw so refl in
             record {
@@ -692,7 +692,7 @@ module _ (program : List Insn) (env : Setting) (last : ℕ) (solid : (k : ℕ) �
               run = further program env s w w1 _ (length (front ++ back)) run e1 (omega (arith, len));
               slot = omega (arith, len, slot, c.slot);
               fact = record {
-                same = same_put d s w (w.frame.slot + 1) (place d) (Num (v + 1))
+                same = same_put d s w (w.frame.slot + 1) (place_register d) (Num (v + 1))
                     (free_place d d small (omega arith)) same;
                 place = ap (get w1.frame.registers) (sym number) ∙ put_same w.frame.registers p (Num (v + 1))
                     ∙ ap (λ x. Some (Num x)) one;
@@ -724,14 +724,14 @@ module _ (program : List Insn) (env : Setting) (last : ℕ) (solid : (k : ℕ) �
       → Gets s (s.frame.slot + length (counted_code d n test)) (length (counted_code d n test))
       (Counts d s n (count_below n holds))
   counted_runs d n test holds s small few stands fits each =
-      let p = register_number (place d) in
+      let p = register_number (place_register d) in
       let number : p ≡ 7 + d = place_number d small in
       let writable : (p == 10) ≡ false = ap (λ (n : ℕ). n == 10) number ∙ ne_eqb (7 + d) 10 (λ e. omega arith) in
       let codes = count_codes d test n in
-      let s1 = put s (s.frame.slot + 1) (place d) (Num 0) in
+      let s1 = put s (s.frame.slot + 1) (place_register d) (Num 0) in
       let e1 : step program env s ≡ Ok (Running s1) = sets_number program env s (s.frame.slot + 1)
-      (place d) 0 stands.0 refl (solid _ (omega (arith, fits))) (omega arith) writable in
-      let same1 : Same d s s1 = same_put d s s (s.frame.slot + 1) (place d) (Num 0) (free_place d d small (omega arith))
+      (place_register d) 0 stands.0 refl (solid _ (omega (arith, fits))) (omega arith) writable in
+      let same1 : Same d s s1 = same_put d s s (s.frame.slot + 1) (place_register d) (Num 0) (free_place d d small (omega arith))
       (same_self d s) in
       let start : get s1.frame.registers (7 + d) ≡ Some (Num 0) = ap (get s1.frame.registers) (sym number)
       ∙ put_same s.frame.registers p (Num 0) in
@@ -757,10 +757,10 @@ module _ (program : List Insn) (env : Setting) (last : ℕ) (solid : (k : ℕ) �
       → Gets s (s.frame.slot + length (count_code d n test)) (length (count_code d n test))
       (Has d s (count_below n holds))
   count_runs d n test holds s small few stands fits each =
-      let p = register_number (place d) in
+      let p = register_number (place_register d) in
       let number : p ≡ 7 + d = place_number d small in
       let codes = counted_code d n test in
-      let last_one = copy R0 (place d) ∷ [] in
+      let last_one = copy R0 (place_register d) ∷ [] in
       let len : length (codes ++ last_one) ≡ length codes + 1 = length-append codes last_one in
       let c = counted_runs d n test holds s small few (stands_front program s.frame.slot codes last_one stands)
       (omega (arith, len, fits)) each in
@@ -770,7 +770,7 @@ module _ (program : List Insn) (env : Setting) (last : ℕ) (solid : (k : ℕ) �
       let w1 = put w (w.frame.slot + 1) R0 (Num v) in
       let small_v : v < 2 ^ 32 = omega (arith, c.fact.few, few) in
       let e3 : step program env w ≡ Ok (Running w1) = copies program env w (w.frame.slot + 1) R0
-      (place d) v there.0 refl (solid _ (omega (arith, len, fits, c.slot))) (ap (get w.frame.registers) number
+      (place_register d) v there.0 refl (solid _ (omega (arith, len, fits, c.slot))) (ap (get w.frame.registers) number
       ∙ c.fact.place) small_v refl in
       record {
         new = w1;
@@ -822,14 +822,14 @@ module _ (program : List Insn) (env : Setting) (last : ℕ) (solid : (k : ℕ) �
       }
 
   operation_runs : (op : Operation) (src : Operand) (d a b : ℕ) (code : List Insn) (s : MachineState)
-      → Stands program s.frame.slot (code ++ i.Alu (alu_of op) W32 R0 src ∷ [])
-      → s.frame.slot + length (code ++ i.Alu (alu_of op) W32 R0 src ∷ []) ≤ last
+      → Stands program s.frame.slot (code ++ i.Alu (alu_op_of op) W32 R0 src ∷ [])
+      → s.frame.slot + length (code ++ i.Alu (alu_op_of op) W32 R0 src ∷ []) ≤ last
       → (Stands program s.frame.slot code → s.frame.slot + length code ≤ last
       → Gets s (s.frame.slot + length code) (length code) (HasPair src d s a b))
-      → Gets s (s.frame.slot + length (code ++ i.Alu (alu_of op) W32 R0 src ∷ []))
-      (length (code ++ i.Alu (alu_of op) W32 R0 src ∷ [])) (Has d s (apply op a b))
+      → Gets s (s.frame.slot + length (code ++ i.Alu (alu_op_of op) W32 R0 src ∷ []))
+      (length (code ++ i.Alu (alu_op_of op) W32 R0 src ∷ [])) (Has d s (apply op a b))
   operation_runs op src d a b code s stands le two =
-      let act = i.Alu (alu_of op) W32 R0 src ∷ [] in
+      let act = i.Alu (alu_op_of op) W32 R0 src ∷ [] in
       let len : length (code ++ act) ≡ length code + 1 = length-append code act in
       let c = two (stands_front program s.frame.slot code act stands) (omega (arith, len, le)) in
       let t = c.new in
@@ -853,14 +853,14 @@ module _ (program : List Insn) (env : Setting) (last : ℕ) (solid : (k : ℕ) �
   compare_runs : (r : Comparison) (src : Operand) (d a b : ℕ) (code : List Insn) (s : MachineState)
       → (Stands program s.frame.slot code → s.frame.slot + length code ≤ last
       → Gets s (s.frame.slot + length code) (length code) (HasPair src d s a b))
-      → TestRuns (λ when far. code ++ jump_by (jump_on when r) src far ∷ []) d (number_of (compare r a b)) s
+      → TestRuns (λ when far. code ++ jump_by (jump_on when r) src far ∷ []) d (bit_of (compare r a b)) s
   compare_runs r src d a b code s two when far stands le =
       let jump = jump_by (jump_on when r) src far ∷ [] in
       let len : length (code ++ jump) ≡ length code + 1 = length-append code jump in
       let c = two (stands_front program s.frame.slot code jump stands) (omega (arith, len, le)) in
       let t = c.new in
       let there = here_is t _ jump c.slot (stands_back program s.frame.slot code jump stands) in
-      let hit = taken when (number_of (compare r a b)) in
+      let hit = taken when (bit_of (compare r a b)) in
       let end = branch_runs d s t (length code) far (cond_of (jump_on when r)) R0 src a c.fact.raw hit c.run c.fact.same
       there.0 c.fact.r0 c.fact.other (jump_compared when r a b c.fact.raw c.fact.left c.fact.low_bits)
       (omega (arith, len, le, c.slot)) in
@@ -868,13 +868,13 @@ module _ (program : List Insn) (env : Setting) (last : ℕ) (solid : (k : ℕ) �
 
   operator_runs : (o : Operator) (src : Operand) (purpose : Purpose) (d a b : ℕ) (code : List Insn) (s : MachineState)
       → Stands program s.frame.slot (by_operator o src purpose code)
-      → s.frame.slot + length (by_operator o src purpose code) + beyond purpose ≤ last
+      → s.frame.slot + length (by_operator o src purpose code) + beyond_purpose purpose ≤ last
       → (Stands program s.frame.slot code → s.frame.slot + length code ≤ last
       → Gets s (s.frame.slot + length code) (length code) (HasPair src d s a b))
       → Reached purpose d s (s.frame.slot + length (by_operator o src purpose code))
-      (length (by_operator o src purpose code)) (operate o a b)
+      (length (by_operator o src purpose code)) (apply_operator o a b)
   operator_runs (Compute op) src purpose d a b code s stands le two =
-      by_value_runs purpose (code ++ i.Alu (alu_of op) W32 R0 src ∷ []) d (apply op a b) s stands le
+      by_value_runs purpose (code ++ i.Alu (alu_op_of op) W32 R0 src ∷ []) d (apply op a b) s stands le
       (λ st l. operation_runs op src d a b code s st l two)
   operator_runs (Compare r) src purpose d a b code s stands le two =
       by_test_runs purpose (λ when far. code ++ jump_by (jump_on when r) src far ∷ []) d (compare r a b) s stands le
@@ -922,7 +922,7 @@ module _ (program : List Insn) (env : Setting) (last : ℕ) (solid : (k : ℕ) �
   fetched_is t z J lets d u fits = tt
 
   pub source_is : (t : Term) (z : Sizes) (J : List ℕ) (lets d : ℕ) (u : NodeState) → IsSized z env
-      → All (λ j. j < z.nodes) J → Fits t z (length J) lets d → IsAt z lets u (source_of t z J) (value t z env J u)
+      → All (λ j. j < z.nodes) J → Fits t z (length J) lets d → IsAt z lets u (term_source t z J) (value t z env J u)
   source_is t z J lets d u sized nodes fits =
       let c = Constant (constant_number t z J) in
       let P : Source → Type 0 = λ x. IsAt z lets u x (value t z env J u) in
@@ -948,9 +948,9 @@ module _ (program : List Insn) (env : Setting) (last : ℕ) (solid : (k : ℕ) �
         small = is.1;
       })
   get_steps dst (FromLocal k) z lets v u t free found is sized few h here le =
-      let number : register_number (place k) ≡ 7 + k = place_number k (omega (arith, is.0, few)) in
+      let number : register_number (place_register k) ≡ 7 + k = place_number k (omega (arith, is.0, few)) in
       subst (λ (x : ℕ). Fetched dst t x) is.1 (record {
-        fetched = copies program env t (t.frame.slot + 1) dst (place k) (u.locals k) here refl (solid _ le)
+        fetched = copies program env t (t.frame.slot + 1) dst (place_register k) (u.locals k) here refl (solid _ le)
             (ap (get t.frame.registers) number ∙ h.locals k is.0) (h.small k is.0) free;
         small = h.small k is.0;
       })
@@ -1020,12 +1020,12 @@ module _ (program : List Insn) (env : Setting) (last : ℕ) (solid : (k : ℕ) �
       }) (first (stands_front program s.frame.slot left [] stands) (omega (arith, len, room)))
   loaded_runs (FromLocal j) z d lets a b u left s found is sized few le h stands room first =
       let len : length (left ++ []) ≡ length left + 0 = length-append left [] in
-      let number : register_number (place j) ≡ 7 + j = place_number j (omega (arith, is.0, few)) in
+      let number : register_number (place_register j) ≡ 7 + j = place_number j (omega (arith, is.0, few)) in
       let P = HasPair (operand_code (FromLocal j)) d s a b in
       gets s _ _ _ _ (Has d s a) P (omega (arith, len)) (omega (arith, len))
       (λ t k.
       let h1 = still_holds env lets d u s t le h k.same in
-      let e : get t.frame.registers (register_number (place j)) ≡ Some (Num (u.locals j)) =
+      let e : get t.frame.registers (register_number (place_register j)) ≡ Some (Num (u.locals j)) =
       ap (get t.frame.registers) number ∙ h1.locals j is.0 in
       record {
         same = k.same;
@@ -1087,18 +1087,18 @@ module _ (program : List Insn) (env : Setting) (last : ℕ) (solid : (k : ℕ) �
   left_runs : (o : Operator) (x : Source) (purpose : Purpose) (z : Sizes) (d lets a b : ℕ) (u : NodeState)
       (right : List Insn) (s : MachineState) → is_found x ≡ true → IsAt z lets u x a → IsSized z env → lets ≤ 3
       → lets ≤ d → Holds env lets u s → Stands program s.frame.slot (left_code o x purpose right)
-      → s.frame.slot + length (left_code o x purpose right) + beyond purpose ≤ last
+      → s.frame.slot + length (left_code o x purpose right) + beyond_purpose purpose ≤ last
       → (Stands program s.frame.slot right → s.frame.slot + length right ≤ last
       → Gets s (s.frame.slot + length right) (length right) (Has d s b))
       → Reached purpose d s (s.frame.slot + length (left_code o x purpose right)) (length (left_code o x purpose right))
-      (operate o a b)
+      (apply_operator o a b)
   left_runs (Compute op) x purpose z d lets a b u right s found is sized few le h stands room first =
       operator_runs (Compute op) (operand.Reg R1) purpose d a b
       (right ++ (copy R1 R0 ∷ get_code R0 x ∷ [])) s stands room
       (λ st l. turned_runs x z d lets a b u right s found is sized few le h st l first)
   left_runs (Compare r) x purpose z d lets a b u right s found is sized few le h stands room first =
       let code = left_code (Compare r) x purpose right in
-      let same : operate (Compare (mirror r)) b a ≡ operate (Compare r) a b = ap number_of (mirrored r a b) in
+      let same : apply_operator (Compare (mirror r)) b a ≡ apply_operator (Compare r) a b = ap bit_of (mirrored r a b) in
       subst (λ (v : ℕ). Reached purpose d s (s.frame.slot + length code) (length code) v) same
       (operator_runs (Compare (mirror r)) (operand_code x) purpose d b a (right ++ load_code x) s stands room
       (λ st l. loaded_runs x z d lets b a u right s found is sized few le h st l first))
@@ -1107,26 +1107,26 @@ module _ (program : List Insn) (env : Setting) (last : ℕ) (solid : (k : ℕ) �
       (left : List Insn) (s : MachineState) → is_found y ≡ true → IsAt z lets u y b → IsSized z env → lets ≤ 3
       → lets ≤ d → Holds env lets u s
       → Stands program s.frame.slot (by_operator o (operand_code y) purpose (left ++ load_code y))
-      → s.frame.slot + length (by_operator o (operand_code y) purpose (left ++ load_code y)) + beyond purpose ≤ last
+      → s.frame.slot + length (by_operator o (operand_code y) purpose (left ++ load_code y)) + beyond_purpose purpose ≤ last
       → (Stands program s.frame.slot left → s.frame.slot + length left ≤ last
       → Gets s (s.frame.slot + length left) (length left) (Has d s a))
       → Reached purpose d s (s.frame.slot + length (by_operator o (operand_code y) purpose (left ++ load_code y)))
-      (length (by_operator o (operand_code y) purpose (left ++ load_code y))) (operate o a b)
+      (length (by_operator o (operand_code y) purpose (left ++ load_code y))) (apply_operator o a b)
   right_runs o y purpose z d lets a b u left s found is sized few le h stands room first =
       operator_runs o (operand_code y) purpose d a b (left ++ load_code y) s stands room
       (λ st l. loaded_runs y z d lets a b u left s found is sized few le h st l first)
 
   place_test_runs : (r : Comparison) (k c : ℕ) (z : Sizes) (d lets a b : ℕ) (u : NodeState) (s : MachineState)
       → IsAt z lets u (Constant c) b → IsAt z lets u (FromLocal k) a → lets ≤ 3 → Holds env lets u s
-      → TestRuns (λ when far. jump_place k (jump_on when r) c far ∷ []) d (number_of (compare r a b)) s
+      → TestRuns (λ when far. jump_place k (jump_on when r) c far ∷ []) d (bit_of (compare r a b)) s
   place_test_runs r k c z d lets a b u s at_y at_x few h when far stands room =
       let raw = cast_unsigned w64 (cast_signed w32 c) in
-      let number : register_number (place k) ≡ 7 + k = place_number k (omega (arith, at_x.0, few)) in
-      let from : get s.frame.registers (register_number (place k)) ≡ Some (Num a) = ap (get s.frame.registers) number
+      let number : register_number (place_register k) ≡ 7 + k = place_number k (omega (arith, at_x.0, few)) in
+      let from : get s.frame.registers (register_number (place_register k)) ≡ Some (Num a) = ap (get s.frame.registers) number
       ∙ h.locals k at_x.0 ∙ ap (λ n. Some (Num n)) at_x.1 in
       let small : a < 2 ^ 32 = subst (λ (n : ℕ). n < 2 ^ 32) at_x.1 (h.small k at_x.0) in
-      let hit = taken when (number_of (compare r a b)) in
-      let end = branch_runs d s s 0 far (cond_of (jump_on when r)) (place k) (operand.Imm (cast_signed w32 c)) a raw hit
+      let hit = taken when (bit_of (compare r a b)) in
+      let end = branch_runs d s s 0 far (cond_of (jump_on when r)) (place_register k) (operand.Imm (cast_signed w32 c)) a raw hit
       (stays program env s) (same_self d s) stands.0 from refl
       (jump_compared when r a b raw small (imm_low c at_y.1 ∙ at_y.0)) room in
       gets s _ _ _ _ (Same d s) (Same d s) refl (omega arith) (λ t h. h) end
@@ -1136,13 +1136,13 @@ module _ (program : List Insn) (env : Setting) (last : ℕ) (solid : (k : ℕ) �
       (left right : List Insn) (s : MachineState) → IsAt z lets u y b → IsAt z lets u x a → IsSized z env → lets ≤ 3
       → lets ≤ d → d ≤ deep → (is_found x ≡ false → is_found y ≡ false → (d < 3) × (deep ≡ d + 1)) → Holds env lets u s
       → Stands program s.frame.slot (binary_code y x o d purpose left right)
-      → s.frame.slot + length (binary_code y x o d purpose left right) + beyond purpose ≤ last
+      → s.frame.slot + length (binary_code y x o d purpose left right) + beyond_purpose purpose ≤ last
       → (Stands program s.frame.slot left → s.frame.slot + length left ≤ last
       → Gets s (s.frame.slot + length left) (length left) (Has d s a))
       → ((t : MachineState) → Same d s t → Stands program t.frame.slot right → t.frame.slot + length right ≤ last
       → Gets t (t.frame.slot + length right) (length right) (Has deep t b))
       → Reached purpose d s (s.frame.slot + length (binary_code y x o d purpose left right))
-      (length (binary_code y x o d purpose left right)) (operate o a b)
+      (length (binary_code y x o d purpose left right)) (apply_operator o a b)
   sides_run (Constant c) (FromLocal k) (Compare r) purpose z d deep lets a b u left right s at_y at_x sized few
       le more free h stands room first second =
       by_test_runs purpose (λ when far. jump_place k (jump_on when r) c far ∷ []) d (compare r a b) s stands room
@@ -1152,12 +1152,12 @@ module _ (program : List Insn) (env : Setting) (last : ℕ) (solid : (k : ℕ) �
       right_runs (Compute op) (Constant c) purpose z d lets a b u left s refl at_y sized few le h stands room first
   sides_run (Constant c) (Constant e) o purpose z d deep lets a b u left right s at_y at_x sized few le more
       free h stands room first second =
-      let small : operate o e c < 2 ^ 32 = operate_small o e c at_x.1 at_y.1 in
-      let n = length (by_value purpose (set_number R0 (operate o e c) ∷ [])) in
-      let is : operate o e c ≡ operate o a b = rw (at_x.0, at_y.0) refl in
+      let small : apply_operator o e c < 2 ^ 32 = operate_small o e c at_x.1 at_y.1 in
+      let n = length (by_value purpose (set_number R0 (apply_operator o e c) ∷ [])) in
+      let is : apply_operator o e c ≡ apply_operator o a b = rw (at_x.0, at_y.0) refl in
       subst (λ (v : ℕ). Reached purpose d s (s.frame.slot + n) n v) is
-      (by_value_runs purpose (set_number R0 (operate o e c) ∷ []) d (operate o e c) s stands room
-      (λ st l. number_runs d (operate o e c) s small st l))
+      (by_value_runs purpose (set_number R0 (apply_operator o e c) ∷ []) d (apply_operator o e c) s stands room
+      (λ st l. number_runs d (apply_operator o e c) s small st l))
   sides_run (Constant c) (FromWord k) o purpose z d deep lets a b u left right s at_y at_x sized few le more
       free h stands room first second = right_runs o (Constant c) purpose z d lets a b u left s refl at_y sized few le h
       stands room first
@@ -1195,7 +1195,7 @@ module _ (program : List Insn) (env : Setting) (last : ℕ) (solid : (k : ℕ) �
       (λ t same st2 l2. gets t _ _ _ _ (Has deep t b) (Has (d + 1) t b) refl (omega arith)
       (λ w k. has_less (d + 1) deep b t w (omega (arith, deeper.1)) k) (second t same st2 l2))))
 
-  landing_not : (when : Bool) (v far : ℕ) → landing (not when) v far ≡ landing when (number_of (not (truth v))) far
+  landing_not : (when : Bool) (v far : ℕ) → landing (not when) v far ≡ landing when (bit_of (not (truth v))) far
   landing_not true v far = ap (λ (b : Bool). hop b far) (sym (truth_of (not (truth v))))
   landing_not false v far = ap (λ (b : Bool). hop b far) (not_not (truth v) ∙ sym (ap not (truth_of (not (truth v)))))
 
@@ -1298,7 +1298,7 @@ module _ (program : List Insn) (env : Setting) (last : ℕ) (solid : (k : ℕ) �
       (s : MachineState) → IsSized z env → All (λ j. j < z.nodes) J → lets ≤ 3 → lets ≤ d → Fits t z (length J) lets d
       → Holds env lets u s
       → Stands program s.frame.slot (term_code t z J d purpose)
-      → s.frame.slot + length (term_code t z J d purpose) + beyond purpose ≤ last
+      → s.frame.slot + length (term_code t z J d purpose) + beyond_purpose purpose ≤ last
       → Reached purpose d s (s.frame.slot + length (term_code t z J d purpose)) (length (term_code t z J d purpose))
       (value t z env J u)
   term_runs (Number v) z J d lets purpose u s sized nodes few le fits h stands room =
@@ -1327,17 +1327,17 @@ module _ (program : List Insn) (env : Setting) (last : ℕ) (solid : (k : ℕ) �
       (λ st l. number_runs d v s (omega (arith, lt, nodes_few z sized)) st l)
   term_runs (Local k) z J d lets purpose u s sized nodes few le fits h stands room =
       let v = u.locals k in
-      let number : register_number (place k) ≡ 7 + k = place_number k (omega (arith, fits, few)) in
-      by_value_runs purpose (copy R0 (place k) ∷ []) d v s stands room
-      (λ st l. copy_runs d v s (place k) (h.small k fits) (ap (get s.frame.registers) number ∙ h.locals k fits) st l)
+      let number : register_number (place_register k) ≡ 7 + k = place_number k (omega (arith, fits, few)) in
+      by_value_runs purpose (copy R0 (place_register k) ∷ []) d v s stands room
+      (λ st l. copy_runs d v s (place_register k) (h.small k fits) (ap (get s.frame.registers) number ∙ h.locals k fits) st l)
   term_runs (Word k) z J d lets purpose u s sized nodes few le fits h stands room =
       by_value_runs purpose (i.Load size.W R0 R6 (pos (4 * k)) ∷ []) d (word_at k u.memory) s stands room
       (λ st l. load_runs d lets k u s (omega (arith, fits, sized.memory)) h st l)
   term_runs (Message' p a) z J d lets purpose u s sized nodes few le fits h stands room =
       let code = term_code a z J d Value in
       let x = value a z env J u in
-      by_value_runs purpose (message_by (source_of a z J) z.nodes code) d (message_from z env x) s stands room
-      (λ st l. message_by_runs (source_of a z J) z d lets x u code s
+      by_value_runs purpose (message_by (term_source a z J) z.nodes code) d (message_from z env x) s stands room
+      (λ st l. message_by_runs (term_source a z J) z d lets x u code s
       (source_is a z J lets d u sized nodes fits) sized st l
       (λ st2 l2. term_runs a z J d lets Value u s sized nodes few le fits h st2 (omega (arith, l2))))
   term_runs (Binary' o p a q b) z J d lets purpose u s sized nodes few le fits h stands room =
@@ -1347,7 +1347,7 @@ module _ (program : List Insn) (env : Setting) (last : ℕ) (solid : (k : ℕ) �
       let va = value a z env J u in
       let vb = value b z env J u in
       let more : d ≤ deep = behind_more (is_operand a || is_operand b) d in
-      sides_run (source_of b z J) (source_of a z J) o purpose z d deep lets va vb u ca cb s
+      sides_run (term_source b z J) (term_source a z J) o purpose z d deep lets va vb u ca cb s
       (source_is b z J lets deep u sized nodes fits.2) (source_is a z J lets d u sized nodes fits.1) sized few le more
       (λ e f. free_beside (is_operand a) (is_operand b) d (sym (found_same a z J) ∙ e)
       (sym (found_same b z J) ∙ f) fits.0) h
@@ -1364,7 +1364,7 @@ module _ (program : List Insn) (env : Setting) (last : ℕ) (solid : (k : ℕ) �
       (term_code b z J d (Jump when far))) d v s stands
       room
       (λ when far st l. both_runs (decides c) when far left (term_code b z J d (Jump when far)) d va vb
-      (number_of v) s st l
+      (bit_of v) s st l
       (λ w g st2 l2. term_runs a z J d lets (Jump w g) u s sized nodes few le fits.0 h st2 l2)
       (λ t same st2 l2. term_runs b z J d lets (Jump when far) u t sized nodes few le fits.1
       (still_holds env lets d u s t le h same) st2 l2)

@@ -17,8 +17,8 @@ use Rattle.bpf_insn.specs.Registers.{register_number}
 use Rattle.bpf_insn.specs.Edges.{BeginsAt, target}
 use Rattle.value_range.specs.Results.{alu_of as range_of}
 use Rattle.value_range.specs.Span.{Span, just, full_of}
-use Rattle.bpf_verify.specs.declared.kind.Kind.{Kind}
-use Rattle.bpf_verify.specs.declared.kind.Kind.TheVariants.{Unset, Number}
+use Rattle.bpf_verify.specs.declared.abstract_value.AbstractValue.{AbstractValue}
+use Rattle.bpf_verify.specs.declared.abstract_value.AbstractValue.TheVariants.{Unset, Number}
 use Rattle.bpf_verify.specs.States.{AbstractState, IsKindIn, IsContainedIn, IsProper, entry_state, kind_of, is_unset_kind, is_pointer_kind}
 use Rattle.bpf_verify.specs.Outcomes.{outcome, with_kind, of_number_kind, of_number_kinds}
 use Rattle.bpf_verify.specs.Typable.{Table, IsCovered, Typable}
@@ -40,9 +40,9 @@ use Rattle.rule_nodes.specs.declared.syntax.Source.TheVariants.{Constant, FromLo
 use Rattle.rule_nodes.specs.declared.syntax.Term.{Term}
 use Rattle.rule_nodes.specs.declared.syntax.Statement.{Statement}
 use Rattle.rule_nodes.specs.declared.syntax.Statement.TheVariants.{Nothing, Then', Let', Assign, If', For', SendAll, SendTo}
-use Rattle.rule_nodes.specs.Operands.{is_constant, constant_number, is_local, is_operand, is_steady, depth_behind, source_of}
+use Rattle.rule_nodes.specs.Operands.{is_constant, constant_number, is_local, is_operand, is_steady, depth_behind, term_source}
 use Rattle.rule_nodes.specs.Fits.{HasPlace, Fits, TargetFits, AssignmentFits, BlockFits}
-use Rattle.rule_nodes.specs.Code.{place, copy, set_node, cond_of, jump_at, counted_code, term_code, stored_code, passed_code, send_to_constant_code, assign_code, set_code, given_code, alu_of, change_of, one_code, also_code, assignment_code, get_code, set_number, send_code, send_codes, send_all_code, send_to_code, each_code, is_nothing, block_code, tail_code, rule_code}
+use Rattle.rule_nodes.specs.Code.{place_register, copy, set_node, cond_of, jump_at, counted_code, term_code, stored_code, passed_code, send_to_constant_code, assign_code, set_code, given_code, alu_op_of, changing_insn, one_code, also_code, assignment_code, get_code, set_number, send_code, send_codes, send_all_code, send_to_code, each_code, is_nothing, block_code, tail_code, rule_code}
 use Rattle.rule_nodes.proofs.Typing.{memory_place, word, known, plain, valued, proper_known, some_word, into, short, Typing, typed_then, typed_as, typed_none, one_on, one_fork, fetch_typed, keep_typed, AllSound, seen}
 use Rattle.rule_nodes.proofs.Whole.{all_begin, rule_length, ones_rule}
 use Rattle.rule_nodes.specs.Ends.{AreSizes}
@@ -72,34 +72,34 @@ module _ (program : List Insn) (shape : Extent) (last : ℕ) (solid : (k : ℕ) 
 
   -- r0 into a place that is in use
   change_typed : (k d slot : ℕ) → k < d → d ≤ 3 → slot + 1 ≤ last
-      → T slot (copy (place k) R0 ∷ []) (C (valued d) slot) (C (plain d) (slot + 1))
+      → T slot (copy (place_register k) R0 ∷ []) (C (valued d) slot) (C (plain d) (slot + 1))
   change_typed zero zero slot lt few le = absurd (omega (arith, lt))
   change_typed (suc k) zero slot lt few le = absurd (omega (arith, lt))
   change_typed (suc k) (suc zero) slot lt few le = absurd (omega (arith, lt))
   change_typed (suc (suc k)) (suc (suc zero)) slot lt few le = absurd (omega (arith, lt))
   change_typed (suc (suc (suc k))) (suc (suc (suc zero))) slot lt few le = absurd (omega (arith, lt))
   change_typed k (suc (suc (suc (suc d)))) slot lt few le = absurd (omega (arith, few))
-  change_typed zero (suc zero) slot lt few le = one_on program shape last solid slot (copy (place 0) R0)
+  change_typed zero (suc zero) slot lt few le = one_on program shape last solid slot (copy (place_register 0) R0)
       (valued 1) _ (plain 1) refl refl refl (into _ 1 Unset Unset Unset tt tt tt refl refl refl refl)
       (proper_known 1 word Unset Unset some_word tt tt) (keeps_own _ _ _ refl) le
   change_typed zero (suc (suc zero)) slot lt few le = one_on program shape last solid slot
-      (copy (place 0) R0) (valued 2) _ (plain 2) refl refl refl
+      (copy (place_register 0) R0) (valued 2) _ (plain 2) refl refl refl
       (into _ 2 Unset Unset Unset tt tt tt refl refl refl refl)
       (proper_known 2 word Unset Unset some_word tt tt) (keeps_own _ _ _ refl) le
   change_typed zero (suc (suc (suc zero))) slot lt few le = one_on program shape last solid slot
-      (copy (place 0) R0) (valued 3) _ (plain 3) refl refl refl
+      (copy (place_register 0) R0) (valued 3) _ (plain 3) refl refl refl
       (into _ 3 Unset Unset Unset tt tt tt refl refl refl refl)
       (proper_known 3 word Unset Unset some_word tt tt) (keeps_own _ _ _ refl) le
   change_typed (suc zero) (suc (suc zero)) slot lt few le = one_on program shape last solid slot
-      (copy (place 1) R0) (valued 2) _ (plain 2) refl refl refl
+      (copy (place_register 1) R0) (valued 2) _ (plain 2) refl refl refl
       (into _ 2 Unset Unset Unset tt tt tt refl refl refl refl)
       (proper_known 2 word Unset Unset some_word tt tt) (keeps_own _ _ _ refl) le
   change_typed (suc zero) (suc (suc (suc zero))) slot lt few le = one_on program shape last solid slot
-      (copy (place 1) R0) (valued 3) _ (plain 3) refl refl refl
+      (copy (place_register 1) R0) (valued 3) _ (plain 3) refl refl refl
       (into _ 3 Unset Unset Unset tt tt tt refl refl refl refl)
       (proper_known 3 word Unset Unset some_word tt tt) (keeps_own _ _ _ refl) le
   change_typed (suc (suc zero)) (suc (suc (suc zero))) slot lt few le = one_on program shape last solid slot
-      (copy (place 2) R0) (valued 3) _ (plain 3) refl refl refl
+      (copy (place_register 2) R0) (valued 3) _ (plain 3) refl refl refl
       (into _ 3 Unset Unset Unset tt tt tt refl refl refl refl)
       (proper_known 3 word Unset Unset some_word tt tt) (keeps_own _ _ _ refl) le
 
@@ -112,31 +112,31 @@ module _ (program : List Insn) (shape : Extent) (last : ℕ) (solid : (k : ℕ) 
 
   -- an instruction that puts a number of 32 bits into a place, after which e places are in use, and keeps all other
   -- rules by itself
-  place_typed_to : (k d e slot : ℕ) (insn : Insn) (K : Kind) → target insn slot Onward ≡ Some (slot + 1)
-      → target insn slot Jumping ≡ None → outcome shape insn (plain d) Onward ≡ Some (with_kind (plain d) (place k) K)
-      → IsContainedIn (with_kind (plain d) (place k) K) (plain e) → KeepsOwn shape insn (plain d) → slot + 1 ≤ last
+  place_typed_to : (k d e slot : ℕ) (insn : Insn) (K : AbstractValue) → target insn slot Onward ≡ Some (slot + 1)
+      → target insn slot Jumping ≡ None → outcome shape insn (plain d) Onward ≡ Some (with_kind (plain d) (place_register k) K)
+      → IsContainedIn (with_kind (plain d) (place_register k) K) (plain e) → KeepsOwn shape insn (plain d) → slot + 1 ≤ last
       → T slot (insn ∷ []) (C (plain d) slot) (C (plain e) (slot + 1))
   place_typed_to k d e slot insn K on off out inside own le =
-      one_on program shape last solid slot insn (plain d) (with_kind (plain d) (place k) K) (plain e) on off out
+      one_on program shape last solid slot insn (plain d) (with_kind (plain d) (place_register k) K) (plain e) on off out
       inside (proper_known d Unset Unset Unset tt tt tt) own le
 
-  place_typed : (k d slot : ℕ) (insn : Insn) (K : Kind) → k < 3 → target insn slot Onward ≡ Some (slot + 1)
-      → target insn slot Jumping ≡ None → outcome shape insn (plain d) Onward ≡ Some (with_kind (plain d) (place k) K)
+  place_typed : (k d slot : ℕ) (insn : Insn) (K : AbstractValue) → k < 3 → target insn slot Onward ≡ Some (slot + 1)
+      → target insn slot Jumping ≡ None → outcome shape insn (plain d) Onward ≡ Some (with_kind (plain d) (place_register k) K)
       → IsKindIn K word → KeepsOwn shape insn (plain d) → slot + 1 ≤ last
       → T slot (insn ∷ []) (C (plain d) slot) (C (plain d) (slot + 1))
   place_typed k d slot insn K lt on off out inside own le =
       place_typed_to k d d slot insn K on off out (placed_in k d K lt inside) own le
 
-  writable : (k : ℕ) → k < 3 → (register_number (place k) == 10) ≡ false
+  writable : (k : ℕ) → k < 3 → (register_number (place_register k) == 10) ≡ false
   writable k lt = ap (λ (n : ℕ). n == 10) (place_number k lt) ∙ ne_eqb (7 + k) 10 (λ e. omega (arith, e, lt))
 
   place_reached : (x : Source) (k d e lets slot : ℕ)
-      → ((K : Kind) → IsKindIn K word → IsContainedIn (with_kind (plain d) (place k) K) (plain e)) → is_found x ≡ true
+      → ((K : AbstractValue) → IsKindIn K word → IsContainedIn (with_kind (plain d) (place_register k) K) (plain e)) → is_found x ≡ true
       → IsThere x lets shape.memory → lets ≤ d → d ≤ 3 → k < 3 → slot + 1 ≤ last
-      → T slot (get_code (place k) x ∷ []) (C (plain d) slot) (C (plain e) (slot + 1))
+      → T slot (get_code (place_register k) x ∷ []) (C (plain d) slot) (C (plain e) (slot + 1))
   place_reached (Constant c) k d e lets slot inside found there below few lt le =
       let x = cast_unsigned w64 (cast_signed w32 c) % 2 ^ 32 in
-      place_typed_to k d e slot (set_number (place k) c) (Number (range_of Mov W32 (just x) (just x))) refl refl
+      place_typed_to k d e slot (set_number (place_register k) c) (Number (range_of Mov W32 (just x) (just x))) refl refl
       refl (inside (Number (range_of Mov W32 (just x) (just x))) (short x))
       (record {
         forward = refl;
@@ -151,15 +151,15 @@ module _ (program : List Insn) (shape : Extent) (last : ℕ) (solid : (k : ℕ) 
         base = refl;
       }) le
   place_reached (FromLocal j) k d e lets slot inside found there below few lt le =
-      let known_as : kind_of (plain d) (place j) ≡ word = place_word j d (omega (arith, there, below)) few in
+      let known_as : kind_of (plain d) (place_register j) ≡ word = place_word j d (omega (arith, there, below)) few in
       let same = λ (n : Span). range_of Mov W32 n n in
-      place_typed_to k d e slot (copy (place k) (place j)) (of_number_kind same (kind_of (plain d) (place j)))
-      refl refl refl (inside (of_number_kind same (kind_of (plain d) (place j)))
+      place_typed_to k d e slot (copy (place_register k) (place_register j)) (of_number_kind same (kind_of (plain d) (place_register j)))
+      refl refl refl (inside (of_number_kind same (kind_of (plain d) (place_register j)))
       (full_of 32, ap (of_number_kind same) known_as, record { low = omega arith; high = omega arith }))
       (record {
         forward = refl;
         known = refl;
-        set = ap (λ (q : Kind). is_unset_kind q || false) known_as;
+        set = ap (λ (q : AbstractValue). is_unset_kind q || false) known_as;
         frame = writable k lt;
         pointer = ap is_pointer_kind known_as;
         region = refl;
@@ -171,7 +171,7 @@ module _ (program : List Insn) (shape : Extent) (last : ℕ) (solid : (k : ℕ) 
   place_reached (FromWord j) k d e lets slot inside found there below few lt le =
       let room : nat_lt shape.memory (0 + 4 * j + 4) ≡ false = le-ltb shape.memory (0 + 4 * j + 4)
       (omega (arith, there)) in
-      place_typed_to k d e slot (get_code (place k) (FromWord j)) word refl refl refl (inside word (kind_in_itself word))
+      place_typed_to k d e slot (get_code (place_register k) (FromWord j)) word refl refl refl (inside word (kind_in_itself word))
       (record {
         forward = refl;
         known = refl;
@@ -188,12 +188,12 @@ module _ (program : List Insn) (shape : Extent) (last : ℕ) (solid : (k : ℕ) 
 
   into_place : (x : Source) (k d lets slot : ℕ) → is_found x ≡ true → IsThere x lets shape.memory → lets ≤ d → d ≤ 3
       → k < 3 → slot + 1 ≤ last
-      → T slot (get_code (place k) x ∷ []) (C (plain d) slot) (C (plain d) (slot + 1))
+      → T slot (get_code (place_register k) x ∷ []) (C (plain d) slot) (C (plain d) (slot + 1))
   into_place x k d lets slot found there below few lt le =
       place_reached x k d d lets slot (λ K h. placed_in k d K lt h) found there below few lt le
 
   into_new : (x : Source) (d slot : ℕ) → is_found x ≡ true → IsThere x d shape.memory → d < 3 → slot + 1 ≤ last
-      → T slot (get_code (place d) x ∷ []) (C (plain d) slot) (C (plain (d + 1)) (slot + 1))
+      → T slot (get_code (place_register d) x ∷ []) (C (plain d) slot) (C (plain (d + 1)) (slot + 1))
   into_new x d slot found there lt le =
       place_reached x d d (d + 1) d slot (λ K h. placed_new d K lt h) found there (omega arith) (omega (arith, lt)) lt le
 
@@ -208,7 +208,7 @@ module _ (program : List Insn) (shape : Extent) (last : ℕ) (solid : (k : ℕ) 
       (proper_known d Unset Unset Unset tt tt tt) (keeps_own _ _ _ (rw room refl)) le
 
   place_stored : (j d k slot : ℕ) → j < d → d ≤ 3 → 4 * k + 4 ≤ shape.memory → slot + 1 ≤ last
-      → T slot (i.StoreReg size.W R6 (pos (4 * k)) (place j) ∷ []) (C (plain d) slot) (C (plain d) (slot + 1))
+      → T slot (i.StoreReg size.W R6 (pos (4 * k)) (place_register j) ∷ []) (C (plain d) slot) (C (plain d) (slot + 1))
   place_stored zero zero k slot lt few inside le = absurd (omega (arith, lt))
   place_stored (suc j) zero k slot lt few inside le = absurd (omega (arith, lt))
   place_stored (suc j) (suc zero) k slot lt few inside le = absurd (omega (arith, lt))
@@ -218,37 +218,37 @@ module _ (program : List Insn) (shape : Extent) (last : ℕ) (solid : (k : ℕ) 
   place_stored zero (suc zero) k slot lt few inside le =
       let room : nat_lt shape.memory (0 + 4 * k + 4) ≡ false = le-ltb shape.memory (0 + 4 * k + 4)
       (omega (arith, inside)) in
-      one_on program shape last solid slot (i.StoreReg size.W R6 (pos (4 * k)) (place 0)) (plain 1) _ (plain 1)
+      one_on program shape last solid slot (i.StoreReg size.W R6 (pos (4 * k)) (place_register 0)) (plain 1) _ (plain 1)
       refl refl refl (into _ 1 Unset Unset Unset tt tt tt refl refl refl refl)
       (proper_known 1 Unset Unset Unset tt tt tt) (keeps_own _ _ _ (rw room refl)) le
   place_stored zero (suc (suc zero)) k slot lt few inside le =
       let room : nat_lt shape.memory (0 + 4 * k + 4) ≡ false = le-ltb shape.memory (0 + 4 * k + 4)
       (omega (arith, inside)) in
-      one_on program shape last solid slot (i.StoreReg size.W R6 (pos (4 * k)) (place 0)) (plain 2) _ (plain 2)
+      one_on program shape last solid slot (i.StoreReg size.W R6 (pos (4 * k)) (place_register 0)) (plain 2) _ (plain 2)
       refl refl refl (into _ 2 Unset Unset Unset tt tt tt refl refl refl refl)
       (proper_known 2 Unset Unset Unset tt tt tt) (keeps_own _ _ _ (rw room refl)) le
   place_stored zero (suc (suc (suc zero))) k slot lt few inside le =
       let room : nat_lt shape.memory (0 + 4 * k + 4) ≡ false = le-ltb shape.memory (0 + 4 * k + 4)
       (omega (arith, inside)) in
-      one_on program shape last solid slot (i.StoreReg size.W R6 (pos (4 * k)) (place 0)) (plain 3) _ (plain 3)
+      one_on program shape last solid slot (i.StoreReg size.W R6 (pos (4 * k)) (place_register 0)) (plain 3) _ (plain 3)
       refl refl refl (into _ 3 Unset Unset Unset tt tt tt refl refl refl refl)
       (proper_known 3 Unset Unset Unset tt tt tt) (keeps_own _ _ _ (rw room refl)) le
   place_stored (suc zero) (suc (suc zero)) k slot lt few inside le =
       let room : nat_lt shape.memory (0 + 4 * k + 4) ≡ false = le-ltb shape.memory (0 + 4 * k + 4)
       (omega (arith, inside)) in
-      one_on program shape last solid slot (i.StoreReg size.W R6 (pos (4 * k)) (place 1)) (plain 2) _ (plain 2)
+      one_on program shape last solid slot (i.StoreReg size.W R6 (pos (4 * k)) (place_register 1)) (plain 2) _ (plain 2)
       refl refl refl (into _ 2 Unset Unset Unset tt tt tt refl refl refl refl)
       (proper_known 2 Unset Unset Unset tt tt tt) (keeps_own _ _ _ (rw room refl)) le
   place_stored (suc zero) (suc (suc (suc zero))) k slot lt few inside le =
       let room : nat_lt shape.memory (0 + 4 * k + 4) ≡ false = le-ltb shape.memory (0 + 4 * k + 4)
       (omega (arith, inside)) in
-      one_on program shape last solid slot (i.StoreReg size.W R6 (pos (4 * k)) (place 1)) (plain 3) _ (plain 3)
+      one_on program shape last solid slot (i.StoreReg size.W R6 (pos (4 * k)) (place_register 1)) (plain 3) _ (plain 3)
       refl refl refl (into _ 3 Unset Unset Unset tt tt tt refl refl refl refl)
       (proper_known 3 Unset Unset Unset tt tt tt) (keeps_own _ _ _ (rw room refl)) le
   place_stored (suc (suc zero)) (suc (suc (suc zero))) k slot lt few inside le =
       let room : nat_lt shape.memory (0 + 4 * k + 4) ≡ false = le-ltb shape.memory (0 + 4 * k + 4)
       (omega (arith, inside)) in
-      one_on program shape last solid slot (i.StoreReg size.W R6 (pos (4 * k)) (place 2)) (plain 3) _ (plain 3)
+      one_on program shape last solid slot (i.StoreReg size.W R6 (pos (4 * k)) (place_register 2)) (plain 3) _ (plain 3)
       refl refl refl (into _ 3 Unset Unset Unset tt tt tt refl refl refl refl)
       (proper_known 3 Unset Unset Unset tt tt tt) (keeps_own _ _ _ (rw room refl)) le
 
@@ -276,7 +276,7 @@ module _ (program : List Insn) (shape : Extent) (last : ℕ) (solid : (k : ℕ) 
 
   -- a place into r2
   pass_typed : (k d slot : ℕ) → k < d → d ≤ 3 → slot + 1 ≤ last
-      → T slot (copy R2 (place k) ∷ []) (C (known d Unset (some_node program shape last solid) Unset) slot)
+      → T slot (copy R2 (place_register k) ∷ []) (C (known d Unset (some_node program shape last solid) Unset) slot)
       (C (known d Unset (some_node program shape last solid) word) (slot + 1))
   pass_typed zero zero slot lt few le = absurd (omega (arith, lt))
   pass_typed (suc k) zero slot lt few le = absurd (omega (arith, lt))
@@ -286,37 +286,37 @@ module _ (program : List Insn) (shape : Extent) (last : ℕ) (solid : (k : ℕ) 
   pass_typed k (suc (suc (suc (suc d)))) slot lt few le = absurd (omega (arith, few))
   pass_typed zero (suc zero) slot lt few le =
       let N = some_node program shape last solid in
-      one_on program shape last solid slot (copy R2 (place 0)) (known 1 Unset N Unset) _ (known 1 Unset N word)
+      one_on program shape last solid slot (copy R2 (place_register 0)) (known 1 Unset N Unset) _ (known 1 Unset N word)
       refl refl refl
       (into _ 1 Unset N word tt (kind_in_itself N) (kind_in_itself word) refl refl refl refl)
       (proper_known 1 Unset N Unset tt (proper_node program shape last solid) tt) (keeps_own _ _ _ refl) le
   pass_typed zero (suc (suc zero)) slot lt few le =
       let N = some_node program shape last solid in
-      one_on program shape last solid slot (copy R2 (place 0)) (known 2 Unset N Unset) _ (known 2 Unset N word)
+      one_on program shape last solid slot (copy R2 (place_register 0)) (known 2 Unset N Unset) _ (known 2 Unset N word)
       refl refl refl
       (into _ 2 Unset N word tt (kind_in_itself N) (kind_in_itself word) refl refl refl refl)
       (proper_known 2 Unset N Unset tt (proper_node program shape last solid) tt) (keeps_own _ _ _ refl) le
   pass_typed zero (suc (suc (suc zero))) slot lt few le =
       let N = some_node program shape last solid in
-      one_on program shape last solid slot (copy R2 (place 0)) (known 3 Unset N Unset) _ (known 3 Unset N word)
+      one_on program shape last solid slot (copy R2 (place_register 0)) (known 3 Unset N Unset) _ (known 3 Unset N word)
       refl refl refl
       (into _ 3 Unset N word tt (kind_in_itself N) (kind_in_itself word) refl refl refl refl)
       (proper_known 3 Unset N Unset tt (proper_node program shape last solid) tt) (keeps_own _ _ _ refl) le
   pass_typed (suc zero) (suc (suc zero)) slot lt few le =
       let N = some_node program shape last solid in
-      one_on program shape last solid slot (copy R2 (place 1)) (known 2 Unset N Unset) _ (known 2 Unset N word)
+      one_on program shape last solid slot (copy R2 (place_register 1)) (known 2 Unset N Unset) _ (known 2 Unset N word)
       refl refl refl
       (into _ 2 Unset N word tt (kind_in_itself N) (kind_in_itself word) refl refl refl refl)
       (proper_known 2 Unset N Unset tt (proper_node program shape last solid) tt) (keeps_own _ _ _ refl) le
   pass_typed (suc zero) (suc (suc (suc zero))) slot lt few le =
       let N = some_node program shape last solid in
-      one_on program shape last solid slot (copy R2 (place 1)) (known 3 Unset N Unset) _ (known 3 Unset N word)
+      one_on program shape last solid slot (copy R2 (place_register 1)) (known 3 Unset N Unset) _ (known 3 Unset N word)
       refl refl refl
       (into _ 3 Unset N word tt (kind_in_itself N) (kind_in_itself word) refl refl refl refl)
       (proper_known 3 Unset N Unset tt (proper_node program shape last solid) tt) (keeps_own _ _ _ refl) le
   pass_typed (suc (suc zero)) (suc (suc (suc zero))) slot lt few le =
       let N = some_node program shape last solid in
-      one_on program shape last solid slot (copy R2 (place 2)) (known 3 Unset N Unset) _ (known 3 Unset N word)
+      one_on program shape last solid slot (copy R2 (place_register 2)) (known 3 Unset N Unset) _ (known 3 Unset N word)
       refl refl refl
       (into _ 3 Unset N word tt (kind_in_itself N) (kind_in_itself word) refl refl refl refl)
       (proper_known 3 Unset N Unset tt (proper_node program shape last solid) tt) (keeps_own _ _ _ refl) le
@@ -437,15 +437,15 @@ module _ (program : List Insn) (shape : Extent) (last : ℕ) (solid : (k : ℕ) 
       (proper_known (d + 1) word Unset Unset some_word tt tt) (keeps_own _ _ _ refl) (omega (arith, le)) in
       let a = name_typed program shape last solid (d + 1) p1 (omega (arith, same, few)) (omega (arith, le)) in
       let e1 : p2 + 1 + 1 ≡ end = omega arith in
-      let b = typed_at program shape last solid p2 (p2 + 1 + 1) end (copy R2 (place d) ∷ i.Call (pos 3) ∷ [])
+      let b = typed_at program shape last solid p2 (p2 + 1 + 1) end (copy R2 (place_register d) ∷ i.Call (pos 3) ∷ [])
       (C (known (d + 1) Unset N Unset) p2) S e1 (hand_typed (FromLocal d) (d + 1) (d + 1) p2 refl (omega arith)
       (omega arith) (omega (arith, small)) (omega (arith, same, some))
       (omega (arith, le))) in
-      let ab = typed_seq program shape last solid p1 p2 (copy R1 R0 ∷ []) (copy R2 (place d) ∷ i.Call
+      let ab = typed_seq program shape last solid p1 p2 (copy R1 R0 ∷ []) (copy R2 (place_register d) ∷ i.Call
       (pos 3) ∷ []) (C A p1) (C (known (d + 1) Unset N Unset) p2) (C S end) refl a b in
       let e2 : end ≡ slot + 1 + 3 = omega arith in
       let all = typed_then program shape last solid slot p1 (jump_at AtLeast n 3 ∷ [])
-      (copy R1 R0 ∷ copy R2 (place d) ∷ i.Call (pos 3) ∷ []) (C V slot)
+      (copy R1 R0 ∷ copy R2 (place_register d) ∷ i.Call (pos 3) ∷ []) (C V slot)
       (λ table. C A p1 table × C S (p1 + 3) table) (C A p1) (C S end) refl f ab
       (λ table o asks. (o, subst (λ (k : ℕ). C S k table) e2 asks)) in
       typed_as program shape last solid slot (send_to_code d n) (λ table. C V slot table × C A p1 table)
@@ -478,12 +478,12 @@ module _ (program : List Insn) (shape : Extent) (last : ℕ) (solid : (k : ℕ) 
   -- a value into place d, and what follows at depth d + 1
   stored_typed : (e : Term) (z : Sizes) (J : List ℕ) (d slot : ℕ) (rest : List Insn) → z.nodes ≡ shape.nodes
       → 1 ≤ z.nodes → z.nodes ≤ 64 → z.memory ≡ shape.memory → d < 3 → Fits e z (length J) d d
-      → slot + length (term_code e z J d Value ++ (copy (place d) R0 ∷ rest)) ≤ last
+      → slot + length (term_code e z J d Value ++ (copy (place_register d) R0 ∷ rest)) ≤ last
       → ((to : ℕ) → to + length rest ≤ last → BlockTyped (d + 1) to rest)
-      → BlockTyped d slot (term_code e z J d Value ++ (copy (place d) R0 ∷ rest))
+      → BlockTyped d slot (term_code e z J d Value ++ (copy (place_register d) R0 ∷ rest))
   stored_typed e z J d slot rest same some few room small fits le next =
       let code = term_code e z J d Value in
-      let back = copy (place d) R0 ∷ rest in
+      let back = copy (place_register d) R0 ∷ rest in
       let len : length (code ++ back) ≡ length code + (1 + length rest) = omega (arith, length-append code back) in
       let p1 = slot + length code in
       let p2 = p1 + 1 in
@@ -497,7 +497,7 @@ module _ (program : List Insn) (shape : Extent) (last : ℕ) (solid : (k : ℕ) 
       let c1 = typed_as program shape last solid p2 rest (C (plain (d + 1)) p2) (C (plain (d + 1)) end)
       (C (plain (d + 1)) p2) (C (plain d) end) (λ table h. h)
       (λ table h. covers_less table (plain (d + 1)) (plain d) end (known_less d Unset Unset Unset) h) c in
-      let bc = typed_seq program shape last solid p1 p2 (copy (place d) R0 ∷ []) rest (C (valued d) p1)
+      let bc = typed_seq program shape last solid p1 p2 (copy (place_register d) R0 ∷ []) rest (C (valued d) p1)
       (C (plain (d + 1)) p2) (C (plain d) end) refl b c1 in
       typed_seq program shape last solid slot p1 code back (C (plain d) slot) (C (valued d) p1)
       (C (plain d) end) refl a bc
@@ -551,8 +551,8 @@ module _ (program : List Insn) (shape : Extent) (last : ℕ) (solid : (k : ℕ) 
   also_typed false x e target first z J d lets slot there same some few room below small ours fits free le before =
       let code = term_code e z J d Value in
       let set = assign_code target ∷ [] in
-      let back = copy R0 (place d) ∷ set in
-      let rest = copy (place d) R0 ∷ (first ++ back) in
+      let back = copy R0 (place_register d) ∷ set in
+      let rest = copy (place_register d) R0 ∷ (first ++ back) in
       let len : length (code ++ rest) ≡ length code + (1 + (length first + 2)) = omega
       (arith, length-append code rest, length-append first back) in
       let p1 = slot + length code in
@@ -575,33 +575,33 @@ module _ (program : List Insn) (shape : Extent) (last : ℕ) (solid : (k : ℕ) 
       (omega (arith, len, le))) in
       let g1 = typed_as program shape last solid p4 set (C V p4) (C S end) (C V p4) (C (plain d) end) (λ table h. h)
       (λ table h. covers_less table S (plain d) end (known_less d Unset Unset Unset) h) g in
-      let fg = typed_seq program shape last solid p3 p4 (copy R0 (place d) ∷ []) set (C S p3) (C V p4)
+      let fg = typed_seq program shape last solid p3 p4 (copy R0 (place_register d) ∷ []) set (C S p3) (C V p4)
       (C (plain d) end) refl f g1 in
       let cfg = typed_seq program shape last solid p2 p3 first back (C S p2) (C S p3) (C (plain d) end) refl c fg in
-      let bcfg = typed_seq program shape last solid p1 p2 (copy (place d) R0 ∷ []) (first ++ back)
+      let bcfg = typed_seq program shape last solid p1 p2 (copy (place_register d) R0 ∷ []) (first ++ back)
       (C (valued d) p1) (C S p2) (C (plain d) end) refl b cfg in
       typed_seq program shape last solid slot p1 code rest (C (plain d) slot) (C (valued d) p1)
       (C (plain d) end) refl a bcfg
 
   -- a local that is changed in its place
   alter_typed : (op : Operation) (k v d slot : ℕ) → k < d → d ≤ 3 → slot + 1 ≤ last
-      → T slot (i.Alu (alu_of op) W32 (place k) (operand.Imm (cast_signed w32 v)) ∷ []) (C (plain d) slot)
+      → T slot (i.Alu (alu_op_of op) W32 (place_register k) (operand.Imm (cast_signed w32 v)) ∷ []) (C (plain d) slot)
       (C (plain d) (slot + 1))
   alter_typed Sum k v d slot lt few le =
       let n = cast_unsigned w64 (cast_signed w32 v) % 2 ^ 32 in
       let small : k < 3 = omega (arith, lt, few) in
-      let e : kind_of (plain d) (place k) ≡ word = place_word k d lt few in
-      place_typed k d slot (i.Alu Add W32 (place k) (operand.Imm (cast_signed w32 v)))
-      (of_number_kinds (range_of Add W32) (kind_of (plain d) (place k)) (Number (just n))) small refl refl refl
-      (subst (λ (q : Kind). IsKindIn (of_number_kinds (range_of Add W32) q (Number (just n))) word) (sym e)
+      let e : kind_of (plain d) (place_register k) ≡ word = place_word k d lt few in
+      place_typed k d slot (i.Alu Add W32 (place_register k) (operand.Imm (cast_signed w32 v)))
+      (of_number_kinds (range_of Add W32) (kind_of (plain d) (place_register k)) (Number (just n))) small refl refl refl
+      (subst (λ (q : AbstractValue). IsKindIn (of_number_kinds (range_of Add W32) q (Number (just n))) word) (sym e)
       (word_result Add (Number (just n)) (just n) refl (record { ordered = omega arith })
       (record { low = omega arith; high = omega arith }) refl))
       (record {
         forward = refl;
         known = refl;
-        set = ap (λ (q : Kind). is_unset_kind q || false) e;
+        set = ap (λ (q : AbstractValue). is_unset_kind q || false) e;
         frame = writable k small;
-        pointer = ap (λ (q : Kind). is_pointer_kind q || false) e;
+        pointer = ap (λ (q : AbstractValue). is_pointer_kind q || false) e;
         region = refl;
         stack = refl;
         argument = refl;
@@ -611,18 +611,18 @@ module _ (program : List Insn) (shape : Extent) (last : ℕ) (solid : (k : ℕ) 
   alter_typed Difference k v d slot lt few le =
       let n = cast_unsigned w64 (cast_signed w32 v) % 2 ^ 32 in
       let small : k < 3 = omega (arith, lt, few) in
-      let e : kind_of (plain d) (place k) ≡ word = place_word k d lt few in
-      place_typed k d slot (i.Alu Sub W32 (place k) (operand.Imm (cast_signed w32 v)))
-      (of_number_kinds (range_of Sub W32) (kind_of (plain d) (place k)) (Number (just n))) small refl refl refl
-      (subst (λ (q : Kind). IsKindIn (of_number_kinds (range_of Sub W32) q (Number (just n))) word) (sym e)
+      let e : kind_of (plain d) (place_register k) ≡ word = place_word k d lt few in
+      place_typed k d slot (i.Alu Sub W32 (place_register k) (operand.Imm (cast_signed w32 v)))
+      (of_number_kinds (range_of Sub W32) (kind_of (plain d) (place_register k)) (Number (just n))) small refl refl refl
+      (subst (λ (q : AbstractValue). IsKindIn (of_number_kinds (range_of Sub W32) q (Number (just n))) word) (sym e)
       (word_result Sub (Number (just n)) (just n) refl (record { ordered = omega arith })
       (record { low = omega arith; high = omega arith }) refl))
       (record {
         forward = refl;
         known = refl;
-        set = ap (λ (q : Kind). is_unset_kind q || false) e;
+        set = ap (λ (q : AbstractValue). is_unset_kind q || false) e;
         frame = writable k small;
-        pointer = ap (λ (q : Kind). is_pointer_kind q || false) e;
+        pointer = ap (λ (q : AbstractValue). is_pointer_kind q || false) e;
         region = refl;
         stack = refl;
         argument = refl;
@@ -632,18 +632,18 @@ module _ (program : List Insn) (shape : Extent) (last : ℕ) (solid : (k : ℕ) 
   alter_typed Product k v d slot lt few le =
       let n = cast_unsigned w64 (cast_signed w32 v) % 2 ^ 32 in
       let small : k < 3 = omega (arith, lt, few) in
-      let e : kind_of (plain d) (place k) ≡ word = place_word k d lt few in
-      place_typed k d slot (i.Alu Mul W32 (place k) (operand.Imm (cast_signed w32 v)))
-      (of_number_kinds (range_of Mul W32) (kind_of (plain d) (place k)) (Number (just n))) small refl refl refl
-      (subst (λ (q : Kind). IsKindIn (of_number_kinds (range_of Mul W32) q (Number (just n))) word) (sym e)
+      let e : kind_of (plain d) (place_register k) ≡ word = place_word k d lt few in
+      place_typed k d slot (i.Alu Mul W32 (place_register k) (operand.Imm (cast_signed w32 v)))
+      (of_number_kinds (range_of Mul W32) (kind_of (plain d) (place_register k)) (Number (just n))) small refl refl refl
+      (subst (λ (q : AbstractValue). IsKindIn (of_number_kinds (range_of Mul W32) q (Number (just n))) word) (sym e)
       (word_result Mul (Number (just n)) (just n) refl (record { ordered = omega arith })
       (record { low = omega arith; high = omega arith }) refl))
       (record {
         forward = refl;
         known = refl;
-        set = ap (λ (q : Kind). is_unset_kind q || false) e;
+        set = ap (λ (q : AbstractValue). is_unset_kind q || false) e;
         frame = writable k small;
-        pointer = ap (λ (q : Kind). is_pointer_kind q || false) e;
+        pointer = ap (λ (q : AbstractValue). is_pointer_kind q || false) e;
         region = refl;
         stack = refl;
         argument = refl;
@@ -653,18 +653,18 @@ module _ (program : List Insn) (shape : Extent) (last : ℕ) (solid : (k : ℕ) 
   alter_typed Quotient k v d slot lt few le =
       let n = cast_unsigned w64 (cast_signed w32 v) % 2 ^ 32 in
       let small : k < 3 = omega (arith, lt, few) in
-      let e : kind_of (plain d) (place k) ≡ word = place_word k d lt few in
-      place_typed k d slot (i.Alu Div W32 (place k) (operand.Imm (cast_signed w32 v)))
-      (of_number_kinds (range_of Div W32) (kind_of (plain d) (place k)) (Number (just n))) small refl refl refl
-      (subst (λ (q : Kind). IsKindIn (of_number_kinds (range_of Div W32) q (Number (just n))) word) (sym e)
+      let e : kind_of (plain d) (place_register k) ≡ word = place_word k d lt few in
+      place_typed k d slot (i.Alu Div W32 (place_register k) (operand.Imm (cast_signed w32 v)))
+      (of_number_kinds (range_of Div W32) (kind_of (plain d) (place_register k)) (Number (just n))) small refl refl refl
+      (subst (λ (q : AbstractValue). IsKindIn (of_number_kinds (range_of Div W32) q (Number (just n))) word) (sym e)
       (word_result Div (Number (just n)) (just n) refl (record { ordered = omega arith })
       (record { low = omega arith; high = omega arith }) refl))
       (record {
         forward = refl;
         known = refl;
-        set = ap (λ (q : Kind). is_unset_kind q || false) e;
+        set = ap (λ (q : AbstractValue). is_unset_kind q || false) e;
         frame = writable k small;
-        pointer = ap (λ (q : Kind). is_pointer_kind q || false) e;
+        pointer = ap (λ (q : AbstractValue). is_pointer_kind q || false) e;
         region = refl;
         stack = refl;
         argument = refl;
@@ -674,18 +674,18 @@ module _ (program : List Insn) (shape : Extent) (last : ℕ) (solid : (k : ℕ) 
   alter_typed Remainder k v d slot lt few le =
       let n = cast_unsigned w64 (cast_signed w32 v) % 2 ^ 32 in
       let small : k < 3 = omega (arith, lt, few) in
-      let e : kind_of (plain d) (place k) ≡ word = place_word k d lt few in
-      place_typed k d slot (i.Alu Mod W32 (place k) (operand.Imm (cast_signed w32 v)))
-      (of_number_kinds (range_of Mod W32) (kind_of (plain d) (place k)) (Number (just n))) small refl refl refl
-      (subst (λ (q : Kind). IsKindIn (of_number_kinds (range_of Mod W32) q (Number (just n))) word) (sym e)
+      let e : kind_of (plain d) (place_register k) ≡ word = place_word k d lt few in
+      place_typed k d slot (i.Alu Mod W32 (place_register k) (operand.Imm (cast_signed w32 v)))
+      (of_number_kinds (range_of Mod W32) (kind_of (plain d) (place_register k)) (Number (just n))) small refl refl refl
+      (subst (λ (q : AbstractValue). IsKindIn (of_number_kinds (range_of Mod W32) q (Number (just n))) word) (sym e)
       (word_result Mod (Number (just n)) (just n) refl (record { ordered = omega arith })
       (record { low = omega arith; high = omega arith }) refl))
       (record {
         forward = refl;
         known = refl;
-        set = ap (λ (q : Kind). is_unset_kind q || false) e;
+        set = ap (λ (q : AbstractValue). is_unset_kind q || false) e;
         frame = writable k small;
-        pointer = ap (λ (q : Kind). is_pointer_kind q || false) e;
+        pointer = ap (λ (q : AbstractValue). is_pointer_kind q || false) e;
         region = refl;
         stack = refl;
         argument = refl;
@@ -694,11 +694,11 @@ module _ (program : List Insn) (shape : Extent) (last : ℕ) (solid : (k : ℕ) 
       }) le
 
   change_typed_in : (target : Target) (e : Term) (insn : Insn) (z : Sizes) (J : List ℕ) (d lets slot : ℕ)
-      → change_of target e z J ≡ Some insn → lets ≤ d → d ≤ 3 → TargetFits target z.memory lets → slot + 1 ≤ last
+      → changing_insn target e z J ≡ Some insn → lets ≤ d → d ≤ 3 → TargetFits target z.memory lets → slot + 1 ≤ last
       → T slot (insn ∷ []) (C (plain d) slot) (C (plain d) (slot + 1))
   change_typed_in (ToLocal k) (Binary' (Compute op) p a q b) insn z J d lets slot is le few ours room =
       let c = constant_number b z J in
-      let act = i.Alu (alu_of op) W32 (place k) (operand.Imm (cast_signed w32 c)) in
+      let act = i.Alu (alu_op_of op) W32 (place_register k) (operand.Imm (cast_signed w32 c)) in
       let test = is_local a k && is_constant b in
       elim (cases_Bool test) [
         | inl so ↦
@@ -711,14 +711,14 @@ module _ (program : List Insn) (shape : Extent) (last : ℕ) (solid : (k : ℕ) 
   change_typed_in target e insn z J d lets slot is le few ours room = absurd (none-some insn is)
 
   one_typed : (found : Option Insn) (target : Target) (e : Term) (z : Sizes) (J : List ℕ) (d lets slot : ℕ)
-      → change_of target e z J ≡ found → z.nodes ≡ shape.nodes → 1 ≤ z.nodes → z.nodes ≤ 64 → z.memory ≡ shape.memory
+      → changing_insn target e z J ≡ found → z.nodes ≡ shape.nodes → 1 ≤ z.nodes → z.nodes ≤ 64 → z.memory ≡ shape.memory
       → lets ≤ d → d ≤ 3 → TargetFits target z.memory lets → Fits e z (length J) lets d
-      → slot + length (one_code found (given_code (source_of e z J) target (term_code e z J d Value))) ≤ last
-      → BlockTyped d slot (one_code found (given_code (source_of e z J) target (term_code e z J d Value)))
+      → slot + length (one_code found (given_code (term_source e z J) target (term_code e z J d Value))) ≤ last
+      → BlockTyped d slot (one_code found (given_code (term_source e z J) target (term_code e z J d Value)))
   one_typed None target e z J d lets slot is same some few room below small ours fits le =
-      let there = subst (λ (m : ℕ). IsThere (source_of e z J) lets m) room
+      let there = subst (λ (m : ℕ). IsThere (term_source e z J) lets m) room
       (source_there e z J (length J) lets d fits) in
-      given_typed (source_of e z J) target e z J d lets slot there same some few room below small ours fits le
+      given_typed (term_source e z J) target e z J d lets slot there same some few room below small ours fits le
   one_typed (Some insn) target e z J d lets slot is same some few room below small ours fits le =
       change_typed_in target e insn z J d lets slot is below small ours le
 
@@ -726,13 +726,13 @@ module _ (program : List Insn) (shape : Extent) (last : ℕ) (solid : (k : ℕ) 
       → z.nodes ≤ 64 → z.memory ≡ shape.memory → lets ≤ d → d ≤ 3 → AssignmentFits a z (length J) lets d
       → slot + length (assignment_code a z J d) ≤ last → BlockTyped d slot (assignment_code a z J d)
   assignment_typed (One target e) z J d lets slot same some few room below small fits le =
-      one_typed (change_of target e z J) target e z J d lets slot refl same some few room below small fits.0 fits.1 le
+      one_typed (changing_insn target e z J) target e z J d lets slot refl same some few room below small fits.0 fits.1 le
   assignment_typed (Also' p front target e) z J d lets slot same some few room below small fits le =
       let behind = depth_behind (is_steady e) d in
       let more : d ≤ behind = behind_more (is_steady e) d in
-      let there = subst (λ (m : ℕ). IsThere (source_of e z J) lets m) room
+      let there = subst (λ (m : ℕ). IsThere (term_source e z J) lets m) room
       (source_there e z J (length J) lets d fits.1) in
-      also_typed (is_steady e) (source_of e z J) e target (assignment_code front z J behind) z J d lets slot
+      also_typed (is_steady e) (term_source e z J) e target (assignment_code front z J behind) z J d lets slot
       there same some
       few room below small fits.0 fits.1 fits.2 le
       (λ to l. assignment_typed front z J behind lets to same some few room (omega (arith, below, more))
@@ -763,12 +763,12 @@ module _ (program : List Insn) (shape : Extent) (last : ℕ) (solid : (k : ℕ) 
 
   -- a found number into place d, and what follows at depth d + 1
   found_placed_typed : (x : Source) (d slot : ℕ) (rest : List Insn) → is_found x ≡ true → IsThere x d shape.memory
-      → d < 3 → slot + length (get_code (place d) x ∷ rest) ≤ last
+      → d < 3 → slot + length (get_code (place_register d) x ∷ rest) ≤ last
       → ((to : ℕ) → to + length rest ≤ last → BlockTyped (d + 1) to rest)
-      → BlockTyped d slot (get_code (place d) x ∷ rest)
+      → BlockTyped d slot (get_code (place_register d) x ∷ rest)
   found_placed_typed x d slot rest found there small le next =
       let p1 = slot + 1 in
-      let end = slot + length (get_code (place d) x ∷ rest) in
+      let end = slot + length (get_code (place_register d) x ∷ rest) in
       let a = into_new x d slot found there small (omega (arith, le)) in
       let eq : p1 + length rest ≡ end = omega arith in
       let c = typed_at program shape last solid p1 (p1 + length rest) end rest (C (plain (d + 1)) p1) (plain (d + 1)) eq
@@ -776,7 +776,7 @@ module _ (program : List Insn) (shape : Extent) (last : ℕ) (solid : (k : ℕ) 
       let c1 = typed_as program shape last solid p1 rest (C (plain (d + 1)) p1) (C (plain (d + 1)) end)
       (C (plain (d + 1)) p1) (C (plain d) end) (λ table h. h)
       (λ table h. covers_less table (plain (d + 1)) (plain d) end (known_less d Unset Unset Unset) h) c in
-      typed_seq program shape last solid slot p1 (get_code (place d) x ∷ []) rest (C (plain d) slot)
+      typed_seq program shape last solid slot p1 (get_code (place_register d) x ∷ []) rest (C (plain d) slot)
       (C (plain (d + 1)) p1) (C (plain d) end) refl a c1
 
   placed_typed : (x : Source) (e : Term) (z : Sizes) (J : List ℕ) (d slot : ℕ) (rest : List Insn)
@@ -828,11 +828,11 @@ module _ (program : List Insn) (shape : Extent) (last : ℕ) (solid : (k : ℕ) 
   constant_typed : (found : Bool) (e : Term) (z : Sizes) (J : List ℕ) (d slot j : ℕ) → nat_lt j z.nodes ≡ found
       → z.nodes ≡ shape.nodes → 1 ≤ z.nodes → z.nodes ≤ 64 → z.memory ≡ shape.memory → d ≤ 3
       → Fits e z (length J) d d
-      → slot + length (if found then passed_code (source_of e z J) j (term_code e z J d Value) else []) ≤ last
-      → BlockTyped d slot (if found then passed_code (source_of e z J) j (term_code e z J d Value) else [])
+      → slot + length (if found then passed_code (term_source e z J) j (term_code e z J d Value) else []) ≤ last
+      → BlockTyped d slot (if found then passed_code (term_source e z J) j (term_code e z J d Value) else [])
   constant_typed true e z J d slot j is same some few room small fits le =
       let memory = λ (x : Source) (there : IsThere x d z.memory). subst (λ (m : ℕ). IsThere x d m) room there in
-      passed_typed (source_of e z J) e z J d slot j (memory (source_of e z J) (source_there e z J (length J) d d fits))
+      passed_typed (term_source e z J) e z J d slot j (memory (term_source e z J) (source_there e z J (length J) d d fits))
       same some few room small (ltb-true j z.nodes is) fits le
   constant_typed false e z J d slot j is same some few room small fits le =
       let e1 : slot ≡ slot + 0 = omega arith in
@@ -842,12 +842,12 @@ module _ (program : List Insn) (shape : Extent) (last : ℕ) (solid : (k : ℕ) 
   to_typed : (constant : Bool) (e k : Term) (z : Sizes) (J : List ℕ) (d slot : ℕ) → is_constant k ≡ constant
       → z.nodes ≡ shape.nodes → 1 ≤ z.nodes → z.nodes ≤ 64 → z.memory ≡ shape.memory → d ≤ 3 → HasPlace constant d
       → Fits e z (length J) d d → Fits k z (length J) d (depth_behind constant d)
-      → slot + length (if constant then send_to_constant_code (source_of e z J) (constant_number k z J)
+      → slot + length (if constant then send_to_constant_code (term_source e z J) (constant_number k z J)
       z.nodes (term_code e z J d Value) else term_code e z J d Value
-      ++ (copy (place d) R0 ∷ (term_code k z J (d + 1) Value ++ send_to_code d z.nodes))) ≤ last
-      → BlockTyped d slot (if constant then send_to_constant_code (source_of e z J) (constant_number k z J)
+      ++ (copy (place_register d) R0 ∷ (term_code k z J (d + 1) Value ++ send_to_code d z.nodes))) ≤ last
+      → BlockTyped d slot (if constant then send_to_constant_code (term_source e z J) (constant_number k z J)
       z.nodes (term_code e z J d Value) else term_code e z J d Value
-      ++ (copy (place d) R0 ∷ (term_code k z J (d + 1) Value ++ send_to_code d z.nodes)))
+      ++ (copy (place_register d) R0 ∷ (term_code k z J (d + 1) Value ++ send_to_code d z.nodes)))
   to_typed true e k z J d slot is same some few room small free fits k_fits le =
       let j = constant_number k z J in
       constant_typed (nat_lt j z.nodes) e z J d slot j refl same some few room small fits le
@@ -911,8 +911,8 @@ module _ (program : List Insn) (shape : Extent) (last : ℕ) (solid : (k : ℕ) 
       refl c r2
   block_typed (Let' e p rest) z J d slot same some few room small fits le =
       let memory = λ (x : Source) (there : IsThere x d z.memory). subst (λ (m : ℕ). IsThere x d m) room there in
-      placed_typed (source_of e z J) e z J d slot (block_code rest z J (d + 1))
-      (memory (source_of e z J) (source_there e z J (length J) d d fits.1)) same some few room fits.0 fits.1 le
+      placed_typed (term_source e z J) e z J d slot (block_code rest z J (d + 1))
+      (memory (term_source e z J) (source_there e z J (length J) d d fits.1)) same some few room fits.0 fits.1 le
       (λ to l. block_typed rest z J (d + 1) to same some few room (omega (arith, fits.0)) fits.2 l)
   block_typed (Assign a) z J d slot same some few room small fits le =
       assignment_typed a z J d d slot same some few room (omega arith) small fits le
@@ -931,8 +931,8 @@ module _ (program : List Insn) (shape : Extent) (last : ℕ) (solid : (k : ℕ) 
       (subst (λ (n : ℕ). BlockFits body z n d) more fits) l)
   block_typed (SendAll e) z J d slot same some few room small fits le =
       let memory = λ (x : Source) (there : IsThere x d z.memory). subst (λ (m : ℕ). IsThere x d m) room there in
-      send_all_typed (source_of e z J) e z J d slot
-      (memory (source_of e z J) (source_there e z J (length J) d d fits.1)) same some few room small
+      send_all_typed (term_source e z J) e z J d slot
+      (memory (term_source e z J) (source_there e z J (length J) d d fits.1)) same some few room small
       (λ q. computed_place (is_operand e) d (sym (found_same e z J) ∙ q) fits.0) fits.1 le
   block_typed (SendTo e k) z J d slot same some few room small fits le =
       to_typed (is_constant k) e k z J d slot refl same some few room small fits.0 fits.1 fits.2 le

@@ -22,8 +22,8 @@ use Rattle.value_range.proofs.Growing.{alu_grows}
 use Rattle.value_range.specs.Results.{alu_of as range_of}
 use Rattle.value_range.specs.Conditions.{less, branch_of, ArePairsInside}
 use Rattle.value_range.proofs.GrowingPairs.{branch_grows}
-use Rattle.bpf_verify.specs.declared.kind.Kind.{Kind}
-use Rattle.bpf_verify.specs.declared.kind.Kind.TheVariants.{Unset, Number}
+use Rattle.bpf_verify.specs.declared.abstract_value.AbstractValue.{AbstractValue}
+use Rattle.bpf_verify.specs.declared.abstract_value.AbstractValue.TheVariants.{Unset, Number}
 use Rattle.bpf_verify.specs.States.{AbstractState, IsKindIn, IsContainedIn, IsProper, IsProperKind, is_pointer_kind, is_unset_kind, kind_of}
 use Rattle.bpf_verify.specs.Rules.{operand_kind, some_unset}
 use Rattle.bpf_verify.specs.Outcomes.{refined_by, branch_outcome, of_number_kind, with_kind}
@@ -43,10 +43,10 @@ use Rattle.rule_nodes.specs.declared.syntax.Source.{Source}
 use Rattle.rule_nodes.specs.declared.syntax.Source.TheVariants.{Constant, FromLocal, FromWord, Computed}
 use Rattle.rule_nodes.specs.declared.syntax.Term.{Term}
 use Rattle.rule_nodes.specs.declared.syntax.Term.TheVariants.{Number as Numeral, Nodes, Faults, Modulus, Me, Coin, LoopNode, Local, Word, Message', Binary', Logical', Not', Choice', Count'}
-use Rattle.rule_nodes.specs.Meaning.{operate}
-use Rattle.rule_nodes.specs.Operands.{is_constant, is_operand, constant_number, depth_behind, fetched_source, source_of}
+use Rattle.rule_nodes.specs.Meaning.{apply_operator}
+use Rattle.rule_nodes.specs.Operands.{is_constant, is_operand, constant_number, depth_behind, fetched_source, term_source}
 use Rattle.rule_nodes.specs.Fits.{Fits}
-use Rattle.rule_nodes.specs.Code.{place, set_number, copy, alu_of, cond_of, jump_on, jump_by, jump_at, beyond, truth_code, by_value, by_test, two_code, get_code, operand_code, load_code, jump_place, by_operator, left_code, binary_code, message_by, mirror, set_node, choice_code, if_code, decides, both_far, both_code, message_code, count_codes, counted_code, count_code, term_code}
+use Rattle.rule_nodes.specs.Code.{place_register, set_number, copy, alu_op_of, cond_of, jump_on, jump_by, jump_at, beyond_purpose, truth_code, by_value, by_test, two_code, get_code, operand_code, load_code, jump_place, by_operator, left_code, binary_code, message_by, mirror, set_node, choice_code, if_code, decides, both_far, both_code, message_code, count_codes, counted_code, count_code, term_code}
 use Rattle.rule_nodes.proofs.Sources.{is_found}
 use Rattle.rule_nodes.proofs.TermRuns.{found_same, behind_more, free_beside, same_depth}
 use Rattle.rule_nodes.proofs.Typing.{memory_place, word, held, known, plain, valued, proper_known, some_word, into, short, seen, Typing, typed_then, typed_as, typed_none, one_on, one_jump, one_fork, number_typed, fetch_typed, keep_typed, second_typed}
@@ -57,7 +57,7 @@ held_less k d = elim (cases_lt k d) [
   | inr h ↦ rw (le-ltb k d h) tt
 ]
 
-pub known_less : (d : ℕ) (k0 k1 k2 : Kind) → IsContainedIn (known (d + 1) k0 k1 k2) (known d k0 k1 k2)
+pub known_less : (d : ℕ) (k0 k1 k2 : AbstractValue) → IsContainedIn (known (d + 1) k0 k1 k2) (known d k0 k1 k2)
 known_less d k0 k1 k2 = within (known (d + 1) k0 k1 k2) k0 k1 k2 memory_place (held 0 d) (held 1 d) (held 2 d)
     (kind_in_itself k0) (kind_in_itself k1) (kind_in_itself k2) (kind_in_itself memory_place) (held_less 0 d)
     (held_less 1 d) (held_less 2 d)
@@ -94,7 +94,7 @@ fetched_there (Word k) z loops lets d fits = fits
 fetched_there t z loops lets d fits = tt
 
 pub source_there : (t : Term) (z : Sizes) (J : List ℕ) (loops lets d : ℕ) → Fits t z loops lets d
-    → IsThere (source_of t z J) lets z.memory
+    → IsThere (term_source t z J) lets z.memory
 source_there t z J loops lets d fits =
     let c = Constant (constant_number t z J) in
     let P : Source → Type 0 = λ x. IsThere x lets z.memory in
@@ -105,7 +105,7 @@ source_there t z J loops lets d fits =
     ]
 
 -- what r1 holds beside r0
-abbrev pub r1_kind : Source → Kind
+abbrev pub r1_kind : Source → AbstractValue
 r1_kind (Constant c) = Unset
 r1_kind (FromLocal k) = Unset
 r1_kind (FromWord k) = word
@@ -121,15 +121,15 @@ proper_paired (FromWord k) d = proper_known d word word Unset some_word some_wor
 proper_paired Computed d = proper_known d word word Unset some_word some_word tt
 
 -- a number of 32 bits into a place
-in_held : (k d : ℕ) (K : Kind) → IsKindIn K word → IsKindIn K (held k d)
+in_held : (k d : ℕ) (K : AbstractValue) → IsKindIn K word → IsKindIn K (held k d)
 in_held k d K h = by (nat_lt k d)
   where
     by : (b : Bool) → IsKindIn K (if b then word else Unset)
     by true = h
     by false = tt
 
-pub placed_in : (k d : ℕ) (K : Kind) → k < 3 → IsKindIn K word → IsContainedIn
-    (with_kind (plain d) (place k) K) (plain d)
+pub placed_in : (k d : ℕ) (K : AbstractValue) → k < 3 → IsKindIn K word → IsContainedIn
+    (with_kind (plain d) (place_register k) K) (plain d)
 placed_in zero d K lt h = within _ Unset Unset Unset memory_place (held 0 d) (held 1 d) (held 2 d) tt tt tt
     (kind_in_itself memory_place) (in_held 0 d K h) (kind_in_itself (held 1 d)) (kind_in_itself (held 2 d))
 placed_in (suc zero) d K lt h = within _ Unset Unset Unset memory_place (held 0 d) (held 1 d) (held 2 d) tt tt tt
@@ -139,8 +139,8 @@ placed_in (suc (suc zero)) d K lt h = within _ Unset Unset Unset memory_place (h
 placed_in (suc (suc (suc k))) d K lt h = absurd (omega (arith, lt))
 
 -- and of a new place
-pub placed_new : (d : ℕ) (K : Kind) → d < 3 → IsKindIn K word
-    → IsContainedIn (with_kind (plain d) (place d) K) (plain (d + 1))
+pub placed_new : (d : ℕ) (K : AbstractValue) → d < 3 → IsKindIn K word
+    → IsContainedIn (with_kind (plain d) (place_register d) K) (plain (d + 1))
 placed_new zero K lt h =
     within _ Unset Unset Unset memory_place word Unset Unset tt tt tt (kind_in_itself memory_place) h tt tt
 placed_new (suc zero) K lt h =
@@ -152,7 +152,7 @@ placed_new (suc (suc zero)) K lt h =
 placed_new (suc (suc (suc d))) K lt h = absurd (omega (arith, lt))
 
 -- what is known of a place in use
-pub place_word : (k d : ℕ) → k < d → d ≤ 3 → kind_of (plain d) (place k) ≡ word
+pub place_word : (k d : ℕ) → k < d → d ≤ 3 → kind_of (plain d) (place_register k) ≡ word
 place_word zero zero lt few = absurd (omega (arith, lt))
 place_word (suc k) zero lt few = absurd (omega (arith, lt))
 place_word (suc k) (suc zero) lt few = absurd (omega (arith, lt))
@@ -177,7 +177,7 @@ record OperandIs (src : Operand) (A : AbstractState) : Type 0 where
 word_inside : IsInside (full_of 32) (full_of 32)
 word_inside = record { low = omega arith; high = omega arith }
 
-place_is : (k d : ℕ) → k < d → d ≤ 3 → OperandIs (operand.Reg (place k)) (valued d)
+place_is : (k d : ℕ) → k < d → d ≤ 3 → OperandIs (operand.Reg (place_register k)) (valued d)
 place_is zero zero lt few = absurd (omega (arith, lt))
 place_is (suc k) zero lt few = absurd (omega (arith, lt))
 place_is (suc k) (suc zero) lt few = absurd (omega (arith, lt))
@@ -213,7 +213,7 @@ operand_is Computed d lets memory there below few =
     record { range = full_of 32; kind = refl; set = refl; ordered = some_word; inside = word_inside }
 
 -- the result of an operation on a number of 32 bits and an operand is one
-pub word_result : (op : AluOp) (k : Kind) (s : Span) → k ≡ Number s → HasMembers s → IsInside s (full_of 32)
+pub word_result : (op : AluOp) (k : AbstractValue) (s : Span) → k ≡ Number s → HasMembers s → IsInside s (full_of 32)
     → range_of op W32 (full_of 32) (full_of 32) ≡ full_of 32
     → IsKindIn (of_number_kind (range_of op W32 (full_of 32)) k) word
 word_result op k s e ordered inside same = (
@@ -331,17 +331,17 @@ branch_first AtLeast false n pair small e =
     (record { ordered = omega arith }) word_inside (record { low = omega arith; high = omega (arith, small) })) in
     inside_further pair.0 _ all.0 (record { low = omega arith; high = omega arith })
 
-left_place : (r : Comparison) (taken : Bool) (k d n : ℕ) (v : ℤ) (K : Kind) (C : AbstractState) → k < 3 → n < 2 ^ 32
+left_place : (r : Comparison) (taken : Bool) (k d n : ℕ) (v : ℤ) (K : AbstractValue) (C : AbstractState) → k < 3 → n < 2 ^ 32
     → K ≡ word
-    → branch_outcome (plain d) (cond_of r) W32 (place k) (operand.Imm v) taken K (Number (just n)) ≡ Some C
+    → branch_outcome (plain d) (cond_of r) W32 (place_register k) (operand.Imm v) taken K (Number (just n)) ≡ Some C
     → IsContainedIn C (plain d)
 left_place r taken k d n v K C lt small e q =
-    let h = subst (λ (x : Kind). branch_outcome (plain d) (cond_of r) W32 (place k) (operand.Imm v) taken x
+    let h = subst (λ (x : AbstractValue). branch_outcome (plain d) (cond_of r) W32 (place_register k) (operand.Imm v) taken x
     (Number (just n)) ≡ Some C) e q in
     by (branch_of (cond_of r) W32 (full_of 32) (just n) taken) refl h
   where
     by : (found : Option (Span × Span)) → branch_of (cond_of r) W32 (full_of 32) (just n) taken ≡ found
-        → refined_by (plain d) (place k) (operand.Imm v) found ≡ Some C → IsContainedIn C (plain d)
+        → refined_by (plain d) (place_register k) (operand.Imm v) found ≡ Some C → IsContainedIn C (plain d)
     by None f h = absurd (none-some C h)
     by (Some pair) f h = subst (λ (x : AbstractState). IsContainedIn x (plain d)) (same_Some _ C h)
         (placed_in k d (Number pair.0) lt (pair.0, refl, branch_first r taken n pair small f))
@@ -349,7 +349,7 @@ left_place r taken k d n v K C lt small e q =
 -- what a comparison of r0 and a place leaves, at depth 1, 2 and 3
 left_0_1 : (found : Option (Span × Span)) (C : AbstractState)
     → ((pair : Span × Span) → found ≡ Some pair → IsInside pair.1 (full_of 32))
-    → refined_by (valued 1) R0 (operand.Reg (place 0)) found ≡ Some C → IsContainedIn C (plain 1)
+    → refined_by (valued 1) R0 (operand.Reg (place_register 0)) found ≡ Some C → IsContainedIn C (plain 1)
 left_0_1 None C h e = absurd (none-some C e)
 left_0_1 (Some pair) C h e = subst (λ (x : AbstractState). IsContainedIn x (plain 1)) (same_Some _ C e)
     (within _ Unset Unset Unset memory_place word Unset Unset tt tt tt (kind_in_itself memory_place)
@@ -357,7 +357,7 @@ left_0_1 (Some pair) C h e = subst (λ (x : AbstractState). IsContainedIn x (pla
 
 left_0_2 : (found : Option (Span × Span)) (C : AbstractState)
     → ((pair : Span × Span) → found ≡ Some pair → IsInside pair.1 (full_of 32))
-    → refined_by (valued 2) R0 (operand.Reg (place 0)) found ≡ Some C → IsContainedIn C (plain 2)
+    → refined_by (valued 2) R0 (operand.Reg (place_register 0)) found ≡ Some C → IsContainedIn C (plain 2)
 left_0_2 None C h e = absurd (none-some C e)
 left_0_2 (Some pair) C h e = subst (λ (x : AbstractState). IsContainedIn x (plain 2)) (same_Some _ C e)
     (within _ Unset Unset Unset memory_place word word Unset tt tt tt (kind_in_itself memory_place)
@@ -365,7 +365,7 @@ left_0_2 (Some pair) C h e = subst (λ (x : AbstractState). IsContainedIn x (pla
 
 left_0_3 : (found : Option (Span × Span)) (C : AbstractState)
     → ((pair : Span × Span) → found ≡ Some pair → IsInside pair.1 (full_of 32))
-    → refined_by (valued 3) R0 (operand.Reg (place 0)) found ≡ Some C → IsContainedIn C (plain 3)
+    → refined_by (valued 3) R0 (operand.Reg (place_register 0)) found ≡ Some C → IsContainedIn C (plain 3)
 left_0_3 None C h e = absurd (none-some C e)
 left_0_3 (Some pair) C h e = subst (λ (x : AbstractState). IsContainedIn x (plain 3)) (same_Some _ C e)
     (within _ Unset Unset Unset memory_place word word word tt tt tt (kind_in_itself memory_place)
@@ -373,7 +373,7 @@ left_0_3 (Some pair) C h e = subst (λ (x : AbstractState). IsContainedIn x (pla
 
 left_1_2 : (found : Option (Span × Span)) (C : AbstractState)
     → ((pair : Span × Span) → found ≡ Some pair → IsInside pair.1 (full_of 32))
-    → refined_by (valued 2) R0 (operand.Reg (place 1)) found ≡ Some C → IsContainedIn C (plain 2)
+    → refined_by (valued 2) R0 (operand.Reg (place_register 1)) found ≡ Some C → IsContainedIn C (plain 2)
 left_1_2 None C h e = absurd (none-some C e)
 left_1_2 (Some pair) C h e = subst (λ (x : AbstractState). IsContainedIn x (plain 2)) (same_Some _ C e)
     (within _ Unset Unset Unset memory_place word word Unset tt tt tt (kind_in_itself memory_place)
@@ -381,7 +381,7 @@ left_1_2 (Some pair) C h e = subst (λ (x : AbstractState). IsContainedIn x (pla
 
 left_1_3 : (found : Option (Span × Span)) (C : AbstractState)
     → ((pair : Span × Span) → found ≡ Some pair → IsInside pair.1 (full_of 32))
-    → refined_by (valued 3) R0 (operand.Reg (place 1)) found ≡ Some C → IsContainedIn C (plain 3)
+    → refined_by (valued 3) R0 (operand.Reg (place_register 1)) found ≡ Some C → IsContainedIn C (plain 3)
 left_1_3 None C h e = absurd (none-some C e)
 left_1_3 (Some pair) C h e = subst (λ (x : AbstractState). IsContainedIn x (plain 3)) (same_Some _ C e)
     (within _ Unset Unset Unset memory_place word word word tt tt tt (kind_in_itself memory_place)
@@ -389,7 +389,7 @@ left_1_3 (Some pair) C h e = subst (λ (x : AbstractState). IsContainedIn x (pla
 
 left_2_3 : (found : Option (Span × Span)) (C : AbstractState)
     → ((pair : Span × Span) → found ≡ Some pair → IsInside pair.1 (full_of 32))
-    → refined_by (valued 3) R0 (operand.Reg (place 2)) found ≡ Some C → IsContainedIn C (plain 3)
+    → refined_by (valued 3) R0 (operand.Reg (place_register 2)) found ≡ Some C → IsContainedIn C (plain 3)
 left_2_3 None C h e = absurd (none-some C e)
 left_2_3 (Some pair) C h e = subst (λ (x : AbstractState). IsContainedIn x (plain 3)) (same_Some _ C e)
     (within _ Unset Unset Unset memory_place word word word tt tt tt (kind_in_itself memory_place)
@@ -423,7 +423,7 @@ module _ (program : List Insn) (shape : Extent) (last : ℕ) (solid : (k : ℕ) 
   TermTyped purpose d slot code = T slot code (C (plain d) slot) (Exits purpose d (slot + length code))
 
   by_value_typed : (purpose : Purpose) (d slot : ℕ) (code : List Insn)
-      → slot + length (by_value purpose code) + beyond purpose ≤ last
+      → slot + length (by_value purpose code) + beyond_purpose purpose ≤ last
       → (slot + length code ≤ last → TermTyped Value d slot code) → TermTyped purpose d slot (by_value purpose code)
   by_value_typed Value d slot code le t = t (omega (arith, le))
   by_value_typed (Jump when far) d slot code le t =
@@ -469,7 +469,7 @@ module _ (program : List Insn) (shape : Extent) (last : ℕ) (solid : (k : ℕ) 
       (λ table h. h) abc
 
   by_test_typed : (purpose : Purpose) (d slot : ℕ) (test : Bool → ℕ → List Insn)
-      → slot + length (by_test purpose test) + beyond purpose ≤ last
+      → slot + length (by_test purpose test) + beyond_purpose purpose ≤ last
       → ((when : Bool) (far : ℕ) → slot + length (test when far) + far ≤ last → TermTyped (Jump when far) d slot
       (test when far))
       → TermTyped purpose d slot (by_test purpose test)
@@ -489,8 +489,8 @@ module _ (program : List Insn) (shape : Extent) (last : ℕ) (solid : (k : ℕ) 
       → T slot (two_code d left right) (C (plain d) slot) (C (known d word word Unset)
       (slot + length (two_code d left right)))
   two_typed d slot left right few le first second =
-      let back = copy R1 R0 ∷ copy R0 (place d) ∷ [] in
-      let rest = copy (place d) R0 ∷ (right ++ back) in
+      let back = copy R1 R0 ∷ copy R0 (place_register d) ∷ [] in
+      let rest = copy (place_register d) R0 ∷ (right ++ back) in
       let len : length (left ++ rest) ≡ length left + (1 + (length right + 2)) = omega
       (arith, length-append left rest, length-append right back) in
       let p1 = slot + length left in
@@ -506,15 +506,15 @@ module _ (program : List Insn) (shape : Extent) (last : ℕ) (solid : (k : ℕ) 
       let f = fetch_typed program shape last solid d (d + 1) word p4 (omega arith) (omega (arith, few)) some_word
       (omega (arith, len, le)) in
       let e : p4 + 1 ≡ end = omega (arith, len) in
-      let f1 = typed_at p4 (p4 + 1) end (copy R0 (place d) ∷ []) (C (known (d + 1) Unset word Unset) p4) both e f in
-      let f2 = typed_as program shape last solid p4 (copy R0 (place d) ∷ []) (C (known (d + 1) Unset word Unset) p4)
+      let f1 = typed_at p4 (p4 + 1) end (copy R0 (place_register d) ∷ []) (C (known (d + 1) Unset word Unset) p4) both e f in
+      let f2 = typed_as program shape last solid p4 (copy R0 (place_register d) ∷ []) (C (known (d + 1) Unset word Unset) p4)
       (C both end) (C (known (d + 1) Unset word Unset) p4) (C (known d word word Unset) end) (λ table h. h)
       (λ table h. covers_less table both (known d word word Unset) end (known_less d word word Unset) h) f1 in
-      let sf = typed_seq p3 p4 (copy R1 R0 ∷ []) (copy R0 (place d) ∷ []) (C (valued (d + 1)) p3)
+      let sf = typed_seq p3 p4 (copy R1 R0 ∷ []) (copy R0 (place_register d) ∷ []) (C (valued (d + 1)) p3)
       (C (known (d + 1) Unset word Unset) p4) (C (known d word word Unset) end) refl s f2 in
       let csf = typed_seq p2 p3 right back (C (plain (d + 1)) p2) (C (valued (d + 1)) p3)
       (C (known d word word Unset) end) refl c sf in
-      let bcsf = typed_seq p1 p2 (copy (place d) R0 ∷ []) (right ++ back) (C (valued d) p1) (C (plain (d + 1)) p2)
+      let bcsf = typed_seq p1 p2 (copy (place_register d) R0 ∷ []) (right ++ back) (C (valued d) p1) (C (plain (d + 1)) p2)
       (C (known d word word Unset) end) refl b csf in
       typed_seq slot p1 left rest (C (plain d) slot) (C (valued d) p1) (C (known d word word Unset) end) refl a bcsf
 
@@ -581,8 +581,8 @@ module _ (program : List Insn) (shape : Extent) (last : ℕ) (solid : (k : ℕ) 
 
   -- ---- operators
 
-  alu_keeps : (op : Operation) (src : Operand) (d : ℕ) (k1 : Kind) → OperandIs src (known d word k1 Unset)
-      → KeepsOwn shape (i.Alu (alu_of op) W32 R0 src) (known d word k1 Unset)
+  alu_keeps : (op : Operation) (src : Operand) (d : ℕ) (k1 : AbstractValue) → OperandIs src (known d word k1 Unset)
+      → KeepsOwn shape (i.Alu (alu_op_of op) W32 R0 src) (known d word k1 Unset)
   alu_keeps Sum src d k1 q = record {
     forward = refl;
     known = refl;
@@ -644,30 +644,30 @@ module _ (program : List Insn) (shape : Extent) (last : ℕ) (solid : (k : ℕ) 
     base = refl;
   }
 
-  alu_typed : (op : Operation) (src : Operand) (d : ℕ) (k1 : Kind) (slot : ℕ) → OperandIs src (known d word k1 Unset)
+  alu_typed : (op : Operation) (src : Operand) (d : ℕ) (k1 : AbstractValue) (slot : ℕ) → OperandIs src (known d word k1 Unset)
       → IsProper (known d word k1 Unset) → slot + 1 ≤ last
-      → T slot (i.Alu (alu_of op) W32 R0 src ∷ []) (C (known d word k1 Unset) slot) (C (valued d) (slot + 1))
-  alu_typed Sum src d k1 slot q is le = one_on program shape last solid slot (i.Alu (alu_of Sum) W32 R0 src)
+      → T slot (i.Alu (alu_op_of op) W32 R0 src ∷ []) (C (known d word k1 Unset) slot) (C (valued d) (slot + 1))
+  alu_typed Sum src d k1 slot q is le = one_on program shape last solid slot (i.Alu (alu_op_of Sum) W32 R0 src)
       (known d word k1 Unset) _ (valued d) refl refl refl
       (into _ d word Unset Unset (word_result Add _ q.range q.kind q.ordered q.inside refl) tt tt refl
       refl refl refl) is
       (alu_keeps Sum src d k1 q) le
   alu_typed Difference src d k1 slot q is le = one_on program shape last solid slot
-      (i.Alu (alu_of Difference) W32 R0 src) (known d word k1 Unset) _ (valued d) refl refl refl
+      (i.Alu (alu_op_of Difference) W32 R0 src) (known d word k1 Unset) _ (valued d) refl refl refl
       (into _ d word Unset Unset (word_result Sub _ q.range q.kind q.ordered q.inside refl) tt tt refl
       refl refl refl) is
       (alu_keeps Difference src d k1 q) le
-  alu_typed Product src d k1 slot q is le = one_on program shape last solid slot (i.Alu (alu_of Product) W32 R0 src)
+  alu_typed Product src d k1 slot q is le = one_on program shape last solid slot (i.Alu (alu_op_of Product) W32 R0 src)
       (known d word k1 Unset) _ (valued d) refl refl refl
       (into _ d word Unset Unset (word_result Mul _ q.range q.kind q.ordered q.inside refl) tt tt refl
       refl refl refl) is
       (alu_keeps Product src d k1 q) le
-  alu_typed Quotient src d k1 slot q is le = one_on program shape last solid slot (i.Alu (alu_of Quotient) W32 R0 src)
+  alu_typed Quotient src d k1 slot q is le = one_on program shape last solid slot (i.Alu (alu_op_of Quotient) W32 R0 src)
       (known d word k1 Unset) _ (valued d) refl refl refl
       (into _ d word Unset Unset (word_result Div _ q.range q.kind q.ordered q.inside refl) tt tt refl
       refl refl refl) is
       (alu_keeps Quotient src d k1 q) le
-  alu_typed Remainder src d k1 slot q is le = one_on program shape last solid slot (i.Alu (alu_of Remainder) W32 R0 src)
+  alu_typed Remainder src d k1 slot q is le = one_on program shape last solid slot (i.Alu (alu_op_of Remainder) W32 R0 src)
       (known d word k1 Unset) _ (valued d) refl refl refl
       (into _ d word Unset Unset (word_result Mod _ q.range q.kind q.ordered q.inside refl) tt tt refl
       refl refl refl) is
@@ -675,7 +675,7 @@ module _ (program : List Insn) (shape : Extent) (last : ℕ) (solid : (k : ℕ) 
 
   -- r0 beside a place
   place_fork : (r : Comparison) (k d slot far : ℕ) → k < d → d ≤ 3 → slot + 1 + far ≤ last
-      → T slot (jump_by r (operand.Reg (place k)) far ∷ []) (C (valued d) slot)
+      → T slot (jump_by r (operand.Reg (place_register k)) far ∷ []) (C (valued d) slot)
       (λ table. C (plain d) (slot + 1) table × C (plain d) (slot + 1 + far) table)
   place_fork r zero zero slot far lt few le = absurd (omega (arith, lt))
   place_fork r (suc k) zero slot far lt few le = absurd (omega (arith, lt))
@@ -684,32 +684,32 @@ module _ (program : List Insn) (shape : Extent) (last : ℕ) (solid : (k : ℕ) 
   place_fork r (suc (suc (suc k))) (suc (suc (suc zero))) slot far lt few le = absurd (omega (arith, lt))
   place_fork r k (suc (suc (suc (suc d)))) slot far lt few le = absurd (omega (arith, few))
   place_fork r zero (suc zero) slot far lt few le = one_fork program shape last solid slot far (cond_of r) R0
-      (operand.Reg (place 0)) (valued 1) (plain 1) (plain 1)
+      (operand.Reg (place_register 0)) (valued 1) (plain 1) (plain 1)
       (λ x e. left_0_1 _ x (λ pair f. branch_inside r false pair f) e)
       (λ x e. left_0_1 _ x (λ pair f. branch_inside r true pair f) e)
       (proper_known 1 word Unset Unset some_word tt tt) (keeps_own _ _ _ refl) le
   place_fork r zero (suc (suc zero)) slot far lt few le = one_fork program shape last solid slot far (cond_of r) R0
-      (operand.Reg (place 0)) (valued 2) (plain 2) (plain 2)
+      (operand.Reg (place_register 0)) (valued 2) (plain 2) (plain 2)
       (λ x e. left_0_2 _ x (λ pair f. branch_inside r false pair f) e)
       (λ x e. left_0_2 _ x (λ pair f. branch_inside r true pair f) e)
       (proper_known 2 word Unset Unset some_word tt tt) (keeps_own _ _ _ refl) le
   place_fork r zero (suc (suc (suc zero))) slot far lt few le = one_fork program shape last solid slot far
-      (cond_of r) R0 (operand.Reg (place 0)) (valued 3) (plain 3) (plain 3)
+      (cond_of r) R0 (operand.Reg (place_register 0)) (valued 3) (plain 3) (plain 3)
       (λ x e. left_0_3 _ x (λ pair f. branch_inside r false pair f) e)
       (λ x e. left_0_3 _ x (λ pair f. branch_inside r true pair f) e)
       (proper_known 3 word Unset Unset some_word tt tt) (keeps_own _ _ _ refl) le
   place_fork r (suc zero) (suc (suc zero)) slot far lt few le = one_fork program shape last solid slot far
-      (cond_of r) R0 (operand.Reg (place 1)) (valued 2) (plain 2) (plain 2)
+      (cond_of r) R0 (operand.Reg (place_register 1)) (valued 2) (plain 2) (plain 2)
       (λ x e. left_1_2 _ x (λ pair f. branch_inside r false pair f) e)
       (λ x e. left_1_2 _ x (λ pair f. branch_inside r true pair f) e)
       (proper_known 2 word Unset Unset some_word tt tt) (keeps_own _ _ _ refl) le
   place_fork r (suc zero) (suc (suc (suc zero))) slot far lt few le = one_fork program shape last solid slot far
-      (cond_of r) R0 (operand.Reg (place 1)) (valued 3) (plain 3) (plain 3)
+      (cond_of r) R0 (operand.Reg (place_register 1)) (valued 3) (plain 3) (plain 3)
       (λ x e. left_1_3 _ x (λ pair f. branch_inside r false pair f) e)
       (λ x e. left_1_3 _ x (λ pair f. branch_inside r true pair f) e)
       (proper_known 3 word Unset Unset some_word tt tt) (keeps_own _ _ _ refl) le
   place_fork r (suc (suc zero)) (suc (suc (suc zero))) slot far lt few le = one_fork program shape last solid slot far
-      (cond_of r) R0 (operand.Reg (place 2)) (valued 3) (plain 3) (plain 3)
+      (cond_of r) R0 (operand.Reg (place_register 2)) (valued 3) (plain 3) (plain 3)
       (λ x e. left_2_3 _ x (λ pair f. branch_inside r false pair f) e)
       (λ x e. left_2_3 _ x (λ pair f. branch_inside r true pair f) e)
       (proper_known 3 word Unset Unset some_word tt tt) (keeps_own _ _ _ refl) le
@@ -737,11 +737,11 @@ module _ (program : List Insn) (shape : Extent) (last : ℕ) (solid : (k : ℕ) 
 
   operator_typed : (o : Operator) (y : Source) (purpose : Purpose) (d lets slot : ℕ) (code : List Insn)
       → IsThere y lets shape.memory → lets ≤ d → d ≤ 3
-      → slot + length (by_operator o (operand_code y) purpose code) + beyond purpose ≤ last
+      → slot + length (by_operator o (operand_code y) purpose code) + beyond_purpose purpose ≤ last
       → (slot + length code ≤ last → T slot code (C (plain d) slot) (C (paired y d) (slot + length code)))
       → TermTyped purpose d slot (by_operator o (operand_code y) purpose code)
   operator_typed (Compute op) y purpose d lets slot code there below few le two =
-      let act = i.Alu (alu_of op) W32 R0 (operand_code y) ∷ [] in
+      let act = i.Alu (alu_op_of op) W32 R0 (operand_code y) ∷ [] in
       let len : length (code ++ act) ≡ length code + 1 = length-append code act in
       by_value_typed purpose d slot (code ++ act) le
       (λ l.
@@ -770,7 +770,7 @@ module _ (program : List Insn) (shape : Extent) (last : ℕ) (solid : (k : ℕ) 
 
   left_typed : (o : Operator) (x : Source) (purpose : Purpose) (d lets slot : ℕ) (right : List Insn) → is_found x ≡ true
       → IsThere x lets shape.memory → lets ≤ d → d ≤ 3
-      → slot + length (left_code o x purpose right) + beyond purpose ≤ last
+      → slot + length (left_code o x purpose right) + beyond_purpose purpose ≤ last
       → (slot + length right ≤ last → TermTyped Value d slot right)
       → TermTyped purpose d slot (left_code o x purpose right)
   left_typed (Compute op) x purpose d lets slot right found there below few le first =
@@ -796,7 +796,7 @@ module _ (program : List Insn) (shape : Extent) (last : ℕ) (solid : (k : ℕ) 
 
   right_typed : (o : Operator) (y : Source) (purpose : Purpose) (d lets slot : ℕ) (left : List Insn) → is_found y ≡ true
       → IsThere y lets shape.memory → lets ≤ d → d ≤ 3
-      → slot + length (by_operator o (operand_code y) purpose (left ++ load_code y)) + beyond purpose ≤ last
+      → slot + length (by_operator o (operand_code y) purpose (left ++ load_code y)) + beyond_purpose purpose ≤ last
       → (slot + length left ≤ last → TermTyped Value d slot left)
       → TermTyped purpose d slot (by_operator o (operand_code y) purpose (left ++ load_code y))
   right_typed o y purpose d lets slot left found there below few le first =
@@ -810,29 +810,29 @@ module _ (program : List Insn) (shape : Extent) (last : ℕ) (solid : (k : ℕ) 
   place_test_typed r k c d slot far lt few le =
       let v = cast_signed w32 c in
       let n = cast_unsigned w64 v % 2 ^ 32 in
-      let e : kind_of (plain d) (place k) ≡ word = place_word k d lt few in
+      let e : kind_of (plain d) (place_register k) ≡ word = place_word k d lt few in
       let small : n < 2 ^ 32 = omega arith in
       let own : KeepsOwn shape (jump_place k r c far) (plain d) = record {
         forward = refl;
         known = refl;
-        set = ap (λ (q : Kind). is_unset_kind q || false) e;
+        set = ap (λ (q : AbstractValue). is_unset_kind q || false) e;
         frame = refl;
-        pointer = ap (λ (q : Kind). is_pointer_kind q || false) e;
+        pointer = ap (λ (q : AbstractValue). is_pointer_kind q || false) e;
         region = refl;
         stack = refl;
         argument = refl;
         exit = refl;
         base = refl;
       } in
-      one_fork program shape last solid slot far (cond_of r) (place k) (operand.Imm v) (plain d) (plain d) (plain d)
-      (λ x q. left_place r false k d n v (kind_of (plain d) (place k)) x (omega (arith, lt, few)) small e q)
-      (λ x q. left_place r true k d n v (kind_of (plain d) (place k)) x (omega (arith, lt, few)) small e q)
+      one_fork program shape last solid slot far (cond_of r) (place_register k) (operand.Imm v) (plain d) (plain d) (plain d)
+      (λ x q. left_place r false k d n v (kind_of (plain d) (place_register k)) x (omega (arith, lt, few)) small e q)
+      (λ x q. left_place r true k d n v (kind_of (plain d) (place_register k)) x (omega (arith, lt, few)) small e q)
       (proper_known d Unset Unset Unset tt tt tt) own le
 
   sides_typed : (y x : Source) (o : Operator) (purpose : Purpose) (d deep lets slot : ℕ) (left right : List Insn)
       → IsThere y lets shape.memory → IsThere x lets shape.memory → lets ≤ d → d ≤ 3 → (is_found x ≡ true → deep ≡ d)
       → (is_found x ≡ false → is_found y ≡ false → (d < 3) × (deep ≡ d + 1))
-      → slot + length (binary_code y x o d purpose left right) + beyond purpose ≤ last
+      → slot + length (binary_code y x o d purpose left right) + beyond_purpose purpose ≤ last
       → (slot + length left ≤ last → TermTyped Value d slot left)
       → ((to : ℕ) → deep ≤ 3 → to + length right ≤ last → TermTyped Value deep to right)
       → TermTyped purpose d slot (binary_code y x o d purpose left right)
@@ -846,8 +846,8 @@ module _ (program : List Insn) (shape : Extent) (last : ℕ) (solid : (k : ℕ) 
       below few le first
   sides_typed (Constant c) (Constant e) o purpose d deep lets slot left right at_y at_x below few same free le
       first second =
-      by_value_typed purpose d slot (set_number R0 (operate o e c) ∷ []) le
-      (λ l. number_typed program shape last solid d (operate o e c) slot l)
+      by_value_typed purpose d slot (set_number R0 (apply_operator o e c) ∷ []) le
+      (λ l. number_typed program shape last solid d (apply_operator o e c) slot l)
   sides_typed (Constant c) (FromWord k) o purpose d deep lets slot left right at_y at_x below few same free le
       first second =
       right_typed o (Constant c) purpose d lets slot left refl at_y below few le first
@@ -983,16 +983,16 @@ module _ (program : List Insn) (shape : Extent) (last : ℕ) (solid : (k : ℕ) 
   -- ---- counts
 
   add_typed : (d slot : ℕ) → d < 3 → slot + 1 ≤ last
-      → T slot (i.Alu Add W32 (place d) (operand.Imm (pos 1)) ∷ []) (C (plain (d + 1)) slot)
+      → T slot (i.Alu Add W32 (place_register d) (operand.Imm (pos 1)) ∷ []) (C (plain (d + 1)) slot)
       (C (plain (d + 1)) (slot + 1))
-  add_typed zero slot lt le = one_on program shape last solid slot (i.Alu Add W32 (place 0) (operand.Imm (pos 1)))
+  add_typed zero slot lt le = one_on program shape last solid slot (i.Alu Add W32 (place_register 0) (operand.Imm (pos 1)))
       (plain 1) _ (plain 1) refl refl refl (into _ 1 Unset Unset Unset tt tt tt refl refl refl refl)
       (proper_known 1 Unset Unset Unset tt tt tt) (keeps_own _ _ _ refl) le
-  add_typed (suc zero) slot lt le = one_on program shape last solid slot (i.Alu Add W32 (place 1) (operand.Imm (pos 1)))
+  add_typed (suc zero) slot lt le = one_on program shape last solid slot (i.Alu Add W32 (place_register 1) (operand.Imm (pos 1)))
       (plain 2) _ (plain 2) refl refl refl (into _ 2 Unset Unset Unset tt tt tt refl refl refl refl)
       (proper_known 2 Unset Unset Unset tt tt tt) (keeps_own _ _ _ refl) le
   add_typed (suc (suc zero)) slot lt le = one_on program shape last solid slot
-      (i.Alu Add W32 (place 2) (operand.Imm (pos 1))) (plain 3) _ (plain 3) refl refl refl
+      (i.Alu Add W32 (place_register 2) (operand.Imm (pos 1))) (plain 3) _ (plain 3) refl refl refl
       (into _ 3 Unset Unset Unset tt tt tt refl refl refl refl)
       (proper_known 3 Unset Unset Unset tt tt tt) (keeps_own _ _ _ refl) le
   add_typed (suc (suc (suc d))) slot lt le = absurd (omega (arith, lt))
@@ -1007,7 +1007,7 @@ module _ (program : List Insn) (shape : Extent) (last : ℕ) (solid : (k : ℕ) 
       (typed_none program shape last solid slot (C (plain (d + 1)) slot))
   counts_typed d slot (suc n) test small le each =
       let front = count_codes d test n in
-      let add = i.Alu Add W32 (place d) (operand.Imm (pos 1)) ∷ [] in
+      let add = i.Alu Add W32 (place_register d) (operand.Imm (pos 1)) ∷ [] in
       let back = test n ++ add in
       let len : length (front ++ back) ≡ length front + (length (test n) + 1) = omega
       (arith, length-append front back, length-append (test n) add) in
@@ -1027,18 +1027,18 @@ module _ (program : List Insn) (shape : Extent) (last : ℕ) (solid : (k : ℕ) 
 
   -- 0 into the next place
   begin_typed : (d slot : ℕ) → d < 3 → slot + 1 ≤ last
-      → T slot (set_number (place d) 0 ∷ []) (C (plain d) slot) (C (plain (d + 1)) (slot + 1))
-  begin_typed zero slot lt le = one_on program shape last solid slot (set_number (place 0) 0) (plain 0) _ (plain 1)
+      → T slot (set_number (place_register d) 0 ∷ []) (C (plain d) slot) (C (plain (d + 1)) (slot + 1))
+  begin_typed zero slot lt le = one_on program shape last solid slot (set_number (place_register 0) 0) (plain 0) _ (plain 1)
       refl refl refl
       (within _ Unset Unset Unset memory_place word Unset Unset tt tt tt (kind_in_itself memory_place)
       (short (cast_unsigned w64 (cast_signed w32 0) % 2 ^ 32)) tt tt)
       (proper_known 0 Unset Unset Unset tt tt tt) (keeps_own _ _ _ refl) le
-  begin_typed (suc zero) slot lt le = one_on program shape last solid slot (set_number (place 1) 0)
+  begin_typed (suc zero) slot lt le = one_on program shape last solid slot (set_number (place_register 1) 0)
       (plain 1) _ (plain 2) refl refl refl
       (within _ Unset Unset Unset memory_place word word Unset tt tt tt (kind_in_itself memory_place)
       (kind_in_itself word) (short (cast_unsigned w64 (cast_signed w32 0) % 2 ^ 32)) tt)
       (proper_known 1 Unset Unset Unset tt tt tt) (keeps_own _ _ _ refl) le
-  begin_typed (suc (suc zero)) slot lt le = one_on program shape last solid slot (set_number (place 2) 0)
+  begin_typed (suc (suc zero)) slot lt le = one_on program shape last solid slot (set_number (place_register 2) 0)
       (plain 2) _ (plain 3) refl refl refl
       (within _ Unset Unset Unset memory_place word word word tt tt tt (kind_in_itself memory_place)
       (kind_in_itself word) (kind_in_itself word) (short (cast_unsigned w64 (cast_signed w32 0) % 2 ^ 32)))
@@ -1057,7 +1057,7 @@ module _ (program : List Insn) (shape : Extent) (last : ℕ) (solid : (k : ℕ) 
       let e : p2 + length codes ≡ end = omega arith in
       let c = typed_at p2 (p2 + length codes) end codes (C (plain (d + 1)) p2) (plain (d + 1)) e
       (counts_typed d p2 n test small (omega (arith, le)) each) in
-      typed_seq slot p2 (set_number (place d) 0 ∷ []) codes (C (plain d) slot) (C (plain (d + 1)) p2)
+      typed_seq slot p2 (set_number (place_register d) 0 ∷ []) codes (C (plain d) slot) (C (plain (d + 1)) p2)
       (C (plain (d + 1)) end) refl b c
 
   count_typed : (d slot n : ℕ) (test : ℕ → List Insn) → d < 3 → slot + length (count_code d n test) ≤ last
@@ -1065,7 +1065,7 @@ module _ (program : List Insn) (shape : Extent) (last : ℕ) (solid : (k : ℕ) 
       → TermTyped Value d slot (count_code d n test)
   count_typed d slot n test small le each =
       let codes = counted_code d n test in
-      let last_one = copy R0 (place d) ∷ [] in
+      let last_one = copy R0 (place_register d) ∷ [] in
       let len : length (codes ++ last_one) ≡ length codes + 1 = length-append codes last_one in
       let p3 = slot + length codes in
       let end = slot + length (codes ++ last_one) in
@@ -1111,7 +1111,7 @@ module _ (program : List Insn) (shape : Extent) (last : ℕ) (solid : (k : ℕ) 
       (proper_known d Unset Unset Unset tt tt tt) (keeps_own _ _ _ (rw room refl)) le
 
   -- a node's number in r0
-  abbrev pub some_node : Kind
+  abbrev pub some_node : AbstractValue
   some_node = Number (span 0 (shape.nodes - 1))
 
   pub proper_node : IsProperKind some_node
@@ -1271,7 +1271,7 @@ module _ (program : List Insn) (shape : Extent) (last : ℕ) (solid : (k : ℕ) 
 
   pub term_typed : (t : Term) (z : Sizes) (J : List ℕ) (d lets : ℕ) (purpose : Purpose) (slot : ℕ)
       → z.nodes ≡ shape.nodes → 1 ≤ z.nodes → z.nodes ≤ 64 → z.memory ≡ shape.memory → lets ≤ d → d ≤ 3
-      → Fits t z (length J) lets d → slot + length (term_code t z J d purpose) + beyond purpose ≤ last
+      → Fits t z (length J) lets d → slot + length (term_code t z J d purpose) + beyond_purpose purpose ≤ last
       → TermTyped purpose d slot (term_code t z J d purpose)
   term_typed (Numeral v) z J d lets purpose slot same some few room below small fits le =
       by_value_typed purpose d slot (set_number R0 v ∷ []) le (λ l. number_typed program shape last solid d v slot l)
@@ -1292,23 +1292,23 @@ module _ (program : List Insn) (shape : Extent) (last : ℕ) (solid : (k : ℕ) 
       by_value_typed purpose d slot (set_number R0 (slice_index J k) ∷ []) le
       (λ l. number_typed program shape last solid d (slice_index J k) slot l)
   term_typed (Local k) z J d lets purpose slot same some few room below small fits le =
-      by_value_typed purpose d slot (copy R0 (place k) ∷ []) le
+      by_value_typed purpose d slot (copy R0 (place_register k) ∷ []) le
       (λ l. fetch_typed program shape last solid k d Unset slot (omega (arith, fits, below)) small tt l)
   term_typed (Word k) z J d lets purpose slot same some few room below small fits le =
       by_value_typed purpose d slot (i.Load size.W R0 R6 (pos (4 * k)) ∷ []) le
       (λ l. load_typed d k slot (omega (arith, fits, room)) l)
   term_typed (Message' p a) z J d lets purpose slot same some few room below small fits le =
       let code = term_code a z J d Value in
-      by_value_typed purpose d slot (message_by (source_of a z J) z.nodes code) le
-      (λ l. message_by_typed (source_of a z J) d z.nodes slot code same some few l
+      by_value_typed purpose d slot (message_by (term_source a z J) z.nodes code) le
+      (λ l. message_by_typed (term_source a z J) d z.nodes slot code same some few l
       (λ k. term_typed a z J d lets Value slot same some few room below small fits (omega (arith, k))))
   term_typed (Binary' o p a q b) z J d lets purpose slot same some few room below small fits le =
       let deep = depth_behind (is_operand a || is_operand b) d in
       let more : d ≤ deep = behind_more (is_operand a || is_operand b) d in
       let memory = λ (y : Source) (there : IsThere y lets z.memory). subst (λ (m : ℕ). IsThere y lets m) room there in
-      sides_typed (source_of b z J) (source_of a z J) o purpose d deep lets slot (term_code a z J d Value)
-      (term_code b z J deep Value) (memory (source_of b z J) (source_there b z J (length J) lets deep fits.2))
-      (memory (source_of a z J) (source_there a z J (length J) lets d fits.1)) below small
+      sides_typed (term_source b z J) (term_source a z J) o purpose d deep lets slot (term_code a z J d Value)
+      (term_code b z J deep Value) (memory (term_source b z J) (source_there b z J (length J) lets deep fits.2))
+      (memory (term_source a z J) (source_there a z J (length J) lets d fits.1)) below small
       (λ e. same_depth (is_operand a) (is_operand b) d (sym (found_same a z J) ∙ e))
       (λ e f. free_beside (is_operand a) (is_operand b) d (sym (found_same a z J) ∙ e)
       (sym (found_same b z J) ∙ f) fits.0) le

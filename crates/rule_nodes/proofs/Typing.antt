@@ -16,28 +16,28 @@ use Rattle.bpf_insn.specs.declared.edges.Way.TheVariants.{Onward, Jumping}
 use Rattle.bpf_insn.specs.Edges.{BeginsAt, target}
 use Rattle.value_range.specs.Span.{just, full_of}
 use Rattle.value_range.specs.Results.{alu_of}
-use Rattle.bpf_verify.specs.declared.kind.Kind.{Kind}
-use Rattle.bpf_verify.specs.declared.kind.Kind.TheVariants.{Unset, Number, Pointer}
+use Rattle.bpf_verify.specs.declared.abstract_value.AbstractValue.{AbstractValue}
+use Rattle.bpf_verify.specs.declared.abstract_value.AbstractValue.TheVariants.{Unset, Number, Pointer}
 use Rattle.bpf_verify.specs.States.{AbstractState, IsKindIn, IsContainedIn, IsProperKind, IsProper}
 use Rattle.bpf_verify.specs.Outcomes.{outcome}
 use Rattle.bpf_verify.specs.Typable.{Table, IsCovered}
 use Rattle.bpf_verify.proofs.StateLaws.{kind_in_itself, contained_in_itself, contained_further}
 use Rattle.clock_nodes.proofs.Taken.{state, proper, within, covered, KeepsOwn, keeps_own, Sound, sound_on, sound_jump, sound_fork, Marked}
-use Rattle.rule_nodes.specs.Code.{place, set_number, copy}
+use Rattle.rule_nodes.specs.Code.{place_register, set_number, copy}
 
 -- ---- states: at depth d
 
-abbrev pub memory_place : Kind
+abbrev pub memory_place : AbstractValue
 memory_place = Pointer Mem (just 0)
 
-abbrev pub word : Kind
+abbrev pub word : AbstractValue
 word = Number (full_of 32)
 
 -- of place k
-abbrev pub held : ℕ → ℕ → Kind
+abbrev pub held : ℕ → ℕ → AbstractValue
 held k d = if nat_lt k d then word else Unset
 
-abbrev pub known : ℕ → Kind → Kind → Kind → AbstractState
+abbrev pub known : ℕ → AbstractValue → AbstractValue → AbstractValue → AbstractState
 known d k0 k1 k2 = state k0 k1 k2 memory_place (held 0 d) (held 1 d) (held 2 d)
 
 -- between parts, and with a number in r0
@@ -54,7 +54,7 @@ proper_held k d = by (nat_lt k d)
     by true = record { ordered = omega arith }
     by false = tt
 
-pub proper_known : (d : ℕ) (k0 k1 k2 : Kind) → IsProperKind k0 → IsProperKind k1 → IsProperKind k2
+pub proper_known : (d : ℕ) (k0 k1 k2 : AbstractValue) → IsProperKind k0 → IsProperKind k1 → IsProperKind k2
     → IsProper (known d k0 k1 k2)
 proper_known d k0 k1 k2 h0 h1 h2 =
     proper k0 k1 k2 memory_place (held 0 d) (held 1 d) (held 2 d) h0 h1 h2 (record { ordered = omega arith })
@@ -64,15 +64,15 @@ pub some_word : IsProperKind word
 some_word = record { ordered = omega arith }
 
 -- what is known of the places stays
-pub into : (A : AbstractState) (d : ℕ) (k0 k1 k2 : Kind) → IsKindIn (A.kinds 0) k0 → IsKindIn (A.kinds 1) k1
+pub into : (A : AbstractState) (d : ℕ) (k0 k1 k2 : AbstractValue) → IsKindIn (A.kinds 0) k0 → IsKindIn (A.kinds 1) k1
     → IsKindIn (A.kinds 2) k2 → A.kinds 6 ≡ memory_place → A.kinds 7 ≡ held 0 d → A.kinds 8 ≡ held 1 d
     → A.kinds 9 ≡ held 2 d → IsContainedIn A (known d k0 k1 k2)
 into A d k0 k1 k2 h0 h1 h2 e6 e7 e8 e9 =
     within A k0 k1 k2 memory_place (held 0 d) (held 1 d) (held 2 d) h0 h1 h2
-    (subst (λ (k : Kind). IsKindIn k memory_place) (sym e6) (kind_in_itself memory_place))
-    (subst (λ (k : Kind). IsKindIn k (held 0 d)) (sym e7) (kind_in_itself (held 0 d)))
-    (subst (λ (k : Kind). IsKindIn k (held 1 d)) (sym e8) (kind_in_itself (held 1 d)))
-    (subst (λ (k : Kind). IsKindIn k (held 2 d)) (sym e9) (kind_in_itself (held 2 d)))
+    (subst (λ (k : AbstractValue). IsKindIn k memory_place) (sym e6) (kind_in_itself memory_place))
+    (subst (λ (k : AbstractValue). IsKindIn k (held 0 d)) (sym e7) (kind_in_itself (held 0 d)))
+    (subst (λ (k : AbstractValue). IsKindIn k (held 1 d)) (sym e8) (kind_in_itself (held 1 d)))
+    (subst (λ (k : AbstractValue). IsKindIn k (held 2 d)) (sym e9) (kind_in_itself (held 2 d)))
 
 -- the low 32 bits of a number, whatever it is
 pub short : (x : ℕ) → IsKindIn (Number (alu_of Mov W32 (just x) (just x))) word
@@ -216,8 +216,8 @@ module _ (program : List Insn) (shape : Extent) (last : ℕ) (solid : (k : ℕ) 
       (keeps_own _ _ _ refl) le
 
   -- a place into r0
-  pub fetch_typed : (k d : ℕ) (k1 : Kind) (slot : ℕ) → k < d → d ≤ 3 → IsProperKind k1 → slot + 1 ≤ last
-      → Typing slot (copy R0 (place k) ∷ []) (Covers (known d Unset k1 Unset) slot)
+  pub fetch_typed : (k d : ℕ) (k1 : AbstractValue) (slot : ℕ) → k < d → d ≤ 3 → IsProperKind k1 → slot + 1 ≤ last
+      → Typing slot (copy R0 (place_register k) ∷ []) (Covers (known d Unset k1 Unset) slot)
       (Covers (known d word k1 Unset) (slot + 1))
   fetch_typed zero zero k1 slot lt few is le = absurd (omega (arith, lt))
   fetch_typed (suc k) zero k1 slot lt few is le = absurd (omega (arith, lt))
@@ -225,41 +225,41 @@ module _ (program : List Insn) (shape : Extent) (last : ℕ) (solid : (k : ℕ) 
   fetch_typed (suc (suc k)) (suc (suc zero)) k1 slot lt few is le = absurd (omega (arith, lt))
   fetch_typed (suc (suc (suc k))) (suc (suc (suc zero))) k1 slot lt few is le = absurd (omega (arith, lt))
   fetch_typed k (suc (suc (suc (suc d)))) k1 slot lt few is le = absurd (omega (arith, few))
-  fetch_typed zero (suc zero) k1 slot lt few is le = one_on slot (copy R0 (place 0)) (known 1 Unset k1 Unset) _
+  fetch_typed zero (suc zero) k1 slot lt few is le = one_on slot (copy R0 (place_register 0)) (known 1 Unset k1 Unset) _
       (known 1 word k1 Unset) refl refl refl
       (into _ 1 word k1 Unset (kind_in_itself word) (kind_in_itself k1) tt refl refl refl refl)
       (proper_known 1 Unset k1 Unset tt is tt) (keeps_own _ _ _ refl) le
-  fetch_typed zero (suc (suc zero)) k1 slot lt few is le = one_on slot (copy R0 (place 0)) (known 2 Unset k1 Unset) _
+  fetch_typed zero (suc (suc zero)) k1 slot lt few is le = one_on slot (copy R0 (place_register 0)) (known 2 Unset k1 Unset) _
       (known 2 word k1 Unset) refl refl refl
       (into _ 2 word k1 Unset (kind_in_itself word) (kind_in_itself k1) tt refl refl refl refl)
       (proper_known 2 Unset k1 Unset tt is tt) (keeps_own _ _ _ refl) le
-  fetch_typed zero (suc (suc (suc zero))) k1 slot lt few is le = one_on slot (copy R0 (place 0))
+  fetch_typed zero (suc (suc (suc zero))) k1 slot lt few is le = one_on slot (copy R0 (place_register 0))
       (known 3 Unset k1 Unset) _ (known 3 word k1 Unset) refl refl refl
       (into _ 3 word k1 Unset (kind_in_itself word) (kind_in_itself k1) tt refl refl refl refl)
       (proper_known 3 Unset k1 Unset tt is tt) (keeps_own _ _ _ refl) le
-  fetch_typed (suc zero) (suc (suc zero)) k1 slot lt few is le = one_on slot (copy R0 (place 1))
+  fetch_typed (suc zero) (suc (suc zero)) k1 slot lt few is le = one_on slot (copy R0 (place_register 1))
       (known 2 Unset k1 Unset) _ (known 2 word k1 Unset) refl refl refl
       (into _ 2 word k1 Unset (kind_in_itself word) (kind_in_itself k1) tt refl refl refl refl)
       (proper_known 2 Unset k1 Unset tt is tt) (keeps_own _ _ _ refl) le
-  fetch_typed (suc zero) (suc (suc (suc zero))) k1 slot lt few is le = one_on slot (copy R0 (place 1))
+  fetch_typed (suc zero) (suc (suc (suc zero))) k1 slot lt few is le = one_on slot (copy R0 (place_register 1))
       (known 3 Unset k1 Unset) _ (known 3 word k1 Unset) refl refl refl
       (into _ 3 word k1 Unset (kind_in_itself word) (kind_in_itself k1) tt refl refl refl refl)
       (proper_known 3 Unset k1 Unset tt is tt) (keeps_own _ _ _ refl) le
-  fetch_typed (suc (suc zero)) (suc (suc (suc zero))) k1 slot lt few is le = one_on slot (copy R0 (place 2))
+  fetch_typed (suc (suc zero)) (suc (suc (suc zero))) k1 slot lt few is le = one_on slot (copy R0 (place_register 2))
       (known 3 Unset k1 Unset) _ (known 3 word k1 Unset) refl refl refl
       (into _ 3 word k1 Unset (kind_in_itself word) (kind_in_itself k1) tt refl refl refl refl)
       (proper_known 3 Unset k1 Unset tt is tt) (keeps_own _ _ _ refl) le
 
   -- r0 into the next place
   pub keep_typed : (d slot : ℕ) → d < 3 → slot + 1 ≤ last
-      → Typing slot (copy (place d) R0 ∷ []) (Covers (valued d) slot) (Covers (plain (d + 1)) (slot + 1))
-  keep_typed zero slot lt le = one_on slot (copy (place 0) R0) (valued 0) _ (plain 1) refl refl refl
+      → Typing slot (copy (place_register d) R0 ∷ []) (Covers (valued d) slot) (Covers (plain (d + 1)) (slot + 1))
+  keep_typed zero slot lt le = one_on slot (copy (place_register 0) R0) (valued 0) _ (plain 1) refl refl refl
       (into _ 1 Unset Unset Unset tt tt tt refl refl refl refl) (proper_known 0 word Unset Unset some_word tt tt)
       (keeps_own _ _ _ refl) le
-  keep_typed (suc zero) slot lt le = one_on slot (copy (place 1) R0) (valued 1) _ (plain 2) refl refl refl
+  keep_typed (suc zero) slot lt le = one_on slot (copy (place_register 1) R0) (valued 1) _ (plain 2) refl refl refl
       (into _ 2 Unset Unset Unset tt tt tt refl refl refl refl) (proper_known 1 word Unset Unset some_word tt tt)
       (keeps_own _ _ _ refl) le
-  keep_typed (suc (suc zero)) slot lt le = one_on slot (copy (place 2) R0) (valued 2) _ (plain 3) refl refl refl
+  keep_typed (suc (suc zero)) slot lt le = one_on slot (copy (place_register 2) R0) (valued 2) _ (plain 3) refl refl refl
       (into _ 3 Unset Unset Unset tt tt tt refl refl refl refl) (proper_known 2 word Unset Unset some_word tt tt)
       (keeps_own _ _ _ refl) le
   keep_typed (suc (suc (suc d))) slot lt le = absurd (omega (arith, lt))

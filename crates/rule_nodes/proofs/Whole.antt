@@ -39,9 +39,9 @@ use Rattle.rule_nodes.specs.declared.syntax.Term.TheVariants.{Number, Nodes, Fau
 use Rattle.rule_nodes.specs.declared.syntax.Statement.{Statement}
 use Rattle.rule_nodes.specs.declared.syntax.Statement.TheVariants.{Nothing, Then', Let', Assign, If', For', SendAll, SendTo}
 use Rattle.rule_nodes.specs.Meaning.{initial_state}
-use Rattle.rule_nodes.specs.Operands.{is_constant, constant_number, is_local, is_operand, is_steady, depth_behind, source_of}
+use Rattle.rule_nodes.specs.Operands.{is_constant, constant_number, is_local, is_operand, is_steady, depth_behind, term_source}
 use Rattle.rule_nodes.specs.Fits.{BlockFits}
-use Rattle.rule_nodes.specs.Code.{place, set_number, set_node, get_code, operand_code, load_code, left_code, binary_code, mirror, message_by, copy, truth_code, by_value, by_test, by_operator, two_code, choice_code, if_code, is_nothing, decides, both_far, both_code, jump_on, jump_by, jump_place, message_code, count_codes, term_code, assign_code, set_code, given_code, alu_of, change_of, one_code, also_code, assignment_code, stored_code, let_code, send_code, send_codes, send_all_code, passed_code, send_to_code, each_code, block_code, tail_code, rule_code}
+use Rattle.rule_nodes.specs.Code.{place_register, set_number, set_node, get_code, operand_code, load_code, left_code, binary_code, mirror, message_by, copy, truth_code, by_value, by_test, by_operator, two_code, choice_code, if_code, is_nothing, decides, both_far, both_code, jump_on, jump_by, jump_place, message_code, count_codes, term_code, assign_code, set_code, given_code, alu_op_of, changing_insn, one_code, also_code, assignment_code, stored_code, let_code, send_code, send_codes, send_all_code, passed_code, send_to_code, each_code, block_code, tail_code, rule_code}
 use Rattle.rule_nodes.specs.Ends.{AreSizes, IsRuleEnd}
 use Rattle.rule_nodes.proofs.Forms.{leads_add, once, chain, further}
 use Rattle.rule_nodes.proofs.States.{stands_front, stands_back, Holds, IsSized}
@@ -147,9 +147,9 @@ ones_term (LoopNode k) z J d purpose = ones_value purpose _ (refl, tt)
 ones_term (Local k) z J d purpose = ones_value purpose _ (refl, tt)
 ones_term (Word k) z J d purpose = ones_value purpose _ (refl, tt)
 ones_term (Message' p a) z J d purpose = ones_value purpose _
-    (ones_message (source_of a z J) z.nodes (term_code a z J d Value) (ones_term a z J d Value))
+    (ones_message (term_source a z J) z.nodes (term_code a z J d Value) (ones_term a z J d Value))
 ones_term (Binary' o p a q b) z J d purpose =
-    ones_binary (source_of b z J) (source_of a z J) o d purpose (term_code a z J d Value)
+    ones_binary (term_source b z J) (term_source a z J) o d purpose (term_code a z J d Value)
     (term_code b z J (depth_behind (is_operand a || is_operand b) d) Value) (ones_term a z J d Value)
     (ones_term b z J (depth_behind (is_operand a || is_operand b) d) Value)
 ones_term (Logical' c p a q b) z J d purpose =
@@ -174,7 +174,7 @@ ones_assign (ToLocal k) = (refl, tt)
 ones_assign (ToWord k) = (refl, tt)
 
 ones_set : (target : Target) (x : Source) → Ones (set_code target x)
-ones_set (ToLocal k) x = (takes_one (place k) x, tt)
+ones_set (ToLocal k) x = (takes_one (place_register k) x, tt)
 ones_set (ToWord k) (Constant c) = (refl, tt)
 ones_set (ToWord k) (FromLocal j) = (refl, tt)
 ones_set (ToWord k) (FromWord j) = (refl, (refl, tt))
@@ -195,10 +195,10 @@ ones_also false d x target code first h g = ones_append code _ h (
       (refl, ones_assign target),
 )
 
-one_slot : (target : Target) (e : Term) (insn : Insn) (z : Sizes) (J : List ℕ) → change_of target e z J ≡ Some insn
+one_slot : (target : Target) (e : Term) (insn : Insn) (z : Sizes) (J : List ℕ) → changing_insn target e z J ≡ Some insn
     → slots_taken insn ≡ 1
 one_slot (ToLocal k) (Binary' (Compute op) p a q b) insn z J is =
-    let act = i.Alu (alu_of op) W32 (place k) (operand.Imm (cast_signed w32 (constant_number b z J))) in
+    let act = i.Alu (alu_op_of op) W32 (place_register k) (operand.Imm (cast_signed w32 (constant_number b z J))) in
     let test = is_local a k && is_constant b in
     elim (cases_Bool test) [
       | inl so ↦ subst (λ (x : Insn). slots_taken x ≡ 1)
@@ -209,15 +209,15 @@ one_slot (ToWord k) (Binary' o p a q b) insn z J is = absurd (none-some insn is)
 one_slot target e insn z J is = absurd (none-some insn is)
 
 ones_one : (found : Option Insn) (target : Target) (e : Term) (z : Sizes) (J : List ℕ) (code : List Insn)
-    → change_of target e z J ≡ found → Ones code → Ones (one_code found code)
+    → changing_insn target e z J ≡ found → Ones code → Ones (one_code found code)
 ones_one None target e z J code is h = h
 ones_one (Some insn) target e z J code is h = (one_slot target e insn z J is, tt)
 
 ones_assignment : (a : Assignment) (z : Sizes) (J : List ℕ) (d : ℕ) → Ones (assignment_code a z J d)
 ones_assignment (One target e) z J d =
-    ones_one (change_of target e z J) target e z J (given_code (source_of e z J) target (term_code e z J d Value)) refl
-    (ones_given (source_of e z J) target (term_code e z J d Value) (ones_term e z J d Value))
-ones_assignment (Also' p front target e) z J d = ones_also (is_steady e) d (source_of e z J) target
+    ones_one (changing_insn target e z J) target e z J (given_code (term_source e z J) target (term_code e z J d Value)) refl
+    (ones_given (term_source e z J) target (term_code e z J d Value) (ones_term e z J d Value))
+ones_assignment (Also' p front target e) z J d = ones_also (is_steady e) d (term_source e z J) target
     (term_code e z J d Value) (assignment_code front z J (depth_behind (is_steady e) d)) (ones_term e z J d Value)
     (ones_assignment front z J (depth_behind (is_steady e) d))
 
@@ -239,7 +239,7 @@ ones_stored : (x : Source) (d : ℕ) (code rest : List Insn) → Ones code → O
 ones_stored (Constant c) d code rest h g = (refl, g)
 ones_stored (FromLocal k) d code rest h g = (refl, g)
 ones_stored (FromWord k) d code rest h g = (refl, g)
-ones_stored Computed d code rest h g = ones_append code (copy (place d) R0 ∷ rest) h (refl, g)
+ones_stored Computed d code rest h g = ones_append code (copy (place_register d) R0 ∷ rest) h (refl, g)
 
 ones_let : (e : Term) (z : Sizes) (J : List ℕ) (d : ℕ) (rest : List Insn) → Ones rest → Ones (let_code e z J d rest)
 ones_let (Count' p t) z J d rest h = (
@@ -249,7 +249,7 @@ ones_let (Count' p t) z J d rest h = (
       (λ j. ones_term t z (J ++ j ∷ []) (d + 1) (Jump false 1))) h,
 )
 ones_let e z J d rest h =
-    ones_stored (source_of e z J) d (term_code e z J d Value) rest (ones_term e z J d Value) h
+    ones_stored (term_source e z J) d (term_code e z J d Value) rest (ones_term e z J d Value) h
 
 ones_send : (x : Source) (j : ℕ) → Ones (send_code x j)
 ones_send x j = (refl, (takes_one R2 x, (refl, tt)))
@@ -274,13 +274,13 @@ ones_block (If' t p a q b) z J d = ones_if (is_nothing b) (λ far. term_code t z
     (λ far. ones_term t z J d (Jump false far)) (ones_block a z J d) (ones_block b z J d)
 ones_block (For' p body) z J d = ones_each (λ j. block_code body z (J ++ j ∷ []) d) z.nodes
     (λ j. ones_block body z (J ++ j ∷ []) d)
-ones_block (SendAll e) z J d = ones_send_all (source_of e z J) d z.nodes (term_code e z J d Value)
+ones_block (SendAll e) z J d = ones_send_all (term_source e z J) d z.nodes (term_code e z J d Value)
     (ones_term e z J d Value)
 ones_block (SendTo e k) z J d =
-    let code = passed_code (source_of e z J) (constant_number k z J) (term_code e z J d Value) in
+    let code = passed_code (term_source e z J) (constant_number k z J) (term_code e z J d Value) in
     ones_cond (is_constant k) (if nat_lt (constant_number k z J) z.nodes then code else []) _
     (ones_cond (nat_lt (constant_number k z J) z.nodes) code []
-    (ones_passed (source_of e z J) (constant_number k z J) (term_code e z J d Value) (ones_term e z J d Value)) tt)
+    (ones_passed (term_source e z J) (constant_number k z J) (term_code e z J d Value) (ones_term e z J d Value)) tt)
     (ones_append (term_code e z J d Value) _ (ones_term e z J d Value) (
       refl,
       ones_append (term_code k z J (d + 1) Value) (send_to_code d z.nodes) (ones_term k z J (d + 1) Value)

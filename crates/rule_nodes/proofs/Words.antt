@@ -4,7 +4,7 @@ use Rattle.std.proofs.Math.ListN.{length-set}
 use Rattle.std.proofs.lemmas.Option.{slice_get-get_or}
 use Rattle.std.proofs.lemmas.List.Elements.{All-get_or, All-set}
 use Rattle.bpf_machine.specs.Step.{number_at, with_number}
-use Rattle.rule_nodes.specs.Meaning.{word_at, with_word}
+use Rattle.rule_nodes.specs.Meaning.{word_at, with_memory_word}
 
 found : (m : List ℕ) (i j : ℕ) → i ≡ j → j < length m → slice_get m i ≡ Some (slice_index m j)
 found m i j e lt = ap (slice_get m) e ∙ slice_get-get_or m j 0 lt
@@ -29,7 +29,7 @@ word_small k m le all =
     let b3 : slice_index m (4 * k + 3) < 256 = All-get_or P m (4 * k + 3) 0 (omega arith) all in
     omega arith
 
-pub word_stored : (k v : ℕ) (m : List ℕ) → with_number slice_set m (4 * k) 4 v ≡ with_word k v m
+pub word_stored : (k v : ℕ) (m : List ℕ) → with_number slice_set m (4 * k) 4 v ≡ with_memory_word k v m
 word_stored k v m =
     let p1 : suc (4 * k) ≡ 4 * k + 1 = omega arith in
     let p2 : suc (suc (4 * k)) ≡ 4 * k + 2 = omega arith in
@@ -39,7 +39,7 @@ word_stored k v m =
     rw (p3, p2, p1, d3, d2) refl
 
 -- of a number that is stored only the low 32 bits count
-pub word_low : (k raw v : ℕ) (m : List ℕ) → raw % 2 ^ 32 ≡ v → with_word k raw m ≡ with_word k v m
+pub word_low : (k raw v : ℕ) (m : List ℕ) → raw % 2 ^ 32 ≡ v → with_memory_word k raw m ≡ with_memory_word k v m
 word_low k raw v m h =
     let e0 : raw % 256 ≡ v % 256 = omega (arith, h) in
     let e1 : raw / 256 % 256 ≡ v / 256 % 256 = omega (arith, h) in
@@ -47,7 +47,7 @@ word_low k raw v m h =
     let e3 : raw / 16777216 % 256 ≡ v / 16777216 % 256 = omega (arith, h) in
     rw (e0, e1, e2, e3) refl
 
-pub word_length : (k v : ℕ) (m : List ℕ) → length (with_word k v m) ≡ length m
+pub word_length : (k v : ℕ) (m : List ℕ) → length (with_memory_word k v m) ≡ length m
 word_length k v m =
     let m0 = slice_set m (4 * k) (v % 256) in
     let m1 = slice_set m0 (4 * k + 1) (v / 256 % 256) in
@@ -55,7 +55,7 @@ word_length k v m =
     length-set m2 (4 * k + 3) (v / 16777216 % 256) ∙ length-set m1 (4 * k + 2) (v / 65536 % 256)
     ∙ length-set m0 (4 * k + 1) (v / 256 % 256) ∙ length-set m (4 * k) (v % 256)
 
-pub word_bytes : (k v : ℕ) (m : List ℕ) → All (λ byte. byte < 256) m → All (λ byte. byte < 256) (with_word k v m)
+pub word_bytes : (k v : ℕ) (m : List ℕ) → All (λ byte. byte < 256) m → All (λ byte. byte < 256) (with_memory_word k v m)
 word_bytes k v m all =
     let P = λ (byte : ℕ). byte < 256 in
     let m0 = slice_set m (4 * k) (v % 256) in

@@ -14,8 +14,8 @@ use Rattle.bpf_insn.specs.declared.forms.Operand.{Operand}
 use Rattle.bpf_insn.specs.declared.forms.Operand.TheVariants.{Imm, Reg}
 use Rattle.bpf_insn.specs.declared.forms.Insn.{Insn}
 use Rattle.bpf_insn.specs.declared.forms.Insn.TheVariants.{Alu, Branch, Ja, Call, Exit, Load, StoreReg, StoreImm}
-use Rattle.rule_nodes.specs.Meaning.{operate}
-use Rattle.rule_nodes.specs.Operands.{is_constant, is_operand, is_local, is_steady, constant_number, depth_behind, source_of}
+use Rattle.rule_nodes.specs.Meaning.{apply_operator}
+use Rattle.rule_nodes.specs.Operands.{is_constant, is_operand, is_local, is_steady, constant_number, depth_behind, term_source}
 use Rattle.rule_nodes.specs.declared.syntax.Sizes.{Sizes}
 use Rattle.rule_nodes.specs.declared.syntax.Operation.{Operation}
 use Rattle.rule_nodes.specs.declared.syntax.Operation.TheVariants.{Sum, Difference, Product, Quotient, Remainder}
@@ -40,10 +40,10 @@ use Rattle.rule_nodes.specs.declared.syntax.Statement.TheVariants.{Nothing, Then
 
 -- ---- instructions
 
-abbrev pub place : ℕ → regs.Reg
-place zero = R7
-place (suc zero) = R8
-place (suc (suc k)) = R9
+abbrev pub place_register : ℕ → regs.Reg
+place_register zero = R7
+place_register (suc zero) = R8
+place_register (suc (suc k)) = R9
 
 -- a number of 32 bits into a register
 abbrev pub set_number : regs.Reg → ℕ → Insn
@@ -56,12 +56,12 @@ set_node dst v = Alu Mov W64 dst (Imm (pos v))
 abbrev pub copy : regs.Reg → regs.Reg → Insn
 copy dst src = Alu Mov W32 dst (Reg src)
 
-abbrev pub alu_of : Operation → AluOp
-alu_of Sum = Add
-alu_of Difference = Sub
-alu_of Product = Mul
-alu_of Quotient = Div
-alu_of Remainder = Mod
+abbrev pub alu_op_of : Operation → AluOp
+alu_op_of Sum = Add
+alu_op_of Difference = Sub
+alu_op_of Product = Mul
+alu_op_of Quotient = Div
+alu_op_of Remainder = Mod
 
 abbrev pub cond_of : Comparison → Cond
 cond_of Equal = conds.Eq
@@ -121,9 +121,9 @@ far_of Value = 2
 far_of (Jump when far) = far
 
 -- how far beyond its end the code of a term leads
-abbrev pub beyond : Purpose → ℕ
-beyond Value = 0
-beyond (Jump when far) = far
+abbrev pub beyond_purpose : Purpose → ℕ
+beyond_purpose Value = 0
+beyond_purpose (Jump when far) = far
 
 -- what comes after the test
 abbrev pub behind_test : Purpose → List Insn → List Insn
@@ -136,19 +136,19 @@ by_test purpose test = behind_test purpose (test (when_of purpose) (far_of purpo
 
 -- the left number into r0 and the right one into r1
 abbrev pub two_code : ℕ → List Insn → List Insn → List Insn
-two_code d left right = left ++ (copy (place d) R0 ∷ (right ++ copy R1 R0 ∷ copy R0 (place d) ∷ []))
+two_code d left right = left ++ (copy (place_register d) R0 ∷ (right ++ copy R1 R0 ∷ copy R0 (place_register d) ∷ []))
 
 -- the instruction that puts a found number into a register
 abbrev pub get_code : regs.Reg → Source → Insn
 get_code dst (Constant v) = set_number dst v
-get_code dst (FromLocal k) = copy dst (place k)
+get_code dst (FromLocal k) = copy dst (place_register k)
 get_code dst (FromWord k) = Load size.W dst R6 (pos (4 * k))
 get_code dst Computed = copy dst R0
 
 -- how a found number is the operand of an instruction: a word is loaded into r1 first
 abbrev pub operand_code : Source → Operand
 operand_code (Constant v) = Imm (cast_signed w32 v)
-operand_code (FromLocal k) = Reg (place k)
+operand_code (FromLocal k) = Reg (place_register k)
 operand_code (FromWord k) = Reg R1
 operand_code Computed = Reg R1
 
@@ -158,7 +158,7 @@ load_code _ = []
 
 -- an operation on r0 and an operand gives a number, and a comparison of them is a test
 abbrev pub by_operator : Operator → Operand → Purpose → List Insn → List Insn
-by_operator (Compute op) src purpose code = by_value purpose (code ++ Alu (alu_of op) W32 R0 src ∷ [])
+by_operator (Compute op) src purpose code = by_value purpose (code ++ Alu (alu_op_of op) W32 R0 src ∷ [])
 by_operator (Compare r) src purpose code = by_test purpose (λ when far. code ++ jump_by (jump_on when r) src far ∷ [])
 
 -- the left number is found and the right one is computed: a comparison is turned round
@@ -170,11 +170,11 @@ left_code (Compare r) x purpose right =
 
 -- a jump that compares a local in its place with a constant
 abbrev pub jump_place : ℕ → Comparison → ℕ → ℕ → Insn
-jump_place k r v far = Branch (cond_of r) W32 (place k) (Imm (cast_signed w32 v)) (pos far)
+jump_place k r v far = Branch (cond_of r) W32 (place_register k) (Imm (cast_signed w32 v)) (pos far)
 
 -- by where the right number y and the left number x are found: two constants give a constant
 abbrev pub binary_code : Source → Source → Operator → ℕ → Purpose → List Insn → List Insn → List Insn
-binary_code (Constant c) (Constant b) o d purpose left right = by_value purpose (set_number R0 (operate o b c) ∷ [])
+binary_code (Constant c) (Constant b) o d purpose left right = by_value purpose (set_number R0 (apply_operator o b c) ∷ [])
 binary_code (Constant c) (FromLocal k) (Compare r) d purpose left right =
     by_test purpose (λ when far. jump_place k (jump_on when r) c far ∷ [])
 binary_code Computed Computed o d purpose left right = by_operator o (Reg R1) purpose (two_code d left right)
@@ -216,13 +216,13 @@ message_by _ n code = code ++ message_code n
 -- one more in place d for each node below n at which the test doesn't jump
 abbrev pub count_codes : ℕ → (ℕ → List Insn) → ℕ → List Insn
 count_codes d test zero = []
-count_codes d test (suc n) = count_codes d test n ++ (test n ++ Alu Add W32 (place d) (Imm (pos 1)) ∷ [])
+count_codes d test (suc n) = count_codes d test n ++ (test n ++ Alu Add W32 (place_register d) (Imm (pos 1)) ∷ [])
 
 abbrev pub counted_code : ℕ → ℕ → (ℕ → List Insn) → List Insn
-counted_code d n test = set_number (place d) 0 ∷ count_codes d test n
+counted_code d n test = set_number (place_register d) 0 ∷ count_codes d test n
 
 abbrev pub count_code : ℕ → ℕ → (ℕ → List Insn) → List Insn
-count_code d n test = counted_code d n test ++ copy R0 (place d) ∷ []
+count_code d n test = counted_code d n test ++ copy R0 (place_register d) ∷ []
 
 -- of a term at depth d
 abbrev pub term_code : Term → Sizes → List ℕ → ℕ → Purpose → List Insn
@@ -233,12 +233,12 @@ term_code Modulus z J d purpose = by_value purpose (set_number R0 z.modulus ∷ 
 term_code Me z J d purpose = by_value purpose (Call (pos 1) ∷ [])
 term_code Coin z J d purpose = by_value purpose (Call (pos 4) ∷ [])
 term_code (LoopNode i) z J d purpose = by_value purpose (set_number R0 (slice_index J i) ∷ [])
-term_code (Local k) z J d purpose = by_value purpose (copy R0 (place k) ∷ [])
+term_code (Local k) z J d purpose = by_value purpose (copy R0 (place_register k) ∷ [])
 term_code (Word k) z J d purpose = by_value purpose (Load size.W R0 R6 (pos (4 * k)) ∷ [])
-term_code (Message' p a) z J d purpose = by_value purpose (message_by (source_of a z J) z.nodes
+term_code (Message' p a) z J d purpose = by_value purpose (message_by (term_source a z J) z.nodes
     (term_code a z J d Value))
 term_code (Binary' o p a q b) z J d purpose =
-    binary_code (source_of b z J) (source_of a z J) o d purpose (term_code a z J d Value)
+    binary_code (term_source b z J) (term_source a z J) o d purpose (term_code a z J d Value)
     (term_code b z J (depth_behind (is_operand a || is_operand b) d) Value)
 term_code (Logical' c p a q b) z J d purpose = by_test purpose (λ when far.
     both_code (decides c) when far (λ w g. term_code a z J d (Jump w g)) (term_code b z J d (Jump when far)))
@@ -251,14 +251,14 @@ term_code (Count' p t) z J d purpose = by_value purpose
 -- ---- statements
 
 abbrev pub assign_code : Target → Insn
-assign_code (ToLocal k) = copy (place k) R0
+assign_code (ToLocal k) = copy (place_register k) R0
 assign_code (ToWord k) = StoreReg size.W R6 (pos (4 * k)) R0
 
 -- sets a target to a found number
 abbrev pub set_code : Target → Source → List Insn
-set_code (ToLocal k) x = get_code (place k) x ∷ []
+set_code (ToLocal k) x = get_code (place_register k) x ∷ []
 set_code (ToWord k) (Constant v) = StoreImm size.W R6 (pos (4 * k)) (cast_signed w32 v) ∷ []
-set_code (ToWord k) (FromLocal j) = StoreReg size.W R6 (pos (4 * k)) (place j) ∷ []
+set_code (ToWord k) (FromLocal j) = StoreReg size.W R6 (pos (4 * k)) (place_register j) ∷ []
 set_code (ToWord k) x = get_code R0 x ∷ assign_code (ToWord k) ∷ []
 
 -- sets a target to a number, by where that is found
@@ -269,13 +269,13 @@ given_code x target code = set_code target x
 -- the instruction that changes a local in its place, if a target is set to an operation on itself and a constant
 abbrev pub change_by : Target → Operator → Term → Term → Sizes → List ℕ → Option Insn
 change_by (ToLocal k) (Compute op) a b z J =
-    if is_local a k && is_constant b then Some (Alu (alu_of op) W32 (place k)
+    if is_local a k && is_constant b then Some (Alu (alu_op_of op) W32 (place_register k)
     (Imm (cast_signed w32 (constant_number b z J)))) else None
 change_by target o a b z J = None
 
-abbrev pub change_of : Target → Term → Sizes → List ℕ → Option Insn
-change_of target (Binary' o p a q b) z J = change_by target o a b z J
-change_of target _ z J = None
+abbrev pub changing_insn : Target → Term → Sizes → List ℕ → Option Insn
+changing_insn target (Binary' o p a q b) z J = change_by target o a b z J
+changing_insn target _ z J = None
 
 abbrev pub one_code : Option Insn → List Insn → List Insn
 one_code (Some insn) code = insn ∷ []
@@ -285,14 +285,14 @@ one_code None code = code
 abbrev pub also_code : Bool → ℕ → Source → Target → List Insn → List Insn → List Insn
 also_code true d x target code first = first ++ given_code x target code
 also_code false d x target code first =
-    code ++ (copy (place d) R0 ∷ (first ++ copy R0 (place d) ∷ assign_code target ∷ []))
+    code ++ (copy (place_register d) R0 ∷ (first ++ copy R0 (place_register d) ∷ assign_code target ∷ []))
 
 -- of an assignment at depth d
 abbrev pub assignment_code : Assignment → Sizes → List ℕ → ℕ → List Insn
 assignment_code (One target e) z J d =
-    one_code (change_of target e z J) (given_code (source_of e z J) target (term_code e z J d Value))
+    one_code (changing_insn target e z J) (given_code (term_source e z J) target (term_code e z J d Value))
 assignment_code (Also' p front target e) z J d =
-    also_code (is_steady e) d (source_of e z J) target (term_code e z J d Value)
+    also_code (is_steady e) d (term_source e z J) target (term_code e z J d Value)
     (assignment_code front z J (depth_behind (is_steady e) d))
 
 -- a found number to a node
@@ -306,7 +306,7 @@ send_codes x (suc n) = send_codes x n ++ send_code x n
 
 -- a computed number is sent from place d
 abbrev pub send_all_code : Source → ℕ → ℕ → List Insn → List Insn
-send_all_code Computed d n code = code ++ (copy (place d) R0 ∷ send_codes (FromLocal d) n)
+send_all_code Computed d n code = code ++ (copy (place_register d) R0 ∷ send_codes (FromLocal d) n)
 send_all_code x d n code = send_codes x n
 
 -- a found number, or a computed one, to a node
@@ -320,7 +320,7 @@ send_to_constant_code x j n code = if nat_lt j n then passed_code x j code else 
 
 -- to the node in r0, if there is one, from place d
 abbrev pub send_to_code : ℕ → ℕ → List Insn
-send_to_code d n = jump_at AtLeast n 3 ∷ copy R1 R0 ∷ copy R2 (place d) ∷ Call (pos 3) ∷ []
+send_to_code d n = jump_at AtLeast n 3 ∷ copy R1 R0 ∷ copy R2 (place_register d) ∷ Call (pos 3) ∷ []
 
 abbrev pub each_code : (ℕ → List Insn) → ℕ → List Insn
 each_code body zero = []
@@ -328,14 +328,14 @@ each_code body (suc n) = each_code body n ++ body n
 
 -- a found number, or a computed one, goes to place d; then comes what follows
 abbrev pub stored_code : Source → ℕ → List Insn → List Insn → List Insn
-stored_code Computed d code rest = code ++ (copy (place d) R0 ∷ rest)
-stored_code x d code rest = get_code (place d) x ∷ rest
+stored_code Computed d code rest = code ++ (copy (place_register d) R0 ∷ rest)
+stored_code x d code rest = get_code (place_register d) x ∷ rest
 
 -- a let at depth d, and what follows: a count stays where it was counted
 abbrev pub let_code : Term → Sizes → List ℕ → ℕ → List Insn → List Insn
 let_code (Count' p t) z J d rest =
     counted_code d z.nodes (λ j. term_code t z (J ++ j ∷ []) (d + 1) (Jump false 1)) ++ rest
-let_code e z J d rest = stored_code (source_of e z J) d (term_code e z J d Value) rest
+let_code e z J d rest = stored_code (term_source e z J) d (term_code e z J d Value) rest
 
 abbrev pub is_nothing : Statement → Bool
 is_nothing Nothing = true
@@ -350,11 +350,11 @@ block_code (Assign a) z J d = assignment_code a z J d
 block_code (If' t p a q b) z J d =
     if_code (is_nothing b) (λ far. term_code t z J d (Jump false far)) (block_code a z J d) (block_code b z J d)
 block_code (For' p body) z J d = each_code (λ j. block_code body z (J ++ j ∷ []) d) z.nodes
-block_code (SendAll e) z J d = send_all_code (source_of e z J) d z.nodes (term_code e z J d Value)
+block_code (SendAll e) z J d = send_all_code (term_source e z J) d z.nodes (term_code e z J d Value)
 block_code (SendTo e k) z J d =
-    if is_constant k then send_to_constant_code (source_of e z J) (constant_number k z J) z.nodes (term_code e z J d Value)
+    if is_constant k then send_to_constant_code (term_source e z J) (constant_number k z J) z.nodes (term_code e z J d Value)
     else term_code e z J d Value
-    ++ (copy (place d) R0 ∷ (term_code k z J (d + 1) Value ++ send_to_code d z.nodes))
+    ++ (copy (place_register d) R0 ∷ (term_code k z J (d + 1) Value ++ send_to_code d z.nodes))
 
 abbrev pub head_code : List Insn
 head_code = Alu Mov W64 R6 (Reg R1) ∷ []

@@ -47,16 +47,16 @@ compare AtMost a b = nat_le a b
 compare Greater a b = nat_lt b a
 compare AtLeast a b = nat_le b a
 
-abbrev pub number_of : Bool → ℕ
-number_of b = if b then 1 else 0
+abbrev pub bit_of : Bool → ℕ
+bit_of b = if b then 1 else 0
 
 -- every number but 0 holds
 abbrev pub truth : ℕ → Bool
 truth v = not (v == 0)
 
-abbrev pub operate : Operator → ℕ → ℕ → ℕ
-operate (Compute op) a b = apply op a b
-operate (Compare r) a b = number_of (compare r a b)
+abbrev pub apply_operator : Operator → ℕ → ℕ → ℕ
+apply_operator (Compute op) a b = apply op a b
+apply_operator (Compare r) a b = bit_of (compare r a b)
 
 abbrev pub combine : Connective → Bool → Bool → Bool
 combine And a b = a && b
@@ -65,7 +65,7 @@ combine Or a b = a || b
 -- for how many numbers below n it holds
 abbrev pub count_below : ℕ → (ℕ → ℕ) → ℕ
 count_below zero holds = 0
-count_below (suc n) holds = count_below n holds + number_of (truth (holds n))
+count_below (suc n) holds = count_below n holds + bit_of (truth (holds n))
 
 -- ---- the memory and the messages
 
@@ -75,8 +75,8 @@ word_at k m =
     slice_index m (4 * k) + 256 * (slice_index m (4 * k + 1) + 256 * (slice_index m (4 * k + 2) + 256 * slice_index m
     (4 * k + 3)))
 
-abbrev pub with_word : ℕ → ℕ → List ℕ → List ℕ
-with_word k v m = slice_set
+abbrev pub with_memory_word : ℕ → ℕ → List ℕ → List ℕ
+with_memory_word k v m = slice_set
     (slice_set (slice_set (slice_set m (4 * k) (v % 256)) (4 * k + 1) (v / 256 % 256)) (4 * k + 2) (v / 65536 % 256))
     (4 * k + 3) (v / 16777216 % 256)
 
@@ -98,9 +98,9 @@ value (LoopNode i) z env J u = slice_index J i
 value (Local k) z env J u = u.locals k
 value (Word k) z env J u = word_at k u.memory
 value (Message' p a) z env J u = message_from z env (value a z env J u)
-value (Binary' o p a q b) z env J u = operate o (value a z env J u) (value b z env J u)
-value (Logical' c p a q b) z env J u = number_of (combine c (truth (value a z env J u)) (truth (value b z env J u)))
-value (Not' p a) z env J u = number_of (not (truth (value a z env J u)))
+value (Binary' o p a q b) z env J u = apply_operator o (value a z env J u) (value b z env J u)
+value (Logical' c p a q b) z env J u = bit_of (combine c (truth (value a z env J u)) (truth (value b z env J u)))
+value (Not' p a) z env J u = bit_of (not (truth (value a z env J u)))
 value (Choice' p t q a r b) z env J u = if truth (value t z env J u) then value a z env J u else value b z env J u
 value (Count' p t) z env J u = count_below z.nodes (λ j. value t z env (J ++ j ∷ []) u)
 
@@ -115,7 +115,7 @@ with_local k v u = record {
 
 abbrev pub assigned : Target → ℕ → NodeState → NodeState
 assigned (ToLocal k) v u = with_local k v u
-assigned (ToWord k) v u = record { locals = u.locals; memory = with_word k v u.memory; sent = u.sent }
+assigned (ToWord k) v u = record { locals = u.locals; memory = with_memory_word k v u.memory; sent = u.sent }
 
 -- each target, in order, becomes its number; all numbers are those of the state u
 abbrev pub all_assigned : Assignment → Sizes → Setting → List ℕ → NodeState → NodeState

@@ -7,7 +7,7 @@ use Rattle.rule_nodes.specs.declared.syntax.Target.{Target}
 use Rattle.rule_nodes.specs.declared.syntax.Target.TheVariants.{ToLocal, ToWord}
 use Rattle.rule_nodes.specs.declared.syntax.Term.{Term}
 use Rattle.rule_nodes.specs.declared.syntax.Term.TheVariants.{Number, Nodes, Faults, Modulus, Me, Coin, LoopNode, Local, Word, Binary'}
-use Rattle.rule_nodes.specs.Meaning.{operate}
+use Rattle.rule_nodes.specs.Meaning.{apply_operator}
 
 -- a constant is a number, a size, the node of a loop, or computed of constants
 abbrev pub is_constant : Term → Bool
@@ -52,7 +52,7 @@ constant_number Nodes z J = z.nodes
 constant_number Faults z J = z.faults
 constant_number Modulus z J = z.modulus
 constant_number (LoopNode i) z J = slice_index J i
-constant_number (Binary' o p a q b) z J = operate o (constant_number a z J) (constant_number b z J)
+constant_number (Binary' o p a q b) z J = apply_operator o (constant_number a z J) (constant_number b z J)
 constant_number _ z J = 0
 
 -- ---- where a number is found
@@ -62,13 +62,13 @@ fetched_source (Local k) = FromLocal k
 fetched_source (Word k) = FromWord k
 fetched_source _ = Computed
 
-abbrev pub source_of : Term → Sizes → List ℕ → Source
-source_of t z J = if is_constant t then Constant (constant_number t z J) else fetched_source t
+abbrev pub term_source : Term → Sizes → List ℕ → Source
+term_source t z J = if is_constant t then Constant (constant_number t z J) else fetched_source t
 
 -- a source that is a word is in a memory of this length
-abbrev pub IsWithin : Source → ℕ → Type 0
-IsWithin (FromWord k) memory = 4 * k + 4 ≤ memory
-IsWithin _ memory = Unit {0}
+abbrev pub IsSourceWithin : Source → ℕ → Type 0
+IsSourceWithin (FromWord k) memory = 4 * k + 4 ≤ memory
+IsSourceWithin _ memory = Unit {0}
 
 -- and a target that is one
 abbrev pub IsTarget : Target → ℕ → Type 0

@@ -7,9 +7,9 @@ ghost use Rattle.rule_nodes.specs.declared.syntax.Target.TheVariants.{ToWord};
 ghost use Rattle.std.specs.Int.{w32, cast_signed};
 ghost use Rattle.bpf_insn.specs.declared.forms.Width.TheVariants.{W32};
 ghost use Rattle.bpf_insn.specs.declared.forms.Operand.TheVariants as operand;
-ghost use Rattle.rule_nodes.specs.Operands.{is_local, is_steady, IsWithin, IsTarget};
+ghost use Rattle.rule_nodes.specs.Operands.{is_local, is_steady, IsSourceWithin, IsTarget};
 ghost use Rattle.rule_nodes.specs.Fits.{AssignmentFits};
-ghost use Rattle.rule_nodes.specs.Code.{place, copy, alu_of, assign_code, set_code, given_code, change_by, change_of, one_code, also_code, assignment_code};
+ghost use Rattle.rule_nodes.specs.Code.{place_register, copy, alu_op_of, assign_code, set_code, given_code, change_by, changing_insn, one_code, also_code, assignment_code};
 ghost use Rattle.rule_nodes.specs.Refusals.{IsUnmade};
 
 use crate::errors::CompileError;
@@ -58,7 +58,7 @@ pub fn is_steady_of(t: &Term) -> bool
 /// Returns the code that sets a word to a found number.
 fn set_word(alloc: Global, k: u32, source: Source) -> Result<Vec<Insn>, AllocError>
     requires target { 4 * k + 4 ≤ 256 }
-    requires within { IsWithin source 256 }
+    requires within { IsSourceWithin source 256 }
     ensures { IfOk result (λ c. c.items ≡ set_code (ToWord k) source) }
 {
     match source {
@@ -86,7 +86,7 @@ fn set_word(alloc: Global, k: u32, source: Source) -> Result<Vec<Insn>, AllocErr
 /// Returns the code that sets a target to a found number.
 fn set_of(alloc: Global, target: Target, source: Source) -> Result<Vec<Insn>, AllocError>
     requires target { IsTarget target 256 }
-    requires within { IsWithin source 256 }
+    requires within { IsSourceWithin source 256 }
     ensures { IfOk result (λ c. c.items ≡ set_code target source) }
 {
     match target {
@@ -105,7 +105,7 @@ fn given(
 ) -> Result<Vec<Insn>, AllocError>
     requires set { set ≡ assign_code target }
     requires target { IsTarget target 256 }
-    requires within { IsWithin source 256 }
+    requires within { IsSourceWithin source 256 }
     ensures { IfOk result (λ c. c.items ≡ given_code source target code.items) }
 {
     match source {
@@ -156,7 +156,7 @@ fn changed_by(
 
 /// Returns an operation on a place and a constant.
 fn change(k: u32, op: Operation, v: u32) -> Insn
-    ensures { result ≡ i.Alu (alu_of op) W32 (place k) (operand.Imm (cast_signed w32 v)) }
+    ensures { result ≡ i.Alu (alu_op_of op) W32 (place_register k) (operand.Imm (cast_signed w32 v)) }
 {
     Insn::Alu {
         op: operation_of(op),
@@ -168,7 +168,7 @@ fn change(k: u32, op: Operation, v: u32) -> Insn
 
 /// Returns the instruction that changes a local in its place, if a target is set to an operation on itself.
 fn changed(target: Target, e: &Term, sizes: Sizes, loops: &[u32]) -> Option<Insn>
-    ensures { result ≡ change_of target e.now sizes loops.now }
+    ensures { result ≡ changing_insn target e.now sizes loops.now }
 {
     match e {
         Term::Binary(operator, a, b) => changed_by(target, *operator, a, b, sizes, loops),
@@ -189,7 +189,7 @@ fn one_of(alloc: Global, insn: Option<Insn>, code: Vec<Insn>) -> Result<Vec<Insn
 /// Returns the code that keeps a number in a place, sets the targets before, and then sets this one.
 fn kept(depth: u32, set: Insn, code: Vec<Insn>, first: Vec<Insn>) -> Result<Vec<Insn>, AllocError>
     ensures { IfOk result (λ c. c.items ≡
-        code.items ++ (copy (place depth) R0 ∷ (first.items ++ copy R0 (place depth) ∷ set ∷ []))) }
+        code.items ++ (copy (place_register depth) R0 ∷ (first.items ++ copy R0 (place_register depth) ∷ set ∷ []))) }
 {
     let place = place_of(depth);
     let held = joined(code, &[copy_of(place, Reg::R0)])?;
@@ -247,7 +247,7 @@ fn also_of(
 ) -> Result<Vec<Insn>, AllocError>
     requires set { set ≡ assign_code target }
     requires target { IsTarget target 256 }
-    requires within { IsWithin source 256 }
+    requires within { IsSourceWithin source 256 }
     ensures { IfOk result (λ c. c.items ≡ also_code steady depth source target code.items first.items) }
 {
     if steady {

@@ -1,7 +1,7 @@
 //! The code of operators between two terms.
 ghost use Rattle.std.specs.Prelude.{◌≡◌, ◌≤◌, ◌++◌, [], IfOk};
 ghost use Rattle.rule_nodes.specs.declared.syntax.Source.TheVariants.{Constant, FromLocal, Computed};
-ghost use Rattle.rule_nodes.specs.Operands.{source_of, IsWithin};
+ghost use Rattle.rule_nodes.specs.Operands.{term_source, IsSourceWithin};
 ghost use Rattle.rule_nodes.specs.Code.{far_of, operand_code, load_code, by_operator, left_code, binary_code};
 
 use crate::insns::{
@@ -49,7 +49,7 @@ fn right_found(
     purpose: Purpose,
 ) -> Result<Vec<Insn>, AllocError>
     requires near { far_of purpose ≤ MAX_SLOTS }
-    requires within { IsWithin y 256 }
+    requires within { IsSourceWithin y 256 }
     ensures { IfOk result (λ c. c.items ≡ by_operator operator (operand_code y) purpose (left.items ++ load_code y)) }
 {
     by_operator_of(operator, operand_of(y), with_load(left, y)?, purpose)
@@ -63,7 +63,7 @@ fn left_found(
     purpose: Purpose,
 ) -> Result<Vec<Insn>, AllocError>
     requires near { far_of purpose ≤ MAX_SLOTS }
-    requires within { IsWithin x 256 }
+    requires within { IsSourceWithin x 256 }
     ensures { IfOk result (λ c. c.items ≡ left_code operator x purpose right.items) }
 {
     match operator {
@@ -87,7 +87,7 @@ fn right_computed(
     purpose: Purpose,
 ) -> Result<Vec<Insn>, AllocError>
     requires near { far_of purpose ≤ MAX_SLOTS }
-    requires within { IsWithin x 256 }
+    requires within { IsSourceWithin x 256 }
     ensures { IfOk result (λ c. c.items ≡ binary_code Computed x operator depth purpose left.items right.items) }
 {
     match x {
@@ -133,7 +133,7 @@ fn beside_constant(
     purpose: Purpose,
 ) -> Result<Vec<Insn>, AllocError>
     requires near { far_of purpose ≤ MAX_SLOTS }
-    requires within { IsWithin x 256 }
+    requires within { IsSourceWithin x 256 }
     ensures { IfOk result (λ a. a.items ≡ binary_code (Constant c) x operator 0 purpose left.items []) }
 {
     match x {
@@ -158,8 +158,8 @@ fn by_sources(
     purpose: Purpose,
 ) -> Result<Vec<Insn>, AllocError>
     requires near { far_of purpose ≤ MAX_SLOTS }
-    requires left { IsWithin x 256 }
-    requires right { IsWithin y 256 }
+    requires left { IsSourceWithin x 256 }
+    requires right { IsSourceWithin y 256 }
     ensures { IfOk result (λ c. c.items ≡ binary_code y x operator depth purpose left.items right.items) }
 {
     match y {
@@ -184,10 +184,10 @@ pub fn binary_of(
     purpose: Purpose,
 ) -> Result<Vec<Insn>, AllocError>
     requires near { far_of purpose ≤ MAX_SLOTS }
-    requires left { IsWithin (source_of a.now sizes loops.now) 256 }
-    requires right { IsWithin (source_of b.now sizes loops.now) 256 }
-    ensures { IfOk result (λ c. c.items ≡ binary_code (source_of b.now sizes loops.now)
-        (source_of a.now sizes loops.now) operator depth purpose left.items right.items) }
+    requires left { IsSourceWithin (term_source a.now sizes loops.now) 256 }
+    requires right { IsSourceWithin (term_source b.now sizes loops.now) 256 }
+    ensures { IfOk result (λ c. c.items ≡ binary_code (term_source b.now sizes loops.now)
+        (term_source a.now sizes loops.now) operator depth purpose left.items right.items) }
 {
     let x = source(a, sizes, loops);
     let y = source(b, sizes, loops);

@@ -2,14 +2,14 @@
 ghost use Rattle.std.specs.Prelude.{◌≡◌, ◌≤◌, ◌<◌, ◌+◌, ◌*◌, pos, length, IsTrue, ◌↔◌};
 ghost use Rattle.bpf_insn.specs.declared.forms.Reg.TheVariants.{R1};
 ghost use Rattle.bpf_insn.specs.declared.forms.Insn.TheVariants as i;
-ghost use Rattle.rule_nodes.specs.Code.{place, set_number, copy, alu_of, cond_of, opposite, mirror, jump_on, jump_by, jump_place, jump_at, set_node};
+ghost use Rattle.rule_nodes.specs.Code.{place_register, set_number, copy, alu_op_of, cond_of, opposite, mirror, jump_on, jump_by, jump_place, jump_at, set_node};
 
 use crate::syntax::{Comparison, Operation};
 use bpf_insn::{AluOp, Cond, Insn, MAX_SLOTS, Operand, Reg, Width};
 
 /// Returns the register of a place.
 pub fn place_of(k: u32) -> Reg
-    ensures { result ≡ place k }
+    ensures { result ≡ place_register k }
 {
     match k {
         0 => Reg::R7,
@@ -57,7 +57,7 @@ pub fn set_node_of(node: u32) -> Insn
 
 /// Returns the instruction of an operation.
 pub fn operation_of(op: Operation) -> AluOp
-    ensures { result ≡ alu_of op }
+    ensures { result ≡ alu_op_of op }
 {
     match op {
         Operation::Sum => AluOp::Add,

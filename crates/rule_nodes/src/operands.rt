@@ -1,7 +1,7 @@
 //! Where numbers are found: constants, locals and words of the memory.
 ghost use Rattle.std.specs.Prelude.{◌≡◌, ◌≤◌, ◌++◌, ◌||◌, slice_index, IfOk};
-ghost use Rattle.rule_nodes.specs.Meaning.{apply, compare, operate};
-ghost use Rattle.rule_nodes.specs.Operands.{is_constant, is_operand, constant_number, depth_behind, fetched_source, source_of, IsWithin};
+ghost use Rattle.rule_nodes.specs.Meaning.{apply, compare, apply_operator};
+ghost use Rattle.rule_nodes.specs.Operands.{is_constant, is_operand, constant_number, depth_behind, fetched_source, term_source, IsSourceWithin};
 ghost use Rattle.rule_nodes.specs.Fits.{HasPlace};
 ghost use Rattle.rule_nodes.specs.Code.{get_code, operand_code, load_code};
 
@@ -38,7 +38,7 @@ fn compare_of(comparison: Comparison, a: u32, b: u32) -> bool
 
 /// Returns what an operator makes of two numbers.
 pub fn operate_of(operator: Operator, a: u32, b: u32) -> u32
-    ensures { result ≡ operate operator a b }
+    ensures { result ≡ apply_operator operator a b }
 {
     match operator {
         Operator::Compute(op) => apply_of(op, a, b),
@@ -107,7 +107,7 @@ fn fetched(t: &Term) -> Source
 
 /// Returns where the number of a term is found.
 pub fn source(t: &Term, sizes: Sizes, loops: &[u32]) -> Source
-    ensures { result ≡ source_of t.now sizes loops.now }
+    ensures { result ≡ term_source t.now sizes loops.now }
 {
     if is_constant_of(t) {
         Source::Constant(constant_of(t, sizes, loops))
@@ -118,7 +118,7 @@ pub fn source(t: &Term, sizes: Sizes, loops: &[u32]) -> Source
 
 /// Returns the instruction that puts a found number into a register.
 pub fn get_of(dst: Reg, source: Source) -> Insn
-    requires { IsWithin source 256 }
+    requires { IsSourceWithin source 256 }
     ensures { result ≡ get_code dst source }
 {
     match source {
@@ -147,7 +147,7 @@ pub fn operand_of(source: Source) -> Operand
 
 /// Returns the code, with the load of a word that is an operand.
 pub fn with_load(code: Vec<Insn>, source: Source) -> Result<Vec<Insn>, AllocError>
-    requires { IsWithin source 256 }
+    requires { IsSourceWithin source 256 }
     ensures { IfOk result (λ c. c.items ≡ code.items ++ load_code source) }
 {
     match source {

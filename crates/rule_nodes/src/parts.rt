@@ -7,7 +7,7 @@ ghost use Rattle.bpf_insn.specs.declared.forms.Operand.TheVariants as operand;
 ghost use Rattle.bpf_insn.specs.declared.forms.Insn.TheVariants as i;
 ghost use Rattle.rule_nodes.specs.declared.syntax.Purpose.TheVariants.{Jump};
 ghost use Rattle.rule_nodes.specs.declared.syntax.Source.TheVariants.{Constant};
-ghost use Rattle.rule_nodes.specs.Code.{place, set_number, copy, when_of, far_of, beyond, behind_test, by_value, two_code, message_code, message_by, decides, both_far};
+ghost use Rattle.rule_nodes.specs.Code.{place_register, set_number, copy, when_of, far_of, beyond_purpose, behind_test, by_value, two_code, message_code, message_by, decides, both_far};
 ghost use Rattle.rule_nodes.specs.Refusals.{IsUnmade};
 
 use crate::errors::CompileError;
@@ -51,7 +51,7 @@ pub fn short(code: Vec<Insn>) -> Result<Vec<Insn>, CompileError>
 /// Fails if the jump of a purpose is longer than a program.
 pub fn near(purpose: Purpose) -> Result<(), CompileError>
     ensures near { IfOk result (λ _. far_of purpose ≤ MAX_SLOTS) }
-    ensures far { IfErr result (IsUnmade (beyond purpose)) }
+    ensures far { IfErr result (IsUnmade (beyond_purpose purpose)) }
 {
     if far_for(purpose) > MAX_SLOTS {
         return Err(CompileError::TooLong);

@@ -4,9 +4,9 @@ ghost use Rattle.rule_nodes.specs.declared.syntax.Purpose.TheVariants.{Value};
 ghost use Rattle.bpf_insn.specs.declared.forms.Reg.TheVariants.{R0, R1};
 ghost use Rattle.bpf_insn.specs.declared.forms.Insn.TheVariants as i;
 ghost use Rattle.rule_nodes.specs.declared.syntax.Statement.TheVariants.{SendAll, SendTo};
-ghost use Rattle.rule_nodes.specs.Operands.{source_of, IsWithin};
+ghost use Rattle.rule_nodes.specs.Operands.{term_source, IsSourceWithin};
 ghost use Rattle.rule_nodes.specs.Fits.{Fits, BlockFits};
-ghost use Rattle.rule_nodes.specs.Code.{place, copy, set_node, term_code, stored_code, let_code, send_codes, send_all_code, passed_code, send_to_constant_code, send_to_code, is_nothing, block_code};
+ghost use Rattle.rule_nodes.specs.Code.{place_register, copy, set_node, term_code, stored_code, let_code, send_codes, send_all_code, passed_code, send_to_constant_code, send_to_code, is_nothing, block_code};
 ghost use Rattle.rule_nodes.specs.Refusals.{IsUnmade};
 
 use crate::assignments::assignment;
@@ -30,7 +30,7 @@ fn send_of(node: u32, get: Insn) -> [Insn; 3]
 /// Returns the code that sends a found number to each node.
 fn sends_of(alloc: Global, source: Source, nodes: u32) -> Result<Vec<Insn>, AllocError>
     requires few { nodes ≤ 64 }
-    requires within { IsWithin source 256 }
+    requires within { IsSourceWithin source 256 }
     ensures { IfOk result (λ c. c.items ≡ send_codes source nodes) }
 {
     let mut sends = Vec::new(alloc);
@@ -56,7 +56,7 @@ fn send_to_of(depth: u32, nodes: u32) -> [Insn; 4]
 
 /// Returns the code of a number, its copy into a place, and what follows.
 fn stored(code: Vec<Insn>, depth: u32, rest: &[Insn]) -> Result<Vec<Insn>, AllocError>
-    ensures { IfOk result (λ c. c.items ≡ code.items ++ (copy (place depth) R0 ∷ rest.now)) }
+    ensures { IfOk result (λ c. c.items ≡ code.items ++ (copy (place_register depth) R0 ∷ rest.now)) }
 {
     let kept = joined(code, &[copy_of(place_of(depth), Reg::R0)])?;
     joined(kept, rest)
@@ -70,7 +70,7 @@ fn stored_from(
     code: Vec<Insn>,
     rest: &[Insn],
 ) -> Result<Vec<Insn>, AllocError>
-    requires { IsWithin source 256 }
+    requires { IsSourceWithin source 256 }
     ensures { IfOk result (λ c. c.items ≡ stored_code source depth code.items rest.now) }
 {
     let get = get_of(place_of(depth), source);
@@ -102,7 +102,7 @@ pub fn let_of(
     rest: &[Insn],
 ) -> Result<Vec<Insn>, AllocError>
     requires code { code.items ≡ term_code e.now sizes loops.now depth Value }
-    requires within { IsWithin (source_of e.now sizes loops.now) 256 }
+    requires within { IsSourceWithin (term_source e.now sizes loops.now) 256 }
     ensures { IfOk result (λ c. c.items ≡ let_code e.now sizes loops.now depth rest.now) }
 {
     match e {
@@ -140,7 +140,7 @@ fn send_all_of(
     code: Vec<Insn>,
 ) -> Result<Vec<Insn>, AllocError>
     requires few { nodes ≤ 64 }
-    requires within { IsWithin source 256 }
+    requires within { IsSourceWithin source 256 }
     ensures { IfOk result (λ c. c.items ≡ send_all_code source depth nodes code.items) }
 {
     match source {
@@ -162,7 +162,7 @@ fn passed(
     code: Vec<Insn>,
 ) -> Result<Vec<Insn>, AllocError>
     requires node { node < 64 }
-    requires within { IsWithin source 256 }
+    requires within { IsSourceWithin source 256 }
     ensures { IfOk result (λ c. c.items ≡ passed_code source node code.items) }
 {
     let send = send_of(node, get_of(Reg::R2, source));
@@ -188,10 +188,10 @@ fn send_to_constant(
     requires memory { sizes.memory ≤ 256 }
     requires deep { depth ≤ 3 }
     requires fits { Fits e.now sizes (length loops.now) depth depth }
-    ensures code { IfOk result (λ c. c.items ≡ send_to_constant_code (source_of e.now sizes loops.now) node sizes.nodes
+    ensures code { IfOk result (λ c. c.items ≡ send_to_constant_code (term_source e.now sizes loops.now) node sizes.nodes
         (term_code e.now sizes loops.now depth Value)) }
     ensures short { IfOk result (λ c. length c.items ≤ MAX_SLOTS) }
-    ensures long { IfErr result (IsUnmade (length (send_to_constant_code (source_of e.now sizes loops.now) node sizes.nodes
+    ensures long { IfErr result (IsUnmade (length (send_to_constant_code (term_source e.now sizes loops.now) node sizes.nodes
         (term_code e.now sizes loops.now depth Value)) + 1)) }
 {
     if node >= sizes.nodes {

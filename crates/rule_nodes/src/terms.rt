@@ -3,9 +3,9 @@ ghost use Rattle.std.specs.Prelude.{◌≡◌, ◌≤◌, ◌+◌, ◌*◌, [], 
 ghost use Rattle.bpf_insn.specs.declared.forms.Reg.TheVariants.{R0, R6};
 ghost use Rattle.bpf_insn.specs.declared.forms.Size.TheVariants as size;
 ghost use Rattle.bpf_insn.specs.declared.forms.Insn.TheVariants as i;
-ghost use Rattle.rule_nodes.specs.Operands.{source_of};
+ghost use Rattle.rule_nodes.specs.Operands.{term_source};
 ghost use Rattle.rule_nodes.specs.Fits.{Fits};
-ghost use Rattle.rule_nodes.specs.Code.{set_number, far_of, beyond, by_value, message_by, term_code};
+ghost use Rattle.rule_nodes.specs.Code.{set_number, far_of, beyond_purpose, by_value, message_by, term_code};
 ghost use Rattle.rule_nodes.specs.Refusals.{IsUnmade};
 
 use crate::binary::binary_of;
@@ -61,7 +61,7 @@ fn message(
     requires few { sizes.nodes ≤ 64 }
     requires near { far_of purpose ≤ MAX_SLOTS }
     ensures { IfOk result (λ c. c.items ≡
-        by_value purpose (message_by (source_of node.now sizes loops.now) sizes.nodes code.items)) }
+        by_value purpose (message_by (term_source node.now sizes loops.now) sizes.nodes code.items)) }
 {
     let from = source(node, sizes, loops);
     by_value_of(message_by_of(alloc, from, sizes.nodes, code)?, purpose)
@@ -84,7 +84,7 @@ pub fn term(
     requires fits { Fits t.now sizes (length loops.now) lets depth }
     ensures code { IfOk result (λ c. c.items ≡ term_code t.now sizes loops.now depth purpose) }
     ensures short { IfOk result (λ c. length c.items ≤ MAX_SLOTS) }
-    ensures long { IfErr result (IsUnmade (length (term_code t.now sizes loops.now depth purpose) + beyond purpose)) }
+    ensures long { IfErr result (IsUnmade (length (term_code t.now sizes loops.now depth purpose) + beyond_purpose purpose)) }
 {
     near(purpose)?;
     match t {

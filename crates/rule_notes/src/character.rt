@@ -5,11 +5,11 @@ use std::alloc::{AllocError, Global};
 use std::str;
 
 /// The most bytes of a character.
-const MOST_BYTES: usize = 4;
+const MAX_BYTES: usize = 4;
 
 /// Returns the character that begins a text, if it is one.
 fn first_character(text: &[u8]) -> Option<&str> {
-    for length in 1..=MOST_BYTES {
+    for length in 1..=MAX_BYTES {
         if let Ok(character) = str::from_utf8(&text[..length.min(text.len())]) {
             return Some(character);
         }

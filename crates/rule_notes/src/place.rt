@@ -6,7 +6,7 @@ use std::alloc::{AllocError, Global};
 use std::str;
 
 /// The most bytes of a line before a place that are shown.
-const MOST_BEFORE: usize = 100;
+const MAX_BEFORE: usize = 100;
 
 /// A place in a line of a text.
 #[derive(Clone, Copy)]
@@ -64,8 +64,8 @@ pub(crate) fn place_in(text: &[u8], line: usize, column: usize) -> Place<'_> {
 /// Returns the line of a place as a note shows it, without its comment: of a long line only what is near the place.
 pub(crate) fn shown_line(alloc: Global, place: Place<'_>) -> Result<String, AllocError> {
     let line = up_to(place.line, b'#');
-    let cut = if place.before.len() > MOST_BEFORE {
-        place.before.len().saturating_sub(MOST_BEFORE / 2)
+    let cut = if place.before.len() > MAX_BEFORE {
+        place.before.len().saturating_sub(MAX_BEFORE / 2)
     } else {
         0
     };

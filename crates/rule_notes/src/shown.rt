@@ -3,7 +3,7 @@
 use std::alloc::{AllocError, Global};
 
 /// The most characters of a text that are shown.
-const MOST_SHOWN: usize = 120;
+const MAX_SHOWN: usize = 120;
 
 /// Returns true for characters that a terminal doesn't show as they are: controls, and those that turn the direction of
 /// writing or take no room.
@@ -15,7 +15,7 @@ fn is_hidden(letter: char) -> bool {
 /// Returns the first characters of a text without the blanks at its ends; one that is hidden is a blank.
 pub fn shown(alloc: Global, text: &str) -> Result<String, AllocError> {
     let mut line = String::new(alloc);
-    for letter in text.trim().chars().take(MOST_SHOWN) {
+    for letter in text.trim().chars().take(MAX_SHOWN) {
         let plain = if is_hidden(letter) { ' ' } else { letter };
         line.push(plain)?;
     }

@@ -16,21 +16,21 @@ use Rattle.rule_text.specs.declared.lines.Spot.TheVariants.{Front, Counting, Ins
 use Rattle.rule_nodes.specs.declared.syntax.Comparison.{Comparison}
 use Rattle.rule_nodes.specs.declared.syntax.Target.{Target}
 use Rattle.rule_text.specs.Forms.{TermForm, AssignmentForm, StatementForm}
-use Rattle.rule_text.specs.Lines.{spot_after, begins_statement, line_at, lines_from, statement_lines, statements_in}
+use Rattle.rule_text.specs.Lines.{spot_after, begins_statement, token_line, token_lines_from, statement_lines, form_statements}
 use Rattle.rule_text.specs.Terms.{joint_of, comparison_of, leaf_of}
-use Rattle.rule_text.specs.Statements.{RuleForm, rule_of}
+use Rattle.rule_text.specs.Statements.{RuleForm, rule_read}
 use Rattle.rule_text.specs.Spelling as s
 use Rattle.rule_text.proofs.SpelledStatements.{read_spelled}
 
 pub next_line : (tokens : List Token) (i : ℕ) (t : Token) (spot : Spot) (all done more : List ℕ) → i < length tokens
-    → t ≡ get_or tokens i t → more ≡ done ++ line_at spot t → all ≡ done ++ lines_from spot (drop i tokens)
-    → all ≡ more ++ lines_from (spot_after spot t.kind) (drop (i + 1) tokens)
+    → t ≡ get_or tokens i t → more ≡ done ++ token_line spot t → all ≡ done ++ token_lines_from spot (drop i tokens)
+    → all ≡ more ++ token_lines_from (spot_after spot t.kind) (drop (i + 1) tokens)
 next_line tokens i t spot all done more within is made before =
     let first : drop i tokens ≡ t ∷ drop (i + 1) tokens =
     (rw add-one (drop-cons tokens i t within)) ∙ ap (λ (x : Token). x ∷ drop (i + 1) tokens) (sym is) in
-    before ∙ ap (λ (l : List Token). done ++ lines_from spot l) first
-    ∙ sym (append_assoc done (line_at spot t) (lines_from (spot_after spot t.kind) (drop (i + 1) tokens)))
-    ∙ ap (λ (l : List ℕ). l ++ lines_from (spot_after spot t.kind) (drop (i + 1) tokens)) (sym made)
+    before ∙ ap (λ (l : List Token). done ++ token_lines_from spot l) first
+    ∙ sym (append_assoc done (token_line spot t) (token_lines_from (spot_after spot t.kind) (drop (i + 1) tokens)))
+    ∙ ap (λ (l : List ℕ). l ++ token_lines_from (spot_after spot t.kind) (drop (i + 1) tokens)) (sym made)
 
 -- ---- scans
 
@@ -40,7 +40,7 @@ steps spot (t ∷ ts) = steps (spot_after spot t.kind) ts
 
 -- these tokens begin n statements and lead from one spot to another
 record Scans (spot to : Spot) (n : ℕ) (ts : List Token) : Type 0 where
-  pub lines : length (lines_from spot ts) ≡ n
+  pub lines : length (token_lines_from spot ts) ≡ n
   pub ends : steps spot ts ≡ to
 
 scans_none : (spot : Spot) → Scans spot spot 0 []
@@ -53,20 +53,20 @@ scans_both : {spot mid to : Spot} {m n : ℕ} {xs ys : List Token} → Scans spo
     → Scans spot to (m + n) (xs ++ ys)
 scans_both {spot = spot} {mid = mid} {xs = xs} {ys = ys} a b =
     let joined = lines_append spot xs ys in
-    let here = ap (λ (p : Spot). length (lines_from p ys)) a.ends in
+    let here = ap (λ (p : Spot). length (token_lines_from p ys)) a.ends in
     record {
       lines = omega (arith, joined, here, a.lines, b.lines);
       ends = steps_append spot xs ys ∙ ap (λ (p : Spot). steps p ys) a.ends ∙ b.ends;
     }
   where
     lines_append : (p : Spot) (us vs : List Token)
-        → length (lines_from p (us ++ vs)) ≡ length (lines_from p us) + length (lines_from (steps p us) vs)
+        → length (token_lines_from p (us ++ vs)) ≡ length (token_lines_from p us) + length (token_lines_from (steps p us) vs)
     lines_append p [] vs = omega arith
     lines_append p (u ∷ us) vs =
         omega (
           arith,
-          length-append (line_at p u) (lines_from (spot_after p u.kind) (us ++ vs)),
-          length-append (line_at p u) (lines_from (spot_after p u.kind) us),
+          length-append (token_line p u) (token_lines_from (spot_after p u.kind) (us ++ vs)),
+          length-append (token_line p u) (token_lines_from (spot_after p u.kind) us),
           lines_append (spot_after p u.kind) us vs,
         )
 
@@ -76,15 +76,15 @@ scans_both {spot = spot} {mid = mid} {xs = xs} {ys = ys} a b =
 
 -- a token of a kind, of which these are the lines and the spot after it
 scans_kind : {kind : Kind} {to : Spot} {n : ℕ} {ts : List Token} (spot mid : Spot) (m : ℕ) (t : Token) → s.HasKind kind t
-    → ((u : Token) → u.kind ≡ kind → length (line_at spot u) ≡ m) → spot_after spot kind ≡ mid → Scans mid to n ts
+    → ((u : Token) → u.kind ≡ kind → length (token_line spot u) ≡ m) → spot_after spot kind ≡ mid → Scans mid to n ts
     → Scans spot to (m + n) (t ∷ ts)
 scans_kind {ts = ts} spot mid m t is one next a =
     let after : spot_after spot t.kind ≡ mid = ap (spot_after spot) is.is ∙ next in
-    let rest = ap (λ (p : Spot). length (lines_from p ts)) after in
+    let rest = ap (λ (p : Spot). length (token_lines_from p ts)) after in
     record {
       lines = omega (
         arith,
-        length-append (line_at spot t) (lines_from (spot_after spot t.kind) ts),
+        length-append (token_line spot t) (token_lines_from (spot_after spot t.kind) ts),
         one t is.is,
         rest,
         a.lines,
@@ -99,7 +99,7 @@ inner {kind = kind} {mid = mid} {n = n} t is next a =
     scans_as (omega arith) (scans_kind {kind = kind} Inside mid 0 t is (λ u e. refl) next a)
 
 front_line : (u : Token) (kind : Kind) (b : Bool) → u.kind ≡ kind → begins_statement kind ≡ b
-    → length (line_at Front u) ≡ (if b then 1 else 0)
+    → length (token_line Front u) ≡ (if b then 1 else 0)
 front_line u kind b e f =
     let is : begins_statement u.kind ≡ b = ap begins_statement e ∙ f in
     ap (λ (c : Bool). length (if c then u.line ∷ [] else [])) is ∙ by b
@@ -127,11 +127,11 @@ started t is a = inner t is.start refl a
 also_from_front : {to : Spot} {n : ℕ} {ts : List Token} (t : Token) → t.kind ≡ LineStart → Scans Inside to n (t ∷ ts)
     → Scans Front to n (t ∷ ts)
 also_from_front {ts = ts} t e a =
-    let none : length (line_at Front t) ≡ 0 = front_line t LineStart false e refl in
+    let none : length (token_line Front t) ≡ 0 = front_line t LineStart false e refl in
     let same : spot_after Front t.kind ≡ spot_after Inside t.kind = ap (spot_after Front) e ∙ sym (ap (spot_after Inside) e) in
-    let rest = ap (λ (p : Spot). length (lines_from p ts)) same in
+    let rest = ap (λ (p : Spot). length (token_lines_from p ts)) same in
     record {
-      lines = omega (arith, length-append (line_at Front t) (lines_from (spot_after Front t.kind) ts), none, rest, a.lines);
+      lines = omega (arith, length-append (token_line Front t) (token_lines_from (spot_after Front t.kind) ts), none, rest, a.lines);
       ends = ap (λ (p : Spot). steps p ts) same ∙ a.ends;
     }
 
@@ -173,10 +173,10 @@ module _ (text : List ℕ) where
       let there : spot_after Counting d.kind ≡ Inside = ap (spot_after Counting) colon.is in
       let both : spot_after (spot_after Counting n.kind) d.kind ≡ Inside =
       ap (λ (p : Spot). spot_after p d.kind) named ∙ there in
-      let quiet : line_at (spot_after Counting n.kind) d ≡ [] = ap (λ (p : Spot). line_at p d) named in
+      let quiet : token_line (spot_after Counting n.kind) d ≡ [] = ap (λ (p : Spot). token_line p d) named in
       record {
-        lines = ap (λ (l : List ℕ). length (l ++ lines_from (spot_after (spot_after Counting n.kind) d.kind) ts)) quiet
-            ∙ ap (λ (p : Spot). length (lines_from p ts)) both ∙ a.lines;
+        lines = ap (λ (l : List ℕ). length (l ++ token_lines_from (spot_after (spot_after Counting n.kind) d.kind) ts)) quiet
+            ∙ ap (λ (p : Spot). length (token_lines_from p ts)) both ∙ a.lines;
         ends = ap (λ (p : Spot). steps p ts) both ∙ a.ends;
       }
 
@@ -223,7 +223,7 @@ module _ (text : List ℕ) where
   numbers_scan (s.next_number h c e) = scans_both (numbers_scan h) (inner _ c refl (term_scans e))
 
   action_scans : {names : List Entry} {ts : List Token} {a : StatementForm} → s.IsAction text names ts a
-      → Scans Front Inside (statements_in a) ts
+      → Scans Front Inside (form_statements a) ts
   action_scans (s.sent is e) = first _ is refl refl (term_scans e)
   action_scans (s.sent_to is e t k) = first _ is refl refl (scans_both (term_scans e) (inner _ t refl (term_scans k)))
   action_scans (s.set ts b ns) = scans_both (targets_scan ts) (inner _ b refl (numbers_scan ns))
@@ -236,7 +236,7 @@ module _ (text : List ℕ) where
       (term_scans l.is_term))))
 
   simple_scans : {names : List Entry} {ts : List Token} {a : StatementForm} → s.IsSimple text names ts a
-      → Scans Front Inside (statements_in a) ts
+      → Scans Front Inside (form_statements a) ts
   simple_scans (s.action is) = action_scans is
   simple_scans (s.let_alone l) = let_scans l
 
@@ -256,18 +256,18 @@ module _ (text : List ℕ) where
   record Cases (a : StatementForm) (ts : List Token) : Type 0 where
     pub count : ℕ
     pub scans : Scans Inside Inside count ts
-    pub more : count + 1 ≡ statements_in a
+    pub more : count + 1 ≡ form_statements a
 
   mutual
     block_scans : {column : ℕ} {names : List Entry} {ts : List Token} {a : StatementForm}
-        → s.IsBlock text column names ts a → Scans Inside Inside (statements_in a) ts
+        → s.IsBlock text column names ts a → Scans Inside Inside (form_statements a) ts
     block_scans s.empty = scans_none Inside
     block_scans (s.let_line start l rest) =
         scans_as (omega arith) (started _ start (scans_both (let_scans l) (block_scans rest)))
     block_scans (s.line start one rest) = started _ start (scans_both (statement_scans one) (block_scans rest))
 
     statement_scans : {column : ℕ} {names : List Entry} {ts : List Token} {a : StatementForm}
-        → s.IsStatement text column names ts a → Scans Front Inside (statements_in a) ts
+        → s.IsStatement text column names ts a → Scans Front Inside (form_statements a) ts
     statement_scans (s.does is) = action_scans is
     statement_scans (s.loop is new body) =
         scans_as (omega arith) (first _ is refl refl (inner _ new.named refl (body_scans body)))
@@ -284,7 +284,7 @@ module _ (text : List ℕ) where
     }
 
     otherwise_scans : {column : ℕ} {names : List Entry} {ts : List Token} {a : StatementForm}
-        → s.IsOtherwise text column names ts a → Scans Inside Inside (statements_in a) ts
+        → s.IsOtherwise text column names ts a → Scans Inside Inside (form_statements a) ts
     otherwise_scans s.none = scans_none Inside
     otherwise_scans (s.elif_line start is all) =
         let c = cases_scan all in
@@ -292,7 +292,7 @@ module _ (text : List ℕ) where
     otherwise_scans (s.else_line start is body) = started _ start (passed _ is refl refl (body_scans body))
 
     body_scans : {column : ℕ} {names : List Entry} {ts : List Token} {a : StatementForm}
-        → s.IsBody text column names ts a → Scans Inside Inside (statements_in a) ts
+        → s.IsBody text column names ts a → Scans Inside Inside (form_statements a) ts
     body_scans (s.same_line is simple) = inner _ is refl (simple_scans simple)
     body_scans (s.deeper is further block) =
         inner _ is refl (also_from_front _ (block_first block _ _ refl) (block_scans block))
@@ -308,10 +308,10 @@ module _ (text : List ℕ) where
   header_scans (s.state_line start is words rest) =
       started _ start (passed _ is refl refl (scans_both (words_scan words) (header_scans rest)))
 
-pub one_line_each : (text : List ℕ) (rule : RuleForm) → rule_of text ≡ Ok rule
-    → length (statement_lines text) ≡ statements_in rule.statement
+pub one_line_each : (text : List ℕ) (rule : RuleForm) → rule_read text ≡ Ok rule
+    → length (statement_lines text) ≡ form_statements rule.statement
 one_line_each text rule e =
     let sp = read_spelled text rule e in
     let all = scans_both (header_scans text sp.is_header)
     (scans_both (block_scans text sp.is_block) (inner sp.end sp.ends refl (scans_none Inside))) in
-    ap (λ (ts : List Token). length (lines_from Inside ts)) sp.tokens ∙ all.lines ∙ omega arith
+    ap (λ (ts : List Token). length (token_lines_from Inside ts)) sp.tokens ∙ all.lines ∙ omega arith

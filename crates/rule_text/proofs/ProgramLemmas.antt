@@ -10,11 +10,11 @@ use Rattle.rule_text.specs.declared.program.RuleRefusal.TheVariants.{Text, NoRoo
 use Rattle.rule_text.specs.declared.rule.Rule.{Rule}
 use Rattle.rule_text.specs.Programs.{HasRoom, IsProgramOfText, IsRefusalOfRule, IsRefusalOfText}
 use Rattle.rule_text.specs.Rules.{rule_form}
-use Rattle.rule_text.specs.Statements.{RuleForm, rule_of}
+use Rattle.rule_text.specs.Statements.{RuleForm, rule_read}
 use Rattle.rule_text.proofs.Rebuilt.{same_code, same_fit}
 
 -- a text is read as rules of one form
-one_form : (text : List ℕ) (a b : Rule) → rule_of text ≡ Ok (rule_form a) → rule_of text ≡ Ok (rule_form b)
+one_form : (text : List ℕ) (a b : Rule) → rule_read text ≡ Ok (rule_form a) → rule_read text ≡ Ok (rule_form b)
     → rule_form a ≡ rule_form b
 one_form text a b first second = let both = sym first ∙ second in cc
 
@@ -51,14 +51,14 @@ no_program g z text TooLong p refused is =
     omega arith
 
 -- a refusal of the rule that the text is
-refused_text : (z : Sizes) (text : List ℕ) (rule : Rule) (e : RuleRefusal) → rule_of text ≡ Ok (rule_form rule)
+refused_text : (z : Sizes) (text : List ℕ) (rule : Rule) (e : RuleRefusal) → rule_read text ≡ Ok (rule_form rule)
     → IsRefusalOfRule z rule e → IsRefusalOfText z text e
 refused_text z text rule (Text error line column) reads refused = absurd refused
 refused_text z text rule NoRoom reads refused = (rule, reads, refused)
 refused_text z text rule TooLong reads refused = (rule, reads, refused)
 
 pub none_of_rule : {P E : Type 0} (g : Global) (z : Sizes) (text : List ℕ) (rule : Rule) (r : Result (Result P RuleRefusal) E)
-    → rule_of text ≡ Ok (rule_form rule) → IfOk r (λ made. IfErr made (IsRefusalOfRule z rule))
+    → rule_read text ≡ Ok (rule_form rule) → IfOk r (λ made. IfErr made (IsRefusalOfRule z rule))
     → IfOk r (λ made. IfErr made (λ (e : RuleRefusal). (p : List Insn) → IsProgramOfText z text p → ⊥))
 none_of_rule g z text rule (Ok (Ok made)) reads refused = tt
 none_of_rule g z text rule (Ok (Err e)) reads refused =

@@ -7,9 +7,9 @@ use Rattle.bpf_insn.specs.declared.forms.Insn.TheVariants.{Alu}
 use Rattle.bpf_insn.specs.declared.forms.Operand.TheVariants.{Imm}
 use Rattle.bpf_insn.specs.declared.forms.Reg.TheVariants.{R0}
 use Rattle.bpf_insn.specs.declared.forms.Width.TheVariants.{W32}
-use Rattle.rule_nodes.specs.Meaning.{operate}
-use Rattle.rule_nodes.specs.Operands.{is_constant, is_fetched, is_local, is_operand, is_asked, is_steady, depth_behind, constant_number, fetched_source, source_of}
-use Rattle.rule_nodes.specs.Code.{place, copy, by_value, by_test, binary_code, alu_of, choice_code, decides, both_code, message_by, count_code, counted_code, term_code, given_code, change_by, change_of, one_code, also_code, assignment_code, stored_code, send_all_code, send_to_constant_code, send_to_code, each_code, if_code, is_nothing, let_code, block_code, head_code, tail_code, rule_code}
+use Rattle.rule_nodes.specs.Meaning.{apply_operator}
+use Rattle.rule_nodes.specs.Operands.{is_constant, is_fetched, is_local, is_operand, is_asked, is_steady, depth_behind, constant_number, fetched_source, term_source}
+use Rattle.rule_nodes.specs.Code.{place_register, copy, by_value, by_test, binary_code, alu_op_of, choice_code, decides, both_code, message_by, count_code, counted_code, term_code, given_code, change_by, changing_insn, one_code, also_code, assignment_code, stored_code, send_all_code, send_to_constant_code, send_to_code, each_code, if_code, is_nothing, let_code, block_code, head_code, tail_code, rule_code}
 use Rattle.rule_nodes.specs.Fits.{HasPlace, Fits, TargetFits, AssignmentFits, BlockFits}
 use Rattle.rule_nodes.specs.declared.syntax.Operator.{Operator}
 use Rattle.rule_nodes.specs.declared.syntax.Operator.TheVariants.{Compute, Compare}
@@ -89,7 +89,7 @@ steady_same : (g : Global) (t : Term) → is_steady t ≡ is_steady (lifted g t)
 steady_same g t = λ k. constant_same g t k || asked_same g t k
 
 number_same : (g : Global) (t : Term) (z : Sizes) (J : List ℕ) → constant_number t z J ≡ constant_number (lifted g t) z J
-number_same g (Binary' o p a q b) z J = λ k. operate o (number_same g a z J k) (number_same g b z J k)
+number_same g (Binary' o p a q b) z J = λ k. apply_operator o (number_same g a z J k) (number_same g b z J k)
 number_same g Me z J = refl
 number_same g _ z J = refl
 
@@ -97,7 +97,7 @@ fetched_same : (g : Global) (t : Term) → fetched_source t ≡ fetched_source (
 fetched_same g (Local k) = refl
 fetched_same g _ = refl
 
-source_same : (g : Global) (t : Term) (z : Sizes) (J : List ℕ) → source_of t z J ≡ source_of (lifted g t) z J
+source_same : (g : Global) (t : Term) (z : Sizes) (J : List ℕ) → term_source t z J ≡ term_source (lifted g t) z J
 source_same g t z J = λ k. if constant_same g t k then Constant (number_same g t z J k) else fetched_same g t k
 
 -- ---- terms
@@ -155,13 +155,13 @@ local_same g _ j = refl
 change_by_same : (g : Global) (target : Target) (o : Operator) (a b : Term) (z : Sizes) (J : List ℕ)
     → change_by target o a b z J ≡ change_by target o (lifted g a) (lifted g b) z J
 change_by_same g (ToLocal j) (Compute op) a b z J =
-    λ k. if local_same g a j k && constant_same g b k then Some (Alu (alu_of op) W32 (place j)
+    λ k. if local_same g a j k && constant_same g b k then Some (Alu (alu_op_of op) W32 (place_register j)
     (Imm (cast_signed w32 (number_same g b z J k)))) else None
 change_by_same g (ToLocal j) (Compare r) a b z J = refl
 change_by_same g (ToWord j) o a b z J = refl
 
 change_same : (g : Global) (target : Target) (e : Term) (z : Sizes) (J : List ℕ)
-    → change_of target e z J ≡ change_of target (lifted g e) z J
+    → changing_insn target e z J ≡ changing_insn target (lifted g e) z J
 change_same g target (Binary' o p a q b) z J = change_by_same g target o a b z J
 change_same g target Me z J = refl
 change_same g target _ z J = refl
@@ -219,7 +219,7 @@ block_same g (SendAll e) z J d = λ k. send_all_code (source_same g e z J k) d z
 block_same g (SendTo e to) z J d =
     λ k. if constant_same g to k then send_to_constant_code (source_same g e z J k) (number_same g to z J k) z.nodes
     (code_same g e z J d Value k) else code_same g e z J d Value k
-    ++ (copy (place d) R0 ∷ (code_same g to z J (d + 1) Value k ++ send_to_code d z.nodes))
+    ++ (copy (place_register d) R0 ∷ (code_same g to z J (d + 1) Value k ++ send_to_code d z.nodes))
 
 block_fits_same : (g : Global) (s : Statement) (z : Sizes) (loops d : ℕ)
     → BlockFits s z loops d ≡ BlockFits (lifted_block g s) z loops d

@@ -27,10 +27,10 @@ use Rattle.rule_text.specs.declared.lexemes.Class.TheVariants.{Digits, Letters, 
 use Rattle.rule_text.specs.declared.lexemes.TheConstants.{MAX_NAME_LETTERS}
 use Rattle.rule_text.specs.declared.layout.Lines.{Lines}
 use Rattle.rule_text.specs.Signs.{sign_of}
-use Rattle.rule_text.specs.Tokens.{begins_line, laid, is_blank, is_digit, begins_name, run, number_of, number_kind, name_kind, reserved_kind, word_kind, lexeme, no_lexeme, number_lexeme, word_at, word_lexeme, marked_or, sign_lexeme, lexeme_at, first_place, past, tokens_at, lexemes_from, lexemes_of, of_kind, first_lines, beyond, start_kind, inner_kind, is_end, laid_from, tokens_of}
-use Rattle.rule_text.specs.Scopes.{◌>>=◌, error_at, error_in, meaning_of, words_of, new_name}
-use Rattle.rule_text.specs.Terms.{after, wanted, term_read}
-use Rattle.rule_text.specs.Statements.{target_meant, target_marked, target_by, has_target, with_target, more_targets, new_target, targets_read, values_read, numbers_read, assign_read, send_rest, send_read, let_read, simple_by, simple_read, Inner, is_start, deeper_read, block_read, body_read, other_by, other_read, branch_read, followed, line_by, line_read, start_read, rest_by, rest_read, lines_read, state_names, state_in, header_read, RuleForm, ended, first_column, rule_in, rule_of}
+use Rattle.rule_text.specs.Tokens.{begins_line, laid, is_blank, is_digit, begins_name, run, number_spelled, number_kind, name_kind, reserved_kind, word_kind, lexeme, no_lexeme, number_lexeme, word_from, word_lexeme, marked_or, sign_lexeme, lexeme_at, first_place, past, tokens_at, lexemes_from, lexemes_of, of_kind, first_lines, beyond, start_kind, inner_kind, is_end, laid_from, tokens_of}
+use Rattle.rule_text.specs.Scopes.{◌>>=◌, rule_error_at, error_in, meaning_of, words_of, new_name}
+use Rattle.rule_text.specs.Terms.{rest_after, wanted, term_read}
+use Rattle.rule_text.specs.Statements.{target_meant, target_marked, target_by, has_target, with_target, more_targets, new_target, targets_read, values_read, numbers_read, assign_read, send_rest, send_read, let_read, simple_by, simple_read, Inner, is_start, deeper_read, block_read, body_read, other_by, other_read, branch_read, followed, statement_by, line_read, start_read, rest_by, rest_read, lines_read, state_names, after_state, header_read, RuleForm, ended, first_column, rule_in, rule_read}
 use Rattle.rule_text.specs.Spelling as s
 use Rattle.rule_text.proofs.SpelledTerms.{Reads, fails, gives, read_then, implied, by_option, by_test, Took, took, took_end, took_more, took_past, took_then, took_of, after_front, wanted_reads, took_front, new_reads, took_new, term_reads}
 
@@ -42,24 +42,24 @@ module _ (text : List ℕ) where
         → Reads (target_meant o t) (s.IsTarget text names t)
     meant_reads name t (Some (Local k)) e f = gives (ToLocal k) (s.a_let {name = name} (record { is = e }) f)
     meant_reads name t (Some (Word k)) e f = gives (ToWord k) (s.a_word {name = name} (record { is = e }) f)
-    meant_reads name t (Some (LoopNode k)) e f = fails (error_at NotAssignable t)
-    meant_reads name t None e f = fails (error_at UnknownName t)
+    meant_reads name t (Some (LoopNode k)) e f = fails (rule_error_at NotAssignable t)
+    meant_reads name t None e f = fails (rule_error_at UnknownName t)
 
     marked_reads : (sign : Sign) (t : Token) → t.kind ≡ Mark sign → Reads (target_marked sign t) (s.IsTarget text names t)
     marked_reads signs.Clock t e = gives (ToWord 0) (s.the_clock (record { is = e }))
-    marked_reads signs.Nodes t e = fails (error_at NotAssignable t)
-    marked_reads signs.Faults t e = fails (error_at NotAssignable t)
-    marked_reads signs.Modulus t e = fails (error_at NotAssignable t)
-    marked_reads signs.Me t e = fails (error_at NotAssignable t)
-    marked_reads signs.Coin t e = fails (error_at NotAssignable t)
-    marked_reads signs.NoMessage t e = fails (error_at NotAssignable t)
-    marked_reads sign t e = fails (error_at Expected t)
+    marked_reads signs.Nodes t e = fails (rule_error_at NotAssignable t)
+    marked_reads signs.Faults t e = fails (rule_error_at NotAssignable t)
+    marked_reads signs.Modulus t e = fails (rule_error_at NotAssignable t)
+    marked_reads signs.Me t e = fails (rule_error_at NotAssignable t)
+    marked_reads signs.Coin t e = fails (rule_error_at NotAssignable t)
+    marked_reads signs.NoMessage t e = fails (rule_error_at NotAssignable t)
+    marked_reads sign t e = fails (rule_error_at Expected t)
 
     target_reads : (kind : Kind) (t : Token) → t.kind ≡ kind
         → Reads (target_by text names kind t) (s.IsTarget text names t)
     target_reads (Named name) t e = meant_reads name t (meaning_of text names name) e refl
     target_reads (Mark sign) t e = marked_reads sign t e
-    target_reads kind t e = fails (error_at Expected t)
+    target_reads kind t e = fails (rule_error_at Expected t)
 
     -- the first token is a target that isn't among those before it
     record One (done : List Target) (ts : List Token) (more : List Target) (rest : List Token) : Type 0 where
@@ -76,8 +76,8 @@ module _ (text : List ℕ) where
     one_reads done (t ∷ ts) =
         read_then (more_targets text names done t) (λ more. Ok (more, ts))
         (read_then (target_by text names t.kind t) (λ target. with_target done target t) (target_reads t.kind t refl)
-        (λ target is. by_test {Q = λ more. One done (t ∷ ts) more ts} (has_target done target) (Err (error_at NameTwice t))
-        (Ok (done ++ (target ∷ []))) (λ twice. fails (error_at NameTwice t))
+        (λ target is. by_test {Q = λ more. One done (t ∷ ts) more ts} (has_target done target) (Err (rule_error_at NameTwice t))
+        (Ok (done ++ (target ∷ []))) (λ twice. fails (rule_error_at NameTwice t))
         (λ once. gives (done ++ (target ∷ [])) (record {
           first = t;
           split = refl;
@@ -113,7 +113,7 @@ module _ (text : List ℕ) where
     lefts_read zero before done ts ready = fails (error_in TooLong ts)
     lefts_read (suc left) before done ts ready =
         read_then (new_target text names done ts)
-        (λ more. elim (after signs.Comma more.1) [
+        (λ more. elim (rest_after signs.Comma more.1) [
           | Some rest ↦ targets_read left text names more.0 rest
           | None ↦ wanted signs.Becomes more.1 >>= λ rest. Ok (more.0, rest)
         ]) (one_reads done ts)
@@ -121,7 +121,7 @@ module _ (text : List ℕ) where
         let all = before ++ (n.first ∷ []) in
         let are : s.AreTargets text names all more.0 =
         subst (λ (l : List Target). s.AreTargets text names all l) (sym n.added) (ready n.first n.target n.is n.once) in
-        by_option (after signs.Comma more.1) (λ rest. targets_read left text names more.0 rest)
+        by_option (rest_after signs.Comma more.1) (λ rest. targets_read left text names more.0 rest)
         (wanted signs.Becomes more.1 >>= λ rest. Ok (more.0, rest))
         (λ rest e. let f = after_front signs.Comma more.1 rest e in
         implied (targets_read left text names more.0 rest)
@@ -194,7 +194,7 @@ module _ (text : List ℕ) where
         → Reads (send_read text names ts) (λ x. Took (t ∷ ts) x.1 (λ us. s.IsAction text names us x.0))
     send_reads t ts e =
         read_then (term_read text names ts) (λ number. send_rest text names number.0 number.1) (term_reads text names ts)
-        (λ number is. by_option (after signs.To number.1)
+        (λ number is. by_option (rest_after signs.To number.1)
         (λ rest. term_read text names rest >>= λ k. Ok (send_to number.0 k.0, k.1)) (Ok (send_all number.0, number.1))
         (λ rest f. read_then (term_read text names rest) (λ k. Ok (send_to number.0 k.0, k.1)) (term_reads text names rest)
         (λ k other. gives (send_to number.0 k.0, k.1) (took_more t (took_then is (λ us a.
@@ -280,11 +280,11 @@ module _ (text : List ℕ) where
     block_reads names c [] sign = fails (error_in Expected [])
     block_reads names c (t ∷ ts) sign =
         by_test (is_start t.kind) (deeper_read inner room column names t (t ∷ ts)) (simple_read text names (t ∷ ts))
-        (λ starts. by_test (nat_le t.column column) (Err (error_at Expected t))
-        (if room == 0 then Err (error_at TooDeep t) else inner Rest (room - 1) t.column names (t ∷ ts))
-        (λ e. fails (error_at Expected t))
-        (λ further. by_test (room == 0) (Err (error_at TooDeep t)) (inner Rest (room - 1) t.column names (t ∷ ts))
-        (λ e. fails (error_at TooDeep t))
+        (λ starts. by_test (nat_le t.column column) (Err (rule_error_at Expected t))
+        (if room == 0 then Err (rule_error_at TooDeep t) else inner Rest (room - 1) t.column names (t ∷ ts))
+        (λ e. fails (rule_error_at Expected t))
+        (λ further. by_test (room == 0) (Err (rule_error_at TooDeep t)) (inner Rest (room - 1) t.column names (t ∷ ts))
+        (λ e. fails (rule_error_at TooDeep t))
         (λ e. implied (inner Rest (room - 1) t.column names (t ∷ ts))
         (spelled.begun (room - 1) names t ts (start_is t.kind starts))
         (λ x is. took_more c (took_more t (took is (λ us block.
@@ -353,7 +353,7 @@ module _ (text : List ℕ) where
           s.line is_start one block))))
 
       line_by_reads : (names : List Entry) (kind : Kind) (t : Token) (ts : List Token) → t.kind ≡ kind
-          → Reads (line_by inner text room column names kind t ts) (IsLine names (t ∷ ts))
+          → Reads (statement_by inner text room column names kind t ts) (IsLine names (t ∷ ts))
       line_by_reads names (Mark signs.Let) t ts e =
           read_then (let_read text names ts) (λ x. inner Rest room column x.1 x.2 >>= λ rest. Ok (let_in x.0 rest.0, rest.1))
           (let_reads names t ts e)
@@ -388,10 +388,10 @@ module _ (text : List ℕ) where
         (λ x. Took (t ∷ ts) x.1 (λ us. s.IsBlock text column names us x.0))
     started_reads names t ts e =
         by_test (nat_lt t.column column) (Ok (nothing, t ∷ ts))
-        (if nat_lt column t.column then Err (error_at BadIndent t) else line_read inner text room column names ts)
+        (if nat_lt column t.column then Err (rule_error_at BadIndent t) else line_read inner text room column names ts)
         (λ left. gives (nothing, t ∷ ts) (took_end s.empty))
-        (λ f. by_test (nat_lt column t.column) (Err (error_at BadIndent t)) (line_read inner text room column names ts)
-        (λ right. fails (error_at BadIndent t))
+        (λ f. by_test (nat_lt column t.column) (Err (rule_error_at BadIndent t)) (line_read inner text room column names ts)
+        (λ right. fails (rule_error_at BadIndent t))
         (λ g. let low = ltb-false t.column column f in
         let high = ltb-false column t.column g in
         implied (line_read inner text room column names ts)
@@ -403,7 +403,7 @@ module _ (text : List ℕ) where
         (λ x. Took (t ∷ ts) x.1 (λ us. s.IsBlock text column names us x.0))
     rest_by_reads names TextEnd t ts e = gives (nothing, t ∷ ts) (took_end s.empty)
     rest_by_reads names LineStart t ts e = started_reads names t ts e
-    rest_by_reads names kind t ts e = fails (error_at Expected t)
+    rest_by_reads names kind t ts e = fails (rule_error_at Expected t)
 
     rest_reads : (names : List Entry) (ts : List Token) → Reads (rest_read inner text room column names ts)
         (λ x. Took ts x.1 (λ us. s.IsBlock text column names us x.0))
@@ -418,10 +418,10 @@ module _ (text : List ℕ) where
       λ x. Took ts x.1 (λ us. s.IsBlock text t.column names (t ∷ us) x.0) in
       subst (λ (kind : Kind). Reads (rest_by inner text room t.column names kind t ts) Goal) (sym e)
       (by_test (nat_lt t.column t.column) (Ok (nothing, t ∷ ts))
-      (if nat_lt t.column t.column then Err (error_at BadIndent t) else line_read inner text room t.column names ts)
+      (if nat_lt t.column t.column then Err (rule_error_at BadIndent t) else line_read inner text room t.column names ts)
       (λ less. absurd (let no = ltb-true t.column t.column less in omega (arith, no)))
-      (λ f. by_test (nat_lt t.column t.column) (Err (error_at BadIndent t)) (line_read inner text room t.column names ts)
-      (λ less. fails (error_at BadIndent t))
+      (λ f. by_test (nat_lt t.column t.column) (Err (rule_error_at BadIndent t)) (line_read inner text room t.column names ts)
+      (λ less. fails (rule_error_at BadIndent t))
       (λ g. line_reads inner spelled room t.column t (record { start = record { is = e }; at = refl }) names ts)))
 
   pub lines_spelled : (left : ℕ) → Spelled (lines_read left text)
@@ -447,11 +447,11 @@ module _ (text : List ℕ) where
   words_read zero names ts = fails (error_in TooLong ts)
   words_read (suc left) names ts =
       read_then (new_name text makers.State names ts)
-      (λ more. elim (after signs.Comma more.1) [
+      (λ more. elim (rest_after signs.Comma more.1) [
         | Some rest ↦ state_names left text more.0 rest
         | None ↦ Ok more
       ]) (new_reads text makers.State names ts)
-      (λ more new. by_option (after signs.Comma more.1) (λ rest. state_names left text more.0 rest) (Ok more)
+      (λ more new. by_option (rest_after signs.Comma more.1) (λ rest. state_names left text more.0 rest) (Ok more)
       (λ rest e. implied (state_names left text more.0 rest) (words_read left more.0 rest)
       (λ x is. took_new text new (λ t is_new. took_front (after_front signs.Comma more.1 rest e) (λ c sign.
       took is (λ us words. s.word_before is_new sign words)))))
@@ -465,12 +465,12 @@ module _ (text : List ℕ) where
     pub is_start : s.IsStart column start
     pub sign : s.IsSign signs.State word
 
-  state_here : (column : ℕ) (ts rest : List Token) → state_in column ts ≡ Some rest → State column ts rest
+  state_here : (column : ℕ) (ts rest : List Token) → after_state column ts ≡ Some rest → State column ts rest
   state_here column [] rest e = absurd (let no : None ≡ Some rest = e in cc)
   state_here column (t ∷ ts) rest e = by (is_start t.kind && (t.column == column)) refl e
     where
       by : (b : Bool) → (is_start t.kind && (t.column == column)) ≡ b
-          → cond b (after signs.State ts) None ≡ Some rest → State column (t ∷ ts) rest
+          → cond b (rest_after signs.State ts) None ≡ Some rest → State column (t ∷ ts) rest
       by true is f =
           let p = and_parts (is_start t.kind) (t.column == column) is in
           let front = after_front signs.State ts rest f in
@@ -491,7 +491,7 @@ module _ (text : List ℕ) where
   unfolding header_read
   header_reads zero column names ts = fails (error_in TooLong ts)
   header_reads (suc left) column names ts =
-      by_option (state_in column ts)
+      by_option (after_state column ts)
       (λ rest. state_names MAX_LINE_TOKENS text names rest >>= λ more. header_read left text column more.0 more.1)
       (Ok (names, ts))
       (λ rest e. let h = state_here column ts rest e in
@@ -524,7 +524,7 @@ module _ (text : List ℕ) where
       → ts ≡ header ++ (lines ++ rest) → Reads (ended names a rest) (SpelledBy ts)
   ended_reads ts names header lines [] a heads block e = fails (error_in Expected [])
   ended_reads ts names header lines (t ∷ rest) a heads block e =
-      by_test (is_end t.kind) (Ok (record { statement = a; words = words_of names })) (Err (error_at BadIndent t))
+      by_test (is_end t.kind) (Ok (record { statement = a; words = words_of names })) (Err (rule_error_at BadIndent t))
       (λ end. gives (record { statement = a; words = words_of names }) (record {
         names = names;
         header = header;
@@ -537,7 +537,7 @@ module _ (text : List ℕ) where
         is_block = block;
         words = refl;
       }))
-      (λ f. fails (error_at BadIndent t))
+      (λ f. fails (rule_error_at BadIndent t))
 
   rule_reads : (ts : List Token) → Reads (rule_in text ts) (SpelledBy ts)
   rule_reads ts =
@@ -580,7 +580,7 @@ reserved_no_end : (o : Option Sign) (kind : Kind) → IsNoEnd kind → IsNoEnd (
 reserved_no_end (Some sign) kind h = refl
 reserved_no_end None kind h = h
 
-word_no_end : (at : Place) (word : List ℕ) → IsNoEnd (word_at at word)
+word_no_end : (at : Place) (word : List ℕ) → IsNoEnd (word_from at word)
 word_no_end at word =
     by_cond IsNoEnd (is_digit at.before) (Fault BadCharacter) (word_kind at.offset word) refl
     (reserved_no_end (sign_of word) (name_kind at.offset (length word))
@@ -608,7 +608,7 @@ lexeme_no_end at (c ∷ cs) =
     by_cond LexemeIsNoEnd (is_blank c) (no_lexeme 0) comment tt
     (by_cond LexemeIsNoEnd (c == 35) (no_lexeme (run Comment cs)) number tt
     (by_cond LexemeIsNoEnd (is_digit c) (number_lexeme (c ∷ cs)) word
-    (number_no_end (number_of (take (run Digits (c ∷ cs)) (c ∷ cs))))
+    (number_no_end (number_spelled (take (run Digits (c ∷ cs)) (c ∷ cs))))
     (by_cond LexemeIsNoEnd (begins_name c) (word_lexeme at (c ∷ cs)) sign (word_lexeme_no_end at (c ∷ cs))
     (marked_no_end (sign_of (take 2 (c ∷ cs))) (marked_or (sign_of (take 1 (c ∷ cs))) (lexeme (Fault BadCharacter) 0))
     (marked_no_end (sign_of (take 1 (c ∷ cs))) (lexeme (Fault BadCharacter) 0) refl)))))
@@ -656,7 +656,7 @@ laid_end state (t ∷ ts) single =
     laid_one state t (laid_from (beyond state t) ts) (λ e. ap (laid_from (beyond state t)) (single.0 e))
     (laid_end (beyond state t) ts single.1)
 
-pub read_spelled : (text : List ℕ) (rule : RuleForm) → rule_of text ≡ Ok rule → s.Spells text rule
+pub read_spelled : (text : List ℕ) (rule : RuleForm) → rule_read text ≡ Ok rule → s.Spells text rule
 read_spelled text rule e =
     let ts = tokens_of text in
     let found = rule_reads text ts in

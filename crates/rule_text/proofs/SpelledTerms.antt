@@ -26,10 +26,10 @@ use Rattle.rule_text.specs.declared.joints.Chain.TheVariants as chains
 use Rattle.rule_text.specs.declared.terms.Grade.{Grade}
 use Rattle.rule_text.specs.declared.terms.Grade.TheVariants.{Whole, Inverse}
 use Rattle.rule_text.specs.declared.terms.TheConstants.{MAX_PARTS}
-use Rattle.rule_text.specs.Signs.{spelling, sign_of, is_same}
+use Rattle.rule_text.specs.Signs.{sign_text, sign_of, is_same}
 use Rattle.rule_text.specs.Forms.{TermForm, number, message, binary, inverse, choice, count}
-use Rattle.rule_text.specs.Scopes.{◌>>=◌, error_at, error_in, meaning_of, entry, next_meaning, added, named_entry_by, named_entry, new_name}
-use Rattle.rule_text.specs.Terms.{is_marked, after, wanted, joint_of, comparison_of, joint_in, comparison_in, join, named_term, leaf_of, Reader, Inner, leaf, named_atom, bracketed, message_read, marked_atom, atom_by, atom, chain_step, chain_rest, chain_of, compare_rest, compare_read, inverse_read, operand_read, chain_read, choice_read, choice_rest, count_read, plain_read, whole_read, part, term_read}
+use Rattle.rule_text.specs.Scopes.{◌>>=◌, rule_error_at, error_in, meaning_of, scope_entry, next_meaning, added, named_entry_by, named_entry, new_name}
+use Rattle.rule_text.specs.Terms.{is_of_sign, rest_after, wanted, joint_of, comparison_of, joint_in, comparison_in, join, named_term, leaf_of, Reader, Inner, leaf, named_atom, bracketed, message_read, marked_atom, atom_by, atom, chain_step, chain_rest, chain_of, compare_rest, compare_read, inverse_read, operand_read, chain_read, choice_read, choice_rest, count_read, plain_read, whole_read, part, term_read}
 use Rattle.rule_text.specs.Spelling as s
 
 -- ---- readings
@@ -101,19 +101,19 @@ took_of e a = record { used = a.used; split = e ∙ a.split; is = a.is }
 
 -- ---- signs
 
-sign_again : (a : Sign) → sign_of (spelling a) ≡ Some a
+sign_again : (a : Sign) → sign_of (sign_text a) ≡ Some a
 sign_again signs.State = refl
 sign_again _ = refl
 
 same_sign : (a b : Sign) → is_same a b ≡ true → b ≡ a
 same_sign a b e =
-    let d = bytes_eq-Decides (spelling a) (spelling b) in
+    let d = bytes_eq-Decides (sign_text a) (sign_text b) in
     let f = sign_again a in
     let g = sign_again b in
-    let h : sign_of (spelling a) ≡ sign_of (spelling b) = ap sign_of (d.0 e) in
+    let h : sign_of (sign_text a) ≡ sign_of (sign_text b) = ap sign_of (d.0 e) in
     cc
 
-marked_kind : (a : Sign) (kind : Kind) → is_marked a kind ≡ true → kind ≡ Mark a
+marked_kind : (a : Sign) (kind : Kind) → is_of_sign a kind ≡ true → kind ≡ Mark a
 marked_kind a (Mark b) e = ap Mark (same_sign a b e)
 marked_kind a kind e = absurd (let no : false ≡ true = e in cc)
 
@@ -123,11 +123,11 @@ pub record Front (a : Sign) (ts rest : List Token) : Type 0 where
   pub split : ts ≡ first ∷ rest
   pub sign : s.IsSign a first
 
-pub after_front : (a : Sign) (ts rest : List Token) → after a ts ≡ Some rest → Front a ts rest
+pub after_front : (a : Sign) (ts rest : List Token) → rest_after a ts ≡ Some rest → Front a ts rest
 after_front a [] rest e = absurd (let no : None ≡ Some rest = e in cc)
-after_front a (t ∷ ts) rest e = by (is_marked a t.kind) refl e
+after_front a (t ∷ ts) rest e = by (is_of_sign a t.kind) refl e
   where
-    by : (b : Bool) → is_marked a t.kind ≡ b → cond b (Some ts) None ≡ Some rest → Front a (t ∷ ts) rest
+    by : (b : Bool) → is_of_sign a t.kind ≡ b → cond b (Some ts) None ≡ Some rest → Front a (t ∷ ts) rest
     by true is f = record {
       first = t;
       split = let same : Some ts ≡ Some rest = f in let same2 : ts ≡ rest = cc in ap (λ (l : List Token). t ∷ l) same2;
@@ -136,7 +136,7 @@ after_front a (t ∷ ts) rest e = by (is_marked a t.kind) refl e
     by false is f = absurd (let no : None ≡ Some rest = f in cc)
 
 pub wanted_reads : (a : Sign) (ts : List Token) → Reads (wanted a ts) (λ rest. Front a ts rest)
-wanted_reads a ts = by_option (after a ts) (λ rest. Ok rest) (Err (error_in Expected ts))
+wanted_reads a ts = by_option (rest_after a ts) (λ rest. Ok rest) (Err (error_in Expected ts))
     (λ rest e. gives rest (after_front a ts rest e)) (λ e. fails (error_in Expected ts))
 
 pub took_front : {a : Sign} {ts mid rest : List Token} {Q : List Token → Type 0} → Front a ts mid
@@ -152,17 +152,17 @@ module _ (text : List ℕ) where
     where
       by : (known : Option Meaning) → meaning_of text names name ≡ known
           → Reads (added known maker name names t) (λ more. s.IsNew text maker names t more)
-      by (Some meaning) known = fails (error_at NameTwice t)
-      by None known = by_test (nat_le MAX_NAMES (length names)) (Err (error_at TooDeep t))
-          (Ok (names ++ entry name (next_meaning maker names) ∷ [])) (λ full. fails (error_at TooDeep t))
-          (λ room. gives (names ++ entry name (next_meaning maker names) ∷ []) (record {
+      by (Some meaning) known = fails (rule_error_at NameTwice t)
+      by None known = by_test (nat_le MAX_NAMES (length names)) (Err (rule_error_at TooDeep t))
+          (Ok (names ++ scope_entry name (next_meaning maker names) ∷ [])) (λ full. fails (rule_error_at TooDeep t))
+          (λ room. gives (names ++ scope_entry name (next_meaning maker names) ∷ []) (record {
             name = name;
             named = record { is = e };
             new = known;
             room = leb-false MAX_NAMES (length names) room;
             added = refl;
           }))
-  entry_reads maker names t kind e = fails (error_at Expected t)
+  entry_reads maker names t kind e = fails (rule_error_at Expected t)
 
   pub record New (maker : Maker) (names : List Entry) (ts : List Token) (more : List Entry) (rest : List Token) : Type 0 where
     pub first : Token
@@ -224,7 +224,7 @@ module _ (text : List ℕ) where
     leaf_reads : (sign : Sign) (t : Token) (ts : List Token) (o : Option TermForm) → t.kind ≡ Mark sign → leaf_of sign ≡ o
         → Reads (leaf o t >>= λ a. Ok (a, ts)) (IsReading s.atom names (t ∷ ts))
     leaf_reads sign t ts (Some a) e f = gives (a, ts) (took_more t (took_end (s.given {s = sign} (record { is = e }) f)))
-    leaf_reads sign t ts None e f = fails (error_at Expected t)
+    leaf_reads sign t ts None e f = fails (rule_error_at Expected t)
 
     marked_reads : (sign : Sign) (t : Token) (ts : List Token) → t.kind ≡ Mark sign
         → Reads (marked_atom inner names sign t ts) (IsReading s.atom names (t ∷ ts))
@@ -238,14 +238,14 @@ module _ (text : List ℕ) where
     name_reads name t ts (Some meaning) e f =
         gives (named_term meaning, ts) (took_more t (took_end (s.named {name = name} {meaning = meaning}
         (record { is = e }) f)))
-    name_reads name t ts None e f = fails (error_at UnknownName t)
+    name_reads name t ts None e f = fails (rule_error_at UnknownName t)
 
     kind_reads : (kind : Kind) (t : Token) (ts : List Token) → t.kind ≡ kind
         → Reads (atom_by inner text names kind t ts) (IsReading s.atom names (t ∷ ts))
     kind_reads (Number v) t ts e = gives (number v, ts) (took_more t (took_end (s.numeral (record { is = e }))))
     kind_reads (Named name) t ts e = name_reads name t ts (meaning_of text names name) e refl
     kind_reads (Mark sign) t ts e = marked_reads sign t ts e
-    kind_reads kind t ts e = fails (error_at Expected t)
+    kind_reads kind t ts e = fails (rule_error_at Expected t)
 
     atom_reads : (ts : List Token) → Reads (atom inner text names ts) (IsReading s.atom names ts)
     atom_reads [] = fails (error_in Expected [])
@@ -359,7 +359,7 @@ module _ (text : List ℕ) where
 
     inverse_reads : Operands s.inverted (inverse_read inner text names)
     inverse_reads ts =
-        by_option (after signs.Not ts) (λ rest. inner Inverse names rest >>= λ a. Ok (inverse a.0, a.1))
+        by_option (rest_after signs.Not ts) (λ rest. inner Inverse names rest >>= λ a. Ok (inverse a.0, a.1))
         (compare_read inner text names ts)
         (λ rest e. read_then (inner Inverse names rest) (λ a. Ok (inverse a.0, a.1)) (spelled Inverse names rest)
         (λ a is. gives (inverse a.0, a.1)
@@ -380,7 +380,7 @@ module _ (text : List ℕ) where
     plain_reads : Operands s.whole (plain_read inner text names)
     plain_reads ts =
         read_then (chain_read inner text names chains.Either ts) (λ x. choice_rest inner text names x.0 x.1) (either_reads ts)
-        (λ x is. by_option (after signs.If x.1) (λ rest. choice_read inner text names x.0 rest) (Ok x)
+        (λ x is. by_option (rest_after signs.If x.1) (λ rest. choice_read inner text names x.0 rest) (Ok x)
         (λ rest e. read_then (chain_read inner text names chains.Either rest) (λ t. wanted signs.Else t.1
         >>= λ other. inner Whole names other >>= λ y. Ok (choice t.0 x.0 y.0, y.1)) (either_reads rest)
         (λ t test. read_then (wanted signs.Else t.1) (λ other. inner Whole names other >>= λ y. Ok (choice t.0 x.0 y.0, y.1))
@@ -404,7 +404,7 @@ module _ (text : List ℕ) where
 
     whole_reads : Operands s.whole (whole_read inner text names)
     whole_reads ts =
-        by_option (after signs.Count ts) (λ rest. count_read inner text names rest) (plain_read inner text names ts)
+        by_option (rest_after signs.Count ts) (λ rest. count_read inner text names rest) (plain_read inner text names ts)
         (λ rest e. let f = after_front signs.Count ts rest e in
         implied (count_read inner text names rest) (count_reads f.first rest f.sign) (λ x is. took_of f.split is))
         (λ e. plain_reads ts)

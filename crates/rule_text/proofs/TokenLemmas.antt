@@ -10,7 +10,7 @@ use Rattle.rule_text.specs.declared.lexemes.Place.{Place}
 use Rattle.rule_text.specs.declared.lexemes.Lexeme.{Lexeme}
 use Rattle.rule_text.specs.declared.lexemes.Token.{Token}
 use Rattle.rule_text.specs.declared.layout.Lines.{Lines}
-use Rattle.rule_text.specs.Tokens.{is_in, run, decimal, number_of, lexeme_at, past, tokens_at, lexemes_from, laid}
+use Rattle.rule_text.specs.Tokens.{is_in, run, decimal, number_spelled, lexeme_at, past, tokens_at, lexemes_from, laid}
 use Rattle.rule_text.specs.Tokens.{beyond, laid_from}
 
 -- ---- numbers
@@ -26,7 +26,7 @@ next_decimal ds i n within before =
     before ∙ ap (decimal n) first
 
 pub too_great : (ds : List ℕ) (i n : ℕ) → i < length ds → 4294967295 < n * 10 + (get_or ds i 0 - 48)
-    → decimal 0 ds ≡ decimal n (drop i ds) → None ≡ number_of ds
+    → decimal 0 ds ≡ decimal n (drop i ds) → None ≡ number_spelled ds
 too_great ds i n within great before =
     let next = next_decimal ds i n within before in
     let more = decimal_grows (n * 10 + (get_or ds i 0 - 48)) (drop (i + 1) ds) in

@@ -27,24 +27,24 @@ begins_statement (Mark signs.Else) = false
 begins_statement kind = true
 
 -- the line of the statement that begins with a token
-abbrev pub line_at : Spot → Token → List ℕ
-line_at Front t = if begins_statement t.kind then t.line ∷ [] else []
-line_at spot t = []
+abbrev pub token_line : Spot → Token → List ℕ
+token_line Front t = if begins_statement t.kind then t.line ∷ [] else []
+token_line spot t = []
 
-abbrev pub lines_from : Spot → List Token → List ℕ
-lines_from spot [] = []
-lines_from spot (t ∷ ts) = line_at spot t ++ lines_from (spot_after spot t.kind) ts
+abbrev pub token_lines_from : Spot → List Token → List ℕ
+token_lines_from spot [] = []
+token_lines_from spot (t ∷ ts) = token_line spot t ++ token_lines_from (spot_after spot t.kind) ts
 
 abbrev pub statement_lines : List ℕ → List ℕ
-statement_lines text = lines_from Inside (tokens_of text)
+statement_lines text = token_lines_from Inside (tokens_of text)
 
 -- how many statements there are
-abbrev pub statements_in : StatementForm → ℕ
-statements_in nothing = 0
-statements_in (sequence a b) = statements_in a + statements_in b
-statements_in (let_in e rest) = statements_in rest + 1
-statements_in (assign a) = 1
-statements_in (branch t a b) = statements_in a + statements_in b + 1
-statements_in (each body) = statements_in body + 1
-statements_in (send_all e) = 1
-statements_in (send_to e k) = 1
+abbrev pub form_statements : StatementForm → ℕ
+form_statements nothing = 0
+form_statements (sequence a b) = form_statements a + form_statements b
+form_statements (let_in e rest) = form_statements rest + 1
+form_statements (assign a) = 1
+form_statements (branch t a b) = form_statements a + form_statements b + 1
+form_statements (each body) = form_statements body + 1
+form_statements (send_all e) = 1
+form_statements (send_to e k) = 1

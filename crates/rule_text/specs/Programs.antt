@@ -13,7 +13,7 @@ use Rattle.rule_text.specs.declared.program.RuleRefusal.TheVariants.{Text, NoRoo
 use Rattle.rule_text.specs.declared.program.TheConstants.{WORD_BYTES}
 use Rattle.rule_text.specs.declared.rule.Rule.{Rule}
 use Rattle.rule_text.specs.Rules.{rule_form}
-use Rattle.rule_text.specs.Statements.{rule_of}
+use Rattle.rule_text.specs.Statements.{rule_read}
 
 -- the memory has the words that the rule names, and the compiler has places for its numbers
 pub record HasRoom (z : Sizes) (rule : Rule) : Type 0 where
@@ -45,13 +45,13 @@ IsRefusalOfRule z rule TooLong = MAX_SLOTS < length (rule_code rule.statement z)
 
 -- the text is a rule of which this holds
 abbrev pub IsTextOf : List ℕ → (Rule → Type 0) → Type 0
-IsTextOf text holds = (rule : Rule) × (rule_of text ≡ Ok (rule_form rule)) × holds rule
+IsTextOf text holds = (rule : Rule) × (rule_read text ≡ Ok (rule_form rule)) × holds rule
 
 abbrev pub IsProgramOfText : Sizes → List ℕ → List Insn → Type 0
 IsProgramOfText z text program = IsTextOf text (λ rule. IsProgramOfRule z rule program)
 
 -- the first error of the text, or why its rule has no program
 abbrev pub IsRefusalOfText : Sizes → List ℕ → RuleRefusal → Type 0
-IsRefusalOfText z text (Text error line column) = rule_of text ≡ Err (At error line column)
+IsRefusalOfText z text (Text error line column) = rule_read text ≡ Err (At error line column)
 IsRefusalOfText z text NoRoom = IsTextOf text (λ rule. IsRefusalOfRule z rule NoRoom)
 IsRefusalOfText z text TooLong = IsTextOf text (λ rule. IsRefusalOfRule z rule TooLong)

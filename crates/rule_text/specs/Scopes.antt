@@ -22,17 +22,17 @@ use Rattle.rule_text.specs.declared.scope.TheConstants.{MAX_NAMES}
 -- ---- errors
 
 -- a token that is a fault gives that error
-abbrev pub told : RuleError → Kind → RuleError
-told e (Fault other) = other
-told e kind = e
+abbrev pub told_instead : RuleError → Kind → RuleError
+told_instead e (Fault other) = other
+told_instead e kind = e
 
-abbrev pub error_at : RuleError → Token → ReadRuleError
-error_at e t = At (told e t.kind) t.line t.column
+abbrev pub rule_error_at : RuleError → Token → ReadRuleError
+rule_error_at e t = At (told_instead e t.kind) t.line t.column
 
 -- the error at the first token
 abbrev pub error_in : RuleError → List Token → ReadRuleError
 error_in e [] = At e 0 0
-error_in e (t ∷ ts) = error_at e t
+error_in e (t ∷ ts) = rule_error_at e t
 
 -- the error is the reading's, or memory was short
 abbrev pub Tells : {A : Type 0} → Result A ReadRuleError → ReadRuleError → Type 0
@@ -56,15 +56,15 @@ letters_of text name = take name.letters (drop name.from text)
 abbrev pub is_same_name : List ℕ → Name → Name → Bool
 is_same_name text a b = bytes_eq (letters_of text a) (letters_of text b)
 
-abbrev pub entry_of : List ℕ → List Entry → Name → Option Entry
-entry_of text names name = find (λ e. is_same_name text e.name name) names
+abbrev pub found_entry : List ℕ → List Entry → Name → Option Entry
+found_entry text names name = find (λ e. is_same_name text e.name name) names
 
 abbrev pub meaning_of : List ℕ → List Entry → Name → Option Meaning
-meaning_of text names name = option_map (λ e. e.meaning) (entry_of text names name)
+meaning_of text names name = option_map (λ e. e.meaning) (found_entry text names name)
 
-abbrev pub is_local : Meaning → Bool
-is_local (Local k) = true
-is_local meaning = false
+abbrev pub means_local : Meaning → Bool
+means_local (Local k) = true
+means_local meaning = false
 
 abbrev pub is_loop : Meaning → Bool
 is_loop (LoopNode k) = true
@@ -80,23 +80,23 @@ words_of names = count_by (λ e. is_word e.meaning) names + 1
 
 -- a new name is numbered by the lets, loops or words before it; word 0 is the clock
 abbrev pub next_meaning : Maker → List Entry → Meaning
-next_meaning makers.Let names = Local (count_by (λ e. is_local e.meaning) names)
+next_meaning makers.Let names = Local (count_by (λ e. means_local e.meaning) names)
 next_meaning makers.Loop names = LoopNode (count_by (λ e. is_loop e.meaning) names)
 next_meaning makers.State names = Word (words_of names)
 
-abbrev pub entry : Name → Meaning → Entry
-entry name meaning = record { name = name; meaning = meaning }
+abbrev pub scope_entry : Name → Meaning → Entry
+scope_entry name meaning = record { name = name; meaning = meaning }
 
 -- the names with one more
 abbrev pub added : Option Meaning → Maker → Name → List Entry → Token → Result (List Entry) ReadRuleError
-added (Some meaning) maker name names t = Err (error_at NameTwice t)
+added (Some meaning) maker name names t = Err (rule_error_at NameTwice t)
 added None maker name names t =
-    if nat_le MAX_NAMES (length names) then Err (error_at TooDeep t)
-    else Ok (names ++ entry name (next_meaning maker names) ∷ [])
+    if nat_le MAX_NAMES (length names) then Err (rule_error_at TooDeep t)
+    else Ok (names ++ scope_entry name (next_meaning maker names) ∷ [])
 
 abbrev pub named_entry_by : List ℕ → Maker → List Entry → Kind → Token → Result (List Entry) ReadRuleError
 named_entry_by text maker names (Named name) t = added (meaning_of text names name) maker name names t
-named_entry_by text maker names kind t = Err (error_at Expected t)
+named_entry_by text maker names kind t = Err (rule_error_at Expected t)
 
 -- the names with the new one that a token gives
 abbrev pub named_entry : List ℕ → Maker → List Entry → Token → Result (List Entry) ReadRuleError

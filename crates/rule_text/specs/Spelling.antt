@@ -24,7 +24,7 @@ use Rattle.rule_text.specs.Forms.{TermForm, number, message, binary, inverse, ch
 use Rattle.rule_text.specs.Forms.{AssignmentForm, one, also}
 use Rattle.rule_text.specs.Forms.{StatementForm, nothing, sequence, let_in, assign, branch, each, send_all, send_to}
 use Rattle.rule_text.specs.Tokens.{tokens_of}
-use Rattle.rule_text.specs.Scopes.{meaning_of, entry, next_meaning, words_of}
+use Rattle.rule_text.specs.Scopes.{meaning_of, scope_entry, next_meaning, words_of}
 use Rattle.rule_text.specs.Terms.{joint_of, comparison_of, join, named_term, leaf_of}
 use Rattle.rule_text.specs.Statements.{RuleForm, has_target}
 
@@ -47,7 +47,7 @@ pub record IsNew (text : List ℕ) (maker : Maker) (known : List Entry) (t : Tok
   pub named : HasKind (Named name) t
   pub new : meaning_of text known name ≡ None
   pub room : length known < MAX_NAMES
-  pub added : more ≡ known ++ entry name (next_meaning maker known) ∷ []
+  pub added : more ≡ known ++ scope_entry name (next_meaning maker known) ∷ []
 
 -- ---- terms
 

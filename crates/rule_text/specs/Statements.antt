@@ -25,8 +25,8 @@ use Rattle.rule_text.specs.declared.statements.TheConstants.{MAX_STEPS}
 use Rattle.rule_text.specs.Forms.{TermForm, AssignmentForm, one, also, StatementForm, nothing, sequence, let_in}
 use Rattle.rule_text.specs.Forms.{assign, branch, each, send_all, send_to}
 use Rattle.rule_text.specs.Tokens.{is_end, tokens_of}
-use Rattle.rule_text.specs.Scopes.{Reading, ◌>>=◌, error_at, error_in, meaning_of, words_of, new_name}
-use Rattle.rule_text.specs.Terms.{after, wanted, term_read}
+use Rattle.rule_text.specs.Scopes.{Reading, ◌>>=◌, rule_error_at, error_in, meaning_of, words_of, new_name}
+use Rattle.rule_text.specs.Terms.{rest_after, wanted, term_read}
 
 -- ---- assignments
 
@@ -38,24 +38,24 @@ same_target a b = false
 abbrev pub target_meant : Option Meaning → Token → Result Target ReadRuleError
 target_meant (Some (Local k)) t = Ok (ToLocal k)
 target_meant (Some (Word k)) t = Ok (ToWord k)
-target_meant (Some (LoopNode k)) t = Err (error_at NotAssignable t)
-target_meant None t = Err (error_at UnknownName t)
+target_meant (Some (LoopNode k)) t = Err (rule_error_at NotAssignable t)
+target_meant None t = Err (rule_error_at UnknownName t)
 
 -- the clock can be set; other words have fixed numbers
 abbrev pub target_marked : Sign → Token → Result Target ReadRuleError
 target_marked signs.Clock t = Ok (ToWord 0)
-target_marked signs.Nodes t = Err (error_at NotAssignable t)
-target_marked signs.Faults t = Err (error_at NotAssignable t)
-target_marked signs.Modulus t = Err (error_at NotAssignable t)
-target_marked signs.Me t = Err (error_at NotAssignable t)
-target_marked signs.Coin t = Err (error_at NotAssignable t)
-target_marked signs.NoMessage t = Err (error_at NotAssignable t)
-target_marked s t = Err (error_at Expected t)
+target_marked signs.Nodes t = Err (rule_error_at NotAssignable t)
+target_marked signs.Faults t = Err (rule_error_at NotAssignable t)
+target_marked signs.Modulus t = Err (rule_error_at NotAssignable t)
+target_marked signs.Me t = Err (rule_error_at NotAssignable t)
+target_marked signs.Coin t = Err (rule_error_at NotAssignable t)
+target_marked signs.NoMessage t = Err (rule_error_at NotAssignable t)
+target_marked s t = Err (rule_error_at Expected t)
 
 abbrev pub target_by : List ℕ → List Entry → Kind → Token → Result Target ReadRuleError
 target_by text names (Named name) t = target_meant (meaning_of text names name) t
 target_by text names (Mark s) t = target_marked s t
-target_by text names kind t = Err (error_at Expected t)
+target_by text names kind t = Err (rule_error_at Expected t)
 
 abbrev pub has_target : List Target → Target → Bool
 has_target done target = list_any (λ other. same_target target other) done
@@ -63,7 +63,7 @@ has_target done target = list_any (λ other. same_target target other) done
 -- the targets with one more that isn't among them
 abbrev pub with_target : List Target → Target → Token → Result (List Target) ReadRuleError
 with_target done target t =
-    if has_target done target then Err (error_at NameTwice t) else Ok (done ++ target ∷ [])
+    if has_target done target then Err (rule_error_at NameTwice t) else Ok (done ++ target ∷ [])
 
 abbrev pub more_targets : List ℕ → List Entry → List Target → Token → Result (List Target) ReadRuleError
 more_targets text names done t = target_by text names t.kind t >>= λ target. with_target done target t
@@ -77,7 +77,7 @@ new_target text names done (t ∷ ts) = more_targets text names done t >>= λ mo
 abbrev pub targets_with : (List Target → List Token → Reading (List Target)) → List ℕ → List Entry → List Target
     → List Token → Reading (List Target)
 targets_with further text names done ts =
-    new_target text names done ts >>= λ more. elim (after signs.Comma more.1) [
+    new_target text names done ts >>= λ more. elim (rest_after signs.Comma more.1) [
       | Some rest ↦ further more.0 rest
       | None ↦ wanted signs.Becomes more.1 >>= λ rest. Ok (more.0, rest)
     ]
@@ -107,7 +107,7 @@ assign_read text names ts =
 -- ---- simple statements
 
 abbrev pub send_rest : List ℕ → List Entry → TermForm → List Token → Reading StatementForm
-send_rest text names e ts = elim (after signs.To ts) [
+send_rest text names e ts = elim (rest_after signs.To ts) [
   | Some rest ↦ term_read text names rest >>= λ k. Ok (send_to e k.0, k.1)
   | None ↦ Ok (send_all e, ts)
 ]
@@ -145,8 +145,8 @@ is_start kind = false
 -- the lines of a deeper block, of which t is the first token
 abbrev pub deeper_read : Inner → ℕ → ℕ → List Entry → Token → List Token → Reading StatementForm
 deeper_read inner room column names t ts =
-    if nat_le t.column column then Err (error_at Expected t) else
-    if room == 0 then Err (error_at TooDeep t) else inner Rest (room - 1) t.column names ts
+    if nat_le t.column column then Err (rule_error_at Expected t) else
+    if room == 0 then Err (rule_error_at TooDeep t) else inner Rest (room - 1) t.column names ts
 
 -- the block after a colon: deeper lines, or a simple statement on the same line
 abbrev pub block_read : Inner → List ℕ → ℕ → ℕ → List Entry → List Token → Reading StatementForm
@@ -199,26 +199,26 @@ abbrev pub simple_line : Inner → List ℕ → ℕ → ℕ → List Entry → L
 simple_line inner text room column names ts =
     simple_read text names ts >>= λ a. followed inner room column names a.0 a.1
 
-abbrev pub line_by : Inner → List ℕ → ℕ → ℕ → List Entry → Kind → Token → List Token → Reading StatementForm
-line_by inner text room column names (Mark signs.Let) t ts = let_line inner text room column names ts
-line_by inner text room column names (Mark signs.For) t ts = for_line inner text room column names ts
-line_by inner text room column names (Mark signs.If) t ts = if_line inner room column names ts
-line_by inner text room column names kind t ts = simple_line inner text room column names (t ∷ ts)
+abbrev pub statement_by : Inner → List ℕ → ℕ → ℕ → List Entry → Kind → Token → List Token → Reading StatementForm
+statement_by inner text room column names (Mark signs.Let) t ts = let_line inner text room column names ts
+statement_by inner text room column names (Mark signs.For) t ts = for_line inner text room column names ts
+statement_by inner text room column names (Mark signs.If) t ts = if_line inner room column names ts
+statement_by inner text room column names kind t ts = simple_line inner text room column names (t ∷ ts)
 
 abbrev pub line_read : Inner → List ℕ → ℕ → ℕ → List Entry → List Token → Reading StatementForm
 line_read inner text room column names [] = Err (error_in Expected [])
-line_read inner text room column names (t ∷ ts) = line_by inner text room column names t.kind t ts
+line_read inner text room column names (t ∷ ts) = statement_by inner text room column names t.kind t ts
 
 -- a line further left ends the block, and one further right has none
 abbrev pub start_read : Inner → List ℕ → ℕ → ℕ → List Entry → Token → List Token → Reading StatementForm
 start_read inner text room column names t ts =
     if nat_lt t.column column then Ok (nothing, t ∷ ts) else
-    if nat_lt column t.column then Err (error_at BadIndent t) else line_read inner text room column names ts
+    if nat_lt column t.column then Err (rule_error_at BadIndent t) else line_read inner text room column names ts
 
 abbrev pub rest_by : Inner → List ℕ → ℕ → ℕ → List Entry → Kind → Token → List Token → Reading StatementForm
 rest_by inner text room column names TextEnd t ts = Ok (nothing, t ∷ ts)
 rest_by inner text room column names LineStart t ts = start_read inner text room column names t ts
-rest_by inner text room column names kind t ts = Err (error_at Expected t)
+rest_by inner text room column names kind t ts = Err (rule_error_at Expected t)
 
 -- the rest of a block
 abbrev pub rest_read : Inner → List ℕ → ℕ → ℕ → List Entry → List Token → Reading StatementForm
@@ -236,7 +236,7 @@ lines_read (suc left) text Branch room column names ts = branch_read (lines_read
 abbrev pub state_names_with : (List Entry → List Token → Reading (List Entry)) → List ℕ → List Entry → List Token
     → Reading (List Entry)
 state_names_with further text names ts =
-    new_name text makers.State names ts >>= λ more. elim (after signs.Comma more.1) [
+    new_name text makers.State names ts >>= λ more. elim (rest_after signs.Comma more.1) [
       | Some rest ↦ further more.0 rest
       | None ↦ Ok more
     ]
@@ -247,14 +247,14 @@ state_names zero text names ts = Err (error_in TooLong ts)
 state_names (suc left) text names ts = state_names_with (state_names left text) text names ts
 
 -- the tokens after a `state` that begins a line of the column
-abbrev pub state_in : ℕ → List Token → Option (List Token)
-state_in column [] = None
-state_in column (t ∷ ts) = if is_start t.kind && (t.column == column) then after signs.State ts else None
+abbrev pub after_state : ℕ → List Token → Option (List Token)
+after_state column [] = None
+after_state column (t ∷ ts) = if is_start t.kind && (t.column == column) then rest_after signs.State ts else None
 
 -- the lines that name words of the memory
 abbrev pub header_with : (List Entry → List Token → Reading (List Entry)) → List ℕ → ℕ → List Entry → List Token
     → Reading (List Entry)
-header_with further text column names ts = elim (state_in column ts) [
+header_with further text column names ts = elim (after_state column ts) [
   | Some rest ↦ state_names MAX_LINE_TOKENS text names rest >>= λ more. further more.0 more.1
   | None ↦ Ok (names, ts)
 ]
@@ -272,7 +272,7 @@ pub record RuleForm : Type 0 where
 abbrev pub ended : List Entry → StatementForm → List Token → Result RuleForm ReadRuleError
 ended names a [] = Err (error_in Expected [])
 ended names a (t ∷ ts) =
-    if is_end t.kind then Ok (record { statement = a; words = words_of names }) else Err (error_at BadIndent t)
+    if is_end t.kind then Ok (record { statement = a; words = words_of names }) else Err (rule_error_at BadIndent t)
 
 -- the first line has the column of the rule
 abbrev pub first_column : List Token → ℕ
@@ -286,5 +286,5 @@ rule_in text ts =
     >>= λ a. ended names.0 a.0 a.1
 
 -- the rule of a text, or the first error
-abbrev pub rule_of : List ℕ → Result RuleForm ReadRuleError
-rule_of text = rule_in text (tokens_of text)
+abbrev pub rule_read : List ℕ → Result RuleForm ReadRuleError
+rule_read text = rule_in text (tokens_of text)

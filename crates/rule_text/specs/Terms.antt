@@ -29,22 +29,22 @@ use Rattle.rule_text.specs.declared.terms.TheConstants.{MAX_PARTS}
 use Rattle.rule_text.specs.Signs.{is_same}
 use Rattle.rule_text.specs.Forms.{TermForm, number, nodes, faults, modulus, me, coin, loop_node, local, word, message}
 use Rattle.rule_text.specs.Forms.{binary, logical, inverse, choice, count}
-use Rattle.rule_text.specs.Scopes.{Reading, ◌>>=◌, error_at, error_in, meaning_of, new_name}
+use Rattle.rule_text.specs.Scopes.{Reading, ◌>>=◌, rule_error_at, error_in, meaning_of, new_name}
 
 -- ---- signs
 
-abbrev pub is_marked : Sign → Kind → Bool
-is_marked s (Mark t) = is_same s t
-is_marked s kind = false
+abbrev pub is_of_sign : Sign → Kind → Bool
+is_of_sign s (Mark t) = is_same s t
+is_of_sign s kind = false
 
 -- the tokens after a sign, if it is the first token
-abbrev pub after : Sign → List Token → Option (List Token)
-after s [] = None
-after s (t ∷ ts) = if is_marked s t.kind then Some ts else None
+abbrev pub rest_after : Sign → List Token → Option (List Token)
+rest_after s [] = None
+rest_after s (t ∷ ts) = if is_of_sign s t.kind then Some ts else None
 
 -- the tokens after a sign that must be the first token
 abbrev pub wanted : Sign → List Token → Result (List Token) ReadRuleError
-wanted s ts = elim (after s ts) [ Some rest ↦ Ok rest | None ↦ Err (error_in Expected ts) ]
+wanted s ts = elim (rest_after s ts) [ Some rest ↦ Ok rest | None ↦ Err (error_in Expected ts) ]
 
 -- operators of one precedence group from the left
 abbrev pub product_joint : Sign → Option Joint
@@ -128,11 +128,11 @@ Inner = Grade → List Entry → Reader
 
 abbrev pub leaf : Option TermForm → Token → Result TermForm ReadRuleError
 leaf (Some a) t = Ok a
-leaf None t = Err (error_at Expected t)
+leaf None t = Err (rule_error_at Expected t)
 
 abbrev pub named_atom : Option Meaning → Token → Result TermForm ReadRuleError
 named_atom (Some meaning) t = Ok (named_term meaning)
-named_atom None t = Err (error_at UnknownName t)
+named_atom None t = Err (rule_error_at UnknownName t)
 
 abbrev pub bracketed : Inner → List Entry → Reader
 bracketed inner names ts =
@@ -153,7 +153,7 @@ atom_by inner text names (Number v) t ts = Ok (number v, ts)
 atom_by inner text names (Named name) t ts =
     named_atom (meaning_of text names name) t >>= λ a. Ok (a, ts)
 atom_by inner text names (Mark s) t ts = marked_atom inner names s t ts
-atom_by inner text names kind t ts = Err (error_at Expected t)
+atom_by inner text names kind t ts = Err (rule_error_at Expected t)
 
 abbrev pub atom : Inner → List ℕ → List Entry → Reader
 atom inner text names [] = Err (error_in Expected [])
@@ -188,7 +188,7 @@ compare_read inner text names ts =
     side ts >>= λ left. compare_rest side left.0 left.1
 
 abbrev pub inverse_read : Inner → List ℕ → List Entry → Reader
-inverse_read inner text names ts = elim (after signs.Not ts) [
+inverse_read inner text names ts = elim (rest_after signs.Not ts) [
   | Some rest ↦ inner Inverse names rest >>= λ a. Ok (inverse a.0, a.1)
   | None ↦ compare_read inner text names ts
 ]
@@ -211,7 +211,7 @@ choice_read inner text names x ts =
 
 abbrev pub choice_rest : Inner → List ℕ → List Entry → TermForm → Reader
 choice_rest inner text names x ts =
-    elim (after signs.If ts) [ Some rest ↦ choice_read inner text names x rest | None ↦ Ok (x, ts) ]
+    elim (rest_after signs.If ts) [ Some rest ↦ choice_read inner text names x rest | None ↦ Ok (x, ts) ]
 
 abbrev pub count_read : Inner → List ℕ → List Entry → Reader
 count_read inner text names ts =
@@ -223,7 +223,7 @@ plain_read inner text names ts =
     chain_read inner text names chains.Either ts >>= λ x. choice_rest inner text names x.0 x.1
 
 abbrev pub whole_read : Inner → List ℕ → List Entry → Reader
-whole_read inner text names ts = elim (after signs.Count ts) [
+whole_read inner text names ts = elim (rest_after signs.Count ts) [
   | Some rest ↦ count_read inner text names rest
   | None ↦ plain_read inner text names ts
 ]

@@ -16,7 +16,7 @@ use Rattle.rule_text.specs.declared.lexemes.Class.TheVariants.{Digits, Letters, 
 use Rattle.rule_text.specs.declared.lexemes.TheConstants.{MAX_NAME_LETTERS}
 use Rattle.rule_text.specs.declared.layout.Lines.{Lines}
 use Rattle.rule_text.specs.declared.layout.TheConstants.{MAX_LINES, MAX_LINE_TOKENS}
-use Rattle.rule_text.specs.Signs.{spelling, sign_of}
+use Rattle.rule_text.specs.Signs.{sign_text, sign_of}
 
 -- ---- bytes
 
@@ -48,8 +48,8 @@ abbrev pub decimal : ℕ → List ℕ → ℕ
 decimal n [] = n
 decimal n (c ∷ cs) = decimal (n * 10 + (c - 48)) cs
 
-abbrev pub number_of : List ℕ → Option ℕ
-number_of digits = if nat_le (decimal 0 digits) 4294967295 then Some (decimal 0 digits) else None
+abbrev pub number_spelled : List ℕ → Option ℕ
+number_spelled digits = if nat_le (decimal 0 digits) 4294967295 then Some (decimal 0 digits) else None
 
 -- ---- words, numbers and signs
 
@@ -77,21 +77,21 @@ no_lexeme further = record { kind = None; further = further }
 
 -- the digits at the front are a number
 abbrev pub number_lexeme : List ℕ → Lexeme
-number_lexeme text = lexeme (number_kind (number_of (take (run Digits text) text))) (run Digits text - 1)
+number_lexeme text = lexeme (number_kind (number_spelled (take (run Digits text) text))) (run Digits text - 1)
 
 -- no word directly follows a number
-abbrev pub word_at : Place → List ℕ → Kind
-word_at at word = if is_digit at.before then Fault BadCharacter else word_kind at.offset word
+abbrev pub word_from : Place → List ℕ → Kind
+word_from at word = if is_digit at.before then Fault BadCharacter else word_kind at.offset word
 
 -- the letters at the front are a word
 unfoldable pub word_lexeme : Place → List ℕ → Lexeme
-word_lexeme at text = lexeme (word_at at (take (run Letters text) text)) (run Letters text - 1)
+word_lexeme at text = lexeme (word_from at (take (run Letters text) text)) (run Letters text - 1)
 
-abbrev pub marked : Sign → Lexeme
-marked sign = lexeme (Mark sign) (length (spelling sign) - 1)
+abbrev pub lexeme_of_sign : Sign → Lexeme
+lexeme_of_sign sign = lexeme (Mark sign) (length (sign_text sign) - 1)
 
 abbrev pub marked_or : Option Sign → Lexeme → Lexeme
-marked_or (Some sign) other = marked sign
+marked_or (Some sign) other = lexeme_of_sign sign
 marked_or None other = other
 
 -- of two signs that stand there, the longer

@@ -2,7 +2,7 @@
 ghost use Rattle.std.specs.Prelude.{◌≡◌, IfOk, Ok, Err, IfErr, Some, None, MatchOption, option_map};
 ghost use Rattle.rule_text.specs.Forms.{term_form, message, inverse, choice, count};
 ghost use Rattle.rule_text.specs.Forms.{binary as binary_form, logical as logical_form};
-ghost use Rattle.rule_text.specs.Terms.{is_marked, after, wanted, joint_in, comparison_in, product_joint, sum_joint};
+ghost use Rattle.rule_text.specs.Terms.{is_of_sign, rest_after, wanted, joint_in, comparison_in, product_joint, sum_joint};
 ghost use Rattle.rule_text.specs.Terms.{joint_by};
 ghost use Rattle.rule_text.specs.Terms.{joint_of, comparison_by, comparison_of, join, named_term, leaf_of};
 
@@ -31,7 +31,7 @@ pub enum Joint {
 }
 
 fn is_marked(sign: Sign, kind: Kind) -> bool
-    ensures { result ≡ is_marked sign kind }
+    ensures { result ≡ is_of_sign sign kind }
 {
     match kind {
         Kind::Mark(found) => is_same(sign, found),
@@ -41,7 +41,7 @@ fn is_marked(sign: Sign, kind: Kind) -> bool
 
 /// Returns the tokens after a sign, if it is the first token.
 pub fn after(sign: Sign, tokens: &[Token]) -> Option<&[Token]>
-    ensures { MatchOption result (after sign tokens.now ≡ None) (λ rest. after sign tokens.now ≡ Some rest.now) }
+    ensures { MatchOption result (rest_after sign tokens.now ≡ None) (λ rest. rest_after sign tokens.now ≡ Some rest.now) }
 {
     let (first, rest) = tokens.split_first()?;
     if is_marked(sign, first.kind) {

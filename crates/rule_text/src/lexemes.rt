@@ -1,8 +1,8 @@
 //! From bytes to words, numbers and signs.
 ghost use Rattle.std.specs.Prelude.{◌≡◌, ℕ, List, ◌∷◌, ◌≤◌, ◌<◌, ◌+◌, ◌^◌, ◌++◌, length, IfOk, OnOk};
-ghost use Rattle.rule_text.specs.Tokens.{is_in, run, number_of, number_kind, word_kind, number_lexeme, word_at};
+ghost use Rattle.rule_text.specs.Tokens.{is_in, run, number_spelled, number_kind, word_kind, number_lexeme, word_from};
 ghost use Rattle.rule_text.specs.Tokens.{word_lexeme};
-ghost use Rattle.rule_text.specs.Tokens.{marked, sign_lexeme, lexeme_at, past, token, tokens_at};
+ghost use Rattle.rule_text.specs.Tokens.{lexeme_of_sign, sign_lexeme, lexeme_at, past, token, tokens_at};
 ghost use Rattle.rule_text.specs.Tokens.{is_blank, is_digit, begins_name, lexemes_from, lexemes_of};
 
 use crate::errors::RuleError;
@@ -110,7 +110,7 @@ fn run(class: Class, text: &[u8]) -> usize
 #[tactic(auto, using(crate::proofs::TokenLemmas::next_decimal))]
 /// Returns the number that digits write, if it is at most 4294967295.
 fn number_of(digits: &[u8]) -> Option<u32>
-    ensures { result ≡ number_of digits.now }
+    ensures { result ≡ number_spelled digits.now }
 {
     let mut total = 0u64;
     for byte in digits {
@@ -123,7 +123,7 @@ fn number_of(digits: &[u8]) -> Option<u32>
 }
 
 fn number_kind(digits: &[u8]) -> Kind
-    ensures { result ≡ number_kind (number_of digits.now) }
+    ensures { result ≡ number_kind (number_spelled digits.now) }
 {
     match number_of(digits) {
         Some(v) => Kind::Number(v),
@@ -160,7 +160,7 @@ fn number_lexeme(text: &[u8]) -> Lexeme
 
 /// Returns what a word at a place is; none may directly follow a number.
 fn word_at(at: Place, word: &[u8]) -> Kind
-    ensures { result ≡ word_at at word.now }
+    ensures { result ≡ word_from at word.now }
 {
     if is_digit(at.before) {
         Kind::Fault(RuleError::BadCharacter)
@@ -181,7 +181,7 @@ fn word_lexeme(at: Place, text: &[u8]) -> Lexeme
 }
 
 fn marked(sign: Sign) -> Lexeme
-    ensures { result ≡ marked sign }
+    ensures { result ≡ lexeme_of_sign sign }
 {
     Lexeme {
         kind: Some(Kind::Mark(sign)),

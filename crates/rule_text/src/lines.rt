@@ -1,6 +1,6 @@
 //! The lines of the statements of a text.
 ghost use Rattle.std.specs.Prelude.{◌≡◌, ◌++◌, IfOk, OnOk};
-ghost use Rattle.rule_text.specs.Lines.{spot_after, begins_statement, line_at, lines_from, statement_lines};
+ghost use Rattle.rule_text.specs.Lines.{spot_after, begins_statement, token_line, token_lines_from, statement_lines};
 
 use crate::layout::laid_out;
 use crate::lexemes::{Kind, Token, lexemes};
@@ -47,7 +47,7 @@ fn begins_statement(kind: Kind) -> bool
 
 /// Appends the line of the statement that begins with a token, if one does.
 fn push_line(lines: &mut Vec<usize>, spot: Spot, t: Token) -> Result<(), AllocError>
-    ensures { OnOk result (lines.new.items ≡ lines.old.items ++ line_at spot t) }
+    ensures { OnOk result (lines.new.items ≡ lines.old.items ++ token_line spot t) }
 {
     match spot {
         Spot::Front => {
@@ -63,7 +63,7 @@ fn push_line(lines: &mut Vec<usize>, spot: Spot, t: Token) -> Result<(), AllocEr
 /// Returns the lines of the statements that begin with these tokens.
 #[tactic(auto, using(crate::proofs::LineLemmas::next_line))]
 fn lines_of(alloc: Global, tokens: &[Token]) -> Result<Vec<usize>, AllocError>
-    ensures { IfOk result (λ lines. lines.items ≡ lines_from Spot.Inside tokens.now) }
+    ensures { IfOk result (λ lines. lines.items ≡ token_lines_from Spot.Inside tokens.now) }
 {
     let mut lines = Vec::new(alloc);
     let mut spot = Spot::Inside;

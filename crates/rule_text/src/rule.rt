@@ -2,8 +2,8 @@
 ghost use Rattle.std.specs.Prelude.{◌≡◌, [], MatchOption, Some, None, Ok, Err, IfOk, IfErr};
 ghost use Rattle.rule_text.specs.Forms.{statement_form};
 ghost use Rattle.rule_text.specs.Scopes.{Tells};
-ghost use Rattle.rule_text.specs.Statements.{state_names_with, state_names, state_in, header_with, header_read};
-ghost use Rattle.rule_text.specs.Statements.{ended, first_column, rule_in, rule_of};
+ghost use Rattle.rule_text.specs.Statements.{state_names_with, state_names, after_state, header_with, header_read};
+ghost use Rattle.rule_text.specs.Statements.{ended, first_column, rule_in, rule_read};
 ghost use Rattle.rule_text.specs.Rules.{rule_form};
 
 use crate::errors::{ReadRuleError, RuleError};
@@ -65,8 +65,8 @@ fn state_names<'a>(
 
 /// Returns the tokens after a `state` that begins a line of the column.
 fn state_in(column: usize, tokens: &[Token]) -> Option<&[Token]>
-    ensures { MatchOption result (state_in column tokens.now ≡ None)
-        (λ rest. state_in column tokens.now ≡ Some rest.now) }
+    ensures { MatchOption result (after_state column tokens.now ≡ None)
+        (λ rest. after_state column tokens.now ≡ Some rest.now) }
 {
     let (first, rest) = tokens.split_first()?;
     if is_start(first.kind) && first.column == column {
@@ -163,8 +163,8 @@ fn rule_in(alloc: Global, text: &[u8], tokens: &[Token]) -> Result<Rule, ReadRul
 
 /// Reads the rule of a text.
 pub fn read_rule(alloc: Global, text: &[u8]) -> Result<Rule, ReadRuleError>
-    ensures read { IfOk result (λ x. rule_of text.now ≡ Ok (rule_form x)) }
-    ensures error { IfErr result (Tells (rule_of text.now)) }
+    ensures read { IfOk result (λ x. rule_read text.now ≡ Ok (rule_form x)) }
+    ensures error { IfErr result (Tells (rule_read text.now)) }
 {
     let found = lexemes(alloc, text)?;
     let tokens = laid_out(alloc, &found)?;

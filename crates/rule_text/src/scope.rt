@@ -1,8 +1,8 @@
 //! Names and their meanings.
 ghost use Rattle.std.specs.Prelude.{◌≡◌, ◌≤◌, ◌++◌, [], ◌∷◌, length, Ok, IfOk, IfErr};
-ghost use Rattle.rule_text.specs.Scopes.{letters_of, is_same_name, entry_of, meaning_of, is_local, is_loop, is_word};
+ghost use Rattle.rule_text.specs.Scopes.{letters_of, is_same_name, found_entry, meaning_of, means_local, is_loop, is_word};
 ghost use Rattle.rule_text.specs.Scopes.{next_meaning, added, words_of};
-ghost use Rattle.rule_text.specs.Scopes.{Tells, named_entry, new_name, error_at, error_in, told};
+ghost use Rattle.rule_text.specs.Scopes.{Tells, named_entry, new_name, rule_error_at, error_in, told_instead};
 
 use crate::errors::{ReadRuleError, RuleError};
 use crate::lexemes::{Kind, Name, Token};
@@ -36,7 +36,7 @@ pub enum Maker {
 
 /// Returns the error at a token: its own fault, if it is one, and otherwise the given error.
 fn told(error: RuleError, kind: Kind) -> RuleError
-    ensures { result ≡ told error kind }
+    ensures { result ≡ told_instead error kind }
 {
     match kind {
         Kind::Fault(other) => other,
@@ -45,7 +45,7 @@ fn told(error: RuleError, kind: Kind) -> RuleError
 }
 
 pub fn error_at(error: RuleError, t: Token) -> ReadRuleError
-    ensures { result ≡ error_at error t }
+    ensures { result ≡ rule_error_at error t }
 {
     ReadRuleError::At {
         error: told(error, t.kind),
@@ -84,7 +84,7 @@ fn is_same_name(text: &[u8], a: Name, b: Name) -> bool
 
 /// Returns the entry of a name.
 fn entry_of(text: &[u8], names: &[Entry], name: Name) -> Option<Entry>
-    ensures { result ≡ entry_of text.now names.now name }
+    ensures { result ≡ found_entry text.now names.now name }
 {
     names
         .iter()
@@ -103,7 +103,7 @@ pub fn meaning_of(text: &[u8], names: &[Entry], name: Name) -> Option<Meaning>
 }
 
 fn is_local(meaning: Meaning) -> bool
-    ensures { result ≡ is_local meaning }
+    ensures { result ≡ means_local meaning }
 {
     match meaning {
         Meaning::Local(_) => true,

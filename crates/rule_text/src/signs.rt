@@ -1,6 +1,6 @@
 //! The words and signs of rules.
 ghost use Rattle.std.specs.Prelude.{◌≡◌};
-ghost use Rattle.rule_text.specs.Signs.{spelling, sign_of, is_same};
+ghost use Rattle.rule_text.specs.Signs.{sign_text, sign_of, is_same};
 
 /// A reserved word or a sign.
 #[derive(Clone, Copy)]
@@ -93,7 +93,7 @@ pub const SIGNS: [Sign; 40] = [
 
 /// Returns how a word or sign is written.
 pub fn spelling(sign: Sign) -> &'static str
-    ensures { result.now ≡ spelling sign }
+    ensures { result.now ≡ sign_text sign }
 {
     match sign {
         Sign::State => "state",

@@ -15,7 +15,7 @@ use Rattle.bench_scenario.specs.declared.summary.RunSummary.{RunSummary}
 use Rattle.bench_scenario.specs.declared.verdicts.Judged.{Judged}
 use Rattle.json_values.proofs.PlainLemmas.{IsPlain, plain_boolean, plain_list, plain_null, plain_number, plain_object, plain_option, plain_string}
 use Rattle.json_values.specs.Values.{Member, number_data, option_data}
-use Rattle.run_lines.specs.Data.{clock_members, frame_data, frame_members, kind_text, last_data, memory_data, pulse_data, pulse_members, ran_data, sent_data, staged_data, verdict_members}
+use Rattle.run_lines.specs.Data.{clock_members, frame_data, frame_members, load_kind_text, last_data, memory_data, pulse_data, pulse_members, ran_data, sent_data, staged_data, verdict_members}
 use Rattle.run_lines.specs.Staged.{StagedTold, Loaded, Unloaded, Corrupted}
 
 abbrev AllPlain : ℕ → List Member → Type 0
@@ -55,8 +55,8 @@ plain_last m =
 
 plain_staged : (it : StagedTold) → IsPlain 1 (staged_data it)
 plain_staged (Loaded node kind) =
-    plain_object 0 ((codes "load", number_data node) ∷ (codes "program", string (kind_text kind)) ∷ [])
-    (plain_number 0 node, (plain_string 0 (kind_text kind), tt))
+    plain_object 0 ((codes "load", number_data node) ∷ (codes "program", string (load_kind_text kind)) ∷ [])
+    (plain_number 0 node, (plain_string 0 (load_kind_text kind), tt))
 plain_staged (Unloaded node) = plain_object 0 ((codes "unload", number_data node) ∷ []) (plain_number 0 node, tt)
 plain_staged (Corrupted node) = plain_object 0 ((codes "corrupt", number_data node) ∷ []) (plain_number 0 node, tt)
 

@@ -20,11 +20,11 @@ use Rattle.scenario_text.specs.Views.{is_judged}
 use Rattle.scenario_text.specs.declared.scenario.Frame.{Frame}
 use Rattle.bench_scenario.specs.Coins.{places_below}
 use Rattle.bench_scenario.specs.declared.verdicts.Judged.{Judged}
-use Rattle.json_values.specs.Texts.{ReadsBack, line_of}
+use Rattle.json_values.specs.Texts.{ReadsBack, json_line}
 use Rattle.json_values.specs.Values.{Member, list_data, number_data, option_data, with_members}
 use Rattle.run_lines.specs.Data.{memory_data, pulse_data, ran_data, sent_data, staged_data, verdict_members}
-use Rattle.run_lines.specs.Laws.{AreAlike, TellsSeen, memories_in, slots_in}
-use Rattle.run_lines.specs.Readers.{bytes_in, each_in, list_in, number_in, option_in, told_clocks, told_coins, told_memory, told_pulse, told_sent, told_settled, told_steps}
+use Rattle.run_lines.specs.Laws.{AreAlike, TellsSeen, memories_in, message_slots}
+use Rattle.run_lines.specs.Readers.{bytes_in, each_in, list_in, number_told, option_in, clocks_told, told_coins, told_memory, told_pulse, told_sent, told_settled, told_steps}
 use Rattle.run_lines.specs.Staged.{StagedTold}
 use Rattle.run_lines.proofs.MailLaws.{mail_same}
 use Rattle.run_lines.proofs.ToldLemmas.{get_with_others, list_back, list_told, number_back, option_back}
@@ -90,21 +90,21 @@ each_memory : (nodes : List Node) → AllByRecursion (λ x. All (λ byte. byte <
 each_memory [] bytes = tt
 each_memory (x ∷ nodes) bytes = (memory_back x bytes.0, each_memory nodes bytes.1)
 
-slot_back : (o : Option ℕ) → option_in number_in (option_data number_data o) ≡ Some o
-slot_back o = option_back number_data number_in number_back (λ n. refl) o
+slot_back : (o : Option ℕ) → option_in number_told (option_data number_data o) ≡ Some o
+slot_back o = option_back number_data number_told number_back (λ n. refl) o
 
 slots_back : (os : List (Option ℕ))
-    → each_in (option_in number_in) (items_of (map (option_data number_data) os)) ≡ Some os
-slots_back os = list_back (option_data number_data) (option_in number_in) slot_back os
+    → each_in (option_in number_told) (items_of (map (option_data number_data) os)) ≡ Some os
+slots_back os = list_back (option_data number_data) (option_in number_told) slot_back os
 
 row_back : (row : FinMap nat_cmp ℕ) (places : List ℕ)
-    → each_in (option_in number_in) (items_of (map (λ place. option_data number_data (get_in row place)) places))
+    → each_in (option_in number_told) (items_of (map (λ place. option_data number_data (get_in row place)) places))
     ≡ Some (map (get_in row) places)
 row_back row [] = refl
 row_back row (place ∷ places) = rw (slot_back (get_in row place), row_back row places) refl
 
 rows_back : (nodes : ℕ) (rows : List (FinMap nat_cmp ℕ))
-    → each_in (list_in (option_in number_in)) (items_of (map (sent_data nodes) rows))
+    → each_in (list_in (option_in number_told)) (items_of (map (sent_data nodes) rows))
     ≡ Some (map (λ row. map (get_in row) (places_below nodes)) rows)
 rows_back nodes [] = refl
 rows_back nodes (row ∷ rows) = rw (row_back row (places_below nodes), rows_back nodes rows) refl
@@ -117,21 +117,21 @@ tells_its_pulse f j staged x =
     let clocks = list_data (option_data number_data) x.told.clocks in
     let sent = list_data (sent_data (length x.after.mail)) x.after.mail in
     record {
-      pulse = found_as number_in (codes "pulse") f j staged x (number_data x.told.row.pulse) x.told.row.pulse
+      pulse = found_as number_told (codes "pulse") f j staged x (number_data x.told.row.pulse) x.told.row.pulse
           refl refl refl refl;
-      coins = found_as (list_in number_in) (codes "coins") f j staged x (list_data number_data x.coins) x.coins
-          refl refl refl (list_back number_data number_in number_back x.coins);
-      clocks = found_as (list_in (option_in number_in)) (codes "clocks") f j staged x clocks x.told.clocks
+      coins = found_as (list_in number_told) (codes "coins") f j staged x (list_data number_data x.coins) x.coins
+          refl refl refl (list_back number_data number_told number_back x.coins);
+      clocks = found_as (list_in (option_in number_told)) (codes "clocks") f j staged x clocks x.told.clocks
           refl refl refl (slots_back x.told.clocks);
       settled = found_as (list_in as_bool) (codes "settled") f j staged x (list_data boolean x.told.settled)
           x.told.settled refl refl refl (list_back boolean as_bool (λ b. refl) x.told.settled);
-      steps = found_as (list_in number_in) (codes "steps") f j staged x (list_data number_data x.steps) x.steps
-          refl refl refl (list_back number_data number_in number_back x.steps);
+      steps = found_as (list_in number_told) (codes "steps") f j staged x (list_data number_data x.steps) x.steps
+          refl refl refl (list_back number_data number_told number_back x.steps);
       memory = λ bytes. found_as (list_in bytes_in) (codes "memory") f j staged x
           (list_data memory_data x.after.nodes) (memories_in x.after) refl refl refl
           (list_told memory_data bytes_in (λ (n : Node). n.memory) x.after.nodes
           (each_memory x.after.nodes (recursion_from_All _ x.after.nodes bytes)));
-      sent = found_as (list_in (list_in (option_in number_in))) (codes "sent") f j staged x sent (slots_in x.after)
+      sent = found_as (list_in (list_in (option_in number_told))) (codes "sent") f j staged x sent (message_slots x.after)
           refl refl refl (rows_back (length x.after.mail) x.after.mail);
     }
 
@@ -140,7 +140,7 @@ tells_its_pulse f j staged x =
 one_of : {A : Type 0} (r : Data → Option A) (d e : Data) (a b : A) → d ≡ e → r d ≡ Some a → r e ≡ Some b → a ≡ b
 one_of r d e a b same first second = let both : Some a ≡ Some b = sym first ∙ (ap r same ∙ second) in cc
 
-same_data : (d e : Data) → ReadsBack d → ReadsBack e → line_of d ≡ line_of e → d ≡ e
+same_data : (d e : Data) → ReadsBack d → ReadsBack e → json_line d ≡ json_line e → d ≡ e
 same_data d e first second same =
     let text : compact_text d ≡ compact_text e =
     append_cancel_right (compact_text d) (compact_text e) (codes "\n") same in
@@ -151,7 +151,7 @@ alike : (x y : Seen) (d e : Data) → d ≡ e → TellsSeen x d → TellsSeen y 
 alike x y d e same a b = record {
   pulse = one_of told_pulse d e _ _ same a.pulse b.pulse;
   coins = one_of told_coins d e _ _ same a.coins b.coins;
-  clocks = one_of told_clocks d e _ _ same a.clocks b.clocks;
+  clocks = one_of clocks_told d e _ _ same a.clocks b.clocks;
   settled = one_of told_settled d e _ _ same a.settled b.settled;
   steps = one_of told_steps d e _ _ same a.steps b.steps;
   memory = λ mine other. one_of told_memory d e _ _ same (a.memory mine) (b.memory other);
@@ -161,6 +161,6 @@ alike x y d e same a b = record {
 
 pub one_line_one_pulse : (f g : Frame) (j k : Judged) (staged before : List StagedTold) (x y : Seen)
     → ReadsBack (pulse_data f j staged x) → ReadsBack (pulse_data g k before y)
-    → line_of (pulse_data f j staged x) ≡ line_of (pulse_data g k before y) → AreAlike x y
+    → json_line (pulse_data f j staged x) ≡ json_line (pulse_data g k before y) → AreAlike x y
 one_line_one_pulse f g j k staged before x y first second same =
     alike x y _ _ (same_data _ _ first second same) (tells_its_pulse f j staged x) (tells_its_pulse g k before y)

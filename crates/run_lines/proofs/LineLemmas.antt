@@ -16,7 +16,7 @@ use Rattle.bench_scenario.specs.Events.{events_of}
 use Rattle.bench_scenario.specs.Reports.{all_agree}
 use Rattle.bench_scenario.specs.Runs.{bench_of}
 use Rattle.bench_scenario.specs.Verdicts.{judged_of}
-use Rattle.bench_scenario.specs.Watching.{EndsAt}
+use Rattle.bench_scenario.specs.Watching.{ScenarioEndsAt}
 use Rattle.bench_scenario.specs.declared.verdicts.Judged.{Judged}
 use Rattle.bench_scenario.specs.declared.watched.WatchedFault.{WatchedFault}
 use Rattle.bench_scenario.specs.declared.watched.WatchedFault.TheVariants as watched
@@ -28,11 +28,11 @@ use Rattle.run_lines.specs.declared.fault.LinesFault.{LinesFault}
 use Rattle.run_lines.specs.declared.fault.LinesFault.TheVariants as faults
 use Rattle.run_lines.specs.declared.writer.LineWriter.{LineWriter}
 use Rattle.run_lines.specs.Data.{judged_seen}
-use Rattle.run_lines.specs.Lines.{first_line, front_text, last_line, line_within, told_line, whole_text}
+use Rattle.run_lines.specs.Lines.{first_line, front_text, summary_line, line_within, told_line, whole_text}
 use Rattle.run_lines.specs.Spans.{Span, is_within}
 use Rattle.run_lines.specs.Telling.{AreShown, IsFrontText, IsWholeText, LeavesFront, LeavesLines}
 use Rattle.run_lines.proofs.JudgingLaws.{judges_as_the_report}
-use Rattle.run_lines.specs.inner.Writing.{IsEnd, IsReason, Stops, Tells}
+use Rattle.run_lines.specs.inner.Writing.{IsEndOfLines, IsReason, Stops, Tells}
 
 -- ---- pulses
 
@@ -198,7 +198,7 @@ line_stopped contents old s span k k' o o' event fault stands ends told =
 -- no pulse was run; the run stopped at an event; or the watcher stopped it
 pub ends_early : {S : Type 0} (contents : S → Option (List ℕ)) (old : Option (List ℕ)) (s : Scenario) (span : Span)
     (k k' : LineWriter) (o o' : S) (end : WatchedFault) (fault : LinesFault) → Stands contents old s span [] k o
-    → EndsAt (Tells contents) (Stops contents) s k o k' o' end → IsReason k'.stopped end fault
+    → ScenarioEndsAt (Tells contents) (Stops contents) s k o k' o' end → IsReason k'.stopped end fault
     → LeavesLines old (contents o') s span (Err fault)
 unfolding no_pulse
 ends_early {S} contents old s span k k' o o' watched.Memory fault stands ends reason =
@@ -232,7 +232,7 @@ ended : {S : Type 0} (contents : S → Option (List ℕ)) (old new : Option (Lis
     (xs : List Seen) (memories : List (List ℕ)) (k : LineWriter) (o : S) (result : Result Bool PartFault)
     → Stands contents old s span xs k o → AreShown s (events_of s) xs
     → IsRun (bench_of s) (events_of s) (map (λ x. x.told) xs) memories
-    → IsEnd (contents o) new s k.written (map (λ x. x.told) xs) result
+    → IsEndOfLines (contents o) new s k.written (map (λ x. x.told) xs) result
     → LeavesLines old new s span (in_run result)
 ended contents old new s span xs memories k o (Ok agrees) stands shown run end =
     let m = end.1.0 in (
@@ -251,7 +251,7 @@ ended contents old new s span xs memories k o (Ok agrees) stands shown run end =
     )
 ended contents old new s span xs memories k o (Err (parts.Write written)) stands shown run end =
     let agrees = all_agree (frame_of s) (is_some s.clock) (map (λ x. x.told) xs) in
-    let whole : IsWholeText s span (front_text s span xs ++ last_line end.0) agrees = record {
+    let whole : IsWholeText s span (front_text s span xs ++ summary_line end.0) agrees = record {
       seen = xs;
       summary = end.0;
       memories = memories;
@@ -261,7 +261,7 @@ ended contents old new s span xs memories k o (Err (parts.Write written)) stands
       verdict = refl;
       text = refl;
     } in (
-      front_text s span xs ++ last_line end.0,
+      front_text s span xs ++ summary_line end.0,
       inr (agrees, whole),
       end.2 old (front_text s span xs) stands.wrote,
     )
@@ -289,14 +289,14 @@ pub ends_whole : {S : Type 0} (contents : S → Option (List ℕ)) (old new : Op
     (result : Result Bool PartFault) → Stands contents old s span [] k o
     → IsRun (bench_of s) (events_of s) rs memories
     → (xs : List Seen) × (rs ≡ map (λ x. x.told) xs) × Watched (Tells contents) (bench_of s) (events_of s) k o xs k' o'
-    → IsEnd (contents o') new k'.scenario.now k'.written rs result → LeavesLines old new s span (in_run result)
+    → IsEndOfLines (contents o') new k'.scenario.now k'.written rs result → LeavesLines old new s span (in_run result)
 ends_whole contents old new s span rs memories k k' o o' result stands run shown end =
     let xs = shown.0 in
     let now = stands_all contents old s span [] xs k k' o o' stands shown.2.watches in
     ended contents old new s span xs memories k' o' result now (shown.2.last, shown.2.shows)
     (subst (λ ts. IsRun (bench_of s) (events_of s) ts memories) shown.1 run)
-    (subst (λ ts. IsEnd (contents o') new s k'.written ts result) shown.1
-    (subst (λ (u : Scenario). IsEnd (contents o') new u k'.written rs result) now.scenario end))
+    (subst (λ ts. IsEndOfLines (contents o') new s k'.written ts result) shown.1
+    (subst (λ (u : Scenario). IsEndOfLines (contents o') new u k'.written rs result) now.scenario end))
 
 -- what the watcher judged is what the report judges
 pub all_judged : {S : Type 0} (contents : S → Option (List ℕ)) (old : Option (List ℕ)) (s : Scenario) (span : Span)

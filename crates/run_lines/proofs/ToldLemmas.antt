@@ -7,7 +7,7 @@ use Rattle.serde_json.specs.Find.{as_null, get_member}
 use Rattle.serde_json.specs.View.{items_of}
 use Rattle.serde_json.proofs.Views.{get_member-put_other}
 use Rattle.json_values.specs.Values.{Member, number_data, option_data, with_members}
-use Rattle.run_lines.specs.Readers.{each_in, number_in, option_in}
+use Rattle.run_lines.specs.Readers.{each_in, number_told, option_in}
 
 pub list_told : {A B : Type 0} (f : A → Data) (r : Data → Option B) (g : A → B) (xs : List A)
     → AllByRecursion (λ x. r (f x) ≡ Some (g x)) xs → each_in r (items_of (map f xs)) ≡ Some (map g xs)
@@ -24,7 +24,7 @@ pub option_back : {A : Type 0} (f : A → Data) (r : Data → Option A) → ((x 
 option_back f r each some None = refl
 option_back f r each some (Some x) = rw (some x, each x) refl
 
-pub number_back : (n : ℕ) → number_in (number_data n) ≡ Some n
+pub number_back : (n : ℕ) → number_told (number_data n) ≡ Some n
 number_back n = refl
 
 -- names that aren't among those put change nothing

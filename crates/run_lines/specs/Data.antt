@@ -40,17 +40,17 @@ frame_data f own = object_data (frame_members f own)
 
 -- ---- the line of a pulse
 
-abbrev pub kind_text : Kind → List ℕ
-kind_text Clock = codes "clock"
-kind_text Say = codes "say"
-kind_text Echo = codes "echo"
-kind_text Asm = codes "asm"
-kind_text Rule = codes "rule"
-kind_text Noise = codes "noise"
+abbrev pub load_kind_text : Kind → List ℕ
+load_kind_text Clock = codes "clock"
+load_kind_text Say = codes "say"
+load_kind_text Echo = codes "echo"
+load_kind_text Asm = codes "asm"
+load_kind_text Rule = codes "rule"
+load_kind_text Noise = codes "noise"
 
 abbrev pub staged_data : StagedTold → Data
 staged_data (Loaded node kind) =
-    object_data ((codes "load", number_data node) ∷ (codes "program", string (kind_text kind)) ∷ [])
+    object_data ((codes "load", number_data node) ∷ (codes "program", string (load_kind_text kind)) ∷ [])
 staged_data (Unloaded node) = object_data ((codes "unload", number_data node) ∷ [])
 staged_data (Corrupted node) = object_data ((codes "corrupt", number_data node) ∷ [])
 

@@ -5,8 +5,8 @@ use Rattle.hex.specs.Hex.{decode_of}
 use Rattle.serde_json.specs.Data.{Data, Items, no_items, item}
 use Rattle.serde_json.specs.Find.{as_array, as_bool, as_null, as_number, as_str, as_u64, get}
 
-abbrev pub number_in : Data → Option ℕ
-number_in d = option_and_then as_u64 (as_number d)
+abbrev pub number_told : Data → Option ℕ
+number_told d = option_and_then as_u64 (as_number d)
 
 -- null is nothing
 abbrev pub option_in : {A : Type 0} → (Data → Option A) → Data → Option (Option A)
@@ -29,23 +29,23 @@ bytes_in d = option_and_then decoded (as_str d)
 -- ---- of a pulse
 
 abbrev pub told_pulse : Data → Option ℕ
-told_pulse d = option_and_then number_in (get (codes "pulse") d)
+told_pulse d = option_and_then number_told (get (codes "pulse") d)
 
 abbrev pub told_coins : Data → Option (List ℕ)
-told_coins d = option_and_then (list_in number_in) (get (codes "coins") d)
+told_coins d = option_and_then (list_in number_told) (get (codes "coins") d)
 
-abbrev pub told_clocks : Data → Option (List (Option ℕ))
-told_clocks d = option_and_then (list_in (option_in number_in)) (get (codes "clocks") d)
+abbrev pub clocks_told : Data → Option (List (Option ℕ))
+clocks_told d = option_and_then (list_in (option_in number_told)) (get (codes "clocks") d)
 
 abbrev pub told_settled : Data → Option (List Bool)
 told_settled d = option_and_then (list_in as_bool) (get (codes "settled") d)
 
 abbrev pub told_steps : Data → Option (List ℕ)
-told_steps d = option_and_then (list_in number_in) (get (codes "steps") d)
+told_steps d = option_and_then (list_in number_told) (get (codes "steps") d)
 
 abbrev pub told_memory : Data → Option (List (List ℕ))
 told_memory d = option_and_then (list_in bytes_in) (get (codes "memory") d)
 
 -- by sender and receiver
 abbrev pub told_sent : Data → Option (List (List (Option ℕ)))
-told_sent d = option_and_then (list_in (list_in (option_in number_in))) (get (codes "sent") d)
+told_sent d = option_and_then (list_in (list_in (option_in number_told))) (get (codes "sent") d)

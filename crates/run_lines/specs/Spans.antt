@@ -6,8 +6,8 @@ pub record Span : Type 0 where
   pub last : ℕ
 
 -- pulses are counted from 1 on
-abbrev pub IsSpan : ℕ → ℕ → Type 0
-IsSpan first last = (1 ≤ first) × (first ≤ last)
+abbrev pub IsPulseSpan : ℕ → ℕ → Type 0
+IsPulseSpan first last = (1 ≤ first) × (first ≤ last)
 
 abbrev pub is_within : Span → ℕ → Bool
 is_within span pulse = nat_le span.first pulse && nat_le pulse span.last

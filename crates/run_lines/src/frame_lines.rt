@@ -2,7 +2,7 @@
 ghost use Rattle.std.specs.Prelude.{◌≡◌, ◌∷◌, [], IfOk, OnOk, codes, is_some, string_bytes};
 ghost use Rattle.serde_json.specs.View.{members_view, view};
 ghost use Rattle.scenario_text.specs.Views.{frame_of};
-ghost use Rattle.json_values.specs.Texts.{line_of};
+ghost use Rattle.json_values.specs.Texts.{json_line};
 ghost use Rattle.json_values.specs.Values.{number_data, with_members};
 ghost use Rattle.run_lines.specs.Data.{clock_members, frame_data, last_data};
 
@@ -74,7 +74,7 @@ fn frame_value(alloc: Global, scenario: &Scenario) -> Result<Value, AllocError>
 /// Returns the first line: the numbers of the scenario.
 pub fn frame_line(alloc: Global, scenario: &Scenario) -> Result<String, AllocError>
     ensures { IfOk result (λ s. string_bytes s
-        ≡ line_of (frame_data (frame_of scenario.now) (is_some scenario.now.clock))) }
+        ≡ json_line (frame_data (frame_of scenario.now) (is_some scenario.now.clock))) }
 {
     let value = frame_value(alloc, scenario)?;
     line_of(alloc, &value)
@@ -94,7 +94,7 @@ fn last_value(alloc: Global, summary: &RunSummary) -> Result<Value, AllocError>
 
 /// Returns the last line: what the whole run results in.
 pub fn last_line(alloc: Global, summary: &RunSummary) -> Result<String, AllocError>
-    ensures { IfOk result (λ s. string_bytes s ≡ line_of (last_data summary.now)) }
+    ensures { IfOk result (λ s. string_bytes s ≡ json_line (last_data summary.now)) }
 {
     let value = last_value(alloc, summary)?;
     line_of(alloc, &value)

@@ -4,7 +4,7 @@ ghost use Rattle.serde_json.specs.Data.{boolean};
 ghost use Rattle.serde_json.specs.View.{members_view, view};
 ghost use Rattle.bench_workers.specs.Watching.{seen_of};
 ghost use Rattle.scenario_text.specs.Views.{frame_of};
-ghost use Rattle.json_values.specs.Texts.{ReadsBack, line_of};
+ghost use Rattle.json_values.specs.Texts.{ReadsBack, json_line};
 ghost use Rattle.json_values.specs.Values.{list_data, number_data, option_data, with_members};
 ghost use Rattle.run_lines.specs.Data.{memory_data, pulse_data, ran_data, sent_data, staged_data, verdict_members};
 ghost use Rattle.run_lines.specs.Staged.{staged_at};
@@ -120,7 +120,7 @@ pub fn pulse_line(
     shown: &Shown,
     judged: Judged,
 ) -> Result<String, AllocError>
-    ensures line { IfOk result (λ s. string_bytes s ≡ line_of (pulse_data (frame_of scenario.now) judged
+    ensures line { IfOk result (λ s. string_bytes s ≡ json_line (pulse_data (frame_of scenario.now) judged
         (staged_at scenario.now (seen_of shown.now).told.row.pulse) (seen_of shown.now))) }
     ensures reads { OnOk result (ReadsBack (pulse_data (frame_of scenario.now) judged
         (staged_at scenario.now (seen_of shown.now).told.row.pulse) (seen_of shown.now))) }

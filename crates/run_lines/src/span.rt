@@ -1,6 +1,6 @@
 //! Pulses in a row.
 ghost use Rattle.std.specs.Prelude.{◌≡◌, IfSome, IsSome, ◌↔◌};
-ghost use Rattle.run_lines.specs.Spans.{IsSpan, is_within};
+ghost use Rattle.run_lines.specs.Spans.{IsPulseSpan, is_within};
 
 use std::marker::Model;
 
@@ -12,13 +12,13 @@ pub struct PulseSpan {
 }
 
 impl Model for PulseSpan {
-    ghost use Rattle.run_lines.specs.Spans.{IsSpan, Span};
+    ghost use Rattle.run_lines.specs.Spans.{IsPulseSpan, Span};
 
     ghost Value = { Span };
 
     ghost view = { λ p. record { first = p.first; last = p.last } };
 
-    ghost invariant = { λ p. IsSpan p.first p.last };
+    ghost invariant = { λ p. IsPulseSpan p.first p.last };
 
     ghost inverse = { λ p. record { first = p.first; last = p.last } };
 }
@@ -27,7 +27,7 @@ impl PulseSpan {
     /// Returns the span, if the first pulse is at least 1, and at most the last one.
     pub fn of(first: u32, last: u32) -> Option<PulseSpan>
         ensures value { IfSome result (λ p. p ≡ record { first = first; last = last }) }
-        ensures some { IsSome result ↔ IsSpan first last }
+        ensures some { IsSome result ↔ IsPulseSpan first last }
     {
         if first < 1 || first > last {
             return None;

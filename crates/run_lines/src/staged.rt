@@ -2,7 +2,7 @@
 ghost use Rattle.std.specs.Prelude.{◌≡◌, ◌++◌, IfOk, OnOk, flat_map, map};
 ghost use Rattle.serde_json.specs.View.{view};
 ghost use Rattle.json_values.specs.Values.{list_data};
-ghost use Rattle.run_lines.specs.Data.{kind_text, staged_data};
+ghost use Rattle.run_lines.specs.Data.{load_kind_text, staged_data};
 ghost use Rattle.run_lines.specs.Staged.{Corrupted, Loaded, Unloaded, staged_at, told_corrupt, told_load, told_unload};
 
 use scenario_text::{Corrupt, Kind, Load, Scenario, Unload};
@@ -10,7 +10,7 @@ use serde_json::{Map, Value, put};
 use std::alloc::{AllocError, Global};
 
 fn kind_text(kind: Kind) -> &'static str
-    ensures { result.now ≡ kind_text kind }
+    ensures { result.now ≡ load_kind_text kind }
 {
     match kind {
         Kind::Clock => "clock",

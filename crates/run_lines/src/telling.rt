@@ -10,7 +10,7 @@ use crate::frame_lines::frame_line;
 use crate::span::PulseSpan;
 use crate::writer::LineWriter;
 use bench_scenario::run_watched;
-use bench_workers::MOST_WORKERS;
+use bench_workers::MAX_WORKERS;
 use scenario_text::Scenario;
 use std::alloc::Global;
 use std::io::Write;
@@ -39,7 +39,7 @@ pub fn tell_lines<T: Threads + Wait + Sync, W: Write>(
     out: &mut W,
 ) -> Result<bool, LinesFault>
     requires some { 1 ≤ workers }
-    requires few { workers ≤ MOST_WORKERS }
+    requires few { workers ≤ MAX_WORKERS }
     requires reads { (text : List ℕ) × ReadsText text scenario.now }
     ensures left { LeavesLines (W.contents out.old) (W.contents out.new) scenario.now span result }
 {

@@ -4,7 +4,7 @@ ghost use Rattle.bench_workers.specs.Watching.{seen_of};
 ghost use Rattle.scenario_text.specs.Views.{frame_of};
 ghost use Rattle.bench_scenario.specs.Verdicts.{judged_of};
 ghost use Rattle.stream_io.specs.Parts.{IsPartFault};
-ghost use Rattle.run_lines.specs.inner.Writing.{IsEnd, IsReason, Tells};
+ghost use Rattle.run_lines.specs.inner.Writing.{IsEndOfLines, IsReason, Tells};
 ghost use Rattle.run_lines.specs.Lines.{line_within};
 
 use crate::fault::LinesFault;
@@ -102,8 +102,8 @@ impl<'a> LineWriter<'a> {
     ) -> Result<bool, PartFault>
         requires { self.now.judged.items
             ≡ judged_of (frame_of self.now.scenario.now) (is_some self.now.scenario.now.clock) records.now }
-        ensures { IsEnd (W.contents out.old) (W.contents out.new) self.now.scenario.now self.now.written records.now
-            result }
+        ensures { IsEndOfLines (W.contents out.old) (W.contents out.new) self.now.scenario.now
+            self.now.written records.now result }
     {
         let judged = self.judged.as_slice();
         let agrees = none_disagrees(judged);

@@ -31,12 +31,12 @@ held_text None = codes "unset"
 held_text (Some word) = word_text word
 
 -- a register, and what it holds
-abbrev pub register_text : Reg → Option Word → List ℕ
-register_text register word = register_word register ++ (codes " = " ++ held_text word)
+abbrev pub register_change : Reg → Option Word → List ℕ
+register_change register word = register_word register ++ (codes " = " ++ held_text word)
 
 -- what a register of a state holds
 abbrev pub told_register : Frame → Reg → List ℕ
-told_register s register = register_text register (held s register)
+told_register s register = register_change register (held s register)
 
 -- the registers that an instruction reads, with what they hold before it
 abbrev pub read_texts : Frame → Insn → List (List ℕ)
@@ -60,16 +60,16 @@ after_arrow None = []
 after_arrow (Some wrote) = codes " -> " ++ wrote
 
 -- what is told after an instruction: nothing if it reads and wrote no register
-abbrev pub remark : List (List ℕ) → Option (List ℕ) → List ℕ
-remark [] None = []
-remark [] (Some wrote) = codes " #" ++ after_arrow (Some wrote)
-remark (first ∷ rest) wrote = codes " #" ++ (after_word (first ∷ rest) ++ after_arrow wrote)
+abbrev pub step_remark : List (List ℕ) → Option (List ℕ) → List ℕ
+step_remark [] None = []
+step_remark [] (Some wrote) = codes " #" ++ after_arrow (Some wrote)
+step_remark (first ∷ rest) wrote = codes " #" ++ (after_word (first ∷ rest) ++ after_arrow wrote)
 
 -- after the slot: nothing if no instruction begins there
 abbrev pub after_slot : Step → Option Insn → List ℕ
 after_slot s None = []
 after_slot s (Some insn) =
-    codes " " ++ (canonical_line insn ++ remark (read_texts s.state.frame insn) (wrote_text s.gives insn))
+    codes " " ++ (canonical_line insn ++ step_remark (read_texts s.state.frame insn) (wrote_text s.gives insn))
 
 -- the line of a step, without its end
 abbrev pub trace_line : List Insn → ℕ → Step → List ℕ
@@ -91,12 +91,12 @@ trace_text program steps = lines_from program 1 steps
 
 -- the same, each below the row of the line that made its instruction, if the step before is of another one: `lines` has
 -- the line of each slot
-abbrev pub listed_from : List ℕ → List ℕ → List Insn → ℕ → ℕ → List Step → List ℕ
-listed_from text lines program before number [] = []
-listed_from text lines program before number (s ∷ rest) =
+abbrev pub listed_steps_from : List ℕ → List ℕ → List Insn → ℕ → ℕ → List Step → List ℕ
+listed_steps_from text lines program before number [] = []
+listed_steps_from text lines program before number (s ∷ rest) =
     let line = line_at lines s.state.frame.slot in
     heading_by text before line ++ (trace_line program number s
-    ++ (codes "\n" ++ listed_from text lines program line (suc number) rest))
+    ++ (codes "\n" ++ listed_steps_from text lines program line (suc number) rest))
 
 abbrev pub listed_text : List ℕ → List ℕ → List Insn → List Step → List ℕ
-listed_text text lines program steps = listed_from text lines program 0 1 steps
+listed_text text lines program steps = listed_steps_from text lines program 0 1 steps

@@ -1,8 +1,8 @@
 //! The line of a step.
 
 ghost use Rattle.std.specs.Prelude.{Some};
-ghost use Rattle.run_trace.specs.Lines.{held_text, register_text};
-ghost use Rattle.run_trace.specs.inner.Parts.{did_in, line_in, remark_in};
+ghost use Rattle.run_trace.specs.Lines.{held_text, register_change};
+ghost use Rattle.run_trace.specs.inner.Parts.{did_in, step_line_in, remark_in};
 
 use bpf_asm::{CanonicalLine, register_word};
 use bpf_insn::{Insn, Reg};
@@ -38,7 +38,7 @@ pub(crate) struct Held {
 }
 
 impl fmt::Display for Held {
-    ghost output = { λ held. Some (register_text held.register held.word) };
+    ghost output = { λ held. Some (register_change held.register held.word) };
 
     fn fmt<W: fmt::Write>(&self, f: &mut fmt::Formatter<W>) -> fmt::Result {
         write!(
@@ -115,7 +115,7 @@ pub(crate) struct Line {
 }
 
 impl fmt::Display for Line {
-    ghost output = { λ line. Some (line_in line) };
+    ghost output = { λ line. Some (step_line_in line) };
 
     fn fmt<W: fmt::Write>(&self, f: &mut fmt::Formatter<W>) -> fmt::Result {
         let number = self.number;

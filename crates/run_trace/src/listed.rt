@@ -4,7 +4,7 @@ ghost use Rattle.std.specs.Prelude.{◌≡◌, ◌++◌, IfOk, OnOk, codes, leng
 ghost use Rattle.rule_listing.specs.Listing.{heading_by};
 ghost use Rattle.run_trace.specs.Lines.{listed_text};
 ghost use Rattle.run_trace.specs.Steps.{steps_of};
-ghost use Rattle.run_trace.specs.inner.Parts.{line_in};
+ghost use Rattle.run_trace.specs.inner.Parts.{step_line_in};
 
 use crate::line::Line;
 use crate::telling::told_step;
@@ -25,7 +25,7 @@ pub struct RuleCode<'a> {
 
 /// Adds the line of a step.
 fn push_step(alloc: Global, listing: &mut Vec<u8>, line: &Line) -> Result<(), AllocError>
-    ensures { OnOk result (listing.new.items ≡ listing.old.items ++ (line_in line.now ++ codes "\n")) }
+    ensures { OnOk result (listing.new.items ≡ listing.old.items ++ (step_line_in line.now ++ codes "\n")) }
 {
     let text = format!(in alloc; "{line}\n")?;
     listing.extend_from_slice(text.as_bytes())

@@ -5,13 +5,13 @@ ghost use Rattle.bpf_insn.specs.Operands.{call_of, reads, registers_in};
 ghost use Rattle.node_env.specs.Helpers.{arguments_of};
 ghost use Rattle.run_trace.specs.Lines.{destination};
 
-use bpf_insn::{Insn, MOST_ARGUMENTS, Reads, Reg, call_of, registers_read, written_by};
+use bpf_insn::{Insn, MAX_ARGUMENTS, Reads, Reg, call_of, registers_read, written_by};
 use node_env::arguments_of;
 
 /// How many arguments the instruction's call takes, none if it is no call.
 fn arguments(insn: &Insn) -> u32
     ensures count { IfSome (call_of insn.now) (λ id. arguments_of id ≡ result) }
-    ensures few { result ≤ MOST_ARGUMENTS }
+    ensures few { result ≤ MAX_ARGUMENTS }
 {
     match call_of(insn) {
         Some(id) => arguments_of(id),

@@ -6,7 +6,7 @@ ghost use Rattle.bpf_machine.specs.Run.{Turns};
 ghost use Rattle.bpf_machine.specs.Traps.{held};
 ghost use Rattle.run_trace.specs.Lines.{read_texts, trace_line};
 ghost use Rattle.run_trace.specs.Steps.{step_at};
-ghost use Rattle.run_trace.specs.inner.Parts.{line_in, reading_texts, wrote_by, wrote_in};
+ghost use Rattle.run_trace.specs.inner.Parts.{step_line_in, reading_texts, wrote_by, wrote_in};
 
 use crate::line::{Did, Held, Line, Reading};
 use crate::operands::{destination, registers_of};
@@ -58,7 +58,7 @@ pub(crate) fn told_step(
     requires nodes { outbox.old.nodes ≡ env.now.shape.nodes }
     ensures turns { Turns program.now env.now (state_of state.old memory.old outbox.old.sent)
         (state_of state.new memory.new outbox.new.sent) result.0 }
-    ensures line { line_in result.1 ≡ trace_line program.now number
+    ensures line { step_line_in result.1 ≡ trace_line program.now number
         (step_at program.now env.now (state_of state.old memory.old outbox.old.sent)) }
     ensures nodes { outbox.new.nodes ≡ outbox.old.nodes }
 {

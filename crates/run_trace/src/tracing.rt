@@ -4,7 +4,7 @@ ghost use Rattle.std.specs.Prelude.{◌≡◌, ◌++◌, IfErr, IfOk, codes, len
 ghost use Rattle.bpf_machine.specs.Run.{RunAnswers};
 ghost use Rattle.run_trace.specs.Steps.{steps_of};
 ghost use Rattle.run_trace.specs.Traces.{LeavesTrace};
-ghost use Rattle.run_trace.specs.inner.Parts.{line_in};
+ghost use Rattle.run_trace.specs.inner.Parts.{step_line_in};
 ghost use Rattle.stream_io.specs.Parts.{Adds, IsPartFault};
 
 use crate::line::Line;
@@ -32,9 +32,9 @@ fn write_line<W: Write>(
     line: &Line,
 ) -> Result<u64, PartFault>
     ensures told { IfOk result
-        (Adds (W.contents out.old) (W.contents out.new) before (line_in line.now ++ codes "\n")) }
+        (Adds (W.contents out.old) (W.contents out.new) before (step_line_in line.now ++ codes "\n")) }
     ensures fault { IfErr result
-        (IsPartFault (W.contents out.old) (W.contents out.new) before (line_in line.now ++ codes "\n")) }
+        (IsPartFault (W.contents out.old) (W.contents out.new) before (step_line_in line.now ++ codes "\n")) }
 {
     let text = format!(in alloc; "{line}\n")?;
     write_part(out, before, text.as_bytes())

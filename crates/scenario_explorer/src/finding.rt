@@ -3,10 +3,11 @@ ghost use Rattle.std.specs.Prelude.{◌≡◌, ◌+◌, ◌-◌, ◌++◌, [], I
 ghost use Rattle.std.specs.Option.{option_map_or};
 ghost use Rattle.bench_space.specs.declared.odds.Odds.TheVariants as odds;
 ghost use Rattle.bench_space.specs.declared.recovery.Recovery.TheVariants.{InStep, Luck, Unknown};
-ghost use Rattle.scenario_explorer.specs.Explore.{agreed_text, agreement_text, any_start_text, byte_span_text, byzantine_text, cause_text, cells_text, chances_text, correct_text, count_text, counted, finding_text, found_text, image_text, images_shown, images_text, last_pulses, liars_text, mark_of, marked, mean_text, memories_text, messages_text, nodes_text, odds_lines, odds_text, percent_text, programmed_text, pulses_text, range_text, reach_text, recovery_text, shown_of, spans_text, stability_text, told_line, tried_text, unfinished_text, unfit_name, violation_text};
+ghost use Rattle.scenario_explorer.specs.Explore.{agreed_text, agreement_text, any_start_text, byte_span_text, byzantine_text, cause_text, cells_text, chances_text, correct_text, count_text, with_count, finding_text, found_text, image_text, images_shown, images_text, last_pulses, liars_text, mark_text, marked, mean_text, memories_text, messages_text, nodes_text, odds_lines, odds_text, percent_text, programmed_text, pulses_text, text_of_range, reach_text, recovery_text, shown_of, spans_text, stability_text, optional_line, tried_text, unfinished_text, unfit_name, violation_text, word_text};
 ghost use Rattle.scenario_explorer.specs.declared.finding.Finding.TheVariants.{Searched};
 
 use crate::options::{AnyStart, ByteSpan, Cells, MailSpan, Memories, Share};
+use crate::state_words::WORD_BYTES;
 use bench_space::{Cause, MAX_INBOXES, MEAN_UNIT, ODDS_WHOLE, Odds, Recovery};
 use std::alloc::{AllocError, Global};
 use std::fmt;
@@ -49,6 +50,8 @@ pub struct Tried {
     pub any: bool,
     /// The numbers that they send.
     pub mail: Vec<MailSpan>,
+    /// The words of the memory that have names, by their places: those of a rule, the clock first.
+    pub words: Vec<String>,
     /// What the line says of the memories and messages at the start: nothing if they are zero and none.
     pub start: String,
 }
@@ -108,7 +111,7 @@ struct Range {
 }
 
 impl fmt::Display for Range {
-    ghost output = { λ range. Some (range_text range.first range.last) };
+    ghost output = { λ range. Some (text_of_range range.first range.last) };
 
     fn fmt<W: fmt::Write>(&self, f: &mut fmt::Formatter<W>) -> fmt::Result {
         let Range { first, last } = *self;
@@ -182,10 +185,25 @@ fn add_byte_spans(alloc: Global, text: &mut String, values: &[ByteSpan]) -> Resu
     Ok(())
 }
 
-/// The places of an entry, and what their bytes may be.
-fn cells_line(alloc: Global, cells: &Cells) -> Result<String, AllocError>
-    ensures { IfOk result (λ text. string_bytes text ≡ cells_text cells.now) }
+/// The name of the word in which the places of an entry lie, if it has one.
+fn word_line(alloc: Global, words: &[String], cells: &Cells) -> Result<String, AllocError>
+    ensures { IfOk result (λ text. string_bytes text ≡ word_text (map string_bytes words.now) cells.now) }
 {
+    let number = cells.first / WORD_BYTES;
+    if number != cells.last / WORD_BYTES {
+        return Ok(String::new(alloc));
+    }
+    match words.get(number as usize) {
+        Some(word) => format!(in alloc; " ({word})"),
+        None => Ok(String::new(alloc)),
+    }
+}
+
+/// The places of an entry, and what their bytes may be.
+fn cells_line(alloc: Global, words: &[String], cells: &Cells) -> Result<String, AllocError>
+    ensures { IfOk result (λ text. string_bytes text ≡ cells_text (map string_bytes words.now) cells.now) }
+{
+    let word = word_line(alloc, words, cells)?;
     let places = Range {
         first: cells.first,
         last: cells.last,
@@ -193,18 +211,24 @@ fn cells_line(alloc: Global, cells: &Cells) -> Result<String, AllocError>
     let mut values = String::new(alloc);
     add_byte_spans(alloc, &mut values, &cells.values)?;
     if cells.first == cells.last {
-        format!(in alloc; " byte{places} of{values},")
+        format!(in alloc; " byte{places}{word} of{values},")
     } else {
-        format!(in alloc; " bytes{places} of{values},")
+        format!(in alloc; " bytes{places}{word} of{values},")
     }
 }
 
 /// Adds the entries.
-fn add_cells(alloc: Global, text: &mut String, all: &[Cells]) -> Result<(), AllocError>
-    ensures { OnOk result (string_bytes text.new ≡ string_bytes text.old ++ flat_map cells_text all.now) }
+fn add_cells(
+    alloc: Global,
+    text: &mut String,
+    words: &[String],
+    all: &[Cells],
+) -> Result<(), AllocError>
+    ensures { OnOk result (string_bytes text.new
+        ≡ string_bytes text.old ++ flat_map (cells_text (map string_bytes words.now)) all.now) }
 {
     for cells in all {
-        let part = cells_line(alloc, cells)?;
+        let part = cells_line(alloc, words, cells)?;
         text.push_str(part.as_str())?;
     }
     Ok(())
@@ -251,13 +275,13 @@ fn images_line(alloc: Global, images: &[Vec<u8>]) -> Result<String, AllocError>
 }
 
 /// The memories of a start.
-fn memories_line(alloc: Global, memories: &Memories) -> Result<String, AllocError>
-    ensures { IfOk result (λ text. string_bytes text ≡ memories_text memories.now) }
+fn memories_line(alloc: Global, words: &[String], memories: &Memories) -> Result<String, AllocError>
+    ensures { IfOk result (λ text. string_bytes text ≡ memories_text (map string_bytes words.now) memories.now) }
 {
     match memories {
         Memories::Cells(all) => {
             let mut text = String::new(alloc);
-            add_cells(alloc, &mut text, all)?;
+            add_cells(alloc, &mut text, words, all)?;
             Ok(text)
         }
         Memories::Images(images) => {
@@ -267,15 +291,17 @@ fn memories_line(alloc: Global, memories: &Memories) -> Result<String, AllocErro
     }
 }
 
-/// What the line says of a start that isn't at zero: its memories, and the numbers of its messages.
+/// What the line says of a start that isn't at zero: its memories, whose words may have names, and the numbers of its
+/// messages.
 pub(crate) fn any_start_line(
     alloc: Global,
+    words: &[String],
     any: &AnyStart,
     said: &[MailSpan],
 ) -> Result<String, AllocError>
-    ensures { IfOk result (λ text. string_bytes text ≡ any_start_text any.now said.now) }
+    ensures { IfOk result (λ text. string_bytes text ≡ any_start_text (map string_bytes words.now) any.now said.now) }
 {
-    let memories = memories_line(alloc, &any.memories)?;
+    let memories = memories_line(alloc, words, &any.memories)?;
     let mut spans = String::new(alloc);
     add_spans(alloc, &mut spans, said)?;
     format!(in alloc; ", any start:{memories} messages none{spans}")
@@ -377,7 +403,7 @@ fn tried_line(alloc: Global, tried: &Tried) -> Result<String, AllocError>
 
 /// So many of this.
 fn counted(alloc: Global, count: u64, word: &str) -> Result<String, AllocError>
-    ensures { IfOk result (λ text. string_bytes text ≡ counted count word.now) }
+    ensures { IfOk result (λ text. string_bytes text ≡ with_count count word.now) }
 {
     if count == 1 {
         format!(in alloc; "{count} {word}")
@@ -533,8 +559,8 @@ fn cause_line(alloc: Global, cause: Cause) -> Result<String, AllocError>
             "a state has more transitions than --states allows"
         ),
         Cause::Pulses => format!(in alloc; "--depth allows no more pulses"),
-        Cause::Inboxes => format!(in alloc;
-            "a node has more than {MAX_INBOXES} choices of memory and inbox: name fewer with --mail, --said or --cells"
+        Cause::Inboxes { node, choices } => format!(in alloc;
+            "node {node} has at least {choices} choices of memory and inbox, and {MAX_INBOXES} are tried: name fewer with --mail, --said or --cells"
         ),
         Cause::Counterexample => format!(in alloc;
             "agreement is violated, but no counterexample was made"
@@ -574,7 +600,7 @@ fn recovery_told(
     recovery: &Option<Recovery>,
 ) -> Result<String, AllocError>
     ensures { IfOk result (λ text. string_bytes text
-        ≡ told_line mark.now recovery_text recovery.now) }
+        ≡ optional_line mark.now recovery_text recovery.now) }
 {
     match recovery {
         Some(how) => {
@@ -621,7 +647,7 @@ fn agreed_line(alloc: Global, pulses: u64) -> Result<String, AllocError>
 
 /// The same behind the mark, if that is told.
 fn agreed_told(alloc: Global, mark: &str, agreed: Option<u64>) -> Result<String, AllocError>
-    ensures { IfOk result (λ text. string_bytes text ≡ told_line mark.now agreed_text agreed) }
+    ensures { IfOk result (λ text. string_bytes text ≡ optional_line mark.now agreed_text agreed) }
 {
     match agreed {
         Some(pulses) => {
@@ -680,7 +706,7 @@ fn reach_told(
     last: u64,
     reach: Option<Reach>,
 ) -> Result<String, AllocError>
-    ensures { IfOk result (λ text. string_bytes text ≡ told_line mark.now (reach_text last) reach) }
+    ensures { IfOk result (λ text. string_bytes text ≡ optional_line mark.now (reach_text last) reach) }
 {
     match reach {
         Some(reach) => {
@@ -736,7 +762,7 @@ impl Found {
 
     /// What makes a line a comment of the counterexample, if there is one.
     fn mark(&self) -> &str
-        ensures { result.now ≡ mark_of (shown_of self.now) }
+        ensures { result.now ≡ mark_text (shown_of self.now) }
     {
         if self.shown().len() == 0 { "" } else { "# " }
     }

@@ -9,6 +9,7 @@ mod laws;
 mod options;
 mod reached;
 mod shown;
+mod state_words;
 mod table;
 
 pub use bench_space::Question;

@@ -1,7 +1,8 @@
 //! The line of a key, of the head of an entry, and of a line of a text, where these can be told for sure.
 //! The texts are TOML, as the crate `toml` reads it.
 
-use crate::scan::Scan;
+use crate::scan::after_statement;
+use toml_parser::text::skip_blank;
 
 /// What is looked for: a key, or if none is named the head of the entry.
 #[derive(Clone, Copy)]
@@ -94,23 +95,30 @@ fn array_of_head(head: &str) -> Option<&str> {
     Some(name.trim())
 }
 
-/// The number of the line, from 1 on, and the line.
+/// Returns the number of the line, from 1 on, and the line without the blanks before it.
 pub(crate) fn find<'a>(text: &'a str, sought: Sought<'_>) -> Option<(usize, &'a str)> {
-    let mut scan = Scan::new();
     let mut search = Search::new(sought);
-    let mut number = 0usize;
-    for line in text.split('\n') {
-        number = number.saturating_add(1);
-        if scan.is_outside() {
-            match search.meet(line) {
-                Met::Sought => return Some((number, line)),
-                Met::Unsure => return None,
-                Met::Other => {}
-            }
+    let mut rest = text;
+    for _statement in 0..text.len() {
+        rest = skip_blank(rest, true);
+        if rest.is_empty() {
+            return None;
         }
-        scan = scan.after_line(line);
+        let line = rest.split('\n').next()?;
+        match search.meet(line) {
+            Met::Sought => return Some((line_number(text, rest), line)),
+            Met::Unsure => return None,
+            Met::Other => rest = after_statement(rest),
+        }
     }
     None
+}
+
+/// Returns the line, from 1 on, in which the rest of a text begins.
+fn line_number(text: &str, rest: &str) -> usize {
+    let before = text.len().saturating_sub(rest.len());
+    let ends = text.bytes().take(before).filter(|byte| *byte == b'\n');
+    ends.count().saturating_add(1)
 }
 
 /// The line with this number, from 1 on.

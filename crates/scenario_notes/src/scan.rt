@@ -1,152 +1,71 @@
-//! Where statements of a TOML text begin: which lines aren't within a string or an array that began before them.
+//! Where a statement of a TOML text ends.
 
-/// How far the reading of strings, comments and brackets has come.
-#[derive(Clone, Copy)]
-pub(crate) struct Scan {
-    mode: Mode,
-    /// How many brackets are open.
-    depth: usize,
-}
+use toml_parser::text::{first, skip_blank, skip_ws};
 
-#[derive(Clone, Copy)]
-enum Mode {
-    /// Within none of these.
-    Plain,
-    Comment,
-    /// Behind the first quotes of a string, one or two.
-    Opening {
-        quote: u8,
-        twice: bool,
-    },
-    /// Within a string of one line.
-    Short {
-        quote: u8,
-        escaped: bool,
-    },
-    /// Within a string of more lines, after this many quotes; the third ends it, and up to two more belong to it.
-    Long {
-        quote: u8,
-        escaped: bool,
-        quotes: u8,
-    },
-}
+/// What begins and ends a string, the longer ones first.
+const QUOTES: [&str; 4] = ["\"\"\"", "'''", "\"", "'"];
 
-/// How many quotes begin and end a string of more lines.
-const LONG_QUOTES: u8 = 3;
-
-impl Scan {
-    /// At the beginning of a text.
-    pub(crate) fn new() -> Scan {
-        Scan {
-            mode: Mode::Plain,
-            depth: 0,
-        }
-    }
-
-    /// Whether a statement, a comment or an empty line begins here, at the beginning of a line.
-    pub(crate) fn is_outside(self) -> bool {
-        self.depth == 0
-            && match self.mode {
-                Mode::Plain => true,
-                Mode::Comment | Mode::Opening { .. } | Mode::Short { .. } | Mode::Long { .. } =>
-                    false,
-            }
-    }
-
-    /// After a line and its end.
-    pub(crate) fn after_line(self, line: &str) -> Scan {
-        let mut scan = self;
-        for byte in line.as_bytes() {
-            scan = scan.after(*byte);
-        }
-        scan.after(b'\n')
-    }
-
-    fn after(self, byte: u8) -> Scan {
-        match self.mode {
-            Mode::Plain => self.plain(byte),
-            Mode::Comment if byte == b'\n' => self.to(Mode::Plain),
-            Mode::Comment => self,
-            Mode::Opening { quote, twice } => self.opening(quote, twice, byte),
-            Mode::Short { quote, escaped } => self.to(short(quote, escaped, byte)),
-            Mode::Long {
-                quote,
-                escaped: _,
-                quotes,
-            } if quotes >= LONG_QUOTES && byte != quote => self.plain(byte),
-            Mode::Long {
-                quote,
-                escaped,
-                quotes,
-            } => self.to(long(quote, escaped, quotes, byte)),
-        }
-    }
-
-    fn to(self, mode: Mode) -> Scan {
-        Scan { mode, ..self }
-    }
-
-    /// A byte outside of strings and comments.
-    fn plain(self, byte: u8) -> Scan {
-        let (mode, depth) = match byte {
-            b'#' => (Mode::Comment, self.depth),
-            b'"' | b'\'' => {
-                let quote = byte;
-                (
-                    Mode::Opening {
-                        quote,
-                        twice: false,
-                    },
-                    self.depth,
-                )
-            }
-            b'[' | b'{' => (Mode::Plain, self.depth.saturating_add(1)),
-            b']' | b'}' => (Mode::Plain, self.depth.saturating_sub(1)),
-            _ => (Mode::Plain, self.depth),
+/// Returns the text after a table's head, or after a key and its value.
+pub(crate) fn after_statement(text: &str) -> &str {
+    let mut rest = text;
+    let mut depth = 0usize;
+    for _token in 0..text.len() {
+        depth = depth_behind(depth, first(rest));
+        let after = after_token(rest);
+        rest = if depth == 0 {
+            skip_ws(after)
+        } else {
+            skip_blank(after, true)
         };
-        Scan { mode, depth }
-    }
-
-    /// A byte after the first quotes: two of them with no third are an empty string.
-    fn opening(self, quote: u8, twice: bool, byte: u8) -> Scan {
-        match (twice, byte == quote) {
-            (false, false) => self.to(short(quote, false, byte)),
-            (false, true) => self.to(Mode::Opening { quote, twice: true }),
-            (true, false) => self.plain(byte),
-            (true, true) => self.to(Mode::Long {
-                quote,
-                escaped: false,
-                quotes: 0,
-            }),
+        if depth == 0 && is_at_end(rest) {
+            return rest;
         }
     }
+    rest
 }
 
-/// Whether a backslash keeps the next letter from its own meaning, where the string begins so.
-fn escapes(quote: u8, byte: u8) -> bool {
-    quote == b'"' && byte == b'\\'
+/// Returns how many brackets are open after a byte outside of strings.
+fn depth_behind(depth: usize, byte: u8) -> usize {
+    match byte {
+        b'[' | b'{' => depth.saturating_add(1),
+        b']' | b'}' => depth.saturating_sub(1),
+        _ => depth,
+    }
 }
 
-fn short(quote: u8, escaped: bool, byte: u8) -> Mode {
-    if byte == b'\n' || byte == quote && !escaped {
-        Mode::Plain
-    } else {
-        Mode::Short {
-            quote,
-            escaped: !escaped && escapes(quote, byte),
+/// Returns true if a statement that may end here does.
+fn is_at_end(rest: &str) -> bool {
+    rest.is_empty() || matches!(first(rest), b'#' | b'\n' | b'\r')
+}
+
+/// Returns the text after a string or a letter.
+fn after_token(text: &str) -> &str {
+    for quotes in QUOTES {
+        if let Some(content) = text.strip_prefix(quotes) {
+            return after_string(content, quotes);
         }
     }
+    after_letter(text)
 }
 
-fn long(quote: u8, escaped: bool, quotes: u8, byte: u8) -> Mode {
-    let quotes = if byte == quote && !escaped {
-        quotes.saturating_add(1)
-    } else {
-        0
-    };
-    Mode::Long {
-        quote,
-        escaped: !escaped && escapes(quote, byte),
-        quotes,
+/// Returns the text after the content of a string and its quotes: a long one may end in two more of them.
+fn after_string<'a>(content: &'a str, quotes: &str) -> &'a str {
+    let mut rest = content;
+    for _letter in 0..content.len() {
+        if let Some(after) = rest.strip_prefix(quotes) {
+            return after.trim_start_matches(char::from(first(quotes)));
+        }
+        if first(rest) == b'\\' && first(quotes) == b'"' {
+            rest = after_letter(rest);
+        }
+        rest = after_letter(rest);
     }
+    rest
+}
+
+/// Returns the text after its first letter.
+fn after_letter(text: &str) -> &str {
+    let mut letters = text.chars();
+    letters.next();
+    letters.as_str()
 }

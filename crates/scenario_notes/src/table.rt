@@ -4,7 +4,7 @@ ghost use Rattle.std.specs.Option.{option_and_then};
 ghost use Rattle.toml.specs.Data.{at, get_member};
 ghost use Rattle.toml.specs.View.{table_view, view};
 ghost use Rattle.scenario_text.specs.Texts.{IsDocument};
-ghost use Rattle.scenario_notes.specs.Places.{entry_at, text_at};
+ghost use Rattle.scenario_notes.specs.Places.{member_entry_at, text_at};
 
 use crate::finding::Sought;
 use scenario_text::{MAX_TEXT, Place};
@@ -53,7 +53,7 @@ fn value_at<'a>(table: &'a Table, key: &str) -> Option<&'a Value>
 
 /// The entry of an array.
 fn entry_at<'a>(table: &'a Table, array: &str, index: usize) -> Option<&'a Value>
-    ensures { option_map (λ v. view v.now) result ≡ entry_at (table_view table.now) array.now index }
+    ensures { option_map (λ v. view v.now) result ≡ member_entry_at (table_view table.now) array.now index }
 {
     value_at(table, array)?.get(index)
 }

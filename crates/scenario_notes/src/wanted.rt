@@ -1,7 +1,7 @@
 //! What the keys of a scenario may be (docs/SCENARIOS.md, "Keys"), in the words of a note.
 
 use crate::known::has_version;
-use clock_nodes::{LEAST_MODULUS, MOST_MODULUS};
+use clock_nodes::{LEAST_MODULUS, MAX_MODULUS};
 use node_env::{MAX_MEMORY, MAX_NODES, MEMORY_UNIT};
 use scenario_text::{
     FIRST_MAX_NODES, FIRST_VERSION, LAST_VERSION, MAX_CHANGES, MAX_COIN_ENTRIES, MAX_KEY,
@@ -123,12 +123,7 @@ fn wanted_at_top(alloc: Global, table: &Table, key: &str) -> Result<String, Allo
         "version" => number(alloc, key, FIRST_VERSION, LAST_VERSION),
         "nodes" => nodes_words(alloc),
         "faults" => below_nodes(alloc, table, "faults is a whole number"),
-        "modulus" => number(
-            alloc,
-            key,
-            u64::from(LEAST_MODULUS),
-            u64::from(MOST_MODULUS),
-        ),
+        "modulus" => number(alloc, key, u64::from(LEAST_MODULUS), u64::from(MAX_MODULUS)),
         "memory" => memory_words(alloc),
         "pulses" => number(alloc, key, 1, MAX_PULSES),
         "coins" => String::from_str(alloc, COINS_WORDS),

@@ -13,11 +13,11 @@ use Rattle.scenario_text.specs.Drafts.{Draft}
 use Rattle.scenario_text.specs.Faults.{Refuses}
 use Rattle.scenario_text.specs.inner.Arrays.{StandsIn}
 use Rattle.scenario_text.specs.Tables.{IsTable, MayBeArray}
-use Rattle.scenario_text.specs.Spelling.{HasClock, HasFrame, Spelled, SpellsNothing, clock_key}
+use Rattle.scenario_text.specs.Spelling.{SpellsClock, HasFrame, Spelled, SpellsNothing, clock_key}
 use Rattle.scenario_text.specs.Views.{extent_of}
 use Rattle.scenario_text.proofs.FrameLemmas.{no_entries, one_frame, refuses_more}
 
-broken_at : (ms : Members) (f : Frame) (c : Option (List Insn)) → HasFrame ms f → HasClock f ms c
+broken_at : (ms : Members) (f : Frame) (c : Option (List Insn)) → HasFrame ms f → SpellsClock f ms c
     → (p : Place) (slot : ℕ) → BrokenIn f c (get_member (codes "load") ms) p slot → BrokenAt ms p slot
 broken_at ms f c has clock places.Top slot is = absurd is
 broken_at ms f c has clock (places.Load index) slot is = (f, c, has, clock, is)
@@ -26,7 +26,7 @@ broken_at ms f c has clock (places.Corrupt index) slot is = absurd is
 broken_at ms f c has clock (places.Coin index) slot is = absurd is
 
 -- a load whose program is refused is one of the table
-pub load_broken : (ms : Members) (f : Frame) (c : Option (List Insn)) → HasFrame ms f → HasClock f ms c
+pub load_broken : (ms : Members) (f : Frame) (c : Option (List Insn)) → HasFrame ms f → SpellsClock f ms c
     → (p : Place) (slot : ℕ) → StandsIn places.Load (IsTable (BrokenLoad f c)) (get_member (codes "load") ms) p slot
     → BrokenAt ms p slot
 load_broken ms f c has clock p slot is =
@@ -51,7 +51,7 @@ pub entries_refused : {A : Type 0} (g : Global) (reads : Frame → Option (List 
     (breaks : Frame → Option (List Insn) → Members → ℕ → Type 0) (place : ℕ → Place) (key : List ℕ)
     (of : Draft → List A)
     (ms : Members) (f : Frame) (c : Option (List Insn)) (o : Option Data) (e : ScenarioError)
-    → HasFrame ms f → HasClock f ms c → o ≡ get_member key ms
+    → HasFrame ms f → SpellsClock f ms c → o ≡ get_member key ms
     → ((d : Draft) → Spelled ms d → MayBeArray (IsTable (reads d.frame d.clock)) (get_member key ms) (of d))
     → ((p : Place) (slot : ℕ) → StandsIn place (IsTable (breaks f c)) (get_member key ms) p slot → BrokenAt ms p slot)
     → Refuses e ((xs : List A) → MayBeArray (IsTable (reads f c)) o xs → ⊥) (StandsIn place (IsTable (breaks f c)) o)
@@ -65,13 +65,13 @@ entries_refused {A} g reads breaks place key of ms f c o e has clock held there 
 
 -- a refusal of the clock is one of the table
 pub clock_refused : (ms : Members) (f : Frame) (e : ScenarioError) → HasFrame ms f
-    → Refuses e ((c : Option (List Insn)) → HasClock f ms c → ⊥)
+    → Refuses e ((c : Option (List Insn)) → SpellsClock f ms c → ⊥)
     (λ p slot. (p ≡ places.Top) × (clock_key ms ≡ keys.Clock) × BrokenText ms (codes "clock") (extent_of f) slot)
     → Refuses e (SpellsNothing ms) (BrokenAt ms)
 clock_refused ms f e has refused =
-    refuses_more e ((c : Option (List Insn)) → HasClock f ms c → ⊥) (SpellsNothing ms)
+    refuses_more e ((c : Option (List Insn)) → SpellsClock f ms c → ⊥) (SpellsNothing ms)
     (λ p slot. (p ≡ places.Top) × (clock_key ms ≡ keys.Clock) × BrokenText ms (codes "clock") (extent_of f) slot)
     (BrokenAt ms)
     (λ none d spelled. none d.clock
-    (subst (λ h. HasClock h ms d.clock) (one_frame ms d.frame f spelled.frame has) spelled.clock))
+    (subst (λ h. SpellsClock h ms d.clock) (one_frame ms d.frame f spelled.frame has) spelled.clock))
     (λ p slot is. subst (λ (q : Place). BrokenAt ms q slot) (sym is.0) (f, has, is.1, is.2)) refused

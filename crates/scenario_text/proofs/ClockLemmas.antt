@@ -9,7 +9,7 @@ use Rattle.rule_text.proofs.ProgramLemmas.{one_program}
 use Rattle.scenario_text.specs.declared.scenario.ClockKey.{ClockKey}
 use Rattle.scenario_text.specs.declared.scenario.ClockKey.TheVariants as keys
 use Rattle.scenario_text.specs.declared.scenario.Frame.{Frame}
-use Rattle.scenario_text.specs.Spelling.{HasClock, HasNoText, MeansAt, MeansClock, MeansRuleAt, clock_key, rule_of, sizes_in}
+use Rattle.scenario_text.specs.Spelling.{SpellsClock, HasNoText, MeansAt, MeansClock, MeansRuleAt, clock_key, clock_rule_of, sizes_in}
 
 -- a value means one program at most
 pub one_meaning : (o : Option Data) (p q : List Insn) → MeansAt o p → MeansAt o q → p ≡ q
@@ -63,14 +63,14 @@ none_there f keys.Clock ms p none means = none_meant (get_member (codes "clock")
 none_there f keys.Rule ms p none means = no_rule f (get_member (codes "rule") ms) p none means
 
 -- a table has the rule's clock or another one
-not_both : (g : Global) (f : Frame) (ms : Members) (p : List Insn) → HasClock f ms None → HasClock f ms (Some p) → ⊥
+not_both : (g : Global) (f : Frame) (ms : Members) (p : List Insn) → SpellsClock f ms None → SpellsClock f ms (Some p) → ⊥
 not_both g f ms p plain own =
     elim plain [
       | inl none ↦ none_there f (clock_key ms) ms p none own.0
-      | inr means ↦ own.1 (one_text g f (clock_key ms) ms p (clock_listing (rule_of f)) own.0 means)
+      | inr means ↦ own.1 (one_text g f (clock_key ms) ms p (clock_listing (clock_rule_of f)) own.0 means)
     ]
 
-pub one_clock : (g : Global) (f : Frame) (ms : Members) (a b : Option (List Insn)) → HasClock f ms a → HasClock f ms b → a ≡ b
+pub one_clock : (g : Global) (f : Frame) (ms : Members) (a b : Option (List Insn)) → SpellsClock f ms a → SpellsClock f ms b → a ≡ b
 one_clock g f ms None None first second = refl
 one_clock g f ms None (Some q) first second = absurd (not_both g f ms q first second)
 one_clock g f ms (Some p) None first second = absurd (not_both g f ms p second first)
@@ -80,19 +80,19 @@ one_clock g f ms (Some p) (Some q) first second =
 -- a text that is there and means nothing is no clock
 pub no_clock : (f : Frame) (ms : Members) → (HasNoText (clock_key ms) ms → ⊥)
     → ((insns : List Insn) → MeansClock f (clock_key ms) ms insns → ⊥)
-    → (clock : Option (List Insn)) → HasClock f ms clock → ⊥
+    → (clock : Option (List Insn)) → SpellsClock f ms clock → ⊥
 no_clock f ms there none None has =
-    elim has [ inl gone ↦ there gone | inr means ↦ none (clock_listing (rule_of f)) means ]
+    elim has [ inl gone ↦ there gone | inr means ↦ none (clock_listing (clock_rule_of f)) means ]
 no_clock f ms there none (Some insns) has = none insns has.0
 
 -- ---- what the text of the clock makes
 
 pub clock_is_rules : (f : Frame) (ms : Members) (key : ClockKey) (p : List Insn) → key ≡ clock_key ms
-    → MeansClock f key ms p → p ≡ clock_listing (rule_of f) → HasClock f ms None
+    → MeansClock f key ms p → p ≡ clock_listing (clock_rule_of f) → SpellsClock f ms None
 clock_is_rules f ms key p held means same =
-    inr (subst (λ (k : ClockKey). MeansClock f k ms (clock_listing (rule_of f))) held
+    inr (subst (λ (k : ClockKey). MeansClock f k ms (clock_listing (clock_rule_of f))) held
     (subst (λ (q : List Insn). MeansClock f key ms q) same means))
 
 pub clock_is_own : (f : Frame) (ms : Members) (key : ClockKey) (p : List Insn) → key ≡ clock_key ms
-    → MeansClock f key ms p → (p ≡ clock_listing (rule_of f) → ⊥) → HasClock f ms (Some p)
+    → MeansClock f key ms p → (p ≡ clock_listing (clock_rule_of f) → ⊥) → SpellsClock f ms (Some p)
 clock_is_own f ms key p held means other = (subst (λ (k : ClockKey). MeansClock f k ms p) held means, other)

@@ -13,7 +13,7 @@ use Rattle.scenario_text.specs.Drafts.{LoadDraft, CorruptDraft}
 use Rattle.scenario_text.specs.Spelling.{SpelledLoad, SpelledUnload, SpelledCorrupt, SpelledCoin}
 use Rattle.scenario_text.specs.Tables.{IsArray, IsNumber, IsTable, MayBeArray, ReadsEach}
 use Rattle.scenario_text.specs.Texts.{ReadsText}
-use Rattle.scenario_text.specs.Views.{FitsLoad, corrupt_of, draft_of, frame_of, load_of}
+use Rattle.scenario_text.specs.Views.{FitsLoad, corrupt_of, draft_of, frame_of, load_draft}
 
 -- each of a list
 abbrev pub Each : {A : Type 0} → (A → Type 0) → List A → Type 0
@@ -103,11 +103,11 @@ load_nodes f c some ms l spelled = below_nodes f l.nodes some
     (each_number (f.nodes - 1) (get_member (codes "nodes") ms) l.nodes spelled.nodes)
 
 pub loads_there : (text : List ℕ) (s : Scenario) → ReadsText text s
-    → Each (λ (l : Load). HasNodes (frame_of s) (load_of l)) s.loads.items
+    → Each (λ (l : Load). HasNodes (frame_of s) (load_draft l)) s.loads.items
 loads_there text s reads =
     let f = frame_of s in
     let c = (draft_of s).clock in
-    each_entry (IsTable (SpelledLoad f c)) (HasNodes f) load_of
+    each_entry (IsTable (SpelledLoad f c)) (HasNodes f) load_draft
     (in_table (HasNodes f) (SpelledLoad f c) (load_nodes f c reads.2.spelled.frame.nodes.1))
     (get_member (codes "load") reads.0) s.loads.items reads.2.spelled.loads
 

@@ -12,7 +12,7 @@ use Rattle.scenario_text.specs.inner.Faults.{IsOfSpelling}
 use Rattle.scenario_text.specs.Drafts.{Draft}
 use Rattle.scenario_text.specs.Tables.{HasNumber, MayBeArray, IsTable}
 use Rattle.scenario_text.proofs.ClockLemmas.{one_clock}
-use Rattle.scenario_text.specs.Spelling.{HasVersion, HasFrame, HasClock, most_nodes, Spelled, SpellsNothing}
+use Rattle.scenario_text.specs.Spelling.{HasVersion, HasFrame, SpellsClock, most_nodes, Spelled, SpellsNothing}
 use Rattle.scenario_text.specs.declared.limits.TheConstants.{FIRST_VERSION, FIRST_MAX_NODES}
 use Rattle.clock_nodes.specs.Rule.{IsRule}
 use Rattle.node_env.specs.Env.{IsExtent}
@@ -135,13 +135,13 @@ one_frame ms f g a b = λ k. record {
 -- what the frame and the clock that were read have no entries for has no spelling
 pub no_entries : {A : Type 0} (g : Global) (reads : Frame → Option (List Insn) → Members → A → Type 0) (o : Option Data)
     (of : Draft → List A) (ms : Members) (f : Frame) (c : Option (List Insn)) → HasFrame ms f
-    → HasClock f ms c
+    → SpellsClock f ms c
     → ((d : Draft) → Spelled ms d → MayBeArray (IsTable (reads d.frame d.clock)) o (of d))
     → ((xs : List A) → MayBeArray (IsTable (reads f c)) o xs → ⊥) → SpellsNothing ms
 no_entries g reads o of ms f c has clock there none d spelled =
     let same = one_frame ms d.frame f spelled.frame has in
     let framed = subst (λ h. MayBeArray (IsTable (reads h d.clock)) o (of d)) same (there d spelled) in
-    let mine = subst (λ h. HasClock h ms d.clock) same spelled.clock in
+    let mine = subst (λ h. SpellsClock h ms d.clock) same spelled.clock in
     none (of d) (subst (λ k. MayBeArray (IsTable (reads f k)) o (of d))
     (one_clock g f ms d.clock c mine clock) framed)
 

@@ -12,33 +12,33 @@ use Rattle.scenario_text.specs.Drafts.{LoadDraft}
 use Rattle.scenario_text.specs.Noise.{HasNoise, HasNoiseKey, any_noise, is_noise, noise_count, noise_pulses}
 use Rattle.scenario_text.specs.Spelling.{HasFrame, HasKey, SpelledLoad, SpellsNothing}
 use Rattle.scenario_text.specs.Tables.{IsTable, MayBeArray, ReadsEach}
-use Rattle.scenario_text.specs.Views.{load_of}
+use Rattle.scenario_text.specs.Views.{load_draft}
 use Rattle.scenario_text.proofs.FrameLemmas.{one_frame, one_number}
 use Rattle.scenario_text.proofs.NameLemmas.{nothing, one_kind}
 use Rattle.scenario_text.proofs.TableLemmas.{array_length}
 
 -- ---- the count, load by load
 
-pub any_loads : (ls : List Load) → list_any (λ l. is_noise l.kind) ls ≡ any_noise (map load_of ls)
+pub any_loads : (ls : List Load) → list_any (λ l. is_noise l.kind) ls ≡ any_noise (map load_draft ls)
 any_loads [] = refl
 any_loads (l ∷ ls) = ap (λ b. is_noise l.kind || b) (any_loads ls)
 
 pub count_more : (pulses : ℕ) (ls : List Load) (i : ℕ) (d : Load) → i < length ls
-    → noise_count pulses (map load_of (take (i + 1) ls))
-    ≡ noise_count pulses (map load_of (take i ls)) + noise_pulses pulses (load_of (get_or ls i d))
+    → noise_count pulses (map load_draft (take (i + 1) ls))
+    ≡ noise_count pulses (map load_draft (take i ls)) + noise_pulses pulses (load_draft (get_or ls i d))
 count_more pulses [] i d within = absurd (omega arith)
 count_more pulses (l ∷ ls) zero d within = omega arith
 count_more pulses (l ∷ ls) (suc i) d within =
     let on : suc i + 1 ≡ suc (i + 1) = omega arith in
     let more = count_more pulses ls i d (omega arith) in
-    let here = noise_pulses pulses (load_of l) in
-    let whole : here + noise_count pulses (map load_of (take (i + 1) ls)) ≡
-    (here + noise_count pulses (map load_of (take i ls))) + noise_pulses pulses (load_of (get_or ls i d)) =
+    let here = noise_pulses pulses (load_draft l) in
+    let whole : here + noise_count pulses (map load_draft (take (i + 1) ls)) ≡
+    (here + noise_count pulses (map load_draft (take i ls))) + noise_pulses pulses (load_draft (get_or ls i d)) =
     omega arith in
-    ap (λ k. noise_count pulses (map load_of (take k (l ∷ ls)))) on ∙ whole
+    ap (λ k. noise_count pulses (map load_draft (take k (l ∷ ls)))) on ∙ whole
 
 pub count_take : (pulses : ℕ) (ls : List Load) (i : ℕ)
-    → noise_count pulses (map load_of (take i ls)) ≤ noise_count pulses (map load_of ls)
+    → noise_count pulses (map load_draft (take i ls)) ≤ noise_count pulses (map load_draft ls)
 count_take pulses [] zero = omega arith
 count_take pulses [] (suc i) = omega arith
 count_take pulses (l ∷ ls) zero = omega arith

@@ -21,9 +21,9 @@ use Rattle.scenario_text.specs.declared.scenario.Scenario.{Scenario}
 use Rattle.scenario_text.specs.Broken.{BrokenLoad, BrokenText, StandsAt, item_at}
 use Rattle.scenario_text.specs.Drafts.{LoadDraft}
 use Rattle.scenario_text.specs.Laws.{RefusedReadsAsNone}
-use Rattle.scenario_text.specs.Spelling.{HasClock, HasFrame, IsProgramOf, MeansAt, MeansClock, SpelledLoad, clock_key, rule_of}
+use Rattle.scenario_text.specs.Spelling.{SpellsClock, HasFrame, IsProgramOf, MeansAt, MeansClock, SpelledLoad, clock_key, clock_rule_of}
 use Rattle.scenario_text.specs.Tables.{IsTable, MayBeArray, ReadsEach}
-use Rattle.scenario_text.specs.Views.{FitsFrame, FitsLoad, Reads, draft_of, extent_of, frame_of, load_of}
+use Rattle.scenario_text.specs.Views.{FitsFrame, FitsLoad, Reads, draft_of, extent_of, frame_of, load_draft}
 use Rattle.scenario_text.proofs.ClockLemmas.{none_there, one_clock, one_meaning, one_text}
 use Rattle.scenario_text.proofs.EntryLemmas.{Each, each_of_all}
 use Rattle.scenario_text.proofs.FrameLemmas.{frame_extent, frame_rule, one_frame}
@@ -33,15 +33,15 @@ use Rattle.scenario_text.proofs.NameLemmas.{one_kind}
 
 by_text : (a : Global) (f : Frame) (ms : Members) (o : Option Accepted) (p : List Insn) (slot : ℕ)
     → IsRule f.nodes f.faults f.modulus → IsExtent f.nodes f.memory
-    → HasClock f ms (option_map (λ v. v.program) o) → IfSome o (FitsFrame f) → MeansClock f (clock_key ms) ms p
+    → SpellsClock f ms (option_map (λ v. v.program) o) → IfSome o (FitsFrame f) → MeansClock f (clock_key ms) ms p
     → IsFirstBroken p (extent_of f) slot → ⊥
 by_text a f ms None p slot ok is has fits means broken =
     elim has [
       | inl gone ↦ none_there f (clock_key ms) ms p gone means
       | inr listing ↦ broken_untypable p (extent_of f) slot broken
           (subst (λ (q : List Insn). Typable q (extent_of f))
-          (one_text a f (clock_key ms) ms (clock_listing (rule_of f)) p listing means)
-          (clock_typable (rule_of f) (extent_of f) ok is refl))
+          (one_text a f (clock_key ms) ms (clock_listing (clock_rule_of f)) p listing means)
+          (clock_typable (clock_rule_of f) (extent_of f) ok is refl))
     ]
 by_text a f ms (Some v) p slot ok is has fits means broken =
     broken_untypable p (extent_of f) slot broken (subst (λ (q : List Insn). Typable q (extent_of f))
@@ -49,7 +49,7 @@ by_text a f ms (Some v) p slot ok is has fits means broken =
 
 by_clock : (a : Global) (f : Frame) (ms : Members) (o : Option Accepted) (p : List Insn) (slot : ℕ)
     → IsRule f.nodes f.faults f.modulus → IsExtent f.nodes f.memory
-    → HasClock f ms (option_map (λ v. v.program) o) → IfSome o (FitsFrame f) → clock_key ms ≡ keys.Clock
+    → SpellsClock f ms (option_map (λ v. v.program) o) → IfSome o (FitsFrame f) → clock_key ms ≡ keys.Clock
     → MeansAt (get_member (codes "clock") ms) p → IsFirstBroken p (extent_of f) slot → ⊥
 by_clock a f ms o p slot ok is has fits key means broken =
     let mine : MeansClock f (clock_key ms) ms p = subst (λ (k : ClockKey). MeansClock f k ms p) (sym key) means in
@@ -71,20 +71,20 @@ some_at None P is = absurd is
 some_at (Some v) P is = (v, refl, is)
 
 load_at : (f : Frame) (reads : Data → LoadDraft → Type 0) (items : Items) (ls : List Load) (index : ℕ) (v : Data)
-    → ReadsEach reads items (map load_of ls) → Each (FitsLoad f) ls → item_at items index ≡ Some v
-    → (l : Load) × reads v (load_of l) × FitsLoad f l
+    → ReadsEach reads items (map load_draft ls) → Each (FitsLoad f) ls → item_at items index ≡ Some v
+    → (l : Load) × reads v (load_draft l) × FitsLoad f l
 load_at f reads no_items ls index v each fits at = absurd cc
 load_at f reads (item w ws) [] index v each fits at = absurd each
 load_at f reads (item w ws) (l ∷ ls) zero v each fits at =
     let same : w ≡ v = cc in
-    (l, subst (λ (u : Data). reads u (load_of l)) same each.0, fits.0)
+    (l, subst (λ (u : Data). reads u (load_draft l)) same each.0, fits.0)
 load_at f reads (item w ws) (l ∷ ls) (suc index) v each fits at = load_at f reads ws ls index v each.1 fits.1 at
 
 -- the load that is read there is the one that is refused
 load_refused : (f : Frame) (c : Option (List Insn)) (slot : ℕ) (v : Data) (l : Load)
-    → IsTable (SpelledLoad f c) v (load_of l) → FitsLoad f l → IsTable (BrokenLoad f c) v slot → ⊥
+    → IsTable (SpelledLoad f c) v (load_draft l) → FitsLoad f l → IsTable (BrokenLoad f c) v slot → ⊥
 load_refused f c slot (table ms) l spelled fits broken =
-    let p = (load_of l).program in
+    let p = (load_draft l).program in
     let q = broken.load.program in
     let mine : MeansAt (get_member (codes "text") ms) p = subst (λ (k : Kind). IsProgramOf f c k ms p)
     (one_kind ms l.kind Asm spelled.named broken.named) spelled.program in
@@ -100,7 +100,7 @@ load_refused f c slot (boolean b) l spelled fits broken = absurd spelled
 load_refused f c slot (datetime d) l spelled fits broken = absurd spelled
 
 by_loads : (f : Frame) (c : Option (List Insn)) (o : Option Data) (ls : List Load) (index slot : ℕ)
-    → MayBeArray (IsTable (SpelledLoad f c)) o (map load_of ls) → Each (FitsLoad f) ls
+    → MayBeArray (IsTable (SpelledLoad f c)) o (map load_draft ls) → Each (FitsLoad f) ls
     → StandsAt (IsTable (BrokenLoad f c)) o index slot → ⊥
 by_loads f c None ls index slot each fits stands = absurd stands
 by_loads f c (Some (array items)) ls index slot each fits stands =
@@ -115,18 +115,18 @@ by_loads f c (Some (datetime d)) ls index slot each fits stands = absurd stands
 by_loads f c (Some (table ms)) ls index slot each fits stands = absurd stands
 
 load_unread : (ms : Members) (s : Scenario) (index slot : ℕ) (f : Frame) (c : Option (List Insn)) → HasFrame ms f
-    → HasClock f ms c → StandsAt (IsTable (BrokenLoad f c)) (get_member (codes "load") ms) index slot
+    → SpellsClock f ms c → StandsAt (IsTable (BrokenLoad f c)) (get_member (codes "load") ms) index slot
     → Reads ms s → ⊥
 load_unread ms s index slot f c has clock stands reads =
     let g = frame_of s in
     let d = (draft_of s).clock in
     let o = get_member (codes "load") ms in
     let same = one_frame ms g f reads.spelled.frame has in
-    let mine = subst (λ (h : Frame). HasClock h ms d) same reads.spelled.clock in
+    let mine = subst (λ (h : Frame). SpellsClock h ms d) same reads.spelled.clock in
     let both = one_clock s.loads.alloc f ms d c mine clock in
     let spelled = subst (λ (k : Option (List Insn)). MayBeArray (IsTable (SpelledLoad f k)) o
-    (map load_of s.loads.items))
-    both (subst (λ (h : Frame). MayBeArray (IsTable (SpelledLoad h d)) o (map load_of s.loads.items)) same
+    (map load_draft s.loads.items))
+    both (subst (λ (h : Frame). MayBeArray (IsTable (SpelledLoad h d)) o (map load_draft s.loads.items)) same
     reads.spelled.loads) in
     let fits = subst (λ (h : Frame). Each (FitsLoad h) s.loads.items) same
     (each_of_all (FitsLoad g) s.loads.items reads.typable) in

@@ -14,7 +14,7 @@ use Rattle.scenario_text.specs.Tables.{knows, ReadsEach, IsArray, MayBeArray, Is
 use Rattle.scenario_text.specs.declared.scenario.Frame.{Frame}
 use Rattle.bpf_insn.specs.declared.forms.Insn.{Insn}
 use Rattle.scenario_text.specs.Drafts.{LoadDraft}
-use Rattle.scenario_text.specs.inner.Arrays.{is_table, all_tables, are_tables, items_length, entry_count, loads_counted, nodes_count, count_in, counted}
+use Rattle.scenario_text.specs.inner.Arrays.{is_table, all_tables, are_tables, items_length, entry_count, loads_counted, nodes_count, count_in, item_count}
 use Rattle.scenario_text.specs.Spelling.{IsSaid, SpelledLoad, load_count}
 
 any_mapped : {A B : Type 0} (test : B → Bool) (f : A → B) (xs : List A)
@@ -133,17 +133,17 @@ items_length_view [] = refl
 items_length_view (v ∷ vs) = ap suc (items_length_view vs)
 
 pub counted_more : (vs : List Value) (i : ℕ) (d : Value) → i < length vs
-    → counted (items_view (take (i + 1) vs)) ≡ counted (items_view (take i vs)) + count_in (view (get_or vs i d))
+    → item_count (items_view (take (i + 1) vs)) ≡ item_count (items_view (take i vs)) + count_in (view (get_or vs i d))
 counted_more [] i d within = omega arith
 counted_more (v ∷ vs) zero d within = omega arith
 counted_more (v ∷ vs) (suc i) d within =
     let on : suc i + 1 ≡ suc (i + 1) = omega arith in
     let more = counted_more vs i d (omega arith) in
-    let whole : count_in (view v) + counted (items_view (take (i + 1) vs)) ≡
-    (count_in (view v) + counted (items_view (take i vs))) + count_in (view (get_or vs i d)) = omega arith in
-    ap (λ k. counted (items_view (take k (v ∷ vs)))) on ∙ whole
+    let whole : count_in (view v) + item_count (items_view (take (i + 1) vs)) ≡
+    (count_in (view v) + item_count (items_view (take i vs))) + count_in (view (get_or vs i d)) = omega arith in
+    ap (λ k. item_count (items_view (take k (v ∷ vs)))) on ∙ whole
 
-pub counted_take : (vs : List Value) (i : ℕ) → counted (items_view (take i vs)) ≤ counted (items_view vs)
+pub counted_take : (vs : List Value) (i : ℕ) → item_count (items_view (take i vs)) ≤ item_count (items_view vs)
 counted_take [] zero = omega arith
 counted_take [] (suc i) = omega arith
 counted_take (v ∷ vs) zero = omega arith
@@ -168,7 +168,7 @@ load_counted f c _ load read = absurd read
 
 -- the loads that are spelled are as many as were counted
 pub each_load_counted : (f : Frame) (c : Option (List Insn)) (items : Items) (loads : List LoadDraft)
-    → ReadsEach (IsTable (SpelledLoad f c)) items loads → counted items ≡ load_count loads
+    → ReadsEach (IsTable (SpelledLoad f c)) items loads → item_count items ≡ load_count loads
 each_load_counted f c no_items [] read = refl
 each_load_counted f c no_items (l ∷ ls) read = absurd read
 each_load_counted f c (item v vs) [] read = absurd read

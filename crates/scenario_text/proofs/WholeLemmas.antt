@@ -7,7 +7,7 @@ use Rattle.scenario_text.specs.inner.Arrays.{HasArrays}
 use Rattle.scenario_text.specs.Drafts.{Draft}
 use Rattle.scenario_text.specs.Noise.{HasNoise}
 use Rattle.scenario_text.specs.Tables.{knows, IsTable, MayBeArray}
-use Rattle.scenario_text.specs.Spelling.{HasFrame, HasCoins, HasKey, HasClock, Spelled, SpelledLoad, SpelledUnload, SpelledCorrupt, SpelledCoin, SpellsNothing, clock_key, clock_text, top_keys}
+use Rattle.scenario_text.specs.Spelling.{HasFrame, HasCoins, HasKey, SpellsClock, Spelled, SpelledLoad, SpelledUnload, SpelledCorrupt, SpelledCoin, SpellsNothing, clock_key, clock_draft, top_keys}
 use Rattle.scenario_text.proofs.TableLemmas.{tables_read, entries_read, loads_read}
 
 -- a table that spells a scenario has its arrays
@@ -34,7 +34,7 @@ no_arrays ms none d spelled = none (spelled_arrays ms d spelled)
 -- what is read of all keys is spelled, where the arrays aren't too long
 pub spelled_whole : (ms : Members) (d : Draft) → knows (top_keys (clock_key ms)) ms ≡ true
     → HasFrame ms d.frame → HasCoins ms d.coins
-    → HasKey ms d.coins d.key → d.clock_text ≡ clock_text (clock_key ms) ms → HasClock d.frame ms d.clock
+    → HasKey ms d.coins d.key → d.clock_text ≡ clock_draft (clock_key ms) ms → SpellsClock d.frame ms d.clock
     → MayBeArray (IsTable (SpelledLoad d.frame d.clock)) (get_member (codes "load") ms) d.loads
     → MayBeArray (IsTable (SpelledUnload d.frame)) (get_member (codes "unload") ms) d.unloads
     → MayBeArray (IsTable (SpelledCorrupt d.frame)) (get_member (codes "corrupt") ms) d.corruptions

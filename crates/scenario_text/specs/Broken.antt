@@ -11,7 +11,7 @@ use Rattle.scenario_text.specs.declared.scenario.Kind.TheVariants.{Asm}
 use Rattle.scenario_text.specs.declared.scenario.ClockKey.TheVariants as keys
 use Rattle.scenario_text.specs.Drafts.{LoadDraft}
 use Rattle.scenario_text.specs.Tables.{HasText, IsTable}
-use Rattle.scenario_text.specs.Spelling.{HasClock, HasFrame, MeansAt, SpelledLoad, clock_key, kind_name}
+use Rattle.scenario_text.specs.Spelling.{SpellsClock, HasFrame, MeansAt, SpelledLoad, clock_key, kind_name}
 use Rattle.scenario_text.specs.Views.{extent_of}
 
 -- the item at this place, from 0 on
@@ -49,5 +49,5 @@ BrokenAt members places.Top slot =
     (f : Frame) × HasFrame members f × (clock_key members ≡ keys.Clock)
     × BrokenText members (codes "clock") (extent_of f) slot
 BrokenAt members place slot =
-    (f : Frame) × (clock : Option (List Insn)) × HasFrame members f × HasClock f members clock
+    (f : Frame) × (clock : Option (List Insn)) × HasFrame members f × SpellsClock f members clock
     × BrokenIn f clock (get_member (codes "load") members) place slot

@@ -13,17 +13,17 @@ use Rattle.scenario_text.specs.declared.refusal.ScenarioError.{ScenarioError}
 use Rattle.scenario_text.specs.declared.refusal.ScenarioError.TheVariants as errors
 
 -- an entry of an array, from 0 on
-abbrev pub place_text : Place → List ℕ
-place_text places.Top = codes "top"
-place_text (places.Load index) = codes "load[" ++ (decimal index ++ codes "]")
-place_text (places.Unload index) = codes "unload[" ++ (decimal index ++ codes "]")
-place_text (places.Corrupt index) = codes "corrupt[" ++ (decimal index ++ codes "]")
-place_text (places.Coin index) = codes "coin[" ++ (decimal index ++ codes "]")
+abbrev pub text_of_place : Place → List ℕ
+text_of_place places.Top = codes "top"
+text_of_place (places.Load index) = codes "load[" ++ (decimal index ++ codes "]")
+text_of_place (places.Unload index) = codes "unload[" ++ (decimal index ++ codes "]")
+text_of_place (places.Corrupt index) = codes "corrupt[" ++ (decimal index ++ codes "]")
+text_of_place (places.Coin index) = codes "coin[" ++ (decimal index ++ codes "]")
 
 -- a top key is its own path
 abbrev pub path_text : Place → List ℕ → List ℕ
 path_text places.Top key = key
-path_text place key = place_text place ++ (codes "." ++ key)
+path_text place key = text_of_place place ++ (codes "." ++ key)
 
 -- the line of a text at fault, from 1 on, and the fault
 abbrev pub text_fault : TextError → List ℕ
@@ -46,7 +46,7 @@ rule_fault rules.TooLong = codes "TooLong"
 abbrev pub refusal_line : ScenarioError → List ℕ
 refusal_line errors.TooLong = codes "refused scenario TooLong"
 refusal_line errors.NotToml = codes "refused scenario NotToml"
-refusal_line (errors.UnknownKey place) = codes "refused scenario UnknownKey " ++ place_text place
+refusal_line (errors.UnknownKey place) = codes "refused scenario UnknownKey " ++ text_of_place place
 refusal_line (errors.MissingKey place key) = codes "refused scenario MissingKey " ++ path_text place key.now
 refusal_line (errors.WrongKind place key) = codes "refused scenario WrongKind " ++ path_text place key.now
 refusal_line (errors.OutOfRange place key) = codes "refused scenario OutOfRange " ++ path_text place key.now

@@ -15,7 +15,7 @@ use Rattle.scenario_text.specs.Drafts.{LoadDraft, CorruptDraft, Draft, TextDraft
 use Rattle.scenario_text.specs.Noise.{HasNoise}
 use Rattle.clock_nodes.specs.Rule as clocks
 use Rattle.clock_nodes.specs.Listings.{clock_listing, say_listing, echo_listing}
-use Rattle.clock_nodes.specs.declared.rule.TheConstants.{LEAST_MODULUS, MOST_MODULUS}
+use Rattle.clock_nodes.specs.declared.rule.TheConstants.{LEAST_MODULUS, MAX_MODULUS}
 use Rattle.rule_nodes.specs.declared.syntax.Sizes.{Sizes}
 use Rattle.rule_text.specs.Programs.{IsProgramOfText}
 use Rattle.node_env.specs.declared.shape.TheConstants.{MAX_NODES, MAX_MEMORY, MEMORY_UNIT}
@@ -66,7 +66,7 @@ pub record HasFrame (members : Members) (f : Frame) : Type 0 where
   pub version : HasVersion members f.version
   pub nodes : HasNumber members (codes "nodes") 1 (most_nodes f.version) f.nodes
   pub faults : HasNumber members (codes "faults") 0 (f.nodes - 1) f.faults
-  pub modulus : HasNumber members (codes "modulus") LEAST_MODULUS MOST_MODULUS f.modulus
+  pub modulus : HasNumber members (codes "modulus") LEAST_MODULUS MAX_MODULUS f.modulus
   pub memory : HasNumber members (codes "memory") MEMORY_UNIT MAX_MEMORY f.memory
   pub units : f.memory % MEMORY_UNIT ≡ 0
   pub pulses : HasNumber members (codes "pulses") 1 MAX_PULSES f.pulses
@@ -136,8 +136,8 @@ MeansRuleAt f (Some (string text)) insns = IsProgramOfText (sizes_in f) text ins
 MeansRuleAt f _ insns = ⊥
 
 -- the rule of the scenario's clocks
-abbrev pub rule_of : Frame → clocks.Rule
-rule_of f = record { nodes = f.nodes; faults = f.faults; modulus = f.modulus }
+abbrev pub clock_rule_of : Frame → clocks.Rule
+clock_rule_of f = record { nodes = f.nodes; faults = f.faults; modulus = f.modulus }
 
 -- what the text of the clock means, under the key that there is for it
 abbrev pub MeansClock : Frame → ClockKey → Members → List Insn → Type 0
@@ -152,21 +152,21 @@ HasNoText keys.Clock members = get_member (codes "clock") members ≡ None
 HasNoText keys.Rule members = get_member (codes "rule") members ≡ None
 
 -- the text of the clock, under the key that there is for it
-abbrev pub clock_text : ClockKey → Members → Option TextDraft
-clock_text keys.Absent _ = None
-clock_text keys.Clock members = option_map assembler_text (text_under (codes "clock") members)
-clock_text keys.Rule members = option_map rule_text (text_under (codes "rule") members)
+abbrev pub clock_draft : ClockKey → Members → Option TextDraft
+clock_draft keys.Absent _ = None
+clock_draft keys.Clock members = option_map assembler_text (text_under (codes "clock") members)
+clock_draft keys.Rule members = option_map rule_text (text_under (codes "rule") members)
 
 -- a clock of one's own is what its text means, if that isn't the rule's clock
-abbrev pub HasClock : Frame → Members → Option (List Insn) → Type 0
-HasClock f members None =
-    HasNoText (clock_key members) members ⊎ MeansClock f (clock_key members) members (clock_listing (rule_of f))
-HasClock f members (Some insns) =
-    MeansClock f (clock_key members) members insns × (insns ≡ clock_listing (rule_of f) → ⊥)
+abbrev pub SpellsClock : Frame → Members → Option (List Insn) → Type 0
+SpellsClock f members None =
+    HasNoText (clock_key members) members ⊎ MeansClock f (clock_key members) members (clock_listing (clock_rule_of f))
+SpellsClock f members (Some insns) =
+    MeansClock f (clock_key members) members insns × (insns ≡ clock_listing (clock_rule_of f) → ⊥)
 
 -- the clock of a scenario: its own, or otherwise that of its rule
 abbrev pub clock_insns : Frame → Option (List Insn) → List Insn
-clock_insns f None = clock_listing (rule_of f)
+clock_insns f None = clock_listing (clock_rule_of f)
 clock_insns f (Some insns) = insns
 
 -- the text of a load, if its program is that of a text
@@ -239,8 +239,8 @@ pub record Spelled (members : Members) (d : Draft) : Type 0 where
   pub frame : HasFrame members d.frame
   pub coins : HasCoins members d.coins
   pub key : HasKey members d.coins d.key
-  pub clock_text : d.clock_text ≡ clock_text (clock_key members) members
-  pub clock : HasClock d.frame members d.clock
+  pub clock_text : d.clock_text ≡ clock_draft (clock_key members) members
+  pub clock : SpellsClock d.frame members d.clock
   pub loads : MayBeArray (IsTable (SpelledLoad d.frame d.clock)) (get_member (codes "load") members) d.loads
   pub unloads : MayBeArray (IsTable (SpelledUnload d.frame)) (get_member (codes "unload") members) d.unloads
   pub corruptions : MayBeArray (IsTable (SpelledCorrupt d.frame)) (get_member (codes "corrupt") members) d.corruptions

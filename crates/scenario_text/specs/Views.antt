@@ -14,12 +14,12 @@ use Rattle.scenario_text.specs.declared.scenario.Frame.{Frame}
 use Rattle.scenario_text.specs.Drafts.{LoadDraft, CorruptDraft, Draft, TextDraft, assembler_text, rule_text}
 use Rattle.scenario_text.specs.Spelling.{Spelled}
 
-abbrev pub text_of : ProgramText → TextDraft
-text_of (texts.Assembler text) = assembler_text (string_bytes text)
-text_of (texts.Rule text) = rule_text (string_bytes text)
+abbrev pub text_draft : ProgramText → TextDraft
+text_draft (texts.Assembler text) = assembler_text (string_bytes text)
+text_draft (texts.Rule text) = rule_text (string_bytes text)
 
-abbrev pub load_of : Load → LoadDraft
-load_of l = record {
+abbrev pub load_draft : Load → LoadDraft
+load_draft l = record {
   pulse = l.pulse;
   nodes = l.nodes.items;
   kind = l.kind;
@@ -45,9 +45,9 @@ draft_of s = record {
   frame = frame_of s;
   coins = s.coins;
   key = s.key;
-  clock_text = option_map text_of s.clock_text;
+  clock_text = option_map text_draft s.clock_text;
   clock = option_map (λ v. v.program) s.clock;
-  loads = map load_of s.loads.items;
+  loads = map load_draft s.loads.items;
   unloads = s.unloads.items;
   corruptions = map corrupt_of s.corruptions.items;
   entries = s.entries.items;

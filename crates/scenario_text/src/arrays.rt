@@ -2,7 +2,7 @@
 ghost use Rattle.std.specs.Prelude.{◌≡◌, ◌+◌, ◌≤◌, ◌<◌, IfOk, IfErr, MatchOption, MatchResult, option_map, codes};
 ghost use Rattle.toml.specs.Data.{get_member, array as array_data};
 ghost use Rattle.toml.specs.View.{view, array_view, table_view};
-ghost use Rattle.scenario_text.specs.inner.Arrays.{HasArrays, count_in, counted, entry_count, items_length, loads_counted};
+ghost use Rattle.scenario_text.specs.inner.Arrays.{HasArrays, count_in, item_count, entry_count, items_length, loads_counted};
 ghost use Rattle.scenario_text.specs.inner.Faults.{IsOfSpelling};
 
 use crate::limits::{MAX_CHANGES, MAX_COIN_ENTRIES};
@@ -46,8 +46,8 @@ fn count_in(value: &Value) -> usize
 /// The changes of an array of loads, or none if there are more than a limit.
 #[tactic(auto, using(crate::proofs::TableLemmas::counted_take))]
 fn counted_loads(array: &Array, most: usize) -> Option<usize>
-    ensures { MatchOption result (most < counted (array_view array.now))
-        (λ n. (n ≡ counted (array_view array.now)) × (n ≤ most)) }
+    ensures { MatchOption result (most < item_count (array_view array.now))
+        (λ n. (n ≡ item_count (array_view array.now)) × (n ≤ most)) }
 {
     let mut total = 0usize;
     for value in array.iter() {

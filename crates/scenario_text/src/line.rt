@@ -1,6 +1,6 @@
 //! The line of a refusal.
 ghost use Rattle.std.specs.Prelude.{◌≡◌, Some, string_bytes};
-ghost use Rattle.scenario_text.specs.Lines.{path_text, place_text, refusal_line, rule_fault, text_fault};
+ghost use Rattle.scenario_text.specs.Lines.{path_text, text_of_place, refusal_line, rule_fault, text_fault};
 
 use crate::refusal::{Place, ScenarioError};
 use bpf_asm::TextError;
@@ -11,7 +11,7 @@ use std::fmt;
 struct PlaceText(Place);
 
 impl fmt::Display for PlaceText {
-    ghost output = { λ place. Some (place_text place.0) };
+    ghost output = { λ place. Some (text_of_place place.0) };
 
     fn fmt<W: fmt::Write>(&self, f: &mut fmt::Formatter<W>) -> fmt::Result {
         match self.0 {

@@ -14,7 +14,7 @@ ghost use Rattle.scenario_text.specs.inner.Faults.{IsOfSpelling};
 ghost use Rattle.scenario_text.specs.inner.Setups.{IsSetup, own_clock};
 ghost use Rattle.scenario_text.specs.Tables.{knows, HasText, IsArray};
 ghost use Rattle.scenario_text.specs.Spelling.{load_keys, load_text, kind_name, HasKind, IsSaid, IsProgramOf, MeansAt, SpelledLoad};
-ghost use Rattle.scenario_text.specs.Views.{load_of, extent_of, FitsFrame, FitsLoad};
+ghost use Rattle.scenario_text.specs.Views.{load_draft, extent_of, FitsFrame, FitsLoad};
 
 use crate::entries::Entry;
 use crate::limits::{NOISE_VERSION, RULE_VERSION};
@@ -245,7 +245,7 @@ fn text_of(alloc: Global, kind: Kind, table: &Table) -> Result<Option<String>, A
 impl Entry for Load {
     ghost Draft = { LoadDraft };
 
-    ghost draft_of = { load_of };
+    ghost draft_of = { load_draft };
 
     ghost spelled = { SpelledLoad };
 

@@ -3,7 +3,7 @@ ghost use Rattle.std.specs.Prelude.{◌≡◌, ◌↔◌, ◌≤◌, ◌^◌, �
 ghost use Rattle.std.specs.List.{list_any};
 ghost use Rattle.scenario_text.specs.inner.Faults.{IsOfSpelling};
 ghost use Rattle.scenario_text.specs.Noise.{HasNoise, is_noise, noise_count, noise_pulses};
-ghost use Rattle.scenario_text.specs.Views.{load_of};
+ghost use Rattle.scenario_text.specs.Views.{load_draft};
 
 use crate::limits::MAX_NOISE;
 use crate::refusal::{Place, ScenarioError};
@@ -18,7 +18,7 @@ pub(crate) fn any_noise(loads: &[Load]) -> bool
 
 /// In how many pulses the nodes of a load may have noise.
 fn noise_pulses(load: &Load, pulses: u32) -> u64
-    ensures { result ≡ min (noise_pulses pulses (load_of load.now)) (2 ^ 64 - 1) }
+    ensures { result ≡ min (noise_pulses pulses (load_draft load.now)) (2 ^ 64 - 1) }
 {
     if load.kind.is_noise() {
         let left = (u64::from(pulses) + 1).saturating_sub(u64::from(load.pulse));
@@ -30,7 +30,7 @@ fn noise_pulses(load: &Load, pulses: u32) -> u64
 
 /// Whether the loads have as few pulses of noise as there may be.
 fn is_little_noise(loads: &[Load], pulses: u32) -> bool
-    ensures { IsTrue result ↔ (noise_count pulses (map load_of loads.now) ≤ MAX_NOISE) }
+    ensures { IsTrue result ↔ (noise_count pulses (map load_draft loads.now) ≤ MAX_NOISE) }
 {
     let mut room = MAX_NOISE as u64;
     for load in loads {
@@ -51,8 +51,8 @@ pub(crate) fn judge_noise(
     pulses: u32,
 ) -> Result<(), ScenarioError>
     ensures fault { IfErr result IsOfSpelling }
-    ensures noise { MatchResult result (λ _. HasNoise key pulses (map load_of loads.now))
-        (λ _. HasNoise key pulses (map load_of loads.now) → ⊥) }
+    ensures noise { MatchResult result (λ _. HasNoise key pulses (map load_draft loads.now))
+        (λ _. HasNoise key pulses (map load_draft loads.now) → ⊥) }
 {
     if key.is_none() && any_noise(loads) {
         return Err(ScenarioError::MissingKey {

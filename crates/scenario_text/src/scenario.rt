@@ -1,9 +1,12 @@
 //! A scenario.
+ghost use Rattle.clock_nodes.specs.Rule.{IsRule};
 ghost use Rattle.node_env.specs.Env.{IsExtent};
 
 use crate::limits::CLOCK_VERSION;
 use crate::noise::any_noise;
 use bpf_verify::VerifiedProgram;
+use clock_nodes::ClockRule;
+use node_env::Shape;
 
 /// What the coins are before entries replace some: all 0, all 1, or drawn by the key.
 #[derive(Clone, Copy, Debug, PartialEq, Eq)]
@@ -119,12 +122,34 @@ pub struct Scenario {
     pub corruptions: Vec<Corrupt>,
     pub entries: Vec<CoinEntry>,
     pub ghost extent: { IsExtent nodes memory },
+    pub ghost allowed: { IsRule nodes faults modulus },
 }
 
 impl Scenario {
     ghost use Rattle.std.specs.Prelude.{◌≡◌, map};
     ghost use Rattle.scenario_text.specs.Noise.{any_noise};
-    ghost use Rattle.scenario_text.specs.Views.{is_judged, load_of};
+    ghost use Rattle.scenario_text.specs.Spelling.{clock_rule_of};
+    ghost use Rattle.scenario_text.specs.Views.{extent_of, frame_of, is_judged, load_draft};
+
+    /// Returns the shape of the nodes.
+    pub fn shape(&self) -> Shape
+        ensures { result ≡ extent_of (frame_of self.now) }
+    {
+        match Shape::of(self.nodes, self.memory) {
+            Some(shape) => shape,
+            None => unreachable!(),
+        }
+    }
+
+    /// Returns the rule of the clock.
+    pub fn rule(&self) -> ClockRule
+        ensures { result ≡ clock_rule_of (frame_of self.now) }
+    {
+        match ClockRule::of(self.nodes, self.faults, self.modulus) {
+            Some(rule) => rule,
+            None => unreachable!(),
+        }
+    }
 
     /// Returns true if the report judges whether clocks count, and says whose clock it is.
     pub fn is_judged(&self) -> bool
@@ -136,7 +161,7 @@ impl Scenario {
     /// Returns true if a load is one of noise.
     #[tactic(auto, using(crate::proofs::NoiseLemmas::any_loads))]
     pub fn has_noise(&self) -> bool
-        ensures { result ≡ any_noise (map load_of self.now.loads.items) }
+        ensures { result ≡ any_noise (map load_draft self.now.loads.items) }
     {
         any_noise(&self.loads)
     }

@@ -12,7 +12,7 @@ ghost use Rattle.scenario_text.specs.Broken.{BrokenText};
 ghost use Rattle.scenario_text.specs.Faults.{Excludes, Refuses};
 ghost use Rattle.scenario_text.specs.inner.Setups.{IsSetup, own_clock};
 ghost use Rattle.scenario_text.specs.declared.scenario.ClockKey.TheVariants.{Clock as ClockText};
-ghost use Rattle.scenario_text.specs.Spelling.{HasClock, HasNoText, MeansAt, MeansClock, MeansRuleAt, clock_insns, clock_key, rule_of};
+ghost use Rattle.scenario_text.specs.Spelling.{SpellsClock, HasNoText, MeansAt, MeansClock, MeansRuleAt, clock_insns, clock_key, clock_rule_of};
 ghost use Rattle.scenario_text.specs.Views.{FitsFrame, extent_of};
 
 use crate::programs::{accepted, echo_program, program_in, rule_clock, rule_in};
@@ -130,12 +130,12 @@ fn clock_at(
 ) -> Result<Option<VerifiedProgram>, ScenarioError>
     requires key { key ≡ clock_key (table_view table.now) }
     requires shape_is { shape ≡ extent_of frame }
-    requires rule_is { rule ≡ rule_of frame }
+    requires rule_is { rule ≡ clock_rule_of frame }
     ensures clock { IfOk result (λ clock.
-        HasClock frame (table_view table.now) (option_map (λ v. v.program) clock)) }
+        SpellsClock frame (table_view table.now) (option_map (λ v. v.program) clock)) }
     ensures fits { IfOk result (λ clock. IfSome clock (λ v. (v.shape ≡ shape) × Typable v.program shape)) }
     ensures refused { IfErr result (λ e. Refuses e ((clock : Option (List Insn)) →
-        HasClock frame (table_view table.now) clock → ⊥)
+        SpellsClock frame (table_view table.now) clock → ⊥)
         (λ p slot. (p ≡ Top) × (key ≡ ClockText)
         × BrokenText (table_view table.now) (codes "clock") shape slot)) }
 {
@@ -159,7 +159,7 @@ fn clock_of(
     requires extent { IsExtent frame.nodes frame.memory }
     requires rule { IsRule frame.nodes frame.faults frame.modulus }
     requires shape_is { shape ≡ extent_of frame }
-    requires rule_is { rule ≡ rule_of frame }
+    requires rule_is { rule ≡ clock_rule_of frame }
     requires fits { IfSome own.now (FitsFrame frame) }
     ensures clock { IfOk result (λ v. v.program ≡ clock_insns frame (option_map (λ v. v.program) own.now)) }
     ensures fits { IfOk result (FitsFrame frame) }
@@ -182,10 +182,10 @@ pub(crate) fn setup_at(
     requires rule { IsRule frame.nodes frame.faults frame.modulus }
     ensures frame { IfOk result (λ s. s.frame ≡ frame) }
     ensures setup { IfOk result IsSetup }
-    ensures clock { IfOk result (λ s. HasClock s.frame (table_view table.now) (own_clock s)) }
+    ensures clock { IfOk result (λ s. SpellsClock s.frame (table_view table.now) (own_clock s)) }
     ensures fits { IfOk result (λ s. IfSome s.own (FitsFrame s.frame)) }
     ensures refused { IfErr result (λ e. Refuses e ((clock : Option (List Insn)) →
-        HasClock frame (table_view table.now) clock → ⊥)
+        SpellsClock frame (table_view table.now) clock → ⊥)
         (λ p slot. (p ≡ Top) × (key ≡ ClockText)
         × BrokenText (table_view table.now) (codes "clock") (extent_of frame) slot)) }
 {

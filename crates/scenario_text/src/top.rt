@@ -13,7 +13,7 @@ use crate::limits::{FIRST_MAX_NODES, FIRST_VERSION, LAST_VERSION, MAX_KEY, MAX_P
 use crate::refusal::{Place, ScenarioError};
 use crate::scenario::{Coins, Frame, Kind};
 use crate::table::{number_at, value_at};
-use clock_nodes::{LEAST_MODULUS, MOST_MODULUS};
+use clock_nodes::{LEAST_MODULUS, MAX_MODULUS};
 use node_env::{MAX_MEMORY, MAX_NODES, MEMORY_UNIT};
 use toml::Table;
 
@@ -123,7 +123,7 @@ pub(crate) fn frame_at(table: &Table) -> Result<Frame, ScenarioError>
         place,
         "modulus",
         LEAST_MODULUS as u64,
-        MOST_MODULUS as u64,
+        MAX_MODULUS as u64,
     )?;
     let memory = number_at(
         table,

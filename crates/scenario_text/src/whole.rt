@@ -3,9 +3,9 @@ ghost use Rattle.std.specs.Prelude.{◌≡◌, IfOk, IfErr, option_map};
 ghost use Rattle.toml.specs.View.{table_view};
 ghost use Rattle.scenario_text.specs.Broken.{BrokenAt};
 ghost use Rattle.scenario_text.specs.Faults.{Refuses};
-ghost use Rattle.scenario_text.specs.Spelling.{SpellsNothing, clock_key, clock_text, key_of_version, top_keys};
+ghost use Rattle.scenario_text.specs.Spelling.{SpellsNothing, clock_key, clock_draft, key_of_version, top_keys};
 ghost use Rattle.scenario_text.specs.Tables.{knows};
-ghost use Rattle.scenario_text.specs.Views.{Reads, text_of};
+ghost use Rattle.scenario_text.specs.Views.{Reads, text_draft};
 
 use crate::arrays::arrays_at;
 use crate::entries::entries_of;
@@ -87,7 +87,7 @@ fn clock_text_at(
     table: &Table,
     key: ClockKey,
 ) -> Result<Option<ProgramText>, AllocError>
-    ensures { IfOk result (λ text. option_map text_of text ≡ clock_text key (table_view table.now)) }
+    ensures { IfOk result (λ text. option_map text_draft text ≡ clock_draft key (table_view table.now)) }
 {
     match key {
         ClockKey::Absent => Ok(None),

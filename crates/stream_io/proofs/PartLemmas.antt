@@ -5,10 +5,10 @@ use Rattle.std.specs.Io.KnownBytes.{Appends}
 use Rattle.std.proofs.KnownBytes.{Appends-nil, Appends-trans}
 use Rattle.std.proofs.Math.Seq.{take-append-add}
 use Rattle.std.proofs.lemmas.List.{take-append-le}
-use Rattle.stream_io.specs.Parts.{Adds, Breaks, MOST_TOLD, Wrote}
+use Rattle.stream_io.specs.Parts.{Adds, Breaks, MAX_TOLD, Wrote}
 
 pub broken : (old new start : Option (List ℕ)) (before written taken : ℕ) (part text : List ℕ) → taken < length part
-    → written ≡ min (before + taken) MOST_TOLD → Appends old new (take taken part) → Wrote start old text before
+    → written ≡ min (before + taken) MAX_TOLD → Appends old new (take taken part) → Wrote start old text before
     → Breaks start new (text ++ part) written
 broken old new start before written taken part text few number left wrote = record {
   taken = length text + taken;

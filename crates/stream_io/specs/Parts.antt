@@ -5,19 +5,19 @@ use Rattle.stream_io.specs.declared.parts.PartFault.{PartFault}
 use Rattle.stream_io.specs.declared.parts.PartFault.TheVariants as faults
 
 -- the greatest number of bytes that is told; more are told as this
-abbrev pub MOST_TOLD : ℕ
-MOST_TOLD = 2 ^ 64 - 1
+abbrev pub MAX_TOLD : ℕ
+MAX_TOLD = 2 ^ 64 - 1
 
 -- the text was written, and this is how many bytes it has
 pub record Wrote (old new : Option (List ℕ)) (text : List ℕ) (count : ℕ) : Type 0 where
   pub left : Appends old new text
-  pub number : count ≡ min (length text) MOST_TOLD
+  pub number : count ≡ min (length text) MAX_TOLD
 
 -- the first bytes of the text were written, and not all, and this is how many
 pub record Breaks (old new : Option (List ℕ)) (text : List ℕ) (written : ℕ) : Type 0 where
   pub taken : ℕ
   pub part : taken < length text
-  pub number : written ≡ min taken MOST_TOLD
+  pub number : written ≡ min taken MAX_TOLD
   pub left : Appends old new (take taken text)
 
 -- after each text of this many bytes the part was written too, and there are this many then

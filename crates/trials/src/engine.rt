@@ -1,13 +1,13 @@
 //! Pulses on workers, and runs of events.
 ghost use Rattle.std.specs.Prelude.{◌≡◌, ◌≤◌, None, IfOk};
-ghost use Rattle.bench_workers.specs.declared.tasks.TheConstants.{MOST_WORKERS};
+ghost use Rattle.bench_workers.specs.declared.tasks.TheConstants.{MAX_WORKERS};
 
 use crate::four::{Four, MEMORY, NODES, ONES, PULSES, ROWS, accepted_clock, four_nodes, is_row};
 use crate::shown::Received;
 use crate::stop::{Ended, Stop, Wrong, expect};
 use bench_core::{Change, CloseError, Entry, OpenError};
 use bench_engine::{
-    EngineError, Event, MOST_WORKERS, Open, Run, RunRefusal, WorkError, pulse, run_events,
+    EngineError, Event, MAX_WORKERS, Open, Run, RunRefusal, WorkError, pulse, run_events,
 };
 use bench_shared::{Board, EnginePass, SharedBench};
 use bpf_verify::VerifiedProgram;
@@ -26,7 +26,7 @@ pub fn pulses<B: Ledger, C: Ledger, R: Threads + Wait + Sync>(
     workers: u32,
 ) -> Result<Ended, Stop>
     requires some { 1 ≤ workers }
-    requires few { workers ≤ MOST_WORKERS }
+    requires few { workers ≤ MAX_WORKERS }
     requires paid { engine.old.owed ≡ None }
     requires board { engine.old.board ≡ board.now }
     ensures paid { engine.new.owed ≡ None }
@@ -97,7 +97,7 @@ pub fn runs_events<R: Threads + Wait + Sync>(
 ) -> Result<Ended, Stop> {
     let four = four_nodes();
     let program = accepted_clock(alloc, &four)?;
-    let workers = workers.clamp(1, MOST_WORKERS);
+    let workers = workers.clamp(1, MAX_WORKERS);
     let (run, ended) = match run_once(rt, alloc, &four, &program, workers) {
         Ok(run) => (run, Ended::AtOnce),
         Err(Stop::Memory | Stop::Thread) => {
@@ -120,7 +120,7 @@ fn run_once<R: Threads + Wait + Sync>(
     workers: u32,
 ) -> Result<Run, Stop>
     requires some { 1 ≤ workers }
-    requires few { workers ≤ MOST_WORKERS }
+    requires few { workers ≤ MAX_WORKERS }
 {
     let events = clock_events(alloc, program)?;
     match run_events(rt, alloc, &Open, workers, four.shape, four.rule, events) {

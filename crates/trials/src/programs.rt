@@ -6,7 +6,7 @@ use crate::stop::{Ended, Stop, Wrong, expect, stubbornly};
 use bench_core::Change;
 use bpf_asm::{TextError, assemble, disassemble};
 use bpf_insn::{ImageError, Program, decode, encode};
-use bpf_verify::{VerifyError, judge};
+use bpf_verify::{VerifyError, check};
 use std::alloc::Global;
 
 /// Tries that the image that is decoded is that of this program.
@@ -86,7 +86,7 @@ pub fn verifies(alloc: Global) -> Result<Ended, Stop> {
 pub fn judges(alloc: Global) -> Result<Ended, Stop> {
     let four = four_nodes();
     let clock = clock(alloc, &four)?;
-    let (verdict, ended) = stubbornly(|| match judge(alloc, &clock, four.shape) {
+    let (verdict, ended) = stubbornly(|| match check(alloc, &clock, four.shape) {
         Err(VerifyError::Memory) => Err(Stop::Memory),
         verdict => Ok(verdict),
     })?;

@@ -1,7 +1,7 @@
 //! Calls on scenarios.
 
 use crate::stop::{Ended, Stop, Wrong, expect, stubbornly};
-use bench_engine::{MOST_WORKERS, Open, RunFault, RunRefusal, run_events};
+use bench_engine::{MAX_WORKERS, Open, RunFault, RunRefusal, run_events};
 use bench_scenario::{ScenarioFault, events, report, run_scenario};
 use clock_nodes::ClockRule;
 use node_env::Shape;
@@ -116,7 +116,7 @@ pub fn runs<R: Threads + Wait + Sync>(rt: &R, alloc: Global, workers: u32) -> Re
 
 /// What the run of a scenario writes. Nothing is written if it is refused.
 fn written<R: Threads + Wait + Sync>(rt: &R, alloc: Global, workers: u32) -> Result<Vec<u8>, Stop> {
-    let workers = workers.clamp(1, MOST_WORKERS);
+    let workers = workers.clamp(1, MAX_WORKERS);
     let mut reader = TEXT;
     let mut writer = Vec::with_capacity(alloc, REPORT.len())?;
     match run_scenario(rt, alloc, &mut reader, &mut writer, workers) {

@@ -15,7 +15,7 @@
 #include <sys/wait.h>
 #include <unistd.h>
 
-#define MOST_REQUESTS 4000
+#define MAX_REQUESTS 4000
 #define JUMP_BYTES 5
 
 static long *seen, refused;
@@ -88,7 +88,7 @@ __attribute__((constructor)) static void begin(void) {
   turn("calloc", our_calloc, &next_calloc);
   turn("aligned_alloc", our_aligned_alloc, &next_aligned_alloc);
   turn("posix_memalign", our_posix_memalign, &next_posix_memalign);
-  for (refused = 1; refused <= MOST_REQUESTS; refused++) {
+  for (refused = 1; refused <= MAX_REQUESTS; refused++) {
     *seen = 0;
     pid_t child = fork();
     if (child == 0) return;

@@ -1,6 +1,6 @@
 -- A bench's fields, as contracts see them, and what is true of them.
 use Rattle.std.specs.Prelude.{◌≡◌, ◌≤◌, All, map, drop, length, option_map, vec_capacity, IsSome}
-use Rattle.bench_core.specs.declared.limits.TheConstants.{MOST_ENTRIES}
+use Rattle.bench_core.specs.declared.limits.TheConstants.{MAX_ENTRIES}
 use Rattle.bench_core.specs.declared.bench.Bench.TheInside.{Inside}
 use Rattle.bench_core.specs.Setup.{IsSetup}
 use Rattle.bench_core.specs.inner.Nodes.{KnowsClock, KnowsFirsts}
@@ -32,5 +32,5 @@ pub record IsKept (b : Inside) : Type 0 where
   pub opened : b.opened ≡ openings (view_of b).history
   pub counted : IsSome b.coins → 1 ≤ b.opened
   pub staged : b.staged_from ≤ length b.history.items
-  pub limit : places_of (view_of b) ≤ MOST_ENTRIES
+  pub limit : places_of (view_of b) ≤ MAX_ENTRIES
   pub room : places_of (view_of b) ≤ vec_capacity b.history

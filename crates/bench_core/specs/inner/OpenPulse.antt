@@ -12,8 +12,8 @@ abbrev pub setup_in : OpenPulse → Setup
 setup_in p = setup_with p.shape p.rule p.clock.now
 
 -- the state of its bench, as far as runs depend on it
-abbrev pub state_in : OpenPulse → State
-state_in p = record {
+abbrev pub state_of_open : OpenPulse → State
+state_of_open p = record {
   nodes = p.nodes.now;
   mail = p.mail.now;
   closed = 0;

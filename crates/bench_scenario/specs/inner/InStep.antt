@@ -4,10 +4,10 @@ use Rattle.bench_core.specs.Told.{PulseTold}
 use Rattle.bench_scenario.specs.InStep.{EachWentOn, HaveOne}
 
 -- all have one clock in the first record, and went on from it to the second, if there is one
-abbrev pub Begins : ℕ → List PulseTold → Type 0
-Begins modulus [] = ⊥
-Begins modulus (r ∷ []) = (c : ℕ) × HaveOne modulus r c
-Begins modulus (r ∷ after ∷ rest) = ((c : ℕ) × HaveOne modulus r c) × EachWentOn modulus r after
+abbrev pub BeginsInStep : ℕ → List PulseTold → Type 0
+BeginsInStep modulus [] = ⊥
+BeginsInStep modulus (r ∷ []) = (c : ℕ) × HaveOne modulus r c
+BeginsInStep modulus (r ∷ after ∷ rest) = ((c : ℕ) × HaveOne modulus r c) × EachWentOn modulus r after
 
 -- as InStepFrom, but for that one record alone stays too
 pub record StaysFrom (modulus : ℕ) (rs : List PulseTold) : Type 0 where

@@ -20,5 +20,5 @@ announced_by loads zero = 0
 announced_by loads (suc n) = announced_by loads n + announced_at loads n
 
 -- one, if the pulses are short
-abbrev pub paying_workers : Scenario → ℕ → ℕ
-paying_workers s workers = if nat_lt (announced_by s.loads.items s.nodes) PAYING_STEPS then 1 else workers
+abbrev pub useful_workers : Scenario → ℕ → ℕ
+useful_workers s workers = if nat_lt (announced_by s.loads.items s.nodes) PAYING_STEPS then 1 else workers

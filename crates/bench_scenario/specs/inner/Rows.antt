@@ -6,8 +6,8 @@ use Rattle.scenario_text.specs.declared.scenario.Scenario.{Scenario}
 use Rattle.bench_scenario.specs.Events.{changes_at}
 
 -- what is in the rows
-abbrev pub told : {X : Type 0} → (X → List EventCode) → List X → List (List Event)
-told items rows = map (λ row. map event_of (items row)) rows
+abbrev pub told_events : {X : Type 0} → (X → List EventCode) → List X → List (List Event)
+told_events items rows = map (λ row. map event_of (items row)) rows
 
 -- events in one pulse, and none in others
 abbrev pub of_pulse : ℕ → List Event → ℕ → List Event

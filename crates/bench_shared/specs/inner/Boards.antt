@@ -5,7 +5,7 @@ use lib.ListN.{get_elem?}
 use Rattle.atomic_table.specs.Table.{State, Me, Step}
 use Rattle.bench_core.specs.Told.{Row, IsRow}
 use Rattle.bench_shared.specs.Rows.{InOrder, StartsWith}
-use Rattle.bench_shared.specs.inner.Rows.{word_of, word_at}
+use Rattle.bench_shared.specs.inner.Rows.{row_word, row_word_at}
 use Rattle.bench_shared.specs.declared.rule.View.{View}
 
 -- the engine's view, with the posted list
@@ -30,17 +30,17 @@ pub record Fits (seat : ℕ) (posted : List Row) (by : ℕ) (v : View) : Type 0 
 abbrev pub Kept : State (Unit {0}) View → Type 0
 Kept s =
     (posted : List Row) × (seat : ℕ)
-    × (s.words ≡ word_at posted ∷ []) × InOrder posted
+    × (s.words ≡ row_word_at posted ∷ []) × InOrder posted
     × ((by : ℕ) (v : View) → get_elem? s.views by ≡ some v → Fits seat posted by v)
 
 -- the row that is stored is put last
 abbrev pub Posts : Step (Unit {0}) → Me (Unit {0}) View → ℕ → Me (Unit {0}) View → Type 0
-Posts s v n w = (r : Row) × IsRow r × (word_of r ≡ n) × (w ≡ (engine (v.0.rows ++ r ∷ []), v.1))
+Posts s v n w = (r : Row) × IsRow r × (row_word r ≡ n) × (w ≡ (engine (v.0.rows ++ r ∷ []), v.1))
 
 -- a longer list may be seen, whose last row was found
 abbrev pub Looks : Step (Unit {0}) → Me (Unit {0}) View → ℕ → Me (Unit {0}) View → Type 0
 Looks s v n w =
-    (rows : List Row) × (w ≡ (watcher rows, v.1)) × (n ≡ word_at rows) × InOrder rows × StartsWith rows v.0.rows
+    (rows : List Row) × (w ≡ (watcher rows, v.1)) × (n ≡ row_word_at rows) × InOrder rows × StartsWith rows v.0.rows
 
 -- what was heard is a beginning of what was posted
 abbrev pub Compares : Step (Unit {0}) → Me (Unit {0}) View → ℕ → Me (Unit {0}) View → Type 0

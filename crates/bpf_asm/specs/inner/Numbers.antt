@@ -12,10 +12,10 @@ IsMagnitude n (Fits m) = n ≡ m
 IsMagnitude n TooGreat = 2 ^ 64 ≤ n
 
 -- the code has a number exactly if there is one, and that one
-abbrev pub Counts : Option ℕ → Option Magnitude → Type 0
-Counts None None = Unit {0}
-Counts (Some n) (Some m) = IsMagnitude n m
-Counts _ _ = ⊥
+abbrev pub CountsTo : Option ℕ → Option Magnitude → Type 0
+CountsTo None None = Unit {0}
+CountsTo (Some n) (Some m) = IsMagnitude n m
+CountsTo _ _ = ⊥
 
 -- the same of a number with its sign
 abbrev pub CountsSigned : Option Written → Option Number → Type 0

@@ -26,6 +26,6 @@ operands_in (code_parts.Three a b c) = three a.now b.now c.now
 operands_in code_parts.More = more
 
 -- the distance is within a field of this greatest number
-abbrev pub IsWithin : ℕ → code.Target → Type 0
-IsWithin most (code.TheVariants.Distance off) = (neg_ℤ (pos (most + 1)) ≤ℤ off) × (off ≤ℤ pos most)
-IsWithin most (code.TheVariants.Label name) = Unit {0}
+abbrev pub IsTargetWithin : ℕ → code.Target → Type 0
+IsTargetWithin most (code.TheVariants.Distance off) = (neg_ℤ (pos (most + 1)) ≤ℤ off) × (off ≤ℤ pos most)
+IsTargetWithin most (code.TheVariants.Label name) = Unit {0}

@@ -27,10 +27,10 @@ abbrev pub ReadsCondition : {E : Type 0} → Option (Reg × (Operand × Target))
 ReadsCondition wanted (Ok x) = wanted ≡ Some (x.0, (x.1, target_in x.2))
 ReadsCondition wanted (Err error) = wanted ≡ None
 
-abbrev pub written_in : {E : Type 0} → Result (Option code_source.Source) E → Option (Option Source)
-written_in (Ok None) = Some None
-written_in (Ok (Some source)) = Some (Some (source_in source))
-written_in (Err error) = None
+abbrev pub source_written : {E : Type 0} → Result (Option code_source.Source) E → Option (Option Source)
+source_written (Ok None) = Some None
+source_written (Ok (Some source)) = Some (Some (source_in source))
+source_written (Err error) = None
 
 abbrev pub line_in : code_line.Line → Line
-line_in l = record { name = name_in l.name; source = written_in l.source }
+line_in l = record { name = name_in l.name; source = source_written l.source }

@@ -44,8 +44,8 @@ found fault (Some x) = Ok x
 found fault None = Err fault
 
 -- the number of the four bytes from here on
-abbrev pub number_at : List ℕ → ℕ → ℕ
-number_at bytes i =
+abbrev pub number_read_at : List ℕ → ℕ → ℕ
+number_read_at bytes i =
     from_le_bytes w32
     (slice_index bytes i ∷ slice_index bytes (i + 1) ∷ slice_index bytes (i + 2) ∷ slice_index bytes (i + 3) ∷ [])
 
@@ -57,7 +57,7 @@ fields_at opcode dst src bytes =
       dst = dst;
       src = src;
       offset = cast_signed w16 (from_le_bytes w16 (slice_index bytes 2 ∷ slice_index bytes 3 ∷ []));
-      imm = cast_signed w32 (number_at bytes 4);
+      imm = cast_signed w32 (number_read_at bytes 4);
     }
 
 -- the fields after the opcode
@@ -71,8 +71,8 @@ slot_at opcode bytes = do
 abbrev pub high_at : Bool → List ℕ → Result ℕ SlotFault
 high_at false bytes = Ok 0
 high_at true bytes =
-    if number_at bytes 8 == 0
-    then Ok (number_at bytes 12)
+    if number_read_at bytes 8 == 0
+    then Ok (number_read_at bytes 12)
     else Err NonZeroField
 
 -- the operation of a code where the offset is 0

@@ -10,7 +10,7 @@ use Rattle.bpf_insn.specs.Encoding.{slots_taken}
 use Rattle.bpf_verify.specs.declared.rule.Rule.{Rule}
 use Rattle.bpf_verify.specs.Refusals.{IsRefusedAt}
 use Rattle.bpf_verify.specs.declared.walk.Front.{Front}
-use Rattle.bpf_verify.specs.declared.known.Known.{Known}
+use Rattle.bpf_verify.specs.declared.abstract_state.AbstractState.{AbstractState as KeptState}
 use Rattle.bpf_verify.specs.States.{AbstractState, IsProper, joined_state, entry_state}
 use Rattle.bpf_verify.specs.Rules.{KeepsRules, lowest_broken}
 use Rattle.bpf_verify.specs.Outcomes.{outcome}
@@ -119,11 +119,11 @@ IsStop program slot = BeginsAt program slot ⊎ (slot ≡ slots_of program)
 abbrev pub come_of : Front → Option AbstractState
 come_of front = if front.reached then Some (abstract_of front.known) else None
 
-abbrev pub row_state : {A : Type 0} → Option (Box Known A) → Option AbstractState
+abbrev pub row_state : {A : Type 0} → Option (Box KeptState A) → Option AbstractState
 row_state None = None
 row_state (Some row) = Some (abstract_of row.value)
 
-abbrev pub table_of : {A : Type 0} → List (Option (Box Known A)) → Table
+abbrev pub table_of : {A : Type 0} → List (Option (Box KeptState A)) → Table
 table_of rows slot = row_state (slice_index_or rows slot None)
 
 -- ---- one step of the walk that keeps its rows

@@ -1,17 +1,17 @@
 -- The longest spans of rising numbers, one number after another.
 use Rattle.std.specs.Prelude.{◌⊎◌, ◌↔◌, ◌+◌, ◌==◌, ◌<◌, ◌≤◌, if◌then◌else◌, ℕ, List, [], ◌∷◌, All, Any, Contains}
-use Rattle.clockbed.specs.Lists.{IsPart, IsWithin, Names}
+use Rattle.clockbed.specs.Lists.{IsPart, IsInSpan, Names}
 
 -- spans with one more number, which is greater than all of theirs: it joins the last one, or it is one of its own
-abbrev pub with_number : List (ℕ × ℕ) → ℕ → List (ℕ × ℕ)
-with_number [] n = (n, n) ∷ []
-with_number (span ∷ []) n =
+abbrev pub with_span_number : List (ℕ × ℕ) → ℕ → List (ℕ × ℕ)
+with_span_number [] n = (n, n) ∷ []
+with_span_number (span ∷ []) n =
     if span.1 + 1 == n then (span.0, n) ∷ [] else span ∷ (n, n) ∷ []
-with_number (span ∷ next ∷ more) n = span ∷ with_number (next ∷ more) n
+with_span_number (span ∷ next ∷ more) n = span ∷ with_span_number (next ∷ more) n
 
 -- the new numbers are the old ones and those of a span
 abbrev pub AddsSpan : List ℕ → List ℕ → ℕ × ℕ → Type 0
-AddsSpan old new span = (n : ℕ) → Contains new n ↔ (Contains old n ⊎ IsWithin n span)
+AddsSpan old new span = (n : ℕ) → Contains new n ↔ (Contains old n ⊎ IsInSpan n span)
 
 -- the new numbers are the old ones and those that a part names
 abbrev pub AddsPart : List ℕ → List ℕ → List ℕ → Type 0
@@ -28,4 +28,4 @@ pub record AreNumbersOf (limit : ℕ) (parts : List (List ℕ)) (numbers : List 
 
 -- the numbers of the new spans are those of the old ones and those of a span
 abbrev pub JoinsSpan : List (ℕ × ℕ) → List (ℕ × ℕ) → ℕ × ℕ → Type 0
-JoinsSpan old new span = (n : ℕ) → Any (IsWithin n) new ↔ (Any (IsWithin n) old ⊎ IsWithin n span)
+JoinsSpan old new span = (n : ℕ) → Any (IsInSpan n) new ↔ (Any (IsInSpan n) old ⊎ IsInSpan n span)

@@ -27,9 +27,9 @@ answer_in fuel (Refused unread) = answers.Refused unread
 answer_in fuel (Ran outcome left) = answers.Ran outcome fuel
 
 -- what its run leaves: nothing where there was none
-abbrev pub left_of : Reply → Left
-left_of (Refused unread) = record { memory = []; outbox = record { nodes = 0; sent = empty } }
-left_of (Ran outcome left) = left_in left
+abbrev pub left_by_reply : Reply → Left
+left_by_reply (Refused unread) = record { memory = []; outbox = record { nodes = 0; sent = empty } }
+left_by_reply (Ran outcome left) = left_in left
 
 -- a reply that is the run of the program in the case that is asked for
 abbrev pub RunsCase : ExecOptions → List Insn → Reply → Type 0
@@ -43,5 +43,6 @@ RunsCase asked program (Ran outcome left) =
 abbrev pub LeavesRunOf : Bool → Option (List ℕ) → Option (List ℕ) → ExecOptions → List Insn → Result Ending Fault → Type 0
 LeavesRunOf true old new asked program ended = LeavesSteps old new asked program ended
 LeavesRunOf false old new asked program ended =
-    LeavesAny {A = Reply} (RunsCase asked program) (λ reply. told_text asked (answer_in asked.fuel reply) (left_of reply))
+    LeavesAny {A = Reply} (RunsCase asked program)
+    (λ reply. told_text asked (answer_in asked.fuel reply) (left_by_reply reply))
     (λ reply. ending_of (answer_in asked.fuel reply)) old new ended

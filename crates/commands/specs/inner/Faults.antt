@@ -5,7 +5,7 @@ use Rattle.bench_workers.specs.declared.event.RunRefusal.{RunRefusal}
 use Rattle.bench_workers.specs.declared.event.RunRefusal.TheVariants as refusals
 use Rattle.bench_stress.specs.declared.stop.Stop.{Stop}
 use Rattle.bench_stress.specs.declared.stop.Stop.TheVariants as stops
-use Rattle.stream_io.specs.Parts.{MOST_TOLD}
+use Rattle.stream_io.specs.Parts.{MAX_TOLD}
 use Rattle.commands.specs.declared.fault.Fault.{Fault}
 use Rattle.commands.specs.declared.fault.Fault.TheVariants.{Read, Write, Memory, Thread, CommandLine}
 
@@ -38,7 +38,7 @@ stop_fault stops.Mismatch = None
 -- a fault of a text that stands behind so many bytes
 abbrev pub fault_behind : ℕ → Fault → Fault
 fault_behind before Read = Read
-fault_behind before (Write after) = Write (min (before + after) MOST_TOLD)
+fault_behind before (Write after) = Write (min (before + after) MAX_TOLD)
 fault_behind before Memory = Memory
 fault_behind before Thread = Thread
 fault_behind before (CommandLine text) = CommandLine text

@@ -4,9 +4,10 @@ use Rattle.commands.specs.declared.input.ProgramRead.{ProgramRead}
 use Rattle.commands.specs.declared.input.Rejected.{Rejected}
 use Rattle.commands.specs.declared.request.ShapeOptions.{ShapeOptions}
 use Rattle.commands.specs.Image.{HasShape}
-use Rattle.commands.specs.Input.{IsProgramOf, IsUnread}
+use Rattle.commands.specs.Input.{IsProgramOfInput, IsUnread}
 
 -- what is read of these bytes under these options: a program, or why there is none
 abbrev pub ReadsInput : ShapeOptions → Bool → List ℕ → Result ProgramRead Rejected → Type 0
-ReadsInput asked text bytes (Ok read) = HasShape asked × (read.bytes.items ≡ bytes) × IsProgramOf text bytes read.program
+ReadsInput asked text bytes (Ok read) =
+    HasShape asked × (read.bytes.items ≡ bytes) × IsProgramOfInput text bytes read.program
 ReadsInput asked text bytes (Err rejected) = IsUnread asked text bytes rejected.why

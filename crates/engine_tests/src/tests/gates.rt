@@ -1,5 +1,5 @@
 //! Gates that count, that shut, and in which workers meet.
-use bench_engine::{Gate, MOST_WORKERS};
+use bench_engine::{Gate, MAX_WORKERS};
 use crossbeam_utils::CachePadded;
 use std::sync::atomic::{AtomicU32, Ordering};
 
@@ -14,7 +14,7 @@ fn counter() -> CachePadded<AtomicU32> {
 #[derive(Drop)]
 pub struct Counting {
     all: CachePadded<AtomicU32>,
-    each: [CachePadded<AtomicU32>; MOST_WORKERS as usize],
+    each: [CachePadded<AtomicU32>; MAX_WORKERS as usize],
     most: u32,
 }
 

@@ -1,6 +1,6 @@
 //! What pulses of a shared bench tell, beside a run of the same events.
 ghost use Rattle.std.specs.Prelude.{◌≡◌, ◌+◌, ◌≤◌, None};
-ghost use Rattle.bench_workers.specs.declared.tasks.TheConstants.{MOST_WORKERS};
+ghost use Rattle.bench_workers.specs.declared.tasks.TheConstants.{MAX_WORKERS};
 
 use super::gates::Counting;
 use super::shared::load_clocks;
@@ -27,7 +27,7 @@ struct Told {
 /// How often each worker entered.
 fn entries_of(alloc: Global, gate: &Counting) -> Result<Vec<u32>, Fail> {
     let mut entered = Vec::new(alloc);
-    for worker in 0..MOST_WORKERS {
+    for worker in 0..MAX_WORKERS {
         entered.push(gate.entered_by(worker))?;
     }
     Ok(entered)
@@ -43,7 +43,7 @@ fn run_pulses<B: Ledger, C: Ledger, R: Threads + Wait + Sync>(
     workers: u32,
 ) -> Result<Vec<Told>, Fail>
     requires some { 1 ≤ workers }
-    requires few { workers ≤ MOST_WORKERS }
+    requires few { workers ≤ MAX_WORKERS }
     requires board { engine.old.board ≡ board.now }
     requires paid { engine.old.owed ≡ None }
 {
@@ -73,7 +73,7 @@ fn told_pulses<B: Ledger, C: Ledger, R: Threads + Wait + Sync>(
     requires closes { (closes.name ≡ C.name) × (closes.parts ≡ C.parts) × (closes.parts ≡ 1) }
     requires nodes { four.now.rule.nodes ≡ four.now.shape.nodes }
     requires some { 1 ≤ workers }
-    requires few { workers ≤ MOST_WORKERS }
+    requires few { workers ≤ MAX_WORKERS }
 {
     let (shared, board, mut engine, mut loaders, _watchers) = SharedBench::<B, C>::new(
         alloc, entries, closes, four.shape, four.rule, 1, 0,
@@ -88,7 +88,7 @@ fn told_pulses<B: Ledger, C: Ledger, R: Threads + Wait + Sync>(
 fn pulses_tell_what_a_run_tells(rt: HostRuntime) -> Result<(), Fail> {
     let alloc = rt.alloc();
     let four = four_nodes()?;
-    for workers in 1..=MOST_WORKERS {
+    for workers in 1..=MAX_WORKERS {
         let (entries, closes) = (Blank::new(2), Blank::new(1));
         let all = told_pulses::<Brand, Brand, HostRuntime>(
             &rt, alloc, entries, closes, &four, workers,
@@ -104,7 +104,7 @@ fn pulses_tell_what_a_run_tells(rt: HostRuntime) -> Result<(), Fail> {
             assert_eq!(rt; told.record.settled.as_slice(), record.settled.as_slice());
             assert_eq!(rt; told.record.steps, record.steps);
             assert_eq!(rt; told.record.agree, record.agree);
-            assert_eq!(rt; told.entered.len(), MOST_WORKERS as usize);
+            assert_eq!(rt; told.entered.len(), MAX_WORKERS as usize);
             for (worker, count) in told.entered.iter().enumerate() {
                 let is_there = worker < workers as usize;
                 let times = if is_there { record.row.pulse } else { 0 };

@@ -11,6 +11,6 @@ somes_front (None ∷ slots) = []
 somes_front (Some x ∷ slots) = x ∷ somes_front slots
 
 -- this many, each what the run with its key comes to, or nothing
-abbrev pub AreSlots : Scenario → ℕ → ℕ → List (Option RunSummary) → Type 0
-AreSlots s first count slots = (length slots ≡ count)
+abbrev pub AreRunSlots : Scenario → ℕ → ℕ → List (Option RunSummary) → Type 0
+AreRunSlots s first count slots = (length slots ≡ count)
     × ((i : ℕ) (m : RunSummary) → slice_get slots i ≡ Some (Some m) → IsOfKey s (first + i) m)

@@ -4,7 +4,7 @@ use Rattle.std.specs.Ordering.{nat_cmp}
 use Rattle.std.specs.FinMap.{FinMap}
 use Rattle.node_env.specs.Env.{IsSendings}
 use Rattle.node_env.specs.Slots.{map_of}
-use Rattle.node_env.specs.inner.Slots.{IsWord, numbers_of}
+use Rattle.node_env.specs.inner.Slots.{IsSlotWord, numbers_of}
 use Rattle.node_env.specs.declared.env.Inbox.{Inbox}
 use Rattle.node_env.specs.declared.env.Inbox.TheVariants.{Slots, Words}
 use Rattle.node_env.specs.declared.shape.TheConstants.{MAX_NODES}
@@ -14,12 +14,12 @@ pub record IsSquare (nodes : ℕ) (words : List ℕ) : Type 0 where
   pub some : 1 ≤ nodes
   pub few : nodes ≤ MAX_NODES
   pub whole : length words ≡ nodes * nodes
-  pub fit : All IsWord words
+  pub fit : All IsSlotWord words
 
 -- a word for each node that can be sent to
 pub record IsRow (words : List ℕ) : Type 0 where
   pub sendings : IsSendings (record { nodes = length words; sent = numbers_of words })
-  pub fit : All IsWord words
+  pub fit : All IsSlotWord words
 
 -- the messages in an inbox, by sender
 abbrev pub mail_in : Inbox → FinMap nat_cmp ℕ
@@ -33,4 +33,4 @@ slot_count (Words words) = length words.items
 -- if it has words, each is one that represents a slot
 abbrev pub IsFit : Inbox → Type 0
 IsFit (Slots slots) = Unit {0}
-IsFit (Words words) = All IsWord words.items
+IsFit (Words words) = All IsSlotWord words.items

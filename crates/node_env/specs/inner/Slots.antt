@@ -7,25 +7,25 @@ use Rattle.node_env.specs.declared.word.TheConstants.{EMPTY}
 use Rattle.node_env.specs.Slots.{map_of}
 
 -- a number of 32 bits, or the word of an empty slot
-abbrev pub IsWord : ℕ → Type 0
-IsWord word = word ≤ EMPTY
+abbrev pub IsSlotWord : ℕ → Type 0
+IsSlotWord word = word ≤ EMPTY
 
 -- the slot that a word represents: its number if that has 32 bits
-abbrev pub slot_of : ℕ → Option ℕ
-slot_of word = if nat_lt word EMPTY then Some word else None
+abbrev pub word_slot : ℕ → Option ℕ
+word_slot word = if nat_lt word EMPTY then Some word else None
 
 -- the numbers in a row of words, by place
 abbrev pub numbers_of : List ℕ → FinMap nat_cmp ℕ
-numbers_of words = map_of (map slot_of words)
+numbers_of words = map_of (map word_slot words)
 
 -- what a sender sent to a receiver: the words to a receiver are side by side, by sender
-abbrev pub word_at : ℕ → List ℕ → ℕ → ℕ → ℕ
-word_at nodes words sender receiver = slice_index_or words (receiver * nodes + sender) EMPTY
+abbrev pub slot_word_at : ℕ → List ℕ → ℕ → ℕ → ℕ
+slot_word_at nodes words sender receiver = slice_index_or words (receiver * nodes + sender) EMPTY
 
 -- what a sender sent, by receiver
-abbrev pub row_of : ℕ → List ℕ → ℕ → FinMap nat_cmp ℕ
-row_of nodes words sender = numbers_of (map (word_at nodes words sender) (range_with_len 0 nodes))
+abbrev pub words_row : ℕ → List ℕ → ℕ → FinMap nat_cmp ℕ
+words_row nodes words sender = numbers_of (map (slot_word_at nodes words sender) (range_with_len 0 nodes))
 
 -- a row for each sender
 unfoldable pub rows_of : ℕ → List ℕ → List (FinMap nat_cmp ℕ)
-rows_of nodes words = map (row_of nodes words) (range_with_len 0 nodes)
+rows_of nodes words = map (words_row nodes words) (range_with_len 0 nodes)

@@ -16,7 +16,7 @@ use Rattle.run_lines.specs.declared.fault.LinesFault.{LinesFault}
 use Rattle.run_lines.specs.declared.fault.LinesFault.TheVariants as faults
 use Rattle.run_lines.specs.declared.writer.LineWriter.{LineWriter}
 use Rattle.run_lines.specs.Data.{judged_seen}
-use Rattle.run_lines.specs.Lines.{last_line, line_within}
+use Rattle.run_lines.specs.Lines.{summary_line, line_within}
 
 -- ---- the watcher
 
@@ -49,10 +49,11 @@ IsReason stopped (watched.Stopped event) fault = IfSome stopped (λ why. fault �
 -- ---- the end
 
 -- the last line is written, or isn't
-abbrev pub IsEnd : Option (List ℕ) → Option (List ℕ) → Scenario → ℕ → List PulseTold → Result Bool PartFault → Type 0
-IsEnd old new s before rs (Ok agrees) =
+abbrev pub IsEndOfLines : Option (List ℕ) → Option (List ℕ) → Scenario → ℕ → List PulseTold → Result Bool PartFault
+    → Type 0
+IsEndOfLines old new s before rs (Ok agrees) =
     (agrees ≡ all_agree (frame_of s) (is_some s.clock) rs)
     × ((m : RunSummary) × (after : ℕ) × IsSummary (frame_of s) (is_some s.clock) rs m
-    × Adds old new before (last_line m) after)
-IsEnd old new s before rs (Err fault) =
-    (m : RunSummary) × IsSummary (frame_of s) (is_some s.clock) rs m × IsPartFault old new before (last_line m) fault
+    × Adds old new before (summary_line m) after)
+IsEndOfLines old new s before rs (Err fault) =
+    (m : RunSummary) × IsSummary (frame_of s) (is_some s.clock) rs m × IsPartFault old new before (summary_line m) fault

@@ -11,10 +11,10 @@ use Rattle.run_trace.specs.declared.line.Held.{Held}
 use Rattle.run_trace.specs.declared.line.Line.{Line}
 use Rattle.run_trace.specs.declared.line.Reading.{Reading}
 use Rattle.run_trace.specs.declared.line.Reading.TheVariants as readings
-use Rattle.run_trace.specs.Lines.{destination, register_text, remark, told_register}
+use Rattle.run_trace.specs.Lines.{destination, register_change, step_remark, told_register}
 
 abbrev pub held_in : Held → List ℕ
-held_in h = register_text h.register h.word
+held_in h = register_change h.register h.word
 
 abbrev pub reading_texts : Reading → List (List ℕ)
 reading_texts readings.Nothing = []
@@ -26,7 +26,7 @@ wrote_in None = None
 wrote_in (Some h) = Some (held_in h)
 
 abbrev pub remark_in : Reading → Option Held → List ℕ
-remark_in reading wrote = remark (reading_texts reading) (wrote_in wrote)
+remark_in reading wrote = step_remark (reading_texts reading) (wrote_in wrote)
 
 abbrev pub did_in : Did → List ℕ
 did_in d = codes " " ++ (canonical_line d.insn ++ remark_in d.reading d.wrote)
@@ -35,8 +35,8 @@ abbrev pub after_slot_in : Option Did → List ℕ
 after_slot_in None = []
 after_slot_in (Some d) = did_in d
 
-abbrev pub line_in : Line → List ℕ
-line_in l = codes "step " ++ (decimal l.number ++ (codes " slot " ++ (decimal l.slot ++ after_slot_in l.did)))
+abbrev pub step_line_in : Line → List ℕ
+step_line_in l = codes "step " ++ (decimal l.number ++ (codes " slot " ++ (decimal l.slot ++ after_slot_in l.did)))
 
 -- the register that an instruction wrote whose step came to this
 abbrev pub wrote_by : Turn → Frame → Insn → Option (List ℕ)

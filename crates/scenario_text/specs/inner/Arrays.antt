@@ -36,12 +36,12 @@ abbrev pub count_in : Data → ℕ
 count_in (table load) = nodes_count (get_member (codes "nodes") load)
 count_in _ = 1
 
-abbrev pub counted : Items → ℕ
-counted no_items = 0
-counted (item value values) = count_in value + counted values
+abbrev pub item_count : Items → ℕ
+item_count no_items = 0
+item_count (item value values) = count_in value + item_count values
 
 abbrev pub loads_counted : Option Data → ℕ
-loads_counted (Some (array items)) = counted items
+loads_counted (Some (array items)) = item_count items
 loads_counted _ = 0
 
 abbrev pub changes_counted : Members → ℕ

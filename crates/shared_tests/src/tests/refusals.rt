@@ -2,7 +2,7 @@
 ghost use Rattle.std.specs.Prelude.{◌≡◌, ◌+◌, None, OnOk};
 
 use crate::tests::benches::{ONES, clock, load, open, plan};
-use bench_core::{Change, CloseError, MOST_ENTRIES, OpenError, StageError};
+use bench_core::{Change, CloseError, MAX_ENTRIES, OpenError, StageError};
 use bench_shared::{EnginePass, LoaderPass, SharedBench};
 use bpf_verify::VerifiedProgram;
 use clock_nodes::ClockRule;
@@ -237,7 +237,7 @@ fn fill<B: Ledger, C: Ledger, R: Wait>(
     requires { engine.old.owed ≡ None }
     ensures { OnOk result (engine.new.owed ≡ None) }
 {
-    unload_often(rt, alloc, shared, pass, MOST_ENTRIES - 1)?;
+    unload_often(rt, alloc, shared, pass, MAX_ENTRIES - 1)?;
     let opening = refused_opening(rt, alloc, shared, engine, &ONES)?;
     unload_often(rt, alloc, shared, pass, 1)?;
     let change = refused(shared.unload(rt, alloc, pass, 0))?;
@@ -304,6 +304,6 @@ fn full_history_is_refused(rt: HostRuntime) -> Result<(), Fail> {
         Blank::new(1),
     )?;
     assert_eq!(rt; refusals, (OpenError::HistoryFull, StageError::HistoryFull));
-    assert_eq!(rt; entries, MOST_ENTRIES);
+    assert_eq!(rt; entries, MAX_ENTRIES);
     Ok(())
 }

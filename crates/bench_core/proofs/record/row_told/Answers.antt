@@ -2,7 +2,7 @@ use Rattle.std.proofs.Common.{◌≡◌, ◌<◌, ◌+◌, ◌∷◌, ◌==◌, 
 use Rattle.std.proofs.lemmas.Bool.{eq-eqb, ne_eqb}
 use Rattle.std.proofs.lemmas.List.Elements.{All-head}
 use Rattle.std.proofs.lemmas.List.{drop_more, drop_all}
-use Rattle.clock_nodes.specs.declared.rule.TheConstants.{MOST_MODULUS}
+use Rattle.clock_nodes.specs.declared.rule.TheConstants.{MAX_MODULUS}
 use Rattle.bench_core.specs.State.{Node}
 use Rattle.bench_core.specs.Settled.{clocks_where, value_of}
 use Rattle.bench_core.specs.Told.{Row, common_of}
@@ -62,7 +62,7 @@ loop-i-preserved c =
             few = omega (arith, w.count-is, inv.few);
             few_zeros = omega (arith, w.zeros-is, inv.few_zeros);
             range = rw is (joined_range m (value_of c.args.modulus Y.memory)
-                (All-head (λ (x : ℕ). x < MOST_MODULUS) (value_of c.args.modulus Y.memory) cl here.small));
+                (All-head (λ (x : ℕ). x < MAX_MODULUS) (value_of c.args.modulus Y.memory) cl here.small));
           }
       | else-settled-i w ↦
           let t = tally_no flags cl m z s C Z S (at false w.if-settled-i.false) in

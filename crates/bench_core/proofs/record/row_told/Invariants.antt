@@ -1,5 +1,5 @@
 use Rattle.std.proofs.Common.{◌≡◌, ◌≤◌, ◌<◌, ◌⊎◌, ◌==◌, drop, count_by}
-use Rattle.clock_nodes.specs.declared.rule.TheConstants.{MOST_MODULUS}
+use Rattle.clock_nodes.specs.declared.rule.TheConstants.{MAX_MODULUS}
 use Rattle.bench_core.specs.declared.limits.TheConstants.{CLOCKS_DIFFER}
 use Rattle.bench_core.specs.Settled.{clocks_where}
 use Rattle.bench_core.specs.inner.Told.{joined_all}
@@ -16,5 +16,5 @@ invariant-loop-i l =
           (count_by (λ c. c == 0) all) (count_by (λ x. x) l.settled);
       few : l.count ≤ l.i;
       few_zeros : l.zeros ≤ l.i;
-      range : (l.common < MOST_MODULUS) ⊎ (l.common ≡ CLOCKS_DIFFER);
+      range : (l.common < MAX_MODULUS) ⊎ (l.common ≡ CLOCKS_DIFFER);
     }

@@ -4,7 +4,7 @@ use Rattle.bench_core.specs.Tasks.{Done}
 use Rattle.bench_core.specs.declared.found.Found.{Found}
 use Rattle.bench_core.specs.declared.found.Found.TheVariants.{Missing}
 use Rattle.bench_core.specs.inner.Found.{found_at}
-use Rattle.bench_core.specs.inner.OpenPulse.{setup_in, state_in}
+use Rattle.bench_core.specs.inner.OpenPulse.{setup_in, state_of_open}
 use Rattle.bench_core.specs.inner.Served.{IsServed}
 use Rattle.bench_core.proofs.Served.{handed_ran, served_more}
 use Rattle.bench_core.proofs.runs.run_nodes.Goals as goal
@@ -20,7 +20,7 @@ loop-node-preserved c =
     let after = c.serve.new.self.dones.items in
     let more = c.in_ok-found.ensures.more in
     let lt : n < length found = omega (arith, c.loop-node-test.true, c.nodes-count.ensures.value, c.requires.room, c.loop-node.auto.found) in
-    let Serves = λ (ds : List Done) (i : ℕ) (g : Found). IsServed (setup_in p) (state_in p) p.coins.now ds i g in
+    let Serves = λ (ds : List Done) (i : ℕ) (g : Found). IsServed (setup_in p) (state_of_open p) p.coins.now ds i g in
     record {
       each = λ i within.
           elim (cases_eq i n) [
@@ -34,7 +34,7 @@ loop-node-preserved c =
                 get_or-set_other found n i f Missing ne in
                 subst (Serves after i) (sym other)
                 (subst (λ (ds : List Done). Serves ds i (found_at found i)) (sym more.1)
-                (served_more (setup_in p) (state_in p) p.coins.now before more.0 i (found_at found i)
+                (served_more (setup_in p) (state_of_open p) p.coins.now before more.0 i (found_at found i)
                 (inv.each i (omega arith))))
           ];
       runs = c.in_ok-found.ensures.runs;
@@ -45,7 +45,7 @@ returns c =
     let p = c.args.pulse.now in
     let inv = c.loop-node.invariant in
     let dones = c.loop-node.runs.dones.items in
-    let ran = handed_ran (setup_in p) (state_in p) p.coins.now p.opening dones (λ k d lt. (inv.runs k d lt).0)
+    let ran = handed_ran (setup_in p) (state_of_open p) p.coins.now p.opening dones (λ k d lt. (inv.runs k d lt).0)
     (λ k d lt. (inv.runs k d lt).1) in
     record {
       each = λ i lt. inv.each i (omega (arith, lt, c.loop-node-test.false, c.nodes-count.ensures.value));

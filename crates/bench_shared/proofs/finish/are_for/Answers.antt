@@ -2,7 +2,7 @@ use Rattle.std.proofs.Common.{◌≡◌, ◌<◌, sym, ap, ◌∙◌, arith, tak
 use Rattle.std.proofs.lemmas.List.{take_all}
 use Rattle.bench_shared.proofs.Placing.{entry_taken, entry_passed, receipt_taken, same_actor-told}
 use Rattle.bench_shared.proofs.finish.are_for.Goals as goal
-use Rattle.bench_shared.specs.Receipts.{all_placed}
+use Rattle.bench_shared.specs.Receipts.{placed_receipts}
 use Rattle.bench_shared.specs.Ends.{placed_by}
 use Rattle.bench_core.specs.Views.{entry_of}
 use Rattle.std.specs.Prelude.{map, ◌++◌, [], ◌∷◌}
@@ -25,14 +25,14 @@ loop-place-preserved c =
             same = entry_taken history place c.index-history-place.result c.args.actor c.loop-place-test.true
                 c.index-history-place.is (by ∙ w.if-is_by.true)
                 ∙ ap (λ l. l ++ (place, entry_of c.index-history-place.result) ∷ []) i.same ∙ sym taken
-                ∙ ap (λ k. all_placed (take k c.args.receipts.now)) (sym w.count-is);
+                ∙ ap (λ k. placed_receipts (take k c.args.receipts.now)) (sym w.count-is);
           }
       | else-is_by w ↦
           record {
             within = omega (arith, w.count-is, i.within);
             same = entry_passed history place c.index-history-place.result c.args.actor c.loop-place-test.true
                 c.index-history-place.is (by ∙ w.if-is_by.false) ∙ i.same
-                ∙ ap (λ k. all_placed (take k c.args.receipts.now)) (sym w.count-is);
+                ∙ ap (λ k. placed_receipts (take k c.args.receipts.now)) (sym w.count-is);
           }
     ]
 
@@ -43,4 +43,4 @@ returns c = λ all.
     let count : c.loop-place.count ≡ length c.args.receipts.now = search (rules, tests) in
     ap (λ l. placed_by c.args.actor (map entry_of l))
     (sym (take_all c.loop-place.place history (omega (arith, c.loop-place-test.false)))) ∙ i.same
-    ∙ ap all_placed (take_all c.loop-place.count c.args.receipts.now (omega (arith, count)))
+    ∙ ap placed_receipts (take_all c.loop-place.count c.args.receipts.now (omega (arith, count)))

@@ -1,6 +1,6 @@
 use Rattle.std.proofs.Common.{sym, ap, subst, arith}
 use Rattle.bench_shared.specs.Passes.{AreNew}
-use Rattle.bench_shared.specs.Receipts.{all_placed}
+use Rattle.bench_shared.specs.Receipts.{placed_receipts}
 use Rattle.bench_shared.proofs.Newness.{are_new-none, are_new-push}
 use Rattle.bench_shared.proofs.shared.loader_passes.Goals as goal
 
@@ -21,5 +21,5 @@ loop-number-preserved g c =
       amount = omega (arith, i.amount, c.split_off.ensures.amount_left);
       len = omega (arith, p.len, i.len);
       new = are_new-push c.loop-number.passes.items _ _ p.items i.new (omega (arith, i.len, c.loop-number.passes.ok.0))
-          (ap all_placed c.new.ensures.items);
+          (ap placed_receipts c.new.ensures.items);
     }

@@ -1,6 +1,6 @@
 use Rattle.std.proofs.Common.{◌≡◌, ◌<◌, ◌≤◌, ◌++◌, length, map}
 use Rattle.std.specs.Vec.Iter.{into_iter_items}
-use Rattle.bench_core.specs.declared.limits.TheConstants.{MOST_ENTRIES}
+use Rattle.bench_core.specs.declared.limits.TheConstants.{MAX_ENTRIES}
 use Rattle.bench_workers.specs.Events.{event_of}
 use Rattle.bench_workers.specs.Opening.{pulses_in}
 use Rattle.bench_workers.proofs.OpeningLemmas.{AreDone}
@@ -13,5 +13,5 @@ invariant-loop-event g l = record {
   done : AreDone l.fn.bench.setup l.yielded l.bench;
   pulses : l.pulses ≡ pulses_in (map event_of l.yielded);
   fewer : l.pulses < l.fn.pulse;
-  few : length l.bench.history ≤ MOST_ENTRIES;
+  few : length l.bench.history ≤ MAX_ENTRIES;
 }

@@ -1,6 +1,6 @@
 use Rattle.std.proofs.Common.{arith}
 use Rattle.std.specs.Prelude.{string_bytes}
-use Rattle.bpf_verify.specs.declared.known.TheConstants.{REGISTERS}
+use Rattle.bpf_verify.specs.declared.abstract_state.TheConstants.{REGISTERS}
 use Rattle.bpf_verify.specs.Findings.{abstract_of}
 use Rattle.bpf_explain.specs.Known.{known_register}
 use Rattle.bpf_explain.proofs.Listing.{told_none, told_more, told_all}

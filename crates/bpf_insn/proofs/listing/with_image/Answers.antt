@@ -1,7 +1,7 @@
 use Rattle.std.proofs.Common.{List, Option, ap, ◌∙◌}
 use Rattle.std.specs.List.{flat_map}
 use Rattle.bpf_insn.specs.declared.forms.Insn.{Insn}
-use Rattle.bpf_insn.specs.inner.Programs.{spelling_at, insns_in}
+use Rattle.bpf_insn.specs.inner.Programs.{spelling_at, insns_at_slots}
 use Rattle.bpf_insn.proofs.LayoutLaws.{insns_in-layout, is_laid_out, image_by_slots}
 use Rattle.bpf_insn.proofs.listing.with_image.Goals as goal
 
@@ -16,4 +16,4 @@ invariant_of-result c =
     )
 
 pub returns : goal.returns
-returns c = ap insns_in c.in_ok-slots.ensures ∙ insns_in-layout c.args.insns.now
+returns c = ap insns_at_slots c.in_ok-slots.ensures ∙ insns_in-layout c.args.insns.now

@@ -4,5 +4,5 @@ use Rattle.bpf_verify.specs.Rules as rules
 use Rattle.bpf_verify.proofs.rules.touches.Given as goal
 
 abbrev pub invariant-loop-byte : goal.invariant-loop-byte
-invariant-loop-byte l = rules.touches (abstract_of l.known) l.first (l.end - l.first) ≡ rules.touches
+invariant-loop-byte l = rules.touches_written (abstract_of l.known) l.first (l.end - l.first) ≡ rules.touches_written
     (abstract_of l.known) l.byte (l.end - l.byte)

@@ -14,17 +14,17 @@ take_row-row-requires c = omega (
 pub returns-clause-walks : goal.returns-clause-walks
 returns-clause-walks c =
     when_ok c.pass.result (λ kept rows front.
-    walk_past c.args.program.now c.args.shape c.args.slot c.args.insn.now c.meet.new.self (come_of c.args.front.now)
+    walk_past c.args.program.now c.args.shape c.args.slot c.args.insn.now c.join_incoming.new.self (come_of c.args.front.now)
     (table_of c.args.rows.now.items) (table_of c.take_row-row.new.rows.items)
-    c.requires.here c.requires.walks (c.meet.ensures
+    c.requires.here c.requires.walks (c.join_incoming.ensures
     ∙ ap (λ row. met_state row (come_of c.args.front.now)) c.take_row-row.ensures.row) c.take_row-row.ensures.ahead
     kept (table_of c.pass.new.rows.items) (come_of c.pass.new.front) rows front)
     c.pass.ensures.kept c.pass.ensures.rows c.pass.ensures.front
 
 pub returns-clause-refused : goal.returns-clause-refused
 returns-clause-refused c =
-    when_err c.pass.result (walk_refused c.args.program.now c.args.shape c.args.slot c.args.insn.now c.meet.new.self
+    when_err c.pass.result (walk_refused c.args.program.now c.args.shape c.args.slot c.args.insn.now c.join_incoming.new.self
     (come_of c.args.front.now) (table_of c.args.rows.now.items) (table_of c.take_row-row.new.rows.items)
-    c.requires.here c.requires.walks (c.meet.ensures
+    c.requires.here c.requires.walks (c.join_incoming.ensures
     ∙ ap (λ row. met_state row (come_of c.args.front.now)) c.take_row-row.ensures.row) c.take_row-row.ensures.ahead)
     c.pass.ensures.refused

@@ -2,7 +2,7 @@ use Rattle.std.proofs.Common.{◌≡◌, ◌-◌, ◌<◌, ◌++◌, [], ◌∷�
 use Rattle.std.proofs.lemmas.Grind.{common_steps}
 use Rattle.clockbed.proofs.SpanLemmas.{joined, apart, alone}
 use Rattle.clockbed.specs.Lists.{mail_spans}
-use Rattle.clockbed.specs.inner.Spans.{with_number}
+use Rattle.clockbed.specs.inner.Spans.{with_span_number}
 use Rattle.clockbed.proofs.mail.add_number.Goals as goal
 use Rattle.clockbed.proofs.mail.add_number.Goals.{in_default-via-in-Some+else-is_next, in_default-via-in-None-1}
 
@@ -16,7 +16,7 @@ pub returns-in_ok-push-in_default : goal.returns-in_ok-push-in_default
 returns-in_ok-push-in_default c =
     let start = c.args.spans.now.items in
     let n = c.args.number in
-    let pushed : mail_spans (start ++ record { first = n; last = n } ∷ []) ≡ with_number (mail_spans start) n =
+    let pushed : mail_spans (start ++ record { first = n; last = n } ∷ []) ≡ with_span_number (mail_spans start) n =
     elim c.in_default.branch [
       | in_default-via-in-Some+else-is_next w ↦
           let some : 0 < vec_len c.args.spans.now = search rules in

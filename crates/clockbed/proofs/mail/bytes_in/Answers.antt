@@ -2,7 +2,7 @@ use Rattle.std.proofs.Common.{◌≡◌, ◌↔◌, ◌∷◌, [], ℕ, Any, Con
 use Rattle.std.proofs.Math.Dec.{lit<}
 use Rattle.std.proofs.lemmas.Iterator.Consumers.{YieldsList-end}
 use Rattle.std.proofs.lemmas.Iterator.Splits.{YieldsList-from_str_split}
-use Rattle.clockbed.specs.Lists.{AreLongest, IsBytes, IsPart, IsWithin, byte_spans, parts_of}
+use Rattle.clockbed.specs.Lists.{AreLongest, IsBytes, IsPart, IsInSpan, byte_spans, parts_of}
 use Rattle.clockbed.specs.inner.Spans.{AddsPart, AreNumbersOf}
 use Rattle.clockbed.proofs.NumberLemmas.{map_push, one_part, list_of}
 use Rattle.clockbed.proofs.mail.bytes_in.Goals as goal
@@ -22,7 +22,7 @@ returns c =
     c.loop-part.yielded_by _ _ c.in-None.is c.next.ensures.steps).0 in
     let values = c.in-Some-2.values in
     let made : c.push.new.self.items ≡ record { first = 0; last = 7; values = values } ∷ [] = search rules in
-    let numbers : (n : ℕ) → Any (IsWithin n) (byte_spans values.items) ↔ Contains c.loop-part.bytes.keys n =
+    let numbers : (n : ℕ) → Any (IsInSpan n) (byte_spans values.items) ↔ Contains c.loop-part.bytes.keys n =
     rw c.in-Some-2.is at c.in_ok-values.ensures.numbers in
     let longest : AreLongest (byte_spans values.items) = rw c.in-Some-2.is at c.in_ok-values.ensures.longest in
     subst (IsBytes c.args.text.now) (sym made) (

@@ -1,5 +1,5 @@
 use Rattle.std.proofs.Common.{Ok, Err, IfSome, take}
-use Rattle.bench_scenario.specs.declared.run.TheConstants.{MOST_BYTES}
+use Rattle.bench_scenario.specs.declared.run.TheConstants.{MAX_BYTES}
 use Rattle.commands.specs.declared.fault.Fault.TheVariants as faults
 use Rattle.commands.specs.Scenarios.{LeavesFor}
 use Rattle.commands.proofs.LeavesLemmas.{given_err}
@@ -25,7 +25,7 @@ returns-in_err-ending-in-Ok-clause-left g c =
 pub returns-in_ok-ending-in-Err-Refused-clause-left : goal.returns-in_ok-ending-in-Err-Refused-clause-left
 returns-in_ok-ending-in-Err-Refused-clause-left g c =
     left_of_refusal c.args.asked.now (g.R.Read.remaining c.args.reader.now) (g.W.Write.contents c.args.out.now)
-    (g.W.Write.contents c.write_refusal.new.out) c.in-Err-Refused.error c.in-Err-Refused.text.items (take MOST_BYTES)
+    (g.W.Write.contents c.write_refusal.new.out) c.in-Err-Refused.error c.in-Err-Refused.text.items (take MAX_BYTES)
     (Ok c.in_ok-ending-in-Err-Refused.ending)
     (rw c.in-Err-Refused.field-0-is at c.in-Err-Refused.ensures.scenario) c.in_ok-ending-in-Err-Refused.ensures
 
@@ -35,7 +35,7 @@ returns-in_err-ending-in-Err-Refused-clause-left g c =
     (g.W.Write.contents c.args.out.now) (g.W.Write.contents c.write_refusal.new.out) text r))
     c.in_err-ending-in-Err-Refused.field-0.0 _
     (left_of_refusal c.args.asked.now (g.R.Read.remaining c.args.reader.now) (g.W.Write.contents c.args.out.now)
-    (g.W.Write.contents c.write_refusal.new.out) c.in-Err-Refused.error c.in-Err-Refused.text.items (take MOST_BYTES)
+    (g.W.Write.contents c.write_refusal.new.out) c.in-Err-Refused.error c.in-Err-Refused.text.items (take MAX_BYTES)
     (Err c.in_err-ending-in-Err-Refused.field-0.0)
     (rw c.in-Err-Refused.field-0-is at c.in-Err-Refused.ensures.scenario) c.in_err-ending-in-Err-Refused.ensures)
     c.from_residual-in_err-ending-in-Err-Refused.ensures.1

@@ -1,7 +1,7 @@
 use Rattle.std.proofs.Common.{◌≡◌, ◌+◌, ◌++◌, drop}
-use Rattle.key_sweep.specs.Rows.{rows_text}
+use Rattle.key_sweep.specs.Rows.{csv_rows}
 use Rattle.key_sweep.proofs.rows.rows_text.Given as goal
 
 abbrev pub invariant-loop-place : goal.invariant-loop-place
-invariant-loop-place l = l.text.items ++ rows_text (l.first + l.place) (drop l.place l.summaries)
-    ≡ rows_text l.first l.summaries
+invariant-loop-place l = l.text.items ++ csv_rows (l.first + l.place) (drop l.place l.summaries)
+    ≡ csv_rows l.first l.summaries

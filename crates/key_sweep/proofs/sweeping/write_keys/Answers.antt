@@ -1,5 +1,5 @@
 use Rattle.std.proofs.Common.{◌≡◌, ◌+◌, ◌∙◌, ap, arith, length}
-use Rattle.key_sweep.specs.Rows.{rows_text}
+use Rattle.key_sweep.specs.Rows.{csv_rows}
 use Rattle.key_sweep.proofs.LineLemmas.{front_of_names, front_of_rows, some_swept, swept_more, swept_names}
 use Rattle.key_sweep.proofs.sweeping.write_keys.Goals as goal
 
@@ -32,7 +32,7 @@ returns-in_err-told-2 g c =
     c.as_slice-in-loop-next.result.now c.in-Ok-summaries_of.summaries.items c.in_err-told-2.field-0.0
     c.from_residual-in_err-told-2.result c.loop-next.invariant.swept c.in-Ok-summaries_of.ensures.each
     (c.as_slice-in-loop-next.ensures.value ∙ (c.in-Ok-rows_text.ensures
-    ∙ ap (rows_text c.loop-next.next) c.as_slice-front.ensures.value))
+    ∙ ap (csv_rows c.loop-next.next) c.as_slice-front.ensures.value))
     (omega (arith, past, before)) (omega (arith, past, count, few, before)) c.in_err-told-2.ensures.fault
     c.from_residual-in_err-told-2.ensures.1
 
@@ -49,7 +49,7 @@ returns-then-front-count g c =
     c.as_slice-in-loop-next.result.now c.in-Ok-summaries_of.summaries.items (omega arith) c.loop-next.invariant.swept
     c.in-Ok-summaries_of.ensures.each
     (c.as_slice-in-loop-next.ensures.value ∙ (c.in-Ok-rows_text.ensures
-    ∙ ap (rows_text c.loop-next.next) c.as_slice-front.ensures.value))
+    ∙ ap (csv_rows c.loop-next.next) c.as_slice-front.ensures.value))
     c.in_ok-told-2.ensures.whole)
     (omega (arith, past, count, fewer, same))
 
@@ -68,7 +68,7 @@ loop-next-preserved g c =
           c.as_slice-in-loop-next.result.now c.in-Ok-summaries_of.summaries.items (omega (arith, whole))
           c.loop-next.invariant.swept c.in-Ok-summaries_of.ensures.each
           (c.as_slice-in-loop-next.ensures.value ∙ (c.in-Ok-rows_text.ensures
-          ∙ ap (rows_text c.loop-next.next) c.as_slice-front.ensures.value))
+          ∙ ap (csv_rows c.loop-next.next) c.as_slice-front.ensures.value))
           c.in_ok-told-2.ensures.whole;
       past = past;
       within = omega (arith, count, before);

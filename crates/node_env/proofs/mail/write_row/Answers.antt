@@ -1,7 +1,7 @@
 use Rattle.std.proofs.Common.{arith, ℕ, ◌≡◌, ◌+◌, sym, subst, get_or, slice_set}
 use Rattle.std.proofs.lemmas.List.{length-set}
 use Rattle.std.proofs.lemmas.List.Elements.{All-set}
-use Rattle.node_env.specs.inner.Slots.{IsWord}
+use Rattle.node_env.specs.inner.Slots.{IsSlotWord}
 use Rattle.node_env.proofs.Rows.{IsWritten, rows_of-written, written_more}
 use Rattle.node_env.proofs.mail.write_row.Goals as goal
 
@@ -14,7 +14,7 @@ loop-receiver-preserved c =
         some = c.requires.square.some;
         few = c.requires.square.few;
         whole = omega (arith, length-set c.loop-receiver.words c.place_of.result word);
-        fit = All-set IsWord c.loop-receiver.words c.place_of.result word (c.requires.words receiver 0 (omega arith))
+        fit = All-set IsSlotWord c.loop-receiver.words c.place_of.result word (c.requires.words receiver 0 (omega arith))
             c.loop-receiver.invariant.square.fit;
       };
       written = subst (λ place. IsWritten c.args.nodes c.args.sender (receiver + 1) c.args.words.now c.args.row.now

@@ -2,7 +2,7 @@ use Rattle.std.proofs.Common.{◌≡◌, ◌+◌, ◌-◌, ◌++◌, ◌∙◌, 
 use Rattle.bpf_machine.specs.Machine.{state_of}
 use Rattle.bpf_machine.specs.Run.{Turns}
 use Rattle.rule_listing.specs.Listing.{line_at}
-use Rattle.run_trace.specs.Lines.{listed_from, listed_text}
+use Rattle.run_trace.specs.Lines.{listed_steps_from, listed_text}
 use Rattle.run_trace.specs.Steps.{Step, step_at, steps_from, steps_of}
 use Rattle.run_trace.proofs.ListedLemmas.{listed_all, listed_more}
 use Rattle.run_trace.proofs.StepLemmas.{end_follows, first_step, next_follows, trap_follows}
@@ -51,7 +51,7 @@ loop-taken-preserved c =
     record {
       told = subst (λ (rest : List Step). listed_text rule.text.now rule.lines.now program
           (steps_of program env c.args.memory.now c.args.fuel) ≡ c.push_step.new.listing.items
-          ++ listed_from rule.text.now rule.lines.now program c.line_at-line.result (c.loop-taken.taken + 1 + 1) rest)
+          ++ listed_steps_from rule.text.now rule.lines.now program c.line_at-line.result (c.loop-taken.taken + 1 + 1) rest)
           (next_follows program env old new more
           (subst (Turns program env old new) c.in-Next.is c.told_step-turn.ensures.turns))
           (listed_more rule.text.now rule.lines.now program _ _ _ _ _ _ _ (c.loop-taken.taken + 1)

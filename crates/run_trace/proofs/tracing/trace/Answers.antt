@@ -3,7 +3,7 @@ use Rattle.bpf_machine.specs.Machine.{state_of}
 use Rattle.bpf_machine.specs.Run.{RunsTo, Turns}
 use Rattle.bpf_machine.proofs.RunSteps.{ended_answers, fuel_answers, next_runs, trap_answers}
 use Rattle.run_trace.specs.Steps.{step_at, steps_from, steps_of}
-use Rattle.run_trace.specs.inner.Parts.{line_in}
+use Rattle.run_trace.specs.inner.Parts.{step_line_in}
 use Rattle.run_trace.proofs.StepLemmas.{end_follows, first_step, next_follows, trap_follows}
 use Rattle.run_trace.proofs.TextLemmas.{Told, all_told, line_broken, told_more}
 use Rattle.run_trace.proofs.tracing.trace.Goals as goal
@@ -12,7 +12,7 @@ pub returns-in_err-written-clause-trace : goal.returns-in_err-written-clause-tra
 returns-in_err-written-clause-trace g c =
     let old = state_of c.loop-taken.state c.loop-taken.memory c.loop-taken.outbox.sent in
     line_broken _ _ _ c.args.program.now _ _ _ (step_at c.args.program.now c.args.env.now old) c.loop-taken.taken
-    c.loop-taken.written (line_in c.told_step-turn.result.1) c.in_err-written.field-0.0 c.from_residual.result
+    c.loop-taken.written (step_line_in c.told_step-turn.result.1) c.in_err-written.field-0.0 c.from_residual.result
     c.loop-taken.invariant.told
     (first_step c.args.program.now c.args.env.now old c.loop-taken.taken c.args.fuel c.loop-taken-test.true)
     c.told_step-turn.ensures.line c.in_err-written.ensures.fault c.from_residual.ensures.1
@@ -33,7 +33,7 @@ returns-in-Ended-clause-trace g c =
     let more = steps_from program env (c.args.fuel - (c.loop-taken.taken + 1)) in
     all_told _ _ program _ _ (c.loop-taken.taken + 1) c.in_ok-written.written
     (told_more _ _ _ program _ _ _ (step_at program env old) c.loop-taken.taken c.loop-taken.written
-    c.in_ok-written.written (line_in c.told_step-turn.result.1) c.loop-taken.invariant.told
+    c.in_ok-written.written (step_line_in c.told_step-turn.result.1) c.loop-taken.invariant.told
     (first_step program env old c.loop-taken.taken c.args.fuel c.loop-taken-test.true)
     c.told_step-turn.ensures.line c.in_ok-written.ensures.told)
     (end_follows program env old new c.in-Ended.r0 more
@@ -56,7 +56,7 @@ returns-in-Trap-clause-trace g c =
     let more = steps_from program env (c.args.fuel - (c.loop-taken.taken + 1)) in
     all_told _ _ program _ _ (c.loop-taken.taken + 1) c.in_ok-written.written
     (told_more _ _ _ program _ _ _ (step_at program env old) c.loop-taken.taken c.loop-taken.written
-    c.in_ok-written.written (line_in c.told_step-turn.result.1) c.loop-taken.invariant.told
+    c.in_ok-written.written (step_line_in c.told_step-turn.result.1) c.loop-taken.invariant.told
     (first_step program env old c.loop-taken.taken c.args.fuel c.loop-taken-test.true)
     c.told_step-turn.ensures.line c.in_ok-written.ensures.told)
     (trap_follows program env old new c.in-Trap.kind more
@@ -76,7 +76,7 @@ loop-taken-preserved g c =
           (steps_of program env c.args.memory.now c.args.fuel) r (c.loop-taken.taken + 1) c.in_ok-written.written)
           (next_follows program env old new more turned)
           (told_more _ _ _ program _ _ _ (step_at program env old) c.loop-taken.taken c.loop-taken.written
-          c.in_ok-written.written (line_in c.told_step-turn.result.1) c.loop-taken.invariant.told
+          c.in_ok-written.written (step_line_in c.told_step-turn.result.1) c.loop-taken.invariant.told
           (first_step program env old c.loop-taken.taken c.args.fuel c.loop-taken-test.true)
           c.told_step-turn.ensures.line c.in_ok-written.ensures.told);
       nodes = search rules;

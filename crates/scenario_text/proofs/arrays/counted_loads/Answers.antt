@@ -1,6 +1,6 @@
 use Rattle.std.proofs.Common.{◌≡◌, ℕ, ◌+◌, ◌-◌, ◌<◌, ◌≤◌, take, get_or, arith, rules, ap, ap₂, sym, subst, ◌∙◌}
 use Rattle.toml.specs.View.{view, items_view}
-use Rattle.scenario_text.specs.inner.Arrays.{count_in, counted}
+use Rattle.scenario_text.specs.inner.Arrays.{count_in, item_count}
 use Rattle.scenario_text.proofs.TableLemmas.{counted_more, counted_take}
 use Rattle.scenario_text.proofs.arrays.counted_loads.Goals as goal
 
@@ -17,11 +17,11 @@ returns-then-count-most c =
     let count : c.count_in-count.result ≡ count_in (view (get_or items i v)) = c.count_in-count.ensures
     ∙ ap (λ w. count_in (view w)) (sym found) in
     let more = counted_more items i v (omega arith) in
-    let total : counted (items_view (take (i + 1) items)) ≡ c.loop-value.total + c.count_in-count.result =
+    let total : item_count (items_view (take (i + 1) items)) ≡ c.loop-value.total + c.count_in-count.result =
     more ∙ sym (ap₂ (λ a b. a + b) c.loop-value.invariant.total count) in
     let above = over c.args.most c.loop-value.total c.count_in-count.result _ _ c.loop-value.invariant.few
     (omega arith) total (counted_take items (i + 1)) in
-    subst (λ vs. c.args.most < counted (items_view vs)) c.loop-value.invariant.same above
+    subst (λ vs. c.args.most < item_count (items_view vs)) c.loop-value.invariant.same above
 
 pub loop-value-preserved : goal.loop-value-preserved
 loop-value-preserved c =

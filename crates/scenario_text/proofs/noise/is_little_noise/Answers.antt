@@ -2,7 +2,7 @@ use Rattle.std.proofs.Common.{◌≡◌, ℕ, false, true, min, ◌^◌, ◌-◌
 use Rattle.scenario_text.specs.declared.limits.TheConstants.{MAX_NOISE}
 use Rattle.scenario_text.specs.declared.scenario.Load.{Load}
 use Rattle.scenario_text.specs.Noise.{noise_pulses}
-use Rattle.scenario_text.specs.Views.{load_of}
+use Rattle.scenario_text.specs.Views.{load_draft}
 use Rattle.scenario_text.proofs.NoiseLemmas.{count_more, count_take, no_room, room_left}
 use Rattle.scenario_text.proofs.noise.is_little_noise.Goals as goal
 
@@ -13,7 +13,7 @@ returns-then-count-room c =
     let l = c.load-item.result in
     let pulses = c.args.pulses in
     let more = count_more pulses loads i l c.loop-load-test.true in
-    let same = ap (λ (x : Load). noise_pulses pulses (load_of x)) c.load-item.is in (
+    let same = ap (λ (x : Load). noise_pulses pulses (load_draft x)) c.load-item.is in (
       λ no. let untrue : false ≡ true = no in cc,
       λ few. absurd (no_room MAX_NOISE c.loop-load.room c.noise_pulses-count.result _ _ _ _ c.loop-load.invariant more
           (c.noise_pulses-count.ensures ∙ ap (λ (n : ℕ). min n (2 ^ 64 - 1)) same) c.if-count-room.true
@@ -27,6 +27,6 @@ loop-load-preserved c =
     let l = c.load-item.result in
     let pulses = c.args.pulses in
     let more = count_more pulses loads i l c.loop-load-test.true in
-    let same = ap (λ (x : Load). noise_pulses pulses (load_of x)) c.load-item.is in
+    let same = ap (λ (x : Load). noise_pulses pulses (load_draft x)) c.load-item.is in
     room_left MAX_NOISE c.loop-load.room c.noise_pulses-count.result _ _ _ c.loop-load.invariant more
     (c.noise_pulses-count.ensures ∙ ap (λ (n : ℕ). min n (2 ^ 64 - 1)) same) c.if-count-room.false (omega arith)

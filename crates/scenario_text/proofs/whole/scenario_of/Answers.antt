@@ -7,12 +7,12 @@ use Rattle.scenario_text.specs.declared.refusal.Place.{Place}
 use Rattle.scenario_text.specs.declared.refusal.Place.TheVariants as places
 use Rattle.scenario_text.specs.declared.scenario.ClockKey.TheVariants as keys
 use Rattle.scenario_text.specs.Faults.{Refuses}
-use Rattle.scenario_text.specs.Spelling.{HasClock, HasFrame, clock_key, SpelledLoad, SpelledUnload, SpelledCorrupt, SpelledCoin, SpellsNothing}
+use Rattle.scenario_text.specs.Spelling.{SpellsClock, HasFrame, clock_key, SpelledLoad, SpelledUnload, SpelledCorrupt, SpelledCoin, SpellsNothing}
 use Rattle.scenario_text.specs.declared.scenario.Load.{Load as LoadValue}
 use Rattle.scenario_text.specs.Noise.{HasNoise}
 use Rattle.scenario_text.specs.inner.Setups.{own_clock}
 use Rattle.scenario_text.specs.Tables.{IsTable, MayBeArray}
-use Rattle.scenario_text.specs.Views.{load_of, corrupt_of, extent_of}
+use Rattle.scenario_text.specs.Views.{load_draft, corrupt_of, extent_of}
 use Rattle.scenario_text.proofs.FrameLemmas.{excludes, refuses, refuses_more}
 use Rattle.scenario_text.proofs.NoiseLemmas.{no_noise}
 use Rattle.scenario_text.proofs.WholeLemmas.{no_arrays, plain_entries, spelled_whole}
@@ -34,7 +34,7 @@ returns-in_err-setup-clause-refused c =
     let ms = table_view c.args.table.now in
     let f = c.in_ok-frame.frame in
     let e = c.in_err-setup.field-0.0 in
-    let none : Type 0 = (clock : Option (List Insn)) → HasClock f ms clock → ⊥ in
+    let none : Type 0 = (clock : Option (List Insn)) → SpellsClock f ms clock → ⊥ in
     let here : Place → ℕ → Type 0 = λ p slot. (p ≡ places.Top) × (c.clock_key-clock.result ≡ keys.Clock)
     × BrokenText ms (codes "clock") (extent_of f) slot in
     let there : Place → ℕ → Type 0 = λ p slot. (p ≡ places.Top) × (clock_key ms ≡ keys.Clock)
@@ -63,11 +63,11 @@ returns-in_err-judge_noise-clause-refused c =
     let e = c.in_err-judge_noise.field-0.0 in
     let has : HasFrame ms f = subst (HasFrame ms) (sym c.in_ok-setup.ensures.frame) c.in_ok-frame.ensures.frame in
     let read : MayBeArray (IsTable (SpelledLoad f clock)) (get_member (codes "load") ms)
-    (map load_of c.in_ok-loads.loads.items) =
-    subst (λ o. MayBeArray (IsTable (SpelledLoad f clock)) o (map load_of c.in_ok-loads.loads.items))
+    (map load_draft c.in_ok-loads.loads.items) =
+    subst (λ o. MayBeArray (IsTable (SpelledLoad f clock)) o (map load_draft c.in_ok-loads.loads.items))
     c.in_ok-arrays.ensures.loads c.in_ok-loads.ensures.entries in
-    let none : HasNoise c.in_ok-key.key f.pulses (map load_of c.in_ok-loads.loads.items) → ⊥ =
-    subst (λ (ls : List LoadValue). HasNoise c.in_ok-key.key f.pulses (map load_of ls) → ⊥)
+    let none : HasNoise c.in_ok-key.key f.pulses (map load_draft c.in_ok-loads.loads.items) → ⊥ =
+    subst (λ (ls : List LoadValue). HasNoise c.in_ok-key.key f.pulses (map load_draft ls) → ⊥)
     c.deref.ensures.value c.in_err-judge_noise.ensures.noise in
     let all = refuses e (SpellsNothing ms) (BrokenAt ms) (excludes e (SpellsNothing ms)
     c.in_err-judge_noise.ensures.fault
@@ -114,14 +114,14 @@ returns-clause-reads c =
       spelled = spelled_whole _ _ (search rules)
           (subst (HasFrame ms) (sym c.in_ok-setup.ensures.frame) c.in_ok-frame.ensures.frame)
           c.in_ok-coins.ensures.coins c.in_ok-key.ensures.key (search rules) c.in_ok-setup.ensures.clock
-          (subst (λ o. MayBeArray (IsTable (SpelledLoad f (own_clock setup))) o (map load_of c.in_ok-loads.loads.items))
+          (subst (λ o. MayBeArray (IsTable (SpelledLoad f (own_clock setup))) o (map load_draft c.in_ok-loads.loads.items))
           held.loads c.in_ok-loads.ensures.entries)
           (plain_entries (IsTable (SpelledUnload f)) _ _ _ held.unloads c.in_ok-unloads.ensures.entries)
           (subst (λ o. MayBeArray (IsTable (SpelledCorrupt f)) o (map corrupt_of c.in_ok-corruptions.corruptions.items))
           held.corruptions c.in_ok-corruptions.ensures.entries)
           (plain_entries (IsTable (SpelledCoin f)) _ _ _ held.entries c.in_ok-entries.ensures.entries)
           held.has
-          (subst (λ (ls : List LoadValue). HasNoise c.in_ok-key.key f.pulses (map load_of ls))
+          (subst (λ (ls : List LoadValue). HasNoise c.in_ok-key.key f.pulses (map load_draft ls))
           c.deref.ensures.value c.in_ok-judge_noise.ensures.noise);
       clock = c.in_ok-setup.ensures.fits;
       typable = c.in_ok-loads.ensures.fits;

@@ -8,7 +8,7 @@ use Rattle.bpf_verify.specs.Accepted.{Accepted}
 use Rattle.bench_core.specs.State.{Node, no_node, node_at, setting_at}
 use Rattle.bench_core.specs.Tasks.{Task, Done, IsEnd}
 use Rattle.bench_core.specs.declared.pulse.OpenPulse.{OpenPulse}
-use Rattle.bench_core.specs.inner.OpenPulse.{HandedBy, setup_in, state_in}
+use Rattle.bench_core.specs.inner.OpenPulse.{HandedBy, setup_in, state_of_open}
 use Rattle.bench_core.specs.inner.Served.{AreRuns, IsRunOf, SeesAlike}
 use Rattle.bench_core.proofs.Closed.{ran_of}
 use Rattle.bench_core.proofs.Closing.{task_for}
@@ -60,7 +60,7 @@ returns-in-Some-place_alike-clause-served c =
     (c.requires.runs place one (slice_get_within dones place one at)) in (
       one,
       at,
-      alike_serves (setup_in p) (state_in p) p.coins.now p.opening c.args.node c.args.firsts.now
+      alike_serves (setup_in p) (state_of_open p) p.coins.now p.opening c.args.node c.args.firsts.now
           c.in-Some.program c.in_ok-env.env one c.requires.parts.count c.requires.firsts c.requires.node has
           c.in_ok-env.ensures ran.0 ran.1 sees,
     )
@@ -112,6 +112,6 @@ returns-clause-served c =
     ∙ (ap (slice_get (dones ++ d ∷ [])) (c.len-place.ensures ∙ c.args.self.now.dones.ok.0) ∙ slice_last dones d) in (
       d,
       at,
-      ran_of (setup_in p) (state_in p) p.coins.now p.opening c.args.node d handed
+      ran_of (setup_in p) (state_of_open p) p.coins.now p.opening c.args.node d handed
           (ap (λ (t : Task). t.node) task) made.2.ends,
     )

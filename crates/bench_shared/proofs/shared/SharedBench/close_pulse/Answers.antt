@@ -5,7 +5,7 @@ use Rattle.bench_core.specs.Replay.{Closed}
 use Rattle.bench_core.specs.Told.{Row, PulseTold}
 use Rattle.bench_core.specs.Setup.{Setup}
 use Rattle.bench_shared.specs.Passes.{EngineView, Placed}
-use Rattle.bench_shared.specs.Receipts.{all_placed}
+use Rattle.bench_shared.specs.Receipts.{placed_receipts}
 use Rattle.bench_shared.specs.Plans.{Plan}
 use Rattle.bench_shared.specs.Told.{OpenedLast, TellsAgreement}
 use Rattle.bench_shared.proofs.Closing.{tells_close}
@@ -55,7 +55,7 @@ returns-clause-told g c =
     let setup = c.is_of.ensures c.if-not-is_of.false ∙ ap (λ (p : Plan). p.setup) c.self.view_is in (
       held.0,
       subst (λ (l : List Placed). OpenedLast l held.0)
-          (ap all_placed c.deref.ensures.value ∙ ap (λ (v : EngineView). v.receipts) c.pass.view_is) held.1,
+          (ap placed_receipts c.deref.ensures.value ∙ ap (λ (v : EngineView). v.receipts) c.pass.view_is) held.1,
       tells_close c.args.self.now.setup c.deref_mut-round.result.now.bench c.close.new.self.bench held.0
           c.in_ok-place.told
           setup e.replays e.accepted held.2 e.ok e.told,

@@ -2,7 +2,7 @@ use Rattle.std.proofs.Common.{arith, ◌∙◌, ap, subst, List}
 use Rattle.std.specs.Prelude.{IsSome}
 use Rattle.bpf_insn.specs.declared.forms.Insn.{Insn}
 use Rattle.bpf_insn.specs.Programs.{slots_of, insn_at}
-use Rattle.bpf_insn.specs.inner.Programs.{insns_in}
+use Rattle.bpf_insn.specs.inner.Programs.{insns_at_slots}
 use Rattle.bpf_insn.proofs.LayoutLaws.{slot_total, first_slot}
 use Rattle.bpf_insn.proofs.listing.Program.slot_count.Goals as goal
 
@@ -22,4 +22,4 @@ returns-clause-count c =
 
 pub returns-clause-first : goal.returns-clause-first
 returns-clause-first c = subst (λ (p : List Insn). IsSome (insn_at p 0)) c.self.view_is
-    (first_slot (insns_in c.self.inside.slots.items) c.self.invariant.0.program)
+    (first_slot (insns_at_slots c.self.inside.slots.items) c.self.invariant.0.program)

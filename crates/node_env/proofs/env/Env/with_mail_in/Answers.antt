@@ -1,5 +1,5 @@
 use Rattle.std.proofs.Common.{rules, arith, ◌≡◌, length, subst, sym, All}
-use Rattle.node_env.specs.inner.Slots.{IsWord}
+use Rattle.node_env.specs.inner.Slots.{IsSlotWord}
 use Rattle.node_env.proofs.Rows.{numbers-words}
 use Rattle.node_env.proofs.env.Env.with_mail_in.Goals as goal
 
@@ -9,7 +9,7 @@ invariant_of-result c =
     let items : words.items ≡ c.words_to.result.now = search rules in
     let count : length words.items ≡ c.args.shape.nodes = (search rules) in (
       count,
-      subst (All IsWord) (sym items) c.words_to.ensures.words,
+      subst (All IsSlotWord) (sym items) c.words_to.ensures.words,
       record {
         extent = search rules;
         id = c.requires.id;

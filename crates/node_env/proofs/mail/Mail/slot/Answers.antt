@@ -1,7 +1,7 @@
 use Rattle.std.proofs.Common.{arith, ◌*◌, ◌<◌, ◌≤◌, sym, ◌∙◌, ap, suc, get_or}
 use Rattle.std.proofs.Math.Nat.{mul-le-mul_right}
 use Rattle.std.specs.FinMap.{empty, get}
-use Rattle.node_env.specs.inner.Slots.{slot_of}
+use Rattle.node_env.specs.inner.Slots.{word_slot}
 use Rattle.node_env.proofs.Rows.{length-square, get-rows_of}
 use Rattle.node_env.proofs.mail.Mail.slot.Goals as goal
 
@@ -28,7 +28,7 @@ returns c =
     let inner : c.args.receiver < c.self.inside.nodes = omega
     (arith, length-square _ _ _ c.self.view_is, c.requires.receiver) in
     c.slot_in.ensures
-    ∙ ap slot_of (c.index.ensures ∙ ap (λ q. get_or c.self.inside.words.items q c.index.result.now) c.place_of.ensures)
+    ∙ ap word_slot (c.index.ensures ∙ ap (λ q. get_or c.self.inside.words.items q c.index.result.now) c.place_of.ensures)
     ∙ sym (get-rows_of c.self.inside.nodes c.args.sender c.args.receiver c.index.result.now c.self.inside.words.items
     low inner c.self.invariant.whole)
     ∙ ap (λ rows. get (get_or rows c.args.sender empty) c.args.receiver) c.self.view_is

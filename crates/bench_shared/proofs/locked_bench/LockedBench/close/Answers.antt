@@ -1,0 +1,12 @@
+use Rattle.std.proofs.Common.{◌+◌, ap, ◌∙◌}
+use Rattle.bench_shared.proofs.Counting.{one_more, closes_after}
+use Rattle.bench_shared.proofs.locked_bench.LockedBench.close.Goals as goal
+
+pub invariant_of-self-2 : goal.invariant_of-self-2
+invariant_of-self-2 g c =
+    let was = c.args.self.now in
+    record {
+      entries_counted = one_more _ _ _ _ _ c.in_ok-record.ensures.ok was.entries_counted c.add.ensures.total;
+      closes_counted = closes_after _ _ _ _ _ c.in_ok-record.ensures.ok was.closes_counted
+          (c.add-2.ensures.total ∙ ap (λ n. n + 1) c.audit.ensures.total);
+    }

@@ -1,5 +1,0 @@
-use Rattle.bpf_verify.proofs.KindLaws.{none_known}
-use Rattle.bpf_verify.proofs.known.no_entries.Goals as goal
-
-pub returns : goal.returns
-returns c = none_known 64
