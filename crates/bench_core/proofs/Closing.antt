@@ -14,15 +14,15 @@ use Rattle.bench_core.specs.State.{State, Node, no_node, node_at, mail_from, set
 use Rattle.bench_core.specs.Pulse.{RunsClock, Runs, Rests, NodePulse, Pulse}
 use Rattle.bench_core.specs.Tasks.{Task, Done, task_at, IsEnd, IsHanded, IsResultOf, IsExact}
 use Rattle.bench_core.specs.inner.Nodes.{KnowsClock}
-use Rattle.bench_core.specs.inner.Found.{found_at, IsFound, IsLeft, AreLeft}
+use Rattle.bench_core.specs.inner.Found.{found_at, IsFound, IsLeftByPulse, AreLeft}
 
 pub left_more : (dones : List Done) (flags : List Bool) (old : List Node) (found : List Found) (nodes : List Node)
     (mail : List (FinMap nat_cmp ℕ)) (n : ℕ) (y : Node) (row : FinMap nat_cmp ℕ)
     → n < length nodes → n < length mail → AreLeft dones flags old found nodes mail n
-    → IsLeft dones (get_or flags n false) (node_at old n) y row (found_at found n)
+    → IsLeftByPulse dones (get_or flags n false) (node_at old n) y row (found_at found n)
     → AreLeft dones flags old found (slice_set nodes n y) (slice_set mail n row) (n + 1)
 left_more dones flags old found nodes mail n y row lt lt' before here i within =
-    let P = λ (k : ℕ) (z : Node) (r : FinMap nat_cmp ℕ). IsLeft dones (get_or flags k false) (node_at old k) z r
+    let P = λ (k : ℕ) (z : Node) (r : FinMap nat_cmp ℕ). IsLeftByPulse dones (get_or flags k false) (node_at old k) z r
     (found_at found k) in
     elim (cases_eq i n) [
       | inl e ↦
@@ -41,17 +41,17 @@ left_more dones flags old found nodes mail n y row lt lt' before here i within =
 pub once_left : (dones : List Done) (flag : Bool) (x y : Node) (row : FinMap nat_cmp ℕ) (f : Found) (place : ℕ)
     (done : Done) → f ≡ At place → slice_get dones place ≡ Some done
     → y ≡ record { program = x.program; memory = done.end.memory; mark = flag } → row ≡ done.end.sent
-    → IsLeft dones flag x y row f
-once_left dones flag x y row f place done e at node sent = subst (IsLeft dones flag x y row) (sym e)
+    → IsLeftByPulse dones flag x y row f
+once_left dones flag x y row f place done e at node sent = subst (IsLeftByPulse dones flag x y row) (sym e)
     (done, at, node, sent)
 
 pub rest_left : (dones : List Done) (flag : Bool) (x y : Node) (row : FinMap nat_cmp ℕ) (f : Found) → (f ≡ Missing)
     ⊎ (f ≡ Twice)
-    → y ≡ record { program = x.program; memory = x.memory; mark = false } → row ≡ empty → IsLeft dones flag x y row f
+    → y ≡ record { program = x.program; memory = x.memory; mark = false } → row ≡ empty → IsLeftByPulse dones flag x y row f
 rest_left dones flag x y row f either node sent =
     elim either [
-      | inl e ↦ subst (IsLeft dones flag x y row) (sym e) (node, sent)
-      | inr e ↦ subst (IsLeft dones flag x y row) (sym e) (node, sent)
+      | inl e ↦ subst (IsLeftByPulse dones flag x y row) (sym e) (node, sent)
+      | inr e ↦ subst (IsLeftByPulse dones flag x y row) (sym e) (node, sent)
     ]
 
 -- ---- one node's part of a closed pulse
@@ -104,7 +104,7 @@ node_ran : (s : Setup) (xs : List Node) (mail : List (FinMap nat_cmp ℕ)) (coin
     (dones : List Done) (found : List Found) (p : Accepted) (flag : Bool) (y : Node) (row : FinMap nat_cmp ℕ)
     → (f : Found) → found_at found i ≡ f → AreSorted s xs mail coins opening dones found → i < length xs
     → (node_at xs i).program ≡ Some p
-    → (IsTrue flag ↔ RunsClock s p) → IsLeft dones flag (node_at xs i) y row f
+    → (IsTrue flag ↔ RunsClock s p) → IsLeftByPulse dones flag (node_at xs i) y row f
     → (y.program ≡ (node_at xs i).program) × Runs s p (setting_at s mail coins i) (node_at xs i) y row
 node_ran s xs mail coins opening i dones found p flag y row Missing e sorted lt has knows left =
     let none = subst (IsFound (IsHanded s xs mail coins opening) dones i) e (sorted.each i) in
@@ -139,7 +139,7 @@ node_ran s xs mail coins opening i dones found p flag y row Twice e sorted lt ha
 node_rested : (s : Setup) (xs : List Node) (mail : List (FinMap nat_cmp ℕ)) (coins : List ℕ) (opening i : ℕ)
     (dones : List Done) (found : List Found) (flag : Bool) (y : Node) (row : FinMap nat_cmp ℕ)
     → (f : Found) → found_at found i ≡ f → AreSorted s xs mail coins opening dones found → (node_at xs i).program ≡ None
-    → IsLeft dones flag (node_at xs i) y row f → (y.program ≡ (node_at xs i).program) × Rests (node_at xs i) y row
+    → IsLeftByPulse dones flag (node_at xs i) y row f → (y.program ≡ (node_at xs i).program) × Rests (node_at xs i) y row
 node_rested s xs mail coins opening i dones found flag y row Missing e sorted has left = (
   ap (λ (z : Node). z.program) left.0,
   record {
@@ -158,7 +158,7 @@ pub node_closed : (s : Setup) (xs : List Node) (mail : List (FinMap nat_cmp ℕ)
     (dones : List Done) (flags : List Bool) (found : List Found) (y : Node) (row : FinMap nat_cmp ℕ)
     → (o : Option Accepted) → (node_at xs i).program ≡ o → AreSorted s xs mail coins opening dones found
     → KnowsClock s.clock xs flags → i < length xs
-    → IsLeft dones (get_or flags i false) (node_at xs i) y row (found_at found i)
+    → IsLeftByPulse dones (get_or flags i false) (node_at xs i) y row (found_at found i)
     → NodePulse s (setting_at s mail coins i) (node_at xs i) y row
 node_closed s xs mail coins opening i dones flags found y row None has sorted knows lt left =
     let rested = node_rested s xs mail coins opening i dones found (get_or flags i false) y row

@@ -20,7 +20,7 @@ use Rattle.bench_core.specs.Told.{AreSteps, IsSteps, RanTo}
 use Rattle.bench_core.specs.Tasks.{Task, Done, IsAlike, IsEnd, IsHanded}
 use Rattle.bench_core.specs.declared.found.Found.{Found}
 use Rattle.bench_core.specs.declared.found.Found.TheVariants.{Missing, At, Twice}
-use Rattle.bench_core.specs.inner.Found.{found_at, FitsNode, IsFound, IsLeft, AreLeft}
+use Rattle.bench_core.specs.inner.Found.{found_at, FitsNode, IsFound, IsLeftByPulse, AreLeft}
 use Rattle.bench_core.specs.inner.Nodes.{KnowsClock, KnowsFirsts}
 use Rattle.bench_core.specs.inner.Served.{AreServed, IsServed, SeesAlike, steps_at}
 use Rattle.bench_core.specs.inner.Told.{IsMostSteps}
@@ -75,7 +75,7 @@ served_at s b c cs coins ds dones found nodes mail same given h =
 node_served : (s : Setup) (b : State) (coins : List ℕ) (i : ℕ) (dones : List Done) (flags : List Bool) (y : Node)
     (row : FinMap nat_cmp ℕ) (o : Option Accepted) (f : Found) → (node_at b.nodes i).program ≡ o
     → KnowsClock s.clock b.nodes flags → IsServed s b coins dones i f
-    → IsLeft dones (get_or flags i false) (node_at b.nodes i) y row f
+    → IsLeftByPulse dones (get_or flags i false) (node_at b.nodes i) y row f
     → NodePulse s (setting_at s b.mail coins i) (node_at b.nodes i) y row
 node_served s b coins i dones flags y row None Missing has knows served left = (
   ap (λ (z : Node). z.program) left.0,

@@ -11,7 +11,7 @@ use Rattle.bench_core.specs.Setup.{Setup, IsSetup, HasRuleClock, rule_of}
 use Rattle.bench_core.specs.State.{Change, Node, State, new_state, node_at, mail_from, coins_of}
 use Rattle.bench_core.specs.Pulse.{Pulse}
 use Rattle.bench_core.specs.Settled.{value_of, faulty_count, Agree}
-use Rattle.bench_core.specs.Told.{Row, IsRow, row_of, RanTo}
+use Rattle.bench_core.specs.Told.{Row, IsPulseRow, row_of, RanTo}
 use Rattle.bench_core.specs.Replay.{Entry, Staged, Closed, LeadsByEntries, Replays, BenchValue, Advances, rows_of}
 use Rattle.bench_core.specs.StepList.{Act, Locked, Ran, Performs, entries_of}
 use Rattle.bench_core.specs.Tasks.{Done, tasks_of, HandedOut, RanEach, IsExact}
@@ -168,7 +168,7 @@ RowsInOrder = (s : Setup) (history : List Entry) (b : State) (k : ℕ) (row : Ro
 -- if the history has a place left for the close, the row is within its ranges
 abbrev pub RowsFit : Type 0
 RowsFit = (s : Setup) (history : List Entry) (b b' : State) → IsSetup s → Replays s history b → Pulse s b b'
-    → length history < MAX_ENTRIES → IsRow (row_of s b b')
+    → length history < MAX_ENTRIES → IsPulseRow (row_of s b b')
 
 -- the row tells whether settled clocks agree
 abbrev pub RowsTell : Type 0

@@ -16,7 +16,7 @@ pub record Row : Type 0 where
   pub zeros : ℕ
   pub settled : ℕ
 
-pub record IsRow (r : Row) : Type 0 where
+pub record IsPulseRow (r : Row) : Type 0 where
   pub first : 1 ≤ r.pulse
   pub last : r.pulse ≤ MAX_BENCH_PULSES
   pub common : (r.common < MAX_MODULUS) ⊎ (r.common ≡ CLOCKS_DIFFER)

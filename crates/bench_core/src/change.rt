@@ -36,7 +36,7 @@ impl Change {
         }
     }
 
-    /// Whether it leaves all programs as they are.
+    /// Returns true if it leaves all programs as they are.
     pub(crate) fn keeps_programs(&self) -> bool
         ensures { IsTrue result → KeepsPrograms (change_of self.now) }
     {
@@ -46,7 +46,7 @@ impl Change {
         }
     }
 
-    /// A program that it loads is accepted: its type keeps that.
+    /// States that a program which the change loads is accepted: its type keeps that.
     pub(crate) fn loads_accepted(&self)
         ensures { LoadsAccepted (change_of self.now) }
     {
@@ -58,7 +58,7 @@ impl Change {
         }
     }
 
-    /// Whether the other is equal by all parts, a program by its instructions and shape.
+    /// Returns true if the other is equal by all parts, a program by its instructions and shape.
     pub(crate) fn is(&self, other: &Change) -> bool
         ensures { IsTrue result ↔ (change_of self.now ≡ change_of other.now) }
     {

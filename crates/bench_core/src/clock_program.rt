@@ -27,7 +27,7 @@ impl ClockProgram {
     ghost use Rattle.std.specs.Prelude.{◌↔◌, IsTrue};
     ghost use Rattle.bpf_insn.specs.Programs.{IsProgram};
 
-    /// A program as a clock.
+    /// Returns a program as a clock.
     pub(crate) fn of(program: Program) -> ClockProgram
         ensures { result ≡ program }
     {
@@ -35,7 +35,7 @@ impl ClockProgram {
         ClockProgram { program }
     }
 
-    /// Its instructions.
+    /// Returns its instructions.
     pub fn program(&self) -> &Program
         ensures value { result.now ≡ self.now }
         ensures program { IsProgram self.now }

@@ -18,7 +18,7 @@ impl NodeSlot {
         self.mark = mark;
     }
 
-    /// A node that did not run keeps its memory.
+    /// Keeps the memory of a node that did not run.
     fn rest(&mut self)
         ensures { self.new ≡ record { program = self.old.program; memory = self.old.memory; mark = false } }
     {

@@ -28,7 +28,7 @@ pub(crate) struct OpenPulse<'a> {
     pub(crate) opening: u32,
 }
 
-/// A task for each loaded node, in node order, in the lists of earlier results as far as there are any.
+/// Returns a task for each loaded node, in node order, in the lists of earlier results as far as there are any.
 fn tasks(
     alloc: Global,
     pulse: &OpenPulse,
@@ -53,7 +53,7 @@ fn tasks(
     Ok(tasks)
 }
 
-/// The tasks, if they are handed out.
+/// Returns the tasks, if they are handed out.
 fn tasks_if(
     hands_out: bool,
     alloc: Global,
@@ -96,7 +96,7 @@ pub(crate) fn put(
     }
 }
 
-/// Whether any of these entries stages a change.
+/// Returns true if any of these entries stages a change.
 fn any_staged(entries: &[Entry]) -> bool
     ensures { result ≡ false → staged_of (map entry_of entries.now) ≡ [] }
 {
@@ -108,7 +108,7 @@ fn any_staged(entries: &[Entry]) -> bool
     false
 }
 
-/// Whether what the entry stages surely leaves all programs as they are.
+/// Returns true if what the entry stages surely leaves all programs as they are.
 fn keeps_programs(entry: &Entry) -> bool
     ensures { IsTrue result → StagesKept (entry_of entry.now) }
 {
@@ -118,7 +118,7 @@ fn keeps_programs(entry: &Entry) -> bool
     }
 }
 
-/// Whether the staged changes of these entries surely leave all programs as they are.
+/// Returns true if the staged changes of these entries surely leave all programs as they are.
 fn keep_programs(entries: &[Entry]) -> bool
     ensures { IsTrue result → All KeepsPrograms (staged_of (map entry_of entries.now)) }
 {
@@ -130,7 +130,7 @@ fn keep_programs(entries: &[Entry]) -> bool
     true
 }
 
-/// Of each node after the staged changes of these entries the first that has the same program.
+/// Returns for each node after the staged changes of these entries the first that has the same program.
 fn firsts_after(
     alloc: Global,
     before: &[NodeSlot],
@@ -149,7 +149,7 @@ fn firsts_after(
     Ok(kept)
 }
 
-/// The nodes of a pulse after the staged changes of these entries, if there are any.
+/// Returns the nodes of a pulse after the staged changes of these entries, if there are any.
 fn make_changed(
     alloc: Global,
     pulse: &OpenPulse,
@@ -181,7 +181,7 @@ fn make_changed(
     }))
 }
 
-/// The nodes that changes leave of these.
+/// Returns the nodes that changes leave of these.
 fn left<'a>(changed: &'a Option<Changed>, nodes: &'a [NodeSlot]) -> &'a [NodeSlot]
     ensures { result.now ≡ nodes_left changed.now nodes.now }
 {
@@ -209,7 +209,7 @@ pub(crate) struct Opening<'a> {
     pub(crate) hands_out: bool,
 }
 
-/// The nodes of a pulse after the staged changes of these entries, and their tasks.
+/// Returns the nodes of a pulse after the staged changes of these entries, and their tasks.
 pub(crate) fn prepare(
     alloc: Global,
     pulse: &OpenPulse,

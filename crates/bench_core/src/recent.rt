@@ -6,7 +6,7 @@ const REMEMBERED: usize = 4;
 /// A pulse gets one more comparison in vain for this many inputs.
 const INPUTS_A_TRY: usize = 16;
 
-/// After a pulse that used up its comparisons in vain, so many pulses compare nothing.
+/// After a pulse that used up its comparisons in vain, this many pulses compare nothing.
 const PULSES_OF_REST: u32 = 15;
 
 /// The places of the results that were run last. It is untrusted: a wrong place costs time, not soundness. A comparison
@@ -20,13 +20,13 @@ pub struct Recent {
     rest: u32,
 }
 
-/// How many comparisons in vain so many inputs get.
+/// Returns how many comparisons in vain this many inputs get.
 fn tries_of(inputs: usize) -> usize {
     1_usize.saturating_add(inputs / INPUTS_A_TRY)
 }
 
 impl Recent {
-    /// Returns no places, before so many inputs.
+    /// Returns no places, before this many inputs.
     pub fn none(inputs: usize) -> Recent {
         Recent {
             places: [usize::MAX; REMEMBERED],

@@ -55,7 +55,7 @@ pub(crate) struct RecordScratch {
     pub(crate) clocks: Vec<Option<u32>>,
 }
 
-/// Room for what will be told of a pulse of these nodes.
+/// Returns room for what will be told of a pulse of these nodes.
 pub(crate) fn make_room(alloc: Global, nodes: &[NodeSlot]) -> Result<RecordScratch, AllocError>
     ensures settled { IfOk result (λ r. r.settled.items ≡ map (λ x. x.mark) nodes.now) }
     ensures clocks { IfOk result (λ r. length r.clocks.items ≡ length nodes.now) }
@@ -66,7 +66,7 @@ pub(crate) fn make_room(alloc: Global, nodes: &[NodeSlot]) -> Result<RecordScrat
     })
 }
 
-/// What is told of a pulse, the one of this number, that these results closed and that left these nodes.
+/// Returns what is told of a pulse, the one of this number, that these results closed and that left these nodes.
 pub(crate) fn tell(
     room: RecordScratch,
     modulus: u32,
@@ -104,7 +104,7 @@ pub(crate) fn tell(
     }
 }
 
-/// The marks of nodes.
+/// Returns the marks of nodes.
 fn marks(alloc: Global, nodes: &[NodeSlot]) -> Result<Vec<bool>, AllocError>
     ensures { IfOk result (λ marks. marks.items ≡ map (λ x. x.mark) nodes.now) }
 {
@@ -138,7 +138,7 @@ fn tell_clocks(clocks: &mut [Option<u32>], nodes: &[NodeSlot])
     }
 }
 
-/// The row of settled nodes.
+/// Returns the row of settled nodes.
 fn row_told(modulus: u32, pulse: u32, settled: &[bool], nodes: &[NodeSlot]) -> Row
     requires first { 1 ≤ pulse }
     requires last { pulse ≤ MAX_BENCH_PULSES }
@@ -171,7 +171,7 @@ fn row_told(modulus: u32, pulse: u32, settled: &[bool], nodes: &[NodeSlot]) -> R
     }
 }
 
-/// The common clock of all so far and of one more.
+/// Returns the common clock of all so far and of one more.
 fn joined(common: u32, clock: u32) -> u32
     ensures { result ≡ joined_of common clock }
 {
@@ -182,7 +182,7 @@ fn joined(common: u32, clock: u32) -> u32
     }
 }
 
-/// The greatest number of steps of these results.
+/// Returns the greatest number of steps of these results.
 fn most_steps(dones: &[NodeDone]) -> u32
     ensures { IsMostSteps dones.now result }
 {

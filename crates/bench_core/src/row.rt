@@ -15,14 +15,14 @@ pub struct Row {
 }
 
 impl Model for Row {
-    ghost use Rattle.bench_core.specs.Told.{Row as RowValue, IsRow};
+    ghost use Rattle.bench_core.specs.Told.{Row as RowValue, IsPulseRow};
 
     ghost Value = { RowValue };
 
     ghost view = { λ r. record { pulse = r.pulse; common = r.common; zeros = r.zeros; settled = r.settled } };
 
     ghost invariant = { λ r.
-        IsRow (record { pulse = r.pulse; common = r.common; zeros = r.zeros; settled = r.settled }) };
+        IsPulseRow (record { pulse = r.pulse; common = r.common; zeros = r.zeros; settled = r.settled }) };
 
     ghost inverse = { λ v. record { pulse = v.pulse; common = v.common; zeros = v.zeros; settled = v.settled } };
 }

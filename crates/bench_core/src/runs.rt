@@ -36,7 +36,7 @@ struct Input<'a> {
     env: &'a Env,
 }
 
-/// Whether the nodes of these numbers are surely equal by their programs.
+/// Returns true if the nodes of these numbers are surely equal by their programs.
 fn is_same_first(firsts: &[usize], node: u32, other: u32) -> bool
     ensures { IsTrue result → get_or firsts.now other 0 ≡ get_or firsts.now node 0 }
 {
@@ -44,7 +44,7 @@ fn is_same_first(firsts: &[usize], node: u32, other: u32) -> bool
     node < firsts.len() && other < firsts.len() && firsts[other] == firsts[node]
 }
 
-/// The place of the result of an equal input at another node, if one of the last has it.
+/// Returns the place of the result of an equal input at another node, if one of the last has it.
 fn place_alike(
     recent: &mut Recent,
     dones: &[NodeDone],
@@ -86,7 +86,7 @@ impl Runs {
         }
     }
 
-    /// Drops all results, before a pulse of so many nodes.
+    /// Drops all results, before a pulse of this many nodes.
     fn begin(&mut self, nodes: u32)
         ensures { self.new.dones.items ≡ [] }
     {
@@ -133,7 +133,8 @@ impl Runs {
         requires runs { AreRuns pulse.now self.old.dones.items }
         ensures runs { OnOk result (AreRuns pulse.now self.new.dones.items) }
         ensures more { OnOk result ((more : List Done) × (self.new.dones.items ≡ self.old.dones.items ++ more)) }
-        ensures served { IfOk result (λ found. IsServed (setup_in pulse.now) (state_of_open pulse.now) pulse.now.coins.now
+        ensures served { IfOk result (λ found. IsServed (setup_in pulse.now)
+            (state_of_open pulse.now) pulse.now.coins.now
             self.new.dones.items node found) }
     {
         let slot = &pulse.nodes[node as usize];
@@ -172,7 +173,8 @@ pub(crate) fn run_nodes(
     requires parts { PartsFit pulse.now }
     requires firsts { KnowsFirsts pulse.now.nodes.now firsts.now }
     requires room { pulse.now.shape.nodes ≤ length found.old }
-    ensures { OnOk result (AreServed (setup_in pulse.now) (state_of_open pulse.now) pulse.now.coins.now runs.new.dones.items
+    ensures { OnOk result (AreServed (setup_in pulse.now)
+        (state_of_open pulse.now) pulse.now.coins.now runs.new.dones.items
         found.new) }
 {
     let count = pulse.shape.nodes();
@@ -183,7 +185,7 @@ pub(crate) fn run_nodes(
     Ok(())
 }
 
-/// How many instructions the result took that was found, 0 if there is none.
+/// Returns how many instructions the result took that was found, 0 if there is none.
 fn steps_of(dones: &[NodeDone], found: Found) -> u32
     ensures { result ≡ steps_at dones.now found }
 {
@@ -196,7 +198,7 @@ fn steps_of(dones: &[NodeDone], found: Found) -> u32
     }
 }
 
-/// How many instructions each of this many nodes took.
+/// Returns how many instructions each of this many nodes took.
 pub(crate) fn steps_found(
     alloc: Global,
     count: u32,

@@ -8,7 +8,7 @@ use crate::bench::Bench;
 use crate::task::NodeDone;
 use std::alloc::{AllocError, Global};
 
-/// The steps of a result come to the place of its node, if there is one.
+/// Puts the steps of a result at the place of its node, if there is one.
 #[tactic(auto, using(std::proofs::lemmas::List::set_past))]
 fn note(steps: &mut Vec<u32>, done: &NodeDone)
     ensures noted { steps.new.items ≡ slice_set steps.old.items done.now.task.node done.now.end.steps }

@@ -47,7 +47,7 @@ impl NodeTask {
     ghost use Rattle.std.specs.Prelude.{◌≤◌, IsTrue};
     ghost use Rattle.bench_core.specs.Tasks.{IsAlike, IsEnd};
 
-    /// The task of a node, with these lists as room for its result.
+    /// Returns the task of a node, with these lists as room for its result.
     pub(crate) fn of(
         opening: u32,
         node: u32,
@@ -225,7 +225,7 @@ impl NodeDone {
         self.node
     }
 
-    /// The memory after the run.
+    /// Returns the memory after the run.
     pub(crate) fn memory(&self) -> &[u8]
         ensures value { result.now ≡ self.now.end.memory }
         ensures length { length result.now ≡ length self.now.task.memory }
@@ -233,7 +233,7 @@ impl NodeDone {
         &self.after
     }
 
-    /// What the run sent.
+    /// Returns what the run sent.
     pub(crate) fn outbox(&self) -> &Outbox
         ensures sent { result.now.sent ≡ self.now.end.sent }
         ensures nodes { result.now.nodes ≡ self.now.task.setting.shape.nodes }
@@ -241,7 +241,7 @@ impl NodeDone {
         &self.outbox
     }
 
-    /// The coin that the run got.
+    /// Returns the coin that the run got.
     #[inline(always)]
     pub(crate) fn coin(&self) -> u32 {
         self.env.coin()
@@ -256,14 +256,14 @@ impl NodeDone {
         self.before.as_slice() == memory && env.sees_alike(&self.env)
     }
 
-    /// How many instructions the run took.
+    /// Returns how many instructions the run took.
     pub(crate) fn steps(&self) -> u32
         ensures { result ≡ self.now.end.steps }
     {
         self.steps
     }
 
-    /// Its lists, if it is no longer wanted.
+    /// Returns its lists, if it is no longer wanted.
     pub(crate) fn into_lists(self, alloc: Global) -> TaskLists {
         let NodeDone {
             env,
@@ -282,7 +282,7 @@ impl NodeDone {
         }
     }
 
-    /// Whether its input is that of its node in an opening of this number.
+    /// Returns true if its input is that of its node in an opening of this number.
     pub(crate) fn is_of(
         &self,
         opening: u32,

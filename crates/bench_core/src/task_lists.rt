@@ -21,7 +21,7 @@ pub(crate) struct ResultLists {
 }
 
 impl TaskLists {
-    /// New lists.
+    /// Returns new lists.
     fn new(alloc: Global, shape: Shape) -> Result<TaskLists, AllocError>
         ensures { IfOk result (λ lists. lists.results.outbox.nodes ≡ shape.nodes) }
     {
@@ -36,7 +36,8 @@ impl TaskLists {
         })
     }
 
-    /// Those of an earlier result that is no longer wanted, if there is one for this many nodes, otherwise new ones.
+    /// Returns those of an earlier result that is no longer wanted, if there is one for this many nodes, otherwise new
+    /// ones.
     pub(crate) fn of(
         alloc: Global,
         shape: Shape,
@@ -57,7 +58,7 @@ impl TaskLists {
 }
 
 impl ResultLists {
-    /// With this memory before the run, and room for the one after it.
+    /// Returns lists with this memory before the run, and room for the one after it.
     pub(crate) fn with_memory(self, memory: &[u8]) -> Result<ResultLists, AllocError>
         ensures before { IfOk result (λ lists. lists.before.items ≡ memory.now) }
         ensures after { IfOk result (λ lists. lists.after.items ≡ memory.now) }

@@ -21,7 +21,8 @@ Stopped (Close (Missing i)) old coins new = AddsReceipts old (Opened coins ∷ A
 Stopped (Close (Twice i)) old coins new = AddsReceipts old (Opened coins ∷ Abandoned ∷ []) new
 Stopped (Close (Stranger i)) old coins new = AddsReceipts old (Opened coins ∷ Abandoned ∷ []) new
 Stopped (Close Memory) old coins new = AddsReceipts old (Opened coins ∷ Abandoned ∷ []) new
-Stopped (Close NotOpen) old coins new = AddsReceipts old (Opened coins ∷ []) new ⊎ AddsReceipts old (Opened coins ∷ Abandoned ∷ []) new
+Stopped (Close NotOpen) old coins new = AddsReceipts old (Opened coins ∷ []) new
+    ⊎ AddsReceipts old (Opened coins ∷ Abandoned ∷ []) new
 
 -- what the refusal says of the coins
 abbrev pub IsPulseRefusal : Plan → List ℕ → EngineError → Type 0

@@ -9,7 +9,7 @@ use Rattle.bench_core.specs.Refusals.{IsMisfit}
 use Rattle.bench_workers.specs.Events.{Event, Stage, Pulse}
 use Rattle.bench_workers.specs.declared.event.RunRefusal.{RunRefusal}
 use Rattle.bench_workers.specs.declared.event.RunRefusal.TheVariants as refusals
-use Rattle.bench_workers.specs.Runs.{IsFault, IsFirstRefused, IsRefusalOf, entries_after}
+use Rattle.bench_workers.specs.Runs.{IsEventFault, IsFirstRefused, IsRefusalOf, entries_after}
 use Rattle.scenario_text.proofs.EntryLemmas.{Each}
 use Rattle.bench_scenario.specs.Runs.{IsMemoryOrThread}
 
@@ -90,7 +90,7 @@ first_refused s es k refusal each few ungated first =
 -- where the bench takes each event, and has room for all, none is refused for itself
 pub none_refused : (s : Setup) (es : List Event) (k : ℕ) (refusal : RunRefusal) → Each (Fits s) es
     → entries_after es ≤ MAX_ENTRIES → refusal ≢ refusals.GateShut
-    → IsFault s es k refusal → IsMemoryOrThread refusal
+    → IsEventFault s es k refusal → IsMemoryOrThread refusal
 none_refused s es k refusals.BadNode each few ungated fault =
     first_refused s es k refusals.BadNode each few ungated fault
 none_refused s es k refusals.OtherShape each few ungated fault =

@@ -5,7 +5,7 @@ use Rattle.std.proofs.lemmas.Bool.{cases_lt}
 use Rattle.std.proofs.lemmas.List.{drop_all, drop-drop, length-drop, take_all}
 use Rattle.bench_core.specs.Told.{PulseTold}
 use Rattle.bench_scenario.specs.Verdicts.{first_clock, are_one, counting}
-use Rattle.bench_scenario.specs.InStep.{HaveOne, EachWentOn, InStepFrom, IsInStepSince}
+use Rattle.bench_scenario.specs.InStep.{HaveOne, EachWentOn, AreInStep, IsInStepSince}
 use Rattle.bench_scenario.specs.inner.InStep.{BeginsInStep, StaysFrom, StaysSince}
 use Rattle.bench_scenario.proofs.VerdictLaws.{Tells, first_there, none_there, one_of, tells}
 
@@ -202,10 +202,10 @@ since_found m rs k (Some pulse) kept none = record {
 
 -- ---- two records
 
-two_of : (m : ℕ) (rs : List PulseTold) → StaysFrom m rs → 1 < length rs → InStepFrom m rs
+two_of : (m : ℕ) (rs : List PulseTold) → StaysFrom m rs → 1 < length rs → AreInStep m rs
 two_of m rs is two = record { two = two; one = is.one; on = is.on }
 
-stays : (m : ℕ) (rs : List PulseTold) → InStepFrom m rs → StaysFrom m rs
+stays : (m : ℕ) (rs : List PulseTold) → AreInStep m rs → StaysFrom m rs
 stays m rs is = let two = is.two in record { some = omega (arith, two); one = is.one; on = is.on }
 
 pub first_of_two : (m : ℕ) (rs : List PulseTold) (pulse : ℕ) → StaysSince m rs (Some pulse) → pulse < length rs

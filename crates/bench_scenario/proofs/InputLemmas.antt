@@ -19,7 +19,7 @@ use Rattle.scenario_text.specs.declared.scenario.Scenario.{Scenario}
 use Rattle.bench_scenario.specs.declared.inputs.NodeInput.{NodeInput}
 use Rattle.bench_scenario.specs.Coins.{coins_in_pulse, places_below}
 use Rattle.bench_scenario.specs.Events.{changes_at, corrupt_events, events_at, events_of, events_to, load_events, unload_events}
-use Rattle.bench_scenario.specs.Inputs.{FitsShape, IsInputOf, input_setting}
+use Rattle.bench_scenario.specs.Inputs.{FitsInput, IsInputOf, input_setting}
 use Rattle.bench_scenario.specs.Noise.{has_noise, noise_events, noise_of}
 use Rattle.bench_scenario.specs.Runs.{bench_of}
 
@@ -86,7 +86,7 @@ opened_met s bench es pulse coins b same listed opened =
 -- what its node runs has the shape of the bench
 pub fits_so : (b : BenchValue) (coins : List ℕ) (node : ℕ) (x : NodeInput) → IsSetup b.setup
     → Replays b.setup b.history b.state → node < b.setup.shape.nodes → AreCoins b.setup.shape coins
-    → IsInputOf b.state coins node x → FitsShape b.setup.shape node x
+    → IsInputOf b.state coins node x → FitsInput b.setup.shape node x
 fits_so b coins node x ok replays low fit is =
     let sound = sound_replay b.setup b.history b.state ok replays in
     let small : slice_index coins node < 2 = fit.1 node 0 (rw fit.0 low) in
@@ -108,7 +108,7 @@ sees s b coins node x is =
 
 -- its complete run is that of which the pulse tells the steps
 pub ran_so : (s : Setup) (b : State) (coins : List ℕ) (node : ℕ) (x : NodeInput) (end : End)
-    → IsInputOf b coins node x → FitsShape s.shape node x
+    → IsInputOf b coins node x → FitsInput s.shape node x
     → CompleteRun x.program.program (input_setting s.shape node x) x.memory.items end → RanTo s b coins node end
 ran_so s b coins node x end is fits run = record {
   program = x.program;

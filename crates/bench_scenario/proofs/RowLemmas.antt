@@ -12,7 +12,7 @@ use Rattle.scenario_text.specs.declared.scenario.Scenario.{Scenario}
 use Rattle.bench_scenario.specs.Coins.{coins_in_pulse, keyed}
 use Rattle.bench_scenario.specs.Events.{changes_at, events_to, load_events}
 use Rattle.bench_scenario.specs.Noise.{noise_events}
-use Rattle.bench_scenario.specs.inner.Rows.{Adds, AreChanges, Grew, of_pulse, told_events}
+use Rattle.bench_scenario.specs.inner.Rows.{AddsEvents, AreChanges, Grew, of_pulse, told_events}
 
 -- ---- a row is replaced
 
@@ -79,7 +79,7 @@ put_grew items rows place pulse old new event next within at more =
 
 -- nothing is left to add
 pub all_added : {X : Type 0} (f : ℕ → X → List Event) (old new : List (List Event)) (left all : List X) → left ≡ []
-    → Adds old new (λ p. flat_map (f p) left) (λ p. flat_map (f p) all) → Grew old new (λ p. flat_map (f p) all)
+    → AddsEvents old new (λ p. flat_map (f p) left) (λ p. flat_map (f p) all) → Grew old new (λ p. flat_map (f p) all)
 all_added f old new left all none adds =
     record {
       count = adds.count;

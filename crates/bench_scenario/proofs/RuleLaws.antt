@@ -4,7 +4,7 @@ use Rattle.std.specs.Prelude.{unwrap_or}
 use Rattle.bpf_insn.specs.declared.forms.Insn.{Insn}
 use Rattle.bpf_machine.specs.Run.{CompleteRun}
 use Rattle.node_env.specs.Env.{IsSetting}
-use Rattle.clock_nodes.specs.Ends.{IsStart}
+use Rattle.clock_nodes.specs.Ends.{IsNodeStart}
 use Rattle.rule_nodes.proofs.Whole.{rule_ends_so}
 use Rattle.bench_core.specs.State.{new_state, node_at, setting_at, coins_of}
 use Rattle.bench_core.specs.StepList.{entries_of}
@@ -23,7 +23,7 @@ rules_run s acts b b' i p rule z ok h are pulse lt loaded sizes fits code =
     let setting : IsSetting env = subst (λ (cs : List ℕ). IsSetting (setting_at s b.mail cs i)) (sym coins)
     (is_setting s b pulse.coins i ok sound pulse.is_open lt) in
     let held = sound.memories i lt in
-    let start : IsStart s.shape env memory = record {
+    let start : IsNodeStart s.shape env memory = record {
       extent = refl;
       setting = setting;
       length = held.length;

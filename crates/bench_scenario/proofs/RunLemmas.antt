@@ -7,7 +7,7 @@ use Rattle.bench_core.specs.Told.{PulseTold}
 use Rattle.bench_workers.specs.Events.{Event}
 use Rattle.bench_workers.specs.declared.event.RunRefusal.{RunRefusal}
 use Rattle.bench_workers.specs.declared.event.RunRefusal.TheVariants as refusals
-use Rattle.bench_workers.specs.Runs.{IsFault, IsRun}
+use Rattle.bench_workers.specs.Runs.{IsEventFault, IsRun}
 use Rattle.scenario_text.specs.declared.scenario.Scenario.{Scenario}
 use Rattle.scenario_text.specs.Texts.{ReadsText}
 use Rattle.scenario_text.specs.Views.{corrupt_of}
@@ -25,13 +25,13 @@ run_met s bench es records left same listed run =
     subst (λ e. IsRun (bench_of s) e records left) listed (subst (λ b. IsRun b es records left) same run)
 
 pub fault_met : (s : Scenario) (bench : Setup) (es : List Event) (place : ℕ) (refusal : RunRefusal)
-    → bench ≡ bench_of s → es ≡ events_of s → IsFault bench es place refusal
-    → IsFault (bench_of s) (events_of s) place refusal
+    → bench ≡ bench_of s → es ≡ events_of s → IsEventFault bench es place refusal
+    → IsEventFault (bench_of s) (events_of s) place refusal
 fault_met s bench es place refusal same listed fault =
-    subst (λ e. IsFault (bench_of s) e place refusal) listed (subst (λ b. IsFault b es place refusal) same fault)
+    subst (λ e. IsEventFault (bench_of s) e place refusal) listed (subst (λ b. IsEventFault b es place refusal) same fault)
 
 pub fault_due : (text : List ℕ) (s : Scenario) (place : ℕ) (refusal : RunRefusal) → ReadsText text s
-    → IsFault (bench_of s) (events_of s) place refusal → refusal ≢ refusals.GateShut → IsMemoryOrThread refusal
+    → IsEventFault (bench_of s) (events_of s) place refusal → refusal ≢ refusals.GateShut → IsMemoryOrThread refusal
 fault_due text s place refusal reads fault ungated =
     let changes = reads.2.spelled.changes in
     let pulses = reads.2.spelled.frame.pulses.2 in
@@ -49,7 +49,7 @@ keyed_met s key bench es records left same listed run =
 
 pub keyed_due : (text : List ℕ) (s : Scenario) (key : ℕ) (bench : Setup) (es : List Event) (place : ℕ)
     (refusal : RunRefusal) → ReadsText text s → bench ≡ bench_of s → es ≡ events_of (keyed s key)
-    → IsFault bench es place refusal → refusal ≢ refusals.GateShut → IsMemoryOrThread refusal
+    → IsEventFault bench es place refusal → refusal ≢ refusals.GateShut → IsMemoryOrThread refusal
 keyed_due text s key bench es place refusal reads same listed fault ungated =
     let changes = reads.2.spelled.changes in
     let pulses = reads.2.spelled.frame.pulses.2 in
@@ -57,7 +57,7 @@ keyed_due text s key bench es place refusal reads same listed fault ungated =
     let within = entries_within (keyed s key) in
     none_refused (bench_of s) (events_of (keyed s key)) place refusal (keyed_fit text s key reads)
     (omega (arith, length-map s.corruptions.items corrupt_of)) ungated
-    (subst (λ e. IsFault (bench_of s) e place refusal) listed (subst (λ b. IsFault b es place refusal) same fault))
+    (subst (λ e. IsEventFault (bench_of s) e place refusal) listed (subst (λ b. IsEventFault b es place refusal) same fault))
 
 pub is_memory : (refusal : RunRefusal) → IsMemoryOrThread refusal → refusal ≢ refusals.NoThread
     → refusal ≡ refusals.Memory

@@ -19,7 +19,7 @@ EachWentOn modulus before after =
     (node c d : ℕ) → ShowsClock before node c → ShowsClock after node d → d ≡ (c + 1) % modulus
 
 -- in each record all have one clock, and from each to the next each node went on. One record alone shows no going on
-pub record InStepFrom (modulus : ℕ) (rs : List PulseTold) : Type 0 where
+pub record AreInStep (modulus : ℕ) (rs : List PulseTold) : Type 0 where
   pub two : 1 < length rs
   pub one : (k : ℕ) (r : PulseTold) → slice_get rs k ≡ Some r → (c : ℕ) × HaveOne modulus r c
   pub on : (k : ℕ) (before after : PulseTold) → slice_get rs k ≡ Some before → slice_get rs (suc k) ≡ Some after
@@ -29,10 +29,10 @@ pub record InStepFrom (modulus : ℕ) (rs : List PulseTold) : Type 0 where
 pub record IsFirstInStep (modulus : ℕ) (rs : List PulseTold) (pulse : ℕ) : Type 0 where
   pub before : ℕ
   pub place : pulse ≡ before + 1
-  pub in_step : InStepFrom modulus (drop before rs)
-  pub least : (k : ℕ) → k < before → InStepFrom modulus (drop k rs) → ⊥
+  pub in_step : AreInStep modulus (drop before rs)
+  pub least : (k : ℕ) → k < before → AreInStep modulus (drop k rs) → ⊥
 
 -- the first pulse from which to the last the records are in step, or none
 abbrev pub IsInStepSince : ℕ → List PulseTold → Option ℕ → Type 0
 IsInStepSince modulus rs (Some pulse) = IsFirstInStep modulus rs pulse
-IsInStepSince modulus rs None = (k : ℕ) → InStepFrom modulus (drop k rs) → ⊥
+IsInStepSince modulus rs None = (k : ℕ) → AreInStep modulus (drop k rs) → ⊥

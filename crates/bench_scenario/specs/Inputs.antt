@@ -38,7 +38,7 @@ pub record RestsIn (s : Scenario) (pulse node : ℕ) : Type 0 where
   pub none : (node_at state.nodes node).program ≡ None
 
 -- the input of a node of this shape
-pub record FitsShape (shape : Extent) (node : ℕ) (x : NodeInput) : Type 0 where
+pub record FitsInput (shape : Extent) (node : ℕ) (x : NodeInput) : Type 0 where
   pub id : node < shape.nodes
   pub program : x.program.shape ≡ shape
   pub memory : length x.memory.items ≡ shape.memory
@@ -48,7 +48,8 @@ pub record FitsShape (shape : Extent) (node : ℕ) (x : NodeInput) : Type 0 wher
 abbrev pub HasPulse : Scenario → ℕ → Type 0
 HasPulse s pulse = (1 ≤ pulse) × (pulse ≤ s.pulses)
 
--- why the node runs nothing in that pulse: the first of these that holds. Lack of memory comes only if none of them does
+-- why the node runs nothing in that pulse: the first of these that holds. Lack of memory comes only if none of them
+-- does
 abbrev pub IsNoInput : Scenario → ℕ → ℕ → InputFault → Type 0
 IsNoInput s pulse node faults.NoPulse = HasPulse s pulse → ⊥
 IsNoInput s pulse node faults.NoNode = HasPulse s pulse × (s.nodes ≤ node)

@@ -6,7 +6,7 @@ use Rattle.bench_core.specs.Told.{PulseTold}
 use Rattle.bench_core.specs.Views.{setup_with}
 use Rattle.bench_workers.specs.declared.event.RunRefusal.{RunRefusal}
 use Rattle.bench_workers.specs.declared.event.RunRefusal.TheVariants as refusals
-use Rattle.bench_workers.specs.Runs.{IsFault, IsRun}
+use Rattle.bench_workers.specs.Runs.{IsEventFault, IsRun}
 use Rattle.scenario_text.specs.declared.scenario.Scenario.{Scenario}
 use Rattle.scenario_text.specs.Spelling.{clock_insns, clock_rule_of}
 use Rattle.scenario_text.specs.Texts.{IsDue, ReadsText}
@@ -57,7 +57,7 @@ IsMemoryOrThread refusals.GateShut = ⊥
 
 -- the run of this scenario stopped at that event, and only for lack of memory or of a thread
 pub record StopsRun (s : Scenario) (event : ℕ) (refusal : RunRefusal) : Type 0 where
-  pub fault : IsFault (bench_of s) (events_of s) event refusal
+  pub fault : IsEventFault (bench_of s) (events_of s) event refusal
   pub want : IsMemoryOrThread refusal
 
 -- the same of the scenario that the text says

@@ -1,6 +1,6 @@
 -- How the run of a scenario before a watcher ends early (docs/ARCHITECTURE.md, "Watchers of a run").
 use Rattle.std.specs.Prelude.{◌≡◌, List, take}
-use Rattle.bench_workers.specs.Runs.{IsFault}
+use Rattle.bench_workers.specs.Runs.{IsEventFault}
 use Rattle.bench_workers.specs.Watching.{Seen, StoppedAt, Watched}
 use Rattle.scenario_text.specs.declared.scenario.Scenario.{Scenario}
 use Rattle.bench_scenario.specs.declared.watched.WatchedFault.{WatchedFault}
@@ -15,6 +15,6 @@ abbrev pub ScenarioEndsAt : {K S : Type 0} → (T E : K → S → Seen → K →
     → Type 0
 ScenarioEndsAt T E s k o k' o' faults.Memory = (k' ≡ k) × (o' ≡ o)
 ScenarioEndsAt T E s k o k' o' (faults.Run fault) =
-    IsFault (bench_of s) (events_of s) fault.event fault.fault × IsMemoryOrThread fault.fault
+    IsEventFault (bench_of s) (events_of s) fault.event fault.fault × IsMemoryOrThread fault.fault
     × ((xs : List Seen) × Watched T (bench_of s) (take fault.event (events_of s)) k o xs k' o')
 ScenarioEndsAt T E s k o k' o' (faults.Stopped event) = StoppedAt T E (bench_of s) (events_of s) event k o k' o'

@@ -12,7 +12,7 @@ use std::alloc::{AllocError, Global};
 /// The stream of the generator from which coins are drawn.
 const COIN_STREAM: u64 = 0;
 
-/// The words that a key gives in a stream, from a place on.
+/// Returns the words that a key gives in a stream, from a place on.
 pub(crate) fn generator_at(key: u64, stream: u64, place: u64) -> ChaCha8Rng
     ensures { result ≡ record { key = key_of (seed_of key); stream = stream; word_pos = place } }
 {
@@ -24,7 +24,7 @@ pub(crate) fn generator_at(key: u64, stream: u64, place: u64) -> ChaCha8Rng
     generator
 }
 
-/// The coins of the key from a place on.
+/// Returns the coins of the key from a place on.
 fn chacha_coins(alloc: Global, key: u64, place: u64, count: u32) -> Result<Vec<u32>, AllocError>
     ensures { IfOk result (λ coins. coins.items ≡ map (λ node. coin_at key (place + node)) (places_below count)) }
 {
@@ -36,7 +36,7 @@ fn chacha_coins(alloc: Global, key: u64, place: u64, count: u32) -> Result<Vec<u
     Ok(coins)
 }
 
-/// The coins from a place on. Words are drawn only where they decide.
+/// Returns the coins from a place on. Words are drawn only where they decide.
 fn drawn_coins(
     alloc: Global,
     coins: Coins,
@@ -79,7 +79,7 @@ fn replace_coins(coins: &mut [u32], entries: &[CoinEntry], pulse: u32)
     }
 }
 
-/// The coins of a pulse, by node, if the scenario has this key.
+/// Returns the coins of a pulse, by node, if the scenario has this key.
 pub(crate) fn coins_of(
     alloc: Global,
     scenario: &Scenario,

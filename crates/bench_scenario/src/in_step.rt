@@ -6,7 +6,7 @@ ghost use Rattle.bench_scenario.specs.inner.InStep.{BeginsInStep, StaysSince};
 use crate::verdicts::{are_one, counting, first_clock};
 use bench_core::PulseRecord;
 
-/// Whether some node ran the clock, and all that did have one clock below the modulus.
+/// Returns true if some node ran the clock, and all that did have one clock below the modulus.
 fn have_one(modulus: u32, one: &PulseRecord) -> bool
     ensures { IsTrue result ↔ ((c : ℕ) × HaveOne modulus one.now c) }
 {
@@ -14,7 +14,7 @@ fn have_one(modulus: u32, one: &PulseRecord) -> bool
     first_clock(clocks).is_some() && are_one(modulus, clocks)
 }
 
-/// Whether each node that ran the clock in both pulses went on by one.
+/// Returns true if each node that ran the clock in both pulses went on by one.
 fn went_on(modulus: u32, before: &PulseRecord, after: &PulseRecord) -> bool
     requires { (c : ℕ) × HaveOne modulus before.now c }
     ensures { IsTrue result ↔ EachWentOn modulus before.now after.now }
@@ -22,7 +22,8 @@ fn went_on(modulus: u32, before: &PulseRecord, after: &PulseRecord) -> bool
     counting(modulus, before.clocks.as_slice(), after.clocks.as_slice()).unwrap_or(true)
 }
 
-/// Whether all have one clock in the first of these records, and went on from it to the second, if there is one.
+/// Returns true if all have one clock in the first of these records, and went on from it to the second, if there is
+/// one.
 fn begins_in_step(modulus: u32, records: &[PulseRecord]) -> bool
     ensures { IsTrue result ↔ BeginsInStep modulus records.now }
 {
@@ -38,7 +39,7 @@ fn begins_in_step(modulus: u32, records: &[PulseRecord]) -> bool
     }
 }
 
-/// The first pulse, counted from 1, from which to the last the records stay in step, one alone too.
+/// Returns the first pulse, counted from 1, from which to the last the records stay in step, one alone too.
 fn stays_since(modulus: u32, records: &[PulseRecord]) -> Option<usize>
     ensures { StaysSince modulus records.now result }
 {

@@ -5,7 +5,7 @@ ghost use Rattle.bench_core.specs.State.{AreCoins, node_at};
 ghost use Rattle.bench_workers.specs.Opening.{OpensPulse};
 ghost use Rattle.scenario_text.specs.Texts.{ReadsText};
 ghost use Rattle.bench_scenario.specs.Events.{events_of};
-ghost use Rattle.bench_scenario.specs.Inputs.{FitsShape, IsInputOf, IsNoInput, RunsIn};
+ghost use Rattle.bench_scenario.specs.Inputs.{FitsInput, IsInputOf, IsNoInput, RunsIn};
 ghost use Rattle.bench_scenario.specs.Runs.{bench_of};
 
 use crate::keyed::want_of;
@@ -41,7 +41,7 @@ pub enum InputFault {
     Memory,
 }
 
-/// What each node sent to this one.
+/// Returns what each node sent to this one.
 fn heard_by(alloc: Global, mail: &Mail, node: u32) -> Result<Vec<Option<u32>>, AllocError>
     requires { node < length mail.now }
     ensures { IfOk result (λ heard. heard.items ≡ map (λ row. get row node) mail.now) }
@@ -53,7 +53,7 @@ fn heard_by(alloc: Global, mail: &Mail, node: u32) -> Result<Vec<Option<u32>>, A
     Ok(heard)
 }
 
-/// The input of a node with this program, in an open pulse.
+/// Returns the input of a node with this program, in an open pulse.
 fn input_of(
     alloc: Global,
     opened: &OpenBench,
@@ -64,7 +64,7 @@ fn input_of(
     requires coins { AreCoins opened.now.bench.setup.shape opened.now.coins.items }
     requires program { (node_at opened.now.bench.state.nodes node).program ≡ Some program.now }
     ensures input { IfOk result (IsInputOf opened.now.bench.state opened.now.coins.items node) }
-    ensures fits { IfOk result (FitsShape opened.now.bench.setup.shape node) }
+    ensures fits { IfOk result (FitsInput opened.now.bench.setup.shape node) }
 {
     let bench = &opened.bench;
     let _history = bench.history(); // brings what holds of its state
@@ -112,7 +112,7 @@ pub fn node_input<T: Threads + Wait + Sync>(
 ) -> Result<NodeInput, InputFault>
     requires reads { (text : List ℕ) × ReadsText text scenario.now }
     ensures input { IfOk result (RunsIn scenario.now pulse node) }
-    ensures fits { IfOk result (FitsShape (bench_of scenario.now).shape node) }
+    ensures fits { IfOk result (FitsInput (bench_of scenario.now).shape node) }
     ensures fault { IfErr result (IsNoInput scenario.now pulse node) }
 {
     if pulse == 0 || scenario.pulses < pulse {

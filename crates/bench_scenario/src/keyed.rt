@@ -34,7 +34,7 @@ pub fn run_with_key<T: Threads + Wait + Sync>(
     }
 }
 
-/// A run in the caller's thread stops for lack of memory alone.
+/// Returns the fault of a run in the caller's thread, which stops for lack of memory alone.
 pub(crate) fn want_of(refusal: RunRefusal) -> AllocError
     requires { refusal ≡ Memory }
 {

@@ -10,8 +10,9 @@ pub fn verdicts()
     ensures nothing { CountsNothing }
 {}
 
-/// States that in every closed pulse of every list of steps each node whose program is that of a rule does what the rule
-/// means: its memory afterwards and its messages are those that the rule gives for its memory, inbox, coin and number.
+/// States that in every closed pulse of every list of steps each node whose program is that of a rule does what the
+/// rule means: its memory afterwards and its messages are those that the rule gives for its memory, inbox, coin and
+/// number.
 pub fn rules_run()
     ensures { RulesRun }
 {}

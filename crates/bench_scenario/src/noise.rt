@@ -23,7 +23,7 @@ pub(crate) struct Draw {
     pub(crate) pulse: u32,
 }
 
-/// The place of a node's first message in a pulse.
+/// Returns the place of a node's first message in a pulse.
 fn first_place(nodes: u32, pulse: u32, sender: u32) -> u64
     requires few { nodes ≤ MAX_NODES }
     requires first { 1 ≤ pulse }
@@ -33,7 +33,7 @@ fn first_place(nodes: u32, pulse: u32, sender: u32) -> u64
     row * u64::from(nodes)
 }
 
-/// The message that a word gives.
+/// Returns the message that a word gives.
 fn message_of(modulus: u32, word: u32) -> Option<u32>
     ensures { result ≡ message_of modulus word }
 {
@@ -46,7 +46,7 @@ fn message_of(modulus: u32, word: u32) -> Option<u32>
     }
 }
 
-/// The messages of a node in a pulse, by receiver.
+/// Returns the messages of a node in a pulse, by receiver.
 fn messages(
     alloc: Global,
     scenario: &Scenario,
@@ -65,7 +65,7 @@ fn messages(
     Ok(sent)
 }
 
-/// The program that sends a node's messages in a pulse.
+/// Returns the program that sends a node's messages in a pulse.
 fn noise_program(
     alloc: Global,
     scenario: &Scenario,

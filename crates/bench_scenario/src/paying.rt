@@ -7,7 +7,7 @@ use scenario_text::{Load, Scenario};
 /// From this many steps on, threads pay in a pulse (benchmarks/README.md, "Workers").
 const PAYING_STEPS: u64 = 100_000;
 
-/// What a load's program announces in a node: nothing if it isn't loaded there.
+/// Returns what a load's program announces in a node: nothing if it isn't loaded there.
 fn announced_of(load: &Load, node: u32) -> u32
     ensures { result ≡ announced_of load.now node }
 {
@@ -18,7 +18,7 @@ fn announced_of(load: &Load, node: u32) -> u32
     }
 }
 
-/// The most that a program announces which comes into a node.
+/// Returns the most that a program announces which comes into a node.
 fn announced_at(loads: &[Load], node: u32) -> u32
     ensures { result ≡ announced_at loads.now node }
 {
@@ -29,7 +29,7 @@ fn announced_at(loads: &[Load], node: u32) -> u32
     most
 }
 
-/// The sum of that over the nodes: no pulse takes more steps, if no messages are drawn. Those of noise are few.
+/// Returns the sum of that over the nodes: no pulse takes more steps, if no messages are drawn. Those of noise are few.
 fn announced_by(scenario: &Scenario) -> u64
     ensures { result ≡ announced_by scenario.now.loads.items scenario.now.nodes }
 {
@@ -40,7 +40,7 @@ fn announced_by(scenario: &Scenario) -> u64
     sum
 }
 
-/// This many of the workers as pay.
+/// Returns as many of the workers as pay.
 pub(crate) fn useful_workers(scenario: &Scenario, workers: u32) -> u32
     ensures { result ≡ useful_workers scenario.now workers }
 {

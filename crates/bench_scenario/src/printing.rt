@@ -30,7 +30,7 @@ fn add_number(report: &mut String, number: u32) -> Result<(), AllocError>
 
 // ---- the first line
 
-/// The version, but for the first one.
+/// Adds the version, but for the first one.
 fn add_version(report: &mut String, scenario: &Scenario) -> Result<(), AllocError>
     ensures { OnOk result (string_bytes report.new
         ≡ string_bytes report.old ++ version_text (frame_of scenario.now)) }
@@ -93,7 +93,7 @@ fn add_head(report: &mut String, scenario: &Scenario) -> Result<(), AllocError>
 
 // ---- the lines of pulses
 
-/// A clock of one digit, as most are, with the space before it.
+/// Returns a clock of one digit, as most are, with the space before it.
 #[tactic(auto, using(std::proofs::lemmas::Fmt::decimal_digit))]
 fn short_clock(clock: u32) -> Option<&'static str>
     ensures { IfSome result (λ text. text.now ≡ codes " " ++ decimal clock) }
@@ -113,7 +113,7 @@ fn short_clock(clock: u32) -> Option<&'static str>
     }
 }
 
-/// A clock that has a value, with the space before it.
+/// Adds a clock that has a value, with the space before it.
 fn add_value(report: &mut String, clock: u32) -> Result<(), AllocError>
     ensures { OnOk result (string_bytes report.new ≡ string_bytes report.old ++ (codes " " ++ decimal clock)) }
 {
@@ -126,7 +126,7 @@ fn add_value(report: &mut String, clock: u32) -> Result<(), AllocError>
     }
 }
 
-/// Whether a clock has no value.
+/// Returns true if a clock has no value.
 fn is_past(scenario: &Scenario, clock: u32) -> bool
     ensures { result ≡ is_past (frame_of scenario.now) clock }
 {
@@ -163,7 +163,7 @@ fn add_clocks(
     Ok(())
 }
 
-/// The line up to its clocks.
+/// Adds the line up to its clocks.
 fn add_front(report: &mut String, pulse: u32) -> Result<(), AllocError>
     ensures { OnOk result (string_bytes report.new
         ≡ string_bytes report.old ++ (codes "pulse " ++ (decimal pulse ++ codes " clocks"))) }
@@ -173,7 +173,7 @@ fn add_front(report: &mut String, pulse: u32) -> Result<(), AllocError>
     add(report, " clocks")
 }
 
-/// What is between the clocks and the verdicts.
+/// Adds what is between the clocks and the verdicts.
 fn add_counts(report: &mut String, settled: u32, steps: u32) -> Result<(), AllocError>
     ensures { OnOk result (string_bytes report.new
         ≡ string_bytes report.old ++ (codes " settled " ++ (decimal settled ++ (codes " steps "
@@ -252,14 +252,14 @@ fn is_yes(verdict: Option<bool>) -> bool
     verdict.unwrap_or(false)
 }
 
-/// How many pulses agree.
+/// Returns how many pulses agree.
 pub(crate) fn agreed(judged: &[Judged]) -> usize
     ensures { result ≡ agreed judged.now }
 {
     judged.iter().filter(|one| is_yes(one.agree)).count()
 }
 
-/// Of how many pulses it is judged whether they agree.
+/// Returns of how many pulses it is judged whether they agree.
 pub(crate) fn agreement_judged(judged: &[Judged]) -> usize
     ensures { result ≡ agreement_judged judged.now }
 {
@@ -300,7 +300,7 @@ fn last_line(alloc: Global, scenario: &Scenario, judged: &[Judged]) -> Result<St
 
 // ---- the report
 
-/// The report of these records, of which this is judged.
+/// Returns the report of these records, of which this is judged.
 fn report_text(
     alloc: Global,
     scenario: &Scenario,

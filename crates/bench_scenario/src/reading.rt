@@ -38,7 +38,7 @@ pub fn read_scenario<R: Read>(alloc: Global, reader: &mut R) -> Result<Scenario,
     }
 }
 
-/// What a refusal of these bytes is to a reader: lack of memory is none.
+/// Returns what a refusal of these bytes is to a reader: lack of memory is none.
 fn fault_of(error: ScenarioError, text: Vec<u8>) -> TextFault
     ensures { (input : List ℕ) → IsDueUnlessMemory input error → text.items ≡ take MAX_BYTES input
         → IsDueOfText input result }

@@ -52,7 +52,7 @@ pub enum ReportFault {
     Memory,
 }
 
-/// The bench that a scenario is run on.
+/// Returns the bench that a scenario is run on.
 pub(crate) fn bench_for(alloc: Global, scenario: &Scenario) -> Result<Bench, AllocError>
     requires reads { (text : List ℕ) × ReadsText text scenario.now }
     ensures setup { IfOk result (λ b. b.setup ≡ bench_of scenario.now) }
@@ -70,7 +70,7 @@ pub(crate) fn bench_for(alloc: Global, scenario: &Scenario) -> Result<Bench, All
     }
 }
 
-/// The report of the run of a scenario that was read.
+/// Returns the report of the run of a scenario that was read.
 fn report_of<T: Threads + Wait + Sync>(
     rt: &T,
     alloc: Global,

@@ -97,7 +97,7 @@ fn empty_rows(alloc: Global, pulses: u32) -> Result<Vec<Vec<Event>>, AllocError>
     Ok(rows)
 }
 
-/// What is staged before each pulse: its loads, unloads and corruptions, each in order.
+/// Returns what is staged before each pulse: its loads, unloads and corruptions, each in order.
 fn changes(alloc: Global, scenario: &Scenario) -> Result<Vec<Vec<Event>>, AllocError>
     ensures { IfOk result (λ rows. AreChanges scenario.now (told_events (λ r. r.items) rows.items) 0) }
 {
@@ -134,7 +134,7 @@ pub fn events(alloc: Global, scenario: &Scenario) -> Result<Vec<Event>, AllocErr
     events_with_key(alloc, scenario, scenario.key.unwrap_or(0))
 }
 
-/// The same if the scenario has this key.
+/// Returns the same if the scenario has this key.
 pub(crate) fn events_with_key(
     alloc: Global,
     scenario: &Scenario,

@@ -27,7 +27,7 @@ fn is_no(verdict: Option<bool>) -> bool
     }
 }
 
-/// The first pulse that disagrees.
+/// Returns the first pulse that disagrees.
 fn first_no(judged: &[Judged]) -> Option<usize>
     ensures { result ≡ first_no 1 judged.now }
 {

@@ -21,14 +21,14 @@ pub struct Judged {
     pub counts: Option<bool>,
 }
 
-/// The clock of a node, if it is settled.
+/// Returns the clock of a node, if it is settled.
 fn told_clock(settled: bool, clock: Option<u32>) -> Option<u32>
     ensures { result ≡ (if settled then clock else None) }
 {
     if settled { clock } else { None }
 }
 
-/// The clock of each node that is settled, node by node.
+/// Returns the clock of each node that is settled, node by node.
 fn told_clocks(
     alloc: Global,
     settled: &[bool],
@@ -70,7 +70,7 @@ fn are_all(clock: u32, clocks: &[Option<u32>]) -> bool
     clocks.iter().all(|other| is_clock(clock, *other))
 }
 
-/// Whether all are equal, and none is past the modulus.
+/// Returns true if all are equal, and none is past the modulus.
 pub(crate) fn are_one(modulus: u32, clocks: &[Option<u32>]) -> bool
     ensures { result ≡ are_one modulus clocks.now (first_clock clocks.now) }
 {
@@ -80,8 +80,8 @@ pub(crate) fn are_one(modulus: u32, clocks: &[Option<u32>]) -> bool
     }
 }
 
-/// Whether the settled clocks of a pulse agree: nothing if fewer than two nodes are settled. Another clock than the
-/// rule's (`own`) is held to one value below the modulus; for the rule's, the pulse's record has the answer.
+/// Returns whether the settled clocks of a pulse agree: nothing if fewer than two nodes are settled. Another clock than
+/// the rule's (`own`) is held to one value below the modulus; for the rule's, the pulse's record has the answer.
 fn agreement(own: bool, modulus: u32, one: &PulseRecord, clocks: &[Option<u32>]) -> Option<bool>
     requires { clocks.now ≡ settled_in one.now }
     ensures { result ≡ agreement own modulus one.now }
@@ -95,7 +95,7 @@ fn agreement(own: bool, modulus: u32, one: &PulseRecord, clocks: &[Option<u32>])
     }
 }
 
-/// Whether the clock went on by one.
+/// Returns true if the clock went on by one.
 fn counts_on(modulus: u32, before: u32, after: u32) -> bool
     ensures { result ≡ counts_on modulus before after }
 {
@@ -121,7 +121,7 @@ fn joined(one: Option<bool>, other: Option<bool>) -> Option<bool>
     }
 }
 
-/// Whether the clocks of nodes that are settled in two pulses counted.
+/// Returns whether the clocks of nodes that are settled in two pulses counted.
 pub(crate) fn counting(modulus: u32, before: &[Option<u32>], after: &[Option<u32>]) -> Option<bool>
     ensures { result ≡ counting modulus before.now after.now }
 {
@@ -133,7 +133,7 @@ pub(crate) fn counting(modulus: u32, before: &[Option<u32>], after: &[Option<u32
     verdict
 }
 
-/// What is judged of a pulse from version 3 on, with the settled clocks of the pulse before and its own.
+/// Returns what is judged of a pulse from version 3 on, with the settled clocks of the pulse before and its own.
 fn judged_by(
     own: bool,
     modulus: u32,
@@ -150,7 +150,7 @@ fn judged_by(
     }
 }
 
-/// What is judged of a pulse in versions 1 and 2.
+/// Returns what is judged of a pulse in versions 1 and 2.
 fn judged_plainly(one: &PulseRecord) -> Judged
     ensures { result ≡ judged_plainly one.now }
 {
@@ -160,14 +160,14 @@ fn judged_plainly(one: &PulseRecord) -> Judged
     }
 }
 
-/// The clock of each settled node, node by node.
+/// Returns the clock of each settled node, node by node.
 fn settled_in(alloc: Global, one: &PulseRecord) -> Result<Vec<Option<u32>>, AllocError>
     ensures { IfOk result (λ clocks. clocks.items ≡ settled_in one.now) }
 {
     told_clocks(alloc, one.settled.as_slice(), one.clocks.as_slice())
 }
 
-/// The same of the pulse before, which the first pulse doesn't have.
+/// Returns the same of the pulse before, which the first pulse doesn't have.
 fn settled_before(
     alloc: Global,
     earlier: Option<&PulseRecord>,
@@ -205,7 +205,8 @@ pub fn judgement(
     ))
 }
 
-/// What is judged of each pulse of a run from version 3 on. The settled clocks of a pulse are kept for the next one.
+/// Returns what is judged of each pulse of a run from version 3 on. The settled clocks of a pulse are kept for the next
+/// one.
 fn judged_in_turn(
     alloc: Global,
     own: bool,
@@ -224,7 +225,7 @@ fn judged_in_turn(
     Ok(judged)
 }
 
-/// What is judged of each pulse of a run in versions 1 and 2.
+/// Returns what is judged of each pulse of a run in versions 1 and 2.
 fn all_judged_plainly(alloc: Global, records: &[PulseRecord]) -> Result<Vec<Judged>, AllocError>
     ensures { IfOk result (λ judged. judged.items ≡ map judged_plainly records.now) }
 {

@@ -5,31 +5,31 @@ use mathlib.Core.Option.{some, none, some-ne-none, some-injective}
 use lib.ListN.{get_elem?}
 use Rattle.atomic_table.specs.Table.{Me, keeps, step, opening, Allows, Splits, Joins}
 use Rattle.atomic_table.proofs.Lists.{at_set, at_snoc, set_again}
-use Rattle.bench_core.specs.Told.{Row, IsRow}
+use Rattle.bench_core.specs.Told.{Row, IsPulseRow}
 use Rattle.bench_shared.specs.Rows.{InOrder, StartsWith}
 use Rattle.bench_shared.specs.inner.Rows.{row_word, row_word_at, word_of_last}
-use Rattle.bench_shared.specs.inner.Boards.{engine, watcher, hearing, Fits, Kept, Posts, Looks, Compares}
+use Rattle.bench_shared.specs.inner.Boards.{engine, watcher, hearing, FitsSeat, Kept, Posts, Looks, Compares}
 use Rattle.bench_shared.specs.declared.rule.View.{View}
 use Rattle.bench_shared.proofs.Rowing.{starts-refl, starts-same, starts-more, starts-none, last_row-push, in_order-push}
 
 abbrev AllFit : ℕ → List Row → List View → Type 0
-AllFit seat posted views = (by : ℕ) (v : View) → get_elem? views by ≡ some v → Fits seat posted by v
+AllFit seat posted views = (by : ℕ) (v : View) → get_elem? views by ≡ some v → FitsSeat seat posted by v
 
 off : false ≡ true → ⊥
 off e = true≢false (sym e)
 
 -- one view changes
 fits_set : (seat : ℕ) (posted : List Row) (views : List View) (by : ℕ) (w : View)
-    → ((j : ℕ) (u : View) → j ≢ by → get_elem? views j ≡ some u → Fits seat posted j u) → Fits seat posted by w
+    → ((j : ℕ) (u : View) → j ≢ by → get_elem? views j ≡ some u → FitsSeat seat posted j u) → FitsSeat seat posted by w
     → AllFit seat posted (set views by w)
 fits_set seat posted views by w others mine j u e =
     ⊎_elim
-    (λ (x : (j ≡ by) × (w ≡ u)). subst (λ (y : ℕ × View). Fits seat posted y.0 y.1) (λ i. (sym x.0 i, x.1 i)) mine)
+    (λ (x : (j ≡ by) × (w ≡ u)). subst (λ (y : ℕ × View). FitsSeat seat posted y.0 y.1) (λ i. (sym x.0 i, x.1 i)) mine)
     (λ (x : (j ≢ by) × (get_elem? views j ≡ some u)). others j u x.0 x.1)
     (at_set views by j w u e)
 
 watcher_fits : (seat : ℕ) (posted rows : List Row) (by : ℕ) → StartsWith posted rows
-    → Fits seat posted by (watcher rows)
+    → FitsSeat seat posted by (watcher rows)
 watcher_fits seat posted rows by h = record { whole = λ e. absurd (off e); seen = h; heard = starts-none posted }
 
 -- the word stays
@@ -39,11 +39,11 @@ same_word ws x e = ap (λ l. set l 0 (slice_index l 0)) e
 pub begins : Kept (opening (0 ∷ []) [] (engine []))
 begins = ([], 0, refl, tt, one)
   where
-    first : Fits 0 [] 0 (engine [])
+    first : FitsSeat 0 [] 0 (engine [])
     first = record { whole = λ _. (refl, refl); seen = starts-none []; heard = starts-none [] }
 
-    one : (by : ℕ) (v : View) → get_elem? (engine [] ∷ []) by ≡ some v → Fits 0 [] by v
-    one zero v e = subst (λ (u : View). Fits 0 [] 0 u) (some-injective _ _ e) first
+    one : (by : ℕ) (v : View) → get_elem? (engine [] ∷ []) by ≡ some v → FitsSeat 0 [] by v
+    one zero v e = subst (λ (u : View). FitsSeat 0 [] 0 u) (some-injective _ _ e) first
     one (suc by) v e = absurd (some-ne-none v (sym e))
 
 pub looks : (slots id : ℕ) (me : Me (Unit {0}) View)
@@ -86,7 +86,7 @@ compares slots id me is_engine s h size at below =
       (refl, subst (λ l. StartsWith l me.0.heard) (sym known.1) mine.heard, subst (λ l. InOrder l) (sym known.1) h.3),
     )
 
-pub posts : (slots id : ℕ) (me : Me (Unit {0}) View) (r : Row) (new : ℕ) → me.0.posts ≡ true → IsRow r
+pub posts : (slots id : ℕ) (me : Me (Unit {0}) View) (r : Row) (new : ℕ) → me.0.posts ≡ true → IsPulseRow r
     → r.pulse ≡ length me.0.rows + 1 → new ≡ row_word r
     → Allows Kept slots id me 0 (λ _. new) (λ _. Posts (step slots 0 new 0 none) me new)
 posts slots id me r new is_engine is next word s h size at below =
@@ -132,7 +132,7 @@ splits id v rows less s h at = (
   h.3,
   λ j u e. ⊎_elim
       (λ was. h.4 j u (subst (λ l. get_elem? l j ≡ some u) (set_again s.views id v at) was))
-      (λ (same : watcher rows ≡ u). subst (λ (x : View). Fits h.1 h.0 j x) same
+      (λ (same : watcher rows ≡ u). subst (λ (x : View). FitsSeat h.1 h.0 j x) same
       (watcher_fits h.1 h.0 rows j (less h.0 (h.4 id v at).seen)))
       (at_snoc (set s.views id v) (watcher rows) u j e),
 )

@@ -1,7 +1,7 @@
 -- Rows in order, their words, and beginnings of lists.
 use Rattle.std.proofs.Common.{◌≡◌, ◌⊎◌, ◌<◌, ◌≤◌, ℕ, ◌+◌, ◌*◌, List, [], ◌∷◌, ◌++◌, length, Some, None, refl, sym, ap, ◌∙◌, subst, arith, append_assoc, length-append}
 use Rattle.std.proofs.lemmas.Bool.Decides.{nat_tests}
-use Rattle.bench_core.specs.Told.{Row, IsRow}
+use Rattle.bench_core.specs.Told.{Row, IsPulseRow}
 use Rattle.clock_nodes.specs.declared.rule.TheConstants.{MAX_MODULUS}
 use Rattle.bench_core.specs.declared.limits.TheConstants.{CLOCKS_DIFFER, MAX_COUNTED}
 use Rattle.bench_shared.specs.declared.word.TheConstants.{ZERO_UNIT, COMMON_UNIT, PULSE_UNIT}
@@ -29,16 +29,16 @@ last_row-push [] r = refl
 last_row-push (x ∷ []) r = refl
 last_row-push (x ∷ y ∷ ys) r = last_row-push (y ∷ ys) r
 
-pub in_order-push : (n : ℕ) (rows : List Row) (r : Row) → InOrderFrom n rows → IsRow r
+pub in_order-push : (n : ℕ) (rows : List Row) (r : Row) → InOrderFrom n rows → IsPulseRow r
     → r.pulse ≡ (n + length rows) + 1 → InOrderFrom n (rows ++ r ∷ [])
 in_order-push n [] r o is p = (is, omega arith, tt)
 in_order-push n (x ∷ xs) r o is p = (o.0, o.1, in_order-push (n + 1) xs r o.2 is (omega arith))
 
 pub in_order-last : (n : ℕ) (rows : List Row) (r : Row) → InOrderFrom n rows → last_row rows ≡ Some r
-    → IsRow r × (r.pulse ≡ n + length rows)
+    → IsPulseRow r × (r.pulse ≡ n + length rows)
 in_order-last n [] r o e = absurd (cc)
 in_order-last n (x ∷ []) r o e = let same : x ≡ r = cc in
-    subst (λ (y : Row). IsRow y × (y.pulse ≡ n + 1)) same (o.0, o.1)
+    subst (λ (y : Row). IsPulseRow y × (y.pulse ≡ n + 1)) same (o.0, o.1)
 in_order-last n (x ∷ y ∷ ys) r o e = let h = in_order-last (n + 1) (y ∷ ys) r o.2 e in (h.0, omega (arith, h.1))
 
 pub in_order-none : (n : ℕ) (rows : List Row) → last_row rows ≡ None → length rows ≡ 0
@@ -69,7 +69,7 @@ digits : (p q a b c d e f : ℕ) → a ≤ MAX_MODULUS → b ≤ MAX_MODULUS →
 digits p q a b c d e f ha hb hc hd he hf eq = (omega arith, omega arith, omega arith, omega arith)
 
 -- rows of one word are one row
-pub word_of-injective : (r s : Row) → IsRow r → IsRow s → row_word r ≡ row_word s → r ≡ s
+pub word_of-injective : (r s : Row) → IsPulseRow r → IsPulseRow s → row_word r ≡ row_word s → r ≡ s
 word_of-injective r s hr hs e =
     let d = digits r.pulse s.pulse (short_of r.common) (short_of s.common) r.zeros s.zeros r.settled s.settled
     (short_of-bound r.common hr.common) (short_of-bound s.common hs.common) hr.zeros hs.zeros hr.settled hs.settled e in

@@ -2,7 +2,7 @@
 use Rattle.std.proofs.Common.{◌≡◌, ◌+◌, ℕ, List, [], ◌∷◌, ◌++◌, length, Option, Some, None, refl, sym, ap, ◌∙◌, subst, arith}
 use mathlib.Core.Option.{none}
 use Rattle.atomic_table.specs.Table.{Me, step}
-use Rattle.bench_core.specs.Told.{Row, IsRow}
+use Rattle.bench_core.specs.Told.{Row, IsPulseRow}
 use Rattle.bench_shared.specs.Rows.{last_row, InOrder, StartsWith}
 use Rattle.bench_shared.specs.inner.Rows.{row_word, row_word_at, word_of_last, pulse_of}
 use Rattle.bench_shared.specs.inner.Boards.{engine, watcher, Posts, Looks}
@@ -23,7 +23,7 @@ looked old n me is l =
     )
 
 pub found : (rows : List Row) (n : ℕ) (o : Option Row) → n ≡ row_word_at rows → InOrder rows → (n ≡ 0 → o ≡ None)
-    → ((r : Row) → IsRow r → n ≡ row_word r → o ≡ Some r) → o ≡ last_row rows
+    → ((r : Row) → IsPulseRow r → n ≡ row_word r → o ≡ Some r) → o ≡ last_row rows
 found rows n o is order none_is some_is = by_last (last_row rows) refl
   where
     by_last : (l : Option Row) → last_row rows ≡ l → o ≡ last_row rows
@@ -38,7 +38,7 @@ last_pulse rows order = by_last (last_row rows) refl
     by_last (Some r) e = ap pulse_of e ∙ omega (arith, (in_order-last 0 rows r order e).1)
 
 pub posted : (old : SeatMe) (n : ℕ) (me : SeatMe) (r : Row) → old ≡ (engine old.0.rows, []) → InOrder old.0.rows
-    → IsRow r → n ≡ row_word r → r.pulse ≡ length old.0.rows + 1 → Posts (step 0 0 0 0 none) old n me
+    → IsPulseRow r → n ≡ row_word r → r.pulse ≡ length old.0.rows + 1 → Posts (step 0 0 0 0 none) old n me
     → (me ≡ (engine me.0.rows, [])) × (me.0.rows ≡ old.0.rows ++ r ∷ []) × InOrder me.0.rows
 posted old n me r is order ranges word next p =
     let same : p.0 ≡ r = word_of-injective p.0 r p.1 ranges (p.2 ∙ word) in

@@ -78,7 +78,7 @@ impl Model for WatchPass {
     } };
 }
 
-/// The number of the row's pulse, or 0 without a row.
+/// Returns the number of the row's pulse, or 0 without a row.
 fn pulse(row: &Option<Row>) -> u32
     ensures { result ≡ pulse_of row.now }
 {
@@ -89,7 +89,7 @@ fn pulse(row: &Option<Row>) -> u32
 }
 
 impl Board {
-    /// A board with no row, and the engine's seat at it.
+    /// Returns a board with no row, and the engine's seat at it.
     pub(crate) fn new(alloc: Global) -> Result<(Board, EngineSeat), AllocError>
         ensures { IfOk result (λ r. (r.1.board ≡ r.0) × (r.1.rows ≡ [])) }
     {
@@ -97,7 +97,7 @@ impl Board {
         Ok((Board { table }, EngineSeat { seat, count: 0 }))
     }
 
-    /// A watcher that has seen nothing.
+    /// Returns a watcher that has seen nothing.
     pub(crate) fn watcher(&self, engine: &mut EngineSeat) -> WatchPass
         requires { engine.old.board ≡ self.now }
         ensures pass { (result.board ≡ self.now) × (result.rows ≡ []) }
@@ -135,7 +135,7 @@ impl Board {
         found
     }
 
-    /// The watcher has now seen what was posted. The answer is how many rows of it were new.
+    /// Shows the watcher what was posted, and returns how many rows of it were new.
     pub(crate) fn meet_seat(&self, engine: &mut EngineSeat, watch: &mut WatchPass) -> u32
         requires board { (engine.old.board ≡ self.now) × (watch.old.board ≡ self.now) }
         ensures same { engine.new ≡ engine.old }

@@ -28,7 +28,7 @@ impl Model for Finished {
     ghost view = { λ f. map entry_of f.history.items };
 }
 
-/// Whether the entry stages a load.
+/// Returns true if the entry stages a load.
 fn stages_a_load(entry: &Entry) -> bool
     ensures { result ≡ is_load (entry_of entry.now) }
 {
@@ -38,14 +38,14 @@ fn stages_a_load(entry: &Entry) -> bool
     }
 }
 
-/// Whether the entry closes a pulse.
+/// Returns true if the entry closes a pulse.
 fn closes_a_pulse(entry: &Entry) -> bool
     ensures { result ≡ is_close (entry_of entry.now) }
 {
     matches!(entry, Entry::Closed { .. })
 }
 
-/// How many of these entries stage a load.
+/// Returns how many of these entries stage a load.
 fn count_loads(history: &[Entry]) -> usize
     ensures { result ≡ count_by (λ entry. is_load (entry_of entry)) history.now }
 {
@@ -58,7 +58,7 @@ fn count_loads(history: &[Entry]) -> usize
     count
 }
 
-/// How many of these entries close a pulse.
+/// Returns how many of these entries close a pulse.
 fn count_closes(history: &[Entry]) -> usize
     ensures { result ≡ count_by (λ entry. is_close (entry_of entry)) history.now }
 {
@@ -100,14 +100,14 @@ impl Finished {
     }
 }
 
-/// Whether the receipt is for this entry at this place.
+/// Returns true if the receipt is for this entry at this place.
 fn is_for(receipt: &Receipt, place: usize, entry: &Entry) -> bool
     ensures { IsTrue result → placed_of receipt.now ≡ (place, entry_of entry.now) }
 {
     receipt.place == place && receipt.entry.is(entry)
 }
 
-/// Whether the receipts are for the entries of the actor, in order, at their places.
+/// Returns true if the receipts are for the entries of the actor, in order, at their places.
 fn are_for(history: &[Entry], actor: Actor, receipts: &[Receipt]) -> bool
     ensures { IsTrue result → placed_by actor (map entry_of history.now) ≡ placed_receipts receipts.now }
 {
@@ -126,7 +126,7 @@ fn are_for(history: &[Entry], actor: Actor, receipts: &[Receipt]) -> bool
     count == receipts.len()
 }
 
-/// Whether the engine's receipts are for its entries.
+/// Returns true if the engine's receipts are for its entries.
 fn engine_is_for<B: Ledger, C: Ledger>(history: &[Entry], engine: &EnginePass<B, C>) -> bool
     ensures entries { IsTrue result → placed_by Engine (map entry_of history.now) ≡ engine.now.receipts }
     ensures rows { IsTrue result
@@ -135,14 +135,14 @@ fn engine_is_for<B: Ledger, C: Ledger>(history: &[Entry], engine: &EnginePass<B,
     are_for(history, Actor::Engine, engine.receipts())
 }
 
-/// Whether the loader's receipts are for its entries.
+/// Returns true if the loader's receipts are for its entries.
 fn loader_is_for<B: Ledger, C: Ledger>(history: &[Entry], pass: &LoaderPass<B, C>) -> bool
     ensures { IsTrue result → placed_by (Loader pass.now.number) (map entry_of history.now) ≡ pass.now.receipts }
 {
     are_for(history, Actor::Loader(pass.number), pass.receipts())
 }
 
-/// Whether each loader's receipts are for its entries.
+/// Returns true if each loader's receipts are for its entries.
 fn loaders_are_for<B: Ledger, C: Ledger>(history: &[Entry], loaders: &[LoaderPass<B, C>]) -> bool
     ensures { IsTrue result
         → All (λ p. placed_by (Loader p.number) (map entry_of history.now) ≡ p.receipts) loaders.now }
@@ -155,7 +155,7 @@ fn loaders_are_for<B: Ledger, C: Ledger>(history: &[Entry], loaders: &[LoaderPas
     true
 }
 
-/// Whether this many receipts are all that the loaders have.
+/// Returns true if this many receipts are all that the loaders have.
 fn have<B: Ledger, C: Ledger>(loaders: &[LoaderPass<B, C>], count: usize) -> bool
     ensures { IsTrue result → sum_by (λ p. length p.receipts) loaders.now ≡ count }
 {
@@ -170,14 +170,14 @@ fn have<B: Ledger, C: Ledger>(loaders: &[LoaderPass<B, C>], count: usize) -> boo
     left == 0
 }
 
-/// How many loaders have this number.
+/// Returns how many loaders have this number.
 fn numbered<B: Ledger, C: Ledger>(loaders: &[LoaderPass<B, C>], number: u32) -> usize
     ensures { result ≡ count_by (λ p. p.number == number) loaders.now }
 {
     loaders.iter().filter(|pass| pass.number == number).count()
 }
 
-/// Whether the numbers below `count` are the loaders', each once.
+/// Returns true if the numbers below `count` are the loaders', each once.
 fn are_numbered<B: Ledger, C: Ledger>(loaders: &[LoaderPass<B, C>], count: u32) -> bool
     ensures number { IsTrue result → length loaders.now ≡ count }
     ensures once { IsTrue result → EachOnce count loaders.now }
@@ -190,7 +190,7 @@ fn are_numbered<B: Ledger, C: Ledger>(loaders: &[LoaderPass<B, C>], count: u32) 
     loaders.len() == count as usize
 }
 
-/// Whether the receipts are the history's: every entry of each actor, in order and at its place, and no other.
+/// Returns true if the receipts are the history's: every entry of each actor, in order and at its place, and no other.
 pub(crate) fn are_all<B: Ledger, C: Ledger>(
     history: &[Entry],
     engine: &EnginePass<B, C>,

@@ -1,7 +1,7 @@
 //! What lies under the lock.
 ghost use Rattle.std.specs.Prelude.{◌≡◌, ◌+◌, ◌<◌, ℕ, List, [], length, map, All, IfOk, IfErr};
 ghost use Rattle.std.specs.Prelude.{IsTrue, OnOk, OnErr, Some};
-ghost use Rattle.bench_core.specs.Told.{IsRow, IsRecord};
+ghost use Rattle.bench_core.specs.Told.{IsPulseRow, IsRecord};
 ghost use Rattle.bench_core.specs.Replay.{Advances, Staged, Opened, Closed, Abandoned, rows_of};
 ghost use Rattle.bench_core.specs.Replay.{Replays, StagesAccepted};
 ghost use Rattle.bench_core.specs.Refusals.{IsStageRefusal, IsOpenRefusal};
@@ -34,7 +34,7 @@ pub(crate) struct LockedBench<B: Ledger, C: Ledger> {
 }
 
 impl<B: Ledger, C: Ledger> LockedBench<B, C> {
-    /// A new bench, and books that count nothing.
+    /// Returns a new bench, and books that count nothing.
     pub(crate) fn new(bench: Bench, entries: Book<B>, closes: Book<C>) -> LockedBench<B, C>
         requires entries { entries.total ≡ 0 }
         requires closes { closes.total ≡ 0 }
@@ -48,7 +48,7 @@ impl<B: Ledger, C: Ledger> LockedBench<B, C> {
         }
     }
 
-    /// Whether the bench is of this shape, rule and clock.
+    /// Returns true if the bench is of this shape, rule and clock.
     pub(crate) fn is_of(&self, shape: Shape, rule: ClockRule, clock: &ClockProgram) -> bool
         ensures { IsTrue result → self.now.bench.setup ≡ setup_with shape rule clock.now }
     {
@@ -57,17 +57,17 @@ impl<B: Ledger, C: Ledger> LockedBench<B, C> {
             && self.bench.clock_program().same(clock)
     }
 
-    /// Whether the change can be staged but for lack of memory.
+    /// Returns true if the change can be staged but for lack of memory.
     pub(crate) fn has_room_for(&self, change: &Change) -> bool {
         self.bench.would_refuse(change).is_none()
     }
 
-    /// Whether a pulse is open.
+    /// Returns true if a pulse is open.
     pub(crate) fn is_open(&self) -> bool {
         self.bench.is_open()
     }
 
-    /// Whether the open pulse has the coins of the opening that the last of these receipts is for.
+    /// Returns true if the open pulse has the coins of the opening that the last of these receipts is for.
     pub(crate) fn has_coins_of(&self, receipts: &[Receipt]) -> bool
         ensures { IsTrue result → (coins : List ℕ) × OpenedLast (placed_receipts receipts.now) coins
             × (self.now.bench.state.coins ≡ Some coins) }
@@ -81,19 +81,19 @@ impl<B: Ledger, C: Ledger> LockedBench<B, C> {
         }
     }
 
-    /// Whether the history has the two places of a pulse.
+    /// Returns true if the history has the two places of a pulse.
     pub(crate) fn has_room_to_open(&self) -> bool {
         self.bench.has_room_to_open()
     }
 
-    /// What was done, in order.
+    /// Returns what was done, in order.
     pub(crate) fn history(&self) -> &[Entry]
         ensures { map entry_of result.now ≡ self.now.bench.history }
     {
         self.bench.history()
     }
 
-    /// What was done, in order, from a bench that is no longer wanted.
+    /// Returns what was done, in order, from a bench that is no longer wanted.
     pub(crate) fn into_history(self) -> Vec<Entry>
         ensures entries { map entry_of result.items ≡ self.bench.history }
         ensures replays { Replays self.bench.setup self.bench.history self.bench.state }
@@ -170,7 +170,7 @@ impl<B: Ledger, C: Ledger> LockedBench<B, C> {
         ensures replays { Replays self.old.bench.setup self.old.bench.history self.old.bench.state }
         ensures accepted { All StagesAccepted self.old.bench.history }
         ensures pulse { IfOk result (λ r. r.1.row.pulse ≡ closes.old.amount + 1) }
-        ensures ranges { IfOk result (λ r. IsRow r.1.row) }
+        ensures ranges { IfOk result (λ r. IsPulseRow r.1.row) }
         ensures counted { OnOk result (share.new.amount ≡ share.old.amount + 1) }
         ensures closes_counted { OnOk result (closes.new.amount ≡ closes.old.amount + 1) }
         ensures parts { share.new.parts ≡ share.old.parts }

@@ -53,7 +53,7 @@ impl<B: Ledger, C: Ledger> Model for SharedBench<B, C> {
     ghost view = { λ b. record { setup = setup_with b.shape b.rule b.clock; loaders = b.loaders } };
 }
 
-/// One pass for each loader, each with a part of the ledger.
+/// Returns one pass for each loader, each with a part of the ledger.
 fn loader_passes<B: Ledger, C: Ledger>(
     alloc: Global,
     share: &mut Share<B>,
@@ -78,7 +78,7 @@ fn loader_passes<B: Ledger, C: Ledger>(
     Ok(passes)
 }
 
-/// One pass for each watcher.
+/// Returns one pass for each watcher.
 fn watch_passes(
     alloc: Global,
     board: &Board,

@@ -1,6 +1,6 @@
 //! A row as one word of 64 bits. The word 0 is no row.
 ghost use Rattle.std.specs.Prelude.{◌≡◌, None, Some};
-ghost use Rattle.bench_core.specs.Told.{Row as RowValue, IsRow};
+ghost use Rattle.bench_core.specs.Told.{Row as RowValue, IsPulseRow};
 ghost use Rattle.bench_shared.specs.inner.Rows.{short_of, row_word};
 
 use bench_core::{CLOCKS_DIFFER, MAX_BENCH_PULSES, MAX_COUNTED, Row};
@@ -13,7 +13,7 @@ pub(crate) const COMMON_UNIT: u64 = 16_384;
 
 pub(crate) const PULSE_UNIT: u64 = 2_147_483_648;
 
-/// The common clock in a word. For clocks that differ it is the least number that no clock is.
+/// Returns the common clock in a word. For clocks that differ it is the least number that no clock is.
 fn short(common: u32) -> u64
     ensures { result ≡ short_of common }
 {
@@ -24,10 +24,10 @@ fn short(common: u32) -> u64
     }
 }
 
-/// The word of a row.
+/// Returns the word of a row.
 pub(crate) fn word(row: Row) -> u64
     ensures word { result ≡ row_word row }
-    ensures ranges { IsRow row }
+    ensures ranges { IsPulseRow row }
 {
     u64::from(row.pulse) * PULSE_UNIT
         + short(row.common) * COMMON_UNIT
@@ -35,10 +35,10 @@ pub(crate) fn word(row: Row) -> u64
         + u64::from(row.settled)
 }
 
-/// The row of a word, or none of a word that isn't a row's.
+/// Returns the row of a word, or none of a word that isn't a row's.
 pub(crate) fn row(word: u64) -> Option<Row>
     ensures none { word ≡ 0 → result ≡ None }
-    ensures some { (r : RowValue) → IsRow r → word ≡ row_word r → result ≡ Some r }
+    ensures some { (r : RowValue) → IsPulseRow r → word ≡ row_word r → result ≡ Some r }
 {
     let pulse = word / PULSE_UNIT;
     let common = word % PULSE_UNIT / COMMON_UNIT;

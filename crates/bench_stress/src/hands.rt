@@ -34,7 +34,7 @@ pub struct StressOptions {
 /// The coins of each pulse.
 const COINS: [u32; 4] = [1, 1, 1, 1];
 
-/// What is told of a pulse that is refused.
+/// Returns what is told of a pulse that is refused.
 fn of_pulse(error: EngineError) -> Stop {
     match error {
         EngineError::Open(OpenError::Memory)
@@ -114,7 +114,7 @@ fn run_in<'s, E, B: Ledger + Send + Sync, C: Ledger + Send + Sync, R: Threads + 
     (passes, first_of(refused, first_of(stopped, failed)))
 }
 
-/// The loaders in threads of their own, and the engine beside them on the caller's.
+/// Returns the loaders in threads of their own, and the engine beside them on the caller's.
 fn beside<B: Ledger + Send + Sync, C: Ledger + Send + Sync, R: Threads + Wait + Sync>(
     rt: &R,
     alloc: Global,
@@ -162,7 +162,7 @@ fn beside<B: Ledger + Send + Sync, C: Ledger + Send + Sync, R: Threads + Wait + 
     )
 }
 
-/// The one watcher.
+/// Returns the one watcher.
 fn only(watchers: Vec<WatchPass>) -> WatchPass
     requires { vec_len watchers ≡ 1 }
     ensures { Contains watchers.items result }
@@ -174,7 +174,7 @@ fn only(watchers: Vec<WatchPass>) -> WatchPass
     }
 }
 
-/// Whether the history has the entries that the options ask for, and no other.
+/// Returns true if the history has the entries that the options ask for, and no other.
 fn has_entries(finished: &Finished, options: StressOptions) -> bool
     ensures { IsTrue result → HasEntries options.loaders options.loads options.pulses finished.now }
 {
@@ -185,7 +185,7 @@ fn has_entries(finished: &Finished, options: StressOptions) -> bool
         && finished.history().len() as u64 == loads + 2 * pulses
 }
 
-/// The history of the bench after all that its hands did.
+/// Returns the history of the bench after all that its hands did.
 fn hands<B: Ledger + Send + Sync, C: Ledger + Send + Sync, R: Threads + Wait + Sync>(
     rt: &R,
     alloc: Global,

@@ -19,7 +19,7 @@ pub const MODULUS: u32 = 16;
 /// The bytes of a node's memory.
 pub const MEMORY: u32 = 8;
 
-/// The shape of the nodes, and the rule of their clocks.
+/// Returns the shape of the nodes, and the rule of their clocks.
 pub(crate) fn setup() -> (Shape, ClockRule)
     ensures nodes { result.1.nodes ≡ result.0.nodes }
     ensures setup { setup_of result.0 result.1 ≡ stressed_setup }

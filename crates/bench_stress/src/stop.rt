@@ -10,7 +10,7 @@ pub enum Stop {
     Mismatch,
 }
 
-/// The one of two that is told.
+/// Returns the one of two that is told.
 pub(crate) fn first_of(one: Option<Stop>, other: Option<Stop>) -> Option<Stop> {
     match (one, other) {
         (None, stop) | (stop, None) => stop,

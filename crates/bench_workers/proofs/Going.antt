@@ -11,7 +11,7 @@ use Rattle.bench_core.specs.Replay.{BenchValue}
 use Rattle.bench_workers.specs.declared.event.Event.{Event as EventCode}
 use Rattle.bench_workers.specs.Events.{Event, Stage, event_of}
 use Rattle.bench_workers.specs.Events.{Pulse as PulseEvent}
-use Rattle.bench_workers.specs.Runs.{Goes, IsFault, IsFirstRefused, IsRefusalOf, IsShort, entries_after}
+use Rattle.bench_workers.specs.Runs.{Goes, IsEventFault, IsFirstRefused, IsRefusalOf, IsShort, entries_after}
 use Rattle.bench_workers.specs.declared.event.RunRefusal.{RunRefusal}
 use Rattle.bench_workers.specs.declared.event.RunRefusal.TheVariants as refusals
 
@@ -80,7 +80,7 @@ short_at s es before k rs b front few goes only = record {
 -- a refusal after the events before it is the fault
 pub is_fault : (s : Setup) (es before : List Event) (k : ℕ) (e : Event) (refusal : RunRefusal) (rs : List PulseTold)
     (b : State) → take k es ≡ before → slice_get es k ≡ Some e → k ≤ length es
-    → Goes s (new_state s) 0 before rs b → IsRefusalOf s (entries_after before) e refusal → IsFault s es k refusal
+    → Goes s (new_state s) 0 before rs b → IsRefusalOf s (entries_after before) e refusal → IsEventFault s es k refusal
 is_fault s es before k e refusals.Memory rs b front here few goes refused =
     short_at s es before k rs b front few goes
     (λ x at. let same : e ≡ x = same_Some e x (sym here ∙ at) in
@@ -114,15 +114,15 @@ pub fault_here : (s : Setup) (b : BenchValue) (all done rest : List EventCode) (
     (refusal : RunRefusal) (records : List PulseTold) → all ≡ done ++ (x ∷ rest) → place ≡ length done
     → b.setup ≡ s → length b.history ≡ entries_after (map event_of done)
     → Goes s (new_state s) 0 (map event_of done) records b.state
-    → IsRefusalOf b.setup (length b.history) (event_of x) refusal → IsFault s (map event_of all) place refusal
+    → IsRefusalOf b.setup (length b.history) (event_of x) refusal → IsEventFault s (map event_of all) place refusal
 fault_here s b all done rest x place refusal records stands at same count goes stopped =
     let there = stands_at event_of all done rest x stands in
-    let here : IsFault s (map event_of all) (length done) refusal =
+    let here : IsEventFault s (map event_of all) (length done) refusal =
     is_fault s (map event_of all) (map event_of done) (length done)
     (event_of x) refusal records b.state there.0 there.1 there.2 goes
     (subst (λ (t : Setup). IsRefusalOf t (entries_after (map event_of done)) (event_of x) refusal) same
     (subst (λ n. IsRefusalOf b.setup n (event_of x) refusal) count stopped)) in
-    subst (λ k. IsFault s (map event_of all) k refusal) (sym at) here
+    subst (λ k. IsEventFault s (map event_of all) k refusal) (sym at) here
 
 -- want of memory after the last event
 pub short_after : (s : Setup) (b : BenchValue) (all done : List EventCode) (place : ℕ) (records : List PulseTold)
@@ -137,7 +137,7 @@ short_after s b all done place records whole at goes =
 
 -- the first event of a new bench is refused
 pub first_fault : (s : Setup) (all : List EventCode) (x : EventCode) (refusal : RunRefusal) → 0 < length all
-    → x ≡ get_or all 0 x → IsRefusalOf s 0 (event_of x) refusal → IsFault s (map event_of all) 0 refusal
+    → x ≡ get_or all 0 x → IsRefusalOf s 0 (event_of x) refusal → IsEventFault s (map event_of all) 0 refusal
 first_fault s [] x refusal several at refused = absurd (omega (arith, several))
 first_fault s (y ∷ ys) x refusal several at refused =
     is_fault s (map event_of (y ∷ ys)) [] 0 (event_of x) refusal [] (new_state s) refl

@@ -10,9 +10,9 @@ use Rattle.bench_core.specs.Replay.{BenchValue}
 use Rattle.bench_workers.specs.declared.event.Event.{Event as EventCode}
 use Rattle.bench_workers.specs.Events.{Event, Stage, event_of}
 use Rattle.bench_workers.specs.Events.{Pulse as PulseEvent}
-use Rattle.bench_workers.specs.inner.Going.{GoesOn}
+use Rattle.bench_workers.specs.inner.Going.{LeadsByEvent}
 use Rattle.bench_workers.specs.Opening.{OpensPulse, pulses_in}
-use Rattle.bench_workers.specs.Runs.{Goes, IsFault, IsRefusalOf, entries_after}
+use Rattle.bench_workers.specs.Runs.{Goes, IsEventFault, IsRefusalOf, entries_after}
 use Rattle.bench_workers.specs.declared.event.RunFault.{RunFault}
 use Rattle.bench_workers.specs.declared.opening.OpenBench.{OpenBench}
 use Rattle.bench_workers.specs.declared.event.RunRefusal.{RunRefusal}
@@ -78,7 +78,7 @@ none_done s b same new none = record {
 }
 
 pub done_next : (s : Setup) (old new : BenchValue) (done : List EventCode) (x : EventCode) (more : List PulseTold)
-    → AreDone s done old → GoesOn old (event_of x) more new → AreDone s (done ++ x ∷ []) new
+    → AreDone s done old → LeadsByEvent old (event_of x) more new → AreDone s (done ++ x ∷ []) new
 done_next s old new done x more kept goes =
     let mapped : map event_of (done ++ x ∷ []) ≡ map event_of done ++ event_of x ∷ [] =
     map-append event_of done (x ∷ []) in
@@ -98,7 +98,7 @@ done_next s old new done x more kept goes =
 
 pub done_fault : (s : Setup) (b : BenchValue) (all done rest : List EventCode) (x : EventCode) (place : ℕ)
     (refusal : RunRefusal) → all ≡ done ++ (x ∷ rest) → place ≡ length done → AreDone s done b
-    → IsRefusalOf b.setup (length b.history) (event_of x) refusal → IsFault s (map event_of all) place refusal
+    → IsRefusalOf b.setup (length b.history) (event_of x) refusal → IsEventFault s (map event_of all) place refusal
 done_fault s b all done rest x place refusal stands at kept stopped =
     fault_here s b all done rest x place refusal kept.records stands at kept.setup kept.count kept.goes stopped
 
@@ -106,10 +106,10 @@ done_fault s b all done rest x place refusal stands at kept stopped =
 pub opening_fault : {A : Type 0} (r : Result A RunFault) (s : Setup) (b : BenchValue) (all done rest : List EventCode)
     (x : EventCode) (place : ℕ) → all ≡ done ++ (x ∷ rest) → place ≡ length done → AreDone s done b
     → IfErr r (λ f. f.event ≡ place) → IfErr r (λ f. IsRefusalOf b.setup (length b.history) (event_of x) f.fault)
-    → IfErr r (λ f. IsFault s (map event_of all) f.event f.fault)
+    → IfErr r (λ f. IsEventFault s (map event_of all) f.event f.fault)
 opening_fault (Ok opened) s b all done rest x place stands at kept here stopped = tt
 opening_fault (Err f) s b all done rest x place stands at kept here stopped =
-    subst (λ (k : ℕ). IsFault s (map event_of all) k f.fault) (sym here)
+    subst (λ (k : ℕ). IsEventFault s (map event_of all) k f.fault) (sym here)
     (done_fault s b all done rest x place f.fault stands at kept stopped)
 
 -- numbers of events and pulses fit their types

@@ -20,9 +20,9 @@ use Rattle.bench_workers.specs.declared.watcher.WatchFault.{WatchFault}
 use Rattle.bench_workers.specs.declared.watcher.WatchFault.TheVariants as faults
 use Rattle.bench_workers.specs.Events.{Event, Stage, event_of}
 use Rattle.bench_workers.specs.Events.{Pulse as PulseEvent}
-use Rattle.bench_workers.specs.inner.Going.{GoesOn}
+use Rattle.bench_workers.specs.inner.Going.{LeadsByEvent}
 use Rattle.bench_workers.specs.inner.Watching.{GoesSeen, IsHalted, IsOfRun, IsWatched, fault_at, last_of}
-use Rattle.bench_workers.specs.Runs.{Goes, IsFault, IsRun, entries_after}
+use Rattle.bench_workers.specs.Runs.{Goes, IsEventFault, IsRun, entries_after}
 use Rattle.bench_workers.specs.Watching.{Seen, Shows, Watches, Watched, StoppedAt, EndsAt, IsNot}
 use Rattle.bench_workers.proofs.Going.{entries-append, entries-count, fault_here}
 
@@ -98,7 +98,7 @@ watches_on T k k1 k2 o o1 o2 (x ∷ xs) more before next =
 -- ---- one pulse
 
 pub pulse_seen : (old new : BenchValue) (before : List PulseTold) (coins : List ℕ) (told : PulseTold) (steps : List ℕ)
-    → GoesOn old (PulseEvent coins) (told ∷ []) new → AreSteps old.setup (opened_state old.state coins) coins steps
+    → LeadsByEvent old (PulseEvent coins) (told ∷ []) new → AreSteps old.setup (opened_state old.state coins) coins steps
     → GoesSeen old before (PulseEvent coins) (record {
       coins = coins;
       after = new.state;
@@ -150,7 +150,7 @@ told_so T k k1 o o1 coins steps took after told earlier last same is says =
 
 pub pulse_watched : {K S : Type 0} (T : K → S → Seen → K → S → Type 0) (old new : BenchValue)
     (before kept now : List PulseTold) (coins steps took : List ℕ) (told : PulseTold) (last : Option PulseTold)
-    (k k1 : K) (o o1 : S) → GoesOn old (PulseEvent coins) (told ∷ []) new
+    (k k1 : K) (o o1 : S) → LeadsByEvent old (PulseEvent coins) (told ∷ []) new
     → AreSteps old.setup (opened_state old.state coins) coins steps → took ≡ steps → last ≡ last_of before
     → now ≡ kept ++ told ∷ [] → kept ≡ before
     → T k o (record { coins = coins; after = new.state; told = told; earlier = last; steps = took }) k1 o1
@@ -339,7 +339,7 @@ never_stopped T E s es k k1 o o1 (faults.Stopped event) never ends =
 
 pub fault_of_run : {K S : Type 0} (T E : K → S → Seen → K → S → Type 0) (s : Setup) (es : List Event) (k k1 : K)
     (o o1 : S) (fault : WatchFault) (run : RunFault) → fault ≡ faults.Run run → EndsAt T E s es k o k1 o1 fault
-    → IsFault s es run.event run.fault
+    → IsEventFault s es run.event run.fault
 fault_of_run T E s es k k1 o o1 fault run is ends =
     let here : EndsAt T E s es k o k1 o1 (faults.Run run) =
     subst (λ (f : WatchFault). EndsAt T E s es k o k1 o1 f) is ends in

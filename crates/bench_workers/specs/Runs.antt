@@ -68,12 +68,12 @@ pub record IsShort (s : Setup) (es : List Event) (k : ℕ) : Type 0 where
       → IsRefusalOf s (entries_after (take k es)) event refusals.Memory
 
 -- the fault names the first event that is refused, and why; lack of memory may come at an event or after the last
-abbrev pub IsFault : Setup → List Event → ℕ → RunRefusal → Type 0
-IsFault s es k refusals.Memory = IsShort s es k
-IsFault s es k refusals.BadNode = IsFirstRefused s es k refusals.BadNode
-IsFault s es k refusals.OtherShape = IsFirstRefused s es k refusals.OtherShape
-IsFault s es k refusals.BadImage = IsFirstRefused s es k refusals.BadImage
-IsFault s es k refusals.HistoryFull = IsFirstRefused s es k refusals.HistoryFull
-IsFault s es k refusals.BadCoins = IsFirstRefused s es k refusals.BadCoins
-IsFault s es k refusals.NoThread = IsFirstRefused s es k refusals.NoThread
-IsFault s es k refusals.GateShut = IsFirstRefused s es k refusals.GateShut
+abbrev pub IsEventFault : Setup → List Event → ℕ → RunRefusal → Type 0
+IsEventFault s es k refusals.Memory = IsShort s es k
+IsEventFault s es k refusals.BadNode = IsFirstRefused s es k refusals.BadNode
+IsEventFault s es k refusals.OtherShape = IsFirstRefused s es k refusals.OtherShape
+IsEventFault s es k refusals.BadImage = IsFirstRefused s es k refusals.BadImage
+IsEventFault s es k refusals.HistoryFull = IsFirstRefused s es k refusals.HistoryFull
+IsEventFault s es k refusals.BadCoins = IsFirstRefused s es k refusals.BadCoins
+IsEventFault s es k refusals.NoThread = IsFirstRefused s es k refusals.NoThread
+IsEventFault s es k refusals.GateShut = IsFirstRefused s es k refusals.GateShut

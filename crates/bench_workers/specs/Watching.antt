@@ -7,7 +7,7 @@ use Rattle.bench_core.specs.Pulse.{Pulse}
 use Rattle.bench_core.specs.Told.{PulseTold, IsRecord, AreSteps}
 use Rattle.bench_workers.specs.Events.{Event, Stage}
 use Rattle.bench_workers.specs.Events.{Pulse as PulseEvent}
-use Rattle.bench_workers.specs.Runs.{IsFault}
+use Rattle.bench_workers.specs.Runs.{IsEventFault}
 use Rattle.bench_workers.specs.declared.event.RunRefusal.{RunRefusal}
 use Rattle.bench_workers.specs.declared.watcher.Shown.{Shown}
 use Rattle.bench_workers.specs.declared.watcher.WatchFault.{WatchFault}
@@ -76,7 +76,7 @@ pub record StoppedAt {K S : Type 0} (T E : K → S → Seen → K → S → Type
 -- a fault of the run, with the pulses of the events before it shown, or the watcher's stop
 abbrev pub EndsAt : {K S : Type 0} → (T E : K → S → Seen → K → S → Type 0) → Setup → List Event → K → S → K → S
     → WatchFault → Type 0
-EndsAt T E s es k o k' o' (faults.Run fault) = IsFault s es fault.event fault.fault
+EndsAt T E s es k o k' o' (faults.Run fault) = IsEventFault s es fault.event fault.fault
     × ((xs : List Seen) × Watched T s (take fault.event es) k o xs k' o')
 EndsAt T E s es k o k' o' (faults.Stopped event) = StoppedAt T E s es event k o k' o'
 

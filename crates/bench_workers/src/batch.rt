@@ -41,7 +41,7 @@ impl<G: Gate> Promise<Option<Vec<NodeDone>>> for Batch<G> {
 /// Fewer tasks than this aren't compared: it would cost more than it saves, since images are compared, too.
 const MIN_COMPARED: usize = 8;
 
-/// The places of the results that were run last, before so many tasks.
+/// Returns the places of the results that were run last, before this many tasks.
 fn recent_of(tasks: usize) -> Recent {
     if tasks < MIN_COMPARED {
         Recent::never()
@@ -50,7 +50,8 @@ fn recent_of(tasks: usize) -> Recent {
     }
 }
 
-/// The result of an equal input, if one of the places has it. Otherwise the task's own result will have the next place.
+/// Returns the result of an equal input, if one of the places has it. Otherwise the task's own result will have the
+/// next place.
 fn alike<'a>(recent: &mut Recent, task: &NodeTask, dones: &'a [NodeDone]) -> Option<&'a NodeDone>
     ensures { IfSome result (λ done. IsAlike task.now done.now) }
 {

@@ -32,7 +32,7 @@ pub(crate) fn deal(
     Ok(batches)
 }
 
-/// A batch without tasks for each worker.
+/// Returns a batch without tasks for each worker.
 fn empty_batches(alloc: Global, workers: usize) -> Result<Vec<Vec<NodeTask>>, WorkError>
     ensures count { IfOk result (λ batches. vec_len batches ≡ workers) }
     ensures none { IfOk result (λ batches. flat_map (λ b. b.items) batches.items ≡ []) }

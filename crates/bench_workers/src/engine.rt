@@ -8,10 +8,10 @@ ghost use Rattle.bench_workers.specs.declared.event.RunRefusal.TheVariants.{Gate
 ghost use Rattle.bench_workers.specs.declared.work_error.WorkError.TheVariants as work;
 ghost use Rattle.bench_workers.specs.declared.tasks.TheConstants.{MAX_WORKERS};
 ghost use Rattle.bench_workers.specs.Events.{Stage, Pulse, event_of};
-ghost use Rattle.bench_workers.specs.inner.Going.{GoesOn, IsOfWorkers};
+ghost use Rattle.bench_workers.specs.inner.Going.{LeadsByEvent, IsOfWorkers};
 ghost use Rattle.bench_workers.specs.declared.watcher.WatchFault.TheVariants as WatchFault;
 ghost use Rattle.bench_workers.specs.inner.Watching.{IsOfRun};
-ghost use Rattle.bench_workers.specs.Runs.{IsFault, IsRefusalOf, IsRun};
+ghost use Rattle.bench_workers.specs.Runs.{IsEventFault, IsRefusalOf, IsRun};
 
 use crate::event::{Event, Run, RunFault, RunRefusal};
 use crate::gate::Gate;
@@ -35,7 +35,7 @@ const LOADER: Actor = Actor::Loader(0);
 /// Stages a change.
 pub(crate) fn stage(bench: &mut Bench, change: Change) -> Result<(), RunRefusal>
     requires { bench.old.state.coins ≡ None }
-    ensures ok { OnOk result (GoesOn bench.old (Stage (change_of change)) [] bench.new) }
+    ensures ok { OnOk result (LeadsByEvent bench.old (Stage (change_of change)) [] bench.new) }
     ensures refusal { IfErr result (IsRefusalOf bench.old.setup (length bench.old.history) (Stage (change_of change))) }
 {
     match bench.stage(LOADER, change) {
@@ -67,7 +67,7 @@ pub(crate) fn pulse<R: Threads + Wait + Sync, G: Gate + Sync>(
     requires some { 1 ≤ workers }
     requires few { workers ≤ MAX_WORKERS }
     requires closed { bench.old.state.coins ≡ None }
-    ensures ok { IfOk result (λ c. GoesOn bench.old (Pulse coins.now) (c.told ∷ []) bench.new) }
+    ensures ok { IfOk result (λ c. LeadsByEvent bench.old (Pulse coins.now) (c.told ∷ []) bench.new) }
     ensures steps { IfOk result (λ c.
         AreSteps bench.old.setup (opened_state bench.old.state coins.now) coins.now c.steps.items) }
     ensures refusal { IfErr result (IsRefusalOf bench.old.setup (length bench.old.history) (Pulse coins.now)) }
@@ -88,7 +88,7 @@ pub(crate) fn pulse<R: Threads + Wait + Sync, G: Gate + Sync>(
         Ok(dones) => dones,
         Err(error) => return Err(of_work(error)),
     };
-    let _history = bench.history();
+    let _history = bench.history(); // brings its replay
     let Ok(steps) = steps_by_node(alloc, bench, &dones) else {
         return Err(RunRefusal::Memory);
     };
@@ -106,7 +106,7 @@ fn pulse_alone<G: Gate>(
     coins: &[u32],
 ) -> Result<Closed, RunRefusal>
     requires { bench.old.state.coins ≡ None }
-    ensures ok { IfOk result (λ c. GoesOn bench.old (Pulse coins.now) (c.told ∷ []) bench.new) }
+    ensures ok { IfOk result (λ c. LeadsByEvent bench.old (Pulse coins.now) (c.told ∷ []) bench.new) }
     ensures steps { IfOk result (λ c.
         AreSteps bench.old.setup (opened_state bench.old.state coins.now) coins.now c.steps.items) }
     ensures refusal { IfErr result (IsRefusalOf bench.old.setup (length bench.old.history) (Pulse coins.now)) }
@@ -130,7 +130,7 @@ fn pulse_alone<G: Gate>(
     }
 }
 
-/// What the workers refuse, as a run tells it.
+/// Returns what the workers refuse, as a run tells it.
 fn of_work(error: WorkError) -> RunRefusal
     ensures workers { IsOfWorkers result }
     ensures shut { result ≡ GateShut → error ≡ work.GateShut }
@@ -143,7 +143,7 @@ fn of_work(error: WorkError) -> RunRefusal
     }
 }
 
-/// The memories of the nodes, in their order.
+/// Returns the memories of the nodes, in their order.
 pub(crate) fn memories_of(
     alloc: Global,
     bench: &Bench,
@@ -152,7 +152,7 @@ pub(crate) fn memories_of(
     requires { nodes ≡ bench.now.setup.shape.nodes }
     ensures { IfOk result (λ memories. map (λ m. m.items) memories.items ≡ map (λ x. x.memory) bench.now.state.nodes) }
 {
-    let _history = bench.history();
+    let _history = bench.history(); // brings its replay
     let mut memories = Vec::new(alloc);
     for node in 0..nodes {
         memories.push(Vec::from_slice(alloc, bench.memory(node))?)?;
@@ -160,7 +160,7 @@ pub(crate) fn memories_of(
     Ok(memories)
 }
 
-/// Why the event would be refused as the first of a new bench: lack of memory, if for nothing else.
+/// Returns why the event would be refused as the first of a new bench: lack of memory, if for nothing else.
 fn refusal_of(shape: Shape, _rule: ClockRule, event: &Event) -> RunRefusal
     ensures refused { IsRefusalOf (setup_of shape _rule) 0 (event_of event.now) result }
     ensures open { result ≢ GateShut }
@@ -185,9 +185,9 @@ fn refusal_of(shape: Shape, _rule: ClockRule, event: &Event) -> RunRefusal
     }
 }
 
-/// What is told if there is no memory for a new bench.
+/// Returns what is told if there is no memory for a new bench.
 fn first_refusal(shape: Shape, rule: ClockRule, events: &[Event]) -> RunRefusal
-    ensures fault { IsFault (setup_of shape rule) (map event_of events.now) 0 result }
+    ensures fault { IsEventFault (setup_of shape rule) (map event_of events.now) 0 result }
     ensures open { result ≢ GateShut }
     ensures alone { result ≢ NoThread }
 {
@@ -214,7 +214,7 @@ pub fn run_events<R: Threads + Wait + Sync, G: Gate + Sync>(
     requires nodes { rule.nodes ≡ shape.nodes }
     ensures run { IfOk result (λ run. IsRun (setup_of shape rule) (map event_of events.items) run.records.items
         (map (λ memory. memory.items) run.memories.items)) }
-    ensures fault { IfErr result (λ f. IsFault (setup_of shape rule) (map event_of events.items) f.event f.fault) }
+    ensures fault { IfErr result (λ f. IsEventFault (setup_of shape rule) (map event_of events.items) f.event f.fault) }
     ensures open { G.always gate.now ≡ true → IfErr result (λ f. f.fault ≢ GateShut) }
     ensures alone { workers ≡ 1 → IfErr result (λ f. f.fault ≢ NoThread) }
 {
@@ -225,7 +225,7 @@ pub fn run_events<R: Threads + Wait + Sync, G: Gate + Sync>(
     run_events_on(rt, alloc, gate, workers, bench, events)
 }
 
-/// The fault of a run that nobody stops.
+/// Returns the fault of a run that nobody stops.
 fn of_run(fault: WatchFault) -> RunFault
     requires { IsOfRun fault }
     ensures { fault ≡ WatchFault.Run result }
@@ -251,7 +251,7 @@ pub fn run_events_on<R: Threads + Wait + Sync, G: Gate + Sync>(
     requires history { bench.history ≡ [] }
     ensures run { IfOk result (λ run. IsRun bench.setup (map event_of events.items) run.records.items
         (map (λ memory. memory.items) run.memories.items)) }
-    ensures fault { IfErr result (λ f. IsFault bench.setup (map event_of events.items) f.event f.fault) }
+    ensures fault { IfErr result (λ f. IsEventFault bench.setup (map event_of events.items) f.event f.fault) }
     ensures open { G.always gate.now ≡ true → IfErr result (λ f. f.fault ≢ GateShut) }
     ensures alone { workers ≡ 1 → IfErr result (λ f. f.fault ≢ NoThread) }
 {

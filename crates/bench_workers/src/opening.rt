@@ -6,8 +6,8 @@ ghost use Rattle.bench_core.specs.Told.{PulseTold};
 ghost use Rattle.bench_workers.specs.declared.event.RunRefusal.TheVariants.{GateShut, NoThread};
 ghost use Rattle.bench_workers.specs.Events.{Pulse, event_of};
 ghost use Rattle.bench_workers.specs.Opening.{OpensPulse, pulses_in};
-ghost use Rattle.bench_workers.specs.Runs.{IsFault, IsRefusalOf};
-ghost use Rattle.bench_workers.specs.inner.Going.{GoesOn};
+ghost use Rattle.bench_workers.specs.Runs.{IsEventFault, IsRefusalOf};
+ghost use Rattle.bench_workers.specs.inner.Going.{LeadsByEvent};
 
 use crate::engine::{pulse, stage};
 use crate::event::{Event, RunFault, RunRefusal};
@@ -24,7 +24,7 @@ pub struct OpenBench {
     pub coins: Vec<u32>,
 }
 
-/// How many pulses an event is.
+/// Returns how many pulses an event is.
 fn pulses_of(event: &Event) -> u32
     ensures { result ≡ pulses_in (event_of event.now ∷ []) }
 {
@@ -42,7 +42,7 @@ fn go_on<R: Threads + Wait + Sync>(
     event: Event,
 ) -> Result<(), RunRefusal>
     requires { bench.old.state.coins ≡ None }
-    ensures ok { OnOk result ((records : List PulseTold) × GoesOn bench.old (event_of event) records bench.new) }
+    ensures ok { OnOk result ((records : List PulseTold) × LeadsByEvent bench.old (event_of event) records bench.new) }
     ensures few { OnOk result (length bench.new.history ≤ MAX_ENTRIES) }
     ensures refusal { IfErr result (IsRefusalOf bench.old.setup (length bench.old.history) (event_of event)) }
     ensures open { IfErr result (λ e. e ≢ GateShut) }
@@ -51,12 +51,12 @@ fn go_on<R: Threads + Wait + Sync>(
     match event {
         Event::Stage(change) => {
             stage(bench, change)?;
-            let _few = bench.history();
+            let _few = bench.history(); // brings its bound
             Ok(())
         }
         Event::Pulse(coins) => {
             let _closed = pulse(rt, alloc, &Open, 1, bench, &coins)?;
-            let _few = bench.history();
+            let _few = bench.history(); // brings its bound
             Ok(())
         }
     }
@@ -109,7 +109,7 @@ pub fn open_pulse_of<R: Threads + Wait + Sync>(
     ensures setup { IfOk result (λ o. o.bench.setup ≡ bench.setup) }
     ensures opened { IfOk result (λ o.
         OpensPulse bench.setup (map event_of events.items) pulse o.coins.items o.bench.state) }
-    ensures fault { IfErr result (λ f. IsFault bench.setup (map event_of events.items) f.event f.fault) }
+    ensures fault { IfErr result (λ f. IsEventFault bench.setup (map event_of events.items) f.event f.fault) }
     ensures open { IfErr result (λ f. f.fault ≢ GateShut) }
     ensures alone { IfErr result (λ f. f.fault ≢ NoThread) }
 {

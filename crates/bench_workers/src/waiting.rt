@@ -31,14 +31,14 @@ impl Waiting {
         Waiting { tasks }
     }
 
-    /// How many tasks there are.
+    /// Returns how many tasks there are.
     pub(crate) fn count(&self) -> usize
         ensures { result ≡ length self.now }
     {
         self.tasks.len()
     }
 
-    /// The tasks, where the gate lets the worker in.
+    /// Returns the tasks, where the gate lets the worker in.
     pub(crate) fn enter<G: Gate>(self, gate: &G, worker: u32) -> Option<Vec<NodeTask>>
         ensures open { G.always gate.now ≡ true → IsSome result }
         ensures let_in { IsSome result → G.lets_in gate.now worker ≡ true }

@@ -30,7 +30,7 @@ impl Halt {
     ghost use Rattle.std.specs.Prelude.{◌≡◌};
     ghost use Rattle.bench_workers.specs.inner.Watching.{fault_at};
 
-    /// The fault of a run that halted at this event.
+    /// Returns the fault of a run that halted at this event.
     fn at(self, event: u32) -> WatchFault
         ensures { result ≡ fault_at self event }
     {
@@ -123,14 +123,14 @@ fn apply<R: Threads + Wait + Sync, G: Gate + Sync, S, K: Watcher<S>>(
             if let Err(refusal) = stage(bench, change) {
                 return Err(Halt::Refused(refusal));
             }
-            let _few = bench.history();
+            let _few = bench.history(); // brings its bound
             Ok(())
         }
         Event::Pulse(coins) => {
             show_pulse(
                 rt, alloc, gate, workers, bench, records, &coins, watcher, sink,
             )?;
-            let _few = bench.history();
+            let _few = bench.history(); // brings its bound
             Ok(())
         }
     }
@@ -181,7 +181,7 @@ pub fn run_events_watched<R: Threads + Wait + Sync, G: Gate + Sync, S, K: Watche
             Err(halt) => return Err(halt.at(place)),
         }
     }
-    let _history = bench.history();
+    let _history = bench.history(); // brings its replay
     match memories_of(alloc, &bench, nodes) {
         Ok(memories) => Ok(Run { records, memories }),
         Err(_) => Err(WatchFault::Run(RunFault {

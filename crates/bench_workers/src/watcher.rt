@@ -31,7 +31,7 @@ pub trait Watcher<S> {
     /// And where it stops the run at one.
     ghost stops: { Self → S → Seen → Self → S → Type 0 };
 
-    /// Is shown a pulse.
+    /// Sees a pulse.
     fn see(&mut self, sink: &mut S, shown: &Shown) -> Result<(), Stop>
         ensures told { OnOk result (tells self.old sink.old (seen_of shown.now) self.new sink.new) }
         ensures stopped { OnErr result (stops self.old sink.old (seen_of shown.now) self.new sink.new) };

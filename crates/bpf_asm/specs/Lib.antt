@@ -1,4 +1,5 @@
 pub mod Canonical
+pub mod Errors
 pub mod Listing
 pub mod Meaning
 pub mod Numbers

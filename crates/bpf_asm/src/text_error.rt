@@ -1,7 +1,11 @@
 //! Why a text means no program.
 
+ghost use Rattle.std.specs.Prelude.{Some};
+ghost use Rattle.bpf_asm.specs.Errors.{text_error_text};
+
 use crate::operands::Fault;
 use std::alloc::AllocError;
+use std::fmt;
 
 /// Why a text is not assembled, with the line, from 1 on. Of all faults that of the lowest line is told, and of one
 /// line the first in this order.
@@ -27,6 +31,38 @@ pub enum TextError {
 
 impl TextError {
     ghost use Rattle.std.specs.Prelude.{◌≡◌, ◌⊎◌};
+    ghost use Rattle.bpf_asm.specs.Errors.{text_error_line, text_error_name};
+
+    /// Returns the name of the error (docs/ASSEMBLER.md, "Refusals").
+    pub fn name(self) -> &'static str
+        ensures { result.now ≡ text_error_name self }
+    {
+        match self {
+            TextError::UnknownWord(_) => "UnknownWord",
+            TextError::BadOperand(_) => "BadOperand",
+            TextError::OutOfRange(_) => "OutOfRange",
+            TextError::UnknownLabel(_) => "UnknownLabel",
+            TextError::LabelTwice(_) => "LabelTwice",
+            TextError::TooLong(_) => "TooLong",
+            TextError::Empty => "Empty",
+            TextError::Memory => "Memory",
+        }
+    }
+
+    /// Returns the line of the text that the error names, from 1 on. `Empty` and `Memory` name none.
+    pub fn line(self) -> Option<usize>
+        ensures { result ≡ text_error_line self }
+    {
+        match self {
+            TextError::UnknownWord(line)
+            | TextError::BadOperand(line)
+            | TextError::OutOfRange(line)
+            | TextError::UnknownLabel(line)
+            | TextError::LabelTwice(line)
+            | TextError::TooLong(line) => Some(line),
+            TextError::Empty | TextError::Memory => None,
+        }
+    }
 
     pub(crate) fn at(fault: Fault, line: usize) -> TextError {
         match fault {
@@ -58,6 +94,21 @@ impl TextError {
             other
         } else {
             self
+        }
+    }
+}
+
+impl fmt::Display for TextError {
+    ghost output = { λ error. Some (text_error_text error) };
+
+    fn fmt<W: fmt::Write>(&self, f: &mut fmt::Formatter<W>) -> fmt::Result {
+        match *self {
+            TextError::Memory => write!(f, "Memory"),
+            error => {
+                let name = error.name();
+                let line = error.line().unwrap_or(0);
+                write!(f, "{name} line {line}")
+            }
         }
     }
 }

@@ -2,8 +2,7 @@
 use Rattle.std.specs.Prelude.{ℕ, ◌==◌, List, [], ◌∷◌, ◌++◌, codes, if◌then◌else◌}
 use Rattle.std.specs.List.{flat_map}
 use Rattle.std.specs.Fmt.{decimal}
-use Rattle.node_env.specs.declared.region.Region.{Region}
-use Rattle.node_env.specs.declared.region.Region.TheVariants.{Mem, Stack}
+use Rattle.node_env.specs.Env.{region_word}
 use Rattle.bpf_verify.specs.declared.abstract_value.AbstractValue.{AbstractValue}
 use Rattle.bpf_verify.specs.declared.abstract_value.AbstractValue.TheVariants.{Unset, Number, Pointer}
 use Rattle.bpf_explain.specs.declared.fact.Fact.{Fact}
@@ -12,10 +11,6 @@ use Rattle.bpf_explain.specs.declared.fact.Fact.TheVariants as facts
 -- one number, or two with those between them
 abbrev pub range_text : ℕ → ℕ → List ℕ
 range_text lo hi = if lo == hi then decimal lo else decimal lo ++ (codes ".." ++ decimal hi)
-
-abbrev pub region_word : Region → List ℕ
-region_word Mem = codes "memory"
-region_word Stack = codes "stack"
 
 abbrev pub kind_text : AbstractValue → List ℕ
 kind_text Unset = codes "unset"

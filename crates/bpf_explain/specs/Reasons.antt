@@ -2,7 +2,7 @@
 use Rattle.std.specs.Prelude.{ℕ, ◌+◌, ◌-◌, nat_lt, List, [], ◌++◌, codes, Option, Some, None, ℤ, if◌then◌else◌}
 use Rattle.std.specs.List.{find}
 use Rattle.std.specs.Fmt.{decimal, signed_decimal}
-use Rattle.node_env.specs.Env.{Extent, region_size}
+use Rattle.node_env.specs.Env.{Extent, region_size, region_word}
 use Rattle.node_env.specs.Helpers.{arguments_of}
 use Rattle.node_env.specs.declared.region.Region.{Region}
 use Rattle.bpf_insn.specs.declared.forms.Reg.{Reg}
@@ -29,7 +29,6 @@ use Rattle.bpf_verify.specs.States.{AbstractState, kind_of, is_unset_kind, is_po
 use Rattle.bpf_verify.specs.Rules.{operand_kind, is_astray, may_reach, rule_name, rule_number}
 use Rattle.bpf_verify.specs.Outcomes.{alu_kind}
 use Rattle.bpf_explain.specs.declared.reasons.TheConstants.{WRAPPED}
-use Rattle.bpf_explain.specs.Facts.{region_word}
 use Rattle.bpf_explain.specs.Known.{stack_bytes, first_unwritten}
 
 -- ---- jumps and calls

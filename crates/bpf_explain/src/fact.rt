@@ -2,10 +2,9 @@
 
 ghost use Rattle.std.specs.Prelude.{◌≡◌, ◌++◌, List, OnOk, Some, codes, string_bytes};
 ghost use Rattle.bpf_explain.specs.declared.fact.Fact.{Fact as FactOf};
-ghost use Rattle.bpf_explain.specs.Facts.{fact_text, kind_text, fact_list, range_text, region_word, remark};
+ghost use Rattle.bpf_explain.specs.Facts.{fact_text, kind_text, fact_list, range_text, remark};
 
 use bpf_verify::AbstractValue;
-use node_env::Region;
 use std::alloc::AllocError;
 use std::fmt;
 use std::fmt::Write;
@@ -68,16 +67,6 @@ impl fmt::Display for RangeText {
     }
 }
 
-/// The word of a region.
-pub(crate) fn region_word(region: Region) -> &'static str
-    ensures { result.now ≡ region_word region }
-{
-    match region {
-        Region::Mem => "memory",
-        Region::Stack => "stack",
-    }
-}
-
 /// The numbers of a range.
 fn numbers(range: Range) -> RangeText
     ensures lo { result.lo ≡ range.lo }
@@ -111,9 +100,7 @@ impl fmt::Display for KindText {
         match self.0 {
             AbstractValue::Unset => write!(f, "unset"),
             AbstractValue::Number(range) => write!(f, "{}", numbers(range)),
-            AbstractValue::Pointer(region, range) => {
-                write!(f, "{}+{}", region_word(region), numbers(range))
-            }
+            AbstractValue::Pointer(region, range) => write!(f, "{region}+{}", numbers(range)),
         }
     }
 }

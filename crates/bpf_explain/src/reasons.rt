@@ -14,7 +14,6 @@ ghost use Rattle.bpf_explain.specs.Reasons as reasons;
 ghost use Rattle.bpf_explain.specs.Known.{stack_bytes};
 
 use crate::access::stack_bytes;
-use crate::fact::region_word;
 use crate::loaded::first_unwritten;
 use bpf_insn::{
     Access, Insn, Operand, Program, Reads, Reg, Way, access_of, call_of, distance, load_of, target,
@@ -170,9 +169,8 @@ fn place_reason(
             "the place may wrap below 0; sub64 moves a range of places back, and add64 of a negative number wraps",
         );
     }
-    let word = region_word(region);
     let size = shape.region_size(region);
-    format!(in alloc; "the place may be {place}, and the {word} has {size} bytes")
+    format!(in alloc; "the place may be {place}, and the {region} has {size} bytes")
 }
 
 /// Why an operation that gives this misuses a pointer.
@@ -252,8 +250,8 @@ impl fmt::Display for RegionSize {
     ghost output = { λ has. Some (reasons.size_text has.region has.size) };
 
     fn fmt<W: fmt::Write>(&self, f: &mut fmt::Formatter<W>) -> fmt::Result {
-        let size = self.size;
-        write!(f, "the {} has {size}", region_word(self.region))
+        let RegionSize { region, size } = *self;
+        write!(f, "the {region} has {size}")
     }
 }
 

@@ -1,8 +1,9 @@
 -- Images of programs, and what is wrong with bytes that are none (RFC 9669, section 3 "Instruction Encoding";
 -- docs/INSTRUCTIONS.md).
 use Rattle.std.specs.Prelude.{◌≡◌, ◌≢◌, ℕ, ◌*◌, ◌/◌, ◌%◌, ◌<◌, ◌≤◌, ◌==◌, ◌⊎◌, if◌then◌else◌, Bool, true, false, not}
-use Rattle.std.specs.Prelude.{List, [], ◌∷◌, ◌++◌, length, take, drop, slice_index, FitsSigned}
+use Rattle.std.specs.Prelude.{List, [], ◌∷◌, ◌++◌, codes, length, take, drop, slice_index, FitsSigned}
 use Rattle.std.specs.List.{AllByRecursion, list_any}
+use Rattle.std.specs.Fmt.{decimal}
 use Rattle.std.specs.Int.{w16, w32, cast_unsigned}
 use Rattle.bpf_insn.specs.declared.forms.Insn.{Insn}
 use Rattle.bpf_insn.specs.declared.forms.Width.TheVariants.{W32, W64}
@@ -105,3 +106,15 @@ RefusesImage bytes (errors.BadRegister slot) = IsFirstFault bytes slot BadRegist
 RefusesImage bytes (errors.NonZeroField slot) = IsFirstFault bytes slot NonZeroField
 RefusesImage bytes (errors.BadWidth slot) = IsFirstFault bytes slot BadWidth
 RefusesImage bytes errors.Memory = IsImage bytes
+
+-- ---- the text of an error: its name, and the slot that it names (docs/INSTRUCTIONS.md, "Decode errors")
+
+abbrev pub image_error_text : ImageError → List ℕ
+image_error_text errors.Empty = codes "Empty"
+image_error_text errors.TooLong = codes "TooLong"
+image_error_text (errors.Truncated slot) = codes "Truncated slot " ++ decimal slot
+image_error_text (errors.UnknownOpcode slot) = codes "UnknownOpcode slot " ++ decimal slot
+image_error_text (errors.BadRegister slot) = codes "BadRegister slot " ++ decimal slot
+image_error_text (errors.NonZeroField slot) = codes "NonZeroField slot " ++ decimal slot
+image_error_text (errors.BadWidth slot) = codes "BadWidth slot " ++ decimal slot
+image_error_text errors.Memory = codes "Memory"

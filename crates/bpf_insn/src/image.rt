@@ -1,19 +1,20 @@
 //! Images of programs: their instructions as bytes (RFC 9669, section 3; docs/INSTRUCTIONS.md).
 
 ghost use Rattle.std.specs.Prelude.{◌≡◌, ◌≢◌, ◌<◌, ◌≤◌, ◌*◌, ◌++◌, ℕ, List, [], length, drop, IfOk, IfErr, OnOk};
-ghost use Rattle.std.specs.Prelude.{MatchResult, false};
+ghost use Rattle.std.specs.Prelude.{MatchResult, Some, false};
 ghost use Rattle.bpf_insn.specs.declared.forms.Insn.{Insn};
 ghost use Rattle.bpf_insn.specs.declared.listing.TheConstants.{MAX_SLOTS};
 ghost use Rattle.bpf_insn.specs.Encoding.{slots_taken};
 ghost use Rattle.bpf_insn.specs.Programs.{IsProgram, image_of};
 ghost use Rattle.bpf_insn.specs.inner.Programs.{layout, slots_by};
-ghost use Rattle.bpf_insn.specs.Images.{IsFaultAt, RefusesImage};
+ghost use Rattle.bpf_insn.specs.Images.{IsFaultAt, RefusesImage, image_error_text};
 ghost use Rattle.bpf_insn.specs.inner.Images.{IsFirst};
 
 use crate::forms::Insn;
 use crate::listing::{MAX_SLOTS, Program, push_slots};
 use crate::slot::{SlotFault, front};
 use std::alloc::{AllocError, Global};
+use std::fmt;
 
 /// Why bytes are not decoded. `Empty` and `TooLong` come first, then the lowest slot is named, and then the first
 /// of the other names in this order; the number is the slot where the instruction at fault begins. `Memory` comes
@@ -51,6 +52,23 @@ impl ImageError {
             SlotFault::BadRegister => ImageError::BadRegister(slot),
             SlotFault::NonZeroField => ImageError::NonZeroField(slot),
             SlotFault::BadWidth => ImageError::BadWidth(slot),
+        }
+    }
+}
+
+impl fmt::Display for ImageError {
+    ghost output = { λ error. Some (image_error_text error) };
+
+    fn fmt<W: fmt::Write>(&self, f: &mut fmt::Formatter<W>) -> fmt::Result {
+        match self {
+            ImageError::Empty => write!(f, "Empty"),
+            ImageError::TooLong => write!(f, "TooLong"),
+            ImageError::Truncated(slot) => write!(f, "Truncated slot {slot}"),
+            ImageError::UnknownOpcode(slot) => write!(f, "UnknownOpcode slot {slot}"),
+            ImageError::BadRegister(slot) => write!(f, "BadRegister slot {slot}"),
+            ImageError::NonZeroField(slot) => write!(f, "NonZeroField slot {slot}"),
+            ImageError::BadWidth(slot) => write!(f, "BadWidth slot {slot}"),
+            ImageError::Memory => write!(f, "Memory"),
         }
     }
 }

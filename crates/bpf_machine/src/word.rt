@@ -1,6 +1,10 @@
 //! What a register holds, and how a run can end.
 
+ghost use Rattle.std.specs.Prelude.{Some};
+ghost use Rattle.bpf_machine.specs.Traps.{trap_name};
+
 use node_env::Region;
+use std::fmt;
 
 /// What a register holds: a number, or a pointer into a region, by its offset from the region's first byte.
 #[derive(Clone, Copy, Debug, PartialEq, Eq)]
@@ -55,6 +59,25 @@ impl TrapKind {
             TrapKind::BadArgument => 8,
             TrapKind::NotPointer => 9,
             TrapKind::ExitNotNumber => 10,
+        }
+    }
+}
+
+impl fmt::Display for TrapKind {
+    ghost output = { λ kind. Some (trap_name kind) };
+
+    fn fmt<W: fmt::Write>(&self, f: &mut fmt::Formatter<W>) -> fmt::Result {
+        match self {
+            TrapKind::BadJump => write!(f, "BadJump"),
+            TrapKind::BadHelper => write!(f, "BadHelper"),
+            TrapKind::Unset => write!(f, "Unset"),
+            TrapKind::FrameWrite => write!(f, "FrameWrite"),
+            TrapKind::NotNumber => write!(f, "NotNumber"),
+            TrapKind::OutOfRegion => write!(f, "OutOfRegion"),
+            TrapKind::UnsetByte => write!(f, "UnsetByte"),
+            TrapKind::BadArgument => write!(f, "BadArgument"),
+            TrapKind::NotPointer => write!(f, "NotPointer"),
+            TrapKind::ExitNotNumber => write!(f, "ExitNotNumber"),
         }
     }
 }

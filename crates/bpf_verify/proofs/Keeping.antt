@@ -16,7 +16,7 @@ use Rattle.bpf_verify.specs.Typable.{Table, Types}
 use Rattle.bpf_verify.specs.declared.rule.Rule.{Rule}
 use Rattle.bpf_verify.specs.declared.rule.Rule.TheVariants.{NotForward}
 use Rattle.bpf_verify.specs.Refusals.{IsRefusedAt}
-use Rattle.bpf_verify.specs.inner.Walk.{come_of, Stands, StandsAt, IsLeast, IsStop, met_state, with_row, with_met, sent_on, rows_after, front_after, Keeps, IsStep}
+use Rattle.bpf_verify.specs.inner.Walk.{come_of, WalkIsBefore, WalkIsAt, IsLeast, IsStop, met_state, with_row, with_met, sent_on, rows_after, front_after, Keeps, IsStep}
 use Rattle.bpf_verify.specs.inner.Rows.{abstract_of}
 use Rattle.bpf_verify.specs.declared.walk.Front.{Front}
 use Rattle.bpf_verify.proofs.RuleLaws.{begins_within, jumps_forward}
@@ -45,7 +45,7 @@ pub keeps_first : (program : List Insn) (shape : Extent) (come : Option Abstract
     → come ≡ Some (entry_state shape) → ((slot : ℕ) → rows slot ≡ None) → Keeps program shape 0 come rows
 keeps_first program shape come rows comes empty =
     let same : entry_table shape ≡ with_met rows 0 come = λ i. λ slot. begun shape come rows comes empty slot i in
-    subst (λ table. Stands program shape 0 come rows table × IsLeast program shape table) same
+    subst (λ table. WalkIsBefore program shape 0 come rows table × IsLeast program shape table) same
     (begins_stand program shape come rows comes empty, begins_least program shape)
 
 -- ---- what is known at a slot is left there
@@ -53,11 +53,11 @@ keeps_first program shape come rows comes empty =
 pub settled : (program : List Insn) (shape : Extent) (slot : ℕ) (come state : Option AbstractState)
     (rows rows' : Table)
     → Keeps program shape slot come rows → state ≡ met_state (rows slot) come
-    → ((other : ℕ) → rows' other ≡ with_row rows slot state other) → StandsAt program shape slot state rows'
+    → ((other : ℕ) → rows' other ≡ with_row rows slot state other) → WalkIsAt program shape slot state rows'
 settled program shape slot come state rows rows' keeps met left =
     let same : with_met rows slot come ≡ rows' =
     λ i. λ other. (sym (left other ∙ ap (λ row. with_row rows slot row other) met)) i in
-    subst (StandsAt program shape slot state) same (record {
+    subst (WalkIsAt program shape slot state) same (record {
       passed = keeps.0.passed;
       here = keeps.0.here ∙ sym met;
       proper = keeps.0.proper;
@@ -85,7 +85,7 @@ rows_below program shape slot to insn (Some A) rows kept low =
 module _ (program : List Insn) (shape : Extent) (slot : ℕ) (insn : Insn) (state come : Option AbstractState)
     (rows rows' : Table)
     (here : insn_at program slot ≡ Some insn) (kept : KeepsRules program shape slot insn state)
-    (stands : StandsAt program shape slot state rows)
+    (stands : WalkIsAt program shape slot state rows)
     (sent : (to : ℕ) → rows' to ≡ rows_after shape insn slot state rows to)
     (goes : come ≡ front_after shape insn slot state) where
   abbrev next : ℕ
@@ -111,7 +111,7 @@ module _ (program : List Insn) (shape : Extent) (slot : ℕ) (insn : Insn) (stat
   pub keeps_next : Keeps program shape (slot + slots_taken insn) come rows'
   keeps_next =
       let tables : next_table rows slot next come rows' ≡ with_met rows' next come = λ i. λ to. same to i in
-      subst (λ table. Stands program shape next come rows' table × IsLeast program shape table) tables (
+      subst (λ table. WalkIsBefore program shape next come rows' table × IsLeast program shape table) tables (
         stands_on program shape slot insn state rows rows rows' come here kept stands.passed stands.here
             (λ to later. refl) sent goes stands.proper,
         least_on program shape slot insn state rows rows rows' come here kept stands.passed stands.here
@@ -129,7 +129,7 @@ keeps_step program shape slot count insn come rows (Some rule) e taken step = ab
 
 pub refused_at : (program : List Insn) (shape : Extent) (slot : ℕ) (insn : Insn) (state : Option AbstractState)
     (rows : Table) (rule : Rule)
-    → insn_at program slot ≡ Some insn → StandsAt program shape slot state rows
+    → insn_at program slot ≡ Some insn → WalkIsAt program shape slot state rows
     → lowest_broken program shape slot insn state ≡ Some rule
     → Types program shape slot rows × IsRefusedAt program shape rows slot rule
 refused_at program shape slot insn state rows rule here stands broken = (

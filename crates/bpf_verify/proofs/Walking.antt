@@ -16,7 +16,7 @@ use Rattle.bpf_verify.specs.States.{AbstractState, IsContainedIn, IsProper, join
 use Rattle.bpf_verify.specs.Rules.{KeepsRules, lowest_broken}
 use Rattle.bpf_verify.specs.Outcomes.{outcome}
 use Rattle.bpf_verify.specs.Typable.{Table, IsCovered, Types, Typable}
-use Rattle.bpf_verify.specs.inner.Walk.{Passed, IsProperRow, Stands, come_of, RefusesInsn, met_state, with_come, sent_on, come_after, rows_after, front_after, IsLeast, IsStop, Walks}
+use Rattle.bpf_verify.specs.inner.Walk.{Passed, IsProperRow, WalkIsBefore, come_of, RefusesInsn, met_state, with_come, sent_on, come_after, rows_after, front_after, IsLeast, IsStop, Walks}
 use Rattle.bpf_verify.specs.declared.rule.Rule.{Rule}
 use Rattle.bpf_verify.specs.declared.rule.Rule.TheVariants.{NotForward}
 use Rattle.bpf_verify.specs.Accepted.{IsFirstBroken, IsRefusal}
@@ -344,7 +344,7 @@ module _ (program : List Insn) (shape : Extent) (slot : ℕ) (insn : Insn) (stat
   goes_beyond = beyond
 
   pub stands_on : ((at : ℕ) → IsProperRow (table at))
-      → Stands program shape (slot + slots_taken insn) come' rows'
+      → WalkIsBefore program shape (slot + slots_taken insn) come' rows'
       (next_table table slot (slot + slots_taken insn) come' rows')
   stands_on proper = record {
     passed = record {
@@ -373,7 +373,7 @@ entry_table shape slot = if slot == 0 then Some (entry_state shape) else None
 
 pub begins_stand : (program : List Insn) (shape : Extent) (come : Option AbstractState) (rows : Table)
     → come ≡ Some (entry_state shape)
-    → ((slot : ℕ) → rows slot ≡ None) → Stands program shape 0 come rows (entry_table shape)
+    → ((slot : ℕ) → rows slot ≡ None) → WalkIsBefore program shape 0 come rows (entry_table shape)
 unfolding entry_table
 begins_stand program shape come rows comes empty = record {
   passed = record {

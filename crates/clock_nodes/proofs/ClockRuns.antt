@@ -17,7 +17,7 @@ use Rattle.bpf_machine.specs.Step.{number_at, with_number, step}
 use Rattle.bpf_machine.specs.Run.{Leads, End}
 use Rattle.clock_nodes.specs.Rule.{Rule, IsRule, support, clock_below, clock_of, mark_of, pair_from, pair_after, with_pair}
 use Rattle.clock_nodes.specs.Listings.{head, count_blocks, choice, store_listing, send_blocks, tail, listing, clock_listing}
-use Rattle.clock_nodes.specs.Ends.{IsSentTo, IsStart, IsClockEnd, HasRuns, EndsBy}
+use Rattle.clock_nodes.specs.Ends.{IsSentTo, IsNodeStart, IsClockEnd, HasRuns, EndsBy}
 use Rattle.clock_nodes.proofs.Places.{Stands, begins, first_begins, stands_behind, Ones, ones_append, stands_whole}
 use Rattle.clock_nodes.proofs.Forms.{put_same, put_other, is_less, put, at, moves, passes, jumps, loads}
 use Rattle.clock_nodes.proofs.Runs.{Finishes, after, nothing_sent, HasEnd, one_end}
@@ -263,7 +263,7 @@ clock_ended rule env memory ok nodes is whole bytes =
     }
 
 clock_has_end : (rule : Rule) (shape : Extent) (env : Setting) (memory : List ℕ)
-    → IsRule rule.nodes rule.faults rule.modulus → rule.nodes ≡ shape.nodes → IsStart shape env memory
+    → IsRule rule.nodes rule.faults rule.modulus → rule.nodes ≡ shape.nodes → IsNodeStart shape env memory
     → HasEnd (clock_listing rule) env memory (IsClockEnd rule.faults rule.modulus env memory)
 clock_has_end rule shape env memory ok nodes start =
     let same : env.shape.nodes ≡ rule.nodes = ap (λ (x : Extent). x.nodes) start.extent ∙ sym nodes in

@@ -22,7 +22,7 @@ use Rattle.bpf_machine.specs.declared.word.Word.TheVariants.{Num}
 use Rattle.bpf_machine.specs.Machine.{MachineState, Running, entry}
 use Rattle.bpf_machine.specs.Step.{step}
 use Rattle.clock_nodes.specs.Listings.{tail, say_blocks, say_listing, echo_blocks, echo_listing}
-use Rattle.clock_nodes.specs.Ends.{IsSentTo, IsStart, HasRuns, EndsBy, IsSayEnd, IsEchoEnd}
+use Rattle.clock_nodes.specs.Ends.{IsSentTo, IsNodeStart, HasRuns, EndsBy, IsSayEnd, IsEchoEnd}
 use Rattle.clock_nodes.proofs.Places.{Stands, begins, first_begins, Ones, ones_append, stands_whole}
 use Rattle.clock_nodes.proofs.Forms.{put_same, put_other, put, called, sending, moves, receives, sends}
 use Rattle.clock_nodes.proofs.Runs.{Finishes, after, finish_tail, nothing_sent, sent_next, sent_none, HasEnd, one_end}
@@ -99,7 +99,7 @@ pub ones_say : (values : List (Option ℕ)) → Ones (say_listing values)
 ones_say values = ones_append (say_blocks 0 values) tail (ones_says values 0) (refl, (refl, tt))
 
 say_has_end : (values : List (Option ℕ)) (shape : Extent) (env : Setting) (memory : List ℕ)
-    → length values ≡ shape.nodes → All IsSlot values → IsStart shape env memory
+    → length values ≡ shape.nodes → All IsSlot values → IsNodeStart shape env memory
     → HasEnd (say_listing values) env memory (IsSayEnd values env memory)
 say_has_end values shape env memory whole fit start =
     let p = say_listing values in
@@ -172,7 +172,7 @@ ones_echoes (suc n) j = (refl, (refl, (refl, (refl, (refl, ones_echoes n (suc j)
 pub ones_echo : (nodes : ℕ) → Ones (echo_listing nodes)
 ones_echo nodes = ones_append (echo_blocks nodes 0) tail (ones_echoes nodes 0) (refl, (refl, tt))
 
-echo_has_end : (shape : Extent) (env : Setting) (memory : List ℕ) → IsStart shape env memory
+echo_has_end : (shape : Extent) (env : Setting) (memory : List ℕ) → IsNodeStart shape env memory
     → HasEnd (echo_listing shape.nodes) env memory (IsEchoEnd env memory)
 echo_has_end shape env memory start =
     let p = echo_listing shape.nodes in

@@ -8,7 +8,7 @@ use Rattle.bpf_machine.specs.Run.{CompleteRun, End}
 use Rattle.clock_nodes.specs.Rule.{pair_after, with_pair}
 
 -- what one node of the shape may begin a pulse with: any messages, coin and node number, and any bytes of memory
-pub record IsStart (shape : Extent) (env : Setting) (memory : List ℕ) : Type 0 where
+pub record IsNodeStart (shape : Extent) (env : Setting) (memory : List ℕ) : Type 0 where
   pub extent : env.shape ≡ shape
   pub setting : IsSetting env
   pub length : length memory ≡ env.shape.memory
@@ -17,12 +17,12 @@ pub record IsStart (shape : Extent) (env : Setting) (memory : List ℕ) : Type 0
 -- from every start the program has a complete run
 abbrev pub HasRuns : List Insn → Extent → Type 0
 HasRuns program shape =
-    (env : Setting) (memory : List ℕ) → IsStart shape env memory → (end : End) × CompleteRun program env memory end
+    (env : Setting) (memory : List ℕ) → IsNodeStart shape env memory → (end : End) × CompleteRun program env memory end
 
 -- every complete run of the program from every start satisfies `IsEnd`
 abbrev pub EndsBy : List Insn → Extent → (Setting → List ℕ → End → Type 0) → Type 0
 EndsBy program shape IsEnd =
-    (env : Setting) (memory : List ℕ) (end : End) → IsStart shape env memory → CompleteRun program env memory end
+    (env : Setting) (memory : List ℕ) (end : End) → IsNodeStart shape env memory → CompleteRun program env memory end
     → IsEnd env memory end
 
 -- to each node what is given for it, and nothing to any other

@@ -61,7 +61,8 @@ tail = Alu Mov W64 R0 (Imm (pos 0)) ∷ Exit ∷ []
 -- the clock program for `nodes` nodes: a clock that at least `quorum` messages support advances, modulo `modulus`
 abbrev pub listing : ℕ → ℕ → ℕ → List Insn
 listing nodes quorum modulus =
-    head modulus ++ (count_blocks nodes 0 ++ (choice quorum modulus ++ (store_listing ++ (send_blocks nodes 0 ++ tail))))
+    head modulus ++ (count_blocks nodes 0 ++ (choice quorum modulus ++ (store_listing ++ (send_blocks nodes 0
+    ++ tail))))
 
 -- the clock program of a rule
 abbrev pub clock_listing : Rule → List Insn

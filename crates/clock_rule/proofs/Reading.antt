@@ -3,7 +3,7 @@ use Rattle.std.proofs.Common.{◌≡◌, Result, Ok, Err, refl, inl, inr}
 use Rattle.rule_text.specs.declared.errors.ReadRuleError.{ReadRuleError}
 use Rattle.rule_text.specs.declared.errors.ReadRuleError.TheVariants.{Memory}
 use Rattle.rule_text.specs.Tokens.{word_lexeme}
-use Rattle.rule_text.specs.Scopes.{Tells}
+use Rattle.rule_text.specs.Scopes.{TellsError}
 use Rattle.rule_text.specs.Terms.{chain_rest, part}
 use Rattle.rule_text.specs.Statements.{targets_read, lines_read, state_names, header_read, RuleForm, rule_read}
 use Rattle.clock_rule.specs.declared.text.TheConstants.{CLOCK_RULE}
@@ -22,6 +22,6 @@ never_wrong : (r : Result RuleForm ReadRuleError) (a : RuleForm) (error : ReadRu
 never_wrong r a error e f = cc
 
 pub only_memory : (r : Result RuleForm ReadRuleError) (a : RuleForm) (error : ReadRuleError) → r ≡ Ok a
-    → Tells r error → error ≡ Memory
+    → TellsError r error → error ≡ Memory
 only_memory r a error e (inl short) = short
 only_memory r a error e (inr wrong) = absurd (never_wrong r a error e wrong)

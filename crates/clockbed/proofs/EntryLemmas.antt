@@ -6,7 +6,7 @@ use Rattle.std.proofs.lemmas.List.Elements.{All-push, All-nil}
 use Rattle.clockbed.proofs.Among.{any-among, among-any, among-push, push-among}
 use Rattle.clockbed.proofs.NumberLemmas.{map_push}
 use Rattle.clockbed.proofs.RangeLemmas.{names_within}
-use Rattle.clockbed.specs.Lists.{AreEntries, IsEntry, IsListOf, IsPart, IsSpan, IsInSpan, Names, byte_spans}
+use Rattle.clockbed.specs.Lists.{AreEntries, IsEntry, IsNumberList, IsPart, IsSpan, IsInSpan, Names, byte_spans}
 use Rattle.clockbed.specs.inner.Spans.{AddsSpan, JoinsSpan}
 use Rattle.clockbed.specs.inner.Entries.{AddsCells, JoinsPart}
 use Rattle.commands.specs.declared.request.ByteSpan.{ByteSpan}
@@ -14,7 +14,7 @@ use Rattle.commands.specs.declared.request.Cells.{Cells}
 use Rattle.node_env.specs.declared.shape.TheConstants.{MAX_MEMORY}
 
 joined_list : (parts : List (List ℕ)) (part : List ℕ) (old new : List (ℕ × ℕ))
-    → IsListOf 256 parts old → JoinsPart old new part → IsListOf 256 (parts ++ part ∷ []) new
+    → IsNumberList 256 parts old → JoinsPart old new part → IsNumberList 256 (parts ++ part ∷ []) new
 joined_list parts part old new before joins = record {
   written = All-push (IsPart 256) parts part before.written (joins.first, joins.last, joins.span);
   numbers = λ n.
@@ -29,7 +29,7 @@ joined_list parts part old new before joins = record {
   longest = joins.longest;
 }
 
-no_list : IsListOf 256 [] []
+no_list : IsNumberList 256 [] []
 no_list = record {
   written = All-nil (IsPart 256);
   numbers = λ n. ((λ h. absurd (omega arith)), (λ h. absurd (omega arith)));

@@ -10,7 +10,7 @@ use Rattle.std.proofs.lemmas.Bool.{cases_eq}
 use Rattle.std.proofs.lemmas.Cmp.{ranked}
 use Rattle.std.proofs.lemmas.List.Elements.{All-push, All-nil}
 use Rattle.clockbed.proofs.Among.{Among, any-among, among-any, contains-among, among-contains, among-push, push-among}
-use Rattle.clockbed.specs.Lists.{AreLongest, IsListOf, IsPart, IsInSpan, Names}
+use Rattle.clockbed.specs.Lists.{AreLongest, IsNumberList, IsPart, IsInSpan, Names}
 use Rattle.clockbed.specs.inner.Spans.{AddsPart, AddsUpTo, AreNumbersOf}
 
 -- a list has the number
@@ -90,7 +90,7 @@ one_part limit parts part old new before fits adds = record {
 
 pub list_of : (limit : ℕ) (parts : List (List ℕ)) (numbers : List ℕ) (spans : List (ℕ × ℕ))
     → AreNumbersOf limit parts numbers → ((n : ℕ) → Any (IsInSpan n) spans ↔ Contains numbers n)
-    → AreLongest spans → IsListOf limit parts spans
+    → AreLongest spans → IsNumberList limit parts spans
 list_of limit parts numbers spans named within longest = record {
   written = named.written;
   numbers = λ n. ((λ h. (named.named n).0 ((within n).0 h)), (λ h. (within n).1 ((named.named n).1 h)));

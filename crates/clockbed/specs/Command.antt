@@ -4,13 +4,13 @@ use Rattle.clockbed.specs.Requests.{IsAsked}
 use Rattle.commands.specs.declared.fault.Fault.{Fault}
 use Rattle.commands.specs.declared.request.Request.{Request}
 use Rattle.commands.specs.Faults.{IsOfCommandLine, Says, fault_status, fault_text}
-use Rattle.commands.specs.Perform.{Performs, TakesFor}
+use Rattle.commands.specs.Perform.{PerformsRequest, TakesFor}
 
 -- the words ask for a request, by options or for help, and it is performed
 pub record DoesRequest (input left old new said_old said_new : Option (List ℕ)) (status : ℕ) : Type 0 where
   pub request : Request
   pub asked : IsAsked request
-  pub performed : Performs request input old new said_old said_new status
+  pub performed : PerformsRequest request input old new said_old said_new status
   pub taken : TakesFor request input left
 
 -- they ask for none, or memory ran out: that is said, and nothing is read or written

@@ -4,7 +4,7 @@ use Rattle.std.specs.List.{AllZip}
 use Rattle.hex.specs.Hex.{decode_of}
 use Rattle.clap.specs.Matches.{first_value}
 use Rattle.clap.specs.declared.parser.matches.Found.{Found}
-use Rattle.clockbed.specs.Lists.{AreCells, IsBytes, IsMail, parts_of}
+use Rattle.clockbed.specs.Lists.{AreCells, IsBytes, IsMailList, comma_parts}
 use Rattle.clockbed.specs.Numbers.{HasFlag, IsNumeralOf, IsNumberOf}
 use Rattle.clockbed.specs.declared.explore_words.OddsAsked.{OddsAsked}
 use Rattle.command_words.specs.declared.options.TheConstants.{DEPTH, MEBIBYTES, STATES}
@@ -37,13 +37,14 @@ OptionHasText f name text = first_value f name ≡ Some text
 -- the list that the text of an option means, which is there exactly if the option is
 abbrev pub HasMail : {Z : Type 0} → Found → List ℕ → Option (Vec MailSpan Z) → Type 0
 HasMail f name None = HasNone f name
-HasMail f name (Some mail) = (text : List ℕ) × OptionHasText f name text × IsMail text mail.items
+HasMail f name (Some mail) = (text : List ℕ) × OptionHasText f name text × IsMailList text mail.items
 
 -- all, or a list
 abbrev pub AsksMail : Found → Option Mail → Type 0
 AsksMail f None = HasNone f (codes "mail")
 AsksMail f (Some mails.All) = OptionHasText f (codes "mail") (codes "all")
-AsksMail f (Some (mails.Listed mail)) = (text : List ℕ) × OptionHasText f (codes "mail") text × IsMail text mail.items
+AsksMail f (Some (mails.Listed mail)) =
+    (text : List ℕ) × OptionHasText f (codes "mail") text × IsMailList text mail.items
 
 -- ---- the start
 
@@ -53,7 +54,7 @@ IsMemoryImage part image = decode_of part ≡ Ok image
 
 -- a memory for each part
 abbrev pub AreImages : List ℕ → List (List ℕ) → Type 0
-AreImages text images = AllZip IsMemoryImage (parts_of text) images
+AreImages text images = AllZip IsMemoryImage (comma_parts text) images
 
 -- the entries of the bytes at the start: those of one of the two options
 abbrev pub HasCells : Found → List Cells → Type 0
@@ -101,7 +102,7 @@ IsShareText text share = (parts : List ℕ) × (of : List ℕ) × (text ≡ part
     × IsNumeralOf 32 parts share.parts × IsNumeralOf 32 of share.of
 
 -- a share of a whole, at least one part of it
-pub record HasShare (f : Found) (share : Share) : Type 0 where
+pub record NamesShare (f : Found) (share : Share) : Type 0 where
   pub text : List ℕ
   pub named : OptionHasText f (codes "reach") text
   pub written : IsShareText text share
@@ -110,7 +111,7 @@ pub record HasShare (f : Found) (share : Share) : Type 0 where
 
 abbrev pub AsksReach : Found → Option Share → Type 0
 AsksReach f None = HasNone f (codes "reach")
-AsksReach f (Some share) = HasShare f share
+AsksReach f (Some share) = NamesShare f share
 
 -- ---- the answer
 

@@ -11,8 +11,8 @@ use Rattle.commands.specs.declared.request.Cells.{Cells}
 use Rattle.commands.specs.declared.request.MailSpan.{MailSpan}
 
 -- the parts of a text between commas
-abbrev pub parts_of : List ℕ → List (List ℕ)
-parts_of text = slice_split (λ b. b == 44) text
+abbrev pub comma_parts : List ℕ → List (List ℕ)
+comma_parts text = slice_split (λ b. b == 44) text
 
 -- ---- numbers that parts name
 
@@ -55,7 +55,7 @@ abbrev pub span_length : List (ℕ × ℕ) → ℕ
 span_length spans = sum_by (λ span. span.1 + 1 - span.0) spans
 
 -- the parts are a list, and the spans are exactly the numbers that some part names
-pub record IsListOf (limit : ℕ) (parts : List (List ℕ)) (spans : List (ℕ × ℕ)) : Type 0 where
+pub record IsNumberList (limit : ℕ) (parts : List (List ℕ)) (spans : List (ℕ × ℕ)) : Type 0 where
   pub written : All (IsPart limit) parts
   pub numbers : (n : ℕ) → Any (IsInSpan n) spans ↔ Any (λ part. Names part n) parts
   pub longest : AreLongest spans
@@ -69,14 +69,14 @@ abbrev pub byte_spans : List ByteSpan → List (ℕ × ℕ)
 byte_spans spans = map (λ span. (span.first, span.last)) spans
 
 -- `--mail`, `--said`
-abbrev pub IsMail : List ℕ → List MailSpan → Type 0
-IsMail text mail = IsListOf (2 ^ 32) (parts_of text) (mail_spans mail)
+abbrev pub IsMailList : List ℕ → List MailSpan → Type 0
+IsMailList text mail = IsNumberList (2 ^ 32) (comma_parts text) (mail_spans mail)
 
 -- `--bytes`: one entry, for the first eight bytes
 abbrev pub IsBytes : List ℕ → List Cells → Type 0
 IsBytes text [] = ⊥
 IsBytes text (cells ∷ []) = (cells.first ≡ 0) × (cells.last ≡ 7)
-    × IsListOf 256 (parts_of text) (byte_spans cells.values.items)
+    × IsNumberList 256 (comma_parts text) (byte_spans cells.values.items)
 IsBytes text (cells ∷ other ∷ more) = ⊥
 
 -- an entry: PLACES=VALUE in its first part, and more values in the others
@@ -85,7 +85,7 @@ pub record IsEntry (head : List ℕ) (more : List (List ℕ)) (cells : Cells) : 
   pub value : List ℕ
   pub cut : head ≡ places ++ (codes "=" ++ value)
   pub placed : IsSpan MAX_MEMORY places cells.first cells.last
-  pub values : IsListOf 256 (value ∷ more) (byte_spans cells.values.items)
+  pub values : IsNumberList 256 (value ∷ more) (byte_spans cells.values.items)
 
 -- the parts are those of the entries, one entry after another
 abbrev pub AreEntries : List (List ℕ) → List Cells → Type 0
@@ -95,7 +95,7 @@ AreEntries parts (cells ∷ rest) = (head : List ℕ) × (more : List (List ℕ)
 
 -- `--cells`
 abbrev pub AreCells : List ℕ → List Cells → Type 0
-AreCells text all = AreEntries (parts_of text) all
+AreCells text all = AreEntries (comma_parts text) all
 
 -- ---- the lists of `exec`
 
@@ -107,7 +107,7 @@ IsMailSlot word (Some n) = IsNumeral 10 (without_leading_plus word)
 
 -- `--mail`: a slot for each part, and for each node
 abbrev pub AreMailSlots : ℕ → List ℕ → List (Option ℕ) → Type 0
-AreMailSlots nodes text mail = AllZip IsMailSlot (parts_of text) mail × (length mail ≡ nodes)
+AreMailSlots nodes text mail = AllZip IsMailSlot (comma_parts text) mail × (length mail ≡ nodes)
 
 -- `--contents`: pairs of hexadecimal digits, at most as many as there is room for
 abbrev pub AreContents : ℕ → List ℕ → List ℕ → Type 0

@@ -1,5 +1,6 @@
--- Which request the options of a command ask for (docs/COMMANDS.md), by what `clap` read of them: a text for each option
--- that is there. That the words give these texts is the part of `clap`. What the texts of lists name is in Lists.
+-- Which request the options of a command ask for (docs/COMMANDS.md), by what `clap` read of them: a text for each
+-- option that is there. That the words give these texts is the part of `clap`. What the texts of lists name is in
+-- Lists.
 use Rattle.std.specs.Prelude.{◌≡◌, ◌≢◌, ◌⊎◌, ◌↔◌, ℕ, true, false, List, [], ◌++◌, Option, Some, None}
 use Rattle.std.specs.Prelude.{IsTrue, MatchOption, codes, option_map, string_bytes}
 use Rattle.clap.specs.Matches.{first_value}
@@ -27,8 +28,10 @@ use Rattle.commands.specs.declared.request.ScenarioRequest.TheVariants as scenar
 use Rattle.commands.specs.declared.request.ShapeOptions.{ShapeOptions}
 use Rattle.commands.specs.declared.request.StressOptions.{StressOptions}
 use Rattle.commands.specs.declared.request.SweepOptions.{SweepOptions}
-use Rattle.key_sweep.specs.Keys.{Span}
-use Rattle.run_lines.specs.Spans.{Span as PulseSpan}
+use Rattle.key_sweep.specs.Keys.{KeyRange}
+use Rattle.run_lines.specs.Spans.{PulseRange}
+use Rattle.run_lines.specs.declared.form.LineFormat.{LineFormat}
+use Rattle.run_lines.specs.declared.form.LineFormat.TheVariants.{Json}
 
 -- ---- values of options
 
@@ -41,7 +44,7 @@ abbrev pub OptionHasPlace : Found → List ℕ → NodeInPulse → Type 0
 OptionHasPlace f name place = (text : List ℕ) × (first_value f name ≡ Some text) × IsPlace text place
 
 -- FIRST..LAST
-abbrev pub IsKeys : List ℕ → Span → Type 0
+abbrev pub IsKeys : List ℕ → KeyRange → Type 0
 IsKeys text keys = (first : List ℕ) × (last : List ℕ) × (text ≡ first ++ (codes ".." ++ last))
     × IsNumeralOf 64 first keys.first × IsNumeralOf 64 last keys.last
 
@@ -105,13 +108,21 @@ abbrev pub AsksRun : Found → RunOptions → Type 0
 AsksRun f asked = IsNumberOf WORKERS f asked.workers
     × HasFlag f (codes "check") asked.check
 
-pub record AsksSpan (f : Found) (span : PulseSpan) : Type 0 where
+pub record AsksSpan (f : Found) (span : PulseRange) : Type 0 where
   pub from : IsNumberOf FROM f span.first
   pub until : IsNumberOf UNTIL f span.last
 
+-- a report is asked for, and no lines
+abbrev pub AsksReport : Found → Type 0
+AsksReport f = HasFlag f (codes "json") false
+
+abbrev pub AsksFormat : Found → LineFormat → Type 0
+AsksFormat f Json = HasFlag f (codes "json") true
+
 pub record AsksLines (f : Found) (asked : LinesOptions) : Type 0 where
   pub run : AsksRun f asked.run
-  pub span : AsksSpan f asked.span
+  pub format : AsksFormat f asked.form.format
+  pub span : AsksSpan f asked.form.span
 
 abbrev pub AsksSweep : Found → SweepOptions → Type 0
 AsksSweep f asked = ((text : List ℕ) × (first_value f (codes "keys") ≡ Some text) × IsKeys text asked.keys)
@@ -131,9 +142,9 @@ IsUntraced f = first_value f (codes "trace") ≡ None
 -- what a command that reads a scenario is asked for
 abbrev pub AsksOfScenario : List ℕ → Found → ScenarioRequest → Type 0
 AsksOfScenario name f (scenarios.Run asked) =
-    (name ≡ codes "run") × IsUntraced f × HasFlag f (codes "json") false × AsksRun f asked
+    (name ≡ codes "run") × IsUntraced f × AsksReport f × AsksRun f asked
 AsksOfScenario name f (scenarios.Lines asked) =
-    (name ≡ codes "run") × IsUntraced f × HasFlag f (codes "json") true × AsksLines f asked
+    (name ≡ codes "run") × IsUntraced f × AsksLines f asked
 AsksOfScenario name f (scenarios.TracedRun place) = (name ≡ codes "run") × OptionHasPlace f (codes "trace") place
 AsksOfScenario name f (scenarios.NodeProgram asked) =
     (name ≡ codes "dis") × OptionHasPlace f (codes "node") asked.place × HasFlag f (codes "list") asked.list

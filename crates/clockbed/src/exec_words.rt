@@ -22,7 +22,7 @@ pub(crate) enum CaseFault {
     Memory,
 }
 
-/// What `exec` is asked for, where the values make a case of the shape.
+/// Returns what `exec` is asked for, where the values make a case of the shape.
 pub(crate) fn exec_options(
     alloc: Global,
     options: &ArgMatches<'_>,
@@ -55,14 +55,14 @@ fn case_in(alloc: Global, options: &ArgMatches<'_>, shape: ShapeOptions) -> Resu
     Ok(case)
 }
 
-/// Whether the coin is 1.
+/// Returns true if the coin is 1.
 fn coin_asked(options: &ArgMatches<'_>) -> bool
     ensures { IsTrue result ↔ OptionHasNumber 32 (found_of options.now) COIN.name.now (Some 1) }
 {
     number_if_named(options, &COIN) == Some(1)
 }
 
-/// The mail, which is empty if none is named.
+/// Returns the mail, which is empty if none is named.
 fn mail_asked(
     alloc: Global,
     options: &ArgMatches<'_>,
@@ -76,7 +76,7 @@ fn mail_asked(
     }
 }
 
-/// The contents of the memory, which are empty if none are named.
+/// Returns the contents of the memory, which are empty if none are named.
 fn contents_asked(alloc: Global, options: &ArgMatches<'_>, room: u32) -> Result<Vec<u8>, CaseFault>
     ensures { IfOk result (λ contents. HasContents (found_of options.now) room contents.items) }
 {
@@ -86,7 +86,7 @@ fn contents_asked(alloc: Global, options: &ArgMatches<'_>, room: u32) -> Result<
     }
 }
 
-/// The mail of a list that has as many places as there are nodes.
+/// Returns the mail of a list that has as many places as there are nodes.
 fn mail_in(alloc: Global, list: &str, nodes: u32) -> Result<Vec<Option<u32>>, CaseFault>
     ensures { IfOk result (λ mail. AreMailSlots nodes list.now mail.items) }
 {
@@ -102,7 +102,7 @@ fn mail_in(alloc: Global, list: &str, nodes: u32) -> Result<Vec<Option<u32>>, Ca
     }
 }
 
-/// A number, or a dash for none.
+/// Returns a number, or a dash for none.
 fn slot_in(word: &str) -> Result<Option<u32>, CaseFault>
     ensures { IfOk result (IsMailSlot word.now) }
 {
@@ -127,7 +127,7 @@ fn contents_in(alloc: Global, text: &str, room: u32) -> Result<Vec<u8>, CaseFaul
 }
 
 impl CaseFault {
-    /// Why, to one who wrote the words.
+    /// Returns why, to one who wrote the words.
     pub(crate) fn reason(self) -> &'static str {
         match self {
             CaseFault::Id => "the id is a node's: below the number of nodes",

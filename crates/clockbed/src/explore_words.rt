@@ -39,7 +39,7 @@ const REACH_REASON: &str =
 const GRAPH_REASON: &str =
     "--graph names the states from which clocks are synchronised: use --ask stabilisation or both";
 
-/// What explore is asked for.
+/// Returns what explore is asked for.
 pub(crate) fn explore_options(
     alloc: Global,
     options: &ArgMatches<'_>,
@@ -68,7 +68,7 @@ pub(crate) fn explore_options(
     })
 }
 
-/// What is asked of a bench.
+/// Returns what is asked of a bench.
 fn question(options: &ArgMatches<'_>) -> Result<Question, OptionsFault>
     ensures { IfOk result (AsksQuestion (found_of options.now)) }
 {
@@ -89,7 +89,7 @@ pub(crate) struct OddsAsked {
     pub(crate) last: Option<u32>,
 }
 
-/// The numbers of a text COUNT or FIRST..LAST.
+/// Returns the numbers of a text COUNT or FIRST..LAST.
 fn odds_in(text: &str) -> Option<OddsAsked>
     ensures { IfSome result (IsOddsText text.now) }
 {
@@ -113,7 +113,7 @@ fn are_pulses(odds: OddsAsked) -> bool {
     ODDS.least <= first && first <= last && last <= ODDS.most
 }
 
-/// The numbers of pulses whose odds are asked, if the question is how clocks stabilise.
+/// Returns the numbers of pulses whose odds are asked, if the question is how clocks stabilise.
 fn odds_asked(options: &ArgMatches<'_>, question: Question) -> Result<OddsAsked, OptionsFault>
     ensures { IfOk result (AsksOdds (found_of options.now)) }
 {
@@ -134,7 +134,7 @@ fn odds_asked(options: &ArgMatches<'_>, question: Question) -> Result<OddsAsked,
     }
 }
 
-/// The share of a text PARTS/WHOLE.
+/// Returns the share of a text PARTS/WHOLE.
 fn share_in(text: &str) -> Option<Share>
     ensures { IfSome result (IsShareText text.now) }
 {
@@ -145,7 +145,7 @@ fn share_in(text: &str) -> Option<Share>
     })
 }
 
-/// The share for which the least number of pulses is asked, if any is.
+/// Returns the share for which the least number of pulses is asked, if any is.
 fn reach_asked(options: &ArgMatches<'_>) -> Result<Option<Share>, OptionsFault>
     ensures { IfOk result (AsksReach (found_of options.now)) }
 {
@@ -166,7 +166,7 @@ fn is_graph(form: Form) -> bool {
     }
 }
 
-/// The format of a name, if there is one.
+/// Returns the format of a name, if there is one.
 fn graph_in(name: &str) -> Option<GraphFormat>
     ensures { IfSome result (AsksGraph name.now) }
 {
@@ -178,7 +178,7 @@ fn graph_in(name: &str) -> Option<GraphFormat>
     }
 }
 
-/// The form of the answer. A table of odds is a form of its own, and so is the state space.
+/// Returns the form of the answer. A table of odds is a form of its own, and so is the state space.
 fn form_asked(options: &ArgMatches<'_>, odds: OddsAsked) -> Result<Form, OptionsFault>
     ensures { IfOk result (AsksForm (found_of options.now) odds.first) }
 {
@@ -198,7 +198,7 @@ fn form_asked(options: &ArgMatches<'_>, odds: OddsAsked) -> Result<Form, Options
     }
 }
 
-/// The list of numbers of the option of this name, if it is there.
+/// Returns the list of numbers of the option of this name, if it is there.
 fn list_asked(
     alloc: Global,
     options: &ArgMatches<'_>,
@@ -212,7 +212,7 @@ fn list_asked(
     }
 }
 
-/// The messages of nodes without a program, if they are named.
+/// Returns the messages of nodes without a program, if they are named.
 fn mail_asked(alloc: Global, options: &ArgMatches<'_>) -> Result<Option<Mail>, OptionsFault>
     ensures { IfOk result (AsksMail (found_of options.now)) }
 {
@@ -223,7 +223,7 @@ fn mail_asked(alloc: Global, options: &ArgMatches<'_>) -> Result<Option<Mail>, O
     }
 }
 
-/// The entries of the bytes of a text.
+/// Returns the entries of the bytes of a text.
 fn cells_named(
     named: Result<Option<Vec<Cells>>, AllocError>,
     reason: &'static str,
@@ -237,7 +237,7 @@ fn cells_named(
     }
 }
 
-/// The memory of a part of a list.
+/// Returns the memory of a part of a list.
 fn image_in(alloc: Global, part: &str) -> Result<Vec<u8>, OptionsFault>
     ensures { IfOk result (λ image. IsMemoryImage part.now image.items) }
 {
@@ -248,7 +248,7 @@ fn image_in(alloc: Global, part: &str) -> Result<Vec<u8>, OptionsFault>
     }
 }
 
-/// The memories of a list.
+/// Returns the memories of a list.
 fn images_in(alloc: Global, text: &str) -> Result<Vec<Vec<u8>>, OptionsFault>
     ensures { IfOk result (λ images. AreImages text.now (map (λ v. v.items) images.items)) }
 {
@@ -260,7 +260,7 @@ fn images_in(alloc: Global, text: &str) -> Result<Vec<Vec<u8>>, OptionsFault>
     Ok(images)
 }
 
-/// What memories may be at the start, if that is named.
+/// Returns what memories may be at the start, if that is named.
 fn memories_asked(alloc: Global, options: &ArgMatches<'_>) -> Result<Option<Memories>, OptionsFault>
     ensures { IfOk result (AsksMemories (found_of options.now)) }
 {
@@ -284,7 +284,7 @@ fn memories_asked(alloc: Global, options: &ArgMatches<'_>) -> Result<Option<Memo
     }
 }
 
-/// The memories and messages at the start.
+/// Returns the memories and messages at the start.
 fn start_asked(alloc: Global, options: &ArgMatches<'_>) -> Result<Starts, OptionsFault>
     ensures { IfOk result (AsksStart (found_of options.now)) }
 {

@@ -18,7 +18,7 @@ const MAX_FILE_BYTES: usize = 1_048_576;
 
 const MAX_FILE_CALLS: usize = 65_536;
 
-/// The file that a word names as the value of the option, which it is itself or which is the word before it.
+/// Returns the file that a word names as the value of the option, which it is itself or which is the word before it.
 fn file_named<'a>(before: Option<&str>, word: &'a str) -> Option<&'a str> {
     let value = if before == Some(OPTION) {
         word
@@ -28,7 +28,7 @@ fn file_named<'a>(before: Option<&str>, word: &'a str) -> Option<&'a str> {
     value.strip_prefix(MARK)
 }
 
-/// The memories of a text, a line each, with commas between. What follows a `#` is a comment.
+/// Returns the memories of a text, a line each, with commas between. What follows a `#` is a comment.
 fn listed(alloc: Global, text: &str) -> Result<String, AllocError> {
     let mut list = String::new(alloc);
     for line in text.lines() {
@@ -46,17 +46,26 @@ fn listed(alloc: Global, text: &str) -> Result<String, AllocError> {
     Ok(list)
 }
 
-/// The value that a file's bytes stand for.
+/// Returns the fault of a file of too many bytes.
+fn too_long(alloc: Global) -> Fault {
+    match format!(in alloc; "error: a file of {OPTION} has at most {MAX_FILE_BYTES} bytes\n") {
+        Ok(text) => Fault::CommandLine { text },
+        Err(_) => Fault::Memory,
+    }
+}
+
+/// Returns the value that a file's bytes stand for.
 fn value_of(alloc: Global, bytes: &[u8], is_whole: bool) -> Result<String, Fault> {
-    let bound = "error: a file of --images has at most 1048576 bytes\n";
+    if !is_whole {
+        return Err(too_long(alloc));
+    }
     match str::from_utf8(bytes) {
-        _ if !is_whole => Err(Fault::of_command_line(alloc, bound)),
         Ok(text) => listed(alloc, text).map_err(|_| Fault::Memory),
         Err(_) => Err(Fault::of_command_line(alloc, "error: a file of --images is not UTF-8\n")),
     }
 }
 
-/// The value that stands in this file. If it can't be read, why is said below the fault.
+/// Returns the value that stands in this file. If it can't be read, why is said below the fault.
 fn value_in<E: Write>(rt: &HostRuntime, path: &str, err: &mut E) -> Result<String, u8> {
     let mut file = match open(rt, path) {
         Ok(file) => file,
@@ -79,7 +88,7 @@ fn value_in<E: Write>(rt: &HostRuntime, path: &str, err: &mut E) -> Result<Strin
     }
 }
 
-/// The word itself, or the option with the value that stands in the file that the word names.
+/// Returns the word itself, or the option with the value that stands in the file that the word names.
 fn word_for<E: Write>(
     rt: &HostRuntime,
     before: Option<&str>,

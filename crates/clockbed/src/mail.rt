@@ -2,7 +2,7 @@
 ghost use Rattle.std.specs.Prelude.{◌≡◌, ◌↔◌, ◌<◌, ◌≤◌, ◌+◌, ◌^◌, Any, Contains, IfOk, IfSome, IsTrue, OnOk, ℕ};
 ghost use Rattle.std.specs.Bool.{OnTrue};
 ghost use Rattle.std.specs.BTreeSet.{btree_set_len};
-ghost use Rattle.clockbed.specs.Lists.{AreCells, AreLongest, IsBytes, IsDecimal, IsMail, IsPart, IsRange, IsSpan};
+ghost use Rattle.clockbed.specs.Lists.{AreCells, AreLongest, IsBytes, IsDecimal, IsMailList, IsPart, IsRange, IsSpan};
 ghost use Rattle.clockbed.specs.Lists.{IsInSpan, byte_spans, span_length, mail_spans};
 ghost use Rattle.clockbed.specs.Numbers.{IsNumeralOf};
 ghost use Rattle.clockbed.specs.declared.mail.TheConstants.{MAX_MAIL};
@@ -59,7 +59,7 @@ impl MailFault {
 
 /// Returns the list of a text, in rising order, each number once.
 pub fn mail_in(alloc: Global, text: &str) -> Result<Vec<MailSpan>, MailFault>
-    ensures list { IfOk result (λ mail. IsMail text.now mail.items) }
+    ensures list { IfOk result (λ mail. IsMailList text.now mail.items) }
     ensures few { IfOk result (λ mail. span_length (mail_spans mail.items) ≤ MAX_MAIL) }
 {
     let mut numbers = BTreeSet::new(alloc);
@@ -170,7 +170,7 @@ fn begin_entry(
     Ok(true)
 }
 
-/// A place, or a range of places that doesn't fall.
+/// Returns a place, or a range of places that doesn't fall.
 fn places_in(part: &str) -> Option<MailSpan>
     ensures { IfSome result (λ span. IsSpan MAX_MEMORY part.now span.first span.last) }
 {
@@ -202,7 +202,7 @@ fn add_value(alloc: Global, all: &mut Vec<Cells>, part: &str) -> Result<bool, Al
     Ok(true)
 }
 
-/// The longest spans of the bytes of these spans and one more; none if a number is no byte.
+/// Returns the longest spans of the bytes of these spans and one more; none if a number is no byte.
 fn joined_values(
     alloc: Global,
     values: &[ByteSpan],
@@ -220,7 +220,7 @@ fn joined_values(
     Ok(Some(spans))
 }
 
-/// The bytes of spans.
+/// Returns the bytes of spans.
 fn bytes_of(alloc: Global, values: &[ByteSpan]) -> Result<BTreeSet<u32>, AllocError>
     ensures { IfOk result (λ bytes. (n : ℕ) → Contains bytes.keys n ↔ Any (IsInSpan n) (byte_spans values.now)) }
 {
@@ -231,7 +231,7 @@ fn bytes_of(alloc: Global, values: &[ByteSpan]) -> Result<BTreeSet<u32>, AllocEr
     Ok(bytes)
 }
 
-/// The same span, of numbers.
+/// Returns the same span, of numbers.
 fn wide_span(span: ByteSpan) -> MailSpan
     ensures first { result.first ≡ span.first }
     ensures last { result.last ≡ span.last }
@@ -254,7 +254,7 @@ fn add_bytes(bytes: &mut BTreeSet<u32>, part: &str) -> Result<bool, AllocError>
     Ok(true)
 }
 
-/// A number, or a range that doesn't fall.
+/// Returns a number, or a range that doesn't fall.
 fn rising(part: &str) -> Option<MailSpan>
     ensures { IfSome result (λ span. IsSpan (2 ^ 32) part.now span.first span.last) }
 {
@@ -265,7 +265,7 @@ fn rising(part: &str) -> Option<MailSpan>
     Some(span)
 }
 
-/// A byte, or a range of bytes that doesn't fall.
+/// Returns a byte, or a range of bytes that doesn't fall.
 fn byte_span_in(part: &str) -> Option<MailSpan>
     ensures { IfSome result (λ span. IsSpan 256 part.now span.first span.last) }
 {
@@ -276,7 +276,7 @@ fn byte_span_in(part: &str) -> Option<MailSpan>
     Some(span)
 }
 
-/// A number, or a range of two.
+/// Returns a number, or a range of two.
 fn span_in(part: &str) -> Result<MailSpan, MailFault>
     ensures range { IfOk result (λ span. IsRange part.now span.first span.last) }
     ensures below { IfOk result (λ span. span.last < 2 ^ 32) }
@@ -305,7 +305,7 @@ pub fn number_in(text: &str) -> Option<u32>
     }
 }
 
-/// The longest spans of the numbers.
+/// Returns the longest spans of the numbers.
 fn spans_of(alloc: Global, numbers: &BTreeSet<u32>) -> Result<Vec<MailSpan>, AllocError>
     ensures numbers { IfOk result (λ spans.
         (n : ℕ) → Any (IsInSpan n) (mail_spans spans.items) ↔ Contains numbers.now.keys n) }
@@ -338,7 +338,7 @@ fn add_number(spans: &mut Vec<MailSpan>, number: u32) -> Result<(), AllocError>
     }
 }
 
-/// The longest spans of bytes; none if a number is no byte.
+/// Returns the longest spans of bytes; none if a number is no byte.
 fn byte_spans_of(alloc: Global, bytes: &BTreeSet<u32>) -> Result<Option<Vec<ByteSpan>>, AllocError>
     ensures numbers { IfOk result (λ named. IfSome named (λ spans.
         (n : ℕ) → Any (IsInSpan n) (byte_spans spans.items) ↔ Contains bytes.now.keys n)) }
@@ -351,7 +351,7 @@ fn byte_spans_of(alloc: Global, bytes: &BTreeSet<u32>) -> Result<Option<Vec<Byte
     Ok(Some(spans))
 }
 
-/// The same spans, as spans of bytes.
+/// Returns the same spans, as spans of bytes.
 fn narrowed(alloc: Global, wide: &[MailSpan]) -> Result<Option<Vec<ByteSpan>>, AllocError>
     ensures { IfOk result (λ named. IfSome named (λ spans. byte_spans spans.items ≡ mail_spans wide.now)) }
 {
@@ -365,7 +365,7 @@ fn narrowed(alloc: Global, wide: &[MailSpan]) -> Result<Option<Vec<ByteSpan>>, A
     Ok(Some(spans))
 }
 
-/// The span, if its numbers are bytes.
+/// Returns the span, if its numbers are bytes.
 fn byte_span_of(span: MailSpan) -> Option<ByteSpan>
     ensures { IfSome result (λ bytes. (bytes.first ≡ span.first) × (bytes.last ≡ span.last)) }
 {
@@ -375,7 +375,7 @@ fn byte_span_of(span: MailSpan) -> Option<ByteSpan>
     })
 }
 
-/// Whether the number is the next one after the span.
+/// Returns true if the number is the next one after the span.
 fn is_next(span: MailSpan, number: u32) -> bool
     ensures { IsTrue result ↔ (span.last + 1 ≡ number) }
 {

@@ -18,7 +18,7 @@ pub struct SweepProgress<'a, W, E, C> {
 }
 
 impl<'a, W: Write, E: Write, C: Clock> SweepProgress<'a, W, E, C> {
-    /// Returns a writer of the lines of so many keys, after a line of names.
+    /// Returns a writer of the lines of this many keys, after a line of names.
     pub fn new(out: W, terminal: E, clock: &'a C, keys: u64) -> SweepProgress<'a, W, E, C>
         ensures { result.out ≡ out }
     {
@@ -55,12 +55,12 @@ impl<W: Write, E: Write, C: Clock> Write for SweepProgress<'_, W, E, C> {
     }
 }
 
-/// The lines that end in these bytes.
+/// Returns the lines that end in these bytes.
 fn lines_in(bytes: &[u8]) -> u64 {
     bytes.iter().filter(|byte| **byte == b'\n').count() as u64
 }
 
-/// The time since the start, where the clock tells it.
+/// Returns the time since the start, where the clock tells it.
 fn passed<C: Clock>(began: &Option<Instant>, clock: &C) -> Duration {
     match began {
         Some(began) => began.elapsed(clock).unwrap_or(Duration::ZERO),

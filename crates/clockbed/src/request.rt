@@ -1,7 +1,7 @@
 //! What a command line asks for, as `clap` reads it.
-ghost use Rattle.std.specs.Prelude.{◌≡◌, IfErr, IfOk, IfSome, codes, option_map, string_bytes};
+ghost use Rattle.std.specs.Prelude.{◌≡◌, IfErr, IfOk, IfSome, MatchOption, codes, option_map, string_bytes};
 ghost use Rattle.clap.specs.Matches.{found_of};
-ghost use Rattle.clockbed.specs.Requests.{Asks, AsksCompile, AsksDetail, AsksFile};
+ghost use Rattle.clockbed.specs.Requests.{Asks, AsksCompile, AsksDetail, AsksFile, AsksFormat, AsksReport};
 ghost use Rattle.clockbed.specs.Requests.{AsksRule, AsksRun, AsksShape, AsksSpan, AsksStress};
 ghost use Rattle.clockbed.specs.Requests.{AsksSweep, AsksWithFile, IsAskedWithFile, IsHelp, IsKeys};
 ghost use Rattle.clockbed.specs.Numbers.{IsNumeralOf};
@@ -21,9 +21,9 @@ use command_words::options::{
 use command_words::{Helps, command_line};
 use commands::Fault;
 use commands::request::{
-    ClockOptions, ClockRule, CompileOptions, Detail, ExplainOptions, LinesOptions, NodeInPulse,
-    NodeProgramOptions, Request, RunOptions, ScenarioRequest, ShapeOptions, StressOptions,
-    SweepOptions,
+    ClockOptions, ClockRule, CompileOptions, Detail, ExplainOptions, LineFormat, LinesForm,
+    LinesOptions, NodeInPulse, NodeProgramOptions, Request, RunOptions, ScenarioRequest,
+    ShapeOptions, StressOptions, SweepOptions,
 };
 use key_sweep::KeySpan;
 use run_lines::PulseSpan;
@@ -114,7 +114,7 @@ fn parse<S: AsStr>(alloc: Global, words: &[S]) -> Result<Invocation, Error>
     }
 }
 
-/// Why a text doesn't say of how many pulses the odds are asked.
+/// Returns why a text doesn't say of how many pulses the odds are asked.
 fn odds_reason() -> InlineText<128> {
     InlineText::of(format_args!(
         "the odds are of COUNT pulses, or of FIRST..LAST: {} to {}, the first at most the last",
@@ -122,7 +122,7 @@ fn odds_reason() -> InlineText<128> {
     ))
 }
 
-/// What the command of this name is asked for by its options, and the file that it reads.
+/// Returns what the command of this name is asked for by its options, and the file that it reads.
 fn asked_of(alloc: Global, name: &str, options: &ArgMatches<'_>) -> Result<Invocation, OptionsFault>
     ensures { IfOk result (AsksWithFile name.now (found_of options.now)) }
 {
@@ -131,7 +131,7 @@ fn asked_of(alloc: Global, name: &str, options: &ArgMatches<'_>) -> Result<Invoc
     Ok(Invocation { request, file })
 }
 
-/// What the command of this name is asked for by its options.
+/// Returns what the command of this name is asked for by its options.
 fn request_in(alloc: Global, name: &str, options: &ArgMatches<'_>) -> Result<Request, OptionsFault>
     ensures { IfOk result (Asks name.now (found_of options.now)) }
 {
@@ -158,7 +158,7 @@ fn request_in(alloc: Global, name: &str, options: &ArgMatches<'_>) -> Result<Req
     }
 }
 
-/// The file that is named, a dash being none. `stress` and `dis --clock` read nothing.
+/// Returns the file that is named, a dash being none. `stress` and `dis --clock` read nothing.
 fn file_in(
     alloc: Global,
     name: &str,
@@ -184,7 +184,7 @@ pub(crate) fn shape_options(options: &ArgMatches<'_>) -> ShapeOptions
     }
 }
 
-/// What is told of each slot, where that is asked for.
+/// Returns what is told of each slot, where that is asked for.
 fn detail(options: &ArgMatches<'_>) -> Option<Detail>
     ensures { AsksDetail (found_of options.now) result }
 {
@@ -208,7 +208,7 @@ fn compile_options(options: &ArgMatches<'_>) -> CompileOptions
     }
 }
 
-/// The text of an image, or that of the clock of a rule.
+/// Returns the text of an image, or that of the clock of a rule.
 fn dis_request(options: &ArgMatches<'_>) -> Result<Request, OptionsFault>
     ensures { IfOk result (Asks (codes "dis") (found_of options.now)) }
 {
@@ -234,7 +234,7 @@ fn dis_request(options: &ArgMatches<'_>) -> Result<Request, OptionsFault>
     }
 }
 
-/// The rule of a clock, if the numbers of its options make one.
+/// Returns the rule of a clock, if the numbers of its options make one.
 fn rule_asked(options: &ArgMatches<'_>) -> Option<ClockRule>
     ensures { IfSome result (λ rule. AsksRule (found_of options.now) rule.nodes rule.faults rule.modulus) }
 {
@@ -269,7 +269,7 @@ fn run_options(options: &ArgMatches<'_>) -> RunOptions
     }
 }
 
-/// The pulse and the node of a text PULSE:NODE.
+/// Returns the pulse and the node of a text PULSE:NODE.
 fn place_in(text: &str) -> Option<NodeInPulse>
     ensures { IfSome result (IsPlace text.now) }
 {
@@ -280,7 +280,7 @@ fn place_in(text: &str) -> Option<NodeInPulse>
     })
 }
 
-/// A report, the run of a node in a pulse, or the lines of a span of pulses.
+/// Returns a report, the run of a node in a pulse, or the lines of a span of pulses.
 fn run_request(options: &ArgMatches<'_>) -> Result<Request, OptionsFault>
     ensures { IfOk result (Asks (codes "run") (found_of options.now)) }
 {
@@ -291,16 +291,28 @@ fn run_request(options: &ArgMatches<'_>) -> Result<Request, OptionsFault>
         };
     }
     let run = run_options(options);
-    if !flag(options, &JSON) {
+    let Some(format) = line_format(options) else {
         return Ok(Request::Scenario(ScenarioRequest::Run(run)));
-    }
-    match span_asked(options) {
-        Some(span) => Ok(Request::Scenario(ScenarioRequest::Lines(LinesOptions { run, span }))),
-        None => Err(OptionsFault::Reason("--from is past --until")),
+    };
+    let Some(span) = span_asked(options) else {
+        return Err(OptionsFault::Reason("--from is past --until"));
+    };
+    let form = LinesForm { format, span };
+    Ok(Request::Scenario(ScenarioRequest::Lines(LinesOptions { run, form })))
+}
+
+/// Returns the format of the lines that are told in place of a report.
+fn line_format(options: &ArgMatches<'_>) -> Option<LineFormat>
+    ensures { MatchOption result (AsksReport (found_of options.now)) (AsksFormat (found_of options.now)) }
+{
+    if flag(options, &JSON) {
+        Some(LineFormat::Json)
+    } else {
+        None
     }
 }
 
-/// The pulses whose lines are told, if there are any.
+/// Returns the pulses whose lines are told, if there are any.
 fn span_asked(options: &ArgMatches<'_>) -> Option<PulseSpan>
     ensures { IfSome result (AsksSpan (found_of options.now)) }
 {
@@ -320,7 +332,7 @@ fn stress_options(options: &ArgMatches<'_>) -> StressOptions
     }
 }
 
-/// The options of `sweep`, where the keys are two numbers in order.
+/// Returns the options of `sweep`, where the keys are two numbers in order.
 fn sweep_options(options: &ArgMatches<'_>) -> Option<SweepOptions>
     ensures { IfSome result (AsksSweep (found_of options.now)) }
 {
@@ -330,7 +342,7 @@ fn sweep_options(options: &ArgMatches<'_>) -> Option<SweepOptions>
     })
 }
 
-/// The keys of a text FIRST..LAST, if there are any.
+/// Returns the keys of a text FIRST..LAST, if there are any.
 fn keys_in(text: &str) -> Option<KeySpan>
     ensures { IfSome result (IsKeys text.now) }
 {
@@ -338,14 +350,14 @@ fn keys_in(text: &str) -> Option<KeySpan>
     KeySpan::of(key_in(first)?, key_in(last)?)
 }
 
-/// The key of a text, if it is one below 2 to the 64.
+/// Returns the key of a text, if it is one below 2 to the 64.
 fn key_in(text: &str) -> Option<u64>
     ensures { IfSome result (IsNumeralOf 64 text.now) }
 {
     text.parse().ok()
 }
 
-/// What `clap` says in place of a request: the help, or why it refuses the words.
+/// Returns what `clap` says in place of a request: the help, or why it refuses the words.
 fn said_by(alloc: Global, error: &Error) -> Result<Invocation, Fault>
     ensures fault { IfErr result IsOfCommandLine }
     ensures help { IfOk result (λ asked. IsHelp asked.request × (asked.file ≡ None)) }
@@ -364,7 +376,7 @@ fn said_by(alloc: Global, error: &Error) -> Result<Invocation, Fault>
     }
 }
 
-/// The text of an error, whose last line ends.
+/// Returns the text of an error, whose last line ends.
 fn text_of(alloc: Global, error: &Error) -> Result<String, AllocError> {
     let mut text = error.to_string(alloc)?;
     if !text.as_bytes().ends_with(b"\n") {

@@ -19,7 +19,7 @@ pub fn command_line<'a>(alloc: Global, helps: &'a Helps) -> Result<Command<'a>, 
     Ok(program)
 }
 
-/// The program without its commands.
+/// Returns the program without its commands.
 fn clockbed<'a>(alloc: Global) -> Command<'a> {
     Command::new(alloc, "clockbed")
         .about("A testbed for Byzantine fault-tolerant clock synchronisation")
@@ -29,7 +29,7 @@ fn clockbed<'a>(alloc: Global) -> Command<'a> {
         .arg_required_else_help(true)
 }
 
-/// The command of a row, whose options take the next helps.
+/// Returns the command of a row, whose options take the next helps.
 fn command<'a>(
     alloc: Global,
     row: &CommandRow,

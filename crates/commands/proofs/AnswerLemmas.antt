@@ -89,7 +89,8 @@ one_refused one_refusal options bytes (Image e) (Image d) first second = ap Imag
 
 -- where they have one, no program runs
 refused_or_run : Apart → (options : ExecOptions) (bytes : List ℕ) (unread : Unread) (outcome : Outcome) (left : Left)
-    → IsUnread options.shape options.text bytes unread → HasShape options.shape → RunsRead options bytes outcome left → ⊥
+    → IsUnread options.shape options.text bytes unread → HasShape options.shape
+    → RunsRead options bytes outcome left → ⊥
 refused_or_run apart options bytes (unreads.Refused Shape) outcome left refused shape ran = refused shape
 refused_or_run apart options bytes (unreads.Refused (Image e)) outcome left refused shape ran =
     let read : ReadsImage bytes (Ok ran.program) =

@@ -62,7 +62,8 @@ input_told asked most read told text (Some i) old new ended reads is same left =
 pub input_refused : (asked : ExplainOptions) (most : ℕ) (unread : Unread) (told : Told) (text : List ℕ)
     (input old new : Option (List ℕ)) (ended : Result Ending Fault)
     → IfSome input (λ i. IsUnread asked.shape asked.text (take most i) unread)
-    → IsRefusedBy (unread_line unread) (seen told) → text ≡ string_bytes told.text → Leaves old new text told.ending ended
+    → IsRefusedBy (unread_line unread) (seen told) → text ≡ string_bytes told.text
+    → Leaves old new text told.ending ended
     → IfSome input (λ i. LeavesExplained old new asked (take most i) ended)
 input_refused asked most unread told text None old new ended is refused same left = tt
 input_refused asked most unread told text (Some i) old new ended is refused same left =

@@ -96,7 +96,8 @@ pub clock_means : (s : Scenario) (input text : List ℕ) (program : List Insn) �
 clock_means s input text program reads is same =
     let spelled = reads.2.spelled in
     by_key (frame_of s) (clock_key reads.0) reads.0 (draft_of s).clock text program
-    (ap clock_rule_text (sym spelled.clock_text) ∙ is) (has_by (frame_of s) reads.0 (draft_of s).clock spelled.clock) same
+    (ap clock_rule_text (sym spelled.clock_text) ∙ is)
+    (has_by (frame_of s) reads.0 (draft_of s).clock spelled.clock) same
 
 -- ---- loads
 

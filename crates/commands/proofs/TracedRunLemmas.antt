@@ -12,9 +12,9 @@ use Rattle.bench_scenario.specs.Runs.{bench_of}
 use Rattle.bench_scenario.proofs.InputLemmas.{ran_so}
 use Rattle.commands.specs.declared.request.NodeInPulse.{NodeInPulse}
 use Rattle.commands.specs.declared.node_lines.RunEnd.{RunEnd}
-use Rattle.bench_scenario.specs.Inputs.{FitsShape, RunsIn, input_setting}
+use Rattle.bench_scenario.specs.Inputs.{FitsInput, RunsIn, input_setting}
 use Rattle.commands.specs.NodeRule.{AreStepLines, IsRuleOf, sizes_for}
-use Rattle.commands.specs.TracedRun.{AreRunLines, IsRunOf, end_lines, input_lines}
+use Rattle.commands.specs.TracedRun.{AreRunLines, IsTracedRun, end_lines, input_lines}
 use Rattle.commands.specs.inner.TracedRun.{end_in}
 
 -- a text to which parts are added is that of the parts
@@ -78,13 +78,13 @@ lines_made s pulse node x env memory again program e told first next whole sees 
     )
 
 -- in its own shape
-pub fits_own : (shape : Extent) (node : ℕ) (x : NodeInput) → FitsShape shape node x → FitsShape x.program.shape node x
-fits_own shape node x fits = subst (λ (e : Extent). FitsShape e node x) (sym fits.program) fits
+pub fits_own : (shape : Extent) (node : ℕ) (x : NodeInput) → FitsInput shape node x → FitsInput x.program.shape node x
+fits_own shape node x fits = subst (λ (e : Extent). FitsInput e node x) (sym fits.program) fits
 
 pub run_of : (asked : NodeInPulse) (lines : List ℕ) (s : Scenario) (x : NodeInput)
-    → RunsIn s asked.pulse asked.node x → FitsShape (bench_of s).shape asked.node x
+    → RunsIn s asked.pulse asked.node x → FitsInput (bench_of s).shape asked.node x
     → (end : End) × CompleteRun x.program.program (input_setting x.program.shape asked.node x) x.memory.items end
-    × AreRunLines s x.program.shape asked.pulse asked.node x end lines → IsRunOf asked s lines
+    × AreRunLines s x.program.shape asked.pulse asked.node x end lines → IsTracedRun asked s lines
 run_of asked lines s x runs fits told = record {
   coins = runs.coins;
   state = runs.state;

@@ -4,10 +4,8 @@ use Rattle.std.specs.Fmt.{decimal}
 use Rattle.bpf_insn.specs.declared.forms.Insn.{Insn}
 use Rattle.bpf_machine.specs.declared.word.Outcome.{Outcome}
 use Rattle.bpf_machine.specs.declared.word.Outcome.TheVariants as outcomes
-use Rattle.bpf_machine.specs.declared.word.TrapKind.{TrapKind}
-use Rattle.bpf_machine.specs.declared.word.TrapKind.TheVariants as traps
 use Rattle.bpf_machine.specs.Run.{RunAnswers}
-use Rattle.bpf_machine.specs.Traps.{trap_number}
+use Rattle.bpf_machine.specs.Traps.{trap_name, trap_number}
 use Rattle.commands.specs.declared.request.ExecOptions.{ExecOptions}
 use Rattle.commands.specs.declared.answer.Answer.{Answer}
 use Rattle.commands.specs.declared.answer.Answer.TheVariants.{Refused, Ran}
@@ -42,18 +40,6 @@ SameAnswer (Refused (Text error)) (Refused (Text other)) = Unit {0}
 SameAnswer answer other = answer ≡ other
 
 -- ---- the line of an answer, without its end (docs/COMMANDS.md, "What exec prints")
-
-abbrev pub trap_name : TrapKind → List ℕ
-trap_name traps.BadJump = codes "BadJump"
-trap_name traps.BadHelper = codes "BadHelper"
-trap_name traps.Unset = codes "Unset"
-trap_name traps.FrameWrite = codes "FrameWrite"
-trap_name traps.NotNumber = codes "NotNumber"
-trap_name traps.OutOfRegion = codes "OutOfRegion"
-trap_name traps.UnsetByte = codes "UnsetByte"
-trap_name traps.BadArgument = codes "BadArgument"
-trap_name traps.NotPointer = codes "NotPointer"
-trap_name traps.ExitNotNumber = codes "ExitNotNumber"
 
 abbrev pub outcome_line : Outcome → ℕ → List ℕ
 outcome_line (outcomes.Ended r0 steps) fuel = codes "r0 " ++ (decimal r0 ++ (codes " steps " ++ decimal steps))

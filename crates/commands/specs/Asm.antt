@@ -1,10 +1,10 @@
 -- What `asm` leaves on its output.
 use Rattle.std.specs.Prelude.{◌≢◌, ◌≤◌, ℕ, Bool, List, ◌++◌, codes, length, Option, Result, Ok, Err, if◌then◌else◌}
-use Rattle.std.specs.Fmt.{decimal}
 use Rattle.bpf_insn.specs.declared.forms.Insn.{Insn}
 use Rattle.bpf_insn.specs.Programs.{image_of}
 use Rattle.bpf_asm.specs.declared.text_error.TextError.{TextError}
 use Rattle.bpf_asm.specs.declared.text_error.TextError.TheVariants as errors
+use Rattle.bpf_asm.specs.Errors.{text_error_text}
 use Rattle.bpf_asm.specs.Listing.{text_listing}
 use Rattle.bpf_asm.specs.Meaning.{Means}
 use Rattle.commands.specs.declared.asm.TheConstants.{TEXT_BYTES}
@@ -15,14 +15,7 @@ use Rattle.commands.specs.Output.{LeavesAny}
 
 -- the line that refuses a text (docs/COMMANDS.md, "What asm prints")
 abbrev pub text_refusal : TextError → List ℕ
-text_refusal (errors.UnknownWord line) = codes "refused text UnknownWord line " ++ decimal line
-text_refusal (errors.BadOperand line) = codes "refused text BadOperand line " ++ decimal line
-text_refusal (errors.OutOfRange line) = codes "refused text OutOfRange line " ++ decimal line
-text_refusal (errors.UnknownLabel line) = codes "refused text UnknownLabel line " ++ decimal line
-text_refusal (errors.LabelTwice line) = codes "refused text LabelTwice line " ++ decimal line
-text_refusal (errors.TooLong line) = codes "refused text TooLong line " ++ decimal line
-text_refusal errors.Empty = codes "refused text Empty line 0"
-text_refusal errors.Memory = codes "refused text Memory"
+text_refusal error = codes "refused text " ++ text_error_text error
 
 -- a text that isn't too long to be read means this program, or it means none
 abbrev pub ReadsAsmText : List ℕ → Result (List Insn) TextError → Type 0

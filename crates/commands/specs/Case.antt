@@ -8,7 +8,7 @@ use Rattle.node_env.specs.Env.{Extent, Setting, Sendings}
 use Rattle.node_env.specs.Slots.{map_of}
 use Rattle.commands.specs.declared.case.Case.{Case}
 
--- so many elements: those of the list, and this one behind them
+-- this many elements: those of the list, and this one after them
 abbrev pub padded : {A : Type 0} → ℕ → A → List A → List A
 padded size x xs = take size xs ++ replicate (size - length xs) x
 
@@ -44,14 +44,14 @@ slots_below sent zero = []
 slots_below sent (suc receiver) = slots_below sent receiver ++ get sent receiver ∷ []
 
 -- a number, or a dash for none
-abbrev pub slot_text : Option ℕ → List ℕ
-slot_text None = codes "-"
-slot_text (Some number) = decimal number
+abbrev pub mail_slot_text : Option ℕ → List ℕ
+mail_slot_text None = codes "-"
+mail_slot_text (Some number) = decimal number
 
 -- with commas between them, as the option `--mail` takes them
 abbrev pub mail_text : List (Option ℕ) → List ℕ
 mail_text [] = []
-mail_text (first ∷ rest) = slot_text first ++ flat_map (λ slot. codes "," ++ slot_text slot) rest
+mail_text (first ∷ rest) = mail_slot_text first ++ flat_map (λ slot. codes "," ++ mail_slot_text slot) rest
 
 abbrev pub sent_line : Sendings → List ℕ
 sent_line outbox = codes "sent " ++ mail_text (slots_below outbox.sent outbox.nodes)

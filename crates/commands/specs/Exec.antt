@@ -5,7 +5,7 @@ use Rattle.bpf_insn.specs.declared.forms.Insn.{Insn}
 use Rattle.bpf_machine.specs.declared.word.Outcome.{Outcome}
 use Rattle.bpf_machine.specs.Run.{RunAnswers}
 use Rattle.run_trace.specs.Lines.{trace_text}
-use Rattle.run_trace.specs.Steps.{Step, steps_of}
+use Rattle.run_trace.specs.Steps.{TracedStep, steps_of}
 use Rattle.stream_io.specs.Parts.{Breaks}
 use Rattle.commands.specs.declared.request.ExecOptions.{ExecOptions}
 use Rattle.commands.specs.declared.answer.Answer.{Answer}
@@ -35,7 +35,7 @@ LeavesAnswer old new asked bytes result =
 -- ---- a trace (docs/COMMANDS.md, "A trace")
 
 -- the steps of a program's run in the case that is asked for
-abbrev pub case_steps : ExecOptions → List Insn → List Step
+abbrev pub case_steps : ExecOptions → List Insn → List TracedStep
 case_steps asked program =
     steps_of program (case_setting (asked_extent asked.shape) asked.case)
     (case_memory (asked_extent asked.shape) asked.case) asked.fuel

@@ -1,12 +1,11 @@
 -- What the bytes on standard input are (RFC 9669, section 3; docs/INSTRUCTIONS.md), and the shape that is asked for.
 use Rattle.std.specs.Prelude.{◌≡◌, ◌≢◌, List, ℕ, ◌++◌, codes, Result, Ok, Err}
-use Rattle.std.specs.Fmt.{decimal}
 use Rattle.node_env.specs.Env.{Extent, IsExtent}
 use Rattle.bpf_insn.specs.declared.forms.Insn.{Insn}
 use Rattle.bpf_insn.specs.declared.image.ImageError.{ImageError}
 use Rattle.bpf_insn.specs.declared.image.ImageError.TheVariants as errors
 use Rattle.bpf_insn.specs.Programs.{IsProgram, image_of}
-use Rattle.bpf_insn.specs.Images.{RefusesImage}
+use Rattle.bpf_insn.specs.Images.{RefusesImage, image_error_text}
 use Rattle.commands.specs.declared.request.ShapeOptions.{ShapeOptions}
 use Rattle.commands.specs.declared.image.Refusal.{Refusal}
 use Rattle.commands.specs.declared.image.Refusal.TheVariants.{Shape, Image}
@@ -31,11 +30,4 @@ IsRefused asked bytes (Image error) = HasShape asked × ReadsImage bytes (Err er
 -- the line of a refusal, without its end (docs/COMMANDS.md, "What exec prints")
 abbrev pub image_refusal_line : Refusal → List ℕ
 image_refusal_line Shape = codes "refused shape"
-image_refusal_line (Image errors.Empty) = codes "refused image Empty"
-image_refusal_line (Image errors.TooLong) = codes "refused image TooLong"
-image_refusal_line (Image (errors.Truncated slot)) = codes "refused image Truncated slot " ++ decimal slot
-image_refusal_line (Image (errors.UnknownOpcode slot)) = codes "refused image UnknownOpcode slot " ++ decimal slot
-image_refusal_line (Image (errors.BadRegister slot)) = codes "refused image BadRegister slot " ++ decimal slot
-image_refusal_line (Image (errors.NonZeroField slot)) = codes "refused image NonZeroField slot " ++ decimal slot
-image_refusal_line (Image (errors.BadWidth slot)) = codes "refused image BadWidth slot " ++ decimal slot
-image_refusal_line (Image errors.Memory) = codes "refused image Memory"
+image_refusal_line (Image error) = codes "refused image " ++ image_error_text error

@@ -12,7 +12,7 @@ use Rattle.commands.specs.Output.{LeavesAny}
 
 -- the text, or the listing, of the program that the node runs in that pulse of the scenario's run, and its rule, if the
 -- scenario has one
-pub record IsTextOf (asked : NodeProgramOptions) (s : Scenario) (lines : List ℕ) : Type 0 where
+pub record IsNodeProgramText (asked : NodeProgramOptions) (s : Scenario) (lines : List ℕ) : Type 0 where
   pub input : NodeInput
   pub runs : RunsIn s asked.place.pulse asked.place.node input
   pub rule : Option (List ℕ)
@@ -23,4 +23,5 @@ pub record IsTextOf (asked : NodeProgramOptions) (s : Scenario) (lines : List �
 abbrev pub LeavesNodeProgram : Option (List ℕ) → Option (List ℕ) → NodeProgramOptions → Scenario → Result Ending Fault
     → Type 0
 LeavesNodeProgram old new asked s result =
-    LeavesAny (IsNodeText (IsTextOf asked s) asked.place s) (node_output (codes "program")) node_text_ending old new result
+    LeavesAny (IsNodeText (IsNodeProgramText asked s) asked.place s) (node_output (codes "program")) node_text_ending
+    old new result

@@ -6,7 +6,7 @@ use Rattle.rule_text.specs.Programs.{IsProgramOfText}
 use Rattle.rule_text.specs.ProgramLines.{AreLinesOfText}
 use Rattle.rule_listing.specs.Listing.{IsListingOf}
 use Rattle.run_trace.specs.Lines.{listed_text, trace_text}
-use Rattle.run_trace.specs.Steps.{Step}
+use Rattle.run_trace.specs.Steps.{TracedStep}
 use Rattle.scenario_text.specs.declared.scenario.Scenario.{Scenario}
 use Rattle.scenario_text.specs.declared.scenario.Kind.{Kind}
 use Rattle.scenario_text.specs.declared.scenario.Kind.TheVariants.{Rule}
@@ -49,7 +49,7 @@ IsRuleOf s program found =
 -- ---- what is printed
 
 -- the lines of steps: of a rule's program below the lines of the rule
-abbrev pub AreStepLines : Sizes → List Insn → Option (List ℕ) → List Step → List ℕ → Type 0
+abbrev pub AreStepLines : Sizes → List Insn → Option (List ℕ) → List TracedStep → List ℕ → Type 0
 AreStepLines z program None steps told = told ≡ trace_text program steps
 AreStepLines z program (Some text) steps told =
     (lines : List ℕ) × AreLinesOfText z text lines × (told ≡ listed_text text lines program steps)

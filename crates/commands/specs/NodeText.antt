@@ -1,5 +1,5 @@
--- What a scenario has of a node in a pulse, and the line that says why it has nothing (docs/COMMANDS.md, "What run --trace
--- prints" and "What dis prints").
+-- What a scenario has of a node in a pulse, and the line that says why it has nothing (docs/COMMANDS.md, "What run
+-- --trace prints" and "What dis prints").
 use Rattle.std.specs.Prelude.{◌<◌, ◌≤◌, ℕ, List, ◌++◌, codes}
 use Rattle.scenario_text.specs.declared.scenario.Scenario.{Scenario}
 use Rattle.bench_scenario.specs.Inputs.{HasPulse, RestsIn}

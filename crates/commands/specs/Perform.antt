@@ -67,7 +67,8 @@ SaysOf (Ok ending) old new = SaysAt ending old new
 SaysOf (Err fault) old new = Says old new (fault_text fault)
 
 -- the command is carried out, and told are the status and the fault of how it ended
-pub record Performs (request : Request) (input old new said_old said_new : Option (List ℕ)) (status : ℕ) : Type 0 where
+pub record PerformsRequest (request : Request) (input old new said_old said_new : Option (List ℕ))
+    (status : ℕ) : Type 0 where
   pub ended : Result Ending Fault
   pub carried_out : CarriesOut request input old new ended
   pub answer : status ≡ status_for ended

@@ -20,7 +20,7 @@ use Rattle.commands.specs.TracedRun.{LeavesTracedRun}
 -- what a command leaves of the scenario that it read
 abbrev pub LeavesOf : ScenarioRequest → Option (List ℕ) → Option (List ℕ) → Scenario → Result Ending Fault → Type 0
 LeavesOf (Run asked) old new s ended = LeavesReported asked.check old new s ended
-LeavesOf (Lines asked) old new s ended = LeavesLined asked.run.check old new s asked.span ended
+LeavesOf (Lines asked) old new s ended = LeavesLined asked.run.check old new s asked.form ended
 LeavesOf (TracedRun asked) old new s ended = LeavesTracedRun old new asked s ended
 LeavesOf (NodeProgram asked) old new s ended = LeavesNodeProgram old new asked s ended
 LeavesOf (Sweep asked) old new s ended = LeavesSwept old new s asked.keys ended

@@ -1,6 +1,6 @@
 -- What `sweep` leaves on its output (docs/COMMANDS.md, "What sweep prints").
 use Rattle.std.specs.Prelude.{◌≡◌, ◌⊎◌, false, ℕ, List, codes, Option, Result, Ok, Err}
-use Rattle.key_sweep.specs.Keys.{Span}
+use Rattle.key_sweep.specs.Keys.{KeyRange}
 use Rattle.key_sweep.specs.Sweeps.{LeavesSweep, uses_key}
 use Rattle.key_sweep.specs.declared.sweeping.SweepFault.TheVariants as sweeps
 use Rattle.scenario_text.specs.declared.scenario.Scenario.{Scenario}
@@ -16,15 +16,16 @@ abbrev pub no_key_line : List ℕ
 no_key_line = codes "refused sweep NoKey\n"
 
 -- the lines of the keys; their front if a write failed; whole lines if memory ran out
-abbrev pub LeavesKeys : Option (List ℕ) → Option (List ℕ) → Scenario → Span → Result Ending Fault → Type 0
+abbrev pub LeavesKeys : Option (List ℕ) → Option (List ℕ) → Scenario → KeyRange → Result Ending Fault → Type 0
 LeavesKeys old new s keys (Ok ending) = (ending ≡ Done) × LeavesSweep old new s keys (Ok tt)
-LeavesKeys old new s keys (Err (faults.Write after)) = LeavesSweep old new s keys (Err (sweeps.Part (parts.Write after)))
+LeavesKeys old new s keys (Err (faults.Write after)) =
+    LeavesSweep old new s keys (Err (sweeps.Part (parts.Write after)))
 LeavesKeys old new s keys (Err faults.Memory) = LeavesSweep old new s keys (Err (sweeps.Part parts.Memory))
 LeavesKeys old new s keys (Err faults.Read) = ⊥
 LeavesKeys old new s keys (Err faults.Thread) = ⊥
 LeavesKeys old new s keys (Err (faults.CommandLine said)) = ⊥
 
 -- the same, or the line of the refusal
-abbrev pub LeavesSwept : Option (List ℕ) → Option (List ℕ) → Scenario → Span → Result Ending Fault → Type 0
+abbrev pub LeavesSwept : Option (List ℕ) → Option (List ℕ) → Scenario → KeyRange → Result Ending Fault → Type 0
 LeavesSwept old new s keys ended =
     LeavesKeys old new s keys ended ⊎ ((uses_key s ≡ false) × Leaves old new no_key_line Refused ended)

@@ -11,7 +11,7 @@ use Rattle.bench_scenario.specs.declared.inputs.NodeInput.{NodeInput}
 use Rattle.bench_scenario.specs.Events.{events_of}
 use Rattle.bench_scenario.specs.Inputs.{IsInputOf, input_setting}
 use Rattle.bench_scenario.specs.Runs.{bench_of}
-use Rattle.run_trace.specs.Steps.{Step, steps_of}
+use Rattle.run_trace.specs.Steps.{TracedStep, steps_of}
 use Rattle.commands.specs.declared.ending.Ending.{Ending}
 use Rattle.commands.specs.declared.fault.Fault.{Fault}
 use Rattle.commands.specs.declared.request.NodeInPulse.{NodeInPulse}
@@ -35,10 +35,10 @@ input_lines pulse node x =
     ++ (codes "mail " ++ (mail_text x.heard.items ++ (codes "\ncoin " ++ (decimal x.coin ++ codes "\n"))))
 
 -- the steps of the run of this many
-abbrev pub steps_in : Extent → ℕ → NodeInput → ℕ → List Step
+abbrev pub steps_in : Extent → ℕ → NodeInput → ℕ → List TracedStep
 steps_in shape node x steps = steps_of x.program.program (input_setting shape node x) x.memory.items steps
 
--- how it ends in a bench of so many nodes: r0 and steps, then memory and messages, as `exec --show` prints them
+-- how it ends in a bench of this many nodes: r0 and steps, then memory and messages, as `exec --show` prints them
 abbrev pub end_lines : ℕ → End → List ℕ
 end_lines nodes end =
     codes "r0 " ++ (decimal end.r0 ++ (codes " steps " ++ (decimal end.steps ++ (codes "\n"
@@ -57,7 +57,7 @@ pub record AreRunLines (s : Scenario) (shape : Extent) (pulse node : ℕ) (x : N
 
 -- the pulse is opened in the run of the scenario; this is what the node runs there, and this its complete run, of which
 -- the pulse tells the steps; and these are their lines
-pub record IsRunOf (asked : NodeInPulse) (s : Scenario) (told : List ℕ) : Type 0 where
+pub record IsTracedRun (asked : NodeInPulse) (s : Scenario) (told : List ℕ) : Type 0 where
   pub coins : List ℕ
   pub state : State
   pub input : NodeInput
@@ -70,4 +70,4 @@ pub record IsRunOf (asked : NodeInPulse) (s : Scenario) (told : List ℕ) : Type
 -- the whole text, its first bytes if a write failed, or nothing at another fault
 abbrev pub LeavesTracedRun : Option (List ℕ) → Option (List ℕ) → NodeInPulse → Scenario → Result Ending Fault → Type 0
 LeavesTracedRun old new asked s result =
-    LeavesAny (IsNodeText (IsRunOf asked s) asked s) (node_output (codes "trace")) node_text_ending old new result
+    LeavesAny (IsNodeText (IsTracedRun asked s) asked s) (node_output (codes "trace")) node_text_ending old new result

@@ -1,10 +1,10 @@
 //! What `exec` answers to the bytes that it read, and the line that says it.
-ghost use Rattle.std.specs.Prelude.{◌≡◌, Some};
-ghost use Rattle.commands.specs.Answer.{answer_line, trap_name};
+ghost use Rattle.std.specs.Prelude.{Some};
+ghost use Rattle.commands.specs.Answer.{answer_line};
 
 use crate::ending::Ending;
 use crate::input::Unread;
-use bpf_machine::{Outcome, TrapKind};
+use bpf_machine::Outcome;
 use std::fmt;
 
 /// Why there is no program, or what its run came to.
@@ -38,27 +38,10 @@ impl fmt::Display for Answer {
             Answer::Ran { outcome, fuel } => match outcome {
                 Outcome::Ended { r0, steps } => write!(f, "r0 {r0} steps {steps}"),
                 Outcome::Trap { slot, kind } => {
-                    write!(f, "trap {} {} slot {slot}", kind.number(), name_of(*kind))
+                    write!(f, "trap {} {kind} slot {slot}", kind.number())
                 }
                 Outcome::OutOfFuel => write!(f, "out of fuel {fuel}"),
             },
         }
-    }
-}
-
-fn name_of(kind: TrapKind) -> &'static str
-    ensures { result.now ≡ trap_name kind }
-{
-    match kind {
-        TrapKind::BadJump => "BadJump",
-        TrapKind::BadHelper => "BadHelper",
-        TrapKind::Unset => "Unset",
-        TrapKind::FrameWrite => "FrameWrite",
-        TrapKind::NotNumber => "NotNumber",
-        TrapKind::OutOfRegion => "OutOfRegion",
-        TrapKind::UnsetByte => "UnsetByte",
-        TrapKind::BadArgument => "BadArgument",
-        TrapKind::NotPointer => "NotPointer",
-        TrapKind::ExitNotNumber => "ExitNotNumber",
     }
 }

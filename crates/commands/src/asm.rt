@@ -1,9 +1,9 @@
 //! `asm`: the image of the text on standard input.
-ghost use Rattle.std.specs.Prelude.{◌≡◌, ◌≢◌, ◌≤◌, ◌+◌, List, Some, IfOk, IfErr, IfSome, length, take};
+ghost use Rattle.std.specs.Prelude.{◌≡◌, ◌≢◌, ◌≤◌, ◌+◌, List, IfOk, IfErr, IfSome, length, take};
 ghost use Rattle.bpf_insn.specs.declared.forms.Insn.{Insn};
 ghost use Rattle.bpf_asm.specs.Meaning.{Means};
 ghost use Rattle.stream_io.specs.Streams.{TakesAtMost};
-ghost use Rattle.commands.specs.Asm.{LeavesImage, ReadsAsmText, assembled, assembled_ending, program_text, text_refusal};
+ghost use Rattle.commands.specs.Asm.{LeavesImage, ReadsAsmText, assembled, assembled_ending, program_text};
 ghost use Rattle.commands.specs.Faults.{IsBeforeWriting};
 ghost use Rattle.commands.specs.Output.{Leaves};
 
@@ -13,7 +13,6 @@ use crate::output::write_whole;
 use bpf_asm::{TextError, assemble, list_text};
 use bpf_insn::{Program, encode};
 use std::alloc::{AllocError, Global};
-use std::fmt;
 use std::io::{Read, Write};
 use stream_io::{ReadFault, read_at_most};
 
@@ -40,7 +39,7 @@ pub fn asm<R: Read, W: Write>(
     write_assembled(alloc, list, text.as_slice(), &read, out)
 }
 
-/// The whole text, where it isn't too long.
+/// Returns the whole text, where it isn't too long.
 pub(crate) fn read_text<R: Read>(alloc: Global, reader: &mut R) -> Result<Vec<u8>, Fault>
     ensures bytes { IfOk result (λ text.
         IfSome (R.remaining reader.old) (λ input. text.items ≡ take (TEXT_BYTES + 1) input)) }
@@ -60,7 +59,7 @@ pub(crate) fn read_text<R: Read>(alloc: Global, reader: &mut R) -> Result<Vec<u8
     }
 }
 
-/// The program that a text means, or why it means none.
+/// Returns the program that a text means, or why it means none.
 pub(crate) fn program_meant(alloc: Global, text: &[u8]) -> Result<Result<Program, TextError>, Fault>
     requires { length text.now ≤ TEXT_BYTES }
     ensures read { IfOk result (ReadsAsmText text.now) }
@@ -73,7 +72,7 @@ pub(crate) fn program_meant(alloc: Global, text: &[u8]) -> Result<Result<Program
     }
 }
 
-/// The image of the program of a text, or the text's listing.
+/// Returns the image of the program of a text, or the text's listing.
 fn bytes_of(
     alloc: Global,
     list: bool,
@@ -106,29 +105,8 @@ fn write_assembled<W: Write>(
             write_whole(out, bytes.as_slice(), Ending::Done)
         }
         Err(error) => {
-            let line = format!(in alloc; "{}\n", TextRefusal(*error)).map_err(|_| Fault::Memory)?;
+            let line = format!(in alloc; "refused text {error}\n").map_err(|_| Fault::Memory)?;
             write_whole(out, line.as_bytes(), Ending::Refused)
-        }
-    }
-}
-
-/// Why a text is refused. Its text is the line of the refusal, without its end.
-#[derive(Clone, Copy, Debug, PartialEq, Eq)]
-pub struct TextRefusal(pub TextError);
-
-impl fmt::Display for TextRefusal {
-    ghost output = { λ refusal. Some (text_refusal refusal.0) };
-
-    fn fmt<W: fmt::Write>(&self, f: &mut fmt::Formatter<W>) -> fmt::Result {
-        match self.0 {
-            TextError::UnknownWord(line) => write!(f, "refused text UnknownWord line {line}"),
-            TextError::BadOperand(line) => write!(f, "refused text BadOperand line {line}"),
-            TextError::OutOfRange(line) => write!(f, "refused text OutOfRange line {line}"),
-            TextError::UnknownLabel(line) => write!(f, "refused text UnknownLabel line {line}"),
-            TextError::LabelTwice(line) => write!(f, "refused text LabelTwice line {line}"),
-            TextError::TooLong(line) => write!(f, "refused text TooLong line {line}"),
-            TextError::Empty => write!(f, "refused text Empty line 0"),
-            TextError::Memory => write!(f, "refused text Memory"),
         }
     }
 }

@@ -56,7 +56,7 @@ pub fn compile<R: Read, W: Write, E: Write>(
     Ok(ending)
 }
 
-/// What is written of the rule that a text is.
+/// Returns what is written of the rule that a text is.
 fn compile_text(alloc: Global, options: CompileOptions, text: &[u8]) -> Result<Compiled, Fault>
     ensures compiled { IfOk result (Compiles options text.now) }
     ensures fault { IfErr result IsBeforeWriting }
@@ -74,7 +74,7 @@ fn compile_text(alloc: Global, options: CompileOptions, text: &[u8]) -> Result<C
     }
 }
 
-/// The image of a rule's program, or its listing.
+/// Returns the image of a rule's program, or its listing.
 fn shown(
     alloc: Global,
     options: CompileOptions,
@@ -94,7 +94,7 @@ fn shown(
     Ok(Compiled::Bytes(image))
 }
 
-/// The listing of a rule's program.
+/// Returns the listing of a rule's program.
 fn listed(
     alloc: Global,
     options: CompileOptions,

@@ -20,8 +20,8 @@ use node_env::{MEMORY_UNIT, Shape};
 use std::alloc::{AllocError, Global};
 use std::io::{Read, Write};
 
-/// Writes the canonical text of the program whose image is read, or its listing, or the line that refuses it. Of an image
-/// that is none a note is said on `err`.
+/// Writes the canonical text of the program whose image is read, or its listing, or the line that refuses it. If the
+/// bytes are no image, a note is written to `err`.
 pub fn dis<R: Read, W: Write, E: Write>(
     alloc: Global,
     list: bool,
@@ -56,7 +56,7 @@ fn listing(alloc: Global, list: bool, read: &Result<Program, ImageError>) -> Res
     text.map_err(|_| Fault::Memory)
 }
 
-/// The canonical text of a program, or its listing.
+/// Returns the canonical text of a program, or its listing.
 pub(crate) fn text_of(alloc: Global, list: bool, program: &Program) -> Result<Vec<u8>, AllocError>
     ensures { IfOk result (λ text. text.items ≡ listing_text list (Ok program.now)) }
 {
@@ -83,7 +83,7 @@ fn clock_text(alloc: Global, options: ClockOptions) -> Result<Vec<u8>, AllocErro
     text_of(alloc, options.list, &program)
 }
 
-/// The nodes of a rule with as little memory as there may be.
+/// Returns the nodes of a rule with as little memory as there may be.
 fn least_shape(rule: ClockRule) -> Shape
     ensures { result.nodes ≡ rule.nodes }
 {
@@ -93,7 +93,7 @@ fn least_shape(rule: ClockRule) -> Shape
     }
 }
 
-/// How the command ends that wrote it.
+/// Returns how the command ends that wrote it.
 fn ending(read: &Result<Program, ImageError>) -> Ending
     ensures { result ≡ listing_ending read.now }
 {

@@ -27,9 +27,9 @@ use node_env::{Outbox, Shape};
 use std::alloc::{AllocError, Global};
 use std::io::{Read, Write};
 
-/// Writes the line of the answer to the image or the text that is read, and what its run leaves, where that is asked
-/// for; where the steps are asked for, before them the line of each. Where the options have no shape, nothing is read.
-/// Of an image that is none a note is said on `err`.
+/// Writes the line of the answer to the image or the text that is read. If asked, it also writes the line of each step
+/// before it, and what the run leaves after it. If the options have no shape, nothing is read. If the bytes are no
+/// image, a note is written to `err`.
 pub fn exec<R: Read, W: Write, E: Write>(
     alloc: Global,
     options: &ExecOptions,
@@ -88,7 +88,7 @@ impl Reply {
     ghost use Rattle.commands.specs.Output.{Leaves};
     ghost use Rattle.commands.specs.inner.Exec.{answer_in};
 
-    /// The answer, where the run had so much fuel.
+    /// Returns the answer, where the run had so much fuel.
     fn answer(&self, fuel: u64) -> Answer
         ensures { result ≡ answer_in fuel self.now }
     {
@@ -102,7 +102,7 @@ impl Reply {
     }
 }
 
-/// The run of a program in the case that is asked for.
+/// Returns the run of a program in the case that is asked for.
 fn run_case(
     alloc: Global,
     shape: Shape,
@@ -142,7 +142,7 @@ fn add_shown(
     }
 }
 
-/// What is told of a reply.
+/// Returns what is told of a reply.
 fn text_of(alloc: Global, options: &ExecOptions, reply: &Reply) -> Result<String, AllocError>
     ensures { IfOk result (λ text. string_bytes text
         ≡ told_text options.now (answer_in options.now.fuel reply.now) (left_by_reply reply.now)) }

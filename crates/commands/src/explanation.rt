@@ -30,7 +30,7 @@ struct Told {
     ending: Ending,
 }
 
-/// The verdict of findings.
+/// Returns the verdict of findings.
 fn verdict_in(program: &Program, findings: &Findings) -> Verdict
     ensures { result ≡ told_specs.verdict_in program.now findings.now.verdict }
 {
@@ -77,7 +77,7 @@ fn reason_told(
     }
 }
 
-/// All that is told of a program.
+/// Returns all that is told of a program.
 fn explained_text(
     alloc: Global,
     program: &Program,
@@ -96,7 +96,7 @@ fn explained_text(
     format!(in alloc; "{told}{verdict}\n{why}")
 }
 
-/// What is told of a program whose instructions stand on these lines of a text; of an image there are none.
+/// Returns what is told of a program whose instructions stand on these lines of a text; of an image there are none.
 fn explain_program(
     alloc: Global,
     options: ExplainOptions,
@@ -119,7 +119,7 @@ fn explain_program(
     Ok(Told { text, ending })
 }
 
-/// The line that refuses options, an image or a text.
+/// Returns the line that refuses options, an image or a text.
 fn refused(alloc: Global, unread: Unread) -> Result<Told, Fault>
     ensures told { IfOk result (λ told. told_specs.IsRefusedBy (unread_line unread)
         (told_specs.explanation (string_bytes told.text) told.ending)) }
@@ -132,7 +132,7 @@ fn refused(alloc: Global, unread: Unread) -> Result<Told, Fault>
     })
 }
 
-/// The lines of the instructions of a text; an image has none.
+/// Returns the lines of the instructions of a text; an image has none.
 fn lines_of(alloc: Global, text: bool, bytes: &[u8]) -> Result<Vec<usize>, AllocError>
     ensures { IfOk result (λ lines. lines.items ≡ told_specs.lines_read text bytes.now) }
 {
@@ -143,7 +143,7 @@ fn lines_of(alloc: Global, text: bool, bytes: &[u8]) -> Result<Vec<usize>, Alloc
     }
 }
 
-/// What is told of a program that was read.
+/// Returns what is told of a program that was read.
 fn explain_read(alloc: Global, options: ExplainOptions, read: &ProgramRead) -> Result<Told, Fault>
     requires { read.now.shape ≡ asked_extent options.shape }
     ensures told { IfOk result (λ told. told_specs.ExplainsProgram options
@@ -157,8 +157,8 @@ fn explain_read(alloc: Global, options: ExplainOptions, read: &ProgramRead) -> R
     explain_program(alloc, options, &read.program, lines.as_slice(), read.shape)
 }
 
-/// Writes what is told of the text or the image that is read. Where the options have no shape, nothing is read. Of an
-/// image that is none a note is said on `err`.
+/// Writes what is told of the text or the image that is read. If the options have no shape, nothing is read. If the
+/// bytes are no image, a note is written to `err`.
 pub fn explained<R: Read, W: Write, E: Write>(
     alloc: Global,
     options: ExplainOptions,

@@ -18,7 +18,7 @@ use stream_io::{WriteFault, write_fully};
 pub enum Fault {
     /// A call of `read` failed, or there were too many.
     Read,
-    /// Standard output took so many bytes, and then no more.
+    /// Standard output took this many bytes, and then no more.
     Write { after: usize },
     /// Memory ran out.
     Memory,
@@ -42,7 +42,7 @@ impl Fault {
         }
     }
 
-    /// The same of a text that stands behind so many bytes.
+    /// Returns the same of a text that comes after this many bytes.
     pub(crate) fn behind(self, before: usize) -> Fault
         ensures { result ≡ fault_behind before self }
     {
@@ -96,7 +96,7 @@ impl Fault {
     }
 }
 
-/// The line of a write that failed, with its end.
+/// Returns the line of a write that failed, with its end.
 fn write_line(after: usize) -> InlineText<LINE_BYTES>
     ensures { inline_text result ≡ codes "fault write after " ++ (decimal after ++ codes "\n") }
 {

@@ -17,7 +17,7 @@ pub const IMAGE_BYTES: usize = 8 * MAX_SLOTS + 1;
 /// The most calls of `read`.
 pub const IMAGE_CALLS: usize = 2 * IMAGE_BYTES;
 
-/// Reads the first bytes of the input, at most so many.
+/// Reads the first bytes of the input, at most this many.
 pub fn read_image<R: Read>(alloc: Global, reader: &mut R) -> Result<Vec<u8>, Fault>
     ensures bytes { IfOk result (λ image.
         IfSome (R.remaining reader.old) (λ input. image.items ≡ take IMAGE_BYTES input)) }
@@ -58,20 +58,7 @@ impl fmt::Display for Refusal {
     fn fmt<W: fmt::Write>(&self, f: &mut fmt::Formatter<W>) -> fmt::Result {
         match self {
             Refusal::Shape => write!(f, "refused shape"),
-            Refusal::Image(error) => match error {
-                ImageError::Empty => write!(f, "refused image Empty"),
-                ImageError::TooLong => write!(f, "refused image TooLong"),
-                ImageError::Truncated(slot) => write!(f, "refused image Truncated slot {slot}"),
-                ImageError::UnknownOpcode(slot) => {
-                    write!(f, "refused image UnknownOpcode slot {slot}")
-                }
-                ImageError::BadRegister(slot) => write!(f, "refused image BadRegister slot {slot}"),
-                ImageError::NonZeroField(slot) => {
-                    write!(f, "refused image NonZeroField slot {slot}")
-                }
-                ImageError::BadWidth(slot) => write!(f, "refused image BadWidth slot {slot}"),
-                ImageError::Memory => write!(f, "refused image Memory"),
-            },
+            Refusal::Image(error) => write!(f, "refused image {error}"),
         }
     }
 }

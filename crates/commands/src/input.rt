@@ -10,7 +10,7 @@ ghost use Rattle.commands.specs.Image.{HasShape, asked_extent};
 ghost use Rattle.commands.specs.Input.{IsProgramOfInput, IsUnread, most_read, unread_line};
 ghost use Rattle.commands.specs.inner.Input.{ReadsInput};
 
-use crate::asm::{TextRefusal, program_meant, read_text};
+use crate::asm::{program_meant, read_text};
 use crate::fault::Fault;
 use crate::image::{Refusal, program_in, read_image};
 use crate::request::ShapeOptions;
@@ -93,7 +93,7 @@ fn read_bytes<R: Read>(alloc: Global, text: bool, reader: &mut R) -> Result<Vec<
     }
 }
 
-/// The program of a text or an image, or why it has none.
+/// Returns the program of a text or an image, or why it has none.
 fn program_of(alloc: Global, text: bool, bytes: &[u8]) -> Result<Result<Program, Unread>, Fault>
     requires few { text ≡ true → length bytes.now ≤ TEXT_BYTES }
     ensures program { IfOk result (λ read. IfOk read (IsProgramOfInput text bytes.now)) }
@@ -139,7 +139,7 @@ impl fmt::Display for Unread {
     fn fmt<W: fmt::Write>(&self, f: &mut fmt::Formatter<W>) -> fmt::Result {
         match self {
             Unread::Refused(refusal) => write!(f, "{refusal}"),
-            Unread::Text(error) => write!(f, "{}", TextRefusal(*error)),
+            Unread::Text(error) => write!(f, "refused text {error}"),
         }
     }
 }

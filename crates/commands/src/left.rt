@@ -1,6 +1,6 @@
 //! What a run leaves, and the lines that show it.
 ghost use Rattle.std.specs.Prelude.{◌≡◌, ◌++◌, IfOk, OnOk, codes, flat_map, string_bytes};
-ghost use Rattle.commands.specs.Case.{left_lines, mail_text, slot_text, slots_below};
+ghost use Rattle.commands.specs.Case.{left_lines, mail_text, mail_slot_text, slots_below};
 ghost use Rattle.commands.specs.inner.Exec.{left_in};
 
 use node_env::Outbox;
@@ -14,7 +14,7 @@ pub struct LeftByRun {
     pub outbox: Outbox,
 }
 
-/// What was sent to each node, in their order.
+/// Returns what was sent to each node, in their order.
 fn slots_of(alloc: Global, outbox: &Outbox) -> Result<Vec<Option<u32>>, AllocError>
     ensures { IfOk result (λ slots. slots.items ≡ slots_below outbox.now.sent outbox.now.nodes) }
 {
@@ -26,7 +26,7 @@ fn slots_of(alloc: Global, outbox: &Outbox) -> Result<Vec<Option<u32>>, AllocErr
 }
 
 fn add_slot(text: &mut String, slot: Option<u32>) -> Result<(), AllocError>
-    ensures { OnOk result (string_bytes text.new ≡ string_bytes text.old ++ slot_text slot) }
+    ensures { OnOk result (string_bytes text.new ≡ string_bytes text.old ++ mail_slot_text slot) }
 {
     match slot {
         None => text.push_str("-"),
@@ -36,7 +36,7 @@ fn add_slot(text: &mut String, slot: Option<u32>) -> Result<(), AllocError>
 
 fn add_more(text: &mut String, slots: &[Option<u32>]) -> Result<(), AllocError>
     ensures { OnOk result (string_bytes text.new ≡ string_bytes text.old
-        ++ flat_map (λ slot. codes "," ++ slot_text slot) slots.now) }
+        ++ flat_map (λ slot. codes "," ++ mail_slot_text slot) slots.now) }
 {
     for slot in slots {
         text.push_str(",")?;

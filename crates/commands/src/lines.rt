@@ -27,14 +27,15 @@ pub(crate) fn lines<T: Threads + Wait + Sync, W: Write>(
     out: &mut W,
 ) -> Result<Ending, Fault>
     requires reads { (text : List ℕ) × ReadsText text scenario.now }
-    ensures { LeavesLined options.run.check (W.contents out.old) (W.contents out.new) scenario.now options.span result }
+    ensures { LeavesLined options.run.check (W.contents out.old) (W.contents out.new) scenario.now options.form result }
 {
-    if scenario.pulses < options.span.first() {
-        return Err(past_pulses(alloc, options.span, scenario.pulses));
+    let LinesOptions { run, form } = options;
+    if scenario.pulses < form.span.first() {
+        return Err(past_pulses(alloc, form.span, scenario.pulses));
     }
-    let workers = options.run.workers.clamp(1, MAX_WORKERS);
-    match tell_lines(rt, alloc, scenario, workers, options.span, out) {
-        Ok(agrees) => Ok(ending_of(options.run.check, agrees)),
+    let workers = run.workers.clamp(1, MAX_WORKERS);
+    match tell_lines(rt, alloc, scenario, workers, form, out) {
+        Ok(agrees) => Ok(ending_of(run.check, agrees)),
         Err(LinesFault::Run(fault)) => Err(fault_of(fault.fault)),
         Err(LinesFault::Part(PartFault::Write { written })) => Err(Fault::Write {
             after: written as usize,
@@ -43,7 +44,7 @@ pub(crate) fn lines<T: Threads + Wait + Sync, W: Write>(
     }
 }
 
-/// The fault of a span that begins past the last pulse.
+/// Returns the fault of a span that begins past the last pulse.
 fn past_pulses(alloc: Global, span: PulseSpan, pulses: u32) -> Fault
     ensures { IsPast span pulses result }
 {

@@ -1,7 +1,7 @@
 //! The lines of a node's run in a pulse.
 ghost use Rattle.std.specs.Prelude.{◌≡◌, ◌++◌, IfOk, List, OnOk, Option, length, string_bytes, ℕ};
 ghost use Rattle.bpf_machine.specs.Run.{CompleteRun, End};
-ghost use Rattle.bench_scenario.specs.Inputs.{FitsShape, input_setting};
+ghost use Rattle.bench_scenario.specs.Inputs.{FitsInput, input_setting};
 ghost use Rattle.run_trace.specs.Lines.{trace_text};
 ghost use Rattle.run_trace.specs.Steps.{steps_of};
 ghost use Rattle.scenario_text.specs.Texts.{ReadsText};
@@ -40,7 +40,7 @@ struct NodeRun<'a> {
     steps: u32,
 }
 
-/// The lines of a node's run in a pulse of the scenario.
+/// Returns the lines of a node's run in a pulse of the scenario.
 pub(crate) fn lines_of(
     alloc: Global,
     options: NodeInPulse,
@@ -49,9 +49,10 @@ pub(crate) fn lines_of(
 ) -> Result<Vec<u8>, AllocError>
     requires reads { (text : List ℕ) × ReadsText text scenario.now }
     requires shape { input.program.shape ≡ extent_of (frame_of scenario.now) }
-    requires fits { FitsShape input.program.shape options.node input }
+    requires fits { FitsInput input.program.shape options.node input }
     ensures { IfOk result (λ lines. (end : End)
-        × CompleteRun input.program.program (input_setting input.program.shape options.node input) input.memory.items end
+        × CompleteRun input.program.program
+        (input_setting input.program.shape options.node input) input.memory.items end
         × AreRunLines scenario.now input.program.shape options.pulse options.node input end lines.items) }
 {
     let text = input_text(alloc, options, &input)?;
@@ -76,7 +77,7 @@ pub(crate) fn lines_of(
     Ok(lines)
 }
 
-/// The lines of what a node runs in a pulse.
+/// Returns the lines of what a node runs in a pulse.
 fn input_text(alloc: Global, options: NodeInPulse, input: &NodeInput) -> Result<String, AllocError>
     ensures { IfOk result (λ text. string_bytes text ≡ input_lines options.pulse options.node input.now) }
 {
@@ -88,7 +89,7 @@ fn input_text(alloc: Global, options: NodeInPulse, input: &NodeInput) -> Result<
     Ok(text)
 }
 
-/// The pulse, the node and its memory.
+/// Returns the pulse, the node and its memory.
 fn place_text(alloc: Global, options: NodeInPulse, memory: &[u8]) -> Result<String, AllocError>
     ensures { IfOk result (λ text. string_bytes text ≡ place_lines options.pulse options.node memory.now) }
 {
@@ -97,7 +98,7 @@ fn place_text(alloc: Global, options: NodeInPulse, memory: &[u8]) -> Result<Stri
     format!(in alloc; "pulse {pulse} node {node}\nmemory {memory}\n")
 }
 
-/// The end of a node's run.
+/// Returns the end of a node's run.
 fn end_of(
     alloc: Global,
     program: &VerifiedProgram,
@@ -120,7 +121,7 @@ fn end_of(
     })
 }
 
-/// The lines of a run's steps: of a rule's program below the lines of the rule.
+/// Returns the lines of a run's steps: of a rule's program below the lines of the rule.
 fn step_lines(alloc: Global, scenario: &Scenario, run: &NodeRun) -> Result<Vec<u8>, AllocError>
     requires reads { (text : List ℕ) × ReadsText text scenario.now }
     requires shape { run.now.env.now.shape ≡ extent_of (frame_of scenario.now) }
@@ -150,7 +151,7 @@ fn step_lines(alloc: Global, scenario: &Scenario, run: &NodeRun) -> Result<Vec<u
     }
 }
 
-/// The lines of a run's steps, and nothing else.
+/// Returns the lines of a run's steps, and nothing else.
 fn plain_lines(alloc: Global, run: &NodeRun) -> Result<Vec<u8>, AllocError>
     requires { length run.now.memory.now ≡ run.now.env.now.shape.memory }
     ensures { IfOk result (λ told. told.items
@@ -189,7 +190,7 @@ fn add_end(alloc: Global, lines: &mut Vec<u8>, end: &RunEnd) -> Result<(), Alloc
     lines.extend_from_slice(text.as_bytes())
 }
 
-/// The lines of how a run ended.
+/// Returns the lines of how a run ended.
 fn end_text(alloc: Global, end: &RunEnd) -> Result<String, AllocError>
     ensures { IfOk result (λ text. string_bytes text ≡ end_lines end.now.left.outbox.nodes (end_in end.now)) }
 {

@@ -3,7 +3,7 @@ ghost use Rattle.std.specs.Prelude.{◌≡◌, IfErr, IfOk, List, Option, ℕ};
 ghost use Rattle.scenario_text.specs.Texts.{ReadsText};
 ghost use Rattle.scenario_text.specs.Views.{extent_of, frame_of};
 ghost use Rattle.commands.specs.Faults.{IsBeforeWriting};
-ghost use Rattle.commands.specs.NodeProgram.{IsTextOf, LeavesNodeProgram};
+ghost use Rattle.commands.specs.NodeProgram.{IsNodeProgramText, LeavesNodeProgram};
 ghost use Rattle.commands.specs.NodeRule.{IsProgramText, IsRuleOf, sizes_for};
 ghost use Rattle.commands.specs.NodeText.{IsNodeText};
 
@@ -36,7 +36,7 @@ pub(crate) fn node_program<T: Threads + Wait + Sync, W: Write>(
     write_node_text(alloc, "program", &text, out)
 }
 
-/// What a scenario has of the program.
+/// Returns what a scenario has of the program.
 fn text_in<T: Threads + Wait + Sync>(
     rt: &T,
     alloc: Global,
@@ -44,7 +44,7 @@ fn text_in<T: Threads + Wait + Sync>(
     scenario: &Scenario,
 ) -> Result<NodeText, Fault>
     requires reads { (text : List ℕ) × ReadsText text scenario.now }
-    ensures told { IfOk result (IsNodeText (IsTextOf options scenario.now) options.place scenario.now) }
+    ensures told { IfOk result (IsNodeText (IsNodeProgramText options scenario.now) options.place scenario.now) }
     ensures fault { IfErr result IsBeforeWriting }
 {
     let found = input_at(rt, alloc, options.place, scenario)?;
@@ -57,7 +57,7 @@ fn text_in<T: Threads + Wait + Sync>(
     }
 }
 
-/// The text of a program, or its listing: of a rule's program below the lines of the rule.
+/// Returns the text of a program, or its listing: of a rule's program below the lines of the rule.
 fn program_text(
     alloc: Global,
     list: bool,

@@ -17,7 +17,7 @@ use rule_text::instruction_lines;
 use scenario_text::{Kind, Load, ProgramText, Scenario};
 use std::alloc::{AllocError, Global};
 
-/// The text of the clock, if it is a rule.
+/// Returns the text of the clock, if it is a rule.
 fn rule_of_clock(scenario: &Scenario) -> Option<&[u8]>
     ensures { option_map (λ text. text.now) result ≡ clock_rule_text (draft_of scenario.now).clock_text }
 {
@@ -28,7 +28,7 @@ fn rule_of_clock(scenario: &Scenario) -> Option<&[u8]>
     }
 }
 
-/// The text of a load, if it is a rule.
+/// Returns the text of a load, if it is a rule.
 fn rule_of_load(load: &Load) -> Option<&[u8]>
     ensures { option_map (λ text. text.now) result ≡ load_rule load.now.kind (load_draft load.now).text }
 {
@@ -41,7 +41,7 @@ fn rule_of_load(load: &Load) -> Option<&[u8]>
     }
 }
 
-/// The clock of the scenario's rule (docs/CLOCK.md, "The programs").
+/// Returns the clock of the scenario's rule (docs/CLOCK.md, "The programs").
 fn listed_clock(alloc: Global, scenario: &Scenario, shape: Shape) -> Result<Program, AllocError>
     requires reads { (text : List ℕ) × ReadsText text scenario.now }
     requires shape { shape ≡ extent_of (frame_of scenario.now) }
@@ -50,7 +50,7 @@ fn listed_clock(alloc: Global, scenario: &Scenario, shape: Shape) -> Result<Prog
     dolev_welch(alloc, shape, scenario.rule())
 }
 
-/// Whether this is the program of the scenario's clock.
+/// Returns true if this is the program of the scenario's clock.
 fn is_clock(
     alloc: Global,
     scenario: &Scenario,
@@ -68,7 +68,7 @@ fn is_clock(
     }
 }
 
-/// The text of the clock, if it is a rule with this program.
+/// Returns the text of the clock, if it is a rule with this program.
 fn clock_with<'a>(
     alloc: Global,
     scenario: &'a Scenario,
@@ -90,7 +90,7 @@ fn clock_with<'a>(
     }
 }
 
-/// The text of a load, if it is a rule with this program.
+/// Returns the text of a load, if it is a rule with this program.
 fn load_with<'a>(load: &'a Load, program: &Program) -> Option<&'a [u8]>
     ensures { MatchOption (option_map (λ text. text.now) result)
         ((text : List ℕ) → LoadHas load.now program.now text → ⊥) (LoadHas load.now program.now) }
@@ -103,7 +103,8 @@ fn load_with<'a>(load: &'a Load, program: &Program) -> Option<&'a [u8]>
     }
 }
 
-/// The text of a rule of the scenario that has this program, if one has it: the clock's, or the first of a load.
+/// Returns the text of a rule of the scenario that has this program, if one has it: the clock's, or the first of a
+/// load.
 pub(crate) fn rule_of<'a>(
     alloc: Global,
     scenario: &'a Scenario,
@@ -125,7 +126,7 @@ pub(crate) fn rule_of<'a>(
     Ok(None)
 }
 
-/// The line of each instruction of a rule's program.
+/// Returns the line of each instruction of a rule's program.
 pub(crate) fn rule_lines(
     alloc: Global,
     scenario: &Scenario,
@@ -144,7 +145,7 @@ pub(crate) fn rule_lines(
     }
 }
 
-/// The listing of a rule's program, below the lines of the rule.
+/// Returns the listing of a rule's program, below the lines of the rule.
 pub(crate) fn rule_listed(
     alloc: Global,
     scenario: &Scenario,

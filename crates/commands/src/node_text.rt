@@ -1,6 +1,6 @@
 //! What a scenario has of a node in a pulse.
 ghost use Rattle.std.specs.Prelude.{◌≡◌, IfErr, IfOk, List, MatchResult, ℕ};
-ghost use Rattle.bench_scenario.specs.Inputs.{FitsShape, RunsIn};
+ghost use Rattle.bench_scenario.specs.Inputs.{FitsInput, RunsIn};
 ghost use Rattle.bench_scenario.specs.Runs.{bench_of};
 ghost use Rattle.scenario_text.specs.Texts.{ReadsText};
 ghost use Rattle.commands.specs.Faults.{IsBeforeWriting};
@@ -35,7 +35,7 @@ pub enum NodeText {
     Lines(Vec<u8>),
 }
 
-/// What the node runs in the pulse, or why it runs nothing.
+/// Returns what the node runs in the pulse, or why it runs nothing.
 pub(crate) fn input_at<T: Threads + Wait + Sync>(
     rt: &T,
     alloc: Global,
@@ -45,7 +45,7 @@ pub(crate) fn input_at<T: Threads + Wait + Sync>(
     requires reads { (text : List ℕ) × ReadsText text scenario.now }
     ensures input { IfOk result (λ found. MatchResult found (RunsIn scenario.now place.pulse place.node)
         (IsAbsent place scenario.now)) }
-    ensures fits { IfOk result (λ found. IfOk found (FitsShape (bench_of scenario.now).shape place.node)) }
+    ensures fits { IfOk result (λ found. IfOk found (FitsInput (bench_of scenario.now).shape place.node)) }
     ensures fault { IfErr result IsBeforeWriting }
 {
     match node_input(rt, alloc, scenario, place.pulse, place.node) {

@@ -1,6 +1,6 @@
 //! A request, from its command to the exit status.
 ghost use Rattle.std.specs.Prelude.{◌≡◌, IfErr, IfOk};
-ghost use Rattle.commands.specs.Perform.{CarriesOut, Performs, SaysAt, TakesFor};
+ghost use Rattle.commands.specs.Perform.{CarriesOut, PerformsRequest, SaysAt, TakesFor};
 
 use crate::asm::asm;
 use crate::compile::compile;
@@ -21,8 +21,8 @@ use std::sync::Wait;
 use std::thread::Threads;
 
 /// Runs the command, says its fault or the note on its refusal on `err`, and answers the exit status: 0 done, 1 fault
-/// or mismatch, 2 refused, 3 a violation, 4 not finished. What `err` does not take is dropped. `progress` is shown how far
-/// an exploration is.
+/// or mismatch, 2 refused, 3 a violation, 4 not finished. What `err` does not take is dropped. `progress` is shown how
+/// far an exploration is.
 pub fn perform<T: Threads + Wait + Sync, R: Read, W: Write, E: Write, P: Progress>(
     rt: &T,
     alloc: Global,
@@ -32,7 +32,7 @@ pub fn perform<T: Threads + Wait + Sync, R: Read, W: Write, E: Write, P: Progres
     err: &mut E,
     progress: &mut P,
 ) -> u8
-    ensures performed { Performs request.now (R.remaining reader.old) (W.contents out.old) (W.contents out.new)
+    ensures performed { PerformsRequest request.now (R.remaining reader.old) (W.contents out.old) (W.contents out.new)
         (E.contents err.old) (E.contents err.new) result }
     ensures taken { TakesFor request.now (R.remaining reader.old) (R.remaining reader.new) }
 {

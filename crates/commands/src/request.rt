@@ -6,7 +6,7 @@ pub use bench_stress::StressOptions;
 pub use bpf_explain::Detail;
 pub use clock_nodes::ClockRule;
 use key_sweep::KeySpan;
-use run_lines::PulseSpan;
+pub use run_lines::{LineFormat, LinesForm};
 pub use scenario_explorer::{
     AnyStart, ByteSpan, Cells, ExploreOptions, Form, GraphFormat, Mail, MailSpan, Memories,
     Question, Share, Starts,
@@ -97,8 +97,7 @@ pub struct RunOptions {
 #[derive(Clone, Copy, Debug, PartialEq, Eq)]
 pub struct LinesOptions {
     pub run: RunOptions,
-    /// The pulses that are told.
-    pub span: PulseSpan,
+    pub form: LinesForm,
 }
 
 /// A node in a pulse. A scenario may have no such pulse or node.

@@ -39,7 +39,7 @@ pub(crate) fn run<T: Threads + Wait + Sync, W: Write>(
     }
 }
 
-/// How a run ends whose report is written.
+/// Returns how a run ends whose report is written.
 pub(crate) fn ending_of(check: bool, agrees: bool) -> Ending
     ensures { result ≡ report_ending check agrees }
 {
@@ -50,7 +50,7 @@ pub(crate) fn ending_of(check: bool, agrees: bool) -> Ending
     }
 }
 
-/// A run of a scenario stops for want of memory or of a thread alone.
+/// Returns the fault of a run of a scenario, which stops for lack of memory or of a thread alone.
 pub(crate) fn fault_of(refusal: RunRefusal) -> Fault
     requires { IsMemoryOrThread refusal }
     ensures { IsRunFault refusal result }

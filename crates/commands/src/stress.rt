@@ -17,8 +17,7 @@ use std::sync::Wait;
 use std::thread::Threads;
 
 /// Lets loaders and an engine work on one bench at once, and writes how many entries they made, where its history
-/// is what their receipts say (docs/THREADS.md). A number of loaders or workers that is none is the nearest that is
-/// one.
+/// is what their receipts say (docs/THREADS.md). Clamps the numbers of loaders and workers to their ranges.
 pub fn stress<R: Threads + Wait + Sync, W: Write>(
     rt: &R,
     alloc: Global,
@@ -36,7 +35,7 @@ pub fn stress<R: Threads + Wait + Sync, W: Write>(
     }
 }
 
-/// What the hands stopped for the want of.
+/// Returns what the hands stopped for lack of.
 fn fault_of(stop: Stop) -> Option<Fault>
     ensures { result ≡ stop_fault stop }
 {
@@ -77,7 +76,7 @@ impl fmt::Display for FinishedLine<'_> {
     }
 }
 
-/// How many entries the history has.
+/// Returns how many entries the history has.
 fn entries_of(finished: &Finished) -> usize
     ensures { result ≡ length finished.now }
 {

@@ -40,7 +40,7 @@ pub(crate) fn sweep<T: Threads + Wait + Sync, W: Write>(
     }
 }
 
-/// As many workers as are asked for, or one for each processor, clamped to `1..=MAX_SWEEPERS`.
+/// Returns as many workers as are asked for, or one for each processor, clamped to `1..=MAX_SWEEPERS`.
 fn workers_for<T: Threads>(rt: &T, asked: Option<u32>) -> u32
     ensures some { 1 ≤ result }
     ensures few { result ≤ MAX_SWEEPERS }

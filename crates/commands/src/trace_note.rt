@@ -22,7 +22,7 @@ pub(crate) fn note_on_trace(
     Ok(Some(note))
 }
 
-/// What the scenario has in its place.
+/// Returns what the scenario has in its place.
 fn words_on(
     alloc: Global,
     options: NodeInPulse,
@@ -47,7 +47,7 @@ fn words_on(
     }
 }
 
-/// The first pulse after this one that loads a program into the node.
+/// Returns the first pulse after this one that loads a program into the node.
 fn next_load(loads: &[Load], pulse: u32, node: u32) -> Option<u32> {
     let mut next: Option<u32> = None;
     for load in loads {

@@ -36,7 +36,7 @@ pub(crate) fn trace_program<W: Write>(
     }
 }
 
-/// What the program sees in the case, the memory in which its run begins, and an outbox.
+/// Returns what the program sees in the case, the memory in which its run begins, and an outbox.
 fn case_parts(
     alloc: Global,
     shape: Shape,
@@ -54,7 +54,7 @@ fn case_parts(
     Ok((env, memory, outbox))
 }
 
-/// The run of a program in the case that is asked for, whose steps are told, and how many bytes were written.
+/// Returns the run of a program in the case that is asked for, whose steps are told, and how many bytes were written.
 fn trace_case<W: Write>(
     alloc: Global,
     shape: Shape,

@@ -3,7 +3,7 @@ ghost use Rattle.std.specs.Prelude.{IfErr, IfOk, List, ℕ};
 ghost use Rattle.scenario_text.specs.Texts.{ReadsText};
 ghost use Rattle.commands.specs.Faults.{IsBeforeWriting};
 ghost use Rattle.commands.specs.NodeText.{IsNodeText};
-ghost use Rattle.commands.specs.TracedRun.{IsRunOf, LeavesTracedRun};
+ghost use Rattle.commands.specs.TracedRun.{IsTracedRun, LeavesTracedRun};
 
 use crate::ending::Ending;
 use crate::fault::Fault;
@@ -31,7 +31,7 @@ pub(crate) fn traced_run<T: Threads + Wait + Sync, W: Write>(
     write_node_text(alloc, "trace", &trace, out)
 }
 
-/// What a scenario has of the run.
+/// Returns what a scenario has of the run.
 fn trace_in<T: Threads + Wait + Sync>(
     rt: &T,
     alloc: Global,
@@ -39,7 +39,7 @@ fn trace_in<T: Threads + Wait + Sync>(
     scenario: &Scenario,
 ) -> Result<NodeText, Fault>
     requires reads { (text : List ℕ) × ReadsText text scenario.now }
-    ensures told { IfOk result (IsNodeText (IsRunOf place scenario.now) place scenario.now) }
+    ensures told { IfOk result (IsNodeText (IsTracedRun place scenario.now) place scenario.now) }
     ensures fault { IfErr result IsBeforeWriting }
 {
     let found = input_at(rt, alloc, place, scenario)?;

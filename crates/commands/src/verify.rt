@@ -22,8 +22,8 @@ use node_env::Shape;
 use std::alloc::Global;
 use std::io::{Read, Write};
 
-/// Writes the line of the verdict on the image that is read. Where the options have no shape, nothing is read. Of an
-/// image that is none a note is said on `err`.
+/// Writes the line of the verdict on the image that is read. If the options have no shape, nothing is read. If the
+/// bytes are no image, a note is written to `err`.
 pub fn verify<R: Read, W: Write, E: Write>(
     alloc: Global,
     options: ShapeOptions,
@@ -59,7 +59,7 @@ pub fn verify<R: Read, W: Write, E: Write>(
     }
 }
 
-/// What the verifier says of a program.
+/// Returns what the verifier says of a program.
 fn verdict_on(alloc: Global, program: &Program, shape: Shape) -> Result<Verdict, Fault>
     ensures verdict { IfOk result (JudgesProgram program.now shape) }
     ensures fault { IfErr result IsBeforeWriting }

@@ -74,7 +74,7 @@ fn add_search(
     put(members, alloc, "limit", limit)
 }
 
-/// How clocks stabilise, if that was asked and found.
+/// Returns how clocks stabilise, if that was asked and found.
 fn stabilisation_of(found: &Found) -> Option<&Recovery>
     ensures { option_map (λ recovery. recovery.now) result ≡ stabilisation_of found.now }
 {
@@ -84,7 +84,7 @@ fn stabilisation_of(found: &Found) -> Option<&Recovery>
     }
 }
 
-/// The word for how clocks stabilise, or null.
+/// Returns the word for how clocks stabilise, or null.
 fn stabilisation_value(alloc: Global, found: &Found) -> Result<Value, AllocError>
     ensures { IfOk result (λ v. view v ≡ word_data (option_map stabilisation_word (stabilisation_of found.now))) }
 {
@@ -94,7 +94,7 @@ fn stabilisation_value(alloc: Global, found: &Found) -> Result<Value, AllocError
     }
 }
 
-/// The bound on the stabilisation time, or null.
+/// Returns the bound on the stabilisation time, or null.
 fn pulses_value(found: &Found) -> Value
     ensures { view result ≡ option_data number_data (pulses_of (stabilisation_of found.now)) }
 {
@@ -104,7 +104,7 @@ fn pulses_value(found: &Found) -> Value
     }
 }
 
-/// The odds, if they were asked.
+/// Returns the odds, if they were asked.
 fn odds_of(found: &Found) -> Option<&Odds>
     ensures { option_map (λ odds. odds.now) result ≡ odds_of found.now }
 {
@@ -114,7 +114,7 @@ fn odds_of(found: &Found) -> Option<&Odds>
     }
 }
 
-/// The counts.
+/// Returns the counts.
 fn counts(alloc: Global, counts: &[u64]) -> Result<Value, AllocError>
     ensures { IfOk result (λ v. view v ≡ list_data number_data counts.now) }
 {
@@ -125,7 +125,7 @@ fn counts(alloc: Global, counts: &[u64]) -> Result<Value, AllocError>
     Ok(Value::Array(values))
 }
 
-/// The parts of the whole, for each number of pulses, or null.
+/// Returns the parts of the whole, for each number of pulses, or null.
 fn parts_value(alloc: Global, odds: &Odds) -> Result<Value, AllocError>
     ensures { IfOk result (λ v. view v ≡ option_data (list_data number_data) (odds_parts odds.now)) }
 {
@@ -135,7 +135,7 @@ fn parts_value(alloc: Global, odds: &Odds) -> Result<Value, AllocError>
     }
 }
 
-/// The bound on the mean number of pulses, or null.
+/// Returns the bound on the mean number of pulses, or null.
 fn mean_value(alloc: Global, odds: &Odds) -> Result<Value, AllocError>
     ensures { IfOk result (λ v. view v ≡ option_data mean_data (mean_of odds.now)) }
 {
@@ -148,7 +148,7 @@ fn mean_value(alloc: Global, odds: &Odds) -> Result<Value, AllocError>
     }
 }
 
-/// The parts of a pulse that a unit has, and the bound in them.
+/// Returns the parts of a pulse that a unit has, and the bound in them.
 fn mean_object(alloc: Global, parts: u64) -> Result<Value, AllocError>
     ensures { IfOk result (λ v. view v ≡ mean_data parts) }
 {
@@ -158,7 +158,7 @@ fn mean_object(alloc: Global, parts: u64) -> Result<Value, AllocError>
     Ok(Value::Object(members))
 }
 
-/// After how many pulses a share has stabilised, if that was asked and the odds are known.
+/// Returns after how many pulses a share has stabilised, if that was asked and the odds are known.
 fn reach_of(found: &Found) -> Option<Reach>
     ensures { result ≡ reach_of found.now }
 {
@@ -168,7 +168,7 @@ fn reach_of(found: &Found) -> Option<Reach>
     }
 }
 
-/// A share, and the number of pulses or null.
+/// Returns a share, and the number of pulses or null.
 fn reach_object(alloc: Global, reach: Reach) -> Result<Value, AllocError>
     ensures { IfOk result (λ v. view v ≡ reach_data reach) }
 {
@@ -179,7 +179,7 @@ fn reach_object(alloc: Global, reach: Reach) -> Result<Value, AllocError>
     Ok(Value::Object(members))
 }
 
-/// The same, or null.
+/// Returns the same, or null.
 fn reach_value(alloc: Global, reach: Option<Reach>) -> Result<Value, AllocError>
     ensures { IfOk result (λ v. view v ≡ option_data reach_data reach) }
 {
@@ -189,7 +189,7 @@ fn reach_value(alloc: Global, reach: Option<Reach>) -> Result<Value, AllocError>
     }
 }
 
-/// The mean, the whole and its parts, and when a share has stabilised.
+/// Returns the mean, the whole and its parts, and when a share has stabilised.
 fn odds_object(alloc: Global, odds: &Odds, reach: Option<Reach>) -> Result<Value, AllocError>
     ensures { IfOk result (λ v. view v ≡ odds_data reach odds.now) }
 {
@@ -204,7 +204,7 @@ fn odds_object(alloc: Global, odds: &Odds, reach: Option<Reach>) -> Result<Value
     Ok(Value::Object(members))
 }
 
-/// The odds, or null.
+/// Returns the odds, or null.
 fn odds_value(alloc: Global, found: &Found) -> Result<Value, AllocError>
     ensures { IfOk result (λ v. view v ≡ option_data (odds_data (reach_of found.now)) (odds_of found.now)) }
 {
@@ -214,7 +214,7 @@ fn odds_value(alloc: Global, found: &Found) -> Result<Value, AllocError>
     }
 }
 
-/// The text of the counterexample, or null.
+/// Returns the text of the counterexample, or null.
 fn scenario_value(alloc: Global, found: &Found) -> Result<Value, AllocError>
     ensures { IfOk result (λ v. view v ≡ word_data (scenario_of found.now)) }
 {
@@ -260,7 +260,7 @@ fn add_answer(
     put(members, alloc, "scenario", scenario)
 }
 
-/// What the line tells.
+/// Returns what the line tells.
 fn exploration_value(
     alloc: Global,
     options: &ExploreOptions,

@@ -9,21 +9,21 @@ use scenario_explorer::{AnyStart, ByteSpan, Cells, MailSpan, Memories, Starts};
 use serde_json::{Map, Value, put};
 use std::alloc::{AllocError, Global};
 
-/// The first number and the last.
+/// Returns the first number and the last.
 fn span_value(alloc: Global, span: MailSpan) -> Result<Value, AllocError>
     ensures { IfOk result (λ v. view v ≡ span_data span) }
 {
     numbers(alloc, &[span.first, span.last])
 }
 
-/// The first byte and the last.
+/// Returns the first byte and the last.
 fn byte_span_value(alloc: Global, span: ByteSpan) -> Result<Value, AllocError>
     ensures { IfOk result (λ v. view v ≡ byte_span_data span) }
 {
     numbers(alloc, &[u32::from(span.first), u32::from(span.last)])
 }
 
-/// The spans.
+/// Returns the spans.
 pub(crate) fn spans_value(alloc: Global, spans: &[MailSpan]) -> Result<Value, AllocError>
     ensures { IfOk result (λ v. view v ≡ spans_data spans.now) }
 {
@@ -34,7 +34,7 @@ pub(crate) fn spans_value(alloc: Global, spans: &[MailSpan]) -> Result<Value, Al
     Ok(Value::Array(values))
 }
 
-/// The spans of bytes.
+/// Returns the spans of bytes.
 fn byte_spans_value(alloc: Global, spans: &[ByteSpan]) -> Result<Value, AllocError>
     ensures { IfOk result (λ v. view v ≡ list_data byte_span_data spans.now) }
 {
@@ -45,7 +45,7 @@ fn byte_spans_value(alloc: Global, spans: &[ByteSpan]) -> Result<Value, AllocErr
     Ok(Value::Array(values))
 }
 
-/// The places of an entry, and what their bytes may be.
+/// Returns the places of an entry, and what their bytes may be.
 fn cells_value(alloc: Global, cells: &Cells) -> Result<Value, AllocError>
     ensures { IfOk result (λ v. view v ≡ cells_data cells.now) }
 {
@@ -57,7 +57,7 @@ fn cells_value(alloc: Global, cells: &Cells) -> Result<Value, AllocError>
     Ok(Value::Object(members))
 }
 
-/// The entries.
+/// Returns the entries.
 fn all_cells_value(alloc: Global, all: &[Cells]) -> Result<Value, AllocError>
     ensures { IfOk result (λ v. view v ≡ list_data cells_data all.now) }
 {
@@ -68,7 +68,7 @@ fn all_cells_value(alloc: Global, all: &[Cells]) -> Result<Value, AllocError>
     Ok(Value::Array(values))
 }
 
-/// The messages that were named, or null.
+/// Returns the messages that were named, or null.
 fn said_value(alloc: Global, said: &Option<Vec<MailSpan>>) -> Result<Value, AllocError>
     ensures { IfOk result (λ v. view v ≡ option_data (λ spans. spans_data spans.items) said.now) }
 {
@@ -78,14 +78,14 @@ fn said_value(alloc: Global, said: &Option<Vec<MailSpan>>) -> Result<Value, Allo
     }
 }
 
-/// A whole memory.
+/// Returns a whole memory.
 fn image_value(alloc: Global, image: &[u8]) -> Result<Value, AllocError>
     ensures { IfOk result (λ v. view v ≡ image_data image.now) }
 {
     Ok(Value::String(hex::encode(alloc, image)?))
 }
 
-/// The whole memories.
+/// Returns the whole memories.
 fn images_value(alloc: Global, images: &[Vec<u8>]) -> Result<Value, AllocError>
     ensures { IfOk result (λ v. view v ≡ list_data image_data (map (λ v. v.items) images.now)) }
 {
@@ -117,7 +117,7 @@ fn add_memories(
     }
 }
 
-/// The memories and the messages at the start.
+/// Returns the memories and the messages at the start.
 fn any_value(alloc: Global, any: &AnyStart) -> Result<Value, AllocError>
     ensures { IfOk result (λ v. view v ≡ any_data any.now) }
 {
@@ -128,7 +128,7 @@ fn any_value(alloc: Global, any: &AnyStart) -> Result<Value, AllocError>
     Ok(Value::Object(members))
 }
 
-/// Where it begins: null for zeros and no messages.
+/// Returns where it begins: null for zeros and no messages.
 pub(crate) fn start_value(alloc: Global, start: &Starts) -> Result<Value, AllocError>
     ensures { IfOk result (λ v. view v ≡ start_data start.now) }
 {

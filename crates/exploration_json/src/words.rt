@@ -5,7 +5,7 @@ ghost use Rattle.exploration_json.specs.Data.{agreed_of, agreement_word, limit_o
 use bench_space::{Cause, Question, Recovery};
 use scenario_explorer::Found;
 
-/// The word for a question.
+/// Returns the word for a question.
 pub(crate) fn question_word(question: Question) -> &'static str
     ensures { result.now ≡ question_word question }
 {
@@ -16,7 +16,7 @@ pub(crate) fn question_word(question: Question) -> &'static str
     }
 }
 
-/// The word for agreement, if it is known.
+/// Returns the word for agreement, if it is known.
 pub(crate) fn agreement_word(found: &Found) -> Option<&'static str>
     ensures { option_map (λ word. word.now) result ≡ agreement_word found.now }
 {
@@ -27,7 +27,7 @@ pub(crate) fn agreement_word(found: &Found) -> Option<&'static str>
     }
 }
 
-/// The word for how clocks stabilise.
+/// Returns the word for how clocks stabilise.
 pub(crate) fn stabilisation_word(recovery: &Recovery) -> &'static str
     ensures { result.now ≡ stabilisation_word recovery.now }
 {
@@ -39,7 +39,7 @@ pub(crate) fn stabilisation_word(recovery: &Recovery) -> &'static str
     }
 }
 
-/// The word for a limit.
+/// Returns the word for a limit.
 fn limit_word(cause: Cause) -> &'static str
     ensures { result.now ≡ limit_word cause }
 {
@@ -53,7 +53,7 @@ fn limit_word(cause: Cause) -> &'static str
     }
 }
 
-/// The word for the limit that ended the search, if one did.
+/// Returns the word for the limit that ended the search, if one did.
 pub(crate) fn limit_of(found: &Found) -> Option<&'static str>
     ensures { option_map (λ word. word.now) result ≡ limit_of found.now }
 {
@@ -63,7 +63,7 @@ pub(crate) fn limit_of(found: &Found) -> Option<&'static str>
     }
 }
 
-/// How many states were seen.
+/// Returns how many states were seen.
 pub(crate) fn states_of(found: &Found) -> u64
     ensures { result ≡ states_of found.now }
 {
@@ -74,7 +74,7 @@ pub(crate) fn states_of(found: &Found) -> u64
     }
 }
 
-/// How many transitions were tried, if all were.
+/// Returns how many transitions were tried, if all were.
 pub(crate) fn transitions_of(found: &Found) -> Option<u64>
     ensures { result ≡ transitions_of found.now }
 {
@@ -84,7 +84,7 @@ pub(crate) fn transitions_of(found: &Found) -> Option<u64>
     }
 }
 
-/// The pulse of the counterexample that violates agreement.
+/// Returns the pulse of the counterexample that violates agreement.
 pub(crate) fn violated_in(found: &Found) -> Option<u64>
     ensures { result ≡ violated_in found.now }
 {
@@ -94,7 +94,7 @@ pub(crate) fn violated_in(found: &Found) -> Option<u64>
     }
 }
 
-/// After how many pulses clocks agree for good, if that is told.
+/// Returns after how many pulses clocks agree for good, if that is told.
 pub(crate) fn agreed_of(found: &Found) -> Option<u64>
     ensures { result ≡ agreed_of found.now }
 {
@@ -104,7 +104,7 @@ pub(crate) fn agreed_of(found: &Found) -> Option<u64>
     }
 }
 
-/// The bound on the stabilisation time, if there is one.
+/// Returns the bound on the stabilisation time, if there is one.
 pub(crate) fn within(recovery: &Recovery) -> Option<u64>
     ensures { result ≡ within recovery.now }
 {

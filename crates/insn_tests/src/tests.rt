@@ -13,10 +13,10 @@ mod programs;
 const IMAGES: &str = "\
 \tEmpty\tno byte\n\
 b7000000070000009500000000000000\treads\ttwo instructions\n\
-b7000000070000\tTruncated 0\tseven bytes\n\
-1800000001000000\tTruncated 0\tthe first slot of a wide instruction alone\n\
-ff00000000000000010101\tUnknownOpcode 0\tan unknown byte before a part of a slot\n\
-b70b0000000000009500000000000000\tBadRegister 0\tregister 11\n\
+b7000000070000\tTruncated slot 0\tseven bytes\n\
+1800000001000000\tTruncated slot 0\tthe first slot of a wide instruction alone\n\
+ff00000000000000010101\tUnknownOpcode slot 0\tan unknown byte before a part of a slot\n\
+b70b0000000000009500000000000000\tBadRegister slot 0\tregister 11\n\
 b700000009000000b7010000000000003f100000000000009500000000000000\treads\tdiv64\n\
 b7000000ffffffffb7010000000000009c100000000000009500000000000000\treads\tmod32\n\
 b40000000000008034000100ffffffff9500000000000000\treads\tsdiv32\n\
@@ -26,7 +26,7 @@ b40000000000008034000100ffffffff9500000000000000\treads\tsdiv32\n\
 85000000ffffffff9500000000000000\treads\ta helper that is none\n\
 bc100000000000009500000000000000\treads\ta move of 32 bits\n\
 180000000100000000000000ffffffff9500000000000000\treads\ta wide instruction\n\
-180000000100000001000000000000009500000000000000\tNonZeroField 0\ta second slot with a first byte\n\
+180000000100000001000000000000009500000000000000\tNonZeroField slot 0\ta second slot with a first byte\n\
 b7000000ffffffff07000000010000009500000000000000\treads\ta sum\n\
 b700000034120000dc000000100000009500000000000000\treads\ta byte order\n\
 b701000080000000bf100800000000009500000000000000\treads\ta move that extends\n\
@@ -34,38 +34,21 @@ b701000080000000bf100800000000009500000000000000\treads\ta move that extends\n\
 71a0ffff000000009500000000000000\treads\ta load of the stack\n\
 79a0fcff000000009500000000000000\treads\ta load past the stack\n\
 71200000000000009500000000000000\treads\ta load at a number\n\
-950000000000000018000000010000000000000001000000bc10200000000000\tBadWidth 3\tthe slot after a wide instruction\n\
-950000000000000018000000010000000100000000000000ff00000000000000\tNonZeroField 1\tthe lowest slot, named by its first\n\
-9500000000000000180b0000010000000000000000000000\tBadRegister 1\tthe lower of two names\n\
-95000000000000001810000001000000\tTruncated 1\ta wide instruction cut short\n\
-950000000000000095000000\tTruncated 1\ta part of a slot\n\
-9500000000000000b70b010000000000\tBadRegister 1\tregister before field\n\
-9500000000000000bc1b200001000000\tBadRegister 1\tregister before width\n\
-9500000000000000bc10200001000000\tNonZeroField 1\tfield before width\n\
+950000000000000018000000010000000000000001000000bc10200000000000\tBadWidth slot 3\tthe slot after a wide instruction\n\
+950000000000000018000000010000000100000000000000ff00000000000000\tNonZeroField slot 1\tthe lowest slot, named by its first\n\
+9500000000000000180b0000010000000000000000000000\tBadRegister slot 1\tthe lower of two names\n\
+95000000000000001810000001000000\tTruncated slot 1\ta wide instruction cut short\n\
+950000000000000095000000\tTruncated slot 1\ta part of a slot\n\
+9500000000000000b70b010000000000\tBadRegister slot 1\tregister before field\n\
+9500000000000000bc1b200001000000\tBadRegister slot 1\tregister before width\n\
+9500000000000000bc10200001000000\tNonZeroField slot 1\tfield before width\n\
 ";
-
-/// The name of a refusal, and its slot.
-fn name_of(error: ImageError) -> (&'static str, Option<u32>) {
-    match error {
-        ImageError::Empty => ("Empty", None),
-        ImageError::TooLong => ("TooLong", None),
-        ImageError::Truncated(slot) => ("Truncated", Some(slot)),
-        ImageError::UnknownOpcode(slot) => ("UnknownOpcode", Some(slot)),
-        ImageError::BadRegister(slot) => ("BadRegister", Some(slot)),
-        ImageError::NonZeroField(slot) => ("NonZeroField", Some(slot)),
-        ImageError::BadWidth(slot) => ("BadWidth", Some(slot)),
-        ImageError::Memory => ("Memory", None),
-    }
-}
 
 /// What the tables say of an image.
 fn answer(alloc: Global, bytes: &[u8]) -> Result<String, AllocError> {
     match decode(alloc, bytes) {
         Ok(_) => format!(in alloc; "reads"),
-        Err(error) => match name_of(error) {
-            (name, Some(slot)) => format!(in alloc; "{name} {slot}"),
-            (name, None) => format!(in alloc; "{name}"),
-        },
+        Err(error) => format!(in alloc; "{error}"),
     }
 }
 

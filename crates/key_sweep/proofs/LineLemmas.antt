@@ -6,7 +6,7 @@ use Rattle.std.proofs.lemmas.List.{append_assoc, append-nil, length-append}
 use Rattle.csv.specs.Writing.{default_writer, row_text}
 use Rattle.scenario_text.specs.declared.scenario.Scenario.{Scenario}
 use Rattle.bench_scenario.specs.declared.summary.RunSummary.{RunSummary}
-use Rattle.key_sweep.specs.Keys.{Span, count_of}
+use Rattle.key_sweep.specs.Keys.{KeyRange, count_of}
 use Rattle.key_sweep.specs.Rows.{fields_of, names, csv_rows, sweep_text}
 use Rattle.key_sweep.specs.Sweeps.{AreOfKeys, IsOfKey, LeavesRows, LeavesSweep, Lines, uses_key}
 use Rattle.key_sweep.specs.declared.sweeping.SweepFault.{SweepFault}
@@ -105,13 +105,13 @@ swept_names old new s first next told top is at adds = record {
 }
 
 -- the names aren't written
-names_broken : (old new : Option (List ℕ)) (s : Scenario) (keys : Span) (top : List ℕ) (fault : PartFault)
+names_broken : (old new : Option (List ℕ)) (s : Scenario) (keys : KeyRange) (top : List ℕ) (fault : PartFault)
     → top ≡ row_text default_writer names → IsPartFault old new 0 top fault → LeavesRows old new s keys (Err fault)
 names_broken old new s keys top (parts.Write written) is broke =
     (top, 0, omega arith, no_lines s keys.first top is, broke old [] (wrote_nothing old))
 names_broken old new s keys top parts.Memory is kept = inl kept
 
-pub front_of_names : (old new : Option (List ℕ)) (s : Scenario) (keys : Span) (top : List ℕ) (fault : PartFault)
+pub front_of_names : (old new : Option (List ℕ)) (s : Scenario) (keys : KeyRange) (top : List ℕ) (fault : PartFault)
     (result : Result (Unit {0}) PartFault) → top ≡ row_text default_writer names → IsPartFault old new 0 top fault
     → IsErrAnd result (λ e. e ≡ fault) → LeavesRows old new s keys result
 front_of_names old new s keys top fault result is broke given =
@@ -130,7 +130,7 @@ swept_more old now new s first next past told after rows ms at swept each is add
       wrote = adds old swept.text swept.wrote;
     }
 
-pub all_swept : (old now : Option (List ℕ)) (s : Scenario) (keys : Span) (next told : ℕ)
+pub all_swept : (old now : Option (List ℕ)) (s : Scenario) (keys : KeyRange) (next told : ℕ)
     → Swept old now s keys.first next told
     → keys.first ≤ keys.last → next ≡ keys.last + 1 → LeavesRows old now s keys (Ok tt)
 all_swept old now s keys next told swept order at = (
@@ -142,7 +142,7 @@ all_swept old now s keys next told swept order at = (
   swept.wrote.left,
 )
 
-pub some_swept : (old now : Option (List ℕ)) (s : Scenario) (keys : Span) (next told : ℕ)
+pub some_swept : (old now : Option (List ℕ)) (s : Scenario) (keys : KeyRange) (next told : ℕ)
     → Swept old now s keys.first next told
     → next ≤ keys.last → LeavesRows old now s keys (Err parts.Memory)
 some_swept old now s keys next told swept before = inr (record {
@@ -154,7 +154,7 @@ some_swept old now s keys next told swept before = inr (record {
 })
 
 -- more lines aren't written
-rows_broken : (old now new : Option (List ℕ)) (s : Scenario) (keys : Span) (next told : ℕ) (rows : List ℕ)
+rows_broken : (old now new : Option (List ℕ)) (s : Scenario) (keys : KeyRange) (next told : ℕ) (rows : List ℕ)
     (ms : List RunSummary) (fault : PartFault) → Swept old now s keys.first next told → AreOfKeys s next ms
     → rows ≡ csv_rows next ms → next ≤ keys.last → next + length ms ≤ keys.last + 1
     → IsPartFault now new told rows fault → LeavesRows old new s keys (Err fault)
@@ -174,7 +174,7 @@ rows_broken old now new s keys next told rows ms parts.Memory swept each is befo
   left = Appends-kept old now new swept.text swept.wrote.left kept;
 })
 
-pub front_of_rows : (old now new : Option (List ℕ)) (s : Scenario) (keys : Span) (next told : ℕ) (rows : List ℕ)
+pub front_of_rows : (old now new : Option (List ℕ)) (s : Scenario) (keys : KeyRange) (next told : ℕ) (rows : List ℕ)
     (ms : List RunSummary) (fault : PartFault) (result : Result (Unit {0}) PartFault)
     → Swept old now s keys.first next told → AreOfKeys s next ms → rows ≡ csv_rows next ms → next ≤ keys.last
     → next + length ms ≤ keys.last + 1 → IsPartFault now new told rows fault → IsErrAnd result (λ e. e ≡ fault)
@@ -185,7 +185,7 @@ front_of_rows old now new s keys next told rows ms fault result swept each is be
 
 -- ---- if something is drawn by the key
 
-pub keyed_fault : (old new : Option (List ℕ)) (s : Scenario) (keys : Span) (fault : PartFault)
+pub keyed_fault : (old new : Option (List ℕ)) (s : Scenario) (keys : KeyRange) (fault : PartFault)
     (result : Result (Unit {0}) SweepFault) → IsTrue (uses_key s) → LeavesRows old new s keys (Err fault)
     → IsErrAnd result (λ e. e ≡ faults.Part fault) → LeavesSweep old new s keys result
 keyed_fault old new s keys fault result has left given =

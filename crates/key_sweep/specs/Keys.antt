@@ -2,7 +2,7 @@
 use Rattle.std.specs.Prelude.{ℕ, ◌+◌, ◌-◌, ◌≤◌}
 use Rattle.key_sweep.specs.declared.keys.TheConstants.{MAX_SWEEP_KEY}
 
-pub record Span : Type 0 where
+pub record KeyRange : Type 0 where
   pub first : ℕ
   pub last : ℕ
 
@@ -10,5 +10,5 @@ abbrev pub IsKeySpan : ℕ → ℕ → Type 0
 IsKeySpan first last = (first ≤ last) × (last ≤ MAX_SWEEP_KEY)
 
 -- how many there are
-abbrev pub count_of : Span → ℕ
+abbrev pub count_of : KeyRange → ℕ
 count_of keys = (keys.last + 1) - keys.first

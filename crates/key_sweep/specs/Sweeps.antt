@@ -16,7 +16,7 @@ use Rattle.bench_scenario.specs.declared.summary.RunSummary.{RunSummary}
 use Rattle.stream_io.specs.declared.parts.PartFault.{PartFault}
 use Rattle.stream_io.specs.declared.parts.PartFault.TheVariants as parts
 use Rattle.stream_io.specs.Parts.{Breaks}
-use Rattle.key_sweep.specs.Keys.{Span, count_of}
+use Rattle.key_sweep.specs.Keys.{KeyRange, count_of}
 use Rattle.key_sweep.specs.declared.sweeping.SweepFault.{SweepFault}
 use Rattle.key_sweep.specs.declared.sweeping.SweepFault.TheVariants as faults
 use Rattle.key_sweep.specs.Rows.{sweep_text}
@@ -40,7 +40,7 @@ pub record Lines (s : Scenario) (first count : ℕ) (told : List ℕ) : Type 0 w
   pub whole : told ≡ sweep_text first summaries
 
 -- the lines of the first keys, and not of all
-pub record Stops (old new : Option (List ℕ)) (s : Scenario) (keys : Span) : Type 0 where
+pub record LeavesFirstRows (old new : Option (List ℕ)) (s : Scenario) (keys : KeyRange) : Type 0 where
   pub told : List ℕ
   pub count : ℕ
   pub fewer : count < count_of keys
@@ -49,12 +49,13 @@ pub record Stops (old new : Option (List ℕ)) (s : Scenario) (keys : Span) : Ty
 
 -- the lines of all keys; the front of them if a write failed; those of the first keys if there was no memory for
 -- one more
-abbrev pub LeavesRows : Option (List ℕ) → Option (List ℕ) → Scenario → Span → Result (Unit {0}) PartFault → Type 0
+abbrev pub LeavesRows : Option (List ℕ) → Option (List ℕ) → Scenario → KeyRange → Result (Unit {0}) PartFault → Type 0
 LeavesRows old new s keys (Ok done) =
     (told : List ℕ) × Lines s keys.first (count_of keys) told × Appends old new told
 LeavesRows old new s keys (Err (parts.Write written)) =
-    (told : List ℕ) × (count : ℕ) × (count ≤ count_of keys) × Lines s keys.first count told × Breaks old new told written
-LeavesRows old new s keys (Err parts.Memory) = Keeps old new ⊎ Stops old new s keys
+    (told : List ℕ) × (count : ℕ) × (count ≤ count_of keys) × Lines s keys.first count told
+    × Breaks old new told written
+LeavesRows old new s keys (Err parts.Memory) = Keeps old new ⊎ LeavesFirstRows old new s keys
 
 abbrev pub are_drawn : Coins → Bool
 are_drawn Zeros = false
@@ -66,7 +67,7 @@ abbrev pub uses_key : Scenario → Bool
 uses_key s = are_drawn s.coins || any_noise (map load_draft s.loads.items)
 
 -- the same, and nothing if nothing is drawn by the key
-abbrev pub LeavesSweep : Option (List ℕ) → Option (List ℕ) → Scenario → Span → Result (Unit {0}) SweepFault → Type 0
+abbrev pub LeavesSweep : Option (List ℕ) → Option (List ℕ) → Scenario → KeyRange → Result (Unit {0}) SweepFault → Type 0
 LeavesSweep old new s keys (Err faults.NoKey) = (uses_key s ≡ false) × Keeps old new
 LeavesSweep old new s keys (Err (faults.Part fault)) = IsTrue (uses_key s) × LeavesRows old new s keys (Err fault)
 LeavesSweep old new s keys (Ok done) = IsTrue (uses_key s) × LeavesRows old new s keys (Ok done)

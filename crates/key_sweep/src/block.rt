@@ -11,7 +11,7 @@ use std::sync::Wait;
 use std::thread;
 use std::thread::Threads;
 
-/// What the run with this key comes to; nothing if there is no memory for it.
+/// Returns what the run with this key comes to; nothing if there is no memory for it.
 fn summary_with_key<T: Threads + Wait + Sync>(
     rt: &T,
     alloc: Global,
@@ -27,7 +27,7 @@ fn summary_with_key<T: Threads + Wait + Sync>(
     Some(summary_of(scenario.modulus, records, judged.as_slice()))
 }
 
-/// What the run with each of this many keys comes to, in their order, by at most this many workers.
+/// Returns what the run with each of this many keys comes to, in their order, by at most this many workers.
 fn slots_of<T: Threads + Wait + Sync>(
     rt: &T,
     alloc: Global,
@@ -53,7 +53,7 @@ fn slots_of<T: Threads + Wait + Sync>(
     Ok(slots)
 }
 
-/// The summaries up to the first run for which there was no memory.
+/// Returns the summaries up to the first run for which there was no memory.
 fn front_of(alloc: Global, slots: &[Option<RunSummary>]) -> Result<Vec<RunSummary>, AllocError>
     ensures { IfOk result (λ front. front.items ≡ somes_front slots.now) }
 {
@@ -67,7 +67,7 @@ fn front_of(alloc: Global, slots: &[Option<RunSummary>]) -> Result<Vec<RunSummar
     Ok(front)
 }
 
-/// What the run with each of this many keys comes to, up to the first for which there was no memory.
+/// Returns what the run with each of this many keys comes to, up to the first for which there was no memory.
 pub(crate) fn summaries_of<T: Threads + Wait + Sync>(
     rt: &T,
     alloc: Global,

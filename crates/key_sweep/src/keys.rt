@@ -15,9 +15,9 @@ pub struct KeySpan {
 }
 
 impl Model for KeySpan {
-    ghost use Rattle.key_sweep.specs.Keys.{IsKeySpan, Span};
+    ghost use Rattle.key_sweep.specs.Keys.{IsKeySpan, KeyRange};
 
-    ghost Value = { Span };
+    ghost Value = { KeyRange };
 
     ghost view = { λ k. record { first = k.first; last = k.last } };
 

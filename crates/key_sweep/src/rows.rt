@@ -7,7 +7,7 @@ use bench_scenario::RunSummary;
 use csv::WriterBuilder;
 use std::alloc::{AllocError, Global};
 
-/// The line of these fields.
+/// Returns the line of these fields.
 fn row_of(alloc: Global, fields: &[&[u8]]) -> Result<Vec<u8>, AllocError>
     ensures { IfOk result (λ text. text.items ≡ row_text default_writer (map (λ f. f.now) fields.now)) }
 {
@@ -18,7 +18,7 @@ fn row_of(alloc: Global, fields: &[&[u8]]) -> Result<Vec<u8>, AllocError>
     writer.into_inner().map_err(|_| AllocError)
 }
 
-/// The first line.
+/// Returns the first line.
 pub(crate) fn names_row(alloc: Global) -> Result<Vec<u8>, AllocError>
     ensures { IfOk result (λ text. text.items ≡ row_text default_writer names) }
 {
@@ -35,7 +35,7 @@ pub(crate) fn names_row(alloc: Global) -> Result<Vec<u8>, AllocError>
     )
 }
 
-/// A number, or nothing.
+/// Returns a number, or nothing.
 fn number_text(alloc: Global, number: Option<usize>) -> Result<String, AllocError>
     ensures { IfOk result (λ text. string_bytes text ≡ number_text number) }
 {
@@ -45,7 +45,7 @@ fn number_text(alloc: Global, number: Option<usize>) -> Result<String, AllocErro
     }
 }
 
-/// The line of the run with this key.
+/// Returns the line of the run with this key.
 fn key_row(alloc: Global, key: u64, summary: &RunSummary) -> Result<Vec<u8>, AllocError>
     ensures { IfOk result (λ text. text.items ≡ row_text default_writer (fields_of key summary.now)) }
 {
@@ -68,7 +68,7 @@ fn key_row(alloc: Global, key: u64, summary: &RunSummary) -> Result<Vec<u8>, All
     )
 }
 
-/// The lines of keys in a row, the first of which is this one.
+/// Returns the lines of keys in a row, the first of which is this one.
 pub(crate) fn rows_text(
     alloc: Global,
     first: u64,

@@ -41,7 +41,7 @@ impl From<PartFault> for SweepFault {
     }
 }
 
-/// Whether something of the scenario is drawn by its key: coins, or the messages of noise.
+/// Returns true if something of the scenario is drawn by its key: coins, or the messages of noise.
 fn uses_key(scenario: &Scenario) -> bool
     ensures { result ≡ uses_key scenario.now }
 {
@@ -94,9 +94,9 @@ fn write_keys<T: Threads + Wait + Sync, W: Write>(
     Ok(())
 }
 
-/// Runs a scenario that was read, of which something is drawn by a key, with each of these keys in place of its own, and
-/// writes a line for each, in their order, after one of names. Each of at most this many workers runs whole scenarios;
-/// where no thread can be started, the caller's runs them.
+/// Runs a scenario that was read, of which something is drawn by a key, with each of these keys in place of its own,
+/// and writes a line for each, in their order, after one of names. Each of at most this many workers runs whole
+/// scenarios; where no thread can be started, the caller's runs them.
 pub fn sweep<T: Threads + Wait + Sync, W: Write>(
     rt: &T,
     alloc: Global,

@@ -1,5 +1,5 @@
 -- What a node's program gets, and what it leaves (docs/MACHINE.md, "Shape, mail and coin").
-use Rattle.std.specs.Prelude.{◌≡◌, ℕ, ◌<◌, ◌≤◌, ◌%◌, ◌^◌, List, map, Some, unwrap_or}
+use Rattle.std.specs.Prelude.{◌≡◌, ℕ, ◌<◌, ◌≤◌, ◌%◌, ◌^◌, List, codes, map, Some, unwrap_or}
 use Rattle.std.specs.Ordering.{nat_cmp}
 use Rattle.std.specs.FinMap.{FinMap, get}
 use Rattle.node_env.specs.Slots.{map_of}
@@ -25,6 +25,11 @@ pub record IsExtent (nodes memory : ℕ) : Type 0 where
 abbrev pub region_size : Extent → Region → ℕ
 region_size extent Mem = extent.memory
 region_size extent Stack = STACK_BYTES
+
+-- how a region is named (docs/VERIFIER.md, "Asking why")
+abbrev pub region_word : Region → List ℕ
+region_word Mem = codes "memory"
+region_word Stack = codes "stack"
 
 -- numbers by node: each node is one of the shape's, and each number has 32 bits
 abbrev pub AreNumbers : ℕ → FinMap nat_cmp ℕ → Type 0

@@ -1,5 +1,10 @@
 //! The regions that a program can point into.
 
+ghost use Rattle.std.specs.Prelude.{Some};
+ghost use Rattle.node_env.specs.Env.{region_word};
+
+use std::fmt;
+
 /// Bytes of a stack. It lives for one run.
 pub const STACK_BYTES: u32 = 512;
 
@@ -13,4 +18,15 @@ pub enum Region {
     Mem,
     /// The stack of one run.
     Stack,
+}
+
+impl fmt::Display for Region {
+    ghost output = { λ region. Some (region_word region) };
+
+    fn fmt<W: fmt::Write>(&self, f: &mut fmt::Formatter<W>) -> fmt::Result {
+        match self {
+            Region::Mem => write!(f, "memory"),
+            Region::Stack => write!(f, "stack"),
+        }
+    }
 }

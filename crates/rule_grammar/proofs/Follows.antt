@@ -128,7 +128,7 @@ pub data After (column : ℕ) : List Token → Type 0 where
 -- or a statement of the same column
 pub data Next (column : ℕ) : List Token → Type 0 where
   block_ends : {ts : List Token} → After column ts → Next column ts
-  at_line : {t : Token} {ts : List Token} → s.IsStart column t → Leads 5 ts → Next column (t ∷ ts)
+  at_line : {t : Token} {ts : List Token} → s.IsLineStart column t → Leads 5 ts → Next column (t ∷ ts)
 
 pub after_right : (low high : ℕ) (ts : List Token) → low ≤ high → After low ts → After high ts
 after_right low high ts less (at_end h) = at_end h

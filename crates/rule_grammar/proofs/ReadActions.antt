@@ -71,7 +71,7 @@ module _ (text : List ℕ) (names : List Entry) where
 
   -- the first numbers, where those of more targets are read after them
   numbers_give : {ts : List Token} {targets : List Target} {a : AssignmentForm}
-      → s.AreNumbers text names ts targets a → (more : List Target) (rest : List Token)
+      → s.AreTerms text names ts targets a → (more : List Target) (rest : List Token)
       (y : AssignmentForm × List Token) → Ends s.whole rest → Gives (values_read text names a more rest) y
       → Gives (numbers_read text names (targets ++ more) (ts ++ rest)) (assign y.0, y.1)
   numbers_give (s.first_number {ts = ts} {target = target} {e = e} d) = λ more rest y ends h.
@@ -84,14 +84,14 @@ module _ (text : List ℕ) (names : List Entry) where
       (bind _ (wanted_sign signs.Comma c (us ++ rest) comma) (bind _ (term_gives text d rest ends) h)))
 
   all_numbers : (ts rest : List Token) (targets : List Target) (a : AssignmentForm)
-      → s.AreNumbers text names ts targets a → Ends s.whole rest
+      → s.AreTerms text names ts targets a → Ends s.whole rest
       → Gives (numbers_read text names targets (ts ++ rest)) (assign a, rest)
   all_numbers ts rest targets a are ends =
       subst (λ (l : List Target). Gives (numbers_read text names l (ts ++ rest)) (assign a, rest)) (append-nil targets)
       (numbers_give are [] rest (a, rest) ends (found refl))
 
   assign_gives : (ts us rest : List Token) (b : Token) (targets : List Target) (a : AssignmentForm)
-      → s.AreTargets text names ts targets → s.IsSign signs.Becomes b → s.AreNumbers text names us targets a
+      → s.AreTargets text names ts targets → s.IsSign signs.Becomes b → s.AreTerms text names us targets a
       → Ends s.whole rest → Gives (assign_read text names (ts ++ (b ∷ (us ++ rest)))) (assign a, rest)
   assign_gives ts us rest b targets a are becomes numbers ends =
       bind _ (targets_give are MAX_LINE_TOKENS (b ∷ (us ++ rest)) (targets, us ++ rest)

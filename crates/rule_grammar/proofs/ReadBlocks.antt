@@ -23,14 +23,14 @@ use Rattle.rule_grammar.proofs.ReadActions.{action_gives, let_line_gives, simple
 
 -- ---- starts of lines
 
-start_clear : {column : ℕ} {t : Token} → s.IsStart column t → IsClear t.kind
+start_clear : {column : ℕ} {t : Token} → s.IsLineStart column t → IsClear t.kind
 start_clear start = λ e. subst (λ (k : Kind). told_instead e k ≡ e) (sym start.start.is) refl
 
 -- the test of the start of a line of this column
 abbrev pub is_line : ℕ → Token → Bool
 is_line column t = is_start t.kind && (t.column == column)
 
-pub line_test : (column : ℕ) (t : Token) → s.IsStart column t → is_line column t ≡ true
+pub line_test : (column : ℕ) (t : Token) → s.IsLineStart column t → is_line column t ≡ true
 line_test column t start =
     ap (λ (k : Kind). is_start k && (t.column == column)) start.start.is ∙ eq-eqb t.column column start.at
 
@@ -72,7 +72,7 @@ module _ (text : List ℕ) where
 
   -- after the start of a line of this column
   started : (inner : Inner) (room column : ℕ) (names : List Entry) (t : Token) (ts : List Token)
-      (y : StatementForm × List Token) → s.IsStart column t → Gives (line_read inner text room column names ts) y
+      (y : StatementForm × List Token) → s.IsLineStart column t → Gives (line_read inner text room column names ts) y
       → Gives (rest_read inner text room column names (t ∷ ts)) y
   started inner room column names t ts y start h =
       let at = start.at in
@@ -81,7 +81,7 @@ module _ (text : List ℕ) where
 
   -- a line, and the rest of its block
   line_gives : (room column : ℕ) (names : List Entry) (t : Token) (ts : List Token) (y : StatementForm × List Token)
-      → s.IsStart column t → ((left : ℕ) → Gives (line_read (lines_read left text) text room column names ts) y)
+      → s.IsLineStart column t → ((left : ℕ) → Gives (line_read (lines_read left text) text room column names ts) y)
       → (left : ℕ) → Gives (lines_read left text Rest room column names (t ∷ ts)) y
   line_gives room column names t ts y start h left =
       rest_part room column names (t ∷ ts) y (start_clear start)
@@ -90,7 +90,7 @@ module _ (text : List ℕ) where
   -- the first token of a block
   abbrev StartsIn : ℕ → List Token → Type 0
   StartsIn column [] = Unit {0}
-  StartsIn column (t ∷ ts) = s.IsStart column t
+  StartsIn column (t ∷ ts) = s.IsLineStart column t
 
   block_start : {column : ℕ} {names : List Entry} {ts : List Token} {a : StatementForm}
       → s.IsBlock text column names ts a → StartsIn column ts
@@ -131,7 +131,7 @@ module _ (text : List ℕ) where
   by_either false first other g h = h
 
   deeper_gives : (inner : Inner) (room column further : ℕ) (names : List Entry) (t : Token) (ts : List Token)
-      (y : StatementForm × List Token) → s.IsStart further t → column < further
+      (y : StatementForm × List Token) → s.IsLineStart further t → column < further
       → Gives (inner Rest (room - 1) further names (t ∷ ts)) y
       → Gives (block_read inner text room column names (t ∷ ts)) y
   deeper_gives inner room column further names t ts y start less h =

@@ -55,7 +55,7 @@ module _ (text : List ℕ) where
 
   -- ---- the header
 
-  state_here : (column : ℕ) (t w : Token) (ts : List Token) → s.IsStart column t → s.IsSign signs.State w
+  state_here : (column : ℕ) (t w : Token) (ts : List Token) → s.IsLineStart column t → s.IsSign signs.State w
       → after_state column (t ∷ w ∷ ts) ≡ Some ts
   state_here column t w ts start state =
       ap (λ (b : Bool). cond b (rest_after signs.State (w ∷ ts)) None) (line_test column t start)

@@ -41,15 +41,15 @@ abbrev pub heading_by : List ℕ → ℕ → ℕ → List ℕ
 heading_by text before line = if before == line then [] else heading text line
 
 -- an instruction's slot, its bytes as two digits each, and its canonical line
-abbrev pub insn_row : List ℕ → ℕ → Option Insn → List ℕ
-insn_row image slot None = []
-insn_row image slot (Some insn) = codes "slot " ++ (decimal slot ++ (codes " "
+abbrev pub slot_text : List ℕ → ℕ → Option Insn → List ℕ
+slot_text image slot None = []
+slot_text image slot (Some insn) = codes "slot " ++ (decimal slot ++ (codes " "
     ++ (encode_lower (bytes_at image slot (slots_taken insn)) ++ (codes " " ++ (canonical_line insn ++ codes "\n")))))
 
 -- what is listed of a slot
 abbrev pub slot_rows : List ℕ → List ℕ → List Insn → ℕ → List ℕ
 slot_rows text lines program slot = heading_by text (line_at lines (slot - 1)) (line_at lines slot)
-    ++ insn_row (image_of program) slot (insn_at program slot)
+    ++ slot_text (image_of program) slot (insn_at program slot)
 
 abbrev pub rule_listing : List ℕ → List ℕ → List Insn → List ℕ
 rule_listing text lines program = flat_map (slot_rows text lines program) (range_with_len 0 (slots_of program))

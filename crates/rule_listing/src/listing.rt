@@ -5,7 +5,7 @@ ghost use Rattle.bpf_asm.specs.Listing.{bytes_at};
 ghost use Rattle.bpf_insn.specs.declared.listing.TheConstants.{MAX_SLOTS};
 ghost use Rattle.rule_nodes.specs.Ends.{sizes_of};
 ghost use Rattle.rule_text.specs.Programs.{IsRefusalOfText};
-ghost use Rattle.rule_listing.specs.Listing.{IsListingOf, heading_by, insn_row, line_at, rule_listing};
+ghost use Rattle.rule_listing.specs.Listing.{IsListingOf, heading_by, slot_text, line_at, rule_listing};
 
 use crate::lines::line_after;
 use bpf_asm::CanonicalLine;
@@ -82,7 +82,7 @@ fn push_insn(
     found: Option<Insn>,
 ) -> Result<(), AllocError>
     requires { slot ≤ MAX_SLOTS }
-    ensures { OnOk result (listing.new.items ≡ listing.old.items ++ insn_row image.now slot found) }
+    ensures { OnOk result (listing.new.items ≡ listing.old.items ++ slot_text image.now slot found) }
 {
     let Some(insn) = found else {
         return Ok(());

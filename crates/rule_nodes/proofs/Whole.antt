@@ -19,7 +19,7 @@ use Rattle.bpf_insn.specs.Encoding.{slots_taken}
 use Rattle.bpf_machine.specs.declared.word.Word.TheVariants.{Num, Ptr}
 use Rattle.bpf_machine.specs.Machine.{Running, Ended, entry}
 use Rattle.bpf_machine.specs.Step.{step}
-use Rattle.clock_nodes.specs.Ends.{IsStart, HasRuns, EndsBy}
+use Rattle.clock_nodes.specs.Ends.{IsNodeStart, HasRuns, EndsBy}
 use Rattle.clock_nodes.proofs.Places.{begins, Ones, ones_append, found, stands_whole}
 use Rattle.clock_nodes.proofs.Forms.{put_same, put, moves, exits}
 use Rattle.clock_nodes.proofs.Runs.{HasEnd, one_end}
@@ -299,7 +299,7 @@ pub all_begin : (p : List Insn) → Ones p → (k : ℕ) → k < length p → Be
 all_begin p ones k lt = begins p k (slice_index_or p k i.Exit) (found p k ones ∙ slice_get-get_or p k i.Exit lt)
 
 rule_has_end : (rule : Statement) (z : Sizes) (shape : Extent) (env : Setting) (memory : List ℕ) → AreSizes z shape
-    → BlockFits rule z 0 0 → IsStart shape env memory
+    → BlockFits rule z 0 0 → IsNodeStart shape env memory
     → HasEnd (rule_code rule z) env memory (IsRuleEnd z rule env memory)
 rule_has_end rule z shape env memory sizes fits start =
     let p = rule_code rule z in

@@ -174,7 +174,8 @@ jump_place k r v far = Branch (cond_of r) W32 (place_register k) (Imm (cast_sign
 
 -- by where the right number y and the left number x are found: two constants give a constant
 abbrev pub binary_code : Source → Source → Operator → ℕ → Purpose → List Insn → List Insn → List Insn
-binary_code (Constant c) (Constant b) o d purpose left right = by_value purpose (set_number R0 (apply_operator o b c) ∷ [])
+binary_code (Constant c) (Constant b) o d purpose left right = by_value purpose (set_number R0
+    (apply_operator o b c) ∷ [])
 binary_code (Constant c) (FromLocal k) (Compare r) d purpose left right =
     by_test purpose (λ when far. jump_place k (jump_on when r) c far ∷ [])
 binary_code Computed Computed o d purpose left right = by_operator o (Reg R1) purpose (two_code d left right)
@@ -352,7 +353,8 @@ block_code (If' t p a q b) z J d =
 block_code (For' p body) z J d = each_code (λ j. block_code body z (J ++ j ∷ []) d) z.nodes
 block_code (SendAll e) z J d = send_all_code (term_source e z J) d z.nodes (term_code e z J d Value)
 block_code (SendTo e k) z J d =
-    if is_constant k then send_to_constant_code (term_source e z J) (constant_number k z J) z.nodes (term_code e z J d Value)
+    if is_constant k then send_to_constant_code (term_source e z J) (constant_number k z J) z.nodes
+    (term_code e z J d Value)
     else term_code e z J d Value
     ++ (copy (place_register d) R0 ∷ (term_code k z J (d + 1) Value ++ send_to_code d z.nodes))
 

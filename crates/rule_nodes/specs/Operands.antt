@@ -71,6 +71,6 @@ IsSourceWithin (FromWord k) memory = 4 * k + 4 ≤ memory
 IsSourceWithin _ memory = Unit {0}
 
 -- and a target that is one
-abbrev pub IsTarget : Target → ℕ → Type 0
-IsTarget (ToLocal k) memory = Unit {0}
-IsTarget (ToWord k) memory = 4 * k + 4 ≤ memory
+abbrev pub IsTargetInMemory : Target → ℕ → Type 0
+IsTargetInMemory (ToLocal k) memory = Unit {0}
+IsTargetInMemory (ToWord k) memory = 4 * k + 4 ≤ memory

@@ -1,5 +1,5 @@
--- Which statement made each instruction of a rule's program. Statements are numbered from 0 in the order of the text: one
--- before those in its blocks, and a let before the rest of its block.
+-- Which statement made each instruction of a rule's program. Statements are numbered from 0 in the order of the text:
+-- one before those in its blocks, and a let before the rest of its block.
 use Rattle.std.specs.Prelude.{ℕ, zero, suc, ◌+◌, ◌-◌, if◌then◌else◌, List, [], ◌∷◌, ◌++◌, length, replicate}
 use Rattle.rule_nodes.specs.declared.syntax.Sizes.{Sizes}
 use Rattle.rule_nodes.specs.declared.syntax.Statement.{Statement}

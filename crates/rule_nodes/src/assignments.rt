@@ -7,7 +7,7 @@ ghost use Rattle.rule_nodes.specs.declared.syntax.Target.TheVariants.{ToWord};
 ghost use Rattle.std.specs.Int.{w32, cast_signed};
 ghost use Rattle.bpf_insn.specs.declared.forms.Width.TheVariants.{W32};
 ghost use Rattle.bpf_insn.specs.declared.forms.Operand.TheVariants as operand;
-ghost use Rattle.rule_nodes.specs.Operands.{is_local, is_steady, IsSourceWithin, IsTarget};
+ghost use Rattle.rule_nodes.specs.Operands.{is_local, is_steady, IsSourceWithin, IsTargetInMemory};
 ghost use Rattle.rule_nodes.specs.Fits.{AssignmentFits};
 ghost use Rattle.rule_nodes.specs.Code.{place_register, copy, alu_op_of, assign_code, set_code, given_code, change_by, changing_insn, one_code, also_code, assignment_code};
 ghost use Rattle.rule_nodes.specs.Refusals.{IsUnmade};
@@ -36,7 +36,7 @@ fn store_of(k: u32, src: Reg) -> Insn
 
 /// Returns the instruction that sets a target to the number in r0.
 fn assign_of(target: Target) -> Insn
-    requires { IsTarget target 256 }
+    requires { IsTargetInMemory target 256 }
     ensures { result ≡ assign_code target }
 {
     match target {
@@ -85,7 +85,7 @@ fn set_word(alloc: Global, k: u32, source: Source) -> Result<Vec<Insn>, AllocErr
 
 /// Returns the code that sets a target to a found number.
 fn set_of(alloc: Global, target: Target, source: Source) -> Result<Vec<Insn>, AllocError>
-    requires target { IsTarget target 256 }
+    requires target { IsTargetInMemory target 256 }
     requires within { IsSourceWithin source 256 }
     ensures { IfOk result (λ c. c.items ≡ set_code target source) }
 {
@@ -104,7 +104,7 @@ fn given(
     code: Vec<Insn>,
 ) -> Result<Vec<Insn>, AllocError>
     requires set { set ≡ assign_code target }
-    requires target { IsTarget target 256 }
+    requires target { IsTargetInMemory target 256 }
     requires within { IsSourceWithin source 256 }
     ensures { IfOk result (λ c. c.items ≡ given_code source target code.items) }
 {
@@ -246,7 +246,7 @@ fn also_of(
     first: Vec<Insn>,
 ) -> Result<Vec<Insn>, AllocError>
     requires set { set ≡ assign_code target }
-    requires target { IsTarget target 256 }
+    requires target { IsTargetInMemory target 256 }
     requires within { IsSourceWithin source 256 }
     ensures { IfOk result (λ c. c.items ≡ also_code steady depth source target code.items first.items) }
 {

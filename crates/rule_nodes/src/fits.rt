@@ -83,7 +83,7 @@ fn term_fits(
 {
     match t {
         Term::Number(v) => {
-            let _value = *v;
+            let _value = *v; // brings its range
             Ok(())
         }
         Term::Nodes | Term::Faults | Term::Modulus | Term::Me | Term::Coin => Ok(()),

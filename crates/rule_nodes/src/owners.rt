@@ -137,7 +137,7 @@ pub fn rule_owners(
         ≡ length (rule_code rule.now (sizes_of shape faults modulus))) }
     ensures refusal { IfErr result (RefusesRule rule.now (sizes_of shape faults modulus)) }
 {
-    let _program = compile_rule(alloc, rule, shape, faults, modulus)?;
+    let _program = compile_rule(alloc, rule, shape, faults, modulus)?; // brings that it has one
     let sizes = Sizes {
         nodes: shape.nodes(),
         faults,

@@ -188,10 +188,12 @@ fn send_to_constant(
     requires memory { sizes.memory ≤ 256 }
     requires deep { depth ≤ 3 }
     requires fits { Fits e.now sizes (length loops.now) depth depth }
-    ensures code { IfOk result (λ c. c.items ≡ send_to_constant_code (term_source e.now sizes loops.now) node sizes.nodes
+    ensures code { IfOk result (λ c. c.items ≡ send_to_constant_code
+        (term_source e.now sizes loops.now) node sizes.nodes
         (term_code e.now sizes loops.now depth Value)) }
     ensures short { IfOk result (λ c. length c.items ≤ MAX_SLOTS) }
-    ensures long { IfErr result (IsUnmade (length (send_to_constant_code (term_source e.now sizes loops.now) node sizes.nodes
+    ensures long { IfErr result (IsUnmade (length (send_to_constant_code
+        (term_source e.now sizes loops.now) node sizes.nodes
         (term_code e.now sizes loops.now depth Value)) + 1)) }
 {
     if node >= sizes.nodes {

@@ -84,7 +84,8 @@ pub fn term(
     requires fits { Fits t.now sizes (length loops.now) lets depth }
     ensures code { IfOk result (λ c. c.items ≡ term_code t.now sizes loops.now depth purpose) }
     ensures short { IfOk result (λ c. length c.items ≤ MAX_SLOTS) }
-    ensures long { IfErr result (IsUnmade (length (term_code t.now sizes loops.now depth purpose) + beyond_purpose purpose)) }
+    ensures long { IfErr result (IsUnmade (length
+        (term_code t.now sizes loops.now depth purpose) + beyond_purpose purpose)) }
 {
     near(purpose)?;
     match t {

@@ -46,7 +46,7 @@ fn of_unknown(alloc: Global, reading: &mut Reading<'_>) -> Result<String, AllocE
     }
 }
 
-/// What to do with a name that has a meaning already.
+/// Returns what to do with a name that has a meaning already.
 fn other_name(maker: Maker, before: Maker) -> &'static str {
     match (maker, before) {
         (Maker::Let, Maker::Let | Maker::State) => "without \"let\" the line sets it",

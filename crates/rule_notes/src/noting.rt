@@ -6,8 +6,8 @@ use crate::advice::advice_on;
 use rule_text::RuleError;
 use std::alloc::{AllocError, Global};
 
-/// Returns the line of the note on an error of a text, with its end, if there is something to say. Line and column count
-/// from 1.
+/// Returns the line of the note on an error of a text, with its end, if there is something to say. Line and column
+/// count from 1.
 pub fn note_on_rule(
     alloc: Global,
     text: &[u8],

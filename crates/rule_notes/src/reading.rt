@@ -63,7 +63,8 @@ impl<'a> Reading<'a> {
             && self.column <= self.block_column()
     }
 
-    /// Returns true if the line of the token before has ended: the token begins a line, or the text ends on a later one.
+    /// Returns true if the line of the token before has ended: the token begins a line, or the text ends on a later
+    /// one.
     pub(crate) fn is_past_line(&self) -> bool {
         let is_joined = self.walk.parts.iter().any(|part| is_bracket(*part));
         self.begins_line || self.here.len() == 0 && self.last_line < self.line && !is_joined

@@ -61,7 +61,7 @@ impl Spot {
         }
     }
 
-    /// After a token that begins here.
+    /// Returns the place after a token that begins here.
     fn past_token(self, text: &str) -> Spot {
         let depth = match text {
             "(" | "[" => self.depth.saturating_add(1),

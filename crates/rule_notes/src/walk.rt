@@ -75,7 +75,7 @@ pub(crate) struct Walk<'a> {
 }
 
 impl<'a> Walk<'a> {
-    /// At the beginning of a text.
+    /// Returns the walk at the beginning of a text.
     pub(crate) fn new(alloc: Global) -> Walk<'a> {
         Walk {
             next: Next::Statement,
@@ -233,7 +233,7 @@ impl<'a> Walk<'a> {
         }
     }
 
-    /// What follows the end of the innermost part.
+    /// Returns what follows the end of the innermost part.
     fn after_part(&mut self, text: &str) -> Result<Next, AllocError> {
         match self.part() {
             Some(Part::Round { compared, .. }) if text == ")" => Ok(self.close(compared)),

@@ -120,7 +120,7 @@ passed {kind = kind} t is begins next a =
     scans_as (omega arith) (scans_kind {kind = kind} Front Inside 0 t is (λ u e. front_line u kind false e begins) next a)
 
 -- the start of a line
-started : {column : ℕ} {to : Spot} {n : ℕ} {ts : List Token} (t : Token) → s.IsStart column t → Scans Front to n ts
+started : {column : ℕ} {to : Spot} {n : ℕ} {ts : List Token} (t : Token) → s.IsLineStart column t → Scans Front to n ts
     → Scans Inside to n (t ∷ ts)
 started t is a = inner t is.start refl a
 
@@ -218,7 +218,7 @@ module _ (text : List ℕ) where
       scans_both (targets_scan h) (inner _ c refl (target_inner _ _ is (scans_none Inside)))
 
   numbers_scan : {names : List Entry} {ts : List Token} {targets : List Target} {a : AssignmentForm}
-      → s.AreNumbers text names ts targets a → Quiet ts
+      → s.AreTerms text names ts targets a → Quiet ts
   numbers_scan (s.first_number h) = term_scans h
   numbers_scan (s.next_number h c e) = scans_both (numbers_scan h) (inner _ c refl (term_scans e))
 

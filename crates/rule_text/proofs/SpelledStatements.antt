@@ -27,7 +27,7 @@ use Rattle.rule_text.specs.declared.lexemes.Class.TheVariants.{Digits, Letters, 
 use Rattle.rule_text.specs.declared.lexemes.TheConstants.{MAX_NAME_LETTERS}
 use Rattle.rule_text.specs.declared.layout.Lines.{Lines}
 use Rattle.rule_text.specs.Signs.{sign_of}
-use Rattle.rule_text.specs.Tokens.{begins_line, laid, is_blank, is_digit, begins_name, run, number_spelled, number_kind, name_kind, reserved_kind, word_kind, lexeme, no_lexeme, number_lexeme, word_from, word_lexeme, marked_or, sign_lexeme, lexeme_at, first_place, past, tokens_at, lexemes_from, lexemes_of, of_kind, first_lines, beyond, start_kind, inner_kind, is_end, laid_from, tokens_of}
+use Rattle.rule_text.specs.Tokens.{begins_line, laid, is_space, is_digit, begins_name, run, number_spelled, number_kind, name_kind, reserved_kind, word_kind, lexeme, no_lexeme, number_lexeme, word_from, word_lexeme, marked_or, sign_lexeme, lexeme_at, first_place, past, tokens_at, lexemes_from, lexemes_of, of_kind, first_lines, beyond, start_kind, inner_kind, is_end, laid_from, tokens_of}
 use Rattle.rule_text.specs.Scopes.{◌>>=◌, rule_error_at, error_in, meaning_of, words_of, new_name}
 use Rattle.rule_text.specs.Terms.{rest_after, wanted, term_read}
 use Rattle.rule_text.specs.Statements.{target_meant, target_marked, target_by, has_target, with_target, more_targets, new_target, targets_read, values_read, numbers_read, assign_read, send_rest, send_read, let_read, simple_by, simple_read, Inner, is_start, deeper_read, block_read, body_read, other_by, other_read, branch_read, followed, statement_by, line_read, start_read, rest_by, rest_read, lines_read, state_names, after_state, header_read, RuleForm, ended, first_column, rule_in, rule_read}
@@ -145,11 +145,11 @@ module _ (text : List ℕ) where
         }))))))))
 
     values_reads : (targets done : List Target) (front : AssignmentForm) (before ts : List Token)
-        → s.AreNumbers text names before done front → Reads (values_read text names front targets ts)
-        (λ x. Took ts x.1 (λ us. s.AreNumbers text names (before ++ us) (done ++ targets) x.0))
+        → s.AreTerms text names before done front → Reads (values_read text names front targets ts)
+        (λ x. Took ts x.1 (λ us. s.AreTerms text names (before ++ us) (done ++ targets) x.0))
     values_reads [] done front before ts are =
-        gives (front, ts) (took_end (subst (λ (l : List Target). s.AreNumbers text names (before ++ []) l front)
-        (sym (append-nil done)) (subst (λ (l : List Token). s.AreNumbers text names l done front)
+        gives (front, ts) (took_end (subst (λ (l : List Target). s.AreTerms text names (before ++ []) l front)
+        (sym (append-nil done)) (subst (λ (l : List Token). s.AreTerms text names l done front)
         (sym (append-nil before)) are)))
     values_reads (target ∷ targets) done front before ts are =
         read_then (wanted signs.Comma ts) (λ rest. term_read text names rest
@@ -160,9 +160,9 @@ module _ (text : List ℕ) where
         (values_reads targets (done ++ (target ∷ [])) (also front target e.0) (before ++ (commas.first ∷ is.used)) e.1
         (s.next_number are commas.sign is.is))
         (λ x t. took_of commas.split (took_more commas.first (took_past is (took t (λ us all.
-        subst (λ (l : List Target). s.AreNumbers text names (before ++ (commas.first ∷ (is.used ++ us))) l x.0)
+        subst (λ (l : List Target). s.AreTerms text names (before ++ (commas.first ∷ (is.used ++ us))) l x.0)
         (append_assoc done (target ∷ []) targets)
-        (subst (λ (l : List Token). s.AreNumbers text names l ((done ++ (target ∷ [])) ++ targets) x.0)
+        (subst (λ (l : List Token). s.AreTerms text names l ((done ++ (target ∷ [])) ++ targets) x.0)
         (append_assoc before (commas.first ∷ is.used) us) all))))))))
 
     numbers_reads : (left : List Token) (becomes : Token) (targets : List Target) (ts : List Token)
@@ -300,7 +300,7 @@ module _ (text : List ℕ) where
         (λ rest colons. implied (block_read inner text room column names rest)
         (block_reads names colons.first rest colons.sign) (λ x is. took_of colons.split is))
 
-    other_by_reads : (names : List Entry) (kind : Kind) (t u : Token) (us : List Token) → s.IsStart column t
+    other_by_reads : (names : List Entry) (kind : Kind) (t u : Token) (us : List Token) → s.IsLineStart column t
         → u.kind ≡ kind → Reads (other_by inner text room column names kind t u us)
         (λ x. Took (t ∷ u ∷ us) x.1 (λ vs. s.IsOtherwise text column names vs x.0))
     other_by_reads names (Mark signs.Elif) t u us start e =
@@ -338,7 +338,7 @@ module _ (text : List ℕ) where
 
     -- ---- lines, after the start of one
 
-    module _ (start : Token) (is_start : s.IsStart column start) where
+    module _ (start : Token) (is_start : s.IsLineStart column start) where
       abbrev IsLine : List Entry → List Token → StatementForm × List Token → Type 0
       IsLine names ts x = Took ts x.1 (λ us. s.IsBlock text column names (start ∷ us) x.0)
 
@@ -462,7 +462,7 @@ module _ (text : List ℕ) where
     pub start : Token
     pub word : Token
     pub split : ts ≡ start ∷ word ∷ rest
-    pub is_start : s.IsStart column start
+    pub is_start : s.IsLineStart column start
     pub sign : s.IsSign signs.State word
 
   state_here : (column : ℕ) (ts rest : List Token) → after_state column ts ≡ Some rest → State column ts rest
@@ -605,7 +605,7 @@ lexeme_no_end at (c ∷ cs) =
     let word = if begins_name c then word_lexeme at (c ∷ cs) else sign in
     let number = if is_digit c then number_lexeme (c ∷ cs) else word in
     let comment = if c == 35 then no_lexeme (run Comment cs) else number in
-    by_cond LexemeIsNoEnd (is_blank c) (no_lexeme 0) comment tt
+    by_cond LexemeIsNoEnd (is_space c) (no_lexeme 0) comment tt
     (by_cond LexemeIsNoEnd (c == 35) (no_lexeme (run Comment cs)) number tt
     (by_cond LexemeIsNoEnd (is_digit c) (number_lexeme (c ∷ cs)) word
     (number_no_end (number_spelled (take (run Digits (c ∷ cs)) (c ∷ cs))))

@@ -7,13 +7,13 @@ use Rattle.rule_text.specs.declared.lexemes.Token.{Token}
 use Rattle.rule_text.specs.declared.scope.Entry.{Entry}
 use Rattle.rule_text.specs.declared.statements.Layer.{Layer}
 use Rattle.rule_text.specs.declared.statements.Layer.TheVariants.{Rest, Branch}
-use Rattle.rule_text.specs.Scopes.{error_in, Tells}
+use Rattle.rule_text.specs.Scopes.{error_in, TellsError}
 use Rattle.rule_text.specs.Statements.{targets_with, targets_read, state_names_with, state_names, header_with}
 use Rattle.rule_text.specs.Statements.{header_read, rest_read, branch_read, lines_read}
 
 pub targets_none : (left : ℕ) (text : List ℕ) (names : List Entry) (done : List Target) (ts : List Token)
     (error : ReadRuleError) → left ≡ 0 → error ≡ error_in TooLong ts
-    → Tells (targets_read left text names done ts) error
+    → TellsError (targets_read left text names done ts) error
 unfolding targets_read
 targets_none left text names done ts error none is = inr (rw (none, is) refl)
 
@@ -26,7 +26,7 @@ targets_more (suc left) text names done ts some =
     ap (λ (k : ℕ). targets_with (targets_read k text names) text names done ts) e
 
 pub states_none : (left : ℕ) (text : List ℕ) (names : List Entry) (ts : List Token) (error : ReadRuleError)
-    → left ≡ 0 → error ≡ error_in TooLong ts → Tells (state_names left text names ts) error
+    → left ≡ 0 → error ≡ error_in TooLong ts → TellsError (state_names left text names ts) error
 unfolding state_names
 states_none left text names ts error none is = inr (rw (none, is) refl)
 
@@ -39,7 +39,7 @@ states_more (suc left) text names ts some =
     ap (λ (k : ℕ). state_names_with (state_names k text) text names ts) e
 
 pub header_none : (left : ℕ) (text : List ℕ) (column : ℕ) (names : List Entry) (ts : List Token) (error : ReadRuleError)
-    → left ≡ 0 → error ≡ error_in TooLong ts → Tells (header_read left text column names ts) error
+    → left ≡ 0 → error ≡ error_in TooLong ts → TellsError (header_read left text column names ts) error
 unfolding header_read
 header_none left text column names ts error none is = inr (rw (none, is) refl)
 
@@ -53,7 +53,7 @@ header_more (suc left) text column names ts some =
 
 pub lines_none : (left : ℕ) (text : List ℕ) (layer : Layer) (room column : ℕ) (names : List Entry) (ts : List Token)
     (error : ReadRuleError) → left ≡ 0 → error ≡ error_in TooLong ts
-    → Tells (lines_read left text layer room column names ts) error
+    → TellsError (lines_read left text layer room column names ts) error
 unfolding lines_read
 lines_none left text layer room column names ts error none is = inr (rw (none, is) refl)
 

@@ -10,7 +10,7 @@ use Rattle.rule_text.specs.declared.joints.Chain.{Chain}
 use Rattle.rule_text.specs.declared.terms.Grade.{Grade}
 use Rattle.rule_text.specs.declared.terms.Grade.TheVariants.{Whole, Inverse}
 use Rattle.rule_text.specs.Forms.{TermForm}
-use Rattle.rule_text.specs.Scopes.{Reading, ◌>>=◌, error_in, Tells}
+use Rattle.rule_text.specs.Scopes.{Reading, ◌>>=◌, error_in, TellsError}
 use Rattle.rule_text.specs.Terms.{Reader, join, joint_in, chain_step, chain_rest, whole_read, inverse_read, part}
 
 pub part_whole : (room : ℕ) (text : List ℕ) (grade : Grade) (names : List Entry) (ts : List Token) → ¬ (room ≡ 0)
@@ -30,7 +30,7 @@ part_inverse (suc room) text grade names ts some is =
     rw (is, e) refl
 
 pub part_none : (room : ℕ) (text : List ℕ) (grade : Grade) (names : List Entry) (ts : List Token)
-    (error : ReadRuleError) → room ≡ 0 → error ≡ error_in TooDeep ts → Tells (part room text grade names ts) error
+    (error : ReadRuleError) → room ≡ 0 → error ≡ error_in TooDeep ts → TellsError (part room text grade names ts) error
 unfolding part
 part_none room text grade names ts error none is = inr (rw (none, is) refl)
 
@@ -65,8 +65,8 @@ chain_goes n i chain operand left right next joint ts inside rest all within fou
 
 pub chain_fails : (n i : ℕ) (chain : Chain) (operand : Reader) (left : TermForm) (joint : Joint)
     (ts inside : List Token) (error : ReadRuleError) (all : Result (TermForm × List Token) ReadRuleError) → i < n
-    → joint_in chain ts ≡ Some (joint, inside) → Tells (operand inside) error
-    → all ≡ chain_rest (n - i) chain operand left ts → Tells all error
+    → joint_in chain ts ≡ Some (joint, inside) → TellsError (operand inside) error
+    → all ≡ chain_rest (n - i) chain operand left ts → TellsError all error
 unfolding chain_rest
 chain_fails n i chain operand left joint ts inside error all within found told before = elim told [
   | inl short ↦ inl short
@@ -81,7 +81,7 @@ chain_fails n i chain operand left joint ts inside error all within found told b
 
 pub chain_out : (n i : ℕ) (chain : Chain) (operand : Reader) (left : TermForm) (ts : List Token)
     (error : ReadRuleError) (all : Result (TermForm × List Token) ReadRuleError) → n ≤ i → error ≡ error_in TooLong ts
-    → all ≡ chain_rest (n - i) chain operand left ts → Tells all error
+    → all ≡ chain_rest (n - i) chain operand left ts → TellsError all error
 unfolding chain_rest
 chain_out n i chain operand left ts error all past is before = inr (before ∙ out (n - i) (omega arith))
   where

@@ -35,8 +35,8 @@ error_in e [] = At e 0 0
 error_in e (t ∷ ts) = rule_error_at e t
 
 -- the error is the reading's, or memory was short
-abbrev pub Tells : {A : Type 0} → Result A ReadRuleError → ReadRuleError → Type 0
-Tells r e = (e ≡ Memory) ⊎ (r ≡ Err e)
+abbrev pub TellsError : {A : Type 0} → Result A ReadRuleError → ReadRuleError → Type 0
+TellsError r e = (e ≡ Memory) ⊎ (r ≡ Err e)
 
 -- what is read of the tokens, and the tokens after it; or the first error
 abbrev pub Reading : Type 0 → Type 0

@@ -37,7 +37,7 @@ abbrev pub IsSign : Sign → Token → Type 0
 IsSign s t = HasKind (Mark s) t
 
 -- a line begins here, in this column
-pub record IsStart (column : ℕ) (t : Token) : Type 0 where
+pub record IsLineStart (column : ℕ) (t : Token) : Type 0 where
   pub start : HasKind LineStart t
   pub at : t.column ≡ column
 
@@ -130,12 +130,12 @@ pub data AreTargets (text : List ℕ) (names : List Entry) : List Token → List
       → IsFalse (has_target targets target) → AreTargets text names (ts ++ (c ∷ t ∷ [])) (targets ++ (target ∷ []))
 
 -- term { "," term }: one for each target
-pub data AreNumbers (text : List ℕ) (names : List Entry) : List Token → List Target → AssignmentForm → Type 0 where
+pub data AreTerms (text : List ℕ) (names : List Entry) : List Token → List Target → AssignmentForm → Type 0 where
   first_number : {ts : List Token} {target : Target} {e : TermForm} → IsTerm text whole names ts e
-      → AreNumbers text names ts (target ∷ []) (one target e)
+      → AreTerms text names ts (target ∷ []) (one target e)
   next_number : {ts us : List Token} {c : Token} {targets : List Target} {target : Target} {a : AssignmentForm}
-      {e : TermForm} → AreNumbers text names ts targets a → IsSign signs.Comma c → IsTerm text whole names us e
-      → AreNumbers text names (ts ++ (c ∷ us)) (targets ++ (target ∷ [])) (also a target e)
+      {e : TermForm} → AreTerms text names ts targets a → IsSign signs.Comma c → IsTerm text whole names us e
+      → AreTerms text names (ts ++ (c ∷ us)) (targets ++ (target ∷ [])) (also a target e)
 
 pub data IsAction (text : List ℕ) (names : List Entry) : List Token → StatementForm → Type 0 where
   -- "send" term
@@ -146,11 +146,12 @@ pub data IsAction (text : List ℕ) (names : List Entry) : List Token → Statem
       → IsSign signs.To t → IsTerm text whole names us k → IsAction text names (s ∷ (ts ++ (t ∷ us))) (send_to e k)
   -- targets "=" numbers
   set : {ts us : List Token} {b : Token} {targets : List Target} {a : AssignmentForm}
-      → AreTargets text names ts targets → IsSign signs.Becomes b → AreNumbers text names us targets a
+      → AreTargets text names ts targets → IsSign signs.Becomes b → AreTerms text names us targets a
       → IsAction text names (ts ++ (b ∷ us)) (assign a)
 
 -- "let" name "=" term, and the names with its own: the term can't use it
-pub record IsLet (text : List ℕ) (names : List Entry) (ts : List Token) (more : List Entry) (e : TermForm) : Type 0 where
+pub record IsLet (text : List ℕ) (names : List Entry) (ts : List Token) (more : List Entry)
+    (e : TermForm) : Type 0 where
   pub «let» : Token
   pub name : Token
   pub becomes : Token
@@ -174,10 +175,10 @@ mutual
     empty : {column : ℕ} {names : List Entry} → IsBlock text column names [] nothing
     -- a let, whose name the rest of the block can use
     let_line : {column : ℕ} {names more : List Entry} {ts us : List Token} {s : Token} {e : TermForm}
-        {rest : StatementForm} → IsStart column s → IsLet text names ts more e → IsBlock text column more us rest
+        {rest : StatementForm} → IsLineStart column s → IsLet text names ts more e → IsBlock text column more us rest
         → IsBlock text column names (s ∷ (ts ++ us)) (let_in e rest)
     line : {column : ℕ} {names : List Entry} {ts us : List Token} {s : Token} {a rest : StatementForm}
-        → IsStart column s → IsStatement text column names ts a → IsBlock text column names us rest
+        → IsLineStart column s → IsStatement text column names ts a → IsBlock text column names us rest
         → IsBlock text column names (s ∷ (ts ++ us)) (sequence a rest)
 
   -- a statement of a line in this column
@@ -202,10 +203,10 @@ mutual
   pub data IsOtherwise (text : List ℕ) : ℕ → List Entry → List Token → StatementForm → Type 0 where
     none : {column : ℕ} {names : List Entry} → IsOtherwise text column names [] nothing
     elif_line : {column : ℕ} {names : List Entry} {ts : List Token} {s e : Token} {a : StatementForm}
-        → IsStart column s → IsSign signs.Elif e → AreCases text column names ts a
+        → IsLineStart column s → IsSign signs.Elif e → AreCases text column names ts a
         → IsOtherwise text column names (s ∷ e ∷ ts) a
     else_line : {column : ℕ} {names : List Entry} {ts : List Token} {s e : Token} {a : StatementForm}
-        → IsStart column s → IsSign signs.Else e → IsBody text column names ts a
+        → IsLineStart column s → IsSign signs.Else e → IsBody text column names ts a
         → IsOtherwise text column names (s ∷ e ∷ ts) a
 
   -- ":" and a simple statement on the same line, or at least one line further right
@@ -228,7 +229,7 @@ pub data AreWords (text : List ℕ) : List Entry → List Token → List Entry �
 -- the lines of "state"
 pub data IsHeader (text : List ℕ) (column : ℕ) : List Entry → List Token → List Entry → Type 0 where
   no_header : {names : List Entry} → IsHeader text column names [] names
-  state_line : {names more all : List Entry} {ts us : List Token} {s w : Token} → IsStart column s
+  state_line : {names more all : List Entry} {ts us : List Token} {s w : Token} → IsLineStart column s
       → IsSign signs.State w → AreWords text names ts more → IsHeader text column more us all
       → IsHeader text column names (s ∷ w ∷ (ts ++ us)) all
 

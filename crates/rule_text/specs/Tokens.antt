@@ -24,8 +24,8 @@ abbrev pub between : ℕ → ℕ → ℕ → Bool
 between low high c = nat_le low c && nat_le c high
 
 -- space, tab, CR, and the end of a line
-abbrev pub is_blank : ℕ → Bool
-is_blank c = (c == 32) || ((c == 9) || ((c == 13) || (c == 10)))
+abbrev pub is_space : ℕ → Bool
+is_space c = (c == 32) || ((c == 9) || ((c == 13) || (c == 10)))
 
 abbrev pub is_digit : ℕ → Bool
 is_digit c = between 48 57 c
@@ -102,7 +102,7 @@ sign_lexeme text = marked_or (sign_of (take 2 text)) (marked_or (sign_of (take 1
 abbrev pub lexeme_at : Place → List ℕ → Lexeme
 lexeme_at at [] = no_lexeme 0
 lexeme_at at (c ∷ cs) =
-    if is_blank c then no_lexeme 0 else
+    if is_space c then no_lexeme 0 else
     if c == 35 then no_lexeme (run Comment cs) else
     if is_digit c then number_lexeme (c ∷ cs) else
     if begins_name c then word_lexeme at (c ∷ cs) else sign_lexeme (c ∷ cs)

@@ -1,7 +1,7 @@
 //! From tokens to assignments.
 ghost use Rattle.std.specs.Prelude.{◌≡◌, Ok, Err, IfOk, IfErr};
 ghost use Rattle.rule_text.specs.Forms.{term_form, assignment_form, statement_form, also};
-ghost use Rattle.rule_text.specs.Scopes.{Tells};
+ghost use Rattle.rule_text.specs.Scopes.{TellsError};
 ghost use Rattle.rule_text.specs.Statements.{same_target, target_meant, target_marked, target_by, has_target};
 ghost use Rattle.rule_text.specs.Statements.{with_target};
 ghost use Rattle.rule_text.specs.Statements.{new_target, targets_with, targets_read, values_read, numbers_read};
@@ -79,7 +79,7 @@ fn with_target(
     t: Token,
 ) -> Result<Vec<Target>, ReadRuleError>
     ensures read { IfOk result (λ x. with_target done.items target t ≡ Ok x.items) }
-    ensures error { IfErr result (Tells (with_target done.items target t)) }
+    ensures error { IfErr result (TellsError (with_target done.items target t)) }
 {
     if has_target(&done, target) {
         return Err(error_at(RuleError::NameTwice, t));
@@ -99,7 +99,7 @@ fn new_target<'a>(
 ) -> Result<(Vec<Target>, &'a [Token]), ReadRuleError>
     ensures read { IfOk result (λ x. new_target text.now names.now done.items tokens.now
         ≡ Ok (x.0.items, x.1.now)) }
-    ensures error { IfErr result (Tells (new_target text.now names.now done.items tokens.now)) }
+    ensures error { IfErr result (TellsError (new_target text.now names.now done.items tokens.now)) }
 {
     match tokens {
         [first, rest @ ..] => {
@@ -122,7 +122,7 @@ fn targets_with<'a>(
 ) -> Result<(Vec<Target>, &'a [Token]), ReadRuleError>
     ensures read { IfOk result (λ x. targets_with (targets_read left text.now names.now) text.now names.now done.items
         tokens.now ≡ Ok (x.0.items, x.1.now)) }
-    ensures error { IfErr result (Tells (targets_with (targets_read left text.now names.now) text.now names.now
+    ensures error { IfErr result (TellsError (targets_with (targets_read left text.now names.now) text.now names.now
         done.items tokens.now)) }
 {
     let (more, rest) = new_target(text, names, done, tokens)?;
@@ -146,7 +146,7 @@ fn targets<'a>(
 ) -> Result<(Vec<Target>, &'a [Token]), ReadRuleError>
     ensures read { IfOk result (λ x. targets_read left text.now names.now done.items tokens.now
         ≡ Ok (x.0.items, x.1.now)) }
-    ensures error { IfErr result (Tells (targets_read left text.now names.now done.items tokens.now)) }
+    ensures error { IfErr result (TellsError (targets_read left text.now names.now done.items tokens.now)) }
 {
     if left == 0 {
         return Err(error_in(RuleError::TooLong, tokens));
@@ -177,7 +177,7 @@ fn values<'a>(
 ) -> Result<(Assignment, &'a [Token]), ReadRuleError>
     ensures read { IfOk result (λ x. values_read text.now names.now (assignment_form front) targets.now tokens.now
         ≡ Ok (assignment_form x.0, x.1.now)) }
-    ensures error { IfErr result (Tells
+    ensures error { IfErr result (TellsError
         (values_read text.now names.now (assignment_form front) targets.now tokens.now)) }
 {
     let Some((target, others)) = targets.split_first() else {
@@ -198,7 +198,7 @@ fn numbers<'a>(
 ) -> Result<(Statement, &'a [Token]), ReadRuleError>
     ensures read { IfOk result (λ x. numbers_read text.now names.now targets.now tokens.now
         ≡ Ok (statement_form x.0, x.1.now)) }
-    ensures error { IfErr result (Tells (numbers_read text.now names.now targets.now tokens.now)) }
+    ensures error { IfErr result (TellsError (numbers_read text.now names.now targets.now tokens.now)) }
 {
     let Some((target, others)) = targets.split_first() else {
         return Err(error_in(RuleError::Expected, tokens));
@@ -217,7 +217,7 @@ pub fn assignment<'a>(
     tokens: &'a [Token],
 ) -> Result<(Statement, &'a [Token]), ReadRuleError>
     ensures read { IfOk result (λ x. assign_read text.now names.now tokens.now ≡ Ok (statement_form x.0, x.1.now)) }
-    ensures error { IfErr result (Tells (assign_read text.now names.now tokens.now)) }
+    ensures error { IfErr result (TellsError (assign_read text.now names.now tokens.now)) }
 {
     let (found, rest) = targets(text, names, Vec::new(alloc), tokens, MAX_LINE_TOKENS)?;
     numbers(alloc, text, names, &found, rest)

@@ -41,7 +41,8 @@ fn is_marked(sign: Sign, kind: Kind) -> bool
 
 /// Returns the tokens after a sign, if it is the first token.
 pub fn after(sign: Sign, tokens: &[Token]) -> Option<&[Token]>
-    ensures { MatchOption result (rest_after sign tokens.now ≡ None) (λ rest. rest_after sign tokens.now ≡ Some rest.now) }
+    ensures { MatchOption result (rest_after sign tokens.now ≡ None) (λ rest. rest_after sign tokens.now
+        ≡ Some rest.now) }
 {
     let (first, rest) = tokens.split_first()?;
     if is_marked(sign, first.kind) {

@@ -3,7 +3,7 @@ ghost use Rattle.std.specs.Prelude.{◌≡◌, ℕ, List, ◌∷◌, ◌≤◌, 
 ghost use Rattle.rule_text.specs.Tokens.{is_in, run, number_spelled, number_kind, word_kind, number_lexeme, word_from};
 ghost use Rattle.rule_text.specs.Tokens.{word_lexeme};
 ghost use Rattle.rule_text.specs.Tokens.{lexeme_of_sign, sign_lexeme, lexeme_at, past, token, tokens_at};
-ghost use Rattle.rule_text.specs.Tokens.{is_blank, is_digit, begins_name, lexemes_from, lexemes_of};
+ghost use Rattle.rule_text.specs.Tokens.{is_space, is_digit, begins_name, lexemes_from, lexemes_of};
 
 use crate::errors::RuleError;
 use crate::signs::{Sign, sign_of, spelling};
@@ -65,8 +65,8 @@ pub enum Class {
     Comment,
 }
 
-fn is_blank(byte: u8) -> bool
-    ensures { result ≡ is_blank byte }
+fn is_space(byte: u8) -> bool
+    ensures { result ≡ is_space byte }
 {
     matches!(byte, b' ' | b'\t' | b'\r' | b'\n')
 }
@@ -214,7 +214,7 @@ fn lexeme_at(at: Place, text: &[u8]) -> Lexeme
             further: 0,
         },
         [first, rest @ ..] => {
-            if is_blank(*first) {
+            if is_space(*first) {
                 Lexeme {
                     kind: None,
                     further: 0,

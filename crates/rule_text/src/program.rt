@@ -30,7 +30,7 @@ pub enum RuleRefusal {
     TooLong,
 }
 
-/// The program of a rule, or why there is none.
+/// Returns the program of a rule, or why there is none.
 fn program_of_rule(
     alloc: Global,
     rule: &Rule,

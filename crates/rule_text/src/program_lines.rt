@@ -37,7 +37,7 @@ fn lines_of_all(
         .collect(alloc)
 }
 
-/// The lines of a rule's instructions, or why it has no program.
+/// Returns the lines of a rule's instructions, or why it has no program.
 fn lines_of_rule(
     alloc: Global,
     rule: &Rule,

@@ -1,7 +1,7 @@
 //! From a text to a rule.
 ghost use Rattle.std.specs.Prelude.{◌≡◌, [], MatchOption, Some, None, Ok, Err, IfOk, IfErr};
 ghost use Rattle.rule_text.specs.Forms.{statement_form};
-ghost use Rattle.rule_text.specs.Scopes.{Tells};
+ghost use Rattle.rule_text.specs.Scopes.{TellsError};
 ghost use Rattle.rule_text.specs.Statements.{state_names_with, state_names, after_state, header_with, header_read};
 ghost use Rattle.rule_text.specs.Statements.{ended, first_column, rule_in, rule_read};
 ghost use Rattle.rule_text.specs.Rules.{rule_form};
@@ -35,7 +35,7 @@ fn state_names_with<'a>(
 ) -> Result<(Vec<Entry>, &'a [Token]), ReadRuleError>
     ensures read { IfOk result (λ x. state_names_with (state_names left text.now) text.now names.now tokens.now
         ≡ Ok (x.0.items, x.1.now)) }
-    ensures error { IfErr result (Tells
+    ensures error { IfErr result (TellsError
         (state_names_with (state_names left text.now) text.now names.now tokens.now)) }
 {
     let (more, rest) = new_name(alloc, text, Maker::State, names, tokens)?;
@@ -55,7 +55,7 @@ fn state_names<'a>(
     left: usize,
 ) -> Result<(Vec<Entry>, &'a [Token]), ReadRuleError>
     ensures read { IfOk result (λ x. state_names left text.now names.now tokens.now ≡ Ok (x.0.items, x.1.now)) }
-    ensures error { IfErr result (Tells (state_names left text.now names.now tokens.now)) }
+    ensures error { IfErr result (TellsError (state_names left text.now names.now tokens.now)) }
 {
     if left == 0 {
         return Err(error_in(RuleError::TooLong, tokens));
@@ -89,7 +89,7 @@ fn header_with<'a>(
     ensures read { IfOk result (λ x.
         header_with (header_read left text.now column) text.now column names.items tokens.now
         ≡ Ok (x.0.items, x.1.now)) }
-    ensures error { IfErr result (Tells
+    ensures error { IfErr result (TellsError
         (header_with (header_read left text.now column) text.now column names.items tokens.now)) }
 {
     match state_in(column, tokens) {
@@ -113,7 +113,7 @@ fn header<'a>(
 ) -> Result<(Vec<Entry>, &'a [Token]), ReadRuleError>
     ensures read { IfOk result (λ x. header_read left text.now column names.items tokens.now
         ≡ Ok (x.0.items, x.1.now)) }
-    ensures error { IfErr result (Tells (header_read left text.now column names.items tokens.now)) }
+    ensures error { IfErr result (TellsError (header_read left text.now column names.items tokens.now)) }
 {
     if left == 0 {
         return Err(error_in(RuleError::TooLong, tokens));
@@ -148,7 +148,7 @@ fn first_column(tokens: &[Token]) -> usize
 
 fn rule_in(alloc: Global, text: &[u8], tokens: &[Token]) -> Result<Rule, ReadRuleError>
     ensures read { IfOk result (λ x. rule_in text.now tokens.now ≡ Ok (rule_form x)) }
-    ensures error { IfErr result (Tells (rule_in text.now tokens.now)) }
+    ensures error { IfErr result (TellsError (rule_in text.now tokens.now)) }
 {
     let column = first_column(tokens);
     let (names, rest) = header(alloc, text, Vec::new(alloc), tokens, column, MAX_LINES)?;
@@ -164,7 +164,7 @@ fn rule_in(alloc: Global, text: &[u8], tokens: &[Token]) -> Result<Rule, ReadRul
 /// Reads the rule of a text.
 pub fn read_rule(alloc: Global, text: &[u8]) -> Result<Rule, ReadRuleError>
     ensures read { IfOk result (λ x. rule_read text.now ≡ Ok (rule_form x)) }
-    ensures error { IfErr result (Tells (rule_read text.now)) }
+    ensures error { IfErr result (TellsError (rule_read text.now)) }
 {
     let found = lexemes(alloc, text)?;
     let tokens = laid_out(alloc, &found)?;

@@ -2,7 +2,7 @@
 ghost use Rattle.std.specs.Prelude.{◌≡◌, ◌≤◌, ◌++◌, [], ◌∷◌, length, Ok, IfOk, IfErr};
 ghost use Rattle.rule_text.specs.Scopes.{letters_of, is_same_name, found_entry, meaning_of, means_local, is_loop, is_word};
 ghost use Rattle.rule_text.specs.Scopes.{next_meaning, added, words_of};
-ghost use Rattle.rule_text.specs.Scopes.{Tells, named_entry, new_name, rule_error_at, error_in, told_instead};
+ghost use Rattle.rule_text.specs.Scopes.{TellsError, named_entry, new_name, rule_error_at, error_in, told_instead};
 
 use crate::errors::{ReadRuleError, RuleError};
 use crate::lexemes::{Kind, Name, Token};
@@ -170,7 +170,7 @@ fn added(
     t: Token,
 ) -> Result<Vec<Entry>, ReadRuleError>
     ensures names { IfOk result (λ more. added known maker name names.now t ≡ Ok more.items) }
-    ensures error { IfErr result (Tells (added known maker name names.now t)) }
+    ensures error { IfErr result (TellsError (added known maker name names.now t)) }
 {
     if let Some(_) = known {
         return Err(error_at(RuleError::NameTwice, t));
@@ -191,7 +191,7 @@ pub fn named_entry(
     t: Token,
 ) -> Result<Vec<Entry>, ReadRuleError>
     ensures names { IfOk result (λ more. named_entry text.now maker names.now t ≡ Ok more.items) }
-    ensures error { IfErr result (Tells (named_entry text.now maker names.now t)) }
+    ensures error { IfErr result (TellsError (named_entry text.now maker names.now t)) }
 {
     match t.kind {
         Kind::Named(name) => {
@@ -211,7 +211,7 @@ pub fn new_name<'a>(
     tokens: &'a [Token],
 ) -> Result<(Vec<Entry>, &'a [Token]), ReadRuleError>
     ensures names { IfOk result (λ x. new_name text.now maker names.now tokens.now ≡ Ok (x.0.items, x.1.now)) }
-    ensures error { IfErr result (Tells (new_name text.now maker names.now tokens.now)) }
+    ensures error { IfErr result (TellsError (new_name text.now maker names.now tokens.now)) }
 {
     match tokens {
         [first, rest @ ..] => {

@@ -1,7 +1,7 @@
 //! From tokens to statements.
 ghost use Rattle.std.specs.Prelude.{◌≡◌, Ok, IfOk, IfErr};
 ghost use Rattle.rule_text.specs.Forms.{term_form, statement_form};
-ghost use Rattle.rule_text.specs.Scopes.{Tells};
+ghost use Rattle.rule_text.specs.Scopes.{TellsError};
 ghost use Rattle.rule_text.specs.Statements.{let_read, send_read, let_alone, simple_read, is_start, deeper_read};
 ghost use Rattle.rule_text.specs.Statements.{body_read};
 ghost use Rattle.rule_text.specs.Statements.{other_read, branch_read, followed, let_line, for_line, line_read};
@@ -46,7 +46,7 @@ fn let_head<'a>(
 ) -> Result<(Term, Vec<Entry>, &'a [Token]), ReadRuleError>
     ensures read { IfOk result (λ x. let_read text.now names.now tokens.now
         ≡ Ok (term_form x.0, x.1.items, x.2.now)) }
-    ensures error { IfErr result (Tells (let_read text.now names.now tokens.now)) }
+    ensures error { IfErr result (TellsError (let_read text.now names.now tokens.now)) }
 {
     let (more, rest) = new_name(alloc, text, Maker::Let, names, tokens)?;
     let rest = wanted(Sign::Becomes, rest)?;
@@ -62,7 +62,7 @@ fn send<'a>(
     tokens: &'a [Token],
 ) -> Result<(Statement, &'a [Token]), ReadRuleError>
     ensures read { IfOk result (λ x. send_read text.now names.now tokens.now ≡ Ok (statement_form x.0, x.1.now)) }
-    ensures error { IfErr result (Tells (send_read text.now names.now tokens.now)) }
+    ensures error { IfErr result (TellsError (send_read text.now names.now tokens.now)) }
 {
     let (number, rest) = term(alloc, text, names, tokens)?;
     let Some(behind) = after(Sign::To, rest) else {
@@ -79,7 +79,7 @@ fn let_alone<'a>(
     tokens: &'a [Token],
 ) -> Result<(Statement, &'a [Token]), ReadRuleError>
     ensures read { IfOk result (λ x. let_alone text.now names.now tokens.now ≡ Ok (statement_form x.0, x.1.now)) }
-    ensures error { IfErr result (Tells (let_alone text.now names.now tokens.now)) }
+    ensures error { IfErr result (TellsError (let_alone text.now names.now tokens.now)) }
 {
     let (number, _, rest) = let_head(alloc, text, names, tokens)?;
     Ok((let_of(alloc, number, Statement::Nothing)?, rest))
@@ -93,7 +93,7 @@ fn simple<'a>(
     tokens: &'a [Token],
 ) -> Result<(Statement, &'a [Token]), ReadRuleError>
     ensures read { IfOk result (λ x. simple_read text.now names.now tokens.now ≡ Ok (statement_form x.0, x.1.now)) }
-    ensures error { IfErr result (Tells (simple_read text.now names.now tokens.now)) }
+    ensures error { IfErr result (TellsError (simple_read text.now names.now tokens.now)) }
 {
     let Some((first, rest)) = tokens.split_first() else {
         return Err(error_in(RuleError::Expected, tokens));
@@ -127,7 +127,7 @@ fn deeper<'a>(
     ensures read { IfOk result (λ x.
         deeper_read (lines_read at.left text.now) at.room at.column names.now first tokens.now
         ≡ Ok (statement_form x.0, x.1.now)) }
-    ensures error { IfErr result (Tells
+    ensures error { IfErr result (TellsError
         (deeper_read (lines_read at.left text.now) at.room at.column names.now first tokens.now)) }
 {
     if first.column <= at.column {
@@ -156,7 +156,7 @@ fn body<'a>(
     ensures read { IfOk result (λ x.
         body_read (lines_read at.left text.now) text.now at.room at.column names.now tokens.now
         ≡ Ok (statement_form x.0, x.1.now)) }
-    ensures error { IfErr result (Tells
+    ensures error { IfErr result (TellsError
         (body_read (lines_read at.left text.now) text.now at.room at.column names.now tokens.now)) }
 {
     let rest = wanted(Sign::Colon, tokens)?;
@@ -182,7 +182,7 @@ fn otherwise<'a>(
     ensures read { IfOk result (λ x.
         other_read (lines_read at.left text.now) text.now at.room at.column names.now tokens.now
         ≡ Ok (statement_form x.0, x.1.now)) }
-    ensures error { IfErr result (Tells
+    ensures error { IfErr result (TellsError
         (other_read (lines_read at.left text.now) text.now at.room at.column names.now tokens.now)) }
 {
     match tokens {
@@ -212,7 +212,7 @@ fn after_if<'a>(
     ensures read { IfOk result (λ x.
         branch_read (lines_read at.left text.now) text.now at.room at.column names.now tokens.now
         ≡ Ok (statement_form x.0, x.1.now)) }
-    ensures error { IfErr result (Tells
+    ensures error { IfErr result (TellsError
         (branch_read (lines_read at.left text.now) text.now at.room at.column names.now tokens.now)) }
 {
     let (test, rest) = term(alloc, text, names, tokens)?;
@@ -234,7 +234,7 @@ fn followed<'a>(
     ensures read { IfOk result (λ x.
         followed (lines_read at.left text.now) at.room at.column names.now (statement_form statement) tokens.now
         ≡ Ok (statement_form x.0, x.1.now)) }
-    ensures error { IfErr result (Tells
+    ensures error { IfErr result (TellsError
         (followed (lines_read at.left text.now) at.room at.column names.now (statement_form statement) tokens.now)) }
 {
     let (behind, rest) = lines(alloc, text, names, tokens, Layer::Rest, at)?;
@@ -252,7 +252,7 @@ fn let_line<'a>(
     ensures read { IfOk result (λ x.
         let_line (lines_read at.left text.now) text.now at.room at.column names.now tokens.now
         ≡ Ok (statement_form x.0, x.1.now)) }
-    ensures error { IfErr result (Tells
+    ensures error { IfErr result (TellsError
         (let_line (lines_read at.left text.now) text.now at.room at.column names.now tokens.now)) }
 {
     let (number, more, rest) = let_head(alloc, text, names, tokens)?;
@@ -271,7 +271,7 @@ fn for_line<'a>(
     ensures read { IfOk result (λ x.
         for_line (lines_read at.left text.now) text.now at.room at.column names.now tokens.now
         ≡ Ok (statement_form x.0, x.1.now)) }
-    ensures error { IfErr result (Tells
+    ensures error { IfErr result (TellsError
         (for_line (lines_read at.left text.now) text.now at.room at.column names.now tokens.now)) }
 {
     let (more, rest) = new_name(alloc, text, Maker::Loop, names, tokens)?;
@@ -291,7 +291,7 @@ fn line<'a>(
     ensures read { IfOk result (λ x.
         line_read (lines_read at.left text.now) text.now at.room at.column names.now tokens.now
         ≡ Ok (statement_form x.0, x.1.now)) }
-    ensures error { IfErr result (Tells
+    ensures error { IfErr result (TellsError
         (line_read (lines_read at.left text.now) text.now at.room at.column names.now tokens.now)) }
 {
     let Some((first, rest)) = tokens.split_first() else {
@@ -323,7 +323,7 @@ fn rest_of<'a>(
     ensures read { IfOk result (λ x.
         rest_read (lines_read at.left text.now) text.now at.room at.column names.now tokens.now
         ≡ Ok (statement_form x.0, x.1.now)) }
-    ensures error { IfErr result (Tells
+    ensures error { IfErr result (TellsError
         (rest_read (lines_read at.left text.now) text.now at.room at.column names.now tokens.now)) }
 {
     let Some((first, rest)) = tokens.split_first() else {
@@ -356,7 +356,8 @@ pub fn lines<'a>(
 ) -> Result<(Statement, &'a [Token]), ReadRuleError>
     ensures read { IfOk result (λ x. lines_read at.left text.now layer at.room at.column names.now tokens.now
         ≡ Ok (statement_form x.0, x.1.now)) }
-    ensures error { IfErr result (Tells (lines_read at.left text.now layer at.room at.column names.now tokens.now)) }
+    ensures error { IfErr result (TellsError
+        (lines_read at.left text.now layer at.room at.column names.now tokens.now)) }
 {
     let left = at.left;
     if left == 0 {

@@ -1,6 +1,6 @@
 //! From tokens to terms.
 ghost use Rattle.std.specs.Prelude.{◌≡◌, Ok, Err, IfOk, IfErr, option_map};
-ghost use Rattle.rule_text.specs.Scopes.{Tells};
+ghost use Rattle.rule_text.specs.Scopes.{TellsError};
 ghost use Rattle.rule_text.specs.Forms.{term_form};
 ghost use Rattle.rule_text.specs.Terms.{leaf, named_atom, bracketed, message_read, atom};
 ghost use Rattle.rule_text.specs.Terms.{compare_read, inverse_read, operand_read, chain_read};
@@ -60,7 +60,7 @@ fn bracketed<'a>(
 ) -> Result<(Term, &'a [Token]), ReadRuleError>
     ensures read { IfOk result (λ x. bracketed (part room text.now) names.now tokens.now
         ≡ Ok (term_form x.0, x.1.now)) }
-    ensures error { IfErr result (Tells (bracketed (part room text.now) names.now tokens.now)) }
+    ensures error { IfErr result (TellsError (bracketed (part room text.now) names.now tokens.now)) }
 {
     let (term, rest) = part(alloc, text, names, tokens, Grade::Whole, room)?;
     let rest = wanted(Sign::Close, rest)?;
@@ -78,7 +78,7 @@ fn message<'a>(
 ) -> Result<(Term, &'a [Token]), ReadRuleError>
     ensures read { IfOk result (λ x. message_read (part room text.now) names.now tokens.now
         ≡ Ok (term_form x.0, x.1.now)) }
-    ensures error { IfErr result (Tells (message_read (part room text.now) names.now tokens.now)) }
+    ensures error { IfErr result (TellsError (message_read (part room text.now) names.now tokens.now)) }
 {
     let inside = wanted(Sign::OpenSquare, tokens)?;
     let (node, rest) = part(alloc, text, names, inside, Grade::Whole, room)?;
@@ -96,7 +96,7 @@ fn atom<'a>(
 ) -> Result<(Term, &'a [Token]), ReadRuleError>
     ensures read { IfOk result (λ x. atom (part room text.now) text.now names.now tokens.now
         ≡ Ok (term_form x.0, x.1.now)) }
-    ensures error { IfErr result (Tells (atom (part room text.now) text.now names.now tokens.now)) }
+    ensures error { IfErr result (TellsError (atom (part room text.now) text.now names.now tokens.now)) }
 {
     let Some((first, rest)) = tokens.split_first() else {
         return Err(error_in(RuleError::Expected, tokens));
@@ -123,7 +123,8 @@ fn operand<'a>(
 ) -> Result<(Term, &'a [Token]), ReadRuleError>
     ensures read { IfOk result (λ x. operand_read (part room text.now) text.now names.now chain_kind tokens.now
         ≡ Ok (term_form x.0, x.1.now)) }
-    ensures error { IfErr result (Tells (operand_read (part room text.now) text.now names.now chain_kind tokens.now)) }
+    ensures error { IfErr result (TellsError (operand_read
+        (part room text.now) text.now names.now chain_kind tokens.now)) }
 {
     match chain_kind {
         Chain::Product => atom(alloc, text, names, tokens, room),
@@ -145,7 +146,7 @@ fn chain<'a>(
 ) -> Result<(Term, &'a [Token]), ReadRuleError>
     ensures read { IfOk result (λ x. chain_read (part room text.now) text.now names.now kind tokens.now
         ≡ Ok (term_form x.0, x.1.now)) }
-    ensures error { IfErr result (Tells (chain_read (part room text.now) text.now names.now kind tokens.now)) }
+    ensures error { IfErr result (TellsError (chain_read (part room text.now) text.now names.now kind tokens.now)) }
 {
     let (mut left, mut rest) = operand(alloc, text, names, tokens, kind, room)?;
     for _step in 0..MAX_LINE_TOKENS {
@@ -170,7 +171,7 @@ fn compare<'a>(
 ) -> Result<(Term, &'a [Token]), ReadRuleError>
     ensures read { IfOk result (λ x. compare_read (part room text.now) text.now names.now tokens.now
         ≡ Ok (term_form x.0, x.1.now)) }
-    ensures error { IfErr result (Tells (compare_read (part room text.now) text.now names.now tokens.now)) }
+    ensures error { IfErr result (TellsError (compare_read (part room text.now) text.now names.now tokens.now)) }
 {
     let (left, rest) = chain(alloc, text, names, tokens, Chain::Sum, room)?;
     let Some((comparison, behind)) = comparison_in(rest) else {
@@ -193,7 +194,7 @@ fn inverse<'a>(
 ) -> Result<(Term, &'a [Token]), ReadRuleError>
     ensures read { IfOk result (λ x. inverse_read (part room text.now) text.now names.now tokens.now
         ≡ Ok (term_form x.0, x.1.now)) }
-    ensures error { IfErr result (Tells (inverse_read (part room text.now) text.now names.now tokens.now)) }
+    ensures error { IfErr result (TellsError (inverse_read (part room text.now) text.now names.now tokens.now)) }
 {
     let Some(inside) = after(Sign::Not, tokens) else {
         return compare(alloc, text, names, tokens, room);
@@ -214,7 +215,7 @@ fn choice<'a>(
 ) -> Result<(Term, &'a [Token]), ReadRuleError>
     ensures read { IfOk result (λ x. choice_read (part room text.now) text.now names.now (term_form first) tokens.now
         ≡ Ok (term_form x.0, x.1.now)) }
-    ensures error { IfErr result (Tells
+    ensures error { IfErr result (TellsError
         (choice_read (part room text.now) text.now names.now (term_form first) tokens.now)) }
 {
     let (test, rest) = chain(alloc, text, names, tokens, Chain::Either, room)?;
@@ -234,7 +235,7 @@ fn counted<'a>(
 ) -> Result<(Term, &'a [Token]), ReadRuleError>
     ensures read { IfOk result (λ x. count_read (part room text.now) text.now names.now tokens.now
         ≡ Ok (term_form x.0, x.1.now)) }
-    ensures error { IfErr result (Tells (count_read (part room text.now) text.now names.now tokens.now)) }
+    ensures error { IfErr result (TellsError (count_read (part room text.now) text.now names.now tokens.now)) }
 {
     let (more, rest) = new_name(alloc, text, Maker::Loop, names, tokens)?;
     let rest = wanted(Sign::Colon, rest)?;
@@ -252,7 +253,7 @@ fn whole<'a>(
 ) -> Result<(Term, &'a [Token]), ReadRuleError>
     ensures read { IfOk result (λ x. whole_read (part room text.now) text.now names.now tokens.now
         ≡ Ok (term_form x.0, x.1.now)) }
-    ensures error { IfErr result (Tells (whole_read (part room text.now) text.now names.now tokens.now)) }
+    ensures error { IfErr result (TellsError (whole_read (part room text.now) text.now names.now tokens.now)) }
 {
     if let Some(inside) = after(Sign::Count, tokens) {
         return counted(alloc, text, names, inside, room);
@@ -275,7 +276,7 @@ fn part<'a>(
     room: u32,
 ) -> Result<(Term, &'a [Token]), ReadRuleError>
     ensures read { IfOk result (λ x. part room text.now grade names.now tokens.now ≡ Ok (term_form x.0, x.1.now)) }
-    ensures error { IfErr result (Tells (part room text.now grade names.now tokens.now)) }
+    ensures error { IfErr result (TellsError (part room text.now grade names.now tokens.now)) }
 {
     if room == 0 {
         return Err(error_in(RuleError::TooDeep, tokens));
@@ -294,7 +295,7 @@ pub fn term<'a>(
     tokens: &'a [Token],
 ) -> Result<(Term, &'a [Token]), ReadRuleError>
     ensures read { IfOk result (λ x. term_read text.now names.now tokens.now ≡ Ok (term_form x.0, x.1.now)) }
-    ensures error { IfErr result (Tells (term_read text.now names.now tokens.now)) }
+    ensures error { IfErr result (TellsError (term_read text.now names.now tokens.now)) }
 {
     part(alloc, text, names, tokens, Grade::Whole, MAX_PARTS)
 }

@@ -29,10 +29,11 @@ use Rattle.run_lines.specs.declared.fault.LinesFault.TheVariants as faults
 use Rattle.run_lines.specs.declared.writer.LineWriter.{LineWriter}
 use Rattle.run_lines.specs.Data.{judged_seen}
 use Rattle.run_lines.specs.Lines.{first_line, front_text, summary_line, line_within, told_line, whole_text}
-use Rattle.run_lines.specs.Spans.{Span, is_within}
+use Rattle.run_lines.specs.declared.form.LinesForm.{LinesForm}
+use Rattle.run_lines.specs.Spans.{is_within}
 use Rattle.run_lines.specs.Telling.{AreShown, IsFrontText, IsWholeText, LeavesFront, LeavesLines}
 use Rattle.run_lines.proofs.JudgingLaws.{judges_as_the_report}
-use Rattle.run_lines.specs.inner.Writing.{IsEndOfLines, IsReason, Stops, Tells}
+use Rattle.run_lines.specs.inner.Writing.{IsEndOfLines, IsReason, KeepsReason, TellsPulse}
 
 -- ---- pulses
 
@@ -71,154 +72,154 @@ abbrev pub judged_all : Scenario → List Seen → List Judged
 judged_all s seen = map (judged_seen (frame_of s) (is_some s.clock)) seen
 
 -- the pulses up to some one are judged, and their lines are written
-pub record Stands {S : Type 0} (contents : S → Option (List ℕ)) (old : Option (List ℕ)) (s : Scenario) (span : Span)
+pub record Stands {S : Type 0} (contents : S → Option (List ℕ)) (old : Option (List ℕ)) (s : Scenario) (form : LinesForm)
     (seen : List Seen) (k : LineWriter) (o : S) : Type 0 where
   pub scenario : k.scenario.now ≡ s
-  pub within : k.span ≡ span
+  pub within : k.form ≡ form
   pub judged : k.judged.items ≡ judged_all s seen
-  pub wrote : Wrote old (contents o) (front_text s span seen) k.written
+  pub wrote : Wrote old (contents o) (front_text s form seen) k.written
 
-line_same : (s t : Scenario) (p q : Span) (x : Seen) → s ≡ t → p ≡ q → line_within s p x ≡ line_within t q x
+line_same : (s t : Scenario) (p q : LinesForm) (x : Seen) → s ≡ t → p ≡ q → line_within s p x ≡ line_within t q x
 line_same s t p q x same as_well = ap (λ u. line_within u p x) same ∙ ap (λ r. line_within t r x) as_well
 
-stands_one : {S : Type 0} (contents : S → Option (List ℕ)) (old : Option (List ℕ)) (s : Scenario) (span : Span)
-    (seen : List Seen) (x : Seen) (k k1 : LineWriter) (o o1 : S) → Stands contents old s span seen k o
-    → Tells contents k o x k1 o1 → Stands contents old s span (seen ++ x ∷ []) k1 o1
-stands_one contents old s span seen x k k1 o o1 stands tells =
-    let line = line_same k.scenario.now s k.span span x stands.scenario stands.within in
+stands_one : {S : Type 0} (contents : S → Option (List ℕ)) (old : Option (List ℕ)) (s : Scenario) (form : LinesForm)
+    (seen : List Seen) (x : Seen) (k k1 : LineWriter) (o o1 : S) → Stands contents old s form seen k o
+    → TellsPulse contents k o x k1 o1 → Stands contents old s form (seen ++ x ∷ []) k1 o1
+stands_one contents old s form seen x k k1 o o1 stands tells =
+    let line = line_same k.scenario.now s k.form form x stands.scenario stands.within in
     record {
       scenario = tells.same.scenario ∙ stands.scenario;
-      within = tells.same.span ∙ stands.within;
+      within = tells.same.form ∙ stands.within;
       judged = tells.judged ∙ (ap (λ js. js ++ judged_all k.scenario.now (x ∷ [])) stands.judged
           ∙ (ap (λ (u : Scenario). judged_all s seen ++ judged_all u (x ∷ [])) stands.scenario
           ∙ sym (map-append (judged_seen (frame_of s) (is_some s.clock)) seen (x ∷ []))));
       wrote =
-          subst (λ t. Wrote old (contents o1) t k1.written) (flat_map_more (line_within s span) (first_line s) seen x)
+          subst (λ t. Wrote old (contents o1) t k1.written) (flat_map_more (line_within s form) (first_line form.format s) seen x)
           (subst (λ t. Adds (contents o) (contents o1) k.written t k1.written) line tells.adds old
-          (front_text s span seen) stands.wrote);
+          (front_text s form seen) stands.wrote);
     }
 
-stands_all : {S : Type 0} (contents : S → Option (List ℕ)) (old : Option (List ℕ)) (s : Scenario) (span : Span)
-    (seen xs : List Seen) (k k' : LineWriter) (o o' : S) → Stands contents old s span seen k o
-    → Watches (Tells contents) k o xs k' o' → Stands contents old s span (seen ++ xs) k' o'
-stands_all {S} contents old s span seen [] k k' o o' stands watches =
-    subst (λ (w : LineWriter). Stands contents old s span (seen ++ []) w o') (sym watches.0)
-    (subst (λ (y : S). Stands contents old s span (seen ++ []) k y) (sym watches.1)
-    (subst (λ (xs : List Seen). Stands contents old s span xs k o) (sym (append-nil seen)) stands))
-stands_all contents old s span seen (x ∷ xs) k k' o o' stands watches =
-    let one = stands_one contents old s span seen x k watches.0 o watches.1 stands watches.2 in
-    subst (λ (ys : List Seen). Stands contents old s span ys k' o') (append_assoc seen (x ∷ []) xs)
-    (stands_all contents old s span (seen ++ x ∷ []) xs watches.0 k' watches.1 o' one watches.3)
+stands_all : {S : Type 0} (contents : S → Option (List ℕ)) (old : Option (List ℕ)) (s : Scenario) (form : LinesForm)
+    (seen xs : List Seen) (k k' : LineWriter) (o o' : S) → Stands contents old s form seen k o
+    → Watches (TellsPulse contents) k o xs k' o' → Stands contents old s form (seen ++ xs) k' o'
+stands_all {S} contents old s form seen [] k k' o o' stands watches =
+    subst (λ (w : LineWriter). Stands contents old s form (seen ++ []) w o') (sym watches.0)
+    (subst (λ (y : S). Stands contents old s form (seen ++ []) k y) (sym watches.1)
+    (subst (λ (xs : List Seen). Stands contents old s form xs k o) (sym (append-nil seen)) stands))
+stands_all contents old s form seen (x ∷ xs) k k' o o' stands watches =
+    let one = stands_one contents old s form seen x k watches.0 o watches.1 stands watches.2 in
+    subst (λ (ys : List Seen). Stands contents old s form ys k' o') (append_assoc seen (x ∷ []) xs)
+    (stands_all contents old s form (seen ++ x ∷ []) xs watches.0 k' watches.1 o' one watches.3)
 
 -- ---- how it ends
 
-no_pulse : (s : Scenario) (span : Span) → IsFrontText s span 0 (first_line s)
-no_pulse s span = record {
+no_pulse : (s : Scenario) (form : LinesForm) → IsFrontText s form 0 (first_line form.format s)
+no_pulse s form = record {
   seen = [];
   shown = (new_state (bench_of s), (refl, refl));
-  text = sym (append-nil (first_line s));
+  text = sym (append-nil (first_line form.format s));
 }
 
-first_broken : (old new : Option (List ℕ)) (s : Scenario) (span : Span) (fault : PartFault)
-    → IsPartFault old new 0 (first_line s) fault → LeavesLines old new s span (Err (faults.Part fault))
-first_broken old new s span (parts.Write written) broke =
-    (first_line s, inl (0, no_pulse s span), broke old [] (wrote_nothing old))
-first_broken old new s span parts.Memory kept = inl kept
+first_broken : (old new : Option (List ℕ)) (s : Scenario) (form : LinesForm) (fault : PartFault)
+    → IsPartFault old new 0 (first_line form.format s) fault → LeavesLines old new s form (Err (faults.Part fault))
+first_broken old new s form (parts.Write written) broke =
+    (first_line form.format s, inl (0, no_pulse s form), broke old [] (wrote_nothing old))
+first_broken old new s form parts.Memory kept = inl kept
 
 -- the first line isn't written
-pub first_fault : (old new : Option (List ℕ)) (s : Scenario) (span : Span) (fault : PartFault)
-    (result : Result Bool LinesFault) → IsPartFault old new 0 (first_line s) fault
-    → IsErrAnd result (λ e. e ≡ faults.Part fault) → LeavesLines old new s span result
-first_fault old new s span fault result broken given =
-    handed_on (LeavesLines old new s span) (faults.Part fault) result (first_broken old new s span fault broken) given
+pub first_fault : (old new : Option (List ℕ)) (s : Scenario) (form : LinesForm) (fault : PartFault)
+    (result : Result Bool LinesFault) → IsPartFault old new 0 (first_line form.format s) fault
+    → IsErrAnd result (λ e. e ≡ faults.Part fault) → LeavesLines old new s form result
+first_fault old new s form fault result broken given =
+    handed_on (LeavesLines old new s form) (faults.Part fault) result (first_broken old new s form fault broken) given
 
 -- it is, and the watcher begins
-pub begins : {S : Type 0} (contents : S → Option (List ℕ)) (old : Option (List ℕ)) (s : Scenario) (span : Span) (n : ℕ)
-    (k : LineWriter) (o : S) → Adds old (contents o) 0 (first_line s) n → k.scenario.now ≡ s → k.span ≡ span
-    → k.judged.items ≡ [] → k.written ≡ n → Stands contents old s span [] k o
+pub begins : {S : Type 0} (contents : S → Option (List ℕ)) (old : Option (List ℕ)) (s : Scenario) (form : LinesForm) (n : ℕ)
+    (k : LineWriter) (o : S) → Adds old (contents o) 0 (first_line form.format s) n → k.scenario.now ≡ s → k.form ≡ form
+    → k.judged.items ≡ [] → k.written ≡ n → Stands contents old s form [] k o
 unfolding no_pulse
-begins contents old s span n k o adds same as_well none number = record {
+begins contents old s form n k o adds same as_well none number = record {
   scenario = same;
   within = as_well;
   judged = none;
-  wrote = subst (λ t. Wrote old (contents o) t k.written) (no_pulse s span).text
-      (subst (λ m. Wrote old (contents o) (first_line s) m) (sym number) (adds old [] (wrote_nothing old)));
+  wrote = subst (λ t. Wrote old (contents o) t k.written) (no_pulse s form).text
+      (subst (λ m. Wrote old (contents o) (first_line form.format s) m) (sym number) (adds old [] (wrote_nothing old)));
 }
 
-front_left : {S : Type 0} (contents : S → Option (List ℕ)) (old : Option (List ℕ)) (s : Scenario) (span : Span)
-    (seen : List Seen) (events : ℕ) (k : LineWriter) (o : S) → Stands contents old s span seen k o
-    → AreShown s (take events (events_of s)) seen → LeavesFront old (contents o) s span events
-front_left contents old s span seen events k o stands shown = record {
-  told = front_text s span seen;
+front_left : {S : Type 0} (contents : S → Option (List ℕ)) (old : Option (List ℕ)) (s : Scenario) (form : LinesForm)
+    (seen : List Seen) (events : ℕ) (k : LineWriter) (o : S) → Stands contents old s form seen k o
+    → AreShown s (take events (events_of s)) seen → LeavesFront old (contents o) s form events
+front_left contents old s form seen events k o stands shown = record {
+  told = front_text s form seen;
   front = record { seen = seen; shown = shown; text = refl };
   left = stands.wrote.left;
 }
 
-line_broken : {S : Type 0} (contents : S → Option (List ℕ)) (old new : Option (List ℕ)) (s : Scenario) (span : Span)
+line_broken : {S : Type 0} (contents : S → Option (List ℕ)) (old new : Option (List ℕ)) (s : Scenario) (form : LinesForm)
     (seen : List Seen) (x : Seen) (event : ℕ) (k : LineWriter) (o : S) (fault : PartFault)
-    → Stands contents old s span seen k o → AreShown s (take (event + 1) (events_of s)) (seen ++ x ∷ [])
-    → IsPartFault (contents o) new k.written (line_within s span x) fault
-    → LeavesLines old new s span (Err (faults.Part fault))
-line_broken contents old new s span seen x event k o (parts.Write written) stands shown broke =
-    let front : IsFrontText s span (event + 1) (front_text s span seen ++ line_within s span x) = record {
+    → Stands contents old s form seen k o → AreShown s (take (event + 1) (events_of s)) (seen ++ x ∷ [])
+    → IsPartFault (contents o) new k.written (line_within s form x) fault
+    → LeavesLines old new s form (Err (faults.Part fault))
+line_broken contents old new s form seen x event k o (parts.Write written) stands shown broke =
+    let front : IsFrontText s form (event + 1) (front_text s form seen ++ line_within s form x) = record {
       seen = seen ++ x ∷ [];
       shown = shown;
-      text = flat_map_more (line_within s span) (first_line s) seen x;
+      text = flat_map_more (line_within s form) (first_line form.format s) seen x;
     } in (
-      front_text s span seen ++ line_within s span x,
+      front_text s form seen ++ line_within s form x,
       inl (event + 1, front),
-      broke old (front_text s span seen) stands.wrote,
+      broke old (front_text s form seen) stands.wrote,
     )
-line_broken contents old new s span seen x event k o parts.Memory stands shown kept =
+line_broken contents old new s form seen x event k o parts.Memory stands shown kept =
     let before = shown_before s (event + 1) seen x shown in
     inr (
       before.0,
       record {
-        told = front_text s span seen;
+        told = front_text s form seen;
         front = record { seen = seen; shown = before.1; text = refl };
-        left = Appends-kept old (contents o) new (front_text s span seen) stands.wrote.left kept;
+        left = Appends-kept old (contents o) new (front_text s form seen) stands.wrote.left kept;
       },
     )
 
-line_stopped : {S : Type 0} (contents : S → Option (List ℕ)) (old : Option (List ℕ)) (s : Scenario) (span : Span)
-    (k k' : LineWriter) (o o' : S) (event : ℕ) (fault : LinesFault) → Stands contents old s span [] k o
-    → StoppedAt (Tells contents) (Stops contents) (bench_of s) (events_of s) event k o k' o'
-    → IfSome k'.stopped (λ why. fault ≡ faults.Part why) → LeavesLines old (contents o') s span (Err fault)
-line_stopped contents old s span k k' o o' event fault stands ends told =
-    let now = stands_all contents old s span [] ends.before k ends.k1 o ends.o1 stands ends.watches in
+line_stopped : {S : Type 0} (contents : S → Option (List ℕ)) (old : Option (List ℕ)) (s : Scenario) (form : LinesForm)
+    (k k' : LineWriter) (o o' : S) (event : ℕ) (fault : LinesFault) → Stands contents old s form [] k o
+    → StoppedAt (TellsPulse contents) (KeepsReason contents) (bench_of s) (events_of s) event k o k' o'
+    → IfSome k'.stopped (λ why. fault ≡ faults.Part why) → LeavesLines old (contents o') s form (Err fault)
+line_stopped contents old s form k k' o o' event fault stands ends told =
+    let now = stands_all contents old s form [] ends.before k ends.k1 o ends.o1 stands ends.watches in
     let same : fault ≡ faults.Part ends.stops.fault =
     subst (λ kept. IfSome kept (λ f. fault ≡ faults.Part f)) ends.stops.kept told in
-    let line = line_same ends.k1.scenario.now s ends.k1.span span ends.here now.scenario now.within in
+    let line = line_same ends.k1.scenario.now s ends.k1.form form ends.here now.scenario now.within in
     let broken = subst (λ t. IsPartFault (contents ends.o1) (contents o') ends.k1.written t ends.stops.fault) line
     ends.stops.why in
-    subst (λ f. LeavesLines old (contents o') s span (Err f)) (sym same)
-    (line_broken contents old (contents o') s span ends.before ends.here event ends.k1 ends.o1 ends.stops.fault now
+    subst (λ f. LeavesLines old (contents o') s form (Err f)) (sym same)
+    (line_broken contents old (contents o') s form ends.before ends.here event ends.k1 ends.o1 ends.stops.fault now
     (ends.last, ends.shows) broken)
 
 -- no pulse was run; the run stopped at an event; or the watcher stopped it
-pub ends_early : {S : Type 0} (contents : S → Option (List ℕ)) (old : Option (List ℕ)) (s : Scenario) (span : Span)
-    (k k' : LineWriter) (o o' : S) (end : WatchedFault) (fault : LinesFault) → Stands contents old s span [] k o
-    → ScenarioEndsAt (Tells contents) (Stops contents) s k o k' o' end → IsReason k'.stopped end fault
-    → LeavesLines old (contents o') s span (Err fault)
+pub ends_early : {S : Type 0} (contents : S → Option (List ℕ)) (old : Option (List ℕ)) (s : Scenario) (form : LinesForm)
+    (k k' : LineWriter) (o o' : S) (end : WatchedFault) (fault : LinesFault) → Stands contents old s form [] k o
+    → ScenarioEndsAt (TellsPulse contents) (KeepsReason contents) s k o k' o' end → IsReason k'.stopped end fault
+    → LeavesLines old (contents o') s form (Err fault)
 unfolding no_pulse
-ends_early {S} contents old s span k k' o o' watched.Memory fault stands ends reason =
-    subst (λ f. LeavesLines old (contents o') s span (Err f)) (sym reason)
+ends_early {S} contents old s form k k' o o' watched.Memory fault stands ends reason =
+    subst (λ f. LeavesLines old (contents o') s form (Err f)) (sym reason)
     (inr (
       0,
-      subst (λ (y : S). LeavesFront old (contents y) s span 0) (sym ends.1)
-          (front_left contents old s span [] 0 k o stands (no_pulse s span).shown),
+      subst (λ (y : S). LeavesFront old (contents y) s form 0) (sym ends.1)
+          (front_left contents old s form [] 0 k o stands (no_pulse s form).shown),
     ))
-ends_early contents old s span k k' o o' (watched.Run stop) fault stands ends reason =
+ends_early contents old s form k k' o o' (watched.Run stop) fault stands ends reason =
     let xs = ends.2.0 in
     let shown = ends.2.1 in
-    subst (λ f. LeavesLines old (contents o') s span (Err f)) (sym reason) (
+    subst (λ f. LeavesLines old (contents o') s form (Err f)) (sym reason) (
       ends.0,
       ends.1,
-      front_left contents old s span xs stop.event k' o'
-          (stands_all contents old s span [] xs k k' o o' stands shown.watches) (shown.last, shown.shows),
+      front_left contents old s form xs stop.event k' o'
+          (stands_all contents old s form [] xs k k' o o' stands shown.watches) (shown.last, shown.shows),
     )
-ends_early contents old s span k k' o o' (watched.Stopped event) fault stands ends reason =
-    line_stopped contents old s span k k' o o' event fault stands ends reason
+ends_early contents old s form k k' o o' (watched.Stopped event) fault stands ends reason =
+    line_stopped contents old s form k k' o o' event fault stands ends reason
 
 -- ---- the last line
 
@@ -228,15 +229,15 @@ in_run (Ok agrees) = Ok agrees
 in_run (Err fault) = Err (faults.Part fault)
 
 -- all pulses were shown
-ended : {S : Type 0} (contents : S → Option (List ℕ)) (old new : Option (List ℕ)) (s : Scenario) (span : Span)
+ended : {S : Type 0} (contents : S → Option (List ℕ)) (old new : Option (List ℕ)) (s : Scenario) (form : LinesForm)
     (xs : List Seen) (memories : List (List ℕ)) (k : LineWriter) (o : S) (result : Result Bool PartFault)
-    → Stands contents old s span xs k o → AreShown s (events_of s) xs
+    → Stands contents old s form xs k o → AreShown s (events_of s) xs
     → IsRun (bench_of s) (events_of s) (map (λ x. x.told) xs) memories
-    → IsEndOfLines (contents o) new s k.written (map (λ x. x.told) xs) result
-    → LeavesLines old new s span (in_run result)
-ended contents old new s span xs memories k o (Ok agrees) stands shown run end =
+    → IsEndOfLines (contents o) new s form.format k.written (map (λ x. x.told) xs) result
+    → LeavesLines old new s form (in_run result)
+ended contents old new s form xs memories k o (Ok agrees) stands shown run end =
     let m = end.1.0 in (
-      whole_text s span xs m,
+      whole_text s form xs m,
       record {
         seen = xs;
         summary = m;
@@ -247,11 +248,11 @@ ended contents old new s span xs memories k o (Ok agrees) stands shown run end =
         verdict = end.0;
         text = refl;
       },
-      (end.1.3 old (front_text s span xs) stands.wrote).left,
+      (end.1.3 old (front_text s form xs) stands.wrote).left,
     )
-ended contents old new s span xs memories k o (Err (parts.Write written)) stands shown run end =
+ended contents old new s form xs memories k o (Err (parts.Write written)) stands shown run end =
     let agrees = all_agree (frame_of s) (is_some s.clock) (map (λ x. x.told) xs) in
-    let whole : IsWholeText s span (front_text s span xs ++ summary_line end.0) agrees = record {
+    let whole : IsWholeText s form (front_text s form xs ++ summary_line form.format end.0) agrees = record {
       seen = xs;
       summary = end.0;
       memories = memories;
@@ -261,17 +262,17 @@ ended contents old new s span xs memories k o (Err (parts.Write written)) stands
       verdict = refl;
       text = refl;
     } in (
-      front_text s span xs ++ summary_line end.0,
+      front_text s form xs ++ summary_line form.format end.0,
       inr (agrees, whole),
-      end.2 old (front_text s span xs) stands.wrote,
+      end.2 old (front_text s form xs) stands.wrote,
     )
-ended contents old new s span xs memories k o (Err parts.Memory) stands shown run end =
+ended contents old new s form xs memories k o (Err parts.Memory) stands shown run end =
     let es = events_of s in
     let all : take (length es) es ≡ es = take_all (length es) es (omega arith) in
     inr (
       length es,
       record {
-        told = front_text s span xs;
+        told = front_text s form xs;
         front = record {
           seen = xs;
           shown = (
@@ -280,32 +281,35 @@ ended contents old new s span xs memories k o (Err parts.Memory) stands shown ru
           );
           text = refl;
         };
-        left = Appends-kept old (contents o) new (front_text s span xs) stands.wrote.left end.2;
+        left = Appends-kept old (contents o) new (front_text s form xs) stands.wrote.left end.2;
       },
     )
 
-pub ends_whole : {S : Type 0} (contents : S → Option (List ℕ)) (old new : Option (List ℕ)) (s : Scenario) (span : Span)
+pub ends_whole : {S : Type 0} (contents : S → Option (List ℕ)) (old new : Option (List ℕ)) (s : Scenario) (form : LinesForm)
     (rs : List PulseTold) (memories : List (List ℕ)) (k k' : LineWriter) (o o' : S)
-    (result : Result Bool PartFault) → Stands contents old s span [] k o
+    (result : Result Bool PartFault) → Stands contents old s form [] k o
     → IsRun (bench_of s) (events_of s) rs memories
-    → (xs : List Seen) × (rs ≡ map (λ x. x.told) xs) × Watched (Tells contents) (bench_of s) (events_of s) k o xs k' o'
-    → IsEndOfLines (contents o') new k'.scenario.now k'.written rs result → LeavesLines old new s span (in_run result)
-ends_whole contents old new s span rs memories k k' o o' result stands run shown end =
+    → (xs : List Seen) × (rs ≡ map (λ x. x.told) xs) × Watched (TellsPulse contents) (bench_of s) (events_of s) k o xs k' o'
+    → IsEndOfLines (contents o') new k'.scenario.now k'.form.format k'.written rs result
+    → LeavesLines old new s form (in_run result)
+ends_whole contents old new s form rs memories k k' o o' result stands run shown end =
     let xs = shown.0 in
-    let now = stands_all contents old s span [] xs k k' o o' stands shown.2.watches in
-    ended contents old new s span xs memories k' o' result now (shown.2.last, shown.2.shows)
+    let now = stands_all contents old s form [] xs k k' o o' stands shown.2.watches in
+    ended contents old new s form xs memories k' o' result now (shown.2.last, shown.2.shows)
     (subst (λ ts. IsRun (bench_of s) (events_of s) ts memories) shown.1 run)
-    (subst (λ ts. IsEndOfLines (contents o') new s k'.written ts result) shown.1
-    (subst (λ (u : Scenario). IsEndOfLines (contents o') new u k'.written rs result) now.scenario end))
+    (subst (λ ts. IsEndOfLines (contents o') new s form.format k'.written ts result) shown.1
+    (subst (λ (u : Scenario). IsEndOfLines (contents o') new u form.format k'.written rs result) now.scenario
+    (subst (λ (f : LinesForm). IsEndOfLines (contents o') new k'.scenario.now f.format k'.written rs result) now.within
+    end)))
 
 -- what the watcher judged is what the report judges
-pub all_judged : {S : Type 0} (contents : S → Option (List ℕ)) (old : Option (List ℕ)) (s : Scenario) (span : Span)
-    (rs : List PulseTold) (k k' : LineWriter) (o o' : S) → Stands contents old s span [] k o
-    → (xs : List Seen) × (rs ≡ map (λ x. x.told) xs) × Watched (Tells contents) (bench_of s) (events_of s) k o xs k' o'
+pub all_judged : {S : Type 0} (contents : S → Option (List ℕ)) (old : Option (List ℕ)) (s : Scenario) (form : LinesForm)
+    (rs : List PulseTold) (k k' : LineWriter) (o o' : S) → Stands contents old s form [] k o
+    → (xs : List Seen) × (rs ≡ map (λ x. x.told) xs) × Watched (TellsPulse contents) (bench_of s) (events_of s) k o xs k' o'
     → k'.judged.items ≡ judged_of (frame_of k'.scenario.now) (is_some k'.scenario.now.clock) rs
-all_judged contents old s span rs k k' o o' stands shown =
+all_judged contents old s form rs k k' o o' stands shown =
     let xs = shown.0 in
-    let now = stands_all contents old s span [] xs k k' o o' stands shown.2.watches in
+    let now = stands_all contents old s form [] xs k k' o o' stands shown.2.watches in
     let own = is_some s.clock in
     now.judged ∙ (judges_as_the_report (frame_of s) own (bench_of s) (events_of s) xs shown.2.last shown.2.shows
     ∙ (ap (judged_of (frame_of s) own) (sym shown.1)
@@ -314,8 +318,8 @@ all_judged contents old s span rs k k' o o' stands shown =
 -- ---- one pulse
 
 -- outside the span it has no line
-pub none_told : (s : Scenario) (span : Span) (x : Seen) (known : Option (List ℕ)) (n : ℕ)
-    → is_within span x.told.row.pulse ≡ false → Adds known known n (line_within s span x) n
-none_told s span x known n out =
-    let none : line_within s span x ≡ [] = ap (λ b. if b then told_line s x else []) out in
+pub none_told : (s : Scenario) (form : LinesForm) (x : Seen) (known : Option (List ℕ)) (n : ℕ)
+    → is_within form.span x.told.row.pulse ≡ false → Adds known known n (line_within s form x) n
+none_told s form x known n out =
+    let none : line_within s form x ≡ [] = ap (λ b. if b then told_line form.format s x else []) out in
     subst (λ t. Adds known known n t n) (sym none) (adds_nothing known n)

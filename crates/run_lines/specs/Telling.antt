@@ -3,7 +3,7 @@ use Rattle.std.specs.Prelude.{◌≡◌, ◌⊎◌, ℕ, is_some, Bool, List, ma
 use Rattle.std.specs.Io.KnownBytes.{Appends, Keeps}
 use Rattle.bench_core.specs.State.{State, new_state}
 use Rattle.bench_workers.specs.Events.{Event}
-use Rattle.bench_workers.specs.Runs.{IsFault, IsRun}
+use Rattle.bench_workers.specs.Runs.{IsEventFault, IsRun}
 use Rattle.bench_workers.specs.Watching.{Seen, Shows}
 use Rattle.scenario_text.specs.declared.scenario.Scenario.{Scenario}
 use Rattle.scenario_text.specs.Views.{frame_of}
@@ -17,20 +17,20 @@ use Rattle.stream_io.specs.Parts.{Breaks}
 use Rattle.run_lines.specs.declared.fault.LinesFault.{LinesFault}
 use Rattle.run_lines.specs.declared.fault.LinesFault.TheVariants as faults
 use Rattle.run_lines.specs.Lines.{front_text, whole_text}
-use Rattle.run_lines.specs.Spans.{Span}
+use Rattle.run_lines.specs.declared.form.LinesForm.{LinesForm}
 
 -- on the scenario's bench, which is new, these events show these pulses
 abbrev pub AreShown : Scenario → List Event → List Seen → Type 0
 AreShown s es xs = (last : State) × Shows (bench_of s) (new_state (bench_of s)) 0 None es xs last
 
 -- the first line, and those of the pulses that this many events of the run show
-pub record IsFrontText (s : Scenario) (span : Span) (events : ℕ) (told : List ℕ) : Type 0 where
+pub record IsFrontText (s : Scenario) (form : LinesForm) (events : ℕ) (told : List ℕ) : Type 0 where
   pub seen : List Seen
   pub shown : AreShown s (take events (events_of s)) seen
-  pub text : told ≡ front_text s span seen
+  pub text : told ≡ front_text s form seen
 
 -- all lines, and whether no pulse's verdict on agreement is no; the run is that of the report
-pub record IsWholeText (s : Scenario) (span : Span) (told : List ℕ) (agrees : Bool) : Type 0 where
+pub record IsWholeText (s : Scenario) (form : LinesForm) (told : List ℕ) (agrees : Bool) : Type 0 where
   pub seen : List Seen
   pub summary : RunSummary
   pub memories : List (List ℕ)
@@ -38,27 +38,27 @@ pub record IsWholeText (s : Scenario) (span : Span) (told : List ℕ) (agrees : 
   pub run : IsRun (bench_of s) (events_of s) (map (λ x. x.told) seen) memories
   pub summed : IsSummary (frame_of s) (is_some s.clock) (map (λ x. x.told) seen) summary
   pub verdict : agrees ≡ all_agree (frame_of s) (is_some s.clock) (map (λ x. x.told) seen)
-  pub text : told ≡ whole_text s span seen summary
+  pub text : told ≡ whole_text s form seen summary
 
 -- whole lines up to some pulse
-pub record LeavesFront (old new : Option (List ℕ)) (s : Scenario) (span : Span) (events : ℕ) : Type 0 where
+pub record LeavesFront (old new : Option (List ℕ)) (s : Scenario) (form : LinesForm) (events : ℕ) : Type 0 where
   pub told : List ℕ
-  pub front : IsFrontText s span events told
+  pub front : IsFrontText s form events told
   pub left : Appends old new told
 
 -- lines up to some pulse, or all
-abbrev pub AreLines : Scenario → Span → List ℕ → Type 0
-AreLines s span told =
-    ((events : ℕ) × IsFrontText s span events told) ⊎ ((agrees : Bool) × IsWholeText s span told agrees)
+abbrev pub AreLines : Scenario → LinesForm → List ℕ → Type 0
+AreLines s form told =
+    ((events : ℕ) × IsFrontText s form events told) ⊎ ((agrees : Bool) × IsWholeText s form told agrees)
 
 -- all lines; the first bytes of lines if a write failed; where the run stopped at an event, whole lines of the
 -- pulses before it; if there was no memory, nothing or whole lines
-abbrev pub LeavesLines : Option (List ℕ) → Option (List ℕ) → Scenario → Span → Result Bool LinesFault → Type 0
-LeavesLines old new s span (Ok agrees) = (told : List ℕ) × IsWholeText s span told agrees × Appends old new told
-LeavesLines old new s span (Err (faults.Part (parts.Write written))) =
-    (told : List ℕ) × AreLines s span told × Breaks old new told written
-LeavesLines old new s span (Err (faults.Part parts.Memory)) =
-    Keeps old new ⊎ ((events : ℕ) × LeavesFront old new s span events)
-LeavesLines old new s span (Err (faults.Run stop)) =
-    IsFault (bench_of s) (events_of s) stop.event stop.fault × IsMemoryOrThread stop.fault
-    × LeavesFront old new s span stop.event
+abbrev pub LeavesLines : Option (List ℕ) → Option (List ℕ) → Scenario → LinesForm → Result Bool LinesFault → Type 0
+LeavesLines old new s form (Ok agrees) = (told : List ℕ) × IsWholeText s form told agrees × Appends old new told
+LeavesLines old new s form (Err (faults.Part (parts.Write written))) =
+    (told : List ℕ) × AreLines s form told × Breaks old new told written
+LeavesLines old new s form (Err (faults.Part parts.Memory)) =
+    Keeps old new ⊎ ((events : ℕ) × LeavesFront old new s form events)
+LeavesLines old new s form (Err (faults.Run stop)) =
+    IsEventFault (bench_of s) (events_of s) stop.event stop.fault × IsMemoryOrThread stop.fault
+    × LeavesFront old new s form stop.event

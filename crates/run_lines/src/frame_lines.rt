@@ -12,7 +12,7 @@ use scenario_text::Scenario;
 use serde_json::{Map, Value, put};
 use std::alloc::{AllocError, Global};
 
-/// The version of the scenario, and its nodes and their rule.
+/// Adds the version of the scenario, and its nodes and their rule.
 fn add_rule(
     alloc: Global,
     members: &mut Map<String, Value>,
@@ -30,7 +30,7 @@ fn add_rule(
     put(members, alloc, "modulus", Value::from(scenario.modulus))
 }
 
-/// The bytes of each memory, and the pulses.
+/// Adds the bytes of each memory, and the pulses.
 fn add_extent(
     alloc: Global,
     members: &mut Map<String, Value>,
@@ -44,7 +44,7 @@ fn add_extent(
     put(members, alloc, "pulses", Value::from(scenario.pulses))
 }
 
-/// Whose clock it is, if the version knows that.
+/// Adds whose clock it is, if the version knows that.
 fn add_clock(
     alloc: Global,
     members: &mut Map<String, Value>,
@@ -60,7 +60,7 @@ fn add_clock(
     put(members, alloc, "clock", Value::try_from_str(alloc, clock)?)
 }
 
-/// What the first line tells.
+/// Returns what the first line tells.
 fn frame_value(alloc: Global, scenario: &Scenario) -> Result<Value, AllocError>
     ensures { IfOk result (λ v. view v ≡ frame_data (frame_of scenario.now) (is_some scenario.now.clock)) }
 {
@@ -80,7 +80,7 @@ pub fn frame_line(alloc: Global, scenario: &Scenario) -> Result<String, AllocErr
     line_of(alloc, &value)
 }
 
-/// What the last line tells.
+/// Returns what the last line tells.
 fn last_value(alloc: Global, summary: &RunSummary) -> Result<Value, AllocError>
     ensures { IfOk result (λ v. view v ≡ last_data summary.now) }
 {

@@ -1,7 +1,8 @@
-//! A run told in lines of JSON: docs/OUTPUT.md, "JSON lines".
+//! A run told in lines: docs/OUTPUT.md, "JSON lines".
 #![tactic(auto)]
 
 mod fault;
+mod form;
 mod frame_lines;
 pub mod laws;
 mod nodes;
@@ -12,6 +13,7 @@ mod telling;
 mod writer;
 
 pub use fault::LinesFault;
+pub use form::{LineFormat, LinesForm};
 pub use frame_lines::{frame_line, last_line};
 pub use pulse_lines::pulse_line;
 pub use span::PulseSpan;

@@ -11,16 +11,16 @@ use node_env::Mail;
 use serde_json::Value;
 use std::alloc::{AllocError, Global};
 
-/// How many nodes a bench has.
+/// Returns how many nodes a bench has.
 fn node_count(bench: &Bench) -> u32
     ensures shape { result ≡ bench.now.setup.shape.nodes }
     ensures nodes { result ≡ length bench.now.state.nodes }
 {
-    let _history = bench.history();
+    let _history = bench.history(); // brings its replay
     bench.shape().nodes()
 }
 
-/// What a node ran in the closed pulse.
+/// Returns what a node ran in the closed pulse.
 fn ran_in(alloc: Global, bench: &Bench, node: u32) -> Result<Value, AllocError>
     requires { node < bench.now.setup.shape.nodes }
     ensures { IfOk result (λ v. view v ≡ ran_data (node_at bench.now.state.nodes node)) }
@@ -34,7 +34,7 @@ fn ran_in(alloc: Global, bench: &Bench, node: u32) -> Result<Value, AllocError>
     }
 }
 
-/// What each node ran.
+/// Returns what each node ran.
 pub(crate) fn ran(alloc: Global, bench: &Bench) -> Result<Value, AllocError>
     ensures { IfOk result (λ v. view v ≡ list_data ran_data bench.now.state.nodes) }
 {
@@ -45,7 +45,7 @@ pub(crate) fn ran(alloc: Global, bench: &Bench) -> Result<Value, AllocError>
     Ok(Value::Array(values))
 }
 
-/// A node's memory, in hex.
+/// Returns a node's memory, in hex.
 fn memory_in(alloc: Global, bench: &Bench, node: u32) -> Result<Value, AllocError>
     requires { node < bench.now.setup.shape.nodes }
     ensures { IfOk result (λ v. view v ≡ memory_data (node_at bench.now.state.nodes node)) }
@@ -53,7 +53,7 @@ fn memory_in(alloc: Global, bench: &Bench, node: u32) -> Result<Value, AllocErro
     Ok(Value::String(hex::encode(alloc, bench.memory(node))?))
 }
 
-/// The memory of each node.
+/// Returns the memory of each node.
 pub(crate) fn memories(alloc: Global, bench: &Bench) -> Result<Value, AllocError>
     ensures { IfOk result (λ v. view v ≡ list_data memory_data bench.now.state.nodes) }
 {
@@ -64,7 +64,7 @@ pub(crate) fn memories(alloc: Global, bench: &Bench) -> Result<Value, AllocError
     Ok(Value::Array(values))
 }
 
-/// What a node sent, by receiver.
+/// Returns what a node sent, by receiver.
 fn sent_by(alloc: Global, mail: &Mail, sender: u32) -> Result<Value, AllocError>
     requires { sender < length mail.now }
     ensures { IfOk result (λ v. view v ≡ sent_data (length mail.now) (mail_from mail.now sender)) }
@@ -76,7 +76,7 @@ fn sent_by(alloc: Global, mail: &Mail, sender: u32) -> Result<Value, AllocError>
     Ok(Value::Array(values))
 }
 
-/// What each node sent.
+/// Returns what each node sent.
 pub(crate) fn sent(alloc: Global, mail: &Mail) -> Result<Value, AllocError>
     ensures { IfOk result (λ v. view v ≡ list_data (sent_data (length mail.now)) mail.now) }
 {

@@ -18,7 +18,7 @@ use scenario_text::Scenario;
 use serde_json::{Map, Value, put};
 use std::alloc::{AllocError, Global};
 
-/// What was done in a pulse: its number, what was staged before it, the coins, and what each node ran.
+/// Adds what was done in a pulse: its number, what was staged before it, the coins, and what each node ran.
 fn add_doings(
     alloc: Global,
     members: &mut Map<String, Value>,
@@ -39,7 +39,7 @@ fn add_doings(
     put(members, alloc, "ran", ran(alloc, shown.bench)?)
 }
 
-/// What its record tells node by node, and the steps of each.
+/// Adds what its record tells node by node, and the steps of each.
 fn add_record(
     alloc: Global,
     members: &mut Map<String, Value>,
@@ -62,7 +62,7 @@ fn add_record(
     put(members, alloc, "steps", numbers(alloc, shown.steps)?)
 }
 
-/// What it left: the memories and the messages.
+/// Adds what it left: the memories and the messages.
 fn add_left(
     alloc: Global,
     members: &mut Map<String, Value>,
@@ -77,7 +77,7 @@ fn add_left(
     put(members, alloc, "sent", sent(alloc, shown.bench.mail())?)
 }
 
-/// What is judged of it.
+/// Adds what is judged of it.
 fn add_verdicts(
     alloc: Global,
     members: &mut Map<String, Value>,
@@ -94,7 +94,7 @@ fn add_verdicts(
     put(members, alloc, "counts", verdict_or_null(judged.counts))
 }
 
-/// What the line of a pulse tells.
+/// Returns what the line of a pulse tells.
 fn pulse_value(
     alloc: Global,
     scenario: &Scenario,
@@ -112,8 +112,8 @@ fn pulse_value(
     Ok(Value::Object(members))
 }
 
-/// Returns the line of a closed pulse of a scenario's run, of which this is judged. The text reads back as what the line
-/// tells.
+/// Returns the line of a closed pulse of a scenario's run, of which this is judged. The text reads back as what the
+/// line tells.
 pub fn pulse_line(
     alloc: Global,
     scenario: &Scenario,

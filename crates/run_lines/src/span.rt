@@ -12,9 +12,9 @@ pub struct PulseSpan {
 }
 
 impl Model for PulseSpan {
-    ghost use Rattle.run_lines.specs.Spans.{IsPulseSpan, Span};
+    ghost use Rattle.run_lines.specs.Spans.{IsPulseSpan, PulseRange};
 
-    ghost Value = { Span };
+    ghost Value = { PulseRange };
 
     ghost view = { λ p. record { first = p.first; last = p.last } };
 

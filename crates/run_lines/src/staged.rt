@@ -22,7 +22,7 @@ fn kind_text(kind: Kind) -> &'static str
     }
 }
 
-/// A load into one node.
+/// Returns a load into one node.
 fn loaded(alloc: Global, node: u32, kind: Kind) -> Result<Value, AllocError>
     ensures { IfOk result (λ v. view v ≡ staged_data (Loaded node kind)) }
 {
@@ -116,7 +116,7 @@ fn add_corruptions(
     Ok(())
 }
 
-/// What was staged before a pulse: its loads, its unloads and its corruptions, each in order.
+/// Returns what was staged before a pulse: its loads, its unloads and its corruptions, each in order.
 pub(crate) fn staged(alloc: Global, scenario: &Scenario, pulse: u32) -> Result<Value, AllocError>
     ensures { IfOk result (λ v. view v ≡ list_data staged_data (staged_at scenario.now pulse)) }
 {

@@ -6,8 +6,7 @@ ghost use Rattle.run_lines.specs.Telling.{LeavesLines};
 ghost use Rattle.stream_io.specs.Parts.{Adds, IsPartFault};
 
 use crate::fault::LinesFault;
-use crate::frame_lines::frame_line;
-use crate::span::PulseSpan;
+use crate::form::{LineFormat, LinesForm};
 use crate::writer::LineWriter;
 use bench_scenario::run_watched;
 use bench_workers::MAX_WORKERS;
@@ -19,11 +18,17 @@ use std::thread::Threads;
 use stream_io::{PartFault, write_part};
 
 /// Writes the first line, and answers how many bytes it has.
-fn write_first<W: Write>(alloc: Global, scenario: &Scenario, out: &mut W) -> Result<u64, PartFault>
-    ensures told { IfOk result (Adds (W.contents out.old) (W.contents out.new) 0 (first_line scenario.now)) }
-    ensures fault { IfErr result (IsPartFault (W.contents out.old) (W.contents out.new) 0 (first_line scenario.now)) }
+fn write_first<W: Write>(
+    alloc: Global,
+    scenario: &Scenario,
+    format: LineFormat,
+    out: &mut W,
+) -> Result<u64, PartFault>
+    ensures told { IfOk result (Adds (W.contents out.old) (W.contents out.new) 0 (first_line format scenario.now)) }
+    ensures fault { IfErr result (IsPartFault (W.contents out.old) (W.contents out.new) 0
+        (first_line format scenario.now)) }
 {
-    let line = frame_line(alloc, scenario)?;
+    let line = format.first_line(alloc, scenario)?;
     write_part(out, 0, line.as_bytes())
 }
 
@@ -35,16 +40,16 @@ pub fn tell_lines<T: Threads + Wait + Sync, W: Write>(
     alloc: Global,
     scenario: &Scenario,
     workers: u32,
-    span: PulseSpan,
+    form: LinesForm,
     out: &mut W,
 ) -> Result<bool, LinesFault>
     requires some { 1 ≤ workers }
     requires few { workers ≤ MAX_WORKERS }
     requires reads { (text : List ℕ) × ReadsText text scenario.now }
-    ensures left { LeavesLines (W.contents out.old) (W.contents out.new) scenario.now span result }
+    ensures left { LeavesLines (W.contents out.old) (W.contents out.new) scenario.now form result }
 {
-    let written = write_first(alloc, scenario, out)?;
-    let mut writer = LineWriter::new(alloc, scenario, span, written);
+    let written = write_first(alloc, scenario, form.format, out)?;
+    let mut writer = LineWriter::new(alloc, scenario, form, written);
     let run = match run_watched(rt, alloc, scenario, workers, &mut writer, out) {
         Ok(run) => run,
         Err(end) => return Err(writer.fault(end)),

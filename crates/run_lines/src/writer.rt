@@ -4,13 +4,11 @@ ghost use Rattle.bench_workers.specs.Watching.{seen_of};
 ghost use Rattle.scenario_text.specs.Views.{frame_of};
 ghost use Rattle.bench_scenario.specs.Verdicts.{judged_of};
 ghost use Rattle.stream_io.specs.Parts.{IsPartFault};
-ghost use Rattle.run_lines.specs.inner.Writing.{IsEndOfLines, IsReason, Tells};
+ghost use Rattle.run_lines.specs.inner.Writing.{IsEndOfLines, IsReason, TellsPulse};
 ghost use Rattle.run_lines.specs.Lines.{line_within};
 
 use crate::fault::LinesFault;
-use crate::frame_lines::last_line;
-use crate::pulse_lines::pulse_line;
-use crate::span::PulseSpan;
+use crate::form::LinesForm;
 use bench_core::PulseRecord;
 use bench_scenario::{Judged, WatchedFault, judgement, none_disagrees, summary_of};
 use bench_workers::{Shown, Stop, Watcher};
@@ -19,7 +17,7 @@ use std::alloc::Global;
 use std::io::Write;
 use stream_io::{PartFault, write_part};
 
-/// The number of a pulse.
+/// Returns the number of a pulse.
 fn pulse_of(shown: &Shown) -> u32
     ensures { result ≡ (seen_of shown.now).told.row.pulse }
 {
@@ -32,7 +30,7 @@ fn pulse_of(shown: &Shown) -> u32
 pub(crate) struct LineWriter<'a> {
     alloc: Global,
     scenario: &'a Scenario,
-    span: PulseSpan,
+    form: LinesForm,
     /// What is judged of the pulses that it was shown.
     judged: Vec<Judged>,
     /// How many bytes were written, those before its first line included.
@@ -41,29 +39,29 @@ pub(crate) struct LineWriter<'a> {
 }
 
 impl<'a> LineWriter<'a> {
-    /// After this many bytes.
+    /// Returns a writer that begins after this many bytes.
     pub(crate) fn new(
         alloc: Global,
         scenario: &'a Scenario,
-        span: PulseSpan,
+        form: LinesForm,
         written: u64,
     ) -> LineWriter<'a>
         ensures scenario { result.scenario.now ≡ scenario.now }
-        ensures span { result.span ≡ span }
+        ensures form { result.form ≡ form }
         ensures judged { result.judged.items ≡ [] }
         ensures written { result.written ≡ written }
     {
         LineWriter {
             alloc,
             scenario,
-            span,
+            form,
             judged: Vec::new(alloc),
             written,
             stopped: None,
         }
     }
 
-    /// Why the run that it watched has no end.
+    /// Returns why the run that it watched has no end.
     pub(crate) fn fault(&self, end: WatchedFault) -> LinesFault
         ensures { IsReason self.now.stopped end result }
     {
@@ -78,18 +76,19 @@ impl<'a> LineWriter<'a> {
 
     /// Judges a pulse, and writes its line if it is within the span.
     fn tell<W: Write>(&mut self, out: &mut W, shown: &Shown) -> Result<(), PartFault>
-        ensures told { OnOk result (Tells W.contents self.old out.old (seen_of shown.now) self.new out.new) }
+        ensures told { OnOk result (TellsPulse W.contents self.old out.old (seen_of shown.now) self.new out.new) }
         ensures fault { IfErr result (IsPartFault (W.contents out.old) (W.contents out.new) self.old.written
-            (line_within self.old.scenario.now self.old.span (seen_of shown.now))) }
+            (line_within self.old.scenario.now self.old.form (seen_of shown.now))) }
     {
         let judged = judgement(self.alloc, self.scenario, shown.earlier, shown.told)?;
         if self.judged.push(judged).is_err() {
             return Err(PartFault::Memory);
         }
-        if !self.span.contains(pulse_of(shown)) {
+        if !self.form.span.contains(pulse_of(shown)) {
             return Ok(());
         }
-        let line = pulse_line(self.alloc, self.scenario, shown, judged)?;
+        let format = self.form.format;
+        let line = format.pulse_line(self.alloc, self.scenario, shown, judged)?;
         self.written = write_part(out, self.written, line.as_bytes())?;
         Ok(())
     }
@@ -103,23 +102,23 @@ impl<'a> LineWriter<'a> {
         requires { self.now.judged.items
             ≡ judged_of (frame_of self.now.scenario.now) (is_some self.now.scenario.now.clock) records.now }
         ensures { IsEndOfLines (W.contents out.old) (W.contents out.new) self.now.scenario.now
-            self.now.written records.now result }
+            self.now.form.format self.now.written records.now result }
     {
         let judged = self.judged.as_slice();
         let agrees = none_disagrees(judged);
         let summary = summary_of(self.scenario.modulus, records, judged);
-        let line = last_line(self.alloc, &summary)?;
+        let line = self.form.format.last_line(self.alloc, &summary)?;
         write_part(out, self.written, line.as_bytes())?;
         Ok(agrees)
     }
 }
 
 impl<'a, W: Write> Watcher<W> for LineWriter<'a> {
-    ghost use Rattle.run_lines.specs.inner.Writing.{Stops, Tells};
+    ghost use Rattle.run_lines.specs.inner.Writing.{KeepsReason, TellsPulse};
 
-    ghost tells = { Tells W.contents };
+    ghost tells = { TellsPulse W.contents };
 
-    ghost stops = { Stops W.contents };
+    ghost stops = { KeepsReason W.contents };
 
     fn see(&mut self, sink: &mut W, shown: &Shown) -> Result<(), Stop> {
         match self.tell(sink, shown) {

@@ -10,35 +10,35 @@ use Rattle.bpf_machine.specs.declared.word.Turn.TheVariants as turns
 use Rattle.bpf_machine.specs.Machine.{MachineState, Phase, Running, Ended}
 use Rattle.bpf_machine.specs.Run.{Steps, Leads, HasNoSuccessor, IsStuck, Turns}
 use Rattle.bpf_machine.specs.Step.{step}
-use Rattle.run_trace.specs.Steps.{Step, followed_by, step_at, steps_from}
+use Rattle.run_trace.specs.Steps.{TracedStep, followed_by, step_at, steps_from}
 
 -- ---- what follows a step
 
-after_next : (r : Result Phase TrapKind) (t : MachineState) (more : MachineState → List Step) → r ≡ Ok (Running t)
+after_next : (r : Result Phase TrapKind) (t : MachineState) (more : MachineState → List TracedStep) → r ≡ Ok (Running t)
     → followed_by r more ≡ more t
 after_next r t more e = ap (λ x. followed_by x more) e
 
-after_end : (r : Result Phase TrapKind) (m : List ℕ) (out : FinMap nat_cmp ℕ) (r0 : ℕ) (more : MachineState → List Step)
+after_end : (r : Result Phase TrapKind) (m : List ℕ) (out : FinMap nat_cmp ℕ) (r0 : ℕ) (more : MachineState → List TracedStep)
     → r ≡ Ok (Ended m out r0) → followed_by r more ≡ []
 after_end r m out r0 more e = ap (λ x. followed_by x more) e
 
-after_none : (r : Result Phase TrapKind) (more : MachineState → List Step) → ((t : Phase) → r ≡ Ok t → ⊥)
+after_none : (r : Result Phase TrapKind) (more : MachineState → List TracedStep) → ((t : Phase) → r ≡ Ok t → ⊥)
     → followed_by r more ≡ []
 after_none (Ok t) more none = absurd (none t refl)
 after_none (Err trap) more none = refl
 
-pub next_follows : (program : List Insn) (env : Setting) (old new : MachineState) (more : MachineState → List Step)
+pub next_follows : (program : List Insn) (env : Setting) (old new : MachineState) (more : MachineState → List TracedStep)
     → Turns program env old new turns.Next → followed_by (step program env old) more ≡ more new
 next_follows program env old new more turned = after_next (step program env old) new more turned
 
 pub end_follows : (program : List Insn) (env : Setting) (old new : MachineState) (r0 : ℕ)
-    (more : MachineState → List Step) → Turns program env old new (turns.Ended r0)
+    (more : MachineState → List TracedStep) → Turns program env old new (turns.Ended r0)
     → followed_by (step program env old) more ≡ []
 end_follows program env old new r0 more turned =
     after_end (step program env old) old.memory old.sent r0 more turned.0
 
 pub trap_follows : (program : List Insn) (env : Setting) (old new : MachineState) (kind : TrapKind)
-    (more : MachineState → List Step) → Turns program env old new (turns.Trap kind)
+    (more : MachineState → List TracedStep) → Turns program env old new (turns.Trap kind)
     → followed_by (step program env old) more ≡ []
 trap_follows program env old new kind more turned =
     after_none (step program env old) more turned.0.none
@@ -53,7 +53,7 @@ first_step program env s taken fuel more =
 
 -- ---- how many there are
 
-length_after : (x : Step) (xs ys : List Step) (n : ℕ) → xs ≡ ys → length ys ≡ n → length (x ∷ xs) ≡ suc n
+length_after : (x : TracedStep) (xs ys : List TracedStep) (n : ℕ) → xs ≡ ys → length ys ≡ n → length (x ∷ xs) ≡ suc n
 length_after x xs ys n e all = ap suc (ap length e ∙ all)
 
 none_after_end : (program : List Insn) (env : Setting) (k : ℕ) (m left : List ℕ) (out gone : FinMap nat_cmp ℕ)
@@ -127,10 +127,10 @@ stuck_length program env (suc k) (suc fuel) s t kind few h stuck = by h.0 h.1 h.
 -- ---- each is reached
 
 -- the step of a place, and the state before it
-abbrev pub Reached : List Insn → Setting → Phase → ℕ → Step → Type 0
+abbrev pub Reached : List Insn → Setting → Phase → ℕ → TracedStep → Type 0
 Reached program env from place x = Leads program env place from (Running x.state) × (x.gives ≡ step program env x.state)
 
-pub place_reached : (program : List Insn) (env : Setting) (fuel place : ℕ) (s : MachineState) (x : Step)
+pub place_reached : (program : List Insn) (env : Setting) (fuel place : ℕ) (s : MachineState) (x : TracedStep)
     → slice_get (steps_from program env fuel s) place ≡ Some x → Reached program env (Running s) place x
 place_reached program env zero place s x at = absurd cc
 place_reached program env (suc fuel) zero s x at =

@@ -12,10 +12,10 @@ use Rattle.stream_io.specs.Parts.{Adds, Breaks, IsPartFault, Wrote}
 use Rattle.stream_io.proofs.PartLemmas.{breaks_longer, handed_on}
 use Rattle.run_trace.specs.declared.tracing.Traced.{Traced}
 use Rattle.run_trace.specs.Lines.{lines_from, trace_line, trace_text}
-use Rattle.run_trace.specs.Steps.{Step}
+use Rattle.run_trace.specs.Steps.{TracedStep}
 use Rattle.run_trace.specs.Traces.{LeavesTrace}
 
-lines_append : (program : List Insn) (number : ℕ) (xs ys : List Step)
+lines_append : (program : List Insn) (number : ℕ) (xs ys : List TracedStep)
     → lines_from program number (xs ++ ys) ≡ lines_from program number xs ++ lines_from program (number + length xs) ys
 lines_append program number [] ys = ap (λ n. lines_from program n ys) (omega arith)
 lines_append program number (x ∷ xs) ys =
@@ -27,7 +27,7 @@ lines_append program number (x ∷ xs) ys =
     (rest ∙ ap (λ n. lines_from program (suc number) xs ++ lines_from program n ys) place)
     ∙ sym (append_assoc line (codes "\n" ++ lines_from program (suc number) xs) back)
 
-one_more : (program : List Insn) (front : List Step) (x : Step) (taken : ℕ) → length front ≡ taken
+one_more : (program : List Insn) (front : List TracedStep) (x : TracedStep) (taken : ℕ) → length front ≡ taken
     → trace_text program (front ++ (x ∷ []))
     ≡ trace_text program front ++ (trace_line program (taken + 1) x ++ codes "\n")
 one_more program front x taken count =
@@ -36,26 +36,26 @@ one_more program front x taken count =
     ∙ ap (λ n. trace_text program front ++ (trace_line program n x ++ codes "\n")) place
 
 -- the steps that were taken, and the lines of them that were written
-pub record Told (old now : Option (List ℕ)) (program : List Insn) (all rest : List Step) (taken written : ℕ)
+pub record Told (old now : Option (List ℕ)) (program : List Insn) (all rest : List TracedStep) (taken written : ℕ)
     : Type 0 where
-  pub front : List Step
+  pub front : List TracedStep
   pub split : all ≡ front ++ rest
   pub count : length front ≡ taken
   pub wrote : Wrote old now (trace_text program front) written
 
 -- a step is one of the front then
-one_taken : (front rest all steps : List Step) (x : Step) → all ≡ front ++ steps → steps ≡ x ∷ rest
+one_taken : (front rest all steps : List TracedStep) (x : TracedStep) → all ≡ front ++ steps → steps ≡ x ∷ rest
     → all ≡ (front ++ (x ∷ [])) ++ rest
 one_taken front rest all steps x split first =
     split ∙ (ap (λ r. front ++ r) first ∙ sym (append_assoc front (x ∷ []) rest))
 
-line_more : (program : List Insn) (front : List Step) (x : Step) (taken : ℕ) (line : List ℕ) → length front ≡ taken
+line_more : (program : List Insn) (front : List TracedStep) (x : TracedStep) (taken : ℕ) (line : List ℕ) → length front ≡ taken
     → line ≡ trace_line program (taken + 1) x
     → trace_text program (front ++ (x ∷ [])) ≡ trace_text program front ++ (line ++ codes "\n")
 line_more program front x taken line count is =
     one_more program front x taken count ∙ ap (λ l. trace_text program front ++ (l ++ codes "\n")) (sym is)
 
-pub told_more : (old now new : Option (List ℕ)) (program : List Insn) (all steps rest : List Step) (x : Step)
+pub told_more : (old now new : Option (List ℕ)) (program : List Insn) (all steps rest : List TracedStep) (x : TracedStep)
     (taken before after : ℕ) (line : List ℕ) → Told old now program all steps taken before → steps ≡ x ∷ rest
     → line ≡ trace_line program (taken + 1) x → Adds now new before (line ++ codes "\n") after
     → Told old new program all rest (taken + 1) after
@@ -70,13 +70,13 @@ told_more old now new program all steps rest x taken before after line told firs
           (adds old (trace_text program told.front) told.wrote);
     }
 
-pub all_told : (old now : Option (List ℕ)) (program : List Insn) (all rest : List Step) (taken written : ℕ)
+pub all_told : (old now : Option (List ℕ)) (program : List Insn) (all rest : List TracedStep) (taken written : ℕ)
     → Told old now program all rest taken written → rest ≡ [] → Wrote old now (trace_text program all) written
 all_told old now program all rest taken written told none =
     subst (λ steps. Wrote old now (trace_text program steps) written)
     (sym (told.split ∙ (ap (λ r. told.front ++ r) none ∙ append-nil told.front))) told.wrote
 
-told_broken : (old now new : Option (List ℕ)) (program : List Insn) (all steps rest : List Step) (x : Step)
+told_broken : (old now new : Option (List ℕ)) (program : List Insn) (all steps rest : List TracedStep) (x : TracedStep)
     (taken before : ℕ) (line : List ℕ) (fault : PartFault) → Told old now program all steps taken before
     → steps ≡ x ∷ rest → line ≡ trace_line program (taken + 1) x
     → IsPartFault now new before (line ++ codes "\n") fault → LeavesTrace old new program all (Err fault)
@@ -101,7 +101,7 @@ told_broken old now new program all steps rest x taken before line faults.Memory
           (Appends-kept old now new (trace_text program told.front) told.wrote.left kept);
     }
 
-pub line_broken : (old now new : Option (List ℕ)) (program : List Insn) (all steps rest : List Step) (x : Step)
+pub line_broken : (old now new : Option (List ℕ)) (program : List Insn) (all steps rest : List TracedStep) (x : TracedStep)
     (taken before : ℕ) (line : List ℕ) (fault : PartFault) (result : Result Traced PartFault)
     → Told old now program all steps taken before → steps ≡ x ∷ rest → line ≡ trace_line program (taken + 1) x
     → IsPartFault now new before (line ++ codes "\n") fault → IsErrAnd result (λ e. e ≡ fault)

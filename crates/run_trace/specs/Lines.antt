@@ -16,7 +16,7 @@ use Rattle.bpf_machine.specs.Traps.{held}
 use Rattle.bpf_asm.specs.Canonical.{after_word, canonical_line}
 use Rattle.bpf_asm.specs.Words.{register_word}
 use Rattle.rule_listing.specs.Listing.{heading_by, line_at}
-use Rattle.run_trace.specs.Steps.{Step}
+use Rattle.run_trace.specs.Steps.{TracedStep}
 
 -- ---- registers
 
@@ -66,37 +66,37 @@ step_remark [] (Some wrote) = codes " #" ++ after_arrow (Some wrote)
 step_remark (first ∷ rest) wrote = codes " #" ++ (after_word (first ∷ rest) ++ after_arrow wrote)
 
 -- after the slot: nothing if no instruction begins there
-abbrev pub after_slot : Step → Option Insn → List ℕ
+abbrev pub after_slot : TracedStep → Option Insn → List ℕ
 after_slot s None = []
 after_slot s (Some insn) =
     codes " " ++ (canonical_line insn ++ step_remark (read_texts s.state.frame insn) (wrote_text s.gives insn))
 
 -- the line of a step, without its end
-abbrev pub trace_line : List Insn → ℕ → Step → List ℕ
+abbrev pub trace_line : List Insn → ℕ → TracedStep → List ℕ
 trace_line program number s =
     codes "step " ++ (decimal number ++ (codes " slot " ++ (decimal s.state.frame.slot
     ++ after_slot s (insn_at program s.state.frame.slot))))
 
 -- the lines of steps, numbered from this one on
-abbrev pub lines_from : List Insn → ℕ → List Step → List ℕ
+abbrev pub lines_from : List Insn → ℕ → List TracedStep → List ℕ
 lines_from program number [] = []
 lines_from program number (s ∷ rest) =
     trace_line program number s ++ (codes "\n" ++ lines_from program (suc number) rest)
 
 -- the first step's number is 1
-abbrev pub trace_text : List Insn → List Step → List ℕ
+abbrev pub trace_text : List Insn → List TracedStep → List ℕ
 trace_text program steps = lines_from program 1 steps
 
 -- ---- the lines of a rule's program (docs/RULES.md, "Lines and instructions")
 
 -- the same, each below the row of the line that made its instruction, if the step before is of another one: `lines` has
 -- the line of each slot
-abbrev pub listed_steps_from : List ℕ → List ℕ → List Insn → ℕ → ℕ → List Step → List ℕ
+abbrev pub listed_steps_from : List ℕ → List ℕ → List Insn → ℕ → ℕ → List TracedStep → List ℕ
 listed_steps_from text lines program before number [] = []
 listed_steps_from text lines program before number (s ∷ rest) =
     let line = line_at lines s.state.frame.slot in
     heading_by text before line ++ (trace_line program number s
     ++ (codes "\n" ++ listed_steps_from text lines program line (suc number) rest))
 
-abbrev pub listed_text : List ℕ → List ℕ → List Insn → List Step → List ℕ
+abbrev pub listed_text : List ℕ → List ℕ → List Insn → List TracedStep → List ℕ
 listed_text text lines program steps = listed_steps_from text lines program 0 1 steps

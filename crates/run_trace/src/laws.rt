@@ -10,7 +10,7 @@ ghost use Rattle.bpf_machine.specs.declared.word.TrapKind.{TrapKind};
 ghost use Rattle.bpf_machine.specs.Machine.{MachineState};
 ghost use Rattle.bpf_machine.specs.Run.{GetsStuck, RunAnswers, RunsTo};
 ghost use Rattle.bpf_machine.specs.Step.{step};
-ghost use Rattle.run_trace.specs.Steps.{Step, steps_of};
+ghost use Rattle.run_trace.specs.Steps.{TracedStep, steps_of};
 
 /// States that a run that ends has a line for each of its steps, that one whose fuel runs out has as many as its fuel,
 /// and that one that gets stuck has one more than its steps.
@@ -28,7 +28,7 @@ pub fn as_many_lines_as_steps()
 
 /// States that the step of a place is that of the state to which as many steps lead.
 pub fn tells_the_run()
-    ensures { (program : List Insn) (env : Setting) (memory : List ℕ) (fuel place : ℕ) (s : Step)
+    ensures { (program : List Insn) (env : Setting) (memory : List ℕ) (fuel place : ℕ) (s : TracedStep)
         → slice_get (steps_of program env memory fuel) place ≡ Some s
         → RunsTo program env memory place s.state × (s.gives ≡ step program env s.state) }
 {}

@@ -42,7 +42,8 @@ pub fn listed_trace(
     fuel: u64,
 ) -> Result<Vec<u8>, AllocError>
     requires { length memory.now ≡ env.now.shape.memory }
-    ensures { IfOk result (λ listing. listing.items ≡ listed_text rule.now.text.now rule.now.lines.now rule.now.program.now
+    ensures { IfOk result (λ listing. listing.items
+        ≡ listed_text rule.now.text.now rule.now.lines.now rule.now.program.now
         (steps_of rule.now.program.now env.now memory.now fuel)) }
 {
     let RuleCode {

@@ -8,7 +8,7 @@ ghost use Rattle.run_trace.specs.Lines.{destination};
 use bpf_insn::{Insn, MAX_ARGUMENTS, Reads, Reg, call_of, registers_read, written_by};
 use node_env::arguments_of;
 
-/// How many arguments the instruction's call takes, none if it is no call.
+/// Returns how many arguments the instruction's call takes, none if it is no call.
 fn arguments(insn: &Insn) -> u32
     ensures count { IfSome (call_of insn.now) (λ id. arguments_of id ≡ result) }
     ensures few { result ≤ MAX_ARGUMENTS }
@@ -19,14 +19,14 @@ fn arguments(insn: &Insn) -> u32
     }
 }
 
-/// The registers that an instruction reads; of a call, those of its helper's arguments.
+/// Returns the registers that an instruction reads; of a call, those of its helper's arguments.
 pub(crate) fn registers_of(insn: &Insn) -> Reads
     ensures { registers_in result ≡ reads arguments_of insn.now }
 {
     registers_read(insn, arguments(insn))
 }
 
-/// The register that an instruction writes; of a call that of its answer.
+/// Returns the register that an instruction writes; of a call that of its answer.
 pub(crate) fn destination(insn: &Insn) -> Option<Reg>
     ensures { result ≡ destination insn.now }
 {

@@ -23,7 +23,7 @@ fn hold(state: &State, register: Reg) -> Held
     }
 }
 
-/// What the registers hold that an instruction reads.
+/// Returns what the registers hold that an instruction reads.
 fn read_before(state: &State, insn: Insn) -> Reading
     ensures { reading_texts result ≡ read_texts state.now insn }
 {
@@ -34,7 +34,7 @@ fn read_before(state: &State, insn: Insn) -> Reading
     }
 }
 
-/// What an instruction wrote, where its step led on.
+/// Returns what an instruction wrote, where its step led on.
 fn wrote_after(state: &State, insn: Insn, turn: Turn) -> Option<Held>
     ensures { wrote_in result ≡ wrote_by turn state.now insn }
 {

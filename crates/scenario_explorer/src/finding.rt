@@ -3,7 +3,7 @@ ghost use Rattle.std.specs.Prelude.{◌≡◌, ◌+◌, ◌-◌, ◌++◌, [], I
 ghost use Rattle.std.specs.Option.{option_map_or};
 ghost use Rattle.bench_space.specs.declared.odds.Odds.TheVariants as odds;
 ghost use Rattle.bench_space.specs.declared.recovery.Recovery.TheVariants.{InStep, Luck, Unknown};
-ghost use Rattle.scenario_explorer.specs.Explore.{agreed_text, agreement_text, any_start_text, byte_span_text, byzantine_text, cause_text, cells_text, chances_text, correct_text, count_text, with_count, finding_text, found_text, image_text, images_shown, images_text, last_pulses, liars_text, mark_text, marked, mean_text, memories_text, messages_text, nodes_text, odds_lines, odds_text, percent_text, programmed_text, pulses_text, text_of_range, reach_text, recovery_text, shown_of, spans_text, stability_text, optional_line, tried_text, unfinished_text, unfit_name, violation_text, word_text};
+ghost use Rattle.scenario_explorer.specs.Explore.{agreed_text, agreement_text, any_start_text, byte_span_text, byzantine_text, cause_text, cells_text, chances_text, correct_text, count_text, with_count, finding_text, found_text, image_text, images_shown, images_text, last_pulses, liars_text, mark_text, marked, mean_text, memories_text, messages_text, nodes_text, odds_lines, odds_text, percent_text, programmed_text, pulses_text, text_of_range, reach_text, recovery_text, shown_of, spans_text, stability_text, optional_line, tried_text, unfinished_text, unfit_name, violation_text, state_word_text};
 ghost use Rattle.scenario_explorer.specs.declared.finding.Finding.TheVariants.{Searched};
 
 use crate::options::{AnyStart, ByteSpan, Cells, MailSpan, Memories, Share};
@@ -89,7 +89,7 @@ pub enum Found {
         states: u64,
         shown: String,
     },
-    /// After so many states, and why.
+    /// After this many states, and why.
     Unfinished {
         states: u64,
         cause: Cause,
@@ -185,9 +185,9 @@ fn add_byte_spans(alloc: Global, text: &mut String, values: &[ByteSpan]) -> Resu
     Ok(())
 }
 
-/// The name of the word in which the places of an entry lie, if it has one.
+/// Returns the name of the word in which the places of an entry lie, if it has one.
 fn word_line(alloc: Global, words: &[String], cells: &Cells) -> Result<String, AllocError>
-    ensures { IfOk result (λ text. string_bytes text ≡ word_text (map string_bytes words.now) cells.now) }
+    ensures { IfOk result (λ text. string_bytes text ≡ state_word_text (map string_bytes words.now) cells.now) }
 {
     let number = cells.first / WORD_BYTES;
     if number != cells.last / WORD_BYTES {
@@ -199,7 +199,7 @@ fn word_line(alloc: Global, words: &[String], cells: &Cells) -> Result<String, A
     }
 }
 
-/// The places of an entry, and what their bytes may be.
+/// Returns the places of an entry, and what their bytes may be.
 fn cells_line(alloc: Global, words: &[String], cells: &Cells) -> Result<String, AllocError>
     ensures { IfOk result (λ text. string_bytes text ≡ cells_text (map string_bytes words.now) cells.now) }
 {
@@ -237,7 +237,7 @@ fn add_cells(
 /// The most whole memories that a line says.
 const IMAGES_SHOWN: usize = 8;
 
-/// The whole memories that a line says.
+/// Returns the whole memories that a line says.
 fn shown_images(images: &[Vec<u8>]) -> &[Vec<u8>]
     ensures { result.now ≡ take images_shown images.now }
 {
@@ -261,7 +261,7 @@ fn add_images(alloc: Global, text: &mut String, images: &[Vec<u8>]) -> Result<()
     Ok(())
 }
 
-/// The first of whole memories, and how many more there are.
+/// Returns the first of whole memories, and how many more there are.
 fn images_line(alloc: Global, images: &[Vec<u8>]) -> Result<String, AllocError>
     ensures { IfOk result (λ text. string_bytes text ≡ images_text (map (λ v. v.items) images.now)) }
 {
@@ -274,7 +274,7 @@ fn images_line(alloc: Global, images: &[Vec<u8>]) -> Result<String, AllocError>
     format!(in alloc; "{shown} and {more} more")
 }
 
-/// The memories of a start.
+/// Returns the memories of a start.
 fn memories_line(alloc: Global, words: &[String], memories: &Memories) -> Result<String, AllocError>
     ensures { IfOk result (λ text. string_bytes text ≡ memories_text (map string_bytes words.now) memories.now) }
 {
@@ -291,8 +291,8 @@ fn memories_line(alloc: Global, words: &[String], memories: &Memories) -> Result
     }
 }
 
-/// What the line says of a start that isn't at zero: its memories, whose words may have names, and the numbers of its
-/// messages.
+/// Returns what the line says of a start that isn't at zero: its memories, whose words may have names, and the numbers
+/// of its messages.
 pub(crate) fn any_start_line(
     alloc: Global,
     words: &[String],
@@ -307,7 +307,7 @@ pub(crate) fn any_start_line(
     format!(in alloc; ", any start:{memories} messages none{spans}")
 }
 
-/// The correct nodes, and that they are all that are loaded if no node runs the clock.
+/// Returns the correct nodes, and that they are all that are loaded if no node runs the clock.
 fn correct_line(alloc: Global, nodes: &[u32], has_clock: bool) -> Result<String, AllocError>
     ensures { IfOk result (λ text. string_bytes text ≡ correct_text nodes.now has_clock) }
 {
@@ -320,7 +320,7 @@ fn correct_line(alloc: Global, nodes: &[u32], has_clock: bool) -> Result<String,
     }
 }
 
-/// The Byzantine nodes that have programs.
+/// Returns the Byzantine nodes that have programs.
 fn programmed_line(alloc: Global, tried: &Tried) -> Result<String, AllocError>
     ensures { IfOk result (λ text. string_bytes text ≡ programmed_text tried.now.programmed.items) }
 {
@@ -332,7 +332,7 @@ fn programmed_line(alloc: Global, tried: &Tried) -> Result<String, AllocError>
     format!(in alloc; ", Byzantine{named} (as loaded)")
 }
 
-/// What each node without a program may send.
+/// Returns what each node without a program may send.
 fn messages_line(alloc: Global, tried: &Tried) -> Result<String, AllocError>
     ensures { IfOk result (λ text. string_bytes text ≡ messages_text tried.now.any tried.now.mail.items) }
 {
@@ -344,7 +344,7 @@ fn messages_line(alloc: Global, tried: &Tried) -> Result<String, AllocError>
     format!(in alloc; " (any message of none{spans})")
 }
 
-/// Those that have none, and what each may send.
+/// Returns those that have none, and what each may send.
 fn liars_line(alloc: Global, tried: &Tried) -> Result<String, AllocError>
     ensures { IfOk result (λ text. string_bytes text
         ≡ liars_text tried.now.liars.items tried.now.any tried.now.mail.items) }
@@ -358,14 +358,14 @@ fn liars_line(alloc: Global, tried: &Tried) -> Result<String, AllocError>
     format!(in alloc; ", Byzantine{named}{messages}")
 }
 
-/// How many nodes are Byzantine.
+/// Returns how many nodes are Byzantine.
 fn byzantine_count(tried: &Tried) -> usize
     ensures { result ≡ length tried.now.programmed.items + length tried.now.liars.items }
 {
     tried.programmed.len() + tried.liars.len()
 }
 
-/// How many that are, if none is, or more than the rule allows for.
+/// Returns how many that are, if none is, or more than the rule allows for.
 fn count_line(alloc: Global, tried: &Tried) -> Result<String, AllocError>
     ensures { IfOk result (λ text. string_bytes text
         ≡ count_text (length tried.now.programmed.items + length tried.now.liars.items) tried.now.faults) }
@@ -381,7 +381,7 @@ fn count_line(alloc: Global, tried: &Tried) -> Result<String, AllocError>
     }
 }
 
-/// The Byzantine nodes.
+/// Returns the Byzantine nodes.
 fn byzantine_line(alloc: Global, tried: &Tried) -> Result<String, AllocError>
     ensures { IfOk result (λ text. string_bytes text ≡ byzantine_text tried.now) }
 {
@@ -391,7 +391,7 @@ fn byzantine_line(alloc: Global, tried: &Tried) -> Result<String, AllocError>
     format!(in alloc; "{programmed}{liars}{count}")
 }
 
-/// Who is who, and what was tried.
+/// Returns who is who, and what was tried.
 fn tried_line(alloc: Global, tried: &Tried) -> Result<String, AllocError>
     ensures { IfOk result (λ text. string_bytes text ≡ tried_text tried.now) }
 {
@@ -401,7 +401,7 @@ fn tried_line(alloc: Global, tried: &Tried) -> Result<String, AllocError>
     format!(in alloc; "{correct}{byzantine}{start}")
 }
 
-/// So many of this.
+/// Returns the text of a number of things.
 fn counted(alloc: Global, count: u64, word: &str) -> Result<String, AllocError>
     ensures { IfOk result (λ text. string_bytes text ≡ with_count count word.now) }
 {
@@ -412,7 +412,7 @@ fn counted(alloc: Global, count: u64, word: &str) -> Result<String, AllocError>
     }
 }
 
-/// That agreement holds, or wasn't asked.
+/// Returns the line that agreement holds, or nothing if it wasn't asked.
 fn agreement_line(
     alloc: Global,
     agrees: bool,
@@ -430,7 +430,7 @@ fn agreement_line(
     }
 }
 
-/// That they stabilise whatever the coins.
+/// Returns the line that they stabilise whatever the coins.
 fn in_step_line(alloc: Global, pulses: u64) -> Result<String, AllocError>
     ensures { IfOk result (λ text. string_bytes text ≡ recovery_text (InStep pulses)) }
 {
@@ -438,7 +438,7 @@ fn in_step_line(alloc: Global, pulses: u64) -> Result<String, AllocError>
     format!(in alloc; "stabilises within {pulses}")
 }
 
-/// That they stabilise with some coins.
+/// Returns the line that they stabilise with some coins.
 fn luck_line(alloc: Global, pulses: u64) -> Result<String, AllocError>
     ensures { IfOk result (λ text. string_bytes text ≡ recovery_text (Luck pulses)) }
 {
@@ -448,7 +448,7 @@ fn luck_line(alloc: Global, pulses: u64) -> Result<String, AllocError>
     )
 }
 
-/// That it isn't known how they stabilise, and why.
+/// Returns the line that it isn't known how they stabilise, and why.
 fn unknown_line(alloc: Global, memory: bool) -> Result<String, AllocError>
     ensures { IfOk result (λ text. string_bytes text ≡ recovery_text (Unknown memory)) }
 {
@@ -461,7 +461,7 @@ fn unknown_line(alloc: Global, memory: bool) -> Result<String, AllocError>
     }
 }
 
-/// How the clocks stabilise.
+/// Returns how the clocks stabilise.
 fn recovery_line(alloc: Global, recovery: &Recovery) -> Result<String, AllocError>
     ensures { IfOk result (λ text. string_bytes text ≡ recovery_text recovery.now) }
 {
@@ -473,7 +473,7 @@ fn recovery_line(alloc: Global, recovery: &Recovery) -> Result<String, AllocErro
     }
 }
 
-/// So many of the parts of the whole, in percent with one decimal place, rounded down.
+/// Returns a share of the whole in percent with one decimal place, rounded down.
 fn percent(alloc: Global, parts: u64) -> Result<String, AllocError>
     ensures { IfOk result (λ text. string_bytes text ≡ percent_text parts) }
 {
@@ -483,7 +483,7 @@ fn percent(alloc: Global, parts: u64) -> Result<String, AllocError>
     format!(in alloc; "{whole}.{rest} %")
 }
 
-/// The number of the last entry, and the entry: 0 of none.
+/// Returns the number of the last entry, and the entry: 0 of none.
 fn last_of(parts: &[u64]) -> (u64, u64)
     ensures last { result.0 ≡ length parts.now - 1 }
     ensures share { result.1 ≡ get_or parts.now (length parts.now - 1) 0 }
@@ -495,7 +495,7 @@ fn last_of(parts: &[u64]) -> (u64, u64)
     }
 }
 
-/// That it isn't known how likely they stabilise, and why.
+/// Returns the line that it isn't known how likely they stabilise, and why.
 fn unknown_odds_line(alloc: Global, memory: bool) -> Result<String, AllocError>
     ensures { IfOk result (λ text. string_bytes text ≡ odds_text (odds.Unknown memory)) }
 {
@@ -506,7 +506,7 @@ fn unknown_odds_line(alloc: Global, memory: bool) -> Result<String, AllocError>
     }
 }
 
-/// How likely they stabilise.
+/// Returns how likely they stabilise.
 fn odds_line(alloc: Global, odds: &Odds) -> Result<String, AllocError>
     ensures { IfOk result (λ text. string_bytes text ≡ odds_text odds.now) }
 {
@@ -523,7 +523,7 @@ fn odds_line(alloc: Global, odds: &Odds) -> Result<String, AllocError>
     }
 }
 
-/// The parts of a pulse in pulses with two decimal places, rounded up.
+/// Returns the parts of a pulse in pulses with two decimal places, rounded up.
 fn pulses_text(alloc: Global, parts: u64) -> Result<String, AllocError>
     ensures { IfOk result (λ text. string_bytes text ≡ pulses_text parts) }
 {
@@ -534,7 +534,7 @@ fn pulses_text(alloc: Global, parts: u64) -> Result<String, AllocError>
     format!(in alloc; "{whole}.{tenth}{hundredth}")
 }
 
-/// How many pulses pass on average.
+/// Returns how many pulses pass on average.
 fn mean_line(alloc: Global, mean: Option<u64>) -> Result<String, AllocError>
     ensures { IfOk result (λ text. string_bytes text ≡ mean_text mean) }
 {
@@ -549,7 +549,7 @@ fn mean_line(alloc: Global, mean: Option<u64>) -> Result<String, AllocError>
     }
 }
 
-/// Why the search isn't finished.
+/// Returns why the search isn't finished.
 fn cause_line(alloc: Global, cause: Cause) -> Result<String, AllocError>
     ensures { IfOk result (λ text. string_bytes text ≡ cause_text cause) }
 {
@@ -569,7 +569,7 @@ fn cause_line(alloc: Global, cause: Cause) -> Result<String, AllocError>
     }
 }
 
-/// That agreement is violated.
+/// Returns the line that agreement is violated.
 fn violation_line(alloc: Global, pulse: u64, states: u64) -> Result<String, AllocError>
     ensures { IfOk result (λ text. string_bytes text ≡ violation_text pulse states) }
 {
@@ -577,7 +577,7 @@ fn violation_line(alloc: Global, pulse: u64, states: u64) -> Result<String, Allo
     format!(in alloc; "agreement violated in pulse {pulse} ({states}); a counterexample follows")
 }
 
-/// That the search isn't finished.
+/// Returns the line that the search isn't finished.
 fn unfinished_line(alloc: Global, states: u64, cause: Cause) -> Result<String, AllocError>
     ensures { IfOk result (λ text. string_bytes text ≡ unfinished_text states cause) }
 {
@@ -586,14 +586,14 @@ fn unfinished_line(alloc: Global, states: u64, cause: Cause) -> Result<String, A
     format!(in alloc; "not finished: {states}; {cause}")
 }
 
-/// The line with its end, behind its mark.
+/// Returns the line with its end, behind its mark.
 fn marked(alloc: Global, mark: &str, line: &str) -> Result<String, AllocError>
     ensures { IfOk result (λ text. string_bytes text ≡ marked mark.now line.now) }
 {
     format!(in alloc; "{mark}{line}\n")
 }
 
-/// How the clocks stabilise, behind the mark, if that was asked.
+/// Returns how the clocks stabilise, behind the mark, if that was asked.
 fn recovery_told(
     alloc: Global,
     mark: &str,
@@ -611,7 +611,7 @@ fn recovery_told(
     }
 }
 
-/// How likely they stabilise, and after how many pulses on average, behind the mark.
+/// Returns how likely they stabilise, and after how many pulses on average, behind the mark.
 fn odds_lines(alloc: Global, mark: &str, odds: &Odds) -> Result<String, AllocError>
     ensures { IfOk result (λ text. string_bytes text ≡ odds_lines mark.now odds.now) }
 {
@@ -627,7 +627,7 @@ fn odds_lines(alloc: Global, mark: &str, odds: &Odds) -> Result<String, AllocErr
     }
 }
 
-/// The same, if that was asked.
+/// Returns the same, if that was asked.
 fn odds_told(alloc: Global, mark: &str, odds: &Option<Odds>) -> Result<String, AllocError>
     ensures { IfOk result (λ text. string_bytes text ≡ option_map_or (odds_lines mark.now) odds.now []) }
 {
@@ -637,7 +637,7 @@ fn odds_told(alloc: Global, mark: &str, odds: &Option<Odds>) -> Result<String, A
     }
 }
 
-/// After how many pulses the clocks agree for good.
+/// Returns the line that says after how many pulses the clocks agree for good.
 fn agreed_line(alloc: Global, pulses: u64) -> Result<String, AllocError>
     ensures { IfOk result (λ text. string_bytes text ≡ agreed_text pulses) }
 {
@@ -645,7 +645,7 @@ fn agreed_line(alloc: Global, pulses: u64) -> Result<String, AllocError>
     format!(in alloc; "agreement holds after {pulses}")
 }
 
-/// The same behind the mark, if that is told.
+/// Returns the same behind the mark, if that is told.
 fn agreed_told(alloc: Global, mark: &str, agreed: Option<u64>) -> Result<String, AllocError>
     ensures { IfOk result (λ text. string_bytes text ≡ optional_line mark.now agreed_text agreed) }
 {
@@ -658,7 +658,7 @@ fn agreed_told(alloc: Global, mark: &str, agreed: Option<u64>) -> Result<String,
     }
 }
 
-/// How the clocks stabilise and after how many pulses they agree, behind the mark, if that is told.
+/// Returns how the clocks stabilise and after how many pulses they agree, behind the mark, if that is told.
 fn stability_told(
     alloc: Global,
     mark: &str,
@@ -672,7 +672,7 @@ fn stability_told(
     format!(in alloc; "{how}{agreed}")
 }
 
-/// The last number of pulses whose odds are told.
+/// Returns the last number of pulses whose odds are told.
 fn last_pulses(odds: &Option<Odds>) -> u64
     ensures { result ≡ last_pulses odds.now }
 {
@@ -682,7 +682,7 @@ fn last_pulses(odds: &Option<Odds>) -> u64
     }
 }
 
-/// After how many pulses a share has stabilised, if it has after this last number of them.
+/// Returns the line that says after how many pulses a share has stabilised, if it has after this last number of them.
 fn reach_line(alloc: Global, last: u64, reach: Reach) -> Result<String, AllocError>
     ensures { IfOk result (λ text. string_bytes text ≡ reach_text last reach) }
 {
@@ -699,7 +699,7 @@ fn reach_line(alloc: Global, last: u64, reach: Reach) -> Result<String, AllocErr
     }
 }
 
-/// The same behind the mark, if that is told.
+/// Returns the same behind the mark, if that is told.
 fn reach_told(
     alloc: Global,
     mark: &str,
@@ -717,7 +717,7 @@ fn reach_told(
     }
 }
 
-/// How likely the clocks stabilise, and when a share of the ways of the coins has, if that was asked.
+/// Returns how likely the clocks stabilise, and when a share of the ways of the coins has, if that was asked.
 fn chances_told(
     alloc: Global,
     mark: &str,
@@ -731,7 +731,7 @@ fn chances_told(
     format!(in alloc; "{lines}{reached}")
 }
 
-/// The line on agreement, behind the mark.
+/// Returns the line on agreement, behind the mark.
 fn agreement_told(
     alloc: Global,
     mark: &str,
@@ -746,7 +746,7 @@ fn agreement_told(
 }
 
 impl Found {
-    /// The counterexample, if there is one.
+    /// Returns the counterexample, if there is one.
     fn shown(&self) -> &str
         ensures { result.now ≡ shown_of self.now }
     {
@@ -760,14 +760,14 @@ impl Found {
         }
     }
 
-    /// What makes a line a comment of the counterexample, if there is one.
+    /// Returns what makes a line a comment of the counterexample, if there is one.
     fn mark(&self) -> &str
         ensures { result.now ≡ mark_text (shown_of self.now) }
     {
         if self.shown().len() == 0 { "" } else { "# " }
     }
 
-    /// What was found, line by line, each behind the mark.
+    /// Returns what was found, line by line, each behind the mark.
     fn text(&self, alloc: Global, mark: &str) -> Result<String, AllocError>
         ensures { IfOk result (λ text. string_bytes text ≡ found_text mark.now self.now) }
     {
@@ -799,7 +799,7 @@ impl Found {
     }
 }
 
-/// The lines of what was tried and found, with the counterexample if there is one.
+/// Returns the lines of what was tried and found, with the counterexample if there is one.
 fn searched_text(alloc: Global, tried: &Tried, found: &Found) -> Result<String, AllocError>
     ensures { IfOk result (λ text. string_bytes text ≡ finding_text (Searched tried.now found.now)) }
 {

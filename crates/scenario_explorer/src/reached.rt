@@ -7,7 +7,7 @@ use crate::finding::Reach;
 use crate::options::Share;
 use bench_space::{ODDS_WHOLE, Odds};
 
-/// Returns true if so many parts of the whole are at least the share.
+/// Returns true if this many parts of the whole are at least the share.
 fn is_share(share: Share, parts: u64) -> bool
     ensures { IsTrue result ↔ (share.parts * ODDS_WHOLE ≤ parts * share.of) }
 {

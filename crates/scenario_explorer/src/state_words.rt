@@ -7,7 +7,7 @@ use std::alloc::{AllocError, Global};
 /// How many bytes a word has.
 pub(crate) const WORD_BYTES: u32 = 4;
 
-/// What a line of a rule says but for its comment.
+/// Returns what a line of a rule says but for its comment.
 fn code_of(line: &str) -> &str {
     match line.split_once('#') {
         Some((code, _comment)) => code.trim(),
@@ -23,7 +23,7 @@ fn add_names(alloc: Global, words: &mut Vec<String>, names: &str) -> Result<(), 
     Ok(())
 }
 
-/// The clock, and the names after `state`, with which a rule begins.
+/// Returns the clock, and the names after `state`, with which a rule begins.
 fn words_in(alloc: Global, rule: &str) -> Result<Vec<String>, AllocError> {
     let mut words = Vec::new(alloc);
     words.push(String::from_str(alloc, "clock")?)?;
@@ -38,7 +38,7 @@ fn words_in(alloc: Global, rule: &str) -> Result<Vec<String>, AllocError> {
     Ok(words)
 }
 
-/// The words of the memory by their places; none if the clock isn't a rule of the scenario.
+/// Returns the words of the memory by their places; none if the clock isn't a rule of the scenario.
 pub(crate) fn state_words(alloc: Global, scenario: &Scenario) -> Result<Vec<String>, AllocError> {
     match &scenario.clock_text {
         Some(ProgramText::Rule(text)) => words_in(alloc, text.as_str()),

@@ -5,14 +5,14 @@ ghost use Rattle.scenario_explorer.specs.Explore.{odds_row, odds_table_text};
 use bench_space::ODDS_WHOLE;
 use std::alloc::{AllocError, Global};
 
-/// The line of a number of pulses.
+/// Returns the line of a number of pulses.
 fn odds_row(alloc: Global, pulses: u64, at_least: u64) -> Result<String, AllocError>
     ensures { IfOk result (λ text. string_bytes text ≡ odds_row pulses at_least) }
 {
     format!(in alloc; "{pulses},{at_least},{ODDS_WHOLE}\n")
 }
 
-/// The entries from this one on.
+/// Returns the entries from this one on.
 fn entries_from(parts: &[u64], first: u32) -> &[u64]
     ensures { result.now ≡ drop first parts.now }
 {

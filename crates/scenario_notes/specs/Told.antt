@@ -2,8 +2,7 @@
 -- a line, of a nearest key and of advice.
 use Rattle.std.specs.Prelude.{◌≡◌, ℕ, List, ◌++◌, codes, Option, Some, None}
 use Rattle.toml.specs.Data.{Members}
-use Rattle.bpf_asm.specs.declared.text_error.TextError.{TextError}
-use Rattle.bpf_asm.specs.declared.text_error.TextError.TheVariants as text
+use Rattle.bpf_asm.specs.Errors.{text_error_line}
 use Rattle.bpf_verify.specs.declared.rule.Rule.{Rule}
 use Rattle.rule_text.specs.declared.program.RuleRefusal.{RuleRefusal}
 use Rattle.rule_text.specs.declared.program.RuleRefusal.TheVariants as rules
@@ -17,17 +16,6 @@ use Rattle.scenario_notes.specs.Places.{text_at}
 use Rattle.scenario_notes.specs.Slots.{IsLineOfSlot}
 use Rattle.rule_notes.specs.Words.{IsNote}
 use Rattle.scenario_notes.specs.Words.{note_words}
-
--- the line of a text that a fault names
-abbrev pub fault_line : TextError → Option ℕ
-fault_line (text.UnknownWord line) = Some line
-fault_line (text.BadOperand line) = Some line
-fault_line (text.OutOfRange line) = Some line
-fault_line (text.UnknownLabel line) = Some line
-fault_line (text.LabelTwice line) = Some line
-fault_line (text.TooLong line) = Some line
-fault_line text.Empty = None
-fault_line text.Memory = None
 
 -- a line of the file is told
 abbrev pub IsOfLine : Note → Type 0
@@ -75,7 +63,7 @@ IsOfSlot file place key slot rule (notes.OfText spot) = ⊥
 IsOfSlot file place key slot rule notes.OfNothing = ⊥
 
 abbrev pub IsNoteOf : List ℕ → ScenarioError → Note → Type 0
-IsNoteOf file (errors.BadText place key error) note = IsOfFault (fault_line error) note
+IsNoteOf file (errors.BadText place key error) note = IsOfFault (text_error_line error) note
 IsNoteOf file (errors.BadRule place key error) note = IsOfFault (rule_line error) note
 IsNoteOf file (errors.NotAccepted place key slot rule) note = IsOfSlot file place key.now slot rule note
 IsNoteOf file errors.TooLong note = note ≡ notes.OfNothing

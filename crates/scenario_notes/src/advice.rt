@@ -1,7 +1,7 @@
 //! What a note says of the fix. Nothing is promised of it.
 
 use crate::finding::line_at;
-use crate::known::{has_version, names_at, unknown_key};
+use crate::known::{has_version, key_beside, unknown_key};
 use crate::table::{table_at, text_at};
 use crate::wanted::{COINS_NAMES, program_names, wanted};
 use bpf_asm::{TextError, assemble};
@@ -13,6 +13,7 @@ use rule_notes::advice_at;
 use rule_notes::near::nearest;
 use rule_notes::shown::shown;
 use rule_text::RuleRefusal;
+use scenario_text::keys::Key;
 use scenario_text::{CLOCK_VERSION, MAX_TEXT, NOISE_VERSION, Place, RULE_VERSION, ScenarioError};
 use std::alloc::{AllocError, Global};
 use toml::Table;
@@ -27,7 +28,7 @@ const NO_ROOM_WORDS: &str =
 /// How a file in UTF-16 begins.
 const WIDE_BEGINNINGS: [&[u8]; 2] = [b"\xff\xfe", b"\xfe\xff"];
 
-/// A question for the nearest of some words, before what else is said.
+/// Returns a question for the nearest of some words, before what else is said.
 fn did_you_mean(
     alloc: Global,
     word: Option<&str>,
@@ -42,7 +43,7 @@ fn did_you_mean(
     }
 }
 
-/// What a key may be, which has a value that isn't right.
+/// Returns what a key may be, which has a value that isn't right.
 fn of_value(alloc: Global, table: &Table, place: Place, key: &str) -> Result<String, AllocError> {
     let value = match table_at(table, place) {
         Some(entry) => entry.get(key).and_then(toml::Value::as_str),
@@ -58,7 +59,7 @@ fn of_value(alloc: Global, table: &Table, place: Place, key: &str) -> Result<Str
     format!(in alloc; "{question}{words}")
 }
 
-/// A question for the nearest of the words that a key may have.
+/// Returns a question for the nearest of the words that a key may have.
 fn question_on(
     alloc: Global,
     table: &Table,
@@ -74,7 +75,7 @@ fn question_on(
     Ok(String::new(alloc))
 }
 
-/// An unknown key of the table there that may be meant by the one that is missing.
+/// Returns an unknown key of the table there that may be meant by the one that is missing.
 fn meant_by<'a>(
     alloc: Global,
     table: &'a Table,
@@ -93,7 +94,7 @@ fn meant_by<'a>(
     }
 }
 
-/// What of a scenario is drawn from a key, and asks for it first.
+/// Returns what of a scenario is drawn from a key, and asks for it first.
 fn drawn_from_key(table: &Table) -> &'static str {
     if table.get("coins").and_then(toml::Value::as_str) == Some("chacha") {
         "coins = \"chacha\""
@@ -102,7 +103,7 @@ fn drawn_from_key(table: &Table) -> &'static str {
     }
 }
 
-/// What of a key is said that isn't there.
+/// Returns what of a key is said that isn't there.
 fn of_missing(
     alloc: Global,
     table: &Table,
@@ -125,29 +126,29 @@ fn of_missing(
     }
 }
 
-/// What an unknown key needs beside it.
+/// Returns what an unknown key needs beside it.
 fn of_unknown(alloc: Global, table: &Table, place: Place) -> Result<String, AllocError> {
     let Some(entry) = table_at(table, place) else {
         return Ok(String::new(alloc));
     };
-    match unknown_key(entry, place) {
-        Some(key) if names_at(place).contains(&key) => of_unlike(alloc, key),
-        _ => Ok(String::new(alloc)),
+    match unknown_key(entry, place).and_then(|name| key_beside(place, name)) {
+        Some(key) => of_unlike(alloc, key),
+        None => Ok(String::new(alloc)),
     }
 }
 
-/// What a key needs that is known beside others alone.
-fn of_unlike(alloc: Global, key: &str) -> Result<String, AllocError> {
+/// Returns what a key needs that is known beside others alone.
+fn of_unlike(alloc: Global, key: Key) -> Result<String, AllocError> {
     match key {
-        "clock" => format!(in alloc; "clock needs version = {CLOCK_VERSION}"),
-        "rule" => format!(in alloc; "rule needs version = {RULE_VERSION}, and no key clock"),
-        "values" => String::from_str(alloc, "values goes with program = \"say\""),
-        "text" => String::from_str(alloc, "text goes with program = \"asm\" or \"rule\""),
+        Key::Clock => format!(in alloc; "clock needs version = {CLOCK_VERSION}"),
+        Key::Rule => format!(in alloc; "rule needs version = {RULE_VERSION}, and no key clock"),
+        Key::Values => String::from_str(alloc, "values goes with program = \"say\""),
+        Key::Text => String::from_str(alloc, "text goes with program = \"asm\" or \"rule\""),
         _ => Ok(String::new(alloc)),
     }
 }
 
-/// The helper that a line of a text calls.
+/// Returns the helper that a line of a text calls.
 fn helper_in(line: &str) -> Option<&str> {
     let (_before, called) = line.split_once("call ")?;
     let name = called.trim();
@@ -157,7 +158,7 @@ fn helper_in(line: &str) -> Option<&str> {
     }
 }
 
-/// What an operand of a line may be.
+/// Returns what an operand of a line may be.
 fn of_operand(alloc: Global, line: Option<&str>) -> Result<String, AllocError> {
     let helper = match line {
         Some(line) => helper_in(line),
@@ -171,7 +172,7 @@ fn of_operand(alloc: Global, line: Option<&str>) -> Result<String, AllocError> {
     format!(in alloc; "{question}a helper is id, recv, send or coin")
 }
 
-/// What is wrong with a text.
+/// Returns what is wrong with a text.
 fn of_text(
     alloc: Global,
     table: &Table,
@@ -196,7 +197,7 @@ fn of_text(
     }
 }
 
-/// What is wrong with a rule.
+/// Returns what is wrong with a rule.
 fn of_rule(
     alloc: Global,
     table: &Table,
@@ -224,18 +225,18 @@ fn of_rule(
     }
 }
 
-/// The number under a key at the top.
+/// Returns the number under a key at the top.
 fn number_in(table: &Table, key: &str) -> Option<u32> {
     let number = table.get(key).and_then(toml::Value::as_integer)?;
     u32::try_from(number).ok()
 }
 
-/// The shape of the scenario's nodes.
+/// Returns the shape of the scenario's nodes.
 fn shape_in(table: &Table) -> Option<Shape> {
     Shape::of(number_in(table, "nodes")?, number_in(table, "memory")?)
 }
 
-/// Why the program of a text isn't accepted: what was known, and what the rule asks.
+/// Returns why the program of a text isn't accepted: what was known, and what the rule asks.
 fn of_program(alloc: Global, table: &Table, place: Place, key: &str) -> Result<String, AllocError> {
     let (Some(text), Some(shape)) = (text_at(table, place, key), shape_in(table)) else {
         return Ok(String::new(alloc));
@@ -253,7 +254,7 @@ fn of_program(alloc: Global, table: &Table, place: Place, key: &str) -> Result<S
     }
 }
 
-/// What is said of bytes that aren't TOML, beside what the parser says.
+/// Returns what is said of bytes that aren't TOML, beside what the parser says.
 fn of_bytes(alloc: Global, file: &[u8]) -> Result<String, AllocError> {
     for beginning in WIDE_BEGINNINGS {
         if file.starts_with(beginning) {

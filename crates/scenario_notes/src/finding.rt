@@ -40,7 +40,7 @@ impl Search<'_> {
         }
     }
 
-    /// The line of a statement.
+    /// Returns the line of a statement.
     fn meet(&mut self, line: &str) -> Met {
         let words = line.trim();
         if words.starts_with('[') {
@@ -81,7 +81,7 @@ impl Search<'_> {
     }
 }
 
-/// A line up to its comment. The head of an entry with a quoted name is cut within the quotes at worst.
+/// Returns a line up to its comment. The head of an entry with a quoted name is cut within the quotes at worst.
 pub(crate) fn without_comment(words: &str) -> &str {
     match words.split_once('#') {
         Some((head, _comment)) => head,
@@ -89,7 +89,7 @@ pub(crate) fn without_comment(words: &str) -> &str {
     }
 }
 
-/// The array of which a head begins an entry.
+/// Returns the array of which a head begins an entry.
 fn array_of_head(head: &str) -> Option<&str> {
     let (name, _end) = head.strip_prefix("[[")?.split_once("]]")?;
     Some(name.trim())
@@ -121,7 +121,7 @@ fn line_number(text: &str, rest: &str) -> usize {
     ends.count().saturating_add(1)
 }
 
-/// The line with this number, from 1 on.
+/// Returns the line with this number, from 1 on.
 pub(crate) fn line_at(text: &str, number: usize) -> Option<&str> {
     let mut left = number;
     for line in text.split('\n') {
@@ -133,8 +133,8 @@ pub(crate) fn line_at(text: &str, number: usize) -> Option<&str> {
     None
 }
 
-/// The line of the file that has a line of the text under a key, both from 1 on. Only a text between `'''` has its
-/// lines there as they are.
+/// Returns the line of the file that has a line of the text under a key, both from 1 on. Only a text between `'''` has
+/// its lines there as they are.
 pub(crate) fn find_in_text(
     file: &str,
     sought: Sought<'_>,

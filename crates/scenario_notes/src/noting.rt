@@ -1,7 +1,7 @@
 //! The note on a refusal.
 ghost use Rattle.std.specs.Prelude.{◌≡◌, ℕ, List, IfOk, IfSome, IsTrue, MatchOption, None, Some, string_bytes};
 ghost use Rattle.scenario_notes.specs.declared.note.Note.TheVariants.{OfNothing};
-ghost use Rattle.scenario_notes.specs.Told.{IsNoteOf, IsOfFault, IsOfLine, IsOfSlot, IsTextLineOfSlot, Tells, fault_line, rule_line};
+ghost use Rattle.scenario_notes.specs.Told.{IsNoteOf, IsOfFault, IsOfLine, IsOfSlot, IsTextLineOfSlot, Tells, rule_line};
 
 use crate::advice::advice_on;
 use crate::finding::{Sought, find, find_in_text, line_at, without_comment};
@@ -10,7 +10,6 @@ use crate::note::{Note, Spot, UnknownKey};
 use crate::slot_line::line_of_slot;
 use crate::table::{array_of, key_at, table_at, table_in, text_at};
 use crate::toml_fault::fault_in;
-use bpf_asm::TextError;
 use bpf_verify::Rule;
 use rule_notes::near::nearest;
 use rule_notes::shown::shown;
@@ -19,7 +18,7 @@ use scenario_text::{Place, ScenarioError};
 use std::alloc::{AllocError, Global};
 use std::str;
 
-/// The line of what is sought.
+/// Returns the line of what is sought.
 fn line_note(alloc: Global, file: &[u8], sought: Sought<'_>) -> Result<Option<Note>, AllocError>
     ensures { IfOk result (λ found. IfSome found IsOfLine) }
 {
@@ -33,7 +32,7 @@ fn line_note(alloc: Global, file: &[u8], sought: Sought<'_>) -> Result<Option<No
     Ok(Some(Note::OfLine { line, shown }))
 }
 
-/// The line of a key.
+/// Returns the line of a key.
 fn line_of_key(file: &[u8], place: Place, key: &str) -> Option<usize> {
     let text = str::from_utf8(file).ok()?;
     let (line, _words) = find(text, key_at(place, key))?;
@@ -53,12 +52,12 @@ fn unknown_key_note(alloc: Global, file: &[u8], place: Place) -> Result<Option<N
     let unknown = UnknownKey {
         line: line_of_key(file, place, key),
         key: shown(alloc, key)?,
-        nearest: nearest(alloc, key, names_at(place))?,
+        nearest: nearest(alloc, key, names_at(alloc, place)?.as_slice())?,
     };
     Ok(Some(Note::OfKey { unknown }))
 }
 
-/// A line of the text under a key, shown without its comment.
+/// Returns a line of the text under a key, shown without its comment.
 fn spot_at(
     alloc: Global,
     file: &[u8],
@@ -84,22 +83,7 @@ fn spot_at(
     }))
 }
 
-/// The line that a fault of a text names.
-fn fault_line(error: TextError) -> Option<usize>
-    ensures { result ≡ fault_line error }
-{
-    match error {
-        TextError::UnknownWord(line)
-        | TextError::BadOperand(line)
-        | TextError::OutOfRange(line)
-        | TextError::UnknownLabel(line)
-        | TextError::LabelTwice(line)
-        | TextError::TooLong(line) => Some(line),
-        TextError::Empty | TextError::Memory => None,
-    }
-}
-
-/// The line that a refusal of a rule names.
+/// Returns the line that a refusal of a rule names.
 fn rule_line(error: RuleRefusal) -> Option<usize>
     ensures { result ≡ rule_line error }
 {
@@ -109,7 +93,7 @@ fn rule_line(error: RuleRefusal) -> Option<usize>
     }
 }
 
-/// The line of the text under a key, or that of the key if the fault names none.
+/// Returns the line of the text under a key, or that of the key if the fault names none.
 fn text_note(
     alloc: Global,
     file: &[u8],
@@ -135,7 +119,7 @@ fn text_note(
     }
 }
 
-/// The line of the text under a key whose instruction begins at the slot.
+/// Returns the line of the text under a key whose instruction begins at the slot.
 fn slot_spot(
     alloc: Global,
     file: &[u8],
@@ -193,7 +177,7 @@ fn place_of(alloc: Global, file: &[u8], error: &ScenarioError) -> Result<Option<
             line_note(alloc, file, key_at(Place::Load(*load), "program"))
         }
         ScenarioError::BadText { place, key, error } => {
-            text_note(alloc, file, *place, key, fault_line(*error))
+            text_note(alloc, file, *place, key, error.line())
         }
         ScenarioError::BadRule { place, key, error } => {
             text_note(alloc, file, *place, key, rule_line(*error))

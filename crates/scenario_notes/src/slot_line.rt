@@ -8,7 +8,7 @@ use bpf_asm::{TextError, assemble, instruction_lines, listed_slots_are_the_progr
 use bpf_insn::Program;
 use std::alloc::{AllocError, Global};
 
-/// Of a program's instructions that begins at the slot, what is at its place in these.
+/// Returns what is at the place, in these, of the instruction that begins at the slot.
 fn at_slot(program: &Program, lines: &[usize], slot: u32) -> Option<usize>
     ensures { IfSome result (IsAtSlot program.now lines.now slot) }
 {
@@ -23,7 +23,7 @@ fn at_slot(program: &Program, lines: &[usize], slot: u32) -> Option<usize>
     None
 }
 
-/// The line, from 1 on, if the text means a program and an instruction of it begins at the slot.
+/// Returns the line, from 1 on, if the text means a program and an instruction of it begins at the slot.
 #[tactic(auto, using(crate::proofs::SlotLemmas::line_of_slot))]
 pub(crate) fn line_of_slot(
     alloc: Global,

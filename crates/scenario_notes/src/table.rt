@@ -11,7 +11,7 @@ use scenario_text::{MAX_TEXT, Place};
 use std::alloc::{AllocError, Global};
 use toml::{Table, Value};
 
-/// The table of a file, if it is one.
+/// Returns the table of a file, if it is one.
 pub(crate) fn table_in(alloc: Global, file: &[u8]) -> Result<Option<Table>, AllocError>
     ensures { IfOk result (λ found. IfSome found (λ t. IsDocument file.now (table_view t))) }
 {
@@ -25,7 +25,7 @@ pub(crate) fn table_in(alloc: Global, file: &[u8]) -> Result<Option<Table>, Allo
     }
 }
 
-/// The array of an entry, and which of its entries it is.
+/// Returns the array of an entry, and which of its entries it is.
 pub(crate) fn array_of(place: Place) -> Option<(&'static str, usize)> {
     match place {
         Place::Top => None,
@@ -36,7 +36,7 @@ pub(crate) fn array_of(place: Place) -> Option<(&'static str, usize)> {
     }
 }
 
-/// A key there.
+/// Returns a key there.
 pub(crate) fn key_at(place: Place, key: &str) -> Sought<'_> {
     Sought {
         entry: array_of(place),
@@ -44,21 +44,21 @@ pub(crate) fn key_at(place: Place, key: &str) -> Sought<'_> {
     }
 }
 
-/// The value under a key.
+/// Returns the value under a key.
 fn value_at<'a>(table: &'a Table, key: &str) -> Option<&'a Value>
     ensures { option_map (λ v. view v.now) result ≡ get_member key.now (table_view table.now) }
 {
     table.get(key)
 }
 
-/// The entry of an array.
+/// Returns the entry of an array.
 fn entry_at<'a>(table: &'a Table, array: &str, index: usize) -> Option<&'a Value>
     ensures { option_map (λ v. view v.now) result ≡ member_entry_at (table_view table.now) array.now index }
 {
     value_at(table, array)?.get(index)
 }
 
-/// The table there.
+/// Returns the table there.
 pub(crate) fn table_at(table: &Table, place: Place) -> Option<&Table> {
     match array_of(place) {
         None => Some(table),
@@ -66,7 +66,7 @@ pub(crate) fn table_at(table: &Table, place: Place) -> Option<&Table> {
     }
 }
 
-/// The text under a key at the top, or of a load.
+/// Returns the text under a key at the top, or of a load.
 pub(crate) fn text_at<'a>(table: &'a Table, place: Place, key: &str) -> Option<&'a str>
     ensures { option_copied result ≡ text_at (table_view table.now) place key.now }
 {

@@ -3,7 +3,7 @@
 use crate::note::Note;
 use std::alloc::{AllocError, Global};
 
-/// The line and the column after a front.
+/// Returns the line and the column after a front.
 fn place_behind(front: &[u8]) -> (usize, usize) {
     let mut line = 1usize;
     let mut column = 1usize;
@@ -18,12 +18,12 @@ fn place_behind(front: &[u8]) -> (usize, usize) {
     (line, column)
 }
 
-/// Whether a byte of UTF-8 is the first of its character.
+/// Returns true if a byte of UTF-8 is the first of its character.
 fn begins_letter(byte: u8) -> bool {
     byte & 0xc0 != 0x80
 }
 
-/// Where and why the parser stops, if it does.
+/// Returns where and why the parser stops, if it does.
 pub(crate) fn fault_in(alloc: Global, text: &[u8]) -> Result<Option<Note>, AllocError> {
     let Err(error) = toml::table_from_slice(alloc, text) else {
         return Ok(None);

@@ -22,7 +22,7 @@ const PROGRAM_NAMES: [&str; 6] = ["clock", "say", "echo", "asm", "rule", "noise"
 
 const COINS_WORDS: &str = "coins is \"zeros\", \"ones\" or \"chacha\"";
 
-/// The words that `program` may be in a scenario.
+/// Returns the words that `program` may be in a scenario.
 pub(crate) fn program_names(table: &Table) -> &'static [&'static str] {
     if has_version(table, NOISE_VERSION) {
         &PROGRAM_NAMES
@@ -49,7 +49,7 @@ struct Limit {
     text: String,
 }
 
-/// The number under a key at the top, less one if that is asked for.
+/// Returns the number under a key at the top, less one if that is asked for.
 fn limit_of(alloc: Global, table: &Table, key: &str, less: i64) -> Result<Limit, AllocError> {
     let text = match table.get(key).and_then(Value::as_integer) {
         Some(number) if number >= less => {
@@ -62,7 +62,7 @@ fn limit_of(alloc: Global, table: &Table, key: &str, less: i64) -> Result<Limit,
     Ok(Limit { text })
 }
 
-/// A whole number from the first to the last.
+/// Returns a whole number from the first to the last.
 fn number(alloc: Global, key: &str, first: u64, last: u64) -> Result<String, AllocError> {
     format!(in alloc; "{key} is a whole number, {first} to {last}")
 }
@@ -117,7 +117,7 @@ fn load_words(alloc: Global, table: &Table) -> Result<String, AllocError> {
     Ok(words)
 }
 
-/// What a key at the top may be.
+/// Returns what a key at the top may be.
 fn wanted_at_top(alloc: Global, table: &Table, key: &str) -> Result<String, AllocError> {
     match key {
         "version" => number(alloc, key, FIRST_VERSION, LAST_VERSION),
@@ -136,7 +136,7 @@ fn wanted_at_top(alloc: Global, table: &Table, key: &str) -> Result<String, Allo
     }
 }
 
-/// What a key of an entry may be.
+/// Returns what a key of an entry may be.
 fn wanted_in_entry(alloc: Global, table: &Table, key: &str) -> Result<String, AllocError> {
     match key {
         "pulse" => pulse_words(alloc, table),

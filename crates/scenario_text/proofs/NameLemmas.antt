@@ -8,7 +8,7 @@ use Rattle.scenario_text.specs.declared.scenario.Coins.TheVariants.{Zeros, Ones,
 use Rattle.scenario_text.specs.declared.scenario.Kind.{Kind}
 use Rattle.scenario_text.specs.declared.scenario.Kind.TheVariants.{Clock, Say, Echo, Asm, Rule, Noise}
 use Rattle.scenario_text.specs.inner.Names.{coins_named, kind_named}
-use Rattle.scenario_text.specs.Spelling.{HasKind, coins_name, kind_name}
+use Rattle.scenario_text.specs.Spelling.{OffersKind, coins_name, kind_name}
 use Rattle.scenario_text.specs.Tables.{HasText}
 use Rattle.toml.specs.Data.{Members, string}
 
@@ -74,6 +74,6 @@ one_kind ms k l first second =
 
 -- a table whose kind the version doesn't have names none that it has
 pub other_version : (ms : Members) (version : ℕ) (k l : Kind) → HasText ms (codes "program") (kind_name k)
-    → (HasKind version k → ⊥) → HasText ms (codes "program") (kind_name l) → HasKind version l → ⊥
+    → (OffersKind version k → ⊥) → HasText ms (codes "program") (kind_name l) → OffersKind version l → ⊥
 other_version ms version k l named without other has =
-    without (subst (HasKind version) (one_kind ms l k other named) has)
+    without (subst (OffersKind version) (one_kind ms l k other named) has)

@@ -18,12 +18,12 @@ use Rattle.scenario_text.specs.declared.scenario.Kind.{Kind}
 use Rattle.scenario_text.specs.declared.scenario.Kind.TheVariants.{Asm}
 use Rattle.scenario_text.specs.declared.scenario.Load.{Load}
 use Rattle.scenario_text.specs.declared.scenario.Scenario.{Scenario}
-use Rattle.scenario_text.specs.Broken.{BrokenLoad, BrokenText, StandsAt, item_at}
+use Rattle.scenario_text.specs.Broken.{BrokenLoad, BrokenText, IsItemAt, item_at}
 use Rattle.scenario_text.specs.Drafts.{LoadDraft}
 use Rattle.scenario_text.specs.Laws.{RefusedReadsAsNone}
 use Rattle.scenario_text.specs.Spelling.{SpellsClock, HasFrame, IsProgramOf, MeansAt, MeansClock, SpelledLoad, clock_key, clock_rule_of}
 use Rattle.scenario_text.specs.Tables.{IsTable, MayBeArray, ReadsEach}
-use Rattle.scenario_text.specs.Views.{FitsFrame, FitsLoad, Reads, draft_of, extent_of, frame_of, load_draft}
+use Rattle.scenario_text.specs.Views.{FitsFrame, FitsLoad, ReadsAs, draft_of, extent_of, frame_of, load_draft}
 use Rattle.scenario_text.proofs.ClockLemmas.{none_there, one_clock, one_meaning, one_text}
 use Rattle.scenario_text.proofs.EntryLemmas.{Each, each_of_all}
 use Rattle.scenario_text.proofs.FrameLemmas.{frame_extent, frame_rule, one_frame}
@@ -56,7 +56,7 @@ by_clock a f ms o p slot ok is has fits key means broken =
     by_text a f ms o p slot ok is has fits mine broken
 
 clock_unread : (ms : Members) (s : Scenario) (slot : ℕ) (f : Frame) → HasFrame ms f → clock_key ms ≡ keys.Clock
-    → BrokenText ms (codes "clock") (extent_of f) slot → Reads ms s → ⊥
+    → BrokenText ms (codes "clock") (extent_of f) slot → ReadsAs ms s → ⊥
 clock_unread ms s slot f has key broken reads =
     let g = frame_of s in
     let same = one_frame ms g f reads.spelled.frame has in
@@ -101,7 +101,7 @@ load_refused f c slot (datetime d) l spelled fits broken = absurd spelled
 
 by_loads : (f : Frame) (c : Option (List Insn)) (o : Option Data) (ls : List Load) (index slot : ℕ)
     → MayBeArray (IsTable (SpelledLoad f c)) o (map load_draft ls) → Each (FitsLoad f) ls
-    → StandsAt (IsTable (BrokenLoad f c)) o index slot → ⊥
+    → IsItemAt (IsTable (BrokenLoad f c)) o index slot → ⊥
 by_loads f c None ls index slot each fits stands = absurd stands
 by_loads f c (Some (array items)) ls index slot each fits stands =
     let there = some_at (item_at items index) (λ value. IsTable (BrokenLoad f c) value slot) stands in
@@ -115,8 +115,8 @@ by_loads f c (Some (datetime d)) ls index slot each fits stands = absurd stands
 by_loads f c (Some (table ms)) ls index slot each fits stands = absurd stands
 
 load_unread : (ms : Members) (s : Scenario) (index slot : ℕ) (f : Frame) (c : Option (List Insn)) → HasFrame ms f
-    → SpellsClock f ms c → StandsAt (IsTable (BrokenLoad f c)) (get_member (codes "load") ms) index slot
-    → Reads ms s → ⊥
+    → SpellsClock f ms c → IsItemAt (IsTable (BrokenLoad f c)) (get_member (codes "load") ms) index slot
+    → ReadsAs ms s → ⊥
 load_unread ms s index slot f c has clock stands reads =
     let g = frame_of s in
     let d = (draft_of s).clock in

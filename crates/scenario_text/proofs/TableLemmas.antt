@@ -9,7 +9,7 @@ use Rattle.std.specs.declared.alloc.Global.{Global}
 use Rattle.toml.specs.declared.value.Value.{Value}
 use Rattle.toml.specs.View.{items_view, members_view, table_view, view}
 use Rattle.toml.specs.Data.{Data, as_integer, array, table, get_member, Items, no_items, item, Members}
-use Rattle.scenario_text.specs.Broken.{StandsAt, item_at}
+use Rattle.scenario_text.specs.Broken.{IsItemAt, item_at}
 use Rattle.scenario_text.specs.Tables.{knows, ReadsEach, IsArray, MayBeArray, IsTable, IsNumber}
 use Rattle.scenario_text.specs.declared.scenario.Frame.{Frame}
 use Rattle.bpf_insn.specs.declared.forms.Insn.{Insn}
@@ -79,7 +79,7 @@ item_is (v ∷ vs) (suc i) d within = item_is vs i d (omega arith)
 
 -- what holds of the next item of an array holds of the item at its place
 pub next_stands : {A : Type 0} (reads : Data → A → Type 0) (vs whole : List Value) (i : ℕ) (v : Value) → i < length vs
-    → get_or vs i v ≡ v → vs ≡ whole → (x : A) → reads (view v) x → StandsAt reads (Some (array (items_view whole))) i x
+    → get_or vs i v ≡ v → vs ≡ whole → (x : A) → reads (view v) x → IsItemAt reads (Some (array (items_view whole))) i x
 next_stands reads vs whole i v within found same x is =
     let item : item_at (items_view whole) i ≡ Some (view v) =
     ap (λ (ws : List Value). item_at (items_view ws) i) (sym same)

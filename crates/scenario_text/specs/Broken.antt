@@ -21,9 +21,9 @@ item_at (item value values) zero = Some value
 item_at (item value values) (suc index) = item_at values index
 
 -- the item at this place of the array is one of which this holds
-abbrev pub StandsAt : {A : Type 0} → (Data → A → Type 0) → Option Data → ℕ → A → Type 0
-StandsAt reads (Some (array items)) index x = IsSomeAnd (item_at items index) (λ value. reads value x)
-StandsAt reads _ index x = ⊥
+abbrev pub IsItemAt : {A : Type 0} → (Data → A → Type 0) → Option Data → ℕ → A → Type 0
+IsItemAt reads (Some (array items)) index x = IsSomeAnd (item_at items index) (λ value. reads value x)
+IsItemAt reads _ index x = ⊥
 
 -- the text under the key means a program that breaks the rules first at this slot
 pub record BrokenText (members : Members) (key : List ℕ) (shape : Extent) (slot : ℕ) : Type 0 where
@@ -40,7 +40,7 @@ pub record BrokenLoad (f : Frame) (clock : Option (List Insn)) (members : Member
 
 -- so does the item at this place of the loads
 abbrev pub BrokenIn : Frame → Option (List Insn) → Option Data → Place → ℕ → Type 0
-BrokenIn f clock loads (places.Load index) slot = StandsAt (IsTable (BrokenLoad f clock)) loads index slot
+BrokenIn f clock loads (places.Load index) slot = IsItemAt (IsTable (BrokenLoad f clock)) loads index slot
 BrokenIn f clock loads _ slot = ⊥
 
 -- the clock of the table, or a load of it

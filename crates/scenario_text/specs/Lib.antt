@@ -1,3 +1,4 @@
+pub mod Keys
 pub mod Tables
 pub mod Drafts
 pub mod Noise

@@ -1,8 +1,8 @@
 -- The line of a refusal, without its end (docs/SCENARIOS.md, "Refusals").
-use Rattle.std.specs.Prelude.{ℕ, List, ◌++◌, codes}
+use Rattle.std.specs.Prelude.{ℕ, List, ◌++◌, codes, unwrap_or}
 use Rattle.std.specs.Fmt.{decimal}
 use Rattle.bpf_asm.specs.declared.text_error.TextError.{TextError}
-use Rattle.bpf_asm.specs.declared.text_error.TextError.TheVariants as text
+use Rattle.bpf_asm.specs.Errors.{text_error_line, text_error_name}
 use Rattle.bpf_verify.specs.Rules.{rule_number}
 use Rattle.rule_text.specs.Programs.{error_name}
 use Rattle.rule_text.specs.declared.program.RuleRefusal.{RuleRefusal}
@@ -25,16 +25,10 @@ abbrev pub path_text : Place → List ℕ → List ℕ
 path_text places.Top key = key
 path_text place key = text_of_place place ++ (codes "." ++ key)
 
--- the line of a text at fault, from 1 on, and the fault
+-- the line of a text at fault, from 1 on or 0 for none, and the fault
 abbrev pub text_fault : TextError → List ℕ
-text_fault (text.UnknownWord line) = codes "line " ++ (decimal line ++ codes " UnknownWord")
-text_fault (text.BadOperand line) = codes "line " ++ (decimal line ++ codes " BadOperand")
-text_fault (text.OutOfRange line) = codes "line " ++ (decimal line ++ codes " OutOfRange")
-text_fault (text.UnknownLabel line) = codes "line " ++ (decimal line ++ codes " UnknownLabel")
-text_fault (text.LabelTwice line) = codes "line " ++ (decimal line ++ codes " LabelTwice")
-text_fault (text.TooLong line) = codes "line " ++ (decimal line ++ codes " TooLong")
-text_fault text.Empty = codes "line 0 Empty"
-text_fault text.Memory = codes "line 0 Memory"
+text_fault error =
+    codes "line " ++ (decimal (unwrap_or (text_error_line error) 0) ++ (codes " " ++ text_error_name error))
 
 -- the place in a rule's text, from 1 on, and the first error there; or why the rule has no program
 abbrev pub rule_fault : RuleRefusal → List ℕ

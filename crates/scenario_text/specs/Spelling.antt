@@ -1,8 +1,12 @@
 -- How a table spells a scenario (docs/SCENARIOS.md, "Keys").
-use Rattle.std.specs.Prelude.{◌≡◌, ℕ, pos, negsuc, ◌+◌, ◌-◌, ◌%◌, ◌≤◌, ◌==◌, ◌++◌, ◌⊎◌, if◌then◌else◌, Bool, true, List, [], ◌∷◌, codes, length, replicate, Option, Some, None, is_some, option_map}
+use Rattle.std.specs.Prelude.{◌≡◌, ℕ, pos, negsuc, ◌+◌, ◌-◌, ◌%◌, ◌≤◌, ◌==◌, ◌++◌, ◌⊎◌, if◌then◌else◌, Bool, true, List, [], ◌∷◌, codes, length, replicate, Option, Some, None, is_some, option_map, option_to_list}
 use Rattle.toml.specs.Data.{Data, string, integer, Members, get_member}
 use Rattle.bpf_insn.specs.declared.forms.Insn.{Insn}
 use Rattle.bpf_asm.specs.Meaning.{Means}
+use Rattle.scenario_text.specs.declared.keys.Key.{Key}
+use Rattle.scenario_text.specs.declared.keys.Key.TheVariants as names
+use Rattle.scenario_text.specs.declared.keys.TheConstants.{COIN_KEYS, CORRUPT_KEYS, LOAD_KEYS, TOP_KEYS, UNLOAD_KEYS}
+use Rattle.scenario_text.specs.Keys.{names_of}
 use Rattle.scenario_text.specs.declared.scenario.Coins.{Coins}
 use Rattle.scenario_text.specs.declared.scenario.Coins.TheVariants.{Zeros, Ones, Chacha}
 use Rattle.scenario_text.specs.declared.scenario.Kind.{Kind}
@@ -25,12 +29,6 @@ use Rattle.scenario_text.specs.declared.scenario.Frame.{Frame}
 
 -- ---- the top keys
 
--- the top keys of every version
-abbrev pub plain_top_keys : List (List ℕ)
-plain_top_keys =
-    codes "version" ∷ codes "nodes" ∷ codes "faults" ∷ codes "modulus" ∷ codes "memory" ∷ codes "pulses"
-    ∷ codes "coins" ∷ codes "key" ∷ codes "load" ∷ codes "unload" ∷ codes "corrupt" ∷ codes "coin" ∷ []
-
 -- the key of a clock's text by the version, and by whether there is a key `clock`: none before CLOCK_VERSION, and from
 -- RULE_VERSION on `rule` in place of an absent `clock`
 abbrev pub key_of_version : ℕ → Bool → ClockKey
@@ -46,11 +44,15 @@ key_by _ with_clock = keys.Absent
 abbrev pub clock_key : Members → ClockKey
 clock_key members = key_by (get_member (codes "version") members) (is_some (get_member (codes "clock") members))
 
--- the top keys, with that of the clock's text
+-- that key, if there is one
+abbrev pub text_key : ClockKey → Option Key
+text_key keys.Absent = None
+text_key keys.Clock = Some names.Clock
+text_key keys.Rule = Some names.Rule
+
+-- the top keys of every version, with that of the clock's text
 abbrev pub top_keys : ClockKey → List (List ℕ)
-top_keys keys.Absent = plain_top_keys
-top_keys keys.Clock = plain_top_keys ++ codes "clock" ∷ []
-top_keys keys.Rule = plain_top_keys ++ codes "rule" ∷ []
+top_keys clock = names_of (TOP_KEYS ++ option_to_list (text_key clock))
 
 -- the version is FIRST_VERSION if the key is absent
 abbrev pub HasVersion : Members → ℕ → Type 0
@@ -96,25 +98,25 @@ kind_name Rule = codes "rule"
 kind_name Noise = codes "noise"
 
 -- rules came with RULE_VERSION, noise with NOISE_VERSION
-abbrev pub HasKind : ℕ → Kind → Type 0
-HasKind version Clock = Unit {0}
-HasKind version Say = Unit {0}
-HasKind version Echo = Unit {0}
-HasKind version Asm = Unit {0}
-HasKind version Rule = RULE_VERSION ≤ version
-HasKind version Noise = NOISE_VERSION ≤ version
+abbrev pub OffersKind : ℕ → Kind → Type 0
+OffersKind version Clock = Unit {0}
+OffersKind version Say = Unit {0}
+OffersKind version Echo = Unit {0}
+OffersKind version Asm = Unit {0}
+OffersKind version Rule = RULE_VERSION ≤ version
+OffersKind version Noise = NOISE_VERSION ≤ version
 
-abbrev pub plain_load_keys : List (List ℕ)
-plain_load_keys = codes "pulse" ∷ codes "nodes" ∷ codes "program" ∷ []
+-- a kind's own key, which is unknown with the others
+abbrev pub source_key : Kind → Option Key
+source_key Say = Some names.Values
+source_key Asm = Some names.Text
+source_key Rule = Some names.Text
+source_key Clock = None
+source_key Echo = None
+source_key Noise = None
 
--- a kind's own key is unknown with the others
 abbrev pub load_keys : Kind → List (List ℕ)
-load_keys Say = plain_load_keys ++ codes "values" ∷ []
-load_keys Asm = plain_load_keys ++ codes "text" ∷ []
-load_keys Rule = plain_load_keys ++ codes "text" ∷ []
-load_keys Clock = plain_load_keys
-load_keys Echo = plain_load_keys
-load_keys Noise = plain_load_keys
+load_keys kind = names_of (LOAD_KEYS ++ option_to_list (source_key kind))
 
 -- a number to be sent, or -1 for nothing
 abbrev pub IsSaid : Data → Option ℕ → Type 0
@@ -193,36 +195,27 @@ pub record SpelledLoad (f : Frame) (clock : Option (List Insn)) (members : Membe
   pub pulse : HasNumber members (codes "pulse") 1 f.pulses load.pulse
   pub nodes : IsArray (IsNumber 0 (f.nodes - 1)) (get_member (codes "nodes") members) load.nodes
   pub named : HasText members (codes "program") (kind_name load.kind)
-  pub kind : HasKind f.version load.kind
+  pub kind : OffersKind f.version load.kind
   pub known : knows (load_keys load.kind) members ≡ true
   pub text : load.text ≡ load_text load.kind members
   pub program : IsProgramOf f clock load.kind members load.program
 
 -- ---- the other entries
 
-abbrev pub unload_keys : List (List ℕ)
-unload_keys = codes "pulse" ∷ codes "node" ∷ []
-
 pub record SpelledUnload (f : Frame) (members : Members) (unload : Unload) : Type 0 where
-  pub known : knows unload_keys members ≡ true
+  pub known : knows (names_of UNLOAD_KEYS) members ≡ true
   pub pulse : HasNumber members (codes "pulse") 1 f.pulses unload.pulse
   pub node : HasNumber members (codes "node") 0 (f.nodes - 1) unload.node
 
-abbrev pub corrupt_keys : List (List ℕ)
-corrupt_keys = unload_keys ++ codes "image" ∷ []
-
 pub record SpelledCorrupt (f : Frame) (members : Members) (corrupt : CorruptDraft) : Type 0 where
-  pub known : knows corrupt_keys members ≡ true
+  pub known : knows (names_of CORRUPT_KEYS) members ≡ true
   pub pulse : HasNumber members (codes "pulse") 1 f.pulses corrupt.pulse
   pub node : HasNumber members (codes "node") 0 (f.nodes - 1) corrupt.node
   pub image : IsArray (IsNumber 0 255) (get_member (codes "image") members) corrupt.image
   pub whole : length corrupt.image ≡ f.memory
 
-abbrev pub coin_keys : List (List ℕ)
-coin_keys = unload_keys ++ codes "value" ∷ []
-
 pub record SpelledCoin (f : Frame) (members : Members) (entry : CoinEntry) : Type 0 where
-  pub known : knows coin_keys members ≡ true
+  pub known : knows (names_of COIN_KEYS) members ≡ true
   pub pulse : HasNumber members (codes "pulse") 1 f.pulses entry.pulse
   pub node : HasNumber members (codes "node") 0 (f.nodes - 1) entry.node
   pub value : HasNumber members (codes "value") 0 1 entry.value

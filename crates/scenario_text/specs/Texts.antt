@@ -9,7 +9,7 @@ use Rattle.scenario_text.specs.declared.refusal.ScenarioError.TheVariants as err
 use Rattle.scenario_text.specs.declared.scenario.Scenario.{Scenario}
 use Rattle.scenario_text.specs.Broken.{BrokenAt}
 use Rattle.scenario_text.specs.Spelling.{SpellsNothing}
-use Rattle.scenario_text.specs.Views.{Reads}
+use Rattle.scenario_text.specs.Views.{ReadsAs}
 
 -- the text is short enough, is UTF-8, and is this table as TOML
 abbrev pub IsDocument : List ℕ → Members → Type 0
@@ -17,7 +17,7 @@ IsDocument text members = (length text ≤ MAX_TEXT) × IsUtf8 text × (parse_do
 
 -- the text is a table that reads as this scenario
 abbrev pub ReadsText : List ℕ → Scenario → Type 0
-ReadsText text s = (members : Members) × IsDocument text members × Reads members s
+ReadsText text s = (members : Members) × IsDocument text members × ReadsAs members s
 
 -- `TooLong` and `NotToml` are decided by the bytes, `NotAccepted` by a program of the document, and the other six by
 -- the spelling. Want of memory is no refusal

@@ -69,7 +69,7 @@ abbrev pub FitsLoad : Frame → Load → Type 0
 FitsLoad f l = FitsFrame f l.program
 
 -- the table reads as this scenario
-pub record Reads (members : Members) (s : Scenario) : Type 0 where
+pub record ReadsAs (members : Members) (s : Scenario) : Type 0 where
   pub spelled : Spelled members (draft_of s)
   pub clock : IfSome s.clock (FitsFrame (frame_of s))
   pub typable : All (FitsLoad (frame_of s)) s.loads.items

@@ -27,7 +27,7 @@ fn items_in(array: &Array) -> usize
     array.len()
 }
 
-/// For how many changes a load counts.
+/// Returns for how many changes a load counts.
 fn count_in(value: &Value) -> usize
     ensures { result ≡ count_in (view value.now) }
 {
@@ -43,7 +43,7 @@ fn count_in(value: &Value) -> usize
     items_in(array)
 }
 
-/// The changes of an array of loads, or none if there are more than a limit.
+/// Returns the changes of an array of loads, or none if there are more than a limit.
 #[tactic(auto, using(crate::proofs::TableLemmas::counted_take))]
 fn counted_loads(array: &Array, most: usize) -> Option<usize>
     ensures { MatchOption result (most < item_count (array_view array.now))
@@ -60,7 +60,7 @@ fn counted_loads(array: &Array, most: usize) -> Option<usize>
     Some(total)
 }
 
-/// The room that is left after the loads.
+/// Returns the room that is left after the loads.
 fn room_after_loads(array: Option<&Array>, room: usize) -> Result<usize, ScenarioError>
     ensures fault { IfErr result IsOfSpelling }
     ensures room { MatchResult result
@@ -79,7 +79,7 @@ fn room_after_loads(array: Option<&Array>, room: usize) -> Result<usize, Scenari
     }
 }
 
-/// The room that is left after other entries.
+/// Returns the room that is left after other entries.
 fn room_after(array: Option<&Array>, key: &'static str, room: usize) -> Result<usize, ScenarioError>
     ensures fault { IfErr result IsOfSpelling }
     ensures room { MatchResult result
@@ -99,7 +99,7 @@ fn room_after(array: Option<&Array>, key: &'static str, room: usize) -> Result<u
     Ok(room - count)
 }
 
-/// The arrays of a table, each of tables, and together not too long.
+/// Returns the arrays of a table, each of tables, and together not too long.
 pub(crate) fn arrays_at<'a>(table: &'a Table) -> Result<Arrays<'a>, ScenarioError>
     ensures fault { IfErr result IsOfSpelling }
     ensures has { MatchResult result (λ _. HasArrays (table_view table.now))

@@ -4,6 +4,7 @@ ghost use Rattle.scenario_text.specs.declared.scenario.CoinEntry.{CoinEntry as C
 ghost use Rattle.scenario_text.specs.Spelling.{SpelledCoin};
 
 use crate::entries::Entry;
+use crate::keys::COIN_KEYS;
 use crate::refusal::{Place, ScenarioError};
 use crate::scenario::CoinEntry;
 use crate::setup::Setup;
@@ -34,7 +35,7 @@ impl Entry for CoinEntry {
     ) -> Result<CoinEntry, ScenarioError> {
         let place = Place::Coin(index);
         let frame = setup.frame;
-        if !knows_keys(table, &["pulse", "node", "value"]) {
+        if !knows_keys(table, &COIN_KEYS, None) {
             return Err(ScenarioError::UnknownKey { place });
         }
         let pulse = number_at(table, place, "pulse", 1, frame.pulses as u64)?;

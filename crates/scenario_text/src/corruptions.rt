@@ -10,6 +10,7 @@ ghost use Rattle.scenario_text.specs.Tables.{IsArray, IsNumber};
 ghost use Rattle.scenario_text.specs.Spelling.{SpelledCorrupt};
 
 use crate::entries::Entry;
+use crate::keys::CORRUPT_KEYS;
 use crate::numbers::{Byte, integers_at, items_of};
 use crate::refusal::{Place, ScenarioError};
 use crate::scenario::Corrupt;
@@ -18,7 +19,7 @@ use crate::table::{knows_keys, number_at};
 use std::alloc::Global;
 use toml::Table;
 
-/// The image, which has as many bytes as a node's memory.
+/// Returns the image, which has as many bytes as a node's memory.
 #[tactic(auto, using(crate::proofs::TableLemmas::reads_length))]
 fn image_at(
     alloc: Global,
@@ -66,7 +67,7 @@ impl Entry for Corrupt {
     ) -> Result<Corrupt, ScenarioError> {
         let place = Place::Corrupt(index);
         let frame = setup.frame;
-        if !knows_keys(table, &["pulse", "node", "image"]) {
+        if !knows_keys(table, &CORRUPT_KEYS, None) {
             return Err(ScenarioError::UnknownKey { place });
         }
         let pulse = number_at(table, place, "pulse", 1, frame.pulses as u64)?;

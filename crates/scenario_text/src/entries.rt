@@ -7,7 +7,7 @@ ghost use Rattle.scenario_text.specs.declared.refusal.Place.{Place as PlaceValue
 ghost use Rattle.scenario_text.specs.declared.scenario.Frame.{Frame as FrameValue};
 ghost use Rattle.scenario_text.specs.Faults.{Refuses};
 ghost use Rattle.scenario_text.specs.inner.Arrays.{StandsIn};
-ghost use Rattle.scenario_text.specs.inner.Setups.{IsSetup, own_clock};
+ghost use Rattle.scenario_text.specs.inner.Setups.{IsReadingSetup, own_clock};
 ghost use Rattle.scenario_text.specs.Tables.{ReadsEach, IsTable, MayBeArray};
 
 use crate::refusal::{Place, ScenarioError};
@@ -38,14 +38,14 @@ pub(crate) trait Entry: Drop {
     /// The key of the array.
     const KEY: &'static str;
 
-    /// The entry that a table spells.
+    /// Returns the entry that a table spells.
     fn read(
         alloc: Global,
         setup: &Setup,
         index: usize,
         table: &Table,
     ) -> Result<Self, ScenarioError>
-        requires { IsSetup setup.now }
+        requires { IsReadingSetup setup.now }
         ensures entry { IfOk result (λ entry.
             spelled setup.now.frame (own_clock setup.now) (table_view table.now) (draft_of entry)) }
         ensures fits { IfOk result (fits setup.now.frame) }
@@ -61,7 +61,7 @@ fn entry_in<E: Entry>(
     index: usize,
     value: &Value,
 ) -> Result<E, ScenarioError>
-    requires { IsSetup setup.now }
+    requires { IsReadingSetup setup.now }
     ensures entry { IfOk result (λ entry.
         IsTable (E.spelled setup.now.frame (own_clock setup.now)) (view value.now) (E.draft_of entry)) }
     ensures fits { IfOk result (E.fits setup.now.frame) }
@@ -84,7 +84,7 @@ fn entries_in<E: Entry>(
     setup: &Setup,
     array: &Array,
 ) -> Result<Vec<E>, ScenarioError>
-    requires { IsSetup setup.now }
+    requires { IsReadingSetup setup.now }
     ensures entries { IfOk result (λ entries. ReadsEach (IsTable (E.spelled setup.now.frame (own_clock setup.now)))
         (array_view array.now) (map E.draft_of entries.items)) }
     ensures fits { IfOk result (λ entries. All (E.fits setup.now.frame) entries.items) }
@@ -103,13 +103,13 @@ fn entries_in<E: Entry>(
     Ok(entries)
 }
 
-/// The entries that an array spells; no array spells none.
+/// Returns the entries that an array spells; no array spells none.
 pub(crate) fn entries_of<E: Entry>(
     alloc: Global,
     setup: &Setup,
     array: Option<&Array>,
 ) -> Result<Vec<E>, ScenarioError>
-    requires { IsSetup setup.now }
+    requires { IsReadingSetup setup.now }
     ensures entries { IfOk result (λ entries. MayBeArray (IsTable (E.spelled setup.now.frame (own_clock setup.now)))
         (option_map (λ a. array_data (array_view a.now)) array.entry) (map E.draft_of entries.items)) }
     ensures fits { IfOk result (λ entries. All (E.fits setup.now.frame) entries.items) }

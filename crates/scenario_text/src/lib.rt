@@ -5,6 +5,7 @@ mod arrays;
 mod coin_entries;
 mod corruptions;
 mod entries;
+pub mod keys;
 pub mod laws;
 mod limits;
 mod line;

@@ -46,16 +46,9 @@ impl fmt::Display for TextFault {
     ghost output = { λ fault. Some (text_fault fault.0) };
 
     fn fmt<W: fmt::Write>(&self, f: &mut fmt::Formatter<W>) -> fmt::Result {
-        match self.0 {
-            TextError::UnknownWord(line) => write!(f, "line {line} UnknownWord"),
-            TextError::BadOperand(line) => write!(f, "line {line} BadOperand"),
-            TextError::OutOfRange(line) => write!(f, "line {line} OutOfRange"),
-            TextError::UnknownLabel(line) => write!(f, "line {line} UnknownLabel"),
-            TextError::LabelTwice(line) => write!(f, "line {line} LabelTwice"),
-            TextError::TooLong(line) => write!(f, "line {line} TooLong"),
-            TextError::Empty => write!(f, "line 0 Empty"),
-            TextError::Memory => write!(f, "line 0 Memory"),
-        }
+        let name = self.0.name();
+        let line = self.0.line().unwrap_or(0);
+        write!(f, "line {line} {name}")
     }
 }
 

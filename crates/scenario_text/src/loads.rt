@@ -11,12 +11,13 @@ ghost use Rattle.scenario_text.specs.declared.refusal.Place.TheVariants.{Load as
 ghost use Rattle.scenario_text.specs.Broken.{BrokenLoad, BrokenText};
 ghost use Rattle.scenario_text.specs.Faults.{Excludes, Refuses};
 ghost use Rattle.scenario_text.specs.inner.Faults.{IsOfSpelling};
-ghost use Rattle.scenario_text.specs.inner.Setups.{IsSetup, own_clock};
-ghost use Rattle.scenario_text.specs.Tables.{knows, HasText, IsArray};
-ghost use Rattle.scenario_text.specs.Spelling.{load_keys, load_text, kind_name, HasKind, IsSaid, IsProgramOf, MeansAt, SpelledLoad};
+ghost use Rattle.scenario_text.specs.inner.Setups.{IsReadingSetup, own_clock};
+ghost use Rattle.scenario_text.specs.Tables.{HasText, IsArray};
+ghost use Rattle.scenario_text.specs.Spelling.{source_key, load_text, kind_name, OffersKind, IsSaid, IsProgramOf, MeansAt, SpelledLoad};
 ghost use Rattle.scenario_text.specs.Views.{load_draft, extent_of, FitsFrame, FitsLoad};
 
 use crate::entries::Entry;
+use crate::keys::{Key, LOAD_KEYS};
 use crate::limits::{NOISE_VERSION, RULE_VERSION};
 use crate::numbers::{Said, UpTo, integers_at, items_of};
 use crate::programs::{accepted, program_in, rule_in, say_program};
@@ -29,21 +30,20 @@ use bpf_verify::VerifiedProgram;
 use std::alloc::{AllocError, Global};
 use toml::Table;
 
-fn knows_load_keys(kind: Kind, table: &Table) -> bool
-    ensures { result ≡ knows (load_keys kind) (table_view table.now) }
+/// Returns the kind's own key, if it has one.
+fn source_key(kind: Kind) -> Option<Key>
+    ensures { result ≡ source_key kind }
 {
     match kind {
-        Kind::Clock | Kind::Echo | Kind::Noise => {
-            knows_keys(table, &["pulse", "nodes", "program"])
-        }
-        Kind::Say => knows_keys(table, &["pulse", "nodes", "program", "values"]),
-        Kind::Asm | Kind::Rule => knows_keys(table, &["pulse", "nodes", "program", "text"]),
+        Kind::Clock | Kind::Echo | Kind::Noise => None,
+        Kind::Say => Some(Key::Values),
+        Kind::Asm | Kind::Rule => Some(Key::Text),
     }
 }
 
-/// Whether the version has the kind.
+/// Returns true if the version has the kind.
 fn has_kind(version: u32, kind: Kind) -> bool
-    ensures { IsTrue result ↔ HasKind version kind }
+    ensures { IsTrue result ↔ OffersKind version kind }
 {
     match kind {
         Kind::Clock | Kind::Say | Kind::Echo | Kind::Asm => true,
@@ -52,7 +52,7 @@ fn has_kind(version: u32, kind: Kind) -> bool
     }
 }
 
-/// The kind that a load's table names.
+/// Returns the kind that a load's table names.
 #[tactic(auto, using(crate::proofs::NameLemmas::kind_by_name, crate::proofs::NameLemmas::no_kind))]
 fn named_kind(table: &Table, index: usize) -> Result<Kind, ScenarioError>
     ensures fault { IfErr result IsOfSpelling }
@@ -73,14 +73,14 @@ fn named_kind(table: &Table, index: usize) -> Result<Kind, ScenarioError>
     }
 }
 
-/// The same, if the version has it.
+/// Returns the same, if the version has it.
 #[tactic(auto, using(crate::proofs::NameLemmas::other_version))]
 fn kind_at(table: &Table, version: u32, index: usize) -> Result<Kind, ScenarioError>
     ensures fault { IfErr result IsOfSpelling }
     ensures named { IfOk result (λ kind. HasText (table_view table.now) (codes "program") (kind_name kind)) }
-    ensures kind { IfOk result (HasKind version) }
+    ensures kind { IfOk result (OffersKind version) }
     ensures none { IfErr result (λ _. (kind : KindValue) →
-        HasText (table_view table.now) (codes "program") (kind_name kind) → HasKind version kind → ⊥) }
+        HasText (table_view table.now) (codes "program") (kind_name kind) → OffersKind version kind → ⊥) }
 {
     let kind = named_kind(table, index)?;
     if has_kind(version, kind) {
@@ -90,7 +90,7 @@ fn kind_at(table: &Table, version: u32, index: usize) -> Result<Kind, ScenarioEr
     }
 }
 
-/// What `say` says.
+/// Returns what `say` says.
 #[tactic(auto, using(crate::proofs::TableLemmas::reads_length))]
 fn said_at(
     alloc: Global,
@@ -115,7 +115,7 @@ fn said_at(
     items_of(alloc, &Said, array, place, "values")
 }
 
-/// The same program once more, which its loads share.
+/// Returns the same program once more, which its loads share.
 fn shared(program: &VerifiedProgram) -> Result<VerifiedProgram, ScenarioError>
     ensures program { IfOk result (λ v. v ≡ program.now) }
     ensures refused { IfErr result (λ e. Excludes e ⊥) }
@@ -123,14 +123,14 @@ fn shared(program: &VerifiedProgram) -> Result<VerifiedProgram, ScenarioError>
     program.copy().map_err(ScenarioError::Memory)
 }
 
-/// The program of the text of a load.
+/// Returns the program of the text of a load.
 fn text_program(
     alloc: Global,
     setup: &Setup,
     table: &Table,
     index: usize,
 ) -> Result<VerifiedProgram, ScenarioError>
-    requires { IsSetup setup.now }
+    requires { IsReadingSetup setup.now }
     ensures program { IfOk result (λ v. MeansAt (get_member (codes "text") (table_view table.now)) v.program) }
     ensures fits { IfOk result (FitsFrame setup.now.frame) }
     ensures refused { IfErr result (λ e. Refuses e ((insns : List Insn) →
@@ -143,14 +143,14 @@ fn text_program(
     accepted(alloc, &program, setup.shape, place, "text")
 }
 
-/// The program of the rule of a load.
+/// Returns the program of the rule of a load.
 fn rule_program(
     alloc: Global,
     setup: &Setup,
     table: &Table,
     index: usize,
 ) -> Result<VerifiedProgram, ScenarioError>
-    requires { IsSetup setup.now }
+    requires { IsReadingSetup setup.now }
     ensures program { IfOk result (λ v.
         IsProgramOf setup.now.frame (own_clock setup.now) Rule (table_view table.now) v.program) }
     ensures fits { IfOk result (FitsFrame setup.now.frame) }
@@ -167,21 +167,21 @@ fn rule_program(
     )
 }
 
-/// No value for any node.
+/// Returns no value for any node.
 fn no_values(alloc: Global, nodes: u32) -> Result<Vec<Option<u32>>, AllocError>
     ensures { IfOk result (λ vs. vs.items ≡ replicate nodes None) }
 {
     vec![in alloc; None; nodes as usize]
 }
 
-/// The program of a load that says values.
+/// Returns the program of a load that says values.
 fn said_program(
     alloc: Global,
     setup: &Setup,
     table: &Table,
     index: usize,
 ) -> Result<VerifiedProgram, ScenarioError>
-    requires { IsSetup setup.now }
+    requires { IsReadingSetup setup.now }
     ensures program { IfOk result (λ v.
         IsProgramOf setup.now.frame (own_clock setup.now) Say (table_view table.now) v.program) }
     ensures fits { IfOk result (FitsFrame setup.now.frame) }
@@ -192,9 +192,9 @@ fn said_program(
     say_program(alloc, setup.shape, said.as_slice()).map_err(ScenarioError::Memory)
 }
 
-/// The program of a load of noise, which sends nothing.
+/// Returns the program of a load of noise, which sends nothing.
 fn silent_program(alloc: Global, setup: &Setup) -> Result<VerifiedProgram, ScenarioError>
-    requires { IsSetup setup.now }
+    requires { IsReadingSetup setup.now }
     ensures program { IfOk result (λ v. v.program ≡ say_listing (replicate setup.now.frame.nodes None)) }
     ensures fits { IfOk result (FitsFrame setup.now.frame) }
     ensures refused { IfErr result (λ e. Excludes e ⊥) }
@@ -205,7 +205,7 @@ fn silent_program(alloc: Global, setup: &Setup) -> Result<VerifiedProgram, Scena
     say_program(alloc, setup.shape, nothing.as_slice()).map_err(ScenarioError::Memory)
 }
 
-/// The program of a load.
+/// Returns the program of a load.
 fn program_of(
     alloc: Global,
     setup: &Setup,
@@ -213,7 +213,7 @@ fn program_of(
     table: &Table,
     index: usize,
 ) -> Result<VerifiedProgram, ScenarioError>
-    requires { IsSetup setup.now }
+    requires { IsReadingSetup setup.now }
     ensures program { IfOk result (λ v.
         IsProgramOf setup.now.frame (own_clock setup.now) kind (table_view table.now) v.program) }
     ensures fits { IfOk result (FitsFrame setup.now.frame) }
@@ -232,7 +232,7 @@ fn program_of(
     }
 }
 
-/// The text of a load, if its program is that of a text.
+/// Returns the text of a load, if its program is that of a text.
 fn text_of(alloc: Global, kind: Kind, table: &Table) -> Result<Option<String>, AllocError>
     ensures { IfOk result (λ text. option_map (λ t. string_bytes t) text ≡ load_text kind (table_view table.now)) }
 {
@@ -269,7 +269,7 @@ impl Entry for Load {
         let array = integers_at(table, place, "nodes")?;
         let nodes = items_of(alloc, &UpTo(frame.nodes - 1), array, place, "nodes")?;
         let kind = kind_at(table, frame.version, index)?;
-        if !knows_load_keys(kind, table) {
+        if !knows_keys(table, &LOAD_KEYS, source_key(kind)) {
             return Err(ScenarioError::UnknownKey { place });
         }
         let program = program_of(alloc, setup, kind, table, index)?;

@@ -9,14 +9,14 @@ use crate::limits::MAX_NOISE;
 use crate::refusal::{Place, ScenarioError};
 use crate::scenario::Load;
 
-/// Whether a load is one of noise.
+/// Returns true if a load is one of noise.
 pub(crate) fn any_noise(loads: &[Load]) -> bool
     ensures { result ≡ list_any (λ l. is_noise l.kind) loads.now }
 {
     loads.iter().any(|load| load.kind.is_noise())
 }
 
-/// In how many pulses the nodes of a load may have noise.
+/// Returns in how many pulses the nodes of a load may have noise.
 fn noise_pulses(load: &Load, pulses: u32) -> u64
     ensures { result ≡ min (noise_pulses pulses (load_draft load.now)) (2 ^ 64 - 1) }
 {
@@ -28,7 +28,7 @@ fn noise_pulses(load: &Load, pulses: u32) -> u64
     }
 }
 
-/// Whether the loads have as few pulses of noise as there may be.
+/// Returns true if the loads have as few pulses of noise as there may be.
 fn is_little_noise(loads: &[Load], pulses: u32) -> bool
     ensures { IsTrue result ↔ (noise_count pulses (map load_draft loads.now) ≤ MAX_NOISE) }
 {

@@ -20,7 +20,7 @@ fn are_integers(array: &Array) -> bool
     array.iter().all(|value| value.is_integer())
 }
 
-/// The array of integers under a key.
+/// Returns the array of integers under a key.
 #[tactic(auto, using(crate::proofs::TableLemmas::numbers_are_integers, crate::proofs::TableLemmas::said_are_integers))]
 pub(crate) fn integers_at<'a>(
     table: &'a Table,
@@ -120,7 +120,7 @@ impl ItemReader for Said {
     }
 }
 
-/// The items of an array.
+/// Returns the items of an array.
 pub(crate) fn items_of<R: ItemReader>(
     alloc: Global,
     reader: &R,

@@ -24,7 +24,7 @@ use rule_text::program_of_text;
 use std::alloc::{AllocError, Global};
 use toml::Table;
 
-/// The program that the text under a key means.
+/// Returns the program that the text under a key means.
 pub(crate) fn program_in(
     alloc: Global,
     table: &Table,
@@ -48,7 +48,7 @@ pub(crate) fn program_in(
     }
 }
 
-/// The program of the rule that the text under a key is.
+/// Returns the program of the rule that the text under a key is.
 #[tactic(auto, using(crate::proofs::ClockLemmas::rule_excluded))]
 pub(crate) fn rule_in(
     alloc: Global,
@@ -79,7 +79,7 @@ pub(crate) fn rule_in(
     }
 }
 
-/// A listing, accepted.
+/// Returns a listing, accepted.
 fn taken(alloc: Global, listing: &Program, shape: Shape) -> Result<VerifiedProgram, AllocError>
     requires { Typable listing.now shape }
     ensures { IfOk result (λ v. (v.program ≡ listing.now) × (v.shape ≡ shape)) }
@@ -91,7 +91,7 @@ fn taken(alloc: Global, listing: &Program, shape: Shape) -> Result<VerifiedProgr
     }
 }
 
-/// The clock of the rule.
+/// Returns the clock of the rule.
 pub(crate) fn rule_clock(
     alloc: Global,
     shape: Shape,
@@ -107,7 +107,7 @@ pub(crate) fn rule_clock(
     taken(alloc, &listing, shape)
 }
 
-/// The echo of these nodes.
+/// Returns the echo of these nodes.
 pub(crate) fn echo_program(alloc: Global, shape: Shape) -> Result<VerifiedProgram, AllocError>
     requires extent { IsExtent shape.nodes shape.memory }
     ensures program { IfOk result (λ v. v.program ≡ echo_listing shape.nodes) }
@@ -132,7 +132,7 @@ pub fn say_program(
     taken(alloc, &listing, shape)
 }
 
-/// The program, accepted. A refusal names the key that it comes from.
+/// Returns the program, accepted. A refusal names the key that it comes from.
 pub(crate) fn accepted(
     alloc: Global,
     program: &Program,

@@ -69,8 +69,8 @@ pub struct Frame {
     pub pulses: u32,
 }
 
-/// One `[[load]]`: before this pulse the program, of the kind that its table names, comes into each of the nodes. `text`
-/// is there exactly if the program is that of a text.
+/// One `[[load]]`: before this pulse the program, of the kind that its table names, comes into each of the nodes.
+/// `text` is there exactly if the program is that of a text.
 #[derive(Drop)]
 pub struct Load {
     pub pulse: u32,
@@ -103,8 +103,8 @@ pub struct CoinEntry {
     pub value: u32,
 }
 
-/// A scenario: docs/SCENARIOS.md has each key. `clock_text` is the text under `clock` or `rule`. `clock` is there if its
-/// program isn't that of docs/CLOCK.md. `corruptions` are those of `corrupt`, `entries` those of `coin`.
+/// A scenario: docs/SCENARIOS.md has each key. `clock_text` is the text under `clock` or `rule`. `clock` is there if
+/// its program isn't that of docs/CLOCK.md. `corruptions` are those of `corrupt`, `entries` those of `coin`.
 #[derive(Drop)]
 pub struct Scenario {
     pub version: u32,

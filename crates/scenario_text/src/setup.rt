@@ -10,7 +10,7 @@ ghost use Rattle.toml.specs.View.{table_view};
 ghost use Rattle.scenario_text.specs.declared.refusal.Place.TheVariants.{Top};
 ghost use Rattle.scenario_text.specs.Broken.{BrokenText};
 ghost use Rattle.scenario_text.specs.Faults.{Excludes, Refuses};
-ghost use Rattle.scenario_text.specs.inner.Setups.{IsSetup, own_clock};
+ghost use Rattle.scenario_text.specs.inner.Setups.{IsReadingSetup, own_clock};
 ghost use Rattle.scenario_text.specs.declared.scenario.ClockKey.TheVariants.{Clock as ClockText};
 ghost use Rattle.scenario_text.specs.Spelling.{SpellsClock, HasNoText, MeansAt, MeansClock, MeansRuleAt, clock_insns, clock_key, clock_rule_of};
 ghost use Rattle.scenario_text.specs.Views.{FitsFrame, extent_of};
@@ -36,7 +36,7 @@ pub(crate) struct Setup {
     pub(crate) echo: VerifiedProgram,
 }
 
-/// What the assembler text of the clock means, if it is there.
+/// Returns what the assembler text of the clock means, if it is there.
 fn text_clock(
     alloc: Global,
     table: &Table,
@@ -58,7 +58,7 @@ fn text_clock(
     Ok(Some(clock))
 }
 
-/// The program of the rule of the clock, if its text is there.
+/// Returns the program of the rule of the clock, if its text is there.
 fn ruled_clock(
     alloc: Global,
     table: &Table,
@@ -80,7 +80,7 @@ fn ruled_clock(
     Ok(Some(clock))
 }
 
-/// What the clock's text means, if it is there.
+/// Returns what the clock's text means, if it is there.
 fn clock_in(
     alloc: Global,
     table: &Table,
@@ -105,7 +105,7 @@ fn clock_in(
     }
 }
 
-/// Whether a program is the clock of the rule.
+/// Returns true if a program is the clock of the rule.
 fn is_rule_clock(
     alloc: Global,
     own: &VerifiedProgram,
@@ -119,7 +119,7 @@ fn is_rule_clock(
     Ok(own.program().same(&listing))
 }
 
-/// The clock of one's own, if there is one: another than the rule's.
+/// Returns the clock of one's own, if there is one: another than the rule's.
 fn clock_at(
     alloc: Global,
     table: &Table,
@@ -148,7 +148,7 @@ fn clock_at(
     if same { Ok(None) } else { Ok(Some(own)) }
 }
 
-/// The clock: that of one's own, if there is one, and otherwise that of the rule.
+/// Returns the clock: that of one's own, if there is one, and otherwise that of the rule.
 fn clock_of(
     alloc: Global,
     own: &Option<VerifiedProgram>,
@@ -170,7 +170,7 @@ fn clock_of(
     }
 }
 
-/// What the numbers make, and the clock.
+/// Returns what the numbers make, and the clock.
 pub(crate) fn setup_at(
     alloc: Global,
     table: &Table,
@@ -181,7 +181,7 @@ pub(crate) fn setup_at(
     requires extent { IsExtent frame.nodes frame.memory }
     requires rule { IsRule frame.nodes frame.faults frame.modulus }
     ensures frame { IfOk result (λ s. s.frame ≡ frame) }
-    ensures setup { IfOk result IsSetup }
+    ensures setup { IfOk result IsReadingSetup }
     ensures clock { IfOk result (λ s. SpellsClock s.frame (table_view table.now) (own_clock s)) }
     ensures fits { IfOk result (λ s. IfSome s.own (FitsFrame s.frame)) }
     ensures refused { IfErr result (λ e. Refuses e ((clock : Option (List Insn)) →

@@ -1,5 +1,5 @@
 //! What the keys of a table hold.
-ghost use Rattle.std.specs.Prelude.{◌≡◌, ◌≤◌, ◌^◌, ◌<◌, ℕ, List, Some, IfErr, MatchResult, IfOk, map, option_map, is_ok, is_some, string_bytes};
+ghost use Rattle.std.specs.Prelude.{◌≡◌, ◌≤◌, ◌^◌, ◌<◌, ◌++◌, ℕ, List, Some, IfErr, MatchResult, IfOk, map, option_map, option_to_list, is_ok, is_some, string_bytes};
 ghost use Rattle.std.specs.BTreeMap.{keys};
 ghost use Rattle.std.specs.List.{list_all, list_any};
 ghost use Rattle.std.specs.Str.{bytes_eq};
@@ -7,21 +7,23 @@ ghost use Rattle.toml.specs.Data.{get_member, array as array_data};
 ghost use Rattle.toml.specs.View.{view, table_view, array_view};
 ghost use Rattle.scenario_text.specs.inner.Arrays.{are_tables, is_table, all_tables};
 ghost use Rattle.scenario_text.specs.inner.Faults.{IsOfSpelling};
+ghost use Rattle.scenario_text.specs.Keys.{key_name, names_of};
 ghost use Rattle.scenario_text.specs.Tables.{HasNumber, knows, text_under};
 
+use crate::keys::Key;
 use crate::refusal::{Place, ScenarioError};
 use std::alloc::{AllocError, Global};
 use toml::value::Array;
 use toml::{Table, Value};
 
-/// The value under a key.
+/// Returns the value under a key.
 pub(crate) fn value_at<'a>(table: &'a Table, key: &str) -> Option<&'a Value>
     ensures { option_map (λ v. view v.now) result ≡ get_member key.now (table_view table.now) }
 {
     table.get(key)
 }
 
-/// The text under a key, if the key holds one.
+/// Returns the text under a key, if the key holds one.
 pub(crate) fn text_at(alloc: Global, table: &Table, key: &str) -> Result<Option<String>, AllocError>
     ensures { IfOk result (λ text. option_map (λ t. string_bytes t) text ≡ text_under key.now (table_view table.now)) }
 {
@@ -34,28 +36,39 @@ pub(crate) fn text_at(alloc: Global, table: &Table, key: &str) -> Result<Option<
     Ok(Some(String::from_str(alloc, text)?))
 }
 
-fn is_one_of(names: &[&str], key: &str) -> bool
-    ensures { result ≡ list_any (λ name. bytes_eq name.now key.now) names.now }
+fn is_one_of(known: &[Key], name: &str) -> bool
+    ensures { result ≡ list_any (λ key. bytes_eq (key_name key) name.now) known.now }
 {
-    names.iter().any(|name| *name == key)
+    known.iter().any(|key| key.name() == name)
 }
 
-fn has_keys(table: &Table, names: &[&str]) -> bool
-    ensures { result ≡ list_all (λ key. list_any (λ name. bytes_eq name.now (string_bytes key)) names.now)
-        (keys table.now) }
+fn is_known(known: &[Key], more: Option<Key>, name: &str) -> bool
+    ensures { result ≡ list_any (λ key. bytes_eq (key_name key) name.now) (known.now ++ option_to_list more) }
 {
-    table.keys().all(|key| is_one_of(names, key.as_str()))
+    match more {
+        None => is_one_of(known, name),
+        Some(key) => is_one_of(known, name) || key.name() == name,
+    }
 }
 
-/// Whether each key of the table is one of these.
+fn has_keys(table: &Table, known: &[Key], more: Option<Key>) -> bool
+    ensures { result ≡ list_all (λ name. list_any (λ key. bytes_eq (key_name key) (string_bytes name))
+        (known.now ++ option_to_list more)) (keys table.now) }
+{
+    table
+        .keys()
+        .all(|name| is_known(known, more, name.as_str()))
+}
+
+/// Returns true if each key of the table is one of these, or the other one.
 #[tactic(auto, using(crate::proofs::TableLemmas::keys_known))]
-pub(crate) fn knows_keys(table: &Table, names: &[&str]) -> bool
-    ensures { result ≡ knows (map (λ name. name.now) names.now) (table_view table.now) }
+pub(crate) fn knows_keys(table: &Table, known: &[Key], more: Option<Key>) -> bool
+    ensures { result ≡ knows (names_of (known.now ++ option_to_list more)) (table_view table.now) }
 {
-    has_keys(table, names)
+    has_keys(table, known, more)
 }
 
-/// The number under a key that has to be there, in its range.
+/// Returns the number under a key that has to be there, in its range.
 pub(crate) fn number_at(
     table: &Table,
     place: Place,
@@ -92,7 +105,7 @@ fn has_all_tables(array: &Array) -> bool
     is_all_tables(array)
 }
 
-/// The array of tables under a top key, if the key is there.
+/// Returns the array of tables under a top key, if the key is there.
 pub(crate) fn tables_at<'a>(
     table: &'a Table,
     key: &'static str,

@@ -13,7 +13,7 @@ use std::alloc::{AllocError, Global};
 use std::str;
 use toml::Table;
 
-/// The table that a text is as TOML.
+/// Returns the table that a text is as TOML.
 fn table_in(alloc: Global, bytes: &[u8]) -> Result<Table, ScenarioError>
     ensures table { IfOk result (λ t. IsDocument bytes.now (table_view t)) }
     ensures refused { IfErr result (IsDueUnlessMemory bytes.now) }

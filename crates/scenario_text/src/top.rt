@@ -17,7 +17,7 @@ use clock_nodes::{LEAST_MODULUS, MAX_MODULUS};
 use node_env::{MAX_MEMORY, MAX_NODES, MEMORY_UNIT};
 use toml::Table;
 
-/// The version, which is the first if it isn't told.
+/// Returns the version, which is the first if it isn't told.
 pub(crate) fn version_at(table: &Table) -> Result<u64, ScenarioError>
     ensures fault { IfErr result IsOfSpelling }
     ensures version { MatchResult result (HasVersion (table_view table.now))
@@ -63,7 +63,7 @@ pub(crate) fn kind_named(name: &str) -> Option<Kind>
     }
 }
 
-/// The coins.
+/// Returns the coins.
 #[tactic(auto, using(crate::proofs::NameLemmas::coins_by_name, crate::proofs::NameLemmas::no_coins))]
 pub(crate) fn coins_at(table: &Table) -> Result<Coins, ScenarioError>
     ensures fault { IfErr result IsOfSpelling }
@@ -84,7 +84,7 @@ pub(crate) fn coins_at(table: &Table) -> Result<Coins, ScenarioError>
     }
 }
 
-/// The key, which chacha alone needs.
+/// Returns the key, which chacha alone needs.
 pub(crate) fn key_at(table: &Table, coins: Coins) -> Result<Option<u64>, ScenarioError>
     ensures fault { IfErr result IsOfSpelling }
     ensures key { MatchResult result (HasKey (table_view table.now) coins)
@@ -100,7 +100,7 @@ pub(crate) fn key_at(table: &Table, coins: Coins) -> Result<Option<u64>, Scenari
     }
 }
 
-/// The numbers of the top keys.
+/// Returns the numbers of the top keys.
 #[tactic(auto, using(crate::proofs::FrameLemmas::no_version, crate::proofs::FrameLemmas::no_nodes, crate::proofs::FrameLemmas::no_faults, crate::proofs::FrameLemmas::no_units, crate::proofs::FrameLemmas::frame_extent, crate::proofs::FrameLemmas::frame_rule))]
 pub(crate) fn frame_at(table: &Table) -> Result<Frame, ScenarioError>
     ensures fault { IfErr result IsOfSpelling }

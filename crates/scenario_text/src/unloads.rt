@@ -4,6 +4,7 @@ ghost use Rattle.scenario_text.specs.declared.scenario.Unload.{Unload as UnloadV
 ghost use Rattle.scenario_text.specs.Spelling.{SpelledUnload};
 
 use crate::entries::Entry;
+use crate::keys::UNLOAD_KEYS;
 use crate::refusal::{Place, ScenarioError};
 use crate::scenario::Unload;
 use crate::setup::Setup;
@@ -34,7 +35,7 @@ impl Entry for Unload {
     ) -> Result<Unload, ScenarioError> {
         let place = Place::Unload(index);
         let frame = setup.frame;
-        if !knows_keys(table, &["pulse", "node"]) {
+        if !knows_keys(table, &UNLOAD_KEYS, None) {
             return Err(ScenarioError::UnknownKey { place });
         }
         let pulse = number_at(table, place, "pulse", 1, frame.pulses as u64)?;

@@ -3,12 +3,13 @@ ghost use Rattle.std.specs.Prelude.{◌≡◌, IfOk, IfErr, option_map};
 ghost use Rattle.toml.specs.View.{table_view};
 ghost use Rattle.scenario_text.specs.Broken.{BrokenAt};
 ghost use Rattle.scenario_text.specs.Faults.{Refuses};
-ghost use Rattle.scenario_text.specs.Spelling.{SpellsNothing, clock_key, clock_draft, key_of_version, top_keys};
+ghost use Rattle.scenario_text.specs.Spelling.{SpellsNothing, clock_key, clock_draft, key_of_version, text_key};
 ghost use Rattle.scenario_text.specs.Tables.{knows};
-ghost use Rattle.scenario_text.specs.Views.{Reads, text_draft};
+ghost use Rattle.scenario_text.specs.Views.{ReadsAs, text_draft};
 
 use crate::arrays::arrays_at;
 use crate::entries::entries_of;
+use crate::keys::{Key, TOP_KEYS};
 use crate::limits::{CLOCK_VERSION, RULE_VERSION};
 use crate::noise::judge_noise;
 use crate::refusal::{Place, ScenarioError};
@@ -19,7 +20,7 @@ use crate::top::{coins_at, frame_at, key_at};
 use std::alloc::{AllocError, Global};
 use toml::Table;
 
-/// The key of a clock's text in a version, where there is a key `clock` or isn't.
+/// Returns the key of a clock's text in a version, where there is a key `clock` or isn't.
 fn key_of_version(version: u64, with_clock: bool) -> ClockKey
     ensures { result ≡ key_of_version version with_clock }
 {
@@ -36,7 +37,7 @@ fn key_of_version(version: u64, with_clock: bool) -> ClockKey
     }
 }
 
-/// The key of the clock's text.
+/// Returns the key of the clock's text.
 fn clock_key(table: &Table) -> ClockKey
     ensures { result ≡ clock_key (table_view table.now) }
 {
@@ -53,35 +54,18 @@ fn clock_key(table: &Table) -> ClockKey
     }
 }
 
-fn has_top_keys(table: &Table, clock: ClockKey) -> bool
-    ensures { result ≡ knows (top_keys clock) (table_view table.now) }
+/// Returns the key itself, if there is one.
+fn text_key(key: ClockKey) -> Option<Key>
+    ensures { result ≡ text_key key }
 {
-    match clock {
-        ClockKey::Absent => knows_keys(
-            table,
-            &[
-                "version", "nodes", "faults", "modulus", "memory", "pulses", "coins", "key",
-                "load", "unload", "corrupt", "coin",
-            ],
-        ),
-        ClockKey::Clock => knows_keys(
-            table,
-            &[
-                "version", "nodes", "faults", "modulus", "memory", "pulses", "coins", "key",
-                "load", "unload", "corrupt", "coin", "clock",
-            ],
-        ),
-        ClockKey::Rule => knows_keys(
-            table,
-            &[
-                "version", "nodes", "faults", "modulus", "memory", "pulses", "coins", "key",
-                "load", "unload", "corrupt", "coin", "rule",
-            ],
-        ),
+    match key {
+        ClockKey::Absent => None,
+        ClockKey::Clock => Some(Key::Clock),
+        ClockKey::Rule => Some(Key::Rule),
     }
 }
 
-/// The text of the clock, if there is one.
+/// Returns the text of the clock, if there is one.
 fn clock_text_at(
     alloc: Global,
     table: &Table,
@@ -99,12 +83,12 @@ fn clock_text_at(
 /// Returns the scenario that a table spells, each of whose programs is accepted. The refusal is never `TooLong` or
 /// `NotToml`; `Memory` comes whenever memory is short.
 pub fn scenario_of(alloc: Global, table: &Table) -> Result<Scenario, ScenarioError>
-    ensures reads { IfOk result (Reads (table_view table.now)) }
+    ensures reads { IfOk result (ReadsAs (table_view table.now)) }
     ensures refused { IfErr result (λ e. Refuses e (SpellsNothing (table_view table.now))
         (BrokenAt (table_view table.now))) }
 {
     let clock = clock_key(table);
-    if !has_top_keys(table, clock) {
+    if !knows_keys(table, &TOP_KEYS, text_key(clock)) {
         return Err(ScenarioError::UnknownKey { place: Place::Top });
     }
     let frame = frame_at(table)?;

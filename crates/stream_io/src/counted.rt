@@ -14,7 +14,7 @@ use std::sync::ledger::Ledger;
 /// The most bytes that one call of `read` is asked for.
 const PIECE: usize = 4096;
 
-/// One call of `read`, which is a step.
+/// Returns one call of `read`, which is a step.
 fn read_once<R: Read, L: Ledger>(
     reader: &mut R,
     buf: &mut [u8],

@@ -119,7 +119,7 @@ fn stage_stubbornly(
     }
 }
 
-/// A bench of four clocks that has closed a pulse, so that it has mail.
+/// Returns a bench of four clocks that has closed a pulse, so that it has mail.
 fn clocks(alloc: Global, four: &Four) -> Result<Bench, Stop> {
     let mut bench = new_bench(alloc, four)?;
     close_first(alloc, four, &mut bench)?;
@@ -245,7 +245,7 @@ fn closed(record: Result<PulseRecord, (Vec<NodeDone>, CloseError)>) -> Result<Pu
     }
 }
 
-/// Whether each node sent 1 to each.
+/// Returns true if each node sent 1 to each.
 fn all_sent_one(bench: &Bench) -> bool {
     let nodes = bench.shape().nodes();
     for sender in 0..nodes {
@@ -258,7 +258,7 @@ fn all_sent_one(bench: &Bench) -> bool {
     true
 }
 
-/// Whether the node's clock is 3.
+/// Returns true if the node's clock is 3.
 fn has_three(bench: &Bench, node: u32) -> bool {
     node < bench.shape().nodes() && bench.clock(node) == 3
 }

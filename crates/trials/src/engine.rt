@@ -53,7 +53,7 @@ pub fn pulses<B: Ledger, C: Ledger, R: Threads + Wait + Sync>(
     Ok(ended)
 }
 
-/// What was refused, if it is memory or a thread.
+/// Returns what was refused, if it is memory or a thread.
 fn stop_of(refusal: EngineError) -> Result<Stop, Stop> {
     match refusal {
         EngineError::Open(OpenError::Memory)
@@ -66,7 +66,7 @@ fn stop_of(refusal: EngineError) -> Result<Stop, Stop> {
     }
 }
 
-/// Whether the engine has since then opened a pulse and abandoned it.
+/// Returns true if the engine has since then opened a pulse and abandoned it.
 fn is_abandoned<B: Ledger, C: Ledger>(before: &Received, engine: &EnginePass<B, C>) -> bool {
     match before.rest(engine.receipts()) {
         [opening, end] => {
@@ -76,7 +76,7 @@ fn is_abandoned<B: Ledger, C: Ledger>(before: &Received, engine: &EnginePass<B, 
     }
 }
 
-/// The clock in each of four nodes, and then the pulses.
+/// Returns the clock in each of four nodes, and then the pulses.
 fn clock_events(alloc: Global, program: &VerifiedProgram) -> Result<Vec<Event>, AllocError> {
     let mut events = Vec::new(alloc);
     for node in 0..NODES {
@@ -137,7 +137,7 @@ fn run_once<R: Threads + Wait + Sync>(
 /// The memory of a clock of 2 that goes on.
 const TWO: [u8; MEMORY as usize] = [2, 0, 0, 0, 1, 0, 0, 0];
 
-/// Whether it is the run of four clocks.
+/// Returns true if it is the run of four clocks.
 fn is_run(run: &Run) -> bool {
     run.records.len() == ROWS.len()
         && run

@@ -32,7 +32,7 @@ fn main(rt: HostRuntime) -> ExitCode {
     }
 }
 
-/// The words of the command line, the program's name first.
+/// Returns the words of the command line, the program's name first.
 fn words_of(rt: &HostRuntime) -> Result<Vec<String>, Stop> {
     match env::args(rt) {
         Ok(args) => Ok(args.collect(rt.alloc())?),
@@ -73,7 +73,7 @@ fn refused<R: Eprint>(rt: &R, fault: &str) -> io::Result<bool> {
     Ok(false)
 }
 
-/// A case, and once more where something that it needs is refused.
+/// Returns a case, and once more where something that it needs is refused.
 fn tried<R: Threads + Wait + Sync>(rt: &R, alloc: Global, case: Case) -> Result<Ended, Stop> {
     match case.run(rt, alloc) {
         Err(Stop::Memory | Stop::Thread) => {

@@ -114,7 +114,7 @@ pub fn runs<R: Threads + Wait + Sync>(rt: &R, alloc: Global, workers: u32) -> Re
     Ok(ended)
 }
 
-/// What the run of a scenario writes. Nothing is written if it is refused.
+/// Returns what the run of a scenario writes. Nothing is written if it is refused.
 fn written<R: Threads + Wait + Sync>(rt: &R, alloc: Global, workers: u32) -> Result<Vec<u8>, Stop> {
     let workers = workers.clamp(1, MAX_WORKERS);
     let mut reader = TEXT;
@@ -128,7 +128,7 @@ fn written<R: Threads + Wait + Sync>(rt: &R, alloc: Global, workers: u32) -> Res
     }
 }
 
-/// What was refused.
+/// Returns what was refused.
 fn stop_of(fault: RunFault) -> Stop {
     match fault.fault {
         RunRefusal::Memory => Stop::Memory,

@@ -152,7 +152,7 @@ fn staged(again: Result<(), (Change, StageError)>) -> Result<Ended, Stop> {
     }
 }
 
-/// The call that stages the change.
+/// Makes the call that stages the change.
 fn call<B: Ledger, C: Ledger, R: Wait>(
     rt: &R,
     alloc: Global,

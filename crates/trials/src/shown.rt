@@ -151,7 +151,7 @@ impl Received {
     }
 }
 
-/// An equal receipt.
+/// Returns an equal receipt.
 fn receipt_of(alloc: Global, receipt: &Receipt) -> Result<Receipt, AllocError> {
     let entry = copy_of(alloc, &receipt.entry)?;
     Ok(Receipt {
@@ -160,7 +160,7 @@ fn receipt_of(alloc: Global, receipt: &Receipt) -> Result<Receipt, AllocError> {
     })
 }
 
-/// An equal entry.
+/// Returns an equal entry.
 fn copy_of(alloc: Global, entry: &Entry) -> Result<Entry, AllocError> {
     match entry {
         Entry::Staged { actor, change } => Ok(Entry::Staged {
@@ -175,7 +175,7 @@ fn copy_of(alloc: Global, entry: &Entry) -> Result<Entry, AllocError> {
     }
 }
 
-/// Whether the histories are equal.
+/// Returns true if the histories are equal.
 fn are_same(one: &[Entry], other: &[Entry]) -> bool {
     one.len() == other.len() && one.iter().zip(other.iter()).all(|(a, b)| a.is(b))
 }

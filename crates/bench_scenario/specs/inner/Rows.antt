@@ -24,6 +24,6 @@ pub record AreChanges (s : Scenario) (rows : List (List Event)) (from : ℕ) : T
   pub each : (k : ℕ) → k < s.pulses → from < suc k → get_or rows k [] ≡ changes_at s (suc k)
 
 -- what is added and what is left to add are the whole
-pub record Adds (old new : List (List Event)) (left all : ℕ → List Event) : Type 0 where
+pub record AddsEvents (old new : List (List Event)) (left all : ℕ → List Event) : Type 0 where
   pub count : length new ≡ length old
   pub each : (k : ℕ) → k < length old → get_or new k [] ++ left (suc k) ≡ get_or old k [] ++ all (suc k)

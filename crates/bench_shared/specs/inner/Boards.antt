@@ -3,7 +3,7 @@ use Rattle.std.specs.Prelude.{◌≡◌, ℕ, ◌++◌, List, [], ◌∷◌, tru
 use mathlib.Core.Option.{some}
 use lib.ListN.{get_elem?}
 use Rattle.atomic_table.specs.Table.{State, Me, Step}
-use Rattle.bench_core.specs.Told.{Row, IsRow}
+use Rattle.bench_core.specs.Told.{Row, IsPulseRow}
 use Rattle.bench_shared.specs.Rows.{InOrder, StartsWith}
 use Rattle.bench_shared.specs.inner.Rows.{row_word, row_word_at}
 use Rattle.bench_shared.specs.declared.rule.View.{View}
@@ -21,7 +21,7 @@ abbrev pub hearing : View → View → View
 hearing v w = record { posts = v.posts; rows = v.rows; heard = w.rows }
 
 -- what a seat knows is a beginning of the posted list, and the one seat that posts knows it whole
-pub record Fits (seat : ℕ) (posted : List Row) (by : ℕ) (v : View) : Type 0 where
+pub record FitsSeat (seat : ℕ) (posted : List Row) (by : ℕ) (v : View) : Type 0 where
   pub whole : v.posts ≡ true → (by ≡ seat) × (v.rows ≡ posted)
   pub seen : StartsWith posted v.rows
   pub heard : StartsWith posted v.heard
@@ -31,11 +31,11 @@ abbrev pub Kept : State (Unit {0}) View → Type 0
 Kept s =
     (posted : List Row) × (seat : ℕ)
     × (s.words ≡ row_word_at posted ∷ []) × InOrder posted
-    × ((by : ℕ) (v : View) → get_elem? s.views by ≡ some v → Fits seat posted by v)
+    × ((by : ℕ) (v : View) → get_elem? s.views by ≡ some v → FitsSeat seat posted by v)
 
 -- the row that is stored is put last
 abbrev pub Posts : Step (Unit {0}) → Me (Unit {0}) View → ℕ → Me (Unit {0}) View → Type 0
-Posts s v n w = (r : Row) × IsRow r × (row_word r ≡ n) × (w ≡ (engine (v.0.rows ++ r ∷ []), v.1))
+Posts s v n w = (r : Row) × IsPulseRow r × (row_word r ≡ n) × (w ≡ (engine (v.0.rows ++ r ∷ []), v.1))
 
 -- a longer list may be seen, whose last row was found
 abbrev pub Looks : Step (Unit {0}) → Me (Unit {0}) View → ℕ → Me (Unit {0}) View → Type 0

@@ -8,7 +8,7 @@ use Rattle.bench_workers.specs.declared.event.RunRefusal.{RunRefusal}
 use Rattle.bench_workers.specs.declared.event.RunRefusal.TheVariants as refusals
 
 -- the event leads from the one bench to the other, with these records; no pulse is open after it
-pub record GoesOn (old : BenchValue) (event : Event) (records : List PulseTold) (new : BenchValue) : Type 0 where
+pub record LeadsByEvent (old : BenchValue) (event : Event) (records : List PulseTold) (new : BenchValue) : Type 0 where
   pub setup : new.setup ≡ old.setup
   pub count : length new.history ≡ length old.history + entries_after (event ∷ [])
   pub closed : new.state.coins ≡ None

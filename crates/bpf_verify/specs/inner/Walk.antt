@@ -66,7 +66,7 @@ IsProperRow (Some A) = IsProper A
 
 -- the walk is before a slot: some table types the slots before it, and holds there what has come by jumps and from
 -- the slot before, and at each later slot what has come by jumps
-pub record Stands
+pub record WalkIsBefore
     (program : List Insn) (shape : Extent) (slot : ℕ) (come : Option AbstractState) (rows table : Table) : Type 0 where
   pub passed : Passed program shape slot table
   pub here : table slot ≡ met_state (rows slot) come
@@ -81,14 +81,14 @@ IsLeast program shape table =
 
 abbrev pub Walks : List Insn → Extent → ℕ → Option AbstractState → Table → Type 0
 Walks program shape slot come rows =
-    (table : Table) × Stands program shape slot come rows table × IsLeast program shape table
+    (table : Table) × WalkIsBefore program shape slot come rows table × IsLeast program shape table
 
 -- the rows once what is known at a slot is left there
 abbrev pub with_row : Table → ℕ → Option AbstractState → Table
 with_row rows slot row other = if other == slot then row else rows other
 
 -- the walk is at a slot, and the rows have what is known there too
-pub record StandsAt
+pub record WalkIsAt
     (program : List Insn) (shape : Extent) (slot : ℕ) (state : Option AbstractState) (rows : Table) : Type 0 where
   pub passed : Passed program shape slot rows
   pub here : rows slot ≡ state
@@ -102,7 +102,7 @@ with_met rows slot come = with_row rows slot (met_state (rows slot) come)
 -- the walk is before a slot, and the rows have what was known at each slot before it
 abbrev pub Keeps : List Insn → Extent → ℕ → Option AbstractState → Table → Type 0
 Keeps program shape slot come rows =
-    Stands program shape slot come rows (with_met rows slot come) × IsLeast program shape (with_met rows slot come)
+    WalkIsBefore program shape slot come rows (with_met rows slot come) × IsLeast program shape (with_met rows slot come)
 
 -- an instruction that is refused: its slot, and the lowest rule that it breaks
 abbrev pub RefusesInsn : List Insn → Extent → ℕ → Insn → Option AbstractState → VerifyError → Type 0

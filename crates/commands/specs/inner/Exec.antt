@@ -40,7 +40,8 @@ RunsCase asked program (Ran outcome left) =
     × (left.outbox.nodes ≡ asked.shape.nodes)
 
 -- what the run of a program in the case that is asked for leaves, with the lines of its steps or without
-abbrev pub LeavesRunOf : Bool → Option (List ℕ) → Option (List ℕ) → ExecOptions → List Insn → Result Ending Fault → Type 0
+abbrev pub LeavesRunOf : Bool → Option (List ℕ) → Option (List ℕ) → ExecOptions → List Insn → Result Ending Fault
+    → Type 0
 LeavesRunOf true old new asked program ended = LeavesSteps old new asked program ended
 LeavesRunOf false old new asked program ended =
     LeavesAny {A = Reply} (RunsCase asked program)

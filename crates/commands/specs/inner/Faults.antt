@@ -17,7 +17,7 @@ IsCut old new text Memory = ⊥
 IsCut old new text Thread = ⊥
 IsCut old new text (CommandLine said) = ⊥
 
--- the fault by which a run is told that stopped for want of memory or of a thread. No other refusal stops the run of a
+-- the fault by which a run is told that stopped for lack of memory or of a thread. No other refusal stops the run of a
 -- scenario
 abbrev pub IsRunFault : RunRefusal → Fault → Type 0
 IsRunFault refusals.Memory fault = fault ≡ Memory
@@ -29,13 +29,13 @@ IsRunFault refusals.HistoryFull fault = ⊥
 IsRunFault refusals.BadCoins fault = ⊥
 IsRunFault refusals.GateShut fault = ⊥
 
--- the fault by which hands are told that stopped, where they stopped for want of something
+-- the fault by which hands are told that stopped, where they stopped for lack of something
 abbrev pub stop_fault : Stop → Option Fault
 stop_fault stops.Memory = Some Memory
 stop_fault stops.Thread = Some Thread
 stop_fault stops.Mismatch = None
 
--- a fault of a text that stands behind so many bytes
+-- a fault of a text that comes after this many bytes
 abbrev pub fault_behind : ℕ → Fault → Fault
 fault_behind before Read = Read
 fault_behind before (Write after) = Write (min (before + after) MAX_TOLD)

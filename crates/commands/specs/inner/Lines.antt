@@ -1,12 +1,12 @@
 -- Beside Lines: what proofs and private contracts alone cite.
 use Rattle.std.specs.Prelude.{◌≡◌, ℕ, string_bytes}
-use Rattle.run_lines.specs.Spans.{Span}
+use Rattle.run_lines.specs.Spans.{PulseRange}
 use Rattle.commands.specs.declared.fault.Fault.{Fault}
 use Rattle.commands.specs.declared.fault.Fault.TheVariants.{Read, Write, Memory, Thread, CommandLine}
 use Rattle.commands.specs.Lines.{past_text}
 
--- the fault of a span that begins past the last pulse, or want of memory to say it
-abbrev pub IsPast : Span → ℕ → Fault → Type 0
+-- the fault of a span that begins past the last pulse, or lack of memory to say it
+abbrev pub IsPast : PulseRange → ℕ → Fault → Type 0
 IsPast span pulses Read = ⊥
 IsPast span pulses (Write after) = ⊥
 IsPast span pulses Memory = Unit {0}

@@ -2,7 +2,7 @@
 use Rattle.std.specs.Prelude.{◌≡◌, ◌≤◌, ℕ, suc, ◌+◌, ◌&&◌, Bool, true, false, codes, Option, Some, None}
 use Rattle.toml.specs.Data.{Data, array, table, Items, no_items, item, Members, get_member}
 use Rattle.scenario_text.specs.declared.refusal.Place.{Place}
-use Rattle.scenario_text.specs.Broken.{StandsAt}
+use Rattle.scenario_text.specs.Broken.{IsItemAt}
 use Rattle.scenario_text.specs.declared.limits.TheConstants.{MAX_CHANGES, MAX_COIN_ENTRIES}
 
 abbrev pub is_table : Data → Bool
@@ -60,4 +60,4 @@ pub record HasArrays (members : Members) : Type 0 where
 
 -- of the item at this place of the array, counted from 0, this holds
 abbrev pub StandsIn : {A : Type 0} → (ℕ → Place) → (Data → A → Type 0) → Option Data → Place → A → Type 0
-StandsIn at reads items place x = (index : ℕ) × (place ≡ at index) × StandsAt reads items index x
+StandsIn at reads items place x = (index : ℕ) × (place ≡ at index) × IsItemAt reads items index x

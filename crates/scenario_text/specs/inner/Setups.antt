@@ -11,7 +11,7 @@ use Rattle.scenario_text.specs.Views.{FitsFrame, extent_of}
 abbrev pub own_clock : Setup → Option (List Insn)
 own_clock setup = option_map (λ v. v.program) setup.own
 
-pub record IsSetup (setup : Setup) : Type 0 where
+pub record IsReadingSetup (setup : Setup) : Type 0 where
   pub some : 1 ≤ setup.frame.nodes
   pub extent : IsExtent setup.frame.nodes setup.frame.memory
   pub shape : setup.shape ≡ extent_of setup.frame

@@ -3,7 +3,7 @@ use Rattle.std.specs.List.{AllZip}
 use Rattle.std.proofs.Math.Dec.{lit<}
 use Rattle.std.proofs.lemmas.Iterator.Consumers.{YieldsList-end}
 use Rattle.std.proofs.lemmas.Iterator.Splits.{YieldsList-from_str_split}
-use Rattle.clockbed.specs.Lists.{IsMailSlot, parts_of}
+use Rattle.clockbed.specs.Lists.{IsMailSlot, comma_parts}
 use Rattle.clockbed.proofs.NumberLemmas.{map_push, zip_push}
 use Rattle.clockbed.proofs.exec_words.mail_in.Goals as goal
 
@@ -16,7 +16,7 @@ loop-word-preserved c =
 
 pub returns-then-len-nodes : goal.returns-then-len-nodes
 returns-then-len-nodes c =
-    let all : map (λ word. word.now) c.loop-word.yielded ≡ parts_of c.args.list.now =
+    let all : map (λ word. word.now) c.loop-word.yielded ≡ comma_parts c.args.list.now =
     (YieldsList-end (YieldsList-from_str_split 44 c.args.list.now (lit< tt) (cc) (cc) (cc)) c.loop-word.yielded _
     c.loop-word.yielded_by _ _ c.in-None.is c.next.ensures.steps).0 in
     (subst (λ parts. AllZip IsMailSlot parts c.loop-word.mail.items) all c.loop-word.invariant, search rules)

@@ -4,7 +4,7 @@ use Rattle.std.proofs.Math.Dec.{lit<}
 use Rattle.std.proofs.lemmas.Iterator.Consumers.{YieldsList-end}
 use Rattle.std.proofs.lemmas.Iterator.Splits.{YieldsList-from_str_split}
 use Rattle.clockbed.specs.Explore.{IsMemoryImage}
-use Rattle.clockbed.specs.Lists.{parts_of}
+use Rattle.clockbed.specs.Lists.{comma_parts}
 use Rattle.clockbed.proofs.NumberLemmas.{map_push, zip_push}
 use Rattle.clockbed.proofs.explore_words.images_in.Goals as goal
 
@@ -21,7 +21,7 @@ loop-part-preserved c =
 
 pub returns : goal.returns
 returns c =
-    let all : map (λ part. part.now) c.loop-part.yielded ≡ parts_of c.args.text.now =
+    let all : map (λ part. part.now) c.loop-part.yielded ≡ comma_parts c.args.text.now =
     (YieldsList-end (YieldsList-from_str_split 44 c.args.text.now (lit< tt) (cc) (cc) (cc)) c.loop-part.yielded _
     c.loop-part.yielded_by _ _ c.in-None.is c.next.ensures.steps).0 in
     subst (λ parts. AllZip IsMemoryImage parts (map (λ v. v.items) c.loop-part.images.items)) all c.loop-part.invariant

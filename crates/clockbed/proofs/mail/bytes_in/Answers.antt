@@ -2,7 +2,7 @@ use Rattle.std.proofs.Common.{◌≡◌, ◌↔◌, ◌∷◌, [], ℕ, Any, Con
 use Rattle.std.proofs.Math.Dec.{lit<}
 use Rattle.std.proofs.lemmas.Iterator.Consumers.{YieldsList-end}
 use Rattle.std.proofs.lemmas.Iterator.Splits.{YieldsList-from_str_split}
-use Rattle.clockbed.specs.Lists.{AreLongest, IsBytes, IsPart, IsInSpan, byte_spans, parts_of}
+use Rattle.clockbed.specs.Lists.{AreLongest, IsBytes, IsPart, IsInSpan, byte_spans, comma_parts}
 use Rattle.clockbed.specs.inner.Spans.{AddsPart, AreNumbersOf}
 use Rattle.clockbed.proofs.NumberLemmas.{map_push, one_part, list_of}
 use Rattle.clockbed.proofs.mail.bytes_in.Goals as goal
@@ -17,7 +17,7 @@ loop-part-preserved c =
 
 pub returns : goal.returns
 returns c =
-    let all : map (λ part. part.now) c.loop-part.yielded ≡ parts_of c.args.text.now =
+    let all : map (λ part. part.now) c.loop-part.yielded ≡ comma_parts c.args.text.now =
     (YieldsList-end (YieldsList-from_str_split 44 c.args.text.now (lit< tt) (cc) (cc) (cc)) c.loop-part.yielded _
     c.loop-part.yielded_by _ _ c.in-None.is c.next.ensures.steps).0 in
     let values = c.in-Some-2.values in
@@ -28,6 +28,6 @@ returns c =
     subst (IsBytes c.args.text.now) (sym made) (
       refl,
       refl,
-      list_of 256 (parts_of c.args.text.now) c.loop-part.bytes.keys (byte_spans values.items)
+      list_of 256 (comma_parts c.args.text.now) c.loop-part.bytes.keys (byte_spans values.items)
           (subst (λ parts. AreNumbersOf 256 parts c.loop-part.bytes.keys) all c.loop-part.invariant) numbers longest,
     )

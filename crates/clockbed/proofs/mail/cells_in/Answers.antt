@@ -2,7 +2,7 @@ use Rattle.std.proofs.Common.{◌≡◌, map, subst}
 use Rattle.std.proofs.Math.Dec.{lit<}
 use Rattle.std.proofs.lemmas.Iterator.Consumers.{YieldsList-end}
 use Rattle.std.proofs.lemmas.Iterator.Splits.{YieldsList-from_str_split}
-use Rattle.clockbed.specs.Lists.{AreEntries, parts_of}
+use Rattle.clockbed.specs.Lists.{AreEntries, comma_parts}
 use Rattle.clockbed.specs.inner.Entries.{AddsCells}
 use Rattle.clockbed.proofs.EntryLemmas.{more_cells}
 use Rattle.clockbed.proofs.NumberLemmas.{map_push}
@@ -17,7 +17,7 @@ loop-part-preserved c =
 
 pub returns : goal.returns
 returns c =
-    let all : map (λ part. part.now) c.loop-part.yielded ≡ parts_of c.args.text.now =
+    let all : map (λ part. part.now) c.loop-part.yielded ≡ comma_parts c.args.text.now =
     (YieldsList-end (YieldsList-from_str_split 44 c.args.text.now (lit< tt) (cc) (cc) (cc)) c.loop-part.yielded _
     c.loop-part.yielded_by _ _ c.in-None.is c.next.ensures.steps).0 in
     subst (λ parts. AreEntries parts c.loop-part.all.items) all c.loop-part.invariant

@@ -2,7 +2,7 @@ use Rattle.std.proofs.Common.{◌≡◌, ◌^◌, map, subst}
 use Rattle.std.proofs.Math.Dec.{lit<}
 use Rattle.std.proofs.lemmas.Iterator.Consumers.{YieldsList-end}
 use Rattle.std.proofs.lemmas.Iterator.Splits.{YieldsList-from_str_split}
-use Rattle.clockbed.specs.Lists.{mail_spans, parts_of}
+use Rattle.clockbed.specs.Lists.{mail_spans, comma_parts}
 use Rattle.clockbed.specs.inner.Spans.{AreNumbersOf}
 use Rattle.clockbed.proofs.NumberLemmas.{map_push, one_part, list_of}
 use Rattle.clockbed.proofs.mail.mail_in.Goals as goal
@@ -17,9 +17,9 @@ loop-part-preserved c = record {
 
 pub returns-clause-list : goal.returns-clause-list
 returns-clause-list c =
-    let all : map (λ part. part.now) c.loop-part.yielded ≡ parts_of c.args.text.now =
+    let all : map (λ part. part.now) c.loop-part.yielded ≡ comma_parts c.args.text.now =
     (YieldsList-end (YieldsList-from_str_split 44 c.args.text.now (lit< tt) (cc) (cc) (cc)) c.loop-part.yielded _
     c.loop-part.yielded_by _ _ c.in-None.is c.next.ensures.steps).0 in
-    list_of (2 ^ 32) (parts_of c.args.text.now) c.loop-part.numbers.keys (mail_spans c.in_ok-spans_of.field-0.items)
+    list_of (2 ^ 32) (comma_parts c.args.text.now) c.loop-part.numbers.keys (mail_spans c.in_ok-spans_of.field-0.items)
     (subst (λ parts. AreNumbersOf (2 ^ 32) parts c.loop-part.numbers.keys) all c.loop-part.invariant.numbers)
     c.in_ok-spans_of.ensures.numbers c.in_ok-spans_of.ensures.longest

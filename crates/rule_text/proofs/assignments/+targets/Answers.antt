@@ -2,7 +2,7 @@ use Rattle.std.proofs.Common.{◌≡◌, Ok, IfOk, IfErr, Result, List, subst, s
 use Rattle.rule_nodes.specs.declared.syntax.Target.{Target}
 use Rattle.rule_text.specs.declared.errors.ReadRuleError.{ReadRuleError}
 use Rattle.rule_text.specs.declared.lexemes.Token.{Token}
-use Rattle.rule_text.specs.Scopes.{Tells}
+use Rattle.rule_text.specs.Scopes.{TellsError}
 use Rattle.rule_text.proofs.StatementLemmas.{targets_none, targets_more}
 use Rattle.rule_text.proofs.assignments.+targets.Goals as goal
 
@@ -18,6 +18,6 @@ targets-returns-clause-read t c =
 
 pub targets-returns-clause-error : goal.targets-returns-clause-error
 targets-returns-clause-error t c =
-    let P : Result (List Target × List Token) ReadRuleError → Type 0 = λ r. IfErr c.targets_with.result (Tells r) in
+    let P : Result (List Target × List Token) ReadRuleError → Type 0 = λ r. IfErr c.targets_with.result (TellsError r) in
     subst P (sym (targets_more c.args.left c.args.text.now c.args.names.now c.args.done.items c.args.tokens.now
     c.if-left-eq0.false)) c.targets_with.ensures.error

@@ -2,7 +2,7 @@ use Rattle.std.proofs.Common.{◌≡◌, Ok, IfOk, IfErr, Result, List, subst, s
 use Rattle.rule_text.specs.declared.errors.ReadRuleError.{ReadRuleError}
 use Rattle.rule_text.specs.declared.lexemes.Token.{Token}
 use Rattle.rule_text.specs.declared.scope.Entry.{Entry}
-use Rattle.rule_text.specs.Scopes.{Tells}
+use Rattle.rule_text.specs.Scopes.{TellsError}
 use Rattle.rule_text.proofs.StatementLemmas.{header_none, header_more}
 use Rattle.rule_text.proofs.rule.+header.Goals as goal
 
@@ -18,6 +18,6 @@ header-returns-clause-read t c =
 
 pub header-returns-clause-error : goal.header-returns-clause-error
 header-returns-clause-error t c =
-    let P : Result (List Entry × List Token) ReadRuleError → Type 0 = λ r. IfErr c.header_with.result (Tells r) in
+    let P : Result (List Entry × List Token) ReadRuleError → Type 0 = λ r. IfErr c.header_with.result (TellsError r) in
     subst P (sym (header_more c.args.left c.args.text.now c.args.column c.args.names.items c.args.tokens.now
     c.if-left-eq0.false)) c.header_with.ensures.error

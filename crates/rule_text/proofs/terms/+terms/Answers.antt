@@ -4,7 +4,7 @@ use Rattle.rule_text.specs.declared.errors.ReadRuleError.{ReadRuleError}
 use Rattle.rule_text.specs.declared.layout.TheConstants.{MAX_LINE_TOKENS}
 use Rattle.rule_text.specs.declared.lexemes.Token.{Token}
 use Rattle.rule_text.specs.Forms.{TermForm, term_form}
-use Rattle.rule_text.specs.Scopes.{Tells}
+use Rattle.rule_text.specs.Scopes.{TellsError}
 use Rattle.rule_text.specs.Terms.{joint_in}
 use Rattle.rule_text.proofs.TermLemmas.{part_whole, part_inverse, part_none, chain_stops, chain_goes, chain_fails}
 use Rattle.rule_text.proofs.TermLemmas.{chain_out}
@@ -47,7 +47,7 @@ part-returns-in-Whole-clause-read t c =
 
 pub part-returns-in-Whole-clause-error : goal.part-returns-in-Whole-clause-error
 part-returns-in-Whole-clause-error t c =
-    let P : Result (TermForm × List Token) ReadRuleError → Type 0 = λ r. IfErr c.whole.result (Tells r) in
+    let P : Result (TermForm × List Token) ReadRuleError → Type 0 = λ r. IfErr c.whole.result (TellsError r) in
     subst P (sym (part_whole c.args.room c.args.text.now c.args.grade c.args.names.now c.args.tokens.now
     c.if-room-eq0.false c.in-Whole.is)) c.whole.ensures.error
 
@@ -60,6 +60,6 @@ part-returns-in-Inverse-clause-read t c =
 
 pub part-returns-in-Inverse-clause-error : goal.part-returns-in-Inverse-clause-error
 part-returns-in-Inverse-clause-error t c =
-    let P : Result (TermForm × List Token) ReadRuleError → Type 0 = λ r. IfErr c.inverse.result (Tells r) in
+    let P : Result (TermForm × List Token) ReadRuleError → Type 0 = λ r. IfErr c.inverse.result (TellsError r) in
     subst P (sym (part_inverse c.args.room c.args.text.now c.args.grade c.args.names.now c.args.tokens.now
     c.if-room-eq0.false c.in-Inverse.is)) c.inverse.ensures.error

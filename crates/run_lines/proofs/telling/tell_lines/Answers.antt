@@ -7,7 +7,7 @@ use Rattle.run_lines.proofs.telling.tell_lines.Goals as goal
 
 pub returns-in_err-written : goal.returns-in_err-written
 returns-in_err-written g c = record {
-  left = first_fault _ _ c.args.scenario.now c.args.span c.in_err-written.field-0.0 c.from_residual.result
+  left = first_fault _ _ c.args.scenario.now c.args.form c.in_err-written.field-0.0 c.from_residual.result
       c.in_err-written.ensures.fault c.from_residual.ensures.1;
 }
 
@@ -16,11 +16,11 @@ write_last-requires g c =
     let contents = g.W.Write.contents in
     let old = contents c.args.out.now in
     let s = c.args.scenario.now in
-    let stands = begins contents old s c.args.span c.in_ok-written.written c.new-writer.result c.write_first.new.out
-    c.in_ok-written.ensures.told c.new-writer.ensures.scenario c.new-writer.ensures.span
+    let stands = begins contents old s c.args.form c.in_ok-written.written c.new-writer.result c.write_first.new.out
+    c.in_ok-written.ensures.told c.new-writer.ensures.scenario c.new-writer.ensures.form
     c.new-writer.ensures.judged c.new-writer.ensures.written in
     rw c.as_slice.ensures.value
-    (all_judged contents old s c.args.span c.in-Ok.run'.records.items c.new-writer.result c.run_watched.new.watcher
+    (all_judged contents old s c.args.form c.in-Ok.run'.records.items c.new-writer.result c.run_watched.new.watcher
     c.write_first.new.out c.run_watched.new.sink stands c.in-Ok.ensures.watched)
 
 pub returns-in-Err : goal.returns-in-Err
@@ -28,11 +28,11 @@ returns-in-Err g c =
     let contents = g.W.Write.contents in
     let old = contents c.args.out.now in
     let s = c.args.scenario.now in
-    let stands = begins contents old s c.args.span c.in_ok-written.written c.new-writer.result c.write_first.new.out
-    c.in_ok-written.ensures.told c.new-writer.ensures.scenario c.new-writer.ensures.span
+    let stands = begins contents old s c.args.form c.in_ok-written.written c.new-writer.result c.write_first.new.out
+    c.in_ok-written.ensures.told c.new-writer.ensures.scenario c.new-writer.ensures.form
     c.new-writer.ensures.judged c.new-writer.ensures.written in
     record {
-      left = ends_early contents old s c.args.span c.new-writer.result c.run_watched.new.watcher c.write_first.new.out
+      left = ends_early contents old s c.args.form c.new-writer.result c.run_watched.new.watcher c.write_first.new.out
           c.run_watched.new.sink c.in-Err.end c.fault.result stands c.in-Err.ensures.ends c.fault.ensures;
     }
 
@@ -41,13 +41,13 @@ returns-in_err-agrees g c =
     let contents = g.W.Write.contents in
     let old = contents c.args.out.now in
     let s = c.args.scenario.now in
-    let stands = begins contents old s c.args.span c.in_ok-written.written c.new-writer.result c.write_first.new.out
-    c.in_ok-written.ensures.told c.new-writer.ensures.scenario c.new-writer.ensures.span
+    let stands = begins contents old s c.args.form c.in_ok-written.written c.new-writer.result c.write_first.new.out
+    c.in_ok-written.ensures.told c.new-writer.ensures.scenario c.new-writer.ensures.form
     c.new-writer.ensures.judged c.new-writer.ensures.written in
     record {
-      left = handed_on (LeavesLines old (contents c.write_last.new.out) s c.args.span)
+      left = handed_on (LeavesLines old (contents c.write_last.new.out) s c.args.form)
           (Part c.in_err-agrees.field-0.0) c.from_residual-in_err-agrees.result
-          (ends_whole contents old (contents c.write_last.new.out) s c.args.span c.in-Ok.run'.records.items _
+          (ends_whole contents old (contents c.write_last.new.out) s c.args.form c.in-Ok.run'.records.items _
           c.new-writer.result c.run_watched.new.watcher c.write_first.new.out c.run_watched.new.sink
           (Err c.in_err-agrees.field-0.0) stands c.in-Ok.ensures.run c.in-Ok.ensures.watched
           (rw c.as_slice.ensures.value at c.in_err-agrees.ensures)) c.from_residual-in_err-agrees.ensures.1;
@@ -58,11 +58,11 @@ returns g c =
     let contents = g.W.Write.contents in
     let old = contents c.args.out.now in
     let s = c.args.scenario.now in
-    let stands = begins contents old s c.args.span c.in_ok-written.written c.new-writer.result c.write_first.new.out
-    c.in_ok-written.ensures.told c.new-writer.ensures.scenario c.new-writer.ensures.span
+    let stands = begins contents old s c.args.form c.in_ok-written.written c.new-writer.result c.write_first.new.out
+    c.in_ok-written.ensures.told c.new-writer.ensures.scenario c.new-writer.ensures.form
     c.new-writer.ensures.judged c.new-writer.ensures.written in
     record {
-      left = ends_whole contents old (contents c.write_last.new.out) s c.args.span c.in-Ok.run'.records.items _
+      left = ends_whole contents old (contents c.write_last.new.out) s c.args.form c.in-Ok.run'.records.items _
           c.new-writer.result c.run_watched.new.watcher c.write_first.new.out c.run_watched.new.sink
           (Ok c.in_ok-agrees.agrees) stands c.in-Ok.ensures.run c.in-Ok.ensures.watched
           (rw c.as_slice.ensures.value at c.in_ok-agrees.ensures);

@@ -3,7 +3,7 @@ use Rattle.bpf_machine.specs.Machine.{state_of}
 use Rattle.bpf_machine.specs.Run.{Turns}
 use Rattle.rule_listing.specs.Listing.{line_at}
 use Rattle.run_trace.specs.Lines.{listed_steps_from, listed_text}
-use Rattle.run_trace.specs.Steps.{Step, step_at, steps_from, steps_of}
+use Rattle.run_trace.specs.Steps.{TracedStep, step_at, steps_from, steps_of}
 use Rattle.run_trace.proofs.ListedLemmas.{listed_all, listed_more}
 use Rattle.run_trace.proofs.StepLemmas.{end_follows, first_step, next_follows, trap_follows}
 use Rattle.run_trace.proofs.listed.listed_trace.Goals as goal
@@ -49,7 +49,7 @@ loop-taken-preserved c =
     let new = state_of c.told_step-turn.new.state c.told_step-turn.new.memory c.told_step-turn.new.outbox.sent in
     let more = steps_from program env (c.args.fuel - (c.loop-taken.taken + 1)) in
     record {
-      told = subst (λ (rest : List Step). listed_text rule.text.now rule.lines.now program
+      told = subst (λ (rest : List TracedStep). listed_text rule.text.now rule.lines.now program
           (steps_of program env c.args.memory.now c.args.fuel) ≡ c.push_step.new.listing.items
           ++ listed_steps_from rule.text.now rule.lines.now program c.line_at-line.result (c.loop-taken.taken + 1 + 1) rest)
           (next_follows program env old new more

@@ -1,5 +1,5 @@
-use Rattle.std.proofs.Common.{◌≡◌, ℕ, List, map, rules, subst, sym, ◌∙◌}
-use Rattle.std.specs.Prelude.{Option, codes}
+use Rattle.std.proofs.Common.{◌≡◌, ℕ, List, ◌++◌, map, rules, subst, sym, ◌∙◌}
+use Rattle.std.specs.Prelude.{Option, codes, option_to_list, true}
 use Rattle.bpf_insn.specs.declared.forms.Insn.{Insn}
 use Rattle.toml.specs.Data.{get_member}
 use Rattle.toml.specs.View.{table_view}
@@ -7,11 +7,13 @@ use Rattle.scenario_text.specs.declared.refusal.Place.{Place}
 use Rattle.scenario_text.specs.declared.refusal.Place.TheVariants as places
 use Rattle.scenario_text.specs.declared.scenario.ClockKey.TheVariants as keys
 use Rattle.scenario_text.specs.Faults.{Refuses}
-use Rattle.scenario_text.specs.Spelling.{SpellsClock, HasFrame, clock_key, SpelledLoad, SpelledUnload, SpelledCorrupt, SpelledCoin, SpellsNothing}
+use Rattle.scenario_text.specs.Spelling.{SpellsClock, HasFrame, clock_key, SpelledLoad, SpelledUnload, SpelledCorrupt, SpelledCoin, SpellsNothing, top_keys}
 use Rattle.scenario_text.specs.declared.scenario.Load.{Load as LoadValue}
 use Rattle.scenario_text.specs.Noise.{HasNoise}
 use Rattle.scenario_text.specs.inner.Setups.{own_clock}
-use Rattle.scenario_text.specs.Tables.{IsTable, MayBeArray}
+use Rattle.scenario_text.specs.Keys.{names_of}
+use Rattle.scenario_text.specs.declared.keys.TheConstants.{TOP_KEYS}
+use Rattle.scenario_text.specs.Tables.{IsTable, MayBeArray, knows}
 use Rattle.scenario_text.specs.Views.{load_draft, corrupt_of, extent_of}
 use Rattle.scenario_text.proofs.FrameLemmas.{excludes, refuses, refuses_more}
 use Rattle.scenario_text.proofs.NoiseLemmas.{no_noise}
@@ -110,8 +112,13 @@ returns-clause-reads c =
     let f = setup.frame in
     let ms = table_view c.args.table.now in
     let held = c.in_ok-arrays.ensures in
+    let is_known : c.knows_keys.result ≡ true = search rules in
+    let known : knows (top_keys (clock_key ms)) ms ≡ true =
+    subst (λ k. knows (top_keys k) ms ≡ true) c.clock_key-clock.ensures
+    (subst (λ m. knows (names_of (TOP_KEYS ++ option_to_list m)) ms ≡ true) c.text_key.ensures
+    (sym c.knows_keys.ensures ∙ is_known)) in
     record {
-      spelled = spelled_whole _ _ (search rules)
+      spelled = spelled_whole _ _ known
           (subst (HasFrame ms) (sym c.in_ok-setup.ensures.frame) c.in_ok-frame.ensures.frame)
           c.in_ok-coins.ensures.coins c.in_ok-key.ensures.key (search rules) c.in_ok-setup.ensures.clock
           (subst (λ o. MayBeArray (IsTable (SpelledLoad f (own_clock setup))) o (map load_draft c.in_ok-loads.loads.items))

@@ -9,7 +9,7 @@ use Rattle.scenario_text.specs.declared.scenario.Kind.TheVariants.{Asm}
 use Rattle.scenario_text.specs.Drafts.{LoadDraft}
 use Rattle.scenario_text.specs.Broken.{BrokenLoad, BrokenText}
 use Rattle.scenario_text.specs.inner.Setups.{own_clock}
-use Rattle.scenario_text.specs.Spelling.{HasKind, IsProgramOf, SpelledLoad, kind_name, load_text}
+use Rattle.scenario_text.specs.Spelling.{OffersKind, IsProgramOf, SpelledLoad, kind_name, load_text}
 use Rattle.scenario_text.specs.Tables.{HasText}
 use Rattle.scenario_text.specs.Views.{extent_of}
 use Rattle.scenario_text.proofs.FrameLemmas.{refuses_more}
@@ -24,7 +24,7 @@ returns-in_err-program-clause-refused c =
     let ms = table_view c.args.table.now in
     let kind = c.in_ok-kind.kind in
     let named : HasText ms (codes "program") (kind_name kind) = search rules in
-    let has : HasKind f.version kind = search rules in
+    let has : OffersKind f.version kind = search rules in
     let draft : List Insn → LoadDraft = λ program. record {
       pulse = c.in_ok-pulse.pulse;
       nodes = c.in_ok-nodes.nodes.items;
