@@ -92,9 +92,8 @@ LeavesReport old new text (Err (faults.Run stop)) = StopsAt text stop.event stop
 LeavesReport old new text (Err faults.Read) = Keeps old new
 LeavesReport old new text (Err faults.Memory) = Keeps old new
 
--- why a reader gave no scenario: the text says none, of which these first bytes were read; or it could not be read; or
--- memory ran out
+-- why a reader gave no scenario: the text says none; or it could not be read; or memory ran out
 abbrev pub IsDueOfText : List ℕ → TextFault → Type 0
 IsDueOfText text text_faults.Read = Unit {0}
-IsDueOfText text (text_faults.Refused error bytes) = IsDue text error × (bytes.items ≡ take MAX_BYTES text)
+IsDueOfText text (text_faults.Refused error) = IsDue text error
 IsDueOfText text text_faults.Memory = Unit {0}

@@ -5,6 +5,7 @@ ghost use Rattle.stream_io.specs.Streams.{TakesAtMost};
 ghost use Rattle.bench_scenario.specs.Runs.{IsDueOfText};
 
 use crate::run::{MAX_BYTES, MAX_CALLS};
+use scenario_text::laws::front_reads_as_whole;
 use scenario_text::{Scenario, ScenarioError, scenario_in};
 use std::alloc::Global;
 use std::io::Read;
@@ -15,8 +16,8 @@ use stream_io::{ReadFault, read_at_most};
 pub enum TextFault {
     /// A call of `read` failed, or their bound was reached.
     Read,
-    /// The text is no scenario. These are the bytes that were read.
-    Refused { error: ScenarioError, text: Vec<u8> },
+    /// The text is no scenario.
+    Refused(ScenarioError),
     Memory,
 }
 
@@ -27,24 +28,32 @@ pub fn read_scenario<R: Read>(alloc: Global, reader: &mut R) -> Result<Scenario,
         (λ text. MatchResult result (ReadsText text) (IsDueOfText text)) }
     ensures reads { IfOk result (λ s. (text : List ℕ) × ReadsText text s) }
 {
-    let bytes = match read_at_most(alloc, reader, MAX_BYTES, MAX_CALLS) {
-        Ok(bytes) => bytes,
-        Err(ReadFault::Stream) => return Err(TextFault::Read),
-        Err(ReadFault::Memory) => return Err(TextFault::Memory),
-    };
-    match scenario_in(alloc, bytes.as_slice()) {
-        Ok(scenario) => Ok(scenario),
-        Err(error) => Err(fault_of(error, bytes)),
+    match read_at_most(alloc, reader, MAX_BYTES, MAX_CALLS) {
+        Ok(bytes) => scenario_at_front(alloc, bytes.as_slice()),
+        Err(ReadFault::Stream) => Err(TextFault::Read),
+        Err(ReadFault::Memory) => Err(TextFault::Memory),
     }
 }
 
-/// Returns what a refusal of these bytes is to a reader: lack of memory is none.
-fn fault_of(error: ScenarioError, text: Vec<u8>) -> TextFault
-    ensures { (input : List ℕ) → IsDueUnlessMemory input error → text.items ≡ take MAX_BYTES input
-        → IsDueOfText input result }
+/// Returns the scenario of a text that begins with these bytes, or why it is none.
+fn scenario_at_front(alloc: Global, bytes: &[u8]) -> Result<Scenario, TextFault>
+    ensures scenario { (text : List ℕ) → bytes.now ≡ take MAX_BYTES text
+        → MatchResult result (ReadsText text) (IsDueOfText text) }
+    ensures reads { IfOk result (λ s. (text : List ℕ) × ReadsText text s) }
+{
+    front_reads_as_whole(); // brings that these bytes serve as the whole text
+    match scenario_in(alloc, bytes) {
+        Ok(scenario) => Ok(scenario),
+        Err(error) => Err(fault_of(error)),
+    }
+}
+
+/// Returns what a refusal is to a reader: lack of memory is none.
+fn fault_of(error: ScenarioError) -> TextFault
+    ensures { (text : List ℕ) → IsDueUnlessMemory text error → IsDueOfText text result }
 {
     match error {
         ScenarioError::Memory(_) => TextFault::Memory,
-        error => TextFault::Refused { error, text },
+        error => TextFault::Refused(error),
     }
 }

@@ -165,9 +165,7 @@ pub fn run_scenario<T: Threads + Wait + Sync, R: Read, W: Write>(
     let scenario = match read_scenario(alloc, reader) {
         Ok(scenario) => scenario,
         Err(TextFault::Read) => return Err(ScenarioFault::Read),
-        Err(TextFault::Refused { error, text: _text }) => {
-            return Err(ScenarioFault::Refused(error));
-        }
+        Err(TextFault::Refused(error)) => return Err(ScenarioFault::Refused(error)),
         Err(TextFault::Memory) => return Err(ScenarioFault::Memory),
     };
     report_on(rt, alloc, &scenario, workers, writer)

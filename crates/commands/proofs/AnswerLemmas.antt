@@ -14,16 +14,13 @@ use Rattle.bpf_machine.specs.declared.word.Outcome.{Outcome}
 use Rattle.bpf_machine.specs.Run.{RunAnswers}
 use Rattle.commands.specs.declared.request.ExecOptions.{ExecOptions}
 use Rattle.commands.specs.declared.answer.Answer.{Answer}
-use Rattle.commands.specs.declared.answer.Answer.TheVariants.{Refused, Ran}
-use Rattle.commands.specs.declared.image.Refusal.{Refusal}
-use Rattle.commands.specs.declared.image.Refusal.TheVariants.{Shape, Image}
-use Rattle.commands.specs.declared.input.Unread.{Unread}
-use Rattle.commands.specs.declared.input.Unread.TheVariants as unreads
+use Rattle.commands.specs.declared.rejection.Unread.{Unread}
+use Rattle.commands.specs.declared.rejection.Unread.TheVariants.{Shape, Image, Text}
 use Rattle.commands.specs.declared.request.ShapeOptions.{ShapeOptions}
-use Rattle.commands.specs.Answer.{Answers, AnswersLeaving, RunsRead, SameAnswer}
+use Rattle.commands.specs.Answer.{Answers, AnswersLeaving, RunsRead, SameAnswer, SameUnread}
 use Rattle.commands.specs.Asm.{ReadsAsmText}
 use Rattle.commands.specs.Case.{Left, case_memory, case_setting}
-use Rattle.commands.specs.Image.{HasShape, IsRefused, ReadsImage, asked_extent}
+use Rattle.commands.specs.Image.{HasShape, ReadsImage, asked_extent}
 use Rattle.commands.specs.Input.{IsProgramOfInput, IsUnread}
 
 -- what the laws of the crates below say
@@ -78,67 +75,65 @@ same_run one_program one_meaning one_run asked bytes o w l m first second =
     second.run in
     record { outcome = all.0; memory = all.1; sent = all.2 }
 
--- options and bytes have one refusal
-pub one_refused : OneRefusal → (options : ShapeOptions) (bytes : List ℕ) (a b : Refusal) → IsRefused options bytes a
-    → IsRefused options bytes b → a ≡ b
-one_refused one_refusal options bytes Shape Shape first second = refl
-one_refused one_refusal options bytes Shape (Image d) first second = absurd (first second.0)
-one_refused one_refusal options bytes (Image e) Shape first second = absurd (second first.0)
-one_refused one_refusal options bytes (Image e) (Image d) first second = ap Image
-    (one_refusal bytes e d first.1.0 second.1.0 first.1.1 second.1.1)
-
--- where they have one, no program runs
-refused_or_run : Apart → (options : ExecOptions) (bytes : List ℕ) (unread : Unread) (outcome : Outcome) (left : Left)
+-- if they have no program, none runs
+unread_or_run : Apart → (options : ExecOptions) (bytes : List ℕ) (unread : Unread) (outcome : Outcome) (left : Left)
     → IsUnread options.shape options.text bytes unread → HasShape options.shape
     → RunsRead options bytes outcome left → ⊥
-refused_or_run apart options bytes (unreads.Refused Shape) outcome left refused shape ran = refused shape
-refused_or_run apart options bytes (unreads.Refused (Image e)) outcome left refused shape ran =
+unread_or_run apart options bytes Shape outcome left unread shape ran = unread shape
+unread_or_run apart options bytes (Image e) outcome left unread shape ran =
     let read : ReadsImage bytes (Ok ran.program) =
-    subst (λ (t : Bool). IsProgramOfInput t bytes ran.program) refused.1 ran.read in
-    refused.2.1 (not_both apart bytes ran.program e read refused.2.0)
-refused_or_run apart options bytes (unreads.Text e) outcome left refused shape ran =
+    subst (λ (t : Bool). IsProgramOfInput t bytes ran.program) unread.1 ran.read in
+    unread.2.1 (not_both apart bytes ran.program e read unread.2.0)
+unread_or_run apart options bytes (Text e) outcome left unread shape ran =
     let read : ReadsAsmText bytes (Ok ran.program) =
-    subst (λ (t : Bool). IsProgramOfInput t bytes ran.program) refused.1 ran.read in
-    refused.2.2 ran.program read.1
+    subst (λ (t : Bool). IsProgramOfInput t bytes ran.program) unread.1 ran.read in
+    unread.2.2 ran.program read.1
 
 -- why options and bytes have no program is one reason, but for the error of a text
-one_unread : OneRefusal → (asked : ShapeOptions) (text : Bool) (bytes : List ℕ) (a b : Unread)
-    → IsUnread asked text bytes a → IsUnread asked text bytes b → SameAnswer (Refused a) (Refused b)
-one_unread one_refusal asked text bytes (unreads.Refused Shape) (unreads.Refused Shape) first second = refl
-one_unread one_refusal asked text bytes (unreads.Refused Shape) (unreads.Refused (Image d)) first second =
-    absurd (first second.0)
-one_unread one_refusal asked text bytes (unreads.Refused Shape) (unreads.Text d) first second = absurd (first second.0)
-one_unread one_refusal asked text bytes (unreads.Refused (Image e)) (unreads.Refused Shape) first second =
-    absurd (second first.0)
-one_unread one_refusal asked text bytes (unreads.Refused (Image e)) (unreads.Refused (Image d)) first second =
-    ap (λ x. Refused (unreads.Refused (Image x))) (one_refusal bytes e d first.2.0 second.2.0 first.2.1 second.2.1)
-one_unread one_refusal asked text bytes (unreads.Refused (Image e)) (unreads.Text d) first second =
-    absurd (true≢false (sym second.1 ∙ first.1))
-one_unread one_refusal asked text bytes (unreads.Text e) (unreads.Refused Shape) first second = absurd (second first.0)
-one_unread one_refusal asked text bytes (unreads.Text e) (unreads.Refused (Image d)) first second =
-    absurd (true≢false (sym first.1 ∙ second.1))
-one_unread one_refusal asked text bytes (unreads.Text e) (unreads.Text d) first second = tt
+pub one_unread : OneRefusal → (asked : ShapeOptions) (text : Bool) (bytes : List ℕ) (a b : Unread)
+    → IsUnread asked text bytes a → IsUnread asked text bytes b → SameUnread a b
+one_unread one_refusal asked text bytes Shape Shape first second = refl
+one_unread one_refusal asked text bytes Shape (Image d) first second = absurd (first second.0)
+one_unread one_refusal asked text bytes Shape (Text d) first second = absurd (first second.0)
+one_unread one_refusal asked text bytes (Image e) Shape first second = absurd (second first.0)
+one_unread one_refusal asked text bytes (Image e) (Image d) first second =
+    ap Image (one_refusal bytes e d first.2.0 second.2.0 first.2.1 second.2.1)
+one_unread one_refusal asked text bytes (Image e) (Text d) first second = absurd (true≢false (sym second.1 ∙ first.1))
+one_unread one_refusal asked text bytes (Text e) Shape first second = absurd (second first.0)
+one_unread one_refusal asked text bytes (Text e) (Image d) first second = absurd (true≢false (sym first.1 ∙ second.1))
+one_unread one_refusal asked text bytes (Text e) (Text d) first second = tt
+
+-- of an image it is the same reason
+pub one_unread_of_image : (asked : ShapeOptions) (text : Bool) (bytes : List ℕ) (a b : Unread) → text ≡ false
+    → IsUnread asked text bytes a → SameUnread a b → a ≡ b
+one_unread_of_image asked text bytes (Text e) b image is same = absurd (true≢false (sym is.1 ∙ image))
+one_unread_of_image asked text bytes Shape b image is same = same
+one_unread_of_image asked text bytes (Image e) b image is same = same
 
 pub one_answer : OneProgram → OneMeaning → OneRefusal → Apart → OneRun
-    → (options : ExecOptions) (bytes : List ℕ) (a b : Answer) → Answers options bytes a → Answers options bytes b
-    → SameAnswer a b
-one_answer one_program one_meaning one_refusal apart one_run options bytes (Refused r) (Refused q) first second =
+    → (options : ExecOptions) (bytes : List ℕ) (a b : Result Answer Unread) → Answers options bytes a
+    → Answers options bytes b → SameAnswer a b
+one_answer one_program one_meaning one_refusal apart one_run options bytes (Err r) (Err q) first second =
     one_unread one_refusal options.shape options.text bytes r q first.1 second.1
-one_answer one_program one_meaning one_refusal apart one_run options bytes (Refused r) (Ran w given) first second =
-    absurd (refused_or_run apart options bytes r w second.0 first.1 second.1.0 second.1.1)
-one_answer one_program one_meaning one_refusal apart one_run options bytes (Ran o given) (Refused q) first second =
-    absurd (refused_or_run apart options bytes q o first.0 second.1 first.1.0 first.1.1)
-one_answer one_program one_meaning one_refusal apart one_run options bytes (Ran o given) (Ran w other) first second =
-    let run = same_run one_program one_meaning one_run options bytes o w first.0 second.0 first.1.1 second.1.1 in
-    let fuels : given ≡ other = first.1.2 ∙ sym second.1.2 in
-    ap (λ x. Ran x given) run.outcome ∙ ap (λ n. Ran w n) fuels
+one_answer one_program one_meaning one_refusal apart one_run options bytes (Err r) (Ok w) first second =
+    unread_or_run apart options bytes r w.outcome second.0 first.1 second.1.0 second.1.1
+one_answer one_program one_meaning one_refusal apart one_run options bytes (Ok o) (Err q) first second =
+    unread_or_run apart options bytes q o.outcome first.0 second.1 first.1.0 first.1.1
+one_answer one_program one_meaning one_refusal apart one_run options bytes (Ok o) (Ok w) first second =
+    let run = same_run one_program one_meaning one_run options bytes o.outcome w.outcome first.0 second.0 first.1.1
+    second.1.1 in
+    let fuels : o.fuel ≡ w.fuel = first.1.2 ∙ sym second.1.2 in
+    ap (λ (x : Outcome). record { outcome = x; fuel = o.fuel }) run.outcome
+    ∙ ap (λ (n : ℕ). record { outcome = w.outcome; fuel = n }) fuels
 
 -- of an image they say all the same
-pub one_of_image : (options : ExecOptions) (bytes : List ℕ) (a b : Answer) → options.text ≡ false
+pub one_of_image : (options : ExecOptions) (bytes : List ℕ) (a b : Result Answer Unread) → options.text ≡ false
     → Answers options bytes a → SameAnswer a b → a ≡ b
-one_of_image options bytes (Refused (unreads.Text e)) b image is same = absurd (true≢false (sym is.1.1 ∙ image))
-one_of_image options bytes (Refused (unreads.Refused r)) b image is same = same
-one_of_image options bytes (Ran o given) b image is same = same
+one_of_image options bytes (Err r) (Err q) image is same =
+    ap Err (one_unread_of_image options.shape options.text bytes r q image is.1 same)
+one_of_image options bytes (Err r) (Ok w) image is same = absurd same
+one_of_image options bytes (Ok o) (Ok w) image is same = ap Ok same
+one_of_image options bytes (Ok o) (Err q) image is same = absurd same
 
 same_left : (l m : Left) → l.memory ≡ m.memory → l.outbox.nodes ≡ m.outbox.nodes → l.outbox.sent ≡ m.outbox.sent → l ≡ m
 same_left l m memory nodes sent =
@@ -148,10 +143,11 @@ same_left l m memory nodes sent =
     sent)
 
 pub one_left : OneProgram → OneMeaning → OneRun
-    → (options : ExecOptions) (bytes : List ℕ) (o : Outcome) (fuel : ℕ) (l m : Left)
-    → AnswersLeaving options bytes (Ran o fuel) l → AnswersLeaving options bytes (Ran o fuel) m → l ≡ m
-one_left one_program one_meaning one_run options bytes o fuel l m first second =
-    let run = same_run one_program one_meaning one_run options bytes o o l m first.1 second.1 in
+    → (options : ExecOptions) (bytes : List ℕ) (answer : Answer) (l m : Left)
+    → AnswersLeaving options bytes (Ok answer) l → AnswersLeaving options bytes (Ok answer) m → l ≡ m
+one_left one_program one_meaning one_run options bytes answer l m first second =
+    let run = same_run one_program one_meaning one_run options bytes answer.outcome answer.outcome l m first.1 second.1
+    in
     same_left l m run.memory (first.1.nodes ∙ sym second.1.nodes) run.sent
 
 -- bytes are the image of one program or have one refusal

@@ -1,6 +1,7 @@
 -- What `exec` answers and leaves, from the run in the case that is asked for.
-use Rattle.std.proofs.Common.{◌≡◌, ◌≤◌, ◌∙◌, ◌++◌, arith, length, ℕ, Bool, true, false, List, take, Option, Some, None, Result, Ok, Err, IfSome, refl, subst, inl, inr}
-use Rattle.std.proofs.lemmas.List.{append-nil, take-append-le, take_all}
+use Rattle.std.proofs.Common.{◌≡◌, ◌≤◌, ◌∙◌, ◌++◌, arith, codes, length, ℕ, Bool, true, false, List, take, Option, Result, Ok, Err, refl, subst, inl, inr}
+use Rattle.std.proofs.lemmas.List.{take-append-le, take_all}
+use Rattle.std.proofs.KnownBytes.{Keeps-refl}
 use Rattle.std.specs.Ordering.{nat_cmp}
 use Rattle.std.specs.FinMap.{FinMap}
 use Rattle.node_env.specs.Env.{Extent, Setting}
@@ -8,26 +9,25 @@ use Rattle.bpf_insn.specs.declared.forms.Insn.{Insn}
 use Rattle.bpf_machine.specs.declared.word.Outcome.{Outcome}
 use Rattle.bpf_machine.specs.Run.{RunAnswers}
 use Rattle.commands.specs.declared.answer.Answer.{Answer}
-use Rattle.commands.specs.declared.answer.Answer.TheVariants as answers
 use Rattle.commands.specs.declared.ending.Ending.{Ending}
+use Rattle.commands.specs.declared.ending.Ending.TheVariants.{Refused}
 use Rattle.commands.specs.declared.exec.Reply.{Reply}
-use Rattle.commands.specs.declared.exec.Reply.TheVariants.{Refused, Ran}
 use Rattle.commands.specs.declared.fault.Fault.{Fault}
 use Rattle.commands.specs.declared.fault.Fault.TheVariants as faults
-use Rattle.commands.specs.declared.input.ProgramRead.{ProgramRead}
-use Rattle.commands.specs.declared.image.Refusal.TheVariants.{Shape as NoShape}
-use Rattle.commands.specs.declared.input.Unread.{Unread}
-use Rattle.commands.specs.declared.input.Unread.TheVariants as unreads
+use Rattle.commands.specs.declared.program.ProgramRead.{ProgramRead}
+use Rattle.commands.specs.declared.rejection.Unread.{Unread}
 use Rattle.commands.specs.declared.request.ExecOptions.{ExecOptions}
-use Rattle.commands.specs.Answer.{AnswersLeaving, ending_of, text_of, told_text}
+use Rattle.commands.specs.Answer.{AnswersLeaving, answered_ending, answered_text}
 use Rattle.commands.specs.Case.{Left, case_memory, case_setting}
-use Rattle.commands.specs.Exec.{LeavesAnswer, LeavesBy, LeavesExec, LeavesLine}
+use Rattle.commands.specs.Exec.{LeavesAnswer, LeavesBy}
+use Rattle.commands.specs.Faults.{IsBeforeWriting}
 use Rattle.commands.specs.Image.{HasShape, asked_extent}
 use Rattle.commands.specs.Input.{IsProgramOfInput, IsUnread}
 use Rattle.commands.specs.Output.{Leaves}
-use Rattle.commands.specs.inner.Exec.{LeavesRunOf, RunsCase, answer_in, left_by_reply}
+use Rattle.commands.specs.Rejections.{unread_line}
+use Rattle.commands.specs.inner.Exec.{LeavesRunOf, RunsCase, answer_in, left_in}
 use Rattle.commands.specs.inner.Input.{ReadsInput}
-use Rattle.commands.proofs.LeavesLemmas.{leaves_any}
+use Rattle.commands.proofs.LeavesLemmas.{any_unread, leaves_any}
 
 -- a run in a setting and from a memory that are the case's
 pub case_run : (asked : ExecOptions) (program : List Insn) (shape : Extent) (env : Setting) (memory left : List ℕ)
@@ -45,9 +45,8 @@ case_run asked program shape env memory left sent outcome at run there begins =
 
 answers_run : (asked : ExecOptions) (bytes : List ℕ) (program : List Insn) (reply : Reply) → HasShape asked.shape
     → IsProgramOfInput asked.text bytes program → RunsCase asked program reply
-    → AnswersLeaving asked bytes (answer_in asked.fuel reply) (left_by_reply reply)
-answers_run asked bytes program (Refused unread) has read run = absurd run
-answers_run asked bytes program (Ran outcome left) has read run =
+    → AnswersLeaving asked bytes (Ok (answer_in asked.fuel reply)) (left_in reply.left)
+answers_run asked bytes program reply has read run =
     (has, record { program = program; read = read; run = run.0; nodes = run.1 }, refl)
 
 -- ---- the run of a program that was read, or why there is none, is the answer to what was read
@@ -56,13 +55,13 @@ left_run : (asked : ExecOptions) (bytes : List ℕ) (read : ProgramRead) (old ne
     (ended : Result Ending Fault) → ReadsInput asked.shape asked.text bytes (Ok read)
     → LeavesRunOf false old new asked read.program ended → LeavesAnswer old new asked bytes ended
 left_run asked bytes read old new (Ok ending) reads left = (
-  (answer_in asked.fuel left.0, left_by_reply left.0),
+  (Ok (answer_in asked.fuel left.0), left_in left.0.left),
   answers_run asked bytes read.program left.0 reads.0 reads.2 left.1,
   left.2,
   left.3,
 )
 left_run asked bytes read old new (Err (faults.Write after)) reads left = (
-  (answer_in asked.fuel left.0, left_by_reply left.0),
+  (Ok (answer_in asked.fuel left.0), left_in left.0.left),
   answers_run asked bytes read.program left.0 reads.0 reads.2 left.1,
   left.2,
   left.3,
@@ -72,55 +71,28 @@ left_run asked bytes read old new (Err faults.Memory) reads left = left
 left_run asked bytes read old new (Err faults.Thread) reads left = left
 left_run asked bytes read old new (Err (faults.CommandLine said)) reads left = left
 
-by_run : (trace : Bool) (asked : ExecOptions) (bytes : List ℕ) (read : ProgramRead) (old new : Option (List ℕ))
+pub by_run : (trace : Bool) (asked : ExecOptions) (bytes : List ℕ) (read : ProgramRead) (old new : Option (List ℕ))
     (ended : Result Ending Fault) → ReadsInput asked.shape asked.text bytes (Ok read)
     → LeavesRunOf trace old new asked read.program ended → LeavesBy trace old new asked bytes ended
 by_run true asked bytes read old new ended reads left =
     inl (read.program, record { shape = reads.0; read = reads.2 }, left)
 by_run false asked bytes read old new ended reads left = left_run asked bytes read old new ended reads left
 
-pub exec_run : (most : ℕ) (asked : ExecOptions) (read : ProgramRead) (input old new : Option (List ℕ))
-    (ended : Result Ending Fault)
-    → IfSome input (λ i. ReadsInput asked.shape asked.text (take most i) (Ok read))
-    → LeavesRunOf asked.trace old new asked read.program ended
-    → IfSome input (λ i. LeavesExec old new asked (take most i) ended)
-exec_run most asked read None old new ended reads left = tt
-exec_run most asked read (Some i) old new ended reads left =
-    by_run asked.trace asked (take most i) read old new ended reads left
-
--- of a refusal nothing is shown behind its line
-line_alone : (asked : ExecOptions) (why : Unread) (left : Left) (old new : Option (List ℕ)) (ended : Result Ending Fault)
-    → Leaves old new (told_text asked (answers.Refused why) left) (ending_of (answers.Refused why)) ended
-    → LeavesLine old new (answers.Refused why) ended
-line_alone asked why left old new ended told =
-    subst (λ text. Leaves old new text (ending_of (answers.Refused why)) ended)
-    (append-nil (text_of (answers.Refused why))) told
-
-by_refusal : (trace : Bool) (asked : ExecOptions) (bytes : List ℕ) (why : Unread) (left : Left)
+pub by_refusal : (trace : Bool) (asked : ExecOptions) (bytes : List ℕ) (why : Unread) (left : Left)
     (old new : Option (List ℕ)) (ended : Result Ending Fault) → IsUnread asked.shape asked.text bytes why
-    → Leaves old new (told_text asked (answers.Refused why) left) (ending_of (answers.Refused why)) ended
-    → LeavesBy trace old new asked bytes ended
-by_refusal true asked bytes why left old new ended is told =
-    inr (inl (why, is, line_alone asked why left old new ended told))
+    → Leaves old new (unread_line why ++ codes "\n") Refused ended → LeavesBy trace old new asked bytes ended
+by_refusal true asked bytes why left old new ended is told = inr (inl (why, is, told))
 by_refusal false asked bytes why left old new ended is told =
-    leaves_any {A = Answer × Left} (λ a. AnswersLeaving asked bytes a.0 a.1) (λ a. told_text asked a.0 a.1)
-    (λ a. ending_of a.0) (answers.Refused why, left) old new ended is told
+    leaves_any {A = Result Answer Unread × Left} (λ a. AnswersLeaving asked bytes a.0 a.1)
+    (λ a. answered_text asked a.0 a.1) (λ a. answered_ending a.0) (Err why, left) old new ended is told
 
-pub exec_refused : (most : ℕ) (asked : ExecOptions) (why : Unread) (left : Left) (input old new : Option (List ℕ))
-    (ended : Result Ending Fault)
-    → IfSome input (λ i. IsUnread asked.shape asked.text (take most i) why)
-    → Leaves old new (told_text asked (answers.Refused why) left) (ending_of (answers.Refused why)) ended
-    → IfSome input (λ i. LeavesExec old new asked (take most i) ended)
-exec_refused most asked why left None old new ended is told = tt
-exec_refused most asked why left (Some i) old new ended is told =
-    by_refusal asked.trace asked (take most i) why left old new ended is told
-
-pub no_shape_line : (asked : ExecOptions) (why : Unread) (left : Left) (old new : Option (List ℕ))
-    (ended : Result Ending Fault) → why ≡ unreads.Refused NoShape
-    → Leaves old new (told_text asked (answers.Refused why) left) (ending_of (answers.Refused why)) ended
-    → LeavesLine old new (answers.Refused (unreads.Refused NoShape)) ended
-no_shape_line asked why left old new ended is told =
-    subst (λ w. LeavesLine old new (answers.Refused w) ended) is (line_alone asked why left old new ended told)
+-- or nothing, if it couldn't be read
+pub by_nothing : (trace : Bool) (asked : ExecOptions) (bytes : List ℕ) (old : Option (List ℕ)) (fault : Fault)
+    → IsBeforeWriting fault → LeavesBy trace old old asked bytes (Err fault)
+by_nothing true asked bytes old fault before = inr (inr (before, Keeps-refl old))
+by_nothing false asked bytes old fault before =
+    any_unread {A = Result Answer Unread × Left} (λ a. AnswersLeaving asked bytes a.0 a.1)
+    (λ a. answered_text asked a.0 a.1) (λ a. answered_ending a.0) old fault before
 
 -- a slice of a whole vector, after it was written
 pub whole_after : (n : ℕ) (new rest : List ℕ) → n ≡ length new → take n (new ++ rest) ≡ new

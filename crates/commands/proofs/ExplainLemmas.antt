@@ -1,6 +1,6 @@
 -- What is told of a program is told of the image or the text that it was read from.
-use Rattle.std.proofs.Common.{◌≡◌, ◌∙◌, ap, ℕ, List, subst, take, inl, inr, Option, Some, None}
-use Rattle.std.specs.Prelude.{Result, Ok, Err, IfOk, IfSome, string_bytes}
+use Rattle.std.proofs.Common.{◌≡◌, ◌∙◌, ap, ℕ, List, subst}
+use Rattle.std.specs.Prelude.{Result, IfOk, string_bytes}
 use Rattle.node_env.specs.Env.{Extent}
 use Rattle.bpf_insn.specs.declared.forms.Insn.{Insn}
 use Rattle.commands.specs.declared.explanation.Told.{Told}
@@ -9,15 +9,9 @@ use Rattle.bpf_verify.specs.declared.findings.Findings.{Findings}
 use Rattle.bpf_verify.specs.Findings.{AreFindings}
 use Rattle.commands.specs.declared.ending.Ending.{Ending}
 use Rattle.commands.specs.declared.fault.Fault.{Fault}
-use Rattle.commands.specs.declared.input.ProgramRead.{ProgramRead}
-use Rattle.commands.specs.declared.input.Unread.{Unread}
 use Rattle.commands.specs.Image.{asked_extent}
-use Rattle.commands.specs.Input.{IsUnread, unread_line}
 use Rattle.commands.specs.Verdict.{verdict_ending}
-use Rattle.commands.specs.Explained.{Explanation, explanation, explained_text, lines_read, verdict_in, Explains, ExplainsProgram, IsRefusedBy, LeavesExplained}
-use Rattle.commands.specs.Output.{Leaves}
-use Rattle.commands.specs.inner.Input.{ReadsInput}
-use Rattle.commands.proofs.LeavesLemmas.{leaves_any}
+use Rattle.commands.specs.Explained.{Explanation, explanation, explained_text, lines_read, verdict_in, ExplainsProgram}
 
 -- what contracts see of what is told
 abbrev seen : Told → Explanation
@@ -41,31 +35,3 @@ pub read_told : (asked : ExplainOptions) (bytes lines : List ℕ) (program : Lis
     → IfOk result (λ told. ExplainsProgram asked (lines_read asked.text bytes) program (seen told))
 read_told asked bytes lines program result same told =
     subst (λ ls. IfOk result (λ t. ExplainsProgram asked ls program (seen t))) same told
-
-pub input_told : (asked : ExplainOptions) (most : ℕ) (read : ProgramRead) (told : Told) (text : List ℕ)
-    (input old new : Option (List ℕ)) (ended : Result Ending Fault)
-    → IfSome input (λ i. ReadsInput asked.shape asked.text (take most i) (Ok read))
-    → ExplainsProgram asked (lines_read asked.text read.bytes.items) read.program (seen told)
-    → text ≡ string_bytes told.text → Leaves old new text told.ending ended
-    → IfSome input (λ i. LeavesExplained old new asked (take most i) ended)
-input_told asked most read told text None old new ended reads is same left = tt
-input_told asked most read told text (Some i) old new ended reads is same left =
-    leaves_any (Explains asked (take most i)) (λ t. t.text) (λ t. t.ending) (seen told) old new ended
-    (inr (
-      reads.0,
-      read.program,
-      reads.2,
-      subst (λ b. ExplainsProgram asked (lines_read asked.text b) read.program (seen told)) reads.1 is,
-    ))
-    (subst (λ t. Leaves old new t told.ending ended) same left)
-
-pub input_refused : (asked : ExplainOptions) (most : ℕ) (unread : Unread) (told : Told) (text : List ℕ)
-    (input old new : Option (List ℕ)) (ended : Result Ending Fault)
-    → IfSome input (λ i. IsUnread asked.shape asked.text (take most i) unread)
-    → IsRefusedBy (unread_line unread) (seen told) → text ≡ string_bytes told.text
-    → Leaves old new text told.ending ended
-    → IfSome input (λ i. LeavesExplained old new asked (take most i) ended)
-input_refused asked most unread told text None old new ended is refused same left = tt
-input_refused asked most unread told text (Some i) old new ended is refused same left =
-    leaves_any (Explains asked (take most i)) (λ t. t.text) (λ t. t.ending) (seen told) old new ended
-    (inl (unread, is, refused)) (subst (λ t. Leaves old new t told.ending ended) same left)

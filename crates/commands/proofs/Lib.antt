@@ -10,3 +10,4 @@ mod TracedLemmas
 mod TracedRunLemmas
 mod LeavesLemmas
 mod NodeRuleLemmas
+mod FrontLemmas

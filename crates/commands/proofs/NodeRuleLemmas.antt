@@ -7,7 +7,7 @@ use Rattle.std.specs.Prelude.{Bool, IsTrue, Ok, codes, false, true}
 use Rattle.bpf_insn.specs.declared.forms.Insn.{Insn}
 use Rattle.rule_listing.specs.Listing.{IsListingOf}
 use Rattle.rule_nodes.specs.declared.syntax.Sizes.{Sizes}
-use Rattle.commands.specs.Dis.{listing_text}
+use Rattle.commands.specs.Dis.{dis_text}
 use Rattle.node_env.specs.Env.{Extent}
 use Rattle.clock_nodes.specs.Listings.{clock_listing}
 use Rattle.rule_nodes.specs.Ends.{sizes_of}
@@ -228,7 +228,7 @@ no_rule g s input program reads clock loads text rule = elim rule.0 [
 
 -- of a program that no rule has
 pub plain_text : (z : Sizes) (program : List Insn) (list : Bool) (told : List ℕ)
-    → told ≡ listing_text list (Ok program) → IsProgramText z program None list told
+    → told ≡ dis_text list program → IsProgramText z program None list told
 plain_text z program false told is = is
 plain_text z program true told is = is
 
@@ -239,6 +239,6 @@ listed_text z program text false told asked is = let no : false ≡ true = asked
 listed_text z program text true told asked is = is
 
 pub unlisted_text : (z : Sizes) (program : List Insn) (text : List ℕ) (list : Bool) (told : List ℕ)
-    → (IsTrue list → ⊥) → told ≡ listing_text false (Ok program) → IsProgramText z program (Some text) list told
+    → (IsTrue list → ⊥) → told ≡ dis_text false program → IsProgramText z program (Some text) list told
 unlisted_text z program text false told unasked is = is
 unlisted_text z program text true told unasked is = absurd (unasked refl)

@@ -1,11 +1,13 @@
 -- What the commands that read a scenario leave of its text.
-use Rattle.std.proofs.Common.{◌≡◌, ℕ, List, ◌++◌, refl, codes, inl, inr, Option, Some, None}
-use Rattle.std.specs.Prelude.{Result, Ok, Err, IfOk, IfSome}
+use Rattle.std.proofs.Common.{◌≡◌, ℕ, List, ◌++◌, refl, codes, inl, inr, Option}
+use Rattle.std.specs.Prelude.{Result, Ok, Err, IfOk}
 use Rattle.std.proofs.KnownBytes.{Keeps-refl}
+use Rattle.std.specs.declared.alloc.AllocError.{AllocError}
 use Rattle.scenario_text.specs.declared.refusal.ScenarioError.{ScenarioError}
+use Rattle.scenario_text.specs.declared.refusal.ScenarioError.TheVariants as errors
 use Rattle.scenario_text.specs.declared.scenario.Scenario.{Scenario}
 use Rattle.scenario_text.specs.Lines.{refusal_line}
-use Rattle.scenario_text.specs.Texts.{IsDue, ReadsText}
+use Rattle.scenario_text.specs.Texts.{IsDue, IsDueUnlessMemory, ReadsText}
 use Rattle.commands.specs.declared.ending.Ending.{Ending}
 use Rattle.commands.specs.declared.ending.Ending.TheVariants.{Violated, Done, Mismatched, Refused, Unfinished}
 use Rattle.commands.specs.declared.fault.Fault.{Fault}
@@ -15,27 +17,37 @@ use Rattle.commands.specs.Output.{Leaves}
 use Rattle.commands.specs.Perform.{SaysAt}
 use Rattle.commands.specs.Scenarios.{LeavesFor, LeavesOf}
 
+-- a refusal that isn't for lack of memory
+pub due_refused : (text : List ℕ) (error : ScenarioError) → ((gone : AllocError) → error ≡ errors.Memory gone → ⊥)
+    → IsDueUnlessMemory text error → IsDue text error
+due_refused text errors.TooLong isnt due = due
+due_refused text errors.NotToml isnt due = due
+due_refused text (errors.UnknownKey place) isnt due = due
+due_refused text (errors.MissingKey place key) isnt due = due
+due_refused text (errors.WrongKind place key) isnt due = due
+due_refused text (errors.OutOfRange place key) isnt due = due
+due_refused text (errors.UnknownProgram load) isnt due = due
+due_refused text (errors.BadText place key error) isnt due = due
+due_refused text (errors.BadRule place key error) isnt due = due
+due_refused text (errors.NotAccepted place key slot rule) isnt due = due
+due_refused text (errors.Memory gone) isnt due = absurd (isnt gone refl)
+
 -- of the scenario that the text says
-pub left_of_scenario : (asked : ScenarioRequest) (input old new : Option (List ℕ)) (s : Scenario)
-    (ended : Result Ending Fault) → IfSome input (λ text. ReadsText text s) → LeavesOf asked old new s ended
-    → IfSome input (λ text. LeavesFor asked old new text ended)
-left_of_scenario asked None old new s ended reads left = tt
-left_of_scenario asked (Some text) old new s ended reads left = inl (s, reads, left)
+pub left_of_scenario : (asked : ScenarioRequest) (text : List ℕ) (old new : Option (List ℕ)) (s : Scenario)
+    (ended : Result Ending Fault) → ReadsText text s → LeavesOf asked old new s ended
+    → LeavesFor asked old new text ended
+left_of_scenario asked text old new s ended reads left = inl (s, reads, left)
 
 -- or of its refusal
-pub left_of_refusal : (asked : ScenarioRequest) (input old new : Option (List ℕ)) (error : ScenarioError)
-    (bytes : List ℕ) (cut : List ℕ → List ℕ) (ended : Result Ending Fault)
-    → IfSome input (λ text. IsDue text error × (bytes ≡ cut text))
-    → Leaves old new (refusal_line error ++ codes "\n") Refused ended
-    → IfSome input (λ text. LeavesFor asked old new text ended)
-left_of_refusal asked None old new error bytes cut ended due left = tt
-left_of_refusal asked (Some text) old new error bytes cut ended due left = inr (inl (error, due.0, left))
+pub left_of_refusal : (asked : ScenarioRequest) (text : List ℕ) (old new : Option (List ℕ)) (error : ScenarioError)
+    (ended : Result Ending Fault) → IsDue text error → Leaves old new (refusal_line error ++ codes "\n") Refused ended
+    → LeavesFor asked old new text ended
+left_of_refusal asked text old new error ended due left = inr (inl (error, due, left))
 
 -- or nothing
-pub left_unread : (asked : ScenarioRequest) (input old : Option (List ℕ)) (fault : Fault) → IsBeforeWriting fault
-    → IfSome input (λ text. LeavesFor asked old old text (Err fault))
-left_unread asked None old fault before = tt
-left_unread asked (Some text) old fault before = inr (inr (before, Keeps-refl old))
+pub left_unread : (asked : ScenarioRequest) (text : List ℕ) (old : Option (List ℕ)) (fault : Fault)
+    → IsBeforeWriting fault → LeavesFor asked old old text (Err fault)
+left_unread asked text old fault before = inr (inr (before, Keeps-refl old))
 
 -- an ending of which nothing is said
 unsaid_at : (ending : Ending) (old : Option (List ℕ)) → SaysAt ending old old

@@ -4,75 +4,59 @@ use Rattle.std.specs.Io.KnownBytes.{Appends}
 use Rattle.std.proofs.KnownBytes.{Appends-kept, Appends-trans}
 use Rattle.std.proofs.Math.Seq.{take-length}
 use Rattle.bpf_insn.specs.declared.forms.Insn.{Insn}
-use Rattle.bpf_machine.specs.declared.word.Outcome.{Outcome}
 use Rattle.run_trace.specs.Lines.{trace_text}
 use Rattle.stream_io.specs.Parts.{Wrote}
 use Rattle.stream_io.proofs.PartLemmas.{broken}
 use Rattle.commands.specs.declared.ending.Ending.{Ending}
+use Rattle.commands.specs.declared.ending.Ending.TheVariants.{Done}
 use Rattle.commands.specs.declared.exec.Reply.{Reply}
-use Rattle.commands.specs.declared.exec.Reply.TheVariants.{Refused, Ran}
 use Rattle.commands.specs.declared.fault.Fault.{Fault}
 use Rattle.commands.specs.declared.fault.Fault.TheVariants as faults
-use Rattle.commands.specs.declared.left.LeftByRun.{LeftByRun}
 use Rattle.commands.specs.declared.request.ExecOptions.{ExecOptions}
-use Rattle.commands.specs.Answer.{ending_of, told_text}
+use Rattle.commands.specs.Answer.{told_text}
 use Rattle.commands.specs.Exec.{LeavesSteps, Traces, case_steps, case_trace, traced_text}
 use Rattle.commands.specs.Output.{Leaves}
-use Rattle.commands.specs.inner.Exec.{RunsCase, answer_in, left_in, left_by_reply}
+use Rattle.commands.specs.inner.Exec.{RunsCase, answer_in, left_in}
 use Rattle.commands.specs.inner.Faults.{fault_behind}
 
-traces : (asked : ExecOptions) (program : List Insn) (outcome : Outcome) (left : LeftByRun)
-    → RunsCase asked program (Ran outcome left)
-    → Traces asked program (traced_text asked program outcome (left_in left))
-traces asked program outcome left run = record {
-  outcome = outcome;
-  left = left_in left;
+traces : (asked : ExecOptions) (program : List Insn) (reply : Reply) → RunsCase asked program reply
+    → Traces asked program (traced_text asked program reply.outcome (left_in reply.left))
+traces asked program reply run = record {
+  outcome = reply.outcome;
+  left = left_in reply.left;
   runs = record { run = run.0; nodes = run.1 };
   whole = refl;
 }
 
 pub traced_whole : (old mid new : Option (List ℕ)) (asked : ExecOptions) (program : List Insn) (reply : Reply)
     (written : ℕ) (ending : Ending) → RunsCase asked program reply → Wrote old mid (case_trace asked program) written
-    → Leaves mid new (told_text asked (answer_in asked.fuel reply) (left_by_reply reply))
-    (ending_of (answer_in asked.fuel reply)) (Ok ending)
+    → Leaves mid new (told_text asked (answer_in asked.fuel reply) (left_in reply.left)) Done (Ok ending)
     → LeavesSteps old new asked program (Ok ending)
-traced_whole old mid new asked program (Refused unread) written ending run wrote told = absurd run
-traced_whole old mid new asked program (Ran outcome left) written ending run wrote told = (
-  traced_text asked program outcome (left_in left),
-  traces asked program outcome left run,
+traced_whole old mid new asked program reply written ending run wrote told = (
+  traced_text asked program reply.outcome (left_in reply.left),
+  traces asked program reply run,
   told.0,
   Appends-trans old mid new (case_trace asked program) _ wrote.left told.1,
 )
 
 -- the first bytes of what is behind the lines of the steps
-behind : (old mid new : Option (List ℕ)) (asked : ExecOptions) (program : List Insn) (outcome : Outcome)
-    (left : LeftByRun) (written : ℕ) (fault : Fault) → RunsCase asked program (Ran outcome left)
-    → Wrote old mid (case_trace asked program) written
-    → Leaves mid new (told_text asked (answer_in asked.fuel (Ran outcome left)) (left_in left))
-    (ending_of (answer_in asked.fuel (Ran outcome left))) (Err fault)
+pub traced_broken : (old mid new : Option (List ℕ)) (asked : ExecOptions) (program : List Insn) (reply : Reply)
+    (written : ℕ) (fault : Fault) → RunsCase asked program reply → Wrote old mid (case_trace asked program) written
+    → Leaves mid new (told_text asked (answer_in asked.fuel reply) (left_in reply.left)) Done (Err fault)
     → LeavesSteps old new asked program (Err (fault_behind written fault))
-behind old mid new asked program outcome left written (faults.Write after) run wrote told =
+traced_broken old mid new asked program reply written (faults.Write after) run wrote told =
     inr (
-      traced_text asked program outcome (left_in left),
-      traces asked program outcome left run,
-      broken mid new old written _ after (told_text asked (answer_in asked.fuel (Ran outcome left)) (left_in left))
+      traced_text asked program reply.outcome (left_in reply.left),
+      traces asked program reply run,
+      broken mid new old written _ after (told_text asked (answer_in asked.fuel reply) (left_in reply.left))
           (case_trace asked program) told.0 refl told.1 wrote,
     )
-behind old mid new asked program outcome left written faults.Memory run wrote told =
+traced_broken old mid new asked program reply written faults.Memory run wrote told =
     let steps = case_steps asked program in (
       length steps,
       subst (λ l. Appends old new (trace_text program l)) (sym (take-length steps))
           (Appends-kept old mid new (case_trace asked program) wrote.left told),
     )
-behind old mid new asked program outcome left written faults.Read run wrote told = absurd told
-behind old mid new asked program outcome left written faults.Thread run wrote told = absurd told
-behind old mid new asked program outcome left written (faults.CommandLine said) run wrote told = absurd told
-
-pub traced_broken : (old mid new : Option (List ℕ)) (asked : ExecOptions) (program : List Insn) (reply : Reply)
-    (written : ℕ) (fault : Fault) → RunsCase asked program reply → Wrote old mid (case_trace asked program) written
-    → Leaves mid new (told_text asked (answer_in asked.fuel reply) (left_by_reply reply))
-    (ending_of (answer_in asked.fuel reply)) (Err fault)
-    → LeavesSteps old new asked program (Err (fault_behind written fault))
-traced_broken old mid new asked program (Refused unread) written fault run wrote told = absurd run
-traced_broken old mid new asked program (Ran outcome left) written fault run wrote told =
-    behind old mid new asked program outcome left written fault run wrote told
+traced_broken old mid new asked program reply written faults.Read run wrote told = absurd told
+traced_broken old mid new asked program reply written faults.Thread run wrote told = absurd told
+traced_broken old mid new asked program reply written (faults.CommandLine said) run wrote told = absurd told

@@ -1,24 +1,23 @@
 -- What is said of a program is said of its image; and bytes have one verdict, but for the rule that a refusal names.
-use Rattle.std.proofs.Common.{◌≡◌, ℕ, List, take, Option, Some, None, Result, Ok, Err, IfSome, ◌∙◌, sym, subst}
+use Rattle.std.proofs.Common.{◌≡◌, ℕ, List, Result, Ok, Err, ◌∙◌, false, refl, sym, subst, true≢false}
 use Rattle.node_env.specs.Env.{Extent}
 use Rattle.bpf_insn.specs.declared.forms.Insn.{Insn}
 use Rattle.bpf_insn.specs.Programs.{IsProgram, image_of}
 use Rattle.bpf_insn.specs.Images.{RefusesImage}
-use Rattle.bpf_insn.specs.declared.image.ImageError.{ImageError}
 use Rattle.bpf_verify.specs.Accepted.{IsFirstBroken}
 use Rattle.bpf_verify.specs.Paths.{IsLongestPath}
 use Rattle.bpf_verify.specs.Typable.{Typable}
 use Rattle.commands.specs.declared.request.ShapeOptions.{ShapeOptions}
-use Rattle.commands.specs.declared.ending.Ending.{Ending}
-use Rattle.commands.specs.declared.fault.Fault.{Fault}
 use Rattle.commands.specs.declared.verdict.Verdict.{Verdict}
-use Rattle.commands.specs.declared.verdict.Verdict.TheVariants.{NoProgram, Accepted, Refused}
-use Rattle.commands.specs.declared.image.Refusal.{Refusal}
-use Rattle.commands.specs.declared.image.Refusal.TheVariants.{Shape, Image}
-use Rattle.commands.specs.Image.{HasShape, IsRefused, ReadsImage, asked_extent}
-use Rattle.commands.specs.Verdict.{Judges, JudgesImage, JudgesProgram, LeavesVerdict, LeavesVerdictLine, SameVerdict, verdict_ending, text_of_verdict}
-use Rattle.commands.proofs.AnswerLemmas.{OneProgram, OneRefusal, Apart, one_refused}
-use Rattle.commands.proofs.LeavesLemmas.{leaves_any, leaves_known}
+use Rattle.commands.specs.declared.verdict.Verdict.TheVariants.{Accepted, Refused}
+use Rattle.commands.specs.declared.program.ProgramRead.{ProgramRead}
+use Rattle.commands.specs.declared.rejection.Unread.{Unread}
+use Rattle.commands.specs.declared.rejection.Unread.TheVariants.{Shape, Image, Text}
+use Rattle.commands.specs.Image.{HasShape, asked_extent}
+use Rattle.commands.specs.Input.{IsUnread}
+use Rattle.commands.specs.Verdict.{Judges, JudgesImage, JudgesProgram, SameJudgement, SameVerdict}
+use Rattle.commands.specs.inner.Input.{ReadsInput}
+use Rattle.commands.proofs.AnswerLemmas.{OneProgram, OneRefusal, Apart, one_unread, one_unread_of_image}
 
 judged_image : (bytes : List ℕ) (program : List Insn) (shape asked : Extent) (verdict : Verdict) → shape ≡ asked
     → IsProgram program → bytes ≡ image_of program
@@ -31,42 +30,12 @@ judged_image bytes program shape asked verdict at whole image judged =
       judged = subst (λ (s : Extent). JudgesProgram program s verdict) at judged;
     }
 
-judges : (options : ShapeOptions) (bytes : List ℕ) (program : List Insn) (shape : Extent) (verdict : Verdict)
-    → HasShape options → shape ≡ asked_extent options → IsProgram program → bytes ≡ image_of program
-    → JudgesProgram program shape verdict → Judges options bytes verdict
-judges options bytes program shape (NoProgram refusal) has at whole image judged = absurd judged
-judges options bytes program shape (Accepted slots announced) has at whole image judged =
-    (has, judged_image bytes program shape _ _ at whole image judged)
-judges options bytes program shape (Refused slot rule) has at whole image judged =
-    (has, judged_image bytes program shape _ _ at whole image judged)
-
 -- the verdict on the program of the bytes that were read is that on the bytes
-pub judged_known : (most : ℕ) (options : ShapeOptions) (shape : Extent) (bytes : List ℕ) (program : List Insn)
-    (verdict : Verdict) (input old new : Option (List ℕ)) (ended : Result Ending Fault)
-    → HasShape options → shape ≡ asked_extent options → ReadsImage bytes (Ok program)
-    → IfSome input (λ i. bytes ≡ take most i) → JudgesProgram program shape verdict
-    → LeavesVerdictLine old new verdict ended
-    → IfSome input (λ i. LeavesVerdict old new options (take most i) ended)
-judged_known most options shape bytes program verdict input old new ended has at read known judged told =
-    leaves_known (Judges options) text_of_verdict verdict_ending verdict (take most) bytes input old new ended known
-    (judges options bytes program shape verdict has at read.0 read.1 judged) told
-
--- of bytes that are the image of no program
-pub refused_known : (most : ℕ) (options : ShapeOptions) (bytes : List ℕ) (error : ImageError)
-    (input old new : Option (List ℕ)) (ended : Result Ending Fault) → HasShape options → ReadsImage bytes (Err error)
-    → IfSome input (λ i. bytes ≡ take most i) → LeavesVerdictLine old new (NoProgram (Image error)) ended
-    → IfSome input (λ i. LeavesVerdict old new options (take most i) ended)
-refused_known most options bytes error input old new ended has read known told =
-    leaves_known (Judges options) text_of_verdict verdict_ending (NoProgram (Image error)) (take most) bytes input old new
-    ended known (has, read) told
-
--- of options that have no shape
-pub no_shape_known : (most : ℕ) (options : ShapeOptions) (input old new : Option (List ℕ)) (ended : Result Ending Fault)
-    → (HasShape options → ⊥) → LeavesVerdictLine old new (NoProgram Shape) ended
-    → IfSome input (λ i. LeavesVerdict old new options (take most i) ended)
-no_shape_known most options None old new ended none told = tt
-no_shape_known most options (Some i) old new ended none told =
-    leaves_any (Judges options (take most i)) text_of_verdict verdict_ending (NoProgram Shape) old new ended none told
+pub judges : (options : ShapeOptions) (bytes : List ℕ) (read : ProgramRead) (verdict : Verdict)
+    → ReadsInput options false bytes (Ok read) → JudgesProgram read.program read.shape verdict
+    → Judges options bytes (Ok verdict)
+judges options bytes read verdict reads judged =
+    (reads.0, judged_image bytes read.program read.shape _ verdict reads.1 reads.2.0 reads.2.1 judged)
 
 -- ---- one verdict
 
@@ -82,13 +51,14 @@ pub record LawsBelow : Type 0 where
   pub one_longest : (program : List Insn) (count other : ℕ) → IsLongestPath program count → IsLongestPath program other
       → count ≡ other
 
--- where options and bytes have a refusal, nothing is said of a program
-refused_or_judged : Apart → (options : ShapeOptions) (bytes : List ℕ) (refusal : Refusal) (verdict : Verdict)
-    → IsRefused options bytes refusal → HasShape options → JudgesImage (asked_extent options) bytes verdict → ⊥
-refused_or_judged apart options bytes Shape verdict refused has judged = refused has
-refused_or_judged apart options bytes (Image e) verdict refused has judged =
-    refused.1.1 (apart judged.program e judged.whole
-    (subst (λ (l : List ℕ). RefusesImage l e) judged.image refused.1.0))
+-- if options and bytes have no program, nothing is said of one
+unread_or_judged : Apart → (options : ShapeOptions) (bytes : List ℕ) (unread : Unread) (verdict : Verdict)
+    → IsUnread options false bytes unread → HasShape options → JudgesImage (asked_extent options) bytes verdict → ⊥
+unread_or_judged apart options bytes Shape verdict unread has judged = unread has
+unread_or_judged apart options bytes (Image e) verdict unread has judged =
+    unread.2.1 (apart judged.program e judged.whole
+    (subst (λ (l : List ℕ). RefusesImage l e) judged.image unread.2.0))
+unread_or_judged apart options bytes (Text e) verdict unread has judged = true≢false (sym unread.1)
 
 -- what is said of the programs of one image is said of one program
 of_one_program : OneProgram → (shape : Extent) (bytes : List ℕ) (a b : Verdict) (P : Type 0)
@@ -99,27 +69,28 @@ of_one_program one_program shape bytes a b P first second then_p =
     (sym second.image ∙ first.image) in
     then_p first.program first.judged (subst (λ (p : List Insn). JudgesProgram p shape b) same second.judged)
 
-pub one_verdict : LawsBelow → (options : ShapeOptions) (bytes : List ℕ) (a b : Verdict) → Judges options bytes a
-    → Judges options bytes b → SameVerdict a b
-one_verdict laws options bytes (NoProgram r) (NoProgram q) first second =
-    one_refused laws.one_refusal options bytes r q first second
-one_verdict laws options bytes (NoProgram r) (Accepted t y) first second =
-    refused_or_judged laws.apart options bytes r _ first second.0 second.1
-one_verdict laws options bytes (NoProgram r) (Refused t q) first second =
-    refused_or_judged laws.apart options bytes r _ first second.0 second.1
-one_verdict laws options bytes (Accepted s x) (NoProgram r) first second =
-    refused_or_judged laws.apart options bytes r _ second first.0 first.1
-one_verdict laws options bytes (Accepted s x) (Accepted t y) first second =
-    of_one_program laws.one_program _ bytes (Accepted s x) (Accepted t y) _ first.1 second.1
+same_verdict : LawsBelow → (shape : Extent) (bytes : List ℕ) (a b : Verdict) → JudgesImage shape bytes a
+    → JudgesImage shape bytes b → SameVerdict a b
+same_verdict laws shape bytes (Accepted s x) (Accepted t y) first second =
+    of_one_program laws.one_program _ bytes (Accepted s x) (Accepted t y) _ first second
     (λ program one other. (one.1 ∙ sym other.1, laws.one_longest program x y one.2 other.2))
-one_verdict laws options bytes (Accepted s x) (Refused t q) first second =
-    of_one_program laws.one_program _ bytes (Accepted s x) (Refused t q) _ first.1 second.1
+same_verdict laws shape bytes (Accepted s x) (Refused t q) first second =
+    of_one_program laws.one_program _ bytes (Accepted s x) (Refused t q) _ first second
     (λ program one other. laws.untypable program _ t other one.0)
-one_verdict laws options bytes (Refused s r) (NoProgram q) first second =
-    refused_or_judged laws.apart options bytes q _ second first.0 first.1
-one_verdict laws options bytes (Refused s r) (Accepted t y) first second =
-    of_one_program laws.one_program _ bytes (Refused s r) (Accepted t y) _ first.1 second.1
+same_verdict laws shape bytes (Refused s r) (Accepted t y) first second =
+    of_one_program laws.one_program _ bytes (Refused s r) (Accepted t y) _ first second
     (λ program one other. laws.untypable program _ s one other.0)
-one_verdict laws options bytes (Refused s r) (Refused t q) first second =
-    of_one_program laws.one_program _ bytes (Refused s r) (Refused t q) _ first.1 second.1
+same_verdict laws shape bytes (Refused s r) (Refused t q) first second =
+    of_one_program laws.one_program _ bytes (Refused s r) (Refused t q) _ first second
     (λ program one other. laws.one_slot program _ s t one other)
+
+pub one_verdict : LawsBelow → (options : ShapeOptions) (bytes : List ℕ) (a b : Result Verdict Unread)
+    → Judges options bytes a → Judges options bytes b → SameJudgement a b
+one_verdict laws options bytes (Err r) (Err q) first second =
+    one_unread_of_image options false bytes r q refl first
+    (one_unread laws.one_refusal options false bytes r q first second)
+one_verdict laws options bytes (Err r) (Ok b) first second =
+    unread_or_judged laws.apart options bytes r b first second.0 second.1
+one_verdict laws options bytes (Ok a) (Err r) first second =
+    unread_or_judged laws.apart options bytes r a second first.0 first.1
+one_verdict laws options bytes (Ok a) (Ok b) first second = same_verdict laws _ bytes a b first.1 second.1

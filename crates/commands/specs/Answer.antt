@@ -1,5 +1,5 @@
 -- What `exec` answers to the bytes that it read, and the line that says it.
-use Rattle.std.specs.Prelude.{◌≡◌, ℕ, List, [], ◌++◌, codes, if◌then◌else◌}
+use Rattle.std.specs.Prelude.{◌≡◌, ℕ, List, [], ◌++◌, codes, Result, Ok, Err, if◌then◌else◌}
 use Rattle.std.specs.Fmt.{decimal}
 use Rattle.bpf_insn.specs.declared.forms.Insn.{Insn}
 use Rattle.bpf_machine.specs.declared.word.Outcome.{Outcome}
@@ -8,13 +8,14 @@ use Rattle.bpf_machine.specs.Run.{RunAnswers}
 use Rattle.bpf_machine.specs.Traps.{trap_name, trap_number}
 use Rattle.commands.specs.declared.request.ExecOptions.{ExecOptions}
 use Rattle.commands.specs.declared.answer.Answer.{Answer}
-use Rattle.commands.specs.declared.answer.Answer.TheVariants.{Refused, Ran}
 use Rattle.commands.specs.declared.ending.Ending.{Ending}
-use Rattle.commands.specs.declared.ending.Ending.TheVariants as endings
-use Rattle.commands.specs.declared.input.Unread.TheVariants.{Text}
+use Rattle.commands.specs.declared.ending.Ending.TheVariants.{Done, Refused}
+use Rattle.commands.specs.declared.rejection.Unread.{Unread}
+use Rattle.commands.specs.declared.rejection.Unread.TheVariants.{Text}
 use Rattle.commands.specs.Case.{Left, case_memory, case_setting, left_lines}
 use Rattle.commands.specs.Image.{HasShape, asked_extent}
-use Rattle.commands.specs.Input.{IsProgramOfInput, IsUnread, unread_line}
+use Rattle.commands.specs.Input.{IsProgramOfInput, IsUnread}
+use Rattle.commands.specs.Rejections.{unread_line}
 
 -- the bytes have a program, and its run in the case that is asked for comes to this and leaves this
 pub record RunsRead (asked : ExecOptions) (bytes : List ℕ) (outcome : Outcome) (left : Left) : Type 0 where
@@ -25,19 +26,25 @@ pub record RunsRead (asked : ExecOptions) (bytes : List ℕ) (outcome : Outcome)
       (case_memory (asked_extent asked.shape) asked.case) asked.fuel left.memory left.outbox.sent outcome
   pub nodes : left.outbox.nodes ≡ asked.shape.nodes
 
--- the answer to these bytes under these options, and what the run leaves. Want of memory is none
-abbrev pub AnswersLeaving : ExecOptions → List ℕ → Answer → Left → Type 0
-AnswersLeaving asked bytes (Refused unread) left = IsUnread asked.shape asked.text bytes unread
-AnswersLeaving asked bytes (Ran outcome given) left =
-    HasShape asked.shape × RunsRead asked bytes outcome left × (given ≡ asked.fuel)
+-- the answer to these bytes under these options, and what the run leaves; or why there is none. Want of memory is none
+abbrev pub AnswersLeaving : ExecOptions → List ℕ → Result Answer Unread → Left → Type 0
+AnswersLeaving asked bytes (Ok answer) left =
+    HasShape asked.shape × RunsRead asked bytes answer.outcome left × (answer.fuel ≡ asked.fuel)
+AnswersLeaving asked bytes (Err unread) left = IsUnread asked.shape asked.text bytes unread
 
-abbrev pub Answers : ExecOptions → List ℕ → Answer → Type 0
-Answers asked bytes answer = (left : Left) × AnswersLeaving asked bytes answer left
+abbrev pub Answers : ExecOptions → List ℕ → Result Answer Unread → Type 0
+Answers asked bytes answered = (left : Left) × AnswersLeaving asked bytes answered left
 
 -- the two say the same, but for the error of a text that means no program
-abbrev pub SameAnswer : Answer → Answer → Type 0
-SameAnswer (Refused (Text error)) (Refused (Text other)) = Unit {0}
-SameAnswer answer other = answer ≡ other
+abbrev pub SameUnread : Unread → Unread → Type 0
+SameUnread (Text error) (Text other) = Unit {0}
+SameUnread unread other = unread ≡ other
+
+abbrev pub SameAnswer : Result Answer Unread → Result Answer Unread → Type 0
+SameAnswer (Ok answer) (Ok other) = answer ≡ other
+SameAnswer (Ok answer) (Err other) = ⊥
+SameAnswer (Err unread) (Ok other) = ⊥
+SameAnswer (Err unread) (Err other) = SameUnread unread other
 
 -- ---- the line of an answer, without its end (docs/COMMANDS.md, "What exec prints")
 
@@ -48,23 +55,22 @@ outcome_line (outcomes.Trap slot kind) fuel =
 outcome_line outcomes.OutOfFuel fuel = codes "out of fuel " ++ decimal fuel
 
 abbrev pub answer_line : Answer → List ℕ
-answer_line (Refused unread) = unread_line unread
-answer_line (Ran outcome fuel) = outcome_line outcome fuel
-
--- the line with its end
-abbrev pub text_of : Answer → List ℕ
-text_of answer = answer_line answer ++ codes "\n"
+answer_line answer = outcome_line answer.outcome answer.fuel
 
 -- what the run left, where that is to be shown
-abbrev pub shown_lines : ExecOptions → Answer → Left → List ℕ
-shown_lines asked (Refused unread) left = []
-shown_lines asked (Ran outcome fuel) left = if asked.show then left_lines left else []
+abbrev pub shown_lines : ExecOptions → Left → List ℕ
+shown_lines asked left = if asked.show then left_lines left else []
 
--- the line, and what is shown behind it
+-- the line with its end, and what is shown behind it
 abbrev pub told_text : ExecOptions → Answer → Left → List ℕ
-told_text asked answer left = text_of answer ++ shown_lines asked answer left
+told_text asked answer left = (answer_line answer ++ codes "\n") ++ shown_lines asked left
 
--- how the command ends that wrote it
-abbrev pub ending_of : Answer → Ending
-ending_of (Refused unread) = endings.Refused
-ending_of (Ran outcome fuel) = endings.Done
+-- the same, or the line of the refusal
+abbrev pub answered_text : ExecOptions → Result Answer Unread → Left → List ℕ
+answered_text asked (Ok answer) left = told_text asked answer left
+answered_text asked (Err unread) left = unread_line unread ++ codes "\n"
+
+-- how the command ends that wrote it. A trap and the end of fuel are results
+abbrev pub answered_ending : Result Answer Unread → Ending
+answered_ending (Ok answer) = Done
+answered_ending (Err unread) = Refused

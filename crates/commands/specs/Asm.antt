@@ -4,18 +4,15 @@ use Rattle.bpf_insn.specs.declared.forms.Insn.{Insn}
 use Rattle.bpf_insn.specs.Programs.{image_of}
 use Rattle.bpf_asm.specs.declared.text_error.TextError.{TextError}
 use Rattle.bpf_asm.specs.declared.text_error.TextError.TheVariants as errors
-use Rattle.bpf_asm.specs.Errors.{text_error_text}
 use Rattle.bpf_asm.specs.Listing.{text_listing}
 use Rattle.bpf_asm.specs.Meaning.{Means}
-use Rattle.commands.specs.declared.asm.TheConstants.{TEXT_BYTES}
+use Rattle.commands.specs.declared.input.TheConstants.{TEXT_BYTES}
+use Rattle.commands.specs.declared.rejection.Unread.TheVariants.{Text}
 use Rattle.commands.specs.declared.ending.Ending.{Ending}
 use Rattle.commands.specs.declared.ending.Ending.TheVariants.{Done, Refused}
 use Rattle.commands.specs.declared.fault.Fault.{Fault}
 use Rattle.commands.specs.Output.{LeavesAny}
-
--- the line that refuses a text (docs/COMMANDS.md, "What asm prints")
-abbrev pub text_refusal : TextError → List ℕ
-text_refusal error = codes "refused text " ++ text_error_text error
+use Rattle.commands.specs.Rejections.{unread_line}
 
 -- a text that isn't too long to be read means this program, or it means none
 abbrev pub ReadsAsmText : List ℕ → Result (List Insn) TextError → Type 0
@@ -30,7 +27,7 @@ program_text list text program = if list then text_listing text (image_of progra
 -- the same, or the line of the refusal
 abbrev pub assembled : Bool → List ℕ → Result (List Insn) TextError → List ℕ
 assembled list text (Ok program) = program_text list text program
-assembled list text (Err error) = text_refusal error ++ codes "\n"
+assembled list text (Err error) = unread_line (Text error) ++ codes "\n"
 
 abbrev pub assembled_ending : Result (List Insn) TextError → Ending
 assembled_ending (Ok program) = Done

@@ -1,24 +1,22 @@
 -- What `compile` leaves on its output (docs/COMMANDS.md, "What compile prints").
-use Rattle.std.specs.Prelude.{◌≡◌, ℕ, Bool, true, false, List, ◌++◌, codes, Option, Result}
-use Rattle.std.specs.Fmt.{decimal}
+use Rattle.std.specs.Prelude.{◌≡◌, ℕ, Bool, true, false, List, ◌++◌, codes, Option, Result, Ok, Err, Vec}
+use Rattle.std.specs.declared.alloc.Global.{Global}
 use Rattle.bpf_insn.specs.declared.forms.Insn.{Insn}
 use Rattle.bpf_insn.specs.Programs.{image_of}
 use Rattle.clock_nodes.specs.Rule.{IsRule}
 use Rattle.rule_nodes.specs.Ends.{sizes_of}
 use Rattle.rule_nodes.specs.declared.syntax.Sizes as rules
 use Rattle.rule_listing.specs.Listing.{IsListingOf}
-use Rattle.rule_text.specs.Programs.{IsProgramOfText, IsRefusalOfText, error_name}
-use Rattle.rule_text.specs.declared.program.RuleRefusal.TheVariants.{Text, NoRoom, TooLong}
-use Rattle.commands.specs.declared.compile.Uncompiled.{Uncompiled}
-use Rattle.commands.specs.declared.compile.Uncompiled.TheVariants.{Shape, Sizes, Rule}
-use Rattle.commands.specs.declared.compile.Compiled.{Compiled}
-use Rattle.commands.specs.declared.compile.Compiled.TheVariants.{Bytes, Refused}
+use Rattle.rule_text.specs.Programs.{IsProgramOfText, IsRefusalOfText}
+use Rattle.commands.specs.declared.rejection.Uncompiled.{Uncompiled}
+use Rattle.commands.specs.declared.rejection.Uncompiled.TheVariants.{Shape, Sizes, Rule}
 use Rattle.commands.specs.declared.ending.Ending.{Ending}
-use Rattle.commands.specs.declared.ending.Ending.TheVariants as endings
+use Rattle.commands.specs.declared.ending.Ending.TheVariants.{Done, Refused}
 use Rattle.commands.specs.declared.fault.Fault.{Fault}
 use Rattle.commands.specs.declared.request.CompileOptions.{CompileOptions}
 use Rattle.commands.specs.Image.{HasShape, asked_extent}
 use Rattle.commands.specs.Output.{LeavesAny}
+use Rattle.commands.specs.Rejections.{uncompiled_line}
 
 -- the numbers that the program is asked for
 abbrev pub asked_sizes : CompileOptions → rules.Sizes
@@ -29,32 +27,24 @@ abbrev pub IsCompiledText : Bool → rules.Sizes → List ℕ → List Insn → 
 IsCompiledText true z text program bytes = IsListingOf z text program bytes
 IsCompiledText false z text program bytes = bytes ≡ image_of program
 
--- the program of the text, or why it has none: the shape comes first, then the sizes, then what is wrong with the text
-abbrev pub Compiles : CompileOptions → List ℕ → Compiled → Type 0
-Compiles asked text (Bytes bytes) = (program : List Insn) × IsProgramOfText (asked_sizes asked) text program
+-- the image or the listing of the program of the text, or why it has none: the shape comes first, then the sizes, then
+-- what is wrong with the text
+abbrev pub Compiles : CompileOptions → List ℕ → Result (Vec ℕ Global) Uncompiled → Type 0
+Compiles asked text (Ok bytes) = (program : List Insn) × IsProgramOfText (asked_sizes asked) text program
     × IsCompiledText asked.list (asked_sizes asked) text program bytes.items
-Compiles asked text (Refused Shape) = HasShape asked.shape → ⊥
-Compiles asked text (Refused Sizes) =
+Compiles asked text (Err Shape) = HasShape asked.shape → ⊥
+Compiles asked text (Err Sizes) =
     HasShape asked.shape × (IsRule asked.shape.nodes asked.faults asked.modulus → ⊥)
-Compiles asked text (Refused (Rule refusal)) = IsRefusalOfText (asked_sizes asked) text refusal
-
--- the line of a refusal, without its end
-abbrev pub uncompiled_line : Uncompiled → List ℕ
-uncompiled_line Shape = codes "refused shape"
-uncompiled_line Sizes = codes "refused sizes"
-uncompiled_line (Rule (Text error line column)) = codes "refused rule " ++ (error_name error
-    ++ (codes " line " ++ (decimal line ++ (codes " column " ++ decimal column))))
-uncompiled_line (Rule NoRoom) = codes "refused rule NoRoom"
-uncompiled_line (Rule TooLong) = codes "refused rule TooLong"
+Compiles asked text (Err (Rule refusal)) = IsRefusalOfText (asked_sizes asked) text refusal
 
 -- what is printed: the image or the listing of the program, or the line of the refusal
-abbrev pub compiled_text : Compiled → List ℕ
-compiled_text (Bytes bytes) = bytes.items
-compiled_text (Refused error) = uncompiled_line error ++ codes "\n"
+abbrev pub compiled_text : Result (Vec ℕ Global) Uncompiled → List ℕ
+compiled_text (Ok bytes) = bytes.items
+compiled_text (Err why) = uncompiled_line why ++ codes "\n"
 
-abbrev pub compiled_ending : Compiled → Ending
-compiled_ending (Bytes bytes) = endings.Done
-compiled_ending (Refused error) = endings.Refused
+abbrev pub compiled_ending : Result (Vec ℕ Global) Uncompiled → Ending
+compiled_ending (Ok bytes) = Done
+compiled_ending (Err why) = Refused
 
 -- what is printed of the rule of these bytes, or the line that refuses them
 abbrev pub LeavesCompiled : Option (List ℕ) → Option (List ℕ) → CompileOptions → List ℕ → Result Ending Fault → Type 0

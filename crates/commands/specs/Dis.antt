@@ -8,16 +8,21 @@ use Rattle.clock_nodes.specs.Listings.{clock_listing}
 use Rattle.commands.specs.declared.ending.Ending.{Ending}
 use Rattle.commands.specs.declared.ending.Ending.TheVariants.{Done, Refused}
 use Rattle.commands.specs.declared.fault.Fault.{Fault}
-use Rattle.commands.specs.declared.image.Refusal.TheVariants.{Image}
-use Rattle.commands.specs.Image.{ReadsImage, image_refusal_line}
+use Rattle.commands.specs.declared.rejection.Unread.TheVariants.{Image}
+use Rattle.commands.specs.Image.{ReadsImage}
 use Rattle.commands.specs.declared.request.ClockOptions.{ClockOptions}
 use Rattle.commands.specs.Output.{Leaves, LeavesAny}
+use Rattle.commands.specs.Rejections.{unread_line}
 
--- what is printed: the canonical text of the program, or its listing where that is asked for, or the line of the
--- refusal (docs/COMMANDS.md, "What dis prints")
+-- what is printed of a program: its canonical text, or its listing where that is asked for (docs/COMMANDS.md, "What dis
+-- prints")
+abbrev pub dis_text : Bool → List Insn → List ℕ
+dis_text list program = if list then program_listing program else canonical_text program
+
+-- the same, or the line of the refusal
 abbrev pub listing_text : Bool → Result (List Insn) ImageError → List ℕ
-listing_text list (Ok program) = if list then program_listing program else canonical_text program
-listing_text list (Err error) = image_refusal_line (Image error) ++ codes "\n"
+listing_text list (Ok program) = dis_text list program
+listing_text list (Err error) = unread_line (Image error) ++ codes "\n"
 
 abbrev pub listing_ending : Result (List Insn) ImageError → Ending
 listing_ending (Ok program) = Done
@@ -30,4 +35,4 @@ LeavesListing old new list bytes result =
 
 -- the same of the clock of a rule (docs/CLOCK.md, "The programs")
 abbrev pub LeavesClock : Option (List ℕ) → Option (List ℕ) → ClockOptions → Result Ending Fault → Type 0
-LeavesClock old new asked ended = Leaves old new (listing_text asked.list (Ok (clock_listing asked.rule))) Done ended
+LeavesClock old new asked ended = Leaves old new (dis_text asked.list (clock_listing asked.rule)) Done ended

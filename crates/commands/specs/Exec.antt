@@ -1,5 +1,5 @@
 -- What `exec` leaves on its output.
-use Rattle.std.specs.Prelude.{◌≡◌, ◌⊎◌, ℕ, Bool, true, false, List, ◌++◌, take, Option, Result, Ok, Err}
+use Rattle.std.specs.Prelude.{◌≡◌, ◌⊎◌, ℕ, Bool, true, false, List, ◌++◌, codes, take, Option, Result, Ok, Err}
 use Rattle.std.specs.Io.KnownBytes.{Appends}
 use Rattle.bpf_insn.specs.declared.forms.Insn.{Insn}
 use Rattle.bpf_machine.specs.declared.word.Outcome.{Outcome}
@@ -9,28 +9,23 @@ use Rattle.run_trace.specs.Steps.{TracedStep, steps_of}
 use Rattle.stream_io.specs.Parts.{Breaks}
 use Rattle.commands.specs.declared.request.ExecOptions.{ExecOptions}
 use Rattle.commands.specs.declared.answer.Answer.{Answer}
-use Rattle.commands.specs.declared.answer.Answer.TheVariants as answers
 use Rattle.commands.specs.declared.ending.Ending.{Ending}
-use Rattle.commands.specs.declared.ending.Ending.TheVariants.{Done}
+use Rattle.commands.specs.declared.ending.Ending.TheVariants.{Done, Refused}
 use Rattle.commands.specs.declared.fault.Fault.{Fault}
 use Rattle.commands.specs.declared.fault.Fault.TheVariants as faults
-use Rattle.commands.specs.declared.input.Unread.{Unread}
-use Rattle.commands.specs.Answer.{AnswersLeaving, ending_of, text_of, told_text}
+use Rattle.commands.specs.declared.rejection.Unread.{Unread}
+use Rattle.commands.specs.Answer.{AnswersLeaving, answered_ending, answered_text, told_text}
 use Rattle.commands.specs.Case.{Left, case_memory, case_setting}
 use Rattle.commands.specs.Image.{HasShape, asked_extent}
 use Rattle.commands.specs.Input.{IsProgramOfInput, IsUnread}
 use Rattle.commands.specs.Output.{Leaves, LeavesAny, LeavesNothing}
-
--- The whole line of an answer, or its first bytes where a write failed; and nothing where memory ran out. No other
--- fault comes.
-abbrev pub LeavesLine : Option (List ℕ) → Option (List ℕ) → Answer → Result Ending Fault → Type 0
-LeavesLine old new answer result = Leaves old new (text_of answer) (ending_of answer) result
+use Rattle.commands.specs.Rejections.{unread_line}
 
 -- the line of the answer to these bytes, and what the run left, where that is asked for
 abbrev pub LeavesAnswer : Option (List ℕ) → Option (List ℕ) → ExecOptions → List ℕ → Result Ending Fault → Type 0
 LeavesAnswer old new asked bytes result =
-    LeavesAny {A = Answer × Left} (λ a. AnswersLeaving asked bytes a.0 a.1) (λ a. told_text asked a.0 a.1)
-    (λ a. ending_of a.0) old new result
+    LeavesAny {A = Result Answer Unread × Left} (λ a. AnswersLeaving asked bytes a.0 a.1)
+    (λ a. answered_text asked a.0 a.1) (λ a. answered_ending a.0) old new result
 
 -- ---- a trace (docs/COMMANDS.md, "A trace")
 
@@ -54,7 +49,7 @@ pub record RunsProgram (asked : ExecOptions) (program : List Insn) (outcome : Ou
 -- the lines of the steps, and behind them what is told of the outcome
 abbrev pub traced_text : ExecOptions → List Insn → Outcome → Left → List ℕ
 traced_text asked program outcome left =
-    case_trace asked program ++ told_text asked (answers.Ran outcome asked.fuel) left
+    case_trace asked program ++ told_text asked (record { outcome = outcome; fuel = asked.fuel }) left
 
 -- a whole traced text of a program
 pub record Traces (asked : ExecOptions) (program : List Insn) (text : List ℕ) : Type 0 where
@@ -87,7 +82,7 @@ abbrev pub LeavesTraced : Option (List ℕ) → Option (List ℕ) → ExecOption
 LeavesTraced old new asked bytes result =
     ((program : List Insn) × ReadsProgram asked bytes program × LeavesSteps old new asked program result)
     ⊎ (((unread : Unread) × IsUnread asked.shape asked.text bytes unread
-    × LeavesLine old new (answers.Refused unread) result) ⊎ LeavesNothing old new result)
+    × Leaves old new (unread_line unread ++ codes "\n") Refused result) ⊎ LeavesNothing old new result)
 
 -- with or without the lines of the steps
 abbrev pub LeavesBy : Bool → Option (List ℕ) → Option (List ℕ) → ExecOptions → List ℕ → Result Ending Fault → Type 0

@@ -14,13 +14,14 @@ use Rattle.bpf_explain.specs.Reasons.{reason_in}
 use Rattle.commands.specs.declared.request.ExplainOptions.{ExplainOptions}
 use Rattle.commands.specs.declared.verdict.Verdict.{Verdict}
 use Rattle.commands.specs.declared.verdict.Verdict.TheVariants.{Accepted, Refused}
-use Rattle.commands.specs.declared.input.Unread.{Unread}
+use Rattle.commands.specs.declared.rejection.Unread.{Unread}
 use Rattle.commands.specs.declared.ending.Ending.{Ending}
 use Rattle.commands.specs.declared.ending.Ending.TheVariants as endings
 use Rattle.commands.specs.declared.fault.Fault.{Fault}
 use Rattle.commands.specs.Image.{HasShape, asked_extent}
-use Rattle.commands.specs.Input.{IsProgramOfInput, IsUnread, unread_line}
+use Rattle.commands.specs.Input.{IsProgramOfInput, IsUnread}
 use Rattle.commands.specs.Output.{LeavesAny}
+use Rattle.commands.specs.Rejections.{unread_line}
 use Rattle.commands.specs.Verdict.{verdict_ending, verdict_line}
 
 -- a text, and how the command ends that wrote it

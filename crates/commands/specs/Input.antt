@@ -1,19 +1,63 @@
--- The program on standard input: that of an image, or of a text where that is asked for.
-use Rattle.std.specs.Prelude.{◌≡◌, ℕ, ◌+◌, List, Bool, true, false, Ok, Err}
+-- What a request reads, and why the bytes may have no program (docs/COMMANDS.md).
+use Rattle.std.specs.Prelude.{◌≡◌, ℕ, ◌+◌, List, Bool, true, false, Option, Ok, Err}
+use Rattle.bench_scenario.specs.declared.run.TheConstants.{MAX_BYTES}
 use Rattle.bpf_insn.specs.declared.forms.Insn.{Insn}
-use Rattle.commands.specs.declared.asm.TheConstants.{TEXT_BYTES}
-use Rattle.commands.specs.declared.image.TheConstants.{IMAGE_BYTES}
-use Rattle.commands.specs.declared.image.Refusal.TheVariants.{Shape, Image}
-use Rattle.commands.specs.declared.input.Unread.{Unread}
-use Rattle.commands.specs.declared.input.Unread.TheVariants.{Refused, Text}
+use Rattle.stream_io.specs.Streams.{TakesAtMost}
+use Rattle.commands.specs.declared.input.TheConstants.{IMAGE_BYTES, TEXT_BYTES}
+use Rattle.commands.specs.declared.input.Input.{Input}
+use Rattle.commands.specs.declared.input.Input.TheVariants as inputs
+use Rattle.commands.specs.declared.rejection.Unread.{Unread}
+use Rattle.commands.specs.declared.rejection.Unread.TheVariants.{Shape, Image, Text}
+use Rattle.commands.specs.declared.request.Request.{Request}
+use Rattle.commands.specs.declared.request.Request.TheVariants as requests
 use Rattle.commands.specs.declared.request.ShapeOptions.{ShapeOptions}
-use Rattle.commands.specs.Asm.{ReadsAsmText, text_refusal}
-use Rattle.commands.specs.Image.{HasShape, ReadsImage, image_refusal_line}
+use Rattle.commands.specs.Asm.{ReadsAsmText}
+use Rattle.commands.specs.Image.{HasShape, ReadsImage}
 
--- the most bytes that are read of a text, or of an image: one more than it may have
+-- ---- what is read
+
+-- the most bytes that are read of an input: one more than it may have
+abbrev pub max_bytes : Input → ℕ
+max_bytes inputs.Nothing = 0
+max_bytes inputs.Image = IMAGE_BYTES
+max_bytes inputs.Text = TEXT_BYTES + 1
+max_bytes inputs.Scenario = MAX_BYTES
+
+-- how much is taken of an input at most
+abbrev pub Takes : Input → Option (List ℕ) → Option (List ℕ) → Type 0
+Takes inputs.Nothing old new = new ≡ old
+Takes inputs.Image old new = TakesAtMost IMAGE_BYTES old new
+Takes inputs.Text old new = TakesAtMost (TEXT_BYTES + 1) old new
+Takes inputs.Scenario old new = TakesAtMost MAX_BYTES old new
+
+-- a text, if that is asked for, or an image
+abbrev pub program_input : Bool → Input
+program_input true = inputs.Text
+program_input false = inputs.Image
+
+-- the most bytes that are read of a text, or of an image
 abbrev pub most_read : Bool → ℕ
-most_read true = TEXT_BYTES + 1
-most_read false = IMAGE_BYTES
+most_read text = max_bytes (program_input text)
+
+-- what is read if the options have a shape, and nothing if they have none
+pub record IsShapedInput (asked : ShapeOptions) (wanted input : Input) : Type 0 where
+  pub shaped : HasShape asked → input ≡ wanted
+  pub unshaped : (HasShape asked → ⊥) → input ≡ inputs.Nothing
+
+-- what a request reads
+abbrev pub IsInputOf : Request → Input → Type 0
+IsInputOf (requests.Exec asked) input = IsShapedInput asked.shape (program_input asked.text) input
+IsInputOf (requests.Asm list) input = input ≡ inputs.Text
+IsInputOf (requests.Compile asked) input = input ≡ inputs.Text
+IsInputOf (requests.Dis list) input = input ≡ inputs.Image
+IsInputOf (requests.Clock asked) input = input ≡ inputs.Nothing
+IsInputOf (requests.Verify asked) input = IsShapedInput asked inputs.Image input
+IsInputOf (requests.Explain asked) input = IsShapedInput asked.shape (program_input asked.text) input
+IsInputOf (requests.Scenario asked) input = input ≡ inputs.Scenario
+IsInputOf (requests.Stress asked) input = input ≡ inputs.Nothing
+IsInputOf (requests.Help text) input = input ≡ inputs.Nothing
+
+-- ---- what it is
 
 -- the bytes are a text that means this program, or its image (RFC 9669, section 3)
 abbrev pub IsProgramOfInput : Bool → List ℕ → List Insn → Type 0
@@ -22,11 +66,6 @@ IsProgramOfInput false bytes program = ReadsImage bytes (Ok program)
 
 -- why these options and bytes have no program: the shape comes first. Want of memory is none
 abbrev pub IsUnread : ShapeOptions → Bool → List ℕ → Unread → Type 0
-IsUnread asked text bytes (Refused Shape) = HasShape asked → ⊥
-IsUnread asked text bytes (Refused (Image error)) = HasShape asked × (text ≡ false) × ReadsImage bytes (Err error)
+IsUnread asked text bytes Shape = HasShape asked → ⊥
+IsUnread asked text bytes (Image error) = HasShape asked × (text ≡ false) × ReadsImage bytes (Err error)
 IsUnread asked text bytes (Text error) = HasShape asked × (text ≡ true) × ReadsAsmText bytes (Err error)
-
--- the line of a refusal, without its end (docs/COMMANDS.md, "What exec prints")
-abbrev pub unread_line : Unread → List ℕ
-unread_line (Refused refusal) = image_refusal_line refusal
-unread_line (Text error) = text_refusal error

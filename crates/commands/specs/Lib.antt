@@ -22,4 +22,5 @@ pub mod TracedRun
 pub mod NodeProgram
 pub mod Scenarios
 pub mod Perform
+pub mod Rejections
 pub mod inner

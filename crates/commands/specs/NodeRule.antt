@@ -1,5 +1,5 @@
 -- The rule of a scenario that has a node's program, and the lines of both (docs/RULES.md, "Lines and instructions").
-use Rattle.std.specs.Prelude.{◌≡◌, ◌⊎◌, ℕ, List, Option, Some, None, Bool, true, false, Ok, Contains, MatchOption}
+use Rattle.std.specs.Prelude.{◌≡◌, ◌⊎◌, ℕ, List, Option, Some, None, Bool, true, false, Contains, MatchOption}
 use Rattle.bpf_insn.specs.declared.forms.Insn.{Insn}
 use Rattle.rule_nodes.specs.declared.syntax.Sizes.{Sizes}
 use Rattle.rule_text.specs.Programs.{IsProgramOfText}
@@ -13,7 +13,7 @@ use Rattle.scenario_text.specs.declared.scenario.Kind.TheVariants.{Rule}
 use Rattle.scenario_text.specs.Drafts.{LoadDraft, TextDraft, assembler_text, rule_text}
 use Rattle.scenario_text.specs.Spelling.{sizes_in}
 use Rattle.scenario_text.specs.Views.{draft_of, frame_of}
-use Rattle.commands.specs.Dis.{listing_text}
+use Rattle.commands.specs.Dis.{dis_text}
 
 -- ---- which rule it is
 
@@ -56,6 +56,6 @@ AreStepLines z program (Some text) steps told =
 
 -- the text of a program, or its listing: of a rule's program below the lines of the rule
 abbrev pub IsProgramText : Sizes → List Insn → Option (List ℕ) → Bool → List ℕ → Type 0
-IsProgramText z program rule false told = told ≡ listing_text false (Ok program)
-IsProgramText z program None true told = told ≡ listing_text true (Ok program)
+IsProgramText z program rule false told = told ≡ dis_text false program
+IsProgramText z program None true told = told ≡ dis_text true program
 IsProgramText z program (Some text) true told = IsListingOf z text program told

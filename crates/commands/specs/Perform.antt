@@ -1,12 +1,10 @@
 -- What the program does for a request: what it takes, what it leaves and says, and its exit status (docs/COMMANDS.md).
 use Rattle.std.specs.Prelude.{◌≡◌, ◌⊎◌, ℕ, ◌+◌, List, Option, Result, Ok, Err, IfSome, string_bytes, take}
-use Rattle.stream_io.specs.Streams.{TakesAtMost}
-use Rattle.commands.specs.declared.asm.TheConstants.{TEXT_BYTES}
 use Rattle.commands.specs.declared.ending.Ending.{Ending}
 use Rattle.commands.specs.declared.ending.Ending.TheVariants.{Violated, Done, Mismatched, Refused, Unfinished}
 use Rattle.commands.specs.declared.fault.Fault.{Fault}
-use Rattle.commands.specs.declared.image.TheConstants.{IMAGE_BYTES}
-use Rattle.commands.specs.declared.request.ShapeOptions.{ShapeOptions}
+use Rattle.commands.specs.declared.input.TheConstants.{IMAGE_BYTES, TEXT_BYTES}
+use Rattle.commands.specs.declared.input.Input.{Input}
 use Rattle.commands.specs.declared.request.Request.{Request}
 use Rattle.commands.specs.declared.request.Request.TheVariants.{Exec, Asm, Compile, Dis, Clock, Verify, Explain, Scenario, Stress, Help}
 use Rattle.commands.specs.Asm.{LeavesImage}
@@ -16,11 +14,9 @@ use Rattle.commands.specs.Ending.{status_of}
 use Rattle.commands.specs.Exec.{LeavesExec}
 use Rattle.commands.specs.Explained.{LeavesExplained}
 use Rattle.commands.specs.Faults.{Says, fault_status, fault_text}
-use Rattle.commands.specs.Image.{HasShape}
-use Rattle.commands.specs.Input.{most_read}
+use Rattle.commands.specs.Input.{IsInputOf, Takes, most_read}
 use Rattle.commands.specs.Output.{Leaves}
 use Rattle.rule_notes.specs.Words.{IsNote}
-use Rattle.bench_scenario.specs.declared.run.TheConstants.{MAX_BYTES}
 use Rattle.commands.specs.Scenarios.{LeavesFor}
 use Rattle.commands.specs.Stress.{LeavesStressed}
 use Rattle.commands.specs.Verdict.{LeavesVerdict}
@@ -74,21 +70,6 @@ pub record PerformsRequest (request : Request) (input old new said_old said_new 
   pub answer : status ≡ status_for ended
   pub said : SaysOf ended said_old said_new
 
--- nothing is taken where the options have no shape
-abbrev pub TakesShaped : ShapeOptions → Option (List ℕ) → Option (List ℕ) → Type 0
-TakesShaped asked old new = TakesAtMost IMAGE_BYTES old new × ((HasShape asked → ⊥) → new ≡ old)
-
--- how much of its input a command takes at most, whatever comes of it
+-- how much of its input a command takes at most, whatever comes of it: nothing if its options have no shape
 abbrev pub TakesFor : Request → Option (List ℕ) → Option (List ℕ) → Type 0
-TakesFor (Exec asked) old new =
-    TakesAtMost (most_read asked.text) old new × ((HasShape asked.shape → ⊥) → new ≡ old)
-TakesFor (Asm list) old new = TakesAtMost (TEXT_BYTES + 1) old new
-TakesFor (Compile asked) old new = TakesAtMost (TEXT_BYTES + 1) old new
-TakesFor (Dis list) old new = TakesAtMost IMAGE_BYTES old new
-TakesFor (Clock asked) old new = new ≡ old
-TakesFor (Verify asked) old new = TakesShaped asked old new
-TakesFor (Explain asked) old new =
-    TakesAtMost (most_read asked.text) old new × ((HasShape asked.shape → ⊥) → new ≡ old)
-TakesFor (Stress asked) old new = new ≡ old
-TakesFor (Scenario asked) old new = TakesAtMost MAX_BYTES old new
-TakesFor (Help text) old new = new ≡ old
+TakesFor request old new = (input : Input) × IsInputOf request input × Takes input old new

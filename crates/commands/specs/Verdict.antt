@@ -1,6 +1,6 @@
 -- What `verify` answers to the bytes that it read, the line that says it, and what it leaves on its output
 -- (docs/COMMANDS.md, "What verify prints").
-use Rattle.std.specs.Prelude.{◌≡◌, ℕ, List, ◌++◌, codes, Option, Result}
+use Rattle.std.specs.Prelude.{◌≡◌, ℕ, List, ◌++◌, codes, false, Option, Result, Ok, Err}
 use Rattle.std.specs.Fmt.{decimal}
 use Rattle.node_env.specs.Env.{Extent}
 use Rattle.bpf_insn.specs.declared.forms.Insn.{Insn}
@@ -11,18 +11,20 @@ use Rattle.bpf_verify.specs.Rules.{rule_number}
 use Rattle.bpf_verify.specs.Typable.{Typable}
 use Rattle.commands.specs.declared.request.ShapeOptions.{ShapeOptions}
 use Rattle.commands.specs.declared.verdict.Verdict.{Verdict}
-use Rattle.commands.specs.declared.verdict.Verdict.TheVariants.{NoProgram, Accepted, Refused}
+use Rattle.commands.specs.declared.verdict.Verdict.TheVariants.{Accepted, Refused}
 use Rattle.commands.specs.declared.ending.Ending.{Ending}
 use Rattle.commands.specs.declared.ending.Ending.TheVariants as endings
 use Rattle.commands.specs.declared.fault.Fault.{Fault}
-use Rattle.commands.specs.Image.{HasShape, IsRefused, asked_extent, image_refusal_line}
-use Rattle.commands.specs.Output.{Leaves, LeavesAny}
+use Rattle.commands.specs.declared.rejection.Unread.{Unread}
+use Rattle.commands.specs.Image.{HasShape, asked_extent}
+use Rattle.commands.specs.Input.{IsUnread}
+use Rattle.commands.specs.Output.{LeavesAny}
+use Rattle.commands.specs.Rejections.{unread_line}
 
 -- the program keeps the rules, and these are its slots and the instructions on its longest path; or this slot is the
 -- first that can't be typed
 -- (docs/VERIFIER.md, "What is accepted", "The longest path")
 abbrev pub JudgesProgram : List Insn → Extent → Verdict → Type 0
-JudgesProgram program shape (NoProgram refusal) = ⊥
 JudgesProgram program shape (Accepted slots announced) = Typable program shape × (slots ≡ slots_of program)
     × IsLongestPath program announced
 JudgesProgram program shape (Refused slot rule) = IsFirstBroken program shape slot
@@ -34,24 +36,26 @@ pub record JudgesImage (shape : Extent) (bytes : List ℕ) (verdict : Verdict) :
   pub image : bytes ≡ image_of program
   pub judged : JudgesProgram program shape verdict
 
--- the verdict on these bytes under these options. Want of memory is none
-abbrev pub Judges : ShapeOptions → List ℕ → Verdict → Type 0
-Judges asked bytes (NoProgram refusal) = IsRefused asked bytes refusal
-Judges asked bytes (Accepted slots announced) = HasShape asked
-    × JudgesImage (asked_extent asked) bytes (Accepted slots announced)
-Judges asked bytes (Refused slot rule) = HasShape asked × JudgesImage (asked_extent asked) bytes (Refused slot rule)
+-- the verdict on these bytes under these options, or why there is no program. Want of memory is none
+abbrev pub Judges : ShapeOptions → List ℕ → Result Verdict Unread → Type 0
+Judges asked bytes (Ok verdict) = HasShape asked × JudgesImage (asked_extent asked) bytes verdict
+Judges asked bytes (Err unread) = IsUnread asked false bytes unread
 
 -- the two say the same, but for the rule that a refusal names
 abbrev pub SameVerdict : Verdict → Verdict → Type 0
-SameVerdict (NoProgram refusal) (NoProgram other) = refusal ≡ other
 SameVerdict (Accepted slots announced) (Accepted others count) = (slots ≡ others) × (announced ≡ count)
 SameVerdict (Refused slot rule) (Refused place other) = slot ≡ place
 SameVerdict verdict other = ⊥
 
+abbrev pub SameJudgement : Result Verdict Unread → Result Verdict Unread → Type 0
+SameJudgement (Ok verdict) (Ok other) = SameVerdict verdict other
+SameJudgement (Ok verdict) (Err other) = ⊥
+SameJudgement (Err unread) (Ok other) = ⊥
+SameJudgement (Err unread) (Err other) = unread ≡ other
+
 -- ---- the line of a verdict, without its end
 
 abbrev pub verdict_line : Verdict → List ℕ
-verdict_line (NoProgram refusal) = image_refusal_line refusal
 verdict_line (Accepted slots announced) = codes "accepted slots "
     ++ (decimal slots ++ (codes " announced " ++ decimal announced))
 verdict_line (Refused slot rule) = codes "refused rule "
@@ -63,17 +67,19 @@ text_of_verdict verdict = verdict_line verdict ++ codes "\n"
 
 -- how the command ends that wrote it
 abbrev pub verdict_ending : Verdict → Ending
-verdict_ending (NoProgram refusal) = endings.Refused
 verdict_ending (Accepted slots announced) = endings.Done
 verdict_ending (Refused slot rule) = endings.Refused
 
+-- the line of the verdict on these bytes, or of the refusal
+abbrev pub judged_text : Result Verdict Unread → List ℕ
+judged_text (Ok verdict) = text_of_verdict verdict
+judged_text (Err unread) = unread_line unread ++ codes "\n"
+
+abbrev pub judged_ending : Result Verdict Unread → Ending
+judged_ending (Ok verdict) = verdict_ending verdict
+judged_ending (Err unread) = endings.Refused
+
 -- ---- what is left on the output
 
--- the whole line of a verdict, or its first bytes where a write failed; and nothing where memory ran out. No other
--- fault comes
-abbrev pub LeavesVerdictLine : Option (List ℕ) → Option (List ℕ) → Verdict → Result Ending Fault → Type 0
-LeavesVerdictLine old new verdict result = Leaves old new (text_of_verdict verdict) (verdict_ending verdict) result
-
--- the line of the verdict on these bytes
 abbrev pub LeavesVerdict : Option (List ℕ) → Option (List ℕ) → ShapeOptions → List ℕ → Result Ending Fault → Type 0
-LeavesVerdict old new asked bytes result = LeavesAny (Judges asked bytes) text_of_verdict verdict_ending old new result
+LeavesVerdict old new asked bytes result = LeavesAny (Judges asked bytes) judged_text judged_ending old new result

@@ -1,18 +1,15 @@
 //! `verify --text`, `verify --explain`: the verdict on a text or an image, and what is known at its slots.
-ghost use Rattle.std.specs.Prelude.{◌≡◌, ℕ, List, IfOk, IfErr, IfSome, string_bytes, take};
-ghost use Rattle.stream_io.specs.Streams.{TakesAtMost};
+ghost use Rattle.std.specs.Prelude.{◌≡◌, ℕ, List, IfOk, IfErr, string_bytes};
 ghost use Rattle.bpf_verify.specs.Findings.{AreFindings};
 ghost use Rattle.commands.specs.Explained as told_specs;
 ghost use Rattle.commands.specs.Faults.{IsBeforeWriting};
-ghost use Rattle.commands.specs.Image.{HasShape, asked_extent};
-ghost use Rattle.commands.specs.Input.{most_read, unread_line};
-ghost use Rattle.commands.specs.Perform.{SaysAt};
+ghost use Rattle.commands.specs.Image.{asked_extent};
+ghost use Rattle.commands.specs.Output.{LeavesAny};
 
 use crate::ending::Ending;
 use crate::fault::Fault;
-use crate::input::{ProgramRead, Unread, program_asked};
-use crate::note::tell_rejected_note;
 use crate::output::write_whole;
+use crate::program::ProgramRead;
 use crate::request::ExplainOptions;
 use crate::verdict::Verdict;
 use bpf_asm::instruction_lines;
@@ -21,7 +18,7 @@ use bpf_insn::Program;
 use bpf_verify::{Findings, explain};
 use node_env::Shape;
 use std::alloc::{AllocError, Global};
-use std::io::{Read, Write};
+use std::io::Write;
 
 /// What is told, and how the command ends that writes it.
 #[derive(Drop)]
@@ -119,19 +116,6 @@ fn explain_program(
     Ok(Told { text, ending })
 }
 
-/// Returns the line that refuses options, an image or a text.
-fn refused(alloc: Global, unread: Unread) -> Result<Told, Fault>
-    ensures told { IfOk result (λ told. told_specs.IsRefusedBy (unread_line unread)
-        (told_specs.explanation (string_bytes told.text) told.ending)) }
-    ensures fault { IfErr result IsBeforeWriting }
-{
-    let text = format!(in alloc; "{unread}\n").map_err(|_| Fault::Memory)?;
-    Ok(Told {
-        text,
-        ending: Ending::Refused,
-    })
-}
-
 /// Returns the lines of the instructions of a text; an image has none.
 fn lines_of(alloc: Global, text: bool, bytes: &[u8]) -> Result<Vec<usize>, AllocError>
     ensures { IfOk result (λ lines. lines.items ≡ told_specs.lines_read text bytes.now) }
@@ -143,48 +127,37 @@ fn lines_of(alloc: Global, text: bool, bytes: &[u8]) -> Result<Vec<usize>, Alloc
     }
 }
 
-/// Returns what is told of a program that was read.
-fn explain_read(alloc: Global, options: ExplainOptions, read: &ProgramRead) -> Result<Told, Fault>
+/// Returns what is told of a program that was read from these bytes.
+fn explain_read(
+    alloc: Global,
+    options: ExplainOptions,
+    read: &ProgramRead,
+    bytes: &[u8],
+) -> Result<Told, Fault>
     requires { read.now.shape ≡ asked_extent options.shape }
     ensures told { IfOk result (λ told. told_specs.ExplainsProgram options
-        (told_specs.lines_read options.text read.now.bytes.items) read.now.program
+        (told_specs.lines_read options.text bytes.now) read.now.program
         (told_specs.explanation (string_bytes told.text) told.ending)) }
     ensures fault { IfErr result IsBeforeWriting }
 {
-    let Ok(lines) = lines_of(alloc, options.text, read.bytes.as_slice()) else {
+    let Ok(lines) = lines_of(alloc, options.text, bytes) else {
         return Err(Fault::Memory);
     };
     explain_program(alloc, options, &read.program, lines.as_slice(), read.shape)
 }
 
-/// Writes what is told of the text or the image that is read. If the options have no shape, nothing is read. If the
-/// bytes are no image, a note is written to `err`.
-pub fn explained<R: Read, W: Write, E: Write>(
+/// Writes what is told of a program that was read from these bytes.
+pub(crate) fn explained<W: Write>(
     alloc: Global,
     options: ExplainOptions,
-    reader: &mut R,
+    read: &ProgramRead,
+    bytes: &[u8],
     out: &mut W,
-    err: &mut E,
 ) -> Result<Ending, Fault>
-    ensures told { IfSome (R.remaining reader.old) (λ input.
-        told_specs.LeavesExplained (W.contents out.old) (W.contents out.new) options
-        (take (most_read options.text) input) result) }
-    ensures said { IfOk result (λ ending. SaysAt ending (E.contents err.old) (E.contents err.new)) }
-    ensures unsaid { IfErr result (λ fault. E.contents err.new ≡ E.contents err.old) }
-    ensures unread { (HasShape options.shape → ⊥) → R.remaining reader.new ≡ R.remaining reader.old }
-    ensures front { TakesAtMost (most_read options.text) (R.remaining reader.old) (R.remaining reader.new) }
+    requires { read.now.shape ≡ asked_extent options.shape }
+    ensures { LeavesAny (told_specs.ExplainsProgram options (told_specs.lines_read options.text bytes.now)
+        read.now.program) (λ told. told.text) (λ told. told.ending) (W.contents out.old) (W.contents out.new) result }
 {
-    let found = program_asked(alloc, options.shape, options.text, reader)?;
-    match found {
-        Ok(read) => {
-            let told = explain_read(alloc, options, &read)?;
-            write_whole(out, told.text.as_bytes(), told.ending)
-        }
-        Err(rejected) => {
-            let told = refused(alloc, rejected.why)?;
-            let ending = write_whole(out, told.text.as_bytes(), told.ending)?;
-            tell_rejected_note(&rejected, err);
-            Ok(ending)
-        }
-    }
+    let told = explain_read(alloc, options, read, bytes)?;
+    write_whole(out, told.text.as_bytes(), told.ending)
 }

@@ -1,17 +1,16 @@
 //! Laws of answers, listings and verdicts.
-ghost use Rattle.std.specs.Prelude.{◌≡◌, List, Result, ℕ, false};
+ghost use Rattle.std.specs.Prelude.{◌≡◌, List, Ok, Result, ℕ, false};
 ghost use Rattle.bpf_insn.specs.declared.forms.Insn.{Insn};
 ghost use Rattle.bpf_insn.specs.declared.image.ImageError.{ImageError};
-ghost use Rattle.bpf_machine.specs.declared.word.Outcome.{Outcome};
 ghost use Rattle.commands.specs.declared.answer.Answer.{Answer};
-ghost use Rattle.commands.specs.declared.answer.Answer.TheVariants.{Ran};
+ghost use Rattle.commands.specs.declared.rejection.Unread.{Unread};
 ghost use Rattle.commands.specs.declared.request.ExecOptions.{ExecOptions};
 ghost use Rattle.commands.specs.declared.request.ShapeOptions.{ShapeOptions};
 ghost use Rattle.commands.specs.declared.verdict.Verdict.{Verdict};
 ghost use Rattle.commands.specs.Answer.{Answers, AnswersLeaving, SameAnswer};
 ghost use Rattle.commands.specs.Case.{Left};
 ghost use Rattle.commands.specs.Image.{ReadsImage};
-ghost use Rattle.commands.specs.Verdict.{Judges, SameVerdict};
+ghost use Rattle.commands.specs.Verdict.{Judges, SameJudgement};
 
 use bpf_asm::one_meaning;
 use bpf_insn::one_reading;
@@ -19,10 +18,10 @@ use bpf_machine::one_run;
 
 /// Bytes have at most one answer under given options, but for the error of a text that means no program.
 pub fn one_answer()
-    ensures same { (options : ExecOptions) (bytes : List ℕ) (answer other : Answer) → Answers options bytes answer
-        → Answers options bytes other → SameAnswer answer other }
-    ensures image { (options : ExecOptions) (bytes : List ℕ) (answer other : Answer) → options.text ≡ false
-        → Answers options bytes answer → Answers options bytes other → answer ≡ other }
+    ensures same { (options : ExecOptions) (bytes : List ℕ) (answer other : Result Answer Unread)
+        → Answers options bytes answer → Answers options bytes other → SameAnswer answer other }
+    ensures image { (options : ExecOptions) (bytes : List ℕ) (answer other : Result Answer Unread)
+        → options.text ≡ false → Answers options bytes answer → Answers options bytes other → answer ≡ other }
 {
     one_reading();
     one_meaning();
@@ -31,8 +30,8 @@ pub fn one_answer()
 
 /// States that a run leaves one memory, and sends one number or none to each node.
 pub fn one_left()
-    ensures { (options : ExecOptions) (bytes : List ℕ) (outcome : Outcome) (fuel : ℕ) (left other : Left)
-        → AnswersLeaving options bytes (Ran outcome fuel) left → AnswersLeaving options bytes (Ran outcome fuel) other
+    ensures { (options : ExecOptions) (bytes : List ℕ) (answer : Answer) (left other : Left)
+        → AnswersLeaving options bytes (Ok answer) left → AnswersLeaving options bytes (Ok answer) other
         → left ≡ other }
 {
     one_reading();
@@ -50,8 +49,8 @@ pub fn one_listing()
 
 /// Bytes have at most one verdict under given options, but for the rule that a refusal names.
 pub fn one_verdict()
-    ensures { (options : ShapeOptions) (bytes : List ℕ) (verdict other : Verdict) → Judges options bytes verdict
-        → Judges options bytes other → SameVerdict verdict other }
+    ensures { (options : ShapeOptions) (bytes : List ℕ) (verdict other : Result Verdict Unread)
+        → Judges options bytes verdict → Judges options bytes other → SameJudgement verdict other }
 {
     one_reading();
     bpf_verify::one_verdict();

@@ -2,16 +2,16 @@
 #![tactic(auto)]
 
 mod answer;
-pub mod asm;
+mod asm;
 mod case;
-pub mod compile;
-pub mod dis;
+mod compile;
+mod dis;
 mod ending;
-pub mod exec;
+mod exec;
 mod explanation;
 mod explore;
 mod fault;
-pub mod image;
+mod front;
 mod input;
 pub mod laws;
 mod left;
@@ -23,6 +23,8 @@ mod node_text;
 mod note;
 mod output;
 pub mod perform;
+mod program;
+mod rejection;
 pub mod request;
 mod run;
 mod scenario;
@@ -32,7 +34,7 @@ mod trace_note;
 mod traced;
 mod traced_run;
 mod verdict;
-pub mod verify;
+mod verify;
 
 pub use ending::Ending;
 pub use fault::Fault;

@@ -1,18 +1,18 @@
 //! What is said after a refusal: where it comes from.
 ghost use Rattle.rule_notes.specs.Words.{IsNote};
 ghost use Rattle.commands.specs.Perform.{SaysAt, SaysNote};
+ghost use Rattle.commands.specs.inner.Rejections.{IsNoted};
+ghost use Rattle.scenario_text.specs.Texts.{IsParsed};
 
-use crate::compile::Uncompiled;
 use crate::ending::Ending;
-use crate::image::Refusal;
-use crate::input::{Rejected, Unread};
-use crate::request::{NodeInPulse, ScenarioRequest, ShapeOptions};
+use crate::rejection::{Rejection, Uncompiled, Unread};
+use crate::request::{NodeInPulse, ScenarioRequest};
 use crate::trace_note::note_on_trace;
 use rule_notes::note_on_rule;
 use rule_text::{RuleRefusal, read_rule};
 use scenario_explorer::{Unfit, unfit_of};
 use scenario_notes::note_on;
-use scenario_text::{Scenario, ScenarioError};
+use scenario_text::{Rejected, Scenario};
 use std::alloc::Global;
 use std::io::Write;
 use std::str;
@@ -53,17 +53,37 @@ const NUMBERS_NOTE: &[u8] =
 const LONG_NOTE: &[u8] =
     b"note: a program has at most 2048 slots, and for and count are written out for each node: use fewer of both, or fewer --nodes\n";
 
-/// Says why a text has no program.
-pub(crate) fn tell_uncompiled_note<E: Write>(
+/// Says why these bytes were rejected, if there is something to say.
+pub(crate) fn tell_rejection_note<E: Write>(
     alloc: Global,
-    shape: ShapeOptions,
+    rejection: &Rejection,
+    bytes: &[u8],
+    err: &mut E,
+)
+    requires noted { IsNoted bytes.now rejection.now }
+    ensures { SaysNote (E.contents err.old) (E.contents err.new) }
+{
+    match rejection {
+        Rejection::Program(Unread::Image(_)) => tell_image_note(bytes, err),
+        Rejection::Program(Unread::Shape | Unread::Text(_)) => {}
+        Rejection::Rule { why, memory } => {
+            tell_uncompiled_note(alloc, *memory, bytes, *why, err);
+        }
+        Rejection::Scenario(rejected) => tell_rejected_note(alloc, bytes, rejected, err),
+    }
+}
+
+/// Says why a rule has no program, on nodes with this many bytes of memory.
+fn tell_uncompiled_note<E: Write>(
+    alloc: Global,
+    memory: u32,
     text: &[u8],
-    uncompiled: Uncompiled,
+    why: Uncompiled,
     err: &mut E,
 )
     ensures { SaysNote (E.contents err.old) (E.contents err.new) }
 {
-    match uncompiled {
+    match why {
         Uncompiled::Shape => say(SHAPE_NOTE, err),
         Uncompiled::Sizes => say(SIZES_NOTE, err),
         Uncompiled::Rule(
@@ -77,17 +97,17 @@ pub(crate) fn tell_uncompiled_note<E: Write>(
                 say(note.as_bytes(), err);
             }
         }
-        Uncompiled::Rule(RuleRefusal::NoRoom) => tell_room_note(alloc, shape, text, err),
+        Uncompiled::Rule(RuleRefusal::NoRoom) => tell_room_note(alloc, memory, text, err),
         Uncompiled::Rule(RuleRefusal::TooLong) => say(LONG_NOTE, err),
     }
 }
 
 /// Says what a rule has no room for.
-fn tell_room_note<E: Write>(alloc: Global, shape: ShapeOptions, text: &[u8], err: &mut E)
+fn tell_room_note<E: Write>(alloc: Global, memory: u32, text: &[u8], err: &mut E)
     ensures { SaysNote (E.contents err.old) (E.contents err.new) }
 {
     if let Ok(rule) = read_rule(alloc, text) {
-        if rule.words > (shape.memory / 4) as usize {
+        if rule.words > (memory / 4) as usize {
             say(WORDS_NOTE, err);
         } else {
             say(NUMBERS_NOTE, err);
@@ -95,18 +115,8 @@ fn tell_room_note<E: Write>(alloc: Global, shape: ShapeOptions, text: &[u8], err
     }
 }
 
-/// Says why there is no program: of an image what its bytes are, if that is known.
-pub(crate) fn tell_rejected_note<E: Write>(rejected: &Rejected, err: &mut E)
-    ensures { SaysNote (E.contents err.old) (E.contents err.new) }
-{
-    match rejected.why {
-        Unread::Refused(Refusal::Image(_)) => tell_image_note(rejected.bytes.as_slice(), err),
-        Unread::Refused(Refusal::Shape) | Unread::Text(_) => {}
-    }
-}
-
 /// Says what bytes are that are no image, if that is known.
-pub(crate) fn tell_image_note<E: Write>(image: &[u8], err: &mut E)
+fn tell_image_note<E: Write>(image: &[u8], err: &mut E)
     ensures { SaysNote (E.contents err.old) (E.contents err.new) }
 {
     if image.starts_with(ELF_BEGINNING) {
@@ -208,16 +218,12 @@ fn unexplored_note(unfit: Unfit) -> &'static [u8]
     }
 }
 
-/// Says where a scenario's text is refused, if there is something to say.
-pub(crate) fn tell_error_note<E: Write>(
-    alloc: Global,
-    text: &[u8],
-    error: &ScenarioError,
-    err: &mut E,
-)
+/// Says where a scenario's text is rejected, if there is something to say.
+fn tell_rejected_note<E: Write>(alloc: Global, text: &[u8], rejected: &Rejected, err: &mut E)
+    requires parsed { IsParsed text.now rejected.now.parsed }
     ensures { SaysNote (E.contents err.old) (E.contents err.new) }
 {
-    if let Ok(Some(note)) = note_on(alloc, text, error) {
+    if let Ok(Some(note)) = note_on(alloc, text, rejected) {
         say(note.as_bytes(), err);
     }
 }

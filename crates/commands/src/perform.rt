@@ -1,19 +1,18 @@
 //! A request, from its command to the exit status.
 ghost use Rattle.std.specs.Prelude.{◌≡◌, IfErr, IfOk};
 ghost use Rattle.commands.specs.Perform.{CarriesOut, PerformsRequest, SaysAt, TakesFor};
+ghost use Rattle.commands.specs.inner.Perform.{Responds};
 
-use crate::asm::asm;
-use crate::compile::compile;
-use crate::dis::{clock, dis};
+use crate::dis::clock;
 use crate::ending::Ending;
-use crate::exec::exec;
-use crate::explanation::explained;
 use crate::fault::Fault;
+use crate::front::{
+    asm_bytes, compile_bytes, dis_bytes, exec_bytes, explain_bytes, scenario_bytes, verify_bytes,
+};
+use crate::input::read_input;
 use crate::output::write_whole;
 use crate::request::Request;
-use crate::scenario::on_scenario;
 use crate::stress::stress;
-use crate::verify::verify;
 use bench_space::Progress;
 use std::alloc::Global;
 use std::io::{Read, Write};
@@ -42,7 +41,7 @@ pub fn perform<T: Threads + Wait + Sync, R: Read, W: Write, E: Write, P: Progres
     }
 }
 
-/// Runs the command, and says the note on its refusal.
+/// Reads what the request reads, and runs its command.
 fn carry_out<T: Threads + Wait + Sync, R: Read, W: Write, E: Write, P: Progress>(
     rt: &T,
     alloc: Global,
@@ -58,15 +57,35 @@ fn carry_out<T: Threads + Wait + Sync, R: Read, W: Write, E: Write, P: Progress>
     ensures unsaid { IfErr result (λ fault. E.contents err.new ≡ E.contents err.old) }
     ensures taken { TakesFor request.now (R.remaining reader.old) (R.remaining reader.new) }
 {
+    match read_input(alloc, request.input(), reader) {
+        Ok(bytes) => respond(rt, alloc, request, bytes.as_slice(), out, err, progress),
+        Err(fault) => Err(fault),
+    }
+}
+
+/// Runs the command of a request on the bytes of its input, or says why these are rejected.
+fn respond<T: Threads + Wait + Sync, W: Write, E: Write, P: Progress>(
+    rt: &T,
+    alloc: Global,
+    request: &Request,
+    bytes: &[u8],
+    out: &mut W,
+    err: &mut E,
+    progress: &mut P,
+) -> Result<Ending, Fault>
+    ensures left { Responds request.now bytes.now (W.contents out.old) (W.contents out.new) result }
+    ensures said { IfOk result (λ ending. SaysAt ending (E.contents err.old) (E.contents err.new)) }
+    ensures unsaid { IfErr result (λ fault. E.contents err.new ≡ E.contents err.old) }
+{
     match request {
-        Request::Exec(options) => exec(alloc, options, reader, out, err),
-        Request::Asm { list } => asm(alloc, *list, reader, out),
-        Request::Compile(options) => compile(alloc, *options, reader, out, err),
-        Request::Dis { list } => dis(alloc, *list, reader, out, err),
+        Request::Exec(options) => exec_bytes(alloc, options, bytes, out, err),
+        Request::Asm { list } => asm_bytes(alloc, *list, bytes, out, err),
+        Request::Compile(options) => compile_bytes(alloc, *options, bytes, out, err),
+        Request::Dis { list } => dis_bytes(alloc, *list, bytes, out, err),
         Request::Clock(options) => clock(alloc, *options, out),
-        Request::Verify(options) => verify(alloc, *options, reader, out, err),
-        Request::Explain(options) => explained(alloc, *options, reader, out, err),
-        Request::Scenario(asked) => on_scenario(rt, alloc, asked, reader, out, err, progress),
+        Request::Verify(options) => verify_bytes(alloc, *options, bytes, out, err),
+        Request::Explain(options) => explain_bytes(alloc, *options, bytes, out, err),
+        Request::Scenario(asked) => scenario_bytes(rt, alloc, asked, bytes, out, err, progress),
         Request::Stress(options) => stress(rt, alloc, *options, out),
         Request::Help { text } => write_whole(out, text.as_bytes(), Ending::Done),
     }

@@ -84,7 +84,7 @@ fn trace_case<W: Write>(
         Ok(traced) => {
             let left = LeftByRun { memory, outbox };
             let outcome = traced.outcome;
-            Ok((Reply::Ran { outcome, left }, traced.written))
+            Ok((Reply { outcome, left }, traced.written))
         }
         Err(PartFault::Write { written }) => Err(Fault::Write {
             after: written as usize,

@@ -1,16 +1,14 @@
-//! What `verify` answers to the bytes that it read, and the line that says it.
+//! What `verify` answers, and the line that says it.
 ghost use Rattle.std.specs.Prelude.{◌≡◌, Some};
 ghost use Rattle.commands.specs.Verdict.{verdict_line};
 
 use crate::ending::Ending;
-use crate::image::Refusal;
 use bpf_verify::Rule;
 use std::fmt;
 
-/// Why there is no program, or what the verifier says of it.
+/// What the verifier says of a program.
 #[derive(Clone, Copy, Debug, PartialEq, Eq)]
 pub enum Verdict {
-    NoProgram(Refusal),
     /// The slots of the program, and the instructions on its longest path.
     Accepted { slots: u32, announced: u32 },
     /// The first slot whose instruction breaks a rule, and the rule.
@@ -26,7 +24,7 @@ impl Verdict {
         ensures { result ≡ verdict_ending self.now }
     {
         match self {
-            Verdict::NoProgram(_) | Verdict::Refused { .. } => Ending::Refused,
+            Verdict::Refused { .. } => Ending::Refused,
             Verdict::Accepted { .. } => Ending::Done,
         }
     }
@@ -37,7 +35,6 @@ impl fmt::Display for Verdict {
 
     fn fmt<W: fmt::Write>(&self, f: &mut fmt::Formatter<W>) -> fmt::Result {
         match self {
-            Verdict::NoProgram(refusal) => write!(f, "{refusal}"),
             Verdict::Accepted { slots, announced } => {
                 write!(f, "accepted slots {slots} announced {announced}")
             }

@@ -1,5 +1,6 @@
-//! The note on a refusal.
+//! The note on a rejected text.
 ghost use Rattle.std.specs.Prelude.{◌≡◌, ℕ, List, IfOk, IfSome, IsTrue, MatchOption, None, Some, string_bytes};
+ghost use Rattle.scenario_text.specs.Texts.{IsParsed};
 ghost use Rattle.scenario_notes.specs.declared.note.Note.TheVariants.{OfNothing};
 ghost use Rattle.scenario_notes.specs.Told.{IsNoteOf, IsOfFault, IsOfLine, IsOfSlot, IsTextLineOfSlot, Tells, rule_line};
 
@@ -8,13 +9,13 @@ use crate::finding::{Sought, find, find_in_text, line_at, without_comment};
 use crate::known::{names_at, unknown_key};
 use crate::note::{Note, Spot, UnknownKey};
 use crate::slot_line::line_of_slot;
-use crate::table::{array_of, key_at, table_at, table_in, text_at};
-use crate::toml_fault::fault_in;
+use crate::table::{Source, array_of, key_at, table_at, text_at};
+use crate::toml_fault::toml_note;
 use bpf_verify::Rule;
 use rule_notes::near::nearest;
 use rule_notes::shown::shown;
 use rule_text::RuleRefusal;
-use scenario_text::{Place, ScenarioError};
+use scenario_text::{Parsed, Place, Rejected, ScenarioError};
 use std::alloc::{AllocError, Global};
 use std::str;
 
@@ -39,18 +40,24 @@ fn line_of_key(file: &[u8], place: Place, key: &str) -> Option<usize> {
     Some(line)
 }
 
-fn unknown_key_note(alloc: Global, file: &[u8], place: Place) -> Result<Option<Note>, AllocError> {
-    let Some(table) = table_in(alloc, file)? else {
+fn unknown_key_note(
+    alloc: Global,
+    source: Source<'_>,
+    place: Place,
+) -> Result<Option<Note>, AllocError>
+    requires parsed { IsParsed source.text.now source.parsed.now }
+{
+    let Some(table) = source.table() else {
         return Ok(None);
     };
-    let Some(entry) = table_at(&table, place) else {
+    let Some(entry) = table_at(table, place) else {
         return Ok(None);
     };
     let Some(key) = unknown_key(entry, place) else {
         return Ok(None);
     };
     let unknown = UnknownKey {
-        line: line_of_key(file, place, key),
+        line: line_of_key(source.text, place, key),
         key: shown(alloc, key)?,
         nearest: nearest(alloc, key, names_at(alloc, place)?.as_slice())?,
     };
@@ -96,24 +103,25 @@ fn rule_line(error: RuleRefusal) -> Option<usize>
 /// Returns the line of the text under a key, or that of the key if the fault names none.
 fn text_note(
     alloc: Global,
-    file: &[u8],
+    source: Source<'_>,
     place: Place,
     key: &str,
     fault: Option<usize>,
 ) -> Result<Option<Note>, AllocError>
+    requires parsed { IsParsed source.text.now source.parsed.now }
     ensures { IfOk result (λ found. IfSome found (IsOfFault fault)) }
 {
     let sought = key_at(place, key);
     let Some(line) = fault else {
-        return line_note(alloc, file, sought);
+        return line_note(alloc, source.text, sought);
     };
-    let Some(table) = table_in(alloc, file)? else {
+    let Some(table) = source.table() else {
         return Ok(None);
     };
-    let Some(text) = text_at(&table, place, key) else {
+    let Some(text) = text_at(table, place, key) else {
         return Ok(None);
     };
-    match spot_at(alloc, file, sought, text, line)? {
+    match spot_at(alloc, source.text, sought, text, line)? {
         Some(spot) => Ok(Some(Note::OfText { spot })),
         None => Ok(None),
     }
@@ -122,72 +130,87 @@ fn text_note(
 /// Returns the line of the text under a key whose instruction begins at the slot.
 fn slot_spot(
     alloc: Global,
-    file: &[u8],
+    source: Source<'_>,
     place: Place,
     key: &str,
     slot: u32,
 ) -> Result<Option<Spot>, AllocError>
+    requires parsed { IsParsed source.text.now source.parsed.now }
     ensures { IfOk result (λ found. IfSome found (λ spot.
-        IsTextLineOfSlot file.now place key.now slot spot.line)) }
+        IsTextLineOfSlot source.entry.text.now place key.now slot spot.line)) }
 {
-    let Some(table) = table_in(alloc, file)? else {
+    let Some(table) = source.table() else {
         return Ok(None);
     };
-    let Some(text) = text_at(&table, place, key) else {
+    let Some(text) = text_at(table, place, key) else {
         return Ok(None);
     };
     let Some(line) = line_of_slot(alloc, text.as_bytes(), slot)? else {
         return Ok(None);
     };
-    spot_at(alloc, file, key_at(place, key), text, line)
+    spot_at(alloc, source.text, key_at(place, key), text, line)
 }
 
 fn slot_note(
     alloc: Global,
-    file: &[u8],
+    source: Source<'_>,
     place: Place,
     key: &str,
     slot: u32,
     rule: Rule,
 ) -> Result<Note, AllocError>
-    ensures { IfOk result (IsOfSlot file.now place key.now slot rule) }
+    requires parsed { IsParsed source.text.now source.parsed.now }
+    ensures { IfOk result (IsOfSlot source.entry.text.now place key.now slot rule) }
 {
-    match slot_spot(alloc, file, place, key, slot)? {
+    match slot_spot(alloc, source, place, key, slot)? {
         Some(spot) => Ok(Note::OfSlot { spot, slot, rule }),
         None => Ok(Note::OfSlotAlone { slot, rule }),
     }
 }
 
-/// Returns where the refusal of a file comes from: nothing if that can't be told.
-fn place_of(alloc: Global, file: &[u8], error: &ScenarioError) -> Result<Option<Note>, AllocError>
-    ensures { IfOk result (λ found. IfSome found (IsNoteOf file.now error.now)) }
+/// Returns the note on a text that is not TOML.
+fn not_toml_note(alloc: Global, source: Source<'_>) -> Result<Option<Note>, AllocError> {
+    match source.parsed {
+        Parsed::NotToml(error) => toml_note(alloc, source.text, error),
+        Parsed::Nothing | Parsed::Table(_) => Ok(None),
+    }
+}
+
+/// Returns where the refusal of a text comes from: nothing if that can't be told.
+fn place_of(
+    alloc: Global,
+    source: Source<'_>,
+    error: &ScenarioError,
+) -> Result<Option<Note>, AllocError>
+    requires parsed { IsParsed source.text.now source.parsed.now }
+    ensures { IfOk result (λ found. IfSome found (IsNoteOf source.entry.text.now error.now)) }
 {
     match error {
         ScenarioError::TooLong | ScenarioError::Memory(_) => Ok(None),
-        ScenarioError::NotToml => fault_in(alloc, file),
-        ScenarioError::UnknownKey { place } => unknown_key_note(alloc, file, *place),
+        ScenarioError::NotToml => not_toml_note(alloc, source),
+        ScenarioError::UnknownKey { place } => unknown_key_note(alloc, source, *place),
         ScenarioError::MissingKey { place, .. } => {
             let entry = array_of(*place);
-            line_note(alloc, file, Sought { entry, key: None })
+            line_note(alloc, source.text, Sought { entry, key: None })
         }
         ScenarioError::WrongKind { place, key } | ScenarioError::OutOfRange { place, key } => {
-            line_note(alloc, file, key_at(*place, key))
+            line_note(alloc, source.text, key_at(*place, key))
         }
         ScenarioError::UnknownProgram { load } => {
-            line_note(alloc, file, key_at(Place::Load(*load), "program"))
+            line_note(alloc, source.text, key_at(Place::Load(*load), "program"))
         }
         ScenarioError::BadText { place, key, error } => {
-            text_note(alloc, file, *place, key, error.line())
+            text_note(alloc, source, *place, key, error.line())
         }
         ScenarioError::BadRule { place, key, error } => {
-            text_note(alloc, file, *place, key, rule_line(*error))
+            text_note(alloc, source, *place, key, rule_line(*error))
         }
         ScenarioError::NotAccepted {
             place,
             key,
             slot,
             rule,
-        } => Ok(Some(slot_note(alloc, file, *place, key, *slot, *rule)?)),
+        } => Ok(Some(slot_note(alloc, source, *place, key, *slot, *rule)?)),
     }
 }
 
@@ -210,11 +233,16 @@ fn needs_no_place(error: &ScenarioError) -> bool
     }
 }
 
-/// Returns the note on the refusal of a file, if there is something to say.
-fn note_of(alloc: Global, file: &[u8], error: &ScenarioError) -> Result<Option<Note>, AllocError>
-    ensures { IfOk result (λ found. IfSome found (IsNoteOf file.now error.now)) }
+/// Returns the note on the refusal of a text, if there is something to say.
+fn note_of(
+    alloc: Global,
+    source: Source<'_>,
+    error: &ScenarioError,
+) -> Result<Option<Note>, AllocError>
+    requires parsed { IsParsed source.text.now source.parsed.now }
+    ensures { IfOk result (λ found. IfSome found (IsNoteOf source.entry.text.now error.now)) }
 {
-    match place_of(alloc, file, error)? {
+    match place_of(alloc, source, error)? {
         Some(note) => Ok(Some(note)),
         None => {
             if needs_no_place(error) {
@@ -229,12 +257,13 @@ fn note_of(alloc: Global, file: &[u8], error: &ScenarioError) -> Result<Option<N
 /// Returns what is said of the fix, after the note.
 fn advice_behind(
     alloc: Global,
-    file: &[u8],
+    source: Source<'_>,
     note: &Note,
     error: &ScenarioError,
-) -> Result<String, AllocError> {
-    let table = table_in(alloc, file)?;
-    let advice = advice_on(alloc, file, table.as_ref(), error)?;
+) -> Result<String, AllocError>
+    requires parsed { IsParsed source.text.now source.parsed.now }
+{
+    let advice = advice_on(alloc, source.text, source.table(), error)?;
     if advice.len() == 0 {
         return Ok(advice);
     }
@@ -245,18 +274,25 @@ fn advice_behind(
     format!(in alloc; "; {advice}")
 }
 
-/// Returns the line of the note on the refusal of a file, with its end, if there is something to say.
+/// Returns the line of the note on a rejected text, with its end, if there is something to say. `rejected` is what was
+/// made of this text: its error, and its table or the error of the parser. The text is not parsed again.
 pub fn note_on(
     alloc: Global,
-    file: &[u8],
-    error: &ScenarioError,
+    text: &[u8],
+    rejected: &Rejected,
 ) -> Result<Option<String>, AllocError>
-    ensures { IfOk result (λ found. IfSome found (λ line. Tells file.now error.now (string_bytes line))) }
+    requires parsed { IsParsed text.now rejected.now.parsed }
+    ensures { IfOk result (λ found. IfSome found (λ line.
+        Tells text.now rejected.now.error (string_bytes line))) }
 {
-    let Some(note) = note_of(alloc, file, error)? else {
+    let source = Source {
+        text,
+        parsed: &rejected.parsed,
+    };
+    let Some(note) = note_of(alloc, source, &rejected.error)? else {
         return Ok(None);
     };
-    let advice = advice_behind(alloc, file, &note, error)?;
+    let advice = advice_behind(alloc, source, &note, &rejected.error)?;
     let words = format!(in alloc; "{note}{advice}")?;
     if words.len() == 0 || words.as_bytes().contains(&b'\n') {
         return Ok(None);

@@ -1,27 +1,35 @@
-//! The table that a file is, and its entries.
-ghost use Rattle.std.specs.Prelude.{◌≡◌, IfOk, IfSome, option_copied, option_map};
+//! The table that a rejected text is, and its entries.
+ghost use Rattle.std.specs.Prelude.{◌≡◌, option_copied, option_map};
 ghost use Rattle.std.specs.Option.{option_and_then};
 ghost use Rattle.toml.specs.Data.{at, get_member};
 ghost use Rattle.toml.specs.View.{table_view, view};
-ghost use Rattle.scenario_text.specs.Texts.{IsDocument};
 ghost use Rattle.scenario_notes.specs.Places.{member_entry_at, text_at};
 
 use crate::finding::Sought;
-use scenario_text::{MAX_TEXT, Place};
-use std::alloc::{AllocError, Global};
+use scenario_text::{Parsed, Place};
 use toml::{Table, Value};
 
-/// Returns the table of a file, if it is one.
-pub(crate) fn table_in(alloc: Global, file: &[u8]) -> Result<Option<Table>, AllocError>
-    ensures { IfOk result (λ found. IfSome found (λ t. IsDocument file.now (table_view t))) }
-{
-    if file.len() > MAX_TEXT {
-        return Ok(None);
-    }
-    match toml::table_from_slice(alloc, file) {
-        Ok(table) => Ok(Some(table)),
-        Err(error) if error.is_memory() => Err(AllocError),
-        Err(_) => Ok(None),
+/// A rejected text, and what the parser made of it.
+#[derive(Clone, Copy)]
+pub(crate) struct Source<'a> {
+    pub(crate) text: &'a [u8],
+    pub(crate) parsed: &'a Parsed,
+}
+
+impl<'a> Source<'a> {
+    ghost use Rattle.std.specs.Prelude.{IfSome};
+    ghost use Rattle.toml.specs.View.{table_view};
+    ghost use Rattle.scenario_text.specs.Texts.{IsDocument, IsParsed};
+
+    /// Returns the table of the text, if it is one.
+    pub(crate) fn table(self) -> Option<&'a Table>
+        requires parsed { IsParsed self.text.now self.parsed.now }
+        ensures { IfSome result (λ t. IsDocument self.entry.text.now (table_view t.now)) }
+    {
+        match self.parsed {
+            Parsed::Table(table) => Some(table),
+            Parsed::Nothing | Parsed::NotToml(_) => None,
+        }
     }
 }
 

@@ -23,13 +23,14 @@ fn begins_letter(byte: u8) -> bool {
     byte & 0xc0 != 0x80
 }
 
-/// Returns where and why the parser stops, if it does.
-pub(crate) fn fault_in(alloc: Global, text: &[u8]) -> Result<Option<Note>, AllocError> {
-    let Err(error) = toml::table_from_slice(alloc, text) else {
-        return Ok(None);
-    };
+/// Returns the note on the error of the parser.
+pub(crate) fn toml_note(
+    alloc: Global,
+    text: &[u8],
+    error: &toml::de::Error,
+) -> Result<Option<Note>, AllocError> {
     let Some(span) = error.span() else {
-        return Err(AllocError);
+        return Ok(None);
     };
     let (line, column) = place_behind(&text[..span.start.min(text.len())]);
     let message = String::from_str(alloc, error.message())?;

@@ -2,6 +2,7 @@ mod BrokenLemmas
 mod ClockLemmas
 pub mod EntryLemmas
 pub mod FrameLemmas
+mod FrontLemmas
 mod ListLemmas
 mod NameLemmas
 mod NoiseLemmas

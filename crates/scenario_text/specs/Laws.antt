@@ -1,12 +1,24 @@
 -- What a refusal of a program says of the scenarios (docs/SCENARIOS.md, "Refusals").
-use Rattle.std.specs.Prelude.{ℕ}
+use Rattle.std.specs.Prelude.{ℕ, ◌+◌, List, take}
 use Rattle.toml.specs.Data.{Members}
+use Rattle.scenario_text.specs.declared.limits.TheConstants.{MAX_TEXT}
 use Rattle.scenario_text.specs.declared.refusal.Place.{Place}
+use Rattle.scenario_text.specs.declared.refusal.ScenarioError.{ScenarioError}
 use Rattle.scenario_text.specs.declared.scenario.Scenario.{Scenario}
 use Rattle.scenario_text.specs.Broken.{BrokenAt}
+use Rattle.scenario_text.specs.Texts.{IsDueUnlessMemory, ReadsText}
 use Rattle.scenario_text.specs.Views.{ReadsAs}
 
 -- a table of which a program is refused reads as no scenario
 abbrev pub RefusedReadsAsNone : Type 0
 RefusedReadsAsNone = (members : Members) (place : Place) (slot : ℕ) (s : Scenario) → BrokenAt members place slot
     → ReadsAs members s → ⊥
+
+-- the scenario of the first bytes of a text, of which one more is read than a text may have, is that of the text
+abbrev pub FrontReadsAsWhole : Type 0
+FrontReadsAsWhole = (text : List ℕ) (s : Scenario) → ReadsText (take (MAX_TEXT + 1) text) s → ReadsText text s
+
+-- and a refusal of these bytes is due of the text
+abbrev pub FrontIsDueAsWhole : Type 0
+FrontIsDueAsWhole = (text : List ℕ) (error : ScenarioError) → IsDueUnlessMemory (take (MAX_TEXT + 1) text) error
+    → IsDueUnlessMemory text error

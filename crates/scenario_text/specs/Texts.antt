@@ -3,10 +3,14 @@ use Rattle.std.specs.Prelude.{◌≡◌, ◌<◌, ◌≤◌, ℕ, List, length, 
 use Rattle.std.specs.Str.{IsUtf8}
 use Rattle.toml.specs.Data.{Members}
 use Rattle.toml.specs.Parse.{parse_document}
+use Rattle.toml.specs.View.{table_view}
 use Rattle.scenario_text.specs.declared.limits.TheConstants.{MAX_TEXT}
 use Rattle.scenario_text.specs.declared.refusal.ScenarioError.{ScenarioError}
 use Rattle.scenario_text.specs.declared.refusal.ScenarioError.TheVariants as errors
 use Rattle.scenario_text.specs.declared.scenario.Scenario.{Scenario}
+use Rattle.scenario_text.specs.declared.text.Parsed.{Parsed}
+use Rattle.scenario_text.specs.declared.text.Parsed.TheVariants as parses
+use Rattle.scenario_text.specs.declared.text.Rejected.{Rejected}
 use Rattle.scenario_text.specs.Broken.{BrokenAt}
 use Rattle.scenario_text.specs.Spelling.{SpellsNothing}
 use Rattle.scenario_text.specs.Views.{ReadsAs}
@@ -33,3 +37,13 @@ IsDue text _ = (members : Members) × IsDocument text members × SpellsNothing m
 abbrev pub IsDueUnlessMemory : List ℕ → ScenarioError → Type 0
 IsDueUnlessMemory text (errors.Memory _) = Unit {0}
 IsDueUnlessMemory text error = IsDue text error
+
+-- what the parser made of a text: a table is the text's, and an error comes only if the text has none
+abbrev pub IsParsed : List ℕ → Parsed → Type 0
+IsParsed text parses.Nothing = Unit {0}
+IsParsed text (parses.NotToml error) = IsUtf8 text → parse_document text ≡ None
+IsParsed text (parses.Table table) = IsDocument text (table_view table)
+
+-- a text is rejected: the refusal is due, unless memory was short, and what is kept is what the parser made of it
+abbrev pub IsRejected : List ℕ → Rejected → Type 0
+IsRejected text rejected = IsDueUnlessMemory text rejected.error × IsParsed text rejected.parsed

@@ -1,8 +1,14 @@
 //! Laws of scenarios.
 
-ghost use Rattle.scenario_text.specs.Laws.{RefusedReadsAsNone};
+ghost use Rattle.scenario_text.specs.Laws.{FrontIsDueAsWhole, FrontReadsAsWhole, RefusedReadsAsNone};
 
 /// States that a table of which a program is refused reads as no scenario, like one that spells none.
 pub fn refused_reads_as_none()
     ensures { RefusedReadsAsNone }
+{}
+
+/// States that the first bytes of a text, one more than a text may have, serve as well as the whole.
+pub fn front_reads_as_whole()
+    ensures reads { FrontReadsAsWhole }
+    ensures due { FrontIsDueAsWhole }
 {}

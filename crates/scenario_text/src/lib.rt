@@ -30,5 +30,5 @@ pub use line::RefusalLine;
 pub use programs::say_program;
 pub use refusal::{Place, ScenarioError};
 pub use scenario::{CoinEntry, Coins, Corrupt, Frame, Kind, Load, ProgramText, Scenario, Unload};
-pub use text::scenario_in;
+pub use text::{Parsed, Rejected, parse_scenario, scenario_in};
 pub use whole::scenario_of;

@@ -8,11 +8,11 @@ use std::test::Fail;
 
 /// The mail of four nodes, of which the first sent this to all.
 fn mail_of_first(number: u32) -> [Option<u32>; 16] {
-    let (sent, none) = (Some(number), None);
-    [
-        sent, sent, sent, sent, none, none, none, none, none, none, none, none, none, none, none,
-        none,
-    ]
+    let mut mail = [None; 16];
+    for slot in &mut mail[..4] {
+        *slot = Some(number);
+    }
+    mail
 }
 
 #[test]

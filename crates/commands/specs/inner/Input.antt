@@ -1,13 +1,13 @@
 -- Beside Input: what proofs and private contracts alone cite.
 use Rattle.std.specs.Prelude.{◌≡◌, ℕ, List, Bool, Result, Ok, Err}
-use Rattle.commands.specs.declared.input.ProgramRead.{ProgramRead}
-use Rattle.commands.specs.declared.input.Rejected.{Rejected}
+use Rattle.commands.specs.declared.program.ProgramRead.{ProgramRead}
+use Rattle.commands.specs.declared.rejection.Unread.{Unread}
 use Rattle.commands.specs.declared.request.ShapeOptions.{ShapeOptions}
-use Rattle.commands.specs.Image.{HasShape}
+use Rattle.commands.specs.Image.{HasShape, asked_extent}
 use Rattle.commands.specs.Input.{IsProgramOfInput, IsUnread}
 
 -- what is read of these bytes under these options: a program, or why there is none
-abbrev pub ReadsInput : ShapeOptions → Bool → List ℕ → Result ProgramRead Rejected → Type 0
+abbrev pub ReadsInput : ShapeOptions → Bool → List ℕ → Result ProgramRead Unread → Type 0
 ReadsInput asked text bytes (Ok read) =
-    HasShape asked × (read.bytes.items ≡ bytes) × IsProgramOfInput text bytes read.program
-ReadsInput asked text bytes (Err rejected) = IsUnread asked text bytes rejected.why
+    HasShape asked × (read.shape ≡ asked_extent asked) × IsProgramOfInput text bytes read.program
+ReadsInput asked text bytes (Err unread) = IsUnread asked text bytes unread

@@ -2,4 +2,4 @@ use Rattle.bench_scenario.proofs.StreamLemmas.{due_refused}
 use Rattle.bench_scenario.proofs.reading.fault_of.Goals as goal
 
 pub returns-in_default : goal.returns-in_default
-returns-in_default c input due taken = (due_refused input c.args.error c.in_default.not-Memory due, taken)
+returns-in_default c text due = due_refused text c.args.error c.in_default.not-Memory due

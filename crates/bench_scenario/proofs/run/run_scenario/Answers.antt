@@ -5,7 +5,7 @@ use Rattle.bench_scenario.proofs.run.run_scenario.Goals as goal
 pub returns-in-Err-Refused-clause-left : goal.returns-in-Err-Refused-clause-left
 returns-in-Err-Refused-clause-left g c =
     let refused = read_refused (g.R.Read.remaining c.args.reader.now) (g.W.Write.contents c.args.writer.now)
-    c.in-Err-Refused.error c.in-Err-Refused._text
+    c.in-Err-Refused.error
     (rw c.in-Err-Refused.field-0-is at c.in-Err-Refused.ensures.scenario) (Keeps-refl _) in
     rw (← c.in-Err-Refused.error-is) at refused
 

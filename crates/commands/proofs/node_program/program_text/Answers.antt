@@ -1,8 +1,7 @@
 use Rattle.std.proofs.Common.{List, None, ap, subst, ◌∙◌}
-use Rattle.std.specs.Prelude.{Ok}
 use Rattle.bpf_insn.specs.declared.forms.Insn.{Insn}
 use Rattle.bench_space.proofs.Rows.{ok_mapped}
-use Rattle.commands.specs.Dis.{listing_text}
+use Rattle.commands.specs.Dis.{dis_text}
 use Rattle.commands.specs.NodeRule.{IsRuleOf, sizes_for}
 use Rattle.commands.proofs.NodeRuleLemmas.{plain_text}
 use Rattle.commands.proofs.node_program.program_text.Goals as goal
@@ -18,5 +17,5 @@ returns-in-None c =
       None,
       none,
       plain_text (sizes_for s) c.args.program.now.program c.args.list told.items
-          (is ∙ ap (λ (p : List Insn). listing_text c.args.list (Ok p)) own),
+          (is ∙ ap (λ (p : List Insn). dis_text c.args.list p) own),
     )) c.text_of.ensures

@@ -11,8 +11,8 @@ say-requires g c = record {
   };
 }
 
-pub say-requires-else-rule-shape : goal.say-requires-else-rule-shape
-say-requires-else-rule-shape g c = record {
+pub say-requires-else-rule-memory : goal.say-requires-else-rule-memory
+say-requires-else-rule-memory g c = record {
   note = record {
     words = codes "at most 3 numbers are in use at once, of let, count and unfinished terms: keep one in a name of state, or split a term";
     one_line = refl;

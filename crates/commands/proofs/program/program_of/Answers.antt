@@ -1,4 +1,4 @@
-use Rattle.commands.proofs.input.program_of.Goals as goal
+use Rattle.commands.proofs.program.program_of.Goals as goal
 
 pub returns-then-text-clause-program : goal.returns-then-text-clause-program
 returns-then-text-clause-program c = rw c.if-text.true c.program_of_text.ensures.program

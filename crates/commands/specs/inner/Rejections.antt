@@ -1,0 +1,11 @@
+-- Beside Rejections: what private contracts alone cite.
+use Rattle.std.specs.Prelude.{ℕ, List}
+use Rattle.scenario_text.specs.Texts.{IsParsed}
+use Rattle.commands.specs.declared.rejection.Rejection.{Rejection}
+use Rattle.commands.specs.declared.rejection.Rejection.TheVariants.{Program, Rule, Scenario}
+
+-- of a scenario the rejection has what was made of these bytes, from which the note is written
+abbrev pub IsNoted : List ℕ → Rejection → Type 0
+IsNoted bytes (Program unread) = Unit {0}
+IsNoted bytes (Rule why memory) = Unit {0}
+IsNoted bytes (Scenario rejected) = IsParsed bytes rejected.parsed

@@ -1,0 +1,117 @@
+//! Why a request has nothing to work on, and how that is said.
+ghost use Rattle.std.specs.Prelude.{◌≡◌, ◌++◌, Some, IfErr, IfOk, codes};
+ghost use Rattle.commands.specs.declared.ending.Ending.TheVariants.{Refused};
+ghost use Rattle.commands.specs.inner.Rejections.{IsNoted};
+ghost use Rattle.commands.specs.Output.{Leaves};
+ghost use Rattle.commands.specs.Perform.{SaysAt};
+ghost use Rattle.commands.specs.Rejections.{rejection_line, uncompiled_line, unread_line};
+
+use crate::ending::Ending;
+use crate::fault::Fault;
+use crate::note::tell_rejection_note;
+use crate::output::write_text;
+use bpf_asm::TextError;
+use bpf_insn::ImageError;
+use rule_text::RuleRefusal;
+use scenario_text::{RefusalLine, Rejected};
+use std::alloc::Global;
+use std::fmt;
+use std::io::Write;
+
+/// Why there is no program to work on. Its text is the line of the refusal, without its end.
+#[derive(Clone, Copy, Debug, PartialEq, Eq)]
+pub enum Unread {
+    /// The nodes and the memory that are asked for make no shape.
+    Shape,
+    /// The bytes are the image of no program.
+    Image(ImageError),
+    /// The text means no program.
+    Text(TextError),
+}
+
+/// Why a rule has no program. Its text is the line of the refusal, without its end.
+#[derive(Clone, Copy, Debug, PartialEq, Eq)]
+pub enum Uncompiled {
+    /// The nodes and the memory that are asked for make no shape.
+    Shape,
+    /// The nodes, the faults and the modulus make no rule of clocks.
+    Sizes,
+    /// The text has no program.
+    Rule(RuleRefusal),
+}
+
+/// Why a request has nothing to work on, whatever it reads. Its text is the line of the refusal, without its end.
+#[derive(Debug, Drop)]
+pub enum Rejection {
+    Program(Unread),
+    /// The rule was to run on nodes with this many bytes of memory.
+    Rule { why: Uncompiled, memory: u32 },
+    Scenario(Rejected),
+}
+
+/// Writes the line of a rejection of these bytes, and says the note on it on `err`.
+pub(crate) fn reject<W: Write, E: Write>(
+    alloc: Global,
+    rejection: &Rejection,
+    bytes: &[u8],
+    out: &mut W,
+    err: &mut E,
+) -> Result<Ending, Fault>
+    requires noted { IsNoted bytes.now rejection.now }
+    ensures left { Leaves (W.contents out.old) (W.contents out.new) (rejection_line rejection.now ++ codes "\n") Refused
+        result }
+    ensures said { IfOk result (λ ending. SaysAt ending (E.contents err.old) (E.contents err.new)) }
+    ensures unsaid { IfErr result (λ fault. E.contents err.new ≡ E.contents err.old) }
+{
+    let line = format!(in alloc; "{rejection}\n").map_err(|_| Fault::Memory)?;
+    write_text(out, line.as_bytes())?;
+    tell_rejection_note(alloc, rejection, bytes, err);
+    Ok(Ending::Refused)
+}
+
+impl fmt::Display for Unread {
+    ghost output = { λ unread. Some (unread_line unread) };
+
+    fn fmt<W: fmt::Write>(&self, f: &mut fmt::Formatter<W>) -> fmt::Result {
+        match self {
+            Unread::Shape => write!(f, "refused shape"),
+            Unread::Image(error) => write!(f, "refused image {error}"),
+            Unread::Text(error) => write!(f, "refused text {error}"),
+        }
+    }
+}
+
+impl fmt::Display for Uncompiled {
+    ghost output = { λ why. Some (uncompiled_line why) };
+
+    fn fmt<W: fmt::Write>(&self, f: &mut fmt::Formatter<W>) -> fmt::Result {
+        match self {
+            Uncompiled::Shape => write!(f, "refused shape"),
+            Uncompiled::Sizes => write!(f, "refused sizes"),
+            Uncompiled::Rule(
+                RuleRefusal::Text {
+                    error,
+                    line,
+                    column,
+                },
+            ) => {
+                let name = error.name();
+                write!(f, "refused rule {name} line {line} column {column}")
+            }
+            Uncompiled::Rule(RuleRefusal::NoRoom) => write!(f, "refused rule NoRoom"),
+            Uncompiled::Rule(RuleRefusal::TooLong) => write!(f, "refused rule TooLong"),
+        }
+    }
+}
+
+impl fmt::Display for Rejection {
+    ghost output = { λ rejection. Some (rejection_line rejection) };
+
+    fn fmt<W: fmt::Write>(&self, f: &mut fmt::Formatter<W>) -> fmt::Result {
+        match self {
+            Rejection::Program(unread) => write!(f, "{unread}"),
+            Rejection::Rule { why, .. } => write!(f, "{why}"),
+            Rejection::Scenario(rejected) => write!(f, "{}", RefusalLine(&rejected.error)),
+        }
+    }
+}
