@@ -1,7 +1,6 @@
 -- What `exec` answers and leaves, from the run in the case that is asked for.
 use Rattle.std.proofs.Common.{◌≡◌, ◌≤◌, ◌∙◌, ◌++◌, arith, codes, length, ℕ, Bool, true, false, List, take, Option, Result, Ok, Err, refl, subst, inl, inr}
 use Rattle.std.proofs.lemmas.List.{take-append-le, take_all}
-use Rattle.std.proofs.KnownBytes.{Keeps-refl}
 use Rattle.std.specs.Ordering.{nat_cmp}
 use Rattle.std.specs.FinMap.{FinMap}
 use Rattle.node_env.specs.Env.{Extent, Setting}
@@ -20,14 +19,13 @@ use Rattle.commands.specs.declared.request.ExecOptions.{ExecOptions}
 use Rattle.commands.specs.Answer.{AnswersLeaving, answered_ending, answered_text}
 use Rattle.commands.specs.Case.{Left, case_memory, case_setting}
 use Rattle.commands.specs.Exec.{LeavesAnswer, LeavesBy}
-use Rattle.commands.specs.Faults.{IsBeforeWriting}
 use Rattle.commands.specs.Image.{HasShape, asked_extent}
 use Rattle.commands.specs.Input.{IsProgramOfInput, IsUnread}
 use Rattle.commands.specs.Output.{Leaves}
 use Rattle.commands.specs.Rejections.{unread_line}
 use Rattle.commands.specs.inner.Exec.{LeavesRunOf, RunsCase, answer_in, left_in}
 use Rattle.commands.specs.inner.Input.{ReadsInput}
-use Rattle.commands.proofs.LeavesLemmas.{any_unread, leaves_any}
+use Rattle.commands.proofs.LeavesLemmas.{leaves_any}
 
 -- a run in a setting and from a memory that are the case's
 pub case_run : (asked : ExecOptions) (program : List Insn) (shape : Extent) (env : Setting) (memory left : List ℕ)
@@ -85,14 +83,6 @@ by_refusal true asked bytes why left old new ended is told = inr (inl (why, is, 
 by_refusal false asked bytes why left old new ended is told =
     leaves_any {A = Result Answer Unread × Left} (λ a. AnswersLeaving asked bytes a.0 a.1)
     (λ a. answered_text asked a.0 a.1) (λ a. answered_ending a.0) (Err why, left) old new ended is told
-
--- or nothing, if it couldn't be read
-pub by_nothing : (trace : Bool) (asked : ExecOptions) (bytes : List ℕ) (old : Option (List ℕ)) (fault : Fault)
-    → IsBeforeWriting fault → LeavesBy trace old old asked bytes (Err fault)
-by_nothing true asked bytes old fault before = inr (inr (before, Keeps-refl old))
-by_nothing false asked bytes old fault before =
-    any_unread {A = Result Answer Unread × Left} (λ a. AnswersLeaving asked bytes a.0 a.1)
-    (λ a. answered_text asked a.0 a.1) (λ a. answered_ending a.0) old fault before
 
 -- a slice of a whole vector, after it was written
 pub whole_after : (n : ℕ) (new rest : List ℕ) → n ≡ length new → take n (new ++ rest) ≡ new

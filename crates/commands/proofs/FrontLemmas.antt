@@ -1,7 +1,7 @@
 -- What a command leaves of an input, from what it leaves of the program or of the rejection.
 use Rattle.std.specs.FinMap.{empty}
 use Rattle.std.proofs.Common.{◌≡◌, ℕ, List, [], ◌++◌, codes, false, inl, inr, Option, Result, Ok, Err, Vec, Global, subst, take, refl, Some, None, IfSome}
-use Rattle.std.specs.Prelude.{◌≢◌, Bool, string_bytes}
+use Rattle.std.specs.Prelude.{◌≢◌, Bool}
 use Rattle.bpf_asm.specs.declared.text_error.TextError.{TextError}
 use Rattle.bpf_insn.specs.declared.forms.Insn.{Insn}
 use Rattle.bpf_insn.specs.declared.image.ImageError.{ImageError}
@@ -18,7 +18,6 @@ use Rattle.commands.specs.declared.request.CompileOptions.{CompileOptions}
 use Rattle.commands.specs.declared.request.ExecOptions.{ExecOptions}
 use Rattle.commands.specs.declared.request.ExplainOptions.{ExplainOptions}
 use Rattle.commands.specs.declared.request.Request.{Request}
-use Rattle.commands.specs.declared.request.Request.TheVariants.{Exec, Asm, Compile, Dis, Clock, Verify, Explain, Scenario, Stress, Help}
 use Rattle.commands.specs.declared.request.ShapeOptions.{ShapeOptions}
 use Rattle.commands.specs.declared.verdict.Verdict.{Verdict}
 use Rattle.commands.specs.Asm.{LeavesImage, ReadsAsmText, assembled, assembled_ending, program_text}
@@ -28,91 +27,76 @@ use Rattle.commands.specs.Dis.{LeavesListing, dis_text, listing_ending, listing_
 use Rattle.commands.specs.Exec.{LeavesExec}
 use Rattle.commands.specs.Explained.{Explains, ExplainsProgram, Explanation, LeavesExplained, explanation, lines_read}
 use Rattle.commands.specs.Faults.{IsBeforeWriting}
-use Rattle.commands.specs.Image.{HasShape, ReadsImage}
-use Rattle.commands.specs.Input.{IsInputOf, max_bytes, most_read, program_input}
+use Rattle.commands.specs.Image.{ReadsImage}
+use Rattle.commands.specs.Input.{max_bytes}
 use Rattle.commands.specs.Output.{Leaves, LeavesAny}
-use Rattle.commands.specs.Perform.{CarriesOut}
+use Rattle.commands.specs.Perform.{Responds, RespondsTo}
 use Rattle.commands.specs.Rejections.{uncompiled_line, unread_line}
 use Rattle.commands.specs.Verdict.{Judges, JudgesProgram, LeavesVerdict, judged_ending, judged_text, text_of_verdict, verdict_ending}
 use Rattle.commands.specs.inner.Exec.{LeavesRunOf}
 use Rattle.commands.specs.inner.Input.{ReadsInput}
-use Rattle.commands.specs.inner.Perform.{Responds}
-use Rattle.commands.proofs.CaseLemmas.{by_nothing, by_refusal, by_run}
-use Rattle.commands.proofs.InputLemmas.{reads_whole}
-use Rattle.commands.proofs.LeavesLemmas.{any_unread, leaves_any, leaves_mapped}
-use Rattle.commands.proofs.RunLemmas.{left_unread}
+use Rattle.commands.proofs.CaseLemmas.{by_refusal, by_run}
+use Rattle.commands.proofs.LeavesLemmas.{leaves_any, leaves_mapped}
+use Rattle.std.proofs.KnownBytes.{Keeps-refl}
 use Rattle.commands.proofs.VerdictLemmas.{judges}
 
 -- ---- exec
 
-pub exec_run : (asked : ExecOptions) (bytes input : List ℕ) (read : ProgramRead) (old new : Option (List ℕ))
+pub exec_run : (asked : ExecOptions) (bytes : List ℕ) (read : ProgramRead) (old new : Option (List ℕ))
     (ended : Result Ending Fault) → ReadsInput asked.shape asked.text bytes (Ok read)
-    → (HasShape asked.shape → bytes ≡ input) → LeavesRunOf asked.trace old new asked read.program ended
-    → LeavesExec old new asked input ended
-exec_run asked bytes input read old new ended reads same left =
-    by_run asked.trace asked input read old new ended
-    (reads_whole asked.shape asked.text bytes input (Ok read) same reads) left
+    → LeavesRunOf asked.trace old new asked read.program ended
+    → LeavesExec old new asked bytes ended
+exec_run asked bytes read old new ended reads left =
+    by_run asked.trace asked bytes read old new ended reads left
 
 -- nothing is left by a run that isn't
 no_left : Left
 no_left = record { memory = []; outbox = record { nodes = 0; sent = empty } }
 
-pub exec_rejected : (asked : ExecOptions) (bytes input : List ℕ) (unread : Unread) (old new : Option (List ℕ))
+pub exec_rejected : (asked : ExecOptions) (bytes : List ℕ) (unread : Unread) (old new : Option (List ℕ))
     (ended : Result Ending Fault) → ReadsInput asked.shape asked.text bytes (Err unread)
-    → (HasShape asked.shape → bytes ≡ input) → Leaves old new (unread_line unread ++ codes "\n") Refused ended
-    → LeavesExec old new asked input ended
-exec_rejected asked bytes input unread old new ended reads same left =
-    by_refusal asked.trace asked input unread no_left old new ended
-    (reads_whole asked.shape asked.text bytes input (Err unread) same reads) left
+    → Leaves old new (unread_line unread ++ codes "\n") Refused ended
+    → LeavesExec old new asked bytes ended
+exec_rejected asked bytes unread old new ended reads left =
+    by_refusal asked.trace asked bytes unread no_left old new ended reads left
 
 -- ---- verify
 
-pub verify_judged : (asked : ShapeOptions) (bytes input : List ℕ) (read : ProgramRead) (old new : Option (List ℕ))
-    (ended : Result Ending Fault) → ReadsInput asked false bytes (Ok read) → (HasShape asked → bytes ≡ input)
+pub verify_judged : (asked : ShapeOptions) (bytes : List ℕ) (read : ProgramRead) (old new : Option (List ℕ))
+    (ended : Result Ending Fault) → ReadsInput asked false bytes (Ok read)
     → LeavesAny (JudgesProgram read.program read.shape) text_of_verdict verdict_ending old new ended
-    → LeavesVerdict old new asked input ended
-verify_judged asked bytes input read old new ended reads same left =
+    → LeavesVerdict old new asked bytes ended
+verify_judged asked bytes read old new ended reads left =
     leaves_mapped {A = Verdict} {B = Result Verdict Unread} (JudgesProgram read.program read.shape) text_of_verdict
-    verdict_ending (Judges asked input) judged_text judged_ending Ok old new ended
-    (λ verdict judged. judges asked input read verdict (reads_whole asked false bytes input (Ok read) same reads) judged)
-    (λ verdict. refl) (λ verdict. refl) left
+    verdict_ending (Judges asked bytes) judged_text judged_ending Ok old new ended
+    (λ verdict judged. judges asked bytes read verdict reads judged) (λ verdict. refl) (λ verdict. refl) left
 
-pub verify_rejected : (asked : ShapeOptions) (bytes input : List ℕ) (unread : Unread) (old new : Option (List ℕ))
-    (ended : Result Ending Fault) → ReadsInput asked false bytes (Err unread) → (HasShape asked → bytes ≡ input)
-    → Leaves old new (unread_line unread ++ codes "\n") Refused ended → LeavesVerdict old new asked input ended
-verify_rejected asked bytes input unread old new ended reads same left =
-    leaves_any (Judges asked input) judged_text judged_ending (Err unread) old new ended
-    (reads_whole asked false bytes input (Err unread) same reads) left
+pub verify_rejected : (asked : ShapeOptions) (bytes : List ℕ) (unread : Unread) (old new : Option (List ℕ))
+    (ended : Result Ending Fault) → ReadsInput asked false bytes (Err unread)
+    → Leaves old new (unread_line unread ++ codes "\n") Refused ended → LeavesVerdict old new asked bytes ended
+verify_rejected asked bytes unread old new ended reads left =
+    leaves_any (Judges asked bytes) judged_text judged_ending (Err unread) old new ended reads left
 
 -- ---- verify --explain
 
-pub explained_read : (asked : ExplainOptions) (bytes input : List ℕ) (read : ProgramRead) (old new : Option (List ℕ))
+pub explained_read : (asked : ExplainOptions) (bytes : List ℕ) (read : ProgramRead) (old new : Option (List ℕ))
     (ended : Result Ending Fault) → ReadsInput asked.shape asked.text bytes (Ok read)
-    → (HasShape asked.shape → bytes ≡ input)
     → LeavesAny (ExplainsProgram asked (lines_read asked.text bytes) read.program) (λ told. told.text)
     (λ told. told.ending) old new ended
-    → LeavesExplained old new asked input ended
-explained_read asked bytes input read old new ended reads same left =
-    let whole = reads_whole asked.shape asked.text bytes input (Ok read) same reads in
+    → LeavesExplained old new asked bytes ended
+explained_read asked bytes read old new ended reads left =
     leaves_mapped {A = Explanation} {B = Explanation} (ExplainsProgram asked (lines_read asked.text bytes) read.program)
-    (λ told. told.text) (λ told. told.ending) (Explains asked input) (λ told. told.text) (λ told. told.ending)
-    (λ told. told) old new ended
-    (λ told is. inr (
-      whole.0,
-      read.program,
-      whole.2,
-      subst (λ (b : List ℕ). ExplainsProgram asked (lines_read asked.text b) read.program told) (same whole.0) is,
-    ))
-    (λ told. refl) (λ told. refl) left
+    (λ told. told.text) (λ told. told.ending) (Explains asked bytes) (λ told. told.text) (λ told. told.ending)
+    (λ told. told) old new ended (λ told is. inr (reads.0, read.program, reads.2, is)) (λ told. refl) (λ told. refl)
+    left
 
-pub explained_rejected : (asked : ExplainOptions) (bytes input : List ℕ) (unread : Unread)
+pub explained_rejected : (asked : ExplainOptions) (bytes : List ℕ) (unread : Unread)
     (old new : Option (List ℕ)) (ended : Result Ending Fault) → ReadsInput asked.shape asked.text bytes (Err unread)
-    → (HasShape asked.shape → bytes ≡ input) → Leaves old new (unread_line unread ++ codes "\n") Refused ended
-    → LeavesExplained old new asked input ended
-explained_rejected asked bytes input unread old new ended reads same left =
-    leaves_any (Explains asked input) (λ told. told.text) (λ told. told.ending)
-    (explanation (unread_line unread ++ codes "\n") Refused) old new ended
-    (inl (unread, reads_whole asked.shape asked.text bytes input (Err unread) same reads, refl)) left
+    → Leaves old new (unread_line unread ++ codes "\n") Refused ended
+    → LeavesExplained old new asked bytes ended
+explained_rejected asked bytes unread old new ended reads left =
+    leaves_any (Explains asked bytes) (λ told. told.text) (λ told. told.ending)
+    (explanation (unread_line unread ++ codes "\n") Refused) old new ended (inl (unread, reads, refl)) left
 
 -- ---- asm, dis, compile
 
@@ -156,69 +140,30 @@ compile_rejected asked text why old new ended is left =
 
 -- ---- the whole input
 
+-- what is left of the bytes that were read is left of the input
+pub responds_to : (request : Request) (input : Input) (bytes : List ℕ) (known old new : Option (List ℕ))
+    (ended : Result Ending Fault) → IfSome known (λ whole. bytes ≡ take (max_bytes input) whole)
+    → (input ≡ inputs.Nothing → bytes ≡ []) → Responds request bytes old new ended
+    → RespondsTo input request known old new ended
+responds_to request inputs.Nothing bytes known old new ended read none left =
+    subst (λ (b : List ℕ). Responds request b old new ended) (none refl) left
+responds_to request inputs.Image bytes None old new ended read none left = tt
+responds_to request inputs.Image bytes (Some whole) old new ended read none left =
+    inl (subst (λ (b : List ℕ). Responds request b old new ended) read left)
+responds_to request inputs.Text bytes None old new ended read none left = tt
+responds_to request inputs.Text bytes (Some whole) old new ended read none left =
+    inl (subst (λ (b : List ℕ). Responds request b old new ended) read left)
+responds_to request inputs.Scenario bytes None old new ended read none left = tt
+responds_to request inputs.Scenario bytes (Some whole) old new ended read none left =
+    inl (subst (λ (b : List ℕ). Responds request b old new ended) read left)
+
 -- of an input that couldn't be read nothing is left
 pub unread : (request : Request) (input : Input) (known old : Option (List ℕ)) (fault : Fault)
-    → IsInputOf request input → input ≢ inputs.Nothing → IsBeforeWriting fault
-    → CarriesOut request known old old (Err fault)
-unread (Exec asked) input None old fault is some before = tt
-unread (Exec asked) input (Some whole) old fault is some before =
-    by_nothing asked.trace asked (take (most_read asked.text) whole) old fault before
-unread (Asm list) input None old fault is some before = tt
-unread (Asm list) input (Some whole) old fault is some before =
-    any_unread (ReadsAsmText (take (max_bytes inputs.Text) whole)) (assembled list (take (max_bytes inputs.Text) whole))
-    assembled_ending old fault before
-unread (Compile asked) input None old fault is some before = tt
-unread (Compile asked) input (Some whole) old fault is some before =
-    any_unread (Compiles asked (take (max_bytes inputs.Text) whole)) compiled_text compiled_ending old fault before
-unread (Dis list) input None old fault is some before = tt
-unread (Dis list) input (Some whole) old fault is some before =
-    any_unread (ReadsImage (take (max_bytes inputs.Image) whole)) (listing_text list) listing_ending old fault before
-unread (Clock asked) input known old fault is some before = absurd (some is)
-unread (Verify asked) input None old fault is some before = tt
-unread (Verify asked) input (Some whole) old fault is some before =
-    any_unread (Judges asked (take (max_bytes inputs.Image) whole)) judged_text judged_ending old fault before
-unread (Explain asked) input None old fault is some before = tt
-unread (Explain asked) input (Some whole) old fault is some before =
-    any_unread {A = Explanation} (Explains asked (take (most_read asked.text) whole)) (λ told. told.text)
-    (λ told. told.ending) old fault before
-unread (Scenario asked) input None old fault is some before = tt
-unread (Scenario asked) input (Some whole) old fault is some before = left_unread asked whole old fault before
-unread (Stress asked) input known old fault is some before = absurd (some is)
-unread (Help text) input known old fault is some before = absurd (some is)
-
--- the bytes that were read are the first of the input
-front : (wanted input : Input) (bytes whole : List ℕ) → input ≡ wanted → bytes ≡ take (max_bytes input) whole
-    → bytes ≡ take (max_bytes wanted) whole
-front wanted input bytes whole is read = subst (λ (i : Input). bytes ≡ take (max_bytes i) whole) is read
-
-pub carried_out : (request : Request) (input : Input) (bytes : List ℕ) (known old new : Option (List ℕ))
-    (ended : Result Ending Fault) → IsInputOf request input
-    → IfSome known (λ whole. bytes ≡ take (max_bytes input) whole) → Responds request bytes old new ended
-    → CarriesOut request known old new ended
-carried_out (Exec asked) input bytes None old new ended is read left = tt
-carried_out (Exec asked) input bytes (Some whole) old new ended is read left =
-    left (take (most_read asked.text) whole)
-    (λ has. front (program_input asked.text) input bytes whole (is.shaped has) read)
-carried_out (Asm list) input bytes None old new ended is read left = tt
-carried_out (Asm list) input bytes (Some whole) old new ended is read left =
-    subst (λ (b : List ℕ). LeavesImage old new list b ended) (front inputs.Text input bytes whole is read) left
-carried_out (Compile asked) input bytes None old new ended is read left = tt
-carried_out (Compile asked) input bytes (Some whole) old new ended is read left =
-    subst (λ (b : List ℕ). LeavesCompiled old new asked b ended) (front inputs.Text input bytes whole is read) left
-carried_out (Dis list) input bytes None old new ended is read left = tt
-carried_out (Dis list) input bytes (Some whole) old new ended is read left =
-    subst (λ (b : List ℕ). LeavesListing old new list b ended) (front inputs.Image input bytes whole is read) left
-carried_out (Clock asked) input bytes known old new ended is read left = left
-carried_out (Verify asked) input bytes None old new ended is read left = tt
-carried_out (Verify asked) input bytes (Some whole) old new ended is read left =
-    left (take (max_bytes inputs.Image) whole)
-    (λ has. front inputs.Image input bytes whole (is.shaped has) read)
-carried_out (Explain asked) input bytes None old new ended is read left = tt
-carried_out (Explain asked) input bytes (Some whole) old new ended is read left =
-    left (take (most_read asked.text) whole)
-    (λ has. front (program_input asked.text) input bytes whole (is.shaped has) read)
-carried_out (Scenario asked) input bytes None old new ended is read left = tt
-carried_out (Scenario asked) input bytes (Some whole) old new ended is read left =
-    left whole (front inputs.Scenario input bytes whole is read)
-carried_out (Stress asked) input bytes known old new ended is read left = left
-carried_out (Help text) input bytes known old new ended is read left = left
+    → input ≢ inputs.Nothing → IsBeforeWriting fault → RespondsTo input request known old old (Err fault)
+unread request inputs.Nothing known old fault some before = absurd (some refl)
+unread request inputs.Image None old fault some before = tt
+unread request inputs.Image (Some whole) old fault some before = inr (before, Keeps-refl old)
+unread request inputs.Text None old fault some before = tt
+unread request inputs.Text (Some whole) old fault some before = inr (before, Keeps-refl old)
+unread request inputs.Scenario None old fault some before = tt
+unread request inputs.Scenario (Some whole) old fault some before = inr (before, Keeps-refl old)

@@ -5,7 +5,6 @@ mod VerdictLemmas
 mod RunLemmas
 mod StressLemmas
 mod FaultLemmas
-mod InputLemmas
 mod TracedLemmas
 mod TracedRunLemmas
 mod LeavesLemmas

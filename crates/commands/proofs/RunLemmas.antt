@@ -1,7 +1,6 @@
 -- What the commands that read a scenario leave of its text.
 use Rattle.std.proofs.Common.{◌≡◌, ℕ, List, ◌++◌, refl, codes, inl, inr, Option}
 use Rattle.std.specs.Prelude.{Result, Ok, Err, IfOk}
-use Rattle.std.proofs.KnownBytes.{Keeps-refl}
 use Rattle.std.specs.declared.alloc.AllocError.{AllocError}
 use Rattle.scenario_text.specs.declared.refusal.ScenarioError.{ScenarioError}
 use Rattle.scenario_text.specs.declared.refusal.ScenarioError.TheVariants as errors
@@ -12,7 +11,6 @@ use Rattle.commands.specs.declared.ending.Ending.{Ending}
 use Rattle.commands.specs.declared.ending.Ending.TheVariants.{Violated, Done, Mismatched, Refused, Unfinished}
 use Rattle.commands.specs.declared.fault.Fault.{Fault}
 use Rattle.commands.specs.declared.request.ScenarioRequest.{ScenarioRequest}
-use Rattle.commands.specs.Faults.{IsBeforeWriting}
 use Rattle.commands.specs.Output.{Leaves}
 use Rattle.commands.specs.Perform.{SaysAt}
 use Rattle.commands.specs.Scenarios.{LeavesFor, LeavesOf}
@@ -43,11 +41,6 @@ pub left_of_refusal : (asked : ScenarioRequest) (text : List ℕ) (old new : Opt
     (ended : Result Ending Fault) → IsDue text error → Leaves old new (refusal_line error ++ codes "\n") Refused ended
     → LeavesFor asked old new text ended
 left_of_refusal asked text old new error ended due left = inr (inl (error, due, left))
-
--- or nothing
-pub left_unread : (asked : ScenarioRequest) (text : List ℕ) (old : Option (List ℕ)) (fault : Fault)
-    → IsBeforeWriting fault → LeavesFor asked old old text (Err fault)
-left_unread asked text old fault before = inr (inr (before, Keeps-refl old))
 
 -- an ending of which nothing is said
 unsaid_at : (ending : Ending) (old : Option (List ℕ)) → SaysAt ending old old

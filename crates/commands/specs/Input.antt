@@ -8,8 +8,6 @@ use Rattle.commands.specs.declared.input.Input.{Input}
 use Rattle.commands.specs.declared.input.Input.TheVariants as inputs
 use Rattle.commands.specs.declared.rejection.Unread.{Unread}
 use Rattle.commands.specs.declared.rejection.Unread.TheVariants.{Shape, Image, Text}
-use Rattle.commands.specs.declared.request.Request.{Request}
-use Rattle.commands.specs.declared.request.Request.TheVariants as requests
 use Rattle.commands.specs.declared.request.ShapeOptions.{ShapeOptions}
 use Rattle.commands.specs.Asm.{ReadsAsmText}
 use Rattle.commands.specs.Image.{HasShape, ReadsImage}
@@ -43,19 +41,6 @@ most_read text = max_bytes (program_input text)
 pub record IsShapedInput (asked : ShapeOptions) (wanted input : Input) : Type 0 where
   pub shaped : HasShape asked → input ≡ wanted
   pub unshaped : (HasShape asked → ⊥) → input ≡ inputs.Nothing
-
--- what a request reads
-abbrev pub IsInputOf : Request → Input → Type 0
-IsInputOf (requests.Exec asked) input = IsShapedInput asked.shape (program_input asked.text) input
-IsInputOf (requests.Asm list) input = input ≡ inputs.Text
-IsInputOf (requests.Compile asked) input = input ≡ inputs.Text
-IsInputOf (requests.Dis list) input = input ≡ inputs.Image
-IsInputOf (requests.Clock asked) input = input ≡ inputs.Nothing
-IsInputOf (requests.Verify asked) input = IsShapedInput asked inputs.Image input
-IsInputOf (requests.Explain asked) input = IsShapedInput asked.shape (program_input asked.text) input
-IsInputOf (requests.Scenario asked) input = input ≡ inputs.Scenario
-IsInputOf (requests.Stress asked) input = input ≡ inputs.Nothing
-IsInputOf (requests.Help text) input = input ≡ inputs.Nothing
 
 -- ---- what it is
 

@@ -1,10 +1,10 @@
 -- What the program does for a request: what it takes, what it leaves and says, and its exit status (docs/COMMANDS.md).
-use Rattle.std.specs.Prelude.{◌≡◌, ◌⊎◌, ℕ, ◌+◌, List, Option, Result, Ok, Err, IfSome, string_bytes, take}
+use Rattle.std.specs.Prelude.{◌≡◌, ◌⊎◌, ℕ, List, [], Option, Some, None, Result, Ok, Err, string_bytes, take}
 use Rattle.commands.specs.declared.ending.Ending.{Ending}
 use Rattle.commands.specs.declared.ending.Ending.TheVariants.{Violated, Done, Mismatched, Refused, Unfinished}
 use Rattle.commands.specs.declared.fault.Fault.{Fault}
-use Rattle.commands.specs.declared.input.TheConstants.{IMAGE_BYTES, TEXT_BYTES}
 use Rattle.commands.specs.declared.input.Input.{Input}
+use Rattle.commands.specs.declared.input.Input.TheVariants as inputs
 use Rattle.commands.specs.declared.request.Request.{Request}
 use Rattle.commands.specs.declared.request.Request.TheVariants.{Exec, Asm, Compile, Dis, Clock, Verify, Explain, Scenario, Stress, Help}
 use Rattle.commands.specs.Asm.{LeavesImage}
@@ -14,31 +14,60 @@ use Rattle.commands.specs.Ending.{status_of}
 use Rattle.commands.specs.Exec.{LeavesExec}
 use Rattle.commands.specs.Explained.{LeavesExplained}
 use Rattle.commands.specs.Faults.{Says, fault_status, fault_text}
-use Rattle.commands.specs.Input.{IsInputOf, Takes, most_read}
-use Rattle.commands.specs.Output.{Leaves}
+use Rattle.commands.specs.Input.{IsShapedInput, Takes, max_bytes, program_input}
+use Rattle.commands.specs.Output.{Leaves, LeavesNothing}
 use Rattle.rule_notes.specs.Words.{IsNote}
 use Rattle.commands.specs.Scenarios.{LeavesFor}
 use Rattle.commands.specs.Stress.{LeavesStressed}
 use Rattle.commands.specs.Verdict.{LeavesVerdict}
 
--- what each command leaves on its output, where the bytes of its input are known, and how it ends
+-- ---- what is read, and what is left of it
+
+-- what a request reads
+abbrev pub IsInputOf : Request → Input → Type 0
+IsInputOf (Exec asked) input = IsShapedInput asked.shape (program_input asked.text) input
+IsInputOf (Asm list) input = input ≡ inputs.Text
+IsInputOf (Compile asked) input = input ≡ inputs.Text
+IsInputOf (Dis list) input = input ≡ inputs.Image
+IsInputOf (Clock asked) input = input ≡ inputs.Nothing
+IsInputOf (Verify asked) input = IsShapedInput asked inputs.Image input
+IsInputOf (Explain asked) input = IsShapedInput asked.shape (program_input asked.text) input
+IsInputOf (Scenario asked) input = input ≡ inputs.Scenario
+IsInputOf (Stress asked) input = input ≡ inputs.Nothing
+IsInputOf (Help text) input = input ≡ inputs.Nothing
+
+-- what each command leaves on its output of these bytes of its input, and how it ends
+abbrev pub Responds : Request → List ℕ → Option (List ℕ) → Option (List ℕ) → Result Ending Fault → Type 0
+Responds (Exec asked) bytes old new ended = LeavesExec old new asked bytes ended
+Responds (Asm list) bytes old new ended = LeavesImage old new list bytes ended
+Responds (Compile asked) bytes old new ended = LeavesCompiled old new asked bytes ended
+Responds (Dis list) bytes old new ended = LeavesListing old new list bytes ended
+Responds (Clock asked) bytes old new ended = LeavesClock old new asked ended
+Responds (Verify asked) bytes old new ended = LeavesVerdict old new asked bytes ended
+Responds (Explain asked) bytes old new ended = LeavesExplained old new asked bytes ended
+Responds (Scenario asked) bytes old new ended = LeavesFor asked old new bytes ended
+Responds (Stress asked) bytes old new ended = LeavesStressed asked old new ended
+Responds (Help text) bytes old new ended = Leaves old new (string_bytes text) Done ended
+
+-- the first bytes of an input, at most as many as are read: of a scenario they serve as well as the whole
+-- (`front_reads_as_whole`)
+abbrev pub front : Input → List ℕ → List ℕ
+front input whole = take (max_bytes input) whole
+
+-- of an input that is known its first bytes are answered, or it couldn't be read, and nothing is left
+abbrev pub RespondsTo : Input → Request → Option (List ℕ) → Option (List ℕ) → Option (List ℕ) → Result Ending Fault
+    → Type 0
+RespondsTo inputs.Nothing request known old new ended = Responds request [] old new ended
+RespondsTo input request None old new ended = Unit {0}
+RespondsTo input request (Some whole) old new ended =
+    Responds request (front input whole) old new ended ⊎ LeavesNothing old new ended
+
+-- what is left of the input that the request reads
 abbrev pub CarriesOut : Request → Option (List ℕ) → Option (List ℕ) → Option (List ℕ) → Result Ending Fault → Type 0
-CarriesOut (Exec asked) input old new ended = IfSome input
-    (λ bytes. LeavesExec old new asked (take (most_read asked.text) bytes) ended)
-CarriesOut (Asm list) input old new ended = IfSome input
-    (λ bytes. LeavesImage old new list (take (TEXT_BYTES + 1) bytes) ended)
-CarriesOut (Compile asked) input old new ended = IfSome input
-    (λ bytes. LeavesCompiled old new asked (take (TEXT_BYTES + 1) bytes) ended)
-CarriesOut (Dis list) input old new ended = IfSome input
-    (λ bytes. LeavesListing old new list (take IMAGE_BYTES bytes) ended)
-CarriesOut (Clock asked) input old new ended = LeavesClock old new asked ended
-CarriesOut (Verify asked) input old new ended = IfSome input
-    (λ bytes. LeavesVerdict old new asked (take IMAGE_BYTES bytes) ended)
-CarriesOut (Explain asked) input old new ended = IfSome input
-    (λ bytes. LeavesExplained old new asked (take (most_read asked.text) bytes) ended)
-CarriesOut (Stress asked) input old new ended = LeavesStressed asked old new ended
-CarriesOut (Scenario asked) input old new ended = IfSome input (λ text. LeavesFor asked old new text ended)
-CarriesOut (Help text) input old new ended = Leaves old new (string_bytes text) Done ended
+CarriesOut request known old new ended =
+    (input : Input) × IsInputOf request input × RespondsTo input request known old new ended
+
+-- ---- how it ends
 
 -- the status of an ending, or of a fault
 abbrev pub status_for : Result Ending Fault → ℕ

@@ -4,6 +4,5 @@ pub mod Faults
 pub mod Input
 pub mod Lines
 pub mod NodeRule
-pub mod Perform
 pub mod Rejections
 pub mod TracedRun

@@ -1,16 +1,40 @@
 //! `asm`: the image of a text.
-ghost use Rattle.std.specs.Prelude.{◌≡◌, IfOk};
+ghost use Rattle.std.specs.Prelude.{◌≡◌, IfErr, IfOk};
 ghost use Rattle.commands.specs.declared.ending.Ending.TheVariants.{Done};
-ghost use Rattle.commands.specs.Asm.{program_text};
+ghost use Rattle.commands.specs.Asm.{LeavesImage, program_text};
 ghost use Rattle.commands.specs.Output.{Leaves};
+ghost use Rattle.commands.specs.Perform.{SaysAt};
 
 use crate::ending::Ending;
 use crate::fault::Fault;
 use crate::output::write_whole;
+use crate::program::program_meant;
+use crate::rejection::{Rejection, Unread, reject};
 use bpf_asm::list_text;
 use bpf_insn::{Program, encode};
 use std::alloc::{AllocError, Global};
 use std::io::Write;
+
+/// Writes the image of the program that a text means, or the text's listing.
+pub(crate) fn asm_bytes<W: Write, E: Write>(
+    alloc: Global,
+    list: bool,
+    text: &[u8],
+    out: &mut W,
+    err: &mut E,
+) -> Result<Ending, Fault>
+    ensures left { LeavesImage (W.contents out.old) (W.contents out.new) list text.now result }
+    ensures said { IfOk result (λ ending. SaysAt ending (E.contents err.old) (E.contents err.new)) }
+    ensures unsaid { IfErr result (λ fault. E.contents err.new ≡ E.contents err.old) }
+{
+    match program_meant(alloc, text)? {
+        Ok(program) => asm(alloc, list, text, &program, out),
+        Err(error) => {
+            let rejection = Rejection::Program(Unread::Text(error));
+            reject(alloc, &rejection, text, out, err)
+        }
+    }
+}
 
 /// Writes the image of the program of a text, or the text's listing.
 pub(crate) fn asm<W: Write>(

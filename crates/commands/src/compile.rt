@@ -1,13 +1,16 @@
 //! `compile`: the image of a rule, or its listing.
 ghost use Rattle.std.specs.Prelude.{◌≡◌, IfOk, IfErr, IsTrue};
 ghost use Rattle.rule_text.specs.Programs.{IsProgramOfText};
-ghost use Rattle.commands.specs.Compile.{Compiles, asked_sizes};
+ghost use Rattle.commands.specs.Compile.{Compiles, LeavesCompiled, asked_sizes};
 ghost use Rattle.commands.specs.Faults.{IsBeforeWriting};
 ghost use Rattle.commands.specs.Image.{asked_extent};
+ghost use Rattle.commands.specs.Perform.{SaysAt};
 
+use crate::ending::Ending;
 use crate::fault::Fault;
+use crate::output::write_whole;
 use crate::program::refuse_too_long;
-use crate::rejection::Uncompiled;
+use crate::rejection::{Rejection, Uncompiled, reject};
 use crate::request::CompileOptions;
 use bpf_insn::{Program, encode};
 use clock_nodes::ClockRule;
@@ -15,6 +18,29 @@ use node_env::Shape;
 use rule_listing::list_rule;
 use rule_text::program_of_text;
 use std::alloc::Global;
+use std::io::Write;
+
+/// Writes the image of the rule that a text is, or its listing.
+pub(crate) fn compile_bytes<W: Write, E: Write>(
+    alloc: Global,
+    options: CompileOptions,
+    text: &[u8],
+    out: &mut W,
+    err: &mut E,
+) -> Result<Ending, Fault>
+    ensures left { LeavesCompiled (W.contents out.old) (W.contents out.new) options text.now result }
+    ensures said { IfOk result (λ ending. SaysAt ending (E.contents err.old) (E.contents err.new)) }
+    ensures unsaid { IfErr result (λ fault. E.contents err.new ≡ E.contents err.old) }
+{
+    match compile(alloc, options, text)? {
+        Ok(bytes) => write_whole(out, bytes.as_slice(), Ending::Done),
+        Err(why) => {
+            let memory = options.shape.memory;
+            let rejection = Rejection::Rule { why, memory };
+            reject(alloc, &rejection, text, out, err)
+        }
+    }
+}
 
 /// Returns the image of the rule that a text is, or its listing, or why there is no program. A text that is too long is
 /// a fault of reading.

@@ -1,13 +1,16 @@
 //! `dis`: the canonical text of a program.
-ghost use Rattle.std.specs.Prelude.{◌≡◌, IfOk};
+ghost use Rattle.std.specs.Prelude.{◌≡◌, IfErr, IfOk};
 ghost use Rattle.clock_nodes.specs.Listings.{clock_listing};
 ghost use Rattle.commands.specs.declared.ending.Ending.TheVariants.{Done};
-ghost use Rattle.commands.specs.Dis.{LeavesClock, dis_text};
+ghost use Rattle.commands.specs.Dis.{LeavesClock, LeavesListing, dis_text};
 ghost use Rattle.commands.specs.Output.{Leaves};
+ghost use Rattle.commands.specs.Perform.{SaysAt};
 
 use crate::ending::Ending;
 use crate::fault::Fault;
 use crate::output::write_whole;
+use crate::program::program_in;
+use crate::rejection::{Rejection, Unread, reject};
 use crate::request::ClockOptions;
 use bpf_asm::{disassemble, list_program};
 use bpf_insn::Program;
@@ -15,6 +18,27 @@ use clock_nodes::{ClockRule, dolev_welch};
 use node_env::{MEMORY_UNIT, Shape};
 use std::alloc::{AllocError, Global};
 use std::io::Write;
+
+/// Writes the canonical text of the program of an image, or its listing.
+pub(crate) fn dis_bytes<W: Write, E: Write>(
+    alloc: Global,
+    list: bool,
+    image: &[u8],
+    out: &mut W,
+    err: &mut E,
+) -> Result<Ending, Fault>
+    ensures left { LeavesListing (W.contents out.old) (W.contents out.new) list image.now result }
+    ensures said { IfOk result (λ ending. SaysAt ending (E.contents err.old) (E.contents err.new)) }
+    ensures unsaid { IfErr result (λ fault. E.contents err.new ≡ E.contents err.old) }
+{
+    match program_in(alloc, image)? {
+        Ok(program) => dis(alloc, list, &program, out),
+        Err(error) => {
+            let rejection = Rejection::Program(Unread::Image(error));
+            reject(alloc, &rejection, image, out, err)
+        }
+    }
+}
 
 /// Writes the canonical text of a program, or its listing.
 pub(crate) fn dis<W: Write>(

@@ -1,9 +1,11 @@
 //! `exec`: runs a program in the case of a node of a shape.
-ghost use Rattle.std.specs.Prelude.{◌≡◌, ◌++◌, IfOk, OnOk, string_bytes};
+ghost use Rattle.std.specs.Prelude.{◌≡◌, ◌++◌, IfErr, IfOk, OnOk, string_bytes};
 ghost use Rattle.commands.specs.declared.ending.Ending.TheVariants.{Done};
 ghost use Rattle.commands.specs.Answer.{shown_lines, told_text};
+ghost use Rattle.commands.specs.Exec.{LeavesExec};
 ghost use Rattle.commands.specs.Image.{asked_extent};
 ghost use Rattle.commands.specs.Output.{Leaves};
+ghost use Rattle.commands.specs.Perform.{SaysAt};
 ghost use Rattle.commands.specs.inner.Exec.{LeavesRunOf, RunsCase, answer_in, left_in};
 
 use crate::answer::Answer;
@@ -11,7 +13,8 @@ use crate::ending::Ending;
 use crate::fault::Fault;
 use crate::left::{LeftByRun, add_left};
 use crate::output::write_whole;
-use crate::program::ProgramRead;
+use crate::program::{ProgramRead, program_read};
+use crate::rejection::{Rejection, reject};
 use crate::request::ExecOptions;
 use crate::traced::trace_program;
 use bpf_insn::Program;
@@ -19,6 +22,25 @@ use bpf_machine::{Outcome, run_checked};
 use node_env::{Outbox, Shape};
 use std::alloc::{AllocError, Global};
 use std::io::Write;
+
+/// Runs the program of these bytes.
+pub(crate) fn exec_bytes<W: Write, E: Write>(
+    alloc: Global,
+    options: &ExecOptions,
+    bytes: &[u8],
+    out: &mut W,
+    err: &mut E,
+) -> Result<Ending, Fault>
+    ensures left { LeavesExec (W.contents out.old) (W.contents out.new) options.now bytes.now result }
+    ensures said { IfOk result (λ ending. SaysAt ending (E.contents err.old) (E.contents err.new)) }
+    ensures unsaid { IfErr result (λ fault. E.contents err.new ≡ E.contents err.old) }
+{
+    let found = program_read(alloc, options.shape, options.text, bytes)?;
+    match found {
+        Ok(read) => exec(alloc, options, &read, out),
+        Err(unread) => reject(alloc, &Rejection::Program(unread), bytes, out, err),
+    }
+}
 
 /// Runs a program in the case that is asked for, and writes the line of the answer. If asked, it also writes the line
 /// of each step before it, and what the run leaves after it.

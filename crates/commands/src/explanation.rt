@@ -5,11 +5,13 @@ ghost use Rattle.commands.specs.Explained as told_specs;
 ghost use Rattle.commands.specs.Faults.{IsBeforeWriting};
 ghost use Rattle.commands.specs.Image.{asked_extent};
 ghost use Rattle.commands.specs.Output.{LeavesAny};
+ghost use Rattle.commands.specs.Perform.{SaysAt};
 
 use crate::ending::Ending;
 use crate::fault::Fault;
 use crate::output::write_whole;
-use crate::program::ProgramRead;
+use crate::program::{ProgramRead, program_read};
+use crate::rejection::{Rejection, reject};
 use crate::request::ExplainOptions;
 use crate::verdict::Verdict;
 use bpf_asm::instruction_lines;
@@ -144,6 +146,25 @@ fn explain_read(
         return Err(Fault::Memory);
     };
     explain_program(alloc, options, &read.program, lines.as_slice(), read.shape)
+}
+
+/// Tells what is known at the slots of the program of these bytes.
+pub(crate) fn explain_bytes<W: Write, E: Write>(
+    alloc: Global,
+    options: ExplainOptions,
+    bytes: &[u8],
+    out: &mut W,
+    err: &mut E,
+) -> Result<Ending, Fault>
+    ensures left { told_specs.LeavesExplained (W.contents out.old) (W.contents out.new) options bytes.now result }
+    ensures said { IfOk result (λ ending. SaysAt ending (E.contents err.old) (E.contents err.new)) }
+    ensures unsaid { IfErr result (λ fault. E.contents err.new ≡ E.contents err.old) }
+{
+    let found = program_read(alloc, options.shape, options.text, bytes)?;
+    match found {
+        Ok(read) => explained(alloc, options, &read, bytes, out),
+        Err(unread) => reject(alloc, &Rejection::Program(unread), bytes, out, err),
+    }
 }
 
 /// Writes what is told of a program that was read from these bytes.

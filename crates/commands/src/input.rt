@@ -1,12 +1,12 @@
 //! What a request reads. It is read once, before its command begins.
-ghost use Rattle.std.specs.Prelude.{◌≡◌, ◌≢◌, ◌<◌, IfOk, IfErr, IfSome, take};
+ghost use Rattle.std.specs.Prelude.{◌≡◌, ◌≢◌, ◌<◌, [], IfOk, IfErr, IfSome, take};
 ghost use Rattle.stream_io.specs.Streams.{TakesAtMost};
 ghost use Rattle.commands.specs.declared.input.Input.TheVariants.{Nothing};
 ghost use Rattle.commands.specs.Faults.{IsBeforeWriting};
 ghost use Rattle.commands.specs.Input.{IsShapedInput, Takes, max_bytes, program_input};
 
 use crate::fault::Fault;
-use crate::request::{Request, ShapeOptions};
+use crate::request::ShapeOptions;
 use bench_scenario::{MAX_BYTES, MAX_CALLS};
 use bpf_insn::MAX_SLOTS;
 use node_env::Shape;
@@ -37,34 +37,15 @@ pub enum Input {
     Scenario,
 }
 
-impl Request {
-    ghost use Rattle.commands.specs.Input.{IsInputOf};
-
-    /// Returns what is read for it: nothing if its options have no shape.
-    pub(crate) fn input(&self) -> Input
-        ensures { IsInputOf self.now result }
-    {
-        match self {
-            Request::Exec(options) => shaped_input(options.shape, program_input(options.text)),
-            Request::Verify(options) => shaped_input(*options, Input::Image),
-            Request::Explain(options) => shaped_input(options.shape, program_input(options.text)),
-            Request::Dis { .. } => Input::Image,
-            Request::Asm { .. } | Request::Compile(_) => Input::Text,
-            Request::Scenario(_) => Input::Scenario,
-            Request::Clock(_) | Request::Stress(_) | Request::Help { .. } => Input::Nothing,
-        }
-    }
-}
-
 /// Returns what is read for a program: a text, if that is asked for, or an image.
-fn program_input(text: bool) -> Input
+pub(crate) fn program_input(text: bool) -> Input
     ensures { result ≡ program_input text }
 {
     if text { Input::Text } else { Input::Image }
 }
 
 /// Returns what is read if the options have a shape.
-fn shaped_input(options: ShapeOptions, input: Input) -> Input
+pub(crate) fn shaped_input(options: ShapeOptions, input: Input) -> Input
     ensures { IsShapedInput options input result }
 {
     match Shape::of(options.nodes, options.memory) {
@@ -82,6 +63,7 @@ pub(crate) fn read_input<R: Read>(
     ensures bytes { IfOk result (λ bytes.
         IfSome (R.remaining reader.old) (λ whole. bytes.items ≡ take (max_bytes input) whole)) }
     ensures fault { IfErr result IsBeforeWriting }
+    ensures nothing { IfOk result (λ bytes. input ≡ Nothing → bytes.items ≡ []) }
     ensures something { IfErr result (λ fault. input ≢ Nothing) }
     ensures taken { Takes input (R.remaining reader.old) (R.remaining reader.new) }
 {

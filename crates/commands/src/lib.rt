@@ -11,7 +11,6 @@ mod exec;
 mod explanation;
 mod explore;
 mod fault;
-mod front;
 mod input;
 pub mod laws;
 mod left;

@@ -1,18 +1,20 @@
 //! A request, from its command to the exit status.
 ghost use Rattle.std.specs.Prelude.{◌≡◌, IfErr, IfOk};
-ghost use Rattle.commands.specs.Perform.{CarriesOut, PerformsRequest, SaysAt, TakesFor};
-ghost use Rattle.commands.specs.inner.Perform.{Responds};
+ghost use Rattle.commands.specs.Perform.{CarriesOut, IsInputOf, PerformsRequest, Responds, SaysAt, TakesFor};
 
-use crate::dis::clock;
+use crate::asm::asm_bytes;
+use crate::compile::compile_bytes;
+use crate::dis::{clock, dis_bytes};
 use crate::ending::Ending;
+use crate::exec::exec_bytes;
+use crate::explanation::explain_bytes;
 use crate::fault::Fault;
-use crate::front::{
-    asm_bytes, compile_bytes, dis_bytes, exec_bytes, explain_bytes, scenario_bytes, verify_bytes,
-};
-use crate::input::read_input;
+use crate::input::{Input, program_input, read_input, shaped_input};
 use crate::output::write_whole;
 use crate::request::Request;
+use crate::scenario::scenario_bytes;
 use crate::stress::stress;
+use crate::verify::verify_bytes;
 use bench_space::Progress;
 use std::alloc::Global;
 use std::io::{Read, Write};
@@ -57,9 +59,24 @@ fn carry_out<T: Threads + Wait + Sync, R: Read, W: Write, E: Write, P: Progress>
     ensures unsaid { IfErr result (λ fault. E.contents err.new ≡ E.contents err.old) }
     ensures taken { TakesFor request.now (R.remaining reader.old) (R.remaining reader.new) }
 {
-    match read_input(alloc, request.input(), reader) {
+    match read_input(alloc, input_of(request), reader) {
         Ok(bytes) => respond(rt, alloc, request, bytes.as_slice(), out, err, progress),
         Err(fault) => Err(fault),
+    }
+}
+
+/// Returns what a request reads: nothing if its options have no shape.
+fn input_of(request: &Request) -> Input
+    ensures { IsInputOf request.now result }
+{
+    match request {
+        Request::Exec(options) => shaped_input(options.shape, program_input(options.text)),
+        Request::Verify(options) => shaped_input(*options, Input::Image),
+        Request::Explain(options) => shaped_input(options.shape, program_input(options.text)),
+        Request::Dis { .. } => Input::Image,
+        Request::Asm { .. } | Request::Compile(_) => Input::Text,
+        Request::Scenario(_) => Input::Scenario,
+        Request::Clock(_) | Request::Stress(_) | Request::Help { .. } => Input::Nothing,
     }
 }
 

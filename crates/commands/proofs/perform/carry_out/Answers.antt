@@ -1,22 +1,30 @@
 use Rattle.std.proofs.Common.{List, ℕ, subst}
-use Rattle.commands.specs.inner.Perform.{Responds}
-use Rattle.commands.proofs.FrontLemmas as lemmas
+use Rattle.commands.specs.Perform.{Responds}
+use Rattle.commands.proofs.FrontLemmas.{responds_to, unread}
 use Rattle.commands.proofs.perform.carry_out.Goals as goal
 
 pub returns-in-Ok-clause-carried_out : goal.returns-in-Ok-clause-carried_out
 returns-in-Ok-clause-carried_out g c =
-    lemmas.carried_out c.args.request.now c.input.result c.in-Ok.bytes.items (g.R.Read.remaining c.args.reader.now) _ _
-    c.respond.result c.input.ensures c.in-Ok.ensures.bytes
-    (subst (λ (b : List ℕ). Responds c.args.request.now b (g.W.Write.contents c.args.out.now)
-    (g.W.Write.contents c.respond.new.out) c.respond.result) c.as_slice.ensures.value c.respond.ensures.left)
+    let old = g.W.Write.contents c.args.out.now in
+    let new = g.W.Write.contents c.respond.new.out in
+    let left = subst (λ (b : List ℕ). Responds c.args.request.now b old new c.respond.result) c.as_slice.ensures.value
+    c.respond.ensures.left in (
+      c.input_of.result,
+      c.input_of.ensures,
+      responds_to c.args.request.now c.input_of.result c.in-Ok.bytes.items (g.R.Read.remaining c.args.reader.now) old new
+          c.respond.result c.in-Ok.ensures.bytes c.in-Ok.ensures.nothing left,
+    )
 
 pub returns-in-Ok-clause-taken : goal.returns-in-Ok-clause-taken
-returns-in-Ok-clause-taken g c = (c.input.result, c.input.ensures, c.in-Ok.ensures.taken)
+returns-in-Ok-clause-taken g c = (c.input_of.result, c.input_of.ensures, c.in-Ok.ensures.taken)
 
 pub returns-in-Err-clause-carried_out : goal.returns-in-Err-clause-carried_out
-returns-in-Err-clause-carried_out g c =
-    lemmas.unread c.args.request.now c.input.result (g.R.Read.remaining c.args.reader.now) _ c.in-Err.fault
-    c.input.ensures c.in-Err.ensures.something c.in-Err.ensures.fault
+returns-in-Err-clause-carried_out g c = (
+  c.input_of.result,
+  c.input_of.ensures,
+  unread c.args.request.now c.input_of.result (g.R.Read.remaining c.args.reader.now) _ c.in-Err.fault
+      c.in-Err.ensures.something c.in-Err.ensures.fault,
+)
 
 pub returns-in-Err-clause-taken : goal.returns-in-Err-clause-taken
-returns-in-Err-clause-taken g c = (c.input.result, c.input.ensures, c.in-Err.ensures.taken)
+returns-in-Err-clause-taken g c = (c.input_of.result, c.input_of.ensures, c.in-Err.ensures.taken)
