@@ -5,8 +5,10 @@ Each page that the crates, the scripts and the pages name is there, with the hea
 docs/VERIFIER.md ("Rules"). Each source that a page names is there. The toolchain that pages name is that of `rt version`
 (left out without `rt`). Each count that a page quotes is the one that the files give (tools/believed.py and below), and
 each limit of docs/GLOSSARY.md is the constant's value. Each call or type and each clause that docs/CLAIMS.md and
-docs/THEOREMS.md name as a contract is in the sources of the crate.
+docs/THEOREMS.md name as a contract is in the sources of the crate. No two crates define one name in specs/, but for
+those that docs/DECISIONS.md names ("One meaning for each word").
 """
+import collections
 import re
 import sys
 
@@ -37,6 +39,8 @@ CONSTANT_NAME = re.compile(r"\b[A-Z][A-Z_]+\b")
 QUOTED = r"`\w+`(?:(?:, | and )`\w+`)*"
 CLAIM = re.compile(rf"({QUOTED})(?:: ({QUOTED}))?(?: \(({QUOTED})\))?")
 CELL = re.compile(r"^\|[^|\n]*\|[^|\n]*\| ([^|\n]+) \|$", re.M)
+DEFINITION = re.compile(r"^(?:(?:abbrev|unfoldable) pub ([\w-]+) :|pub record (\w+))", re.M)
+SHARED_NAMES = {"between", "begins_name", "rows_of"}
 CONTRACT = re.compile(r"^- \*\*Contract\*\*: (.*?)^- ", re.M | re.S)
 GROUP = re.compile(rf"({QUOTED})(?: of `[\w/]+`)? \(({QUOTED})\)")
 DECLARED = re.compile(r"\b(fn|struct|enum|trait|ensures) (\w+)")
@@ -277,13 +281,25 @@ def contract_faults():
     print(f"check_citations: {pairs} contracts that pages name")
 
 
+def shared_name_faults():
+    """Names that two crates define."""
+    crates_of = collections.defaultdict(set)
+    for path in files(["crates/*/specs/**/*.antt"]):
+        for names in DEFINITION.findall(read(path)):
+            crates_of["".join(names)].add(path.relative_to(TOP).parts[1])
+    for name, among in sorted(crates_of.items()):
+        if len(among) > 1 and name not in SHARED_NAMES:
+            yield f"specs/: {' and '.join(sorted(among))} define {name}"
+    print(f"check_citations: {len(crates_of)} names of definitions")
+
+
 def main():
     sources, scripts = files(COMMENTED), files(SCRIPTS)
     found = [it for path in PAGES for it in page_faults(path)]
     for path in [*sources, *scripts]:
         found += named_faults(path, joined(MARKER.sub("", read(path))))
     found += [*source_faults(sources), *toolchain_faults(), *count_faults(), *name_faults(), *limit_faults()]
-    found += contract_faults()
+    found += [*contract_faults(), *shared_name_faults()]
     for it in found:
         print(it)
     print(f"check_citations: {len(PAGES)} pages, {len(sources) + len(scripts)} other files: {len(found)} faults")

@@ -13,7 +13,7 @@ use Rattle.bpf_verify.specs.declared.rule.Rule.{Rule}
 use Rattle.bpf_verify.specs.Findings.{AreFindings, IsVerdict, table_in}
 use Rattle.bpf_verify.specs.Typable.{Table}
 use Rattle.bpf_explain.specs.declared.detail.Detail.{Detail}
-use Rattle.bpf_explain.specs.Rows.{insn_listed, insns_before, row_at, slot_row, rows_before}
+use Rattle.bpf_explain.specs.Rows.{insn_listed, insn_count_before, row_at, slot_row, rows_before}
 use Rattle.bpf_explain.proofs.Listing.{range_next}
 
 -- one slot more
@@ -25,13 +25,13 @@ over_next f slot =
     ∙ flat_map-append f (range_with_len 0 slot) (slot ∷ [])
     ∙ ap (λ more. flat_map f (range_with_len 0 slot) ++ more) (append-nil (f slot))
 
-pub none_before : (program : List Insn) → insns_before program 0 ≡ 0
-unfolding insns_before
+pub none_before : (program : List Insn) → insn_count_before program 0 ≡ 0
+unfolding insn_count_before
 none_before program = refl
 
-pub insns_next : (program : List Insn) (slot count after : ℕ) → count ≡ insns_before program slot
-    → after ≡ count + length (insn_listed (insn_at program slot)) → after ≡ insns_before program (slot + 1)
-unfolding insns_before
+pub insns_next : (program : List Insn) (slot count after : ℕ) → count ≡ insn_count_before program slot
+    → after ≡ count + length (insn_listed (insn_at program slot)) → after ≡ insn_count_before program (slot + 1)
+unfolding insn_count_before
 insns_next program slot count after before is =
     let found : ℕ → List Insn = λ at. insn_listed (insn_at program at) in
     is ∙ ap (λ n. n + length (found slot)) before
@@ -48,7 +48,7 @@ no_rows program shape table detail lines = refl
 
 pub rows_next : (program : List Insn) (shape : Extent) (table : Table) (detail : Detail) (lines : List ℕ)
     (slot count : ℕ) (line : Option ℕ) (text after : List ℕ)
-    → count ≡ insns_before program slot → line ≡ slice_get lines count
+    → count ≡ insn_count_before program slot → line ≡ slice_get lines count
     → text ≡ rows_before program shape table detail lines slot
     → after ≡ text ++ slot_row shape table detail line slot (insn_at program slot)
     → after ≡ rows_before program shape table detail lines (slot + 1)

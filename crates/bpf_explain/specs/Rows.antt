@@ -31,8 +31,9 @@ insn_listed None = []
 insn_listed (Some insn) = insn ∷ []
 
 -- how many instructions begin before a slot
-unfoldable pub insns_before : List Insn → ℕ → ℕ
-insns_before program slot = length (flat_map (λ before. insn_listed (insn_at program before)) (range_with_len 0 slot))
+unfoldable pub insn_count_before : List Insn → ℕ → ℕ
+insn_count_before program slot =
+    length (flat_map (λ before. insn_listed (insn_at program before)) (range_with_len 0 slot))
 
 -- the row of a slot where an instruction begins
 abbrev pub slot_row : Extent → Table → Detail → Option ℕ → ℕ → Option Insn → List ℕ
@@ -42,7 +43,7 @@ slot_row shape table detail line slot (Some insn) = row_text line slot insn (fac
 -- the lines are those of the instructions, in their order
 abbrev pub row_at : List Insn → Extent → Table → Detail → List ℕ → ℕ → List ℕ
 row_at program shape table detail lines slot =
-    slot_row shape table detail (slice_get lines (insns_before program slot)) slot (insn_at program slot)
+    slot_row shape table detail (slice_get lines (insn_count_before program slot)) slot (insn_at program slot)
 
 -- the rows of the slots before an end
 unfoldable pub rows_before : List Insn → Extent → Table → Detail → List ℕ → ℕ → List ℕ

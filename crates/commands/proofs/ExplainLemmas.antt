@@ -11,7 +11,7 @@ use Rattle.commands.specs.declared.ending.Ending.{Ending}
 use Rattle.commands.specs.declared.fault.Fault.{Fault}
 use Rattle.commands.specs.Image.{asked_extent}
 use Rattle.commands.specs.Verdict.{verdict_ending}
-use Rattle.commands.specs.Explained.{Explanation, explanation, explained_text, lines_read, verdict_in, ExplainsProgram}
+use Rattle.commands.specs.Explained.{Explanation, explanation, explained_text, lines_if_text, verdict_in, ExplainsProgram}
 
 -- what contracts see of what is told
 abbrev seen : Told → Explanation
@@ -31,7 +31,7 @@ program_told asked lines program shape findings text ending same are said ends =
 )
 
 pub read_told : (asked : ExplainOptions) (bytes lines : List ℕ) (program : List Insn) (result : Result Told Fault)
-    → lines ≡ lines_read asked.text bytes → IfOk result (λ told. ExplainsProgram asked lines program (seen told))
-    → IfOk result (λ told. ExplainsProgram asked (lines_read asked.text bytes) program (seen told))
+    → lines ≡ lines_if_text asked.text bytes → IfOk result (λ told. ExplainsProgram asked lines program (seen told))
+    → IfOk result (λ told. ExplainsProgram asked (lines_if_text asked.text bytes) program (seen told))
 read_told asked bytes lines program result same told =
     subst (λ ls. IfOk result (λ t. ExplainsProgram asked ls program (seen t))) same told

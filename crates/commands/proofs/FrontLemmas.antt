@@ -25,7 +25,7 @@ use Rattle.commands.specs.Case.{Left}
 use Rattle.commands.specs.Compile.{Compiles, LeavesCompiled, compiled_ending, compiled_text}
 use Rattle.commands.specs.Dis.{LeavesListing, dis_text, listing_ending, listing_text}
 use Rattle.commands.specs.Exec.{LeavesExec}
-use Rattle.commands.specs.Explained.{Explains, ExplainsProgram, Explanation, LeavesExplained, explanation, lines_read}
+use Rattle.commands.specs.Explained.{Explains, ExplainsProgram, Explanation, LeavesExplained, explanation, lines_if_text}
 use Rattle.commands.specs.Faults.{IsBeforeWriting}
 use Rattle.commands.specs.Image.{ReadsImage}
 use Rattle.commands.specs.Input.{max_bytes}
@@ -81,11 +81,12 @@ verify_rejected asked bytes unread old new ended reads left =
 
 pub explained_read : (asked : ExplainOptions) (bytes : List ℕ) (read : ProgramRead) (old new : Option (List ℕ))
     (ended : Result Ending Fault) → ReadsInput asked.shape asked.text bytes (Ok read)
-    → LeavesAny (ExplainsProgram asked (lines_read asked.text bytes) read.program) (λ told. told.text)
+    → LeavesAny (ExplainsProgram asked (lines_if_text asked.text bytes) read.program) (λ told. told.text)
     (λ told. told.ending) old new ended
     → LeavesExplained old new asked bytes ended
 explained_read asked bytes read old new ended reads left =
-    leaves_mapped {A = Explanation} {B = Explanation} (ExplainsProgram asked (lines_read asked.text bytes) read.program)
+    leaves_mapped {A = Explanation} {B = Explanation}
+    (ExplainsProgram asked (lines_if_text asked.text bytes) read.program)
     (λ told. told.text) (λ told. told.ending) (Explains asked bytes) (λ told. told.text) (λ told. told.ending)
     (λ told. told) old new ended (λ told is. inr (reads.0, read.program, reads.2, is)) (λ told. refl) (λ told. refl)
     left

@@ -26,7 +26,8 @@ pub record RunsRead (asked : ExecOptions) (bytes : List ℕ) (outcome : Outcome)
       (case_memory (asked_extent asked.shape) asked.case) asked.fuel left.memory left.outbox.sent outcome
   pub nodes : left.outbox.nodes ≡ asked.shape.nodes
 
--- the answer to these bytes under these options, and what the run leaves; or why there is none. Want of memory is none
+-- the answer to these bytes under these options, and what the run leaves; or why there is none, which is never lack of
+-- memory
 abbrev pub AnswersLeaving : ExecOptions → List ℕ → Result Answer Unread → Left → Type 0
 AnswersLeaving asked bytes (Ok answer) left =
     HasShape asked.shape × RunsRead asked bytes answer.outcome left × (answer.fuel ≡ asked.fuel)
@@ -35,11 +36,12 @@ AnswersLeaving asked bytes (Err unread) left = IsUnread asked.shape asked.text b
 abbrev pub Answers : ExecOptions → List ℕ → Result Answer Unread → Type 0
 Answers asked bytes answered = (left : Left) × AnswersLeaving asked bytes answered left
 
--- the two say the same, but for the error of a text that means no program
+-- both are one reason, but for the error of a text that means no program
 abbrev pub SameUnread : Unread → Unread → Type 0
 SameUnread (Text error) (Text other) = Unit {0}
 SameUnread unread other = unread ≡ other
 
+-- both are one answer, or one reason
 abbrev pub SameAnswer : Result Answer Unread → Result Answer Unread → Type 0
 SameAnswer (Ok answer) (Ok other) = answer ≡ other
 SameAnswer (Ok answer) (Err other) = ⊥

@@ -62,9 +62,9 @@ ExplainsProgram asked lines program told =
 -- ---- what is told of bytes
 
 -- the lines of the instructions of a text; an image has none
-abbrev pub lines_read : Bool → List ℕ → List ℕ
-lines_read true bytes = instruction_lines bytes
-lines_read false bytes = []
+abbrev pub lines_if_text : Bool → List ℕ → List ℕ
+lines_if_text true bytes = instruction_lines bytes
+lines_if_text false bytes = []
 
 abbrev pub IsRefusedBy : List ℕ → Explanation → Type 0
 IsRefusedBy line told = told ≡ explanation (line ++ codes "\n") endings.Refused
@@ -74,7 +74,7 @@ abbrev pub Explains : ExplainOptions → List ℕ → Explanation → Type 0
 Explains asked bytes told =
     ((unread : Unread) × IsUnread asked.shape asked.text bytes unread × IsRefusedBy (unread_line unread) told)
     ⊎ (HasShape asked.shape × (program : List Insn) × IsProgramOfInput asked.text bytes program
-    × ExplainsProgram asked (lines_read asked.text bytes) program told)
+    × ExplainsProgram asked (lines_if_text asked.text bytes) program told)
 
 -- the whole of what is told, its first bytes, or nothing where memory ran out
 abbrev pub LeavesExplained : Option (List ℕ) → Option (List ℕ) → ExplainOptions → List ℕ → Result Ending Fault → Type 0

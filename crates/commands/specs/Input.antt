@@ -33,10 +33,6 @@ abbrev pub program_input : Bool → Input
 program_input true = inputs.Text
 program_input false = inputs.Image
 
--- the most bytes that are read of a text, or of an image
-abbrev pub most_read : Bool → ℕ
-most_read text = max_bytes (program_input text)
-
 -- what is read if the options have a shape, and nothing if they have none
 pub record IsShapedInput (asked : ShapeOptions) (wanted input : Input) : Type 0 where
   pub shaped : HasShape asked → input ≡ wanted
@@ -49,7 +45,7 @@ abbrev pub IsProgramOfInput : Bool → List ℕ → List Insn → Type 0
 IsProgramOfInput true bytes program = ReadsAsmText bytes (Ok program)
 IsProgramOfInput false bytes program = ReadsImage bytes (Ok program)
 
--- why these options and bytes have no program: the shape comes first. Want of memory is none
+-- why these options and bytes have no program: the shape comes first. Lack of memory is no reason
 abbrev pub IsUnread : ShapeOptions → Bool → List ℕ → Unread → Type 0
 IsUnread asked text bytes Shape = HasShape asked → ⊥
 IsUnread asked text bytes (Image error) = HasShape asked × (text ≡ false) × ReadsImage bytes (Err error)

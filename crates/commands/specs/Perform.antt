@@ -1,5 +1,6 @@
 -- What the program does for a request: what it takes, what it leaves and says, and its exit status (docs/COMMANDS.md).
 use Rattle.std.specs.Prelude.{◌≡◌, ◌⊎◌, ℕ, List, [], Option, Some, None, Result, Ok, Err, string_bytes, take}
+use Rattle.bench_scenario.specs.declared.run.TheConstants.{MAX_BYTES}
 use Rattle.commands.specs.declared.ending.Ending.{Ending}
 use Rattle.commands.specs.declared.ending.Ending.TheVariants.{Violated, Done, Mismatched, Refused, Unfinished}
 use Rattle.commands.specs.declared.fault.Fault.{Fault}
@@ -24,19 +25,20 @@ use Rattle.commands.specs.Verdict.{LeavesVerdict}
 -- ---- what is read, and what is left of it
 
 -- what a request reads
-abbrev pub IsInputOf : Request → Input → Type 0
-IsInputOf (Exec asked) input = IsShapedInput asked.shape (program_input asked.text) input
-IsInputOf (Asm list) input = input ≡ inputs.Text
-IsInputOf (Compile asked) input = input ≡ inputs.Text
-IsInputOf (Dis list) input = input ≡ inputs.Image
-IsInputOf (Clock asked) input = input ≡ inputs.Nothing
-IsInputOf (Verify asked) input = IsShapedInput asked inputs.Image input
-IsInputOf (Explain asked) input = IsShapedInput asked.shape (program_input asked.text) input
-IsInputOf (Scenario asked) input = input ≡ inputs.Scenario
-IsInputOf (Stress asked) input = input ≡ inputs.Nothing
-IsInputOf (Help text) input = input ≡ inputs.Nothing
+abbrev pub AsksInput : Request → Input → Type 0
+AsksInput (Exec asked) input = IsShapedInput asked.shape (program_input asked.text) input
+AsksInput (Asm list) input = input ≡ inputs.Text
+AsksInput (Compile asked) input = input ≡ inputs.Text
+AsksInput (Dis list) input = input ≡ inputs.Image
+AsksInput (Clock asked) input = input ≡ inputs.Nothing
+AsksInput (Verify asked) input = IsShapedInput asked inputs.Image input
+AsksInput (Explain asked) input = IsShapedInput asked.shape (program_input asked.text) input
+AsksInput (Scenario asked) input = input ≡ inputs.Scenario
+AsksInput (Stress asked) input = input ≡ inputs.Nothing
+AsksInput (Help text) input = input ≡ inputs.Nothing
 
--- what each command leaves on its output of these bytes of its input, and how it ends
+-- what each command leaves on its output of these bytes, which were read of its input, and how it ends. The bytes of a
+-- scenario are the first of a text, and what is left is that of the text
 abbrev pub Responds : Request → List ℕ → Option (List ℕ) → Option (List ℕ) → Result Ending Fault → Type 0
 Responds (Exec asked) bytes old new ended = LeavesExec old new asked bytes ended
 Responds (Asm list) bytes old new ended = LeavesImage old new list bytes ended
@@ -45,27 +47,24 @@ Responds (Dis list) bytes old new ended = LeavesListing old new list bytes ended
 Responds (Clock asked) bytes old new ended = LeavesClock old new asked ended
 Responds (Verify asked) bytes old new ended = LeavesVerdict old new asked bytes ended
 Responds (Explain asked) bytes old new ended = LeavesExplained old new asked bytes ended
-Responds (Scenario asked) bytes old new ended = LeavesFor asked old new bytes ended
+Responds (Scenario asked) bytes old new ended =
+    (text : List ℕ) → bytes ≡ take MAX_BYTES text → LeavesFor asked old new text ended
 Responds (Stress asked) bytes old new ended = LeavesStressed asked old new ended
 Responds (Help text) bytes old new ended = Leaves old new (string_bytes text) Done ended
 
--- the first bytes of an input, at most as many as are read: of a scenario they serve as well as the whole
--- (`front_reads_as_whole`)
-abbrev pub front : Input → List ℕ → List ℕ
-front input whole = take (max_bytes input) whole
-
--- of an input that is known its first bytes are answered, or it couldn't be read, and nothing is left
+-- if nothing is read, no bytes are answered; of an input that is known its first bytes are, or it couldn't be read, and
+-- nothing is left
 abbrev pub RespondsTo : Input → Request → Option (List ℕ) → Option (List ℕ) → Option (List ℕ) → Result Ending Fault
     → Type 0
 RespondsTo inputs.Nothing request known old new ended = Responds request [] old new ended
 RespondsTo input request None old new ended = Unit {0}
 RespondsTo input request (Some whole) old new ended =
-    Responds request (front input whole) old new ended ⊎ LeavesNothing old new ended
+    Responds request (take (max_bytes input) whole) old new ended ⊎ LeavesNothing old new ended
 
 -- what is left of the input that the request reads
 abbrev pub CarriesOut : Request → Option (List ℕ) → Option (List ℕ) → Option (List ℕ) → Result Ending Fault → Type 0
 CarriesOut request known old new ended =
-    (input : Input) × IsInputOf request input × RespondsTo input request known old new ended
+    (input : Input) × AsksInput request input × RespondsTo input request known old new ended
 
 -- ---- how it ends
 
@@ -101,4 +100,4 @@ pub record PerformsRequest (request : Request) (input old new said_old said_new 
 
 -- how much of its input a command takes at most, whatever comes of it: nothing if its options have no shape
 abbrev pub TakesFor : Request → Option (List ℕ) → Option (List ℕ) → Type 0
-TakesFor request old new = (input : Input) × IsInputOf request input × Takes input old new
+TakesFor request old new = (input : Input) × AsksInput request input × Takes input old new

@@ -1,13 +1,10 @@
--- The line that says why a request has nothing to work on, without its end (docs/COMMANDS.md).
+-- The line that says why there is no program, without its end (docs/COMMANDS.md).
 use Rattle.std.specs.Prelude.{ℕ, List, ◌++◌, codes}
 use Rattle.std.specs.Fmt.{decimal}
 use Rattle.bpf_asm.specs.Errors.{text_error_text}
 use Rattle.bpf_insn.specs.Images.{image_error_text}
 use Rattle.rule_text.specs.Programs.{error_name}
 use Rattle.rule_text.specs.declared.program.RuleRefusal.TheVariants as rules
-use Rattle.scenario_text.specs.Lines.{refusal_line}
-use Rattle.commands.specs.declared.rejection.Rejection.{Rejection}
-use Rattle.commands.specs.declared.rejection.Rejection.TheVariants.{Program, Rule, Scenario}
 use Rattle.commands.specs.declared.rejection.Uncompiled.{Uncompiled}
 use Rattle.commands.specs.declared.rejection.Uncompiled.TheVariants as uncompiled
 use Rattle.commands.specs.declared.rejection.Unread.{Unread}
@@ -25,8 +22,3 @@ uncompiled_line (uncompiled.Rule (rules.Text error line column)) = codes "refuse
     ++ (codes " line " ++ (decimal line ++ (codes " column " ++ decimal column))))
 uncompiled_line (uncompiled.Rule rules.NoRoom) = codes "refused rule NoRoom"
 uncompiled_line (uncompiled.Rule rules.TooLong) = codes "refused rule TooLong"
-
-abbrev pub rejection_line : Rejection → List ℕ
-rejection_line (Program unread) = unread_line unread
-rejection_line (Rule why memory) = uncompiled_line why
-rejection_line (Scenario rejected) = refusal_line rejected.error

@@ -36,7 +36,7 @@ pub record JudgesImage (shape : Extent) (bytes : List ℕ) (verdict : Verdict) :
   pub image : bytes ≡ image_of program
   pub judged : JudgesProgram program shape verdict
 
--- the verdict on these bytes under these options, or why there is no program. Want of memory is none
+-- the verdict on these bytes under these options; or why there is no program, which is never lack of memory
 abbrev pub Judges : ShapeOptions → List ℕ → Result Verdict Unread → Type 0
 Judges asked bytes (Ok verdict) = HasShape asked × JudgesImage (asked_extent asked) bytes verdict
 Judges asked bytes (Err unread) = IsUnread asked false bytes unread
@@ -47,6 +47,7 @@ SameVerdict (Accepted slots announced) (Accepted others count) = (slots ≡ othe
 SameVerdict (Refused slot rule) (Refused place other) = slot ≡ place
 SameVerdict verdict other = ⊥
 
+-- both are one verdict, or one reason
 abbrev pub SameJudgement : Result Verdict Unread → Result Verdict Unread → Type 0
 SameJudgement (Ok verdict) (Ok other) = SameVerdict verdict other
 SameJudgement (Ok verdict) (Err other) = ⊥

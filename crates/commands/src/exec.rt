@@ -74,7 +74,7 @@ impl Reply {
     ghost use Rattle.std.specs.Prelude.{◌≡◌};
     ghost use Rattle.commands.specs.inner.Exec.{answer_in};
 
-    /// Returns the answer, where the run had so much fuel.
+    /// Returns the answer of a run with this fuel.
     fn answer(&self, fuel: u64) -> Answer
         ensures { result ≡ answer_in fuel self.now }
     {
@@ -103,7 +103,7 @@ fn run_case(
     Ok(Reply { outcome, left })
 }
 
-/// Adds what the run left, where that is to be shown.
+/// Adds what the run left, if that is to be shown.
 fn add_shown(
     alloc: Global,
     text: &mut String,

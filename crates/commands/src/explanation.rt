@@ -120,7 +120,7 @@ fn explain_program(
 
 /// Returns the lines of the instructions of a text; an image has none.
 fn lines_of(alloc: Global, text: bool, bytes: &[u8]) -> Result<Vec<usize>, AllocError>
-    ensures { IfOk result (λ lines. lines.items ≡ told_specs.lines_read text bytes.now) }
+    ensures { IfOk result (λ lines. lines.items ≡ told_specs.lines_if_text text bytes.now) }
 {
     if text {
         instruction_lines(alloc, bytes)
@@ -138,7 +138,7 @@ fn explain_read(
 ) -> Result<Told, Fault>
     requires { read.now.shape ≡ asked_extent options.shape }
     ensures told { IfOk result (λ told. told_specs.ExplainsProgram options
-        (told_specs.lines_read options.text bytes.now) read.now.program
+        (told_specs.lines_if_text options.text bytes.now) read.now.program
         (told_specs.explanation (string_bytes told.text) told.ending)) }
     ensures fault { IfErr result IsBeforeWriting }
 {
@@ -148,7 +148,7 @@ fn explain_read(
     explain_program(alloc, options, &read.program, lines.as_slice(), read.shape)
 }
 
-/// Tells what is known at the slots of the program of these bytes.
+/// Writes the verdict on the program of these bytes, and what is known at its slots.
 pub(crate) fn explain_bytes<W: Write, E: Write>(
     alloc: Global,
     options: ExplainOptions,
@@ -176,7 +176,7 @@ pub(crate) fn explained<W: Write>(
     out: &mut W,
 ) -> Result<Ending, Fault>
     requires { read.now.shape ≡ asked_extent options.shape }
-    ensures { LeavesAny (told_specs.ExplainsProgram options (told_specs.lines_read options.text bytes.now)
+    ensures { LeavesAny (told_specs.ExplainsProgram options (told_specs.lines_if_text options.text bytes.now)
         read.now.program) (λ told. told.text) (λ told. told.ending) (W.contents out.old) (W.contents out.new) result }
 {
     let told = explain_read(alloc, options, read, bytes)?;

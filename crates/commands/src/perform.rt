@@ -1,6 +1,6 @@
 //! A request, from its command to the exit status.
 ghost use Rattle.std.specs.Prelude.{◌≡◌, IfErr, IfOk};
-ghost use Rattle.commands.specs.Perform.{CarriesOut, IsInputOf, PerformsRequest, Responds, SaysAt, TakesFor};
+ghost use Rattle.commands.specs.Perform.{AsksInput, CarriesOut, PerformsRequest, Responds, SaysAt, TakesFor};
 
 use crate::asm::asm_bytes;
 use crate::compile::compile_bytes;
@@ -67,7 +67,7 @@ fn carry_out<T: Threads + Wait + Sync, R: Read, W: Write, E: Write, P: Progress>
 
 /// Returns what a request reads: nothing if its options have no shape.
 fn input_of(request: &Request) -> Input
-    ensures { IsInputOf request.now result }
+    ensures { AsksInput request.now result }
 {
     match request {
         Request::Exec(options) => shaped_input(options.shape, program_input(options.text)),

@@ -1,10 +1,10 @@
 //! Why a request has nothing to work on, and how that is said.
 ghost use Rattle.std.specs.Prelude.{◌≡◌, ◌++◌, Some, IfErr, IfOk, codes};
 ghost use Rattle.commands.specs.declared.ending.Ending.TheVariants.{Refused};
-ghost use Rattle.commands.specs.inner.Rejections.{IsNoted};
+ghost use Rattle.commands.specs.inner.Rejections.{IsNoted, rejection_line};
 ghost use Rattle.commands.specs.Output.{Leaves};
 ghost use Rattle.commands.specs.Perform.{SaysAt};
-ghost use Rattle.commands.specs.Rejections.{rejection_line, uncompiled_line, unread_line};
+ghost use Rattle.commands.specs.Rejections.{uncompiled_line, unread_line};
 
 use crate::ending::Ending;
 use crate::fault::Fault;

@@ -1,5 +1,6 @@
 //! The commands on a scenario.
-ghost use Rattle.std.specs.Prelude.{◌≡◌, ℕ, List, IfErr, IfOk, MatchResult};
+ghost use Rattle.std.specs.Prelude.{◌≡◌, ℕ, List, IfErr, IfOk, MatchResult, take};
+ghost use Rattle.bench_scenario.specs.declared.run.TheConstants.{MAX_BYTES};
 ghost use Rattle.scenario_text.specs.Texts.{IsDue, IsParsed, ReadsText};
 ghost use Rattle.commands.specs.Faults.{IsBeforeWriting};
 ghost use Rattle.commands.specs.Perform.{SaysAt};
@@ -17,13 +18,14 @@ use crate::run::run;
 use crate::sweep::sweep;
 use crate::traced_run::traced_run;
 use bench_space::Progress;
+use scenario_text::laws::front_reads_as_whole;
 use scenario_text::{Rejected, Scenario, ScenarioError, parse_scenario};
 use std::alloc::Global;
 use std::io::Write;
 use std::sync::Wait;
 use std::thread::Threads;
 
-/// Does what is asked for on the scenario of these bytes.
+/// Does what is asked for on the scenario of a text that begins with these bytes.
 pub(crate) fn scenario_bytes<T: Threads + Wait + Sync, W: Write, E: Write, P: Progress>(
     rt: &T,
     alloc: Global,
@@ -33,7 +35,8 @@ pub(crate) fn scenario_bytes<T: Threads + Wait + Sync, W: Write, E: Write, P: Pr
     err: &mut E,
     progress: &mut P,
 ) -> Result<Ending, Fault>
-    ensures left { LeavesFor asked.now (W.contents out.old) (W.contents out.new) bytes.now result }
+    ensures left { (text : List ℕ) → bytes.now ≡ take MAX_BYTES text
+        → LeavesFor asked.now (W.contents out.old) (W.contents out.new) text result }
     ensures said { IfOk result (λ ending. SaysAt ending (E.contents err.old) (E.contents err.new)) }
     ensures unsaid { IfErr result (λ fault. E.contents err.new ≡ E.contents err.old) }
 {
@@ -44,13 +47,15 @@ pub(crate) fn scenario_bytes<T: Threads + Wait + Sync, W: Write, E: Write, P: Pr
     }
 }
 
-/// Returns the scenario of a text, or why it is none. Lack of memory is a fault.
+/// Returns the scenario of a text that begins with these bytes, or why it is none. Lack of memory is a fault.
 fn scenario_read(alloc: Global, bytes: &[u8]) -> Result<Result<Scenario, Rejected>, Fault>
-    ensures read { IfOk result (λ read. MatchResult read (ReadsText bytes.now)
-        (λ rejected. IsDue bytes.now rejected.error × IsParsed bytes.now rejected.parsed)) }
+    ensures read { IfOk result (λ read. (text : List ℕ) → bytes.now ≡ take MAX_BYTES text
+        → MatchResult read (ReadsText text) (λ rejected. IsDue text rejected.error)) }
+    ensures parsed { IfOk result (λ read. IfErr read (λ rejected. IsParsed bytes.now rejected.parsed)) }
     ensures some_text { IfOk result (λ read. IfOk read (λ s. (text : List ℕ) × ReadsText text s)) }
     ensures fault { IfErr result IsBeforeWriting }
 {
+    front_reads_as_whole(); // brings that these bytes serve as the whole text
     match parse_scenario(alloc, bytes) {
         Ok(scenario) => Ok(Ok(scenario)),
         Err(rejected) => match &rejected.error {
