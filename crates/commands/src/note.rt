@@ -10,7 +10,7 @@ use crate::request::{NodeInPulse, ScenarioRequest};
 use crate::trace_note::note_on_trace;
 use rule_notes::note_on_rule;
 use rule_text::{RuleRefusal, read_rule};
-use scenario_explorer::{Unfit, unfit_of};
+use scenario_explorer::{ExploreOptions, Unfit, uncovered_of, unfit_of};
 use scenario_notes::note_on;
 use scenario_text::{Rejected, Scenario};
 use std::alloc::Global;
@@ -177,11 +177,28 @@ fn tell_unused_note<E: Write>(
             tell_place_note(alloc, options.place, scenario, err);
         }
         ScenarioRequest::Explore(options) => {
-            if let Some(unfit) = unfit_of(options, scenario) {
-                say(unexplored_note(unfit), err);
-            }
+            tell_unfit_scenario(options, scenario, err);
         }
         ScenarioRequest::Run(_) | ScenarioRequest::Lines(_) => {}
+    }
+}
+
+/// Says what of the scenario can't be explored, or which part no law covers.
+fn tell_unfit_scenario<E: Write>(options: &ExploreOptions, scenario: &Scenario, err: &mut E)
+    ensures { SaysNote (E.contents err.old) (E.contents err.new) }
+{
+    match unfit_of(options, scenario) {
+        Some(unfit) => say(unexplored_note(unfit), err),
+        None => tell_uncovered(options, scenario, err),
+    }
+}
+
+/// Says which part no law covers, if there is one.
+fn tell_uncovered<E: Write>(options: &ExploreOptions, scenario: &Scenario, err: &mut E)
+    ensures { SaysNote (E.contents err.old) (E.contents err.new) }
+{
+    if let Some(unfit) = uncovered_of(options, scenario) {
+        say(unexplored_note(unfit), err);
     }
 }
 
@@ -212,9 +229,9 @@ fn unexplored_note(unfit: Unfit) -> &'static [u8]
         Unfit::Image =>
             b"note: --images has a memory of another length: each has two digits for each byte of `memory`\n",
         Unfit::AnyMessage =>
-            b"note: --mail all needs loads of the rule's clock alone: name numbers, as --mail 0..8\n",
+            b"note: no law covers any message to these programs: name numbers, as --mail 0..8\n",
         Unfit::NoLaw { .. } =>
-            b"note: --start every needs loads of the rule's clock alone and `memory = 8`: use --start any --cells\n",
+            b"note: no law covers every start of these programs: use --start any --cells\n",
     }
 }
 

@@ -15,7 +15,7 @@ mod table;
 pub use bench_space::Question;
 pub use exploring::finding_on;
 pub use finding::{Finding, Found, Reach, Tried, Unfit};
-pub use fit::unfit_of;
+pub use fit::{uncovered_of, unfit_of};
 pub use laws::{rules_explored, rules_move};
 pub use options::{
     AnyStart, ByteSpan, Cells, ExploreOptions, Form, GraphFormat, Mail, MailSpan, Memories, Share,

@@ -53,14 +53,14 @@ returns-in-Image g = record {
 
 pub returns-in-AnyMessage : goal.returns-in-AnyMessage
 returns-in-AnyMessage g = record {
-  words = codes "--mail all needs loads of the rule's clock alone: name numbers, as --mail 0..8";
+  words = codes "no law covers any message to these programs: name numbers, as --mail 0..8";
   one_line = refl;
   line_is = refl;
 }
 
 pub returns-in-NoLaw : goal.returns-in-NoLaw
 returns-in-NoLaw g = record {
-  words = codes "--start every needs loads of the rule's clock alone and `memory = 8`: use --start any --cells";
+  words = codes "no law covers every start of these programs: use --start any --cells";
   one_line = refl;
   line_is = refl;
 }

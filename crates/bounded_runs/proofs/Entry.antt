@@ -1,0 +1,190 @@
+-- The states in which runs from alike inputs begin.
+use Rattle.std.proofs.Common.{◌≡◌, ℕ, zero, suc, ◌+◌, ◌*◌, ◌/◌, ◌%◌, ◌^◌, ◌<◌, ◌≤◌, ◌⊎◌, Bool, true, false, List, Some, Ok, length, nat_lt, nat_le, All, refl, sym, ◌∙◌, subst, ap, arith, inl, inr}
+use Rattle.std.specs.Prelude.{replicate, slice_get, slice_index, slice_set}
+use Rattle.std.specs.Ordering.{nat_cmp}
+use Rattle.std.specs.FinMap.{FinMap, get}
+use Rattle.std.proofs.lemmas.Bool.{and_cases, and_parts, cases_eq, cases_lt, leb-false, leb-true, ltb-false, ltb-true}
+use Rattle.std.proofs.lemmas.Option.{slice_get-get_or, slice_get_past}
+use Rattle.std.proofs.lemmas.List.{get_or_past}
+use Rattle.node_env.specs.Env.{Setting}
+use Rattle.bpf_machine.specs.declared.word.Word.{Word}
+use Rattle.bpf_machine.specs.Machine.{entry}
+use Rattle.bpf_machine.specs.Step.{number_at}
+use Rattle.bounded_runs.specs.declared.marks.Marks.{Marks}
+use Rattle.bounded_runs.specs.Bounded.{AlikeFrom, AreAlikeMemories, memory_word}
+use Rattle.bounded_runs.specs.inner.Marks.{MarksLarge, has_mark}
+use Rattle.bounded_runs.specs.inner.Similar.{AreSimilar, AreSimilarMemories, AreSimilarRegisters, HoldAlike, IsLargeWord}
+use Rattle.bounded_runs.proofs.Similar.{marked_other, marked_same}
+use Rattle.bounded_runs.proofs.Parts.{with_inbox}
+
+-- ---- words
+
+pub byte_small : (m : List ℕ) → All (λ byte. byte < 256) m → (p : ℕ) → slice_index m p < 256
+byte_small m bytes p = elim (cases_lt p (length m)) [
+  | inl lt ↦ bytes p 0 lt
+  | inr le ↦ let none : slice_index m p ≡ 0 = get_or_past m p 0 le in omega (arith, none)
+]
+
+byte_found : (m : List ℕ) (p : ℕ) → p < length m → slice_get m p ≡ Some (slice_index m p)
+byte_found m p lt = slice_get-get_or m p 0 lt
+
+byte_next : (m : List ℕ) (p q : ℕ) → p ≡ q → p < length m → slice_get m q ≡ Some (slice_index m p)
+byte_next m p q same lt = subst (λ (n : ℕ). slice_get m n ≡ Some (slice_index m p)) same (byte_found m p lt)
+
+-- a word is a number
+word_number : (m : List ℕ) (k : ℕ) → 4 * k + 4 ≤ length m → number_at (slice_get m) (4 * k) 4 ≡ Ok (memory_word m k)
+word_number m k le =
+    rw (
+      byte_found m (4 * k) (omega (arith, le)),
+      byte_next m (4 * k + 1) (suc (4 * k)) (omega arith) (omega (arith, le)),
+      byte_next m (4 * k + 2) (suc (suc (4 * k))) (omega arith) (omega (arith, le)),
+      byte_next m (4 * k + 3) (suc (suc (suc (4 * k)))) (omega arith) (omega (arith, le)),
+    ) (ap Ok (omega arith))
+
+word_small : (m : List ℕ) (k : ℕ) → All (λ byte. byte < 256) m → memory_word m k < 2 ^ 32
+word_small m k bytes =
+    let a = byte_small m bytes (4 * k) in
+    let b = byte_small m bytes (4 * k + 1) in
+    let c = byte_small m bytes (4 * k + 2) in
+    let d = byte_small m bytes (4 * k + 3) in
+    omega (arith, a, b, c, d)
+
+-- equal words have equal bytes
+word_bytes : (m l : List ℕ) (k p : ℕ) → All (λ byte. byte < 256) m → All (λ byte. byte < 256) l
+    → memory_word m k ≡ memory_word l k → p / 4 ≡ k → slice_index m p ≡ slice_index l p
+word_bytes m l k p mine theirs same at =
+    let a = byte_small m mine (4 * k) in
+    let b = byte_small m mine (4 * k + 1) in
+    let c = byte_small m mine (4 * k + 2) in
+    let d = byte_small m mine (4 * k + 3) in
+    let e = byte_small l theirs (4 * k) in
+    let f = byte_small l theirs (4 * k + 1) in
+    let g = byte_small l theirs (4 * k + 2) in
+    let h = byte_small l theirs (4 * k + 3) in
+    let first : slice_index m (4 * k) ≡ slice_index l (4 * k) = omega (arith, a, b, c, d, e, f, g, h, same) in
+    let second : slice_index m (4 * k + 1) ≡ slice_index l (4 * k + 1) = omega (arith, a, b, c, d, e, f, g, h, same) in
+    let third : slice_index m (4 * k + 2) ≡ slice_index l (4 * k + 2) = omega (arith, a, b, c, d, e, f, g, h, same) in
+    let fourth : slice_index m (4 * k + 3) ≡ slice_index l (4 * k + 3) = omega (arith, a, b, c, d, e, f, g, h, same) in
+    by (p % 4) refl first second third fourth
+  where
+    by : (r : ℕ) → p % 4 ≡ r → slice_index m (4 * k) ≡ slice_index l (4 * k)
+        → slice_index m (4 * k + 1) ≡ slice_index l (4 * k + 1) → slice_index m (4 * k + 2) ≡ slice_index l (4 * k + 2)
+        → slice_index m (4 * k + 3) ≡ slice_index l (4 * k + 3) → slice_index m p ≡ slice_index l p
+    by zero e first second third fourth =
+        subst (λ (q : ℕ). slice_index m q ≡ slice_index l q) (omega (arith, e, at)) first
+    by (suc zero) e first second third fourth =
+        subst (λ (q : ℕ). slice_index m q ≡ slice_index l q) (omega (arith, e, at)) second
+    by (suc (suc zero)) e first second third fourth =
+        subst (λ (q : ℕ). slice_index m q ≡ slice_index l q) (omega (arith, e, at)) third
+    by (suc (suc (suc zero))) e first second third fourth =
+        subst (λ (q : ℕ). slice_index m q ≡ slice_index l q) (omega (arith, e, at)) fourth
+    by (suc (suc (suc (suc r)))) e first second third fourth = absurd (omega (arith, e))
+
+-- ---- memories
+
+pub memories_similar : (bound : ℕ) (words : List Bool) (m l : List ℕ) → MarksLarge bound words m
+    → length m % 4 ≡ 0 → All (λ byte. byte < 256) m → All (λ byte. byte < 256) l → AreAlikeMemories bound m l
+    → AreSimilarMemories bound l words m l
+memories_similar bound words m l marks whole mine theirs alike = record {
+  size = sym alike.size;
+  bytes = bytes;
+  large = large;
+  stays = λ p marked. refl;
+}
+  where
+    large_at : (k : ℕ) → has_mark words k ≡ true → (4 * k < length m) × (bound ≤ memory_word m k)
+    large_at k e =
+        let parts = and_parts (nat_lt (4 * k) (length m)) (nat_le bound (memory_word m k)) (sym (marks k) ∙ e) in
+        (ltb-true (4 * k) (length m) parts.0, leb-true bound (memory_word m k) parts.1)
+
+    still : (k : ℕ) → bound ≤ memory_word m k → AlikeFrom bound (memory_word m k) (memory_word l k)
+        → bound ≤ memory_word l k
+    still k le (inl same) = omega (arith, le, same)
+    still k le (inr both) = both.1
+
+    large : (k : ℕ) → has_mark words k ≡ true → IsLargeWord bound m k × IsLargeWord bound l k
+    large k e =
+        let at = large_at k e in (
+          (
+            memory_word m k,
+            word_number m k (omega (arith, at.0, whole)),
+            (at.1, word_small m k mine),
+          ),
+          (
+            memory_word l k,
+            word_number l k (omega (arith, at.0, whole, alike.size)),
+            (still k at.1 (alike.words k at.0), word_small l k theirs),
+          ),
+        )
+
+    small_word : (k : ℕ) → has_mark words k ≡ false → 4 * k < length m → memory_word m k ≡ memory_word l k
+    small_word k e lt = by (and_cases (nat_lt (4 * k) (length m)) (nat_le bound (memory_word m k)) (sym (marks k) ∙ e))
+        (alike.words k lt)
+      where
+        by : (nat_lt (4 * k) (length m) ≡ false) ⊎ (nat_le bound (memory_word m k) ≡ false)
+            → AlikeFrom bound (memory_word m k) (memory_word l k) → memory_word m k ≡ memory_word l k
+        by (inl past) alike =
+            let le : length m ≤ 4 * k = ltb-false (4 * k) (length m) past in absurd (omega (arith, le, lt))
+        by (inr low) (inl same) = same
+        by (inr low) (inr both) =
+            let less : memory_word m k < bound = leb-false bound (memory_word m k) low in
+            absurd (omega (arith, less, both.0))
+
+    bytes : (p : ℕ) → has_mark words (p / 4) ≡ false → slice_get m p ≡ slice_get l p
+    bytes p e = elim (cases_lt p (length m)) [
+      | inl lt ↦
+          byte_found m p lt
+          ∙ (ap Some (word_bytes m l (p / 4) p mine theirs (small_word (p / 4) e (omega (arith, lt))) refl)
+          ∙ sym (byte_found l p (omega (arith, lt, alike.size))))
+      | inr le ↦ slice_get_past m p le ∙ sym (slice_get_past l p (omega (arith, le, alike.size)))
+    ]
+
+-- ---- the entry
+
+plain_registers : (bound : ℕ) (marks : List Bool) (m : FinMap nat_cmp Word) → ((n : ℕ) → has_mark marks n ≡ false)
+    → AreSimilarRegisters bound marks m m
+plain_registers bound marks m plain n =
+    subst (λ (b : Bool). HoldAlike bound b (get m n) (get m n)) (sym (plain n)) refl
+
+pub entry_similar : (bound : ℕ) (m : Marks) (env : Setting) (inbox : FinMap nat_cmp ℕ) (before start : List ℕ)
+    → length m.registers ≡ 11 → ((n : ℕ) → has_mark m.registers n ≡ false) → MarksLarge bound m.words before
+    → length before % 4 ≡ 0 → All (λ byte. byte < 256) before → All (λ byte. byte < 256) start
+    → AreAlikeMemories bound before start
+    → AreSimilar bound start m (entry env before) (entry (with_inbox env inbox) start)
+entry_similar bound m env inbox before start wide plain marks whole mine theirs alike = record {
+  frame = record {
+    wide = wide;
+    slot = refl;
+    registers = plain_registers bound m.registers _ plain;
+    stack = refl;
+    kept = refl;
+  };
+  memory = memories_similar bound m.words before start marks whole mine theirs alike;
+  sent = refl;
+}
+
+-- ---- marks of the entry
+
+pub none_marked : (n j : ℕ) → has_mark (replicate n false) j ≡ false
+none_marked zero j = refl
+none_marked (suc n) zero = refl
+none_marked (suc n) (suc j) = none_marked n j
+
+-- the word k is marked if it is large
+pub marked_next : (words : List Bool) (m : List ℕ) (bound k word : ℕ) → word ≡ memory_word m k → k < length words
+    → ((j : ℕ) → j < k → has_mark words j ≡ nat_le bound (memory_word m j))
+    → (j : ℕ) → j < k + 1 → has_mark (slice_set words k (nat_le bound word)) j ≡ nat_le bound (memory_word m j)
+marked_next words m bound k word is within before j lt = elim (cases_eq j k) [
+  | inl same ↦
+      ap (has_mark (slice_set words k (nat_le bound word))) same
+      ∙ (marked_same words k (nat_le bound word) within
+      ∙ (ap (nat_le bound) is ∙ ap (λ (n : ℕ). nat_le bound (memory_word m n)) (sym same)))
+  | inr other ↦
+      marked_other words k j (nat_le bound word) other ∙ before j (omega (arith, lt, other))
+]
+
+-- the words after it aren't yet
+pub rest_next : (words : List Bool) (k : ℕ) (b : Bool) → ((j : ℕ) → k ≤ j → has_mark words j ≡ false)
+    → (j : ℕ) → k + 1 ≤ j → has_mark (slice_set words k b) j ≡ false
+rest_next words k b rest j le =
+    marked_other words k j b (λ same. absurd (omega (arith, same, le))) ∙ rest j (omega (arith, le))

@@ -1,0 +1,12 @@
+pub mod Similar
+pub mod Parts
+pub mod Calls
+pub mod Places
+pub mod Accesses
+pub mod Steps
+pub mod Entry
+pub mod Runs
+pub mod AlikeInputs
+pub mod AllRows
+pub mod EveryMemory
+pub mod EveryInput
