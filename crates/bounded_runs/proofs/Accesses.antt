@@ -24,12 +24,13 @@ use Rattle.bpf_machine.specs.Machine.{Frame}
 use Rattle.bpf_machine.specs.Step.{◌>>=◌, Bytes, byte_at, inside, keep, keep_inside, kept_at, kept_frame, load, load_extended, loaded, loaded_word, number_at, number_from, or_number, place, store, store_immediate, store_register, store_word, stored, sx_kind, with_register, word_of, writable}
 use Rattle.bpf_run.proofs.Alike.{Alike, after_alike, then_alike, then_written}
 use Rattle.bounded_runs.specs.declared.marks.Marks.{Marks}
-use Rattle.bounded_runs.specs.inner.Marks.{after_load, after_store, at_place, if_plain, has_mark, is_whole_word, place_from, register_marked, touches_marked, with_mark}
+use Rattle.bounded_runs.specs.Bounded.{Bound, is_kept}
+use Rattle.bounded_runs.specs.inner.Marks.{after_load, after_store, at_place, if_plain, has_mark, place_from, register_marked, takes_word, touches_marked, with_mark}
 use Rattle.bounded_runs.specs.inner.Similar.{AreSimilarFrames, AreSimilarMemories, IsLarge}
 use Rattle.bounded_runs.proofs.Similar.{word_same}
 use Rattle.bounded_runs.proofs.Parts.{put_frames, with_inbox}
 use Rattle.bounded_runs.proofs.Calls.{plain_marks}
-use Rattle.bounded_runs.proofs.Places.{number_same, stored_beside, stored_over, untouched, word_place}
+use Rattle.bounded_runs.proofs.Places.{number_same, stored_beside, stored_over, untouched, word_taken}
 
 place_same : (env : Setting) (inbox : FinMap nat_cmp ℕ) (base : Word) (off : ℤ) (count : ℕ)
     → place env base off count ≡ place (with_inbox env inbox) base off count
@@ -67,16 +68,17 @@ abbrev LoadAlike : ℕ → Bool → Result ℕ TrapKind → Result ℕ TrapKind 
 LoadAlike bound false r q = r ≡ q
 LoadAlike bound true r q = (a : ℕ) × (b : ℕ) × (r ≡ Ok a) × (q ≡ Ok b) × IsLarge bound a × IsLarge bound b
 
--- a whole word
-word_loaded : (bound : ℕ) (begun : List ℕ) (words : List Bool) (m l : List ℕ) (first : ℕ) → first ≡ 4 * (first / 4)
-    → AreSimilarMemories bound begun words m l
-    → LoadAlike bound (has_mark words (first / 4)) (number_at (slice_get m) first 4) (number_at (slice_get l) first 4)
-word_loaded bound begun words m l first even similar = by (has_mark words (first / 4)) refl
+-- a whole word that isn't kept
+word_loaded : (bound : Bound) (begun : List ℕ) (words : List Bool) (m l : List ℕ) (first : ℕ) → first ≡ 4 * (first / 4)
+    → is_kept bound.kept (first / 4) ≡ false → AreSimilarMemories bound begun words m l
+    → LoadAlike bound.number (has_mark words (first / 4)) (number_at (slice_get m) first 4)
+    (number_at (slice_get l) first 4)
+word_loaded bound begun words m l first even seen similar = by (has_mark words (first / 4)) refl
   where
     by : (b : Bool) → has_mark words (first / 4) ≡ b
-        → LoadAlike bound b (number_at (slice_get m) first 4) (number_at (slice_get l) first 4)
+        → LoadAlike bound.number b (number_at (slice_get m) first 4) (number_at (slice_get l) first 4)
     by true e =
-        let both = similar.large (first / 4) e in
+        let both = similar.large (first / 4) e seen in
         let mine = both.0 in
         let theirs = both.1 in (
           mine.0,
@@ -91,7 +93,7 @@ word_loaded bound begun words m l first even similar = by (has_mark words (first
         similar.bytes p (ap (has_mark words) at ∙ e))
 
 -- other bytes, none of which is in a marked word
-bytes_loaded : (bound : ℕ) (begun : List ℕ) (words : List Bool) (m l : List ℕ) (first count : ℕ)
+bytes_loaded : (bound : Bound) (begun : List ℕ) (words : List Bool) (m l : List ℕ) (first count : ℕ)
     → touches_marked words first count ≡ false → AreSimilarMemories bound begun words m l
     → number_at (slice_get m) first count ≡ number_at (slice_get l) first count
 bytes_loaded bound begun words m l first count plain similar =
@@ -113,41 +115,42 @@ put_loaded bound marks s t dst true r q h similar =
     rw (h.2, h.3) (put_frames bound marks s t dst true (Num h.0) (Num h.1) (h.0, h.1, refl, refl, h.4, h.5) similar)
 
 -- a load of memory
-memory_loaded : (bound : ℕ) (begun : List ℕ) (m next : Marks) (s t : Frame) (mine theirs : List ℕ) (dst : Reg) (first count : ℕ)
-    → after_load m dst first count ≡ Some next → AreSimilarFrames bound m.registers s t
-    → AreSimilarMemories bound begun m.words mine theirs
-    → Alike (AreSimilarFrames bound next.registers)
+memory_loaded : (bound : Bound) (begun : List ℕ) (m next : Marks) (s t : Frame) (mine theirs : List ℕ)
+    (dst : Reg) (first count : ℕ) → after_load bound.kept m dst first count ≡ Some next
+    → AreSimilarFrames bound.number m.registers s t → AreSimilarMemories bound begun m.words mine theirs
+    → Alike (AreSimilarFrames bound.number next.registers)
     ((number_at (slice_get mine) first count >>= λ n. Ok (Num n)) >>= λ word. Ok (with_register s dst word))
     ((number_at (slice_get theirs) first count >>= λ n. Ok (Num n)) >>= λ word. Ok (with_register t dst word))
     × (m.words ≡ next.words)
 memory_loaded bound begun m next s t mine theirs dst first count marks frames memories =
-    by (is_whole_word first count) refl marks
+    by (takes_word bound.kept first count) refl marks
   where
     After : Marks → Type 0
-    After n = Alike (AreSimilarFrames bound n.registers)
+    After n = Alike (AreSimilarFrames bound.number n.registers)
         ((number_at (slice_get mine) first count >>= λ n. Ok (Num n)) >>= λ word. Ok (with_register s dst word))
         ((number_at (slice_get theirs) first count >>= λ n. Ok (Num n)) >>= λ word. Ok (with_register t dst word))
         × (m.words ≡ n.words)
 
-    by : (b : Bool) → is_whole_word first count ≡ b
+    by : (b : Bool) → takes_word bound.kept first count ≡ b
         → cond b (Some (with_mark m dst (has_mark m.words (first / 4))))
         (if_plain (touches_marked m.words first count) (with_mark m dst false)) ≡ Some next → After next
     by true e h =
-        let at = word_place first count e in
+        let at = word_taken bound.kept first count e in
         let same : with_mark m dst (has_mark m.words (first / 4)) ≡ next = cc in
         subst After same (
-          subst (λ (c : ℕ). Alike (AreSimilarFrames bound (with_mark m dst (has_mark m.words (first / 4))).registers)
+          subst (λ (c : ℕ). Alike
+              (AreSimilarFrames bound.number (with_mark m dst (has_mark m.words (first / 4))).registers)
               ((number_at (slice_get mine) first c >>= λ n. Ok (Num n)) >>= λ word. Ok (with_register s dst word))
               ((number_at (slice_get theirs) first c >>= λ n. Ok (Num n)) >>= λ word. Ok (with_register t dst word)))
               (sym at.0)
-              (put_loaded bound m.registers s t dst (has_mark m.words (first / 4)) _ _
-              (word_loaded bound begun m.words mine theirs first at.1 memories) frames),
+              (put_loaded bound.number m.registers s t dst (has_mark m.words (first / 4)) _ _
+              (word_loaded bound begun m.words mine theirs first at.1 at.2 memories) frames),
           refl,
         )
     by false e h =
         let plain = plain_marks (touches_marked m.words first count) (with_mark m dst false) next h in
         subst After plain.1 (
-          put_loaded bound m.registers s t dst false _ _
+          put_loaded bound.number m.registers s t dst false _ _
               (bytes_loaded bound begun m.words mine theirs first count plain.0 memories) frames,
           refl,
         )
@@ -158,23 +161,23 @@ no_marks next e = let no : None ≡ Some next = e in cc
 pub some_same : (m next : Marks) → Some m ≡ Some next → m ≡ next
 some_same m next e = cc
 
-pub load_similar : (env : Setting) (inbox : FinMap nat_cmp ℕ) (bound : ℕ) (begun : List ℕ) (m next : Marks) (size : Size)
-    (dst base : Reg) (off : ℤ) (s t : Frame) (mine theirs : List ℕ)
+pub load_similar : (env : Setting) (inbox : FinMap nat_cmp ℕ) (bound : Bound) (begun : List ℕ) (m next : Marks)
+    (size : Size) (dst base : Reg) (off : ℤ) (s t : Frame) (mine theirs : List ℕ)
     → (if register_marked m base then None
     else at_place (place_from env (word_of s base) off (access_bytes size))
-    (λ first. after_load m dst first (access_bytes size)) (Some (with_mark m dst false))) ≡ Some next
-    → AreSimilarFrames bound m.registers s t → AreSimilarMemories bound begun m.words mine theirs
-    → Alike (AreSimilarFrames bound next.registers) (load env size dst base off mine s)
+    (λ first. after_load bound.kept m dst first (access_bytes size)) (Some (with_mark m dst false))) ≡ Some next
+    → AreSimilarFrames bound.number m.registers s t → AreSimilarMemories bound begun m.words mine theirs
+    → Alike (AreSimilarFrames bound.number next.registers) (load env size dst base off mine s)
     (load (with_inbox env inbox) size dst base off theirs t) × (m.words ≡ next.words)
 load_similar env inbox bound begun m next size dst base off s t mine theirs marks frames memories =
     let plain = unless_marked (register_marked m base) _ next marks in
-    by_word (word_of s base) (word_of t base) (word_same bound m.registers s t base frames plain.0) plain.1
+    by_word (word_of s base) (word_of t base) (word_same bound.number m.registers s t base frames plain.0) plain.1
   where
     count : ℕ
     count = access_bytes size
 
     After : Result Frame TrapKind → Result Frame TrapKind → Type 0
-    After r q = Alike (AreSimilarFrames bound next.registers) r q × (m.words ≡ next.words)
+    After r q = Alike (AreSimilarFrames bound.number next.registers) r q × (m.words ≡ next.words)
 
     from : Result (Region × ℕ) TrapKind → Frame → List ℕ → Result Frame TrapKind
     from r f memory = writable dst >>= λ register.
@@ -182,28 +185,28 @@ load_similar env inbox bound begun m next size dst base off s t mine theirs mark
         >>= λ word. Ok (with_register f register word)
 
     by_place : (r : Result (Region × ℕ) TrapKind)
-        → at_place r (λ first. after_load m dst first count) (Some (with_mark m dst false)) ≡ Some next
+        → at_place r (λ first. after_load bound.kept m dst first count) (Some (with_mark m dst false)) ≡ Some next
         → After (from r s mine) (from r t theirs)
     by_place (Ok (Mem, first)) h =
         let both = memory_loaded bound begun m next s t mine theirs dst first count h frames memories in
-        (then_written dst _ _ (AreSimilarFrames bound next.registers) both.0, both.1)
+        (then_written dst _ _ (AreSimilarFrames bound.number next.registers) both.0, both.1)
     by_place (Ok (Stack, first)) h =
         let same = some_same (with_mark m dst false) next h in (
-          subst (λ (n : Marks). Alike (AreSimilarFrames bound n.registers) (from (Ok (Stack, first)) s mine)
+          subst (λ (n : Marks). Alike (AreSimilarFrames bound.number n.registers) (from (Ok (Stack, first)) s mine)
               (from (Ok (Stack, first)) t theirs)) same
-              (then_written dst _ _ (AreSimilarFrames bound (with_mark m dst false).registers)
+              (then_written dst _ _ (AreSimilarFrames bound.number (with_mark m dst false).registers)
               (then_alike (or_number (number_from s mine Stack first count) (kept_at s Stack first count))
               (or_number (number_from t theirs Stack first count) (kept_at t Stack first count)) _ _
-              (AreSimilarFrames bound (with_mark m dst false).registers)
+              (AreSimilarFrames bound.number (with_mark m dst false).registers)
               (stack_word s t mine theirs first count frames.stack frames.kept)
-              (λ word _. put_frames bound m.registers s t dst false word word refl frames))),
+              (λ word _. put_frames bound.number m.registers s t dst false word word refl frames))),
           ap (λ (n : Marks). n.words) same,
         )
     by_place (Err trap) h = absurd (no_marks next h)
 
     by_word : (r q : Result Word TrapKind) → r ≡ q
-        → at_place (place_from env r off count) (λ first. after_load m dst first count) (Some (with_mark m dst false))
-        ≡ Some next
+        → at_place (place_from env r off count) (λ first. after_load bound.kept m dst first count)
+        (Some (with_mark m dst false)) ≡ Some next
         → After
         (r >>= λ x. writable dst >>= λ register. loaded_word env x off count mine s
         >>= λ word. Ok (with_register s register word))
@@ -219,24 +222,24 @@ load_similar env inbox bound begun m next size dst base off s t mine theirs mark
 
 -- ---- loads that extend the sign
 
-pub load_extended_similar : (env : Setting) (inbox : FinMap nat_cmp ℕ) (bound : ℕ) (begun : List ℕ) (m next : Marks) (size : SxSize)
-    (dst base : Reg) (off : ℤ) (s t : Frame) (mine theirs : List ℕ)
+pub load_extended_similar : (env : Setting) (inbox : FinMap nat_cmp ℕ) (bound : Bound) (begun : List ℕ)
+    (m next : Marks) (size : SxSize) (dst base : Reg) (off : ℤ) (s t : Frame) (mine theirs : List ℕ)
     → (if register_marked m base then None
     else at_place (place_from env (word_of s base) off (sx_access_bytes size))
     (λ first. if_plain (touches_marked m.words first (sx_access_bytes size)) (with_mark m dst false))
     (Some (with_mark m dst false))) ≡ Some next
-    → AreSimilarFrames bound m.registers s t → AreSimilarMemories bound begun m.words mine theirs
-    → Alike (AreSimilarFrames bound next.registers) (load_extended env size dst base off mine s)
+    → AreSimilarFrames bound.number m.registers s t → AreSimilarMemories bound begun m.words mine theirs
+    → Alike (AreSimilarFrames bound.number next.registers) (load_extended env size dst base off mine s)
     (load_extended (with_inbox env inbox) size dst base off theirs t) × (m.words ≡ next.words)
 load_extended_similar env inbox bound begun m next size dst base off s t mine theirs marks frames memories =
     let plain = unless_marked (register_marked m base) _ next marks in
-    by_word (word_of s base) (word_of t base) (word_same bound m.registers s t base frames plain.0) plain.1
+    by_word (word_of s base) (word_of t base) (word_same bound.number m.registers s t base frames plain.0) plain.1
   where
     count : ℕ
     count = sx_access_bytes size
 
     After : Result Frame TrapKind → Result Frame TrapKind → Type 0
-    After r q = Alike (AreSimilarFrames bound next.registers) r q × (m.words ≡ next.words)
+    After r q = Alike (AreSimilarFrames bound.number next.registers) r q × (m.words ≡ next.words)
 
     from : Result (Region × ℕ) TrapKind → Frame → List ℕ → Result Frame TrapKind
     from r f memory = writable dst >>= λ register.
@@ -248,14 +251,14 @@ load_extended_similar env inbox bound begun m next size dst base off s t mine th
         >>= λ n. Ok (with_register s register (Num (movsx_result (sx_kind size) n))))
         (writable dst >>= λ register. q >>= λ n. Ok (with_register t register (Num (movsx_result (sx_kind size) n))))
     put r q e same = (
-      subst (λ (n : Marks). Alike (AreSimilarFrames bound n.registers)
+      subst (λ (n : Marks). Alike (AreSimilarFrames bound.number n.registers)
           (writable dst >>= λ register. r
           >>= λ n. Ok (with_register s register (Num (movsx_result (sx_kind size) n))))
           (writable dst >>= λ register. q >>= λ n. Ok (with_register t register (Num (movsx_result (sx_kind size) n)))))
           same
-          (then_written dst _ _ (AreSimilarFrames bound (with_mark m dst false).registers)
-          (then_alike r q _ _ (AreSimilarFrames bound (with_mark m dst false).registers) e
-          (λ n _. put_frames bound m.registers s t dst false _ _ refl frames))),
+          (then_written dst _ _ (AreSimilarFrames bound.number (with_mark m dst false).registers)
+          (then_alike r q _ _ (AreSimilarFrames bound.number (with_mark m dst false).registers) e
+          (λ n _. put_frames bound.number m.registers s t dst false _ _ refl frames))),
       ap (λ (n : Marks). n.words) same,
     )
 
@@ -290,23 +293,24 @@ load_extended_similar env inbox bound begun m next size dst base off s t mine th
 
 -- ---- stores
 
-pub record AreSimilarBytes (bound : ℕ) (begun : List ℕ) (m : Marks) (b c : Bytes) : Type 0 where
-  pub frame : AreSimilarFrames bound m.registers b.frame c.frame
+pub record AreSimilarBytes (bound : Bound) (begun : List ℕ) (m : Marks) (b c : Bytes) : Type 0 where
+  pub frame : AreSimilarFrames bound.number m.registers b.frame c.frame
   pub memory : AreSimilarMemories bound begun m.words b.memory c.memory
 
 -- a number is stored in memory
-memory_stored : (bound : ℕ) (begun : List ℕ) (m next : Marks) (b c : Bytes) (first count n : ℕ) → after_store m first count ≡ Some next
-    → AreSimilarBytes bound begun m b c → AreSimilarBytes bound begun next (stored b Mem first count n) (stored c Mem first count n)
-memory_stored bound begun m next b c first count n marks similar = by (is_whole_word first count) refl marks
+memory_stored : (bound : Bound) (begun : List ℕ) (m next : Marks) (b c : Bytes) (first count n : ℕ)
+    → after_store bound.kept m first count ≡ Some next → AreSimilarBytes bound begun m b c
+    → AreSimilarBytes bound begun next (stored b Mem first count n) (stored c Mem first count n)
+memory_stored bound begun m next b c first count n marks similar = by (takes_word bound.kept first count) refl marks
   where
     After : Marks → Type 0
     After x = AreSimilarBytes bound begun x (stored b Mem first count n) (stored c Mem first count n)
 
-    by : (w : Bool) → is_whole_word first count ≡ w
+    by : (w : Bool) → takes_word bound.kept first count ≡ w
         → cond w (Some (record m { words = slice_set m.words (first / 4) false }))
         (if_plain (touches_marked m.words first count) m) ≡ Some next → After next
     by true e h =
-        let at = word_place first count e in
+        let at = word_taken bound.kept first count e in
         subst After (some_same (record m { words = slice_set m.words (first / 4) false }) next h) (record {
           frame = similar.frame;
           memory = rw at.0 (stored_over bound begun m.words b.memory c.memory first n at.1 similar.memory);
@@ -319,7 +323,8 @@ memory_stored bound begun m next b c first count n marks similar = by (is_whole_
         })
 
 -- on the stack
-stack_stored : (bound : ℕ) (begun : List ℕ) (m : Marks) (b c : Bytes) (first count n : ℕ) → AreSimilarBytes bound begun m b c
+stack_stored : (bound : Bound) (begun : List ℕ) (m : Marks) (b c : Bytes) (first count n : ℕ)
+    → AreSimilarBytes bound begun m b c
     → AreSimilarBytes bound begun m (stored b Stack first count n) (stored c Stack first count n)
 stack_stored bound begun m b c first count n similar = record {
   frame = record {
@@ -332,8 +337,9 @@ stack_stored bound begun m b c first count n similar = record {
   memory = similar.memory;
 }
 
-number_stored : (bound : ℕ) (begun : List ℕ) (m next : Marks) (b c : Bytes) (r : Result (Region × ℕ) TrapKind) (count n : ℕ)
-    → at_place r (λ first. after_store m first count) (Some m) ≡ Some next → AreSimilarBytes bound begun m b c
+number_stored : (bound : Bound) (begun : List ℕ) (m next : Marks) (b c : Bytes) (r : Result (Region × ℕ) TrapKind)
+    (count n : ℕ) → at_place r (λ first. after_store bound.kept m first count) (Some m) ≡ Some next
+    → AreSimilarBytes bound begun m b c
     → Alike (AreSimilarBytes bound begun next) (r >>= λ at. Ok (stored b at.0 at.1 count n))
     (r >>= λ at. Ok (stored c at.0 at.1 count n))
 number_stored bound begun m next b c (Ok (Mem, first)) count n h similar =
@@ -343,12 +349,13 @@ number_stored bound begun m next b c (Ok (Stack, first)) count n h similar =
     (some_same m next h) (stack_stored bound begun m b c first count n similar)
 number_stored bound begun m next b c (Err trap) count n h similar = absurd (no_marks next h)
 
-store_similar : (env : Setting) (inbox : FinMap nat_cmp ℕ) (bound : ℕ) (begun : List ℕ) (m next : Marks) (size : Size) (base : Word)
-    (off : ℤ) (n : ℕ) (b c : Bytes)
-    → at_place (place env base off (access_bytes size)) (λ first. after_store m first (access_bytes size)) (Some m)
-    ≡ Some next
+store_similar : (env : Setting) (inbox : FinMap nat_cmp ℕ) (bound : Bound) (begun : List ℕ) (m next : Marks)
+    (size : Size) (base : Word) (off : ℤ) (n : ℕ) (b c : Bytes)
+    → at_place (place env base off (access_bytes size)) (λ first. after_store bound.kept m first (access_bytes size))
+    (Some m) ≡ Some next
     → AreSimilarBytes bound begun m b c
-    → Alike (AreSimilarBytes bound begun next) (store env size base off n b) (store (with_inbox env inbox) size base off n c)
+    → Alike (AreSimilarBytes bound begun next) (store env size base off n b)
+    (store (with_inbox env inbox) size base off n c)
 store_similar env inbox bound begun m next size base off n b c h similar =
     subst (λ (r : Result (Region × ℕ) TrapKind). Alike (AreSimilarBytes bound begun next) (store env size base off n b)
     (r >>= λ at. Ok (stored c at.0 at.1 (access_bytes size) n)))
@@ -372,9 +379,9 @@ tested_alike true r q trap P h = h
 tested_alike false r q trap P h = refl
 
 -- a pointer is kept on the stack alone
-pointer_stored : (env : Setting) (bound : ℕ) (begun : List ℕ) (m next : Marks) (base : Word) (off : ℤ) (count : ℕ) (pointer : Word)
-    (b c : Bytes)
-    → at_place (place env base off count) (λ first. after_store m first count) (Some m) ≡ Some next
+pointer_stored : (env : Setting) (bound : Bound) (begun : List ℕ) (m next : Marks) (base : Word) (off : ℤ) (count : ℕ)
+    (pointer : Word) (b c : Bytes)
+    → at_place (place env base off count) (λ first. after_store bound.kept m first count) (Some m) ≡ Some next
     → AreSimilarBytes bound begun m b c
     → Alike (AreSimilarBytes bound begun next)
     (keep base off count pointer b.frame >>= λ frame. Ok (record b { frame = frame }))
@@ -387,25 +394,25 @@ pointer_stored env bound begun m next (Ptr Stack offset) off count pointer b c h
     (keep (Ptr Stack offset) off count pointer c.frame >>= λ frame. Ok (record c { frame = frame })))
     (unmoved (inside STACK_BYTES (pos offset +ℤ off) count) h)
     (after_alike (keep (Ptr Stack offset) off count pointer b.frame) (keep (Ptr Stack offset) off count pointer c.frame)
-    _ _ (AreSimilarFrames bound m.registers) (AreSimilarBytes bound begun m)
+    _ _ (AreSimilarFrames bound.number m.registers) (AreSimilarBytes bound begun m)
     (tested_alike (count == 8 && is_aligned (pos offset +ℤ off)) (keep_inside (pos offset +ℤ off) count pointer b.frame)
-    (keep_inside (pos offset +ℤ off) count pointer c.frame) NotNumber (AreSimilarFrames bound m.registers)
+    (keep_inside (pos offset +ℤ off) count pointer c.frame) NotNumber (AreSimilarFrames bound.number m.registers)
     (then_alike (inside STACK_BYTES (pos offset +ℤ off) count) (inside STACK_BYTES (pos offset +ℤ off) count)
     (λ first. Ok (kept_frame b.frame first pointer)) (λ first. Ok (kept_frame c.frame first pointer))
-    (AreSimilarFrames bound m.registers) refl
-    (λ first _. kept_similar bound m.registers first pointer b.frame c.frame similar.frame)))
+    (AreSimilarFrames bound.number m.registers) refl
+    (λ first _. kept_similar bound.number m.registers first pointer b.frame c.frame similar.frame)))
     (λ s t frames. record { frame = frames; memory = similar.memory }))
   where
     unmoved : (r : Result ℕ TrapKind)
-        → at_place (r >>= λ first. Ok (Stack, first)) (λ first. after_store m first count) (Some m) ≡ Some next
-        → m ≡ next
+        → at_place (r >>= λ first. Ok (Stack, first)) (λ first. after_store bound.kept m first count) (Some m)
+        ≡ Some next → m ≡ next
     unmoved (Ok first) e = some_same m next e
     unmoved (Err trap) e = absurd (no_marks next e)
 
-store_word_similar : (env : Setting) (inbox : FinMap nat_cmp ℕ) (bound : ℕ) (begun : List ℕ) (m next : Marks) (size : Size) (base : Word)
-    (off : ℤ) (value : Word) (b c : Bytes)
-    → at_place (place env base off (access_bytes size)) (λ first. after_store m first (access_bytes size)) (Some m)
-    ≡ Some next
+store_word_similar : (env : Setting) (inbox : FinMap nat_cmp ℕ) (bound : Bound) (begun : List ℕ) (m next : Marks)
+    (size : Size) (base : Word) (off : ℤ) (value : Word) (b c : Bytes)
+    → at_place (place env base off (access_bytes size)) (λ first. after_store bound.kept m first (access_bytes size))
+    (Some m) ≡ Some next
     → AreSimilarBytes bound begun m b c
     → Alike (AreSimilarBytes bound begun next) (store_word env size base off value b)
     (store_word (with_inbox env inbox) size base off value c)
@@ -415,25 +422,26 @@ store_word_similar env inbox bound begun m next size base off (Ptr region offset
     pointer_stored env bound begun m next base off (access_bytes size) (Ptr region offset) b c h similar
 
 -- stores by a base that isn't marked
-by_base : (env : Setting) (bound : ℕ) (begun : List ℕ) (m next : Marks) (base : Reg) (off : ℤ) (count : ℕ) (b c : Bytes)
-    (f g : Word → Result Bytes TrapKind) → register_marked m base ≡ false
-    → at_place (place_from env (word_of b.frame base) off count) (λ first. after_store m first count) (Some m)
-    ≡ Some next
+by_base : (env : Setting) (bound : Bound) (begun : List ℕ) (m next : Marks) (base : Reg) (off : ℤ) (count : ℕ)
+    (b c : Bytes) (f g : Word → Result Bytes TrapKind) → register_marked m base ≡ false
+    → at_place (place_from env (word_of b.frame base) off count) (λ first. after_store bound.kept m first count)
+    (Some m) ≡ Some next
     → AreSimilarBytes bound begun m b c
-    → ((x : Word) → at_place (place env x off count) (λ first. after_store m first count) (Some m) ≡ Some next
+    → ((x : Word) → at_place (place env x off count) (λ first. after_store bound.kept m first count) (Some m)
+    ≡ Some next
     → Alike (AreSimilarBytes bound begun next) (f x) (g x))
     → Alike (AreSimilarBytes bound begun next) (word_of b.frame base >>= f) (word_of c.frame base >>= g)
 by_base env bound begun m next base off count b c f g plain h similar each =
     then_alike (word_of b.frame base) (word_of c.frame base) f g (AreSimilarBytes bound begun next)
-    (word_same bound m.registers b.frame c.frame base similar.frame plain)
+    (word_same bound.number m.registers b.frame c.frame base similar.frame plain)
     (λ x read. each x (subst (λ (r : Result Word TrapKind).
-    at_place (place_from env r off count) (λ first. after_store m first count) (Some m) ≡ Some next) read h))
+    at_place (place_from env r off count) (λ first. after_store bound.kept m first count) (Some m) ≡ Some next) read h))
 
-pub store_register_similar : (env : Setting) (inbox : FinMap nat_cmp ℕ) (bound : ℕ) (begun : List ℕ) (m next : Marks) (size : Size)
-    (base : Reg) (off : ℤ) (src : Reg) (b c : Bytes)
+pub store_register_similar : (env : Setting) (inbox : FinMap nat_cmp ℕ) (bound : Bound) (begun : List ℕ)
+    (m next : Marks) (size : Size) (base : Reg) (off : ℤ) (src : Reg) (b c : Bytes)
     → (if register_marked m base || register_marked m src then None
     else at_place (place_from env (word_of b.frame base) off (access_bytes size))
-    (λ first. after_store m first (access_bytes size)) (Some m)) ≡ Some next
+    (λ first. after_store bound.kept m first (access_bytes size)) (Some m)) ≡ Some next
     → AreSimilarBytes bound begun m b c
     → Alike (AreSimilarBytes bound begun next) (store_register env size base off src b)
     (store_register (with_inbox env inbox) size base off src c)
@@ -442,14 +450,14 @@ store_register_similar env inbox bound begun m next size base off src b c marks 
     let parts = or_parts (register_marked m base) (register_marked m src) plain.0 in
     by_base env bound begun m next base off (access_bytes size) b c _ _ parts.0 plain.1 similar (λ x h.
     then_alike (word_of b.frame src) (word_of c.frame src) _ _ (AreSimilarBytes bound begun next)
-    (word_same bound m.registers b.frame c.frame src similar.frame parts.1)
+    (word_same bound.number m.registers b.frame c.frame src similar.frame parts.1)
     (λ value _. store_word_similar env inbox bound begun m next size x off value b c h similar))
 
-pub store_immediate_similar : (env : Setting) (inbox : FinMap nat_cmp ℕ) (bound : ℕ) (begun : List ℕ) (m next : Marks) (size : Size)
-    (base : Reg) (off imm : ℤ) (b c : Bytes)
+pub store_immediate_similar : (env : Setting) (inbox : FinMap nat_cmp ℕ) (bound : Bound) (begun : List ℕ)
+    (m next : Marks) (size : Size) (base : Reg) (off imm : ℤ) (b c : Bytes)
     → (if register_marked m base then None
     else at_place (place_from env (word_of b.frame base) off (access_bytes size))
-    (λ first. after_store m first (access_bytes size)) (Some m)) ≡ Some next
+    (λ first. after_store bound.kept m first (access_bytes size)) (Some m)) ≡ Some next
     → AreSimilarBytes bound begun m b c
     → Alike (AreSimilarBytes bound begun next) (store_immediate env size base off imm b)
     (store_immediate (with_inbox env inbox) size base off imm c)

@@ -1,9 +1,9 @@
 -- The states in which runs from alike inputs begin.
-use Rattle.std.proofs.Common.{◌≡◌, ℕ, zero, suc, ◌+◌, ◌*◌, ◌/◌, ◌%◌, ◌^◌, ◌<◌, ◌≤◌, ◌⊎◌, Bool, true, false, List, Some, Ok, length, nat_lt, nat_le, All, refl, sym, ◌∙◌, subst, ap, arith, inl, inr}
+use Rattle.std.proofs.Common.{◌≡◌, ℕ, zero, suc, ◌+◌, ◌*◌, ◌/◌, ◌%◌, ◌^◌, ◌<◌, ◌≤◌, ◌⊎◌, Bool, true, false, List, Some, Ok, length, ◌||◌, nat_lt, nat_le, All, refl, sym, ◌∙◌, subst, ap, arith, inl, inr}
 use Rattle.std.specs.Prelude.{replicate, slice_get, slice_index, slice_set}
 use Rattle.std.specs.Ordering.{nat_cmp}
 use Rattle.std.specs.FinMap.{FinMap, get}
-use Rattle.std.proofs.lemmas.Bool.{and_cases, and_parts, cases_eq, cases_lt, leb-false, leb-true, ltb-false, ltb-true}
+use Rattle.std.proofs.lemmas.Bool.{and_cases, and_parts, cases_eq, cases_lt, leb-false, leb-true, ltb-false, ltb-true, or_parts}
 use Rattle.std.proofs.lemmas.Option.{slice_get-get_or, slice_get_past}
 use Rattle.std.proofs.lemmas.List.{get_or_past}
 use Rattle.node_env.specs.Env.{Setting}
@@ -11,8 +11,8 @@ use Rattle.bpf_machine.specs.declared.word.Word.{Word}
 use Rattle.bpf_machine.specs.Machine.{entry}
 use Rattle.bpf_machine.specs.Step.{number_at}
 use Rattle.bounded_runs.specs.declared.marks.Marks.{Marks}
-use Rattle.bounded_runs.specs.Bounded.{AlikeFrom, AreAlikeMemories, memory_word}
-use Rattle.bounded_runs.specs.inner.Marks.{MarksLarge, has_mark}
+use Rattle.bounded_runs.specs.Bounded.{AlikeFrom, AreAlikeMemories, Bound, is_kept, memory_word}
+use Rattle.bounded_runs.specs.inner.Marks.{AreMarksOf, has_mark, is_unseen}
 use Rattle.bounded_runs.specs.inner.Similar.{AreSimilar, AreSimilarMemories, AreSimilarRegisters, HoldAlike, IsLargeWord}
 use Rattle.bounded_runs.proofs.Similar.{marked_other, marked_same}
 use Rattle.bounded_runs.proofs.Parts.{with_inbox}
@@ -82,7 +82,7 @@ word_bytes m l k p mine theirs same at =
 
 -- ---- memories
 
-pub memories_similar : (bound : ℕ) (words : List Bool) (m l : List ℕ) → MarksLarge bound words m
+pub memories_similar : (bound : Bound) (words : List Bool) (m l : List ℕ) → AreMarksOf bound words m
     → length m % 4 ≡ 0 → All (λ byte. byte < 256) m → All (λ byte. byte < 256) l → AreAlikeMemories bound m l
     → AreSimilarMemories bound l words m l
 memories_similar bound words m l marks whole mine theirs alike = record {
@@ -92,19 +92,24 @@ memories_similar bound words m l marks whole mine theirs alike = record {
   stays = λ p marked. refl;
 }
   where
-    large_at : (k : ℕ) → has_mark words k ≡ true → (4 * k < length m) × (bound ≤ memory_word m k)
-    large_at k e =
-        let parts = and_parts (nat_lt (4 * k) (length m)) (nat_le bound (memory_word m k)) (sym (marks k) ∙ e) in
-        (ltb-true (4 * k) (length m) parts.0, leb-true bound (memory_word m k) parts.1)
+    large_at : (k : ℕ) → has_mark words k ≡ true → is_kept bound.kept k ≡ false
+        → (4 * k < length m) × (bound.number ≤ memory_word m k)
+    large_at k e seen =
+        let parts = and_parts (nat_lt (4 * k) (length m)) (is_unseen bound k (memory_word m k)) (sym (marks k) ∙ e) in (
+          ltb-true (4 * k) (length m) parts.0,
+          leb-true bound.number (memory_word m k)
+              (subst (λ (b : Bool). (b || nat_le bound.number (memory_word m k)) ≡ true) seen parts.1),
+        )
 
-    still : (k : ℕ) → bound ≤ memory_word m k → AlikeFrom bound (memory_word m k) (memory_word l k)
-        → bound ≤ memory_word l k
+    still : (k : ℕ) → bound.number ≤ memory_word m k → AlikeFrom bound.number (memory_word m k) (memory_word l k)
+        → bound.number ≤ memory_word l k
     still k le (inl same) = omega (arith, le, same)
     still k le (inr both) = both.1
 
-    large : (k : ℕ) → has_mark words k ≡ true → IsLargeWord bound m k × IsLargeWord bound l k
-    large k e =
-        let at = large_at k e in (
+    large : (k : ℕ) → has_mark words k ≡ true → is_kept bound.kept k ≡ false
+        → IsLargeWord bound.number m k × IsLargeWord bound.number l k
+    large k e seen =
+        let at = large_at k e seen in (
           (
             memory_word m k,
             word_number m k (omega (arith, at.0, whole)),
@@ -113,22 +118,28 @@ memories_similar bound words m l marks whole mine theirs alike = record {
           (
             memory_word l k,
             word_number l k (omega (arith, at.0, whole, alike.size)),
-            (still k at.1 (alike.words k at.0), word_small l k theirs),
+            (still k at.1 (alike.words k at.0 seen), word_small l k theirs),
           ),
         )
 
     small_word : (k : ℕ) → has_mark words k ≡ false → 4 * k < length m → memory_word m k ≡ memory_word l k
-    small_word k e lt = by (and_cases (nat_lt (4 * k) (length m)) (nat_le bound (memory_word m k)) (sym (marks k) ∙ e))
-        (alike.words k lt)
+    small_word k e lt =
+        by (and_cases (nat_lt (4 * k) (length m)) (is_unseen bound k (memory_word m k)) (sym (marks k) ∙ e))
       where
-        by : (nat_lt (4 * k) (length m) ≡ false) ⊎ (nat_le bound (memory_word m k) ≡ false)
-            → AlikeFrom bound (memory_word m k) (memory_word l k) → memory_word m k ≡ memory_word l k
-        by (inl past) alike =
-            let le : length m ≤ 4 * k = ltb-false (4 * k) (length m) past in absurd (omega (arith, le, lt))
-        by (inr low) (inl same) = same
-        by (inr low) (inr both) =
-            let less : memory_word m k < bound = leb-false bound (memory_word m k) low in
+        below : nat_le bound.number (memory_word m k) ≡ false
+            → AlikeFrom bound.number (memory_word m k) (memory_word l k) → memory_word m k ≡ memory_word l k
+        below low (inl same) = same
+        below low (inr both) =
+            let less : memory_word m k < bound.number = leb-false bound.number (memory_word m k) low in
             absurd (omega (arith, less, both.0))
+
+        by : (nat_lt (4 * k) (length m) ≡ false) ⊎ (is_unseen bound k (memory_word m k) ≡ false)
+            → memory_word m k ≡ memory_word l k
+        by (inl past) =
+            let le : length m ≤ 4 * k = ltb-false (4 * k) (length m) past in absurd (omega (arith, le, lt))
+        by (inr plain) =
+            let parts = or_parts (is_kept bound.kept k) (nat_le bound.number (memory_word m k)) plain in
+            below parts.1 (alike.words k lt parts.0)
 
     bytes : (p : ℕ) → has_mark words (p / 4) ≡ false → slice_get m p ≡ slice_get l p
     bytes p e = elim (cases_lt p (length m)) [
@@ -146,8 +157,8 @@ plain_registers : (bound : ℕ) (marks : List Bool) (m : FinMap nat_cmp Word) �
 plain_registers bound marks m plain n =
     subst (λ (b : Bool). HoldAlike bound b (get m n) (get m n)) (sym (plain n)) refl
 
-pub entry_similar : (bound : ℕ) (m : Marks) (env : Setting) (inbox : FinMap nat_cmp ℕ) (before start : List ℕ)
-    → length m.registers ≡ 11 → ((n : ℕ) → has_mark m.registers n ≡ false) → MarksLarge bound m.words before
+pub entry_similar : (bound : Bound) (m : Marks) (env : Setting) (inbox : FinMap nat_cmp ℕ) (before start : List ℕ)
+    → length m.registers ≡ 11 → ((n : ℕ) → has_mark m.registers n ≡ false) → AreMarksOf bound m.words before
     → length before % 4 ≡ 0 → All (λ byte. byte < 256) before → All (λ byte. byte < 256) start
     → AreAlikeMemories bound before start
     → AreSimilar bound start m (entry env before) (entry (with_inbox env inbox) start)
@@ -155,7 +166,7 @@ entry_similar bound m env inbox before start wide plain marks whole mine theirs 
   frame = record {
     wide = wide;
     slot = refl;
-    registers = plain_registers bound m.registers _ plain;
+    registers = plain_registers bound.number m.registers _ plain;
     stack = refl;
     kept = refl;
   };
@@ -170,17 +181,17 @@ none_marked zero j = refl
 none_marked (suc n) zero = refl
 none_marked (suc n) (suc j) = none_marked n j
 
--- the word k is marked if it is large
-pub marked_next : (words : List Bool) (m : List ℕ) (bound k word : ℕ) → word ≡ memory_word m k → k < length words
-    → ((j : ℕ) → j < k → has_mark words j ≡ nat_le bound (memory_word m j))
-    → (j : ℕ) → j < k + 1 → has_mark (slice_set words k (nat_le bound word)) j ≡ nat_le bound (memory_word m j)
-marked_next words m bound k word is within before j lt = elim (cases_eq j k) [
+-- the word k is marked if it is kept or large
+pub marked_next : (words : List Bool) (m : List ℕ) (bound : Bound) (k : ℕ) (b : Bool)
+    → b ≡ is_unseen bound k (memory_word m k) → k < length words
+    → ((j : ℕ) → j < k → has_mark words j ≡ is_unseen bound j (memory_word m j))
+    → (j : ℕ) → j < k + 1 → has_mark (slice_set words k b) j ≡ is_unseen bound j (memory_word m j)
+marked_next words m bound k b is within before j lt = elim (cases_eq j k) [
   | inl same ↦
-      ap (has_mark (slice_set words k (nat_le bound word))) same
-      ∙ (marked_same words k (nat_le bound word) within
-      ∙ (ap (nat_le bound) is ∙ ap (λ (n : ℕ). nat_le bound (memory_word m n)) (sym same)))
-  | inr other ↦
-      marked_other words k j (nat_le bound word) other ∙ before j (omega (arith, lt, other))
+      ap (has_mark (slice_set words k b)) same
+      ∙ (marked_same words k b within
+      ∙ (is ∙ ap (λ (n : ℕ). is_unseen bound n (memory_word m n)) (sym same)))
+  | inr other ↦ marked_other words k j b other ∙ before j (omega (arith, lt, other))
 ]
 
 -- the words after it aren't yet

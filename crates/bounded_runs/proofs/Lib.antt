@@ -5,6 +5,7 @@ pub mod Places
 pub mod Accesses
 pub mod Steps
 pub mod Entry
+pub mod Keeping
 pub mod Runs
 pub mod AlikeInputs
 pub mod AllRows

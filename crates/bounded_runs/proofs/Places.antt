@@ -1,12 +1,13 @@
 -- Bytes of two memories that differ in marked words alone.
-use Rattle.std.proofs.Common.{◌≡◌, ℕ, zero, suc, ◌+◌, ◌*◌, ◌/◌, ◌%◌, ◌<◌, ◌≤◌, ◌⊎◌, Bool, true, false, List, Option, length, ◌==◌, refl, sym, ◌∙◌, subst, ap, arith, inl, inr}
+use Rattle.std.proofs.Common.{◌≡◌, ℕ, zero, suc, ◌+◌, ◌*◌, ◌/◌, ◌%◌, ◌<◌, ◌≤◌, ◌⊎◌, Bool, true, false, List, Option, length, ◌==◌, not, refl, sym, ◌∙◌, subst, ap, arith, inl, inr}
 use Rattle.std.specs.Prelude.{slice_get, slice_set}
 use Rattle.std.proofs.lemmas.Bool.{and_parts, cases_eq, cases_lt, eqb-true, or_parts, true≢false}
 use Rattle.std.proofs.lemmas.List.{length-set}
 use Rattle.std.proofs.lemmas.Option.{slice_get_past}
 use Rattle.bpf_machine.specs.Step.{number_at, with_number}
 use Rattle.bpf_run.proofs.FlatWords.{set_found, set_other}
-use Rattle.bounded_runs.specs.inner.Marks.{has_mark, is_whole_word, touches_marked}
+use Rattle.bounded_runs.specs.Bounded.{Bound, is_kept}
+use Rattle.bounded_runs.specs.inner.Marks.{has_mark, is_whole_word, takes_word, touches_marked}
 use Rattle.bounded_runs.specs.inner.Similar.{AreSimilarMemories, IsLargeWord}
 use Rattle.bounded_runs.proofs.Similar.{cleared_mark, marked_other}
 
@@ -33,12 +34,18 @@ untouched words k (suc count) p plain le lt =
       | inr other ↦ untouched words (suc k) count p parts.1 (omega (arith, le, other)) (omega (arith, lt))
     ]
 
--- what a whole word is
-pub word_place : (first count : ℕ) → is_whole_word first count ≡ true → (count ≡ 4) × (first ≡ 4 * (first / 4))
-word_place first count h =
-    let parts = and_parts (count == 4) (first % 4 == 0) h in
+-- what a whole word is that isn't kept
+pub word_taken : (kept : List Bool) (first count : ℕ) → takes_word kept first count ≡ true
+    → (count ≡ 4) × (first ≡ 4 * (first / 4)) × (is_kept kept (first / 4) ≡ false)
+word_taken kept first count h =
+    let both = and_parts (is_whole_word first count) (not (is_kept kept (first / 4))) h in
+    let parts = and_parts (count == 4) (first % 4 == 0) both.0 in
     let even : first % 4 ≡ 0 = eqb-true (first % 4) 0 parts.1 in
-    (eqb-true count 4 parts.0, omega (arith, even))
+    (eqb-true count 4 parts.0, omega (arith, even), not_true (is_kept kept (first / 4)) both.1)
+  where
+    not_true : (b : Bool) → not b ≡ true → b ≡ false
+    not_true true e = absurd (true≢false (sym e))
+    not_true false e = refl
 
 -- ---- bytes that are written
 
@@ -114,15 +121,17 @@ kept_large bound m k count n j apart large = (
 )
 
 -- another store touches no marked word
-pub stored_beside : (bound : ℕ) (begun : List ℕ) (words : List Bool) (m l : List ℕ) (k count n : ℕ)
+pub stored_beside : (bound : Bound) (begun : List ℕ) (words : List Bool) (m l : List ℕ) (k count n : ℕ)
     → touches_marked words k count ≡ false → AreSimilarMemories bound begun words m l
     → AreSimilarMemories bound begun words (with_number slice_set m k count n) (with_number slice_set l k count n)
 stored_beside bound begun words m l k count n plain similar = record {
   size = written_length m k count n ∙ (similar.size ∙ sym (written_length l k count n));
   bytes = λ p shown. written_alike m l k count n p similar.size (λ _. similar.bytes p shown);
-  large = λ j marked.
-      let both = similar.large j marked in
-      (kept_large bound m k count n j (apart j marked) both.0, kept_large bound l k count n j (apart j marked) both.1);
+  large = λ j marked seen.
+      let both = similar.large j marked seen in (
+        kept_large bound.number m k count n j (apart j marked) both.0,
+        kept_large bound.number l k count n j (apart j marked) both.1,
+      );
   stays = λ p marked. written_other l k count n p (apart (p / 4) marked p (omega arith) (omega arith))
       ∙ similar.stays p marked;
 }
@@ -140,20 +149,20 @@ stored_beside bound begun words m l k count n plain similar = record {
     ]
 
 -- the store of a whole word takes its mark away
-pub stored_over : (bound : ℕ) (begun : List ℕ) (words : List Bool) (m l : List ℕ) (first n : ℕ) → first ≡ 4 * (first / 4)
-    → AreSimilarMemories bound begun words m l
+pub stored_over : (bound : Bound) (begun : List ℕ) (words : List Bool) (m l : List ℕ) (first n : ℕ)
+    → first ≡ 4 * (first / 4) → AreSimilarMemories bound begun words m l
     → AreSimilarMemories bound begun (slice_set words (first / 4) false) (with_number slice_set m first 4 n)
     (with_number slice_set l first 4 n)
 stored_over bound begun words m l first n even similar = record {
   size = written_length m first 4 n ∙ (similar.size ∙ sym (written_length l first 4 n));
   bytes = λ p shown. written_alike m l first 4 n p similar.size (λ outside.
       similar.bytes p (sym (marked_other words (first / 4) (p / 4) false (other p outside)) ∙ shown));
-  large = λ j marked. elim (cases_eq j (first / 4)) [
+  large = λ j marked seen. elim (cases_eq j (first / 4)) [
     | inl same ↦ absurd (cleared j same marked)
     | inr apart ↦
-        let both = similar.large j (sym (marked_other words (first / 4) j false apart) ∙ marked) in (
-          kept_large bound m first 4 n j (beside j apart) both.0,
-          kept_large bound l first 4 n j (beside j apart) both.1,
+        let both = similar.large j (sym (marked_other words (first / 4) j false apart) ∙ marked) seen in (
+          kept_large bound.number m first 4 n j (beside j apart) both.0,
+          kept_large bound.number l first 4 n j (beside j apart) both.1,
         )
   ];
   stays = λ p marked. elim (cases_eq (p / 4) (first / 4)) [

@@ -19,9 +19,10 @@ use Rattle.bpf_machine.specs.Step.{◌>>=◌, ended_by, execute_at, number_in, r
 use Rattle.bpf_machine.proofs.Composed.{leads_add}
 use Rattle.bpf_run.proofs.Alike.{alike_ok}
 use Rattle.bounded_runs.specs.declared.marks.Marks.{Marks}
-use Rattle.bounded_runs.specs.Bounded.{AreAlikeInputs, EndsAsOne, EndsByMemory}
-use Rattle.bounded_runs.specs.inner.Marks.{MarksLarge, has_mark, marks_after}
+use Rattle.bounded_runs.specs.Bounded.{AreAlikeInputs, Bound, EndsAsOne, EndsByMemory, end_keeping, is_kept, memory_keeping}
+use Rattle.bounded_runs.specs.inner.Marks.{AreMarksOf, has_mark, marks_after}
 use Rattle.bounded_runs.specs.inner.Similar.{AreSimilar, AreSimilarMemories, AreFollowed}
+use Rattle.bounded_runs.proofs.Keeping.{at_keeping, length-keeping}
 use Rattle.bounded_runs.proofs.Similar.{word_same}
 use Rattle.bounded_runs.proofs.Parts.{with_inbox}
 use Rattle.bounded_runs.proofs.Calls.{AreHeard}
@@ -31,7 +32,7 @@ use Rattle.bounded_runs.proofs.Steps.{PhasesSimilar, step_similar}
 -- ---- inputs
 
 -- of alike inputs only inbox and memory differ
-alike_env : (bound : ℕ) (env other : Setting) (before start : List ℕ) → AreAlikeInputs bound env other before start
+alike_env : (bound : Bound) (env other : Setting) (before start : List ℕ) → AreAlikeInputs bound env other before start
     → other ≡ with_inbox env other.inbox
 alike_env bound env other before start alike = rw (sym alike.shape, sym alike.id, sym alike.coin) refl
 
@@ -42,8 +43,8 @@ received_small env j ok = by (get env.inbox j) refl
     by None e = omega arith
     by (Some v) e = (ok.mail j v e).1
 
-heard : (bound : ℕ) (env other : Setting) (before start : List ℕ) → IsSetting env → IsSetting other
-    → AreAlikeInputs bound env other before start → AreHeard bound env (with_inbox env other.inbox)
+heard : (bound : Bound) (env other : Setting) (before start : List ℕ) → IsSetting env → IsSetting other
+    → AreAlikeInputs bound env other before start → AreHeard bound.number env (with_inbox env other.inbox)
 heard bound env other before start ok good alike = record {
   alike = alike.messages;
   mine = λ j. received_small env j ok;
@@ -52,9 +53,9 @@ heard bound env other before start ok good alike = record {
 
 -- ---- the beginning
 
-pub begins_followed : (program : List Insn) (bound : ℕ) (env : Setting) (before : List ℕ) (m : Marks) → IsSetting env
-    → length m.registers ≡ 11 → ((n : ℕ) → has_mark m.registers n ≡ false) → MarksLarge bound m.words before
-    → length before % 4 ≡ 0 → All (λ byte. byte < 256) before
+pub begins_followed : (program : List Insn) (bound : Bound) (env : Setting) (before : List ℕ) (m : Marks)
+    → IsSetting env → length m.registers ≡ 11 → ((n : ℕ) → has_mark m.registers n ≡ false)
+    → AreMarksOf bound m.words before → length before % 4 ≡ 0 → All (λ byte. byte < 256) before
     → AreFollowed program bound env before 0 (entry env before) m
 begins_followed program bound env before m ok wide plain marks whole mine other start good theirs alike = (
   entry other start,
@@ -66,7 +67,7 @@ begins_followed program bound env before m ok wide plain marks whole mine other 
 
 -- ---- a step
 
-running : (bound : ℕ) (begun : List ℕ) (m : Marks) (s : MachineState) (p : Phase)
+running : (bound : Bound) (begun : List ℕ) (m : Marks) (s : MachineState) (p : Phase)
     → PhasesSimilar bound begun m (Running s) p
     → (t : MachineState) × (p ≡ Running t) × AreSimilar bound begun m s t
 running bound begun m s (Running t) similar = (t, refl, similar)
@@ -77,7 +78,7 @@ leads_next : (program : List Insn) (env : Setting) (count : ℕ) (s t u : Phase)
     → Steps program env t u → Leads program env (count + 1) s u
 leads_next program env count s t u runs next = leads_add program env count 1 s t u runs (u, next, refl)
 
-pub step_followed : (program : List Insn) (bound : ℕ) (env : Setting) (before : List ℕ) (count : ℕ)
+pub step_followed : (program : List Insn) (bound : Bound) (env : Setting) (before : List ℕ) (count : ℕ)
     (s u : MachineState) (m next : Marks) (insn : Insn) → IsSetting env → insn_at program s.frame.slot ≡ Some insn
     → marks_after bound env s.frame insn m ≡ Some next → Steps program env (Running s) (Running u)
     → AreFollowed program bound env before count s m → AreFollowed program bound env before (count + 1) u next
@@ -96,47 +97,29 @@ step_followed program bound env before count s u m next insn ok at marks goes fo
 
 -- ---- the end
 
--- the memory that is left: marked words are as when the run began
-abbrev restored : List Bool → ℕ → List ℕ → List ℕ → List ℕ
-restored words k [] begun = []
-restored words k (byte ∷ m) begun =
-    (if has_mark words (k / 4) then slice_index begun k else byte) ∷ restored words (suc k) m begun
-
-length-restored : (words : List Bool) (k : ℕ) (m begun : List ℕ) → length (restored words k m begun) ≡ length m
-length-restored words k [] begun = refl
-length-restored words k (byte ∷ m) begun = ap suc (length-restored words (suc k) m begun)
-
-at_restored : (words : List Bool) (k : ℕ) (m begun : List ℕ) (p q : ℕ) → p < length m → q ≡ k + p
-    → get_or (restored words k m begun) p 0
-    ≡ (if has_mark words (q / 4) then slice_index begun q else get_or m p 0)
-at_restored words k [] begun p q lt is = absurd (omega (arith, lt))
-at_restored words k (byte ∷ m) begun zero q lt is =
-    ap (λ (n : ℕ). if has_mark words (n / 4) then slice_index begun n else byte) (omega (arith, is))
-at_restored words k (byte ∷ m) begun (suc p) q lt is =
-    at_restored words (suc k) m begun p q (omega (arith, lt)) (omega (arith, is))
-
 byte_same : (l m : List ℕ) (p : ℕ) → slice_get l p ≡ slice_get m p → get_or l p 0 ≡ get_or m p 0
 byte_same l m p same =
     sym (unwrap_or-slice_get l p 0) ∙ (ap (λ (o : Option ℕ). unwrap_or o 0) same ∙ unwrap_or-slice_get m p 0)
 
-memory_left : (bound : ℕ) (begun : List ℕ) (words : List Bool) (m l : List ℕ)
-    → AreSimilarMemories bound begun words m l → l ≡ restored words 0 m begun
+-- the memory that is left: marked words are as when the run began
+memory_left : (bound : Bound) (begun : List ℕ) (words : List Bool) (m l : List ℕ)
+    → AreSimilarMemories bound begun words m l → l ≡ memory_keeping words 0 m begun
 memory_left bound begun words m l similar =
-    ext_get_or 0 l (restored words 0 m begun) (sym similar.size ∙ sym (length-restored words 0 m begun))
+    ext_get_or 0 l (memory_keeping words 0 m begun) (sym similar.size ∙ sym (length-keeping words 0 m begun))
     (λ p lt. by p (has_mark words (p / 4)) refl
-    ∙ sym (at_restored words 0 m begun p p (omega (arith, lt, similar.size)) (omega arith)))
+    ∙ sym (at_keeping words 0 m begun p p (omega (arith, lt, similar.size)) (omega arith)))
   where
     by : (p : ℕ) (b : Bool) → has_mark words (p / 4) ≡ b
         → get_or l p 0 ≡ (if has_mark words (p / 4) then slice_index begun p else get_or m p 0)
     by p true e = rw e (byte_same l begun p (similar.stays p e))
     by p false e = rw e (byte_same l m p (sym (similar.bytes p e)))
 
--- where no word is marked that is the memory of the first run
-memory_same : (words : List Bool) (m begun : List ℕ) → ((k : ℕ) → has_mark words k ≡ false)
-    → restored words 0 m begun ≡ m
-memory_same words m begun plain = ext_get_or 0 (restored words 0 m begun) m (length-restored words 0 m begun)
-    (λ p lt. at_restored words 0 m begun p p (omega (arith, lt, length-restored words 0 m begun)) (omega arith)
-    ∙ ap (λ (b : Bool). if b then slice_index begun p else get_or m p 0) (plain (p / 4)))
+-- where the kept words are those that are marked
+memory_same : (words kept : List Bool) (k : ℕ) (m start : List ℕ) → ((j : ℕ) → has_mark words j ≡ is_kept kept j)
+    → memory_keeping words k m start ≡ memory_keeping kept k m start
+memory_same words kept k [] start same = refl
+memory_same words kept k (byte ∷ m) start same =
+    rw (same (k / 4), memory_same words kept (suc k) m start same) refl
 
 exit_number : (s : MachineState) (r : Result ℕ TrapKind) (r0 : ℕ) → ended_by s r ≡ Ok (Ended s.memory s.sent r0)
     → r ≡ Ok r0
@@ -146,27 +129,26 @@ exit_number s (Ok n) r0 e =
     ap Ok number
 exit_number s (Err trap) r0 e = cc
 
--- the end of a run that began with this memory
-abbrev end_of : List Bool → MachineState → ℕ → ℕ → List ℕ → End
-end_of words s steps r0 start =
-    record { steps = steps; memory = restored words 0 s.memory start; sent = s.sent; r0 = r0 }
+-- the end of the first run
+abbrev end_at : MachineState → ℕ → ℕ → End
+end_at s steps r0 = record { steps = steps; memory = s.memory; sent = s.sent; r0 = r0 }
 
 -- where the run ends and r0 isn't marked, the others end so, with their own marked words
-all_end : (program : List Insn) (bound : ℕ) (env : Setting) (before : List ℕ) (count r0 : ℕ) (s : MachineState)
+all_end : (program : List Insn) (bound : Bound) (env : Setting) (before : List ℕ) (count r0 : ℕ) (s : MachineState)
     (m : Marks) → insn_at program s.frame.slot ≡ Some Exit → has_mark m.registers 0 ≡ false
     → Steps program env (Running s) (Ended s.memory s.sent r0)
     → AreFollowed program bound env before count s m → (other : Setting) (start : List ℕ) → IsSetting other
     → All (λ byte. byte < 256) start → AreAlikeInputs bound env other before start
-    → CompleteRun program other start (end_of m.words s (count + 1) r0 start)
+    → CompleteRun program other start (end_keeping m.words (end_at s (count + 1) r0) start)
 all_end program bound env before count r0 s m at plain ends followed other start good bytes alike =
     let there = followed other start good bytes alike in
     leads_next program other count (Running (entry other start)) (Running there.0)
-    (Ended (restored m.words 0 s.memory start) s.sent r0) there.1 (exits there.0 other start there.2)
+    (Ended (memory_keeping m.words 0 s.memory start) s.sent r0) there.1 (exits there.0 other start there.2)
   where
     exits : (t : MachineState) (e : Setting) (start : List ℕ) → AreSimilar bound start m s t
-        → step program e t ≡ Ok (Ended (restored m.words 0 s.memory start) s.sent r0)
+        → step program e t ≡ Ok (Ended (memory_keeping m.words 0 s.memory start) s.sent r0)
     exits t e start similar =
-        let word = word_same bound m.registers s.frame t.frame R0 similar.frame plain in
+        let word = word_same bound.number m.registers s.frame t.frame R0 similar.frame plain in
         let memory = memory_left bound start m.words s.memory t.memory similar.memory in
         let there : insn_at program t.frame.slot ≡ Some Exit = ap (insn_at program) (sym similar.frame.slot) ∙ at in
         let mine : ended_by s (result_of_exit s.frame) ≡ Ok (Ended s.memory s.sent r0) =
@@ -176,22 +158,24 @@ all_end program bound env before count r0 s m at plain ends followed other start
         ∙ exit_number s (result_of_exit s.frame) r0 mine in
         rw (there, number, sym memory, similar.sent) refl
 
-pub end_by_memory : (program : List Insn) (bound : ℕ) (env : Setting) (before : List ℕ) (count r0 : ℕ)
+pub end_by_memory : (program : List Insn) (bound : Bound) (env : Setting) (before : List ℕ) (count r0 : ℕ)
     (s : MachineState) (m : Marks) → insn_at program s.frame.slot ≡ Some Exit → has_mark m.registers 0 ≡ false
     → Steps program env (Running s) (Ended s.memory s.sent r0)
     → AreFollowed program bound env before count s m → EndsByMemory program bound env before
-end_by_memory program bound env before count r0 s m at plain ends followed =
-    (end_of m.words s (count + 1) r0, all_end program bound env before count r0 s m at plain ends followed)
+end_by_memory program bound env before count r0 s m at plain ends followed = (
+  λ start. end_keeping m.words (end_at s (count + 1) r0) start,
+  all_end program bound env before count r0 s m at plain ends followed,
+)
 
--- if no word is marked either, they end as one
-pub end_as_one : (program : List Insn) (bound : ℕ) (env : Setting) (before : List ℕ) (count r0 : ℕ)
+-- if the marked words are those that are kept, they end as one
+pub end_as_one : (program : List Insn) (bound : Bound) (env : Setting) (before : List ℕ) (count r0 : ℕ)
     (s : MachineState) (m : Marks) → insn_at program s.frame.slot ≡ Some Exit → has_mark m.registers 0 ≡ false
-    → ((k : ℕ) → has_mark m.words k ≡ false) → Steps program env (Running s) (Ended s.memory s.sent r0)
+    → ((k : ℕ) → has_mark m.words k ≡ is_kept bound.kept k) → Steps program env (Running s) (Ended s.memory s.sent r0)
     → AreFollowed program bound env before count s m → EndsAsOne program bound env before
 end_as_one program bound env before count r0 s m at plain words ends followed = (
-  record { steps = count + 1; memory = s.memory; sent = s.sent; r0 = r0 },
+  end_at s (count + 1) r0,
   λ other start good bytes alike. subst (λ (memory : List ℕ). CompleteRun program other start
       (record { steps = count + 1; memory = memory; sent = s.sent; r0 = r0 }))
-      (memory_same m.words s.memory start words)
+      (memory_same m.words bound.kept 0 s.memory start words)
       (all_end program bound env before count r0 s m at plain ends followed other start good bytes alike),
 )

@@ -22,6 +22,7 @@ use Rattle.bpf_machine.specs.Machine.{Frame, MachineState, Phase, Running, Ended
 use Rattle.bpf_machine.specs.Step.{◌>>=◌, Bytes, Calls, advance, alu, bytes_of, calls_of, effect, execute_at, load_immediate, next_slot, step, way_of}
 use Rattle.bpf_run.proofs.Alike.{Alike, after_alike, then_alike, then_equal}
 use Rattle.bounded_runs.specs.declared.marks.Marks.{Marks}
+use Rattle.bounded_runs.specs.Bounded.{Bound}
 use Rattle.bounded_runs.specs.inner.Marks.{after_helper, if_plain, marks_after, operand_marked, with_answer, with_mark}
 use Rattle.bounded_runs.specs.inner.Similar.{AreSimilar, AreSimilarFrames}
 use Rattle.bounded_runs.proofs.Parts.{change_similar, edge_similar, immediate_similar, move_similar, operate_similar, with_inbox}
@@ -34,12 +35,12 @@ use Rattle.bounded_runs.proofs.Accesses.{AreSimilarBytes, load_extended_similar,
 abbrev FramesAfter : ℕ → Marks → Marks → Result Frame TrapKind → Result Frame TrapKind → Type 0
 FramesAfter bound m next r q = Alike (AreSimilarFrames bound next.registers) r q × (m.words ≡ next.words)
 
-on_frames : (bound : ℕ) (begun : List ℕ) (m next : Marks) (s t : MachineState) (r q : Result Frame TrapKind) → AreSimilar bound begun m s t
-    → FramesAfter bound m next r q
+on_frames : (bound : Bound) (begun : List ℕ) (m next : Marks) (s t : MachineState) (r q : Result Frame TrapKind)
+    → AreSimilar bound begun m s t → FramesAfter bound.number m next r q
     → Alike (AreSimilar bound begun next) (r >>= λ frame. Ok (record s { frame = frame }))
     (q >>= λ frame. Ok (record t { frame = frame }))
 on_frames bound begun m next s t r q similar h =
-    after_alike r q _ _ (AreSimilarFrames bound next.registers) (AreSimilar bound begun next) h.0
+    after_alike r q _ _ (AreSimilarFrames bound.number next.registers) (AreSimilar bound begun next) h.0
     (λ x y frames. record { frame = frames; memory = rw (sym h.1) similar.memory; sent = similar.sent })
 
 -- with the marks that an instruction leaves if nothing marked is read
@@ -52,62 +53,63 @@ if_plainly bound m next b dst r q marks h =
       ap (λ (x : Marks). x.words) plain.1,
     )
 
-alu_similar : (env : Setting) (inbox : FinMap nat_cmp ℕ) (bound : ℕ) (m next : Marks) (op : AluOp) (width : Width)
+alu_similar : (env : Setting) (inbox : FinMap nat_cmp ℕ) (bound : Bound) (m next : Marks) (op : AluOp) (width : Width)
     (dst : Reg) (src : Operand) (s t : Frame) → marks_after bound env s (i.Alu op width dst src) m ≡ Some next
-    → AreSimilarFrames bound m.registers s t
-    → FramesAfter bound m next (alu env op width dst src s) (alu (with_inbox env inbox) op width dst src t)
+    → AreSimilarFrames bound.number m.registers s t
+    → FramesAfter bound.number m next (alu env op width dst src s) (alu (with_inbox env inbox) op width dst src t)
 alu_similar env inbox bound m next Mov width dst src s t marks frames =
     let same = some_same (with_mark m dst (operand_marked m src)) next marks in (
-      subst (λ (x : Marks). Alike (AreSimilarFrames bound x.registers) (alu env Mov width dst src s)
-          (alu (with_inbox env inbox) Mov width dst src t)) same (move_similar bound m width dst src s t frames),
+      subst (λ (x : Marks). Alike (AreSimilarFrames bound.number x.registers) (alu env Mov width dst src s)
+          (alu (with_inbox env inbox) Mov width dst src t)) same (move_similar bound.number m width dst src s t frames),
       ap (λ (x : Marks). x.words) same,
     )
 alu_similar env inbox bound m next Add width dst src s t marks frames =
-    if_plainly bound m next _ dst _ _ marks
-    (λ plain. operate_similar env inbox bound m Add width dst src s t plain frames)
+    if_plainly bound.number m next _ dst _ _ marks
+    (λ plain. operate_similar env inbox bound.number m Add width dst src s t plain frames)
 alu_similar env inbox bound m next Sub width dst src s t marks frames =
-    if_plainly bound m next _ dst _ _ marks
-    (λ plain. operate_similar env inbox bound m Sub width dst src s t plain frames)
+    if_plainly bound.number m next _ dst _ _ marks
+    (λ plain. operate_similar env inbox bound.number m Sub width dst src s t plain frames)
 alu_similar env inbox bound m next Mul width dst src s t marks frames =
-    if_plainly bound m next _ dst _ _ marks
-    (λ plain. operate_similar env inbox bound m Mul width dst src s t plain frames)
+    if_plainly bound.number m next _ dst _ _ marks
+    (λ plain. operate_similar env inbox bound.number m Mul width dst src s t plain frames)
 alu_similar env inbox bound m next Div width dst src s t marks frames =
-    if_plainly bound m next _ dst _ _ marks
-    (λ plain. operate_similar env inbox bound m Div width dst src s t plain frames)
+    if_plainly bound.number m next _ dst _ _ marks
+    (λ plain. operate_similar env inbox bound.number m Div width dst src s t plain frames)
 alu_similar env inbox bound m next Sdiv width dst src s t marks frames =
-    if_plainly bound m next _ dst _ _ marks
-    (λ plain. operate_similar env inbox bound m Sdiv width dst src s t plain frames)
+    if_plainly bound.number m next _ dst _ _ marks
+    (λ plain. operate_similar env inbox bound.number m Sdiv width dst src s t plain frames)
 alu_similar env inbox bound m next Or width dst src s t marks frames =
-    if_plainly bound m next _ dst _ _ marks
-    (λ plain. operate_similar env inbox bound m Or width dst src s t plain frames)
+    if_plainly bound.number m next _ dst _ _ marks
+    (λ plain. operate_similar env inbox bound.number m Or width dst src s t plain frames)
 alu_similar env inbox bound m next And width dst src s t marks frames =
-    if_plainly bound m next _ dst _ _ marks
-    (λ plain. operate_similar env inbox bound m And width dst src s t plain frames)
+    if_plainly bound.number m next _ dst _ _ marks
+    (λ plain. operate_similar env inbox bound.number m And width dst src s t plain frames)
 alu_similar env inbox bound m next Lsh width dst src s t marks frames =
-    if_plainly bound m next _ dst _ _ marks
-    (λ plain. operate_similar env inbox bound m Lsh width dst src s t plain frames)
+    if_plainly bound.number m next _ dst _ _ marks
+    (λ plain. operate_similar env inbox bound.number m Lsh width dst src s t plain frames)
 alu_similar env inbox bound m next Rsh width dst src s t marks frames =
-    if_plainly bound m next _ dst _ _ marks
-    (λ plain. operate_similar env inbox bound m Rsh width dst src s t plain frames)
+    if_plainly bound.number m next _ dst _ _ marks
+    (λ plain. operate_similar env inbox bound.number m Rsh width dst src s t plain frames)
 alu_similar env inbox bound m next Mod width dst src s t marks frames =
-    if_plainly bound m next _ dst _ _ marks
-    (λ plain. operate_similar env inbox bound m Mod width dst src s t plain frames)
+    if_plainly bound.number m next _ dst _ _ marks
+    (λ plain. operate_similar env inbox bound.number m Mod width dst src s t plain frames)
 alu_similar env inbox bound m next Smod width dst src s t marks frames =
-    if_plainly bound m next _ dst _ _ marks
-    (λ plain. operate_similar env inbox bound m Smod width dst src s t plain frames)
+    if_plainly bound.number m next _ dst _ _ marks
+    (λ plain. operate_similar env inbox bound.number m Smod width dst src s t plain frames)
 alu_similar env inbox bound m next Xor width dst src s t marks frames =
-    if_plainly bound m next _ dst _ _ marks
-    (λ plain. operate_similar env inbox bound m Xor width dst src s t plain frames)
+    if_plainly bound.number m next _ dst _ _ marks
+    (λ plain. operate_similar env inbox bound.number m Xor width dst src s t plain frames)
 alu_similar env inbox bound m next Arsh width dst src s t marks frames =
-    if_plainly bound m next _ dst _ _ marks
-    (λ plain. operate_similar env inbox bound m Arsh width dst src s t plain frames)
+    if_plainly bound.number m next _ dst _ _ marks
+    (λ plain. operate_similar env inbox bound.number m Arsh width dst src s t plain frames)
 
 -- nothing changes but the slot
-stays : (bound : ℕ) (begun : List ℕ) (m next : Marks) (s t : MachineState) → m ≡ next → AreSimilar bound begun m s t
+stays : (bound : Bound) (begun : List ℕ) (m next : Marks) (s t : MachineState) → m ≡ next → AreSimilar bound begun m s t
     → AreSimilar bound begun next s t
 stays bound begun m next s t same similar = subst (λ (x : Marks). AreSimilar bound begun x s t) same similar
 
-bytes_after : (bound : ℕ) (begun : List ℕ) (m next : Marks) (s t : MachineState) (r q : Result Bytes TrapKind) → AreSimilar bound begun m s t
+bytes_after : (bound : Bound) (begun : List ℕ) (m next : Marks) (s t : MachineState) (r q : Result Bytes TrapKind)
+    → AreSimilar bound begun m s t
     → Alike (AreSimilarBytes bound begun next) r q
     → Alike (AreSimilar bound begun next) (r >>= λ b. Ok (record s { frame = b.frame; memory = b.memory }))
     (q >>= λ b. Ok (record t { frame = b.frame; memory = b.memory }))
@@ -127,30 +129,31 @@ call_words bound env s id m next marks = by (helper_of id) marks
     by (Some Recv) e = ap (λ (x : Marks). x.words) (plain_marks _ _ next e).1
     by (Some Send) e = ap (λ (x : Marks). x.words) (plain_marks _ _ next e).1
 
-calls_after : (bound : ℕ) (begun : List ℕ) (m next : Marks) (s t : MachineState) (r q : Result Calls TrapKind) → m.words ≡ next.words
-    → AreSimilar bound begun m s t → Alike (AreSimilarCalls bound next) r q
+calls_after : (bound : Bound) (begun : List ℕ) (m next : Marks) (s t : MachineState) (r q : Result Calls TrapKind)
+    → m.words ≡ next.words → AreSimilar bound begun m s t → Alike (AreSimilarCalls bound.number next) r q
     → Alike (AreSimilar bound begun next) (r >>= λ c. Ok (record s { frame = c.frame; sent = c.sent }))
     (q >>= λ c. Ok (record t { frame = c.frame; sent = c.sent }))
 calls_after bound begun m next s t r q words similar h =
-    after_alike r q _ _ (AreSimilarCalls bound next) (AreSimilar bound begun next) h
+    after_alike r q _ _ (AreSimilarCalls bound.number next) (AreSimilar bound begun next) h
     (λ x y calls. record { frame = calls.frame; memory = rw (sym words) similar.memory; sent = calls.sent })
 
-effect_similar : (env : Setting) (inbox : FinMap nat_cmp ℕ) (bound : ℕ) (begun : List ℕ) (m next : Marks) (insn : Insn)
-    (s t : MachineState) → AreHeard bound env (with_inbox env inbox) → marks_after bound env s.frame insn m ≡ Some next
+effect_similar : (env : Setting) (inbox : FinMap nat_cmp ℕ) (bound : Bound) (begun : List ℕ) (m next : Marks)
+    (insn : Insn) (s t : MachineState) → AreHeard bound.number env (with_inbox env inbox)
+    → marks_after bound env s.frame insn m ≡ Some next
     → AreSimilar bound begun m s t
     → Alike (AreSimilar bound begun next) (effect env insn s) (effect (with_inbox env inbox) insn t)
 effect_similar env inbox bound begun m next (i.Alu op width dst src) s t heard marks similar =
     on_frames bound begun m next s t _ _ similar
     (alu_similar env inbox bound m next op width dst src s.frame t.frame marks similar.frame)
 effect_similar env inbox bound begun m next (i.Neg width dst) s t heard marks similar =
-    on_frames bound begun m next s t _ _ similar (if_plainly bound m next _ dst _ _ marks
-    (λ plain. change_similar bound m (neg_result width) dst dst s.frame t.frame plain similar.frame))
+    on_frames bound begun m next s t _ _ similar (if_plainly bound.number m next _ dst _ _ marks
+    (λ plain. change_similar bound.number m (neg_result width) dst dst s.frame t.frame plain similar.frame))
 effect_similar env inbox bound begun m next (i.Movsx kind dst src) s t heard marks similar =
-    on_frames bound begun m next s t _ _ similar (if_plainly bound m next _ dst _ _ marks
-    (λ plain. change_similar bound m (movsx_result kind) dst src s.frame t.frame plain similar.frame))
+    on_frames bound begun m next s t _ _ similar (if_plainly bound.number m next _ dst _ _ marks
+    (λ plain. change_similar bound.number m (movsx_result kind) dst src s.frame t.frame plain similar.frame))
 effect_similar env inbox bound begun m next (i.Swap order bits dst) s t heard marks similar =
-    on_frames bound begun m next s t _ _ similar (if_plainly bound m next _ dst _ _ marks
-    (λ plain. change_similar bound m (swap_result order bits) dst dst s.frame t.frame plain similar.frame))
+    on_frames bound begun m next s t _ _ similar (if_plainly bound.number m next _ dst _ _ marks
+    (λ plain. change_similar bound.number m (swap_result order bits) dst dst s.frame t.frame plain similar.frame))
 effect_similar env inbox bound begun m next (i.Ja off) s t heard marks similar =
     stays bound begun m next s t (some_same m next marks) similar
 effect_similar env inbox bound begun m next (i.JaLong off) s t heard marks similar =
@@ -158,8 +161,8 @@ effect_similar env inbox bound begun m next (i.JaLong off) s t heard marks simil
 effect_similar env inbox bound begun m next (i.Branch op width dst src off) s t heard marks similar =
     stays bound begun m next s t (plain_marks _ m next marks).1 similar
 effect_similar env inbox bound begun m next (i.Call id) s t heard marks similar =
-    calls_after bound begun m next s t _ _ (call_words bound env s.frame id m next marks) similar
-    (call_similar env inbox bound m next id (calls_of s.frame s.sent) (calls_of t.frame t.sent) heard marks
+    calls_after bound begun m next s t _ _ (call_words bound.number env s.frame id m next marks) similar
+    (call_similar env inbox bound.number m next id (calls_of s.frame s.sent) (calls_of t.frame t.sent) heard marks
     (record { frame = similar.frame; sent = similar.sent }))
 effect_similar env inbox bound begun m next i.Exit s t heard marks similar = absurd (no_marks next marks)
 effect_similar env inbox bound begun m next (i.Load size dst base off) s t heard marks similar =
@@ -181,9 +184,9 @@ effect_similar env inbox bound begun m next (i.StoreImm size base off imm) s t h
 effect_similar env inbox bound begun m next (i.LoadImm64 dst value) s t heard marks similar =
     let same = some_same (with_mark m dst false) next marks in
     on_frames bound begun m next s t _ _ similar (
-      subst (λ (x : Marks). Alike (AreSimilarFrames bound x.registers) (load_immediate dst value s.frame)
+      subst (λ (x : Marks). Alike (AreSimilarFrames bound.number x.registers) (load_immediate dst value s.frame)
           (load_immediate dst value t.frame)) same
-          (immediate_similar bound m dst value s.frame t.frame similar.frame),
+          (immediate_similar bound.number m dst value s.frame t.frame similar.frame),
       ap (λ (x : Marks). x.words) same,
     )
 
@@ -193,8 +196,8 @@ not_false : (b : Bool) → not b ≡ false → b ≡ true
 not_false true e = refl
 not_false false e = absurd (true≢false e)
 
-way_similar : (env : Setting) (bound : ℕ) (m next : Marks) (insn : Insn) (s t : Frame)
-    → marks_after bound env s insn m ≡ Some next → AreSimilarFrames bound m.registers s t
+way_similar : (env : Setting) (bound : Bound) (m next : Marks) (insn : Insn) (s t : Frame)
+    → marks_after bound env s insn m ≡ Some next → AreSimilarFrames bound.number m.registers s t
     → way_of s insn ≡ way_of t insn
 way_similar env bound m next (i.Alu op width dst src) s t marks frames = refl
 way_similar env bound m next (i.Neg width dst) s t marks frames = refl
@@ -203,7 +206,7 @@ way_similar env bound m next (i.Swap order bits dst) s t marks frames = refl
 way_similar env bound m next (i.Ja off) s t marks frames = refl
 way_similar env bound m next (i.JaLong off) s t marks frames = refl
 way_similar env bound m next (i.Branch op width dst src off) s t marks frames =
-    edge_similar bound m op width dst src off s t (not_false _ (plain_marks _ m next marks).0) frames
+    edge_similar bound.number m op width dst src off s t (not_false _ (plain_marks _ m next marks).0) frames
 way_similar env bound m next (i.Call id) s t marks frames = refl
 way_similar env bound m next i.Exit s t marks frames = refl
 way_similar env bound m next (i.Load size dst base off) s t marks frames = refl
@@ -212,8 +215,8 @@ way_similar env bound m next (i.StoreReg size base off src) s t marks frames = r
 way_similar env bound m next (i.StoreImm size base off imm) s t marks frames = refl
 way_similar env bound m next (i.LoadImm64 dst value) s t marks frames = refl
 
-next_same : (program : List Insn) (env : Setting) (bound : ℕ) (m next : Marks) (insn : Insn) (s t : Frame)
-    → marks_after bound env s insn m ≡ Some next → AreSimilarFrames bound m.registers s t
+next_same : (program : List Insn) (env : Setting) (bound : Bound) (m next : Marks) (insn : Insn) (s t : Frame)
+    → marks_after bound env s insn m ≡ Some next → AreSimilarFrames bound.number m.registers s t
     → next_slot program insn s ≡ next_slot program insn t
 next_same program env bound m next insn s t marks frames =
     then_equal (way_of s insn) (way_of t insn) _ _ (way_similar env bound m next insn s t marks frames)
@@ -221,13 +224,13 @@ next_same program env bound m next insn s t marks frames =
 
 -- ---- the step
 
-abbrev pub PhasesSimilar : ℕ → List ℕ → Marks → Phase → Phase → Type 0
+abbrev pub PhasesSimilar : Bound → List ℕ → Marks → Phase → Phase → Type 0
 PhasesSimilar bound begun m (Running s) (Running t) = AreSimilar bound begun m s t
 PhasesSimilar bound begun m (Running s) (Ended memory sent r0) = ⊥
 PhasesSimilar bound begun m (Ended memory sent r0) q = ⊥
 
-advance_similar : (program : List Insn) (env : Setting) (inbox : FinMap nat_cmp ℕ) (bound : ℕ) (begun : List ℕ) (m next : Marks)
-    (insn : Insn) (s t : MachineState) → AreHeard bound env (with_inbox env inbox)
+advance_similar : (program : List Insn) (env : Setting) (inbox : FinMap nat_cmp ℕ) (bound : Bound) (begun : List ℕ)
+    (m next : Marks) (insn : Insn) (s t : MachineState) → AreHeard bound.number env (with_inbox env inbox)
     → marks_after bound env s.frame insn m ≡ Some next → AreSimilar bound begun m s t
     → Alike (AreSimilar bound begun next) (advance program env insn s) (advance program (with_inbox env inbox) insn t)
 advance_similar program env inbox bound begun m next insn s t heard marks similar =
@@ -248,7 +251,7 @@ advance_similar program env inbox bound begun m next insn s t heard marks simila
     }))
 
 -- an exit leaves no marks
-goes_on : (bound : ℕ) (env : Setting) (s : Frame) (insn : Insn) (m next : Marks)
+goes_on : (bound : Bound) (env : Setting) (s : Frame) (insn : Insn) (m next : Marks)
     → marks_after bound env s insn m ≡ Some next → is_exit insn ≡ false
 goes_on bound env s (i.Alu op width dst src) m next marks = refl
 goes_on bound env s (i.Neg width dst) m next marks = refl
@@ -265,8 +268,8 @@ goes_on bound env s (i.StoreReg size base off src) m next marks = refl
 goes_on bound env s (i.StoreImm size base off imm) m next marks = refl
 goes_on bound env s (i.LoadImm64 dst value) m next marks = refl
 
-pub step_similar : (program : List Insn) (env : Setting) (inbox : FinMap nat_cmp ℕ) (bound : ℕ) (begun : List ℕ) (m next : Marks)
-    (insn : Insn) (s t : MachineState) → AreHeard bound env (with_inbox env inbox)
+pub step_similar : (program : List Insn) (env : Setting) (inbox : FinMap nat_cmp ℕ) (bound : Bound) (begun : List ℕ)
+    (m next : Marks) (insn : Insn) (s t : MachineState) → AreHeard bound.number env (with_inbox env inbox)
     → insn_at program s.frame.slot ≡ Some insn → marks_after bound env s.frame insn m ≡ Some next
     → AreSimilar bound begun m s t
     → Alike (PhasesSimilar bound begun next) (step program env s) (step program (with_inbox env inbox) t)

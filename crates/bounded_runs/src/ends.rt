@@ -1,27 +1,40 @@
 //! How runs from alike inputs end.
 ghost use Rattle.std.specs.Prelude.{◌≡◌};
-ghost use Rattle.bounded_runs.specs.Bounded.{both_ends};
+ghost use Rattle.bounded_runs.specs.Bounded.{both_ends, is_known};
 
 /// How runs from alike inputs end.
 #[derive(Clone, Copy, Debug, PartialEq, Eq)]
 pub enum Ends {
-    /// All as one.
+    /// All as one, but for the words that are kept.
     AsOne,
-    /// Those with one memory as one. No run stores the word of memory at this byte.
-    ByMemory { kept: u32 },
+    /// Those with one memory as one. Some run doesn't store the word of memory at this byte.
+    ByMemory { byte: u32 },
+    /// Not known: a run loads or stores this word, which was to be kept.
+    Touches { word: u32 },
     /// Not known.
     Unknown,
 }
 
 impl Ends {
+    /// Returns true if it says how runs end.
+    pub fn is_known(self) -> bool
+        ensures { result ≡ is_known self }
+    {
+        match self {
+            Ends::AsOne | Ends::ByMemory { .. } => true,
+            Ends::Touches { .. } | Ends::Unknown => false,
+        }
+    }
+
     /// Returns what is known of runs of which some end so and the others so.
     pub fn and(self, other: Ends) -> Ends
         ensures { result ≡ both_ends self other }
     {
         match (self, other) {
             (Ends::AsOne, ends) => ends,
-            (Ends::ByMemory { .. }, Ends::Unknown) | (Ends::Unknown, _) => Ends::Unknown,
+            (Ends::ByMemory { .. }, Ends::Touches { .. } | Ends::Unknown) => other,
             (Ends::ByMemory { .. }, Ends::AsOne | Ends::ByMemory { .. }) => self,
+            (Ends::Touches { .. } | Ends::Unknown, _) => self,
         }
     }
 }

@@ -9,4 +9,3 @@ mod run;
 
 pub use all::{alike_memories, ends_of};
 pub use ends::Ends;
-pub use run::ends_from;

@@ -1,4 +1,4 @@
-//! Which registers and words of memory hold large numbers that may be others in a run from an input that is alike.
+//! Which registers and words of memory may hold other numbers in a run from an input that is alike.
 ghost use Rattle.std.specs.Prelude.{◌≡◌, ◌+◌, ◌*◌, ◌<◌, ◌≤◌, ◌%◌, ◌^◌, ℕ, true, false, Some, None, Ok, IfNone, IfSome, IsTrue, if◌then◌else◌, length};
 ghost use Rattle.bpf_insn.specs.Arithmetic.{bits_of};
 ghost use Rattle.bpf_insn.specs.declared.forms.Insn.TheVariants as i;
@@ -8,8 +8,8 @@ ghost use Rattle.node_env.specs.Helpers.{helper_of};
 ghost use Rattle.node_env.specs.declared.shape.TheConstants.{MAX_MEMORY};
 ghost use Rattle.node_env.specs.declared.helper.Helper.TheVariants.{Recv};
 ghost use Rattle.bpf_machine.specs.Step.{operand_of, place, word_of};
-ghost use Rattle.bounded_runs.specs.Bounded.{memory_word};
-ghost use Rattle.bounded_runs.specs.inner.Marks.{MarksLarge, after_helper, place_from, if_plain, after_load, after_store, at_place, comparison_decided, decides_left, decides_right, is_decided, is_large, has_mark, is_whole_word, marks_after, operand_marked, register_marked, touches_marked, with_answer, with_mark};
+ghost use Rattle.bounded_runs.specs.Bounded.{is_kept, memory_word};
+ghost use Rattle.bounded_runs.specs.inner.Marks.{AreMarksOf, after_helper, place_from, if_plain, after_load, after_store, at_place, bound_in, comparison_decided, decides_left, decides_right, is_decided, is_large, has_mark, is_whole_word, marks_after, operand_marked, register_marked, takes_word, touches_marked, with_answer, with_mark};
 
 use bpf_insn::{AluOp, Cond, Insn, Operand, Reg, Size, SxSize, Width};
 use bpf_machine::{State, Word};
@@ -24,7 +24,7 @@ pub(crate) const WORD_BYTES: u32 = 4;
 /// How many words the largest memory has.
 const MAX_WORDS: usize = (MAX_MEMORY / WORD_BYTES) as usize;
 
-/// Which registers and words of memory hold large numbers that may be others.
+/// Which registers and words of memory may hold other numbers.
 #[derive(Drop)]
 pub(crate) struct Marks {
     pub(crate) registers: [bool; REGISTERS],
@@ -37,6 +37,8 @@ pub(crate) struct StepView<'a> {
     pub(crate) env: &'a Env,
     pub(crate) state: &'a State,
     pub(crate) bound: u32,
+    /// Whether each word of memory is kept.
+    pub(crate) kept: &'a [bool],
 }
 
 /// Returns true if every large number compares alike with this one on its right.
@@ -100,6 +102,34 @@ fn is_whole_word(first: u32, count: u32) -> bool
     count == 4 && first % 4 == 0
 }
 
+/// Returns true if the word is kept.
+pub(crate) fn is_kept(kept: &[bool], word: usize) -> bool
+    ensures { result ≡ is_kept kept.now word }
+{
+    match kept.get(word) {
+        Some(is) => *is,
+        None => false,
+    }
+}
+
+/// Returns true if the access takes a whole word that isn't kept.
+fn takes_word(kept: &[bool], first: u32, count: u32) -> bool
+    ensures { result ≡ takes_word kept.now first count }
+{
+    is_whole_word(first, count) && !is_kept(kept, (first / WORD_BYTES) as usize)
+}
+
+/// Returns the first kept word of which an access of memory has bytes. Nothing is promised of it.
+fn kept_word_at(kept: &[bool], first: u32, count: u32) -> Option<u32> {
+    let past = first.saturating_add(count).saturating_add(WORD_BYTES - 1) / WORD_BYTES;
+    for word in first / WORD_BYTES..past {
+        if is_kept(kept, word as usize) {
+            return Some(word);
+        }
+    }
+    None
+}
+
 /// Returns the region of an access and its first byte there; none if it isn't inside.
 fn place(env: &Env, base: Word, off: i16, count: u32) -> Option<(Region, u32)>
     requires { count ≤ 8 }
@@ -131,17 +161,17 @@ fn word_at(memory: &[u8], k: usize) -> u32
 }
 
 impl Marks {
-    /// Returns the marks of a run that begins: of no register, and of each large word of the memory.
-    pub(crate) fn at_entry(memory: &[u8], bound: u32) -> Marks
+    /// Returns the marks of a run that begins: of no register, and of each word of the memory that is large or kept.
+    pub(crate) fn at_entry(memory: &[u8], bound: u32, kept: &[bool]) -> Marks
         requires few { length memory.now ≤ MAX_MEMORY }
         requires whole { length memory.now % 4 ≡ 0 }
         ensures wide { length result.registers ≡ 11 }
         ensures registers { (n : ℕ) → has_mark result.registers n ≡ false }
-        ensures words { MarksLarge bound result.words memory.now }
+        ensures words { AreMarksOf (record { number = bound; kept = kept.now }) result.words memory.now }
     {
         let mut words = [false; MAX_WORDS];
         for k in 0..memory.len() / WORD_BYTES as usize {
-            words[k] = word_at(memory, k) >= bound;
+            words[k] = is_kept(kept, k) || word_at(memory, k) >= bound;
         }
         Marks {
             registers: [false; REGISTERS],
@@ -156,13 +186,17 @@ impl Marks {
         self.registers[0]
     }
 
-    /// Returns the first byte of a word of memory that is marked.
-    pub(crate) fn marked_byte(&self) -> Option<u32>
-        ensures { IfNone result ((k : ℕ) → has_mark self.now.words k ≡ false) }
+    /// Returns the first byte of a word of memory that is marked and isn't kept, or the other way round.
+    pub(crate) fn marked_byte(&self, kept: &[bool]) -> Option<u32>
+        ensures { IfNone result ((k : ℕ) → has_mark self.now.words k ≡ is_kept kept.now k) }
     {
-        for k in 0..MAX_WORDS {
-            if self.words[k] {
-                return Some(WORD_BYTES * k as u32);
+        for k in 0..MAX_WORDS.max(kept.len()) {
+            if is_kept(&self.words, k) != is_kept(kept, k) {
+                return Some(
+                    u32::try_from(k)
+                        .unwrap_or(u32::MAX)
+                        .saturating_mul(WORD_BYTES),
+                );
             }
         }
         None
@@ -213,11 +247,11 @@ impl Marks {
     }
 
     /// Takes the mark of a word along in a load of it. Returns false if another load takes bytes of a marked word.
-    fn keep_load(&mut self, dst: Reg, first: u32, count: u32) -> bool
+    fn keep_load(&mut self, kept: &[bool], dst: Reg, first: u32, count: u32) -> bool
         requires { first + count ≤ MAX_MEMORY }
-        ensures { IsTrue result → after_load self.old dst first count ≡ Some self.new }
+        ensures { IsTrue result → after_load kept.now self.old dst first count ≡ Some self.new }
     {
-        if is_whole_word(first, count) {
+        if takes_word(kept, first, count) {
             let marked = self.words[(first / WORD_BYTES) as usize];
             self.mark(dst, marked);
             return true;
@@ -230,11 +264,11 @@ impl Marks {
     }
 
     /// Takes away the mark of a word that is stored. Returns false if another store has bytes in a marked word.
-    fn keep_store(&mut self, first: u32, count: u32) -> bool
+    fn keep_store(&mut self, kept: &[bool], first: u32, count: u32) -> bool
         requires { first + count ≤ MAX_MEMORY }
-        ensures { IsTrue result → after_store self.old first count ≡ Some self.new }
+        ensures { IsTrue result → after_store kept.now self.old first count ≡ Some self.new }
     {
-        if is_whole_word(first, count) {
+        if takes_word(kept, first, count) {
             self.words[(first / WORD_BYTES) as usize] = false;
             return true;
         }
@@ -317,7 +351,7 @@ impl Marks {
 
     /// Follows a load. Returns false if it takes bytes of a marked word, but not the word.
     fn keep_loaded(&mut self, view: StepView, size: Size, dst: Reg, base: Reg, off: i16) -> bool
-        ensures { IsTrue result → marks_after view.entry.bound view.entry.env.now view.entry.state.now
+        ensures { IsTrue result → marks_after (bound_in view.entry) view.entry.env.now view.entry.state.now
             (i.Load size dst base off) self.old ≡ Some self.new }
     {
         match self.accessed(view, base, off, size.bytes()) {
@@ -326,13 +360,13 @@ impl Marks {
                 self.mark(dst, false);
                 true
             }
-            Some((Region::Mem, first)) => self.keep_load(dst, first, size.bytes()),
+            Some((Region::Mem, first)) => self.keep_load(view.kept, dst, first, size.bytes()),
         }
     }
 
     /// Follows a load that extends the sign. Returns false if it takes bytes of a marked word.
     fn keep_extended(&mut self, view: StepView, size: SxSize, dst: Reg, base: Reg, off: i16) -> bool
-        ensures { IsTrue result → marks_after view.entry.bound view.entry.env.now view.entry.state.now
+        ensures { IsTrue result → marks_after (bound_in view.entry) view.entry.env.now view.entry.state.now
             (i.LoadSx size dst base off) self.old ≡ Some self.new }
     {
         match self.accessed(view, base, off, size.bytes()) {
@@ -352,12 +386,13 @@ impl Marks {
     fn keep_stored(&mut self, view: StepView, size: Size, base: Reg, off: i16) -> bool
         ensures { IsTrue result → (if register_marked self.old base then None
             else at_place (place_from view.entry.env.now (word_of view.entry.state.now base) off (access_bytes size))
-            (λ first. after_store self.old first (access_bytes size)) (Some self.old)) ≡ Some self.new }
+            (λ first. after_store view.entry.kept.now self.old first (access_bytes size)) (Some self.old))
+            ≡ Some self.new }
     {
         match self.accessed(view, base, off, size.bytes()) {
             None => false,
             Some((Region::Stack, _)) => true,
-            Some((Region::Mem, first)) => self.keep_store(first, size.bytes()),
+            Some((Region::Mem, first)) => self.keep_store(view.kept, first, size.bytes()),
         }
     }
 
@@ -384,8 +419,8 @@ impl Marks {
 
     /// Follows a load or a store. Returns false if it may tell large numbers apart.
     fn keep_access(&mut self, view: StepView, insn: &Insn) -> bool
-        ensures { IsTrue result → marks_after view.entry.bound view.entry.env.now view.entry.state.now insn.now self.old
-            ≡ Some self.new }
+        ensures { IsTrue result → marks_after (bound_in view.entry) view.entry.env.now view.entry.state.now
+            insn.now self.old ≡ Some self.new }
     {
         match *insn {
             Insn::Load {
@@ -418,8 +453,8 @@ impl Marks {
 
     /// Follows the instruction at the state's slot. Returns false if it may tell large numbers apart.
     pub(crate) fn keep(&mut self, view: StepView, insn: &Insn) -> bool
-        ensures { IsTrue result → marks_after view.entry.bound view.entry.env.now view.entry.state.now insn.now self.old
-            ≡ Some self.new }
+        ensures { IsTrue result → marks_after (bound_in view.entry) view.entry.env.now view.entry.state.now
+            insn.now self.old ≡ Some self.new }
     {
         match *insn {
             Insn::Alu { op, dst, src, .. } => match op {
@@ -446,5 +481,46 @@ impl Marks {
             | Insn::StoreImm { .. } => self.keep_access(view, insn),
             Insn::LoadImm64 { dst, .. } => self.keep_plain(false, dst),
         }
+    }
+}
+
+/// Returns the first kept word of which an access by a register has bytes. Nothing is promised of it.
+fn kept_word_by(view: StepView, base: Reg, off: i16, count: u32) -> Option<u32>
+    requires { count ≤ 8 }
+{
+    match place(view.env, view.state.register(base)?, off, count)? {
+        (Region::Mem, first) => kept_word_at(view.kept, first, count),
+        (Region::Stack, _) => None,
+    }
+}
+
+/// Returns the kept word that an instruction loads or stores, if there is one. Nothing is promised of it.
+pub(crate) fn kept_word(view: StepView, insn: &Insn) -> Option<u32> {
+    match *insn {
+        Insn::Load {
+            size,
+            base,
+            off,
+            ..
+        } => kept_word_by(view, base, off, size.bytes()),
+        Insn::LoadSx {
+            size,
+            base,
+            off,
+            ..
+        } => kept_word_by(view, base, off, size.bytes()),
+        Insn::StoreReg {
+            size,
+            base,
+            off,
+            ..
+        } => kept_word_by(view, base, off, size.bytes()),
+        Insn::StoreImm {
+            size,
+            base,
+            off,
+            ..
+        } => kept_word_by(view, base, off, size.bytes()),
+        _ => None,
     }
 }

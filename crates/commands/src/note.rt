@@ -10,7 +10,7 @@ use crate::request::{NodeInPulse, ScenarioRequest};
 use crate::trace_note::note_on_trace;
 use rule_notes::note_on_rule;
 use rule_text::{RuleRefusal, read_rule};
-use scenario_explorer::{ExploreOptions, Unfit, uncovered_of, unfit_of};
+use scenario_explorer::{ExploreOptions, Starts, Unfit, uncovered_of, unfit_of};
 use scenario_notes::note_on;
 use scenario_text::{Rejected, Scenario};
 use std::alloc::Global;
@@ -32,6 +32,10 @@ const TEXT_NOTE: &[u8] =
 /// The note on a scenario without a seed, where `sweep` needs one.
 const SEED_NOTE: &[u8] =
     b"note: sweep runs a scenario once for each seed: it needs a key, and coins = \"chacha\" or a load of noise\n";
+
+/// The note on every start with any message, if no law covers both.
+const BOTH_NOTE: &[u8] =
+    b"note: no law covers every start with any message of these programs: use --start any --cells, and if need be --mail 0..8\n";
 
 /// The note on nodes and memory that are no shape.
 const SHAPE_NOTE: &[u8] =
@@ -193,12 +197,14 @@ fn tell_unfit_scenario<E: Write>(options: &ExploreOptions, scenario: &Scenario, 
     }
 }
 
-/// Says which part no law covers, if there is one.
+/// Says which part no law covers, if there is one. If both parts were asked for, a bound may still cover messages.
 fn tell_uncovered<E: Write>(options: &ExploreOptions, scenario: &Scenario, err: &mut E)
     ensures { SaysNote (E.contents err.old) (E.contents err.new) }
 {
-    if let Some(unfit) = uncovered_of(options, scenario) {
-        say(unexplored_note(unfit), err);
+    match (uncovered_of(options, scenario), &options.start) {
+        (None, _) => {}
+        (Some(Unfit::AnyMessage), Starts::Every) => say(BOTH_NOTE, err),
+        (Some(unfit), _) => say(unexplored_note(unfit), err),
     }
 }
 

@@ -30,7 +30,7 @@ pub enum Unfit {
     Image,
     /// Any message is named, and some loaded node doesn't run the rule's clock.
     AnyMessage,
-    /// Every start is named, and from this byte of a memory on nothing is known of it.
+    /// Every start is named, and no law covers this byte of a memory.
     NoLaw { byte: u32 },
 }
 

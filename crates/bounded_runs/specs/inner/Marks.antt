@@ -25,7 +25,8 @@ use Rattle.bpf_machine.specs.declared.word.TrapKind.{TrapKind}
 use Rattle.bpf_machine.specs.Machine.{Frame}
 use Rattle.bpf_machine.specs.Step.{operand_of, place, word_of}
 use Rattle.bounded_runs.specs.declared.marks.Marks.{Marks}
-use Rattle.bounded_runs.specs.Bounded.{memory_word}
+use Rattle.bounded_runs.specs.declared.marks.StepView.{StepView}
+use Rattle.bounded_runs.specs.Bounded.{Bound, is_kept, memory_word}
 
 -- ---- registers
 
@@ -90,10 +91,14 @@ comparison_decided true true bound cond width a b = false
 
 -- ---- words of memory
 
--- the marks are those of the large words of a memory
-abbrev pub MarksLarge : ℕ → List Bool → List ℕ → Type 0
-MarksLarge bound words m = (k : ℕ)
-    → has_mark words k ≡ (nat_lt (4 * k) (length m) && nat_le bound (memory_word m k))
+-- the word is to be marked: it is kept, or it is large
+abbrev pub is_unseen : Bound → ℕ → ℕ → Bool
+is_unseen bound k word = is_kept bound.kept k || nat_le bound.number word
+
+-- the marks are those of such words of a memory
+abbrev pub AreMarksOf : Bound → List Bool → List ℕ → Type 0
+AreMarksOf bound words m = (k : ℕ)
+    → has_mark words k ≡ (nat_lt (4 * k) (length m) && is_unseen bound k (memory_word m k))
 
 -- one of this many bytes from k on is in a marked word
 abbrev pub touches_marked : List Bool → ℕ → ℕ → Bool
@@ -104,16 +109,20 @@ touches_marked words k (suc count) = has_mark words (k / 4) || touches_marked wo
 abbrev pub is_whole_word : ℕ → ℕ → Bool
 is_whole_word first count = (count == 4) && (first % 4 == 0)
 
--- a load of a whole word takes its mark along; of a marked word nothing else is read
-abbrev pub after_load : Marks → Reg → ℕ → ℕ → Option Marks
-after_load m dst first count =
-    if is_whole_word first count then Some (with_mark m dst (has_mark m.words (first / 4)))
+-- it takes a whole word that isn't kept
+abbrev pub takes_word : List Bool → ℕ → ℕ → Bool
+takes_word kept first count = is_whole_word first count && not (is_kept kept (first / 4))
+
+-- a load of such a word takes its mark along; of a marked word nothing else is read
+abbrev pub after_load : List Bool → Marks → Reg → ℕ → ℕ → Option Marks
+after_load kept m dst first count =
+    if takes_word kept first count then Some (with_mark m dst (has_mark m.words (first / 4)))
     else if_plain (touches_marked m.words first count) (with_mark m dst false)
 
--- a store of a whole word, or of two, takes its mark away; into a marked word nothing else is stored
-abbrev pub after_store : Marks → ℕ → ℕ → Option Marks
-after_store m first count =
-    if is_whole_word first count then Some (record m { words = slice_set m.words (first / 4) false })
+-- a store of such a word takes its mark away; into a marked word nothing else is stored
+abbrev pub after_store : List Bool → Marks → ℕ → ℕ → Option Marks
+after_store kept m first count =
+    if takes_word kept first count then Some (record m { words = slice_set m.words (first / 4) false })
     else if_plain (touches_marked m.words first count) m
 
 abbrev pub at_place : Result (Region × ℕ) TrapKind → (ℕ → Option Marks) → Option Marks → Option Marks
@@ -145,7 +154,7 @@ after_helper bound env s (Some Send) m =
 -- ---- instructions
 
 -- the marks after an instruction; None if it may tell large numbers apart
-abbrev pub marks_after : ℕ → Setting → Frame → Insn → Marks → Option Marks
+abbrev pub marks_after : Bound → Setting → Frame → Insn → Marks → Option Marks
 marks_after bound env s (i.Alu Mov width dst src) m = Some (with_mark m dst (operand_marked m src))
 marks_after bound env s (i.Alu op width dst src) m =
     if_plain (register_marked m dst || operand_marked m src) (with_mark m dst false)
@@ -155,14 +164,14 @@ marks_after bound env s (i.Swap order bits dst) m = if_plain (register_marked m 
 marks_after bound env s (i.Ja off) m = Some m
 marks_after bound env s (i.JaLong off) m = Some m
 marks_after bound env s (i.Branch cond width dst src off) m = if_plain
-    (not (comparison_decided (register_marked m dst) (operand_marked m src) bound cond width (word_of s dst)
+    (not (comparison_decided (register_marked m dst) (operand_marked m src) bound.number cond width (word_of s dst)
     (operand_of s src))) m
-marks_after bound env s (i.Call id) m = after_helper bound env s (helper_of id) m
+marks_after bound env s (i.Call id) m = after_helper bound.number env s (helper_of id) m
 marks_after bound env s i.Exit m = None
 marks_after bound env s (i.Load size dst base off) m =
     if register_marked m base then None
     else at_place (place_from env (word_of s base) off (access_bytes size))
-    (λ first. after_load m dst first (access_bytes size)) (Some (with_mark m dst false))
+    (λ first. after_load bound.kept m dst first (access_bytes size)) (Some (with_mark m dst false))
 marks_after bound env s (i.LoadSx size dst base off) m =
     if register_marked m base then None
     else at_place (place_from env (word_of s base) off (sx_access_bytes size))
@@ -171,9 +180,13 @@ marks_after bound env s (i.LoadSx size dst base off) m =
 marks_after bound env s (i.StoreReg size base off src) m =
     if register_marked m base || register_marked m src then None
     else at_place (place_from env (word_of s base) off (access_bytes size))
-    (λ first. after_store m first (access_bytes size)) (Some m)
+    (λ first. after_store bound.kept m first (access_bytes size)) (Some m)
 marks_after bound env s (i.StoreImm size base off imm) m =
     if register_marked m base then None
     else at_place (place_from env (word_of s base) off (access_bytes size))
-    (λ first. after_store m first (access_bytes size)) (Some m)
+    (λ first. after_store bound.kept m first (access_bytes size)) (Some m)
 marks_after bound env s (i.LoadImm64 dst value) m = Some (with_mark m dst false)
+
+-- of a step
+abbrev pub bound_in : StepView → Bound
+bound_in view = record { number = view.bound; kept = view.kept.now }

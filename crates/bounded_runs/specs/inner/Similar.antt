@@ -10,7 +10,7 @@ use Rattle.bpf_machine.specs.Machine.{Frame, MachineState}
 use Rattle.bpf_machine.specs.Run.{RunsTo}
 use Rattle.bpf_machine.specs.Step.{number_at}
 use Rattle.bounded_runs.specs.declared.marks.Marks.{Marks}
-use Rattle.bounded_runs.specs.Bounded.{AreAlikeInputs}
+use Rattle.bounded_runs.specs.Bounded.{AreAlikeInputs, Bound, is_kept}
 use Rattle.bounded_runs.specs.inner.Marks.{has_mark}
 
 abbrev pub IsLarge : ℕ → ℕ → Type 0
@@ -36,21 +36,22 @@ pub record AreSimilarFrames (bound : ℕ) (marks : List Bool) (s t : Frame) : Ty
 abbrev pub IsLargeWord : ℕ → List ℕ → ℕ → Type 0
 IsLargeWord bound m k = (n : ℕ) × (number_at (slice_get m) (4 * k) 4 ≡ Ok n) × IsLarge bound n
 
--- two memories have the same bytes outside marked words, and marked words are large. Those of the second are as when its
--- run began
-pub record AreSimilarMemories (bound : ℕ) (begun : List ℕ) (words : List Bool) (m l : List ℕ) : Type 0 where
+-- two memories have the same bytes outside marked words. Marked words are large or kept, and those of the second are as
+-- when its run began
+pub record AreSimilarMemories (bound : Bound) (begun : List ℕ) (words : List Bool) (m l : List ℕ) : Type 0 where
   pub size : length m ≡ length l
   pub bytes : (p : ℕ) → has_mark words (p / 4) ≡ false → slice_get m p ≡ slice_get l p
-  pub large : (k : ℕ) → has_mark words k ≡ true → IsLargeWord bound m k × IsLargeWord bound l k
+  pub large : (k : ℕ) → has_mark words k ≡ true → is_kept bound.kept k ≡ false
+      → IsLargeWord bound.number m k × IsLargeWord bound.number l k
   pub stays : (p : ℕ) → has_mark words (p / 4) ≡ true → slice_get l p ≡ slice_get begun p
 
-pub record AreSimilar (bound : ℕ) (begun : List ℕ) (marks : Marks) (s t : MachineState) : Type 0 where
-  pub frame : AreSimilarFrames bound marks.registers s.frame t.frame
+pub record AreSimilar (bound : Bound) (begun : List ℕ) (marks : Marks) (s t : MachineState) : Type 0 where
+  pub frame : AreSimilarFrames bound.number marks.registers s.frame t.frame
   pub memory : AreSimilarMemories bound begun marks.words s.memory t.memory
   pub sent : s.sent ≡ t.sent
 
 -- from each input that is alike, as many steps lead to a state that is similar
-abbrev pub AreFollowed : List Insn → ℕ → Setting → List ℕ → ℕ → MachineState → Marks → Type 0
+abbrev pub AreFollowed : List Insn → Bound → Setting → List ℕ → ℕ → MachineState → Marks → Type 0
 AreFollowed program bound env before count s marks = (other : Setting) (start : List ℕ) → IsSetting other
     → All (λ byte. byte < 256) start → AreAlikeInputs bound env other before start
     → (t : MachineState) × RunsTo program other start count t × AreSimilar bound start marks s t

@@ -1,10 +1,10 @@
 use Rattle.std.proofs.Common.{◌≡◌, ◌<◌, [], map, get_or, All, Contains, ap, length, sym, subst, ◌∙◌, arith, below_more}
 use Rattle.std.proofs.lemmas.List.{get_or_default, length-map}
-use Rattle.bounded_runs.specs.Bounded.{EndsSo}
+use Rattle.bounded_runs.specs.Bounded.{Bound, EndsSo}
 use Rattle.bounded_runs.specs.inner.Inputs.{env_with, rows_of}
 use Rattle.bounded_runs.proofs.AlikeInputs.{ends_left, ends_right}
 use Rattle.bounded_runs.proofs.AllRows.{item_at, row_length}
-use Rattle.bounded_runs.proofs.EveryInput.{AreAll, bounded_by}
+use Rattle.bounded_runs.proofs.EveryInput.{AreAll, bound_of_messages, bounded_by}
 use Rattle.bounded_runs.proofs.all.ends_of.Goals as goal
 
 pub loop-inbox-init : goal.loop-inbox-init
@@ -18,14 +18,14 @@ ends_with-requires-clause-inbox c =
     ∙ item_at (λ v. v.items) inboxes i c.inbox-item.result [] c.loop-inbox-test.true c.inbox-item.is in
     let whole = ap (map (λ v. v.items)) c.deref-inbox-items.ensures.value ∙ c.in_ok-inboxes.ensures in
     ap length is
-    ∙ (row_length c.args.bound c.nodes-2.result (map (λ v. v.items) inboxes) i whole
+    ∙ (row_length (record { number = c.args.bound; kept = [] }) c.nodes-2.result (map (λ v. v.items) inboxes) i whole
     (omega (arith, c.loop-inbox-test.true, length-map inboxes (λ v. v.items)))
     ∙ (c.nodes-2.ensures.value ∙ ap (λ shape. shape.nodes) c.shape-shape.ensures))
 
 pub loop-inbox-preserved : goal.loop-inbox-preserved
 loop-inbox-preserved c =
     let program = c.args.program.now.program in
-    let bound = c.args.bound in
+    let bound : Bound = record { number = c.args.bound; kept = c.args.kept.now } in
     let inboxes = c.deref-inbox-items.result.now in
     let i = c.loop-inbox.inbox-index in
     let memories = map (λ v. v.items) c.deref.result.now in
@@ -44,14 +44,15 @@ pub returns : goal.returns
 returns c =
     let program = c.args.program.now.program in
     let shape = c.args.program.now.shape in
-    let bound = c.args.bound in
+    let bound : Bound = record { number = c.args.bound; kept = c.args.kept.now } in
     let id = c.args.id in
     let memories = map (λ v. v.items) c.deref.result.now in
     let inboxes = c.deref-inbox-items.result.now in
     let rows = map (λ v. v.items) inboxes in
     let nodes = c.nodes-2.ensures.value ∙ ap (λ s. s.nodes) c.shape-shape.ensures in
-    let whole : rows ≡ rows_of bound shape.nodes = ap (map (λ v. v.items)) c.deref-inbox-items.ensures.value
-    ∙ (c.in_ok-inboxes.ensures ∙ ap (rows_of bound) nodes) in
+    let whole : rows ≡ rows_of (bound_of_messages bound) 0 shape.nodes =
+    ap (map (λ v. v.items)) c.deref-inbox-items.ensures.value
+    ∙ (c.in_ok-inboxes.ensures ∙ ap (rows_of (bound_of_messages bound) 0) nodes) in
     let size = c.memory.ensures.value ∙ ap (λ s. s.memory) c.shape-shape.ensures in
     let all : AreAll bound shape.memory memories = subst (λ vecs. AreAll bound shape.memory (map (λ v. v.items) vecs))
     (sym c.deref.ensures.value) (λ m is bytes.

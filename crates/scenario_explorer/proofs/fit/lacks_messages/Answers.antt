@@ -4,5 +4,4 @@ use Rattle.scenario_explorer.proofs.fit.lacks_messages.Goals as goal
 
 pub returns-in-Some-clause-covered : goal.returns-in-Some-clause-covered
 returns-in-Some-clause-covered c _ _ =
-    let there = c.in-Some.ensures in
-    inr (subst HasMessageBound c.requires (c.in-Some.field-0, there.0, there.1, there.2))
+    inr (subst HasMessageBound c.requires (c.in-Some.field-0, c.in-Some.ensures))
