@@ -25,12 +25,12 @@ use Rattle.bpf_machine.specs.Step.{◌>>=◌, Bytes, byte_at, inside, keep, keep
 use Rattle.bpf_run.proofs.Alike.{Alike, after_alike, then_alike, then_written}
 use Rattle.bounded_runs.specs.declared.marks.Marks.{Marks}
 use Rattle.bounded_runs.specs.Bounded.{Bound, is_kept}
-use Rattle.bounded_runs.specs.inner.Marks.{after_load, after_store, at_place, if_plain, has_mark, place_from, register_marked, takes_word, touches_marked, with_mark}
+use Rattle.bounded_runs.specs.inner.Marks.{after_load, after_store, all_marked, at_place, if_plain, place_from, register_marked, takes_large, touches_marked, with_mark}
 use Rattle.bounded_runs.specs.inner.Similar.{AreSimilarFrames, AreSimilarMemories, IsLarge}
 use Rattle.bounded_runs.proofs.Similar.{word_same}
 use Rattle.bounded_runs.proofs.Parts.{put_frames, with_inbox}
 use Rattle.bounded_runs.proofs.Calls.{plain_marks}
-use Rattle.bounded_runs.proofs.Places.{number_same, stored_beside, stored_over, untouched, word_taken}
+use Rattle.bounded_runs.proofs.Places.{large_taken, number_same, stored_similar, untouched}
 
 place_same : (env : Setting) (inbox : FinMap nat_cmp ℕ) (base : Word) (off : ℤ) (count : ℕ)
     → place env base off count ≡ place (with_inbox env inbox) base off count
@@ -68,37 +68,30 @@ abbrev LoadAlike : ℕ → Bool → Result ℕ TrapKind → Result ℕ TrapKind 
 LoadAlike bound false r q = r ≡ q
 LoadAlike bound true r q = (a : ℕ) × (b : ℕ) × (r ≡ Ok a) × (q ≡ Ok b) × IsLarge bound a × IsLarge bound b
 
--- a whole word that isn't kept
-word_loaded : (bound : Bound) (begun : List ℕ) (words : List Bool) (m l : List ℕ) (first : ℕ) → first ≡ 4 * (first / 4)
-    → is_kept bound.kept (first / 4) ≡ false → AreSimilarMemories bound begun words m l
-    → LoadAlike bound.number (has_mark words (first / 4)) (number_at (slice_get m) first 4)
-    (number_at (slice_get l) first 4)
-word_loaded bound begun words m l first even seen similar = by (has_mark words (first / 4)) refl
-  where
-    by : (b : Bool) → has_mark words (first / 4) ≡ b
-        → LoadAlike bound.number b (number_at (slice_get m) first 4) (number_at (slice_get l) first 4)
-    by true e =
-        let both = similar.large (first / 4) e seen in
-        let mine = both.0 in
-        let theirs = both.1 in (
-          mine.0,
-          theirs.0,
-          ap (λ (k : ℕ). number_at (slice_get m) k 4) even ∙ mine.1,
-          ap (λ (k : ℕ). number_at (slice_get l) k 4) even ∙ theirs.1,
-          mine.2,
-          theirs.2,
-        )
-    by false e = number_same (slice_get m) (slice_get l) first 4 (λ p le lt.
-        let at : p / 4 ≡ first / 4 = omega (arith, le, lt, even) in
-        similar.bytes p (ap (has_mark words) at ∙ e))
+-- a large word
+word_loaded : (bound : Bound) (begun : List ℕ) (bytes : List Bool) (m l : List ℕ) (first : ℕ) → first ≡ 4 * (first / 4)
+    → is_kept bound.kept (first / 4) ≡ false → all_marked bytes first 4 ≡ true
+    → AreSimilarMemories bound begun bytes m l
+    → LoadAlike bound.number true (number_at (slice_get m) first 4) (number_at (slice_get l) first 4)
+word_loaded bound begun bytes m l first even seen all similar =
+    let both = similar.large (first / 4) (subst (λ (k : ℕ). all_marked bytes k 4 ≡ true) even all) seen in
+    let mine = both.0 in
+    let theirs = both.1 in (
+      mine.0,
+      theirs.0,
+      ap (λ (k : ℕ). number_at (slice_get m) k 4) even ∙ mine.1,
+      ap (λ (k : ℕ). number_at (slice_get l) k 4) even ∙ theirs.1,
+      mine.2,
+      theirs.2,
+    )
 
--- other bytes, none of which is in a marked word
-bytes_loaded : (bound : Bound) (begun : List ℕ) (words : List Bool) (m l : List ℕ) (first count : ℕ)
-    → touches_marked words first count ≡ false → AreSimilarMemories bound begun words m l
+-- other bytes, none of which is marked
+bytes_loaded : (bound : Bound) (begun : List ℕ) (bytes : List Bool) (m l : List ℕ) (first count : ℕ)
+    → touches_marked bytes first count ≡ false → AreSimilarMemories bound begun bytes m l
     → number_at (slice_get m) first count ≡ number_at (slice_get l) first count
-bytes_loaded bound begun words m l first count plain similar =
+bytes_loaded bound begun bytes m l first count plain similar =
     number_same (slice_get m) (slice_get l) first count
-    (λ p le lt. similar.bytes p (untouched words first count p plain le lt))
+    (λ p le lt. similar.plain p (untouched bytes first count p plain le lt))
 
 -- what is loaded is put into a register
 put_loaded : (bound : ℕ) (marks : List Bool) (s t : Frame) (dst : Reg) (b : Bool) (r q : Result ℕ TrapKind)
@@ -117,41 +110,42 @@ put_loaded bound marks s t dst true r q h similar =
 -- a load of memory
 memory_loaded : (bound : Bound) (begun : List ℕ) (m next : Marks) (s t : Frame) (mine theirs : List ℕ)
     (dst : Reg) (first count : ℕ) → after_load bound.kept m dst first count ≡ Some next
-    → AreSimilarFrames bound.number m.registers s t → AreSimilarMemories bound begun m.words mine theirs
+    → AreSimilarFrames bound.number m.registers s t → AreSimilarMemories bound begun m.bytes mine theirs
     → Alike (AreSimilarFrames bound.number next.registers)
     ((number_at (slice_get mine) first count >>= λ n. Ok (Num n)) >>= λ word. Ok (with_register s dst word))
     ((number_at (slice_get theirs) first count >>= λ n. Ok (Num n)) >>= λ word. Ok (with_register t dst word))
-    × (m.words ≡ next.words)
+    × (m.bytes ≡ next.bytes)
 memory_loaded bound begun m next s t mine theirs dst first count marks frames memories =
-    by (takes_word bound.kept first count) refl marks
+    by (takes_large bound.kept m.bytes first count) refl marks
   where
     After : Marks → Type 0
     After n = Alike (AreSimilarFrames bound.number n.registers)
         ((number_at (slice_get mine) first count >>= λ n. Ok (Num n)) >>= λ word. Ok (with_register s dst word))
         ((number_at (slice_get theirs) first count >>= λ n. Ok (Num n)) >>= λ word. Ok (with_register t dst word))
-        × (m.words ≡ n.words)
+        × (m.bytes ≡ n.bytes)
 
-    by : (b : Bool) → takes_word bound.kept first count ≡ b
-        → cond b (Some (with_mark m dst (has_mark m.words (first / 4))))
-        (if_plain (touches_marked m.words first count) (with_mark m dst false)) ≡ Some next → After next
+    by : (b : Bool) → takes_large bound.kept m.bytes first count ≡ b
+        → cond b (Some (with_mark m dst true)) (if_plain (touches_marked m.bytes first count) (with_mark m dst false))
+        ≡ Some next → After next
     by true e h =
-        let at = word_taken bound.kept first count e in
-        let same : with_mark m dst (has_mark m.words (first / 4)) ≡ next = cc in
+        let at = large_taken bound.kept m.bytes first count e in
+        let whole : all_marked m.bytes first 4 ≡ true =
+        subst (λ (c : ℕ). all_marked m.bytes first c ≡ true) at.0 at.3 in
+        let same : with_mark m dst true ≡ next = cc in
         subst After same (
-          subst (λ (c : ℕ). Alike
-              (AreSimilarFrames bound.number (with_mark m dst (has_mark m.words (first / 4))).registers)
+          subst (λ (c : ℕ). Alike (AreSimilarFrames bound.number (with_mark m dst true).registers)
               ((number_at (slice_get mine) first c >>= λ n. Ok (Num n)) >>= λ word. Ok (with_register s dst word))
               ((number_at (slice_get theirs) first c >>= λ n. Ok (Num n)) >>= λ word. Ok (with_register t dst word)))
               (sym at.0)
-              (put_loaded bound.number m.registers s t dst (has_mark m.words (first / 4)) _ _
-              (word_loaded bound begun m.words mine theirs first at.1 at.2 memories) frames),
+              (put_loaded bound.number m.registers s t dst true _ _
+              (word_loaded bound begun m.bytes mine theirs first at.1 at.2 whole memories) frames),
           refl,
         )
     by false e h =
-        let plain = plain_marks (touches_marked m.words first count) (with_mark m dst false) next h in
+        let plain = plain_marks (touches_marked m.bytes first count) (with_mark m dst false) next h in
         subst After plain.1 (
           put_loaded bound.number m.registers s t dst false _ _
-              (bytes_loaded bound begun m.words mine theirs first count plain.0 memories) frames,
+              (bytes_loaded bound begun m.bytes mine theirs first count plain.0 memories) frames,
           refl,
         )
 
@@ -166,9 +160,9 @@ pub load_similar : (env : Setting) (inbox : FinMap nat_cmp ℕ) (bound : Bound) 
     → (if register_marked m base then None
     else at_place (place_from env (word_of s base) off (access_bytes size))
     (λ first. after_load bound.kept m dst first (access_bytes size)) (Some (with_mark m dst false))) ≡ Some next
-    → AreSimilarFrames bound.number m.registers s t → AreSimilarMemories bound begun m.words mine theirs
+    → AreSimilarFrames bound.number m.registers s t → AreSimilarMemories bound begun m.bytes mine theirs
     → Alike (AreSimilarFrames bound.number next.registers) (load env size dst base off mine s)
-    (load (with_inbox env inbox) size dst base off theirs t) × (m.words ≡ next.words)
+    (load (with_inbox env inbox) size dst base off theirs t) × (m.bytes ≡ next.bytes)
 load_similar env inbox bound begun m next size dst base off s t mine theirs marks frames memories =
     let plain = unless_marked (register_marked m base) _ next marks in
     by_word (word_of s base) (word_of t base) (word_same bound.number m.registers s t base frames plain.0) plain.1
@@ -177,7 +171,7 @@ load_similar env inbox bound begun m next size dst base off s t mine theirs mark
     count = access_bytes size
 
     After : Result Frame TrapKind → Result Frame TrapKind → Type 0
-    After r q = Alike (AreSimilarFrames bound.number next.registers) r q × (m.words ≡ next.words)
+    After r q = Alike (AreSimilarFrames bound.number next.registers) r q × (m.bytes ≡ next.bytes)
 
     from : Result (Region × ℕ) TrapKind → Frame → List ℕ → Result Frame TrapKind
     from r f memory = writable dst >>= λ register.
@@ -200,7 +194,7 @@ load_similar env inbox bound begun m next size dst base off s t mine theirs mark
               (AreSimilarFrames bound.number (with_mark m dst false).registers)
               (stack_word s t mine theirs first count frames.stack frames.kept)
               (λ word _. put_frames bound.number m.registers s t dst false word word refl frames))),
-          ap (λ (n : Marks). n.words) same,
+          ap (λ (n : Marks). n.bytes) same,
         )
     by_place (Err trap) h = absurd (no_marks next h)
 
@@ -226,11 +220,11 @@ pub load_extended_similar : (env : Setting) (inbox : FinMap nat_cmp ℕ) (bound 
     (m next : Marks) (size : SxSize) (dst base : Reg) (off : ℤ) (s t : Frame) (mine theirs : List ℕ)
     → (if register_marked m base then None
     else at_place (place_from env (word_of s base) off (sx_access_bytes size))
-    (λ first. if_plain (touches_marked m.words first (sx_access_bytes size)) (with_mark m dst false))
+    (λ first. if_plain (touches_marked m.bytes first (sx_access_bytes size)) (with_mark m dst false))
     (Some (with_mark m dst false))) ≡ Some next
-    → AreSimilarFrames bound.number m.registers s t → AreSimilarMemories bound begun m.words mine theirs
+    → AreSimilarFrames bound.number m.registers s t → AreSimilarMemories bound begun m.bytes mine theirs
     → Alike (AreSimilarFrames bound.number next.registers) (load_extended env size dst base off mine s)
-    (load_extended (with_inbox env inbox) size dst base off theirs t) × (m.words ≡ next.words)
+    (load_extended (with_inbox env inbox) size dst base off theirs t) × (m.bytes ≡ next.bytes)
 load_extended_similar env inbox bound begun m next size dst base off s t mine theirs marks frames memories =
     let plain = unless_marked (register_marked m base) _ next marks in
     by_word (word_of s base) (word_of t base) (word_same bound.number m.registers s t base frames plain.0) plain.1
@@ -239,7 +233,7 @@ load_extended_similar env inbox bound begun m next size dst base off s t mine th
     count = sx_access_bytes size
 
     After : Result Frame TrapKind → Result Frame TrapKind → Type 0
-    After r q = Alike (AreSimilarFrames bound.number next.registers) r q × (m.words ≡ next.words)
+    After r q = Alike (AreSimilarFrames bound.number next.registers) r q × (m.bytes ≡ next.bytes)
 
     from : Result (Region × ℕ) TrapKind → Frame → List ℕ → Result Frame TrapKind
     from r f memory = writable dst >>= λ register.
@@ -259,16 +253,16 @@ load_extended_similar env inbox bound begun m next size dst base off s t mine th
           (then_written dst _ _ (AreSimilarFrames bound.number (with_mark m dst false).registers)
           (then_alike r q _ _ (AreSimilarFrames bound.number (with_mark m dst false).registers) e
           (λ n _. put_frames bound.number m.registers s t dst false _ _ refl frames))),
-      ap (λ (n : Marks). n.words) same,
+      ap (λ (n : Marks). n.bytes) same,
     )
 
     by_place : (r : Result (Region × ℕ) TrapKind)
-        → at_place r (λ first. if_plain (touches_marked m.words first count) (with_mark m dst false))
+        → at_place r (λ first. if_plain (touches_marked m.bytes first count) (with_mark m dst false))
         (Some (with_mark m dst false)) ≡ Some next
         → After (from r s mine) (from r t theirs)
     by_place (Ok (Mem, first)) h =
-        let plain = plain_marks (touches_marked m.words first count) (with_mark m dst false) next h in
-        put _ _ (bytes_loaded bound begun m.words mine theirs first count plain.0 memories) plain.1
+        let plain = plain_marks (touches_marked m.bytes first count) (with_mark m dst false) next h in
+        put _ _ (bytes_loaded bound begun m.bytes mine theirs first count plain.0 memories) plain.1
     by_place (Ok (Stack, first)) h =
         put _ _ (stack_number s t mine theirs first count frames.stack frames.kept)
         (some_same (with_mark m dst false) next h)
@@ -276,7 +270,7 @@ load_extended_similar env inbox bound begun m next size dst base off s t mine th
 
     by_word : (r q : Result Word TrapKind) → r ≡ q
         → at_place (place_from env r off count)
-        (λ first. if_plain (touches_marked m.words first count) (with_mark m dst false)) (Some (with_mark m dst false))
+        (λ first. if_plain (touches_marked m.bytes first count) (with_mark m dst false)) (Some (with_mark m dst false))
         ≡ Some next
         → After
         (r >>= λ x. writable dst >>= λ register. loaded env x off count mine s
@@ -295,32 +289,16 @@ load_extended_similar env inbox bound begun m next size dst base off s t mine th
 
 pub record AreSimilarBytes (bound : Bound) (begun : List ℕ) (m : Marks) (b c : Bytes) : Type 0 where
   pub frame : AreSimilarFrames bound.number m.registers b.frame c.frame
-  pub memory : AreSimilarMemories bound begun m.words b.memory c.memory
+  pub memory : AreSimilarMemories bound begun m.bytes b.memory c.memory
 
 -- a number is stored in memory
-memory_stored : (bound : Bound) (begun : List ℕ) (m next : Marks) (b c : Bytes) (first count n : ℕ)
-    → after_store bound.kept m first count ≡ Some next → AreSimilarBytes bound begun m b c
-    → AreSimilarBytes bound begun next (stored b Mem first count n) (stored c Mem first count n)
-memory_stored bound begun m next b c first count n marks similar = by (takes_word bound.kept first count) refl marks
-  where
-    After : Marks → Type 0
-    After x = AreSimilarBytes bound begun x (stored b Mem first count n) (stored c Mem first count n)
-
-    by : (w : Bool) → takes_word bound.kept first count ≡ w
-        → cond w (Some (record m { words = slice_set m.words (first / 4) false }))
-        (if_plain (touches_marked m.words first count) m) ≡ Some next → After next
-    by true e h =
-        let at = word_taken bound.kept first count e in
-        subst After (some_same (record m { words = slice_set m.words (first / 4) false }) next h) (record {
-          frame = similar.frame;
-          memory = rw at.0 (stored_over bound begun m.words b.memory c.memory first n at.1 similar.memory);
-        })
-    by false e h =
-        let plain = plain_marks (touches_marked m.words first count) m next h in
-        subst After plain.1 (record {
-          frame = similar.frame;
-          memory = stored_beside bound begun m.words b.memory c.memory first count n plain.0 similar.memory;
-        })
+memory_stored : (bound : Bound) (begun : List ℕ) (m : Marks) (b c : Bytes) (first count n : ℕ)
+    → AreSimilarBytes bound begun m b c
+    → AreSimilarBytes bound begun (after_store m first count) (stored b Mem first count n) (stored c Mem first count n)
+memory_stored bound begun m b c first count n similar = record {
+  frame = similar.frame;
+  memory = stored_similar bound begun m.bytes b.memory c.memory first count n similar.memory;
+}
 
 -- on the stack
 stack_stored : (bound : Bound) (begun : List ℕ) (m : Marks) (b c : Bytes) (first count n : ℕ)
@@ -338,12 +316,13 @@ stack_stored bound begun m b c first count n similar = record {
 }
 
 number_stored : (bound : Bound) (begun : List ℕ) (m next : Marks) (b c : Bytes) (r : Result (Region × ℕ) TrapKind)
-    (count n : ℕ) → at_place r (λ first. after_store bound.kept m first count) (Some m) ≡ Some next
+    (count n : ℕ) → at_place r (λ first. Some (after_store m first count)) (Some m) ≡ Some next
     → AreSimilarBytes bound begun m b c
     → Alike (AreSimilarBytes bound begun next) (r >>= λ at. Ok (stored b at.0 at.1 count n))
     (r >>= λ at. Ok (stored c at.0 at.1 count n))
 number_stored bound begun m next b c (Ok (Mem, first)) count n h similar =
-    memory_stored bound begun m next b c first count n h similar
+    subst (λ (x : Marks). AreSimilarBytes bound begun x (stored b Mem first count n) (stored c Mem first count n))
+    (some_same (after_store m first count) next h) (memory_stored bound begun m b c first count n similar)
 number_stored bound begun m next b c (Ok (Stack, first)) count n h similar =
     subst (λ (x : Marks). AreSimilarBytes bound begun x (stored b Stack first count n) (stored c Stack first count n))
     (some_same m next h) (stack_stored bound begun m b c first count n similar)
@@ -351,7 +330,7 @@ number_stored bound begun m next b c (Err trap) count n h similar = absurd (no_m
 
 store_similar : (env : Setting) (inbox : FinMap nat_cmp ℕ) (bound : Bound) (begun : List ℕ) (m next : Marks)
     (size : Size) (base : Word) (off : ℤ) (n : ℕ) (b c : Bytes)
-    → at_place (place env base off (access_bytes size)) (λ first. after_store bound.kept m first (access_bytes size))
+    → at_place (place env base off (access_bytes size)) (λ first. Some (after_store m first (access_bytes size)))
     (Some m) ≡ Some next
     → AreSimilarBytes bound begun m b c
     → Alike (AreSimilarBytes bound begun next) (store env size base off n b)
@@ -381,7 +360,7 @@ tested_alike false r q trap P h = refl
 -- a pointer is kept on the stack alone
 pointer_stored : (env : Setting) (bound : Bound) (begun : List ℕ) (m next : Marks) (base : Word) (off : ℤ) (count : ℕ)
     (pointer : Word) (b c : Bytes)
-    → at_place (place env base off count) (λ first. after_store bound.kept m first count) (Some m) ≡ Some next
+    → at_place (place env base off count) (λ first. Some (after_store m first count)) (Some m) ≡ Some next
     → AreSimilarBytes bound begun m b c
     → Alike (AreSimilarBytes bound begun next)
     (keep base off count pointer b.frame >>= λ frame. Ok (record b { frame = frame }))
@@ -404,14 +383,14 @@ pointer_stored env bound begun m next (Ptr Stack offset) off count pointer b c h
     (λ s t frames. record { frame = frames; memory = similar.memory }))
   where
     unmoved : (r : Result ℕ TrapKind)
-        → at_place (r >>= λ first. Ok (Stack, first)) (λ first. after_store bound.kept m first count) (Some m)
+        → at_place (r >>= λ first. Ok (Stack, first)) (λ first. Some (after_store m first count)) (Some m)
         ≡ Some next → m ≡ next
     unmoved (Ok first) e = some_same m next e
     unmoved (Err trap) e = absurd (no_marks next e)
 
 store_word_similar : (env : Setting) (inbox : FinMap nat_cmp ℕ) (bound : Bound) (begun : List ℕ) (m next : Marks)
     (size : Size) (base : Word) (off : ℤ) (value : Word) (b c : Bytes)
-    → at_place (place env base off (access_bytes size)) (λ first. after_store bound.kept m first (access_bytes size))
+    → at_place (place env base off (access_bytes size)) (λ first. Some (after_store m first (access_bytes size)))
     (Some m) ≡ Some next
     → AreSimilarBytes bound begun m b c
     → Alike (AreSimilarBytes bound begun next) (store_word env size base off value b)
@@ -424,10 +403,10 @@ store_word_similar env inbox bound begun m next size base off (Ptr region offset
 -- stores by a base that isn't marked
 by_base : (env : Setting) (bound : Bound) (begun : List ℕ) (m next : Marks) (base : Reg) (off : ℤ) (count : ℕ)
     (b c : Bytes) (f g : Word → Result Bytes TrapKind) → register_marked m base ≡ false
-    → at_place (place_from env (word_of b.frame base) off count) (λ first. after_store bound.kept m first count)
+    → at_place (place_from env (word_of b.frame base) off count) (λ first. Some (after_store m first count))
     (Some m) ≡ Some next
     → AreSimilarBytes bound begun m b c
-    → ((x : Word) → at_place (place env x off count) (λ first. after_store bound.kept m first count) (Some m)
+    → ((x : Word) → at_place (place env x off count) (λ first. Some (after_store m first count)) (Some m)
     ≡ Some next
     → Alike (AreSimilarBytes bound begun next) (f x) (g x))
     → Alike (AreSimilarBytes bound begun next) (word_of b.frame base >>= f) (word_of c.frame base >>= g)
@@ -435,13 +414,13 @@ by_base env bound begun m next base off count b c f g plain h similar each =
     then_alike (word_of b.frame base) (word_of c.frame base) f g (AreSimilarBytes bound begun next)
     (word_same bound.number m.registers b.frame c.frame base similar.frame plain)
     (λ x read. each x (subst (λ (r : Result Word TrapKind).
-    at_place (place_from env r off count) (λ first. after_store bound.kept m first count) (Some m) ≡ Some next) read h))
+    at_place (place_from env r off count) (λ first. Some (after_store m first count)) (Some m) ≡ Some next) read h))
 
 pub store_register_similar : (env : Setting) (inbox : FinMap nat_cmp ℕ) (bound : Bound) (begun : List ℕ)
     (m next : Marks) (size : Size) (base : Reg) (off : ℤ) (src : Reg) (b c : Bytes)
     → (if register_marked m base || register_marked m src then None
     else at_place (place_from env (word_of b.frame base) off (access_bytes size))
-    (λ first. after_store bound.kept m first (access_bytes size)) (Some m)) ≡ Some next
+    (λ first. Some (after_store m first (access_bytes size))) (Some m)) ≡ Some next
     → AreSimilarBytes bound begun m b c
     → Alike (AreSimilarBytes bound begun next) (store_register env size base off src b)
     (store_register (with_inbox env inbox) size base off src c)
@@ -457,7 +436,7 @@ pub store_immediate_similar : (env : Setting) (inbox : FinMap nat_cmp ℕ) (boun
     (m next : Marks) (size : Size) (base : Reg) (off imm : ℤ) (b c : Bytes)
     → (if register_marked m base then None
     else at_place (place_from env (word_of b.frame base) off (access_bytes size))
-    (λ first. after_store bound.kept m first (access_bytes size)) (Some m)) ≡ Some next
+    (λ first. Some (after_store m first (access_bytes size))) (Some m)) ≡ Some next
     → AreSimilarBytes bound begun m b c
     → Alike (AreSimilarBytes bound begun next) (store_immediate env size base off imm b)
     (store_immediate (with_inbox env inbox) size base off imm c)

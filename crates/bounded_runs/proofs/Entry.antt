@@ -12,9 +12,9 @@ use Rattle.bpf_machine.specs.Machine.{entry}
 use Rattle.bpf_machine.specs.Step.{number_at}
 use Rattle.bounded_runs.specs.declared.marks.Marks.{Marks}
 use Rattle.bounded_runs.specs.Bounded.{AlikeFrom, AreAlikeMemories, Bound, is_kept, memory_word}
-use Rattle.bounded_runs.specs.inner.Marks.{AreMarksOf, has_mark, is_unseen}
+use Rattle.bounded_runs.specs.inner.Marks.{AreMarksOf, all_marked, has_mark, is_unseen, with_byte_marks}
 use Rattle.bounded_runs.specs.inner.Similar.{AreSimilar, AreSimilarMemories, AreSimilarRegisters, HoldAlike, IsLargeWord}
-use Rattle.bounded_runs.proofs.Similar.{marked_other, marked_same}
+use Rattle.bounded_runs.proofs.Places.{each_marked, marks_inside, marks_outside}
 use Rattle.bounded_runs.proofs.Parts.{with_inbox}
 
 -- ---- words
@@ -82,23 +82,25 @@ word_bytes m l k p mine theirs same at =
 
 -- ---- memories
 
-pub memories_similar : (bound : Bound) (words : List Bool) (m l : List ℕ) → AreMarksOf bound words m
+pub memories_similar : (bound : Bound) (marks : List Bool) (m l : List ℕ) → AreMarksOf bound marks m
     → length m % 4 ≡ 0 → All (λ byte. byte < 256) m → All (λ byte. byte < 256) l → AreAlikeMemories bound m l
-    → AreSimilarMemories bound l words m l
-memories_similar bound words m l marks whole mine theirs alike = record {
+    → AreSimilarMemories bound l marks m l
+memories_similar bound marks m l are whole mine theirs alike = record {
   size = sym alike.size;
-  bytes = bytes;
+  plain = plain;
   large = large;
   stays = λ p marked. refl;
 }
   where
-    large_at : (k : ℕ) → has_mark words k ≡ true → is_kept bound.kept k ≡ false
-        → (4 * k < length m) × (bound.number ≤ memory_word m k)
-    large_at k e seen =
-        let parts = and_parts (nat_lt (4 * k) (length m)) (is_unseen bound k (memory_word m k)) (sym (marks k) ∙ e) in (
-          ltb-true (4 * k) (length m) parts.0,
-          leb-true bound.number (memory_word m k)
-              (subst (λ (b : Bool). (b || nat_le bound.number (memory_word m k)) ≡ true) seen parts.1),
+    -- the word of a marked byte is in the memory, and large if it isn't kept
+    large_at : (p : ℕ) → has_mark marks p ≡ true → is_kept bound.kept (p / 4) ≡ false
+        → (p < length m) × (bound.number ≤ memory_word m (p / 4))
+    large_at p e seen =
+        let parts = and_parts (nat_lt p (length m)) (is_unseen bound (p / 4) (memory_word m (p / 4))) (sym (are p) ∙ e)
+        in (
+          ltb-true p (length m) parts.0,
+          leb-true bound.number (memory_word m (p / 4))
+              (subst (λ (b : Bool). (b || nat_le bound.number (memory_word m (p / 4))) ≡ true) seen parts.1),
         )
 
     still : (k : ℕ) → bound.number ≤ memory_word m k → AlikeFrom bound.number (memory_word m k) (memory_word l k)
@@ -106,26 +108,37 @@ memories_similar bound words m l marks whole mine theirs alike = record {
     still k le (inl same) = omega (arith, le, same)
     still k le (inr both) = both.1
 
-    large : (k : ℕ) → has_mark words k ≡ true → is_kept bound.kept k ≡ false
+    large_word : (k : ℕ) → 4 * k < length m → bound.number ≤ memory_word m k → is_kept bound.kept k ≡ false
         → IsLargeWord bound.number m k × IsLargeWord bound.number l k
-    large k e seen =
-        let at = large_at k e seen in (
-          (
-            memory_word m k,
-            word_number m k (omega (arith, at.0, whole)),
-            (at.1, word_small m k mine),
-          ),
-          (
-            memory_word l k,
-            word_number l k (omega (arith, at.0, whole, alike.size)),
-            (still k at.1 (alike.words k at.0 seen), word_small l k theirs),
-          ),
-        )
+    large_word k lt le seen = (
+      (
+        memory_word m k,
+        word_number m k (omega (arith, lt, whole)),
+        (le, word_small m k mine),
+      ),
+      (
+        memory_word l k,
+        word_number l k (omega (arith, lt, whole, alike.size)),
+        (still k le (alike.words k lt seen), word_small l k theirs),
+      ),
+    )
 
-    small_word : (k : ℕ) → has_mark words k ≡ false → 4 * k < length m → memory_word m k ≡ memory_word l k
-    small_word k e lt =
-        by (and_cases (nat_lt (4 * k) (length m)) (is_unseen bound k (memory_word m k)) (sym (marks k) ∙ e))
+    large : (k : ℕ) → all_marked marks (4 * k) 4 ≡ true → is_kept bound.kept k ≡ false
+        → IsLargeWord bound.number m k × IsLargeWord bound.number l k
+    large k all seen =
+        let quarter : 4 * k / 4 ≡ k = omega arith in
+        let at = large_at (4 * k) (each_marked marks (4 * k) 4 (4 * k) all (omega arith) (omega arith))
+        (ap (is_kept bound.kept) quarter ∙ seen) in
+        large_word k at.0 (subst (λ (j : ℕ). bound.number ≤ memory_word m j) quarter at.1) seen
+
+    small_word : (p : ℕ) → has_mark marks p ≡ false → p < length m
+        → memory_word m (p / 4) ≡ memory_word l (p / 4)
+    small_word p e lt =
+        by (and_cases (nat_lt p (length m)) (is_unseen bound (p / 4) (memory_word m (p / 4))) (sym (are p) ∙ e))
       where
+        k : ℕ
+        k = p / 4
+
         below : nat_le bound.number (memory_word m k) ≡ false
             → AlikeFrom bound.number (memory_word m k) (memory_word l k) → memory_word m k ≡ memory_word l k
         below low (inl same) = same
@@ -133,19 +146,19 @@ memories_similar bound words m l marks whole mine theirs alike = record {
             let less : memory_word m k < bound.number = leb-false bound.number (memory_word m k) low in
             absurd (omega (arith, less, both.0))
 
-        by : (nat_lt (4 * k) (length m) ≡ false) ⊎ (is_unseen bound k (memory_word m k) ≡ false)
+        by : (nat_lt p (length m) ≡ false) ⊎ (is_unseen bound k (memory_word m k) ≡ false)
             → memory_word m k ≡ memory_word l k
         by (inl past) =
-            let le : length m ≤ 4 * k = ltb-false (4 * k) (length m) past in absurd (omega (arith, le, lt))
-        by (inr plain) =
-            let parts = or_parts (is_kept bound.kept k) (nat_le bound.number (memory_word m k)) plain in
-            below parts.1 (alike.words k lt parts.0)
+            let le : length m ≤ p = ltb-false p (length m) past in absurd (omega (arith, le, lt))
+        by (inr unmarked) =
+            let parts = or_parts (is_kept bound.kept k) (nat_le bound.number (memory_word m k)) unmarked in
+            below parts.1 (alike.words k (omega (arith, lt)) parts.0)
 
-    bytes : (p : ℕ) → has_mark words (p / 4) ≡ false → slice_get m p ≡ slice_get l p
-    bytes p e = elim (cases_lt p (length m)) [
+    plain : (p : ℕ) → has_mark marks p ≡ false → slice_get m p ≡ slice_get l p
+    plain p e = elim (cases_lt p (length m)) [
       | inl lt ↦
           byte_found m p lt
-          ∙ (ap Some (word_bytes m l (p / 4) p mine theirs (small_word (p / 4) e (omega (arith, lt))) refl)
+          ∙ (ap Some (word_bytes m l (p / 4) p mine theirs (small_word p e lt) refl)
           ∙ sym (byte_found l p (omega (arith, lt, alike.size))))
       | inr le ↦ slice_get_past m p le ∙ sym (slice_get_past l p (omega (arith, le, alike.size)))
     ]
@@ -158,7 +171,7 @@ plain_registers bound marks m plain n =
     subst (λ (b : Bool). HoldAlike bound b (get m n) (get m n)) (sym (plain n)) refl
 
 pub entry_similar : (bound : Bound) (m : Marks) (env : Setting) (inbox : FinMap nat_cmp ℕ) (before start : List ℕ)
-    → length m.registers ≡ 11 → ((n : ℕ) → has_mark m.registers n ≡ false) → AreMarksOf bound m.words before
+    → length m.registers ≡ 11 → ((n : ℕ) → has_mark m.registers n ≡ false) → AreMarksOf bound m.bytes before
     → length before % 4 ≡ 0 → All (λ byte. byte < 256) before → All (λ byte. byte < 256) start
     → AreAlikeMemories bound before start
     → AreSimilar bound start m (entry env before) (entry (with_inbox env inbox) start)
@@ -170,7 +183,7 @@ entry_similar bound m env inbox before start wide plain marks whole mine theirs 
     stack = refl;
     kept = refl;
   };
-  memory = memories_similar bound m.words before start marks whole mine theirs alike;
+  memory = memories_similar bound m.bytes before start marks whole mine theirs alike;
   sent = refl;
 }
 
@@ -181,21 +194,22 @@ none_marked zero j = refl
 none_marked (suc n) zero = refl
 none_marked (suc n) (suc j) = none_marked n j
 
--- the word k is marked if it is kept or large
-pub marked_next : (words : List Bool) (m : List ℕ) (bound : Bound) (k : ℕ) (b : Bool)
-    → b ≡ is_unseen bound k (memory_word m k) → k < length words
-    → ((j : ℕ) → j < k → has_mark words j ≡ is_unseen bound j (memory_word m j))
-    → (j : ℕ) → j < k + 1 → has_mark (slice_set words k b) j ≡ is_unseen bound j (memory_word m j)
-marked_next words m bound k b is within before j lt = elim (cases_eq j k) [
-  | inl same ↦
-      ap (has_mark (slice_set words k b)) same
-      ∙ (marked_same words k b within
-      ∙ (is ∙ ap (λ (n : ℕ). is_unseen bound n (memory_word m n)) (sym same)))
-  | inr other ↦ marked_other words k j b other ∙ before j (omega (arith, lt, other))
+-- the bytes of word k are marked if it is kept or large
+pub marked_next : (bytes : List Bool) (m : List ℕ) (bound : Bound) (k : ℕ) (b : Bool)
+    → b ≡ is_unseen bound k (memory_word m k) → 4 * k + 4 ≤ length bytes
+    → ((p : ℕ) → p < 4 * k → has_mark bytes p ≡ is_unseen bound (p / 4) (memory_word m (p / 4)))
+    → (p : ℕ) → p < 4 * (k + 1)
+    → has_mark (with_byte_marks bytes (4 * k) 4 b) p ≡ is_unseen bound (p / 4) (memory_word m (p / 4))
+marked_next bytes m bound k b is within before p lt = elim (cases_lt p (4 * k)) [
+  | inl below ↦ marks_outside bytes (4 * k) 4 p b (inl below) ∙ before p below
+  | inr from ↦
+      let at : k ≡ p / 4 = omega (arith, from, lt) in
+      marks_inside bytes (4 * k) 4 p b within from (omega (arith, lt))
+      ∙ (is ∙ ap (λ (n : ℕ). is_unseen bound n (memory_word m n)) at)
 ]
 
--- the words after it aren't yet
-pub rest_next : (words : List Bool) (k : ℕ) (b : Bool) → ((j : ℕ) → k ≤ j → has_mark words j ≡ false)
-    → (j : ℕ) → k + 1 ≤ j → has_mark (slice_set words k b) j ≡ false
-rest_next words k b rest j le =
-    marked_other words k j b (λ same. absurd (omega (arith, same, le))) ∙ rest j (omega (arith, le))
+-- the bytes after it aren't yet
+pub rest_next : (bytes : List Bool) (k : ℕ) (b : Bool) → ((p : ℕ) → 4 * k ≤ p → has_mark bytes p ≡ false)
+    → (p : ℕ) → 4 * (k + 1) ≤ p → has_mark (with_byte_marks bytes (4 * k) 4 b) p ≡ false
+rest_next bytes k b rest p le =
+    marks_outside bytes (4 * k) 4 p b (inr (omega (arith, le))) ∙ rest p (omega (arith, le))

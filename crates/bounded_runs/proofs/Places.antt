@@ -1,5 +1,5 @@
--- Bytes of two memories that differ in marked words alone.
-use Rattle.std.proofs.Common.{◌≡◌, ℕ, zero, suc, ◌+◌, ◌*◌, ◌/◌, ◌%◌, ◌<◌, ◌≤◌, ◌⊎◌, Bool, true, false, List, Option, length, ◌==◌, not, refl, sym, ◌∙◌, subst, ap, arith, inl, inr}
+-- Two memories that differ in marked bytes alone.
+use Rattle.std.proofs.Common.{◌≡◌, ℕ, zero, suc, ◌+◌, ◌*◌, ◌/◌, ◌%◌, ◌<◌, ◌≤◌, ◌⊎◌, Bool, true, false, List, Option, length, ◌==◌, ◌&&◌, not, refl, sym, ◌∙◌, subst, ap, arith, inl, inr}
 use Rattle.std.specs.Prelude.{slice_get, slice_set}
 use Rattle.std.proofs.lemmas.Bool.{and_parts, cases_eq, cases_lt, eqb-true, or_parts, true≢false}
 use Rattle.std.proofs.lemmas.List.{length-set}
@@ -7,9 +7,9 @@ use Rattle.std.proofs.lemmas.Option.{slice_get_past}
 use Rattle.bpf_machine.specs.Step.{number_at, with_number}
 use Rattle.bpf_run.proofs.FlatWords.{set_found, set_other}
 use Rattle.bounded_runs.specs.Bounded.{Bound, is_kept}
-use Rattle.bounded_runs.specs.inner.Marks.{has_mark, is_whole_word, takes_word, touches_marked}
+use Rattle.bounded_runs.specs.inner.Marks.{all_marked, has_mark, is_whole_word, takes_large, touches_marked, with_byte_marks}
 use Rattle.bounded_runs.specs.inner.Similar.{AreSimilarMemories, IsLargeWord}
-use Rattle.bounded_runs.proofs.Similar.{cleared_mark, marked_other}
+use Rattle.bounded_runs.proofs.Similar.{cleared_mark, marked_other, marked_same}
 
 -- ---- numbers
 
@@ -23,29 +23,59 @@ number_same f g k (suc count) h =
       number_same f g (suc k) count (λ p le lt. h p (omega (arith, le)) (omega (arith, lt))),
     ) refl
 
--- of what isn't touched no byte is in a marked word
-pub untouched : (words : List Bool) (k count p : ℕ) → touches_marked words k count ≡ false → k ≤ p → p < k + count
-    → has_mark words (p / 4) ≡ false
-untouched words k zero p plain le lt = absurd (omega (arith, le, lt))
-untouched words k (suc count) p plain le lt =
-    let parts = or_parts (has_mark words (k / 4)) (touches_marked words (suc k) count) plain in
+-- of what isn't touched no byte is marked
+pub untouched : (bytes : List Bool) (k count p : ℕ) → touches_marked bytes k count ≡ false → k ≤ p → p < k + count
+    → has_mark bytes p ≡ false
+untouched bytes k zero p plain le lt = absurd (omega (arith, le, lt))
+untouched bytes k (suc count) p plain le lt =
+    let parts = or_parts (has_mark bytes k) (touches_marked bytes (suc k) count) plain in
     elim (cases_eq p k) [
-      | inl same ↦ ap (λ (n : ℕ). has_mark words (n / 4)) same ∙ parts.0
-      | inr other ↦ untouched words (suc k) count p parts.1 (omega (arith, le, other)) (omega (arith, lt))
+      | inl same ↦ ap (has_mark bytes) same ∙ parts.0
+      | inr other ↦ untouched bytes (suc k) count p parts.1 (omega (arith, le, other)) (omega (arith, lt))
     ]
 
--- what a whole word is that isn't kept
-pub word_taken : (kept : List Bool) (first count : ℕ) → takes_word kept first count ≡ true
+-- of what is marked whole each byte is
+pub each_marked : (bytes : List Bool) (k count p : ℕ) → all_marked bytes k count ≡ true → k ≤ p → p < k + count
+    → has_mark bytes p ≡ true
+each_marked bytes k zero p all le lt = absurd (omega (arith, le, lt))
+each_marked bytes k (suc count) p all le lt =
+    let parts = and_parts (has_mark bytes k) (all_marked bytes (suc k) count) all in
+    elim (cases_eq p k) [
+      | inl same ↦ ap (has_mark bytes) same ∙ parts.0
+      | inr other ↦ each_marked bytes (suc k) count p parts.1 (omega (arith, le, other)) (omega (arith, lt))
+    ]
+
+pub all_marked_from : (bytes : List Bool) (k count : ℕ)
+    → ((p : ℕ) → k ≤ p → p < k + count → has_mark bytes p ≡ true) → all_marked bytes k count ≡ true
+all_marked_from bytes k zero each = refl
+all_marked_from bytes k (suc count) each = rw (
+  each k (omega arith) (omega arith),
+  all_marked_from bytes (suc k) count (λ p le lt. each p (omega (arith, le)) (omega (arith, lt))),
+) refl
+
+-- what a large word is that isn't kept
+pub large_taken : (kept bytes : List Bool) (first count : ℕ) → takes_large kept bytes first count ≡ true
     → (count ≡ 4) × (first ≡ 4 * (first / 4)) × (is_kept kept (first / 4) ≡ false)
-word_taken kept first count h =
-    let both = and_parts (is_whole_word first count) (not (is_kept kept (first / 4))) h in
+    × (all_marked bytes first count ≡ true)
+large_taken kept bytes first count h =
+    let both = and_parts (is_whole_word first count)
+    (not (is_kept kept (first / 4)) && all_marked bytes first count) h in
     let parts = and_parts (count == 4) (first % 4 == 0) both.0 in
+    let rest = and_parts (not (is_kept kept (first / 4))) (all_marked bytes first count) both.1 in
     let even : first % 4 ≡ 0 = eqb-true (first % 4) 0 parts.1 in
-    (eqb-true count 4 parts.0, omega (arith, even), not_true (is_kept kept (first / 4)) both.1)
+    (eqb-true count 4 parts.0, omega (arith, even), not_true (is_kept kept (first / 4)) rest.0, rest.1)
   where
     not_true : (b : Bool) → not b ≡ true → b ≡ false
     not_true true e = absurd (true≢false (sym e))
     not_true false e = refl
+
+-- ---- marks of bytes
+
+pub length-with_byte_marks : (bytes : List Bool) (k count : ℕ) (b : Bool)
+    → length (with_byte_marks bytes k count b) ≡ length bytes
+length-with_byte_marks bytes k zero b = refl
+length-with_byte_marks bytes k (suc count) b =
+    length-with_byte_marks (slice_set bytes k b) (suc k) count b ∙ length-set bytes k b
 
 -- ---- bytes that are written
 
@@ -106,6 +136,57 @@ written_alike m l k (suc count) n p size h =
     nearer other (inl lt) = inl (omega (arith, lt, other))
     nearer other (inr le) = inr (omega (arith, le))
 
+-- ---- marks that are set
+
+-- the others stay
+pub marks_outside : (bytes : List Bool) (k count p : ℕ) (b : Bool) → IsOutside k count p
+    → has_mark (with_byte_marks bytes k count b) p ≡ has_mark bytes p
+marks_outside bytes k zero p b outside = refl
+marks_outside bytes k (suc count) p b outside =
+    marks_outside (slice_set bytes k b) (suc k) count p b (further outside)
+    ∙ marked_other bytes k p b (λ same. apart same outside)
+  where
+    further : IsOutside k (suc count) p → IsOutside (suc k) count p
+    further (inl lt) = inl (omega (arith, lt))
+    further (inr le) = inr (omega (arith, le))
+
+    apart : p ≡ k → IsOutside k (suc count) p → ⊥
+    apart same (inl lt) = omega (arith, same, lt)
+    apart same (inr le) = omega (arith, same, le)
+
+pub marks_inside : (bytes : List Bool) (k count p : ℕ) (b : Bool) → k + count ≤ length bytes → k ≤ p → p < k + count
+    → has_mark (with_byte_marks bytes k count b) p ≡ b
+marks_inside bytes k zero p b within le lt = absurd (omega (arith, le, lt))
+marks_inside bytes k (suc count) p b within le lt = elim (cases_eq p k) [
+  | inl same ↦
+      marks_outside (slice_set bytes k b) (suc k) count p b (inl (omega (arith, same)))
+      ∙ (ap (has_mark (slice_set bytes k b)) same ∙ marked_same bytes k b (omega (arith, within)))
+  | inr other ↦ marks_inside (slice_set bytes k b) (suc k) count p b (omega (arith, within, length-set bytes k b))
+      (omega (arith, le, other)) (omega (arith, lt))
+]
+
+-- marks that are taken away are gone
+pub marks_cleared : (bytes : List Bool) (k count p : ℕ) → k ≤ p → p < k + count
+    → has_mark (with_byte_marks bytes k count false) p ≡ false
+marks_cleared bytes k zero p le lt = absurd (omega (arith, le, lt))
+marks_cleared bytes k (suc count) p le lt = elim (cases_eq p k) [
+  | inl same ↦
+      marks_outside (slice_set bytes k false) (suc k) count p false (inl (omega (arith, same)))
+      ∙ (ap (has_mark (slice_set bytes k false)) same ∙ cleared_mark bytes k)
+  | inr other ↦ marks_cleared (slice_set bytes k false) (suc k) count p (omega (arith, le, other)) (omega (arith, lt))
+]
+
+-- so a byte that is marked still isn't one of them
+pub marked_outside : (bytes : List Bool) (k count p : ℕ) → has_mark (with_byte_marks bytes k count false) p ≡ true
+    → IsOutside k count p
+marked_outside bytes k count p marked = elim (cases_lt p k) [
+  | inl below ↦ inl below
+  | inr from ↦ elim (cases_lt p (k + count)) [
+    | inl inside ↦ absurd (true≢false (sym marked ∙ marks_cleared bytes k count p from inside))
+    | inr past ↦ inr past
+  ]
+]
+
 -- ---- memories after a store
 
 -- a word of which no byte is written stays large
@@ -120,71 +201,30 @@ kept_large bound m k count n j apart large = (
   large.2,
 )
 
--- another store touches no marked word
-pub stored_beside : (bound : Bound) (begun : List ℕ) (words : List Bool) (m l : List ℕ) (k count n : ℕ)
-    → touches_marked words k count ≡ false → AreSimilarMemories bound begun words m l
-    → AreSimilarMemories bound begun words (with_number slice_set m k count n) (with_number slice_set l k count n)
-stored_beside bound begun words m l k count n plain similar = record {
+-- bytes that are stored have no marks any more
+pub stored_similar : (bound : Bound) (begun : List ℕ) (bytes : List Bool) (m l : List ℕ) (k count n : ℕ)
+    → AreSimilarMemories bound begun bytes m l
+    → AreSimilarMemories bound begun (with_byte_marks bytes k count false) (with_number slice_set m k count n)
+    (with_number slice_set l k count n)
+stored_similar bound begun bytes m l k count n similar = record {
   size = written_length m k count n ∙ (similar.size ∙ sym (written_length l k count n));
-  bytes = λ p shown. written_alike m l k count n p similar.size (λ _. similar.bytes p shown);
-  large = λ j marked seen.
-      let both = similar.large j marked seen in (
-        kept_large bound.number m k count n j (apart j marked) both.0,
-        kept_large bound.number l k count n j (apart j marked) both.1,
+  plain = λ p shown. written_alike m l k count n p similar.size (λ outside.
+      similar.plain p (sym (marks_outside bytes k count p false outside) ∙ shown));
+  large = λ j all seen.
+      let both = similar.large j (all_marked_from bytes (4 * j) 4 (λ p le lt.
+      sym (marks_outside bytes k count p false (apart j all p le lt)) ∙ each_marked cleared (4 * j) 4 p all le lt))
+      seen in (
+        kept_large bound.number m k count n j (apart j all) both.0,
+        kept_large bound.number l k count n j (apart j all) both.1,
       );
-  stays = λ p marked. written_other l k count n p (apart (p / 4) marked p (omega arith) (omega arith))
-      ∙ similar.stays p marked;
+  stays = λ p marked.
+      let outside = marked_outside bytes k count p marked in
+      written_other l k count n p outside
+      ∙ similar.stays p (sym (marks_outside bytes k count p false outside) ∙ marked);
 }
   where
-    apart : (j : ℕ) → has_mark words j ≡ true → (p : ℕ) → 4 * j ≤ p → p < 4 * j + 4 → IsOutside k count p
-    apart j marked p le lt = elim (cases_lt p k) [
-      | inl below ↦ inl below
-      | inr from ↦ elim (cases_lt p (k + count)) [
-        | inl inside ↦
-            let at : p / 4 ≡ j = omega (arith, le, lt) in
-            absurd (true≢false (sym marked
-            ∙ (ap (has_mark words) (sym at) ∙ untouched words k count p plain from inside)))
-        | inr past ↦ inr past
-      ]
-    ]
+    cleared : List Bool
+    cleared = with_byte_marks bytes k count false
 
--- the store of a whole word takes its mark away
-pub stored_over : (bound : Bound) (begun : List ℕ) (words : List Bool) (m l : List ℕ) (first n : ℕ)
-    → first ≡ 4 * (first / 4) → AreSimilarMemories bound begun words m l
-    → AreSimilarMemories bound begun (slice_set words (first / 4) false) (with_number slice_set m first 4 n)
-    (with_number slice_set l first 4 n)
-stored_over bound begun words m l first n even similar = record {
-  size = written_length m first 4 n ∙ (similar.size ∙ sym (written_length l first 4 n));
-  bytes = λ p shown. written_alike m l first 4 n p similar.size (λ outside.
-      similar.bytes p (sym (marked_other words (first / 4) (p / 4) false (other p outside)) ∙ shown));
-  large = λ j marked seen. elim (cases_eq j (first / 4)) [
-    | inl same ↦ absurd (cleared j same marked)
-    | inr apart ↦
-        let both = similar.large j (sym (marked_other words (first / 4) j false apart) ∙ marked) seen in (
-          kept_large bound.number m first 4 n j (beside j apart) both.0,
-          kept_large bound.number l first 4 n j (beside j apart) both.1,
-        )
-  ];
-  stays = λ p marked. elim (cases_eq (p / 4) (first / 4)) [
-    | inl same ↦ absurd (cleared (p / 4) same marked)
-    | inr apart ↦
-        written_other l first 4 n p (beside (p / 4) apart p (omega arith) (omega arith))
-        ∙ similar.stays p (sym (marked_other words (first / 4) (p / 4) false apart) ∙ marked)
-  ];
-}
-  where
-    other : (p : ℕ) → IsOutside first 4 p → p / 4 ≡ first / 4 → ⊥
-    other p (inl lt) same = omega (arith, lt, same, even)
-    other p (inr le) same = omega (arith, le, same, even)
-
-    beside : (j : ℕ) → (j ≡ first / 4 → ⊥) → (p : ℕ) → 4 * j ≤ p → p < 4 * j + 4 → IsOutside first 4 p
-    beside j apart p le lt = elim (cases_lt p first) [
-      | inl below ↦ inl below
-      | inr from ↦ inr (omega (arith, le, lt, from, apart, even))
-    ]
-
-    cleared : (j : ℕ) → j ≡ first / 4 → has_mark (slice_set words (first / 4) false) j ≡ true → ⊥
-    cleared j same marked =
-        let here : has_mark (slice_set words (first / 4) false) (first / 4) ≡ true =
-        ap (has_mark (slice_set words (first / 4) false)) (sym same) ∙ marked in
-        true≢false (sym here ∙ cleared_mark words (first / 4))
+    apart : (j : ℕ) → all_marked cleared (4 * j) 4 ≡ true → (p : ℕ) → 4 * j ≤ p → p < 4 * j + 4 → IsOutside k count p
+    apart j all p le lt = marked_outside bytes k count p (each_marked cleared (4 * j) 4 p all le lt)

@@ -19,7 +19,7 @@ use Rattle.bpf_machine.specs.Step.{◌>>=◌, ended_by, execute_at, number_in, r
 use Rattle.bpf_machine.proofs.Composed.{leads_add}
 use Rattle.bpf_run.proofs.Alike.{alike_ok}
 use Rattle.bounded_runs.specs.declared.marks.Marks.{Marks}
-use Rattle.bounded_runs.specs.Bounded.{AreAlikeInputs, Bound, EndsAsOne, EndsByMemory, end_keeping, is_kept, memory_keeping}
+use Rattle.bounded_runs.specs.Bounded.{AreAlikeInputs, Bound, EndsAsOne, EndsByMemory, StayInKept, end_keeping, memory_keeping}
 use Rattle.bounded_runs.specs.inner.Marks.{AreMarksOf, has_mark, marks_after}
 use Rattle.bounded_runs.specs.inner.Similar.{AreSimilar, AreSimilarMemories, AreFollowed}
 use Rattle.bounded_runs.proofs.Keeping.{at_keeping, length-keeping}
@@ -55,7 +55,7 @@ heard bound env other before start ok good alike = record {
 
 pub begins_followed : (program : List Insn) (bound : Bound) (env : Setting) (before : List ℕ) (m : Marks)
     → IsSetting env → length m.registers ≡ 11 → ((n : ℕ) → has_mark m.registers n ≡ false)
-    → AreMarksOf bound m.words before → length before % 4 ≡ 0 → All (λ byte. byte < 256) before
+    → AreMarksOf bound m.bytes before → length before % 4 ≡ 0 → All (λ byte. byte < 256) before
     → AreFollowed program bound env before 0 (entry env before) m
 begins_followed program bound env before m ok wide plain marks whole mine other start good theirs alike = (
   entry other start,
@@ -101,25 +101,19 @@ byte_same : (l m : List ℕ) (p : ℕ) → slice_get l p ≡ slice_get m p → g
 byte_same l m p same =
     sym (unwrap_or-slice_get l p 0) ∙ (ap (λ (o : Option ℕ). unwrap_or o 0) same ∙ unwrap_or-slice_get m p 0)
 
--- the memory that is left: marked words are as when the run began
-memory_left : (bound : Bound) (begun : List ℕ) (words : List Bool) (m l : List ℕ)
-    → AreSimilarMemories bound begun words m l → l ≡ memory_keeping words 0 m begun
-memory_left bound begun words m l similar =
-    ext_get_or 0 l (memory_keeping words 0 m begun) (sym similar.size ∙ sym (length-keeping words 0 m begun))
-    (λ p lt. by p (has_mark words (p / 4)) refl
-    ∙ sym (at_keeping words 0 m begun p p (omega (arith, lt, similar.size)) (omega arith)))
+-- the memory that is left: marked bytes are as when the run began
+memory_left : (bound : Bound) (begun : List ℕ) (bytes : List Bool) (m l : List ℕ)
+    → AreSimilarMemories bound begun bytes m l → l ≡ memory_keeping (has_mark bytes) 0 m begun
+memory_left bound begun bytes m l similar =
+    ext_get_or 0 l (memory_keeping (has_mark bytes) 0 m begun)
+    (sym similar.size ∙ sym (length-keeping (has_mark bytes) 0 m begun))
+    (λ p lt. by p (has_mark bytes p) refl
+    ∙ sym (at_keeping (has_mark bytes) 0 m begun p p (omega (arith, lt, similar.size)) (omega arith)))
   where
-    by : (p : ℕ) (b : Bool) → has_mark words (p / 4) ≡ b
-        → get_or l p 0 ≡ (if has_mark words (p / 4) then slice_index begun p else get_or m p 0)
+    by : (p : ℕ) (b : Bool) → has_mark bytes p ≡ b
+        → get_or l p 0 ≡ (if has_mark bytes p then slice_index begun p else get_or m p 0)
     by p true e = rw e (byte_same l begun p (similar.stays p e))
-    by p false e = rw e (byte_same l m p (sym (similar.bytes p e)))
-
--- where the kept words are those that are marked
-memory_same : (words kept : List Bool) (k : ℕ) (m start : List ℕ) → ((j : ℕ) → has_mark words j ≡ is_kept kept j)
-    → memory_keeping words k m start ≡ memory_keeping kept k m start
-memory_same words kept k [] start same = refl
-memory_same words kept k (byte ∷ m) start same =
-    rw (same (k / 4), memory_same words kept (suc k) m start same) refl
+    by p false e = rw e (byte_same l m p (sym (similar.plain p e)))
 
 exit_number : (s : MachineState) (r : Result ℕ TrapKind) (r0 : ℕ) → ended_by s r ≡ Ok (Ended s.memory s.sent r0)
     → r ≡ Ok r0
@@ -133,23 +127,23 @@ exit_number s (Err trap) r0 e = cc
 abbrev end_at : MachineState → ℕ → ℕ → End
 end_at s steps r0 = record { steps = steps; memory = s.memory; sent = s.sent; r0 = r0 }
 
--- where the run ends and r0 isn't marked, the others end so, with their own marked words
+-- where the run ends and r0 isn't marked, the others end so, with their own marked bytes
 all_end : (program : List Insn) (bound : Bound) (env : Setting) (before : List ℕ) (count r0 : ℕ) (s : MachineState)
     (m : Marks) → insn_at program s.frame.slot ≡ Some Exit → has_mark m.registers 0 ≡ false
     → Steps program env (Running s) (Ended s.memory s.sent r0)
     → AreFollowed program bound env before count s m → (other : Setting) (start : List ℕ) → IsSetting other
     → All (λ byte. byte < 256) start → AreAlikeInputs bound env other before start
-    → CompleteRun program other start (end_keeping m.words (end_at s (count + 1) r0) start)
+    → CompleteRun program other start (end_keeping (has_mark m.bytes) (end_at s (count + 1) r0) start)
 all_end program bound env before count r0 s m at plain ends followed other start good bytes alike =
     let there = followed other start good bytes alike in
     leads_next program other count (Running (entry other start)) (Running there.0)
-    (Ended (memory_keeping m.words 0 s.memory start) s.sent r0) there.1 (exits there.0 other start there.2)
+    (Ended (memory_keeping (has_mark m.bytes) 0 s.memory start) s.sent r0) there.1 (exits there.0 other start there.2)
   where
     exits : (t : MachineState) (e : Setting) (start : List ℕ) → AreSimilar bound start m s t
-        → step program e t ≡ Ok (Ended (memory_keeping m.words 0 s.memory start) s.sent r0)
+        → step program e t ≡ Ok (Ended (memory_keeping (has_mark m.bytes) 0 s.memory start) s.sent r0)
     exits t e start similar =
         let word = word_same bound.number m.registers s.frame t.frame R0 similar.frame plain in
-        let memory = memory_left bound start m.words s.memory t.memory similar.memory in
+        let memory = memory_left bound start m.bytes s.memory t.memory similar.memory in
         let there : insn_at program t.frame.slot ≡ Some Exit = ap (insn_at program) (sym similar.frame.slot) ∙ at in
         let mine : ended_by s (result_of_exit s.frame) ≡ Ok (Ended s.memory s.sent r0) =
         ap (λ (o : Option Insn). execute_at program env o s) (sym at) ∙ ends in
@@ -163,19 +157,19 @@ pub end_by_memory : (program : List Insn) (bound : Bound) (env : Setting) (befor
     → Steps program env (Running s) (Ended s.memory s.sent r0)
     → AreFollowed program bound env before count s m → EndsByMemory program bound env before
 end_by_memory program bound env before count r0 s m at plain ends followed = (
-  λ start. end_keeping m.words (end_at s (count + 1) r0) start,
+  λ start. end_keeping (has_mark m.bytes) (end_at s (count + 1) r0) start,
   all_end program bound env before count r0 s m at plain ends followed,
 )
 
--- if the marked words are those that are kept, they end as one
+-- if the marked bytes are in kept words, they end as one
 pub end_as_one : (program : List Insn) (bound : Bound) (env : Setting) (before : List ℕ) (count r0 : ℕ)
     (s : MachineState) (m : Marks) → insn_at program s.frame.slot ≡ Some Exit → has_mark m.registers 0 ≡ false
-    → ((k : ℕ) → has_mark m.words k ≡ is_kept bound.kept k) → Steps program env (Running s) (Ended s.memory s.sent r0)
+    → StayInKept bound.kept (length s.memory) (has_mark m.bytes)
+    → Steps program env (Running s) (Ended s.memory s.sent r0)
     → AreFollowed program bound env before count s m → EndsAsOne program bound env before
-end_as_one program bound env before count r0 s m at plain words ends followed = (
+end_as_one program bound env before count r0 s m at plain among ends followed = (
   end_at s (count + 1) r0,
-  λ other start good bytes alike. subst (λ (memory : List ℕ). CompleteRun program other start
-      (record { steps = count + 1; memory = memory; sent = s.sent; r0 = r0 }))
-      (memory_same m.words bound.kept 0 s.memory start words)
-      (all_end program bound env before count r0 s m at plain ends followed other start good bytes alike),
+  has_mark m.bytes,
+  among,
+  all_end program bound env before count r0 s m at plain ends followed,
 )

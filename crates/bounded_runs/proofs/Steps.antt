@@ -31,9 +31,9 @@ use Rattle.bounded_runs.proofs.Accesses.{AreSimilarBytes, load_extended_similar,
 
 -- ---- effects
 
--- of frames, where the words of memory keep their marks
+-- of frames, where the bytes of memory keep their marks
 abbrev FramesAfter : ℕ → Marks → Marks → Result Frame TrapKind → Result Frame TrapKind → Type 0
-FramesAfter bound m next r q = Alike (AreSimilarFrames bound next.registers) r q × (m.words ≡ next.words)
+FramesAfter bound m next r q = Alike (AreSimilarFrames bound next.registers) r q × (m.bytes ≡ next.bytes)
 
 on_frames : (bound : Bound) (begun : List ℕ) (m next : Marks) (s t : MachineState) (r q : Result Frame TrapKind)
     → AreSimilar bound begun m s t → FramesAfter bound.number m next r q
@@ -50,7 +50,7 @@ if_plainly : (bound : ℕ) (m next : Marks) (b : Bool) (dst : Reg) (r q : Result
 if_plainly bound m next b dst r q marks h =
     let plain = plain_marks b (with_mark m dst false) next marks in (
       subst (λ (x : Marks). Alike (AreSimilarFrames bound x.registers) r q) plain.1 (h plain.0),
-      ap (λ (x : Marks). x.words) plain.1,
+      ap (λ (x : Marks). x.bytes) plain.1,
     )
 
 alu_similar : (env : Setting) (inbox : FinMap nat_cmp ℕ) (bound : Bound) (m next : Marks) (op : AluOp) (width : Width)
@@ -61,7 +61,7 @@ alu_similar env inbox bound m next Mov width dst src s t marks frames =
     let same = some_same (with_mark m dst (operand_marked m src)) next marks in (
       subst (λ (x : Marks). Alike (AreSimilarFrames bound.number x.registers) (alu env Mov width dst src s)
           (alu (with_inbox env inbox) Mov width dst src t)) same (move_similar bound.number m width dst src s t frames),
-      ap (λ (x : Marks). x.words) same,
+      ap (λ (x : Marks). x.bytes) same,
     )
 alu_similar env inbox bound m next Add width dst src s t marks frames =
     if_plainly bound.number m next _ dst _ _ marks
@@ -117,20 +117,20 @@ bytes_after bound begun m next s t r q similar h =
     after_alike r q _ _ (AreSimilarBytes bound begun next) (AreSimilar bound begun next) h
     (λ x y bytes. record { frame = bytes.frame; memory = bytes.memory; sent = similar.sent })
 
--- a call leaves the words of memory as they are
+-- a call leaves the marks of memory as they are
 call_words : (bound : ℕ) (env : Setting) (s : Frame) (id : ℤ) (m next : Marks)
-    → after_helper bound env s (helper_of id) m ≡ Some next → m.words ≡ next.words
+    → after_helper bound env s (helper_of id) m ≡ Some next → m.bytes ≡ next.bytes
 call_words bound env s id m next marks = by (helper_of id) marks
   where
-    by : (helper : Option Helper) → after_helper bound env s helper m ≡ Some next → m.words ≡ next.words
+    by : (helper : Option Helper) → after_helper bound env s helper m ≡ Some next → m.bytes ≡ next.bytes
     by None e = absurd (no_marks next e)
-    by (Some Id) e = ap (λ (x : Marks). x.words) (some_same (with_answer m false) next e)
-    by (Some Coin) e = ap (λ (x : Marks). x.words) (some_same (with_answer m false) next e)
-    by (Some Recv) e = ap (λ (x : Marks). x.words) (plain_marks _ _ next e).1
-    by (Some Send) e = ap (λ (x : Marks). x.words) (plain_marks _ _ next e).1
+    by (Some Id) e = ap (λ (x : Marks). x.bytes) (some_same (with_answer m false) next e)
+    by (Some Coin) e = ap (λ (x : Marks). x.bytes) (some_same (with_answer m false) next e)
+    by (Some Recv) e = ap (λ (x : Marks). x.bytes) (plain_marks _ _ next e).1
+    by (Some Send) e = ap (λ (x : Marks). x.bytes) (plain_marks _ _ next e).1
 
 calls_after : (bound : Bound) (begun : List ℕ) (m next : Marks) (s t : MachineState) (r q : Result Calls TrapKind)
-    → m.words ≡ next.words → AreSimilar bound begun m s t → Alike (AreSimilarCalls bound.number next) r q
+    → m.bytes ≡ next.bytes → AreSimilar bound begun m s t → Alike (AreSimilarCalls bound.number next) r q
     → Alike (AreSimilar bound begun next) (r >>= λ c. Ok (record s { frame = c.frame; sent = c.sent }))
     (q >>= λ c. Ok (record t { frame = c.frame; sent = c.sent }))
 calls_after bound begun m next s t r q words similar h =
@@ -187,7 +187,7 @@ effect_similar env inbox bound begun m next (i.LoadImm64 dst value) s t heard ma
       subst (λ (x : Marks). Alike (AreSimilarFrames bound.number x.registers) (load_immediate dst value s.frame)
           (load_immediate dst value t.frame)) same
           (immediate_similar bound.number m dst value s.frame t.frame similar.frame),
-      ap (λ (x : Marks). x.words) same,
+      ap (λ (x : Marks). x.bytes) same,
     )
 
 -- ---- the way on

@@ -5,12 +5,12 @@ ghost use Rattle.bounded_runs.specs.Bounded.{both_ends, is_known};
 /// How runs from alike inputs end.
 #[derive(Clone, Copy, Debug, PartialEq, Eq)]
 pub enum Ends {
-    /// All as one, but for the words that are kept.
+    /// All as one, but for bytes of kept words that none of them stores.
     AsOne,
-    /// Those with one memory as one. Some run doesn't store the word of memory at this byte.
+    /// Those with one memory as one. Some run doesn't store this byte of memory.
     ByMemory { byte: u32 },
-    /// Not known: a run loads or stores this word, which was to be kept.
-    Touches { word: u32 },
+    /// Not known: a run loads this byte, whose word was to be kept, before it stores it.
+    Touches { byte: u32 },
     /// Not known.
     Unknown,
 }

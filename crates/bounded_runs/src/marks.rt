@@ -1,4 +1,4 @@
-//! Which registers and words of memory may hold other numbers in a run from an input that is alike.
+//! Which registers and bytes of memory may hold other numbers in a run from an input that is alike.
 ghost use Rattle.std.specs.Prelude.{◌≡◌, ◌+◌, ◌*◌, ◌<◌, ◌≤◌, ◌%◌, ◌^◌, ℕ, true, false, Some, None, Ok, IfNone, IfSome, IsTrue, if◌then◌else◌, length};
 ghost use Rattle.bpf_insn.specs.Arithmetic.{bits_of};
 ghost use Rattle.bpf_insn.specs.declared.forms.Insn.TheVariants as i;
@@ -8,8 +8,8 @@ ghost use Rattle.node_env.specs.Helpers.{helper_of};
 ghost use Rattle.node_env.specs.declared.shape.TheConstants.{MAX_MEMORY};
 ghost use Rattle.node_env.specs.declared.helper.Helper.TheVariants.{Recv};
 ghost use Rattle.bpf_machine.specs.Step.{operand_of, place, word_of};
-ghost use Rattle.bounded_runs.specs.Bounded.{is_kept, memory_word};
-ghost use Rattle.bounded_runs.specs.inner.Marks.{AreMarksOf, after_helper, place_from, if_plain, after_load, after_store, at_place, bound_in, comparison_decided, decides_left, decides_right, is_decided, is_large, has_mark, is_whole_word, marks_after, operand_marked, register_marked, takes_word, touches_marked, with_answer, with_mark};
+ghost use Rattle.bounded_runs.specs.Bounded.{StayInKept, is_kept, memory_word};
+ghost use Rattle.bounded_runs.specs.inner.Marks.{AreMarksOf, after_helper, place_from, if_plain, after_load, after_store, all_marked, at_place, bound_in, comparison_decided, decides_left, decides_right, is_decided, is_large, has_mark, is_whole_word, marks_after, operand_marked, register_marked, takes_large, touches_marked, with_answer, with_mark, with_byte_marks};
 
 use bpf_insn::{AluOp, Cond, Insn, Operand, Reg, Size, SxSize, Width};
 use bpf_machine::{State, Word};
@@ -21,14 +21,14 @@ const REGISTERS: usize = 11;
 /// The bytes of a word of memory.
 pub(crate) const WORD_BYTES: u32 = 4;
 
-/// How many words the largest memory has.
-const MAX_WORDS: usize = (MAX_MEMORY / WORD_BYTES) as usize;
+/// How many bytes the largest memory has.
+const MAX_BYTES: usize = MAX_MEMORY as usize;
 
-/// Which registers and words of memory may hold other numbers.
+/// Which registers and bytes of memory may hold other numbers.
 #[derive(Drop)]
 pub(crate) struct Marks {
     pub(crate) registers: [bool; REGISTERS],
-    pub(crate) words: [bool; MAX_WORDS],
+    pub(crate) bytes: [bool; MAX_BYTES],
 }
 
 /// What a step is taken with.
@@ -112,24 +112,6 @@ pub(crate) fn is_kept(kept: &[bool], word: usize) -> bool
     }
 }
 
-/// Returns true if the access takes a whole word that isn't kept.
-fn takes_word(kept: &[bool], first: u32, count: u32) -> bool
-    ensures { result ≡ takes_word kept.now first count }
-{
-    is_whole_word(first, count) && !is_kept(kept, (first / WORD_BYTES) as usize)
-}
-
-/// Returns the first kept word of which an access of memory has bytes. Nothing is promised of it.
-fn kept_word_at(kept: &[bool], first: u32, count: u32) -> Option<u32> {
-    let past = first.saturating_add(count).saturating_add(WORD_BYTES - 1) / WORD_BYTES;
-    for word in first / WORD_BYTES..past {
-        if is_kept(kept, word as usize) {
-            return Some(word);
-        }
-    }
-    None
-}
-
 /// Returns the region of an access and its first byte there; none if it isn't inside.
 fn place(env: &Env, base: Word, off: i16, count: u32) -> Option<(Region, u32)>
     requires { count ≤ 8 }
@@ -161,22 +143,24 @@ fn word_at(memory: &[u8], k: usize) -> u32
 }
 
 impl Marks {
-    /// Returns the marks of a run that begins: of no register, and of each word of the memory that is large or kept.
+    /// Returns the marks of a run that begins: of no register, and of the bytes of each word of the memory that is
+    /// large or kept.
     pub(crate) fn at_entry(memory: &[u8], bound: u32, kept: &[bool]) -> Marks
         requires few { length memory.now ≤ MAX_MEMORY }
         requires whole { length memory.now % 4 ≡ 0 }
         ensures wide { length result.registers ≡ 11 }
         ensures registers { (n : ℕ) → has_mark result.registers n ≡ false }
-        ensures words { AreMarksOf (record { number = bound; kept = kept.now }) result.words memory.now }
+        ensures bytes { AreMarksOf (record { number = bound; kept = kept.now }) result.bytes memory.now }
     {
-        let mut words = [false; MAX_WORDS];
-        for k in 0..memory.len() / WORD_BYTES as usize {
-            words[k] = is_kept(kept, k) || word_at(memory, k) >= bound;
-        }
-        Marks {
+        let mut marks = Marks {
             registers: [false; REGISTERS],
-            words,
+            bytes: [false; MAX_BYTES],
+        };
+        for k in 0..memory.len() / WORD_BYTES as usize {
+            let unseen = is_kept(kept, k) || word_at(memory, k) >= bound;
+            marks.mark_bytes(WORD_BYTES * k as u32, WORD_BYTES, unseen);
         }
+        marks
     }
 
     /// Returns true if r0 is marked.
@@ -186,17 +170,14 @@ impl Marks {
         self.registers[0]
     }
 
-    /// Returns the first byte of a word of memory that is marked and isn't kept, or the other way round.
-    pub(crate) fn marked_byte(&self, kept: &[bool]) -> Option<u32>
-        ensures { IfNone result ((k : ℕ) → has_mark self.now.words k ≡ is_kept kept.now k) }
+    /// Returns the first of this many bytes of memory that is marked, though its word isn't kept.
+    pub(crate) fn marked_byte(&self, kept: &[bool], count: u32) -> Option<u32>
+        requires { count ≤ MAX_MEMORY }
+        ensures { IfNone result (StayInKept kept.now count (λ p. has_mark self.now.bytes p)) }
     {
-        for k in 0..MAX_WORDS.max(kept.len()) {
-            if is_kept(&self.words, k) != is_kept(kept, k) {
-                return Some(
-                    u32::try_from(k)
-                        .unwrap_or(u32::MAX)
-                        .saturating_mul(WORD_BYTES),
-                );
+        for byte in 0..count {
+            if self.bytes[byte as usize] && !is_kept(kept, (byte / WORD_BYTES) as usize) {
+                return Some(byte);
             }
         }
         None
@@ -235,25 +216,57 @@ impl Marks {
         self.registers[0] = marked;
     }
 
-    /// Returns true if one of the bytes is in a marked word.
+    /// Marks these bytes, or takes their marks away.
+    fn mark_bytes(&mut self, first: u32, count: u32, marked: bool)
+        requires { first + count ≤ MAX_MEMORY }
+        ensures { self.new ≡ (record self.old { bytes = with_byte_marks self.old.bytes first count marked }) }
+    {
+        if count == 0 {
+            return;
+        }
+        self.bytes[first as usize] = marked;
+        self.mark_bytes(first + 1, count - 1, marked);
+    }
+
+    /// Returns true if one of the bytes is marked.
     fn touches_marked(&self, first: u32, count: u32) -> bool
         requires { first + count ≤ MAX_MEMORY }
-        ensures { result ≡ touches_marked self.now.words first count }
+        ensures { result ≡ touches_marked self.now.bytes first count }
     {
         if count == 0 {
             return false;
         }
-        self.words[(first / WORD_BYTES) as usize] || self.touches_marked(first + 1, count - 1)
+        self.bytes[first as usize] || self.touches_marked(first + 1, count - 1)
     }
 
-    /// Takes the mark of a word along in a load of it. Returns false if another load takes bytes of a marked word.
+    /// Returns true if all of the bytes are marked.
+    fn all_marked(&self, first: u32, count: u32) -> bool
+        requires { first + count ≤ MAX_MEMORY }
+        ensures { result ≡ all_marked self.now.bytes first count }
+    {
+        if count == 0 {
+            return true;
+        }
+        self.bytes[first as usize] && self.all_marked(first + 1, count - 1)
+    }
+
+    /// Returns true if the access takes a whole word that isn't kept, and that is large still.
+    fn takes_large(&self, kept: &[bool], first: u32, count: u32) -> bool
+        requires { first + count ≤ MAX_MEMORY }
+        ensures { result ≡ takes_large kept.now self.now.bytes first count }
+    {
+        is_whole_word(first, count)
+            && !is_kept(kept, (first / WORD_BYTES) as usize)
+            && self.all_marked(first, count)
+    }
+
+    /// Marks the register of a load if it takes a large word. Returns false if another load takes marked bytes.
     fn keep_load(&mut self, kept: &[bool], dst: Reg, first: u32, count: u32) -> bool
         requires { first + count ≤ MAX_MEMORY }
         ensures { IsTrue result → after_load kept.now self.old dst first count ≡ Some self.new }
     {
-        if takes_word(kept, first, count) {
-            let marked = self.words[(first / WORD_BYTES) as usize];
-            self.mark(dst, marked);
+        if self.takes_large(kept, first, count) {
+            self.mark(dst, true);
             return true;
         }
         if self.touches_marked(first, count) {
@@ -261,18 +274,6 @@ impl Marks {
         }
         self.mark(dst, false);
         true
-    }
-
-    /// Takes away the mark of a word that is stored. Returns false if another store has bytes in a marked word.
-    fn keep_store(&mut self, kept: &[bool], first: u32, count: u32) -> bool
-        requires { first + count ≤ MAX_MEMORY }
-        ensures { IsTrue result → after_store kept.now self.old first count ≡ Some self.new }
-    {
-        if takes_word(kept, first, count) {
-            self.words[(first / WORD_BYTES) as usize] = false;
-            return true;
-        }
-        !self.touches_marked(first, count)
     }
 
     /// Returns true if the comparison comes out alike.
@@ -349,7 +350,7 @@ impl Marks {
         place(view.env, view.state.register(base)?, off, count)
     }
 
-    /// Follows a load. Returns false if it takes bytes of a marked word, but not the word.
+    /// Follows a load. Returns false if it takes marked bytes, but no large word.
     fn keep_loaded(&mut self, view: StepView, size: Size, dst: Reg, base: Reg, off: i16) -> bool
         ensures { IsTrue result → marks_after (bound_in view.entry) view.entry.env.now view.entry.state.now
             (i.Load size dst base off) self.old ≡ Some self.new }
@@ -364,7 +365,7 @@ impl Marks {
         }
     }
 
-    /// Follows a load that extends the sign. Returns false if it takes bytes of a marked word.
+    /// Follows a load that extends the sign. Returns false if it takes marked bytes.
     fn keep_extended(&mut self, view: StepView, size: SxSize, dst: Reg, base: Reg, off: i16) -> bool
         ensures { IsTrue result → marks_after (bound_in view.entry) view.entry.env.now view.entry.state.now
             (i.LoadSx size dst base off) self.old ≡ Some self.new }
@@ -382,17 +383,19 @@ impl Marks {
         true
     }
 
-    /// Follows a store. Returns false if it has bytes in a marked word, but not the word.
+    /// Takes away the marks of the bytes that are stored. Returns false if it isn't known which.
     fn keep_stored(&mut self, view: StepView, size: Size, base: Reg, off: i16) -> bool
         ensures { IsTrue result → (if register_marked self.old base then None
             else at_place (place_from view.entry.env.now (word_of view.entry.state.now base) off (access_bytes size))
-            (λ first. after_store view.entry.kept.now self.old first (access_bytes size)) (Some self.old))
-            ≡ Some self.new }
+            (λ first. Some (after_store self.old first (access_bytes size))) (Some self.old)) ≡ Some self.new }
     {
         match self.accessed(view, base, off, size.bytes()) {
             None => false,
             Some((Region::Stack, _)) => true,
-            Some((Region::Mem, first)) => self.keep_store(view.kept, first, size.bytes()),
+            Some((Region::Mem, first)) => {
+                self.mark_bytes(first, size.bytes(), false);
+                true
+            }
         }
     }
 
@@ -482,45 +485,46 @@ impl Marks {
             Insn::LoadImm64 { dst, .. } => self.keep_plain(false, dst),
         }
     }
-}
 
-/// Returns the first kept word of which an access by a register has bytes. Nothing is promised of it.
-fn kept_word_by(view: StepView, base: Reg, off: i16, count: u32) -> Option<u32>
-    requires { count ≤ 8 }
-{
-    match place(view.env, view.state.register(base)?, off, count)? {
-        (Region::Mem, first) => kept_word_at(view.kept, first, count),
-        (Region::Stack, _) => None,
+    /// Returns the first of these bytes that is marked and in a kept word, if there is one. Nothing is promised of it.
+    fn kept_byte_at(&self, kept: &[bool], first: u32, count: u32) -> Option<u32>
+        requires { first + count ≤ MAX_MEMORY }
+    {
+        for byte in first..first + count {
+            if self.bytes[byte as usize] && is_kept(kept, (byte / WORD_BYTES) as usize) {
+                return Some(byte);
+            }
+        }
+        None
     }
-}
 
-/// Returns the kept word that an instruction loads or stores, if there is one. Nothing is promised of it.
-pub(crate) fn kept_word(view: StepView, insn: &Insn) -> Option<u32> {
-    match *insn {
-        Insn::Load {
-            size,
-            base,
-            off,
-            ..
-        } => kept_word_by(view, base, off, size.bytes()),
-        Insn::LoadSx {
-            size,
-            base,
-            off,
-            ..
-        } => kept_word_by(view, base, off, size.bytes()),
-        Insn::StoreReg {
-            size,
-            base,
-            off,
-            ..
-        } => kept_word_by(view, base, off, size.bytes()),
-        Insn::StoreImm {
-            size,
-            base,
-            off,
-            ..
-        } => kept_word_by(view, base, off, size.bytes()),
-        _ => None,
+    /// Returns the first marked byte of a kept word that a load by a register takes. Nothing is promised of it.
+    fn kept_byte_by(&self, view: StepView, base: Reg, off: i16, count: u32) -> Option<u32>
+        requires { count ≤ 8 }
+    {
+        match self.accessed(view, base, off, count)? {
+            (Region::Mem, first) => self.kept_byte_at(view.kept, first, count),
+            (Region::Stack, _) => None,
+        }
+    }
+
+    /// Returns the first marked byte of a kept word that an instruction loads, if there is one. Nothing is promised of
+    /// it.
+    pub(crate) fn kept_byte(&self, view: StepView, insn: &Insn) -> Option<u32> {
+        match *insn {
+            Insn::Load {
+                size,
+                base,
+                off,
+                ..
+            } => self.kept_byte_by(view, base, off, size.bytes()),
+            Insn::LoadSx {
+                size,
+                base,
+                off,
+                ..
+            } => self.kept_byte_by(view, base, off, size.bytes()),
+            _ => None,
+        }
     }
 }

@@ -11,7 +11,7 @@ ghost use Rattle.bounded_runs.specs.inner.Similar.{AreFollowed};
 
 use crate::all::Tries;
 use crate::ends::Ends;
-use crate::marks::{Marks, StepView, kept_word};
+use crate::marks::{Marks, StepView};
 use bpf_insn::{Insn, Program};
 use bpf_machine::{State, Turn, step};
 use bpf_verify::VerifiedProgram;
@@ -57,7 +57,7 @@ fn follow_exit(view: RunView, run: &mut MarkedRun, memory: &mut [u8], outbox: &m
     if run.marks.is_answer_marked() {
         return Ends::Unknown;
     }
-    let marked = run.marks.marked_byte(view.kept);
+    let marked = run.marks.marked_byte(view.kept, view.env.shape().memory());
     match (
         step(view.program, view.env, &mut run.state, memory, outbox),
         marked,
@@ -69,11 +69,11 @@ fn follow_exit(view: RunView, run: &mut MarkedRun, memory: &mut [u8], outbox: &m
 }
 
 /// Returns that it isn't known how runs end, and whether that is for a kept word.
-fn unknown_at(view: StepView, insn: &Insn) -> Ends
+fn unknown_at(marks: &Marks, view: StepView, insn: &Insn) -> Ends
     ensures { is_known result ≡ false }
 {
-    match kept_word(view, insn) {
-        Some(word) => Ends::Touches { word },
+    match marks.kept_byte(view, insn) {
+        Some(byte) => Ends::Touches { byte },
         None => Ends::Unknown,
     }
 }
@@ -105,7 +105,7 @@ fn follow_step(
         kept: view.kept,
     };
     if !run.marks.keep(step_view, insn) {
-        return Followed::Ended(unknown_at(step_view, insn));
+        return Followed::Ended(unknown_at(&run.marks, step_view, insn));
     }
     match step(view.program, view.env, &mut run.state, memory, outbox) {
         Turn::Next => Followed::Next,

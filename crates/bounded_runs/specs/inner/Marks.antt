@@ -1,4 +1,5 @@
--- Which registers and words of memory hold large numbers that may be others in a run from an input that is alike.
+-- Which registers and bytes of memory may hold other numbers in a run from an input that is alike: large numbers, and
+-- bytes of kept words.
 use Rattle.std.specs.Prelude.{◌≡◌, ℕ, zero, suc, ◌*◌, ◌/◌, ◌%◌, ◌^◌, ◌==◌, Bool, true, false, ◌||◌, ◌&&◌, not, nat_lt, nat_le, if◌then◌else◌, Option, Some, None, Result, Ok, Err, ℤ, List, length, slice_index_or, slice_set}
 use Rattle.node_env.specs.declared.region.Region.{Region}
 use Rattle.node_env.specs.declared.region.Region.TheVariants.{Mem, Stack}
@@ -89,41 +90,50 @@ comparison_decided true false bound cond width a b = is_decided (decides_left bo
 comparison_decided false true bound cond width a b = is_decided (decides_right bound cond) width a
 comparison_decided true true bound cond width a b = false
 
--- ---- words of memory
+-- ---- bytes of memory
 
--- the word is to be marked: it is kept, or it is large
+-- the bytes of the word are to be marked: it is kept, or it is large
 abbrev pub is_unseen : Bound → ℕ → ℕ → Bool
 is_unseen bound k word = is_kept bound.kept k || nat_le bound.number word
 
--- the marks are those of such words of a memory
+-- the marks are those of the bytes of such words of a memory
 abbrev pub AreMarksOf : Bound → List Bool → List ℕ → Type 0
-AreMarksOf bound words m = (k : ℕ)
-    → has_mark words k ≡ (nat_lt (4 * k) (length m) && is_unseen bound k (memory_word m k))
+AreMarksOf bound bytes m = (p : ℕ)
+    → has_mark bytes p ≡ (nat_lt p (length m) && is_unseen bound (p / 4) (memory_word m (p / 4)))
 
--- one of this many bytes from k on is in a marked word
+-- one of this many bytes from p on is marked
 abbrev pub touches_marked : List Bool → ℕ → ℕ → Bool
-touches_marked words k zero = false
-touches_marked words k (suc count) = has_mark words (k / 4) || touches_marked words (suc k) count
+touches_marked bytes p zero = false
+touches_marked bytes p (suc count) = has_mark bytes p || touches_marked bytes (suc p) count
+
+-- all of them are
+abbrev pub all_marked : List Bool → ℕ → ℕ → Bool
+all_marked bytes p zero = true
+all_marked bytes p (suc count) = has_mark bytes p && all_marked bytes (suc p) count
+
+-- the marks, where all of them are marked or none is
+abbrev pub with_byte_marks : List Bool → ℕ → ℕ → Bool → List Bool
+with_byte_marks bytes p zero marked = bytes
+with_byte_marks bytes p (suc count) marked = with_byte_marks (slice_set bytes p marked) (suc p) count marked
 
 -- the access takes a whole word
 abbrev pub is_whole_word : ℕ → ℕ → Bool
 is_whole_word first count = (count == 4) && (first % 4 == 0)
 
--- it takes a whole word that isn't kept
-abbrev pub takes_word : List Bool → ℕ → ℕ → Bool
-takes_word kept first count = is_whole_word first count && not (is_kept kept (first / 4))
+-- it takes a whole word that isn't kept, and that is large still
+abbrev pub takes_large : List Bool → List Bool → ℕ → ℕ → Bool
+takes_large kept bytes first count =
+    is_whole_word first count && (not (is_kept kept (first / 4)) && all_marked bytes first count)
 
--- a load of such a word takes its mark along; of a marked word nothing else is read
+-- a load of such a word marks the register; of marked bytes nothing else is loaded
 abbrev pub after_load : List Bool → Marks → Reg → ℕ → ℕ → Option Marks
 after_load kept m dst first count =
-    if takes_word kept first count then Some (with_mark m dst (has_mark m.words (first / 4)))
-    else if_plain (touches_marked m.words first count) (with_mark m dst false)
+    if takes_large kept m.bytes first count then Some (with_mark m dst true)
+    else if_plain (touches_marked m.bytes first count) (with_mark m dst false)
 
--- a store of such a word takes its mark away; into a marked word nothing else is stored
-abbrev pub after_store : List Bool → Marks → ℕ → ℕ → Option Marks
-after_store kept m first count =
-    if takes_word kept first count then Some (record m { words = slice_set m.words (first / 4) false })
-    else if_plain (touches_marked m.words first count) m
+-- a store takes the marks of its bytes away
+abbrev pub after_store : Marks → ℕ → ℕ → Marks
+after_store m first count = record m { bytes = with_byte_marks m.bytes first count false }
 
 abbrev pub at_place : Result (Region × ℕ) TrapKind → (ℕ → Option Marks) → Option Marks → Option Marks
 at_place (Ok (Mem, first)) memory stack = memory first
@@ -175,16 +185,16 @@ marks_after bound env s (i.Load size dst base off) m =
 marks_after bound env s (i.LoadSx size dst base off) m =
     if register_marked m base then None
     else at_place (place_from env (word_of s base) off (sx_access_bytes size))
-    (λ first. if_plain (touches_marked m.words first (sx_access_bytes size)) (with_mark m dst false))
+    (λ first. if_plain (touches_marked m.bytes first (sx_access_bytes size)) (with_mark m dst false))
     (Some (with_mark m dst false))
 marks_after bound env s (i.StoreReg size base off src) m =
     if register_marked m base || register_marked m src then None
     else at_place (place_from env (word_of s base) off (access_bytes size))
-    (λ first. after_store bound.kept m first (access_bytes size)) (Some m)
+    (λ first. Some (after_store m first (access_bytes size))) (Some m)
 marks_after bound env s (i.StoreImm size base off imm) m =
     if register_marked m base then None
     else at_place (place_from env (word_of s base) off (access_bytes size))
-    (λ first. after_store bound.kept m first (access_bytes size)) (Some m)
+    (λ first. Some (after_store m first (access_bytes size))) (Some m)
 marks_after bound env s (i.LoadImm64 dst value) m = Some (with_mark m dst false)
 
 -- of a step

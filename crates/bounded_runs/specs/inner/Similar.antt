@@ -11,7 +11,7 @@ use Rattle.bpf_machine.specs.Run.{RunsTo}
 use Rattle.bpf_machine.specs.Step.{number_at}
 use Rattle.bounded_runs.specs.declared.marks.Marks.{Marks}
 use Rattle.bounded_runs.specs.Bounded.{AreAlikeInputs, Bound, is_kept}
-use Rattle.bounded_runs.specs.inner.Marks.{has_mark}
+use Rattle.bounded_runs.specs.inner.Marks.{all_marked, has_mark}
 
 abbrev pub IsLarge : ℕ → ℕ → Type 0
 IsLarge bound n = (bound ≤ n) × (n < 2 ^ 32)
@@ -36,18 +36,18 @@ pub record AreSimilarFrames (bound : ℕ) (marks : List Bool) (s t : Frame) : Ty
 abbrev pub IsLargeWord : ℕ → List ℕ → ℕ → Type 0
 IsLargeWord bound m k = (n : ℕ) × (number_at (slice_get m) (4 * k) 4 ≡ Ok n) × IsLarge bound n
 
--- two memories have the same bytes outside marked words. Marked words are large or kept, and those of the second are as
--- when its run began
-pub record AreSimilarMemories (bound : Bound) (begun : List ℕ) (words : List Bool) (m l : List ℕ) : Type 0 where
+-- two memories have the same bytes but for marked ones. Words of four marked bytes are large or kept, and the marked
+-- bytes of the second are as when its run began
+pub record AreSimilarMemories (bound : Bound) (begun : List ℕ) (bytes : List Bool) (m l : List ℕ) : Type 0 where
   pub size : length m ≡ length l
-  pub bytes : (p : ℕ) → has_mark words (p / 4) ≡ false → slice_get m p ≡ slice_get l p
-  pub large : (k : ℕ) → has_mark words k ≡ true → is_kept bound.kept k ≡ false
+  pub plain : (p : ℕ) → has_mark bytes p ≡ false → slice_get m p ≡ slice_get l p
+  pub large : (k : ℕ) → all_marked bytes (4 * k) 4 ≡ true → is_kept bound.kept k ≡ false
       → IsLargeWord bound.number m k × IsLargeWord bound.number l k
-  pub stays : (p : ℕ) → has_mark words (p / 4) ≡ true → slice_get l p ≡ slice_get begun p
+  pub stays : (p : ℕ) → has_mark bytes p ≡ true → slice_get l p ≡ slice_get begun p
 
 pub record AreSimilar (bound : Bound) (begun : List ℕ) (marks : Marks) (s t : MachineState) : Type 0 where
   pub frame : AreSimilarFrames bound.number marks.registers s.frame t.frame
-  pub memory : AreSimilarMemories bound begun marks.words s.memory t.memory
+  pub memory : AreSimilarMemories bound begun marks.bytes s.memory t.memory
   pub sent : s.sent ≡ t.sent
 
 -- from each input that is alike, as many steps lead to a state that is similar

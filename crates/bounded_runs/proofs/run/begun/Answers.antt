@@ -8,4 +8,4 @@ returns-clause-followed c =
     let units = c.memory-memory.ensures.extent.units in
     begins_followed c.args.view.program.now (bound_of_run c.args.view) c.args.view.env.now c.args.memory.now
     c.at_entry.result c.shape.ensures.setting c.at_entry.ensures.wide c.at_entry.ensures.registers
-    c.at_entry.ensures.words (omega (arith, units, c.requires)) c.are_bytes.ensures
+    c.at_entry.ensures.bytes (omega (arith, units, c.requires)) c.are_bytes.ensures
