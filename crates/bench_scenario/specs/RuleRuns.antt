@@ -1,8 +1,8 @@
 -- What rules do in a run (docs/RULES.md, "Meaning"): a closed pulse can be read by the rules alone.
 use Rattle.std.specs.Prelude.{◌≡◌, ℕ, ◌<◌, Some, List, All}
 use Rattle.bpf_verify.specs.Accepted.{Accepted}
-use Rattle.rule_nodes.specs.declared.syntax.Sizes.{Sizes}
-use Rattle.rule_nodes.specs.declared.syntax.Statement.{Statement}
+use Rattle.rule_syntax.specs.declared.syntax.Sizes.{Sizes}
+use Rattle.rule_syntax.specs.declared.syntax.Statement.{Statement}
 use Rattle.rule_nodes.specs.Code.{rule_code}
 use Rattle.rule_nodes.specs.Ends.{AreSizes}
 use Rattle.rule_nodes.specs.Fits.{BlockFits}

@@ -13,23 +13,13 @@ use crate::stop::{Stop, first_of};
 use bench_core::{CloseError, OpenError};
 use bench_engine::{EngineError, MAX_WORKERS, Open, WorkError, pulse};
 use bench_shared::{Board, EnginePass, Finished, LoaderPass, MAX_LOADERS, SharedBench, WatchPass};
+use parameters::StressOptions;
 use std::alloc::Global;
 use std::marker::Brand;
 use std::sync::Wait;
 use std::sync::ledger::{Blank, Ledger};
 use std::thread;
 use std::thread::{Scope, Threads};
-
-/// How many hands there are, and what they do.
-#[derive(Clone, Copy, Debug, PartialEq, Eq)]
-pub struct StressOptions {
-    pub loaders: u32,
-    /// The programs that each loader loads.
-    pub loads: u32,
-    pub pulses: u32,
-    /// On how many workers the tasks of a pulse are run.
-    pub workers: u32,
-}
 
 /// The coins of each pulse.
 const COINS: [u32; 4] = [1, 1, 1, 1];

@@ -7,6 +7,7 @@ mod loaders;
 mod setup;
 mod stop;
 
-pub use hands::{StressOptions, stress_bench};
+pub use hands::stress_bench;
+pub use parameters::StressOptions;
 pub use setup::{FAULTS, MEMORY, MODULUS, NODES};
 pub use stop::Stop;

@@ -12,7 +12,7 @@ use Rattle.bpf_verify.specs.declared.findings.Verdict.TheVariants.{Refused}
 use Rattle.bpf_verify.specs.declared.rule.Rule.{Rule}
 use Rattle.bpf_verify.specs.Findings.{AreFindings, IsVerdict, table_in}
 use Rattle.bpf_verify.specs.Typable.{Table}
-use Rattle.bpf_explain.specs.declared.detail.Detail.{Detail}
+use Rattle.parameters.specs.declared.detail.Detail.{Detail}
 use Rattle.bpf_explain.specs.Rows.{insn_listed, insn_count_before, row_at, slot_row, rows_before}
 use Rattle.bpf_explain.proofs.Listing.{range_next}
 

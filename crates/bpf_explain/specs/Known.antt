@@ -17,8 +17,8 @@ use Rattle.bpf_verify.specs.declared.abstract_value.AbstractValue.TheVariants.{U
 use Rattle.bpf_verify.specs.declared.abstract_state.TheConstants.{REGISTERS}
 use Rattle.bpf_verify.specs.States.{AbstractState, kind_of, is_unset_kind}
 use Rattle.bpf_verify.specs.Rules.{may_leave_region, takes_dword}
-use Rattle.bpf_explain.specs.declared.detail.Detail.{Detail}
-use Rattle.bpf_explain.specs.declared.detail.Detail.TheVariants.{Read, All}
+use Rattle.parameters.specs.declared.detail.Detail.{Detail}
+use Rattle.parameters.specs.declared.detail.Detail.TheVariants.{Read, All}
 use Rattle.bpf_explain.specs.declared.fact.Fact.{Fact}
 use Rattle.bpf_explain.specs.declared.fact.Fact.TheVariants as facts
 

@@ -11,7 +11,7 @@ use Rattle.bpf_verify.specs.declared.findings.Verdict.TheVariants.{Accepted, Ref
 use Rattle.bpf_verify.specs.declared.findings.Findings.{Findings}
 use Rattle.bpf_verify.specs.Findings.{table_in}
 use Rattle.bpf_verify.specs.Typable.{Table}
-use Rattle.bpf_explain.specs.declared.detail.Detail.{Detail}
+use Rattle.parameters.specs.declared.detail.Detail.{Detail}
 use Rattle.bpf_explain.specs.declared.fact.Fact.{Fact}
 use Rattle.bpf_explain.specs.Facts.{remark}
 use Rattle.bpf_explain.specs.Known.{facts_at}

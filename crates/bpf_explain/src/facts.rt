@@ -7,12 +7,12 @@ ghost use Rattle.bpf_explain.specs.Facts.{fact_list};
 ghost use Rattle.bpf_explain.specs.Known as known_facts;
 ghost use Rattle.bpf_explain.specs.declared.fact.Fact.TheVariants.{NotReached};
 
-use crate::detail::Detail;
 use crate::fact::{Fact, add_fact};
 use crate::loaded::{add_load_facts, first_unwritten};
 use bpf_insn::{Insn, Reads, Reg};
 use bpf_verify::{AbstractState, REGISTERS, is_unset, registers_of};
 use node_env::{STACK_BYTES, STACK_DWORDS, Shape};
+use parameters::Detail;
 use std::alloc::AllocError;
 
 fn add_register(told: &mut String, known: &AbstractState, register: Reg) -> Result<(), AllocError>

@@ -2,13 +2,12 @@
 #![tactic(auto)]
 
 mod access;
-mod detail;
 mod fact;
 mod facts;
 mod loaded;
 mod reasons;
 mod row_texts;
 
-pub use detail::Detail;
+pub use parameters::Detail;
 pub use reasons::reason;
 pub use row_texts::rows;

@@ -8,13 +8,13 @@ ghost use Rattle.bpf_explain.specs.Facts.{fact_list};
 ghost use Rattle.bpf_explain.specs.Known.{facts_at};
 ghost use Rattle.bpf_explain.specs.Rows as texts;
 
-use crate::detail::Detail;
 use crate::fact::add_remark;
 use crate::facts::{add_facts, add_unreached};
 use bpf_asm::CanonicalLine;
 use bpf_insn::{Insn, Program};
 use bpf_verify::{Findings, Verdict};
 use node_env::Shape;
+use parameters::Detail;
 use std::alloc::{AllocError, Global};
 use std::fmt::Write;
 

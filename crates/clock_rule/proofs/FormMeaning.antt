@@ -1,13 +1,13 @@
 -- What forms mean. A rule means what its form does, wherever its boxes lie.
 use Rattle.std.proofs.Common.{◌≡◌, ℕ, zero, suc, ◌+◌, not, nat_lt, if◌then◌else◌, List, [], ◌∷◌, ◌++◌, slice_index, refl, ap, ap₂, ◌∙◌}
 use Rattle.node_env.specs.Env.{Setting}
-use Rattle.rule_nodes.specs.declared.syntax.Sizes.{Sizes}
-use Rattle.rule_nodes.specs.declared.syntax.Assignment.{Assignment}
-use Rattle.rule_nodes.specs.declared.syntax.Assignment.TheVariants.{One, Also'}
-use Rattle.rule_nodes.specs.declared.syntax.Term.{Term}
-use Rattle.rule_nodes.specs.declared.syntax.Term.TheVariants.{Number, Nodes, Faults, Modulus, Me, Coin, LoopNode, Local, Word, Message', Binary', Logical', Not', Choice', Count'}
-use Rattle.rule_nodes.specs.declared.syntax.Statement.{Statement}
-use Rattle.rule_nodes.specs.declared.syntax.Statement.TheVariants.{Nothing, Then', Let', Assign, If', For', SendAll, SendTo}
+use Rattle.rule_syntax.specs.declared.syntax.Sizes.{Sizes}
+use Rattle.rule_syntax.specs.declared.syntax.Assignment.{Assignment}
+use Rattle.rule_syntax.specs.declared.syntax.Assignment.TheVariants.{One, Also'}
+use Rattle.rule_syntax.specs.declared.syntax.Term.{Term}
+use Rattle.rule_syntax.specs.declared.syntax.Term.TheVariants.{Number, Nodes, Faults, Modulus, Me, Coin, LoopNode, Local, Word, Message', Binary', Logical', Not', Choice', Count'}
+use Rattle.rule_syntax.specs.declared.syntax.Statement.{Statement}
+use Rattle.rule_syntax.specs.declared.syntax.Statement.TheVariants.{Nothing, Then', Let', Assign, If', For', SendAll, SendTo}
 use Rattle.rule_nodes.specs.Meaning.{NodeState, apply_operator, combine, bit_of, truth, count_below, word_at, message_from, value, with_local, assigned, all_assigned, with_sent, sent_below, each_below, after, initial_state, pulse}
 use Rattle.rule_text.specs.Forms.{TermForm, number, nodes, faults, modulus, me, coin, loop_node, local, word, message, binary, logical, inverse, choice, count, AssignmentForm, one, also, StatementForm, nothing, sequence, let_in, assign, branch, each, send_all, send_to, term_form, assignment_form, statement_form}
 

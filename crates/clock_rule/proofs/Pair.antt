@@ -11,8 +11,8 @@ use Rattle.clock_nodes.specs.Ends.{IsSentTo}
 use Rattle.clock_nodes.proofs.Bytes.{has_pair, clock_written}
 use Rattle.clock_nodes.proofs.Pairs.{clock_small, pair_small}
 use Rattle.clock_nodes.proofs.Runs.{nothing_sent, sent_next}
-use Rattle.rule_nodes.specs.declared.syntax.Sizes.{Sizes}
-use Rattle.rule_nodes.specs.declared.syntax.Statement.{Statement}
+use Rattle.rule_syntax.specs.declared.syntax.Sizes.{Sizes}
+use Rattle.rule_syntax.specs.declared.syntax.Statement.{Statement}
 use Rattle.rule_nodes.specs.Meaning.{NodeState, bit_of, truth, count_below, word_at, with_memory_word, message_from, with_local, sent_below, initial_state, pulse}
 use Rattle.rule_nodes.specs.Ends.{sizes_of}
 use Rattle.rule_nodes.proofs.Words.{word_loaded, word_stored}

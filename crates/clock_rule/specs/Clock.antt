@@ -1,8 +1,8 @@
 -- The rule of docs/CLOCK.md ("The rule") in the language of rules: each definition is a part of its text.
-use Rattle.rule_nodes.specs.declared.syntax.Operation.TheVariants.{Sum, Difference, Remainder}
-use Rattle.rule_nodes.specs.declared.syntax.Comparison.TheVariants.{Equal, NotEqual, Less}
-use Rattle.rule_nodes.specs.declared.syntax.Operator.TheVariants.{Compute, Compare}
-use Rattle.rule_nodes.specs.declared.syntax.Target.TheVariants.{ToWord}
+use Rattle.rule_syntax.specs.declared.syntax.Operation.TheVariants.{Sum, Difference, Remainder}
+use Rattle.rule_syntax.specs.declared.syntax.Comparison.TheVariants.{Equal, NotEqual, Less}
+use Rattle.rule_syntax.specs.declared.syntax.Operator.TheVariants.{Compute, Compare}
+use Rattle.rule_syntax.specs.declared.syntax.Target.TheVariants.{ToWord}
 use Rattle.rule_text.specs.Forms.{TermForm, number, nodes, faults, modulus, coin, loop_node, local, word, message}
 use Rattle.rule_text.specs.Forms.{binary, choice, count, one, also, StatementForm, nothing, sequence, let_in, assign}
 use Rattle.rule_text.specs.Forms.{branch, send_all}

@@ -1,8 +1,8 @@
 -- What the program does over its streams (docs/COMMANDS.md). Which words give which options is the part of `clap`.
 use Rattle.std.specs.Prelude.{◌≡◌, ◌⊎◌, ℕ, List, Option}
-use Rattle.clockbed.specs.Requests.{IsAsked}
+use Rattle.command_line.specs.Requests.{IsAsked}
 use Rattle.commands.specs.declared.fault.Fault.{Fault}
-use Rattle.commands.specs.declared.request.Request.{Request}
+use Rattle.requests.specs.declared.request.Request.{Request}
 use Rattle.commands.specs.Faults.{IsOfCommandLine, Says, fault_status, fault_text}
 use Rattle.commands.specs.Perform.{PerformsRequest, TakesFor}
 

@@ -1,6 +1,1 @@
 pub mod Command
-pub mod Explore
-pub mod Lists
-pub mod Numbers
-pub mod Requests
-pub mod inner

@@ -1,8 +1,10 @@
 //! The program over any streams.
 ghost use Rattle.clockbed.specs.Command.{Commands};
+ghost use Rattle.commands.specs.Faults.{IsOfCommandLine};
 
-use crate::request::parse_args;
 use bench_space::Silent;
+use command_line::{WordsFault, parse_args};
+use commands::Fault;
 use commands::perform::perform;
 use std::alloc::Global;
 use std::convert::AsStr;
@@ -33,6 +35,16 @@ pub fn command<T: Threads + Wait + Sync, S: AsStr, R: Read, W: Write, E: Write>(
             err,
             &mut Silent,
         ),
-        Err(fault) => fault.tell(err),
+        Err(fault) => fault_of(fault).tell(err),
+    }
+}
+
+/// Returns the fault of words that ask for nothing.
+pub fn fault_of(fault: WordsFault) -> Fault
+    ensures { IsOfCommandLine result }
+{
+    match fault {
+        WordsFault::Rejected { text } => Fault::CommandLine { text },
+        WordsFault::Memory => Fault::Memory,
     }
 }

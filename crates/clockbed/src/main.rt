@@ -2,22 +2,19 @@
 #![tactic(auto)]
 
 pub mod command;
-mod exec_words;
-mod explore_words;
 mod images;
-mod mail;
-mod options;
+mod limits;
 mod progress;
-mod request;
 mod source;
 
+use crate::command::fault_of;
 use crate::images::with_images;
 use crate::progress::{SearchProgress, SweepProgress};
-use crate::request::parse_args;
 use crate::source::{Reasoned, open, tell_reason};
+use command_line::parse_args;
 use commands::Fault;
 use commands::perform::perform;
-use commands::request::{Request, ScenarioRequest};
+use requests::{Request, ScenarioRequest};
 use std::io::{IsTerminal, Read, Write};
 use std::process::ExitCode;
 use std::rt::Stderr;
@@ -55,7 +52,7 @@ fn answer<T: Threads + Wait + Sync>(
 ) -> u8 {
     let invocation = match parse_args(rt.alloc(), words) {
         Ok(invocation) => invocation,
-        Err(fault) => return fault.tell(err),
+        Err(fault) => return fault_of(fault).tell(err),
     };
     let program = Program { rt, threads };
     match &invocation.file {

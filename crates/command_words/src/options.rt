@@ -1,11 +1,12 @@
 //! The options of the commands: a row for each, by which `clap` reads it, its help is written and `clockbed` uses it.
+//!
+//! The most threads of a pulse, of a sweep and of loaders are here as numbers, so that the rows wait for no bench.
+//! `clockbed` proves that they are the libraries' limits.
 
 use crate::rows::{DefaultText, FlagOption, NumberOption, RangeText, TextOption};
-use bench_shared::MAX_LOADERS;
-use bench_workers::MAX_WORKERS;
 use clock_nodes::{LEAST_MODULUS, MAX_MODULUS};
-use key_sweep::{MAX_SWEEP_KEY, MAX_SWEEPERS};
 use node_env::{MAX_MEMORY, MAX_NODES, MEMORY_UNIT};
+use parameters::MAX_SWEEP_KEY;
 
 // ---- what most rows share
 
@@ -204,7 +205,7 @@ pub const STEPS: FlagOption = FlagOption {
 pub const WORKERS: NumberOption<&str, u32> = NumberOption {
     name: "workers",
     what: "Threads of a pulse, if they pay",
-    most: MAX_WORKERS,
+    most: 8,
     default: 2,
     ..COUNT
 };
@@ -269,7 +270,7 @@ pub const KEYS: NumberOption<&str, u64> = NumberOption {
 pub const SWEEPERS: NumberOption<&str, u32> = NumberOption {
     name: "workers",
     what: "Threads that run whole scenarios",
-    most: MAX_SWEEPERS,
+    most: 64,
     default_text: DefaultText::Words("the processors"),
     ..COUNT
 };
@@ -278,7 +279,7 @@ pub const SWEEPERS: NumberOption<&str, u32> = NumberOption {
 pub const LOADERS: NumberOption<&str, u32> = NumberOption {
     name: "loaders",
     what: "Threads that load programs",
-    most: MAX_LOADERS,
+    most: 8,
     default: 2,
     ..COUNT
 };

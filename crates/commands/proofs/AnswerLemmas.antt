@@ -12,15 +12,17 @@ use Rattle.bpf_insn.specs.Images.{RefusesImage}
 use Rattle.bpf_asm.specs.Meaning.{Means}
 use Rattle.bpf_machine.specs.declared.word.Outcome.{Outcome}
 use Rattle.bpf_machine.specs.Run.{RunAnswers}
-use Rattle.commands.specs.declared.request.ExecOptions.{ExecOptions}
+use Rattle.requests.specs.declared.request.ExecOptions.{ExecOptions}
 use Rattle.commands.specs.declared.answer.Answer.{Answer}
 use Rattle.commands.specs.declared.rejection.Unread.{Unread}
 use Rattle.commands.specs.declared.rejection.Unread.TheVariants.{Shape, Image, Text}
-use Rattle.commands.specs.declared.request.ShapeOptions.{ShapeOptions}
+use Rattle.requests.specs.declared.request.ShapeOptions.{ShapeOptions}
 use Rattle.commands.specs.Answer.{Answers, AnswersLeaving, RunsRead, SameAnswer, SameUnread}
 use Rattle.commands.specs.Asm.{ReadsAsmText}
-use Rattle.commands.specs.Case.{Left, case_memory, case_setting}
-use Rattle.commands.specs.Image.{HasShape, ReadsImage, asked_extent}
+use Rattle.requests.specs.Case.{case_memory, case_setting}
+use Rattle.commands.specs.Left.{Left}
+use Rattle.commands.specs.Image.{ReadsImage}
+use Rattle.requests.specs.Shapes.{HasShape, asked_extent}
 use Rattle.commands.specs.Input.{IsProgramOfInput, IsUnread}
 
 -- what the laws of the crates below say

@@ -15,11 +15,12 @@ use Rattle.commands.specs.declared.fault.Fault.{Fault}
 use Rattle.commands.specs.declared.fault.Fault.TheVariants as faults
 use Rattle.commands.specs.declared.program.ProgramRead.{ProgramRead}
 use Rattle.commands.specs.declared.rejection.Unread.{Unread}
-use Rattle.commands.specs.declared.request.ExecOptions.{ExecOptions}
+use Rattle.requests.specs.declared.request.ExecOptions.{ExecOptions}
 use Rattle.commands.specs.Answer.{AnswersLeaving, answered_ending, answered_text}
-use Rattle.commands.specs.Case.{Left, case_memory, case_setting}
+use Rattle.requests.specs.Case.{case_memory, case_setting}
+use Rattle.commands.specs.Left.{Left}
 use Rattle.commands.specs.Exec.{LeavesAnswer, LeavesBy}
-use Rattle.commands.specs.Image.{HasShape, asked_extent}
+use Rattle.requests.specs.Shapes.{HasShape, asked_extent}
 use Rattle.commands.specs.Input.{IsProgramOfInput, IsUnread}
 use Rattle.commands.specs.Output.{Leaves}
 use Rattle.commands.specs.Rejections.{unread_line}

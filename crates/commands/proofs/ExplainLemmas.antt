@@ -4,12 +4,12 @@ use Rattle.std.specs.Prelude.{Result, IfOk, string_bytes}
 use Rattle.node_env.specs.Env.{Extent}
 use Rattle.bpf_insn.specs.declared.forms.Insn.{Insn}
 use Rattle.commands.specs.declared.explanation.Told.{Told}
-use Rattle.commands.specs.declared.request.ExplainOptions.{ExplainOptions}
+use Rattle.requests.specs.declared.request.ExplainOptions.{ExplainOptions}
 use Rattle.bpf_verify.specs.declared.findings.Findings.{Findings}
 use Rattle.bpf_verify.specs.Findings.{AreFindings}
 use Rattle.commands.specs.declared.ending.Ending.{Ending}
 use Rattle.commands.specs.declared.fault.Fault.{Fault}
-use Rattle.commands.specs.Image.{asked_extent}
+use Rattle.requests.specs.Shapes.{asked_extent}
 use Rattle.commands.specs.Verdict.{verdict_ending}
 use Rattle.commands.specs.Explained.{Explanation, explanation, explained_text, lines_if_text, verdict_in, ExplainsProgram}
 

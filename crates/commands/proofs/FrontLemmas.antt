@@ -14,14 +14,14 @@ use Rattle.commands.specs.declared.program.ProgramRead.{ProgramRead}
 use Rattle.commands.specs.declared.rejection.Uncompiled.{Uncompiled}
 use Rattle.commands.specs.declared.rejection.Unread.{Unread}
 use Rattle.commands.specs.declared.rejection.Unread.TheVariants as unreads
-use Rattle.commands.specs.declared.request.CompileOptions.{CompileOptions}
-use Rattle.commands.specs.declared.request.ExecOptions.{ExecOptions}
-use Rattle.commands.specs.declared.request.ExplainOptions.{ExplainOptions}
-use Rattle.commands.specs.declared.request.Request.{Request}
-use Rattle.commands.specs.declared.request.ShapeOptions.{ShapeOptions}
+use Rattle.requests.specs.declared.request.CompileOptions.{CompileOptions}
+use Rattle.requests.specs.declared.request.ExecOptions.{ExecOptions}
+use Rattle.requests.specs.declared.request.ExplainOptions.{ExplainOptions}
+use Rattle.requests.specs.declared.request.Request.{Request}
+use Rattle.requests.specs.declared.request.ShapeOptions.{ShapeOptions}
 use Rattle.commands.specs.declared.verdict.Verdict.{Verdict}
 use Rattle.commands.specs.Asm.{LeavesImage, ReadsAsmText, assembled, assembled_ending, program_text}
-use Rattle.commands.specs.Case.{Left}
+use Rattle.commands.specs.Left.{Left}
 use Rattle.commands.specs.Compile.{Compiles, LeavesCompiled, compiled_ending, compiled_text}
 use Rattle.commands.specs.Dis.{LeavesListing, dis_text, listing_ending, listing_text}
 use Rattle.commands.specs.Exec.{LeavesExec}

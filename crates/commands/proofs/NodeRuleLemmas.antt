@@ -5,15 +5,15 @@ use Rattle.std.proofs.lemmas.List.Elements.{All-contains}
 use Rattle.toml.specs.Data.{Data, string, Members, Items, item, no_items, array, table, get_member}
 use Rattle.std.specs.Prelude.{Bool, IsTrue, Ok, codes, false, true}
 use Rattle.bpf_insn.specs.declared.forms.Insn.{Insn}
-use Rattle.rule_listing.specs.Listing.{IsListingOf}
-use Rattle.rule_nodes.specs.declared.syntax.Sizes.{Sizes}
+use Rattle.commands.specs.RuleListing.{IsListingOf}
+use Rattle.rule_syntax.specs.declared.syntax.Sizes.{Sizes}
 use Rattle.commands.specs.Dis.{dis_text}
 use Rattle.node_env.specs.Env.{Extent}
 use Rattle.clock_nodes.specs.Listings.{clock_listing}
 use Rattle.rule_nodes.specs.Ends.{sizes_of}
-use Rattle.rule_text.specs.Programs.{IsProgramOfText, IsRefusalOfText}
-use Rattle.rule_text.specs.declared.program.RuleRefusal.{RuleRefusal}
-use Rattle.rule_text.proofs.ProgramLemmas.{no_program, one_program}
+use Rattle.rule_programs.specs.Programs.{IsProgramOfText, IsRefusalOfText}
+use Rattle.rule_programs.specs.declared.program.RuleRefusal.{RuleRefusal}
+use Rattle.rule_programs.proofs.ProgramLemmas.{no_program, one_program}
 use Rattle.scenario_text.specs.declared.scenario.ClockKey.{ClockKey}
 use Rattle.scenario_text.specs.declared.scenario.ClockKey.TheVariants as keys
 use Rattle.scenario_text.specs.declared.scenario.Frame.{Frame}

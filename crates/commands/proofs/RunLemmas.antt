@@ -10,7 +10,7 @@ use Rattle.scenario_text.specs.Texts.{IsDue, IsDueUnlessMemory, ReadsText}
 use Rattle.commands.specs.declared.ending.Ending.{Ending}
 use Rattle.commands.specs.declared.ending.Ending.TheVariants.{Violated, Done, Mismatched, Refused, Unfinished}
 use Rattle.commands.specs.declared.fault.Fault.{Fault}
-use Rattle.commands.specs.declared.request.ScenarioRequest.{ScenarioRequest}
+use Rattle.requests.specs.declared.request.ScenarioRequest.{ScenarioRequest}
 use Rattle.commands.specs.Output.{Leaves}
 use Rattle.commands.specs.Perform.{SaysAt}
 use Rattle.commands.specs.Scenarios.{LeavesFor, LeavesOf}

@@ -1,7 +1,7 @@
 -- What `stress` leaves, from what is written of one answer.
 use Rattle.std.proofs.Common.{ℕ, List, Option}
 use Rattle.std.specs.Prelude.{Result, Ok, Err}
-use Rattle.bench_stress.specs.declared.hands.StressOptions.{StressOptions}
+use Rattle.parameters.specs.declared.stress.StressOptions.{StressOptions}
 use Rattle.commands.specs.declared.ending.Ending.{Ending}
 use Rattle.commands.specs.declared.fault.Fault.{Fault}
 use Rattle.commands.specs.declared.fault.Fault.TheVariants as faults

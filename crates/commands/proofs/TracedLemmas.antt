@@ -12,7 +12,7 @@ use Rattle.commands.specs.declared.ending.Ending.TheVariants.{Done}
 use Rattle.commands.specs.declared.exec.Reply.{Reply}
 use Rattle.commands.specs.declared.fault.Fault.{Fault}
 use Rattle.commands.specs.declared.fault.Fault.TheVariants as faults
-use Rattle.commands.specs.declared.request.ExecOptions.{ExecOptions}
+use Rattle.requests.specs.declared.request.ExecOptions.{ExecOptions}
 use Rattle.commands.specs.Answer.{told_text}
 use Rattle.commands.specs.Exec.{LeavesSteps, Traces, case_steps, case_trace, traced_text}
 use Rattle.commands.specs.Output.{Leaves}

@@ -10,7 +10,7 @@ use Rattle.scenario_text.specs.declared.scenario.Scenario.{Scenario}
 use Rattle.bench_scenario.specs.declared.inputs.NodeInput.{NodeInput}
 use Rattle.bench_scenario.specs.Runs.{bench_of}
 use Rattle.bench_scenario.proofs.InputLemmas.{ran_so}
-use Rattle.commands.specs.declared.request.NodeInPulse.{NodeInPulse}
+use Rattle.requests.specs.declared.request.NodeInPulse.{NodeInPulse}
 use Rattle.commands.specs.declared.node_lines.RunEnd.{RunEnd}
 use Rattle.bench_scenario.specs.Inputs.{FitsInput, RunsIn, input_setting}
 use Rattle.commands.specs.NodeRule.{AreStepLines, IsRuleOf, sizes_for}

@@ -7,13 +7,13 @@ use Rattle.bpf_insn.specs.Images.{RefusesImage}
 use Rattle.bpf_verify.specs.Accepted.{IsFirstBroken}
 use Rattle.bpf_verify.specs.Paths.{IsLongestPath}
 use Rattle.bpf_verify.specs.Typable.{Typable}
-use Rattle.commands.specs.declared.request.ShapeOptions.{ShapeOptions}
+use Rattle.requests.specs.declared.request.ShapeOptions.{ShapeOptions}
 use Rattle.commands.specs.declared.verdict.Verdict.{Verdict}
 use Rattle.commands.specs.declared.verdict.Verdict.TheVariants.{Accepted, Refused}
 use Rattle.commands.specs.declared.program.ProgramRead.{ProgramRead}
 use Rattle.commands.specs.declared.rejection.Unread.{Unread}
 use Rattle.commands.specs.declared.rejection.Unread.TheVariants.{Shape, Image, Text}
-use Rattle.commands.specs.Image.{HasShape, asked_extent}
+use Rattle.requests.specs.Shapes.{HasShape, asked_extent}
 use Rattle.commands.specs.Input.{IsUnread}
 use Rattle.commands.specs.Verdict.{Judges, JudgesImage, JudgesProgram, SameJudgement, SameVerdict}
 use Rattle.commands.specs.inner.Input.{ReadsInput}

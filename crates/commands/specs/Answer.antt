@@ -6,14 +6,15 @@ use Rattle.bpf_machine.specs.declared.word.Outcome.{Outcome}
 use Rattle.bpf_machine.specs.declared.word.Outcome.TheVariants as outcomes
 use Rattle.bpf_machine.specs.Run.{RunAnswers}
 use Rattle.bpf_machine.specs.Traps.{trap_name, trap_number}
-use Rattle.commands.specs.declared.request.ExecOptions.{ExecOptions}
+use Rattle.requests.specs.declared.request.ExecOptions.{ExecOptions}
 use Rattle.commands.specs.declared.answer.Answer.{Answer}
 use Rattle.commands.specs.declared.ending.Ending.{Ending}
 use Rattle.commands.specs.declared.ending.Ending.TheVariants.{Done, Refused}
 use Rattle.commands.specs.declared.rejection.Unread.{Unread}
 use Rattle.commands.specs.declared.rejection.Unread.TheVariants.{Text}
-use Rattle.commands.specs.Case.{Left, case_memory, case_setting, left_lines}
-use Rattle.commands.specs.Image.{HasShape, asked_extent}
+use Rattle.requests.specs.Case.{case_memory, case_setting}
+use Rattle.commands.specs.Left.{Left, left_lines}
+use Rattle.requests.specs.Shapes.{HasShape, asked_extent}
 use Rattle.commands.specs.Input.{IsProgramOfInput, IsUnread}
 use Rattle.commands.specs.Rejections.{unread_line}
 

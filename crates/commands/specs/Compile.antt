@@ -5,16 +5,16 @@ use Rattle.bpf_insn.specs.declared.forms.Insn.{Insn}
 use Rattle.bpf_insn.specs.Programs.{image_of}
 use Rattle.clock_nodes.specs.Rule.{IsRule}
 use Rattle.rule_nodes.specs.Ends.{sizes_of}
-use Rattle.rule_nodes.specs.declared.syntax.Sizes as rules
-use Rattle.rule_listing.specs.Listing.{IsListingOf}
-use Rattle.rule_text.specs.Programs.{IsProgramOfText, IsRefusalOfText}
+use Rattle.rule_syntax.specs.declared.syntax.Sizes as rules
+use Rattle.commands.specs.RuleListing.{IsListingOf}
+use Rattle.rule_programs.specs.Programs.{IsProgramOfText, IsRefusalOfText}
 use Rattle.commands.specs.declared.rejection.Uncompiled.{Uncompiled}
 use Rattle.commands.specs.declared.rejection.Uncompiled.TheVariants.{Shape, Sizes, Rule}
 use Rattle.commands.specs.declared.ending.Ending.{Ending}
 use Rattle.commands.specs.declared.ending.Ending.TheVariants.{Done, Refused}
 use Rattle.commands.specs.declared.fault.Fault.{Fault}
-use Rattle.commands.specs.declared.request.CompileOptions.{CompileOptions}
-use Rattle.commands.specs.Image.{HasShape, asked_extent}
+use Rattle.requests.specs.declared.request.CompileOptions.{CompileOptions}
+use Rattle.requests.specs.Shapes.{HasShape, asked_extent}
 use Rattle.commands.specs.Output.{LeavesAny}
 use Rattle.commands.specs.Rejections.{uncompiled_line}
 

@@ -10,7 +10,7 @@ use Rattle.commands.specs.declared.ending.Ending.TheVariants.{Done, Refused}
 use Rattle.commands.specs.declared.fault.Fault.{Fault}
 use Rattle.commands.specs.declared.rejection.Unread.TheVariants.{Image}
 use Rattle.commands.specs.Image.{ReadsImage}
-use Rattle.commands.specs.declared.request.ClockOptions.{ClockOptions}
+use Rattle.requests.specs.declared.request.ClockOptions.{ClockOptions}
 use Rattle.commands.specs.Output.{Leaves, LeavesAny}
 use Rattle.commands.specs.Rejections.{unread_line}
 

@@ -7,7 +7,7 @@ use Rattle.bpf_machine.specs.Run.{RunAnswers}
 use Rattle.run_trace.specs.Lines.{trace_text}
 use Rattle.run_trace.specs.Steps.{TracedStep, steps_of}
 use Rattle.stream_io.specs.Parts.{Breaks}
-use Rattle.commands.specs.declared.request.ExecOptions.{ExecOptions}
+use Rattle.requests.specs.declared.request.ExecOptions.{ExecOptions}
 use Rattle.commands.specs.declared.answer.Answer.{Answer}
 use Rattle.commands.specs.declared.ending.Ending.{Ending}
 use Rattle.commands.specs.declared.ending.Ending.TheVariants.{Done, Refused}
@@ -15,8 +15,9 @@ use Rattle.commands.specs.declared.fault.Fault.{Fault}
 use Rattle.commands.specs.declared.fault.Fault.TheVariants as faults
 use Rattle.commands.specs.declared.rejection.Unread.{Unread}
 use Rattle.commands.specs.Answer.{AnswersLeaving, answered_ending, answered_text, told_text}
-use Rattle.commands.specs.Case.{Left, case_memory, case_setting}
-use Rattle.commands.specs.Image.{HasShape, asked_extent}
+use Rattle.requests.specs.Case.{case_memory, case_setting}
+use Rattle.commands.specs.Left.{Left}
+use Rattle.requests.specs.Shapes.{HasShape, asked_extent}
 use Rattle.commands.specs.Input.{IsProgramOfInput, IsUnread}
 use Rattle.commands.specs.Output.{Leaves, LeavesAny, LeavesNothing}
 use Rattle.commands.specs.Rejections.{unread_line}

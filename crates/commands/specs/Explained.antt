@@ -8,17 +8,17 @@ use Rattle.bpf_verify.specs.declared.findings.Findings.{Findings}
 use Rattle.bpf_verify.specs.declared.findings.Verdict.{Verdict as Found}
 use Rattle.bpf_verify.specs.declared.findings.Verdict.TheVariants as found
 use Rattle.bpf_verify.specs.Findings.{AreFindings}
-use Rattle.bpf_explain.specs.declared.detail.Detail.{Detail}
+use Rattle.parameters.specs.declared.detail.Detail.{Detail}
 use Rattle.bpf_explain.specs.Rows.{rows_text}
 use Rattle.bpf_explain.specs.Reasons.{reason_in}
-use Rattle.commands.specs.declared.request.ExplainOptions.{ExplainOptions}
+use Rattle.requests.specs.declared.request.ExplainOptions.{ExplainOptions}
 use Rattle.commands.specs.declared.verdict.Verdict.{Verdict}
 use Rattle.commands.specs.declared.verdict.Verdict.TheVariants.{Accepted, Refused}
 use Rattle.commands.specs.declared.rejection.Unread.{Unread}
 use Rattle.commands.specs.declared.ending.Ending.{Ending}
 use Rattle.commands.specs.declared.ending.Ending.TheVariants as endings
 use Rattle.commands.specs.declared.fault.Fault.{Fault}
-use Rattle.commands.specs.Image.{HasShape, asked_extent}
+use Rattle.requests.specs.Shapes.{HasShape, asked_extent}
 use Rattle.commands.specs.Input.{IsProgramOfInput, IsUnread}
 use Rattle.commands.specs.Output.{LeavesAny}
 use Rattle.commands.specs.Rejections.{unread_line}

@@ -8,9 +8,10 @@ use Rattle.commands.specs.declared.input.Input.{Input}
 use Rattle.commands.specs.declared.input.Input.TheVariants as inputs
 use Rattle.commands.specs.declared.rejection.Unread.{Unread}
 use Rattle.commands.specs.declared.rejection.Unread.TheVariants.{Shape, Image, Text}
-use Rattle.commands.specs.declared.request.ShapeOptions.{ShapeOptions}
+use Rattle.requests.specs.declared.request.ShapeOptions.{ShapeOptions}
 use Rattle.commands.specs.Asm.{ReadsAsmText}
-use Rattle.commands.specs.Image.{HasShape, ReadsImage}
+use Rattle.commands.specs.Image.{ReadsImage}
+use Rattle.requests.specs.Shapes.{HasShape}
 
 -- ---- what is read
 

@@ -1,6 +1,6 @@
 pub mod Answer
 pub mod Asm
-pub mod Case
+pub mod RuleListing
 pub mod Compile
 pub mod Dis
 pub mod Ending
@@ -10,6 +10,7 @@ pub mod Explore
 pub mod Faults
 pub mod Image
 pub mod Input
+pub mod Left
 pub mod Output
 pub mod Verdict
 pub mod Run

@@ -7,8 +7,8 @@ use Rattle.bench_workers.specs.Runs.{IsEventFault}
 use Rattle.scenario_text.specs.declared.scenario.Scenario.{Scenario}
 use Rattle.bench_scenario.specs.Events.{events_of}
 use Rattle.bench_scenario.specs.Runs.{bench_of}
-use Rattle.run_lines.specs.Spans.{PulseRange}
-use Rattle.run_lines.specs.declared.form.LinesForm.{LinesForm}
+use Rattle.parameters.specs.Pulses.{PulseRange}
+use Rattle.parameters.specs.declared.lines.LinesForm.{LinesForm}
 use Rattle.run_lines.specs.declared.fault.LinesFault.TheVariants as lines
 use Rattle.run_lines.specs.Telling.{LeavesFront, LeavesLines}
 use Rattle.stream_io.specs.declared.parts.PartFault.TheVariants as parts

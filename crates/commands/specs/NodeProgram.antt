@@ -5,7 +5,7 @@ use Rattle.bench_scenario.specs.declared.inputs.NodeInput.{NodeInput}
 use Rattle.bench_scenario.specs.Inputs.{RunsIn}
 use Rattle.commands.specs.declared.ending.Ending.{Ending}
 use Rattle.commands.specs.declared.fault.Fault.{Fault}
-use Rattle.commands.specs.declared.request.NodeProgramOptions.{NodeProgramOptions}
+use Rattle.requests.specs.declared.request.NodeProgramOptions.{NodeProgramOptions}
 use Rattle.commands.specs.NodeRule.{IsProgramText, IsRuleOf, sizes_for}
 use Rattle.commands.specs.NodeText.{IsNodeText, node_output, node_text_ending}
 use Rattle.commands.specs.Output.{LeavesAny}

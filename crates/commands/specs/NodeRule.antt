@@ -1,10 +1,10 @@
 -- The rule of a scenario that has a node's program, and the lines of both (docs/RULES.md, "Lines and instructions").
 use Rattle.std.specs.Prelude.{◌≡◌, ◌⊎◌, ℕ, List, Option, Some, None, Bool, true, false, Contains, MatchOption}
 use Rattle.bpf_insn.specs.declared.forms.Insn.{Insn}
-use Rattle.rule_nodes.specs.declared.syntax.Sizes.{Sizes}
-use Rattle.rule_text.specs.Programs.{IsProgramOfText}
-use Rattle.rule_text.specs.ProgramLines.{AreLinesOfText}
-use Rattle.rule_listing.specs.Listing.{IsListingOf}
+use Rattle.rule_syntax.specs.declared.syntax.Sizes.{Sizes}
+use Rattle.rule_programs.specs.Programs.{IsProgramOfText}
+use Rattle.rule_programs.specs.ProgramLines.{AreLinesOfText}
+use Rattle.commands.specs.RuleListing.{IsListingOf}
 use Rattle.run_trace.specs.Lines.{listed_text, trace_text}
 use Rattle.run_trace.specs.Steps.{TracedStep}
 use Rattle.scenario_text.specs.declared.scenario.Scenario.{Scenario}

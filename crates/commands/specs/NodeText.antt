@@ -9,7 +9,7 @@ use Rattle.commands.specs.declared.node_text.Absent.{Absent as Reason}
 use Rattle.commands.specs.declared.node_text.Absent.TheVariants as reasons
 use Rattle.commands.specs.declared.node_text.NodeText.{NodeText}
 use Rattle.commands.specs.declared.node_text.NodeText.TheVariants.{Absent, Lines}
-use Rattle.commands.specs.declared.request.NodeInPulse.{NodeInPulse}
+use Rattle.requests.specs.declared.request.NodeInPulse.{NodeInPulse}
 
 -- why there is nothing: the first of these that holds
 abbrev pub IsAbsent : NodeInPulse → Scenario → Reason → Type 0

@@ -3,8 +3,8 @@ use Rattle.std.specs.Prelude.{ℕ, List, ◌++◌, codes}
 use Rattle.std.specs.Fmt.{decimal}
 use Rattle.bpf_asm.specs.Errors.{text_error_text}
 use Rattle.bpf_insn.specs.Images.{image_error_text}
-use Rattle.rule_text.specs.Programs.{error_name}
-use Rattle.rule_text.specs.declared.program.RuleRefusal.TheVariants as rules
+use Rattle.rule_text.specs.Errors.{error_name}
+use Rattle.rule_programs.specs.declared.program.RuleRefusal.TheVariants as rules
 use Rattle.commands.specs.declared.rejection.Uncompiled.{Uncompiled}
 use Rattle.commands.specs.declared.rejection.Uncompiled.TheVariants as uncompiled
 use Rattle.commands.specs.declared.rejection.Unread.{Unread}

@@ -7,8 +7,8 @@ use Rattle.scenario_text.specs.Texts.{IsDue, ReadsText}
 use Rattle.commands.specs.declared.ending.Ending.{Ending}
 use Rattle.commands.specs.declared.ending.Ending.TheVariants.{Refused}
 use Rattle.commands.specs.declared.fault.Fault.{Fault}
-use Rattle.commands.specs.declared.request.ScenarioRequest.{ScenarioRequest}
-use Rattle.commands.specs.declared.request.ScenarioRequest.TheVariants.{Run, Lines, TracedRun, NodeProgram, Sweep, Explore}
+use Rattle.requests.specs.declared.request.ScenarioRequest.{ScenarioRequest}
+use Rattle.requests.specs.declared.request.ScenarioRequest.TheVariants.{Run, Lines, TracedRun, NodeProgram, Sweep, Explore}
 use Rattle.commands.specs.Explore.{LeavesExplored}
 use Rattle.commands.specs.Lines.{LeavesLined}
 use Rattle.commands.specs.NodeProgram.{LeavesNodeProgram}

@@ -3,7 +3,7 @@ use Rattle.std.specs.Prelude.{ℕ, List, All, length, ◌++◌, codes, count_by,
 use Rattle.std.specs.Fmt.{decimal}
 use Rattle.bench_core.specs.Replay.{Entry, StagesAccepted}
 use Rattle.bench_shared.specs.Ends.{HasReplay, is_load, is_close}
-use Rattle.bench_stress.specs.declared.hands.StressOptions.{StressOptions}
+use Rattle.parameters.specs.declared.stress.StressOptions.{StressOptions}
 use Rattle.bench_stress.specs.Stressed.{HasEntries, nearest, stressed_setup}
 use Rattle.commands.specs.declared.ending.Ending.{Ending}
 use Rattle.commands.specs.declared.ending.Ending.TheVariants as endings

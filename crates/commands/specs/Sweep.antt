@@ -1,6 +1,6 @@
 -- What `sweep` leaves on its output (docs/COMMANDS.md, "What sweep prints").
 use Rattle.std.specs.Prelude.{◌≡◌, ◌⊎◌, false, ℕ, List, codes, Option, Result, Ok, Err}
-use Rattle.key_sweep.specs.Keys.{KeyRange}
+use Rattle.parameters.specs.Keys.{KeyRange}
 use Rattle.key_sweep.specs.Sweeps.{LeavesSweep, uses_key}
 use Rattle.key_sweep.specs.declared.sweeping.SweepFault.TheVariants as sweeps
 use Rattle.scenario_text.specs.declared.scenario.Scenario.{Scenario}

@@ -14,8 +14,8 @@ use Rattle.bench_scenario.specs.Runs.{bench_of}
 use Rattle.run_trace.specs.Steps.{TracedStep, steps_of}
 use Rattle.commands.specs.declared.ending.Ending.{Ending}
 use Rattle.commands.specs.declared.fault.Fault.{Fault}
-use Rattle.commands.specs.declared.request.NodeInPulse.{NodeInPulse}
-use Rattle.commands.specs.Case.{left_lines, mail_text, memory_line}
+use Rattle.requests.specs.declared.request.NodeInPulse.{NodeInPulse}
+use Rattle.commands.specs.Left.{left_lines, mail_text, memory_line}
 use Rattle.commands.specs.NodeRule.{AreStepLines, IsRuleOf, sizes_for}
 use Rattle.commands.specs.NodeText.{IsNodeText, node_output, node_text_ending}
 use Rattle.commands.specs.Output.{LeavesAny}

@@ -1,9 +1,8 @@
 //! `compile`: the image of a rule, or its listing.
 ghost use Rattle.std.specs.Prelude.{◌≡◌, IfOk, IfErr, IsTrue};
-ghost use Rattle.rule_text.specs.Programs.{IsProgramOfText};
 ghost use Rattle.commands.specs.Compile.{Compiles, LeavesCompiled, asked_sizes};
 ghost use Rattle.commands.specs.Faults.{IsBeforeWriting};
-ghost use Rattle.commands.specs.Image.{asked_extent};
+ghost use Rattle.requests.specs.Shapes.{asked_extent};
 ghost use Rattle.commands.specs.Perform.{SaysAt};
 
 use crate::ending::Ending;
@@ -11,12 +10,12 @@ use crate::fault::Fault;
 use crate::output::write_whole;
 use crate::program::refuse_too_long;
 use crate::rejection::{Rejection, Uncompiled, reject};
-use crate::request::CompileOptions;
-use bpf_insn::{Program, encode};
+use bpf_insn::encode;
 use clock_nodes::ClockRule;
 use node_env::Shape;
+use requests::CompileOptions;
 use rule_listing::list_rule;
-use rule_text::program_of_text;
+use rule_programs::{ProgramWithLines, program_of_text, program_with_lines};
 use std::alloc::Global;
 use std::io::Write;
 
@@ -59,49 +58,33 @@ pub(crate) fn compile(
     if ClockRule::of(options.shape.nodes, options.faults, options.modulus).is_none() {
         return Ok(Err(Uncompiled::Sizes));
     }
+    if options.list {
+        return listed(alloc, options, shape, text);
+    }
     match program_of_text(alloc, text, shape, options.faults, options.modulus) {
-        Ok(Ok(program)) => shown(alloc, options, shape, text, &program),
+        Ok(Ok(program)) => Ok(Ok(encode(alloc, &program).map_err(|_| Fault::Memory)?)),
         Ok(Err(refusal)) => Ok(Err(Uncompiled::Rule(refusal))),
         Err(_) => Err(Fault::Memory),
     }
 }
 
-/// Returns the image of a rule's program, or its listing.
-fn shown(
-    alloc: Global,
-    options: CompileOptions,
-    shape: Shape,
-    text: &[u8],
-    program: &Program,
-) -> Result<Result<Vec<u8>, Uncompiled>, Fault>
-    requires shape { shape ≡ asked_extent options.shape }
-    requires program { IsProgramOfText (asked_sizes options) text.now program.now }
-    ensures compiled { IfOk result (Compiles options text.now) }
-    ensures fault { IfErr result IsBeforeWriting }
-{
-    if options.list {
-        return listed(alloc, options, shape, text, program);
-    }
-    let image = encode(alloc, program).map_err(|_| Fault::Memory)?;
-    Ok(Ok(image))
-}
-
-/// Returns the listing of a rule's program.
+/// Returns the listing of the program of the rule that a text is, or why there is no program.
 fn listed(
     alloc: Global,
     options: CompileOptions,
     shape: Shape,
     text: &[u8],
-    program: &Program,
 ) -> Result<Result<Vec<u8>, Uncompiled>, Fault>
     requires list { IsTrue options.list }
     requires shape { shape ≡ asked_extent options.shape }
-    requires program { IsProgramOfText (asked_sizes options) text.now program.now }
     ensures compiled { IfOk result (Compiles options text.now) }
     ensures fault { IfErr result IsBeforeWriting }
 {
-    match list_rule(alloc, text, program, shape, options.faults, options.modulus) {
-        Ok(Ok(listing)) => Ok(Ok(listing)),
+    match program_with_lines(alloc, text, shape, options.faults, options.modulus) {
+        Ok(Ok(ProgramWithLines { program, lines })) => {
+            let listing = list_rule(alloc, text, &lines, &program).map_err(|_| Fault::Memory)?;
+            Ok(Ok(listing))
+        }
         Ok(Err(refusal)) => Ok(Err(Uncompiled::Rule(refusal))),
         Err(_) => Err(Fault::Memory),
     }

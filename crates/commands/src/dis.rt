@@ -11,11 +11,11 @@ use crate::fault::Fault;
 use crate::output::write_whole;
 use crate::program::program_in;
 use crate::rejection::{Rejection, Unread, reject};
-use crate::request::ClockOptions;
 use bpf_asm::{disassemble, list_program};
 use bpf_insn::Program;
 use clock_nodes::{ClockRule, dolev_welch};
 use node_env::{MEMORY_UNIT, Shape};
+use requests::ClockOptions;
 use std::alloc::{AllocError, Global};
 use std::io::Write;
 

@@ -3,7 +3,7 @@ ghost use Rattle.std.specs.Prelude.{◌≡◌, ◌++◌, IfErr, IfOk, OnOk, stri
 ghost use Rattle.commands.specs.declared.ending.Ending.TheVariants.{Done};
 ghost use Rattle.commands.specs.Answer.{shown_lines, told_text};
 ghost use Rattle.commands.specs.Exec.{LeavesExec};
-ghost use Rattle.commands.specs.Image.{asked_extent};
+ghost use Rattle.requests.specs.Shapes.{asked_extent};
 ghost use Rattle.commands.specs.Output.{Leaves};
 ghost use Rattle.commands.specs.Perform.{SaysAt};
 ghost use Rattle.commands.specs.inner.Exec.{LeavesRunOf, RunsCase, answer_in, left_in};
@@ -15,11 +15,11 @@ use crate::left::{LeftByRun, add_left};
 use crate::output::write_whole;
 use crate::program::{ProgramRead, program_read};
 use crate::rejection::{Rejection, reject};
-use crate::request::ExecOptions;
 use crate::traced::trace_program;
 use bpf_insn::Program;
 use bpf_machine::{Outcome, run_checked};
 use node_env::{Outbox, Shape};
+use requests::ExecOptions;
 use std::alloc::{AllocError, Global};
 use std::io::Write;
 

@@ -3,7 +3,7 @@ ghost use Rattle.std.specs.Prelude.{◌≡◌, ℕ, List, IfOk, IfErr, string_by
 ghost use Rattle.bpf_verify.specs.Findings.{AreFindings};
 ghost use Rattle.commands.specs.Explained as told_specs;
 ghost use Rattle.commands.specs.Faults.{IsBeforeWriting};
-ghost use Rattle.commands.specs.Image.{asked_extent};
+ghost use Rattle.requests.specs.Shapes.{asked_extent};
 ghost use Rattle.commands.specs.Output.{LeavesAny};
 ghost use Rattle.commands.specs.Perform.{SaysAt};
 
@@ -12,13 +12,13 @@ use crate::fault::Fault;
 use crate::output::write_whole;
 use crate::program::{ProgramRead, program_read};
 use crate::rejection::{Rejection, reject};
-use crate::request::ExplainOptions;
 use crate::verdict::Verdict;
 use bpf_asm::instruction_lines;
-use bpf_explain::{Detail, reason, rows};
+use bpf_explain::{reason, rows};
 use bpf_insn::Program;
 use bpf_verify::{Findings, explain};
 use node_env::Shape;
+use requests::{Detail, ExplainOptions};
 use std::alloc::{AllocError, Global};
 use std::io::Write;
 

@@ -6,10 +6,10 @@ ghost use Rattle.commands.specs.Faults.{IsBeforeWriting};
 ghost use Rattle.commands.specs.Input.{IsShapedInput, Takes, max_bytes, program_input};
 
 use crate::fault::Fault;
-use crate::request::ShapeOptions;
 use bench_scenario::{MAX_BYTES, MAX_CALLS};
 use bpf_insn::MAX_SLOTS;
 use node_env::Shape;
+use requests::ShapeOptions;
 use std::alloc::Global;
 use std::io::Read;
 use stream_io::{ReadFault, read_at_most};

@@ -4,11 +4,11 @@ ghost use Rattle.bpf_insn.specs.declared.forms.Insn.{Insn};
 ghost use Rattle.bpf_insn.specs.declared.image.ImageError.{ImageError};
 ghost use Rattle.commands.specs.declared.answer.Answer.{Answer};
 ghost use Rattle.commands.specs.declared.rejection.Unread.{Unread};
-ghost use Rattle.commands.specs.declared.request.ExecOptions.{ExecOptions};
-ghost use Rattle.commands.specs.declared.request.ShapeOptions.{ShapeOptions};
+ghost use Rattle.requests.specs.declared.request.ExecOptions.{ExecOptions};
+ghost use Rattle.requests.specs.declared.request.ShapeOptions.{ShapeOptions};
 ghost use Rattle.commands.specs.declared.verdict.Verdict.{Verdict};
 ghost use Rattle.commands.specs.Answer.{Answers, AnswersLeaving, SameAnswer};
-ghost use Rattle.commands.specs.Case.{Left};
+ghost use Rattle.commands.specs.Left.{Left};
 ghost use Rattle.commands.specs.Image.{ReadsImage};
 ghost use Rattle.commands.specs.Verdict.{Judges, SameJudgement};
 

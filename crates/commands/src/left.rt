@@ -1,6 +1,6 @@
 //! What a run leaves, and the lines that show it.
 ghost use Rattle.std.specs.Prelude.{◌≡◌, ◌++◌, IfOk, OnOk, codes, flat_map, string_bytes};
-ghost use Rattle.commands.specs.Case.{left_lines, mail_text, mail_slot_text, slots_below};
+ghost use Rattle.commands.specs.Left.{left_lines, mail_text, mail_slot_text, slots_below};
 ghost use Rattle.commands.specs.inner.Exec.{left_in};
 
 use node_env::Outbox;

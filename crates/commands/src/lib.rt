@@ -3,7 +3,6 @@
 
 mod answer;
 mod asm;
-mod case;
 mod compile;
 mod dis;
 mod ending;
@@ -24,7 +23,6 @@ mod output;
 pub mod perform;
 mod program;
 mod rejection;
-pub mod request;
 mod run;
 mod scenario;
 mod stress;

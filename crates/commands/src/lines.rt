@@ -6,10 +6,10 @@ ghost use Rattle.commands.specs.inner.Lines.{IsPast};
 
 use crate::ending::Ending;
 use crate::fault::Fault;
-use crate::request::LinesOptions;
 use crate::run::{ending_of, fault_of};
 use bench_workers::MAX_WORKERS;
-use run_lines::{LinesFault, PulseSpan, tell_lines};
+use requests::{LinesOptions, PulseSpan};
+use run_lines::{LinesFault, tell_lines};
 use scenario_text::Scenario;
 use std::alloc::Global;
 use std::io::Write;

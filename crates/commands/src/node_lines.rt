@@ -12,12 +12,12 @@ ghost use Rattle.commands.specs.inner.TracedRun.{end_in};
 
 use crate::left::{LeftByRun, add_left, add_mail};
 use crate::node_rule::{rule_lines, rule_of};
-use crate::request::NodeInPulse;
 use bench_scenario::NodeInput;
 use bpf_insn::Program;
 use bpf_run::run;
 use bpf_verify::VerifiedProgram;
 use node_env::{Env, Outbox};
+use requests::NodeInPulse;
 use run_trace::{RuleCode, listed_trace, trace};
 use scenario_text::Scenario;
 use std::alloc::{AllocError, Global};

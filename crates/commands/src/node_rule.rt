@@ -1,7 +1,7 @@
 //! The rule of a scenario that has a node's program.
 ghost use Rattle.std.specs.Prelude.{◌≡◌, ◌↔◌, IfOk, IsTrue, List, MatchOption, option_map, ℕ};
-ghost use Rattle.rule_listing.specs.Listing.{IsListingOf};
-ghost use Rattle.rule_text.specs.ProgramLines.{AreLinesOfText};
+ghost use Rattle.commands.specs.RuleListing.{IsListingOf};
+ghost use Rattle.rule_programs.specs.ProgramLines.{AreLinesOfText};
 ghost use Rattle.clock_nodes.specs.Listings.{clock_listing};
 ghost use Rattle.scenario_text.specs.Spelling.{clock_insns, clock_rule_of};
 ghost use Rattle.scenario_text.specs.Texts.{ReadsText};
@@ -13,7 +13,7 @@ use bpf_insn::Program;
 use clock_nodes::dolev_welch;
 use node_env::Shape;
 use rule_listing::list_rule;
-use rule_text::instruction_lines;
+use rule_programs::program_with_lines;
 use scenario_text::{Kind, Load, ProgramText, Scenario};
 use std::alloc::{AllocError, Global};
 
@@ -138,9 +138,9 @@ pub(crate) fn rule_lines(
     requires rule { IsRuleWith scenario.now program.now text.now }
     ensures { IfOk result (λ lines. AreLinesOfText (sizes_for scenario.now) text.now lines.items) }
 {
-    let lines = instruction_lines(alloc, text, shape, scenario.faults, scenario.modulus)?;
-    match lines {
-        Ok(lines) => Ok(lines),
+    let found = program_with_lines(alloc, text, shape, scenario.faults, scenario.modulus)?;
+    match found {
+        Ok(listed) => Ok(listed.lines),
         Err(_refusal) => unreachable!(),
     }
 }
@@ -157,16 +157,6 @@ pub(crate) fn rule_listed(
     requires rule { IsRuleWith scenario.now program.now text.now }
     ensures { IfOk result (λ listing. IsListingOf (sizes_for scenario.now) text.now program.now listing.items) }
 {
-    let listed = list_rule(
-        alloc,
-        text,
-        program,
-        shape,
-        scenario.faults,
-        scenario.modulus,
-    )?;
-    match listed {
-        Ok(listing) => Ok(listing),
-        Err(_refusal) => unreachable!(),
-    }
+    let lines = rule_lines(alloc, scenario, shape, program, text)?;
+    list_rule(alloc, text, &lines, program)
 }

@@ -6,11 +6,14 @@ ghost use Rattle.scenario_text.specs.Texts.{IsParsed};
 
 use crate::ending::Ending;
 use crate::rejection::{Rejection, Uncompiled, Unread};
-use crate::request::{NodeInPulse, ScenarioRequest};
 use crate::trace_note::note_on_trace;
+use exploration::Unfit;
+use explored::{ExploreOptions, Starts};
+use requests::{NodeInPulse, ScenarioRequest};
 use rule_notes::note_on_rule;
-use rule_text::{RuleRefusal, read_rule};
-use scenario_explorer::{ExploreOptions, Starts, Unfit, uncovered_of, unfit_of};
+use rule_programs::RuleRefusal;
+use rule_text::read_rule;
+use scenario_explorer::{uncovered_of, unfit_of};
 use scenario_notes::note_on;
 use scenario_text::{Rejected, Scenario};
 use std::alloc::Global;

@@ -1,20 +1,21 @@
 //! The program of an image, or of a text of the assembler.
 ghost use Rattle.std.specs.Prelude.{◌≡◌, ◌≤◌, IfOk, IfErr, OnOk, length, false, true};
 ghost use Rattle.commands.specs.declared.input.TheConstants.{TEXT_BYTES};
-ghost use Rattle.commands.specs.declared.request.ShapeOptions.{ShapeOptions};
+ghost use Rattle.requests.specs.declared.request.ShapeOptions.{ShapeOptions};
 ghost use Rattle.commands.specs.Asm.{ReadsAsmText};
 ghost use Rattle.commands.specs.Faults.{IsBeforeWriting};
-ghost use Rattle.commands.specs.Image.{HasShape, ReadsImage};
+ghost use Rattle.commands.specs.Image.{ReadsImage};
+ghost use Rattle.requests.specs.Shapes.{HasShape};
 ghost use Rattle.commands.specs.Input.{IsProgramOfInput, IsUnread};
 ghost use Rattle.commands.specs.inner.Input.{ReadsInput};
 
 use crate::fault::Fault;
 use crate::input::TEXT_BYTES;
 use crate::rejection::Unread;
-use crate::request::ShapeOptions;
 use bpf_asm::{TextError, assemble};
 use bpf_insn::{ImageError, Program, decode};
 use node_env::Shape;
+use requests::ShapeOptions;
 use std::alloc::Global;
 
 /// A program with the shape of the options.

@@ -12,7 +12,7 @@ use crate::note::tell_rejection_note;
 use crate::output::write_text;
 use bpf_asm::TextError;
 use bpf_insn::ImageError;
-use rule_text::RuleRefusal;
+use rule_programs::RuleRefusal;
 use scenario_text::{RefusalLine, Rejected};
 use std::alloc::Global;
 use std::fmt;

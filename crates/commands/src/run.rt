@@ -7,9 +7,9 @@ ghost use Rattle.commands.specs.Run.{LeavesReported, report_ending};
 
 use crate::ending::Ending;
 use crate::fault::Fault;
-use crate::request::RunOptions;
 use bench_scenario::{ReportFault, write_report};
 use bench_workers::{MAX_WORKERS, RunRefusal};
+use requests::RunOptions;
 use scenario_text::Scenario;
 use std::alloc::Global;
 use std::io::Write;

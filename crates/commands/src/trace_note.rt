@@ -2,7 +2,7 @@
 ghost use Rattle.std.specs.Prelude.{IfOk, IfSome, string_bytes};
 ghost use Rattle.rule_notes.specs.Words.{IsNote};
 
-use crate::request::NodeInPulse;
+use requests::NodeInPulse;
 use scenario_text::{Load, Scenario};
 use std::alloc::{AllocError, Global};
 

@@ -1,8 +1,8 @@
 //! `exec --trace`: the steps of the run, and then what it comes to.
 ghost use Rattle.std.specs.Prelude.{◌≡◌, IfErr, IfOk, Err, length};
-ghost use Rattle.commands.specs.Case.{case_memory, case_setting};
+ghost use Rattle.requests.specs.Case.{case_memory, case_setting};
 ghost use Rattle.commands.specs.Exec.{LeavesSteps, case_trace};
-ghost use Rattle.commands.specs.Image.{asked_extent};
+ghost use Rattle.requests.specs.Shapes.{asked_extent};
 ghost use Rattle.commands.specs.inner.Exec.{RunsCase};
 ghost use Rattle.stream_io.specs.Parts.{Wrote};
 
@@ -10,9 +10,9 @@ use crate::ending::Ending;
 use crate::exec::{Reply, write_reply};
 use crate::fault::Fault;
 use crate::left::LeftByRun;
-use crate::request::ExecOptions;
 use bpf_insn::Program;
 use node_env::{Env, Outbox, Shape};
+use requests::ExecOptions;
 use run_trace::trace;
 use std::alloc::{AllocError, Global};
 use std::io::Write;

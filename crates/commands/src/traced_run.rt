@@ -9,7 +9,7 @@ use crate::ending::Ending;
 use crate::fault::Fault;
 use crate::node_lines::lines_of;
 use crate::node_text::{NodeText, input_at, write_node_text};
-use crate::request::NodeInPulse;
+use requests::NodeInPulse;
 use scenario_text::Scenario;
 use std::alloc::Global;
 use std::io::Write;

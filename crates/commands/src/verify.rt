@@ -10,11 +10,11 @@ use crate::fault::Fault;
 use crate::output::write_whole;
 use crate::program::{ProgramRead, program_read};
 use crate::rejection::{Rejection, reject};
-use crate::request::ShapeOptions;
 use crate::verdict::Verdict;
 use bpf_insn::Program;
 use bpf_verify::{VerifyError, check};
 use node_env::Shape;
+use requests::ShapeOptions;
 use std::alloc::Global;
 use std::io::Write;
 

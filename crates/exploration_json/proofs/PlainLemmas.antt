@@ -6,22 +6,22 @@ use Rattle.hex.specs.Hex.{encode_lower}
 use Rattle.serde_json.specs.Data.{string}
 use Rattle.json_values.specs.Values.{Member, list_data, number_data, option_data}
 use Rattle.json_values.proofs.PlainLemmas.{IsPlain, plain_boolean, plain_list, plain_number, plain_null, plain_object, plain_option, plain_string}
-use Rattle.bench_space.specs.declared.odds.Odds.{Odds}
-use Rattle.bench_space.specs.declared.mean.TheConstants.{MEAN_UNIT}
-use Rattle.bench_space.specs.declared.odds.TheConstants.{ODDS_WHOLE}
-use Rattle.scenario_explorer.specs.declared.finding.Found.{Found}
-use Rattle.scenario_explorer.specs.declared.finding.Reach.{Reach}
-use Rattle.scenario_explorer.specs.declared.finding.Tried.{Tried}
-use Rattle.scenario_explorer.specs.declared.options.AnyStart.{AnyStart}
-use Rattle.scenario_explorer.specs.declared.options.ByteSpan.{ByteSpan}
-use Rattle.scenario_explorer.specs.declared.options.Cells.{Cells}
-use Rattle.scenario_explorer.specs.declared.options.ExploreOptions.{ExploreOptions}
-use Rattle.scenario_explorer.specs.declared.options.MailSpan.{MailSpan}
-use Rattle.scenario_explorer.specs.declared.options.Memories.{Memories}
-use Rattle.scenario_explorer.specs.declared.options.Memories.TheVariants as memories
-use Rattle.scenario_explorer.specs.declared.options.Starts.{Starts}
-use Rattle.scenario_explorer.specs.declared.options.Starts.TheVariants as starts
-use Rattle.exploration_json.specs.Data.{agreed_of, agreement_word, answer_members, any_data, byte_span_data, cells_data, exploration_data, exploration_members, image_data, limit_of, mean_data, mean_of, memories_member, node_members, odds_data, odds_of, odds_parts, pulses_of, question_members, question_word, reach_data, reach_of, scenario_of, search_members, span_data, spans_data, stabilisation_of, stabilisation_word, start_data, states_of, transitions_of, violated_in, word_data}
+use Rattle.explored.specs.declared.found.Odds.{Odds}
+use Rattle.explored.specs.declared.found.TheConstants.{MEAN_UNIT}
+use Rattle.explored.specs.declared.found.TheConstants.{ODDS_WHOLE}
+use Rattle.exploration.specs.declared.answer.Found.{Found}
+use Rattle.exploration.specs.declared.answer.Reach.{Reach}
+use Rattle.exploration.specs.declared.answer.Tried.{Tried}
+use Rattle.explored.specs.declared.options.AnyStart.{AnyStart}
+use Rattle.explored.specs.declared.options.ByteSpan.{ByteSpan}
+use Rattle.explored.specs.declared.options.Cells.{Cells}
+use Rattle.explored.specs.declared.options.ExploreOptions.{ExploreOptions}
+use Rattle.explored.specs.declared.options.MailSpan.{MailSpan}
+use Rattle.explored.specs.declared.options.Memories.{Memories}
+use Rattle.explored.specs.declared.options.Memories.TheVariants as memories
+use Rattle.explored.specs.declared.options.Starts.{Starts}
+use Rattle.explored.specs.declared.options.Starts.TheVariants as starts
+use Rattle.exploration_json.specs.Data.{agreed_of, agreement_word, answer_members, any_data, byte_span_data, cells_data, exploration_data, exploration_members, image_data, limit_of, method_of, mean_data, mean_of, memories_member, node_members, odds_data, odds_of, odds_parts, pulses_of, question_members, question_word, reach_data, reach_of, scenario_of, search_members, span_data, spans_data, stabilisation_of, stabilisation_word, start_data, states_of, transitions_of, violated_in, word_data}
 
 abbrev AllPlain : ℕ → List Member → Type 0
 AllPlain levels ms = AllByRecursion (λ m. IsPlain levels m.1) ms
@@ -100,8 +100,8 @@ plain_question asked tried = (
 
 plain_search : (found : Found) → AllPlain 5 (search_members found)
 plain_search found = (
-  plain_number 5 (states_of found),
-  (plain_count 5 (transitions_of found), (plain_word 5 (limit_of found), tt)),
+  plain_string 5 (method_of found),
+  (plain_number 5 (states_of found), (plain_count 5 (transitions_of found), (plain_word 5 (limit_of found), tt))),
 )
 
 plain_mean : (parts : ℕ) → IsPlain 4 (mean_data parts)

@@ -1,8 +1,8 @@
 //! What was found by exploring, as one line of JSON: docs/EXPLORE.md, "JSON".
 #![tactic(auto)]
 
-mod exploration;
+mod line;
 mod spans;
 mod words;
 
-pub use exploration::exploration_line;
+pub use line::exploration_line;

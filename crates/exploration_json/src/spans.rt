@@ -4,8 +4,8 @@ ghost use Rattle.serde_json.specs.View.{members_view, view};
 ghost use Rattle.json_values.specs.Values.{list_data, option_data, with_members};
 ghost use Rattle.exploration_json.specs.Data.{any_data, byte_span_data, cells_data, image_data, memories_member, span_data, spans_data, start_data};
 
+use explored::{AnyStart, ByteSpan, Cells, MailSpan, Memories, Starts};
 use json_values::numbers;
-use scenario_explorer::{AnyStart, ByteSpan, Cells, MailSpan, Memories, Starts};
 use serde_json::{Map, Value, put};
 use std::alloc::{AllocError, Global};
 

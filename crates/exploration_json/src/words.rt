@@ -1,9 +1,9 @@
 //! Words and numbers of what was found.
 ghost use Rattle.std.specs.Prelude.{◌≡◌, Option, map, option_map};
-ghost use Rattle.exploration_json.specs.Data.{agreed_of, agreement_word, limit_of, limit_word, pulses_of, question_word, scenario_of, stabilisation_of, stabilisation_word, states_of, transitions_of, violated_in, within};
+ghost use Rattle.exploration_json.specs.Data.{agreed_of, agreement_word, limit_of, limit_word, method_of, pulses_of, question_word, scenario_of, stabilisation_of, stabilisation_word, states_of, transitions_of, violated_in, within};
 
-use bench_space::{Cause, Question, Recovery};
-use scenario_explorer::Found;
+use exploration::Found;
+use explored::{Cause, Question, Recovery};
 
 /// Returns the word for a question.
 pub(crate) fn question_word(question: Question) -> &'static str
@@ -21,9 +21,9 @@ pub(crate) fn agreement_word(found: &Found) -> Option<&'static str>
     ensures { option_map (λ word. word.now) result ≡ agreement_word found.now }
 {
     match found {
-        Found::Closed { agrees: true, .. } => Some("holds"),
+        Found::Closed { agrees: true, .. } | Found::Theorem { agrees: true, .. } => Some("holds"),
         Found::Parts { .. } => Some("violated"),
-        Found::Closed { .. } | Found::Unfinished { .. } => None,
+        Found::Closed { .. } | Found::Theorem { .. } | Found::Unfinished { .. } => None,
     }
 }
 
@@ -34,8 +34,19 @@ pub(crate) fn stabilisation_word(recovery: &Recovery) -> &'static str
     match recovery {
         Recovery::InStep { .. } => "certain",
         Recovery::Luck { .. } => "possible",
-        Recovery::HeldOff { .. } => "preventable",
+        Recovery::HeldOff => "preventable",
+        Recovery::Unbounded => "unbounded",
         Recovery::Unknown { .. } => "undecided",
+    }
+}
+
+/// Returns the word for what answers: a search, or the theorem on the built-in clock.
+pub(crate) fn method_of(found: &Found) -> &'static str
+    ensures { result.now ≡ method_of found.now }
+{
+    match found {
+        Found::Closed { .. } | Found::Parts { .. } | Found::Unfinished { .. } => "search",
+        Found::Theorem { .. } => "theorem",
     }
 }
 
@@ -58,7 +69,7 @@ pub(crate) fn limit_of(found: &Found) -> Option<&'static str>
     ensures { option_map (λ word. word.now) result ≡ limit_of found.now }
 {
     match found {
-        Found::Closed { .. } | Found::Parts { .. } => None,
+        Found::Closed { .. } | Found::Parts { .. } | Found::Theorem { .. } => None,
         Found::Unfinished { cause, .. } => Some(limit_word(*cause)),
     }
 }
@@ -71,6 +82,7 @@ pub(crate) fn states_of(found: &Found) -> u64
         Found::Closed { states, .. }
         | Found::Parts { states, .. }
         | Found::Unfinished { states, .. } => *states,
+        Found::Theorem { .. } => 0,
     }
 }
 
@@ -80,7 +92,7 @@ pub(crate) fn transitions_of(found: &Found) -> Option<u64>
 {
     match found {
         Found::Closed { moves, .. } => Some(*moves),
-        Found::Parts { .. } | Found::Unfinished { .. } => None,
+        Found::Parts { .. } | Found::Theorem { .. } | Found::Unfinished { .. } => None,
     }
 }
 
@@ -90,7 +102,7 @@ pub(crate) fn violated_in(found: &Found) -> Option<u64>
 {
     match found {
         Found::Parts { pulse, .. } => Some(*pulse),
-        Found::Closed { .. } | Found::Unfinished { .. } => None,
+        Found::Closed { .. } | Found::Theorem { .. } | Found::Unfinished { .. } => None,
     }
 }
 
@@ -100,7 +112,7 @@ pub(crate) fn agreed_of(found: &Found) -> Option<u64>
 {
     match found {
         Found::Closed { agreed, .. } => *agreed,
-        Found::Parts { .. } | Found::Unfinished { .. } => None,
+        Found::Parts { .. } | Found::Theorem { .. } | Found::Unfinished { .. } => None,
     }
 }
 
@@ -110,6 +122,6 @@ pub(crate) fn within(recovery: &Recovery) -> Option<u64>
 {
     match recovery {
         Recovery::InStep { pulses } | Recovery::Luck { pulses } => Some(*pulses),
-        Recovery::HeldOff { .. } | Recovery::Unknown { .. } => None,
+        Recovery::HeldOff | Recovery::Unbounded | Recovery::Unknown { .. } => None,
     }
 }

@@ -1,9 +1,14 @@
-//! Prints the report of the scenario on standard input. It is a part of `clockbed run` that builds in a third of the
-//! time, so that the launcher can answer before the whole program is built.
+//! Prints the report of the scenario in the file that is named, or on standard input. It is a part of `clockbed run` that
+//! builds in a third of the time, so that the launcher can answer before the whole program is built.
 #![tactic(auto)]
 
 use bench_scenario::{ScenarioFault, run_scenario};
+use std::env;
+use std::fs::File;
+use std::io::Read;
 use std::process::ExitCode;
+use std::sync::Wait;
+use std::thread::Threads;
 
 /// The workers of a pulse: the report is the same for any number of them.
 const WORKERS: u32 = 1;
@@ -12,7 +17,28 @@ const WORKERS: u32 = 1;
 const UNANSWERED: u8 = 2;
 
 fn main(rt: HostRuntime) -> ExitCode {
-    match run_scenario(&rt, rt.alloc(), &mut rt.stdin(), &mut rt.stdout(), WORKERS) {
+    match named_file(&rt) {
+        Some(path) => match File::open(&rt, path.as_str()) {
+            Ok(mut file) => report(&rt, &rt, &mut file),
+            Err(_) => ExitCode::from(UNANSWERED),
+        },
+        None => report(&rt, &rt, &mut rt.stdin()),
+    }
+}
+
+/// Returns the first word after the program's name, if there is one.
+fn named_file(rt: &HostRuntime) -> Option<String> {
+    let words: Vec<String> = env::args(rt).ok()?.collect(rt.alloc()).ok()?;
+    words.into_iter().nth(1)
+}
+
+/// Writes the report of the scenario, and returns the exit status.
+fn report<T: Threads + Wait + Sync, R: Read>(
+    rt: &HostRuntime,
+    threads: &T,
+    input: &mut R,
+) -> ExitCode {
+    match run_scenario(threads, rt.alloc(), input, &mut rt.stdout(), WORKERS) {
         Ok(()) => ExitCode::SUCCESS,
         Err(ScenarioFault::Write { .. }) => ExitCode::FAILURE,
         Err(_) => ExitCode::from(UNANSWERED),

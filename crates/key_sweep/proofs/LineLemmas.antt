@@ -6,7 +6,7 @@ use Rattle.std.proofs.lemmas.List.{append_assoc, append-nil, length-append}
 use Rattle.csv.specs.Writing.{default_writer, row_text}
 use Rattle.scenario_text.specs.declared.scenario.Scenario.{Scenario}
 use Rattle.bench_scenario.specs.declared.summary.RunSummary.{RunSummary}
-use Rattle.key_sweep.specs.Keys.{KeyRange, count_of}
+use Rattle.parameters.specs.Keys.{KeyRange, count_of}
 use Rattle.key_sweep.specs.Rows.{fields_of, names, csv_rows, sweep_text}
 use Rattle.key_sweep.specs.Sweeps.{AreOfKeys, IsOfKey, LeavesRows, LeavesSweep, Lines, uses_key}
 use Rattle.key_sweep.specs.declared.sweeping.SweepFault.{SweepFault}

@@ -1,4 +1,3 @@
-pub mod Keys
 pub mod Rows
 pub mod Sweeps
 pub mod inner

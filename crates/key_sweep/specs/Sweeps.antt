@@ -16,7 +16,7 @@ use Rattle.bench_scenario.specs.declared.summary.RunSummary.{RunSummary}
 use Rattle.stream_io.specs.declared.parts.PartFault.{PartFault}
 use Rattle.stream_io.specs.declared.parts.PartFault.TheVariants as parts
 use Rattle.stream_io.specs.Parts.{Breaks}
-use Rattle.key_sweep.specs.Keys.{KeyRange, count_of}
+use Rattle.parameters.specs.Keys.{KeyRange, count_of}
 use Rattle.key_sweep.specs.declared.sweeping.SweepFault.{SweepFault}
 use Rattle.key_sweep.specs.declared.sweeping.SweepFault.TheVariants as faults
 use Rattle.key_sweep.specs.Rows.{sweep_text}

@@ -2,9 +2,8 @@
 #![tactic(auto)]
 
 mod block;
-mod keys;
 mod rows;
 mod sweeping;
 
-pub use keys::{KeySpan, MAX_SWEEP_KEY};
+pub use parameters::{KeySpan, MAX_SWEEP_KEY};
 pub use sweeping::{MAX_SWEEPERS, SweepFault, sweep};

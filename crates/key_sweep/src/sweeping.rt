@@ -4,8 +4,8 @@ ghost use Rattle.scenario_text.specs.Texts.{ReadsText};
 ghost use Rattle.key_sweep.specs.Sweeps.{LeavesRows, LeavesSweep, are_drawn, uses_key};
 
 use crate::block::summaries_of;
-use crate::keys::KeySpan;
 use crate::rows::{names_row, rows_text};
+use parameters::KeySpan;
 use scenario_text::{Coins, Scenario};
 use std::alloc::Global;
 use std::io::Write;

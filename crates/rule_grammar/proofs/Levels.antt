@@ -1,7 +1,7 @@
 -- How tight the levels of terms are, and which tokens begin a term of a level or go on with one.
 use Rattle.std.proofs.Common.{◌≡◌, ◌⊎◌, inl, inr, ℕ, ◌<◌, ◌≤◌, List, [], ◌∷◌, ◌++◌, refl, sym, ap, subst, ◌∙◌, arith}
 use Rattle.std.specs.Prelude.{Option, Some, None, option_map}
-use Rattle.rule_nodes.specs.declared.syntax.Comparison.{Comparison}
+use Rattle.rule_syntax.specs.declared.syntax.Comparison.{Comparison}
 use Rattle.rule_text.specs.declared.signs.Sign.{Sign}
 use Rattle.rule_text.specs.declared.signs.Sign.TheVariants as signs
 use Rattle.rule_text.specs.declared.lexemes.Kind.{Kind}

@@ -1,7 +1,7 @@
 -- An action, a let or a simple statement that is spelled is read.
 use Rattle.std.proofs.Common.{◌≡◌, inr, ℕ, zero, suc, cond, List, [], ◌∷◌, ◌++◌, refl, ap, subst, ◌∙◌, arith, append_assoc, append-nil}
 use Rattle.std.specs.Prelude.{Bool, false, Option, Some, None, Ok, Err}
-use Rattle.rule_nodes.specs.declared.syntax.Target.{Target}
+use Rattle.rule_syntax.specs.declared.syntax.Target.{Target}
 use Rattle.rule_text.specs.declared.errors.RuleError.TheVariants.{NameTwice, TooLong}
 use Rattle.rule_text.specs.declared.signs.Sign.TheVariants as signs
 use Rattle.rule_text.specs.declared.lexemes.Kind.{Kind}

@@ -2,7 +2,7 @@
 use Rattle.std.proofs.Common.{◌≡◌, inl, inr, ℕ, zero, suc, cond, List, [], ◌∷◌, ◌++◌, length, refl, sym, ap, subst, ◌∙◌, arith, append_assoc}
 use Rattle.std.specs.Prelude.{Bool, option_map, Option, Some, None, Ok, Err}
 use Rattle.std.proofs.lemmas.Bool.{lt-leb}
-use Rattle.rule_nodes.specs.declared.syntax.Comparison.{Comparison}
+use Rattle.rule_syntax.specs.declared.syntax.Comparison.{Comparison}
 use Rattle.rule_text.specs.declared.errors.RuleError.TheVariants.{TooDeep, TooLong}
 use Rattle.rule_text.specs.declared.signs.Sign.{Sign}
 use Rattle.rule_text.specs.declared.signs.Sign.TheVariants as signs

@@ -1,5 +1,5 @@
 -- The listing of a rule (docs/RULES.md, "Lines and instructions"): its instructions below the lines that made them.
-use Rattle.std.specs.Prelude.{◌≡◌, ℕ, zero, suc, ◌-◌, ◌==◌, Bool, List, [], ◌++◌, codes, slice_index}
+use Rattle.std.specs.Prelude.{ℕ, zero, suc, ◌-◌, ◌==◌, Bool, List, [], ◌++◌, codes, slice_index}
 use Rattle.std.specs.Prelude.{Option, Some, None, if◌then◌else◌}
 use Rattle.std.specs.List.{after_first, before_first, flat_map, range_with_len}
 use Rattle.std.specs.Fmt.{decimal}
@@ -9,8 +9,6 @@ use Rattle.bpf_insn.specs.Encoding.{slots_taken}
 use Rattle.bpf_insn.specs.Programs.{image_of, insn_at, slots_of}
 use Rattle.bpf_asm.specs.Canonical.{canonical_line}
 use Rattle.bpf_asm.specs.Listing.{bytes_at}
-use Rattle.rule_nodes.specs.declared.syntax.Sizes.{Sizes}
-use Rattle.rule_text.specs.ProgramLines.{AreLinesOfText}
 
 -- ---- the lines of a text
 
@@ -53,8 +51,3 @@ slot_rows text lines program slot = heading_by text (line_at lines (slot - 1)) (
 
 abbrev pub rule_listing : List ℕ → List ℕ → List Insn → List ℕ
 rule_listing text lines program = flat_map (slot_rows text lines program) (range_with_len 0 (slots_of program))
-
--- the lines are those of the text's rule
-abbrev pub IsListingOf : Sizes → List ℕ → List Insn → List ℕ → Type 0
-IsListingOf z text program listing =
-    (lines : List ℕ) × AreLinesOfText z text lines × (listing ≡ rule_listing text lines program)

@@ -1,17 +1,13 @@
 //! The rows of a listing.
-ghost use Rattle.std.specs.Prelude.{◌≡◌, ◌≤◌, ◌++◌, IfErr, IfOk, OnOk, codes};
+ghost use Rattle.std.specs.Prelude.{◌≡◌, ◌≤◌, ◌++◌, IfOk, OnOk, codes};
 ghost use Rattle.std.specs.Fmt.{decimal};
 ghost use Rattle.bpf_asm.specs.Listing.{bytes_at};
 ghost use Rattle.bpf_insn.specs.declared.listing.TheConstants.{MAX_SLOTS};
-ghost use Rattle.rule_nodes.specs.Ends.{sizes_of};
-ghost use Rattle.rule_text.specs.Programs.{IsRefusalOfText};
-ghost use Rattle.rule_listing.specs.Listing.{IsListingOf, heading_by, slot_text, line_at, rule_listing};
+ghost use Rattle.rule_listing.specs.Listing.{heading_by, slot_text, line_at, rule_listing};
 
 use crate::lines::line_after;
 use bpf_asm::CanonicalLine;
 use bpf_insn::{Insn, Program, encode};
-use node_env::Shape;
-use rule_text::{RuleRefusal, instruction_lines};
 use std::alloc::{AllocError, Global};
 
 /// Returns the line of the instruction at a slot, where entry k of `lines` is for slot k + 1; 0 if it is of no line.
@@ -92,8 +88,10 @@ fn push_insn(
     listing.extend_from_slice(row.as_bytes())
 }
 
-/// Lists the instructions of a rule's program below the lines of its text that made them.
-fn list(
+/// Returns the listing of the program of a rule's text (docs/RULES.md, "Lines and instructions"): a row for each
+/// instruction, and above it the row of its line if the instruction before is of another one. Entry k of `lines` is for
+/// slot k + 1. Fails only if memory runs out.
+pub fn list_rule(
     alloc: Global,
     text: &[u8],
     lines: &[usize],
@@ -117,25 +115,4 @@ fn list(
         before = line;
     }
     Ok(listing)
-}
-
-/// Returns the listing of the program of a rule's text (docs/RULES.md, "Lines and instructions"): a row for each
-/// instruction, and above it the row of its line if the instruction before is of another one. Otherwise returns why the
-/// text has no program. Fails only if memory runs out.
-pub fn list_rule(
-    alloc: Global,
-    text: &[u8],
-    program: &Program,
-    shape: Shape,
-    faults: u32,
-    modulus: u32,
-) -> Result<Result<Vec<u8>, RuleRefusal>, AllocError>
-    ensures listing { IfOk result (λ made. IfOk made (λ listing.
-        IsListingOf (sizes_of shape faults modulus) text.now program.now listing.items)) }
-    ensures refused { IfOk result (λ made. IfErr made (IsRefusalOfText (sizes_of shape faults modulus) text.now)) }
-{
-    match instruction_lines(alloc, text, shape, faults, modulus)? {
-        Ok(lines) => Ok(Ok(list(alloc, text, &lines, program)?)),
-        Err(refusal) => Ok(Err(refusal)),
-    }
 }

@@ -12,23 +12,23 @@ use Rattle.bpf_insn.specs.declared.forms.Insn.{Insn}
 use Rattle.bpf_insn.specs.declared.forms.Insn.TheVariants as i
 use Rattle.rule_nodes.specs.declared.errors.CompileError.{CompileError}
 use Rattle.rule_nodes.specs.declared.errors.CompileError.TheVariants.{NoRoom, TooLong, Memory}
-use Rattle.rule_nodes.specs.declared.syntax.Sizes.{Sizes}
-use Rattle.rule_nodes.specs.declared.syntax.Comparison.TheVariants.{NotEqual}
-use Rattle.rule_nodes.specs.declared.syntax.Operation.{Operation}
-use Rattle.rule_nodes.specs.declared.syntax.Operator.{Operator}
-use Rattle.rule_nodes.specs.declared.syntax.Operator.TheVariants.{Compute, Compare}
-use Rattle.rule_nodes.specs.declared.syntax.Purpose.{Purpose}
-use Rattle.rule_nodes.specs.declared.syntax.Purpose.TheVariants.{Value, Jump}
-use Rattle.rule_nodes.specs.declared.syntax.Target.{Target}
-use Rattle.rule_nodes.specs.declared.syntax.Target.TheVariants.{ToLocal, ToWord}
-use Rattle.rule_nodes.specs.declared.syntax.Source.{Source}
-use Rattle.rule_nodes.specs.declared.syntax.Source.TheVariants.{Constant, FromLocal, FromWord, Computed}
-use Rattle.rule_nodes.specs.declared.syntax.Term.{Term}
-use Rattle.rule_nodes.specs.declared.syntax.Term.TheVariants.{Number, Nodes, Faults, Modulus, LoopNode, Local, Word, Message', Binary', Count'}
-use Rattle.rule_nodes.specs.declared.syntax.Assignment.{Assignment}
-use Rattle.rule_nodes.specs.declared.syntax.Assignment.TheVariants.{One, Also'}
-use Rattle.rule_nodes.specs.declared.syntax.Statement.{Statement}
-use Rattle.rule_nodes.specs.declared.syntax.Statement.TheVariants.{Let', For', SendAll}
+use Rattle.rule_syntax.specs.declared.syntax.Sizes.{Sizes}
+use Rattle.rule_syntax.specs.declared.syntax.Comparison.TheVariants.{NotEqual}
+use Rattle.rule_syntax.specs.declared.syntax.Operation.{Operation}
+use Rattle.rule_syntax.specs.declared.syntax.Operator.{Operator}
+use Rattle.rule_syntax.specs.declared.syntax.Operator.TheVariants.{Compute, Compare}
+use Rattle.rule_nodes.specs.declared.numbers.Purpose.{Purpose}
+use Rattle.rule_nodes.specs.declared.numbers.Purpose.TheVariants.{Value, Jump}
+use Rattle.rule_syntax.specs.declared.syntax.Target.{Target}
+use Rattle.rule_syntax.specs.declared.syntax.Target.TheVariants.{ToLocal, ToWord}
+use Rattle.rule_nodes.specs.declared.numbers.Source.{Source}
+use Rattle.rule_nodes.specs.declared.numbers.Source.TheVariants.{Constant, FromLocal, FromWord, Computed}
+use Rattle.rule_syntax.specs.declared.syntax.Term.{Term}
+use Rattle.rule_syntax.specs.declared.syntax.Term.TheVariants.{Number, Nodes, Faults, Modulus, LoopNode, Local, Word, Message', Binary', Count'}
+use Rattle.rule_syntax.specs.declared.syntax.Assignment.{Assignment}
+use Rattle.rule_syntax.specs.declared.syntax.Assignment.TheVariants.{One, Also'}
+use Rattle.rule_syntax.specs.declared.syntax.Statement.{Statement}
+use Rattle.rule_syntax.specs.declared.syntax.Statement.TheVariants.{Let', For', SendAll}
 use Rattle.rule_nodes.specs.Meaning.{apply_operator}
 use Rattle.rule_nodes.specs.Operands.{is_constant, is_local, is_operand, is_steady, constant_number, depth_behind, fetched_source, term_source, IsSourceWithin}
 use Rattle.rule_nodes.specs.Fits.{Fits, AssignmentFits, BlockFits}

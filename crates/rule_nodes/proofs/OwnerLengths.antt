@@ -5,14 +5,14 @@ use Rattle.std.proofs.lemmas.List.{length-replicate}
 use Rattle.bpf_insn.specs.declared.forms.Reg.TheVariants.{R0}
 use Rattle.bpf_insn.specs.declared.forms.Insn.{Insn}
 use Rattle.bpf_insn.specs.declared.forms.Insn.TheVariants.{Ja}
-use Rattle.rule_nodes.specs.declared.syntax.Purpose.TheVariants.{Value, Jump}
-use Rattle.rule_nodes.specs.declared.syntax.Sizes.{Sizes}
-use Rattle.rule_nodes.specs.declared.syntax.Source.{Source}
-use Rattle.rule_nodes.specs.declared.syntax.Source.TheVariants.{Constant, FromLocal, FromWord, Computed}
-use Rattle.rule_nodes.specs.declared.syntax.Term.{Term}
-use Rattle.rule_nodes.specs.declared.syntax.Term.TheVariants.{Count'}
-use Rattle.rule_nodes.specs.declared.syntax.Statement.{Statement}
-use Rattle.rule_nodes.specs.declared.syntax.Statement.TheVariants.{Nothing, Then', Let', Assign, If', For', SendAll, SendTo}
+use Rattle.rule_nodes.specs.declared.numbers.Purpose.TheVariants.{Value, Jump}
+use Rattle.rule_syntax.specs.declared.syntax.Sizes.{Sizes}
+use Rattle.rule_nodes.specs.declared.numbers.Source.{Source}
+use Rattle.rule_nodes.specs.declared.numbers.Source.TheVariants.{Constant, FromLocal, FromWord, Computed}
+use Rattle.rule_syntax.specs.declared.syntax.Term.{Term}
+use Rattle.rule_syntax.specs.declared.syntax.Term.TheVariants.{Count'}
+use Rattle.rule_syntax.specs.declared.syntax.Statement.{Statement}
+use Rattle.rule_syntax.specs.declared.syntax.Statement.TheVariants.{Nothing, Then', Let', Assign, If', For', SendAll, SendTo}
 use Rattle.rule_nodes.specs.Operands.{term_source}
 use Rattle.rule_nodes.specs.Code.{place_register, copy, counted_code, term_code, stored_code, let_code, if_code, is_nothing, each_code, block_code, tail_code, rule_code}
 use Rattle.rule_nodes.specs.Owners.{statements_in, jump_slots, test_slots, each_owners, owners_of}

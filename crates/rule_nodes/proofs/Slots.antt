@@ -4,8 +4,8 @@ use Rattle.bpf_insn.specs.declared.forms.Insn.{Insn}
 use Rattle.bpf_insn.specs.Programs.{slots_of}
 use Rattle.bpf_insn.proofs.LayoutLaws.{slots_of-cons}
 use Rattle.clock_nodes.proofs.Places.{Ones}
-use Rattle.rule_nodes.specs.declared.syntax.Sizes.{Sizes}
-use Rattle.rule_nodes.specs.declared.syntax.Statement.{Statement}
+use Rattle.rule_syntax.specs.declared.syntax.Sizes.{Sizes}
+use Rattle.rule_syntax.specs.declared.syntax.Statement.{Statement}
 use Rattle.rule_nodes.specs.Code.{rule_code}
 use Rattle.rule_nodes.proofs.Whole.{ones_rule}
 

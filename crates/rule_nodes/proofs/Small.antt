@@ -7,12 +7,12 @@ use Rattle.std.proofs.lemmas.Int.{to_z_pos}
 use Rattle.bpf_insn.specs.declared.forms.Width.TheVariants.{W32}
 use Rattle.bpf_insn.specs.declared.forms.AluOp.TheVariants.{Mov}
 use Rattle.bpf_insn.specs.Arithmetic.{alu_result, holds}
-use Rattle.rule_nodes.specs.declared.syntax.Operation.{Operation}
-use Rattle.rule_nodes.specs.declared.syntax.Operation.TheVariants.{Sum, Difference, Product, Quotient, Remainder}
-use Rattle.rule_nodes.specs.declared.syntax.Comparison.{Comparison}
-use Rattle.rule_nodes.specs.declared.syntax.Comparison.TheVariants.{Equal, NotEqual, Less, AtMost, Greater, AtLeast}
-use Rattle.rule_nodes.specs.declared.syntax.Operator.{Operator}
-use Rattle.rule_nodes.specs.declared.syntax.Operator.TheVariants.{Compute, Compare}
+use Rattle.rule_syntax.specs.declared.syntax.Operation.{Operation}
+use Rattle.rule_syntax.specs.declared.syntax.Operation.TheVariants.{Sum, Difference, Product, Quotient, Remainder}
+use Rattle.rule_syntax.specs.declared.syntax.Comparison.{Comparison}
+use Rattle.rule_syntax.specs.declared.syntax.Comparison.TheVariants.{Equal, NotEqual, Less, AtMost, Greater, AtLeast}
+use Rattle.rule_syntax.specs.declared.syntax.Operator.{Operator}
+use Rattle.rule_syntax.specs.declared.syntax.Operator.TheVariants.{Compute, Compare}
 use Rattle.rule_nodes.specs.Meaning.{apply, compare, bit_of, truth, apply_operator}
 use Rattle.rule_nodes.specs.Code.{alu_op_of, cond_of, opposite, mirror, jump_on}
 

@@ -12,7 +12,7 @@ use Rattle.bpf_machine.specs.declared.word.Word.TheVariants.{Num, Ptr}
 use Rattle.bpf_machine.specs.Machine.{MachineState}
 use Rattle.clock_nodes.proofs.Places.{Stands, stands_behind}
 use Rattle.clock_nodes.proofs.Forms.{put_other, call_keeps, put, at, called}
-use Rattle.rule_nodes.specs.declared.syntax.Sizes.{Sizes}
+use Rattle.rule_syntax.specs.declared.syntax.Sizes.{Sizes}
 use Rattle.rule_nodes.specs.Meaning.{NodeState}
 use Rattle.rule_nodes.specs.Code.{place_register}
 

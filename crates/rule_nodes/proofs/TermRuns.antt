@@ -25,20 +25,20 @@ use Rattle.bpf_machine.specs.Step.{operand_of, number_at, step}
 use Rattle.clock_nodes.proofs.Places.{Stands}
 use Rattle.clock_nodes.proofs.Forms.{put_same, put_other, put, at, called, goes, tosses, receives, loads, moves}
 use Rattle.clock_nodes.proofs.Counting.{received_fits}
-use Rattle.rule_nodes.specs.declared.syntax.Sizes.{Sizes}
-use Rattle.rule_nodes.specs.declared.syntax.Operation.{Operation}
-use Rattle.rule_nodes.specs.declared.syntax.Comparison.{Comparison}
-use Rattle.rule_nodes.specs.declared.syntax.Comparison.TheVariants.{NotEqual, Less}
-use Rattle.rule_nodes.specs.declared.syntax.Operator.{Operator}
-use Rattle.rule_nodes.specs.declared.syntax.Operator.TheVariants.{Compute, Compare}
-use Rattle.rule_nodes.specs.declared.syntax.Connective.{Connective}
-use Rattle.rule_nodes.specs.declared.syntax.Connective.TheVariants.{And, Or}
-use Rattle.rule_nodes.specs.declared.syntax.Purpose.{Purpose}
-use Rattle.rule_nodes.specs.declared.syntax.Purpose.TheVariants.{Value, Jump}
-use Rattle.rule_nodes.specs.declared.syntax.Source.{Source}
-use Rattle.rule_nodes.specs.declared.syntax.Source.TheVariants.{Constant, FromLocal, FromWord, Computed}
-use Rattle.rule_nodes.specs.declared.syntax.Term.{Term}
-use Rattle.rule_nodes.specs.declared.syntax.Term.TheVariants.{Number, Nodes, Faults, Modulus, Me, Coin, LoopNode, Local, Word, Message', Binary', Logical', Not', Choice', Count'}
+use Rattle.rule_syntax.specs.declared.syntax.Sizes.{Sizes}
+use Rattle.rule_syntax.specs.declared.syntax.Operation.{Operation}
+use Rattle.rule_syntax.specs.declared.syntax.Comparison.{Comparison}
+use Rattle.rule_syntax.specs.declared.syntax.Comparison.TheVariants.{NotEqual, Less}
+use Rattle.rule_syntax.specs.declared.syntax.Operator.{Operator}
+use Rattle.rule_syntax.specs.declared.syntax.Operator.TheVariants.{Compute, Compare}
+use Rattle.rule_syntax.specs.declared.syntax.Connective.{Connective}
+use Rattle.rule_syntax.specs.declared.syntax.Connective.TheVariants.{And, Or}
+use Rattle.rule_nodes.specs.declared.numbers.Purpose.{Purpose}
+use Rattle.rule_nodes.specs.declared.numbers.Purpose.TheVariants.{Value, Jump}
+use Rattle.rule_nodes.specs.declared.numbers.Source.{Source}
+use Rattle.rule_nodes.specs.declared.numbers.Source.TheVariants.{Constant, FromLocal, FromWord, Computed}
+use Rattle.rule_syntax.specs.declared.syntax.Term.{Term}
+use Rattle.rule_syntax.specs.declared.syntax.Term.TheVariants.{Number, Nodes, Faults, Modulus, Me, Coin, LoopNode, Local, Word, Message', Binary', Logical', Not', Choice', Count'}
 use Rattle.rule_nodes.specs.Meaning.{NodeState, value, word_at, apply, compare, bit_of, truth, apply_operator, combine, message_from, count_below}
 use Rattle.rule_nodes.specs.Operands.{is_constant, is_fetched, is_operand, constant_number, depth_behind, fetched_source, term_source}
 use Rattle.rule_nodes.specs.Fits.{HasPlace, Fits}

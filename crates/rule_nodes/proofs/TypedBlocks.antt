@@ -24,22 +24,22 @@ use Rattle.bpf_verify.specs.Outcomes.{outcome, with_kind, of_number_kind, of_num
 use Rattle.bpf_verify.specs.Typable.{Table, IsCovered, Typable}
 use Rattle.bpf_verify.proofs.StateLaws.{kind_in_itself, contained_in_itself, contained_further}
 use Rattle.clock_nodes.proofs.Taken.{state, proper, within, covered, KeepsOwn, keeps_own, sound_end, Sound, Sounds, marks_whole, typed}
-use Rattle.rule_nodes.specs.declared.syntax.Sizes.{Sizes}
-use Rattle.rule_nodes.specs.declared.syntax.Operation.{Operation}
-use Rattle.rule_nodes.specs.declared.syntax.Operation.TheVariants.{Sum, Difference, Product, Quotient, Remainder}
-use Rattle.rule_nodes.specs.declared.syntax.Operator.TheVariants.{Compute}
-use Rattle.rule_nodes.specs.declared.syntax.Comparison.TheVariants.{AtLeast}
-use Rattle.rule_nodes.specs.declared.syntax.Purpose.TheVariants.{Value, Jump}
-use Rattle.rule_nodes.specs.declared.syntax.Term.TheVariants.{Binary', Count'}
-use Rattle.rule_nodes.specs.declared.syntax.Target.{Target}
-use Rattle.rule_nodes.specs.declared.syntax.Target.TheVariants.{ToLocal, ToWord}
-use Rattle.rule_nodes.specs.declared.syntax.Assignment.{Assignment}
-use Rattle.rule_nodes.specs.declared.syntax.Assignment.TheVariants.{One, Also'}
-use Rattle.rule_nodes.specs.declared.syntax.Source.{Source}
-use Rattle.rule_nodes.specs.declared.syntax.Source.TheVariants.{Constant, FromLocal, FromWord, Computed}
-use Rattle.rule_nodes.specs.declared.syntax.Term.{Term}
-use Rattle.rule_nodes.specs.declared.syntax.Statement.{Statement}
-use Rattle.rule_nodes.specs.declared.syntax.Statement.TheVariants.{Nothing, Then', Let', Assign, If', For', SendAll, SendTo}
+use Rattle.rule_syntax.specs.declared.syntax.Sizes.{Sizes}
+use Rattle.rule_syntax.specs.declared.syntax.Operation.{Operation}
+use Rattle.rule_syntax.specs.declared.syntax.Operation.TheVariants.{Sum, Difference, Product, Quotient, Remainder}
+use Rattle.rule_syntax.specs.declared.syntax.Operator.TheVariants.{Compute}
+use Rattle.rule_syntax.specs.declared.syntax.Comparison.TheVariants.{AtLeast}
+use Rattle.rule_nodes.specs.declared.numbers.Purpose.TheVariants.{Value, Jump}
+use Rattle.rule_syntax.specs.declared.syntax.Term.TheVariants.{Binary', Count'}
+use Rattle.rule_syntax.specs.declared.syntax.Target.{Target}
+use Rattle.rule_syntax.specs.declared.syntax.Target.TheVariants.{ToLocal, ToWord}
+use Rattle.rule_syntax.specs.declared.syntax.Assignment.{Assignment}
+use Rattle.rule_syntax.specs.declared.syntax.Assignment.TheVariants.{One, Also'}
+use Rattle.rule_nodes.specs.declared.numbers.Source.{Source}
+use Rattle.rule_nodes.specs.declared.numbers.Source.TheVariants.{Constant, FromLocal, FromWord, Computed}
+use Rattle.rule_syntax.specs.declared.syntax.Term.{Term}
+use Rattle.rule_syntax.specs.declared.syntax.Statement.{Statement}
+use Rattle.rule_syntax.specs.declared.syntax.Statement.TheVariants.{Nothing, Then', Let', Assign, If', For', SendAll, SendTo}
 use Rattle.rule_nodes.specs.Operands.{is_constant, constant_number, is_local, is_operand, is_steady, depth_behind, term_source}
 use Rattle.rule_nodes.specs.Fits.{HasPlace, Fits, TargetFits, AssignmentFits, BlockFits}
 use Rattle.rule_nodes.specs.Code.{place_register, copy, set_node, cond_of, jump_at, counted_code, term_code, stored_code, passed_code, send_to_constant_code, assign_code, set_code, given_code, alu_op_of, changing_insn, one_code, also_code, assignment_code, get_code, set_number, send_code, send_codes, send_all_code, send_to_code, each_code, is_nothing, block_code, tail_code, rule_code}

@@ -16,27 +16,27 @@ use Rattle.bpf_insn.specs.declared.forms.Insn.{Insn}
 use Rattle.bpf_insn.specs.declared.forms.Insn.TheVariants.{Alu, Branch, Ja, Call, Exit, Load, StoreReg, StoreImm}
 use Rattle.rule_nodes.specs.Meaning.{apply_operator}
 use Rattle.rule_nodes.specs.Operands.{is_constant, is_operand, is_local, is_steady, constant_number, depth_behind, term_source}
-use Rattle.rule_nodes.specs.declared.syntax.Sizes.{Sizes}
-use Rattle.rule_nodes.specs.declared.syntax.Operation.{Operation}
-use Rattle.rule_nodes.specs.declared.syntax.Operation.TheVariants.{Sum, Difference, Product, Quotient, Remainder}
-use Rattle.rule_nodes.specs.declared.syntax.Comparison.{Comparison}
-use Rattle.rule_nodes.specs.declared.syntax.Comparison.TheVariants.{Equal, NotEqual, Less, AtMost, Greater, AtLeast}
-use Rattle.rule_nodes.specs.declared.syntax.Operator.{Operator}
-use Rattle.rule_nodes.specs.declared.syntax.Operator.TheVariants.{Compute, Compare}
-use Rattle.rule_nodes.specs.declared.syntax.Connective.{Connective}
-use Rattle.rule_nodes.specs.declared.syntax.Connective.TheVariants.{And, Or}
-use Rattle.rule_nodes.specs.declared.syntax.Target.{Target}
-use Rattle.rule_nodes.specs.declared.syntax.Target.TheVariants.{ToLocal, ToWord}
-use Rattle.rule_nodes.specs.declared.syntax.Assignment.{Assignment}
-use Rattle.rule_nodes.specs.declared.syntax.Assignment.TheVariants.{One, Also'}
-use Rattle.rule_nodes.specs.declared.syntax.Purpose.{Purpose}
-use Rattle.rule_nodes.specs.declared.syntax.Purpose.TheVariants.{Value, Jump}
-use Rattle.rule_nodes.specs.declared.syntax.Source.{Source}
-use Rattle.rule_nodes.specs.declared.syntax.Source.TheVariants.{Constant, FromLocal, FromWord, Computed}
-use Rattle.rule_nodes.specs.declared.syntax.Term.{Term}
-use Rattle.rule_nodes.specs.declared.syntax.Term.TheVariants.{Number, Nodes, Faults, Modulus, Me, Coin, LoopNode, Local, Word, Message', Binary', Logical', Not', Choice', Count'}
-use Rattle.rule_nodes.specs.declared.syntax.Statement.{Statement}
-use Rattle.rule_nodes.specs.declared.syntax.Statement.TheVariants.{Nothing, Then', Let', Assign, If', For', SendAll, SendTo}
+use Rattle.rule_syntax.specs.declared.syntax.Sizes.{Sizes}
+use Rattle.rule_syntax.specs.declared.syntax.Operation.{Operation}
+use Rattle.rule_syntax.specs.declared.syntax.Operation.TheVariants.{Sum, Difference, Product, Quotient, Remainder}
+use Rattle.rule_syntax.specs.declared.syntax.Comparison.{Comparison}
+use Rattle.rule_syntax.specs.declared.syntax.Comparison.TheVariants.{Equal, NotEqual, Less, AtMost, Greater, AtLeast}
+use Rattle.rule_syntax.specs.declared.syntax.Operator.{Operator}
+use Rattle.rule_syntax.specs.declared.syntax.Operator.TheVariants.{Compute, Compare}
+use Rattle.rule_syntax.specs.declared.syntax.Connective.{Connective}
+use Rattle.rule_syntax.specs.declared.syntax.Connective.TheVariants.{And, Or}
+use Rattle.rule_syntax.specs.declared.syntax.Target.{Target}
+use Rattle.rule_syntax.specs.declared.syntax.Target.TheVariants.{ToLocal, ToWord}
+use Rattle.rule_syntax.specs.declared.syntax.Assignment.{Assignment}
+use Rattle.rule_syntax.specs.declared.syntax.Assignment.TheVariants.{One, Also'}
+use Rattle.rule_nodes.specs.declared.numbers.Purpose.{Purpose}
+use Rattle.rule_nodes.specs.declared.numbers.Purpose.TheVariants.{Value, Jump}
+use Rattle.rule_nodes.specs.declared.numbers.Source.{Source}
+use Rattle.rule_nodes.specs.declared.numbers.Source.TheVariants.{Constant, FromLocal, FromWord, Computed}
+use Rattle.rule_syntax.specs.declared.syntax.Term.{Term}
+use Rattle.rule_syntax.specs.declared.syntax.Term.TheVariants.{Number, Nodes, Faults, Modulus, Me, Coin, LoopNode, Local, Word, Message', Binary', Logical', Not', Choice', Count'}
+use Rattle.rule_syntax.specs.declared.syntax.Statement.{Statement}
+use Rattle.rule_syntax.specs.declared.syntax.Statement.TheVariants.{Nothing, Then', Let', Assign, If', For', SendAll, SendTo}
 
 -- ---- instructions
 

@@ -5,23 +5,23 @@ use Rattle.std.specs.Ordering.{nat_cmp}
 use Rattle.std.specs.FinMap.{FinMap, insert, empty}
 use Rattle.node_env.specs.declared.env.TheConstants.{NO_MAIL}
 use Rattle.node_env.specs.Env.{Setting, received}
-use Rattle.rule_nodes.specs.declared.syntax.Sizes.{Sizes}
-use Rattle.rule_nodes.specs.declared.syntax.Operation.{Operation}
-use Rattle.rule_nodes.specs.declared.syntax.Operation.TheVariants.{Sum, Difference, Product, Quotient, Remainder}
-use Rattle.rule_nodes.specs.declared.syntax.Comparison.{Comparison}
-use Rattle.rule_nodes.specs.declared.syntax.Comparison.TheVariants.{Equal, NotEqual, Less, AtMost, Greater, AtLeast}
-use Rattle.rule_nodes.specs.declared.syntax.Operator.{Operator}
-use Rattle.rule_nodes.specs.declared.syntax.Operator.TheVariants.{Compute, Compare}
-use Rattle.rule_nodes.specs.declared.syntax.Connective.{Connective}
-use Rattle.rule_nodes.specs.declared.syntax.Connective.TheVariants.{And, Or}
-use Rattle.rule_nodes.specs.declared.syntax.Target.{Target}
-use Rattle.rule_nodes.specs.declared.syntax.Target.TheVariants.{ToLocal, ToWord}
-use Rattle.rule_nodes.specs.declared.syntax.Assignment.{Assignment}
-use Rattle.rule_nodes.specs.declared.syntax.Assignment.TheVariants.{One, Also'}
-use Rattle.rule_nodes.specs.declared.syntax.Term.{Term}
-use Rattle.rule_nodes.specs.declared.syntax.Term.TheVariants.{Number, Nodes, Faults, Modulus, Me, Coin, LoopNode, Local, Word, Message', Binary', Logical', Not', Choice', Count'}
-use Rattle.rule_nodes.specs.declared.syntax.Statement.{Statement}
-use Rattle.rule_nodes.specs.declared.syntax.Statement.TheVariants.{Nothing, Then', Let', Assign, If', For', SendAll, SendTo}
+use Rattle.rule_syntax.specs.declared.syntax.Sizes.{Sizes}
+use Rattle.rule_syntax.specs.declared.syntax.Operation.{Operation}
+use Rattle.rule_syntax.specs.declared.syntax.Operation.TheVariants.{Sum, Difference, Product, Quotient, Remainder}
+use Rattle.rule_syntax.specs.declared.syntax.Comparison.{Comparison}
+use Rattle.rule_syntax.specs.declared.syntax.Comparison.TheVariants.{Equal, NotEqual, Less, AtMost, Greater, AtLeast}
+use Rattle.rule_syntax.specs.declared.syntax.Operator.{Operator}
+use Rattle.rule_syntax.specs.declared.syntax.Operator.TheVariants.{Compute, Compare}
+use Rattle.rule_syntax.specs.declared.syntax.Connective.{Connective}
+use Rattle.rule_syntax.specs.declared.syntax.Connective.TheVariants.{And, Or}
+use Rattle.rule_syntax.specs.declared.syntax.Target.{Target}
+use Rattle.rule_syntax.specs.declared.syntax.Target.TheVariants.{ToLocal, ToWord}
+use Rattle.rule_syntax.specs.declared.syntax.Assignment.{Assignment}
+use Rattle.rule_syntax.specs.declared.syntax.Assignment.TheVariants.{One, Also'}
+use Rattle.rule_syntax.specs.declared.syntax.Term.{Term}
+use Rattle.rule_syntax.specs.declared.syntax.Term.TheVariants.{Number, Nodes, Faults, Modulus, Me, Coin, LoopNode, Local, Word, Message', Binary', Logical', Not', Choice', Count'}
+use Rattle.rule_syntax.specs.declared.syntax.Statement.{Statement}
+use Rattle.rule_syntax.specs.declared.syntax.Statement.TheVariants.{Nothing, Then', Let', Assign, If', For', SendAll, SendTo}
 
 -- the number of each let by its place, the memory, and the numbers sent, by receiver
 pub record NodeState : Type 0 where

@@ -1,12 +1,12 @@
 -- The terms whose numbers are found without code of their own: constants, locals and words.
 use Rattle.std.specs.Prelude.{ℕ, Bool, true, false, ◌==◌, ◌&&◌, ◌||◌, ◌+◌, ◌*◌, ◌≤◌, if◌then◌else◌, List, slice_index}
-use Rattle.rule_nodes.specs.declared.syntax.Sizes.{Sizes}
-use Rattle.rule_nodes.specs.declared.syntax.Source.{Source}
-use Rattle.rule_nodes.specs.declared.syntax.Source.TheVariants.{Constant, FromLocal, FromWord, Computed}
-use Rattle.rule_nodes.specs.declared.syntax.Target.{Target}
-use Rattle.rule_nodes.specs.declared.syntax.Target.TheVariants.{ToLocal, ToWord}
-use Rattle.rule_nodes.specs.declared.syntax.Term.{Term}
-use Rattle.rule_nodes.specs.declared.syntax.Term.TheVariants.{Number, Nodes, Faults, Modulus, Me, Coin, LoopNode, Local, Word, Binary'}
+use Rattle.rule_syntax.specs.declared.syntax.Sizes.{Sizes}
+use Rattle.rule_nodes.specs.declared.numbers.Source.{Source}
+use Rattle.rule_nodes.specs.declared.numbers.Source.TheVariants.{Constant, FromLocal, FromWord, Computed}
+use Rattle.rule_syntax.specs.declared.syntax.Target.{Target}
+use Rattle.rule_syntax.specs.declared.syntax.Target.TheVariants.{ToLocal, ToWord}
+use Rattle.rule_syntax.specs.declared.syntax.Term.{Term}
+use Rattle.rule_syntax.specs.declared.syntax.Term.TheVariants.{Number, Nodes, Faults, Modulus, Me, Coin, LoopNode, Local, Word, Binary'}
 use Rattle.rule_nodes.specs.Meaning.{apply_operator}
 
 -- a constant is a number, a size, the node of a loop, or computed of constants

@@ -3,7 +3,7 @@ ghost use Rattle.std.specs.Prelude.{◌≡◌, ◌≤◌, ◌+◌, ◌++◌, ◌
 ghost use Rattle.bpf_insn.specs.declared.forms.Reg.TheVariants.{R0, R6};
 ghost use Rattle.bpf_insn.specs.declared.forms.Size.TheVariants as size;
 ghost use Rattle.bpf_insn.specs.declared.forms.Insn.TheVariants as i;
-ghost use Rattle.rule_nodes.specs.declared.syntax.Target.TheVariants.{ToWord};
+ghost use Rattle.rule_syntax.specs.declared.syntax.Target.TheVariants.{ToWord};
 ghost use Rattle.std.specs.Int.{w32, cast_signed};
 ghost use Rattle.bpf_insn.specs.declared.forms.Width.TheVariants.{W32};
 ghost use Rattle.bpf_insn.specs.declared.forms.Operand.TheVariants as operand;
@@ -14,11 +14,12 @@ ghost use Rattle.rule_nodes.specs.Refusals.{IsUnmade};
 
 use crate::errors::CompileError;
 use crate::insns::{copy_of, operation_of, place_of, word_offset};
+use crate::numbers::{Purpose, Source};
 use crate::operands::{constant_of, depth_behind_of, get_of, is_constant_of, source};
 use crate::parts::{joined, short, single};
-use crate::syntax::{Assignment, Operation, Operator, Purpose, Sizes, Source, Target, Term};
 use crate::terms::term;
 use bpf_insn::{Insn, MAX_SLOTS, Operand, Reg, Size, Width};
+use rule_syntax::{Assignment, Operation, Operator, Sizes, Target, Term};
 use std::alloc::{AllocError, Global};
 
 /// Returns the instruction that sets a word to the number in a register.

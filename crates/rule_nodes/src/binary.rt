@@ -1,16 +1,17 @@
 //! The code of operators between two terms.
 ghost use Rattle.std.specs.Prelude.{◌≡◌, ◌≤◌, ◌++◌, [], IfOk};
-ghost use Rattle.rule_nodes.specs.declared.syntax.Source.TheVariants.{Constant, FromLocal, Computed};
+ghost use Rattle.rule_nodes.specs.declared.numbers.Source.TheVariants.{Constant, FromLocal, Computed};
 ghost use Rattle.rule_nodes.specs.Operands.{term_source, IsSourceWithin};
 ghost use Rattle.rule_nodes.specs.Code.{far_of, operand_code, load_code, by_operator, left_code, binary_code};
 
 use crate::insns::{
     copy_of, jump_by_of, jump_on_of, jump_place_of, mirror_of, operation_of, set_number_of,
 };
+use crate::numbers::{Purpose, Source};
 use crate::operands::{get_of, operand_of, operate_of, source, with_load};
 use crate::parts::{behind_test_of, by_value_of, far_for, joined, single, two_of, when_for};
-use crate::syntax::{Operator, Purpose, Sizes, Source, Term};
 use bpf_insn::{Insn, MAX_SLOTS, Operand, Reg, Width};
+use rule_syntax::{Operator, Sizes, Term};
 use std::alloc::{AllocError, Global};
 
 /// Returns the code of an operator on r0 and an operand, for a purpose.

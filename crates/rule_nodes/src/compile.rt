@@ -11,9 +11,9 @@ use crate::errors::CompileError;
 use crate::fits::block_fits;
 use crate::parts::{joined, short, single};
 use crate::statements::block;
-use crate::syntax::{Sizes, Statement};
 use bpf_insn::{AluOp, Insn, MAX_SLOTS, Operand, Program, ProgramError, Reg, Width, program_of};
 use node_env::Shape;
+use rule_syntax::{Sizes, Statement};
 use std::alloc::Global;
 
 fn whole(alloc: Global, rule: &Statement, sizes: Sizes) -> Result<Vec<Insn>, CompileError>

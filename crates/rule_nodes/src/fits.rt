@@ -8,7 +8,7 @@ use crate::assignments::is_steady_of;
 use crate::errors::CompileError;
 use crate::insns::has_word;
 use crate::operands::{beside_operand, depth_behind_of, is_constant_of, is_operand_of};
-use crate::syntax::{Assignment, Sizes, Statement, Target, Term};
+use rule_syntax::{Assignment, Sizes, Statement, Target, Term};
 
 /// Fails if a number needs a place, and there is none at the depth.
 fn needs_place(simple: bool, depth: u32) -> Result<(), CompileError>

@@ -4,8 +4,8 @@ ghost use Rattle.bpf_insn.specs.declared.forms.Reg.TheVariants.{R1};
 ghost use Rattle.bpf_insn.specs.declared.forms.Insn.TheVariants as i;
 ghost use Rattle.rule_nodes.specs.Code.{place_register, set_number, copy, alu_op_of, cond_of, opposite, mirror, jump_on, jump_by, jump_place, jump_at, set_node};
 
-use crate::syntax::{Comparison, Operation};
 use bpf_insn::{AluOp, Cond, Insn, MAX_SLOTS, Operand, Reg, Width};
+use rule_syntax::{Comparison, Operation};
 
 /// Returns the register of a place.
 pub fn place_of(k: u32) -> Reg

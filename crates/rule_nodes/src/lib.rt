@@ -8,18 +8,14 @@ mod errors;
 mod fits;
 mod insns;
 mod laws;
+mod numbers;
 mod operands;
 mod owners;
 mod parts;
 mod statements;
-mod syntax;
 mod terms;
 
 pub use compile::compile_rule;
 pub use errors::CompileError;
 pub use laws::{rule_ends, rule_is_taken};
-pub use owners::rule_owners;
-pub use syntax::{
-    Assignment, Comparison, Connective, Operation, Operator, Purpose, Sizes, Source, Statement,
-    Target, Term,
-};
+pub use owners::{ProgramWithOwners, compile_with_owners};

@@ -6,9 +6,10 @@ ghost use Rattle.rule_nodes.specs.Fits.{HasPlace};
 ghost use Rattle.rule_nodes.specs.Code.{get_code, operand_code, load_code};
 
 use crate::insns::{copy_of, place_of, set_number_of, word_offset};
+use crate::numbers::Source;
 use crate::parts::joined;
-use crate::syntax::{Comparison, Operation, Operator, Sizes, Source, Term};
 use bpf_insn::{Insn, Operand, Reg, Size};
+use rule_syntax::{Comparison, Operation, Operator, Sizes, Term};
 use std::alloc::AllocError;
 
 fn apply_of(op: Operation, a: u32, b: u32) -> u32

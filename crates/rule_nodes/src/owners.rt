@@ -1,5 +1,6 @@
 //! Which statement made each instruction of a rule's program.
 ghost use Rattle.std.specs.Prelude.{◌≡◌, ◌≤◌, ◌+◌, ◌++◌, [], length, replicate, IfOk, IfErr};
+ghost use Rattle.bpf_insn.specs.declared.listing.TheConstants.{MAX_SLOTS};
 ghost use Rattle.rule_nodes.specs.Fits.{BlockFits};
 ghost use Rattle.rule_nodes.specs.Code.{rule_code};
 ghost use Rattle.rule_nodes.specs.Ends.{sizes_of};
@@ -9,11 +10,13 @@ ghost use Rattle.rule_nodes.specs.Refusals.{RefusesRule};
 use crate::compile::compile_rule;
 use crate::errors::CompileError;
 use crate::fits::one_more;
+use crate::numbers::Purpose;
 use crate::parts::within;
 use crate::statements::{block, is_nothing_of, let_of};
-use crate::syntax::{Purpose, Sizes, Statement};
 use crate::terms::term;
+use bpf_insn::Program;
 use node_env::Shape;
+use rule_syntax::{Sizes, Statement};
 use std::alloc::{AllocError, Global};
 
 /// Returns a sum. No memory holds a rule with so many statements that they can't be counted.
@@ -121,23 +124,34 @@ fn owners(
     }
 }
 
-#[tactic(auto, using(crate::proofs::OwnerLengths::rule_owners_long))]
-/// Returns for each instruction of a rule's program the number of its statement, in the order of the text from 0 on.
-/// The first instruction and the last two are of no statement, and left out: entry k is for slot k + 1. Fails as
+/// The program of a rule, and which statement made each of its instructions.
+#[derive(Drop)]
+pub struct ProgramWithOwners {
+    pub program: Program,
+    /// The number of a statement for each instruction, in the order of the text from 0 on. The first instruction and the
+    /// last two are of no statement, and left out: entry k is for slot k + 1.
+    pub owners: Vec<usize>,
+}
+
+/// Compiles a rule as `compile_rule` does, and returns with its program the statement of each instruction. Fails as
 /// `compile_rule` does.
-pub fn rule_owners(
+#[tactic(auto, using(crate::proofs::OwnerLengths::rule_owners_long))]
+pub fn compile_with_owners(
     alloc: Global,
     rule: &Statement,
     shape: Shape,
     faults: u32,
     modulus: u32,
-) -> Result<Vec<usize>, CompileError>
-    ensures owners { IfOk result (λ v. v.items ≡ owners_of rule.now (sizes_of shape faults modulus) [] 0 0) }
-    ensures whole { IfOk result (λ v. length v.items + 3
-        ≡ length (rule_code rule.now (sizes_of shape faults modulus))) }
+) -> Result<ProgramWithOwners, CompileError>
+    ensures fits { IfOk result (λ _. BlockFits rule.now (sizes_of shape faults modulus) 0 0) }
+    ensures code { IfOk result (λ made. made.program ≡ rule_code rule.now (sizes_of shape faults modulus)) }
+    ensures short { IfOk result (λ made. length made.program ≤ MAX_SLOTS) }
+    ensures owners { IfOk result (λ made. made.owners.items
+        ≡ owners_of rule.now (sizes_of shape faults modulus) [] 0 0) }
+    ensures whole { IfOk result (λ made. length made.owners.items + 3 ≡ length made.program) }
     ensures refusal { IfErr result (RefusesRule rule.now (sizes_of shape faults modulus)) }
 {
-    let _program = compile_rule(alloc, rule, shape, faults, modulus)?; // brings that it has one
+    let program = compile_rule(alloc, rule, shape, faults, modulus)?;
     let sizes = Sizes {
         nodes: shape.nodes(),
         faults,
@@ -145,7 +159,7 @@ pub fn rule_owners(
         memory: shape.memory(),
     };
     match owners(alloc, rule, sizes, &[], 0, 0) {
-        Ok(all) => Ok(all),
+        Ok(owners) => Ok(ProgramWithOwners { program, owners }),
         Err(_) => Err(CompileError::Memory),
     }
 }

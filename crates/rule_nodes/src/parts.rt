@@ -5,8 +5,8 @@ ghost use Rattle.bpf_insn.specs.declared.forms.AluOp.TheVariants.{Add};
 ghost use Rattle.bpf_insn.specs.declared.forms.Reg.TheVariants.{R0};
 ghost use Rattle.bpf_insn.specs.declared.forms.Operand.TheVariants as operand;
 ghost use Rattle.bpf_insn.specs.declared.forms.Insn.TheVariants as i;
-ghost use Rattle.rule_nodes.specs.declared.syntax.Purpose.TheVariants.{Jump};
-ghost use Rattle.rule_nodes.specs.declared.syntax.Source.TheVariants.{Constant};
+ghost use Rattle.rule_nodes.specs.declared.numbers.Purpose.TheVariants.{Jump};
+ghost use Rattle.rule_nodes.specs.declared.numbers.Source.TheVariants.{Constant};
 ghost use Rattle.rule_nodes.specs.Code.{place_register, set_number, copy, when_of, far_of, beyond_purpose, behind_test, by_value, two_code, message_code, message_by, decides, both_far};
 ghost use Rattle.rule_nodes.specs.Refusals.{IsUnmade};
 
@@ -14,9 +14,10 @@ use crate::errors::CompileError;
 use crate::insns::{
     copy_of, jump_at_of, jump_on_of, place_of, set_node_of, set_number_of, skip_of,
 };
-use crate::syntax::{Comparison, Connective, Purpose, Source};
+use crate::numbers::{Purpose, Source};
 use bpf_insn::{AluOp, Insn, MAX_SLOTS, Operand, Reg, Width};
 use node_env::NO_MAIL;
+use rule_syntax::{Comparison, Connective};
 use std::alloc::{AllocError, Global};
 
 /// Appends the second code to the first.

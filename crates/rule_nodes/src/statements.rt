@@ -1,9 +1,9 @@
 //! The code of statements.
 ghost use Rattle.std.specs.Prelude.{◌≡◌, ◌≤◌, ◌<◌, ◌+◌, ◌-◌, ◌++◌, [], ◌∷◌, pos, length, take, IfOk, IfErr};
-ghost use Rattle.rule_nodes.specs.declared.syntax.Purpose.TheVariants.{Value};
+ghost use Rattle.rule_nodes.specs.declared.numbers.Purpose.TheVariants.{Value};
 ghost use Rattle.bpf_insn.specs.declared.forms.Reg.TheVariants.{R0, R1};
 ghost use Rattle.bpf_insn.specs.declared.forms.Insn.TheVariants as i;
-ghost use Rattle.rule_nodes.specs.declared.syntax.Statement.TheVariants.{SendAll, SendTo};
+ghost use Rattle.rule_syntax.specs.declared.syntax.Statement.TheVariants.{SendAll, SendTo};
 ghost use Rattle.rule_nodes.specs.Operands.{term_source, IsSourceWithin};
 ghost use Rattle.rule_nodes.specs.Fits.{Fits, BlockFits};
 ghost use Rattle.rule_nodes.specs.Code.{place_register, copy, set_node, term_code, stored_code, let_code, send_codes, send_all_code, passed_code, send_to_constant_code, send_to_code, is_nothing, block_code};
@@ -12,11 +12,12 @@ ghost use Rattle.rule_nodes.specs.Refusals.{IsUnmade};
 use crate::assignments::assignment;
 use crate::errors::CompileError;
 use crate::insns::{copy_of, jump_at_of, place_of, set_node_of};
+use crate::numbers::{Purpose, Source};
 use crate::operands::{constant_of, get_of, is_constant_of, source};
 use crate::parts::{if_of, if_test, joined, short, single, within};
-use crate::syntax::{Comparison, Purpose, Sizes, Source, Statement, Term};
 use crate::terms::term;
 use bpf_insn::{Insn, MAX_SLOTS, Reg};
+use rule_syntax::{Comparison, Sizes, Statement, Term};
 use std::alloc::{AllocError, Global};
 
 /// Returns the code that sends a found number to a node.

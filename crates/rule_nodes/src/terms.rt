@@ -11,13 +11,14 @@ ghost use Rattle.rule_nodes.specs.Refusals.{IsUnmade};
 use crate::binary::binary_of;
 use crate::errors::CompileError;
 use crate::insns::{copy_of, place_of, set_number_of, word_offset};
+use crate::numbers::Purpose;
 use crate::operands::{beside_operand, depth_behind_of, source};
 use crate::parts::{
     behind_test_of, by_value_of, chosen, count_of, counted, first_test, joined, message_by_of,
     near, opposite_test, short, single, skip_test, test_of, within,
 };
-use crate::syntax::{Purpose, Sizes, Term};
 use bpf_insn::{Insn, MAX_SLOTS, Reg, Size};
+use rule_syntax::{Sizes, Term};
 use std::alloc::{AllocError, Global};
 
 /// Returns the code of a constant.

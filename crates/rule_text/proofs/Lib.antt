@@ -3,7 +3,5 @@ pub mod Ranks
 pub mod TermLemmas
 pub mod SpelledTerms
 pub mod StatementLemmas
-pub mod Rebuilt
-pub mod ProgramLemmas
 pub mod SpelledStatements
 pub mod LineLemmas

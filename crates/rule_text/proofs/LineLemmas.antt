@@ -13,8 +13,8 @@ use Rattle.rule_text.specs.declared.joints.Chain.{Chain}
 use Rattle.rule_text.specs.declared.joints.Chain.TheVariants as chains
 use Rattle.rule_text.specs.declared.lines.Spot.{Spot}
 use Rattle.rule_text.specs.declared.lines.Spot.TheVariants.{Front, Counting, Inside}
-use Rattle.rule_nodes.specs.declared.syntax.Comparison.{Comparison}
-use Rattle.rule_nodes.specs.declared.syntax.Target.{Target}
+use Rattle.rule_syntax.specs.declared.syntax.Comparison.{Comparison}
+use Rattle.rule_syntax.specs.declared.syntax.Target.{Target}
 use Rattle.rule_text.specs.Forms.{TermForm, AssignmentForm, StatementForm}
 use Rattle.rule_text.specs.Lines.{spot_after, begins_statement, token_line, token_lines_from, statement_lines, form_statements}
 use Rattle.rule_text.specs.Terms.{joint_of, comparison_of, leaf_of}

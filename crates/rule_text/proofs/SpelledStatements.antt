@@ -2,8 +2,8 @@
 use Rattle.std.proofs.Common.{◌≡◌, ℕ, zero, suc, ◌-◌, Bool, true, false, cond, List, [], ◌∷◌, ◌++◌, length, take, refl, sym, ap, subst, ◌∙◌, arith, append_assoc, append-nil}
 use Rattle.std.specs.Prelude.{not, nat_lt, nat_le, if◌then◌else◌, ◌==◌, ◌&&◌, Option, Some, None, Result, Ok, Err, IfOk}
 use Rattle.std.proofs.lemmas.Bool.{leb-false, ltb-false, ltb-true, eqb-true, and_parts}
-use Rattle.rule_nodes.specs.declared.syntax.Target.{Target}
-use Rattle.rule_nodes.specs.declared.syntax.Target.TheVariants.{ToLocal, ToWord}
+use Rattle.rule_syntax.specs.declared.syntax.Target.{Target}
+use Rattle.rule_syntax.specs.declared.syntax.Target.TheVariants.{ToLocal, ToWord}
 use Rattle.rule_text.specs.declared.errors.RuleError.TheVariants.{BadCharacter, BadIndent, OutOfRange, Expected, UnknownName, NameTwice, NotAssignable, TooDeep, TooLong}
 use Rattle.rule_text.specs.declared.errors.ReadRuleError.{ReadRuleError}
 use Rattle.rule_text.specs.declared.signs.Sign.{Sign}

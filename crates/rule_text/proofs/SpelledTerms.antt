@@ -4,8 +4,8 @@ use Rattle.std.specs.Prelude.{nat_le, option_map, Option, Some, None, Result, Ok
 use Rattle.std.proofs.lemmas.Slice.Eq.{bytes_eq-Decides}
 use Rattle.std.proofs.lemmas.Bool.{leb-false}
 use Rattle.std.proofs.lemmas.Option.{same_Some}
-use Rattle.rule_nodes.specs.declared.syntax.Comparison.{Comparison}
-use Rattle.rule_nodes.specs.declared.syntax.Operator.TheVariants.{Compare}
+use Rattle.rule_syntax.specs.declared.syntax.Comparison.{Comparison}
+use Rattle.rule_syntax.specs.declared.syntax.Operator.TheVariants.{Compare}
 use Rattle.rule_text.specs.declared.errors.RuleError.TheVariants.{Expected, UnknownName, NameTwice, TooDeep, TooLong}
 use Rattle.rule_text.specs.declared.errors.ReadRuleError.{ReadRuleError}
 use Rattle.rule_text.specs.declared.signs.Sign.{Sign}

@@ -1,6 +1,6 @@
 -- Lists of names, and lines, by their steps.
 use Rattle.std.proofs.Common.{◌≡◌, ℕ, zero, suc, ◌-◌, List, refl, ap, ◌∙◌, arith, inr}
-use Rattle.rule_nodes.specs.declared.syntax.Target.{Target}
+use Rattle.rule_syntax.specs.declared.syntax.Target.{Target}
 use Rattle.rule_text.specs.declared.errors.RuleError.TheVariants.{TooLong}
 use Rattle.rule_text.specs.declared.errors.ReadRuleError.{ReadRuleError}
 use Rattle.rule_text.specs.declared.lexemes.Token.{Token}

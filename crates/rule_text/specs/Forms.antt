@@ -1,17 +1,17 @@
--- What terms, assignments and statements say, as plain data: `rule_nodes` keeps the same in boxes.
+-- What terms, assignments and statements say, as plain data: `rule_syntax` keeps the same in boxes.
 use Rattle.std.specs.Prelude.{ℕ}
-use Rattle.rule_nodes.specs.declared.syntax.Operator.{Operator}
-use Rattle.rule_nodes.specs.declared.syntax.Connective.{Connective}
-use Rattle.rule_nodes.specs.declared.syntax.Target.{Target}
-use Rattle.rule_nodes.specs.declared.syntax.Assignment.{Assignment}
-use Rattle.rule_nodes.specs.declared.syntax.Assignment.TheVariants.{One, Also'}
-use Rattle.rule_nodes.specs.declared.syntax.Term.{Term}
-use Rattle.rule_nodes.specs.declared.syntax.Term.TheVariants.{Number, Nodes, Faults, Modulus, Me, Coin, LoopNode}
-use Rattle.rule_nodes.specs.declared.syntax.Term.TheVariants.{Local, Word, Message', Binary', Logical', Not', Choice'}
-use Rattle.rule_nodes.specs.declared.syntax.Term.TheVariants.{Count'}
-use Rattle.rule_nodes.specs.declared.syntax.Statement.{Statement}
-use Rattle.rule_nodes.specs.declared.syntax.Statement.TheVariants.{Nothing, Then', Let', Assign, If', For', SendAll}
-use Rattle.rule_nodes.specs.declared.syntax.Statement.TheVariants.{SendTo}
+use Rattle.rule_syntax.specs.declared.syntax.Operator.{Operator}
+use Rattle.rule_syntax.specs.declared.syntax.Connective.{Connective}
+use Rattle.rule_syntax.specs.declared.syntax.Target.{Target}
+use Rattle.rule_syntax.specs.declared.syntax.Assignment.{Assignment}
+use Rattle.rule_syntax.specs.declared.syntax.Assignment.TheVariants.{One, Also'}
+use Rattle.rule_syntax.specs.declared.syntax.Term.{Term}
+use Rattle.rule_syntax.specs.declared.syntax.Term.TheVariants.{Number, Nodes, Faults, Modulus, Me, Coin, LoopNode}
+use Rattle.rule_syntax.specs.declared.syntax.Term.TheVariants.{Local, Word, Message', Binary', Logical', Not', Choice'}
+use Rattle.rule_syntax.specs.declared.syntax.Term.TheVariants.{Count'}
+use Rattle.rule_syntax.specs.declared.syntax.Statement.{Statement}
+use Rattle.rule_syntax.specs.declared.syntax.Statement.TheVariants.{Nothing, Then', Let', Assign, If', For', SendAll}
+use Rattle.rule_syntax.specs.declared.syntax.Statement.TheVariants.{SendTo}
 
 pub data TermForm : Type 0 where
   number : ℕ → TermForm

@@ -6,6 +6,5 @@ pub mod Terms
 pub mod Statements
 pub mod Spelling
 pub mod Rules
-pub mod Programs
+pub mod Errors
 pub mod Lines
-pub mod ProgramLines

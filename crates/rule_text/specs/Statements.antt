@@ -3,8 +3,8 @@ use Rattle.std.specs.Prelude.{ℕ, zero, suc, ◌-◌, ◌==◌, ◌&&◌, nat_l
 use Rattle.std.specs.Prelude.{List, [], ◌∷◌, ◌++◌}
 use Rattle.std.specs.Prelude.{Option, Some, None, Result, Ok, Err}
 use Rattle.std.specs.List.{list_any}
-use Rattle.rule_nodes.specs.declared.syntax.Target.{Target}
-use Rattle.rule_nodes.specs.declared.syntax.Target.TheVariants.{ToLocal, ToWord}
+use Rattle.rule_syntax.specs.declared.syntax.Target.{Target}
+use Rattle.rule_syntax.specs.declared.syntax.Target.TheVariants.{ToLocal, ToWord}
 use Rattle.rule_text.specs.declared.errors.RuleError.TheVariants.{BadIndent, Expected, UnknownName, NameTwice}
 use Rattle.rule_text.specs.declared.errors.RuleError.TheVariants.{NotAssignable, TooDeep, TooLong}
 use Rattle.rule_text.specs.declared.errors.ReadRuleError.{ReadRuleError}

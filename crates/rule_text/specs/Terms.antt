@@ -2,11 +2,11 @@
 use Rattle.std.specs.Prelude.{ℕ, zero, suc, Bool, false, if◌then◌else◌, List, [], ◌∷◌, Option, Some, None}
 use Rattle.std.specs.Prelude.{option_map, Result, Ok, Err}
 use Rattle.node_env.specs.declared.env.TheConstants.{NO_MAIL}
-use Rattle.rule_nodes.specs.declared.syntax.Operation.TheVariants as operations
-use Rattle.rule_nodes.specs.declared.syntax.Comparison.{Comparison}
-use Rattle.rule_nodes.specs.declared.syntax.Comparison.TheVariants as comparisons
-use Rattle.rule_nodes.specs.declared.syntax.Operator.TheVariants.{Compute, Compare}
-use Rattle.rule_nodes.specs.declared.syntax.Connective.TheVariants.{And, Or}
+use Rattle.rule_syntax.specs.declared.syntax.Operation.TheVariants as operations
+use Rattle.rule_syntax.specs.declared.syntax.Comparison.{Comparison}
+use Rattle.rule_syntax.specs.declared.syntax.Comparison.TheVariants as comparisons
+use Rattle.rule_syntax.specs.declared.syntax.Operator.TheVariants.{Compute, Compare}
+use Rattle.rule_syntax.specs.declared.syntax.Connective.TheVariants.{And, Or}
 use Rattle.rule_text.specs.declared.errors.RuleError.TheVariants.{Expected, UnknownName, TooDeep, TooLong}
 use Rattle.rule_text.specs.declared.errors.ReadRuleError.{ReadRuleError}
 use Rattle.rule_text.specs.declared.signs.Sign.{Sign}

@@ -14,7 +14,7 @@ use crate::lexemes::{Kind, Token};
 use crate::scope::{Entry, Meaning, error_at, error_in, meaning_of};
 use crate::signs::Sign;
 use crate::terms::term;
-use rule_nodes::{Assignment, Statement, Target, Term};
+use rule_syntax::{Assignment, Statement, Target, Term};
 use std::alloc::{AllocError, Global};
 
 fn same_target(a: Target, b: Target) -> bool

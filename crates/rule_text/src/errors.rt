@@ -1,6 +1,6 @@
 //! Why a text is no rule.
 ghost use Rattle.std.specs.Prelude.{◌≡◌};
-ghost use Rattle.rule_text.specs.Programs.{error_name};
+ghost use Rattle.rule_text.specs.Errors.{error_name};
 
 use std::alloc::AllocError;
 

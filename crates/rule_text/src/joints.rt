@@ -11,7 +11,7 @@ use crate::lexemes::{Kind, Token};
 use crate::scope::{Meaning, error_at, error_in};
 use crate::signs::{Sign, is_same};
 use node_env::NO_MAIL;
-use rule_nodes::{Comparison, Connective, Operation, Operator, Term};
+use rule_syntax::{Comparison, Connective, Operation, Operator, Term};
 use std::alloc::{AllocError, Global};
 
 /// Operators of one precedence, the tightest first.

@@ -75,7 +75,7 @@ fn lines_of(alloc: Global, tokens: &[Token]) -> Result<Vec<usize>, AllocError>
 }
 
 /// Returns the line of each statement of a text, in the order of the text. If the text is read as a rule, these are as
-/// many as the rule has statements: entry k is for the statement that `rule_owners` of `rule_nodes` calls k.
+/// many as the rule has statements: entry k is for the statement that `owners_of` of `rule_nodes` calls k.
 pub fn statement_lines(alloc: Global, text: &[u8]) -> Result<Vec<usize>, AllocError>
     ensures { IfOk result (λ lines. lines.items ≡ statement_lines text.now) }
 {

@@ -2,7 +2,7 @@
 ghost use Rattle.std.specs.Prelude.{◌≡◌, IfOk};
 ghost use Rattle.rule_text.specs.Forms.{term_form, statement_form, sequence, let_in, branch, each};
 
-use rule_nodes::{Statement, Term};
+use rule_syntax::{Statement, Term};
 use std::alloc::{AllocError, Global};
 
 pub fn sequence_of(alloc: Global, a: Statement, b: Statement) -> Result<Statement, AllocError>

@@ -14,7 +14,7 @@ use crate::scope::{Entry, Maker, error_at, error_in, new_name, word_count};
 use crate::signs::Sign;
 use crate::statements::{Block, Layer, MAX_STEPS, is_start, lines};
 use crate::terms::MAX_PARTS;
-use rule_nodes::Statement;
+use rule_syntax::Statement;
 use std::alloc::Global;
 
 /// A rule: what it does in a pulse, and how many words of the memory it has, the clock among them.

@@ -16,7 +16,7 @@ use crate::parts::{branch_of, each_of, let_of, sequence_of};
 use crate::scope::{Entry, Maker, error_at, error_in, new_name};
 use crate::signs::Sign;
 use crate::terms::term;
-use rule_nodes::{Statement, Term};
+use rule_syntax::{Statement, Term};
 use std::alloc::Global;
 
 /// The most steps from line to line: two for each line.

@@ -15,7 +15,7 @@ use crate::layout::MAX_LINE_TOKENS;
 use crate::lexemes::{Kind, Token};
 use crate::scope::{Entry, Maker, Meaning, error_at, error_in, meaning_of, new_name};
 use crate::signs::Sign;
-use rule_nodes::{Operator, Term};
+use rule_syntax::{Operator, Term};
 use std::alloc::Global;
 
 /// The most parts in one another.

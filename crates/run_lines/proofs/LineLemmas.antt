@@ -29,8 +29,8 @@ use Rattle.run_lines.specs.declared.fault.LinesFault.TheVariants as faults
 use Rattle.run_lines.specs.declared.writer.LineWriter.{LineWriter}
 use Rattle.run_lines.specs.Data.{judged_seen}
 use Rattle.run_lines.specs.Lines.{first_line, front_text, summary_line, line_within, told_line, whole_text}
-use Rattle.run_lines.specs.declared.form.LinesForm.{LinesForm}
-use Rattle.run_lines.specs.Spans.{is_within}
+use Rattle.parameters.specs.declared.lines.LinesForm.{LinesForm}
+use Rattle.parameters.specs.Pulses.{is_within}
 use Rattle.run_lines.specs.Telling.{AreShown, IsFrontText, IsWholeText, LeavesFront, LeavesLines}
 use Rattle.run_lines.proofs.JudgingLaws.{judges_as_the_report}
 use Rattle.run_lines.specs.inner.Writing.{IsEndOfLines, IsReason, KeepsReason, TellsPulse}

@@ -2,7 +2,6 @@ pub mod Staged
 pub mod Data
 pub mod Readers
 pub mod Laws
-pub mod Spans
 pub mod Lines
 pub mod Telling
 pub mod inner

@@ -5,11 +5,11 @@ use Rattle.scenario_text.specs.declared.scenario.Scenario.{Scenario}
 use Rattle.scenario_text.specs.Views.{frame_of}
 use Rattle.bench_scenario.specs.declared.summary.RunSummary.{RunSummary}
 use Rattle.json_values.specs.Texts.{json_line}
-use Rattle.run_lines.specs.declared.form.LineFormat.{LineFormat}
-use Rattle.run_lines.specs.declared.form.LineFormat.TheVariants.{Json}
-use Rattle.run_lines.specs.declared.form.LinesForm.{LinesForm}
+use Rattle.parameters.specs.declared.lines.LineFormat.{LineFormat}
+use Rattle.parameters.specs.declared.lines.LineFormat.TheVariants.{Json}
+use Rattle.parameters.specs.declared.lines.LinesForm.{LinesForm}
 use Rattle.run_lines.specs.Data.{frame_data, judged_seen, last_data, pulse_data}
-use Rattle.run_lines.specs.Spans.{is_within}
+use Rattle.parameters.specs.Pulses.{is_within}
 use Rattle.run_lines.specs.Staged.{staged_at}
 
 -- ---- the lines of each format

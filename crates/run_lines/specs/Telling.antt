@@ -17,7 +17,7 @@ use Rattle.stream_io.specs.Parts.{Breaks}
 use Rattle.run_lines.specs.declared.fault.LinesFault.{LinesFault}
 use Rattle.run_lines.specs.declared.fault.LinesFault.TheVariants as faults
 use Rattle.run_lines.specs.Lines.{front_text, whole_text}
-use Rattle.run_lines.specs.declared.form.LinesForm.{LinesForm}
+use Rattle.parameters.specs.declared.lines.LinesForm.{LinesForm}
 
 -- on the scenario's bench, which is new, these events show these pulses
 abbrev pub AreShown : Scenario → List Event → List Seen → Type 0

@@ -2,19 +2,17 @@
 #![tactic(auto)]
 
 mod fault;
-mod form;
+mod formats;
 mod frame_lines;
 pub mod laws;
 mod nodes;
 mod pulse_lines;
-mod span;
 mod staged;
 mod telling;
 mod writer;
 
 pub use fault::LinesFault;
-pub use form::{LineFormat, LinesForm};
 pub use frame_lines::{frame_line, last_line};
+pub use parameters::{LineFormat, LinesForm, PulseSpan};
 pub use pulse_lines::pulse_line;
-pub use span::PulseSpan;
 pub use telling::tell_lines;

@@ -6,10 +6,11 @@ ghost use Rattle.run_lines.specs.Telling.{LeavesLines};
 ghost use Rattle.stream_io.specs.Parts.{Adds, IsPartFault};
 
 use crate::fault::LinesFault;
-use crate::form::{LineFormat, LinesForm};
+use crate::formats;
 use crate::writer::LineWriter;
 use bench_scenario::run_watched;
 use bench_workers::MAX_WORKERS;
+use parameters::{LineFormat, LinesForm};
 use scenario_text::Scenario;
 use std::alloc::Global;
 use std::io::Write;
@@ -28,7 +29,7 @@ fn write_first<W: Write>(
     ensures fault { IfErr result (IsPartFault (W.contents out.old) (W.contents out.new) 0
         (first_line format scenario.now)) }
 {
-    let line = format.first_line(alloc, scenario)?;
+    let line = formats::first_line(alloc, format, scenario)?;
     write_part(out, 0, line.as_bytes())
 }
 

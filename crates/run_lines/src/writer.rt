@@ -8,10 +8,11 @@ ghost use Rattle.run_lines.specs.inner.Writing.{IsEndOfLines, IsReason, TellsPul
 ghost use Rattle.run_lines.specs.Lines.{line_within};
 
 use crate::fault::LinesFault;
-use crate::form::LinesForm;
+use crate::formats;
 use bench_core::PulseRecord;
 use bench_scenario::{Judged, WatchedFault, judgement, none_disagrees, summary_of};
 use bench_workers::{Shown, Stop, Watcher};
+use parameters::LinesForm;
 use scenario_text::Scenario;
 use std::alloc::Global;
 use std::io::Write;
@@ -88,7 +89,7 @@ impl<'a> LineWriter<'a> {
             return Ok(());
         }
         let format = self.form.format;
-        let line = format.pulse_line(self.alloc, self.scenario, shown, judged)?;
+        let line = formats::pulse_line(self.alloc, format, self.scenario, shown, judged)?;
         self.written = write_part(out, self.written, line.as_bytes())?;
         Ok(())
     }
@@ -107,7 +108,7 @@ impl<'a> LineWriter<'a> {
         let judged = self.judged.as_slice();
         let agrees = none_disagrees(judged);
         let summary = summary_of(self.scenario.modulus, records, judged);
-        let line = self.form.format.last_line(self.alloc, &summary)?;
+        let line = formats::last_line(self.alloc, self.form.format, &summary)?;
         write_part(out, self.written, line.as_bytes())?;
         Ok(agrees)
     }

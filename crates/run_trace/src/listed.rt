@@ -15,7 +15,7 @@ use rule_listing::{line_at, push_heading};
 use std::alloc::{AllocError, Global};
 
 /// The program of a rule, the rule's text, and the line of each instruction: entry k of `lines` is for slot k + 1, as
-/// `instruction_lines` of `rule_text` returns them.
+/// `program_with_lines` of `rule_programs` returns them.
 #[derive(Clone, Copy)]
 pub struct RuleCode<'a> {
     pub program: &'a Program,

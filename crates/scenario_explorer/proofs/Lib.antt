@@ -1,5 +1,6 @@
 pub mod PlaceLemmas
 pub mod ExploreLemmas
+pub mod TheoremLemmas
 pub mod RuleSteps
 pub mod RulePaths
 pub mod RulesFound

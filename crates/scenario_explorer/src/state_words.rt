@@ -4,9 +4,6 @@
 use scenario_text::{ProgramText, Scenario};
 use std::alloc::{AllocError, Global};
 
-/// How many bytes a word has.
-pub(crate) const WORD_BYTES: u32 = 4;
-
 /// Returns what a line of a rule says but for its comment.
 fn code_of(line: &str) -> &str {
     match line.split_once('#') {

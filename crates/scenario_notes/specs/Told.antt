@@ -4,8 +4,8 @@ use Rattle.std.specs.Prelude.{◌≡◌, ℕ, List, ◌++◌, codes, Option, Som
 use Rattle.toml.specs.Data.{Members}
 use Rattle.bpf_asm.specs.Errors.{text_error_line}
 use Rattle.bpf_verify.specs.declared.rule.Rule.{Rule}
-use Rattle.rule_text.specs.declared.program.RuleRefusal.{RuleRefusal}
-use Rattle.rule_text.specs.declared.program.RuleRefusal.TheVariants as rules
+use Rattle.rule_programs.specs.declared.program.RuleRefusal.{RuleRefusal}
+use Rattle.rule_programs.specs.declared.program.RuleRefusal.TheVariants as rules
 use Rattle.scenario_text.specs.declared.refusal.Place.{Place}
 use Rattle.scenario_text.specs.declared.refusal.ScenarioError.{ScenarioError}
 use Rattle.scenario_text.specs.declared.refusal.ScenarioError.TheVariants as errors

@@ -12,7 +12,7 @@ use node_env::Shape;
 use rule_notes::advice_at;
 use rule_notes::near::nearest;
 use rule_notes::shown::shown;
-use rule_text::RuleRefusal;
+use rule_programs::RuleRefusal;
 use scenario_text::keys::Key;
 use scenario_text::{CLOCK_VERSION, MAX_TEXT, NOISE_VERSION, Place, RULE_VERSION, ScenarioError};
 use std::alloc::{AllocError, Global};

@@ -14,7 +14,7 @@ use crate::toml_fault::toml_note;
 use bpf_verify::Rule;
 use rule_notes::near::nearest;
 use rule_notes::shown::shown;
-use rule_text::RuleRefusal;
+use rule_programs::RuleRefusal;
 use scenario_text::{Parsed, Place, Rejected, ScenarioError};
 use std::alloc::{AllocError, Global};
 use std::str;

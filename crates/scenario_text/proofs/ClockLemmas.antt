@@ -4,8 +4,8 @@ use Rattle.std.specs.Prelude.{Option, Some, None, codes}
 use Rattle.toml.specs.Data.{Data, array, string, integer, float, boolean, datetime, table, Members, get_member}
 use Rattle.bpf_insn.specs.declared.forms.Insn.{Insn}
 use Rattle.clock_nodes.specs.Listings.{clock_listing}
-use Rattle.rule_text.specs.Programs.{IsProgramOfText}
-use Rattle.rule_text.proofs.ProgramLemmas.{one_program}
+use Rattle.rule_programs.specs.Programs.{IsProgramOfText}
+use Rattle.rule_programs.proofs.ProgramLemmas.{one_program}
 use Rattle.scenario_text.specs.declared.scenario.ClockKey.{ClockKey}
 use Rattle.scenario_text.specs.declared.scenario.ClockKey.TheVariants as keys
 use Rattle.scenario_text.specs.declared.scenario.Frame.{Frame}

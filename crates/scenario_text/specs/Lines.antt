@@ -4,9 +4,9 @@ use Rattle.std.specs.Fmt.{decimal}
 use Rattle.bpf_asm.specs.declared.text_error.TextError.{TextError}
 use Rattle.bpf_asm.specs.Errors.{text_error_line, text_error_name}
 use Rattle.bpf_verify.specs.Rules.{rule_number}
-use Rattle.rule_text.specs.Programs.{error_name}
-use Rattle.rule_text.specs.declared.program.RuleRefusal.{RuleRefusal}
-use Rattle.rule_text.specs.declared.program.RuleRefusal.TheVariants as rules
+use Rattle.rule_text.specs.Errors.{error_name}
+use Rattle.rule_programs.specs.declared.program.RuleRefusal.{RuleRefusal}
+use Rattle.rule_programs.specs.declared.program.RuleRefusal.TheVariants as rules
 use Rattle.scenario_text.specs.declared.refusal.Place.{Place}
 use Rattle.scenario_text.specs.declared.refusal.Place.TheVariants as places
 use Rattle.scenario_text.specs.declared.refusal.ScenarioError.{ScenarioError}

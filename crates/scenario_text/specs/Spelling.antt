@@ -20,8 +20,8 @@ use Rattle.scenario_text.specs.Noise.{HasNoise}
 use Rattle.clock_nodes.specs.Rule as clocks
 use Rattle.clock_nodes.specs.Listings.{clock_listing, say_listing, echo_listing}
 use Rattle.clock_nodes.specs.declared.rule.TheConstants.{LEAST_MODULUS, MAX_MODULUS}
-use Rattle.rule_nodes.specs.declared.syntax.Sizes.{Sizes}
-use Rattle.rule_text.specs.Programs.{IsProgramOfText}
+use Rattle.rule_syntax.specs.declared.syntax.Sizes.{Sizes}
+use Rattle.rule_programs.specs.Programs.{IsProgramOfText}
 use Rattle.node_env.specs.declared.shape.TheConstants.{MAX_NODES, MAX_MEMORY, MEMORY_UNIT}
 use Rattle.scenario_text.specs.declared.limits.TheConstants.{FIRST_VERSION, LAST_VERSION, CLOCK_VERSION, RULE_VERSION, NOISE_VERSION, FIRST_MAX_NODES, MAX_PULSES, MAX_KEY, MAX_SAID, MAX_CHANGES, MAX_COIN_ENTRIES}
 use Rattle.scenario_text.specs.Tables.{knows, IsNumber, HasNumber, HasText, text_under, IsArray, MayBeArray, IsTable}

@@ -4,7 +4,7 @@ ghost use Rattle.scenario_text.specs.Lines.{path_text, text_of_place, refusal_li
 
 use crate::refusal::{Place, ScenarioError};
 use bpf_asm::TextError;
-use rule_text::RuleRefusal;
+use rule_programs::RuleRefusal;
 use std::fmt;
 
 #[derive(Clone, Copy)]

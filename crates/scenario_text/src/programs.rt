@@ -20,7 +20,7 @@ use bpf_insn::Program;
 use bpf_verify::{VerifiedProgram, VerifyError, verify};
 use clock_nodes::{ClockRule, dolev_welch, echo, say};
 use node_env::Shape;
-use rule_text::program_of_text;
+use rule_programs::program_of_text;
 use std::alloc::{AllocError, Global};
 use toml::Table;
 

@@ -1,7 +1,7 @@
 //! Why a text or a table is no scenario.
 use bpf_asm::TextError;
 use bpf_verify::Rule;
-use rule_text::RuleRefusal;
+use rule_programs::RuleRefusal;
 use std::alloc::AllocError;
 use thiserror::Error;
 

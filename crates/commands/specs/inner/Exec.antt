@@ -8,11 +8,12 @@ use Rattle.commands.specs.declared.ending.Ending.TheVariants.{Done}
 use Rattle.commands.specs.declared.exec.Reply.{Reply}
 use Rattle.commands.specs.declared.fault.Fault.{Fault}
 use Rattle.commands.specs.declared.left.LeftByRun.{LeftByRun}
-use Rattle.commands.specs.declared.request.ExecOptions.{ExecOptions}
+use Rattle.requests.specs.declared.request.ExecOptions.{ExecOptions}
 use Rattle.commands.specs.Answer.{told_text}
-use Rattle.commands.specs.Case.{Left, case_memory, case_setting}
+use Rattle.requests.specs.Case.{case_memory, case_setting}
+use Rattle.commands.specs.Left.{Left}
 use Rattle.commands.specs.Exec.{LeavesSteps}
-use Rattle.commands.specs.Image.{asked_extent}
+use Rattle.requests.specs.Shapes.{asked_extent}
 use Rattle.commands.specs.Output.{LeavesAny}
 
 -- what a run leaves, as contracts see it

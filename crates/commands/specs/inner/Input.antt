@@ -2,8 +2,8 @@
 use Rattle.std.specs.Prelude.{◌≡◌, ℕ, List, Bool, Result, Ok, Err}
 use Rattle.commands.specs.declared.program.ProgramRead.{ProgramRead}
 use Rattle.commands.specs.declared.rejection.Unread.{Unread}
-use Rattle.commands.specs.declared.request.ShapeOptions.{ShapeOptions}
-use Rattle.commands.specs.Image.{HasShape, asked_extent}
+use Rattle.requests.specs.declared.request.ShapeOptions.{ShapeOptions}
+use Rattle.requests.specs.Shapes.{HasShape, asked_extent}
 use Rattle.commands.specs.Input.{IsProgramOfInput, IsUnread}
 
 -- what is read of these bytes under these options: a program, or why there is none

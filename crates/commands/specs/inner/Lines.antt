@@ -1,6 +1,6 @@
 -- Beside Lines: what proofs and private contracts alone cite.
 use Rattle.std.specs.Prelude.{◌≡◌, ℕ, string_bytes}
-use Rattle.run_lines.specs.Spans.{PulseRange}
+use Rattle.parameters.specs.Pulses.{PulseRange}
 use Rattle.commands.specs.declared.fault.Fault.{Fault}
 use Rattle.commands.specs.declared.fault.Fault.TheVariants.{Read, Write, Memory, Thread, CommandLine}
 use Rattle.commands.specs.Lines.{past_text}

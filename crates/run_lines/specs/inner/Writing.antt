@@ -14,7 +14,7 @@ use Rattle.stream_io.specs.declared.parts.PartFault.TheVariants.{Memory}
 use Rattle.stream_io.specs.Parts.{Adds, IsPartFault}
 use Rattle.run_lines.specs.declared.fault.LinesFault.{LinesFault}
 use Rattle.run_lines.specs.declared.fault.LinesFault.TheVariants as faults
-use Rattle.run_lines.specs.declared.form.LineFormat.{LineFormat}
+use Rattle.parameters.specs.declared.lines.LineFormat.{LineFormat}
 use Rattle.run_lines.specs.declared.writer.LineWriter.{LineWriter}
 use Rattle.run_lines.specs.Data.{judged_seen}
 use Rattle.run_lines.specs.Lines.{summary_line, line_within}

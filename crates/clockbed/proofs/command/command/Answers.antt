@@ -1,6 +1,6 @@
 use Rattle.std.proofs.Common.{inl, inr}
-use Rattle.clockbed.specs.Requests.{IsAsked, IsAskedWithFile}
-use Rattle.clockbed.specs.declared.request.Invocation.{Invocation}
+use Rattle.command_line.specs.Requests.{IsAsked, IsAskedWithFile}
+use Rattle.command_line.specs.declared.request.Invocation.{Invocation}
 use Rattle.clockbed.proofs.command.command.Goals as goal
 
 -- with any file

@@ -1,6 +1,6 @@
 use Rattle.std.proofs.Common.{◌≡◌, ◌++◌, drop, string_bytes, codes}
 use Rattle.std.specs.Prelude.{flat_map}
-use Rattle.commands.specs.Case.{mail_slot_text}
+use Rattle.commands.specs.Left.{mail_slot_text}
 use Rattle.commands.proofs.left.add_more.Given as goal
 
 -- what is written and what is still to come are the whole

@@ -1,5 +1,5 @@
 use Rattle.std.proofs.Common.{◌≡◌}
-use Rattle.commands.specs.Case.{slots_below}
+use Rattle.commands.specs.Left.{slots_below}
 use Rattle.commands.proofs.left.slots_of.Given as goal
 
 abbrev pub invariant-loop-receiver : goal.invariant-loop-receiver

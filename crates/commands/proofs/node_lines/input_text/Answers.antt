@@ -1,7 +1,7 @@
 use Rattle.std.proofs.Common.{ap, ◌∙◌, ◌++◌}
 use Rattle.std.specs.Prelude.{string_bytes}
 use Rattle.std.specs.Fmt.{decimal}
-use Rattle.commands.specs.Case.{mail_text}
+use Rattle.commands.specs.Left.{mail_text}
 use Rattle.commands.specs.TracedRun.{place_lines}
 use Rattle.commands.proofs.TracedRunLemmas.{added}
 use Rattle.commands.proofs.node_lines.input_text.Goals as goal

@@ -4,7 +4,7 @@ use Rattle.bpf_insn.specs.declared.listing.TheConstants.{MAX_SLOTS}
 use Rattle.bpf_insn.specs.declared.listing.ProgramError.{ProgramError}
 use Rattle.bpf_insn.specs.Programs.{slots_of, RefusesInsns}
 use Rattle.clock_nodes.specs.Ends.{HasRuns, EndsBy}
-use Rattle.rule_nodes.specs.declared.syntax.Sizes.{Sizes}
+use Rattle.rule_syntax.specs.declared.syntax.Sizes.{Sizes}
 use Rattle.rule_nodes.specs.Fits.{BlockFits}
 use Rattle.rule_nodes.specs.Code.{rule_code}
 use Rattle.rule_nodes.specs.Ends.{AreSizes, sizes_of, IsRuleEnd}

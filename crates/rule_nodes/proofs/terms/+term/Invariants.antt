@@ -1,6 +1,6 @@
 use Rattle.std.proofs.Common.{◌≡◌, ◌≤◌, ◌+◌, ◌++◌, [], ◌∷◌, length, false}
 use Rattle.bpf_insn.specs.declared.listing.TheConstants.{MAX_SLOTS}
-use Rattle.rule_nodes.specs.declared.syntax.Purpose.TheVariants.{Jump}
+use Rattle.rule_nodes.specs.declared.numbers.Purpose.TheVariants.{Jump}
 use Rattle.rule_nodes.specs.Code.{count_codes, term_code}
 use Rattle.rule_nodes.proofs.terms.+term.Given as goal
 

@@ -5,8 +5,8 @@ use Rattle.toml.specs.View.{table_view}
 use Rattle.bpf_insn.specs.declared.forms.Insn.{Insn}
 use Rattle.node_env.specs.Env.{Extent}
 use Rattle.rule_nodes.specs.Ends.{sizes_of}
-use Rattle.rule_nodes.specs.declared.syntax.Sizes.{Sizes}
-use Rattle.rule_text.specs.Programs.{IsProgramOfText}
+use Rattle.rule_syntax.specs.declared.syntax.Sizes.{Sizes}
+use Rattle.rule_programs.specs.Programs.{IsProgramOfText}
 use Rattle.scenario_text.specs.Spelling.{sizes_in}
 use Rattle.scenario_text.proofs.ClockLemmas.{rule_excluded}
 use Rattle.scenario_text.proofs.programs.rule_in.Goals as goal

@@ -1,7 +1,7 @@
 use Rattle.std.proofs.Common.{◌∙◌, ap, refl, rules, sym}
 use Rattle.bench_workers.specs.Watching.{seen_of}
 use Rattle.run_lines.proofs.LineLemmas.{none_told}
-use Rattle.run_lines.specs.Spans.{is_within}
+use Rattle.parameters.specs.Pulses.{is_within}
 use Rattle.run_lines.proofs.writer.LineWriter.tell.Goals as goal
 
 pub returns-then-not-contains-clause-told : goal.returns-then-not-contains-clause-told

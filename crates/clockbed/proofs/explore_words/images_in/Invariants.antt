@@ -1,7 +1,0 @@
-use Rattle.std.proofs.Common.{map}
-use Rattle.std.specs.List.{AllZip}
-use Rattle.clockbed.specs.Explore.{IsMemoryImage}
-use Rattle.clockbed.proofs.explore_words.images_in.Given as goal
-
-abbrev pub invariant-loop-part : goal.invariant-loop-part
-invariant-loop-part l = AllZip IsMemoryImage (map (λ part. part.now) l.yielded) (map (λ v. v.items) l.images.items)

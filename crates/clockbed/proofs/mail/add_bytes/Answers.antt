@@ -1,6 +1,0 @@
-use Rattle.clockbed.proofs.RangeLemmas.{adds_part}
-use Rattle.clockbed.proofs.mail.add_bytes.Goals as goal
-
-pub returns-clause-added : goal.returns-clause-added
-returns-clause-added c = adds_part c.args.part.now c.in-Some.span.first c.in-Some.span.last
-    c.args.bytes.now.keys c.insert_span.new.numbers.keys c.in-Some.ensures.range c.in_ok-insert_span.ensures

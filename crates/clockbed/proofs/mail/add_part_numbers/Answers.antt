@@ -1,6 +1,0 @@
-use Rattle.clockbed.proofs.RangeLemmas.{adds_part}
-use Rattle.clockbed.proofs.mail.add_part_numbers.Goals as goal
-
-pub returns-clause-added : goal.returns-clause-added
-returns-clause-added c = adds_part c.args.part.now c.in_ok-span.span.first c.in_ok-span.span.last
-    c.args.numbers.now.keys c.insert_span.new.numbers.keys c.in_ok-span.ensures.range c.in_ok-insert_span.ensures

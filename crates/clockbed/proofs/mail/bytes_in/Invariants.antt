@@ -1,6 +1,0 @@
-use Rattle.std.proofs.Common.{map}
-use Rattle.clockbed.specs.inner.Spans.{AreNumbersOf}
-use Rattle.clockbed.proofs.mail.bytes_in.Given as goal
-
-abbrev pub invariant-loop-part : goal.invariant-loop-part
-invariant-loop-part l = AreNumbersOf 256 (map (λ part. part.now) l.yielded) l.bytes.keys

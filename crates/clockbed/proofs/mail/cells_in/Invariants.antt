@@ -1,6 +1,0 @@
-use Rattle.std.proofs.Common.{map}
-use Rattle.clockbed.specs.Lists.{AreEntries}
-use Rattle.clockbed.proofs.mail.cells_in.Given as goal
-
-abbrev pub invariant-loop-part : goal.invariant-loop-part
-invariant-loop-part l = AreEntries (map (λ part. part.now) l.yielded) l.all.items

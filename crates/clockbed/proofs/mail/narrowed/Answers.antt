@@ -1,8 +1,0 @@
-use Rattle.std.proofs.Common.{rules}
-use Rattle.clockbed.proofs.SpanLemmas.{narrow_more}
-use Rattle.clockbed.proofs.mail.narrowed.Goals as goal
-
-pub loop-span-preserved : goal.loop-span-preserved
-loop-span-preserved c = narrow_more c.args.wide.now c.loop-span.span-index c.loop-span.spans.items
-    c.push.new.self.items c.in-Some.narrow (record { first = 0; last = 0 }) (search rules) c.loop-span.invariant
-    c.in_ok-push.ensures.items (search rules)

@@ -1,8 +1,0 @@
-use Rattle.std.proofs.Common.{◌≡◌, [], fold, map}
-use Rattle.std.specs.Map.Iter.{deref}
-use Rattle.clockbed.specs.Lists.{mail_spans}
-use Rattle.clockbed.specs.inner.Spans.{with_span_number}
-use Rattle.clockbed.proofs.mail.spans_of.Given as goal
-
-abbrev pub invariant-loop-number : goal.invariant-loop-number
-invariant-loop-number l = mail_spans l.spans.items ≡ fold with_span_number [] (map deref l.yielded)

@@ -1,6 +1,0 @@
-use Rattle.std.proofs.Common.{inr}
-use Rattle.clap.specs.Matches.{found_of}
-use Rattle.clockbed.proofs.request.parse.Goals as goal
-
-pub returns-in-Ok : goal.returns-in-Ok
-returns-in-Ok g c = inr (c.in-Some.name.now, found_of c.in-Some.options.now, c.in-Ok.ensures)

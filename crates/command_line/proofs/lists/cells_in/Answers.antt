@@ -1,0 +1,23 @@
+use Rattle.std.proofs.Common.{◌≡◌, map, subst}
+use Rattle.std.proofs.Math.Dec.{lit<}
+use Rattle.std.proofs.lemmas.Iterator.Consumers.{YieldsList-end}
+use Rattle.std.proofs.lemmas.Iterator.Splits.{YieldsList-from_str_split}
+use Rattle.command_line.specs.Lists.{AreEntries, comma_parts}
+use Rattle.command_line.specs.inner.Entries.{AddsCells}
+use Rattle.command_line.proofs.EntryLemmas.{more_cells}
+use Rattle.command_line.proofs.NumberLemmas.{map_push}
+use Rattle.command_line.proofs.lists.cells_in.Goals as goal
+
+pub loop-part-preserved : goal.loop-part-preserved
+loop-part-preserved c =
+    let adds : AddsCells c.loop-part.all.items c.add_cells.new.all.items c.in-Some.part.now =
+    rw c.if-not-branch.false at c.in_ok-add_cells.ensures in
+    rw map_push (more_cells c.loop-part.all.items c.add_cells.new.all.items
+    (map (λ part. part.now) c.loop-part.yielded) c.in-Some.part.now adds c.loop-part.invariant)
+
+pub returns : goal.returns
+returns c =
+    let all : map (λ part. part.now) c.loop-part.yielded ≡ comma_parts c.args.text.now =
+    (YieldsList-end (YieldsList-from_str_split 44 c.args.text.now (lit< tt) (cc) (cc) (cc)) c.loop-part.yielded _
+    c.loop-part.yielded_by _ _ c.in-None.is c.next.ensures.steps).0 in
+    subst (λ parts. AreEntries parts c.loop-part.all.items) all c.loop-part.invariant

@@ -1,0 +1,5 @@
+pub mod Explore
+pub mod Lists
+pub mod Numbers
+pub mod Requests
+pub mod inner

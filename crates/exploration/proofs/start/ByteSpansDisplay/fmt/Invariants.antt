@@ -1,0 +1,10 @@
+use Rattle.std.proofs.Common.{take}
+use Rattle.std.specs.Prelude.{flat_map}
+use Rattle.std.specs.Fmt.{HasWritten, IsPlainFormatter}
+use Rattle.exploration.specs.Answers.{byte_span_text}
+use Rattle.exploration.proofs.start.ByteSpansDisplay.fmt.Given as goal
+
+-- what is written is the text of those so far
+abbrev pub invariant-loop-span : goal.invariant-loop-span
+invariant-loop-span g l = IsPlainFormatter l.initial.f
+    → HasWritten g.W.Write.write_str_gives l.initial.f (flat_map byte_span_text (take l.span-index l.span-items)) l.f

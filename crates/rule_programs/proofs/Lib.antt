@@ -1,0 +1,2 @@
+pub mod Rebuilt
+pub mod ProgramLemmas

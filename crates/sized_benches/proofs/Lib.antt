@@ -1,0 +1,10 @@
+pub mod Coins
+pub mod Built
+pub mod Chosen
+pub mod OnePulse
+pub mod Moved
+pub mod Claimed
+pub mod Leading
+pub mod Paths
+pub mod Runs
+pub mod Exist
