@@ -506,9 +506,10 @@ def threads():
 
 # crates of the gate alone, and libraries that come with the toolchain, which have no line in crates.txt
 LEFT_OUT = re.compile(r".*_tests|trials")
+RULE_CRATES = ("rule_syntax", "rule_nodes", "rule_text", "rule_programs", "rule_grammar", "rule_steps")
 AREAS = (
     (BLUE, "machine, verifier, runner", ("bpf_", "node_env", "value_range")),
-    (ORANGE, "clocks, rules, bench", ("bench_", "clock_", "rule_nodes", "rule_text", "rule_grammar")),
+    (ORANGE, "clocks, rules, bench", ("bench_", "clock_", "sized_", "quorums", *RULE_CRATES)),
     (GREEN, "scenarios and output", ("scenario_", "run_", "key_sweep", "stream_io", "rule_")),
     (INK, "commands and programs", ("",)),
 )

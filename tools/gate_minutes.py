@@ -3,7 +3,10 @@
 
 A row has the crate, the minutes of its proof, of its tests and of its must-fail edits, and how many edits it has. The
 tool looks at the command's processes twice a second. A check is told by its command line: a proof of a crate, one with
-its tests, or one of an edit (with the proof that a crate's edits begin with). Exits with the command's status.
+its tests, or one of an edit (with the proof that a crate's edits begin with). Then it prints the longest chain: the
+crates that wait for one another and whose proofs take longest together. Exits with the command's status.
+
+    tools/gate_minutes.py --chain docs/DEVELOPING.md    prints the longest chain by the rows of that page
 """
 import os
 import pathlib
@@ -83,9 +86,44 @@ def print_table(seen):
         print(f"| `{crate}` |", *(f"{cell(row[kind])} |" for kind in KINDS), f"{edits_of(crate) or 'none'} |")
     sums = (f"{kind} {sum(row[kind] for row in minutes.values()):.0f}" for kind in KINDS)
     print("gate_minutes: processor minutes:", ", ".join(sums))
+    print_chain({crate: row["proof"] for crate, row in minutes.items()})
+
+
+def crates_below():
+    """The crates of this repository that each crate uses, by crates.txt."""
+    rows = re.findall(r"^(\w+)[^:#\n]*:(.*)$", (TOP / "crates.txt").read_text(encoding="utf-8"), re.M)
+    used = {name: words.split() for name, words in rows}
+    return {name: [it for it in words if it in used] for name, words in used.items()}
+
+
+def longest_chain(proofs):
+    """The chain of crates whose proofs take longest, lowest first, and its minutes."""
+    below, ends = crates_below(), {}
+
+    def end_at(name):
+        if name not in ends:
+            before = max((end_at(it) for it in below[name]), default=(0.0, ()))
+            ends[name] = before[0] + proofs.get(name, 0.0), before[1] + (name,)
+        return ends[name]
+
+    return max(map(end_at, below), default=(0.0, ()))
+
+
+def print_chain(proofs):
+    minutes, chain = longest_chain(proofs)
+    print(f"gate_minutes: longest chain: {minutes:.1f} minutes:", ", ".join(chain))
+
+
+def rows_of(page):
+    """The minutes of each crate's proof, as a page lists them."""
+    rows = re.findall(r"^\| `(\w+)` \| ([0-9.]+) \|", pathlib.Path(page).read_text(encoding="utf-8"), re.M)
+    return {name: float(minutes) for name, minutes in rows}
 
 
 def main(words):
+    if words[0] == "--chain":
+        print_chain(rows_of(words[1]))
+        return 0
     began = time.monotonic()
     with subprocess.Popen(words) as job:
         seen = watch(job)

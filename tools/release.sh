@@ -21,7 +21,8 @@ trap 'rm -rf "$room"' EXIT
 umask 022
 
 packed=(README.md CHANGELOG.md CONTRIBUTING.md docs examples completions {benchmarks,rows,tools,vectors}/README.md)
-tools=(tools/{picture,play,plot,readings,built_program,own_clock,distances,check_table,rule_meaning}.py tools/play.html tools/README.md 'tools/lab*')
+tools=(tools/{picture,play,plot,readings,built_program,distances,check_table,rule_meaning}.py tools/play.html
+  tools/{find,counter_formula,counter_rule,check_proof,worst_run}.py tools/README.md 'tools/lab*')
 
 say() {
   echo "release: $*" >&2

@@ -8,7 +8,7 @@ import { longText, valueOf } from "./toml.js";
 const FIRST_BOUND = 2000, GROWS_BY = 4, VERSION_OF_MANY = 2, MAX_OF_FIRST = 32;
 // Statuses of the program.
 const HOLDS = 0, VIOLATED = 3, NOT_FINISHED = 4;
-const SCENARIO = /^(version|nodes) = /m, MARK = /^# /;
+const SCENARIO = /^(version|nodes) = /m, MARK = /^# /, BY_THEOREM = ", by the theorem";
 const line = new Line();
 let ticking = null;
 
@@ -113,18 +113,18 @@ async function start() {
   }
 }
 
-/** Asks with a growing bound until there is an answer or the last bound is reached. */
+/** Asks with a growing bound until the search ends or the last bound is reached. A theorem may answer at the last one. */
 async function search(text, asked) {
   const began = Date.now();
   for (let bound = Math.min(FIRST_BOUND, asked.states); ; bound = Math.min(bound * GROWS_BY, asked.states)) {
     const answer = await line.ask("explore", { text, ...asked, states: bound });
     const seconds = ((Date.now() - began) / 1000).toFixed(1), states = /(\d+) states?/.exec(answer.out)?.[1];
-    const isBound = answer.status === NOT_FINISHED && answer.out.includes("--states") && bound < asked.states;
-    if (!isBound) {
+    const isCut = answer.status === NOT_FINISHED && answer.out.includes("--states") || answer.out.includes(BY_THEOREM);
+    if (!isCut || bound >= asked.states) {
       show(answer, seconds);
       return;
     }
-    log(`${states} states, ${seconds} s: goes on`);
+    log(`${states ?? bound} states, ${seconds} s: goes on`);
   }
 }
 
