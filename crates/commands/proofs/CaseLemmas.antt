@@ -1,6 +1,7 @@
 -- What `exec` answers and leaves, from the run in the case that is asked for.
 use Rattle.std.proofs.Common.{◌≡◌, ◌≤◌, ◌∙◌, ◌++◌, arith, codes, length, ℕ, Bool, true, false, List, take, Option, Result, Ok, Err, refl, subst, inl, inr}
 use Rattle.std.proofs.lemmas.List.{take-append-le, take_all}
+use Rattle.std.specs.Io.KnownBytes.{Keeps}
 use Rattle.std.specs.Ordering.{nat_cmp}
 use Rattle.std.specs.FinMap.{FinMap}
 use Rattle.node_env.specs.Env.{Extent, Setting}
@@ -21,12 +22,13 @@ use Rattle.requests.specs.Case.{case_memory, case_setting}
 use Rattle.commands.specs.Left.{Left}
 use Rattle.commands.specs.Exec.{LeavesAnswer, LeavesBy}
 use Rattle.requests.specs.Shapes.{HasShape, asked_extent}
+use Rattle.commands.specs.Faults.{IsFaultOfProgram}
 use Rattle.commands.specs.Input.{IsProgramOfInput, IsUnread}
 use Rattle.commands.specs.Output.{Leaves}
 use Rattle.commands.specs.Rejections.{unread_line}
 use Rattle.commands.specs.inner.Exec.{LeavesRunOf, RunsCase, answer_in, left_in}
 use Rattle.commands.specs.inner.Input.{ReadsInput}
-use Rattle.commands.proofs.LeavesLemmas.{leaves_any}
+use Rattle.commands.proofs.LeavesLemmas.{leaves_any, memory_of_program, no_write_of_program}
 
 -- a run in a setting and from a memory that are the case's
 pub case_run : (asked : ExecOptions) (program : List Insn) (shape : Extent) (env : Setting) (memory left : List ℕ)
@@ -65,10 +67,10 @@ left_run asked bytes read old new (Err (faults.Write after)) reads left = (
   left.2,
   left.3,
 )
-left_run asked bytes read old new (Err faults.Read) reads left = left
-left_run asked bytes read old new (Err faults.Memory) reads left = left
-left_run asked bytes read old new (Err faults.Thread) reads left = left
-left_run asked bytes read old new (Err (faults.CommandLine said)) reads left = left
+left_run asked bytes read old new (Err faults.Read) reads left = absurd left.0
+left_run asked bytes read old new (Err faults.Memory) reads left = (memory_of_program asked.text bytes, left.1)
+left_run asked bytes read old new (Err faults.Thread) reads left = absurd left.0
+left_run asked bytes read old new (Err (faults.CommandLine said)) reads left = absurd left.0
 
 pub by_run : (trace : Bool) (asked : ExecOptions) (bytes : List ℕ) (read : ProgramRead) (old new : Option (List ℕ))
     (ended : Result Ending Fault) → ReadsInput asked.shape asked.text bytes (Ok read)
@@ -83,7 +85,23 @@ pub by_refusal : (trace : Bool) (asked : ExecOptions) (bytes : List ℕ) (why : 
 by_refusal true asked bytes why left old new ended is told = inr (inl (why, is, told))
 by_refusal false asked bytes why left old new ended is told =
     leaves_any {A = Result Answer Unread × Left} (λ a. AnswersLeaving asked bytes a.0 a.1)
-    (λ a. answered_text asked a.0 a.1) (λ a. answered_ending a.0) (Err why, left) old new ended is told
+    (λ a. answered_text asked a.0 a.1) (λ a. answered_ending a.0) (IsFaultOfProgram asked.text bytes) (Err why, left)
+    old new ended is (memory_of_program asked.text bytes) told
+
+-- nothing is left of an input that couldn't be read
+left_fault : (asked : ExecOptions) (bytes : List ℕ) (fault : Fault) (old new : Option (List ℕ))
+    → IsFaultOfProgram asked.text bytes fault → Keeps old new → LeavesAnswer old new asked bytes (Err fault)
+left_fault asked bytes (faults.Write after) old new is keeps =
+    absurd (no_write_of_program asked.text bytes after is)
+left_fault asked bytes faults.Read old new is keeps = (is, keeps)
+left_fault asked bytes faults.Memory old new is keeps = (is, keeps)
+left_fault asked bytes faults.Thread old new is keeps = (is, keeps)
+left_fault asked bytes (faults.CommandLine said) old new is keeps = (is, keeps)
+
+pub by_fault : (trace : Bool) (asked : ExecOptions) (bytes : List ℕ) (fault : Fault) (old new : Option (List ℕ))
+    → IsFaultOfProgram asked.text bytes fault → Keeps old new → LeavesBy trace old new asked bytes (Err fault)
+by_fault true asked bytes fault old new is keeps = inr (inr (is, keeps))
+by_fault false asked bytes fault old new is keeps = left_fault asked bytes fault old new is keeps
 
 -- a slice of a whole vector, after it was written
 pub whole_after : (n : ℕ) (new rest : List ℕ) → n ≡ length new → take n (new ++ rest) ≡ new

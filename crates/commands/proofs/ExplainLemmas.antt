@@ -1,6 +1,7 @@
 -- What is told of a program is told of the image or the text that it was read from.
 use Rattle.std.proofs.Common.{◌≡◌, ◌∙◌, ap, ℕ, List, subst}
 use Rattle.std.specs.Prelude.{Result, IfOk, string_bytes}
+use Rattle.std.specs.declared.alloc.AllocError.{AllocError}
 use Rattle.node_env.specs.Env.{Extent}
 use Rattle.bpf_insn.specs.declared.forms.Insn.{Insn}
 use Rattle.commands.specs.declared.explanation.Told.{Told}
@@ -8,7 +9,6 @@ use Rattle.requests.specs.declared.request.ExplainOptions.{ExplainOptions}
 use Rattle.bpf_verify.specs.declared.findings.Findings.{Findings}
 use Rattle.bpf_verify.specs.Findings.{AreFindings}
 use Rattle.commands.specs.declared.ending.Ending.{Ending}
-use Rattle.commands.specs.declared.fault.Fault.{Fault}
 use Rattle.requests.specs.Shapes.{asked_extent}
 use Rattle.commands.specs.Verdict.{verdict_ending}
 use Rattle.commands.specs.Explained.{Explanation, explanation, explained_text, lines_if_text, verdict_in, ExplainsProgram}
@@ -30,7 +30,7 @@ program_told asked lines program shape findings text ending same are said ends =
       ∙ ap (explanation (explained_text program (asked_extent asked.shape) findings lines asked.detail)) ends,
 )
 
-pub read_told : (asked : ExplainOptions) (bytes lines : List ℕ) (program : List Insn) (result : Result Told Fault)
+pub read_told : (asked : ExplainOptions) (bytes lines : List ℕ) (program : List Insn) (result : Result Told AllocError)
     → lines ≡ lines_if_text asked.text bytes → IfOk result (λ told. ExplainsProgram asked lines program (seen told))
     → IfOk result (λ told. ExplainsProgram asked (lines_if_text asked.text bytes) program (seen told))
 read_told asked bytes lines program result same told =

@@ -3,7 +3,6 @@ mod AnswerLemmas
 mod CaseLemmas
 mod VerdictLemmas
 mod RunLemmas
-mod StressLemmas
 mod FaultLemmas
 mod TracedLemmas
 mod TracedRunLemmas

@@ -1,11 +1,14 @@
 -- The lines of a node's run in a pulse.
-use Rattle.std.proofs.Common.{◌≡◌, ℕ, List, ◌++◌, append_assoc, sym, ap, ◌∙◌, subst}
+use Rattle.std.proofs.Common.{◌≡◌, ◌⊎◌, ℕ, List, ◌++◌, append_assoc, inl, inr, sym, ap, ◌∙◌, subst}
 use Rattle.std.specs.Prelude.{Option, codes}
 use Rattle.node_env.specs.Env.{Extent, Setting}
 use Rattle.node_env.specs.Slots.{map_of}
 use Rattle.bpf_insn.specs.declared.forms.Insn.{Insn}
+use Rattle.bpf_machine.specs.declared.word.Outcome.{Outcome}
+use Rattle.bpf_machine.specs.declared.word.Outcome.TheVariants.{Ended, OutOfFuel, Trap}
+use Rattle.bpf_machine.specs.declared.word.TrapKind.{TrapKind}
 use Rattle.bpf_machine.specs.Run.{CompleteRun, End}
-use Rattle.run_trace.specs.Steps.{steps_of}
+use Rattle.run_trace.specs.Steps.{TracedStep, steps_of}
 use Rattle.scenario_text.specs.declared.scenario.Scenario.{Scenario}
 use Rattle.bench_scenario.specs.declared.inputs.NodeInput.{NodeInput}
 use Rattle.bench_scenario.specs.Runs.{bench_of}
@@ -15,7 +18,7 @@ use Rattle.commands.specs.declared.node_lines.RunEnd.{RunEnd}
 use Rattle.bench_scenario.specs.Inputs.{FitsInput, RunsIn, input_setting}
 use Rattle.commands.specs.NodeRule.{AreStepLines, IsRuleOf, sizes_for}
 use Rattle.commands.specs.TracedRun.{AreRunLines, IsTracedRun, end_lines, input_lines}
-use Rattle.commands.specs.inner.TracedRun.{end_in}
+use Rattle.commands.specs.inner.TracedRun.{AreLinesOfSteps, end_in}
 
 -- a text to which parts are added is that of the parts
 pub added : (place mail coin first second third whole : List ℕ) → first ≡ place → second ≡ first ++ codes "mail "
@@ -34,38 +37,37 @@ pub setting_made : (env : Setting) (shape : Extent) (node : ℕ) (x : NodeInput)
 setting_made env shape node x same id inbox coin =
     λ k. record { shape = same k; id = id k; inbox = inbox k; coin = coin k }
 
--- the lines of steps, by the rule of the program if there is one
-abbrev pub AreLinesOfSteps : Scenario → List Insn → Setting → List ℕ → ℕ → List ℕ → Type 0
-AreLinesOfSteps s program env memory steps told = (rule : Option (List ℕ)) × IsRuleOf s program rule
-    × AreStepLines (sizes_for s) program rule (steps_of program env memory steps) told
+-- a run that ends neither gets stuck nor runs out of fuel
+pub no_other_end : (outcome : Outcome) (r0 steps : ℕ) → outcome ≡ Ended r0 steps
+    → ((slot : ℕ) × (kind : TrapKind) × (outcome ≡ Trap slot kind)) ⊎ (outcome ≡ OutOfFuel) → ⊥
+no_other_end outcome r0 steps ended (inl stuck) =
+    let e : Ended r0 steps ≡ Trap stuck.0 stuck.1 = sym ended ∙ stuck.2 in absurd cc
+no_other_end outcome r0 steps ended (inr out) =
+    let e : Ended r0 steps ≡ OutOfFuel = sym ended ∙ out in absurd cc
 
-steps_made : (s : Scenario) (node steps : ℕ) (x : NodeInput) (env : Setting) (memory : List ℕ) (program : List Insn)
-    (told : List ℕ) → env ≡ input_setting x.program.shape node x → memory ≡ x.memory.items
-    → program ≡ x.program.program → AreLinesOfSteps s program env memory steps told
-    → AreLinesOfSteps s x.program.program (input_setting x.program.shape node x) x.memory.items steps told
-steps_made s node steps x env memory program told sees same own are =
-    let sets = input_setting x.program.shape node x in
-    subst (λ (m : List ℕ). AreLinesOfSteps s x.program.program sets m steps told) same
-    (subst (λ (v : Setting). AreLinesOfSteps s x.program.program v memory steps told) sees
-    (subst (λ (p : List Insn). AreLinesOfSteps s p env memory steps told) own are))
+-- the lines with more fuel are those of the steps
+pub lines_told : (s : Scenario) (program : List Insn) (env : Setting) (memory begun : List ℕ) (fuel steps : ℕ)
+    (told : List ℕ) → begun ≡ memory → steps_of program env memory fuel ≡ steps_of program env memory steps
+    → AreLinesOfSteps s program env begun fuel told → AreLinesOfSteps s program env memory steps told
+lines_told s program env memory begun fuel steps told begins same are =
+    subst (λ (ss : List TracedStep). (rule : Option (List ℕ)) × IsRuleOf s program rule
+    × AreStepLines (sizes_for s) program rule ss told) same
+    (subst (λ (m : List ℕ). AreLinesOfSteps s program env m fuel told) begins are)
 
 -- the lines of a run
-pub lines_made : (s : Scenario) (pulse node : ℕ) (x : NodeInput) (env : Setting) (memory again : List ℕ)
-    (program : List Insn) (e : RunEnd) (told first next whole : List ℕ) → env ≡ input_setting x.program.shape node x
-    → memory ≡ x.memory.items → again ≡ x.memory.items → program ≡ x.program.program
-    → CompleteRun x.program.program env memory (end_in e) → e.left.outbox.nodes ≡ env.shape.nodes
-    → first ≡ input_lines pulse node x → AreLinesOfSteps s program env again e.steps told → next ≡ first ++ told
-    → whole ≡ next ++ end_lines e.left.outbox.nodes (end_in e)
+pub lines_made : (s : Scenario) (pulse node : ℕ) (x : NodeInput) (env : Setting) (e : RunEnd)
+    (told first next whole : List ℕ) → env ≡ input_setting x.program.shape node x
+    → CompleteRun x.program.program env x.memory.items (end_in e) → e.left.outbox.nodes ≡ env.shape.nodes
+    → first ≡ input_lines pulse node x → AreLinesOfSteps s x.program.program env x.memory.items e.steps told
+    → next ≡ first ++ told → whole ≡ next ++ end_lines e.left.outbox.nodes (end_in e)
     → (end : End) × CompleteRun x.program.program (input_setting x.program.shape node x) x.memory.items end
     × AreRunLines s x.program.shape pulse node x end whole
-lines_made s pulse node x env memory again program e told first next whole sees held same own run nodes a are b d =
-    let made = steps_made s node e.steps x env again program told sees same own are in
-    let sets = input_setting x.program.shape node x in
+lines_made s pulse node x env e told first next whole sees run nodes a are b d =
+    let made = subst (λ (v : Setting). AreLinesOfSteps s x.program.program v x.memory.items e.steps told) sees are in
     let rest : ℕ → List ℕ = λ n. end_lines n (end_in e) in
     let count : e.left.outbox.nodes ≡ x.program.shape.nodes = nodes ∙ ap (λ (v : Setting). v.shape.nodes) sees in (
       end_in e,
-      subst (λ (v : Setting). CompleteRun x.program.program v x.memory.items (end_in e)) sees
-          (subst (λ (m : List ℕ). CompleteRun x.program.program env m (end_in e)) held run),
+      subst (λ (v : Setting). CompleteRun x.program.program v x.memory.items (end_in e)) sees run,
       record {
         rule = made.0;
         is_rule = made.1;

@@ -1,5 +1,6 @@
 -- What is said of a program is said of its image; and bytes have one verdict, but for the rule that a refusal names.
 use Rattle.std.proofs.Common.{◌≡◌, ℕ, List, Result, Ok, Err, ◌∙◌, false, refl, sym, subst, true≢false}
+use Rattle.std.specs.Prelude.{IfOk}
 use Rattle.node_env.specs.Env.{Extent}
 use Rattle.bpf_insn.specs.declared.forms.Insn.{Insn}
 use Rattle.bpf_insn.specs.Programs.{IsProgram, image_of}
@@ -11,12 +12,15 @@ use Rattle.requests.specs.declared.request.ShapeOptions.{ShapeOptions}
 use Rattle.commands.specs.declared.verdict.Verdict.{Verdict}
 use Rattle.commands.specs.declared.verdict.Verdict.TheVariants.{Accepted, Refused}
 use Rattle.commands.specs.declared.program.ProgramRead.{ProgramRead}
+use Rattle.commands.specs.declared.fault.Fault.{Fault}
 use Rattle.commands.specs.declared.rejection.Unread.{Unread}
 use Rattle.commands.specs.declared.rejection.Unread.TheVariants.{Shape, Image, Text}
+use Rattle.commands.specs.declared.response.Response.{Response}
 use Rattle.requests.specs.Shapes.{HasShape, asked_extent}
 use Rattle.commands.specs.Input.{IsUnread}
-use Rattle.commands.specs.Verdict.{Judges, JudgesImage, JudgesProgram, SameJudgement, SameVerdict}
+use Rattle.commands.specs.Verdict.{Judges, JudgesImage, JudgesProgram, SameJudgement, SameVerdict, judged_ending, judged_text, text_of_verdict, verdict_ending}
 use Rattle.commands.specs.inner.Input.{ReadsInput}
+use Rattle.commands.specs.inner.Responses.{IsResponse}
 use Rattle.commands.proofs.AnswerLemmas.{OneProgram, OneRefusal, Apart, one_unread, one_unread_of_image}
 
 judged_image : (bytes : List ℕ) (program : List Insn) (shape asked : Extent) (verdict : Verdict) → shape ≡ asked
@@ -36,6 +40,15 @@ pub judges : (options : ShapeOptions) (bytes : List ℕ) (read : ProgramRead) (v
     → Judges options bytes (Ok verdict)
 judges options bytes read verdict reads judged =
     (reads.0, judged_image bytes read.program read.shape _ verdict reads.1 reads.2.0 reads.2.1 judged)
+
+-- the line of that verdict is the answer to the bytes
+pub judged_response : (options : ShapeOptions) (bytes : List ℕ) (read : ProgramRead) (given : Result Response Fault)
+    → ReadsInput options false bytes (Ok read)
+    → IfOk given (IsResponse {A = Verdict} (JudgesProgram read.program read.shape) text_of_verdict verdict_ending)
+    → IfOk given (IsResponse {A = Result Verdict Unread} (Judges options bytes) judged_text judged_ending)
+judged_response options bytes read (Ok response) reads is =
+    (Ok is.0, judges options bytes read is.0 reads is.1, is.2, is.3)
+judged_response options bytes read (Err fault) reads is = tt
 
 -- ---- one verdict
 

@@ -11,6 +11,7 @@ use Rattle.commands.specs.declared.rejection.Unread.TheVariants.{Text}
 use Rattle.commands.specs.declared.ending.Ending.{Ending}
 use Rattle.commands.specs.declared.ending.Ending.TheVariants.{Done, Refused}
 use Rattle.commands.specs.declared.fault.Fault.{Fault}
+use Rattle.commands.specs.Faults.{IsFaultOfText}
 use Rattle.commands.specs.Output.{LeavesAny}
 use Rattle.commands.specs.Rejections.{unread_line}
 
@@ -36,4 +37,4 @@ assembled_ending (Err error) = Refused
 -- the image of the program that the text means, or its listing, or the line that refuses it
 abbrev pub LeavesImage : Option (List ℕ) → Option (List ℕ) → Bool → List ℕ → Result Ending Fault → Type 0
 LeavesImage old new list text result =
-    LeavesAny (ReadsAsmText text) (assembled list text) assembled_ending old new result
+    LeavesAny (ReadsAsmText text) (assembled list text) assembled_ending (IsFaultOfText text) old new result

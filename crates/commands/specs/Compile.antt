@@ -15,6 +15,7 @@ use Rattle.commands.specs.declared.ending.Ending.TheVariants.{Done, Refused}
 use Rattle.commands.specs.declared.fault.Fault.{Fault}
 use Rattle.requests.specs.declared.request.CompileOptions.{CompileOptions}
 use Rattle.requests.specs.Shapes.{HasShape, asked_extent}
+use Rattle.commands.specs.Faults.{IsFaultOfText}
 use Rattle.commands.specs.Output.{LeavesAny}
 use Rattle.commands.specs.Rejections.{uncompiled_line}
 
@@ -48,4 +49,5 @@ compiled_ending (Err why) = Refused
 
 -- what is printed of the rule of these bytes, or the line that refuses them
 abbrev pub LeavesCompiled : Option (List ℕ) → Option (List ℕ) → CompileOptions → List ℕ → Result Ending Fault → Type 0
-LeavesCompiled old new asked text ended = LeavesAny (Compiles asked text) compiled_text compiled_ending old new ended
+LeavesCompiled old new asked text ended =
+    LeavesAny (Compiles asked text) compiled_text compiled_ending (IsFaultOfText text) old new ended

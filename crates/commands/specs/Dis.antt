@@ -9,6 +9,7 @@ use Rattle.commands.specs.declared.ending.Ending.{Ending}
 use Rattle.commands.specs.declared.ending.Ending.TheVariants.{Done, Refused}
 use Rattle.commands.specs.declared.fault.Fault.{Fault}
 use Rattle.commands.specs.declared.rejection.Unread.TheVariants.{Image}
+use Rattle.commands.specs.Faults.{IsOutOfMemory}
 use Rattle.commands.specs.Image.{ReadsImage}
 use Rattle.requests.specs.declared.request.ClockOptions.{ClockOptions}
 use Rattle.commands.specs.Output.{Leaves, LeavesAny}
@@ -31,7 +32,7 @@ listing_ending (Err error) = Refused
 -- what is printed of the program of these bytes, or the line of their refusal
 abbrev pub LeavesListing : Option (List ℕ) → Option (List ℕ) → Bool → List ℕ → Result Ending Fault → Type 0
 LeavesListing old new list bytes result =
-    LeavesAny (ReadsImage bytes) (listing_text list) listing_ending old new result
+    LeavesAny (ReadsImage bytes) (listing_text list) listing_ending IsOutOfMemory old new result
 
 -- the same of the clock of a rule (docs/CLOCK.md, "The programs")
 abbrev pub LeavesClock : Option (List ℕ) → Option (List ℕ) → ClockOptions → Result Ending Fault → Type 0

@@ -19,6 +19,7 @@ use Rattle.requests.specs.Case.{case_memory, case_setting}
 use Rattle.commands.specs.Left.{Left}
 use Rattle.requests.specs.Shapes.{HasShape, asked_extent}
 use Rattle.commands.specs.Input.{IsProgramOfInput, IsUnread}
+use Rattle.commands.specs.Faults.{IsFaultOfProgram}
 use Rattle.commands.specs.Output.{Leaves, LeavesAny, LeavesNothing}
 use Rattle.commands.specs.Rejections.{unread_line}
 
@@ -26,7 +27,7 @@ use Rattle.commands.specs.Rejections.{unread_line}
 abbrev pub LeavesAnswer : Option (List ℕ) → Option (List ℕ) → ExecOptions → List ℕ → Result Ending Fault → Type 0
 LeavesAnswer old new asked bytes result =
     LeavesAny {A = Result Answer Unread × Left} (λ a. AnswersLeaving asked bytes a.0 a.1)
-    (λ a. answered_text asked a.0 a.1) (λ a. answered_ending a.0) old new result
+    (λ a. answered_text asked a.0 a.1) (λ a. answered_ending a.0) (IsFaultOfProgram asked.text bytes) old new result
 
 -- ---- a trace (docs/COMMANDS.md, "A trace")
 
@@ -83,7 +84,8 @@ abbrev pub LeavesTraced : Option (List ℕ) → Option (List ℕ) → ExecOption
 LeavesTraced old new asked bytes result =
     ((program : List Insn) × ReadsProgram asked bytes program × LeavesSteps old new asked program result)
     ⊎ (((unread : Unread) × IsUnread asked.shape asked.text bytes unread
-    × Leaves old new (unread_line unread ++ codes "\n") Refused result) ⊎ LeavesNothing old new result)
+    × Leaves old new (unread_line unread ++ codes "\n") Refused result)
+    ⊎ LeavesNothing (IsFaultOfProgram asked.text bytes) old new result)
 
 -- with or without the lines of the steps
 abbrev pub LeavesBy : Bool → Option (List ℕ) → Option (List ℕ) → ExecOptions → List ℕ → Result Ending Fault → Type 0

@@ -19,6 +19,7 @@ use Rattle.commands.specs.declared.ending.Ending.{Ending}
 use Rattle.commands.specs.declared.ending.Ending.TheVariants as endings
 use Rattle.commands.specs.declared.fault.Fault.{Fault}
 use Rattle.requests.specs.Shapes.{HasShape, asked_extent}
+use Rattle.commands.specs.Faults.{IsFaultOfProgram}
 use Rattle.commands.specs.Input.{IsProgramOfInput, IsUnread}
 use Rattle.commands.specs.Output.{LeavesAny}
 use Rattle.commands.specs.Rejections.{unread_line}
@@ -76,7 +77,8 @@ Explains asked bytes told =
     ⊎ (HasShape asked.shape × (program : List Insn) × IsProgramOfInput asked.text bytes program
     × ExplainsProgram asked (lines_if_text asked.text bytes) program told)
 
--- the whole of what is told, its first bytes, or nothing where memory ran out
+-- the whole of what is told, its first bytes if a write failed, or nothing at another fault
 abbrev pub LeavesExplained : Option (List ℕ) → Option (List ℕ) → ExplainOptions → List ℕ → Result Ending Fault → Type 0
 LeavesExplained old new asked bytes result =
-    LeavesAny (Explains asked bytes) (λ told. told.text) (λ told. told.ending) old new result
+    LeavesAny (Explains asked bytes) (λ told. told.text) (λ told. told.ending) (IsFaultOfProgram asked.text bytes) old new
+    result

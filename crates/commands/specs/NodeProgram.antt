@@ -6,6 +6,7 @@ use Rattle.bench_scenario.specs.Inputs.{RunsIn}
 use Rattle.commands.specs.declared.ending.Ending.{Ending}
 use Rattle.commands.specs.declared.fault.Fault.{Fault}
 use Rattle.requests.specs.declared.request.NodeProgramOptions.{NodeProgramOptions}
+use Rattle.commands.specs.Faults.{IsOutOfMemory}
 use Rattle.commands.specs.NodeRule.{IsProgramText, IsRuleOf, sizes_for}
 use Rattle.commands.specs.NodeText.{IsNodeText, node_output, node_text_ending}
 use Rattle.commands.specs.Output.{LeavesAny}
@@ -19,9 +20,9 @@ pub record IsNodeProgramText (asked : NodeProgramOptions) (s : Scenario) (lines 
   pub is_rule : IsRuleOf s input.program.program rule
   pub text : IsProgramText (sizes_for s) input.program.program rule asked.list lines
 
--- the whole text, its first bytes if a write failed, or nothing at another fault
+-- the whole text, its first bytes if a write failed, or nothing if memory ran out
 abbrev pub LeavesNodeProgram : Option (List ℕ) → Option (List ℕ) → NodeProgramOptions → Scenario → Result Ending Fault
     → Type 0
 LeavesNodeProgram old new asked s result =
     LeavesAny (IsNodeText (IsNodeProgramText asked s) asked.place s) (node_output (codes "program")) node_text_ending
-    old new result
+    IsOutOfMemory old new result

@@ -14,7 +14,7 @@ use Rattle.commands.specs.Dis.{LeavesClock, LeavesListing}
 use Rattle.commands.specs.Ending.{status_of}
 use Rattle.commands.specs.Exec.{LeavesExec}
 use Rattle.commands.specs.Explained.{LeavesExplained}
-use Rattle.commands.specs.Faults.{Says, fault_status, fault_text}
+use Rattle.commands.specs.Faults.{IsFaultOfReading, Says, fault_status, fault_text}
 use Rattle.commands.specs.Input.{IsShapedInput, Takes, max_bytes, program_input}
 use Rattle.commands.specs.Output.{Leaves, LeavesNothing}
 use Rattle.rule_notes.specs.Words.{IsNote}
@@ -59,7 +59,7 @@ abbrev pub RespondsTo : Input → Request → Option (List ℕ) → Option (List
 RespondsTo inputs.Nothing request known old new ended = Responds request [] old new ended
 RespondsTo input request None old new ended = Unit {0}
 RespondsTo input request (Some whole) old new ended =
-    Responds request (take (max_bytes input) whole) old new ended ⊎ LeavesNothing old new ended
+    Responds request (take (max_bytes input) whole) old new ended ⊎ LeavesNothing IsFaultOfReading old new ended
 
 -- what is left of the input that the request reads
 abbrev pub CarriesOut : Request → Option (List ℕ) → Option (List ℕ) → Option (List ℕ) → Result Ending Fault → Type 0

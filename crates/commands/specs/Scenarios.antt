@@ -10,6 +10,7 @@ use Rattle.commands.specs.declared.fault.Fault.{Fault}
 use Rattle.requests.specs.declared.request.ScenarioRequest.{ScenarioRequest}
 use Rattle.requests.specs.declared.request.ScenarioRequest.TheVariants.{Run, Lines, TracedRun, NodeProgram, Sweep, Explore}
 use Rattle.commands.specs.Explore.{LeavesExplored}
+use Rattle.commands.specs.Faults.{IsOutOfMemory}
 use Rattle.commands.specs.Lines.{LeavesLined}
 use Rattle.commands.specs.NodeProgram.{LeavesNodeProgram}
 use Rattle.commands.specs.Output.{Leaves, LeavesNothing}
@@ -31,9 +32,9 @@ abbrev pub LeavesRefusal : Option (List ℕ) → Option (List ℕ) → List ℕ 
 LeavesRefusal old new text ended =
     (error : ScenarioError) × IsDue text error × Leaves old new (refusal_line error ++ codes "\n") Refused ended
 
--- of a text: what the command leaves of the scenario that it says, or the line that refuses it; or nothing, if the text
--- couldn't be read
+-- of a text: what the command leaves of the scenario that it says, or the line that refuses it; or nothing, if memory ran
+-- out
 abbrev pub LeavesFor : ScenarioRequest → Option (List ℕ) → Option (List ℕ) → List ℕ → Result Ending Fault → Type 0
 LeavesFor asked old new text ended =
     ((s : Scenario) × ReadsText text s × LeavesOf asked old new s ended)
-    ⊎ (LeavesRefusal old new text ended ⊎ LeavesNothing old new ended)
+    ⊎ (LeavesRefusal old new text ended ⊎ LeavesNothing IsOutOfMemory old new ended)

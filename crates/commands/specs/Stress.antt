@@ -8,6 +8,7 @@ use Rattle.bench_stress.specs.Stressed.{HasEntries, nearest, stressed_setup}
 use Rattle.commands.specs.declared.ending.Ending.{Ending}
 use Rattle.commands.specs.declared.ending.Ending.TheVariants as endings
 use Rattle.commands.specs.declared.fault.Fault.{Fault}
+use Rattle.commands.specs.Faults.{IsFaultOfThreads}
 use Rattle.commands.specs.Output.{LeavesAny}
 
 -- a history that is told, or none
@@ -38,6 +39,7 @@ abbrev pub stressed_ending : Stressed → Ending
 stressed_ending (Replayed history) = endings.Done
 stressed_ending Mismatch = endings.Mismatched
 
--- the line, its first bytes where a write failed, or nothing at another fault
+-- the line, its first bytes if a write failed, or nothing if memory ran out or a thread couldn't be started
 abbrev pub LeavesStressed : StressOptions → Option (List ℕ) → Option (List ℕ) → Result Ending Fault → Type 0
-LeavesStressed asked old new result = LeavesAny (IsStressed asked) stressed_text stressed_ending old new result
+LeavesStressed asked old new result =
+    LeavesAny (IsStressed asked) stressed_text stressed_ending IsFaultOfThreads old new result

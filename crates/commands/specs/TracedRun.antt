@@ -17,6 +17,7 @@ use Rattle.commands.specs.declared.fault.Fault.{Fault}
 use Rattle.requests.specs.declared.request.NodeInPulse.{NodeInPulse}
 use Rattle.commands.specs.Left.{left_lines, mail_text, memory_line}
 use Rattle.commands.specs.NodeRule.{AreStepLines, IsRuleOf, sizes_for}
+use Rattle.commands.specs.Faults.{IsOutOfMemory}
 use Rattle.commands.specs.NodeText.{IsNodeText, node_output, node_text_ending}
 use Rattle.commands.specs.Output.{LeavesAny}
 
@@ -67,7 +68,8 @@ pub record IsTracedRun (asked : NodeInPulse) (s : Scenario) (told : List ℕ) : 
   pub run : RanTo (bench_of s) state coins asked.node end
   pub lines : AreRunLines s (bench_of s).shape asked.pulse asked.node input end told
 
--- the whole text, its first bytes if a write failed, or nothing at another fault
+-- the whole text, its first bytes if a write failed, or nothing if memory ran out
 abbrev pub LeavesTracedRun : Option (List ℕ) → Option (List ℕ) → NodeInPulse → Scenario → Result Ending Fault → Type 0
 LeavesTracedRun old new asked s result =
-    LeavesAny (IsNodeText (IsTracedRun asked s) asked s) (node_output (codes "trace")) node_text_ending old new result
+    LeavesAny (IsNodeText (IsTracedRun asked s) asked s) (node_output (codes "trace")) node_text_ending
+    IsOutOfMemory old new result

@@ -17,6 +17,7 @@ use Rattle.commands.specs.declared.ending.Ending.TheVariants as endings
 use Rattle.commands.specs.declared.fault.Fault.{Fault}
 use Rattle.commands.specs.declared.rejection.Unread.{Unread}
 use Rattle.requests.specs.Shapes.{HasShape, asked_extent}
+use Rattle.commands.specs.Faults.{IsOutOfMemory}
 use Rattle.commands.specs.Input.{IsUnread}
 use Rattle.commands.specs.Output.{LeavesAny}
 use Rattle.commands.specs.Rejections.{unread_line}
@@ -83,4 +84,5 @@ judged_ending (Err unread) = endings.Refused
 -- ---- what is left on the output
 
 abbrev pub LeavesVerdict : Option (List ℕ) → Option (List ℕ) → ShapeOptions → List ℕ → Result Ending Fault → Type 0
-LeavesVerdict old new asked bytes result = LeavesAny (Judges asked bytes) judged_text judged_ending old new result
+LeavesVerdict old new asked bytes result =
+    LeavesAny (Judges asked bytes) judged_text judged_ending IsOutOfMemory old new result

@@ -1,15 +1,14 @@
 //! `compile`: the image of a rule, or its listing.
 ghost use Rattle.std.specs.Prelude.{◌≡◌, IfOk, IfErr, IsTrue};
-ghost use Rattle.commands.specs.Compile.{Compiles, LeavesCompiled, asked_sizes};
-ghost use Rattle.commands.specs.Faults.{IsBeforeWriting};
+ghost use Rattle.commands.specs.Compile.{Compiles, compiled_ending, compiled_text};
+ghost use Rattle.commands.specs.Faults.{IsFaultOfText, IsOutOfMemory};
+ghost use Rattle.commands.specs.inner.Responses.{IsNoted, IsResponse};
 ghost use Rattle.requests.specs.Shapes.{asked_extent};
-ghost use Rattle.commands.specs.Perform.{SaysAt};
 
-use crate::ending::Ending;
 use crate::fault::Fault;
-use crate::output::write_whole;
 use crate::program::refuse_too_long;
-use crate::rejection::{Rejection, Uncompiled, reject};
+use crate::rejection::{Rejection, Uncompiled, rejected};
+use crate::response::Response;
 use bpf_insn::encode;
 use clock_nodes::ClockRule;
 use node_env::Shape;
@@ -17,39 +16,35 @@ use requests::CompileOptions;
 use rule_listing::list_rule;
 use rule_programs::{ProgramWithLines, program_of_text, program_with_lines};
 use std::alloc::Global;
-use std::io::Write;
 
-/// Writes the image of the rule that a text is, or its listing.
-pub(crate) fn compile_bytes<W: Write, E: Write>(
+/// Returns the image of the rule that a text is, or its listing.
+pub(crate) fn compile(
     alloc: Global,
     options: CompileOptions,
     text: &[u8],
-    out: &mut W,
-    err: &mut E,
-) -> Result<Ending, Fault>
-    ensures left { LeavesCompiled (W.contents out.old) (W.contents out.new) options text.now result }
-    ensures said { IfOk result (λ ending. SaysAt ending (E.contents err.old) (E.contents err.new)) }
-    ensures unsaid { IfErr result (λ fault. E.contents err.new ≡ E.contents err.old) }
+) -> Result<Response, Fault>
+    ensures response { IfOk result (IsResponse (Compiles options text.now) compiled_text compiled_ending) }
+    ensures noted { IfOk result IsNoted }
+    ensures fault { IfErr result (IsFaultOfText text.now) }
 {
-    match compile(alloc, options, text)? {
-        Ok(bytes) => write_whole(out, bytes.as_slice(), Ending::Done),
+    match compiled(alloc, options, text)? {
+        Ok(bytes) => Ok(Response::done(bytes)),
         Err(why) => {
             let memory = options.shape.memory;
-            let rejection = Rejection::Rule { why, memory };
-            reject(alloc, &rejection, text, out, err)
+            rejected(alloc, &Rejection::Rule { why, memory }, text)
         }
     }
 }
 
 /// Returns the image of the rule that a text is, or its listing, or why there is no program. A text that is too long is
 /// a fault of reading.
-pub(crate) fn compile(
+fn compiled(
     alloc: Global,
     options: CompileOptions,
     text: &[u8],
 ) -> Result<Result<Vec<u8>, Uncompiled>, Fault>
     ensures compiled { IfOk result (Compiles options text.now) }
-    ensures fault { IfErr result IsBeforeWriting }
+    ensures fault { IfErr result (IsFaultOfText text.now) }
 {
     refuse_too_long(text)?;
     let Some(shape) = Shape::of(options.shape.nodes, options.shape.memory) else {
@@ -78,7 +73,7 @@ fn listed(
     requires list { IsTrue options.list }
     requires shape { shape ≡ asked_extent options.shape }
     ensures compiled { IfOk result (Compiles options text.now) }
-    ensures fault { IfErr result IsBeforeWriting }
+    ensures fault { IfErr result IsOutOfMemory }
 {
     match program_with_lines(alloc, text, shape, options.faults, options.modulus) {
         Ok(Ok(ProgramWithLines { program, lines })) => {

@@ -2,55 +2,35 @@
 ghost use Rattle.std.specs.Prelude.{◌≡◌, IfErr, IfOk};
 ghost use Rattle.clock_nodes.specs.Listings.{clock_listing};
 ghost use Rattle.commands.specs.declared.ending.Ending.TheVariants.{Done};
-ghost use Rattle.commands.specs.Dis.{LeavesClock, LeavesListing, dis_text};
-ghost use Rattle.commands.specs.Output.{Leaves};
-ghost use Rattle.commands.specs.Perform.{SaysAt};
+ghost use Rattle.commands.specs.Dis.{dis_text, listing_ending, listing_text};
+ghost use Rattle.commands.specs.Faults.{IsOutOfMemory};
+ghost use Rattle.commands.specs.Image.{ReadsImage};
+ghost use Rattle.commands.specs.inner.Responses.{IsNoted, IsResponse};
 
-use crate::ending::Ending;
 use crate::fault::Fault;
-use crate::output::write_whole;
 use crate::program::program_in;
-use crate::rejection::{Rejection, Unread, reject};
+use crate::rejection::{Rejection, Unread, rejected};
+use crate::response::Response;
 use bpf_asm::{disassemble, list_program};
 use bpf_insn::Program;
 use clock_nodes::{ClockRule, dolev_welch};
 use node_env::{MEMORY_UNIT, Shape};
 use requests::ClockOptions;
 use std::alloc::{AllocError, Global};
-use std::io::Write;
 
-/// Writes the canonical text of the program of an image, or its listing.
-pub(crate) fn dis_bytes<W: Write, E: Write>(
-    alloc: Global,
-    list: bool,
-    image: &[u8],
-    out: &mut W,
-    err: &mut E,
-) -> Result<Ending, Fault>
-    ensures left { LeavesListing (W.contents out.old) (W.contents out.new) list image.now result }
-    ensures said { IfOk result (λ ending. SaysAt ending (E.contents err.old) (E.contents err.new)) }
-    ensures unsaid { IfErr result (λ fault. E.contents err.new ≡ E.contents err.old) }
+/// Returns the canonical text of the program of an image, or its listing.
+pub(crate) fn dis(alloc: Global, list: bool, image: &[u8]) -> Result<Response, Fault>
+    ensures response { IfOk result (IsResponse (ReadsImage image.now) (listing_text list) listing_ending) }
+    ensures noted { IfOk result IsNoted }
+    ensures fault { IfErr result IsOutOfMemory }
 {
     match program_in(alloc, image)? {
-        Ok(program) => dis(alloc, list, &program, out),
-        Err(error) => {
-            let rejection = Rejection::Program(Unread::Image(error));
-            reject(alloc, &rejection, image, out, err)
-        }
+        Ok(program) => match text_of(alloc, list, &program) {
+            Ok(text) => Ok(Response::done(text)),
+            Err(_) => Err(Fault::Memory),
+        },
+        Err(error) => rejected(alloc, &Rejection::Program(Unread::Image(error)), image),
     }
-}
-
-/// Writes the canonical text of a program, or its listing.
-pub(crate) fn dis<W: Write>(
-    alloc: Global,
-    list: bool,
-    program: &Program,
-    out: &mut W,
-) -> Result<Ending, Fault>
-    ensures { Leaves (W.contents out.old) (W.contents out.new) (dis_text list program.now) Done result }
-{
-    let text = text_of(alloc, list, program).map_err(|_| Fault::Memory)?;
-    write_whole(out, text.as_slice(), Ending::Done)
 }
 
 /// Returns the canonical text of a program, or its listing.
@@ -64,16 +44,24 @@ pub(crate) fn text_of(alloc: Global, list: bool, program: &Program) -> Result<Ve
     }
 }
 
-/// Writes the canonical text of the clock of a rule, or its listing.
-pub(crate) fn clock<W: Write>(
-    alloc: Global,
-    options: ClockOptions,
-    out: &mut W,
-) -> Result<Ending, Fault>
-    ensures { LeavesClock (W.contents out.old) (W.contents out.new) options result }
+/// Returns the canonical text of the clock of a rule, or its listing.
+pub(crate) fn clock(alloc: Global, options: ClockOptions) -> Result<Response, Fault>
+    ensures text { IfOk result (λ response. response.text.items ≡ dis_text options.list (clock_listing options.rule)) }
+    ensures ending { IfOk result (λ response. response.ending ≡ Done) }
+    ensures noted { IfOk result IsNoted }
+    ensures fault { IfErr result IsOutOfMemory }
 {
-    let program = clock_program(alloc, options.rule).map_err(|_| Fault::Memory)?;
-    dis(alloc, options.list, &program, out)
+    match clock_text(alloc, options) {
+        Ok(text) => Ok(Response::done(text)),
+        Err(_) => Err(Fault::Memory),
+    }
+}
+
+fn clock_text(alloc: Global, options: ClockOptions) -> Result<Vec<u8>, AllocError>
+    ensures { IfOk result (λ text. text.items ≡ dis_text options.list (clock_listing options.rule)) }
+{
+    let program = clock_program(alloc, options.rule)?;
+    text_of(alloc, options.list, &program)
 }
 
 fn clock_program(alloc: Global, rule: ClockRule) -> Result<Program, AllocError>

@@ -1,17 +1,16 @@
 //! `verify --text`, `verify --explain`: the verdict on a text or an image, and what is known at its slots.
-ghost use Rattle.std.specs.Prelude.{◌≡◌, ℕ, List, IfOk, IfErr, string_bytes};
+ghost use Rattle.std.specs.Prelude.{◌≡◌, IfOk, IfErr, string_bytes};
 ghost use Rattle.bpf_verify.specs.Findings.{AreFindings};
 ghost use Rattle.commands.specs.Explained as told_specs;
-ghost use Rattle.commands.specs.Faults.{IsBeforeWriting};
+ghost use Rattle.commands.specs.Faults.{IsFaultOfProgram};
+ghost use Rattle.commands.specs.inner.Responses.{IsNoted, IsResponse};
 ghost use Rattle.requests.specs.Shapes.{asked_extent};
-ghost use Rattle.commands.specs.Output.{LeavesAny};
-ghost use Rattle.commands.specs.Perform.{SaysAt};
 
 use crate::ending::Ending;
 use crate::fault::Fault;
-use crate::output::write_whole;
 use crate::program::{ProgramRead, program_read};
-use crate::rejection::{Rejection, reject};
+use crate::rejection::{Rejection, rejected};
+use crate::response::Response;
 use crate::verdict::Verdict;
 use bpf_asm::instruction_lines;
 use bpf_explain::{reason, rows};
@@ -20,7 +19,6 @@ use bpf_verify::{Findings, explain};
 use node_env::Shape;
 use requests::{Detail, ExplainOptions};
 use std::alloc::{AllocError, Global};
-use std::io::Write;
 
 /// What is told, and how the command ends that writes it.
 #[derive(Drop)]
@@ -95,25 +93,20 @@ fn explained_text(
     format!(in alloc; "{told}{verdict}\n{why}")
 }
 
-/// Returns what is told of a program whose instructions stand on these lines of a text; of an image there are none.
+/// Returns what is told of a program whose instructions are on these lines of a text. An image has no lines.
 fn explain_program(
     alloc: Global,
     options: ExplainOptions,
     program: &Program,
     lines: &[usize],
     shape: Shape,
-) -> Result<Told, Fault>
+) -> Result<Told, AllocError>
     requires { shape ≡ asked_extent options.shape }
-    ensures told { IfOk result (λ told. told_specs.ExplainsProgram options lines.now program.now
+    ensures { IfOk result (λ told. told_specs.ExplainsProgram options lines.now program.now
         (told_specs.explanation (string_bytes told.text) told.ending)) }
-    ensures fault { IfErr result IsBeforeWriting }
 {
-    let Ok(findings) = explain(alloc, program, shape) else {
-        return Err(Fault::Memory);
-    };
-    let Ok(text) = explained_text(alloc, program, shape, &findings, lines, options.detail) else {
-        return Err(Fault::Memory);
-    };
+    let findings = explain(alloc, program, shape)?;
+    let text = explained_text(alloc, program, shape, &findings, lines, options.detail)?;
     let ending = verdict_in(program, &findings).ending();
     Ok(Told { text, ending })
 }
@@ -135,50 +128,33 @@ fn explain_read(
     options: ExplainOptions,
     read: &ProgramRead,
     bytes: &[u8],
-) -> Result<Told, Fault>
+) -> Result<Told, AllocError>
     requires { read.now.shape ≡ asked_extent options.shape }
-    ensures told { IfOk result (λ told. told_specs.ExplainsProgram options
+    ensures { IfOk result (λ told. told_specs.ExplainsProgram options
         (told_specs.lines_if_text options.text bytes.now) read.now.program
         (told_specs.explanation (string_bytes told.text) told.ending)) }
-    ensures fault { IfErr result IsBeforeWriting }
 {
-    let Ok(lines) = lines_of(alloc, options.text, bytes) else {
-        return Err(Fault::Memory);
-    };
+    let lines = lines_of(alloc, options.text, bytes)?;
     explain_program(alloc, options, &read.program, lines.as_slice(), read.shape)
 }
 
-/// Writes the verdict on the program of these bytes, and what is known at its slots.
-pub(crate) fn explain_bytes<W: Write, E: Write>(
+/// Returns the verdict on the program of these bytes, and what is known at its slots.
+pub(crate) fn explanation(
     alloc: Global,
     options: ExplainOptions,
     bytes: &[u8],
-    out: &mut W,
-    err: &mut E,
-) -> Result<Ending, Fault>
-    ensures left { told_specs.LeavesExplained (W.contents out.old) (W.contents out.new) options bytes.now result }
-    ensures said { IfOk result (λ ending. SaysAt ending (E.contents err.old) (E.contents err.new)) }
-    ensures unsaid { IfErr result (λ fault. E.contents err.new ≡ E.contents err.old) }
+) -> Result<Response, Fault>
+    ensures response { IfOk result
+        (IsResponse (told_specs.Explains options bytes.now) (λ told. told.text) (λ told. told.ending)) }
+    ensures noted { IfOk result IsNoted }
+    ensures fault { IfErr result (IsFaultOfProgram options.text bytes.now) }
 {
     let found = program_read(alloc, options.shape, options.text, bytes)?;
     match found {
-        Ok(read) => explained(alloc, options, &read, bytes, out),
-        Err(unread) => reject(alloc, &Rejection::Program(unread), bytes, out, err),
+        Ok(read) => match explain_read(alloc, options, &read, bytes) {
+            Ok(told) => Ok(Response::without_note(told.text.into_bytes(), told.ending)),
+            Err(_) => Err(Fault::Memory),
+        },
+        Err(unread) => rejected(alloc, &Rejection::Program(unread), bytes),
     }
-}
-
-/// Writes what is told of a program that was read from these bytes.
-pub(crate) fn explained<W: Write>(
-    alloc: Global,
-    options: ExplainOptions,
-    read: &ProgramRead,
-    bytes: &[u8],
-    out: &mut W,
-) -> Result<Ending, Fault>
-    requires { read.now.shape ≡ asked_extent options.shape }
-    ensures { LeavesAny (told_specs.ExplainsProgram options (told_specs.lines_if_text options.text bytes.now)
-        read.now.program) (λ told. told.text) (λ told. told.ending) (W.contents out.old) (W.contents out.new) result }
-{
-    let told = explain_read(alloc, options, read, bytes)?;
-    write_whole(out, told.text.as_bytes(), told.ending)
 }

@@ -2,7 +2,7 @@
 ghost use Rattle.std.specs.Prelude.{◌≡◌, ◌≢◌, ◌<◌, [], IfOk, IfErr, IfSome, take};
 ghost use Rattle.stream_io.specs.Streams.{TakesAtMost};
 ghost use Rattle.commands.specs.declared.input.Input.TheVariants.{Nothing};
-ghost use Rattle.commands.specs.Faults.{IsBeforeWriting};
+ghost use Rattle.commands.specs.Faults.{IsFaultOfReading};
 ghost use Rattle.commands.specs.Input.{IsShapedInput, Takes, max_bytes, program_input};
 
 use crate::fault::Fault;
@@ -62,7 +62,7 @@ pub(crate) fn read_input<R: Read>(
 ) -> Result<Vec<u8>, Fault>
     ensures bytes { IfOk result (λ bytes.
         IfSome (R.remaining reader.old) (λ whole. bytes.items ≡ take (max_bytes input) whole)) }
-    ensures fault { IfErr result IsBeforeWriting }
+    ensures fault { IfErr result IsFaultOfReading }
     ensures nothing { IfOk result (λ bytes. input ≡ Nothing → bytes.items ≡ []) }
     ensures something { IfErr result (λ fault. input ≢ Nothing) }
     ensures taken { Takes input (R.remaining reader.old) (R.remaining reader.new) }
@@ -85,7 +85,7 @@ fn read_bytes<R: Read>(
     requires { 0 < limit }
     ensures bytes { IfOk result (λ bytes.
         IfSome (R.remaining reader.old) (λ whole. bytes.items ≡ take limit whole)) }
-    ensures fault { IfErr result IsBeforeWriting }
+    ensures fault { IfErr result IsFaultOfReading }
     ensures taken { TakesAtMost limit (R.remaining reader.old) (R.remaining reader.new) }
 {
     match read_at_most(alloc, reader, limit, calls) {

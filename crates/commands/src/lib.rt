@@ -23,6 +23,7 @@ mod output;
 pub mod perform;
 mod program;
 mod rejection;
+mod response;
 mod run;
 mod scenario;
 mod stress;

@@ -1,24 +1,25 @@
 //! The lines of a node's run in a pulse.
-ghost use Rattle.std.specs.Prelude.{◌≡◌, ◌++◌, IfOk, List, OnOk, Option, length, string_bytes, ℕ};
-ghost use Rattle.bpf_machine.specs.Run.{CompleteRun, End};
+ghost use Rattle.std.specs.Prelude.{◌≡◌, ◌++◌, IfOk, List, OnOk, length, string_bytes, ℕ};
+ghost use Rattle.bpf_machine.specs.Run.{CompleteRun, End, RunAnswers};
+ghost use Rattle.bpf_verify.specs.Accepted.{IsVerified};
 ghost use Rattle.bench_scenario.specs.Inputs.{FitsInput, input_setting};
 ghost use Rattle.run_trace.specs.Lines.{trace_text};
 ghost use Rattle.run_trace.specs.Steps.{steps_of};
 ghost use Rattle.scenario_text.specs.Texts.{ReadsText};
 ghost use Rattle.scenario_text.specs.Views.{extent_of, frame_of};
-ghost use Rattle.commands.specs.NodeRule.{AreStepLines, IsRuleOf, sizes_for};
 ghost use Rattle.commands.specs.TracedRun.{AreRunLines, end_lines, input_lines, place_lines};
-ghost use Rattle.commands.specs.inner.TracedRun.{end_in};
+ghost use Rattle.commands.specs.inner.TracedRun.{AreLinesOfSteps, end_in};
 
 use crate::left::{LeftByRun, add_left, add_mail};
 use crate::node_rule::{rule_lines, rule_of};
 use bench_scenario::NodeInput;
 use bpf_insn::Program;
-use bpf_run::run;
+use bpf_machine::{Outcome, one_run};
+use bpf_run::laws::runs_end;
 use bpf_verify::VerifiedProgram;
 use node_env::{Env, Outbox};
 use requests::NodeInPulse;
-use run_trace::{RuleCode, listed_trace, trace};
+use run_trace::{ListedRun, RuleCode, listed_trace, more_fuel_tells_no_more, trace};
 use scenario_text::Scenario;
 use std::alloc::{AllocError, Global};
 use std::fmt::Write as _;
@@ -27,17 +28,15 @@ use std::fmt::Write as _;
 #[derive(Drop)]
 pub(crate) struct RunEnd {
     pub r0: u64,
-    pub steps: u32,
+    pub steps: u64,
     pub left: LeftByRun,
 }
 
-/// A run of this many steps that begins with this memory.
-#[derive(Clone, Copy)]
-struct NodeRun<'a> {
-    program: &'a Program,
-    env: &'a Env,
-    memory: &'a [u8],
-    steps: u32,
+/// A node's run: how it ended, and the lines of its steps.
+#[derive(Drop)]
+struct ToldRun {
+    end: RunEnd,
+    lines: Vec<u8>,
 }
 
 /// Returns the lines of a node's run in a pulse of the scenario.
@@ -64,16 +63,9 @@ pub(crate) fn lines_of(
         coin,
     } = input;
     let env = Env::new(program.shape(), options.node, heard, coin);
-    let end = end_of(alloc, &program, &env, &memory)?;
-    let run = NodeRun {
-        program: program.program(),
-        env: &env,
-        memory: &memory,
-        steps: end.steps,
-    };
-    let told = step_lines(alloc, scenario, &run)?;
-    lines.extend_from_slice(&told)?;
-    add_end(alloc, &mut lines, &end)?;
+    let told = told_run(alloc, scenario, &program, &env, memory)?;
+    lines.extend_from_slice(&told.lines)?;
+    add_end(alloc, &mut lines, &told.end)?;
     Ok(lines)
 }
 
@@ -98,47 +90,65 @@ fn place_text(alloc: Global, options: NodeInPulse, memory: &[u8]) -> Result<Stri
     format!(in alloc; "pulse {pulse} node {node}\nmemory {memory}\n")
 }
 
-/// Returns the end of a node's run.
-fn end_of(
+/// Runs a node's program. As it was accepted, it ends within its budget.
+fn told_run(
     alloc: Global,
+    scenario: &Scenario,
     program: &VerifiedProgram,
     env: &Env,
-    memory: &[u8],
-) -> Result<RunEnd, AllocError>
-    requires shape { program.now.shape ≡ env.now.shape }
-    requires memory { length memory.now ≡ env.now.shape.memory }
-    ensures complete { IfOk result (λ end. CompleteRun program.now.program env.now memory.now (end_in end)) }
-    ensures nodes { IfOk result (λ end. end.left.outbox.nodes ≡ env.now.shape.nodes) }
+    memory: Vec<u8>,
+) -> Result<ToldRun, AllocError>
+    requires reads { (text : List ℕ) × ReadsText text scenario.now }
+    requires own { program.now.shape ≡ env.now.shape }
+    requires shape { program.now.shape ≡ extent_of (frame_of scenario.now) }
+    requires memory { length memory.items ≡ env.now.shape.memory }
+    ensures complete { IfOk result (λ told. CompleteRun program.now.program env.now memory.items (end_in told.end)) }
+    ensures nodes { IfOk result (λ told. told.end.left.outbox.nodes ≡ env.now.shape.nodes) }
+    ensures lines { IfOk result (λ told. AreLinesOfSteps scenario.now program.now.program env.now memory.items
+        told.end.steps told.lines.items) }
 {
-    let mut memory = Vec::from_slice(alloc, memory)?;
+    let mut memory = memory;
     let mut outbox = Outbox::new(alloc, env.shape())?;
-    let ended = run(program, env, &mut memory, &mut outbox);
-    let left = LeftByRun { memory, outbox };
-    Ok(RunEnd {
-        r0: ended.r0,
-        steps: ended.steps,
-        left,
-    })
+    let ran = step_lines(alloc, scenario, program, env, &mut memory, &mut outbox)?;
+    runs_end(); // brings that the run of an accepted program ends within its budget
+    one_run(); // brings that it has no other end
+    more_fuel_tells_no_more(); // brings that these are the lines of its steps
+    match ran.outcome {
+        Outcome::Ended { r0, steps } => {
+            let left = LeftByRun { memory, outbox };
+            let end = RunEnd { r0, steps, left };
+            let lines = ran.listing;
+            Ok(ToldRun { end, lines })
+        }
+        Outcome::Trap { .. } | Outcome::OutOfFuel => unreachable!(),
+    }
 }
 
-/// Returns the lines of a run's steps: of a rule's program below the lines of the rule.
-fn step_lines(alloc: Global, scenario: &Scenario, run: &NodeRun) -> Result<Vec<u8>, AllocError>
+/// Runs a program with its budget, and returns the lines of its steps: of a rule's program below the lines of the rule.
+fn step_lines(
+    alloc: Global,
+    scenario: &Scenario,
+    program: &VerifiedProgram,
+    env: &Env,
+    memory: &mut [u8],
+    outbox: &mut Outbox,
+) -> Result<ListedRun, AllocError>
     requires reads { (text : List ℕ) × ReadsText text scenario.now }
-    requires shape { run.now.env.now.shape ≡ extent_of (frame_of scenario.now) }
-    requires memory { length run.now.memory.now ≡ run.now.env.now.shape.memory }
-    ensures { IfOk result (λ told. (rule : Option (List ℕ)) × IsRuleOf scenario.now run.now.program.now rule
-        × AreStepLines (sizes_for scenario.now) run.now.program.now rule
-        (steps_of run.now.program.now run.now.env.now run.now.memory.now run.now.steps) told.items) }
+    requires shape { program.now.shape ≡ extent_of (frame_of scenario.now) }
+    requires memory { length memory.old ≡ env.now.shape.memory }
+    requires nodes { outbox.old.nodes ≡ env.now.shape.nodes }
+    ensures run { IfOk result (λ ran. RunAnswers program.now.program env.now memory.old program.now.budget memory.new
+        outbox.new.sent ran.outcome) }
+    ensures nodes { outbox.new.nodes ≡ outbox.old.nodes }
+    ensures lines { IfOk result (λ ran. AreLinesOfSteps scenario.now program.now.program env.now memory.old
+        program.now.budget ran.listing.items) }
+    ensures accepted { IsVerified program.now }
 {
-    let NodeRun {
-        program,
-        env,
-        memory,
-        steps,
-    } = *run;
-    let shape = env.shape();
+    let fuel = u64::from(program.budget());
+    let shape = program.shape();
+    let program = program.program();
     match rule_of(alloc, scenario, shape, program)? {
-        None => plain_lines(alloc, run),
+        None => plain_lines(alloc, program, env, memory, outbox, fuel),
         Some(text) => {
             let lines = rule_lines(alloc, scenario, shape, program, text)?;
             let code = RuleCode {
@@ -146,37 +156,34 @@ fn step_lines(alloc: Global, scenario: &Scenario, run: &NodeRun) -> Result<Vec<u
                 text,
                 lines: &lines,
             };
-            listed_trace(alloc, &code, env, memory, u64::from(steps))
+            listed_trace(alloc, &code, env, memory, outbox, fuel)
         }
     }
 }
 
-/// Returns the lines of a run's steps, and nothing else.
-fn plain_lines(alloc: Global, run: &NodeRun) -> Result<Vec<u8>, AllocError>
-    requires { length run.now.memory.now ≡ run.now.env.now.shape.memory }
-    ensures { IfOk result (λ told. told.items
-        ≡ trace_text run.now.program.now
-        (steps_of run.now.program.now run.now.env.now run.now.memory.now run.now.steps)) }
+/// Runs a program, and returns the lines of its steps, and nothing else.
+fn plain_lines(
+    alloc: Global,
+    program: &Program,
+    env: &Env,
+    memory: &mut [u8],
+    outbox: &mut Outbox,
+    fuel: u64,
+) -> Result<ListedRun, AllocError>
+    requires memory { length memory.old ≡ env.now.shape.memory }
+    requires nodes { outbox.old.nodes ≡ env.now.shape.nodes }
+    ensures run { IfOk result (λ ran. RunAnswers program.now env.now memory.old fuel memory.new outbox.new.sent
+        ran.outcome) }
+    ensures nodes { outbox.new.nodes ≡ outbox.old.nodes }
+    ensures lines { IfOk result (λ ran. ran.listing.items
+        ≡ trace_text program.now (steps_of program.now env.now memory.old fuel)) }
 {
-    let NodeRun {
-        program,
-        env,
-        memory,
-        steps,
-    } = *run;
-    let mut memory = Vec::from_slice(alloc, memory)?;
-    let mut outbox = Outbox::new(alloc, env.shape())?;
-    let mut told = Vec::new(alloc);
-    match trace(
-        alloc,
-        program,
-        env,
-        &mut memory,
-        &mut outbox,
-        u64::from(steps),
-        &mut told,
-    ) {
-        Ok(_traced) => Ok(told),
+    let mut listing = Vec::new(alloc);
+    match trace(alloc, program, env, memory, outbox, fuel, &mut listing) {
+        Ok(traced) => Ok(ListedRun {
+            outcome: traced.outcome,
+            listing,
+        }),
         Err(_) => Err(AllocError),
     }
 }

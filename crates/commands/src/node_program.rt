@@ -1,39 +1,42 @@
 //! `dis --node`: the text of the program that a node runs in a pulse of a scenario.
-ghost use Rattle.std.specs.Prelude.{◌≡◌, IfErr, IfOk, List, Option, ℕ};
+ghost use Rattle.std.specs.Prelude.{◌≡◌, IfErr, IfOk, List, Option, codes, ℕ};
 ghost use Rattle.scenario_text.specs.Texts.{ReadsText};
 ghost use Rattle.scenario_text.specs.Views.{extent_of, frame_of};
-ghost use Rattle.commands.specs.Faults.{IsBeforeWriting};
-ghost use Rattle.commands.specs.NodeProgram.{IsNodeProgramText, LeavesNodeProgram};
+ghost use Rattle.commands.specs.Faults.{IsOutOfMemory};
+ghost use Rattle.commands.specs.NodeProgram.{IsNodeProgramText};
 ghost use Rattle.commands.specs.NodeRule.{IsProgramText, IsRuleOf, sizes_for};
-ghost use Rattle.commands.specs.NodeText.{IsNodeText};
+ghost use Rattle.commands.specs.NodeText.{IsNodeText, node_output, node_text_ending};
+ghost use Rattle.commands.specs.inner.Responses.{IsNoted, IsResponse};
 
 use crate::dis::text_of;
-use crate::ending::Ending;
 use crate::fault::Fault;
 use crate::node_rule::{rule_listed, rule_of};
-use crate::node_text::{NodeText, input_at, write_node_text};
+use crate::node_text::{NodeText, input_at, node_response};
+use crate::response::Response;
 use bpf_verify::VerifiedProgram;
 use requests::NodeProgramOptions;
 use scenario_text::Scenario;
 use std::alloc::{AllocError, Global};
-use std::io::Write;
 use std::sync::Wait;
 use std::thread::Threads;
 
-/// Writes the canonical text of the program that a node runs in a pulse of a scenario that was read, or its listing, or
+/// Returns the canonical text of the program that a node runs in a pulse of a scenario that was read, or its listing, or
 /// the line that refuses to.
-pub(crate) fn node_program<T: Threads + Wait + Sync, W: Write>(
+pub(crate) fn node_program<T: Threads + Wait + Sync>(
     rt: &T,
     alloc: Global,
     options: NodeProgramOptions,
     scenario: &Scenario,
-    out: &mut W,
-) -> Result<Ending, Fault>
+) -> Result<Response, Fault>
     requires reads { (text : List ℕ) × ReadsText text scenario.now }
-    ensures { LeavesNodeProgram (W.contents out.old) (W.contents out.new) options scenario.now result }
+    ensures response { IfOk result
+        (IsResponse (IsNodeText (IsNodeProgramText options scenario.now) options.place scenario.now)
+        (node_output (codes "program")) node_text_ending) }
+    ensures noted { IfOk result IsNoted }
+    ensures fault { IfErr result IsOutOfMemory }
 {
     let text = text_in(rt, alloc, options, scenario)?;
-    write_node_text(alloc, "program", &text, out)
+    node_response(alloc, "program", options.place, scenario, text)
 }
 
 /// Returns what a scenario has of the program.
@@ -45,7 +48,7 @@ fn text_in<T: Threads + Wait + Sync>(
 ) -> Result<NodeText, Fault>
     requires reads { (text : List ℕ) × ReadsText text scenario.now }
     ensures told { IfOk result (IsNodeText (IsNodeProgramText options scenario.now) options.place scenario.now) }
-    ensures fault { IfErr result IsBeforeWriting }
+    ensures fault { IfErr result IsOutOfMemory }
 {
     let found = input_at(rt, alloc, options.place, scenario)?;
     match found {

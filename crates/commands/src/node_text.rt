@@ -1,21 +1,20 @@
 //! What a scenario has of a node in a pulse.
-ghost use Rattle.std.specs.Prelude.{◌≡◌, IfErr, IfOk, List, MatchResult, ℕ};
+ghost use Rattle.std.specs.Prelude.{◌≡◌, IfErr, IfOk, List, MatchResult, string_bytes, ℕ};
 ghost use Rattle.bench_scenario.specs.Inputs.{FitsInput, RunsIn};
 ghost use Rattle.bench_scenario.specs.Runs.{bench_of};
 ghost use Rattle.scenario_text.specs.Texts.{ReadsText};
-ghost use Rattle.commands.specs.Faults.{IsBeforeWriting};
+ghost use Rattle.commands.specs.Faults.{IsOutOfMemory};
 ghost use Rattle.commands.specs.NodeText.{IsAbsent, absent_text, node_output, node_text_ending};
-ghost use Rattle.commands.specs.Output.{Leaves};
-ghost use Rattle.commands.specs.declared.ending.Ending.TheVariants.{Refused};
+ghost use Rattle.commands.specs.inner.Responses.{IsNoted};
 
 use crate::ending::Ending;
 use crate::fault::Fault;
-use crate::output::write_whole;
+use crate::note::place_note;
+use crate::response::Response;
 use bench_scenario::{InputFault, NodeInput, node_input};
 use requests::NodeInPulse;
 use scenario_text::Scenario;
-use std::alloc::Global;
-use std::io::Write;
+use std::alloc::{AllocError, Global};
 use std::sync::Wait;
 use std::thread::Threads;
 
@@ -46,7 +45,7 @@ pub(crate) fn input_at<T: Threads + Wait + Sync>(
     ensures input { IfOk result (λ found. MatchResult found (RunsIn scenario.now place.pulse place.node)
         (IsAbsent place scenario.now)) }
     ensures fits { IfOk result (λ found. IfOk found (FitsInput (bench_of scenario.now).shape place.node)) }
-    ensures fault { IfErr result IsBeforeWriting }
+    ensures fault { IfErr result IsOutOfMemory }
 {
     match node_input(rt, alloc, scenario, place.pulse, place.node) {
         Ok(input) => Ok(Ok(input)),
@@ -57,33 +56,37 @@ pub(crate) fn input_at<T: Threads + Wait + Sync>(
     }
 }
 
-/// Writes the lines, or the line of the refusal, which has this word.
-pub(crate) fn write_node_text<W: Write>(
+/// Returns the lines, or the line of the refusal, which has this word, with the note on it.
+pub(crate) fn node_response(
     alloc: Global,
     word: &str,
-    text: &NodeText,
-    out: &mut W,
-) -> Result<Ending, Fault>
-    ensures { Leaves (W.contents out.old) (W.contents out.new) (node_output word.now text.now)
-        (node_text_ending text.now) result }
+    place: NodeInPulse,
+    scenario: &Scenario,
+    text: NodeText,
+) -> Result<Response, Fault>
+    ensures text { IfOk result (λ response. response.text.items ≡ node_output word.now text) }
+    ensures ending { IfOk result (λ response. response.ending ≡ node_text_ending text) }
+    ensures noted { IfOk result IsNoted }
+    ensures fault { IfErr result IsOutOfMemory }
 {
     match text {
-        NodeText::Lines(lines) => write_whole(out, lines, Ending::Done),
-        NodeText::Absent(absent) => write_absent(alloc, word, *absent, out),
+        NodeText::Lines(lines) => Ok(Response::done(lines)),
+        NodeText::Absent(absent) => {
+            let line = absent_line(alloc, word, absent).map_err(|_| Fault::Memory)?;
+            Ok(Response {
+                text: line.into_bytes(),
+                ending: Ending::Refused,
+                note: place_note(alloc, place, scenario),
+            })
+        }
     }
 }
 
-fn write_absent<W: Write>(
-    alloc: Global,
-    word: &str,
-    absent: Absent,
-    out: &mut W,
-) -> Result<Ending, Fault>
-    ensures { Leaves (W.contents out.old) (W.contents out.new) (absent_text word.now absent) Refused result }
+fn absent_line(alloc: Global, word: &str, absent: Absent) -> Result<String, AllocError>
+    ensures { IfOk result (λ line. string_bytes line ≡ absent_text word.now absent) }
 {
     let name = absent.name();
-    let line = format!(in alloc; "refused {word} {name}\n").map_err(|_| Fault::Memory)?;
-    write_whole(out, line.as_bytes(), Ending::Refused)
+    format!(in alloc; "refused {word} {name}\n")
 }
 
 impl Absent {

@@ -1,21 +1,23 @@
-//! What is said after a refusal: where it comes from.
+//! What is said after a refusal: where it comes from, and what to do.
+ghost use Rattle.std.specs.Prelude.{IfSome, string_bytes};
 ghost use Rattle.rule_notes.specs.Words.{IsNote};
-ghost use Rattle.commands.specs.Perform.{SaysAt, SaysNote};
-ghost use Rattle.commands.specs.inner.Rejections.{IsNoted};
-ghost use Rattle.scenario_text.specs.Texts.{IsParsed};
+ghost use Rattle.commands.specs.Perform.{SaysNote};
+ghost use Rattle.commands.specs.inner.Notes.{IsOneLine};
+ghost use Rattle.commands.specs.inner.Rejections.{IsRejectionOf};
 
-use crate::ending::Ending;
 use crate::rejection::{Rejection, Uncompiled, Unread};
 use crate::trace_note::note_on_trace;
+use bpf_asm::assemble;
+use bpf_insn::decode;
 use exploration::Unfit;
-use explored::{ExploreOptions, Starts};
-use requests::{NodeInPulse, ScenarioRequest};
+use explored::Starts;
+use requests::NodeInPulse;
 use rule_notes::note_on_rule;
 use rule_programs::RuleRefusal;
+use rule_syntax::Statement;
 use rule_text::read_rule;
-use scenario_explorer::{uncovered_of, unfit_of};
 use scenario_notes::note_on;
-use scenario_text::{Rejected, Scenario};
+use scenario_text::Scenario;
 use std::alloc::Global;
 use std::io::Write;
 use std::str;
@@ -24,121 +26,237 @@ use stream_io::write_fully;
 /// How an ELF file begins.
 const ELF_BEGINNING: &[u8] = b"\x7fELF";
 
-/// The note on an ELF file in place of an image (docs/NODES_IN_C.md).
-const ELF_NOTE: &[u8] =
-    b"note: this is an ELF file; an image is its .text alone: llvm-objcopy -O binary --only-section=.text FILE IMAGE\n";
+/// What an input seems to be.
+#[derive(Clone, Copy, Debug, PartialEq, Eq)]
+pub(crate) enum Kind {
+    Scenario,
+    Rule,
+    Assembler,
+    Image,
+}
 
-/// The note on a text in place of an image.
-const TEXT_NOTE: &[u8] =
-    b"note: this is a text; clockbed exec --text runs it, verify --text verifies it, and asm prints its image\n";
+impl Kind {
+    ghost use Rattle.commands.specs.inner.Notes.{IsOneLine};
 
-/// The note on a scenario without a seed, where `sweep` needs one.
-const SEED_NOTE: &[u8] =
-    b"note: sweep runs a scenario once for each seed: it needs a key, and coins = \"chacha\" or a load of noise\n";
-
-/// The note on every start with any message, if no law covers both.
-const BOTH_NOTE: &[u8] =
-    b"note: no law covers every start with any message of these programs: use --start any --cells, and if need be --mail 0..8\n";
-
-/// The note on nodes and memory that are no shape.
-const SHAPE_NOTE: &[u8] =
-    b"note: --memory is a multiple of 8, from 8 to 256, and --nodes is from 1 to 64\n";
-
-/// The note on numbers that are no rule of clocks.
-const SIZES_NOTE: &[u8] =
-    b"note: --faults is less than --nodes, and --modulus is from 2 to 65536\n";
-
-/// The note on a rule with more words than the memory.
-const WORDS_NOTE: &[u8] =
-    b"note: clock and each name of state take 4 bytes of the memory: use a greater --memory, or fewer names\n";
-
-/// The note on a rule with more numbers at once than there are places.
-const NUMBERS_NOTE: &[u8] =
-    b"note: at most 3 numbers are in use at once, of let, count and unfinished terms: keep one in a name of state, or split a term\n";
-
-/// The note on a rule that is too long.
-const LONG_NOTE: &[u8] =
-    b"note: a program has at most 2048 slots, and for and count are written out for each node: use fewer of both, or fewer --nodes\n";
-
-/// Says why these bytes were rejected, if there is something to say.
-pub(crate) fn tell_rejection_note<E: Write>(
-    alloc: Global,
-    rejection: &Rejection,
-    bytes: &[u8],
-    err: &mut E,
-)
-    requires noted { IsNoted bytes.now rejection.now }
-    ensures { SaysNote (E.contents err.old) (E.contents err.new) }
-{
-    match rejection {
-        Rejection::Program(Unread::Image(_)) => tell_image_note(bytes, err),
-        Rejection::Program(Unread::Shape | Unread::Text(_)) => {}
-        Rejection::Rule { why, memory } => {
-            tell_uncompiled_note(alloc, *memory, bytes, *why, err);
+    /// Returns what to do with an input of this kind.
+    fn words(self) -> &'static str
+        ensures { IsOneLine result.now }
+    {
+        match self {
+            Kind::Scenario => "this seems to be a scenario; clockbed run FILE runs it",
+            Kind::Rule => "this seems to be a rule; clockbed compile FILE prints its image",
+            Kind::Assembler =>
+                "this seems to be assembler text; clockbed asm FILE prints its image, and verify --text FILE verifies it",
+            Kind::Image =>
+                "this seems to be an image; clockbed verify FILE verifies it, and dis FILE prints its text",
         }
-        Rejection::Scenario(rejected) => tell_rejected_note(alloc, bytes, rejected, err),
     }
 }
 
-/// Says why a rule has no program, on nodes with this many bytes of memory.
-fn tell_uncompiled_note<E: Write>(
-    alloc: Global,
-    memory: u32,
-    text: &[u8],
-    why: Uncompiled,
-    err: &mut E,
-)
-    ensures { SaysNote (E.contents err.old) (E.contents err.new) }
+/// What is said in fixed words.
+#[derive(Clone, Copy, Debug, PartialEq, Eq)]
+pub(crate) enum Advice {
+    /// An ELF file is in place of an image (docs/NODES_IN_C.md).
+    Elf,
+    /// A text is in place of an image.
+    Text,
+    /// It seems to be of another kind than what the command reads.
+    Kind(Kind),
+    /// The nodes and the memory are no shape.
+    Shape,
+    /// The numbers are no rule of clocks.
+    Sizes,
+    /// A rule has more words than the memory.
+    Words,
+    /// A rule has more numbers at once than there are places.
+    Numbers,
+    /// A rule is too long.
+    Long,
+    /// A scenario has no seed, and `sweep` needs one.
+    Seed,
+    /// A scenario can't be explored, or no law covers a part of what is asked.
+    Unfit(Unfit),
+    /// No law covers every start with any message.
+    EveryStartAnyMessage,
+}
+
+impl Advice {
+    ghost use Rattle.commands.specs.inner.Notes.{IsOneLine};
+
+    /// Returns the words of the note.
+    fn words(self) -> &'static str
+        ensures { IsOneLine result.now }
+    {
+        match self {
+            Advice::Elf =>
+                "this is an ELF file; an image is its .text alone: llvm-objcopy -O binary --only-section=.text FILE IMAGE",
+            Advice::Text =>
+                "this is a text; clockbed exec --text runs it, verify --text verifies it, and asm prints its image",
+            Advice::Kind(kind) => kind.words(),
+            Advice::Shape =>
+                "--memory is a multiple of 8, from 8 to 256, and --nodes is from 1 to 64",
+            Advice::Sizes => "--faults is less than --nodes, and --modulus is from 2 to 65536",
+            Advice::Words =>
+                "clock and each name of state take 4 bytes of the memory: use a greater --memory, or fewer names",
+            Advice::Numbers =>
+                "at most 3 numbers are in use at once, of let, count and unfinished terms: keep one in a name of state, or split a term",
+            Advice::Long =>
+                "a program has at most 2048 slots, and for and count are written out for each node: use fewer of both, or fewer --nodes",
+            Advice::Seed =>
+                "sweep runs a scenario once for each seed: it needs a key, and coins = \"chacha\" or a load of noise",
+            Advice::Unfit(unfit) => unfit_words(unfit),
+            Advice::EveryStartAnyMessage =>
+                "no law covers every start with any message of these programs: use --start any --cells, and if need be --mail 0..8",
+        }
+    }
+}
+
+/// Returns what is said of a scenario that can't be explored.
+fn unfit_words(unfit: Unfit) -> &'static str
+    ensures { IsOneLine result.now }
+{
+    match unfit {
+        Unfit::Load => "explore takes loads of pulse 1 alone: a correct node keeps its program",
+        Unfit::Unload => "explore takes no [[unload]]: a correct node keeps its program",
+        Unfit::Corrupt => "explore takes no [[corrupt]]: --start any tries other initial memories",
+        Unfit::Coin => "explore takes no [[coin]]: it tries both coins of each node",
+        Unfit::Unloaded => "explore needs a node with a program: add a [[load]] of pulse 1",
+        Unfit::Byte =>
+            "--cells names a place past the memory: places go from 0 to one below `memory`",
+        Unfit::Image =>
+            "--images has a memory of another length: each has two digits for each byte of `memory`",
+        Unfit::AnyMessage =>
+            "no law covers any message to these programs: name numbers, as --mail 0..8",
+        Unfit::NoLaw { .. } =>
+            "no law covers every start of these programs: use --start any --cells",
+    }
+}
+
+/// Returns the note with these words, if there is memory for it.
+pub(crate) fn advised(alloc: Global, advice: Advice) -> Option<String>
+    ensures { IfSome result (λ note. IsNote (string_bytes note)) }
+{
+    note_with(alloc, advice.words())
+}
+
+fn note_with(alloc: Global, words: &str) -> Option<String>
+    requires { IsOneLine words.now }
+    ensures { IfSome result (λ note. IsNote (string_bytes note)) }
+{
+    match format!(in alloc; "note: {words}\n") {
+        Ok(note) => Some(note),
+        Err(_) => None,
+    }
+}
+
+/// Returns the note on a rejection of these bytes, if there is something to say. If they seem to be of another kind than
+/// what the command reads, the note says so.
+pub(crate) fn rejection_note(alloc: Global, rejection: &Rejection, bytes: &[u8]) -> Option<String>
+    requires { IsRejectionOf bytes.now rejection.now }
+    ensures { IfSome result (λ note. IsNote (string_bytes note)) }
+{
+    if let Some(kind) = other_kind(alloc, rejection, bytes) {
+        return advised(alloc, Advice::Kind(kind));
+    }
+    match rejection {
+        Rejection::Program(Unread::Image(_)) => advised(alloc, image_advice(bytes)?),
+        Rejection::Program(Unread::Shape | Unread::Text(_)) => None,
+        Rejection::Rule { why, memory } => uncompiled_note(alloc, *memory, bytes, *why),
+        Rejection::Scenario(rejected) => match note_on(alloc, bytes, rejected) {
+            Ok(note) => note,
+            Err(_) => None,
+        },
+    }
+}
+
+/// Returns what the bytes seem to be, if that isn't what the command reads. Where an image is read a text of the assembler
+/// has advice of its own.
+fn other_kind(alloc: Global, rejection: &Rejection, bytes: &[u8]) -> Option<Kind> {
+    let kind = kind_of(alloc, bytes)?;
+    let is_other = match rejection {
+        Rejection::Program(Unread::Image(_)) => kind == Kind::Scenario || kind == Kind::Rule,
+        Rejection::Program(Unread::Text(_)) => kind != Kind::Assembler,
+        Rejection::Program(Unread::Shape) => false,
+        Rejection::Rule {
+            why: Uncompiled::Rule(RuleRefusal::Text { .. }),
+            ..
+        } => kind != Kind::Rule,
+        Rejection::Rule { .. } => false,
+        Rejection::Scenario(_) => kind != Kind::Scenario,
+    };
+    if is_other { Some(kind) } else { None }
+}
+
+/// Returns what an input seems to be: a text with a line of `nodes`, or what can be read.
+fn kind_of(alloc: Global, bytes: &[u8]) -> Option<Kind> {
+    if !is_text(bytes) {
+        return decode(alloc, bytes).ok().map(|_program| Kind::Image);
+    }
+    if str::from_utf8(bytes)
+        .ok()?
+        .lines()
+        .any(|line| sets_nodes(line))
+    {
+        return Some(Kind::Scenario);
+    }
+    if assemble(alloc, bytes).is_ok() {
+        return Some(Kind::Assembler);
+    }
+    let rule = read_rule(alloc, bytes).ok()?;
+    match rule.statement {
+        Statement::Nothing => None,
+        _ => Some(Kind::Rule),
+    }
+}
+
+/// Returns true for a line that says how many nodes there are.
+fn sets_nodes(line: &str) -> bool {
+    match line.trim_start().strip_prefix("nodes") {
+        Some(rest) => rest.trim_start().starts_with('='),
+        None => false,
+    }
+}
+
+/// Returns the note on a rule that has no program, on nodes with this many bytes of memory.
+fn uncompiled_note(alloc: Global, memory: u32, text: &[u8], why: Uncompiled) -> Option<String>
+    ensures { IfSome result (λ note. IsNote (string_bytes note)) }
 {
     match why {
-        Uncompiled::Shape => say(SHAPE_NOTE, err),
-        Uncompiled::Sizes => say(SIZES_NOTE, err),
+        Uncompiled::Shape => advised(alloc, Advice::Shape),
+        Uncompiled::Sizes => advised(alloc, Advice::Sizes),
         Uncompiled::Rule(
             RuleRefusal::Text {
                 error,
                 line,
                 column,
             },
-        ) => {
-            if let Ok(Some(note)) = note_on_rule(alloc, text, error, line, column) {
-                say(note.as_bytes(), err);
-            }
-        }
-        Uncompiled::Rule(RuleRefusal::NoRoom) => tell_room_note(alloc, memory, text, err),
-        Uncompiled::Rule(RuleRefusal::TooLong) => say(LONG_NOTE, err),
+        ) => match note_on_rule(alloc, text, error, line, column) {
+            Ok(note) => note,
+            Err(_) => None,
+        },
+        Uncompiled::Rule(RuleRefusal::NoRoom) => advised(alloc, room_advice(alloc, memory, text)?),
+        Uncompiled::Rule(RuleRefusal::TooLong) => advised(alloc, Advice::Long),
     }
 }
 
-/// Says what a rule has no room for.
-fn tell_room_note<E: Write>(alloc: Global, memory: u32, text: &[u8], err: &mut E)
-    ensures { SaysNote (E.contents err.old) (E.contents err.new) }
-{
-    if let Ok(rule) = read_rule(alloc, text) {
-        if rule.words > (memory / 4) as usize {
-            say(WORDS_NOTE, err);
-        } else {
-            say(NUMBERS_NOTE, err);
-        }
-    }
-}
-
-/// Says what bytes are that are no image, if that is known.
-fn tell_image_note<E: Write>(image: &[u8], err: &mut E)
-    ensures { SaysNote (E.contents err.old) (E.contents err.new) }
-{
-    if image.starts_with(ELF_BEGINNING) {
-        say(ELF_NOTE, err);
+/// Returns what a rule has no room for.
+fn room_advice(alloc: Global, memory: u32, text: &[u8]) -> Option<Advice> {
+    let rule = read_rule(alloc, text).ok()?;
+    if rule.words > (memory / 4) as usize {
+        Some(Advice::Words)
     } else {
-        tell_text_note(image, err);
+        Some(Advice::Numbers)
     }
 }
 
-/// Says of bytes that are a text that they are no image.
-fn tell_text_note<E: Write>(bytes: &[u8], err: &mut E)
-    ensures { SaysNote (E.contents err.old) (E.contents err.new) }
-{
-    if is_text(bytes) {
-        say(TEXT_NOTE, err);
+/// Returns what bytes are that are no image, if that is known.
+fn image_advice(bytes: &[u8]) -> Option<Advice> {
+    if bytes.starts_with(ELF_BEGINNING) {
+        Some(Advice::Elf)
+    } else if is_text(bytes) {
+        Some(Advice::Text)
+    } else {
+        None
     }
 }
 
@@ -153,109 +271,28 @@ fn may_be_of_text(byte: u8) -> bool {
     !byte.is_ascii_control() || byte.is_ascii_whitespace()
 }
 
-/// Says why a command refused a scenario. Of another ending nothing is said.
-pub(crate) fn tell_unfit_note<E: Write>(
-    alloc: Global,
-    asked: &ScenarioRequest,
-    scenario: &Scenario,
-    ending: Ending,
-    err: &mut E,
-)
-    ensures { SaysAt ending (E.contents err.old) (E.contents err.new) }
+/// Returns the note on a scenario that can't be explored from these starts.
+pub(crate) fn unfit_note(alloc: Global, start: &Starts, unfit: Unfit) -> Option<String>
+    ensures { IfSome result (λ note. IsNote (string_bytes note)) }
 {
-    match ending {
-        Ending::Refused => tell_unused_note(alloc, asked, scenario, err),
-        Ending::Done | Ending::Mismatched | Ending::Violated | Ending::Unfinished => {}
+    match (unfit, start) {
+        (Unfit::AnyMessage, Starts::Every) => advised(alloc, Advice::EveryStartAnyMessage),
+        (unfit, _) => advised(alloc, Advice::Unfit(unfit)),
     }
 }
 
-fn tell_unused_note<E: Write>(
-    alloc: Global,
-    asked: &ScenarioRequest,
-    scenario: &Scenario,
-    err: &mut E,
-)
-    ensures { SaysNote (E.contents err.old) (E.contents err.new) }
+/// Returns the note on what a scenario has in place of a node in a pulse.
+pub(crate) fn place_note(alloc: Global, place: NodeInPulse, scenario: &Scenario) -> Option<String>
+    ensures { IfSome result (λ note. IsNote (string_bytes note)) }
 {
-    match asked {
-        ScenarioRequest::Sweep(_) => say(SEED_NOTE, err),
-        ScenarioRequest::TracedRun(place) => tell_place_note(alloc, *place, scenario, err),
-        ScenarioRequest::NodeProgram(options) => {
-            tell_place_note(alloc, options.place, scenario, err);
-        }
-        ScenarioRequest::Explore(options) => {
-            tell_unfit_scenario(options, scenario, err);
-        }
-        ScenarioRequest::Run(_) | ScenarioRequest::Lines(_) => {}
-    }
-}
-
-/// Says what of the scenario can't be explored, or which part no law covers.
-fn tell_unfit_scenario<E: Write>(options: &ExploreOptions, scenario: &Scenario, err: &mut E)
-    ensures { SaysNote (E.contents err.old) (E.contents err.new) }
-{
-    match unfit_of(options, scenario) {
-        Some(unfit) => say(unexplored_note(unfit), err),
-        None => tell_uncovered(options, scenario, err),
-    }
-}
-
-/// Says which part no law covers, if there is one. If both parts were asked for, a bound may still cover messages.
-fn tell_uncovered<E: Write>(options: &ExploreOptions, scenario: &Scenario, err: &mut E)
-    ensures { SaysNote (E.contents err.old) (E.contents err.new) }
-{
-    match (uncovered_of(options, scenario), &options.start) {
-        (None, _) => {}
-        (Some(Unfit::AnyMessage), Starts::Every) => say(BOTH_NOTE, err),
-        (Some(unfit), _) => say(unexplored_note(unfit), err),
-    }
-}
-
-/// Says what a scenario has in place of a node in a pulse.
-fn tell_place_note<E: Write>(alloc: Global, place: NodeInPulse, scenario: &Scenario, err: &mut E)
-    ensures { SaysNote (E.contents err.old) (E.contents err.new) }
-{
-    if let Ok(Some(note)) = note_on_trace(alloc, place, scenario) {
-        say(note.as_bytes(), err);
-    }
-}
-
-/// Returns the note on a scenario that can't be explored.
-fn unexplored_note(unfit: Unfit) -> &'static [u8]
-    ensures { IsNote result.now }
-{
-    match unfit {
-        Unfit::Load =>
-            b"note: explore takes loads of pulse 1 alone: a correct node keeps its program\n",
-        Unfit::Unload => b"note: explore takes no [[unload]]: a correct node keeps its program\n",
-        Unfit::Corrupt =>
-            b"note: explore takes no [[corrupt]]: --start any tries other initial memories\n",
-        Unfit::Coin => b"note: explore takes no [[coin]]: it tries both coins of each node\n",
-        Unfit::Unloaded =>
-            b"note: explore needs a node with a program: add a [[load]] of pulse 1\n",
-        Unfit::Byte =>
-            b"note: --cells names a place past the memory: places go from 0 to one below `memory`\n",
-        Unfit::Image =>
-            b"note: --images has a memory of another length: each has two digits for each byte of `memory`\n",
-        Unfit::AnyMessage =>
-            b"note: no law covers any message to these programs: name numbers, as --mail 0..8\n",
-        Unfit::NoLaw { .. } =>
-            b"note: no law covers every start of these programs: use --start any --cells\n",
-    }
-}
-
-/// Says where a scenario's text is rejected, if there is something to say.
-fn tell_rejected_note<E: Write>(alloc: Global, text: &[u8], rejected: &Rejected, err: &mut E)
-    requires parsed { IsParsed text.now rejected.now.parsed }
-    ensures { SaysNote (E.contents err.old) (E.contents err.new) }
-{
-    if let Ok(Some(note)) = note_on(alloc, text, rejected) {
-        say(note.as_bytes(), err);
+    match note_on_trace(alloc, place, scenario) {
+        Ok(note) => note,
+        Err(_) => None,
     }
 }
 
 /// Says a note, up to the first call of `write` that fails or takes nothing.
-fn say<E: Write>(note: &[u8], err: &mut E)
+pub(crate) fn say<E: Write>(note: &[u8], err: &mut E)
     requires note { IsNote note.now }
     ensures { SaysNote (E.contents err.old) (E.contents err.new) }
 {

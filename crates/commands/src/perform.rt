@@ -2,18 +2,19 @@
 ghost use Rattle.std.specs.Prelude.{◌≡◌, IfErr, IfOk};
 ghost use Rattle.commands.specs.Perform.{AsksInput, CarriesOut, PerformsRequest, Responds, SaysAt, TakesFor};
 
-use crate::asm::asm_bytes;
-use crate::compile::compile_bytes;
-use crate::dis::{clock, dis_bytes};
+use crate::asm::asm;
+use crate::compile::compile;
+use crate::dis::{clock, dis};
 use crate::ending::Ending;
 use crate::exec::exec_bytes;
-use crate::explanation::explain_bytes;
+use crate::explanation::explanation;
 use crate::fault::Fault;
 use crate::input::{Input, program_input, read_input, shaped_input};
 use crate::output::write_whole;
+use crate::response::give;
 use crate::scenario::scenario_bytes;
 use crate::stress::stress;
-use crate::verify::verify_bytes;
+use crate::verify::verify;
 use bench_space::Progress;
 use requests::Request;
 use std::alloc::Global;
@@ -96,14 +97,14 @@ fn respond<T: Threads + Wait + Sync, W: Write, E: Write, P: Progress>(
 {
     match request {
         Request::Exec(options) => exec_bytes(alloc, options, bytes, out, err),
-        Request::Asm { list } => asm_bytes(alloc, *list, bytes, out, err),
-        Request::Compile(options) => compile_bytes(alloc, *options, bytes, out, err),
-        Request::Dis { list } => dis_bytes(alloc, *list, bytes, out, err),
-        Request::Clock(options) => clock(alloc, *options, out),
-        Request::Verify(options) => verify_bytes(alloc, *options, bytes, out, err),
-        Request::Explain(options) => explain_bytes(alloc, *options, bytes, out, err),
+        Request::Asm { list } => give(asm(alloc, *list, bytes), out, err),
+        Request::Compile(options) => give(compile(alloc, *options, bytes), out, err),
+        Request::Dis { list } => give(dis(alloc, *list, bytes), out, err),
+        Request::Clock(options) => give(clock(alloc, *options), out, err),
+        Request::Verify(options) => give(verify(alloc, *options, bytes), out, err),
+        Request::Explain(options) => give(explanation(alloc, *options, bytes), out, err),
         Request::Scenario(asked) => scenario_bytes(rt, alloc, asked, bytes, out, err, progress),
-        Request::Stress(options) => stress(rt, alloc, *options, out),
+        Request::Stress(options) => give(stress(rt, alloc, *options), out, err),
         Request::Help { text } => write_whole(out, text.as_bytes(), Ending::Done),
     }
 }

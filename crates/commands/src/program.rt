@@ -3,7 +3,7 @@ ghost use Rattle.std.specs.Prelude.{◌≡◌, ◌≤◌, IfOk, IfErr, OnOk, len
 ghost use Rattle.commands.specs.declared.input.TheConstants.{TEXT_BYTES};
 ghost use Rattle.requests.specs.declared.request.ShapeOptions.{ShapeOptions};
 ghost use Rattle.commands.specs.Asm.{ReadsAsmText};
-ghost use Rattle.commands.specs.Faults.{IsBeforeWriting};
+ghost use Rattle.commands.specs.Faults.{IsFaultOfProgram, IsFaultOfText, IsOutOfMemory};
 ghost use Rattle.commands.specs.Image.{ReadsImage};
 ghost use Rattle.requests.specs.Shapes.{HasShape};
 ghost use Rattle.commands.specs.Input.{IsProgramOfInput, IsUnread};
@@ -34,7 +34,7 @@ pub(crate) fn program_read(
     bytes: &[u8],
 ) -> Result<Result<ProgramRead, Unread>, Fault>
     ensures read { IfOk result (ReadsInput options text bytes.now) }
-    ensures fault { IfErr result IsBeforeWriting }
+    ensures fault { IfErr result (IsFaultOfProgram text bytes.now) }
 {
     let Some(shape) = Shape::of(options.nodes, options.memory) else {
         return Ok(Err(Unread::Shape));
@@ -50,7 +50,7 @@ fn program_of(alloc: Global, text: bool, bytes: &[u8]) -> Result<Result<Program,
     ensures program { IfOk result (λ read. IfOk read (IsProgramOfInput text bytes.now)) }
     ensures unread { IfOk result (λ read. IfErr read (λ unread.
         (asked : ShapeOptions) → HasShape asked → IsUnread asked text bytes.now unread)) }
-    ensures fault { IfErr result IsBeforeWriting }
+    ensures fault { IfErr result (IsFaultOfProgram text bytes.now) }
 {
     if text {
         program_of_text(alloc, bytes)
@@ -63,7 +63,7 @@ fn program_of_text(alloc: Global, text: &[u8]) -> Result<Result<Program, Unread>
     ensures program { IfOk result (λ read. IfOk read (IsProgramOfInput true text.now)) }
     ensures unread { IfOk result (λ read. IfErr read (λ unread.
         (asked : ShapeOptions) → HasShape asked → IsUnread asked true text.now unread)) }
-    ensures fault { IfErr result IsBeforeWriting }
+    ensures fault { IfErr result (IsFaultOfText text.now) }
 {
     match program_meant(alloc, text)? {
         Ok(program) => Ok(Ok(program)),
@@ -75,7 +75,7 @@ fn program_of_image(alloc: Global, image: &[u8]) -> Result<Result<Program, Unrea
     ensures program { IfOk result (λ read. IfOk read (IsProgramOfInput false image.now)) }
     ensures unread { IfOk result (λ read. IfErr read (λ unread.
         (asked : ShapeOptions) → HasShape asked → IsUnread asked false image.now unread)) }
-    ensures fault { IfErr result IsBeforeWriting }
+    ensures fault { IfErr result IsOutOfMemory }
 {
     match program_in(alloc, image)? {
         Ok(program) => Ok(Ok(program)),
@@ -86,7 +86,7 @@ fn program_of_image(alloc: Global, image: &[u8]) -> Result<Result<Program, Unrea
 /// Returns the program of an image, or why the bytes are none. Lack of memory is a fault.
 pub(crate) fn program_in(alloc: Global, bytes: &[u8]) -> Result<Result<Program, ImageError>, Fault>
     ensures read { IfOk result (ReadsImage bytes.now) }
-    ensures fault { IfErr result IsBeforeWriting }
+    ensures fault { IfErr result IsOutOfMemory }
 {
     match decode(alloc, bytes) {
         Ok(program) => Ok(Ok(program)),
@@ -99,7 +99,7 @@ pub(crate) fn program_in(alloc: Global, bytes: &[u8]) -> Result<Result<Program, 
 /// reading; lack of memory is a fault, too.
 pub(crate) fn program_meant(alloc: Global, text: &[u8]) -> Result<Result<Program, TextError>, Fault>
     ensures read { IfOk result (ReadsAsmText text.now) }
-    ensures fault { IfErr result IsBeforeWriting }
+    ensures fault { IfErr result (IsFaultOfText text.now) }
 {
     refuse_too_long(text)?;
     match assemble(alloc, text) {
@@ -112,7 +112,7 @@ pub(crate) fn program_meant(alloc: Global, text: &[u8]) -> Result<Result<Program
 /// Returns a fault of reading if a text is too long.
 pub(crate) fn refuse_too_long(text: &[u8]) -> Result<(), Fault>
     ensures few { OnOk result (length text.now ≤ TEXT_BYTES) }
-    ensures fault { IfErr result IsBeforeWriting }
+    ensures fault { IfErr result (IsFaultOfText text.now) }
 {
     if text.len() > TEXT_BYTES {
         return Err(Fault::Read);

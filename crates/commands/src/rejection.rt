@@ -1,15 +1,17 @@
 //! Why a request has nothing to work on, and how that is said.
 ghost use Rattle.std.specs.Prelude.{◌≡◌, ◌++◌, Some, IfErr, IfOk, codes};
 ghost use Rattle.commands.specs.declared.ending.Ending.TheVariants.{Refused};
-ghost use Rattle.commands.specs.inner.Rejections.{IsNoted, rejection_line};
+ghost use Rattle.commands.specs.inner.Rejections.{IsRejectionOf, rejection_line};
+ghost use Rattle.commands.specs.inner.Responses.{IsNoted};
+ghost use Rattle.commands.specs.Faults.{IsOutOfMemory};
 ghost use Rattle.commands.specs.Output.{Leaves};
 ghost use Rattle.commands.specs.Perform.{SaysAt};
 ghost use Rattle.commands.specs.Rejections.{uncompiled_line, unread_line};
 
 use crate::ending::Ending;
 use crate::fault::Fault;
-use crate::note::tell_rejection_note;
-use crate::output::write_text;
+use crate::note::rejection_note;
+use crate::response::{Response, give};
 use bpf_asm::TextError;
 use bpf_insn::ImageError;
 use rule_programs::RuleRefusal;
@@ -49,6 +51,26 @@ pub enum Rejection {
     Scenario(Rejected),
 }
 
+/// Returns the line of a rejection of these bytes, and the note on it.
+pub(crate) fn rejected(
+    alloc: Global,
+    rejection: &Rejection,
+    bytes: &[u8],
+) -> Result<Response, Fault>
+    requires { IsRejectionOf bytes.now rejection.now }
+    ensures text { IfOk result (λ response. response.text.items ≡ rejection_line rejection.now ++ codes "\n") }
+    ensures ending { IfOk result (λ response. response.ending ≡ Refused) }
+    ensures noted { IfOk result IsNoted }
+    ensures fault { IfErr result IsOutOfMemory }
+{
+    let line = format!(in alloc; "{rejection}\n").map_err(|_| Fault::Memory)?;
+    Ok(Response {
+        text: line.into_bytes(),
+        ending: Ending::Refused,
+        note: rejection_note(alloc, rejection, bytes),
+    })
+}
+
 /// Writes the line of a rejection of these bytes, and says the note on it on `err`.
 pub(crate) fn reject<W: Write, E: Write>(
     alloc: Global,
@@ -57,16 +79,13 @@ pub(crate) fn reject<W: Write, E: Write>(
     out: &mut W,
     err: &mut E,
 ) -> Result<Ending, Fault>
-    requires noted { IsNoted bytes.now rejection.now }
+    requires { IsRejectionOf bytes.now rejection.now }
     ensures left { Leaves (W.contents out.old) (W.contents out.new) (rejection_line rejection.now ++ codes "\n") Refused
         result }
     ensures said { IfOk result (λ ending. SaysAt ending (E.contents err.old) (E.contents err.new)) }
     ensures unsaid { IfErr result (λ fault. E.contents err.new ≡ E.contents err.old) }
 {
-    let line = format!(in alloc; "{rejection}\n").map_err(|_| Fault::Memory)?;
-    write_text(out, line.as_bytes())?;
-    tell_rejection_note(alloc, rejection, bytes, err);
-    Ok(Ending::Refused)
+    give(rejected(alloc, rejection, bytes), out, err)
 }
 
 impl fmt::Display for Unread {

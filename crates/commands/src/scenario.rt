@@ -2,7 +2,7 @@
 ghost use Rattle.std.specs.Prelude.{◌≡◌, ℕ, List, IfErr, IfOk, MatchResult, take};
 ghost use Rattle.bench_scenario.specs.declared.run.TheConstants.{MAX_BYTES};
 ghost use Rattle.scenario_text.specs.Texts.{IsDue, IsParsed, ReadsText};
-ghost use Rattle.commands.specs.Faults.{IsBeforeWriting};
+ghost use Rattle.commands.specs.Faults.{IsOutOfMemory};
 ghost use Rattle.commands.specs.Perform.{SaysAt};
 ghost use Rattle.commands.specs.Scenarios.{LeavesFor, LeavesOf};
 
@@ -11,8 +11,8 @@ use crate::explore::explore;
 use crate::fault::Fault;
 use crate::lines::lines;
 use crate::node_program::node_program;
-use crate::note::tell_unfit_note;
 use crate::rejection::{Rejection, reject};
+use crate::response::give;
 use crate::run::run;
 use crate::sweep::sweep;
 use crate::traced_run::traced_run;
@@ -53,7 +53,7 @@ fn scenario_read(alloc: Global, bytes: &[u8]) -> Result<Result<Scenario, Rejecte
         → MatchResult read (ReadsText text) (λ rejected. IsDue text rejected.error)) }
     ensures parsed { IfOk result (λ read. IfErr read (λ rejected. IsParsed bytes.now rejected.parsed)) }
     ensures some_text { IfOk result (λ read. IfOk read (λ s. (text : List ℕ) × ReadsText text s)) }
-    ensures fault { IfErr result IsBeforeWriting }
+    ensures fault { IfErr result IsOutOfMemory }
 {
     front_reads_as_whole(); // brings that these bytes serve as the whole text
     match parse_scenario(alloc, bytes) {
@@ -65,7 +65,7 @@ fn scenario_read(alloc: Global, bytes: &[u8]) -> Result<Result<Scenario, Rejecte
     }
 }
 
-/// Does what is asked for on a scenario that was read. Of a refusal a note is said on `err`.
+/// Does what is asked for on a scenario that was read.
 fn on_scenario<T: Threads + Wait + Sync, W: Write, E: Write, P: Progress>(
     rt: &T,
     alloc: Global,
@@ -80,29 +80,18 @@ fn on_scenario<T: Threads + Wait + Sync, W: Write, E: Write, P: Progress>(
     ensures said { IfOk result (λ ending. SaysAt ending (E.contents err.old) (E.contents err.new)) }
     ensures unsaid { IfErr result (λ fault. E.contents err.new ≡ E.contents err.old) }
 {
-    let ending = carry_out(rt, alloc, asked, scenario, out, progress)?;
-    tell_unfit_note(alloc, asked, scenario, ending, err);
-    Ok(ending)
-}
-
-/// Does what is asked for on a scenario that was read.
-fn carry_out<T: Threads + Wait + Sync, W: Write, P: Progress>(
-    rt: &T,
-    alloc: Global,
-    asked: &ScenarioRequest,
-    scenario: &Scenario,
-    out: &mut W,
-    progress: &mut P,
-) -> Result<Ending, Fault>
-    requires reads { (text : List ℕ) × ReadsText text scenario.now }
-    ensures { LeavesOf asked.now (W.contents out.old) (W.contents out.new) scenario.now result }
-{
     match asked {
         ScenarioRequest::Run(options) => run(rt, alloc, *options, scenario, out),
         ScenarioRequest::Lines(options) => lines(rt, alloc, *options, scenario, out),
-        ScenarioRequest::TracedRun(place) => traced_run(rt, alloc, *place, scenario, out),
-        ScenarioRequest::NodeProgram(options) => node_program(rt, alloc, *options, scenario, out),
-        ScenarioRequest::Sweep(options) => sweep(rt, alloc, *options, scenario, out),
-        ScenarioRequest::Explore(options) => explore(rt, alloc, options, scenario, out, progress),
+        ScenarioRequest::TracedRun(place) => {
+            give(traced_run(rt, alloc, *place, scenario), out, err)
+        }
+        ScenarioRequest::NodeProgram(options) => {
+            give(node_program(rt, alloc, *options, scenario), out, err)
+        }
+        ScenarioRequest::Sweep(options) => sweep(rt, alloc, *options, scenario, out, err),
+        ScenarioRequest::Explore(options) => {
+            give(explore(rt, alloc, options, scenario, progress), out, err)
+        }
     }
 }

@@ -1,61 +1,49 @@
 //! `stress`: many hands at one bench, and whether its history is what they did.
-ghost use Rattle.std.specs.Prelude.{◌≡◌, length};
-ghost use Rattle.commands.specs.Stress.{LeavesStressed, Replayed, stressed_text};
-ghost use Rattle.commands.specs.inner.Faults.{stop_fault};
-ghost use Rattle.commands.specs.Output.{Leaves};
-ghost use Rattle.commands.specs.declared.ending.Ending.TheVariants.{Done};
+ghost use Rattle.std.specs.Prelude.{◌≡◌, IfErr, IfOk, length, string_bytes};
+ghost use Rattle.commands.specs.Faults.{IsFaultOfThreads};
+ghost use Rattle.commands.specs.Stress.{IsStressed, Replayed, stressed_ending, stressed_text};
+ghost use Rattle.commands.specs.inner.Responses.{IsNoted, IsResponse};
 
 use crate::ending::Ending;
 use crate::fault::Fault;
-use crate::output::write_whole;
+use crate::response::Response;
 use bench_shared::Finished;
 use bench_stress::{Stop, stress_bench};
 use requests::StressOptions;
-use std::alloc::Global;
+use std::alloc::{AllocError, Global};
 use std::fmt;
-use std::io::Write;
 use std::sync::Wait;
 use std::thread::Threads;
 
-/// Lets loaders and an engine work on one bench at once, and writes how many entries they made, where its history
-/// is what their receipts say (docs/THREADS.md). Clamps the numbers of loaders and workers to their ranges.
-pub fn stress<R: Threads + Wait + Sync, W: Write>(
+/// Lets loaders and an engine work on one bench at once, and returns how many entries they made, if its history is what
+/// their receipts say (docs/THREADS.md). Clamps the numbers of loaders and workers to their ranges.
+pub(crate) fn stress<R: Threads + Wait + Sync>(
     rt: &R,
     alloc: Global,
     options: StressOptions,
-    out: &mut W,
-) -> Result<Ending, Fault>
-    ensures { LeavesStressed options (W.contents out.old) (W.contents out.new) result }
+) -> Result<Response, Fault>
+    ensures response { IfOk result (IsResponse (IsStressed options) stressed_text stressed_ending) }
+    ensures noted { IfOk result IsNoted }
+    ensures fault { IfErr result IsFaultOfThreads }
 {
     match stress_bench(rt, alloc, options) {
-        Ok(finished) => write_finished(alloc, &finished, out),
-        Err(stop) => match fault_of(stop) {
-            Some(fault) => Err(fault),
-            None => write_whole(out, b"replay mismatch\n", Ending::Mismatched),
+        Ok(finished) => match finished_text(alloc, &finished) {
+            Ok(line) => Ok(Response::done(line.into_bytes())),
+            Err(_) => Err(Fault::Memory),
+        },
+        Err(Stop::Memory) => Err(Fault::Memory),
+        Err(Stop::Thread) => Err(Fault::Thread),
+        Err(Stop::Mismatch) => match Vec::from_slice(alloc, b"replay mismatch\n") {
+            Ok(line) => Ok(Response::without_note(line, Ending::Mismatched)),
+            Err(_) => Err(Fault::Memory),
         },
     }
 }
 
-/// Returns what the hands stopped for lack of.
-fn fault_of(stop: Stop) -> Option<Fault>
-    ensures { result ≡ stop_fault stop }
+fn finished_text(alloc: Global, finished: &Finished) -> Result<String, AllocError>
+    ensures { IfOk result (λ text. string_bytes text ≡ stressed_text (Replayed finished.now)) }
 {
-    match stop {
-        Stop::Memory => Some(Fault::Memory),
-        Stop::Thread => Some(Fault::Thread),
-        Stop::Mismatch => None,
-    }
-}
-
-fn write_finished<W: Write>(
-    alloc: Global,
-    finished: &Finished,
-    out: &mut W,
-) -> Result<Ending, Fault>
-    ensures { Leaves (W.contents out.old) (W.contents out.new) (stressed_text (Replayed finished.now)) Done result }
-{
-    let line = format!(in alloc; "{}\n", FinishedLine(finished)).map_err(|_| Fault::Memory)?;
-    write_whole(out, line.as_bytes(), Ending::Done)
+    format!(in alloc; "{}\n", FinishedLine(finished))
 }
 
 /// The line of a bench that has ended, without its end.

@@ -1,14 +1,17 @@
 //! `sweep`: a line for each key of a scenario.
-ghost use Rattle.std.specs.Prelude.{◌≤◌, List, ℕ};
+ghost use Rattle.std.specs.Prelude.{◌≡◌, ◌≤◌, IfErr, IfOk, List, ℕ};
 ghost use Rattle.key_sweep.specs.declared.sweeping.TheConstants.{MAX_SWEEPERS};
 ghost use Rattle.scenario_text.specs.Texts.{ReadsText};
 ghost use Rattle.commands.specs.declared.ending.Ending.TheVariants.{Refused};
-ghost use Rattle.commands.specs.Output.{Leaves};
+ghost use Rattle.commands.specs.Faults.{IsOutOfMemory};
+ghost use Rattle.commands.specs.Perform.{SaysAt};
 ghost use Rattle.commands.specs.Sweep.{LeavesSwept, no_key_line};
+ghost use Rattle.commands.specs.inner.Responses.{IsNoted};
 
 use crate::ending::Ending;
 use crate::fault::Fault;
-use crate::output::write_whole;
+use crate::note::{Advice, advised};
+use crate::response::{Response, give};
 use key_sweep::{MAX_SWEEPERS, SweepFault};
 use requests::SweepOptions;
 use scenario_text::Scenario;
@@ -18,21 +21,24 @@ use std::sync::Wait;
 use std::thread::{Threads, available_parallelism};
 use stream_io::PartFault;
 
-/// Writes a line for each of the keys of a scenario that was read, or the line that refuses it.
-pub(crate) fn sweep<T: Threads + Wait + Sync, W: Write>(
+/// Writes a line for each of the keys of a scenario that was read, or the line that refuses it, with the note on it.
+pub(crate) fn sweep<T: Threads + Wait + Sync, W: Write, E: Write>(
     rt: &T,
     alloc: Global,
     options: SweepOptions,
     scenario: &Scenario,
     out: &mut W,
+    err: &mut E,
 ) -> Result<Ending, Fault>
     requires reads { (text : List ℕ) × ReadsText text scenario.now }
-    ensures { LeavesSwept (W.contents out.old) (W.contents out.new) scenario.now options.keys result }
+    ensures left { LeavesSwept (W.contents out.old) (W.contents out.new) scenario.now options.keys result }
+    ensures said { IfOk result (λ ending. SaysAt ending (E.contents err.old) (E.contents err.new)) }
+    ensures unsaid { IfErr result (λ fault. E.contents err.new ≡ E.contents err.old) }
 {
     let workers = workers_for(rt, options.workers);
     match key_sweep::sweep(rt, alloc, scenario, options.keys, workers, out) {
         Ok(()) => Ok(Ending::Done),
-        Err(SweepFault::NoKey) => write_no_key(out),
+        Err(SweepFault::NoKey) => give(no_key(alloc), out, err),
         Err(SweepFault::Part(PartFault::Write { written })) => Err(Fault::Write {
             after: written as usize,
         }),
@@ -54,8 +60,19 @@ fn workers_for<T: Threads>(rt: &T, asked: Option<u32>) -> u32
     }
 }
 
-fn write_no_key<W: Write>(out: &mut W) -> Result<Ending, Fault>
-    ensures { Leaves (W.contents out.old) (W.contents out.new) no_key_line Refused result }
+/// Returns the refusal of a scenario of which nothing is drawn by a key.
+fn no_key(alloc: Global) -> Result<Response, Fault>
+    ensures text { IfOk result (λ response. response.text.items ≡ no_key_line) }
+    ensures ending { IfOk result (λ response. response.ending ≡ Refused) }
+    ensures noted { IfOk result IsNoted }
+    ensures fault { IfErr result IsOutOfMemory }
 {
-    write_whole(out, b"refused sweep NoKey\n", Ending::Refused)
+    match Vec::from_slice(alloc, b"refused sweep NoKey\n") {
+        Ok(text) => Ok(Response {
+            text,
+            ending: Ending::Refused,
+            note: advised(alloc, Advice::Seed),
+        }),
+        Err(_) => Err(Fault::Memory),
+    }
 }

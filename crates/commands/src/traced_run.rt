@@ -1,34 +1,36 @@
 //! `run --trace`: a node's run in a pulse of a scenario.
-ghost use Rattle.std.specs.Prelude.{IfErr, IfOk, List, ℕ};
+ghost use Rattle.std.specs.Prelude.{IfErr, IfOk, List, codes, ℕ};
 ghost use Rattle.scenario_text.specs.Texts.{ReadsText};
-ghost use Rattle.commands.specs.Faults.{IsBeforeWriting};
-ghost use Rattle.commands.specs.NodeText.{IsNodeText};
-ghost use Rattle.commands.specs.TracedRun.{IsTracedRun, LeavesTracedRun};
+ghost use Rattle.commands.specs.Faults.{IsOutOfMemory};
+ghost use Rattle.commands.specs.NodeText.{IsNodeText, node_output, node_text_ending};
+ghost use Rattle.commands.specs.TracedRun.{IsTracedRun};
+ghost use Rattle.commands.specs.inner.Responses.{IsNoted, IsResponse};
 
-use crate::ending::Ending;
 use crate::fault::Fault;
 use crate::node_lines::lines_of;
-use crate::node_text::{NodeText, input_at, write_node_text};
+use crate::node_text::{NodeText, input_at, node_response};
+use crate::response::Response;
 use requests::NodeInPulse;
 use scenario_text::Scenario;
 use std::alloc::Global;
-use std::io::Write;
 use std::sync::Wait;
 use std::thread::Threads;
 
-/// Writes the lines of a node's run in a pulse of a scenario that was read, or the line that refuses to.
-pub(crate) fn traced_run<T: Threads + Wait + Sync, W: Write>(
+/// Returns the lines of a node's run in a pulse of a scenario that was read, or the line that refuses to.
+pub(crate) fn traced_run<T: Threads + Wait + Sync>(
     rt: &T,
     alloc: Global,
     place: NodeInPulse,
     scenario: &Scenario,
-    out: &mut W,
-) -> Result<Ending, Fault>
+) -> Result<Response, Fault>
     requires reads { (text : List ℕ) × ReadsText text scenario.now }
-    ensures { LeavesTracedRun (W.contents out.old) (W.contents out.new) place scenario.now result }
+    ensures response { IfOk result (IsResponse (IsNodeText (IsTracedRun place scenario.now) place scenario.now)
+        (node_output (codes "trace")) node_text_ending) }
+    ensures noted { IfOk result IsNoted }
+    ensures fault { IfErr result IsOutOfMemory }
 {
     let trace = trace_in(rt, alloc, place, scenario)?;
-    write_node_text(alloc, "trace", &trace, out)
+    node_response(alloc, "trace", place, scenario, trace)
 }
 
 /// Returns what a scenario has of the run.
@@ -40,7 +42,7 @@ fn trace_in<T: Threads + Wait + Sync>(
 ) -> Result<NodeText, Fault>
     requires reads { (text : List ℕ) × ReadsText text scenario.now }
     ensures told { IfOk result (IsNodeText (IsTracedRun place scenario.now) place scenario.now) }
-    ensures fault { IfErr result IsBeforeWriting }
+    ensures fault { IfErr result IsOutOfMemory }
 {
     let found = input_at(rt, alloc, place, scenario)?;
     match found {

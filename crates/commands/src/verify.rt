@@ -1,60 +1,51 @@
 //! `verify`: accepts a program for nodes of a shape, or refuses it.
 ghost use Rattle.std.specs.Prelude.{◌≡◌, IfOk, IfErr};
-ghost use Rattle.commands.specs.Faults.{IsBeforeWriting};
-ghost use Rattle.commands.specs.Output.{LeavesAny};
-ghost use Rattle.commands.specs.Perform.{SaysAt};
-ghost use Rattle.commands.specs.Verdict.{JudgesProgram, LeavesVerdict, text_of_verdict, verdict_ending};
+ghost use Rattle.commands.specs.Faults.{IsOutOfMemory};
+ghost use Rattle.commands.specs.Verdict.{Judges, JudgesProgram, judged_ending, judged_text, text_of_verdict, verdict_ending};
+ghost use Rattle.commands.specs.inner.Responses.{IsNoted, IsResponse};
 
-use crate::ending::Ending;
 use crate::fault::Fault;
-use crate::output::write_whole;
 use crate::program::{ProgramRead, program_read};
-use crate::rejection::{Rejection, reject};
+use crate::rejection::{Rejection, rejected};
+use crate::response::Response;
 use crate::verdict::Verdict;
 use bpf_insn::Program;
 use bpf_verify::{VerifyError, check};
 use node_env::Shape;
 use requests::ShapeOptions;
 use std::alloc::Global;
-use std::io::Write;
 
 /// Accepts the program of these bytes, or refuses it.
-pub(crate) fn verify_bytes<W: Write, E: Write>(
-    alloc: Global,
-    options: ShapeOptions,
-    bytes: &[u8],
-    out: &mut W,
-    err: &mut E,
-) -> Result<Ending, Fault>
-    ensures left { LeavesVerdict (W.contents out.old) (W.contents out.new) options bytes.now result }
-    ensures said { IfOk result (λ ending. SaysAt ending (E.contents err.old) (E.contents err.new)) }
-    ensures unsaid { IfErr result (λ fault. E.contents err.new ≡ E.contents err.old) }
+pub(crate) fn verify(alloc: Global, options: ShapeOptions, bytes: &[u8]) -> Result<Response, Fault>
+    ensures response { IfOk result (IsResponse (Judges options bytes.now) judged_text judged_ending) }
+    ensures noted { IfOk result IsNoted }
+    ensures fault { IfErr result IsOutOfMemory }
 {
     let found = program_read(alloc, options, false, bytes)?;
     match found {
-        Ok(read) => verify(alloc, &read, out),
-        Err(unread) => reject(alloc, &Rejection::Program(unread), bytes, out, err),
+        Ok(read) => verdict_response(alloc, &read),
+        Err(unread) => rejected(alloc, &Rejection::Program(unread), bytes),
     }
 }
 
-/// Writes the line of the verdict on a program.
-pub(crate) fn verify<W: Write>(
-    alloc: Global,
-    read: &ProgramRead,
-    out: &mut W,
-) -> Result<Ending, Fault>
-    ensures { LeavesAny (JudgesProgram read.now.program read.now.shape) text_of_verdict verdict_ending
-        (W.contents out.old) (W.contents out.new) result }
+/// Returns the line of the verdict on a program.
+fn verdict_response(alloc: Global, read: &ProgramRead) -> Result<Response, Fault>
+    ensures response { IfOk result
+        (IsResponse (JudgesProgram read.now.program read.now.shape) text_of_verdict verdict_ending) }
+    ensures noted { IfOk result IsNoted }
+    ensures fault { IfErr result IsOutOfMemory }
 {
     let verdict = verdict_on(alloc, &read.program, read.shape)?;
-    let line = format!(in alloc; "{verdict}\n").map_err(|_| Fault::Memory)?;
-    write_whole(out, line.as_bytes(), verdict.ending())
+    match format!(in alloc; "{verdict}\n") {
+        Ok(line) => Ok(Response::without_note(line.into_bytes(), verdict.ending())),
+        Err(_) => Err(Fault::Memory),
+    }
 }
 
 /// Returns what the verifier says of a program.
 fn verdict_on(alloc: Global, program: &Program, shape: Shape) -> Result<Verdict, Fault>
     ensures verdict { IfOk result (JudgesProgram program.now shape) }
-    ensures fault { IfErr result IsBeforeWriting }
+    ensures fault { IfErr result IsOutOfMemory }
 {
     match check(alloc, program, shape) {
         Ok(announced) => Ok(Verdict::Accepted {

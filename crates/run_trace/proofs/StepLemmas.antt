@@ -124,6 +124,29 @@ stuck_length program env (suc k) (suc fuel) s t kind few h stuck = by h.0 h.1 h.
         (after_next (step program env s) u (steps_from program env fuel) goes) more ∙ place
     by (Ended left gone q0) goes rest later = absurd (not_after_end program env k left gone q0 t rest)
 
+-- ---- as much fuel as there are steps
+
+pub same_steps : (program : List Insn) (env : Setting) (k fuel : ℕ) (s : MachineState) (m : List ℕ)
+    (out : FinMap nat_cmp ℕ) (r0 : ℕ) → k ≤ fuel → Leads program env k (Running s) (Ended m out r0)
+    → steps_from program env fuel s ≡ steps_from program env k s
+same_steps program env zero fuel s m out r0 few h = absurd (let e : Ended m out r0 ≡ Running s = h in cc)
+same_steps program env (suc k) zero s m out r0 few h = absurd (omega (arith, few))
+same_steps program env (suc k) (suc fuel) s m out r0 few h = by h.0 h.1 h.2
+    (λ t rest. same_steps program env k fuel t m out r0 (omega (arith, few)) rest)
+  where
+    by : (mid : Phase) → Steps program env (Running s) mid → Leads program env k mid (Ended m out r0)
+        → ((t : MachineState) → Leads program env k (Running t) (Ended m out r0)
+        → steps_from program env fuel t ≡ steps_from program env k t)
+        → steps_from program env (suc fuel) s ≡ steps_from program env (suc k) s
+    by (Running t) goes rest later =
+        ap (λ more. step_at program env s ∷ more)
+        (after_next (step program env s) t (steps_from program env fuel) goes
+        ∙ (later t rest ∙ sym (after_next (step program env s) t (steps_from program env k) goes)))
+    by (Ended left gone q0) goes rest later =
+        ap (λ more. step_at program env s ∷ more)
+        (after_end (step program env s) left gone q0 (steps_from program env fuel) goes
+        ∙ sym (after_end (step program env s) left gone q0 (steps_from program env k) goes))
+
 -- ---- each is reached
 
 -- the step of a place, and the state before it

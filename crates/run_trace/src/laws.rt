@@ -32,3 +32,10 @@ pub fn tells_the_run()
         → slice_get (steps_of program env memory fuel) place ≡ Some s
         → RunsTo program env memory place s.state × (s.gives ≡ step program env s.state) }
 {}
+
+/// States that a run that ends has the same steps with as much fuel as it takes steps.
+pub fn more_fuel_tells_no_more()
+    ensures { (program : List Insn) (env : Setting) (memory : List ℕ) (fuel : ℕ) (left : List ℕ)
+        (sent : FinMap nat_cmp ℕ) (r0 steps : ℕ) → RunAnswers program env memory fuel left sent (Ended r0 steps)
+        → steps_of program env memory fuel ≡ steps_of program env memory steps }
+{}

@@ -1,6 +1,7 @@
 //! A run of a rule's program, told below the lines of the rule.
 
 ghost use Rattle.std.specs.Prelude.{◌≡◌, ◌++◌, IfOk, OnOk, codes, length};
+ghost use Rattle.bpf_machine.specs.Run.{RunAnswers};
 ghost use Rattle.rule_listing.specs.Listing.{heading_by};
 ghost use Rattle.run_trace.specs.Lines.{listed_text};
 ghost use Rattle.run_trace.specs.Steps.{steps_of};
@@ -9,7 +10,7 @@ ghost use Rattle.run_trace.specs.inner.Parts.{step_line_in};
 use crate::line::Line;
 use crate::telling::told_step;
 use bpf_insn::Program;
-use bpf_machine::{State, Turn};
+use bpf_machine::{Outcome, State, Turn};
 use node_env::{Env, Outbox};
 use rule_listing::{line_at, push_heading};
 use std::alloc::{AllocError, Global};
@@ -31,42 +32,65 @@ fn push_step(alloc: Global, listing: &mut Vec<u8>, line: &Line) -> Result<(), Al
     listing.extend_from_slice(text.as_bytes())
 }
 
-/// Returns the lines of the first steps of a run, at most as many as there is fuel, as `trace` writes them, each below
-/// the row of the rule's line that made its instruction, if the step before is of another one (docs/RULES.md, "Lines and
-/// instructions"). The run begins with this memory. Fails only if memory runs out.
+/// What a run came to, and the lines of its steps.
+#[derive(Drop)]
+pub struct ListedRun {
+    pub outcome: Outcome,
+    pub listing: Vec<u8>,
+}
+
+/// Runs a program as [`trace`](crate::trace) does, and returns the lines of its steps, each below the row of the rule's
+/// line that made its instruction, if the step before is of another one (docs/RULES.md, "Lines and instructions"). Fails
+/// only if memory runs out. Then `memory` and `outbox` hold what the steps before wrote.
 pub fn listed_trace(
     alloc: Global,
     rule: &RuleCode,
     env: &Env,
-    memory: &[u8],
+    memory: &mut [u8],
+    outbox: &mut Outbox,
     fuel: u64,
-) -> Result<Vec<u8>, AllocError>
-    requires { length memory.now ≡ env.now.shape.memory }
-    ensures { IfOk result (λ listing. listing.items
+) -> Result<ListedRun, AllocError>
+    requires memory { length memory.old ≡ env.now.shape.memory }
+    requires nodes { outbox.old.nodes ≡ env.now.shape.nodes }
+    ensures run { IfOk result (λ ran. RunAnswers rule.now.program.now env.now memory.old fuel memory.new outbox.new.sent
+        ran.outcome) }
+    ensures nodes { outbox.new.nodes ≡ outbox.old.nodes }
+    ensures listing { IfOk result (λ ran. ran.listing.items
         ≡ listed_text rule.now.text.now rule.now.lines.now rule.now.program.now
-        (steps_of rule.now.program.now env.now memory.now fuel)) }
+        (steps_of rule.now.program.now env.now memory.old fuel)) }
 {
     let RuleCode {
         program,
         text,
         lines,
     } = *rule;
-    let mut copy = Vec::from_slice(alloc, memory)?;
-    let after = copy.as_mut_slice();
-    let mut outbox = Outbox::new(alloc, env.shape())?;
+    outbox.clear();
     let mut state = State::entry(env);
     let mut listing = Vec::new(alloc);
     let mut before = 0;
     for taken in 0..fuel {
         let line = line_at(lines, state.slot() as usize);
         push_heading(alloc, &mut listing, text, before, line)?;
-        let (turn, told) = told_step(program, env, &mut state, after, &mut outbox, taken + 1);
+        let (turn, told) = told_step(program, env, &mut state, memory, outbox, taken + 1);
         push_step(alloc, &mut listing, &told)?;
         match turn {
             Turn::Next => before = line,
-            Turn::Ended(_r0) => return Ok(listing),
-            Turn::Trap(_kind) => return Ok(listing),
+            Turn::Ended(r0) => {
+                let outcome = Outcome::Ended {
+                    r0,
+                    steps: taken + 1,
+                };
+                return Ok(ListedRun { outcome, listing });
+            }
+            Turn::Trap(kind) => {
+                let outcome = Outcome::Trap {
+                    slot: state.slot(),
+                    kind,
+                };
+                return Ok(ListedRun { outcome, listing });
+            }
         }
     }
-    Ok(listing)
+    let outcome = Outcome::OutOfFuel;
+    Ok(ListedRun { outcome, listing })
 }

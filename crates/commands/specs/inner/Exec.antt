@@ -14,6 +14,7 @@ use Rattle.requests.specs.Case.{case_memory, case_setting}
 use Rattle.commands.specs.Left.{Left}
 use Rattle.commands.specs.Exec.{LeavesSteps}
 use Rattle.requests.specs.Shapes.{asked_extent}
+use Rattle.commands.specs.Faults.{IsOutOfMemory}
 use Rattle.commands.specs.Output.{LeavesAny}
 
 -- what a run leaves, as contracts see it
@@ -38,4 +39,5 @@ abbrev pub LeavesRunOf : Bool → Option (List ℕ) → Option (List ℕ) → Ex
 LeavesRunOf true old new asked program ended = LeavesSteps old new asked program ended
 LeavesRunOf false old new asked program ended =
     LeavesAny {A = Reply} (RunsCase asked program)
-    (λ reply. told_text asked (answer_in asked.fuel reply) (left_in reply.left)) (λ reply. Done) old new ended
+    (λ reply. told_text asked (answer_in asked.fuel reply) (left_in reply.left)) (λ reply. Done)
+    IsOutOfMemory old new ended

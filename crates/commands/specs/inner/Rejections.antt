@@ -13,7 +13,7 @@ rejection_line (Rule why memory) = uncompiled_line why
 rejection_line (Scenario rejected) = refusal_line rejected.error
 
 -- of a scenario the rejection has what was made of these bytes, from which the note is written
-abbrev pub IsNoted : List ℕ → Rejection → Type 0
-IsNoted bytes (Program unread) = Unit {0}
-IsNoted bytes (Rule why memory) = Unit {0}
-IsNoted bytes (Scenario rejected) = IsParsed bytes rejected.parsed
+abbrev pub IsRejectionOf : List ℕ → Rejection → Type 0
+IsRejectionOf bytes (Program unread) = Unit {0}
+IsRejectionOf bytes (Rule why memory) = Unit {0}
+IsRejectionOf bytes (Scenario rejected) = IsParsed bytes rejected.parsed

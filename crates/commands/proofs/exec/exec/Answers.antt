@@ -1,6 +1,7 @@
 use Rattle.commands.specs.declared.ending.Ending.TheVariants.{Done}
 use Rattle.commands.specs.declared.exec.Reply.{Reply}
 use Rattle.commands.specs.Answer.{told_text}
+use Rattle.commands.specs.Faults.{IsOutOfMemory}
 use Rattle.commands.specs.inner.Exec.{RunsCase, answer_in, left_in}
 use Rattle.commands.proofs.LeavesLemmas.{leaves_any}
 use Rattle.commands.proofs.exec.exec.Goals as goal
@@ -10,5 +11,5 @@ returns g c =
     rw c.if-options.false
     (leaves_any {A = Reply} (RunsCase c.args.options.now c.args.read.now.program)
     (λ reply. told_text c.args.options.now (answer_in c.args.options.now.fuel reply) (left_in reply.left))
-    (λ reply. Done) c.in-Ok.reply (g.W.Write.contents c.args.out.now) (g.W.Write.contents c.write_reply.new.out)
-    c.write_reply.result c.in-Ok.ensures c.write_reply.ensures)
+    (λ reply. Done) IsOutOfMemory c.in-Ok.reply (g.W.Write.contents c.args.out.now)
+    (g.W.Write.contents c.write_reply.new.out) c.write_reply.result c.in-Ok.ensures tt c.write_reply.ensures)

@@ -13,4 +13,4 @@ returns-in-Err-clause-left g c text taken =
 
 -- the parsed text is that of these bytes
 pub reject-requires : goal.reject-requires
-reject-requires g c = record { noted = rw c.in-Err.is at c.in_ok-read.ensures.parsed }
+reject-requires g c = rw c.in-Err.is at c.in_ok-read.ensures.parsed

@@ -1,9 +1,11 @@
+use Rattle.std.proofs.Common.{ap, ◌∙◌, ℕ, Global, Vec}
 use Rattle.commands.specs.Stress.{Replayed}
-use Rattle.commands.proofs.StressLemmas.{told}
 use Rattle.commands.proofs.stress.stress.Goals as goal
 
-pub returns-in-Ok : goal.returns-in-Ok
-returns-in-Ok g c =
-    told c.args.options _ _ _ (Replayed c.in-Ok.finished)
-    (c.in-Ok.ensures.replays, c.in-Ok.ensures.accepted, c.in-Ok.ensures.entries)
-    c.write_finished.ensures
+pub returns-in-Ok-finished_text-clause-response : goal.returns-in-Ok-finished_text-clause-response
+returns-in-Ok-finished_text-clause-response g c = (
+  Replayed c.in-Ok.finished,
+  (c.in-Ok.ensures.replays, c.in-Ok.ensures.accepted, c.in-Ok.ensures.entries),
+  c.done.ensures.text ∙ (ap (λ (v : Vec ℕ Global). v.items) c.into_bytes.ensures.value ∙ c.in-Ok-finished_text.ensures),
+  c.done.ensures.ending,
+)
