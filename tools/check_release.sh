@@ -75,6 +75,7 @@ check_installed() {
   cmp "$share/zsh/vendor-completions/_clockbed" "$room/unpacked/completions/_clockbed"
   rm -r "$room/unpacked/clockbed.1" "$room/unpacked/completions"
   diff -r "$share/clockbed" "$room/unpacked"
+  PYTHONPATH=$root/usr/lib/python3/dist-packages python3 -B -c 'import clockbed; clockbed.Bench().run()'
   say "what ${package##*/} installs is what the archive has"
   tar -C "$share" -hczf "$room/installed.tar.gz" clockbed
   "$top/tools/check_pages.sh" --archive "$room/installed.tar.gz" README.md docs/GALLERY.md

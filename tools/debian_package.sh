@@ -3,7 +3,8 @@
 # tools/debian_package.sh ARCHIVE_FOLDER VERSION FOLDER
 #
 # The program is /usr/bin/clockbed, byte for byte that of the archive. Pages, examples and tools are in
-# /usr/share/clockbed, laid out as in the archive, so that the pages' command lines run in a copy of that folder.
+# /usr/share/clockbed, laid out as in the archive, so that the pages' command lines run in a copy of that folder. Debian's
+# Python finds the package of python/ by a link.
 set -euo pipefail
 
 top=$(cd "$(dirname "${BASH_SOURCE[0]}")/.." && pwd)
@@ -38,6 +39,8 @@ lay_out() {
   rmdir "$share/clockbed/completions"
   ln -s ../../clockbed/examples "$share/doc/clockbed/examples"
   ln -s ../../clockbed/docs "$share/doc/clockbed/docs"
+  mkdir -p "$root/usr/lib/python3/dist-packages"
+  ln -s ../../../share/clockbed/python/clockbed "$root/usr/lib/python3/dist-packages/clockbed"
 }
 
 write_control() {
@@ -51,7 +54,7 @@ Maintainer: $maintainer
 Installed-Size: $(du -k -s --apparent-size "$root/usr" | cut -f 1)
 Depends: libc6 (>= $(least_libc))
 Recommends: python3
-Suggests: python3-matplotlib, jq
+Suggests: python3-matplotlib, python3-pandas, jq
 Description: testbed for Byzantine fault-tolerant clock synchronisation
  Runs a bench of up to 64 nodes, each with a small BPF program, in common
  pulses. Nodes can be correct, Byzantine, or corrupted between pulses. Reports

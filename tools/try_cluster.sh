@@ -37,7 +37,7 @@ import sys
 sys.path.insert(0, sys.argv[1] + "/tools")
 from page_commands import blocks
 page = open(sys.argv[1] + "/docs/LUCK.md", encoding="utf-8").read()
-found = [text for _, mark, text, _ in blocks(page) if mark and mark[2] == "tools/try_cluster.sh runs it: " + sys.argv[2]]
+found = [text for _, _, mark, text, _ in blocks(page) if mark and mark[2] == "tools/try_cluster.sh runs it: " + sys.argv[2]]
 print(found[0], end="")
 END
 }
