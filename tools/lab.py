@@ -1,8 +1,9 @@
 #!/usr/bin/env python3
 """Serves a lab in the browser: tools/lab.py [--port N] [FOLDER | SCENARIO]
 
-The lab edits and runs scenarios of FOLDER (here: the current folder). It prints its address; Ctrl-C ends it.
-docs/LAB.md shows a class with it. CLOCKBED_PROGRAM names another program than the built one.
+The lab edits and runs scenarios of FOLDER (here: the current folder). It prints its address; Ctrl-C ends it. Save
+writes to FOLDER; if that is the folder of examples, to my_scenarios in the current folder. docs/LAB.md shows a class
+with it. CLOCKBED_PROGRAM names another program than the built one.
 """
 import argparse
 import dataclasses
@@ -32,19 +33,32 @@ from picture import COLOURS
 
 PAGE = pathlib.Path(__file__).resolve().parent / "lab"
 EXAMPLES = TOP / "examples"
+OWN = "my_scenarios"
+# The groups of the menu of examples, in its order: a folder, or for scenarios beside the folders what they show.
+GROUPS = {
+    "start": "Start", "attacks": "Attacks and wrong programs", "clocks": "Clocks of several rules",
+    "explore": "Explore", "counters": "Counters that a search found", "luck": "Stabilisation times",
+    "exercises": "Exercises",
+}
+HIDDEN = "solutions"
+ADVERSARY = re.compile(rb'^program = "(?!clock")', re.MULTILINE)
 # The program of a release archive, which has no crates: there it is no script.
 OF_ARCHIVE, ELF = TOP / "clockbed", b"\x7fELF"
-UNPROVED = TOP / "out/unproved/clockbed"
+UNPROVED, OPTIMISED = TOP / "out/unproved/clockbed", TOP / "out/unproved/clockbed.fast"
 KINDS = {".html": "text/html", ".css": "text/css", ".js": "text/javascript"}
 MIB = 1 << 20
 MAX_BODY, MAX_DRAINED, MAX_OUTPUT, MAX_SCENARIO = 2 * MIB, 8 * MIB, 64 * MIB, MIB
 MAX_CONNECTIONS, MAX_FILES, MAX_DEPTH, MAX_CAPTION = 320, 500, 4, 110
 RUN_SECONDS, SEARCH_SECONDS, MAX_SECONDS, IDLE_SECONDS, LOOK_SECONDS = 10, 600, 86400, 30, 0.05
 MAX_PORT = 65535
+# The port of every lab that finds it free, so that a link opens in the lab of whoever has it.
+USUAL_PORT = 8642
+# Served without the token: the page that a link opens first. It holds nothing of this lab.
+OPEN_FILES = {"": "link.html", "link.js": "link.js", "kept.js": "kept.js"}
 PROCESSES = max(2, os.cpu_count() or 2)
 WORD = 1 << 32
 MAX_KEY, MAX_STATES, MAX_NODES, MAX_MEMORY, MAX_PULSES, MAX_MODULUS = (1 << 63) - 1, 10**9, 64, 256, 1000, 65536
-MAX_ODDS = 100_000
+MAX_ODDS, MAX_NEXT = 100_000, 128
 # What the page may load and do: its own files and requests, and nothing else.
 POLICY = (
     "default-src 'none'; script-src 'self'; style-src 'self'; connect-src 'self'; img-src 'self' data:;"
@@ -77,8 +91,23 @@ class Answer:
     ended: str = ""
 
     def told(self):
-        words = {"status": self.status, "out": self.out.decode(errors="replace")}
+        """What the page gets. Of a process that was ended it gets no output, which may be long and breaks off."""
+        out = b"" if self.ended else self.out
+        words = {"status": self.status, "out": out.decode(errors="replace")}
         return {**words, "err": self.err.decode(errors="replace"), "ended": self.ended}
+
+
+@dataclasses.dataclass
+class Limit:
+    """The seconds that a process may take, and the option of the lab that sets them."""
+
+    seconds: float
+    option: str
+
+    def passed(self):
+        more = min(MAX_SECONDS, 10 * self.seconds)
+        raised = f"start the lab with {self.option} {more:g} to allow more"
+        return f"took more than {self.seconds:g} seconds, the limit of this lab, and was ended: {raised}"
 
 
 class Jobs:
@@ -88,7 +117,7 @@ class Jobs:
         self.program, self.places = program, threading.BoundedSemaphore(PROCESSES)
         self.lock, self.running, self.is_closed = threading.Lock(), set(), False
 
-    def run(self, words, given, seconds, is_gone):
+    def run(self, words, given, limit, is_gone):
         """Runs the program on this input, once there is a place. Ends it if the page that asked is gone."""
         self.take_place(is_gone)
         try:
@@ -97,7 +126,8 @@ class Jobs:
                 source.seek(0)
                 process = self.start(words, stdin=source, stdout=out, stderr=err)
                 try:
-                    ended = self.wait(process, out, seconds, is_gone)
+                    ended = self.wait(process, out, limit, is_gone)
+                    ended = ended and f"clockbed {words[0]} {ended}"
                 finally:
                     self.end(process)
                 out.seek(0)
@@ -120,13 +150,13 @@ class Jobs:
         return process
 
     @staticmethod
-    def wait(process, out, seconds, is_gone):
+    def wait(process, out, limit, is_gone):
         """Waits for the end of a process; says why it has to be ended, if so."""
-        until = time.monotonic() + seconds
+        until = time.monotonic() + limit.seconds
         # If the lab itself is killed, this limit still ends the process.
-        limit = int(seconds * (os.cpu_count() or 1)) + 1
+        most = int(limit.seconds * (os.cpu_count() or 1)) + 1
         try:
-            resource.prlimit(process.pid, resource.RLIMIT_CPU, (limit, limit))
+            resource.prlimit(process.pid, resource.RLIMIT_CPU, (most, most))
         except (AttributeError, OSError):
             pass
         while True:
@@ -138,9 +168,9 @@ class Jobs:
             if is_gone():
                 raise ConnectionAbortedError
             if time.monotonic() > until:
-                return f"clockbed took more than {seconds:g} seconds; lab.py --help says how to raise this limit"
+                return limit.passed()
             if os.fstat(out.fileno()).st_size > MAX_OUTPUT:
-                return f"clockbed wrote more than {MAX_OUTPUT // MIB} MiB, the limit of this lab"
+                return f"wrote more than {MAX_OUTPUT // MIB} MiB, the limit of this lab, and was ended"
 
     def end(self, process):
         if process.poll() is None:
@@ -252,14 +282,47 @@ class Folder:
         return found[:MAX_FILES]
 
 
+class NewFolder(Folder):
+    """A folder that the first save makes."""
+
+    def __init__(self, path):
+        self.path, self.root = path, None
+        if path.is_dir():
+            super().__init__(path)
+
+    def opened(self, parts):
+        if self.root is None:
+            raise FileNotFoundError(errno.ENOENT, f"there is no folder {self.path.name} yet")
+        return super().opened(parts)
+
+    def save(self, name, text, may_replace):
+        if self.root is None and self.parts(name):
+            self.path.mkdir(exist_ok=True)
+            super().__init__(self.path)
+        super().save(name, text, may_replace)
+
+    def names(self):
+        return [] if self.root is None else super().names()
+
+
+def group(name, text):
+    """The group of an example in the menu."""
+    folder = name.rpartition("/")[0]
+    if not folder:
+        folder = "attacks" if ADVERSARY.search(text) else "start"
+    return GROUPS.get(folder, folder)
+
+
 def caption(text):
-    """The first sentence of the comment at the head of a scenario."""
+    """The first sentence of the comment at the head of a scenario; up to its colon, if the whole is too long."""
     lines = []
     for line in text.decode(errors="replace").splitlines():
         if not line.startswith("#"):
             break
         lines.append(line.lstrip("# ").strip())
-    sentence = re.split(r"(?<=[.:;]) ", " ".join(lines), maxsplit=1)[0].rstrip(".:;")
+    found = [re.split(f"(?<=[{ends}]) ", " ".join(lines), maxsplit=1)[0].rstrip(".:;") for ends in (".;?", ".:;?")]
+    whole, short = found
+    sentence = whole if len(whole) <= MAX_CAPTION else short
     return sentence if len(sentence) <= MAX_CAPTION else sentence[: MAX_CAPTION - 3] + ".."
 
 
@@ -300,17 +363,24 @@ class Lab:
     def __init__(self, jobs, folder, opened, options):
         self.jobs, self.folder, self.opened = jobs, folder, opened
         self.examples = Folder(EXAMPLES) if EXAMPLES.is_dir() else None
-        self.run_seconds, self.search_seconds = options.seconds, options.search_seconds
+        self.run_limit = Limit(options.seconds, "--seconds")
+        self.search_limit = Limit(options.search_seconds, "--search-seconds")
         self.questions = {
             "begin": self.begin, "open": self.open, "save": self.save, "run": self.run, "pulses": self.pulses,
-            "verify": self.verify, "trace": self.trace, "explore": self.explore, "sweep": self.sweep,
+            "verify": self.verify, "compile": self.compile, "trace": self.trace, "program": self.program,
+            "next": self.next, "explore": self.explore, "sweep": self.sweep,
         }
 
+    def shown_examples(self):
+        """The examples of the menu, by group; the folders of solutions are left out."""
+        names = [it for it in (self.examples.names() if self.examples else []) if HIDDEN not in it.split("/")]
+        texts = {name: self.examples.read(name) for name in names}
+        found = [{"name": it, "caption": caption(text), "group": group(it, text)} for it, text in texts.items()]
+        order = list(GROUPS.values())
+        return sorted(found, key=lambda it: order.index(it["group"]) if it["group"] in order else len(order))
+
     def begin(self, _body, _is_gone):
-        examples = [
-            {"name": name, "caption": caption(self.examples.read(name))}
-            for name in (self.examples.names() if self.examples else [])
-        ]
+        examples = self.shown_examples()
         files = {"folder": self.folder.path.name or str(self.folder.path), "files": self.folder.names()}
         return {**files, "examples": examples, "opened": self.opened, "colours": list(COLOURS)}
 
@@ -332,24 +402,37 @@ class Lab:
         self.folder.save(text(body, "name"), given, body.get("replace") is True)
         return {"files": self.folder.names()}
 
-    def asked(self, words, body, seconds, is_gone):
-        return self.jobs.run(words, text(body, "text").encode(errors="replace"), seconds, is_gone)
+    def asked(self, words, body, limit, is_gone):
+        return self.jobs.run(words, text(body, "text").encode(errors="replace"), limit, is_gone)
 
     def run(self, body, is_gone):
-        """All pulses of a run without memories and messages, which `pulses` tells of the few that are looked at."""
-        answer = self.asked(["run", "--json"], body, self.run_seconds, is_gone)
+        """All pulses of a run; the first ones with memories and messages, which `pulses` tells of those looked at."""
+        whole = number(body, "whole", 0, MAX_PULSES) if "whole" in body else 0
+        answer = self.asked(["run", "--json"], body, self.run_limit, is_gone)
         if answer.status != 0 or answer.ended:
             return answer.told()
         frame, *pulses, last = answer.out.splitlines()
         # Put together from lines that are JSON already: of many nodes and pulses they are long.
-        told = b",".join(outline(it) for it in pulses)
-        return b'{"status":0,"ended":"","frame":%s,"pulses":[%s],"last":%s}' % (frame, told, last)
+        told, inside = b",".join(outline(it) for it in pulses), b",".join(pulses[:whole])
+        return b'{"status":0,"ended":"","frame":%s,"pulses":[%s],"inside":[%s],"last":%s}' % (frame, told, inside, last)
 
     def pulses(self, body, is_gone):
         first = number(body, "from", 1, MAX_PULSES)
         last = number(body, "until", first, MAX_PULSES)
         words = ["run", "--json", f"--from={first}", f"--until={last}"]
-        return self.asked(words, body, self.run_seconds, is_gone).told()
+        return self.asked(words, body, self.run_limit, is_gone).told()
+
+    def next(self, body, is_gone):
+        """One pulse of each of some texts: where the choices of an adversary lead."""
+        texts, pulse = body.get("texts"), number(body, "pulse", 1, MAX_PULSES)
+        if not isinstance(texts, list) or not 1 <= len(texts) <= MAX_NEXT:
+            raise Refusal(HTTPStatus.BAD_REQUEST, f"texts is a list of 1 to {MAX_NEXT} scenarios")
+        words, answers = ["run", "--json", f"--from={pulse}", f"--until={pulse}"], []
+        for it in texts:
+            answers.append(self.asked(words, {"text": it}, self.run_limit, is_gone))
+            if answers[-1].ended:
+                break
+        return {"answers": [it.told() for it in answers]}
 
     @staticmethod
     def shape(body):
@@ -357,26 +440,29 @@ class Lab:
 
     def verify(self, body, is_gone):
         words = ["verify", "--text", "--explain", *self.shape(body)]
-        return self.asked(words, body, self.run_seconds, is_gone).told()
+        return self.asked(words, body, self.run_limit, is_gone).told()
 
-    def maker(self, body):
-        """The words of the command that makes the image of a text."""
-        if "modulus" not in body:
-            return ["asm"]
-        faults, modulus = number(body, "faults", 0, MAX_NODES - 1), number(body, "modulus", 2, MAX_MODULUS)
-        return ["compile", *self.shape(body), f"--faults={faults}", f"--modulus={modulus}"]
+    def compile(self, body, is_gone):
+        """Whether a text is a rule that fits, and what `verify` says of its program."""
+        shape, faults = self.shape(body), number(body, "faults", 0, MAX_NODES - 1)
+        words = ["compile", *shape, f"--faults={faults}", f"--modulus={number(body, 'modulus', 2, MAX_MODULUS)}"]
+        image = self.asked(words, body, self.run_limit, is_gone)
+        if image.status != 0 or image.ended:
+            return image.told()
+        return self.jobs.run(["verify", *shape], image.out, self.run_limit, is_gone).told()
+
+    @staticmethod
+    def place(body):
+        return f"{number(body, 'pulse', 1, MAX_PULSES)}:{number(body, 'node', 0, MAX_NODES - 1)}"
 
     def trace(self, body, is_gone):
-        """The steps of a text in the very case of a node; it is a rule if the request has the clock's numbers."""
-        case = [
-            f"--id={number(body, 'id', 0, MAX_NODES - 1)}", f"--coin={number(body, 'coin', 0, 1)}",
-            f"--mail={text(body, 'mail', '[0-9,-]+')}", f"--contents={text(body, 'contents', '([0-9a-f]{2})+')}",
-        ]
-        words = ["exec", "--trace", "--show", *self.shape(body), *case]
-        image = self.asked(self.maker(body), body, self.run_seconds, is_gone)
-        if image.status != 0:
-            return image.told()
-        return self.jobs.run(words, image.out, self.run_seconds, is_gone).told()
+        """The steps of a node's run in a pulse; those of a rule's program below its lines."""
+        return self.asked(["run", f"--trace={self.place(body)}"], body, self.run_limit, is_gone).told()
+
+    def program(self, body, is_gone):
+        """The program that a node runs in a pulse; that of a rule with its lines."""
+        words = ["dis", f"--node={self.place(body)}", *(["--list"] if body.get("list") is True else [])]
+        return self.asked(words, body, self.run_limit, is_gone).told()
 
     def explore(self, body, is_gone):
         words = ["explore", f"--states={number(body, 'states', 1, MAX_STATES)}"]
@@ -394,12 +480,12 @@ class Lab:
             words += ["--start=any", f"--cells={text(body, 'cells', '[0-9.,=]+')}"]
         elif "start" in body:
             words.append(f"--start={text(body, 'start', 'every')}")
-        return self.asked(words, body, self.search_seconds, is_gone).told()
+        return self.asked(words, body, self.search_limit, is_gone).told()
 
     def sweep(self, body, is_gone):
         first = number(body, "first", 0, MAX_KEY)
         words = ["sweep", f"--keys={first}..{number(body, 'last', first, MAX_KEY)}"]
-        return self.asked(words, body, self.search_seconds, is_gone).told()
+        return self.asked(words, body, self.search_limit, is_gone).told()
 
 
 # Requests.
@@ -449,7 +535,11 @@ class Request(http.server.BaseHTTPRequestHandler):
             return True
 
     def do_GET(self):
-        self.answer(self.file)
+        name = OPEN_FILES.get(self.path.partition("?")[0][1:])
+        if name is None or self.headers.get("Host") not in self.server.hosts:
+            self.answer(self.file)
+        else:
+            self.send(HTTPStatus.OK, *self.content(name))
 
     def do_POST(self):
         self.answer(self.question)
@@ -495,7 +585,10 @@ class Request(http.server.BaseHTTPRequestHandler):
             left -= len(some)
 
     def file(self, path):
-        found = self.server.files.get(path or "lab.html")
+        return self.content(path or "lab.html")
+
+    def content(self, name):
+        found = self.server.files.get(name)
         if found is None:
             raise Refusal(HTTPStatus.NOT_FOUND, "The lab has no such file.\n")
         return KINDS[found.suffix] + "; charset=utf-8", found.read_bytes()
@@ -550,7 +643,8 @@ def found_program():
     elif OF_ARCHIVE.is_file() and OF_ARCHIVE.open("rb").read(len(ELF)) == ELF:
         path, fix = OF_ARCHIVE, "unpack the archive again"
     elif UNPROVED.is_file() and not BUILT.is_file():
-        path, fix = UNPROVED, "remove it, and ./clockbed --version builds it again"
+        is_optimised = OPTIMISED.is_file() and OPTIMISED.stat().st_mtime >= UNPROVED.stat().st_mtime
+        path, fix = OPTIMISED if is_optimised else UNPROVED, "remove it, and ./clockbed --version builds it again"
         print("lab: its answers are from code that wasn't proved; ./clockbed --prove proves it", file=sys.stderr)
     else:
         path, fix = BUILT, "./clockbed --version builds it without a proof, ./clockbed --prove with one"
@@ -567,13 +661,17 @@ def found_program():
 
 
 def found_folder(named):
-    """The folder of the lab, and the scenario that it opens first, if one is named."""
+    """The folder of the lab, and the scenario that it opens first, if one is named: its place and name."""
     path = pathlib.Path(named).resolve()
+    is_example = path.is_relative_to(EXAMPLES.resolve())
     try:
         if path.is_dir():
-            return Folder(path), None
+            return NewFolder(pathlib.Path.cwd() / OWN) if is_example else Folder(path), None
+        if path.is_file() and path.suffix == ".toml" and is_example:
+            opened = {"place": "examples", "name": str(path.relative_to(EXAMPLES.resolve()))}
+            return NewFolder(pathlib.Path.cwd() / OWN), opened
         if path.is_file() and path.suffix == ".toml":
-            return Folder(path.parent), path.name
+            return Folder(path.parent), {"place": "folder", "name": path.name}
     except OSError as why:
         sys.exit(f"lab: {named}: {why.strerror}: name a folder that can be read")
     sys.exit(f"lab: {named} is neither a folder nor a scenario that ends in .toml: name one of these")
@@ -586,7 +684,8 @@ def read_words():
         help="Folder of the scenarios, or the scenario to open first [default: the current folder]",
     )
     words.add_argument(
-        "--port", type=int, default=0, metavar="N", help=f"Port to listen on [0..={MAX_PORT}; default: 0, any free one]"
+        "--port", type=int, metavar="N",
+        help=f"Port to listen on [0..={MAX_PORT}; 0: any free one; default: {USUAL_PORT}, or any free one]",
     )
     limit = f"Time limit of each {{}} in seconds [at most {MAX_SECONDS}; default: {{}}]"
     words.add_argument("--seconds", type=float, default=RUN_SECONDS, metavar="N", help=limit.format("run", RUN_SECONDS))
@@ -595,7 +694,7 @@ def read_words():
         help=limit.format("exploration and sweep", SEARCH_SECONDS),
     )
     options = words.parse_args()
-    if not 0 <= options.port <= MAX_PORT:
+    if options.port is not None and not 0 <= options.port <= MAX_PORT:
         words.error(f"--port {options.port} is out of 0..={MAX_PORT}: choose another, or leave --port out")
     if not (0 < options.seconds <= MAX_SECONDS and 0 < options.search_seconds <= MAX_SECONDS):
         words.error(f"a time limit is above 0 and at most {MAX_SECONDS} seconds")
@@ -603,9 +702,12 @@ def read_words():
 
 
 def listening(port, lab):
+    """A server at this port; if none is asked for, at the usual one or at any that is free."""
     try:
-        return Server(port, lab)
+        return Server(USUAL_PORT if port is None else port, lab)
     except OSError as why:
+        if port is None:
+            return Server(0, lab)
         sys.exit(f"lab: can't listen on port {port} ({why.strerror}): choose another by --port N, or leave --port out")
 
 

@@ -13,6 +13,7 @@ import json
 import os
 import pathlib
 import re
+import shlex
 import shutil
 import signal
 import socket
@@ -24,6 +25,7 @@ from concurrent.futures import ThreadPoolExecutor
 
 sys.dont_write_bytecode = True
 from built_program import BUILT, TOP
+from try_class import try_class
 from try_play import Browser
 
 try:
@@ -36,7 +38,7 @@ EXAMPLES = TOP / "examples"
 MIB = 1 << 20
 AT_ONCE, PATIENCE, BUSY_SECONDS = 200, 60, 0.6
 FOUR = (EXAMPLES / "four_clocks.toml").read_text(encoding="utf-8")
-# Compared cell by cell: the rule's clock and say, a program that reads its messages, and a clock of one's own.
+# Compared cell by cell: the built-in clock and say, a program that reads its messages, and a clock of one's own.
 COMPARED = ("three_part.toml", "splitter.toml", "clocks/greatest_led.toml")
 # The keys of the keyboard that have names: the virtual code, and the text if there is one.
 KEYS = {
@@ -105,9 +107,10 @@ def until(is_so, seconds=PATIENCE):
 class Served:
     """A lab that runs on a folder, with the address that it printed."""
 
-    def __init__(self, *words, environment=None):
+    def __init__(self, *words, environment=None, where=None):
         self.process = subprocess.Popen(
             [sys.executable, str(LAB), *map(str, words)], stdout=subprocess.PIPE, stderr=subprocess.PIPE, text=True,
+            cwd=where,
             env={**os.environ, "CLOCKBED_PROGRAM": program(), **(environment or {})},
         )
         self.address = self.process.stdout.readline().strip()
@@ -158,7 +161,6 @@ def try_rejections(trial, lab):
     rejected = {
         "a wrong token": lab.request("/wrongtokenwrongtokenwrong/run", good),
         "no token": lab.request("/run", good),
-        "the root": lab.request("/", method="GET"),
         "a wrong token for the page": lab.request(f"/{lab.token}x/", method="GET"),
         "another Host": lab.request(here + "run", good, Host="evil.example"),
         "another Host for the page": lab.request(here, method="GET", Host=f"evil.example:{lab.port}"),
@@ -180,6 +182,13 @@ def try_rejections(trial, lab):
     for name, value in options.items():
         trial.equal(f"{name} {value}", lab.ask("explore", text=FOUR, states=5, **{name: value})[0], 400)
     trial.equal("the page itself", lab.request(here, method="GET")[0], 200)
+    for path in ("/", "/link.js", "/kept.js"):
+        status, told = lab.request(path, method="GET")
+        trial.holds(f"{path} is open and has no token", status == 200 and lab.token not in told, (status, told))
+        trial.equal(f"{path} by another Host", lab.request(path, method="GET", Host="evil.example")[0], 403)
+    trial.equal("no text to run", lab.ask("next", texts=[], pulse=1)[0], 400)
+    trial.equal("too many texts", lab.ask("next", texts=[FOUR] * 129, pulse=1)[0], 400)
+    trial.equal("a text that is none", lab.ask("next", texts=[1], pulse=1)[0], 400)
 
 
 def try_folder(trial, lab, folder):
@@ -290,6 +299,12 @@ def refused_start(words, **environment):
     return done.returncode, done.stdout, done.stderr
 
 
+def copy_lab(top):
+    """Copies what the lab needs beside the program: its tools, and the package that they use."""
+    for part in ("tools", "python"):
+        shutil.copytree(TOP / part, top / part, ignore=shutil.ignore_patterns("__pycache__"))
+
+
 def try_starts(trial, lab, folder):
     """What keeps a lab from starting is one line that says what to do."""
     no_program = folder / "mine.toml"
@@ -301,7 +316,7 @@ def try_starts(trial, lab, folder):
         "a folder that is missing": ([folder / "nowhere"], {"CLOCKBED_PROGRAM": program()}, "folder"),
     }
     bare = folder.parent / "bare"
-    shutil.copytree(TOP / "tools", bare / "tools", ignore=shutil.ignore_patterns("__pycache__"))
+    copy_lab(bare)
     starts["a program that isn't built"] = ([folder], {"LAB_PATH": str(bare / "tools/lab.py")}, "./clockbed --prove")
     for what, (words, environment, fix) in starts.items():
         status, out, err = refused_start(words, **environment)
@@ -309,10 +324,28 @@ def try_starts(trial, lab, folder):
         trial.holds(what, is_so, (status, out, err))
 
 
+def try_own_folder(trial, room):
+    """A lab of the examples saves into a folder of one's own, which its first save makes."""
+    here = room / "here"
+    here.mkdir()
+    lab = Served(EXAMPLES / "explore/four_nodes.toml", where=here)
+    try:
+        begun = lab.ask("begin")[1]
+        trial.equal("the example is opened", begun["opened"], {"place": "examples", "name": "explore/four_nodes.toml"})
+        trial.equal("the folder of one's own", (begun["folder"], begun["files"]), ("my_scenarios", []))
+        trial.equal("no file is there", lab.ask("open", place="folder", name="mine.toml")[0], 404)
+        trial.equal("a path out of it", lab.ask("save", name="../mine.toml", text=FOUR)[0], 403)
+        trial.holds("nothing is made for it", not (here / "my_scenarios").exists())
+        trial.equal("a save", lab.ask("save", name="mine.toml", text=FOUR), (200, {"files": ["mine.toml"]}))
+        trial.equal("what is saved", (here / "my_scenarios/mine.toml").read_text(), FOUR)
+    finally:
+        trial.equal("Ctrl-C ends the lab of examples", lab.end(), 0)
+
+
 def try_archive(trial, room):
     """In the form of a release archive the lab finds the program beside the folder tools."""
     top = room / "archive"
-    shutil.copytree(TOP / "tools", top / "tools", ignore=shutil.ignore_patterns("__pycache__"))
+    copy_lab(top)
     shutil.copytree(EXAMPLES, top / "examples")
     shutil.copy(program(), top / "clockbed")
     words = [sys.executable, "tools/lab.py", "examples"]
@@ -334,6 +367,7 @@ def try_server(trial, options):
         try_starts(trial, lab, folder)
         try_many(trial, lab)
         try_ends(trial, folder)
+        try_own_folder(trial, room)
         try_archive(trial, room)
         trial.equal("the lab lives", lab.request(f"/{lab.token}/", method="GET")[0], 200)
     finally:
@@ -504,7 +538,9 @@ def compare_node(trial, page, what, pulse, before, node):
 CELLS = """(pulse) => {
   const { run } = lab.state, canvas = document.getElementById('picture'), pen = canvas.getContext('2d');
   const wide = canvas.width / run.frame.pulses, high = Math.max(2, Math.min(16, Math.floor(150 / run.frame.nodes)));
-  const at = (y) => [...pen.getImageData(Math.floor((pulse - 0.5) * wide), y, 1, 1).data].join(' ');
+  // A cell that is wide enough has a number in its middle.
+  const x = Math.floor((pulse - (wide < 24 ? 0.5 : 0.12)) * wide);
+  const at = (y) => [...pen.getImageData(x, y, 1, 1).data].join(' ');
   const cells = run.pulses[0].clocks.map((_, node) => at(9 + Math.floor((node + 0.5) * high)));
   return [cells, at(9 + high * run.frame.nodes + 3)];
 }"""
@@ -553,8 +589,10 @@ def compare_run(trial, page, name):
 def try_examples(trial, page):
     """Every example opens: its run is shown, or the program's own words are."""
     names = page.value("[...document.querySelectorAll('#examples option')].map((it) => it.value)")[2:]
-    wanted = sorted(str(it.relative_to(EXAMPLES)) for it in EXAMPLES.rglob("*.toml"))
-    trial.equal("the menu of examples", sorted(names), wanted)
+    wanted = [it.relative_to(EXAMPLES) for it in EXAMPLES.rglob("*.toml") if "solutions" not in it.parts]
+    trial.equal("the menu of examples", sorted(names), sorted(map(str, wanted)))
+    groups = page.value("[...document.querySelectorAll('#examples optgroup')].map((it) => it.label)")
+    trial.equal("its first groups", groups[:3], ["Start", "Attacks and wrong programs", "Clocks of several rules"])
     captions = page.value("[...document.querySelectorAll('#examples option')].map((it) => it.textContent)")[2:]
     trial.holds("each example has a caption", all(re.match(r"\S+: \S", it) for it in captions), captions)
     for name in names:
@@ -614,7 +652,9 @@ def try_notes(trial, page):
     trial.equal("what is said", page.texts("#rejected p"), [
         "refused scenario UnknownKey top", f"note: line {line}: unknown key modulos; did you mean modulus?"])
     trial.holds("the last good run stays", page.is_so("document.querySelectorAll('#ring .node').length === 4"))
-    trial.holds("it is named so", page.is_so("!document.getElementById('stale').hidden"))
+    wanted = "The text is rejected. This is the last run that was accepted."
+    trial.equal("it is named so", page.text("#stale"), wanted)
+    trial.holds("the form waits", page.is_so("document.getElementById('load').disabled"))
     page.click("#to-line")
     caret = page.value("document.querySelector('#text textarea').selectionStart")
     trial.equal("the caret at the line", 1 + page.scenario()[:caret].count("\n"), line)
@@ -622,6 +662,53 @@ def try_notes(trial, page):
     trial.holds(
         "a corrected text is shown", page.is_shown() and page.is_so("document.getElementById('rejected').hidden")
     )
+    trial.holds("the form waits no more", page.is_so("!document.getElementById('load').disabled"))
+    try_rejected_load(trial, page)
+
+
+def try_rejected_load(trial, page):
+    """A change that the program rejects has no word of success."""
+    page.show(1, 3)
+    page.put("#image", "00 " * 9)
+    page.click("#corrupt")
+    wanted = "A memory is at most 8 bytes, each as two hexadecimal digits."
+    trial.equal("a memory that is too long", page.text("#said"), wanted)
+    page.value("document.getElementById('program').open = true")
+    page.put("#program-editor textarea", "for j: sned 1 to j\n")
+    page.choose("#kind", "text")
+    page.click("#load")
+    trial.holds("a wrong rule is rejected", page.until("!document.getElementById('rejected').hidden"))
+    wanted = "This change has no run: see under the text. Ctrl+Z undoes it."
+    trial.equal("what is said of it", page.text("#said"), wanted)
+    page.click("#undo")
+    trial.holds("an undo brings the run back", page.is_shown() and page.scenario() == FOUR, page.scenario())
+
+
+# A program that takes long for a run of 1,000 pulses alone, whatever the machine.
+SLOW = """#!/bin/sh
+if [ "$1" = run ] && grep -q "pulses = 1000"; then exec sleep 60; fi
+exec {program} "$@" < /proc/self/fd/0
+"""
+
+
+def try_limit(trial, _page, folder):
+    """A run past the limit is no rejected text, and the page says how to raise the limit."""
+    slow = folder.parent / "slow"
+    slow.write_text(SLOW.format(program=shlex.quote(program())))
+    slow.chmod(0o755)
+    lab = Served("--seconds", 2, folder, environment={"CLOCKBED_PROGRAM": str(slow)})
+    page = Page(folder.parent / "limited", lab)
+    try:
+        page.edit(MUCH)
+        trial.holds("a long run ends", page.until("!document.getElementById('rejected').hidden"))
+        wanted = "clockbed run took more than 2 seconds, the limit of this lab, and was ended: "
+        wanted += "start the lab with --seconds 20 to allow more"
+        trial.equal("what is said", page.texts("#rejected p"), [wanted])
+        wanted = "This text has no run yet. This is the last run that was finished."
+        trial.equal("the run before stays", page.text("#stale"), wanted)
+    finally:
+        page.close()
+        trial.equal("Ctrl-C ends the limited lab", lab.end(), 0)
 
 
 def try_hands(trial, page):
@@ -678,12 +765,17 @@ def try_other_hands(trial, page, loaded):
     page.click("#load")
     trial.holds("noise runs", page.is_shown() and 'program = "noise"' in page.scenario(), page.scenario())
     trial.holds("it has its version and key", "version = 4\nfaults" in page.scenario(), page.scenario())
+    trial.holds("the new version and key are told", "version 4 and a key" in page.text("#said"), page.text("#said"))
     trial.equal("the noise of the node", ring(page)[2][0], "noise")
     for _ in range(7):
         page.click("#undo")
     trial.equal("seven undos", page.scenario(), FOUR)
     page.click("#redo")
     trial.equal("a redo", page.scenario(), loaded)
+
+
+# The steps of a rule are below its lines, and once more all together.
+STEPS_SHOWN = "#trace > .scroll, #trace > .all"
 
 
 def try_traces(trial, page):
@@ -703,11 +795,191 @@ def try_traces(trial, page):
                 page.show(pulse["pulse"], node)
                 steps = pulse["steps"][node]
                 what = f"{name}: trace of node {node} in pulse {pulse['pulse']}"
-                shown = f"document.querySelectorAll('#steps tbody tr').length === {steps} && "
+                shown = f"document.querySelectorAll(':is({STEPS_SHOWN}) tbody tr').length === {steps} && "
                 shown += f"document.querySelector('#trace').textContent.includes('memory {pulse['memory'][node]}')"
                 trial.holds(what, page.until(shown), page.text("#trace"))
         trial.equal(f"{name}: nodes of the frame", len(ring(page)), frame["nodes"])
     page.value("document.getElementById('why').open = false")
+
+
+RULE = """# The greatest, plus one
+let best = 0
+for j:
+    if mail[j] < M and mail[j] > best: best = mail[j]
+clock = (best + 1) % M
+send clock
+"""
+
+
+def try_rules(trial, page):
+    """A rule of one's own is checked and loaded, and the page says by which line its node moved."""
+    page.open(FOUR)
+    page.value("document.getElementById('program').open = true")
+    page.choose("#program-kind", "rule")
+    page.put("#program-editor textarea", RULE.replace("best = 0", "best == 0"))
+    marked = "document.querySelector('#program-editor .numbers .wrong')?.textContent === '2'"
+    trial.holds("a wrong rule is rejected at its line", page.until(marked), page.text("#program-said"))
+    page.put("#program-editor textarea", RULE)
+    accepted = page.until("document.querySelector('#program-said .right')")
+    trial.holds("a rule is accepted", accepted, page.text("#program-said"))
+    words = f"{shlex.quote(program())} compile --memory=8 | {shlex.quote(program())} verify --memory=8"
+    told = subprocess.run(["sh", "-c", words], input=RULE, capture_output=True, text=True, check=True).stdout
+    trial.equal("its verdict", page.text("#program-said .right"), told.strip())
+    page.show(3, 2)
+    page.choose("#kind", "text")
+    page.click("#load")
+    trial.holds("it is loaded", page.is_shown() and ring(page)[2][0] == "rule", page.text("#rejected"))
+    trial.holds("the new version is told", "version 4" in page.text("#said"), page.text("#said"))
+    try_lines(trial, page)
+
+
+def try_lines(trial, page):
+    """The folds of a rule have all steps of the trace, and the sentence has the numbers of the run."""
+    page.open((EXAMPLES / "clocks/greatest_led.toml").read_text())
+    page.value("document.getElementById('why').open = true")
+    for pulse in (3, 4):
+        page.show(pulse, 0)
+        told = asked(["run", f"--trace={pulse}:0"], page.scenario())
+        steps = re.findall(r"^step (\d+)", told, re.MULTILINE)
+        best = re.findall(r"-> r7 = (\d+)$", told, re.MULTILINE)[-1]
+        page.until(f"document.getElementById('because')?.textContent.includes('where best is {best}.')")
+        trial.holds("the sentence", f"where best is {best}." in page.text("#because"), page.text("#because"))
+        folded = page.texts("#trace > .of-line .steps tbody td:first-child")
+        trial.equal("all steps are under their lines", folded, steps)
+    page.open(page.value("lab.start"))
+    page.show(4, 0)
+    wanted = ["program", "clock", "mark", "settled", "coin", "steps"]
+    trial.equal("the words of the memory", page.texts("#node dt"), wanted)
+    page.value("document.getElementById('why').open = false")
+
+
+# A clock that counts while all three messages have its value, with a name that rules don't know in the first.
+UNKNOWN = "let same = sum j: mail[j] == clock\nsend clock\n"
+COUNTS = """let same = count j: mail[j] == clock
+if same >= 3: clock = (clock + 1) % M
+else: clock = 0
+send clock
+"""
+
+
+def try_own_clock(trial, page):
+    """A rule becomes the clock of all nodes by one load, and the page says why node 0 falls back."""
+    page.open(page.value("lab.start"))
+    page.value("document.getElementById('program').open = true")
+    page.choose("#program-kind", "rule")
+    page.put("#program-editor textarea", UNKNOWN)
+    hinted = page.until("document.querySelector('#program-said .soft')?.textContent.includes('count j')")
+    trial.holds("an unknown name is followed by the known ones", hinted, page.text("#program-said"))
+    trial.equal("the end of the note is at the line", page.text("#program-editor .note"), "unknown name sum")
+    page.put("#program-editor textarea", COUNTS)
+    page.show(1, 2)
+    page.choose("#kind", "own")
+    page.click("#load")
+    page.is_shown()
+    frame, _, last = lines_of(page.scenario())
+    trial.equal("all nodes run the rule as their clock", (frame["clock"], last["agreed"], last["of"]), ("own", 13, 13))
+    wanted = "The clock is the program text now; node 2 runs it from pulse 1 on. Ctrl+Z undoes it."
+    trial.equal("what is said of it", page.text("#said"), wanted)
+    page.show(5, 2)
+    page.choose("#kind", "say")
+    page.put("#values label:nth-child(1) input", "7")
+    page.click("#load")
+    page.is_shown()
+    page.show(6, 0)
+    page.value("document.getElementById('why').open = true")
+    wanted = "Line 3 of the rule: same >= 3 doesn't hold, as same is 2. So the clock falls back from 4 to 0."
+    page.until("document.getElementById('because')")
+    trial.equal("why node 0 falls back", page.text("#because"), wanted)
+    wanted = "Node 0 received what was sent in pulse 5: 4 from nodes 0 and 1; 7 from node 2."
+    trial.equal("what it received", page.text("#heard"), wanted)
+    page.click("#undo")
+    trial.equal("an undone change is said no more", page.text("#said"), "")
+    page.value("document.getElementById('why').open = false")
+
+
+def try_next(trial, page):
+    """Each next state is what the program answers, a click takes it, and one undo takes it back."""
+    attack(page)
+    page.show(2, 2)
+    before = page.scenario()
+    page.value("document.getElementById('next-part').open = true")
+    page.click("#next")
+    trial.holds("next states are shown", page.until("document.querySelector('#nexts li')"), page.text("#nexts"))
+    rows = page.texts("#nexts li")
+    for row in rows:
+        clocks, sent = re.match(r"Take clocks (.*), agree .*: sends (.*) \(", row).groups()
+        messages = dict(reversed(it.split(" to ")) for it in sent.split(", "))
+        values = [-1 if messages.get(str(to), "none") == "none" else int(messages[str(to)]) for to in range(3)]
+        load = f'\n[[load]]\npulse = 2\nnodes = [2]\nprogram = "say"\nvalues = {values}\n'
+        told = lines_of(before + load)[1][2]["clocks"]
+        trial.equal(f"the next state of {values}", clocks, f"{told[0]} {told[1]}")
+    trial.equal("a state is shown once", len(rows), len({it.split(", agree")[0] for it in rows}))
+    page.click("#nexts li:last-child button")
+    trial.holds("a choice is taken", page.until("lab.state.at === 3 && !lab.state.isStale"), page.text("#where"))
+    wanted = re.match(r"Take clocks (.*), agree", rows[-1])[1].split()
+    trial.equal("it leads there", [it for it, _, _ in ring(page)][:2], wanted)
+    page.click("#undo")
+    trial.equal("one undo takes it back", page.scenario(), before)
+    page.value("document.getElementById('next-part').open = false")
+
+
+def try_time(trial, page):
+    """The diagram has an arrow for each message of the chosen node, and a click on an event shows it."""
+    page.open((EXAMPLES / "splitter.toml").read_text())
+    page.show(9, 3)
+    page.click("#time-tab")
+    first, last = map(int, re.findall(r"\d+", page.text("#time-name"))[1:])
+    trial.holds("the pulse shown is in the diagram", first <= 9 <= last, (first, last))
+    pulses = lines_of(page.scenario())[1][first - 1 : last - 1]
+    told = [it["sent"][i][j] for it in pulses for i in range(4) for j in range(4) if 3 in (i, j)]
+    numbers = page.texts("#time .number")
+    trial.equal("the messages of node 3", numbers, [str(it) for it in told if it is not None])
+    page.click(f"#time .event[data-pulse='{first}'][data-node='1'] circle")
+    trial.equal("a click shows an event", page.value("[lab.state.at, lab.state.node]"), [first, 1])
+    page.click("#node-tab")
+
+
+def try_editor(trial, page):
+    """The colours are those of the text that is seen, and a word is completed by keys."""
+    page.open(page.value("lab.start"))
+    lines = page.scenario().split("\n")
+    shown = page.texts("#text .colours > div")
+    trial.equal("the lines that are coloured", shown, lines[: len(shown)])
+    kind = "(it) => it.firstElementChild?.className"
+    kinds = page.value(f"[...document.querySelectorAll('#text .colours > div')].map({kind})")
+    trial.equal("the kind of a key and of a rule's word", [kinds[4], kinds[13]], ["name", "name"])
+    at = page.scenario().index("if support <") + len("if sup")
+    page.value("document.querySelector('#text textarea').focus()")
+    page.value(f"document.activeElement.setSelectionRange({at}, {at + len('port')})")
+    page.key("Backspace")
+    page.key(" ", CONTROL)
+    trial.equal("the words that begin so", page.texts("#text .completion li"), ["support"])
+    page.key("Enter")
+    trial.equal("the word is completed", page.scenario(), page.value("lab.start"))
+    for before, first in (("let v = ", "count"), ("rule = '''\n", "state")):
+        at = page.scenario().index(before) + len(before)
+        page.value(f"document.activeElement.setSelectionRange({at}, {at})")
+        page.key(" ", CONTROL)
+        trial.equal("the word that fits first", page.text("#text .completion li"), first)
+        page.key("Escape")
+
+
+def try_steps(trial, page):
+    """A counterexample of a rule is shown as steps: the clocks of each pulse, and why each moved."""
+    page.open(page.value("lab.start"))
+    page.click("#explore-tab")
+    page.click("#explore")
+    page.until("document.getElementById('counterexample')")
+    page.click("#counterexample")
+    page.is_shown()
+    _, pulses, _ = lines_of(page.scenario())
+    shown = page.until(f"document.querySelectorAll('#steps li').length === {3 * len(pulses)}")
+    heads = [re.match(r"Pulse \d+: clocks (.*), agree", it)[1] for it in page.texts("#steps .step button")]
+    clocks = [" ".join("-" if it is None else str(it) for it in pulse["clocks"]) for pulse in pulses]
+    trial.equal("the clocks of the steps", heads, clocks)
+    reasons = [it for it in page.texts("#steps li") if re.match(r"Node [01]\. Line \d", it)]
+    trial.holds("each clock has its line", shown and len(reasons) == 2 * len(pulses), page.text("#steps"))
+    page.click("#node-tab")
 
 
 def try_exploration(trial, page):
@@ -754,7 +1026,7 @@ def try_counter(trial, page):
 
 
 def try_every_start(trial, page):
-    """All memories and all messages of the rule's clocks."""
+    """All memories and all messages of the built-in clocks."""
     page.open((TOP / "examples/explore/four_nodes.toml").read_text(encoding="utf-8"))
     page.choose("#start", "every")
     page.click("#explore")
@@ -763,7 +1035,7 @@ def try_every_start(trial, page):
 
 
 def try_odds(trial, page):
-    """The odds of the rule's clocks, which aren't asked with agreement alone."""
+    """The odds of the built-in clocks, which aren't asked with agreement alone."""
     page.open((TOP / "examples/explore/four_nodes.toml").read_text(encoding="utf-8"))
     page.put("#odds", "8")
     page.click("#explore")
@@ -824,6 +1096,7 @@ def try_program(trial, page):
     """A program that is rejected is explained at its line."""
     page.open(FOUR)
     page.value("document.getElementById('program').open = true")
+    page.choose("#program-kind", "asm")
     text = "# counts on\nldxw r2, [r1+0]\nadd64 r2, 1\nmov64 r1, 3\ncall send\nmov64 r0, 0\nexit\n"
     page.put("#program-editor textarea", text)
     reason = "rule 9, BadArgument: r2 may be 4294967296, and a number sent is below 4294967296"
@@ -846,7 +1119,7 @@ def try_program(trial, page):
     trial.equal("its verdict", page.text("#program-said .right"), "accepted slots 6 announced 6")
     page.click("#node-tab")
     page.show(2, 3)
-    page.choose("#kind", "asm")
+    page.choose("#kind", "text")
     page.click("#load")
     trial.holds("it is loaded", page.is_shown() and ring(page)[3][0] == "asm", page.text("#rejected"))
     page.choose("#examples", "splitter_jumps_back.toml")
@@ -969,6 +1242,13 @@ def try_files(trial, page, folder):
         "a fragment opens its scenario",
         page.until("document.querySelector('#text textarea').value.endsWith('# more\\n')"),
     )
+    page.open(FOUR)
+    page.value(f"location.href = {json.dumps(address)}")
+    trial.holds(
+        "a link is followed to the lab of this browser",
+        page.until("document.querySelector('#text textarea')?.value.endsWith('# more\\n')") and page.is_shown(),
+        page.value("location.href"),
+    )
 
 
 NAME_OF = "(it) => it.id || it.getAttribute('aria-label') || it.textContent"
@@ -1035,9 +1315,9 @@ def try_keyboard(trial, page):
         page.until("lab.state.run.text.includes('values = [1, 2, -1, -1]')") and page.is_shown(),
         page.scenario(),
     )
-    trial.holds("Tab reaches the trace", tab_to(page, "Why: the trace of this node in this pulse"))
+    trial.holds("Tab reaches the trace", tab_to(page, "Why: the steps of this node in this pulse"))
     page.key("Enter")
-    trial.holds("Enter opens it", page.until("document.querySelector('#steps')"), page.text("#trace"))
+    trial.holds("Enter opens it", page.until("document.querySelector('.steps')"), page.text("#trace"))
     page.key("Enter")
     page.key("z", CONTROL)
     trial.equal("Ctrl+Z undoes the load", page.scenario(), FOUR)
@@ -1077,7 +1357,7 @@ STEPS = """(async () => {
 
 
 def try_speed(trial, page, judges):
-    """64 nodes and 1,000 pulses open in two seconds and step without a stutter, by a program that is as fast itself. The
+    """64 nodes and 1,000 pulses open in a second and step without a stutter, by a program that is as fast itself. The
     times are only printed unless they are to be judged: other work on the machine counts in them."""
     begun = time.monotonic()
     try:
@@ -1096,7 +1376,7 @@ def try_speed(trial, page, judges):
     print(f"try_lab: 64 nodes, 1,000 pulses: {min(times):.2f} s to open ({alone:.2f} s by the program)", flush=True)
     print(f"try_lab: a step {steps[len(steps) // 2]:.0f} ms, at most {steps[-1]:.0f} ms", flush=True)
     if judges:
-        trial.holds("64 nodes and 1,000 pulses open in 2 seconds", min(times) <= 2, times)
+        trial.holds("64 nodes and 1,000 pulses open in a second", min(times) <= 1, times)
         trial.holds("all but two of 200 steps take at most 100 ms", steps[-3] <= 100, steps[-5:])
 
 
@@ -1110,21 +1390,21 @@ def attack(page):
     page.click("#load")
     page.until("!document.getElementById('violation').hidden")
     page.click("#violation")
-    return page.is_shown()
+    return page.is_shown() and page.show(3, 2)
 
 
 def try_attack(trial, page):
     """From the first scenario to clocks that diverge, by one load."""
     trial.holds("the attack runs", attack(page), page.text("#rejected"))
     trial.equal("the clocks after the attack", [it for it, _, _ in ring(page)], ["2", "1", "say"])
-    trial.equal("its verdict", page.text("#verdict"), "agree no")
+    trial.equal("its verdict", page.text("#verdict"), "agree no, counts yes")
 
 
 def show_trace(page):
     attack(page)
     page.value("document.getElementById('why').open = true")
-    page.show(5, 0)
-    page.until("document.querySelectorAll('#steps tbody tr').length === lab.state.run.pulses[4].steps[0]")
+    page.show(4, 0)
+    page.until("document.getElementById('because')?.textContent.includes('from 2 to 0')")
 
 
 def show_rejected(page):
@@ -1148,7 +1428,7 @@ def take_pictures(page, folder):
     """Five states, to be looked at; docs/LAB.md shows some of them."""
     folder.mkdir(parents=True, exist_ok=True)
     states = {
-        "attack": (attack, 800, False), "trace": (show_trace, 1100, False), "sweep": (show_sweep, 800, False),
+        "attack": (attack, 800, False), "trace": (show_trace, 800, False), "sweep": (show_sweep, 800, False),
         "rejected": (show_rejected, 860, True),
     }
     page.value("lab.state.isProgramOpen = false")
@@ -1174,10 +1454,11 @@ def try_page(trial, options):
     lab = Served("--seconds", options.seconds, folder)
     page = Page(room / "user", lab)
     parts = [
-        (try_attack, ()), (try_typing, ()), (try_notes, ()), (try_hands, ()), (try_exploration, ()),
-        (try_cancel, (lab,)), (try_program, ()), (try_sweep, ()), (try_hostile, ()), (try_files, (folder,)),
-        (try_keyboard, ()), (try_traces, ()), (try_speed, (options.judge_speed,)), *((compare_run, (name,)) for name in COMPARED),
-        (try_examples, ()),
+        (try_class, ()), (try_attack, ()), (try_typing, ()), (try_notes, ()), (try_limit, (folder,)), (try_hands, ()),
+        (try_rules, ()), (try_own_clock, ()), (try_next, ()), (try_time, ()), (try_editor, ()), (try_steps, ()),
+        (try_exploration, ()), (try_cancel, (lab,)), (try_program, ()), (try_sweep, ()), (try_hostile, ()),
+        (try_files, (folder,)), (try_keyboard, ()), (try_traces, ()), (try_speed, (options.judge_speed,)),
+        *((compare_run, (name,)) for name in COMPARED), (try_examples, ()),
     ]
     try:
         for part, more in parts:
@@ -1189,9 +1470,8 @@ def try_page(trial, options):
             take_pictures(page, options.pictures)
         trial.equal("what the page throws", page.exceptions(), [])
         urls = {it["params"]["request"]["url"] for it in page.events if it.get("method") == "Network.requestWillBeSent"}
-        trial.equal(
-            "what the page loads from elsewhere", [it for it in urls if not it.startswith((lab.address, "data:"))], []
-        )
+        here = (f"http://127.0.0.1:{lab.port}/", "data:")
+        trial.equal("what the page loads from elsewhere", [it for it in urls if not it.startswith(here)], [])
     finally:
         page.close()
         trial.holds("no process is left when the page has gone", until(lambda: not lab.programs(), 5))

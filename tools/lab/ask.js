@@ -24,9 +24,12 @@ export async function ask(what, body = {}, signal = undefined) {
 
 export const isCancelled = (why) => why.name === "AbortError";
 
-/** Returns everything that the program said, for people. */
+/** Returns everything that the program said, for people; or why the lab ended it. */
 export const wordsOf = ({ status, out, err, ended }) =>
-  [out, err, ended].map((it) => it.trim()).filter(Boolean).join("\n") || `clockbed ended with status ${status}`;
+  ended || [out, err].map((it) => it.trim()).filter(Boolean).join("\n") || `clockbed ended with status ${status}`;
+
+/** The end of a note, which says what is wrong; before it are the place and the line as it stands. */
+export const endOfNote = (note) => /; (?=[^;]*$)(.*)$/.exec(note)?.[1] ?? note;
 
 /** One question at a time: a new one cancels the one before. */
 export class Line {

@@ -4,7 +4,7 @@ import { NEUTRAL, colourOf, diverging, equivocates, inkOn, looksOf } from "./col
 import { namesAt } from "./programs.js";
 import { choose, fetchNear, insideOf } from "./run.js";
 
-const WIDE = 720, HIGH = 620, MAX_WITH_ALL = 8, MAX_WITH_WORDS = 16, BEND = 0.13, MAX_DIGITS = 5;
+const WIDE = 720, HIGH = 620, MAX_WITH_ALL = 8, MAX_WITH_WORDS = 16, BEND = 0.13, MAX_DIGITS = 5, INSET = 0.1;
 
 const radius = (nodes) => (nodes === 1 ? 0 : nodes <= MAX_WITH_WORDS ? 206 : 270);
 const size = (nodes) => Math.max(9, Math.min(32, 600 / nodes));
@@ -109,6 +109,7 @@ function circle(run, node, name, isWrong, isTwoFaced) {
   if (node === state.node) part.append(draw("circle", { cx, cy, r: r + 6, class: "chosen" }));
   if (isTwoFaced) part.append(draw("circle", { cx, cy, r: r + 3, class: "two-faced" }));
   part.append(draw("circle", { cx, cy, r, fill, class: "body" }));
+  if (pulse.settled[node]) part.append(draw("circle", { cx, cy, r: r * (1 - INSET), class: "inner" }));
   const text = clock === null ? (r > 16 ? name : "") : clock >= modulus ? "!" : clock;
   part.append(draw("text", { x: cx, y: cy + 4, fill: inkOn(fill), class: r > 16 ? "clock" : "clock little" }, text));
   part.append(...labels(run, node, name, isTwoFaced));

@@ -1,13 +1,16 @@
-// A text with line numbers, a note at a line, and edits that can be undone.
+// A text with line numbers, colours of its words, a note at a line, and edits that can be undone.
+import { Completion } from "./complete.js";
 import { make } from "./page.js";
+import { kindsOf, partsOf } from "./words.js";
 
 const LINE = 18, PAUSE = 700, MAX_EDITS = 200, MAX_CHARACTERS = 1 << 23, SHOWN_AFTER = 3, FLASH = 1600;
-const LEAST_NOTE = 60, EDGE = 16;
+const LEAST_NOTE = 60, EDGE = 16, MAX_COLOURED = 400, SIDE = 8, TOP = 4;
 
 export class Editor {
-  /** Calls `onChange` after each change. */
-  constructor(root, label, onChange) {
+  /** Calls `onChange` after each change. A text has lines of the kind that `kindOf` gives, or is a scenario. */
+  constructor(root, label, onChange, kindOf = null) {
     this.onChange = onChange;
+    this.kindOf = kindOf;
     this.edits = [{ text: "", caret: 0 }];
     this.place = 0;
     this.isNew = true;
@@ -15,10 +18,13 @@ export class Editor {
     this.area = make("textarea", { "aria-label": label, spellcheck: "false", wrap: "off", autocapitalize: "off" });
     this.numbers = make("div");
     this.marks = make("div");
+    this.colours = make("div", { class: "colours" });
     root.classList.add("editor");
     root.append(
       make("div", { class: "numbers", "aria-hidden": "true" }, this.numbers),
       make("div", { class: "marks", "aria-hidden": "true" }, this.marks), this.area);
+    this.marks.append(this.colours);
+    this.completion = new Completion(this);
     this.listen();
   }
 
@@ -40,10 +46,40 @@ export class Editor {
 
   onKey(event) {
     const by = undoKey(event);
-    if (!by) return;
+    if (!by && !this.completion.takesKey(event)) return;
     event.preventDefault();
     event.stopPropagation();
-    this.move(by);
+    if (by) this.move(by);
+  }
+
+  /** Writes at the caret, as an edit of its own. */
+  insert(words) {
+    const at = this.area.selectionStart, end = this.area.selectionEnd, { text } = this;
+    this.typedAt = 0;
+    this.area.value = text.slice(0, at) + words + text.slice(end);
+    this.area.setSelectionRange(at + words.length, at + words.length);
+    this.keep({ text: this.text, caret: at + words.length }, false);
+    this.changed();
+  }
+
+  /** The kind of the line of the caret: "toml", "rule" or "asm". */
+  kindAtCaret() {
+    this.lineCount();
+    return this.kinds[this.lineOf(this.area.selectionStart) - 1];
+  }
+
+  /** The place below the caret in the editor, so many letters back. */
+  caretPlace(back) {
+    const { selectionStart, scrollTop, scrollLeft, offsetLeft } = this.area;
+    const before = this.text.slice(0, selectionStart).split("\n"), letters = before.at(-1).length - back;
+    const left = offsetLeft + SIDE + letters * this.letterWidth() - scrollLeft;
+    return { top: before.length * LINE + TOP - scrollTop, left: Math.max(0, left) };
+  }
+
+  letterWidth() {
+    this.pen ||= document.createElement("canvas").getContext("2d");
+    this.pen.font = getComputedStyle(this.area).font;
+    return this.pen.measureText("m").width;
   }
 
   typed() {
@@ -175,16 +211,31 @@ export class Editor {
     for (let line = first + 1; line <= last; line++) {
       this.numbers.append(make("div", line === this.markedLine ? { class: "wrong" } : {}, line));
     }
+    this.drawColours(first, last);
     this.numbers.style.transform = `translateY(${first * LINE - this.area.scrollTop}px)`;
     this.marks.style.transform = `translate(${-this.area.scrollLeft}px, ${-this.area.scrollTop}px)`;
   }
 
+  /** Draws the lines that are seen, from `first` (counted from 0) up to `last`, under the text, which has no ink. */
+  drawColours(first, last) {
+    const span = ([text, kind]) => (kind ? make("span", { class: kind }, text) : text);
+    const lines = this.lines.slice(first, last).map((line, at) => {
+      const parts = line.length > MAX_COLOURED ? [[line, ""]] : partsOf(line, this.kinds[first + at]);
+      return make("div", {}, ...parts.map(span));
+    });
+    this.colours.replaceChildren(...lines);
+    this.colours.style.top = `${first * LINE}px`;
+  }
+
   lineCount() {
-    if (this.countedText !== this.text) {
+    const kind = this.kindOf?.();
+    if (this.countedText !== this.text || this.countedKind !== kind) {
       this.countedText = this.text;
-      this.counted = this.text.split("\n").length;
+      this.countedKind = kind;
+      this.lines = this.text.split("\n");
+      this.kinds = kind ? this.lines.map(() => kind) : kindsOf(this.lines);
     }
-    return this.counted;
+    return this.lines.length;
   }
 }
 

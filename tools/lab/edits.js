@@ -1,6 +1,8 @@
 // Edits of a scenario's text: each takes the text and returns the new one, with the place of what it wrote.
 import { longText, read, valueOf } from "./toml.js";
 
+const VERSION = "4";
+
 /** The nodes that an entry changes. */
 function nodesOf(entry) {
   const nodes = valueOf(entry.keys, entry.name === "load" ? "nodes" : "node");
@@ -43,6 +45,17 @@ export const loadSay = (text, pulse, node, values) =>
 export const loadText = (text, pulse, node, program) =>
   load(text, pulse, node, ['program = "asm"', `text = ${longText(program)}`]);
 
+/** Loads a rule, for which the scenario has version 4. */
+export const loadRule = (text, pulse, node, rule) =>
+  load(withVersion(text), pulse, node, ['program = "rule"', `text = ${longText(rule)}`]);
+
+/** Makes a rule the clock of the scenario, which has version 4 then. Returns null if the text can't be read. */
+export function setRule(text, rule) {
+  const versioned = withVersion(text), old = read(versioned)?.top.clock;
+  const bare = old ? cut(versioned, old.from, versioned.indexOf("\n", old.valueTo) + 1) : versioned;
+  return setTop(bare, "rule", longText(rule), "key" in (read(bare)?.top ?? {}) ? "key" : "coins");
+}
+
 export const unload = (text, pulse, node) =>
   put(without(text, "load", pulse, node), "unload", pulse, node, [`node = ${node}`]);
 
@@ -63,9 +76,21 @@ export function setTop(text, name, value, after) {
   return { text: cut(text, at, at, `${end < 0 ? "\n" : ""}${name} = ${value}\n`), at };
 }
 
+const isOfVersion = (text) => valueOf(read(text)?.top ?? {}, "version") === Number(VERSION);
+
+/** The text with the version that rules and noise need. */
+const withVersion = (text) => (isOfVersion(text) ? text : (setTop(text, "version", VERSION, "nodes")?.text ?? text));
+
+/** What a load of a rule or of noise changes at the top of the text, in words; "" if nothing. */
+export function topChanges(text, needsKey) {
+  const changes = isOfVersion(text) ? [] : [`version ${VERSION}`];
+  if (needsKey && !("key" in (read(text)?.top ?? {}))) changes.push("a key");
+  return changes.join(" and ");
+}
+
 /** Loads noise, for which the scenario has version 4 and a key. */
 export function loadNoise(text, pulse, node) {
-  const versioned = setTop(text, "version", "4", "nodes")?.text ?? text;
+  const versioned = withVersion(text);
   const hasKey = "key" in (read(versioned)?.top ?? {});
   const keyed = hasKey ? versioned : (setTop(versioned, "key", "1", "coins")?.text ?? versioned);
   return loadNamed(keyed, pulse, node, "noise");

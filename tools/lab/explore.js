@@ -3,6 +3,7 @@
 import { Line, NoAnswer, isCancelled } from "./ask.js";
 import { button, get, make, on, say, state, tell } from "./page.js";
 import { loadAt } from "./programs.js";
+import { showFor } from "./steps.js";
 import { longText, valueOf } from "./toml.js";
 
 const FIRST_BOUND = 2000, GROWS_BY = 4, VERSION_OF_MANY = 2, MAX_OF_FIRST = 32;
@@ -113,7 +114,7 @@ async function start() {
   }
 }
 
-/** Asks with a growing bound until the search ends or the last bound is reached. A theorem may answer at the last one. */
+/** Asks with a growing bound until the search ends or the last bound is reached, where a theorem may answer. */
 async function search(text, asked) {
   const began = Date.now();
   for (let bound = Math.min(FIRST_BOUND, asked.states); ; bound = Math.min(bound * GROWS_BY, asked.states)) {
@@ -148,6 +149,7 @@ function show(answer, seconds) {
   log(`${seconds} s`);
   if (text === null) return;
   const open = button("Open the counterexample", () => {
+    showFor(text);
     tell("open", text, "", pulseInQuestion);
     say("The counterexample is in the editor; Ctrl+Z brings back your scenario.");
   }, { id: "counterexample" });
@@ -162,7 +164,7 @@ export function begin() {
   });
   get("explore-cancel").addEventListener("click", () => line.cancel());
   const showStart = () => {
-    get("start-bytes").disabled = get("start").value !== "any";
+    get("start-bytes").hidden = get("start-bytes").disabled = get("start").value !== "any";
   };
   get("question").addEventListener("change", () => {
     get("odds").disabled = get("question").value === "agreement";

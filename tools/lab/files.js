@@ -4,16 +4,27 @@ import { get, make, say, state, tell } from "./page.js";
 
 const KEY = "scenario=", MAX_TEXT = 1 << 20, DEFAULT_NAME = "mine.toml";
 export const START = `# Three nodes, one fault allowed.
-# Nodes 0 and 1 run the clock.
-# Node 2 is yours: click it, and load
-# a program into it, or edit this text.
+# Nodes 0 and 1 run the clock: its rule
+# is here, to edit. Node 2 is yours:
+# click it, and load a program into it.
+version = 4
 nodes = 3
 faults = 1
 modulus = 8
 memory = 8
 pulses = 14
 coins = "chacha"
-key = 72
+key = 119
+rule = '''
+state mark
+let v = clock if clock < M else 0
+let support = count j: mail[j] == v
+if support < n - f: clock, mark = 0, 0
+elif v != 0:        clock, mark = (v + 1) % M, 1
+elif mark != 0:     clock, mark = 1, 1
+else:               clock, mark = coin, coin
+send clock
+'''
 
 [[load]]
 pulse = 1
@@ -44,10 +55,12 @@ function showFiles(folder, files) {
   fill(get("files"), "Open ..", [[folder, files.map((it) => [it, it])]]);
 }
 
+/** Fills the menu of examples by their groups, which come in order. */
 function showExamples(examples) {
   const words = ({ name: it, caption }) => [it, `${it.replace(/\.toml$/, "")}: ${caption}`];
-  const start = [["start", "three nodes, one of them yours"]];
-  fill(get("examples"), "Examples ..", [["Start", start], ["examples", examples.map(words)]]);
+  const groups = new Map([["Start", [["start", "three nodes, one of them yours"]]]]);
+  for (const it of examples) groups.set(it.group, [...(groups.get(it.group) || []), words(it)]);
+  fill(get("examples"), "Examples ..", [...groups]);
 }
 
 /** Opens a text, which its menu goes on to name until it is changed. */
@@ -80,7 +93,7 @@ async function save(replace) {
     named(file.endsWith(".toml") ? file : `${file}.toml`, text);
     showFiles(state.folder, files);
     get("save-dialog").close();
-    say(`${name} is saved.`);
+    say(`${name} is saved in ${state.folder}.`);
   } catch (why) {
     if (!(why instanceof NoAnswer)) throw why;
     get("save-said").textContent = why.status === 409 ? `${why.message}: replace it?` : why.message;
@@ -91,6 +104,7 @@ async function save(replace) {
 
 function showSave() {
   get("save-name").value = name || DEFAULT_NAME;
+  get("save-folder").textContent = state.folder;
   get("save-said").textContent = "";
   get("save-replace").hidden = true;
   get("save-dialog").showModal();
@@ -210,7 +224,7 @@ export async function begin({ folder, files, examples, opened }) {
   const kept = sessionStorage.getItem(location.pathname);
   if (await openFragment()) return;
   if (kept !== null) tell("open", kept, "");
-  else if (opened) await open("folder", opened);
+  else if (opened) await open(opened.place, opened.name);
   else openFrom("examples", "start", START);
 }
 

@@ -1,21 +1,35 @@
 // Changes of the chosen node from the pulse shown on. Each is an edit of the scenario's text.
 import { get, make, on, say, state, tell } from "./page.js";
-import { corrupt, loadNamed, loadNoise, loadSay, loadText, setCoin, unload } from "./edits.js";
+import { corrupt, loadNamed, loadNoise, loadRule, loadSay, loadText, setCoin, setRule, topChanges, unload }
+  from "./edits.js";
+import { kindOfText } from "./program.js";
 import { loadAt } from "./programs.js";
 import { insideOf, memoryBefore } from "./run.js";
 import { valueOf } from "./toml.js";
 
 const MAX_MESSAGE = 4294967295;
+const HINTS = {
+  text: "Loads the program text, under the scenario, into this node alone: as a Byzantine node's, not as the clock. " +
+    "A rule needs version 4 of the scenario: Load sets it.",
+  own: "Makes the rule under \"Program text\" the clock: nodes with the clock run it in every pulse, and this node " +
+    "from this pulse on.",
+  noise: "Messages drawn from the key, anew in each pulse. Noise needs version 4 of the scenario: Load sets it.",
+};
 /** The parts of the form in which something was typed. */
 const touched = new Set();
 let shownFor = {};
 
-/** Makes an edit by one of the calls of edits.js and says what was done. */
+/** Makes an edit by one of the calls of edits.js. The words are said once the program has run the text. */
 function edit(change, words) {
-  const text = get("text").editor.text, { at, node } = state;
+  const { at, node } = state;
   touched.clear();
-  tell("edit", change(text, at, node));
-  say(`${words} Ctrl+Z undoes it.`);
+  tell("edit", change(get("text").editor.text, at, node), null, `${words} Ctrl+Z undoes it.`);
+}
+
+/** While a text has no run, the form has nothing to change. */
+function enable(isRun) {
+  get("change-waits").hidden = isRun;
+  for (const it of get("change").elements) it.disabled = !isRun;
 }
 
 const valueIn = (field) => (field.value === "" ? null : Number(field.value));
@@ -50,16 +64,45 @@ function fill(run) {
   if (!touched.has("image")) get("image").value = before ? before.match(/../g).join(" ") : "";
 }
 
+/** Says what a load changes at the top of the text beside its entry. */
+function toldTop(needsKey) {
+  const changes = topChanges(get("text").editor.text, needsKey);
+  return changes && ` The scenario has ${changes} for it now.`;
+}
+
+/** Loads the text of the program editor. */
+function loadProgram(node, at) {
+  const { text } = get("program-editor").editor, words = `Node ${node} runs the program text from pulse ${at} on.`;
+  if (kindOfText() === "rule") edit((...it) => loadRule(...it, text), words + toldTop(false));
+  else edit((...it) => loadText(...it, text), words);
+}
+
+/** Makes the rule of the program editor the clock, and has the node run the clock. */
+function loadAsClock(node, at) {
+  const { text } = get("program-editor").editor, isClock = state.run.pulses[at - 1].ran[node] === "clock";
+  if (kindOfText() !== "rule" || !setRule(get("text").editor.text, text)) {
+    say(kindOfText() === "rule" ? "The page can't read this scenario: write the rule into its text."
+      : "Only a rule can become the clock here: choose \"a rule\" under \"Program text\".", true);
+    return;
+  }
+  const change = (old, ...place) => {
+    const ruled = setRule(old, text);
+    return isClock ? ruled : loadNamed(ruled.text, ...place, "clock");
+  };
+  edit(change, `The clock is the program text now; node ${node} runs it from pulse ${isClock ? 1 : at} on.`);
+}
+
 function loadChosen() {
   const { node, at } = state, kind = get("kind").value, words = `Node ${node} runs ${kind} from pulse ${at} on.`;
   if (kind === "say") {
     if (!get("change").reportValidity()) return;
     edit((...it) => loadSay(...it, values()), words);
-  } else if (kind === "asm") {
-    const text = get("program-editor").editor.text;
-    edit((...it) => loadText(...it, text), `Node ${node} runs the program text from pulse ${at} on.`);
+  } else if (kind === "text") {
+    loadProgram(node, at);
+  } else if (kind === "own") {
+    loadAsClock(node, at);
   } else if (kind === "noise") {
-    edit(loadNoise, `Node ${node} sends drawn messages from pulse ${at} on.`);
+    edit(loadNoise, `Node ${node} sends drawn messages from pulse ${at} on.${toldTop(true)}`);
   } else {
     edit((...it) => loadNamed(...it, kind), words);
   }
@@ -79,8 +122,10 @@ function corruptChosen() {
 }
 
 function showKind() {
-  get("values").hidden = get("kind").value !== "say";
-  get("asm-hint").hidden = get("kind").value !== "asm";
+  const kind = get("kind").value;
+  get("values").hidden = kind !== "say";
+  get("kind-hint").hidden = !(kind in HINTS);
+  get("kind-hint").textContent = HINTS[kind] ?? "";
 }
 
 function show() {
@@ -107,5 +152,7 @@ export function begin() {
   }
   for (const part of ["values", "image"]) get(part).addEventListener("input", () => touched.add(part));
   on("shown", show);
+  on("run", () => enable(true));
+  for (const event of ["refused", "ended"]) on(event, () => enable(false));
   showKind();
 }

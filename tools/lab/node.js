@@ -1,45 +1,71 @@
 // The chosen node: its memory, messages and program, and the trace of its run in the pulse shown.
-import { Line, isCancelled, wordsOf } from "./ask.js";
+import { Line, NoAnswer, isCancelled, wordsOf } from "./ask.js";
 import { button, get, make, on, say, state, tell } from "./page.js";
-import { loadAt, namesAt, ruleOf, textOf } from "./programs.js";
+import { isBuiltIn, loadAt, namesAt, ruleOf, textOf } from "./programs.js";
+import { sentTerm, stateWords } from "./rule.js";
 import { insideOf, memoryBefore, received } from "./run.js";
+import * as why from "./why.js";
 
-const CLOCK_BYTES = 4, MARK_BYTES = 8;
-const STEP = /^step (\d+) slot (\d+) (.*?)(?: #(?: (.+?))??(?: -> (.*))?)?$/;
-const traces = new Line();
-let traced = {};
+const WORD_BYTES = 4, MAX_HEARD = 8;
+const traces = new Line(), programs = new Line();
+let traced = {}, listed = {};
 
 const pairs = (hex) => hex.match(/../g) || [];
 
-/** Which part of a memory a byte belongs to: of a clock the first eight have names. */
-const partOf = (at, isClock) => (!isClock || at >= MARK_BYTES ? "" : at < CLOCK_BYTES ? "clock" : "mark");
+/** The text of the rule (by `ruleOf`) or the assembler text (by `textOf`) of a node's program, or null. */
+function textAt(run, pulse, node, by) {
+  if (!run.scenario || run.pulses[pulse - 1].ran[node] === null) return null;
+  return by(run.scenario, loadAt(run.scenario, node, pulse));
+}
+
+const ruleAt = (run, pulse, node) => textAt(run, pulse, node, ruleOf);
+
+/** The names of the words of a node's memory: those that its rule gives, or those of the built-in clock. */
+function wordsAt(run, pulse, node) {
+  const rule = ruleAt(run, pulse, node), isClock = run.pulses[pulse - 1].clocks[node] !== null;
+  if (rule !== null) return ["clock", ...stateWords(rule)];
+  if (!isClock) return [];
+  return isBuiltIn(run) ? ["clock", "mark"] : ["clock"];
+}
 
 /** The memory, byte by byte; those that this pulse changed stand out. */
-function memory(run, node, isClock) {
+function memory(run, node, words) {
   const inside = insideOf(run, state.at), before = memoryBefore(run, state.at, node);
   if (!inside) return make("p", {}, "..");
   const old = before === null ? [] : pairs(before);
   const bytes = pairs(inside.memory[node]).map((byte, at) => {
-    const isNew = old.length > 0 && old[at] !== byte, part = partOf(at, isClock);
-    const title = `byte ${at}${part && `, ${part}`}${isNew ? `; ${old[at]} before this pulse` : ""}`;
-    return make("code", { class: [part, isNew ? "changed" : ""].join(" ").trim(), title }, byte);
+    const isNew = old.length > 0 && old[at] !== byte, word = Math.floor(at / WORD_BYTES), part = words[word];
+    const place = `byte ${at}${part ? ` of ${part}, lowest first` : ""}`, kind = part ? `word word-${word % 2}` : "";
+    const title = `${place}${isNew ? `; ${old[at]} before this pulse` : ""}`;
+    return make("code", { class: [kind, isNew ? "changed" : ""].join(" ").trim(), title }, byte);
   });
   return make("div", { id: "bytes" }, ...bytes);
 }
 
+/** What the words of the list mean, at a hover. */
+const MEANINGS = {
+  program: "What the node runs in this pulse. A program named clock is the clock of the scenario.",
+  clock: "The first four bytes of the memory, the lowest first.",
+  mark: "1 from the pulse on in which the node's clock left 0; 0 after it fell back.",
+  settled: "Yes if the node ran the clock in this pulse and in the one before. Agreement is about settled nodes.",
+  coin: "The node's random bit of this pulse.",
+  steps: "How many instructions the node ran in this pulse.",
+};
+
 function fact(name, value) {
-  return make("div", {}, make("dt", {}, name), make("dd", {}, value));
+  const title = MEANINGS[name] || "A word of the memory that the rule names under state.";
+  return make("div", { title }, make("dt", {}, name), make("dd", {}, value));
 }
 
-/** The number in four bytes, the lowest first. */
-const numberOf = (bytes) => Number.parseInt(bytes.reverse().join(""), 16);
+/** The number in the bytes of a word, the lowest first. */
+const numberOf = (hex, word) =>
+  Number.parseInt(pairs(hex).slice(WORD_BYTES * word, WORD_BYTES * (word + 1)).reverse().join(""), 16);
 
-function facts(run, node, name) {
+function facts(run, node, name, words) {
   const pulse = run.pulses[state.at - 1], clock = pulse.clocks[node], inside = insideOf(run, state.at);
   const list = [fact("program", name), fact("clock", clock === null ? "-" : clock)];
-  if (clock !== null && run.frame.clock !== "own") {
-    list.push(fact("mark", inside ? numberOf(pairs(inside.memory[node]).slice(CLOCK_BYTES, MARK_BYTES)) : ".."));
-  }
+  const rest = words.slice(1).map((word, at) => fact(word, inside ? numberOf(inside.memory[node], at + 1) : ".."));
+  list.push(...rest);
   list.push(fact("settled", pulse.settled[node] ? "yes" : "no"), fact("coin", pulse.coins[node]));
   list.push(fact("steps", pulse.steps[node]));
   return make("dl", {}, ...list);
@@ -55,7 +81,8 @@ function mail(run, node) {
   for (let other = 0; other < run.frame.nodes; other++) {
     rows.push(row("td", [other, received(run, state.at, other, node), sent ? sent[node][other] : undefined]));
   }
-  const head = make("thead", {}, row("th", ["node", "received from it", "sent to it"]));
+  const rule = ruleAt(run, state.at, node), term = rule && sentTerm(rule);
+  const head = make("thead", {}, row("th", ["node", "received from it", term ? `sent to it: ${term}` : "sent to it"]));
   return make("div", { class: "scroll" }, make("table", { id: "mail" }, head, make("tbody", {}, ...rows)));
 }
 
@@ -69,100 +96,98 @@ function before(run) {
   return shown.length ? [make("p", { id: "staged" }, `Before pulse ${state.at}: ${shown.join("; ")}.`)] : [];
 }
 
+/** The program of the node: its text in the scenario, or what `dis --node` prints. */
 function program(run, node) {
-  const load = run.scenario && loadAt(run.scenario, node, state.at), rule = run.scenario && ruleOf(run.scenario, load);
-  const text = rule ?? (run.scenario && textOf(run.scenario, run.frame, load));
   if (run.pulses[state.at - 1].ran[node] === null) return [];
-  if (!text) return [make("p", {}, "The lab can't find the text of this program in the scenario.")];
-  const parts = make("details", { id: "program-text" }, make("summary", {}, rule ? "Rule" : "Program"));
-  if (!rule) parts.append(button("Edit a copy", () => tell("copy", text), { id: "copy" }));
-  parts.append(make("pre", { tabindex: "0" }, text));
-  parts.open = state.isProgramOpen;
-  parts.addEventListener("toggle", () => {
-    state.isProgramOpen = parts.open;
+  const rule = ruleAt(run, state.at, node), text = rule ?? textAt(run, state.at, node, textOf);
+  const pre = make("pre", { tabindex: "0" }, text ?? ".."), part = make("details", { id: "program-text" });
+  const copy = () => tell("copy", pre.textContent, rule === null ? "asm" : "rule");
+  part.append(make("summary", {}, rule === null ? "Program" : "Rule"));
+  part.append(button("Edit a copy", copy, { id: "copy" }), pre);
+  part.open = state.isProgramOpen;
+  if (text === null && part.open) list(run, node, pre);
+  part.addEventListener("toggle", () => {
+    state.isProgramOpen = part.open;
+    if (text === null && part.open) list(run, node, pre);
   });
-  return [parts];
+  return [part];
+}
+
+/** Fetches the program that the node runs in the pulse shown. */
+async function list(run, node, pre) {
+  const asked = `${state.at} ${node}`;
+  if (listed.run === run && listed.asked === asked) {
+    pre.textContent = listed.text;
+    return;
+  }
+  try {
+    const answer = await programs.ask("program", { text: run.text, pulse: state.at, node });
+    listed = { run, asked, text: answer.status === 0 ? answer.out : wordsOf(answer) };
+    pre.textContent = listed.text;
+  } catch (error) {
+    if (isCancelled(error)) return;
+    if (!(error instanceof NoAnswer)) throw error;
+    pre.textContent = error.message;
+  }
 }
 
 function show() {
   const { run, node } = state;
   if (!run) return;
-  const name = namesAt(run, state.at)[node];
-  const isClock = run.pulses[state.at - 1].clocks[node] !== null && run.frame.clock !== "own";
+  const name = namesAt(run, state.at)[node], words = wordsAt(run, state.at, node);
   get("node-name").textContent = `Node ${node} after pulse ${state.at}`;
   get("node").replaceChildren(
-    facts(run, node, name), ...before(run), make("h3", {}, "Memory"), memory(run, node, isClock),
+    facts(run, node, name, words), ...before(run), make("h3", {}, "Memory"), memory(run, node, words),
     make("h3", {}, "Messages"), mail(run, node));
   get("node-program").replaceChildren(...program(run, node));
+  showHeard();
   showTrace();
 }
 
 // The trace.
 
-/** The memory as the run of this pulse begins: an unload leaves it as the changes before the pulse made it. */
-async function memoryAtOpening(run, pulse, node) {
-  const isCorrupted = run.pulses[pulse - 1].staged.some((it) => it.corrupt === node);
-  if (!isCorrupted) return memoryBefore(run, pulse, node);
-  const text = `${run.text.trimEnd()}\n\n[[unload]]\npulse = ${pulse}\nnode = ${node}\n`;
-  const answer = await traces.ask("pulses", { text, from: pulse, until: pulse });
-  if (answer.status !== 0) throw new Error(wordsOf(answer));
-  return JSON.parse(answer.out.split("\n")[1]).memory[node];
+/** The messages that a node received in the pulse shown, by their numbers: "4 from nodes 0 and 1; 7 from node 2". */
+function heardInWords(run, node) {
+  if (state.at === 1) return "In pulse 1 no node receives a message.";
+  const nodes = Array.from({ length: run.frame.nodes }, (_, from) => from), senders = new Map();
+  for (const from of nodes) {
+    const number = received(run, state.at, from, node);
+    if (number === undefined) return "";
+    senders.set(number, [...(senders.get(number) ?? []), from]);
+  }
+  const told = (all) => `node${all.length > 1 ? "s" : ""} ${all.join(", ").replace(/, (\d+)$/, " and $1")}`;
+  const parts = [...senders].map(([number, all]) => `${number ?? "no message"} from ${told(all)}`);
+  return `Node ${node} received what was sent in pulse ${state.at - 1}: ${parts.join("; ")}.`;
 }
 
-function mailOf(run, pulse, node) {
-  return Array.from({ length: run.frame.nodes }, (_, from) => received(run, pulse, from, node) ?? "-").join(",");
-}
-
-/** Whether a trace leaves what the run reports of this node. */
-function isOfRun(run, pulse, node, answer) {
-  const { memory: bytes, sent } = insideOf(run, pulse), lines = answer.out.trim().split("\n");
-  const steps = /^r0 \d+ steps (\d+)$/.exec(lines.at(-3) || "");
-  return Boolean(steps) && Number(steps[1]) === run.pulses[pulse - 1].steps[node] &&
-    lines.at(-2) === `memory ${bytes[node]}` && lines.at(-1) === `sent ${sent[node].map((it) => it ?? "-").join(",")}`;
-}
-
-async function trace(run, pulse, node) {
-  const load = run.scenario && loadAt(run.scenario, node, pulse), rule = run.scenario && ruleOf(run.scenario, load);
-  const text = rule ?? (run.scenario && textOf(run.scenario, run.frame, load));
-  if (!text) throw new Error("The lab can't find the text of this program in the scenario.");
-  const contents = await memoryAtOpening(run, pulse, node), { nodes, faults, modulus, memory: bytes } = run.frame;
-  const sizes = rule === null ? {} : { faults, modulus };
-  const coin = run.pulses[pulse - 1].coins[node], sent = mailOf(run, pulse, node);
-  const answer = await traces.ask("trace", { text, nodes, memory: bytes, ...sizes, id: node, mail: sent, coin, contents });
-  if (answer.status !== 0) throw new Error(wordsOf(answer));
-  if (!isOfRun(run, pulse, node, answer)) throw new Error("The trace doesn't end as this run did: it isn't shown.");
-  return answer.out.trim().split("\n");
-}
-
-function traceTable(lines) {
-  const steps = lines.map((line) => STEP.exec(line)).filter(Boolean);
-  const rows = steps.map(([, ...cells]) => make("tr", {}, ...cells.map((it) => make("td", {}, it ?? ""))));
-  const head = make("thead", {}, row("th", ["step", "slot", "instruction", "reads", "writes"]));
-  const ends = lines.filter((line) => !STEP.test(line)).map((line) => make("p", { class: "mono" }, line));
-  const table = make("table", { id: "steps" }, head, make("tbody", {}, ...rows));
-  return [make("div", { class: "scroll", tabindex: "0" }, table), ...ends];
+function showHeard() {
+  const { run, at, node } = state, isShort = run.frame.nodes <= MAX_HEARD && run.pulses[at - 1].ran[node] !== null;
+  get("heard").textContent = isShort ? heardInWords(run, node) : "";
 }
 
 /** Shows the trace of the chosen node in the pulse shown, if that part of the page is open. */
 async function showTrace() {
-  const { run, at, node } = state, isReady = insideOf(run, at) && (at === 1 || insideOf(run, at - 1));
+  const { run, at, node } = state;
   const asked = `${at} ${node}`;
   if (traced.asked === asked && traced.run === run) return;
   get("trace").replaceChildren("..");
   traced = {};
-  if (!get("why").open || !isReady) return;
+  if (!get("why").open) return;
   traced = { asked, run };
   if (run.pulses[at - 1].ran[node] === null) {
     get("trace").replaceChildren(make("p", {}, `Node ${node} has no program in pulse ${at}: nothing runs.`));
     return;
   }
   try {
-    const lines = await trace(run, at, node);
-    if (traced.asked === asked) get("trace").replaceChildren(...traceTable(lines));
-  } catch (why) {
-    if (isCancelled(why)) return;
-    get("trace").replaceChildren(make("p", { class: "wrong" }, why.message));
-    say(why.message, true);
+    const answer = await traces.ask("trace", { text: run.text, pulse: at, node });
+    if (answer.status !== 0 || answer.ended) throw new NoAnswer(wordsOf(answer));
+    if (traced.asked !== asked) return;
+    get("trace").replaceChildren(...why.parts(answer.out, ruleAt(run, at, node), run.frame.modulus));
+  } catch (error) {
+    if (isCancelled(error)) return;
+    if (!(error instanceof NoAnswer)) throw error;
+    get("trace").replaceChildren(make("p", { class: "wrong" }, error.message));
+    say(error.message, true);
   }
 }
 

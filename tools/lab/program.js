@@ -1,17 +1,27 @@
-// A program text under the scenario, verified as one types; a rejected one is explained at its line.
-import { Line, NoAnswer, isCancelled } from "./ask.js";
+// A program text under the scenario, a rule or assembler, checked as one types; a rejected one is explained at its
+// line.
+import { Line, NoAnswer, endOfNote, isCancelled } from "./ask.js";
 import { Editor } from "./editor.js";
 import { get, make, on, state } from "./page.js";
+import { RULE_HINT } from "./words.js";
 
-const PAUSE = 350, DEFAULT_SHAPE = { nodes: 4, memory: 8 };
-const TEMPLATE = `        mov64 r1, 0             # to node 0
+const PAUSE = 350, DEFAULT_SHAPE = { nodes: 4, memory: 8, faults: 1, modulus: 8 };
+const TEMPLATES = {
+  rule: `# A Byzantine node: sends each node another number.
+for j: send (mail[0] + j) % M to j
+`,
+  asm: `        mov64 r1, 0             # to node 0
         mov64 r2, 1             # the number 1
         call send
         mov64 r0, 0
         exit
-`;
+`,
+};
 const line = new Line();
 let editor = null, timer = null, shape = DEFAULT_SHAPE, isNew = false;
+
+/** The kind of the text: "rule" or "asm". */
+export const kindOfText = () => get("program-kind").value;
 
 function schedule() {
   clearTimeout(timer);
@@ -25,7 +35,7 @@ async function verify() {
     return;
   }
   try {
-    show(await line.ask("verify", { text, ...shape }));
+    show(await line.ask(kindOfText() === "rule" ? "compile" : "verify", { text, ...shape }));
   } catch (why) {
     if (isCancelled(why)) return;
     if (!(why instanceof NoAnswer)) throw why;
@@ -35,7 +45,7 @@ async function verify() {
 
 /** The line of the text that a verdict is about: that of the last row, or the one that the refusal names. */
 function lineOf(rows, verdict) {
-  const named = /^refused text \S+ line (\d+)/.exec(verdict);
+  const named = /^refused (?:text|rule) \S+ line (\d+)/.exec(verdict);
   const row = /^line (\d+) slot /.exec(rows.at(-1) || "");
   return named ? Number(named[1]) : row ? Number(row[1]) : 0;
 }
@@ -45,9 +55,11 @@ function show(answer) {
   const said = lines.filter((it) => !rows.includes(it)), isTaken = answer.status === 0 && !answer.ended;
   editor.unmark();
   const parts = said.map((it) => make("p", { class: isTaken ? "right" : "wrong" }, it));
-  if (answer.err || answer.ended) parts.push(make("p", { class: "wrong" }, answer.err + answer.ended));
+  const note = answer.err.trim() + answer.ended;
+  if (note) parts.push(make("p", { class: "wrong" }, note));
   const at = isTaken ? 0 : lineOf(rows, said[0] || "");
-  if (at > 0) editor.mark(at, said.at(-1));
+  if (/unknown name/.test(note)) parts.push(make("p", { class: "soft" }, RULE_HINT));
+  if (at > 0) editor.mark(at, endOfNote(note || said.at(-1)));
   if (at > 0 && isNew) editor.scrollTo(at);
   isNew = false;
   if (!isTaken && rows.length > 0) parts.splice(1, 0, make("p", { class: "row" }, rows.at(-1)));
@@ -60,24 +72,37 @@ function show(answer) {
 }
 
 /** Puts a program here, to be edited. */
-export function edit(text) {
+export function edit(text, kind = "asm") {
   get("program").open = isNew = true;
+  get("program-kind").value = kind;
   editor.open(text);
   get("program").scrollIntoView({ block: "nearest" });
   editor.area.focus();
 }
 
-export function begin() {
-  editor = new Editor(get("program-editor"), "Program text", schedule);
-  get("program-editor").editor = editor;
-  editor.open(TEMPLATE);
-  on("copy", edit);
-  on("run", () => {
-    const { nodes, memory } = state.run.frame;
-    if (shape.nodes === nodes && shape.memory === memory) return;
-    shape = { nodes, memory };
-    get("program-shape").textContent = `for ${nodes} nodes with ${memory} bytes of memory`;
+/** Another kind of text: its template, if the text is that of the other kind. */
+function changeKind() {
+  const kind = kindOfText(), other = kind === "rule" ? "asm" : "rule";
+  if (editor.text === TEMPLATES[other]) editor.open(TEMPLATES[kind]);
+  else {
+    editor.drawSides();
     schedule();
-  });
+  }
 }
 
+function takeShape() {
+  const { nodes, memory, faults, modulus } = state.run.frame, words = `${nodes} nodes with ${memory} bytes of memory`;
+  if (JSON.stringify(shape) === JSON.stringify({ nodes, memory, faults, modulus })) return;
+  shape = { nodes, memory, faults, modulus };
+  get("program-shape").textContent = `for ${words}, ${faults} fault${faults === 1 ? "" : "s"} and modulus ${modulus}`;
+  schedule();
+}
+
+export function begin() {
+  editor = new Editor(get("program-editor"), "Program text", schedule, kindOfText);
+  get("program-editor").editor = editor;
+  editor.open(TEMPLATES.rule);
+  get("program-kind").addEventListener("change", changeKind);
+  on("copy", edit);
+  on("run", takeShape);
+}

@@ -8,7 +8,10 @@ const LOOP = /^# pulses? (\d+)(?: to (\d+))? (?:comes?|repeats?)\b/m;
 const runs = new Line(), windows = new Line();
 let timer = null, wanted = null;
 
-/** Runs this text after a pause: "run" is the event of a good run, "refused" that of a rejected text. */
+/**
+ * Runs this text after a pause: "run" is the event of a good run, "refused" that of a rejected text, and "ended" that
+ * of a run past a limit of the lab.
+ */
 export function schedule(text, pause = PAUSE) {
   clearTimeout(timer);
   runs.cancel();
@@ -20,22 +23,23 @@ export function schedule(text, pause = PAUSE) {
 
 async function start(text) {
   try {
-    const answer = await runs.ask("run", { text });
+    const answer = await runs.ask("run", { text, whole: LEAST_NEAR + 1 });
     state.isRunning = false;
     if (answer.status === 0 && !answer.ended) accept(text, answer);
-    else reject(wordsOf(answer));
+    else fail(answer.ended ? "ended" : "refused", wordsOf(answer));
   } catch (why) {
     if (isCancelled(why)) return;
     state.isRunning = false;
     if (!(why instanceof NoAnswer)) throw why;
-    reject(why.message);
+    fail("ended", why.message);
   }
 }
 
-function accept(text, { frame, pulses, last }) {
+function accept(text, { frame, pulses, inside, last }) {
   windows.cancel();
   wanted = null;
-  state.run = { text, frame, pulses, last, inside: new Map(), scenario: read(text), loop: loopOf(text, frame.pulses) };
+  const known = new Map(inside.map((it) => [it.pulse, it])), loop = loopOf(text, frame.pulses);
+  state.run = { text, frame, pulses, last, inside: known, scenario: read(text), loop };
   state.isStale = false;
   state.node = Math.min(state.node, frame.nodes - 1);
   state.at = Math.min(state.at, frame.pulses);
@@ -45,9 +49,9 @@ function accept(text, { frame, pulses, last }) {
   tell("shown");
 }
 
-function reject(words) {
+function fail(event, words) {
   state.goTo = null;
-  tell("refused", words);
+  tell(event, words);
 }
 
 /** The pulses that come again and again, as the scenario of a clock that never agrees says in a comment. */

@@ -43,8 +43,8 @@ function openSeed({ words, keys }) {
     return;
   }
   const since = rows.find((it) => it.key === key).since;
-  tell("edit", edit, (run) => since ?? run.frame.pulses);
-  say(`Seed ${key}, one of ${keys.length}: ${since === null ? NEVER : `synchronised from pulse ${since} on`}.`);
+  const told = `Seed ${key}, one of ${keys.length}: ${since === null ? NEVER : `synchronised from pulse ${since} on`}.`;
+  tell("edit", edit, (run) => since ?? run.frame.pulses, told);
 }
 
 function barPart(bar, at, count, most) {

@@ -1,10 +1,10 @@
 // The picture of all pulses, which is the slider too, and the buttons that play them.
 import { get, make, on, state } from "./page.js";
-import { EMPTY, colourOf, diverging } from "./colours.js";
+import { EMPTY, colourOf, diverging, inkOn } from "./colours.js";
 import { goTo } from "./run.js";
 
 const HIGHEST = 150, BAR = 6, MARKS = 9, LEAST_GAP = 5, AT_ONE = 700, LEAST_NUMBER = 34, LEAST_ROW = 9, END = 14;
-const LEAST_STAGED = 24, INK = "#222222";
+const LEAST_STAGED = 24, LEAST_CLOCK = 24, LEAST_HIGH = 12, INK = "#222222", RED = "#b3001b";
 const STAGED = {
   load: ["M0 0h7l-3.5 6z", INK], unload: ["M0 0h7l-3.5 6z", "#ffffff"],
   corrupt: ["M3.5 0l3.5 3.5l-3.5 3.5l-3.5 -3.5z", "#ffe100"],
@@ -38,7 +38,7 @@ function drawPicture() {
   if (isNarrow) drawNarrow(pen, run, high);
   for (const pulse of run.pulses) {
     const x = left(run, pulse.pulse), width = Math.max(1, left(run, pulse.pulse + 1) - x);
-    if (!isNarrow) drawColumn(pen, run, pulse, { x, width, high, ink, red });
+    if (!isNarrow) drawColumn(pen, run, pulse, { x, width, high });
     if (pulse.agree === false) {
       pen.fillStyle = red;
       pen.fillRect(x, MARKS + high * run.frame.nodes + 1, Math.max(width - 1, 2), BAR);
@@ -74,14 +74,26 @@ function drawNarrow(pen, run, high) {
   for (let node = 1; node <= nodes; node++) pen.clearRect(0, MARKS + node * high - 1, wide, 1);
 }
 
-function drawColumn(pen, run, pulse, { x, width, high, ink, red }) {
+function drawColumn(pen, run, pulse, { x, width, high }) {
   const wrong = diverging(run, pulse), line = high >= LEAST_GAP ? 1 : 0;
+  const hasClocks = width >= LEAST_CLOCK && high >= LEAST_HIGH;
   for (let node = 0; node < run.frame.nodes; node++) {
     const y = MARKS + node * high, colour = colourOf(run, pulse.pulse, node);
     pen.fillStyle = colour;
     if (colour !== EMPTY) pen.fillRect(x, y, width - 1, high - line);
-    if (pulse.settled[node] && line) outline(pen, wrong[node] ? red : ink, x, y, width - 1, high - line);
+    if (pulse.settled[node] && line) outline(pen, wrong[node] ? RED : INK, x, y, width - 1, high - line);
+    if (hasClocks) drawClock(pen, run, pulse.clocks[node], colour, x + width / 2, y + high / 2);
   }
+}
+
+/** The clock in its cell. */
+function drawClock(pen, run, clock, colour, x, y) {
+  if (clock === null) return;
+  pen.font = "11px system-ui, sans-serif";
+  pen.textAlign = "center";
+  pen.textBaseline = "middle";
+  pen.fillStyle = inkOn(colour);
+  pen.fillText(clock >= run.frame.modulus ? "!" : clock, x, y);
 }
 
 /** In the cells, as in the pictures: a load is a full triangle, an unload an open one, a corruption a diamond. */
@@ -101,9 +113,11 @@ function drawStaged(pen, pulse, x, high) {
   }
 }
 
+/** The edge of a cell, within it: its fill is light in the dark theme too. */
 function outline(pen, colour, x, y, width, high) {
+  const inset = high >= LEAST_ROW ? 1.5 : 0.5;
   pen.strokeStyle = colour;
-  pen.strokeRect(x + 0.5, y + 0.5, width - 1, high - 1);
+  pen.strokeRect(x + inset, y + inset, width - 2 * inset, high - 2 * inset);
 }
 
 /** A mark over a pulse before which something was loaded, unloaded or corrupted. */
@@ -195,9 +209,9 @@ export function play() {
   if (state.at === state.run.frame.pulses && !state.run.loop) goTo(1);
   get("play").textContent = "Stop";
   timer = setInterval(() => {
-    const pulse = next();
-    if (pulse > state.run.frame.pulses) stop();
-    else goTo(pulse);
+    const pulse = next(), last = state.run.frame.pulses;
+    if (pulse <= last) goTo(pulse);
+    if (pulse > last || (pulse === last && !state.run.loop)) stop();
   }, AT_ONE / Number(get("speed").value));
 }
 
