@@ -12,7 +12,8 @@ import sys
 
 sys.dont_write_bytecode = True
 from built_program import TOP, answer, named_program, on_all_processors, tell
-from rule_meaning import MAX_FRAMES, Refused, Reader, pulse
+from rule_meaning import pulse
+from rule_text import MAX_FRAMES, Reader, Refused
 
 SEED, DRAWN, FAULTY, CASES = 9669, 300, 400, 3
 NODES = (1, 4, 7)

@@ -1,0 +1,481 @@
+"""Reads a rule as a tree, by docs/RULES.md: rule_meaning.py, all_sizes.py and others use it.
+
+It is written from the page, apart from the compiler. A text that is no rule is refused by its first error, with line
+and column.
+"""
+import dataclasses
+import re
+
+WORDS = "state let if elif else for count send to and or not mail n f M me coin none clock table sorted".split()
+TOKEN = re.compile(rb"(?P<number>[0-9]+)|(?P<name>[A-Za-z_][A-Za-z0-9_]*)|(?P<sign>==|!=|<=|>=|[-+*/%<>=,:()\[\]])")
+NONE, LIMIT = 2**32 - 1, 2**32
+MAX_LETTERS, MAX_PARTS, MAX_NAMES, MAX_LINES, MAX_TOKENS = 32, 200, 200, 512, 1000
+# Frames of a reader that is as deep as a rule may be.
+MAX_FRAMES = 20_000
+FIXED = ("n", "f", "M", "me", "coin", "none")
+DEEPER = {"(": 1, "[": 1, ")": -1, "]": -1}
+KINDS = {"end": "the end of the line", "in": "a deeper line", "name": "a name"}
+COMPARISONS, PRODUCTS = ("==", "!=", "<", "<=", ">", ">="), ("*", "/", "%")
+
+
+class Refused(Exception):
+    """An error of a text: its name, its line and its column."""
+
+    def __init__(self, name, place, why=""):
+        super().__init__(f"refused rule {name} line {place[0]} column {place[1]}")
+        self.name, self.place, self.why = name, place, why
+
+
+# ---- trees. The kind of a name is "word" (of the memory), "let" or "node"; a place is a line and a column.
+
+
+@dataclasses.dataclass(frozen=True)
+class Number:
+    value: int
+
+
+@dataclasses.dataclass(frozen=True)
+class Given:
+    name: str  # one of FIXED
+    place: tuple
+
+
+@dataclasses.dataclass(frozen=True)
+class Name:
+    text: str
+    kind: str
+    word: int  # its place in the memory, if it is a word
+    place: tuple
+
+
+@dataclasses.dataclass(frozen=True)
+class Mail:
+    sender: object
+    place: tuple
+
+
+@dataclasses.dataclass(frozen=True)
+class Count:
+    node: str
+    test: object
+    place: tuple
+
+
+@dataclasses.dataclass(frozen=True)
+class Inverse:
+    inner: object
+
+
+@dataclasses.dataclass(frozen=True)
+class Binary:
+    sign: str  # of arithmetic or of a comparison, "and" or "or"
+    left: object
+    right: object
+    place: tuple
+
+
+@dataclasses.dataclass(frozen=True)
+class Choice:
+    """A term: `then` if the test holds, otherwise `other`."""
+
+    test: object
+    then: object
+    other: object
+
+
+@dataclasses.dataclass(frozen=True)
+class Let:
+    name: str
+    term: object
+
+
+@dataclasses.dataclass(frozen=True)
+class Assignment:
+    targets: list  # of Name
+    terms: list
+
+
+@dataclasses.dataclass(frozen=True)
+class Send:
+    term: object
+    receiver: object  # None: to all nodes
+    place: tuple
+
+
+@dataclasses.dataclass(frozen=True)
+class Cases:
+    """A statement: does the first block whose test holds. The test of `else` is 1."""
+
+    cases: list
+
+
+@dataclasses.dataclass(frozen=True)
+class Loop:
+    node: str
+    body: list
+    place: tuple
+
+
+@dataclasses.dataclass(frozen=True)
+class Rule:
+    words: list  # their names, in the order of the memory
+    body: list
+
+
+def parts_of(tree):
+    """A tree and all that is in it."""
+    if isinstance(tree, (list, tuple)):
+        for part in tree:
+            yield from parts_of(part)
+    elif dataclasses.is_dataclass(tree):
+        yield tree
+        yield from parts_of([getattr(tree, it.name) for it in dataclasses.fields(tree)])
+
+
+@dataclasses.dataclass
+class Token:
+    kind: str  # number, name, word, sign, end, in, out, stop, stray, or fault: no token, for the error of that name
+    text: str
+    place: tuple
+
+
+def tokens_of(text, pattern):
+    """The tokens of a text, up to the first fault: the reader refuses it when it comes there."""
+    try:
+        yield from sound_tokens(text, pattern)
+    except Refused as why:
+        yield Token("fault", why.name, why.place)
+
+
+def sound_tokens(text, pattern):
+    """The tokens of a text, line by line. `in` and `out` are those of blocks; `end` is where the next line begins."""
+    columns, depth, lines, count = [], 0, 0, 0
+    for number, line in enumerate(text.split(b"\n"), 1):
+        code = line.split(b"#")[0]
+        column = len(code) - len(code.lstrip(b" "))
+        found = list(tokens_in(code, column, number, pattern))
+        if found and depth == 0:
+            place = found[0].place
+            if lines:
+                yield Token("end", "end of line", place)
+            if lines == MAX_LINES or code[column : column + 1] in b"\t\r":
+                raise Refused("TooLong" if code[column : column + 1] not in b"\t\r" else "BadIndent", place)
+            yield from indented(columns, column, place, not lines)
+            lines, count = lines + 1, 0
+        for token in found:
+            if token.kind == "fault":
+                raise Refused(token.text, token.place)
+            if count == MAX_TOKENS:
+                raise Refused("TooLong", token.place)
+            depth, count = max(depth + DEEPER.get(token.text, 0), 0), count + 1
+            yield token
+    last = (text.count(b"\n") + 1, len(text.split(b"\n")[-1]) + 1)
+    if lines:
+        yield Token("end", "end of line", last)
+    yield from (Token("out", "end of block", last) for _ in columns[1:])
+    yield Token("stop", "end of text", last)
+
+
+def indented(columns, column, place, is_first):
+    """The blocks that a line begins or ends."""
+    if is_first:
+        columns[:] = [column]
+    elif column > columns[-1]:
+        columns.append(column)
+        yield Token("in", "deeper line", place)
+    while column < columns[-1]:
+        columns.pop()
+        if not columns or column > columns[-1]:
+            yield Token("stray", "line of no block's column", place)
+        yield Token("out", "end of block", place)
+
+
+def tokens_in(code, at, number, pattern):
+    """The tokens of a line, up to the first fault."""
+    try:
+        while at < len(code):
+            if code[at : at + 1] in b" \t\r":
+                at += 1
+                continue
+            token, at = token_at(code, at, (number, at + 1), pattern)
+            yield token
+    except Refused as why:
+        yield Token("fault", why.name, why.place)
+
+
+def token_at(code, at, place, pattern):
+    found = pattern.match(code, at)
+    if not found:
+        raise Refused("BadCharacter", place)
+    kind, text = found.lastgroup, found[0].decode()
+    if kind == "number" and int(text) >= LIMIT or kind == "name" and len(text) > MAX_LETTERS:
+        raise Refused("OutOfRange", place)
+    if kind == "name" and code[at - 1 : at].isdigit():
+        raise Refused("BadCharacter", place)
+    return Token("word" if text in WORDS else kind, text, place), found.end()
+
+
+def unexpected(token, wanted=""):
+    """The error of a token where another one has to be."""
+    names = {"fault": token.text, "in": "BadIndent", "stray": "BadIndent"}
+    found = token.text if token.kind in ("end", "in", "out", "stop") else f'"{token.text}"'
+    return Refused(names.get(token.kind, "Expected"), token.place, f"expected {wanted}, found {found}")
+
+
+def is_word(token, text):
+    return token.kind == "word" and token.text == text
+
+
+class Reader:
+    """Reads a rule as a tree."""
+
+    PATTERN = TOKEN
+
+    def __init__(self, text):
+        self.tokens, self.now, self.parts, self.blocks = tokens_of(text, self.PATTERN), None, 0, 0
+        self.names = {"clock": ("word", 0)}
+        self.next()
+
+    def next(self):
+        before, self.now = self.now, next(self.tokens, self.now)  # the last token stays
+        return before
+
+    def at(self, *texts):
+        return self.now.kind in ("word", "sign") and self.now.text in texts
+
+    def expect(self, text):
+        if not self.at(text):
+            raise unexpected(self.now, f'"{text}"')
+        return self.next()
+
+    def expect_kind(self, kind):
+        if self.now.kind != kind:
+            raise unexpected(self.now, KINDS[kind])
+        return self.next()
+
+    def within(self, read):
+        """Reads a part that is inside another one."""
+        self.parts += 1
+        if self.parts > MAX_PARTS:
+            raise Refused("TooDeep", self.now.place)
+        found = read()
+        self.parts -= 1
+        return found
+
+    # ---- names
+
+    def new_name(self):
+        token = self.next()
+        if token.kind != "name":
+            raise unexpected(token, "a new name")
+        if token.text in self.names:
+            raise Refused("NameTwice", token.place, f"{token.text} has a meaning already")
+        if len(self.names) > MAX_NAMES:
+            raise Refused("TooDeep", token.place)
+        return token.text
+
+    def in_scope(self, name, meaning, read):
+        self.names[name] = meaning
+        found = read()
+        del self.names[name]
+        return found
+
+    # ---- statements
+
+    def rule(self):
+        words = ["clock"]
+        while self.at("state"):
+            self.next()
+            while True:
+                name = self.new_name()
+                self.names[name] = "word", len(words)
+                words.append(name)
+                if not self.at(","):
+                    break
+                self.next()
+            self.expect_kind("end")
+        return Rule(words, self.statements_to("stop"))
+
+    def statements_to(self, kind):
+        """The statements of a block."""
+        made, names = [], list(self.names)
+        while self.now.kind != kind:
+            made.append(self.statement())
+        for name in [it for it in self.names if it not in names]:
+            del self.names[name]
+        return made
+
+    def statement(self):
+        if self.at("for"):
+            return self.loop()
+        if self.at("if"):
+            return self.choice()
+        found = self.simple()
+        self.expect_kind("end")
+        return found
+
+    def block(self):
+        self.expect(":")
+        if self.now.kind != "end":
+            names = list(self.names)
+            found = self.simple()
+            self.expect_kind("end")
+            for name in [it for it in self.names if it not in names]:
+                del self.names[name]
+            return [found]
+        self.next()
+        if self.now.kind == "stray":
+            raise Refused("Expected", self.now.place)
+        self.expect_kind("in")
+        self.blocks += 1
+        if self.blocks > MAX_PARTS:
+            raise Refused("TooDeep", self.now.place)
+        found = self.statements_to("out")
+        self.blocks -= 1
+        self.next()
+        return found
+
+    def loop(self):
+        place = self.next().place
+        name = self.new_name()
+        return Loop(name, self.in_scope(name, ("node", None), self.block), place)
+
+    def choice(self):
+        cases = []
+        while True:
+            self.next()
+            test = self.term()
+            cases.append((test, self.block()))
+            if not self.at("elif"):
+                break
+        if self.at("else"):
+            self.next()
+            cases.append((Number(1), self.block()))
+        return Cases(cases)
+
+    def simple(self):
+        if self.at("let"):
+            self.next()
+            name = self.new_name()
+            self.expect("=")
+            term = self.term()
+            self.names[name] = "let", None
+            return Let(name, term)
+        if self.at("send"):
+            return self.send(self.next().place)
+        return self.assignment()
+
+    def send(self, place):
+        term = self.term()
+        if not self.at("to"):
+            return Send(term, None, place)
+        self.next()
+        return Send(term, self.term(), place)
+
+    def assignment(self):
+        targets = [self.target([])]
+        while self.at(","):
+            self.next()
+            targets.append(self.target(targets))
+        self.expect("=")
+        terms = [self.term()]
+        for _ in targets[1:]:
+            self.expect(",")
+            terms.append(self.term())
+
+        return Assignment(targets, terms)
+
+    def target(self, before):
+        token = self.next()
+        if token.kind == "word" and token.text in FIXED:
+            raise Refused("NotAssignable", token.place, f"{token.text} can't be set")
+        if token.kind != "name" and not is_word(token, "clock"):
+            raise unexpected(token, "a name")
+        meaning = self.names.get(token.text)
+        if meaning is None:
+            raise Refused("UnknownName", token.place, f"unknown name {token.text}")
+        if meaning[0] == "node":
+            raise Refused("NotAssignable", token.place, f"{token.text} is the node of a loop")
+        if token.text in [it.text for it in before]:
+            raise Refused("NameTwice", token.place, f"{token.text} is set twice")
+        return Name(token.text, *meaning, token.place)
+
+    # ---- terms
+
+    def term(self):
+        return self.within(self.any_term)
+
+    def any_term(self):
+        if self.at("count"):
+            return self.count()
+        first = self.either()
+        if not self.at("if"):
+            return first
+        self.next()
+        test = self.either()
+        self.expect("else")
+        return Choice(test, first, self.term())
+
+    def count(self):
+        place = self.next().place
+        name = self.new_name()
+        self.expect(":")
+        return Count(name, self.in_scope(name, ("node", None), self.term), place)
+
+    def chain(self, part, signs):
+        """Parts with signs between them, from the left."""
+        made = part()
+        while self.at(*signs):
+            sign = self.next()
+            made = Binary(sign.text, made, part(), sign.place)
+        return made
+
+    def either(self):
+        return self.chain(self.both, ["or"])
+
+    def both(self):
+        return self.chain(self.inverse, ["and"])
+
+    def inverse(self):
+        if not self.at("not"):
+            return self.compare()
+        self.next()
+        return Inverse(self.within(self.inverse))
+
+    def compare(self):
+        left = self.sum()
+        if not self.at(*COMPARISONS):
+            return left
+        sign = self.next()
+        return Binary(sign.text, left, self.sum(), sign.place)
+
+    def sum(self):
+        return self.chain(self.product, ["+", "-"])
+
+    def product(self):
+        return self.chain(self.atom, PRODUCTS)
+
+    def atom(self):
+        token = self.next()
+        if token.kind == "number":
+            return Number(int(token.text))
+        if token.kind == "name" or is_word(token, "clock"):
+            return self.named(token)
+        if token.kind == "word" and token.text in FIXED:
+            return Given(token.text, token.place)
+        if is_word(token, "mail"):
+            self.expect("[")
+            sender = self.term()
+            self.expect("]")
+            return Mail(sender, token.place)
+        if token.kind == "sign" and token.text == "(":
+            inner = self.term()
+            self.expect(")")
+            return inner
+        raise unexpected(token, "a term, such as a number or a name")
+
+    def named(self, token):
+        meaning = self.names.get(token.text)
+        if meaning is None:
+            raise Refused("UnknownName", token.place, f"unknown name {token.text}")
+        return Name(token.text, *meaning, token.place)
