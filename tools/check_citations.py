@@ -121,10 +121,6 @@ def lines_in(path, pattern):
     return len(re.findall(pattern, read(TOP / path), re.M))
 
 
-def edits_of(crate):
-    return len(list((TOP / "crates" / crate / "must-fail").glob("*.edit")))
-
-
 def counted_names():
     """The names for which a page says what tools/believed.py counts."""
     return {names for path in PAGES for names in COUNTED.findall(joined(read(path)))}
@@ -142,8 +138,6 @@ def quoted_counts():
         command = re.escape(f"`tools/believed.py {names}`: ")
         yield "*", rf"{command}{NUMBER} definitions, {NUMBER} lines", {reached_lines(names.split())}
     yield "*", rf"{NUMBER} lines of trusted definitions and {NUMBER} apart", {believed_lines()}
-    for crate in crates():
-        yield "docs/DEVELOPING.md", rf"\| `{crate}` \|(?: [\w.]+ \|){{3}} {NUMBER} \|", {(edits_of(crate),)}
     for table in ("encodings", "results", "fields"):
         yield "vectors/README.md", rf"\| `{table}\.tsv` \| {NUMBER} \|", {(lines_in(f"vectors/{table}.tsv", "^.+$") - 1,)}
     for entries in ("kept", "scenarios"):

@@ -207,11 +207,24 @@ def own_clock():
 STATE_WIDE, STATES_Y = 34, 96
 
 
-def clocks_below(line):
-    """The correct clocks of each pulse in the report that docs/EXPLORE.md shows below a line, where there are any."""
+def report_below(line):
+    """The report that docs/EXPLORE.md shows below a line, in its block. The line is there once."""
     page = (TOP / "docs" / "EXPLORE.md").read_text(encoding="utf-8")
-    report = page[page.index(line) :].partition("```")[0]
-    return re.findall(r"^pulse \d+ clocks (\d[\d ]*\d) ", report, re.M)
+    assert page.count(line) == 1, f"docs/EXPLORE.md has {page.count(line)} times: {line}"
+    return page[page.index(line) :].partition("```")[0]
+
+
+def clocks_in(report):
+    """The clocks of the correct nodes, pulse by pulse."""
+    states = re.findall(r"^pulse \d+ clocks (\d[\d ]*\d) ", report, re.M)
+    assert len(states) == 3, f"docs/EXPLORE.md has {len(states)} pulses, and 3 are drawn: {report}"
+    return states
+
+
+def is_synchronised(before, after, modulus):
+    """Returns true if the clocks are equal after a pulse, and each advanced by one in it."""
+    clocks = list(zip(map(int, before.split()), map(int, after.split())))
+    return len({new for _, new in clocks}) == 1 and all(new == (old + 1) % modulus for old, new in clocks)
 
 
 def draw_clocks_at(canvas, x, clocks, style):
@@ -219,7 +232,8 @@ def draw_clocks_at(canvas, x, clocks, style):
 
 
 def draw_violation(canvas):
-    states = clocks_below("agreement violated in pulse 3")
+    states = clocks_in(report_below("agreement violated in pulse 3 (5 states)"))
+    assert len(set(states[-1].split()) - {"0"}) > 1, f"these clocks agree: {states[-1]}"
     canvas.text((16, 28), "A violation of agreement", Style(size=14, weight="bold", anchor="start"))
     canvas.arrow((20, STATES_Y), (54, STATES_Y), Style(GREY))
     for number, clocks in enumerate(states):
@@ -232,8 +246,11 @@ def draw_violation(canvas):
 
 
 def draw_lasso(canvas):
-    first, second, again = clocks_below("# pulses 2 to 3 repeat")
+    report = report_below("# pulses 2 to 3 repeat for ever")
+    first, second, again = clocks_in(report)
+    modulus = int(re.search(r" modulus (\d+)", report)[1])
     assert first == again
+    assert not is_synchronised(first, second, modulus) and not is_synchronised(second, again, modulus)
     canvas.text((440, 28), "Synchronisation prevented for ever", Style(size=14, weight="bold", anchor="start"))
     canvas.arrow((440, STATES_Y), (484, STATES_Y), Style(GREY))
     draw_clocks_at(canvas, 520, first, PLAIN)

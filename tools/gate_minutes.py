@@ -6,7 +6,10 @@ tool looks at the command's processes twice a second. A check is told by its com
 its tests, or one of an edit (with the proof that a crate's edits begin with). Then it prints the longest chain: the
 crates that wait for one another and whose proofs take longest together. Exits with the command's status.
 
-    tools/gate_minutes.py --chain docs/DEVELOPING.md    prints the longest chain by the rows of that page
+It keeps the minutes in out/gate_minutes.tsv, where a run replaces those of the crates that it checked:
+
+    tools/gate_minutes.py --rows     prints the rows and their sums again
+    tools/gate_minutes.py --chain    prints the longest chain by these rows
 """
 import os
 import pathlib
@@ -17,6 +20,7 @@ import sys
 import time
 
 TOP = pathlib.Path(__file__).resolve().parent.parent
+KEPT = TOP / "out" / "gate_minutes.tsv"
 CRATE = re.compile(r"--crate-name\0(\w+)\0")
 TICKS = os.sysconf("SC_CLK_TCK")
 KINDS = ("proof", "tests", "edits")
@@ -77,16 +81,34 @@ def cell(minutes):
     return f"{minutes:.1f}" if minutes else "none"
 
 
-def print_table(seen):
-    """Prints the rows of docs/DEVELOPING.md ("Minutes by crate")."""
+def minutes_by_crate(seen):
+    """The minutes of each kind of check, by crate."""
     minutes = {}
     for (_, crate, kind), seconds in seen.items():
         minutes.setdefault(crate, dict.fromkeys(KINDS, 0.0))[kind] += seconds / 60
+    return minutes
+
+
+def print_rows(minutes):
+    print("| Crate |", *(f"{kind.capitalize()} |" for kind in KINDS), "How many edits |")
     for crate, row in sorted(minutes.items(), key=lambda it: -sum(it[1].values())):
         print(f"| `{crate}` |", *(f"{cell(row[kind])} |" for kind in KINDS), f"{edits_of(crate) or 'none'} |")
     sums = (f"{kind} {sum(row[kind] for row in minutes.values()):.0f}" for kind in KINDS)
     print("gate_minutes: processor minutes:", ", ".join(sums))
-    print_chain({crate: row["proof"] for crate, row in minutes.items()})
+
+
+def kept():
+    """The minutes that earlier runs kept, or none."""
+    if not KEPT.is_file():
+        return {}
+    _, *rows = (line.split("\t") for line in KEPT.read_text(encoding="utf-8").splitlines())
+    return {crate: dict(zip(KINDS, map(float, row))) for crate, *row in rows}
+
+
+def keep(minutes):
+    rows = (f"{crate}\t" + "\t".join(f"{row[kind]:.3f}" for kind in KINDS) for crate, row in sorted(minutes.items()))
+    KEPT.parent.mkdir(exist_ok=True)
+    KEPT.write_text("\n".join(["\t".join(("crate", *KINDS)), *rows, ""]), encoding="utf-8")
 
 
 def crates_below():
@@ -109,25 +131,28 @@ def longest_chain(proofs):
     return max(map(end_at, below), default=(0.0, ()))
 
 
-def print_chain(proofs):
-    minutes, chain = longest_chain(proofs)
-    print(f"gate_minutes: longest chain: {minutes:.1f} minutes:", ", ".join(chain))
+def print_chain(minutes):
+    total, chain = longest_chain({crate: row["proof"] for crate, row in minutes.items()})
+    print(f"gate_minutes: longest chain: {total:.1f} minutes:", ", ".join(chain))
 
 
-def rows_of(page):
-    """The minutes of each crate's proof, as a page lists them."""
-    rows = re.findall(r"^\| `(\w+)` \| ([0-9.]+) \|", pathlib.Path(page).read_text(encoding="utf-8"), re.M)
-    return {name: float(minutes) for name, minutes in rows}
+def print_kept(printed):
+    minutes = kept()
+    if not minutes:
+        sys.exit(f"gate_minutes: {KEPT.relative_to(TOP)} has no rows: tools/gate_minutes.py rt ci measures them")
+    printed(minutes)
+    return 0
 
 
 def main(words):
-    if words[0] == "--chain":
-        print_chain(rows_of(words[1]))
-        return 0
+    if words in (["--rows"], ["--chain"]):
+        return print_kept(print_rows if words == ["--rows"] else print_chain)
     began = time.monotonic()
     with subprocess.Popen(words) as job:
-        seen = watch(job)
-    print_table(seen)
+        minutes = minutes_by_crate(watch(job))
+    print_rows(minutes)
+    print_chain(minutes)
+    keep({**kept(), **minutes})
     used = resource.getrusage(resource.RUSAGE_CHILDREN)
     processor, clock = (used.ru_utime + used.ru_stime) / 60, (time.monotonic() - began) / 60
     print(f"gate_minutes: {' '.join(words)} took {processor:.1f} minutes of processor time, {clock:.1f} by the clock")

@@ -1,6 +1,6 @@
 #!/usr/bin/env bash
-# Makes clockbed-VERSION.tar.gz: the built program with its manual page, examples, pages, the tools and READMEs that the
-# pages name, and a text that says what proved it. Made twice of one commit and one program it is the same, byte for byte.
+# Makes clockbed-VERSION.tar.gz: the built program with its manual page, the Python package, examples, pages, the tools
+# and READMEs that the pages name, and a text that says what proved it. Made twice of one commit and one program it is the same, byte for byte.
 #
 #   tools/release.sh [--deb] [FOLDER]      FOLDER is where the archive goes (here: the current folder)
 #
@@ -20,9 +20,12 @@ room=$(mktemp -d)
 trap 'rm -rf "$room"' EXIT
 umask 022
 
-packed=(README.md CHANGELOG.md CONTRIBUTING.md docs examples completions {benchmarks,rows,tools,vectors}/README.md)
-tools=(tools/{picture,play,plot,readings,built_program,distances,check_table,rule_meaning}.py tools/play.html
-  tools/{find,counter_formula,counter_rule,check_proof,worst_run}.py tools/README.md 'tools/lab*')
+packed=(README.md CHANGELOG.md CONTRIBUTING.md docs examples completions {benchmarks,rows,tools,vectors}/README.md
+  python/{clockbed,pyproject.toml,build_wheel.py})
+tools=(tools/{picture,play,plot,readings,built_program,distances,check_table,rule_meaning,rule_text}.py tools/play.html
+  tools/{python_package,exercises,grade}.py
+  tools/{find,counter_formula,counter_rule,check_proof,worst_run}.py
+  tools/{all_sizes,claims_text,quorum_formula,sketches,small_benches,symbolic}.py tools/README.md 'tools/lab*')
 
 say() {
   echo "release: $*" >&2

@@ -1,0 +1,147 @@
+#!/usr/bin/env python3
+"""Watches the built program on a terminal, and its threads: tools/check_progress.py [PROGRAM]
+
+- `explore` shows once a second how far it is, on one line that it writes over, and ends that line.
+- `sweep`, whose output is no terminal, shows seeds done, seeds a second and seconds left. These three must fit one another.
+- `run --workers 4` has more than one thread if the pulses are long, and `--workers 1` has one.
+"""
+import errno
+import os
+import pty
+import re
+import subprocess
+import sys
+import threading
+import time
+
+sys.dont_write_bytecode = True
+from built_program import SECONDS, TOP, named_program
+
+SEARCHED = re.compile(r"(\d+) states, (\d+) transitions, (\d+) s ")
+SWEPT = re.compile(r"(\d+) of (\d+) keys, (\d+) a second, (\d+) s left ")
+SEEDS = 40_000
+# The search for so many states of this bench takes seconds.
+STATES = 12_000
+SIXTEEN = """nodes = 16
+faults = 5
+modulus = 8
+memory = 8
+pulses = 10
+coins = "zeros"
+load = [{pulse = 1, nodes = [0, 1, 2, 3, 4, 5, 6, 7, 8, 9, 10], program = "clock"}]
+"""
+# 64 nodes with 2,048 instructions each: a pulse is long enough for threads.
+LONG = f"""version = 4
+nodes = 64
+faults = 1
+modulus = 8
+memory = 8
+pulses = 1000
+coins = "zeros"
+
+[[load]]
+pulse = 1
+nodes = {list(range(64))}
+program = "asm"
+text = '''
+mov64 r0, 0
+{"add64 r0, 1" + chr(10)}exit
+'''
+""".replace("add64 r0, 1\n", "add64 r0, 1\n" * 2046)
+
+
+def told_on_a_terminal(program, words, given):
+    """What a command writes to a terminal that is its standard error, while its output goes nowhere."""
+    master, terminal = pty.openpty()
+    with subprocess.Popen([program, *words], stdin=subprocess.PIPE, stdout=subprocess.DEVNULL, stderr=terminal) as job:
+        os.close(terminal)
+        limit = threading.Timer(SECONDS, job.kill)
+        limit.start()
+        job.stdin.write(given.encode())
+        job.stdin.close()
+        told = b""
+        while True:
+            try:
+                part = os.read(master, 65_536)
+            except OSError as error:
+                # The terminal's other end is closed.
+                if error.errno != errno.EIO:
+                    raise
+                break
+            told += part
+        limit.cancel()
+    os.close(master)
+    return told.decode()
+
+
+def search_faults(program):
+    told = told_on_a_terminal(program, ["explore", "--states", str(STATES)], SIXTEEN)
+    lines = told.split("\r")[1:]
+    counts = [tuple(map(int, found.groups())) for line in lines if (found := SEARCHED.match(line))]
+    if not counts:
+        yield f"explore told no progress: {told!r}"
+    seconds = [second for _, _, second in counts]
+    if seconds != sorted(set(seconds)):
+        yield f"explore told these seconds: {seconds}"
+    if counts != sorted(counts):
+        yield f"explore told fewer states or transitions than before: {counts}"
+    if counts and not told.endswith("\r\n"):
+        yield f"explore left its line open: {told[-80:]!r}"
+
+
+def fits(done, keys, rate, left):
+    """Whether some number of whole seconds gives the rate and the time left."""
+    latest = SECONDS if rate == 0 else done // rate + 1
+    return any(
+        rate == done // max(second, 1) and left == (keys - done) * second // max(done, 1) for second in range(latest + 1)
+    )
+
+
+def sweep_faults(program):
+    given = (TOP / "examples/chacha.toml").read_text(encoding="utf-8")
+    told = told_on_a_terminal(program, ["sweep", "--keys", f"1..{SEEDS}"], given)
+    rows = [tuple(map(int, found.groups())) for found in SWEPT.finditer(told)]
+    if not rows or rows[-1][:2] != (SEEDS, SEEDS):
+        yield f"sweep told of no end: {rows[-1:]}"
+    for row in rows:
+        if not fits(*row):
+            yield "sweep told %d of %d keys, %d a second, %d s left" % row
+            break
+    if rows and max(left for _, _, _, left in rows) == 0:
+        yield "sweep took less than a second: take more seeds"
+
+
+def most_threads(program, workers):
+    """The most threads that are seen of a run on so many workers."""
+    seen = 0
+    words = [program, "run", "--workers", str(workers)]
+    with subprocess.Popen(words, stdin=subprocess.PIPE, stdout=subprocess.DEVNULL) as job:
+        job.stdin.write(LONG.encode())
+        job.stdin.close()
+        while job.poll() is None:
+            try:
+                seen = max(seen, len(os.listdir(f"/proc/{job.pid}/task")))
+            except FileNotFoundError:
+                break
+            time.sleep(0.001)
+    return seen
+
+
+def thread_faults(program):
+    for workers, wanted in [(1, "one thread"), (4, "more than one thread")]:
+        seen = most_threads(program, workers)
+        if (seen > 1) != (workers > 1):
+            yield f"run --workers {workers} had {seen} threads in place of {wanted}"
+
+
+def main():
+    program = named_program()
+    faults = [*search_faults(program), *sweep_faults(program), *thread_faults(program)]
+    for fault in faults:
+        print(fault)
+    print(f"check_progress: a search, a sweep of {SEEDS} seeds and two runs: {len(faults)} faults")
+    return 1 if faults else 0
+
+
+if __name__ == "__main__":
+    sys.exit(main())
