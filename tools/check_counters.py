@@ -4,12 +4,15 @@
 Each scenario is explored by the command in its second line, once for each set of Byzantine nodes. In all of them it
 must stabilise within the K pulses that docs/COUNTERS.md names, and in no fewer if the last nodes are Byzantine. The
 table there must name its sizes, slots and steps, and no other scenario. With one wrong entry in its table `explore`
-must say that stabilisation can be prevented. Without a solver tools/find.py must name the package. If one is there,
-or can be installed, tools/find.py must find the counter of three states, and a checked proof that two aren't enough.
-PROGRAM is as for check_rows.py.
+must say that stabilisation can be prevented. Randomised counters must have the bound on the mean that the page names,
+and none if a coin becomes 0; tools/find_randomised.py must find that of four nodes. Without a solver tools/find.py must
+name the package. If one is there, or can be installed, tools/find.py must find the counter of three states, and a
+checked proof that two aren't enough; by counterexamples it must find a counter of three correct nodes, and none of two
+states for four. PROGRAM is as for check_rows.py.
 """
 import itertools
 import os
+import pathlib
 import re
 import shutil
 import subprocess
@@ -21,13 +24,16 @@ sys.dont_write_bytecode = True
 from built_program import TOP, answer, named_program, on_all_processors, tell
 
 COUNTERS, PAGE = TOP / "examples/counters", TOP / "docs/COUNTERS.md"
-ROW = re.compile(r"^\| \[(\w+)\]\(\.\./examples/counters/\1\.toml\) \|(.+)\|$", re.M)
+ROW = re.compile(r"^\| \[(n\w+)\]\(\.\./examples/counters/\1\.toml\) \|(.+)\|$", re.M)
 ASK = re.compile(r"^# Ask: (explore .+)$", re.M)
 LOADED = re.compile(r"^nodes = \[.*\]$", re.M)
 KNOWN = re.compile(r"^(?=(?:mine|clock) = now$)", re.M)
 STABILISES = re.compile(rb"^stabilises within (\d+) pulses$", re.M)
 PREVENTED = b"# stabilisation can be prevented for ever"
 SOLVERS = ("cadical", "kissat", "minisat")
+COINS = "coins_*.toml"
+COIN_ROW = re.compile(r"^\| \[(coins_\w+)\]\(\.\./examples/counters/\1\.toml\) \|.*\| ([\d.]+) \|$", re.M)
+MEAN = re.compile(rb"^mean: at most ([\d.]+) pulses", re.M)
 
 
 def rows():
@@ -81,7 +87,7 @@ def sizes_differ(program, name, sizes, row):
 
 def tasks():
     """Each scenario with each set of Byzantine nodes, then its sizes, and then a wrong entry."""
-    for path in sorted(COUNTERS.glob("*.toml")):
+    for path in sorted(set(COUNTERS.glob("*.toml")) - set(COUNTERS.glob(COINS))):
         sizes = tomllib.loads(path.read_text(encoding="utf-8"))
         for byzantine in itertools.combinations(range(sizes["nodes"]), sizes["faults"]):
             yield path.stem, byzantine
@@ -89,12 +95,42 @@ def tasks():
         yield path.stem, "wrong"
 
 
+# ---- randomised counters
+
+
+def coin_faults(program):
+    """Differences of the randomised counters: their means, and what remains of one without its coins."""
+    named = dict(COIN_ROW.findall(PAGE.read_text(encoding="utf-8")))
+    paths = sorted(COUNTERS.glob(COINS))
+    names = [it.stem for it in paths]
+    if sorted(named) != names:
+        yield f"docs/COUNTERS.md names the randomised counters {sorted(named)}, and there are {names}"
+    for path in paths:
+        text = path.read_text(encoding="utf-8")
+        told = explored(program, text)
+        mean = (MEAN.search(told.out) or [b"", b""])[1].decode()
+        if told.status or mean != named.get(path.stem):
+            yield f"{path.stem}: docs/COUNTERS.md has the mean {named.get(path.stem)}: {told}"
+        told = explored(program, text.replace("clock = coin", "clock = 0"))
+        if told.status != 3 or PREVENTED not in told.out:
+            yield f"{path.stem}: without its coins: {told}"
+
+
+def randomised_faults(program):
+    """What tools/find_randomised.py finds for four nodes."""
+    with tempfile.TemporaryDirectory() as room:
+        told = find(program, room, ["4", "1"], script="find_randomised.py")
+        made = pathlib.Path(room) / "coins_n4f1.toml"
+        if told[0] or made.read_bytes() != (COUNTERS / made.name).read_bytes():
+            yield f"find_randomised.py 4 1: {told}"
+
+
 # ---- the search
 
 
-def find(program, room, words, path=None):
+def find(program, room, words, path=None, script="find.py"):
     told = subprocess.run(
-        [sys.executable, str(TOP / "tools/find.py"), *words, "--keep", room],
+        [sys.executable, str(TOP / "tools" / script), *words, "--keep", room],
         env={**os.environ, "CLOCKBED_PROGRAM": program, **({"PATH": path} if path else {})},
         capture_output=True, text=True,
     )
@@ -118,6 +154,12 @@ def search_faults(program):
         told = find(program, room, ["4", "1", "3", "2", "--rounds", "6"])
         if told[0] or "\nstabilises within 7 pulses\n" not in told[1]:
             yield f"find.py 4 1 3 2: {told}"
+        told = find(program, room, ["3", "0", "2", "2", "--rounds", "1", "--by-counterexamples"])
+        if told[0] or "\nstabilises within " not in told[1] or " 0 counterexamples" in told[1]:
+            yield f"find.py 3 0 2 2 by counterexamples: {told}"
+        told = find(program, room, ["4", "1", "2", "2", "--rounds", "3", "--by-counterexamples"])
+        if told[0] != 1 or "within 3 rounds: none" not in told[1]:
+            yield f"find.py 4 1 2 2 by counterexamples: {told}"
         if not shutil.which("cadical"):
             return
         told = find(program, room, ["4", "1", "2", "2", "--tables", "4", "--rounds", "8", "--proof", room])
@@ -130,7 +172,7 @@ def main():
     names = {name for name, _ in tried}
     found = [f"docs/COUNTERS.md and examples/counters/: {it} is in one alone" for it in sorted(names ^ set(table))]
     found += on_all_processors(differences_of(program, table), [it for it in tried if it[0] in table])
-    found += search_faults(program)
+    found += [*coin_faults(program), *randomised_faults(program), *search_faults(program)]
     return tell("check_counters", {"counters": len(names), "explorations": len(tried) - len(names)}, found)
 
 

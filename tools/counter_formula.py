@@ -92,38 +92,58 @@ def heard_by(counter, correct, configuration, byzantine):
         yield heard
 
 
-def add_reached(formula, counter, entries, correct, byzantine, configuration):
+def add_reached(formula, counter, entries, ranks, configuration):
     """A variable for each correct node and state: the node may take this state after the configuration."""
-    reached = {(node, state): formula.variable() for node in correct for state in range(counter.states)}
-    for heard in heard_by(counter, correct, configuration, byzantine):
+    reached = {(node, state): formula.variable() for node in ranks.correct for state in range(counter.states)}
+    for heard in heard_by(counter, ranks.correct, configuration, ranks.byzantine):
         for (node, state), variable in reached.items():
             formula.add(-entries[(*counter.cell(node, heard), state)], variable)
     return reached
 
 
+class Ranks:
+    """For one set of Byzantine nodes: the variables that say within how many rounds each configuration counts."""
+
+    def __init__(self, formula, counter, byzantine, rounds):
+        self.formula, self.counter, self.byzantine, self.rounds = formula, counter, byzantine, rounds
+        self.correct = [it for it in range(counter.nodes) if it not in byzantine]
+        self.configurations = list(itertools.product(range(counter.states), repeat=len(self.correct)))
+        self.counts = {(k, it): formula.variable() for it in self.configurations for k in range(rounds + 1)}
+
+    def add_bounds(self, one):
+        """Clauses: the configuration counts within the rounds; and if within k, then within k + 1."""
+        self.formula.add(self.counts[self.rounds, one])
+        for k in range(self.rounds):
+            self.formula.add(-self.counts[k, one], self.counts[k + 1, one])
+
+    def add_shown(self, one, reached):
+        """Clauses: if the configuration counts, all nodes show one count, and take states that show the next one."""
+        shown = {self.counter.shows[it] for it in one}
+        if len(shown) > 1:
+            self.formula.add(-self.counts[0, one])
+            return
+        following = (shown.pop() + 1) % self.counter.modulus
+        for (_, state), variable in reached.items():
+            if self.counter.shows[state] != following:
+                self.formula.add(-self.counts[0, one], -variable)
+
+    def add_transition(self, one, other, reached):
+        """Clauses: if the nodes may take the states of the other configuration, it counts a round sooner."""
+        transition = [-reached[it] for it in zip(self.correct, other)]
+        self.formula.add(*transition, -self.counts[0, one], self.counts[0, other])
+        for k in range(self.rounds):
+            self.formula.add(*transition, -self.counts[k + 1, one], self.counts[k, other])
+
+
 def add_transitions(formula, counter, entries, byzantine, rounds):
     """Clauses for one set of Byzantine nodes: each transition leads to a configuration that counts a round sooner."""
-    correct = [it for it in range(counter.nodes) if it not in byzantine]
-    configurations = list(itertools.product(range(counter.states), repeat=len(correct)))
-    counts = {(k, it): formula.variable() for it in configurations for k in range(rounds + 1)}
-    for one in configurations:
-        formula.add(counts[rounds, one])
-        for k in range(rounds):
-            formula.add(-counts[k, one], counts[k + 1, one])
-        reached = add_reached(formula, counter, entries, correct, byzantine, one)
-        shown = {counter.shows[it] for it in one}
-        if len(shown) > 1:
-            formula.add(-counts[0, one])
-        else:
-            following = (shown.pop() + 1) % counter.modulus
-            for (_, state), variable in reached.items():
-                if counter.shows[state] != following:
-                    formula.add(-counts[0, one], -variable)
-        for other in configurations:
-            transition = [-reached[it] for it in zip(correct, other)]
-            formula.add(*transition, -counts[0, one], counts[0, other])
-            for k in range(rounds):
-                formula.add(*transition, -counts[k + 1, one], counts[k, other])
+    ranks = Ranks(formula, counter, byzantine, rounds)
+    for one in ranks.configurations:
+        ranks.add_bounds(one)
+        reached = add_reached(formula, counter, entries, ranks, one)
+        ranks.add_shown(one, reached)
+        for other in ranks.configurations:
+            ranks.add_transition(one, other, reached)
 
 
 def encoded(counter, rounds):

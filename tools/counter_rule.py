@@ -123,8 +123,9 @@ def layered_rule(counter, tables, write):
     return "\n".join([*lines, "send mine", ""])
 
 
-def scenario_of(counter, rule, title, modulus):
-    """A scenario whose first nodes run the rule. The others have no program, so they are Byzantine."""
+def scenario_of(counter, rule, title, modulus, correct=None):
+    """A scenario whose correct nodes, the first ones unless they are named, run the rule. The others have no program, so
+    they are Byzantine."""
     return f"""# {title}
 # Ask: explore --ask stabilisation --mail all --start every
 version = 4
@@ -139,6 +140,6 @@ rule = '''
 
 [[load]]
 pulse = 1
-nodes = {list(range(counter.nodes - counter.faults))}
+nodes = {correct or list(range(counter.nodes - counter.faults))}
 program = "clock"
 """

@@ -27,6 +27,7 @@ import time
 sys.dont_write_bytecode = True
 from built_program import TOP
 from counter_formula import Counter, encoded, evenly, tables_of
+from counter_refinement import Refinement
 from counter_rule import by_digits, by_ranges, rule_of, scenario_of
 
 FOUND, NONE, UNDECIDED = "found", "none", "not decided"
@@ -120,6 +121,49 @@ def try_rounds(counter, rounds, options, solver):
     return verdict, seconds, tables_of(counter, entries, true) if verdict == FOUND else None
 
 
+def explored(counter, tables, byzantine):
+    """The answer of `explore` on tables with these Byzantine nodes, as JSON."""
+    correct = [it for it in range(counter.nodes) if it not in byzantine]
+    rule = rule_of(counter, tables, by_digits)
+    text = scenario_of(counter, rule, "Tables of the search.", counter.modulus, correct)
+    _, out, err = program([*ASK, "--json"], text.encode())
+    if not out.startswith(b"{"):
+        sys.exit(f"find.py: no answer on the tables of the search: {out.decode().strip()} {err.strip()}")
+    return json.loads(out)
+
+
+def refuted(counter, refinement, tables):
+    """Adds the first counterexample to these tables to the formula; says whether there is one."""
+    for byzantine in counter.byzantine:
+        answer = explored(counter, tables, byzantine)
+        if answer["stabilisation"] == "certain":
+            continue
+        told = program(["run", "--json"], answer["scenario"].encode())[1] if answer["scenario"] else b""
+        if not refinement.refine(byzantine, tables, answer["scenario"], told):
+            sys.exit(f"find.py: the answer of explore shows no new transition: {answer}")
+        return True
+    return False
+
+
+def try_by_counterexamples(counter, rounds, options, solver):
+    """As `try_rounds`, but the formula has only the transitions of the counterexamples to earlier tables."""
+    begun, shown, tables, verdict = time.monotonic(), 0, None, UNDECIDED
+    refinement = Refinement(counter, rounds)
+    with tempfile.TemporaryDirectory() as room:
+        path = pathlib.Path(room) / "refined.cnf"
+        while (left := options.seconds - (time.monotonic() - begun)) >= 1:
+            refinement.formula.write(path)
+            verdict, true = solved(solver, path, int(left))
+            tables = tables_of(counter, refinement.entries, true) if verdict == FOUND else None
+            if verdict != FOUND or not refuted(counter, refinement, tables):
+                break
+            shown, verdict = shown + 1, UNDECIDED
+    seconds, whole = time.monotonic() - begun, refinement.formula
+    sizes = f"{shown} counterexamples, {len(refinement.shown)} transitions, {len(whole.clauses)} clauses"
+    print(f"{within(rounds)}: {verdict} ({sizes}, {seconds:.1f} s)", flush=True)
+    return verdict, seconds, tables if verdict == FOUND else None
+
+
 def search(counter, options, solver):
     """The tables of the first number of rounds that has some, or None."""
     path = options.keep / f"{name_of(counter)}.progress"
@@ -130,7 +174,8 @@ def search(counter, options, solver):
         if rounds in known:
             print(f"{within(rounds)}: {known[rounds]['verdict']} (earlier, {known[rounds]['seconds']:.1f} s)")
             continue
-        verdict, seconds, tables = try_rounds(counter, rounds, options, solver)
+        attempt = try_by_counterexamples if options.by_counterexamples else try_rounds
+        verdict, seconds, tables = attempt(counter, rounds, options, solver)
         keep(path, {"rounds": rounds, "verdict": verdict, "seconds": seconds, "limit": options.seconds})
         if tables:
             path.unlink()
@@ -221,6 +266,9 @@ def parsed(words):
     parser.add_argument("--keep", type=pathlib.Path, default=".", help="folder to write into [default: .]")
     parser.add_argument("--resume", action="store_true", help="skip formulas that an earlier search decided")
     parser.add_argument("--proof", help="folder for formulas without a solution and their DRAT proofs")
+    parser.add_argument(
+        "--by-counterexamples", action="store_true", help="build the formula from counterexamples of explore"
+    )
     options = parser.parse_args(words)
     options.shows = options.shows or evenly(options.states, options.modulus)
     fault = fault_of(options)
@@ -240,6 +288,8 @@ def fault_of(options):
         return f"--tables {options.tables} doesn't divide {nodes} nodes"
     if options.tables * states**nodes > MAX_CELLS:
         return f"{options.tables} tables of {states}^{nodes} cells exceed {MAX_CELLS} cells"
+    if options.by_counterexamples and options.proof:
+        return "--proof keeps whole formulas: leave out --by-counterexamples"
     if len(options.shows) != states or set(options.shows) != set(range(modulus)):
         return f"--shows needs {states} numbers, among them each from 0 to {modulus - 1} and no other"
     return ""
