@@ -29,6 +29,7 @@ from http import HTTPStatus
 
 sys.dont_write_bytecode = True
 from built_program import BUILT, TOP
+from lab_states import MAX_MEMORY, bench_of, following
 from picture import COLOURS
 
 PAGE = pathlib.Path(__file__).resolve().parent / "lab"
@@ -57,8 +58,11 @@ USUAL_PORT = 8642
 OPEN_FILES = {"": "link.html", "link.js": "link.js", "kept.js": "kept.js"}
 PROCESSES = max(2, os.cpu_count() or 2)
 WORD = 1 << 32
-MAX_KEY, MAX_STATES, MAX_NODES, MAX_MEMORY, MAX_PULSES, MAX_MODULUS = (1 << 63) - 1, 10**9, 64, 256, 1000, 65536
-MAX_ODDS, MAX_NEXT = 100_000, 128
+MAX_KEY, MAX_STATES, MAX_NODES, MAX_PULSES, MAX_MODULUS = (1 << 63) - 1, 10**9, 64, 1000, 65536
+MAX_ODDS, MAX_NEXT, MAX_FOLLOWING = 100_000, 256, 20_000
+FINISHED = (0, 3)
+# The script that decides claims about all sizes (docs/ALL_SIZES.md).
+ALL_SIZES = "all_sizes.py"
 # What the page may load and do: its own files and requests, and nothing else.
 POLICY = (
     "default-src 'none'; script-src 'self'; style-src 'self'; connect-src 'self'; img-src 'self' data:;"
@@ -110,6 +114,18 @@ class Limit:
         return f"took more than {self.seconds:g} seconds, the limit of this lab, and was ended: {raised}"
 
 
+def is_script(words):
+    return words[0] == ALL_SIZES
+
+
+def end_group(process):
+    """Ends what a script has started: it is a group of its own. The program starts nothing, and has no group."""
+    try:
+        os.killpg(process, signal.SIGKILL)
+    except (ProcessLookupError, PermissionError):
+        pass
+
+
 class Jobs:
     """The processes of the program: a few at once, each with a time limit."""
 
@@ -118,7 +134,8 @@ class Jobs:
         self.lock, self.running, self.is_closed = threading.Lock(), set(), False
 
     def run(self, words, given, limit, is_gone):
-        """Runs the program on this input, once there is a place. Ends it if the page that asked is gone."""
+        """Runs the program on this input, once there is a place. Ends it if the page that asked is gone. If the first
+        word is a script of this folder, that is run."""
         self.take_place(is_gone)
         try:
             with tempfile.TemporaryFile() as source, tempfile.TemporaryFile() as out, tempfile.TemporaryFile() as err:
@@ -127,7 +144,7 @@ class Jobs:
                 process = self.start(words, stdin=source, stdout=out, stderr=err)
                 try:
                     ended = self.wait(process, out, limit, is_gone)
-                    ended = ended and f"clockbed {words[0]} {ended}"
+                    ended = ended and f"{words[0] if is_script(words) else f'clockbed {words[0]}'} {ended}"
                 finally:
                     self.end(process)
                 out.seek(0)
@@ -145,7 +162,11 @@ class Jobs:
         with self.lock:
             if self.is_closed:
                 raise ConnectionAbortedError
-            process = subprocess.Popen(["clockbed", *words], executable=self.program, **streams)
+            if is_script(words):
+                command = [sys.executable, str(TOP / "tools" / words[0]), *words[1:]]
+                process = subprocess.Popen(command, start_new_session=True, **streams)
+            else:
+                process = subprocess.Popen(["clockbed", *words], executable=self.program, **streams)
             self.running.add(process)
         return process
 
@@ -175,6 +196,7 @@ class Jobs:
     def end(self, process):
         if process.poll() is None:
             process.kill()
+            end_group(process.pid)
         process.wait()
         with self.lock:
             self.running.discard(process)
@@ -351,6 +373,13 @@ def text(body, name, pattern=r"(?s).*"):
     return value
 
 
+def nodes(body, name):
+    value = body.get(name)
+    if not isinstance(value, list) or not value or not all(type(it) is int and 0 <= it < MAX_NODES for it in value):
+        raise Refusal(HTTPStatus.BAD_REQUEST, f"{name} is a list of nodes")
+    return sorted(set(value))
+
+
 def outline(line):
     """A pulse without what each node holds and sent, which is most of it. Members come in the order of their names."""
     memory, pulse, sent, settled = (line.index(b',"%s":' % it) for it in (b"memory", b"pulse", b"sent", b"settled"))
@@ -368,7 +397,8 @@ class Lab:
         self.questions = {
             "begin": self.begin, "open": self.open, "save": self.save, "run": self.run, "pulses": self.pulses,
             "verify": self.verify, "compile": self.compile, "trace": self.trace, "program": self.program,
-            "next": self.next, "explore": self.explore, "sweep": self.sweep,
+            "next": self.next, "transitions": self.transitions, "explore": self.explore, "sweep": self.sweep,
+            "claims": self.claims,
         }
 
     def shown_examples(self):
@@ -434,6 +464,28 @@ class Lab:
                 break
         return {"answers": [it.told() for it in answers]}
 
+    def transitions(self, body, is_gone):
+        """The clocks that `explore` has after the state of a pulse, or why it has none."""
+        pulse, correct, free = number(body, "pulse", 1, MAX_PULSES - 1), nodes(body, "correct"), nodes(body, "free")
+        words = ["run", "--json", f"--from={pulse}", f"--until={pulse}"]
+        told, programs = self.asked(words, body, self.run_limit, is_gone), {}
+        if told.status != 0 or told.ended:
+            return told.told()
+        frame, state = map(json.loads, told.out.splitlines()[:2])
+        if frame["memory"] == MAX_MEMORY:
+            return {"why": f"each node has {MAX_MEMORY} bytes of memory, and the search needs more"}
+        for node in correct:
+            told = self.asked(["dis", f"--node={pulse + 1}:{node}"], body, self.run_limit, is_gone)
+            programs[node] = told.out.decode()
+        bench = bench_of(frame, state, programs, free).encode()
+        mail = text(body, "mail", "[0-9.,]+")
+        words = ["explore", "--ask=stabilisation", "--graph=dot", f"--states={MAX_FOLLOWING}", f"--mail={mail}"]
+        told = self.jobs.run(words, bench, self.run_limit, is_gone)
+        if told.ended or told.status not in FINISHED:
+            return {"why": told.ended or told.out.decode().strip().splitlines()[-1]}
+        loaded = [it for it in range(frame["nodes"]) if it not in free]
+        return {"why": "", "clocks": following(told.out.decode(), loaded, correct)}
+
     @staticmethod
     def shape(body):
         return [f"--nodes={number(body, 'nodes', 1, MAX_NODES)}", f"--memory={number(body, 'memory', 8, MAX_MEMORY)}"]
@@ -481,6 +533,16 @@ class Lab:
         elif "start" in body:
             words.append(f"--start={text(body, 'start', 'every')}")
         return self.asked(words, body, self.search_limit, is_gone).told()
+
+    def claims(self, body, is_gone):
+        """What tools/all_sizes.py says of claims about a rule, and the scenario of the first that it refutes."""
+        with tempfile.TemporaryDirectory() as room:
+            rule, claims, found = (pathlib.Path(room) / it for it in ("clock.rule", "page.claims", "refuted.toml"))
+            rule.write_text(text(body, "rule"), encoding="utf-8", errors="replace")
+            claims.write_text(text(body, "claims"), encoding="utf-8", errors="replace")
+            words = [ALL_SIZES, "--scenario", str(found), str(rule), str(claims)]
+            told = self.jobs.run(words, b"", self.search_limit, is_gone).told()
+            return {**told, "scenario": found.read_text(encoding="utf-8") if found.exists() else None}
 
     def sweep(self, body, is_gone):
         first = number(body, "first", 0, MAX_KEY)

@@ -9,6 +9,7 @@ Without a browser the page is not tried, and a line says so. The script installs
 """
 import argparse
 import http.client
+import itertools
 import json
 import os
 import pathlib
@@ -187,8 +188,11 @@ def try_rejections(trial, lab):
         trial.holds(f"{path} is open and has no token", status == 200 and lab.token not in told, (status, told))
         trial.equal(f"{path} by another Host", lab.request(path, method="GET", Host="evil.example")[0], 403)
     trial.equal("no text to run", lab.ask("next", texts=[], pulse=1)[0], 400)
-    trial.equal("too many texts", lab.ask("next", texts=[FOUR] * 129, pulse=1)[0], 400)
+    trial.equal("too many texts", lab.ask("next", texts=[FOUR] * 257, pulse=1)[0], 400)
     trial.equal("a text that is none", lab.ask("next", texts=[1], pulse=1)[0], 400)
+    for name, value in {"correct": [], "free": [64], "mail": "--json", "pulse": 0}.items():
+        asked = {"text": FOUR, "pulse": 1, "correct": [0, 1, 2], "free": [3], "mail": "0..8", name: value}
+        trial.equal(f"transitions with {name} {value}", lab.ask("transitions", **asked)[0], 400)
 
 
 def try_folder(trial, lab, folder):
@@ -897,6 +901,29 @@ def try_own_clock(trial, page):
     page.value("document.getElementById('why').open = false")
 
 
+def next_of(row):
+    """The clocks of a row of next states of the attack in pulse 2, and what its choice adds to the scenario."""
+    clocks, sent, coins = re.match(r"clocks (.*), agree \w+: node 2 sends ([^;]*)(.*)", row).groups()
+    messages = dict(reversed(it.split(" to ")) for it in sent.split(", "))
+    values = [-1 if messages.get(str(to), "none") == "none" else int(messages[str(to)]) for to in range(3)]
+    edit = f'\n[[load]]\npulse = 2\nnodes = [2]\nprogram = "say"\nvalues = {values}\n'
+    for coin, node in re.findall(r"coin (\d) of node (\d)", coins):
+        edit += f"\n[[coin]]\npulse = 3\nnode = {node}\nvalue = {coin}\n"
+    return clocks, edit
+
+
+def next_clocks(scenario):
+    """The clocks of nodes 0 and 1 in pulse 3, for all messages of node 2 in pulse 2 and all coins."""
+    found = set()
+    for one, other, coins in itertools.product(range(-1, 9), range(-1, 9), ((0, 0), (0, 1), (1, 0), (1, 1))):
+        edit = f'\n[[load]]\npulse = 2\nnodes = [2]\nprogram = "say"\nvalues = [{one}, {other}, -1]\n'
+        for node, coin in enumerate(coins):
+            edit += f"\n[[coin]]\npulse = 3\nnode = {node}\nvalue = {coin}\n"
+        told = lines_of(scenario + edit)[1][2]["clocks"]
+        found.add(f"{told[0]} {told[1]}")
+    return found
+
+
 def try_next(trial, page):
     """Each next state is what the program answers, a click takes it, and one undo takes it back."""
     attack(page)
@@ -905,22 +932,65 @@ def try_next(trial, page):
     page.value("document.getElementById('next-part').open = true")
     page.click("#next")
     trial.holds("next states are shown", page.until("document.querySelector('#nexts li')"), page.text("#nexts"))
-    rows = page.texts("#nexts li")
+    rows = page.texts("#nexts li span")
     for row in rows:
-        clocks, sent = re.match(r"Take clocks (.*), agree .*: sends (.*) \(", row).groups()
-        messages = dict(reversed(it.split(" to ")) for it in sent.split(", "))
-        values = [-1 if messages.get(str(to), "none") == "none" else int(messages[str(to)]) for to in range(3)]
-        load = f'\n[[load]]\npulse = 2\nnodes = [2]\nprogram = "say"\nvalues = {values}\n'
-        told = lines_of(before + load)[1][2]["clocks"]
-        trial.equal(f"the next state of {values}", clocks, f"{told[0]} {told[1]}")
-    trial.equal("a state is shown once", len(rows), len({it.split(", agree")[0] for it in rows}))
+        clocks, edit = next_of(row)
+        told = lines_of(before + edit)[1][2]["clocks"]
+        trial.equal(f"the next state of {row}", clocks, f"{told[0]} {told[1]}")
+    shown = {next_of(it)[0] for it in rows}
+    trial.equal("the next states are those of all messages and coins", shown, next_clocks(before))
+    trial.equal("a state is shown once", len(rows), len(shown))
     page.click("#nexts li:last-child button")
     trial.holds("a choice is taken", page.until("lab.state.at === 3 && !lab.state.isStale"), page.text("#where"))
-    wanted = re.match(r"Take clocks (.*), agree", rows[-1])[1].split()
+    wanted = next_of(rows[-1])[0].split()
     trial.equal("it leads there", [it for it, _, _ in ring(page)][:2], wanted)
     page.click("#undo")
     trial.equal("one undo takes it back", page.scenario(), before)
     page.value("document.getElementById('next-part').open = false")
+
+
+def decided(rule, claims):
+    """What tools/all_sizes.py prints for these claims, as lines."""
+    with tempfile.TemporaryDirectory() as room:
+        paths = [pathlib.Path(room) / it for it in ("clock.rule", "page.claims")]
+        for path, text in zip(paths, (rule, claims)):
+            path.write_text(text, encoding="utf-8")
+        words = [sys.executable, str(TOP / "tools/all_sizes.py"), *map(str, paths)]
+        return subprocess.run(words, capture_output=True, text=True, check=False).stdout.strip().split("\n")
+
+
+def try_sizes(trial, page):
+    """The theorem answers for the built-in clock alone, and claims have the answers of tools/all_sizes.py."""
+    page.open((EXAMPLES / "explore/four_nodes.toml").read_text())
+    page.click("#sizes-tab")
+    page.click("#theorem")
+    trial.holds("the theorem is shown", page.until("document.querySelector('#theorem-said .answer')"))
+    wanted = asked(["explore", "--states", "1"], page.scenario()).strip().split("\n")
+    trial.equal("it is what explore says", page.texts("#theorem-said p"), wanted)
+    page.click("#decide")
+    trial.holds("a clock without a rule is told", page.until(shows("#decided", "has no rule")), page.text("#decided"))
+    page.open(page.value("lab.start"))
+    page.click("#theorem")
+    trial.holds("no theorem is told", page.until(shows("#theorem-said", "No theorem")), page.text("#theorem-said"))
+    if tomllib is None:
+        return
+    claims, rule = page.value("document.getElementById('claims').value"), tomllib.loads(page.scenario())["rule"]
+    for text in (claims, claims.replace("3 * f", "2 * f"), claims.replace("p.clock ==", "p.clok ==")):
+        page.put("#claims", text)
+        page.click("#decide")
+        page.until("document.getElementById('decide-cancel').disabled")
+        lines = page.texts("#decided p")
+        trial.equal("the answer to a claim", lines[: len(decided(rule, text))], decided(rule, text))
+        if page.value("Boolean(document.getElementById('refutation'))"):
+            page.click("#refutation")
+            trial.holds("a counterexample runs", page.is_shown() and "# Byzantine" in page.scenario(), page.scenario())
+            page.open(page.value("lab.start"))
+    page.put("#claims", claims)
+    page.click("#node-tab")
+
+
+def shows(selector, words):
+    return f"document.querySelector({json.dumps(selector)}).textContent.includes({json.dumps(words)})"
 
 
 def try_time(trial, page):
@@ -1004,7 +1074,7 @@ def try_exploration(trial, page):
     trial.equal("the nodes that diverge", page.value("[...document.querySelectorAll('#ring .diverging')].length"), 2)
     page.choose("#speed", "5")
     page.click("#play")
-    trial.holds("it plays to the end", page.until("lab.state.at === 2") and page.until("lab.state.at === 3"))
+    trial.holds("it plays to the end", page.until("lab.state.at >= 2") and page.until("lab.state.at === 3"))
     trial.holds("and stops there", page.until("document.getElementById('play').textContent === 'Play'"))
     try_lasso(trial, page)
     try_counter(trial, page)
@@ -1455,7 +1525,7 @@ def try_page(trial, options):
     page = Page(room / "user", lab)
     parts = [
         (try_class, ()), (try_attack, ()), (try_typing, ()), (try_notes, ()), (try_limit, (folder,)), (try_hands, ()),
-        (try_rules, ()), (try_own_clock, ()), (try_next, ()), (try_time, ()), (try_editor, ()), (try_steps, ()),
+        (try_rules, ()), (try_own_clock, ()), (try_next, ()), (try_sizes, ()), (try_time, ()), (try_editor, ()), (try_steps, ()),
         (try_exploration, ()), (try_cancel, (lab,)), (try_program, ()), (try_sweep, ()), (try_hostile, ()),
         (try_files, (folder,)), (try_keyboard, ()), (try_traces, ()), (try_speed, (options.judge_speed,)),
         *((compare_run, (name,)) for name in COMPARED), (try_examples, ()),

@@ -111,7 +111,8 @@ function circle(run, node, name, isWrong, isTwoFaced) {
   part.append(draw("circle", { cx, cy, r, fill, class: "body" }));
   if (pulse.settled[node]) part.append(draw("circle", { cx, cy, r: r * (1 - INSET), class: "inner" }));
   const text = clock === null ? (r > 16 ? name : "") : clock >= modulus ? "!" : clock;
-  part.append(draw("text", { x: cx, y: cy + 4, fill: inkOn(fill), class: r > 16 ? "clock" : "clock little" }, text));
+  const kind = r <= 16 ? "clock little" : clock === null ? "clock of-name" : "clock";
+  part.append(draw("text", { x: cx, y: cy + 4, fill: inkOn(fill), class: kind }, text));
   part.append(...labels(run, node, name, isTwoFaced));
   return part;
 }

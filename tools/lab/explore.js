@@ -9,12 +9,14 @@ import { longText, valueOf } from "./toml.js";
 const FIRST_BOUND = 2000, GROWS_BY = 4, VERSION_OF_MANY = 2, MAX_OF_FIRST = 32;
 // Statuses of the program.
 const HOLDS = 0, VIOLATED = 3, NOT_FINISHED = 4;
-const SCENARIO = /^(version|nodes) = /m, MARK = /^# /, BY_THEOREM = ", by the theorem";
+const SCENARIO = /^(version|nodes) = /m, MARK = /^# /;
+/** What an answer has that no search gave. */
+export const BY_THEOREM = ", by the theorem";
 const line = new Line();
 let ticking = null;
 
 /** The nodes that run the scenario's clock in pulse 1, or else those with any program. */
-function likelyCorrect(run) {
+export function likelyCorrect(run) {
   const { ran } = run.pulses[0], clocks = ran.flatMap((it, node) => (it === "clock" ? [node] : []));
   return clocks.length > 0 ? clocks : ran.flatMap((it, node) => (it === null ? [] : [node]));
 }

@@ -7,6 +7,8 @@ const PAUSE = 350, NUMBERS_AT_ONCE = 40000, LEAST_NEAR = 16, MAX_PULSES = 1000;
 const LOOP = /^# pulses? (\d+)(?: to (\d+))? (?:comes?|repeats?)\b/m;
 const runs = new Line(), windows = new Line();
 let timer = null, wanted = null;
+/** Whether a part of the page has asked for a pulse that wasn't there. */
+let isMissed = false;
 
 /**
  * Runs this text after a pause: "run" is the event of a good run, "refused" that of a rejected text, and "ended" that
@@ -65,8 +67,16 @@ function loopOf(text, pulses) {
 /** How many pulses on each side are asked for at once. */
 const near = ({ frame }) => Math.max(LEAST_NEAR, Math.floor(NUMBERS_AT_ONCE / frame.nodes ** 2));
 
-/** Returns {memory, sent} of a pulse, or undefined until it is there. */
-export const insideOf = (run, pulse) => run.inside.get(pulse);
+/** Returns {memory, sent} of a pulse, or undefined until it is there. A line that was fetched is read when it is shown:
+ * to read all of a span at once would delay a step. */
+export function insideOf(run, pulse) {
+  const found = run.inside.get(pulse);
+  if (found === undefined) isMissed = true;
+  if (typeof found !== "string") return found;
+  const read = JSON.parse(found);
+  run.inside.set(pulse, read);
+  return read;
+}
 
 /** Fetches the pulse shown and those near it, if they are not there. */
 export function fetchNear() {
@@ -85,12 +95,14 @@ async function fetchSpan(run, span) {
   try {
     const answer = await windows.ask("pulses", { text: run.text, ...span });
     if (answer.status !== 0 || answer.ended) throw new NoAnswer(wordsOf(answer));
-    for (const line of answer.out.trim().split("\n").slice(1, -1)) {
-      const pulse = JSON.parse(line);
-      run.inside.set(pulse.pulse, pulse);
-    }
+    answer.out.trim().split("\n").slice(1, -1).forEach((it, at) => {
+      if (!run.inside.has(span.from + at)) run.inside.set(span.from + at, it);
+    });
     if (wanted === span) wanted = null;
-    if (run === state.run) tell("shown");
+    // If nothing was missed, all that is shown is drawn already: to draw it again would delay a step.
+    if (run !== state.run || !isMissed) return;
+    isMissed = false;
+    tell("shown");
   } catch (why) {
     if (wanted === span) wanted = null;
     if (!isCancelled(why)) say(`Messages of pulse ${state.at}: ${why.message}`, true);
@@ -100,13 +112,13 @@ async function fetchSpan(run, span) {
 /** The memory of each node as this pulse begins, or null while it isn't known. */
 export function memoryBefore(run, pulse, node) {
   if (pulse === 1) return "00".repeat(run.frame.memory);
-  return run.inside.get(pulse - 1)?.memory[node] ?? null;
+  return insideOf(run, pulse - 1)?.memory[node] ?? null;
 }
 
 /** What node `from` sent to node `to` in the pulse before, which it receives in this one: undefined if not known. */
 export function received(run, pulse, from, to) {
   if (pulse === 1) return null;
-  const before = run.inside.get(pulse - 1);
+  const before = insideOf(run, pulse - 1);
   return before ? before.sent[from][to] : undefined;
 }
 
