@@ -3,10 +3,8 @@
 
 mod exploring;
 mod fit;
-mod graph_text;
 mod laws;
-mod shown;
-mod state_words;
+mod same_bench;
 mod theorem;
 
 pub use exploring::finding_on;

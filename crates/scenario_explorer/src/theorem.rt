@@ -2,7 +2,7 @@
 ghost use Rattle.std.specs.Prelude.{◌≡◌, IfOk, IfSome, IsTrue, None};
 ghost use Rattle.scenario_explorer.specs.Explore.{Begins, IsFindingOf, IsZeroOrEvery, bed_of, theorem_found};
 
-use bench_space::Bed;
+use bench_moves::Bed;
 use exploration::Found;
 use explored::{ExploreOptions, Form, Question, Starts};
 use scenario_text::Scenario;

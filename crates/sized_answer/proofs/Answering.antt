@@ -3,9 +3,9 @@ use Rattle.std.proofs.Common.{◌≡◌, ℕ, ◌*◌, ◌^◌, ◌<◌, ◌≤�
 use Rattle.bpf_verify.specs.Accepted.{Accepted}
 use Rattle.quorums.specs.Counts.{count}
 use Rattle.bench_core.specs.Setup.{IsSetup}
-use Rattle.bench_space.specs.Bed.{Bed, IsAllowed, IsLoaded, RunsRule}
-use Rattle.bench_space.specs.Explored.{MayStabilise, NeverPart}
-use Rattle.bench_space.specs.Start.{IsEvery}
+use Rattle.bench_moves.specs.Bed.{Bed, IsAllowed, IsLoaded, RunsRule}
+use Rattle.bench_moves.specs.Synchrony.{MayStabilise, NeverPart}
+use Rattle.bench_moves.specs.Start.{IsEvery}
 use Rattle.sized_benches.specs.Benches.{IsClockBench, is_loaded}
 use Rattle.sized_benches.proofs.Paths.{agree_after, may_stabilise as on_paths}
 use Rattle.sized_benches.proofs.Runs.{may_stabilise as in_runs, runs_agree}

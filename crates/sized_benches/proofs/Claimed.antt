@@ -14,10 +14,10 @@ use Rattle.rule_nodes.specs.Ends.{AreSizes, IsRuleEnd, sizes_of}
 use Rattle.rule_nodes.proofs.Whole.{rule_ends_so}
 use Rattle.rule_steps.specs.Steps.{AreSmall, Claim, EachCorrect, EachTwo, Holds, Sees, Stepped}
 use Rattle.bench_core.specs.State.{AreCoins}
-use Rattle.bench_space.specs.Bed.{Bed, IsLoaded}
-use Rattle.bench_space.specs.Space.{ComesBy, Config, IsConfigOf, IsInbox, memory_at, sent_at}
-use Rattle.bench_space.specs.Start.{IsEvery}
-use Rattle.bench_space.specs.inner.Moves.{setting_of_node}
+use Rattle.bench_moves.specs.Bed.{Bed, IsLoaded}
+use Rattle.bench_moves.specs.Space.{ComesBy, Config, IsConfigOf, IsInbox, memory_at, sent_at}
+use Rattle.bench_moves.specs.Start.{IsEvery}
+use Rattle.bench_moves.specs.inner.Moves.{setting_of_node}
 use Rattle.sized_benches.specs.Benches.{IsUniform, is_loaded, node_in, MovesBy}
 use Rattle.sized_benches.specs.Claimed.{AreFixed, ClaimsHold, IsRuleBench}
 use Rattle.sized_benches.proofs.Built.{between_in, is_loaded_so, loaded_by, numbers_in}

@@ -3,9 +3,9 @@ use Rattle.std.proofs.Common.{ℕ, List, slice_index, arith}
 use Rattle.std.specs.Ordering.{nat_cmp}
 use Rattle.std.specs.FinMap.{FinMap}
 use Rattle.bench_core.specs.State.{AreCoins}
-use Rattle.bench_space.specs.Bed.{Bed}
-use Rattle.bench_space.specs.Space.{Config, Moves}
-use Rattle.bench_space.specs.Paths.{AreInboxes, MovesOn}
+use Rattle.bench_moves.specs.Bed.{Bed}
+use Rattle.bench_moves.specs.Space.{Config, Moves}
+use Rattle.bench_moves.specs.Paths.{AreInboxes, MovesOn}
 use Rattle.sized_benches.specs.Benches.{MovesBy}
 
 pub moves_by : (bed : Bed) (x : Config) (coins : List ℕ) (left : ℕ → List ℕ) (rows : ℕ → FinMap nat_cmp ℕ)

@@ -16,8 +16,8 @@ use Rattle.clock_steps.proofs.Pulse.{clock_is}
 use Rattle.clock_steps.proofs.Steps.{alike, common_from}
 use Rattle.clock_steps.proofs.Luck.{Has, Low}
 use Rattle.bench_core.specs.State.{AreCoins}
-use Rattle.bench_space.specs.Bed.{Agrees, AgreeTwo, Bed, IsLoaded, KeepsStep, told}
-use Rattle.bench_space.specs.Space.{Config, IsConfigOf, Moves, memory_at}
+use Rattle.bench_moves.specs.Bed.{Agrees, AgreeTwo, Bed, IsLoaded, KeepsStep, told}
+use Rattle.bench_moves.specs.Space.{Config, IsConfigOf, Moves, memory_at}
 use Rattle.sized_benches.specs.Benches.{IsClockBench, IsCommonAt, IsUniform, MovesBy, is_loaded, node_in, bed_sizes}
 use Rattle.sized_benches.proofs.Coins.{moves_by}
 use Rattle.sized_benches.proofs.OnePulse.{agree, common_next, common_one, low_next, small, some_low}

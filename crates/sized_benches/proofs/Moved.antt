@@ -27,12 +27,12 @@ use Rattle.clock_steps.proofs.Pulse.{first_let, second_let, pair_of, with_words,
 use Rattle.clock_steps.proofs.Steps.{Bounds}
 use Rattle.bench_core.specs.Setup.{rule_of}
 use Rattle.bench_core.specs.State.{AreCoins}
-use Rattle.bench_space.specs.Bed.{Bed, IsLoaded, RunsRule}
-use Rattle.bench_space.specs.Space.{ComesBy, Config, IsConfigOf, IsInbox, Moves, memory_at, sent_at}
-use Rattle.bench_space.specs.Start.{IsEvery}
-use Rattle.bench_space.specs.Paths.{AreInboxes, FollowsOn}
-use Rattle.bench_space.specs.inner.Moves.{setting_of_node}
-use Rattle.bench_space.proofs.Heeding.{clock_start}
+use Rattle.bench_moves.specs.Bed.{Bed, IsLoaded, RunsRule}
+use Rattle.bench_moves.specs.Space.{ComesBy, Config, IsConfigOf, IsInbox, Moves, memory_at, sent_at}
+use Rattle.bench_moves.specs.Start.{IsEvery}
+use Rattle.bench_moves.specs.Paths.{AreInboxes, FollowsOn}
+use Rattle.bench_moves.specs.inner.Moves.{setting_of_node}
+use Rattle.bench_moves.proofs.Heeding.{clock_start}
 use Rattle.sized_benches.specs.Benches.{IsClockBench, IsClockCode, IsRuleStep, IsUniform, is_loaded, node_in, bed_sizes, MovesBy}
 use Rattle.sized_benches.proofs.Built.{between_in, built, built_is, is_loaded_so, loaded_by, numbers_in}
 use Rattle.sized_benches.proofs.Chosen.{chosen, no_setting}

@@ -1,9 +1,9 @@
 -- What all paths of a bench of clocks do.
 use Rattle.std.proofs.Common.{◌≡◌, false, ℕ, zero, suc, ◌+◌, ◌≤◌, sym, subst, arith}
-use Rattle.bench_space.specs.Bed.{Bed, KeepsStep}
-use Rattle.bench_space.specs.Space.{Config, memory_at}
-use Rattle.bench_space.specs.Start.{IsEvery}
-use Rattle.bench_space.specs.Paths.{Follows, HasPath, PathCoinsLead, PathsAgreeFrom, PathsInStepFrom, PathsLuckFrom}
+use Rattle.bench_moves.specs.Bed.{Bed, KeepsStep}
+use Rattle.bench_moves.specs.Space.{Config, memory_at}
+use Rattle.bench_moves.specs.Start.{IsEvery}
+use Rattle.bench_moves.specs.Paths.{Follows, HasPath, PathCoinsLead, PathsAgreeFrom, PathsInStepFrom, PathsLuckFrom}
 use Rattle.sized_benches.specs.Benches.{IsClockBench, IsCommonAt, IsUniform}
 use Rattle.sized_benches.proofs.Coins.{moves_by_on}
 use Rattle.sized_benches.proofs.Moved.{move_uniform}

@@ -4,13 +4,13 @@ use Rattle.std.specs.Ordering.{nat_cmp}
 use Rattle.std.specs.FinMap.{FinMap, get}
 use Rattle.node_env.specs.Env.{inbox_of}
 use Rattle.bench_core.specs.State.{State, mail_from}
-use Rattle.bench_space.specs.Bed.{Bed, Agrees, KeepsStep, memories_of}
-use Rattle.bench_space.specs.Space.{CoinsLead, Config, InStepFrom, IsBegin, IsConfigOf, LeadsInto, LuckFrom, Moves, MovesTo, NeverPartsFrom, memory_at}
-use Rattle.bench_space.specs.Start.{IsEvery}
-use Rattle.bench_space.proofs.Held.{begin_run, closed_grows}
-use Rattle.bench_space.proofs.Meeting.{agrees_says, keeps_says}
-use Rattle.bench_space.proofs.Never.{AreLayers, at_last, first_place, held_begin, layers_hold, there_run}
-use Rattle.bench_space.proofs.Tossing.{begin_inboxes, closes_once, stays_in_step}
+use Rattle.bench_moves.specs.Bed.{Bed, Agrees, KeepsStep, memories_of}
+use Rattle.bench_moves.specs.Space.{CoinsLead, Config, InStepFrom, IsBegin, IsConfigOf, LeadsInto, LuckFrom, Moves, MovesTo, NeverPartsFrom, memory_at}
+use Rattle.bench_moves.specs.Start.{IsEvery}
+use Rattle.bench_moves.proofs.Held.{begin_run, closed_grows}
+use Rattle.bench_moves.proofs.Meeting.{agrees_says, keeps_says}
+use Rattle.bench_moves.proofs.Never.{AreLayers, at_last, first_place, held_begin, layers_hold, there_run}
+use Rattle.bench_moves.proofs.Tossing.{begin_inboxes, closes_once, stays_in_step}
 use Rattle.bench_core.specs.State.{AreCoins}
 use Rattle.sized_benches.specs.Benches.{AnyState, IsClockBench, IsCommonAt, IsUniform, MovesBy}
 use Rattle.sized_benches.proofs.Coins.{moves_by_on}

@@ -17,10 +17,10 @@ use Rattle.rule_steps.specs.Steps.{Between, IsBetween, Sees, NodeBecomes, EachCo
 use Rattle.clock_steps.specs.Claims.{common}
 use Rattle.bench_core.specs.Setup.{IsSetup, Setup}
 use Rattle.bench_core.specs.State.{AreCoins}
-use Rattle.bench_space.specs.Bed.{Bed, IsLoaded, RunsRule, MayLie, program_in}
-use Rattle.bench_space.specs.Space.{ComesBy, Config, InStepFrom, IsConfigOf, LuckFrom, NeverPartsFrom, memory_at, sent_at}
-use Rattle.bench_space.specs.Paths.{AreInboxes, Follows, FollowsOn, PathsAgreeFrom, PathsInStepFrom, PathsLuckFrom}
-use Rattle.bench_space.specs.Start.{IsEvery}
+use Rattle.bench_moves.specs.Bed.{Bed, IsLoaded, RunsRule, MayLie, program_in}
+use Rattle.bench_moves.specs.Space.{ComesBy, Config, InStepFrom, IsConfigOf, LuckFrom, NeverPartsFrom, memory_at, sent_at}
+use Rattle.bench_moves.specs.Paths.{AreInboxes, Follows, FollowsOn, PathsAgreeFrom, PathsInStepFrom, PathsLuckFrom}
+use Rattle.bench_moves.specs.Start.{IsEvery}
 
 abbrev pub has_program : Option Accepted → Bool
 has_program None = false

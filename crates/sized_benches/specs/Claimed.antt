@@ -9,8 +9,8 @@ use Rattle.rule_nodes.specs.Fits.{BlockFits}
 use Rattle.quorums.specs.Counts.{HasFewFaults}
 use Rattle.rule_steps.specs.Steps.{Claim, EachTwo, Holds}
 use Rattle.bench_core.specs.State.{AreCoins}
-use Rattle.bench_space.specs.Bed.{Bed, IsLoaded, MayLie}
-use Rattle.bench_space.specs.Space.{Config}
+use Rattle.bench_moves.specs.Bed.{Bed, IsLoaded, MayLie}
+use Rattle.bench_moves.specs.Space.{Config}
 use Rattle.sized_benches.specs.Benches.{FollowsBy, IsUniform, is_loaded, node_in}
 
 -- each loaded node runs the code of the rule, for these f and M; at most f nodes have no program

@@ -1,6 +1,6 @@
 use Rattle.std.proofs.Common.{◌≡◌, ◌∙◌, ℕ, false, Option, IfSome, sym, subst}
-use Rattle.bench_space.specs.Explored.{MayStabilise, NeverPart}
-use Rattle.bench_space.specs.Start.{IsEvery}
+use Rattle.bench_moves.specs.Synchrony.{MayStabilise, NeverPart}
+use Rattle.bench_moves.specs.Start.{IsEvery}
 use Rattle.scenario_explorer.specs.Explore.{Begins, IsFindingOf}
 use Rattle.scenario_explorer.proofs.TheoremLemmas.{theorem_finds}
 use Rattle.scenario_explorer.proofs.theorem.theorem_on.Goals as goal
