@@ -20,7 +20,7 @@ _clockbed() {
   case ${COMP_WORDS[1]} in
     exec) _clockbed_offer "--nodes --memory --text --fuel --id --mail --coin --contents --show --trace --help" files ;;
     asm) _clockbed_offer "--list --help" files ;;
-    compile) _clockbed_offer "--nodes --memory --faults --modulus --list --help" files ;;
+    compile) _clockbed_offer "--nodes --memory --faults --modulus --list --c --help" files ;;
     dis) _clockbed_offer "--list --clock --nodes --faults --modulus --node --help" files ;;
     verify) _clockbed_offer "--nodes --memory --text --explain --all --help" files ;;
     run) _clockbed_offer "--workers --check --json --from --until --trace --help" files ;;

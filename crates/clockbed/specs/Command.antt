@@ -1,9 +1,9 @@
 -- What the program does over its streams (docs/COMMANDS.md). Which words give which options is the part of `clap`.
 use Rattle.std.specs.Prelude.{◌≡◌, ◌⊎◌, ℕ, List, Option}
 use Rattle.command_line.specs.Requests.{IsAsked}
-use Rattle.commands.specs.declared.fault.Fault.{Fault}
+use Rattle.command_answers.specs.declared.fault.Fault.{Fault}
 use Rattle.requests.specs.declared.request.Request.{Request}
-use Rattle.commands.specs.Faults.{IsOfCommandLine, Says, fault_status, fault_text}
+use Rattle.command_answers.specs.Faults.{IsOfCommandLine, Says, fault_status, fault_text}
 use Rattle.commands.specs.Perform.{PerformsRequest, TakesFor}
 
 -- the words ask for a request, by options or for help, and it is performed

@@ -1,10 +1,10 @@
 //! The program over any streams.
 ghost use Rattle.clockbed.specs.Command.{Commands};
-ghost use Rattle.commands.specs.Faults.{IsOfCommandLine};
+ghost use Rattle.command_answers.specs.Faults.{IsOfCommandLine};
 
 use bench_space::Silent;
+use command_answers::Fault;
 use command_line::{WordsFault, parse_args};
-use commands::Fault;
 use commands::perform::perform;
 use std::alloc::Global;
 use std::convert::AsStr;

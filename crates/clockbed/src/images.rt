@@ -1,7 +1,7 @@
 //! `--images @FILE`: the memories that a file lists, in place of the word that names it (docs/EXPLORE.md, "Options").
 
 use crate::source::{open, tell_reason};
-use commands::Fault;
+use command_answers::Fault;
 use std::alloc::{AllocError, Global};
 use std::io::Write;
 use std::str;

@@ -1,5 +1,5 @@
 -- What the options of `explore` ask for (docs/EXPLORE.md, "Options"), by what `clap` read of them.
-use Rattle.std.specs.Prelude.{◌≡◌, ◌⊎◌, ◌≤◌, ◌++◌, ℕ, List, Option, Some, None, Ok, Vec, codes, map, true, false}
+use Rattle.std.specs.Prelude.{◌≡◌, ◌⊎◌, ◌≤◌, ◌++◌, ℕ, List, Option, Some, None, Ok, Vec, codes, map, true, false, unwrap_or}
 use Rattle.std.specs.List.{AllZip}
 use Rattle.hex.specs.Hex.{decode_of}
 use Rattle.clap.specs.Matches.{first_value}
@@ -7,7 +7,7 @@ use Rattle.clap.specs.declared.parser.matches.Found.{Found}
 use Rattle.command_line.specs.Lists.{AreCells, IsBytes, IsMailList, comma_parts}
 use Rattle.command_line.specs.Numbers.{HasFlag, IsNumeralOf, IsNumberOf}
 use Rattle.command_line.specs.declared.explore_words.OddsAsked.{OddsAsked}
-use Rattle.command_words.specs.declared.options.TheConstants.{DEPTH, MEBIBYTES, STATES}
+use Rattle.command_words.specs.declared.options.TheConstants.{DEPTH, MEBIBYTES, ODDS, STATES}
 use Rattle.explored.specs.declared.options.Cells.{Cells}
 use Rattle.explored.specs.declared.options.ExploreOptions.{ExploreOptions}
 use Rattle.explored.specs.declared.options.Form.{Form}
@@ -92,9 +92,15 @@ IsOddsText text odds = ((last : ℕ) × (odds.last ≡ Some last) × (odds.first
     × (odds.last ≡ Some last) × (text ≡ left ++ (codes ".." ++ right))
     × IsNumeralOf 32 left first × IsNumeralOf 32 right last)
 
+-- numbers of pulses of the option's range, which rise; 1 is the first if none is named
+pub record ArePulses (odds : OddsAsked) : Type 0 where
+  pub least : ODDS.least ≤ unwrap_or odds.first 1
+  pub rise : unwrap_or odds.first 1 ≤ unwrap_or odds.last 1
+  pub most : unwrap_or odds.last 1 ≤ ODDS.most
+
 abbrev pub AsksOdds : Found → OddsAsked → Type 0
 AsksOdds f odds = (HasNone f (codes "odds") × (odds.first ≡ None) × (odds.last ≡ None))
-    ⊎ ((text : List ℕ) × OptionHasText f (codes "odds") text × IsOddsText text odds)
+    ⊎ ((text : List ℕ) × OptionHasText f (codes "odds") text × IsOddsText text odds × ArePulses odds)
 
 -- PARTS/WHOLE
 abbrev pub IsShareText : List ℕ → Share → Type 0

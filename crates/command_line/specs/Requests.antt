@@ -14,6 +14,8 @@ use Rattle.command_words.specs.declared.options.TheConstants.{NODES, PULSES, STR
 use Rattle.requests.specs.declared.case.Case.{Case}
 use Rattle.requests.specs.declared.request.ClockOptions.{ClockOptions}
 use Rattle.requests.specs.declared.request.CompileOptions.{CompileOptions}
+use Rattle.requests.specs.declared.request.CompiledForm.{CompiledForm}
+use Rattle.requests.specs.declared.request.CompiledForm.TheVariants.{Image, Listing, C}
 use Rattle.parameters.specs.declared.detail.Detail.{Detail}
 use Rattle.parameters.specs.declared.detail.Detail.TheVariants.{Read, All}
 use Rattle.requests.specs.declared.request.ExecOptions.{ExecOptions}
@@ -76,11 +78,17 @@ pub record AsksExec (f : Found) (asked : ExecOptions) : Type 0 where
   pub show : HasFlag f (codes "show") asked.show
   pub trace : HasFlag f (codes "trace") asked.trace
 
+-- what is printed of a rule
+abbrev pub AsksCompiledForm : Found → CompiledForm → Type 0
+AsksCompiledForm f Image = HasFlag f (codes "list") false × HasFlag f (codes "c") false
+AsksCompiledForm f Listing = HasFlag f (codes "list") true
+AsksCompiledForm f C = HasFlag f (codes "list") false × HasFlag f (codes "c") true
+
 pub record AsksCompile (f : Found) (asked : CompileOptions) : Type 0 where
   pub shape : AsksShape f asked.shape
   pub faults : IsNumberOf FAULTS f asked.faults
   pub modulus : IsNumberOf MODULUS f asked.modulus
-  pub list : HasFlag f (codes "list") asked.list
+  pub form : AsksCompiledForm f asked.form
 
 pub record AsksRule (f : Found) (nodes faults modulus : ℕ) : Type 0 where
   pub node_count : IsNumberOf NODES f nodes

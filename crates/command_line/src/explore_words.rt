@@ -1,8 +1,8 @@
 //! What the words of `explore` ask for.
-ghost use Rattle.std.specs.Prelude.{◌≡◌, IfOk, IfSome, Ok, Some, map};
+ghost use Rattle.std.specs.Prelude.{◌≡◌, IfOk, IfSome, IsTrue, Ok, Some, map};
 ghost use Rattle.clap.specs.Matches.{found_of};
 ghost use Rattle.command_line.specs.Explore.{AreImages, AsksExplore, AsksForm, AsksGraph, AsksMail, AsksMemories};
-ghost use Rattle.command_line.specs.Explore.{AsksOdds, AsksQuestion, AsksReach, AsksStart, HasMail, IsMemoryImage, IsOddsText, IsShareText};
+ghost use Rattle.command_line.specs.Explore.{ArePulses, AsksOdds, AsksQuestion, AsksReach, AsksStart, HasMail, IsMemoryImage, IsOddsText, IsShareText};
 
 use crate::lists::{bytes_in, cells_in, mail_in, number_in};
 use crate::options::{flag, number};
@@ -39,6 +39,10 @@ const REACH_REASON: &str =
 const GRAPH_REASON: &str =
     "--graph names the states from which clocks are synchronised: use --ask stabilisation or both";
 
+/// Why a table has no least number of pulses.
+const TABLE_REASON: &str =
+    "a table of --odds FIRST..LAST has each number of pulses: use --odds LAST with --reach";
+
 /// Returns what explore is asked for.
 pub(crate) fn explore_options(
     alloc: Global,
@@ -55,6 +59,9 @@ pub(crate) fn explore_options(
     let mail = mail_asked(alloc, options)?;
     let start = start_asked(alloc, options)?;
     let reach = reach_asked(options)?;
+    if is_table(form) && reach.is_some() {
+        return Err(OptionsFault::Reason(TABLE_REASON));
+    }
     Ok(ExploreOptions {
         question,
         mail,
@@ -107,7 +114,9 @@ fn odds_in(text: &str) -> Option<OddsAsked>
 }
 
 /// Returns true if the numbers of pulses are within their range, and rise.
-fn are_pulses(odds: OddsAsked) -> bool {
+fn are_pulses(odds: OddsAsked) -> bool
+    ensures { IsTrue result → ArePulses odds }
+{
     let last = odds.last.unwrap_or(1);
     let first = odds.first.unwrap_or(1);
     ODDS.least <= first && first <= last && last <= ODDS.most
@@ -155,6 +164,14 @@ fn reach_asked(options: &ArgMatches<'_>) -> Result<Option<Share>, OptionsFault>
     match share_in(text) {
         Some(share) if 1 <= share.parts && share.parts <= share.of => Ok(Some(share)),
         Some(_) | None => Err(OptionsFault::Reason(REACH_REASON)),
+    }
+}
+
+/// Returns true if a table of odds is asked.
+fn is_table(form: Form) -> bool {
+    match form {
+        Form::OddsTable { .. } => true,
+        Form::Text | Form::Json | Form::Graph(_) => false,
     }
 }
 

@@ -4,6 +4,7 @@
 mod exec_words;
 mod explore_words;
 mod lists;
+mod meant;
 mod options;
 mod request;
 

@@ -1,7 +1,7 @@
 //! What a command line asks for, as `clap` reads it.
 ghost use Rattle.std.specs.Prelude.{◌≡◌, IfErr, IfOk, IfSome, MatchOption, codes, option_map, string_bytes};
 ghost use Rattle.clap.specs.Matches.{found_of};
-ghost use Rattle.command_line.specs.Requests.{Asks, AsksCompile, AsksDetail, AsksFile, AsksFormat, AsksReport};
+ghost use Rattle.command_line.specs.Requests.{Asks, AsksCompile, AsksCompiledForm, AsksDetail, AsksFile, AsksFormat, AsksReport};
 ghost use Rattle.command_line.specs.Requests.{AsksRule, AsksRun, AsksShape, AsksSpan, AsksStress};
 ghost use Rattle.command_line.specs.Requests.{AsksSweep, AsksWithFile, IsAskedWithFile, IsHelp, IsKeys};
 ghost use Rattle.command_line.specs.Numbers.{IsNumeralOf};
@@ -10,18 +10,20 @@ ghost use Rattle.command_line.specs.Requests.{IsPlace};
 use crate::exec_words::{CaseFault, exec_options};
 use crate::explore_words::explore_options;
 use crate::lists::{MailFault, number_in};
+use crate::meant::command_note;
 use crate::options::{flag, number, number_if_named};
 use clap::error::ErrorKind;
 use clap::{ArgMatches, Error};
 use command_words::options::{
     ALL, CHECK, CLOCK, EXPLAIN, FAULTS, FROM, JSON, KEYS, LISTING, LOADERS, LOADS, MEMORY, MODULUS,
-    NODE, NODES, ODDS, PULSES, RULE_LISTING, STRESS_WORKERS, SWEEPERS, TEXT, TRACE, UNTIL, WORKERS,
+    NODE, NODES, ODDS, PULSES, RULE_IN_C, RULE_LISTING, STRESS_WORKERS, SWEEPERS, TEXT, TRACE,
+    UNTIL, WORKERS,
 };
 use command_words::{Helps, command_line};
 use requests::{
-    ClockOptions, ClockRule, CompileOptions, Detail, ExplainOptions, KeySpan, LineFormat,
-    LinesForm, LinesOptions, NodeInPulse, NodeProgramOptions, PulseSpan, Request, RunOptions,
-    ScenarioRequest, ShapeOptions, StressOptions, SweepOptions,
+    ClockOptions, ClockRule, CompileOptions, CompiledForm, Detail, ExplainOptions, KeySpan,
+    LineFormat, LinesForm, LinesOptions, NodeInPulse, NodeProgramOptions, PulseSpan, Request,
+    RunOptions, ScenarioRequest, ShapeOptions, StressOptions, SweepOptions,
 };
 use std::alloc::{AllocError, Global};
 use std::convert::AsStr;
@@ -91,7 +93,7 @@ pub fn parse_args<S: AsStr>(alloc: Global, words: &[S]) -> Result<Invocation, Wo
 {
     match parse(alloc, words) {
         Ok(asked) => Ok(asked),
-        Err(error) => said_by(alloc, &error),
+        Err(error) => said_by(alloc, &error, words.get(1)),
     }
 }
 
@@ -207,7 +209,20 @@ fn compile_options(options: &ArgMatches<'_>) -> CompileOptions
         shape: shape_options(options),
         faults: number(options, &FAULTS),
         modulus: number(options, &MODULUS),
-        list: flag(options, &RULE_LISTING),
+        form: compiled_form(options),
+    }
+}
+
+/// Returns what is printed of a rule. The words have at most one of the two options.
+fn compiled_form(options: &ArgMatches<'_>) -> CompiledForm
+    ensures { AsksCompiledForm (found_of options.now) result }
+{
+    if flag(options, &RULE_LISTING) {
+        CompiledForm::Listing
+    } else if flag(options, &RULE_IN_C) {
+        CompiledForm::C
+    } else {
+        CompiledForm::Image
     }
 }
 
@@ -360,8 +375,12 @@ fn key_in(text: &str) -> Option<u64>
     text.parse().ok()
 }
 
-/// Returns what `clap` says in place of a request: the help, or why it refuses the words.
-fn said_by(alloc: Global, error: &Error) -> Result<Invocation, WordsFault>
+/// Returns what `clap` says in place of a request: the help, or why it refuses the words, of which `first` is the first.
+fn said_by<S: AsStr>(
+    alloc: Global,
+    error: &Error,
+    first: Option<&S>,
+) -> Result<Invocation, WordsFault>
     ensures { IfOk result (λ asked. IsHelp asked.request × (asked.file ≡ None)) }
 {
     if error.kind() == ErrorKind::OutOfMemory {
@@ -369,6 +388,7 @@ fn said_by(alloc: Global, error: &Error) -> Result<Invocation, WordsFault>
     }
     let text = text_of(alloc, error).map_err(|_| WordsFault::Memory)?;
     if error.use_stderr() {
+        let text = noted(alloc, text, error.kind(), first).map_err(|_| WordsFault::Memory)?;
         Err(WordsFault::Rejected { text })
     } else {
         Ok(Invocation {
@@ -376,6 +396,23 @@ fn said_by(alloc: Global, error: &Error) -> Result<Invocation, WordsFault>
             file: None,
         })
     }
+}
+
+/// Returns the text of an error, and below it the note on a first word that is no command.
+fn noted<S: AsStr>(
+    alloc: Global,
+    mut text: String,
+    kind: ErrorKind,
+    first: Option<&S>,
+) -> Result<String, AllocError> {
+    let note = match (kind, first) {
+        (ErrorKind::InvalidSubcommand, Some(word)) => {
+            command_note(alloc, word.as_str(), text.as_str().contains("tip:"))?
+        }
+        _ => String::new(alloc),
+    };
+    text.push_str(note.as_str())?;
+    Ok(text)
 }
 
 /// Returns the text of an error, whose last line ends.

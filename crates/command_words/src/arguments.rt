@@ -32,7 +32,7 @@ pub(crate) fn argument<'a>(
         }
         OptionRow::Span(option) => needing(numbers(alloc, option, helps), option.needs),
         OptionRow::LongSpan(option) => needing(numbers(alloc, option, helps), option.needs),
-        OptionRow::Flag(option) => needing(flag(alloc, option), option.needs),
+        OptionRow::Flag(option) => flag(alloc, option),
         OptionRow::Text(option) => text(alloc, option),
     }
 }
@@ -82,11 +82,13 @@ fn long_within<'a>(argument: Arg<'a>, least: u64, most: u64) -> Arg<'a> {
 }
 
 /// Returns an option without a value.
-fn flag<'a>(alloc: Global, option: &FlagOption) -> Arg<'a> {
-    Arg::new(alloc, option.name)
+fn flag<'a>(alloc: Global, option: &FlagOption) -> Result<Arg<'a>, AllocError> {
+    let argument = Arg::new(alloc, option.name)
         .long(option.name)
         .help(option.help)
         .action(ArgAction::SetTrue)
+        .conflicts_with_all(option.excludes)?;
+    needing(argument, option.needs)
 }
 
 /// Returns an option whose value is a text.

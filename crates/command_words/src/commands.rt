@@ -3,8 +3,8 @@
 use crate::options::{
     ALL, ASK, BYTES, CELLS, CHECK, CLOCK, COIN, CONTENTS, DEPTH, EXPLAIN, FAULTS, FROM, FUEL,
     GRAPH, ID, IMAGES, INBOX, JSON, JSON_ANSWER, KEYS, LISTING, LOADERS, LOADS, MAIL, MEBIBYTES,
-    MEMORY, MODULUS, NODE, NODES, ODDS, PULSES, REACH, RULE_LISTING, SAID, SHOW, START, STATES,
-    STEPS, STRESS_WORKERS, SWEEPERS, TEXT, TRACE, UNTIL, WORKERS,
+    MEMORY, MODULUS, NODE, NODES, ODDS, PULSES, REACH, RULE_IN_C, RULE_LISTING, SAID, SHOW, START,
+    STATES, STEPS, STRESS_WORKERS, SWEEPERS, TEXT, TRACE, UNTIL, WORKERS,
 };
 use crate::rows::OptionRow::{Flag, Long, LongSpan, Number, Span, Text};
 use crate::rows::{CommandRow, NumberOption, OptionRow};
@@ -21,7 +21,7 @@ pub(crate) const COMMANDS: [CommandRow; 9] = [
     CommandRow {
         name: "asm",
         about: "Print the image of an assembler text",
-        after: "Example: clockbed asm program.s > program.bpf\nPage: docs/ASSEMBLER.md",
+        after: "Example: clockbed asm examples/seven.s > seven.bpf\nPage: docs/ASSEMBLER.md",
         options: &ASM,
         reads_file: true,
     },
@@ -91,12 +91,13 @@ const EXEC: [OptionRow; 10] = [
 
 const ASM: [OptionRow; 1] = [Flag(LISTING)];
 
-const COMPILE: [OptionRow; 5] = [
+const COMPILE: [OptionRow; 6] = [
     Number(NODES),
     Number(MEMORY),
     Number(FAULTS),
     Number(MODULUS),
     Flag(RULE_LISTING),
+    Flag(RULE_IN_C),
 ];
 
 const DIS: [OptionRow; 6] = [

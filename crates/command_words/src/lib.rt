@@ -10,4 +10,4 @@ mod version;
 mod words;
 
 pub use helps::Helps;
-pub use words::command_line;
+pub use words::{command_line, command_names};

@@ -26,6 +26,7 @@ const FLAG: FlagOption = FlagOption {
     name: "",
     help: "",
     needs: "",
+    excludes: &[],
 };
 
 const LIST: TextOption = TextOption {
@@ -102,6 +103,14 @@ pub const RULE_LISTING: FlagOption = FlagOption {
     ..LISTING
 };
 
+/// `--c` of `compile`
+pub const RULE_IN_C: FlagOption = FlagOption {
+    name: "c",
+    help: "Print the rule as a C function over examples/c/rule.h",
+    excludes: &["list"],
+    ..FLAG
+};
+
 /// `--clock` of `dis`
 pub const CLOCK: FlagOption = FlagOption {
     name: "clock",
@@ -130,6 +139,7 @@ pub const ALL: FlagOption = FlagOption {
     name: "all",
     help: "Print all that is known at each slot; needs --explain",
     needs: "explain",
+    ..FLAG
 };
 
 // ---- exec

@@ -50,6 +50,8 @@ pub struct FlagOption {
     pub(crate) help: &'static str,
     /// The option that has to be there with this one, if any.
     pub(crate) needs: &'static str,
+    /// The options that can't be there with this one.
+    pub(crate) excludes: &'static [&'static str],
 }
 
 /// An option whose value is a text.

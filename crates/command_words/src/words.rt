@@ -19,6 +19,15 @@ pub fn command_line<'a>(alloc: Global, helps: &'a Helps) -> Result<Command<'a>, 
     Ok(program)
 }
 
+/// Returns the names of the commands, in the order of the help.
+pub fn command_names(alloc: Global) -> Result<Vec<&'static str>, AllocError> {
+    let mut names = Vec::new(alloc);
+    for row in COMMANDS.iter() {
+        names.push(row.name)?;
+    }
+    Ok(names)
+}
+
 /// Returns the program without its commands.
 fn clockbed<'a>(alloc: Global) -> Command<'a> {
     Command::new(alloc, "clockbed")

@@ -1,11 +1,2 @@
-mod ExplainLemmas
-mod AnswerLemmas
-mod CaseLemmas
-mod VerdictLemmas
-mod RunLemmas
-mod FaultLemmas
-mod TracedLemmas
-mod TracedRunLemmas
-mod LeavesLemmas
-mod NodeRuleLemmas
-mod FrontLemmas
+pub mod RunLemmas
+pub mod FrontLemmas

@@ -7,12 +7,12 @@ use Rattle.scenario_text.specs.declared.refusal.ScenarioError.TheVariants as err
 use Rattle.scenario_text.specs.declared.scenario.Scenario.{Scenario}
 use Rattle.scenario_text.specs.Lines.{refusal_line}
 use Rattle.scenario_text.specs.Texts.{IsDue, IsDueUnlessMemory, ReadsText}
-use Rattle.commands.specs.declared.ending.Ending.{Ending}
-use Rattle.commands.specs.declared.ending.Ending.TheVariants.{Violated, Done, Mismatched, Refused, Unfinished}
-use Rattle.commands.specs.declared.fault.Fault.{Fault}
+use Rattle.command_answers.specs.declared.ending.Ending.{Ending}
+use Rattle.command_answers.specs.declared.ending.Ending.TheVariants.{Violated, Done, Mismatched, Refused, Unfinished}
+use Rattle.command_answers.specs.declared.fault.Fault.{Fault}
 use Rattle.requests.specs.declared.request.ScenarioRequest.{ScenarioRequest}
-use Rattle.commands.specs.Output.{Leaves}
-use Rattle.commands.specs.Perform.{SaysAt}
+use Rattle.command_answers.specs.Output.{Leaves}
+use Rattle.command_answers.specs.Said.{SaysAt}
 use Rattle.commands.specs.Scenarios.{LeavesFor, LeavesOf}
 
 -- a refusal that isn't for lack of memory

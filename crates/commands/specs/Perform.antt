@@ -1,26 +1,26 @@
 -- What the program does for a request: what it takes, what it leaves and says, and its exit status (docs/COMMANDS.md).
 use Rattle.std.specs.Prelude.{◌≡◌, ◌⊎◌, ℕ, List, [], Option, Some, None, Result, Ok, Err, string_bytes, take}
 use Rattle.bench_scenario.specs.declared.run.TheConstants.{MAX_BYTES}
-use Rattle.commands.specs.declared.ending.Ending.{Ending}
-use Rattle.commands.specs.declared.ending.Ending.TheVariants.{Violated, Done, Mismatched, Refused, Unfinished}
-use Rattle.commands.specs.declared.fault.Fault.{Fault}
-use Rattle.commands.specs.declared.input.Input.{Input}
-use Rattle.commands.specs.declared.input.Input.TheVariants as inputs
+use Rattle.command_answers.specs.declared.ending.Ending.{Ending}
+use Rattle.command_answers.specs.declared.ending.Ending.TheVariants.{Done}
+use Rattle.command_answers.specs.declared.fault.Fault.{Fault}
+use Rattle.command_answers.specs.declared.input.Input.{Input}
+use Rattle.command_answers.specs.declared.input.Input.TheVariants as inputs
 use Rattle.requests.specs.declared.request.Request.{Request}
 use Rattle.requests.specs.declared.request.Request.TheVariants.{Exec, Asm, Compile, Dis, Clock, Verify, Explain, Scenario, Stress, Help}
-use Rattle.commands.specs.Asm.{LeavesImage}
-use Rattle.commands.specs.Compile.{LeavesCompiled}
-use Rattle.commands.specs.Dis.{LeavesClock, LeavesListing}
-use Rattle.commands.specs.Ending.{status_of}
-use Rattle.commands.specs.Exec.{LeavesExec}
-use Rattle.commands.specs.Explained.{LeavesExplained}
-use Rattle.commands.specs.Faults.{IsFaultOfReading, Says, fault_status, fault_text}
-use Rattle.commands.specs.Input.{IsShapedInput, Takes, max_bytes, program_input}
-use Rattle.commands.specs.Output.{Leaves, LeavesNothing}
-use Rattle.rule_notes.specs.Words.{IsNote}
+use Rattle.program_commands.specs.Asm.{LeavesImage}
+use Rattle.program_commands.specs.Compile.{LeavesCompiled}
+use Rattle.program_commands.specs.Dis.{LeavesClock, LeavesListing}
+use Rattle.command_answers.specs.Ending.{status_of}
+use Rattle.program_commands.specs.Exec.{LeavesExec}
+use Rattle.program_commands.specs.Explained.{LeavesExplained}
+use Rattle.command_answers.specs.Faults.{IsFaultOfReading, Says, fault_status, fault_text}
+use Rattle.command_answers.specs.Input.{IsShapedInput, Takes, max_bytes, program_input}
+use Rattle.command_answers.specs.Output.{Leaves, LeavesNothing}
+use Rattle.command_answers.specs.Said.{SaysAt}
 use Rattle.commands.specs.Scenarios.{LeavesFor}
-use Rattle.commands.specs.Stress.{LeavesStressed}
-use Rattle.commands.specs.Verdict.{LeavesVerdict}
+use Rattle.run_commands.specs.Stress.{LeavesStressed}
+use Rattle.program_commands.specs.Verdict.{LeavesVerdict}
 
 -- ---- what is read, and what is left of it
 
@@ -72,18 +72,6 @@ CarriesOut request known old new ended =
 abbrev pub status_for : Result Ending Fault → ℕ
 status_for (Ok ending) = status_of ending
 status_for (Err fault) = fault_status
-
--- nothing is said, or so much of a note as was taken
-abbrev pub SaysNote : Option (List ℕ) → Option (List ℕ) → Type 0
-SaysNote old new = (new ≡ old) ⊎ ((note : List ℕ) × IsNote note × Says old new note)
-
--- what is said of an ending: of a refusal a note, or nothing; of another ending nothing
-abbrev pub SaysAt : Ending → Option (List ℕ) → Option (List ℕ) → Type 0
-SaysAt Refused old new = SaysNote old new
-SaysAt Done old new = new ≡ old
-SaysAt Mismatched old new = new ≡ old
-SaysAt Violated old new = new ≡ old
-SaysAt Unfinished old new = new ≡ old
 
 -- what is said of how it ended
 abbrev pub SaysOf : Result Ending Fault → Option (List ℕ) → Option (List ℕ) → Type 0

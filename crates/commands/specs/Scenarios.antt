@@ -4,19 +4,19 @@ use Rattle.scenario_text.specs.declared.refusal.ScenarioError.{ScenarioError}
 use Rattle.scenario_text.specs.declared.scenario.Scenario.{Scenario}
 use Rattle.scenario_text.specs.Lines.{refusal_line}
 use Rattle.scenario_text.specs.Texts.{IsDue, ReadsText}
-use Rattle.commands.specs.declared.ending.Ending.{Ending}
-use Rattle.commands.specs.declared.ending.Ending.TheVariants.{Refused}
-use Rattle.commands.specs.declared.fault.Fault.{Fault}
+use Rattle.command_answers.specs.declared.ending.Ending.{Ending}
+use Rattle.command_answers.specs.declared.ending.Ending.TheVariants.{Refused}
+use Rattle.command_answers.specs.declared.fault.Fault.{Fault}
 use Rattle.requests.specs.declared.request.ScenarioRequest.{ScenarioRequest}
 use Rattle.requests.specs.declared.request.ScenarioRequest.TheVariants.{Run, Lines, TracedRun, NodeProgram, Sweep, Explore}
 use Rattle.commands.specs.Explore.{LeavesExplored}
-use Rattle.commands.specs.Faults.{IsOutOfMemory}
-use Rattle.commands.specs.Lines.{LeavesLined}
-use Rattle.commands.specs.NodeProgram.{LeavesNodeProgram}
-use Rattle.commands.specs.Output.{Leaves, LeavesNothing}
-use Rattle.commands.specs.Run.{LeavesReported}
-use Rattle.commands.specs.Sweep.{LeavesSwept}
-use Rattle.commands.specs.TracedRun.{LeavesTracedRun}
+use Rattle.command_answers.specs.Faults.{IsOutOfMemory}
+use Rattle.run_commands.specs.Lines.{LeavesLined}
+use Rattle.run_commands.specs.NodeProgram.{LeavesNodeProgram}
+use Rattle.command_answers.specs.Output.{Leaves, LeavesNothing}
+use Rattle.run_commands.specs.Run.{LeavesReported}
+use Rattle.run_commands.specs.Sweep.{LeavesSwept}
+use Rattle.run_commands.specs.TracedRun.{LeavesTracedRun}
 
 -- what a command leaves of the scenario that it read
 abbrev pub LeavesOf : ScenarioRequest → Option (List ℕ) → Option (List ℕ) → Scenario → Result Ending Fault → Type 0

@@ -2,15 +2,15 @@
 ghost use Rattle.std.specs.Prelude.{◌≡◌, List, Ok, Result, ℕ, false};
 ghost use Rattle.bpf_insn.specs.declared.forms.Insn.{Insn};
 ghost use Rattle.bpf_insn.specs.declared.image.ImageError.{ImageError};
-ghost use Rattle.commands.specs.declared.answer.Answer.{Answer};
-ghost use Rattle.commands.specs.declared.rejection.Unread.{Unread};
+ghost use Rattle.command_answers.specs.declared.answer.Answer.{Answer};
+ghost use Rattle.command_answers.specs.declared.rejection.Unread.{Unread};
 ghost use Rattle.requests.specs.declared.request.ExecOptions.{ExecOptions};
 ghost use Rattle.requests.specs.declared.request.ShapeOptions.{ShapeOptions};
-ghost use Rattle.commands.specs.declared.verdict.Verdict.{Verdict};
-ghost use Rattle.commands.specs.Answer.{Answers, AnswersLeaving, SameAnswer};
-ghost use Rattle.commands.specs.Left.{Left};
-ghost use Rattle.commands.specs.Image.{ReadsImage};
-ghost use Rattle.commands.specs.Verdict.{Judges, SameJudgement};
+ghost use Rattle.program_commands.specs.declared.verdict.Verdict.{Verdict};
+ghost use Rattle.command_answers.specs.Answer.{Answers, AnswersLeaving, SameAnswer};
+ghost use Rattle.command_answers.specs.Left.{Left};
+ghost use Rattle.command_answers.specs.Image.{ReadsImage};
+ghost use Rattle.program_commands.specs.Verdict.{Judges, SameJudgement};
 
 use bpf_asm::one_meaning;
 use bpf_insn::one_reading;

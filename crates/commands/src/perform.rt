@@ -1,22 +1,21 @@
 //! A request, from its command to the exit status.
 ghost use Rattle.std.specs.Prelude.{◌≡◌, IfErr, IfOk};
-ghost use Rattle.commands.specs.Perform.{AsksInput, CarriesOut, PerformsRequest, Responds, SaysAt, TakesFor};
+ghost use Rattle.commands.specs.Perform.{AsksInput, CarriesOut, PerformsRequest, Responds, TakesFor};
+ghost use Rattle.command_answers.specs.Said.{SaysAt};
 
-use crate::asm::asm;
-use crate::compile::compile;
-use crate::dis::{clock, dis};
-use crate::ending::Ending;
-use crate::exec::exec_bytes;
-use crate::explanation::explanation;
-use crate::fault::Fault;
-use crate::input::{Input, program_input, read_input, shaped_input};
-use crate::output::write_whole;
-use crate::response::give;
 use crate::scenario::scenario_bytes;
-use crate::stress::stress;
-use crate::verify::verify;
 use bench_space::Progress;
+use command_answers::{
+    Ending, Fault, Input, give, program_input, read_input, shaped_input, write_whole,
+};
+use program_commands::asm::asm;
+use program_commands::compile::compile;
+use program_commands::dis::{clock, dis};
+use program_commands::exec_bytes;
+use program_commands::explanation::explanation;
+use program_commands::verify::verify;
 use requests::Request;
+use run_commands::stress::stress;
 use std::alloc::Global;
 use std::io::{Read, Write};
 use std::sync::Wait;

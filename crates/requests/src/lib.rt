@@ -12,6 +12,7 @@ pub use explored::{
 };
 pub use parameters::{Detail, KeySpan, LineFormat, LinesForm, PulseSpan, StressOptions};
 pub use request::{
-    ClockOptions, CompileOptions, ExecOptions, ExplainOptions, LinesOptions, NodeInPulse,
-    NodeProgramOptions, Request, RunOptions, ScenarioRequest, ShapeOptions, SweepOptions,
+    ClockOptions, CompileOptions, CompiledForm, ExecOptions, ExplainOptions, LinesOptions,
+    NodeInPulse, NodeProgramOptions, Request, RunOptions, ScenarioRequest, ShapeOptions,
+    SweepOptions,
 };

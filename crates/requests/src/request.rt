@@ -12,7 +12,7 @@ pub enum Request {
     Exec(ExecOptions),
     /// `asm`: the image of a text, or its listing.
     Asm { list: bool },
-    /// `compile`: the image of a rule, or its listing.
+    /// `compile`: the image of a rule, its listing, or the rule in C.
     Compile(CompileOptions),
     /// `dis`: the text of an image, or its listing.
     Dis { list: bool },
@@ -50,14 +50,22 @@ pub struct ShapeOptions {
     pub memory: u32,
 }
 
+/// What `compile` prints of a rule.
+#[derive(Clone, Copy, Debug, PartialEq, Eq)]
+pub enum CompiledForm {
+    Image,
+    Listing,
+    /// A function in C.
+    C,
+}
+
 /// The options of `compile`. They may make no shape and no rule of clocks.
 #[derive(Clone, Copy, Debug, PartialEq, Eq)]
 pub struct CompileOptions {
     pub shape: ShapeOptions,
     pub faults: u32,
     pub modulus: u32,
-    /// Whether a listing is asked for.
-    pub list: bool,
+    pub form: CompiledForm,
 }
 
 /// The options of `dis --clock`.

@@ -2,6 +2,7 @@
 
 use crate::character::of_character;
 use crate::expected::of_expected;
+use crate::foreign::{of_foreign_name, of_new_name};
 use crate::names::Maker;
 use crate::near::nearest;
 use crate::place::{Place, place_in, shown_line};
@@ -34,16 +35,29 @@ fn of_range(here: &str) -> &'static str {
     }
 }
 
+/// Returns the fix for an unknown name, or a question: nothing if neither is known.
+fn fix_of_unknown(alloc: Global, reading: &Reading<'_>) -> Result<String, AllocError> {
+    let foreign = of_foreign_name(alloc, reading)?;
+    if foreign.len() > 0 {
+        return Ok(foreign);
+    }
+    let known = reading.known(alloc)?;
+    match nearest(alloc, reading.here, known.as_slice())? {
+        Some(near) => format!(in alloc; "did you mean {near}?"),
+        None => of_new_name(alloc, reading),
+    }
+}
+
 fn of_unknown(alloc: Global, reading: &mut Reading<'_>) -> Result<String, AllocError> {
     reading.begin()?;
-    let known = reading.known(alloc)?;
-    let near = nearest(alloc, reading.here, known.as_slice())?;
+    let fix = fix_of_unknown(alloc, reading)?;
     let name = shown(alloc, reading.here)?;
     let name = name.as_str();
-    match near {
-        Some(near) => format!(in alloc; "unknown name {name}; did you mean {near}?"),
-        None => format!(in alloc; "unknown name {name}"),
+    if fix.len() == 0 {
+        return format!(in alloc; "unknown name {name}");
     }
+    let fix = fix.as_str();
+    format!(in alloc; "unknown name {name}; {fix}")
 }
 
 /// Returns what to do with a name that has a meaning already.

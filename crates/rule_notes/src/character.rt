@@ -17,15 +17,20 @@ fn first_character(text: &[u8]) -> Option<&str> {
     None
 }
 
-/// Returns what to write instead.
-fn instead_of(character: &str) -> &'static str {
+/// Returns what to write instead of a character that begins a text.
+fn instead_of(character: &str, text: &[u8]) -> &'static str {
     match character {
-        "&" => "; write \"and\"",
-        "|" => "; write \"or\"",
-        "!" => "; write \"not\"",
+        "&" if text.starts_with(b"&&") => "; write \"and\" in place of \"&&\"",
+        "&" => "; write \"and\" in place of \"&\"",
+        "|" if text.starts_with(b"||") => "; write \"or\" in place of \"||\"",
+        "|" => "; write \"or\" in place of \"|\"",
+        "!" => "; write \"not \" in place of \"!\"",
         ";" => "; a statement ends with its line",
         "{" | "}" => "; a block is a \":\" and deeper lines",
         "." => "; numbers are whole",
+        "?" => "; a choice is x if t else y",
+        "^" => "; there is no power: multiply",
+        "\"" | "'" => "; a rule has numbers, and no texts",
         _ => "",
     }
 }
@@ -55,7 +60,7 @@ pub(crate) fn of_character(alloc: Global, text: &[u8]) -> Result<String, AllocEr
             Some(character) => {
                 let words = character_words(alloc, character)?;
                 let words = words.as_str();
-                let instead = instead_of(character);
+                let instead = instead_of(character, text);
                 format!(in alloc; "no token begins with {words}{instead}")
             }
             None => format!(in alloc; "no token begins with the byte {byte:02x}"),

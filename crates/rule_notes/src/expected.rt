@@ -1,5 +1,6 @@
 //! What a note says of a token that can't be at its place.
 
+use crate::foreign::of_foreign_sign;
 use crate::near::nearest;
 use crate::reading::Reading;
 use crate::shown::shown;
@@ -154,6 +155,11 @@ fn unexpected(alloc: Global, reading: &Reading<'_>) -> Result<String, AllocError
 
 /// Returns the fix for the token, or a question.
 fn hint(alloc: Global, reading: &Reading<'_>) -> Result<String, AllocError> {
+    let foreign = of_foreign_sign(alloc, reading)?;
+    if foreign.len() > 0 {
+        let foreign = foreign.as_str();
+        return format!(in alloc; "; {foreign}");
+    }
     let walk = &reading.walk;
     let fix = fix(walk.next, walk.part(), walk.compared, reading.here);
     if fix.len() > 0 {

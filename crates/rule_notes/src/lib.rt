@@ -4,6 +4,7 @@
 mod advice;
 mod character;
 mod expected;
+mod foreign;
 mod names;
 pub mod near;
 mod noting;

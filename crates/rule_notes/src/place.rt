@@ -61,6 +61,12 @@ pub(crate) fn place_in(text: &[u8], line: usize, column: usize) -> Place<'_> {
     }
 }
 
+/// Returns the line from a place on, without its comment and the blanks at its end: nothing if it isn't UTF-8.
+pub(crate) fn rest_of_line(place: Place<'_>) -> &str {
+    let rest = up_to(up_to(place.rest, b'\n'), b'#');
+    str::from_utf8(rest).unwrap_or_default().trim_end()
+}
+
 /// Returns the line of a place as a note shows it, without its comment: of a long line only what is near the place.
 pub(crate) fn shown_line(alloc: Global, place: Place<'_>) -> Result<String, AllocError> {
     let line = up_to(place.line, b'#');

@@ -1,7 +1,7 @@
 //! What is known at the token of an error.
 
 use crate::names::Maker;
-use crate::place::Place;
+use crate::place::{Place, rest_of_line};
 use crate::token::tokens_of;
 use crate::walk::{Grade, Next, Part, Walk};
 use std::alloc::{AllocError, Global};
@@ -17,6 +17,10 @@ pub(crate) struct Reading<'a> {
     pub(crate) begins_line: bool,
     /// The line of the token before it.
     pub(crate) last_line: usize,
+    /// How the token before it is written: nothing at the beginning of the text.
+    pub(crate) last: &'a str,
+    /// The line from the token on, without its comment.
+    pub(crate) rest: &'a str,
 }
 
 /// Returns what is known at a token of this line and column.
@@ -34,6 +38,8 @@ pub(crate) fn reading_at<'a>(
         column,
         begins_line: false,
         last_line: 0,
+        last: "",
+        rest: rest_of_line(place),
     };
     for token in &tokens {
         if token.line == line && token.column == column {
@@ -42,6 +48,7 @@ pub(crate) fn reading_at<'a>(
         } else {
             reading.walk.read(*token)?;
             reading.last_line = token.line;
+            reading.last = token.text;
         }
     }
     Ok(reading)

@@ -21,3 +21,8 @@ pub fn shown(alloc: Global, text: &str) -> Result<String, AllocError> {
     }
     Ok(line)
 }
+
+/// Returns that one text is written in place of another.
+pub fn written_for(alloc: Global, right: &str, wrong: &str) -> Result<String, AllocError> {
+    format!(in alloc; "write \"{right}\" in place of \"{wrong}\"")
+}

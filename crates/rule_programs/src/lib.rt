@@ -4,5 +4,5 @@
 mod program;
 mod program_lines;
 
-pub use program::{RuleRefusal, program_of_text};
+pub use program::{RuleRefusal, WORD_BYTES, program_of_text};
 pub use program_lines::{ProgramWithLines, program_with_lines};

@@ -1,11 +1,11 @@
 //! What a note says of the fix. Nothing is promised of it.
 
-use crate::finding::line_at;
+use crate::asm_advice::of_text;
 use crate::known::{has_version, key_beside, unknown_key};
+use crate::program_words::why;
 use crate::table::{table_at, text_at};
 use crate::wanted::{COINS_NAMES, program_names, wanted};
 use bpf_asm::{TextError, assemble};
-use bpf_explain::reason;
 use bpf_insn::MAX_SLOTS;
 use bpf_verify::explain;
 use node_env::Shape;
@@ -16,14 +16,15 @@ use rule_programs::RuleRefusal;
 use scenario_text::keys::Key;
 use scenario_text::{CLOCK_VERSION, MAX_TEXT, NOISE_VERSION, Place, RULE_VERSION, ScenarioError};
 use std::alloc::{AllocError, Global};
+use std::str;
 use toml::Table;
-
-/// The helpers that a text can name.
-const HELPER_NAMES: [&str; 4] = ["id", "recv", "send", "coin"];
 
 /// What a rule has too much of.
 const NO_ROOM_WORDS: &str =
     "clock and each name of state take 4 bytes of the memory, and at most 3 numbers are in use at once";
+
+/// The keys that have lists of tables.
+const ENTRY_KEYS: [&str; 4] = ["load", "unload", "corrupt", "coin"];
 
 /// How a file in UTF-16 begins.
 const WIDE_BEGINNINGS: [&[u8]; 2] = [b"\xff\xfe", b"\xfe\xff"];
@@ -52,11 +53,43 @@ fn of_value(alloc: Global, table: &Table, place: Place, key: &str) -> Result<Str
     if key == "program" && value == Some("noise") && !has_version(table, NOISE_VERSION) {
         return format!(in alloc; "program = \"noise\" needs version = {NOISE_VERSION}");
     }
+    if place == Place::Top && is_head(table, key) {
+        return heads_words(alloc, key);
+    }
     let question = question_on(alloc, table, key, value)?;
     let words = wanted(alloc, table, place, key)?;
     let question = question.as_str();
     let words = words.as_str();
     format!(in alloc; "{question}{words}")
+}
+
+/// Returns true if a key at the top that has a list of tables has one table.
+fn is_head(table: &Table, key: &str) -> bool {
+    ENTRY_KEYS.iter().any(|entry| *entry == key)
+        && table.get(key).and_then(toml::Value::as_table).is_some()
+}
+
+/// Returns how the head of an entry is written.
+fn heads_words(alloc: Global, key: &str) -> Result<String, AllocError> {
+    format!(in alloc; "write \"[[{key}]]\" in place of \"[{key}]\", above each entry")
+}
+
+/// Returns the first key whose entries have heads with single brackets in a file, if one has.
+fn single_head(file: &str) -> Option<&'static str> {
+    for line in file.lines() {
+        for key in ENTRY_KEYS {
+            if head_name(line.trim()) == Some(key) {
+                return Some(key);
+            }
+        }
+    }
+    None
+}
+
+/// Returns the name in the single brackets of a line.
+fn head_name(line: &str) -> Option<&str> {
+    let (name, _) = line.strip_prefix("[")?.split_once(']')?;
+    Some(name.trim())
 }
 
 /// Returns a question for the nearest of the words that a key may have.
@@ -148,55 +181,6 @@ fn of_unlike(alloc: Global, key: Key) -> Result<String, AllocError> {
     }
 }
 
-/// Returns the helper that a line of a text calls.
-fn helper_in(line: &str) -> Option<&str> {
-    let (_before, called) = line.split_once("call ")?;
-    let name = called.trim();
-    match name.split_once(' ') {
-        Some((name, _more)) => Some(name),
-        None => Some(name),
-    }
-}
-
-/// Returns what an operand of a line may be.
-fn of_operand(alloc: Global, line: Option<&str>) -> Result<String, AllocError> {
-    let helper = match line {
-        Some(line) => helper_in(line),
-        None => None,
-    };
-    if helper.is_none() {
-        return String::from_str(alloc, "an operand is of another kind (docs/ASSEMBLER.md)");
-    }
-    let question = did_you_mean(alloc, helper, &HELPER_NAMES)?;
-    let question = question.as_str();
-    format!(in alloc; "{question}a helper is id, recv, send or coin")
-}
-
-/// Returns what is wrong with a text.
-fn of_text(
-    alloc: Global,
-    table: &Table,
-    place: Place,
-    key: &str,
-    error: TextError,
-) -> Result<String, AllocError> {
-    match error {
-        TextError::UnknownWord(_) => {
-            String::from_str(alloc, "no instruction has this name (docs/ASSEMBLER.md)")
-        }
-        TextError::BadOperand(line) => {
-            let text = text_at(table, place, key).unwrap_or_default();
-            of_operand(alloc, line_at(text, line))
-        }
-        TextError::OutOfRange(_) => String::from_str(alloc, "a number is out of its range"),
-        TextError::UnknownLabel(_) => String::from_str(alloc, "no line has this label"),
-        TextError::LabelTwice(_) => String::from_str(alloc, "an earlier line has this label"),
-        TextError::TooLong(_) => { format!(in alloc; "a program has at most {MAX_SLOTS} slots") }
-        TextError::Empty => String::from_str(alloc, "the text has no instruction"),
-        TextError::Memory => Ok(String::new(alloc)),
-    }
-}
-
 /// Returns what is wrong with a rule.
 fn of_rule(
     alloc: Global,
@@ -247,11 +231,7 @@ fn of_program(alloc: Global, table: &Table, place: Place, key: &str) -> Result<S
         Err(_) => return Ok(String::new(alloc)),
     };
     let findings = explain(alloc, &program, shape)?;
-    let line = reason(alloc, &program, shape, &findings)?;
-    match line.as_str().trim().split_once(": ") {
-        Some((_rule, why)) => String::from_str(alloc, why),
-        None => Ok(String::new(alloc)),
-    }
+    why(alloc, &program, shape, &findings)
 }
 
 /// Returns what is said of bytes that aren't TOML, beside what the parser says.
@@ -261,7 +241,10 @@ fn of_bytes(alloc: Global, file: &[u8]) -> Result<String, AllocError> {
             return String::from_str(alloc, "the file is UTF-16: save it as UTF-8");
         }
     }
-    Ok(String::new(alloc))
+    match single_head(str::from_utf8(file).unwrap_or_default()) {
+        Some(key) => heads_words(alloc, key),
+        None => Ok(String::new(alloc)),
+    }
 }
 
 /// Returns what is said of the fix: nothing if it is not known.
@@ -287,7 +270,8 @@ pub(crate) fn advice_on(
             of_value(alloc, table, Place::Load(*load), "program")
         }
         ScenarioError::BadText { place, key, error } => {
-            of_text(alloc, table, *place, key, *error)
+            let text = text_at(table, *place, key).unwrap_or_default();
+            of_text(alloc, text, *error)
         }
         ScenarioError::BadRule { place, key, error } => {
             of_rule(alloc, table, *place, key, *error)

@@ -8,7 +8,7 @@ use toml_parser::text::skip_blank;
 #[derive(Clone, Copy)]
 pub(crate) struct Sought<'a> {
     /// The array of the entry, and which of its entries, from 0 on; none at the top.
-    pub(crate) entry: Option<(&'static str, usize)>,
+    pub(crate) entry: Option<(&'a str, usize)>,
     pub(crate) key: Option<&'a str>,
 }
 
@@ -89,9 +89,11 @@ pub(crate) fn without_comment(words: &str) -> &str {
     }
 }
 
-/// Returns the array of which a head begins an entry.
+/// Returns the array of which a head begins an entry, or the table of a head with single brackets.
 fn array_of_head(head: &str) -> Option<&str> {
-    let (name, _end) = head.strip_prefix("[[")?.split_once("]]")?;
+    let name = head.strip_prefix("[")?;
+    let name = name.strip_prefix("[").unwrap_or(name);
+    let (name, _end) = name.split_once(']')?;
     Some(name.trim())
 }
 
@@ -131,6 +133,17 @@ pub(crate) fn line_at(text: &str, number: usize) -> Option<&str> {
         left = left.saturating_sub(1);
     }
     None
+}
+
+/// Returns the column of the value of a line with a key, or that of its first word, from 1 on and in characters.
+pub(crate) fn value_column(line: &str) -> usize {
+    let is_head = line.trim_start().starts_with('[');
+    let value = match line.split_once('=') {
+        Some((_key, value)) if !is_head => value,
+        Some(_) | None => line,
+    };
+    let blanks = line.trim_end().chars().count().saturating_add(1);
+    blanks.saturating_sub(value.trim().chars().count())
 }
 
 /// Returns the line of the file that has a line of the text under a key, both from 1 on. Only a text between `'''` has

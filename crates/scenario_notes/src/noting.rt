@@ -5,7 +5,8 @@ ghost use Rattle.scenario_notes.specs.declared.note.Note.TheVariants.{OfNothing}
 ghost use Rattle.scenario_notes.specs.Told.{IsNoteOf, IsOfFault, IsOfLine, IsOfSlot, IsTextLineOfSlot, Tells, rule_line};
 
 use crate::advice::advice_on;
-use crate::finding::{Sought, find, find_in_text, line_at, without_comment};
+use crate::asm_advice::instruction_column;
+use crate::finding::{Sought, find, find_in_text, line_at, value_column, without_comment};
 use crate::known::{names_at, unknown_key};
 use crate::note::{Note, Spot, UnknownKey};
 use crate::slot_line::line_of_slot;
@@ -33,11 +34,36 @@ fn line_note(alloc: Global, file: &[u8], sought: Sought<'_>) -> Result<Option<No
     Ok(Some(Note::OfLine { line, shown }))
 }
 
-/// Returns the line of a key.
+/// Returns the first head of the entries of a key.
+fn head_of(key: &str) -> Sought<'_> {
+    Sought {
+        entry: Some((key, 0)),
+        key: None,
+    }
+}
+
+/// Returns the line of a key, or of a head with its name.
 fn line_of_key(file: &[u8], place: Place, key: &str) -> Option<usize> {
     let text = str::from_utf8(file).ok()?;
-    let (line, _words) = find(text, key_at(place, key))?;
+    let found = find(text, key_at(place, key));
+    let (line, _words) = match place {
+        Place::Top => found.or(find(text, head_of(key)))?,
+        Place::Load(_) | Place::Unload(_) | Place::Corrupt(_) | Place::Coin(_) => found?,
+    };
     Some(line)
+}
+
+/// Returns the line of a key, or of the head of its entries.
+fn value_note(
+    alloc: Global,
+    file: &[u8],
+    place: Place,
+    key: &str,
+) -> Result<Option<Note>, AllocError> {
+    match (line_note(alloc, file, key_at(place, key))?, place) {
+        (None, Place::Top) => line_note(alloc, file, head_of(key)),
+        (found, _) => Ok(found),
+    }
 }
 
 fn unknown_key_note(
@@ -194,7 +220,7 @@ fn place_of(
             line_note(alloc, source.text, Sought { entry, key: None })
         }
         ScenarioError::WrongKind { place, key } | ScenarioError::OutOfRange { place, key } => {
-            line_note(alloc, source.text, key_at(*place, key))
+            value_note(alloc, source.text, *place, key)
         }
         ScenarioError::UnknownProgram { load } => {
             line_note(alloc, source.text, key_at(Place::Load(*load), "program"))
@@ -254,7 +280,40 @@ fn note_of(
     }
 }
 
-/// Returns what is said of the fix, after the note.
+/// Returns the column of the instruction of a text that a note names, from 1 on.
+fn column_in_text(source: Source<'_>, error: &ScenarioError, line: usize) -> Option<usize>
+    requires parsed { IsParsed source.text.now source.parsed.now }
+{
+    match error {
+        ScenarioError::BadText { place, key, .. } | ScenarioError::NotAccepted { place, key, .. } =>
+            {
+                let text = text_at(source.table()?, *place, key)?;
+                Some(instruction_column(line_at(text, line)?))
+            }
+        _ => None,
+    }
+}
+
+/// Returns the column of a line of a file that a note names, from 1 on.
+fn column_in_file(source: Source<'_>, line: usize) -> Option<usize> {
+    let text = str::from_utf8(source.text).ok()?;
+    Some(value_column(line_at(text, line)?))
+}
+
+/// Returns the column that a note names, from 1 on, if it isn't among its words already.
+fn column_of(source: Source<'_>, note: &Note, error: &ScenarioError) -> Option<usize>
+    requires parsed { IsParsed source.text.now source.parsed.now }
+{
+    match note {
+        Note::OfLine { line, .. } => column_in_file(source, *line),
+        Note::OfText { spot } => column_in_text(source, error, spot.line),
+        Note::OfSlot { spot, .. } => column_in_text(source, error, spot.line),
+        Note::OfKey { .. } | Note::NotToml { .. } | Note::OfSlotAlone { .. } | Note::OfNothing =>
+            None,
+    }
+}
+
+/// Returns what is said of the fix, after the note, with the column before it.
 fn advice_behind(
     alloc: Global,
     source: Source<'_>,
@@ -270,8 +329,12 @@ fn advice_behind(
     if let Note::OfNothing = note {
         return Ok(advice);
     }
+    let column = column_of(source, note, error);
     let advice = advice.as_str();
-    format!(in alloc; "; {advice}")
+    match column {
+        Some(column) => format!(in alloc; "; column {column}: {advice}"),
+        None => format!(in alloc; "; {advice}"),
+    }
 }
 
 /// Returns the line of the note on a rejected text, with its end, if there is something to say. `rejected` is what was

@@ -1,7 +1,9 @@
 //! What the parser says of a text that it doesn't read.
 
+use crate::finding::without_comment;
 use crate::note::Note;
 use std::alloc::{AllocError, Global};
+use std::str;
 
 /// Returns the line and the column after a front.
 fn place_behind(front: &[u8]) -> (usize, usize) {
@@ -23,6 +25,29 @@ fn begins_letter(byte: u8) -> bool {
     byte & 0xc0 != 0x80
 }
 
+/// Returns the word that is the rest of a line: nothing if the rest isn't one word.
+fn word_of(rest: &str) -> &str {
+    let line = rest.split('\n').next().unwrap_or_default();
+    let word = without_comment(line).trim();
+    if word.bytes().all(|byte| byte.is_ascii_alphabetic()) {
+        word
+    } else {
+        ""
+    }
+}
+
+/// Returns what to write where the parser stops, after what it says: nothing if that isn't known.
+fn fix(alloc: Global, message: &str, rest: &str) -> Result<String, AllocError> {
+    if rest.starts_with(':') {
+        return String::from_str(alloc, "; write \"=\" in place of \":\"");
+    }
+    let word = word_of(rest);
+    if word.len() > 0 && message.starts_with("invalid value") {
+        return format!(in alloc; "; a word is in quotes: \"{word}\"");
+    }
+    Ok(String::new(alloc))
+}
+
 /// Returns the note on the error of the parser.
 pub(crate) fn toml_note(
     alloc: Global,
@@ -32,8 +57,12 @@ pub(crate) fn toml_note(
     let Some(span) = error.span() else {
         return Ok(None);
     };
-    let (line, column) = place_behind(&text[..span.start.min(text.len())]);
-    let message = String::from_str(alloc, error.message())?;
+    let start = span.start.min(text.len());
+    let (line, column) = place_behind(&text[..start]);
+    let rest = str::from_utf8(&text[start..]).unwrap_or_default();
+    let fix = fix(alloc, error.message(), rest)?;
+    let fix = fix.as_str();
+    let message = format!(in alloc; "{}{fix}", error.message())?;
     Ok(Some(Note::NotToml {
         line,
         column,

@@ -39,7 +39,7 @@ fn program_words(alloc: Global, table: &Table) -> Result<String, AllocError> {
         );
     }
     format!(in alloc;
-        "program is \"clock\", \"say\", \"echo\" or \"asm\", and from version {RULE_VERSION} on \"rule\""
+        "program is \"clock\", \"say\", \"echo\" or \"asm\", and from version {RULE_VERSION} on \"rule\" or \"noise\""
     )
 }
 

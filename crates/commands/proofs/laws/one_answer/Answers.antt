@@ -1,4 +1,4 @@
-use Rattle.commands.proofs.AnswerLemmas.{one_answer, one_of_image}
+use Rattle.program_commands.proofs.AnswerLemmas.{one_answer, one_of_image}
 use Rattle.commands.proofs.laws.one_answer.Goals as goal
 
 pub returns-clause-same : goal.returns-clause-same

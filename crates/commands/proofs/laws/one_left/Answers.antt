@@ -1,4 +1,4 @@
-use Rattle.commands.proofs.AnswerLemmas as lemmas
+use Rattle.program_commands.proofs.AnswerLemmas as lemmas
 use Rattle.commands.proofs.laws.one_left.Goals as goal
 
 pub returns : goal.returns

@@ -1,4 +1,4 @@
-use Rattle.commands.proofs.VerdictLemmas as lemmas
+use Rattle.program_commands.proofs.VerdictLemmas as lemmas
 use Rattle.commands.proofs.laws.one_verdict.Goals as goal
 
 pub returns : goal.returns

@@ -1,5 +1,5 @@
 use Rattle.std.proofs.Common.{Err, Ok, Option, List, ℕ, subst}
-use Rattle.commands.specs.Faults.{Says, fault_text}
+use Rattle.command_answers.specs.Faults.{Says, fault_text}
 use Rattle.commands.proofs.perform.perform.Goals as goal
 
 pub returns-in-Ok-clause-performed : goal.returns-in-Ok-clause-performed

@@ -1,0 +1,11 @@
+pub mod Answer
+pub mod AsmText
+pub mod Ending
+pub mod Faults
+pub mod Image
+pub mod Input
+pub mod Left
+pub mod Output
+pub mod Said
+pub mod Rejections
+pub mod inner

@@ -1,0 +1,7 @@
+pub mod ExplainLemmas
+pub mod AnswerLemmas
+pub mod CaseLemmas
+pub mod VerdictLemmas
+pub mod TracedLemmas
+pub mod LeavesLemmas
+pub mod ExecLemmas

@@ -1,0 +1,3 @@
+-- What proofs and private contracts alone cite.
+pub mod Exec
+pub mod Input

@@ -1,0 +1,2 @@
+pub mod TracedRunLemmas
+pub mod NodeRuleLemmas

@@ -1,0 +1,9 @@
+pub mod Run
+pub mod Lines
+pub mod Stress
+pub mod Sweep
+pub mod NodeRule
+pub mod NodeText
+pub mod TracedRun
+pub mod NodeProgram
+pub mod inner

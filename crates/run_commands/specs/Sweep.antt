@@ -1,0 +1,31 @@
+-- What `sweep` leaves on its output (docs/COMMANDS.md, "What sweep prints").
+use Rattle.std.specs.Prelude.{◌≡◌, ◌⊎◌, false, ℕ, List, codes, Option, Result, Ok, Err}
+use Rattle.parameters.specs.Keys.{KeyRange}
+use Rattle.key_sweep.specs.Sweeps.{LeavesSweep, uses_key}
+use Rattle.key_sweep.specs.declared.sweeping.SweepFault.TheVariants as sweeps
+use Rattle.scenario_text.specs.declared.scenario.Scenario.{Scenario}
+use Rattle.stream_io.specs.declared.parts.PartFault.TheVariants as parts
+use Rattle.command_answers.specs.declared.ending.Ending.{Ending}
+use Rattle.command_answers.specs.declared.ending.Ending.TheVariants.{Done, Refused}
+use Rattle.command_answers.specs.declared.fault.Fault.{Fault}
+use Rattle.command_answers.specs.declared.fault.Fault.TheVariants as faults
+use Rattle.command_answers.specs.Output.{Leaves}
+
+-- the line that refuses a scenario of which nothing is drawn by a key
+abbrev pub no_key_line : List ℕ
+no_key_line = codes "refused sweep NoKey\n"
+
+-- the lines of the keys; their front if a write failed; whole lines if memory ran out
+abbrev pub LeavesKeys : Option (List ℕ) → Option (List ℕ) → Scenario → KeyRange → Result Ending Fault → Type 0
+LeavesKeys old new s keys (Ok ending) = (ending ≡ Done) × LeavesSweep old new s keys (Ok tt)
+LeavesKeys old new s keys (Err (faults.Write after)) =
+    LeavesSweep old new s keys (Err (sweeps.Part (parts.Write after)))
+LeavesKeys old new s keys (Err faults.Memory) = LeavesSweep old new s keys (Err (sweeps.Part parts.Memory))
+LeavesKeys old new s keys (Err faults.Read) = ⊥
+LeavesKeys old new s keys (Err faults.Thread) = ⊥
+LeavesKeys old new s keys (Err (faults.CommandLine said)) = ⊥
+
+-- the same, or the line of the refusal
+abbrev pub LeavesSwept : Option (List ℕ) → Option (List ℕ) → Scenario → KeyRange → Result Ending Fault → Type 0
+LeavesSwept old new s keys ended =
+    LeavesKeys old new s keys ended ⊎ ((uses_key s ≡ false) × Leaves old new no_key_line Refused ended)
