@@ -8,7 +8,8 @@ shift 2
 object=$(mktemp)
 trap 'rm -f "$object"' EXIT
 
-clang -target bpf -O2 -mcpu=v3 -fno-jump-tables -mllvm -disable-block-placement -Wall "$@" -c "$source" -o "$object"
+clang -target bpf -O2 -mcpu=v3 -fno-jump-tables -mllvm -disable-block-placement -Xclang -disable-lifetime-markers \
+  -mllvm -jump-threading-threshold=0 -Wall "$@" -c "$source" -o "$object"
 # Relocations of the text: those of what -g adds don't touch the image.
 relocations=$(llvm-readelf -r "$object")
 if [[ $relocations == *"'.rel.text'"* ]]; then

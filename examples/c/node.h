@@ -1,6 +1,7 @@
 /* What a node's program has in C: its memory and its number as arguments, and four helpers. docs/NODES_IN_C.md tells how
    a program is compiled, verified and run. */
-#pragma once
+#ifndef CLOCKBED_NODE
+#define CLOCKBED_NODE
 
 typedef unsigned char u8;
 typedef unsigned int u32;
@@ -20,3 +21,5 @@ static u64 (*const coin)(void) = (void *)4;
 
 /* Behind a statement in a branch: the compiler keeps it there, and prepares no two values ahead to choose from. */
 #define KEEP_HERE(number) asm volatile("" : "+r"(number))
+
+#endif
