@@ -11,7 +11,7 @@ as for check_rows.py.
 import sys
 
 sys.dont_write_bytecode = True
-from built_program import Answer, answer, named_program, on_all_processors, tell
+from built_program import Answer, answer, named_program, on_all_processors, tell, without_note
 
 # Nodes, faults and modulus.
 SIZES = [(1, 0, 2), (4, 1, 8), (4, 1, 16), (7, 3, 65535), (32, 10, 65536), (64, 21, 65536)]
@@ -100,14 +100,14 @@ def size_differences(program, size):
             yield f"the clock of {size}: {name}: {got} in place of {wanted}"
     if nodes > 1:
         words = ["verify", "--memory", "8", "--nodes", str(nodes - 1)]
-        got, wanted = answer(program, words, image), line(f"refused rule 9 slot {2 + 4 * nodes}", REFUSED)
+        got, wanted = without_note(answer(program, words, image)), line(f"refused rule 9 slot {2 + 4 * nodes}", REFUSED)
         if got != wanted:
             yield f"the clock of {size} for a node less: {got} in place of {wanted}"
 
 
 def pair(program, image):
     """What `verify` and `exec` answer."""
-    verdict = answer(program, ["verify", "--memory", "8"], image)
+    verdict = without_note(answer(program, ["verify", "--memory", "8"], image))
     return verdict, answer(program, ["exec", "--memory", "8", "--fuel", str(FUEL)], image)
 
 

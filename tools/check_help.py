@@ -2,7 +2,7 @@
 """Runs the example of each help text of the program, and looks for its page: tools/check_help.py [PROGRAM]
 
 `clockbed --help` and the help of each command end with `Example: clockbed ..` and `Page: docs/..`. The example runs in
-a fresh folder with a copy of examples/ and with a text program.s; it must end with status 0 and write something.
+a fresh folder with a copy of examples/; it must end with status 0 and write something.
 PROGRAM is as for check_rows.py.
 """
 import os
@@ -19,7 +19,6 @@ from built_program import SECONDS, TOP, answer, named_program, on_all_processors
 COMMAND = re.compile(r"^  ([a-z]+)  +\S", re.M)
 EXAMPLE = re.compile(r"^Example: (clockbed .+)$", re.M)
 PAGE = re.compile(r"^Page: (\S+)$", re.M)
-TEXT = "mov64 r0, 7\nexit\n"
 
 
 def helps(program):
@@ -35,7 +34,6 @@ def fresh_folder(parent, program):
     """A folder in which an example can run, and the folder in which `clockbed` is the program."""
     place, programs = pathlib.Path(tempfile.mkdtemp(dir=parent)), pathlib.Path(tempfile.mkdtemp(dir=parent))
     shutil.copytree(TOP / "examples", place / "examples")
-    (place / "program.s").write_text(TEXT)
     (programs / "clockbed").symlink_to(program)
     return place, programs
 

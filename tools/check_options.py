@@ -59,6 +59,7 @@ ROWS = {
     ("compile", "faults"): (["--nodes", "64"], RULE, "2"),
     ("compile", "modulus"): ([], RULE, "9"),
     ("compile", "list"): ([], RULE, None),
+    ("compile", "c"): ([], RULE, None),
     ("dis", "list"): ([], IMAGE, None),
     ("dis", "clock"): ([], IMAGE, None),
     ("dis", "nodes"): (["--clock", "--faults", "0"], IMAGE, "5"),

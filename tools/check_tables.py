@@ -35,11 +35,16 @@ def lines_of(text):
     return text.replace(";", "\n").encode()
 
 
+def note_in(got):
+    """The note of an answer, if its standard error is one."""
+    return got.err if NOTE.fullmatch(got.err) else b""
+
+
 def text_answers(program, cells):
     got = answer(program, ["asm"], lines_of(cells["text"]))
     name, _, line = cells["answer"].partition(" ")
     if line:
-        return got, Answer(2, f"refused text {name} line {line}\n".encode(), b"")
+        return got, Answer(2, f"refused text {name} line {line}\n".encode(), note_in(got))
     return got, Answer(0, bytes.fromhex(name), b"")
 
 
@@ -52,8 +57,7 @@ def scenario_answers(program, cells):
     got = answer(program, ["run"], BEFORE[cells["after"]] + lines_of(cells["text"]))
     if cells["answer"] == "taken":
         return got, Answer(0, got.out, b"")
-    note = got.err if NOTE.fullmatch(got.err) else b""
-    return got, Answer(2, f"refused scenario {cells['answer']}\n".encode(), note)
+    return got, Answer(2, f"refused scenario {cells['answer']}\n".encode(), note_in(got))
 
 
 def listed_answers(program, cells):

@@ -200,7 +200,7 @@ def length_checks(clockbed):
     rows = [
         ("run", LIMIT, Ran(REFUSED, b"refused scenario MissingKey nodes\n", wanted_key)),
         ("run", LIMIT + 1, Ran(REFUSED, b"refused scenario TooLong\n", too_long)),
-        ("asm", LIMIT, Ran(REFUSED, b"refused text Empty line 0\n", b"")),
+        ("asm", LIMIT, Ran(REFUSED, b"refused text Empty line 0\n", b"note: the text has no instruction\n")),
         ("asm", LIMIT + 1, Ran(FAULT, b"", READ_FAULT)),
     ]
     for words, count, wanted in rows:

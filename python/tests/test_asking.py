@@ -98,7 +98,7 @@ class ErrorTest(unittest.TestCase):
         no_toml = Scenario(four.replace('"ones"', "ones"))
         self.assertEqual(self.rejection(no_toml.run), ("scenario", "NotToml", line, 9))
         unknown_node = Scenario.read(TOP / "examples/splitter_unknown_node.toml")
-        self.assertEqual(self.rejection(unknown_node.run)[1:], ("NotAccepted", 15, None))
+        self.assertEqual(self.rejection(unknown_node.run)[1:], ("NotAccepted", 15, 9))
         self.assertEqual(self.rejection(Bench(n=200).run), ("scenario", "OutOfRange", 2, None))
 
     def test_a_program(self):
