@@ -3,7 +3,7 @@
 
 - `explore` shows once a second how far it is, on one line that it writes over, and ends that line.
 - `sweep`, whose output is no terminal, shows seeds done, seeds a second and seconds left. These three must fit one another.
-  It is given more seeds until some second is left to be shown, so that a fast machine is watched too.
+  Both are given more to do until a second has passed, so that a fast machine is watched too.
 - `run --workers 4` has more than one thread if the pulses are long, and `--workers 1` has one.
 """
 import errno
@@ -21,8 +21,8 @@ from built_program import SECONDS, TOP, named_program
 SEARCHED = re.compile(r"(\d+) states, (\d+) transitions, (\d+) s ")
 SWEPT = re.compile(r"(\d+) of (\d+) keys, (\d+) a second, (\d+) s left ")
 SEEDS = [40_000, 160_000, 640_000, 2_560_000]
-# The search for so many states of this bench takes seconds.
-STATES = 12_000
+# The search for so many states of this bench takes seconds, on a fast machine for the later numbers.
+STATES = [12_000, 16_000, 20_000]
 SIXTEEN = """nodes = 16
 faults = 5
 modulus = 8
@@ -75,10 +75,19 @@ def told_on_a_terminal(program, words, given):
     return told.decode()
 
 
+def searched(program):
+    """What a search showed, and the numbers of each line: of the first number of states that takes a second."""
+    for states in STATES:
+        told = told_on_a_terminal(program, ["explore", "--states", str(states)], SIXTEEN)
+        lines = told.split("\r")[1:]
+        counts = [tuple(map(int, found.groups())) for line in lines if (found := SEARCHED.match(line))]
+        if counts:
+            break
+    return told, counts
+
+
 def search_faults(program):
-    told = told_on_a_terminal(program, ["explore", "--states", str(STATES)], SIXTEEN)
-    lines = told.split("\r")[1:]
-    counts = [tuple(map(int, found.groups())) for line in lines if (found := SEARCHED.match(line))]
+    told, counts = searched(program)
     if not counts:
         yield f"explore told no progress: {told!r}"
     seconds = [second for _, _, second in counts]
