@@ -1,0 +1,3 @@
+pub mod Instances
+pub mod Searching
+pub mod Views

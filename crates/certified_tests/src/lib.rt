@@ -1,0 +1,5 @@
+//! The tests of `certified_steps`.
+#![tactic(auto)]
+
+#[cfg(test)]
+mod tests;

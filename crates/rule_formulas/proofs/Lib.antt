@@ -1,0 +1,2 @@
+pub mod FormedTerms
+pub mod StoreLists

@@ -1,0 +1,4 @@
+pub mod Blocks
+pub mod Fresh
+pub mod Kept
+pub mod Terms

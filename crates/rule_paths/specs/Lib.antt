@@ -1,0 +1,4 @@
+pub mod Covered
+pub mod Paths
+pub mod Relations
+pub mod Stores

@@ -1,0 +1,3 @@
+pub mod Quorums
+pub mod Steps
+pub mod Views

@@ -1,0 +1,4 @@
+pub mod Claims
+pub mod Laws
+pub mod Searches
+pub mod Views
