@@ -10,6 +10,9 @@ from concurrent.futures import ThreadPoolExecutor
 TOP = pathlib.Path(__file__).resolve().parent.parent
 BUILT = TOP / "crates/clockbed/out/clockbed"
 SECONDS = 60
+# A note may have a line of the source below it, and under that the mark.
+NOTE = re.compile(rb"note: [^\n]+\n(?:[^\n]*\n[ \t]*\^\n)?")
+NOTED = (2, 4)
 
 
 @dataclasses.dataclass
@@ -39,8 +42,8 @@ def answer(program, words, given):
 
 
 def without_note(told):
-    """The answer without the note that may follow a refusal: one line on standard error."""
-    if told.status == 2 and re.fullmatch(rb"note: [^\n]*\n", told.err):
+    """The answer without the note that may follow a refusal or an unfinished search, on standard error."""
+    if told.status in NOTED and NOTE.fullmatch(told.err):
         return dataclasses.replace(told, err=b"")
     return told
 

@@ -3,7 +3,8 @@
 
 The inputs are those of examples/. Each edit is a slip as beginners make them, as a word with two letters swapped, a
 missing comma or a word of another language, after which the program rejects the text. The note has to name a line, and
-a column or the unknown key. If it suggests a fix, this is applied at the place, up to four times; at least half of all
+a column or the unknown key. A line with a mark below the note has to be the one that the note names, and the mark has
+to be at its column. If the note suggests a fix, this is applied at the place, up to four times; at least half of all
 slips have to be accepted then. The draw is by a fixed seed. PROGRAM is as for check_rows.py; with `--all` after it the
 notes are printed that lead to no accepted text.
 """
@@ -22,7 +23,7 @@ ROUNDS = 4
 MAX_TRIES = 5_000
 # Half as many again are drawn, since some are no error.
 SPARE = 2
-NOTE = re.compile(r"note: (?:line (\d+)(?:, column (\d+))?: )?(.*)\n")
+NOTE = re.compile(r"note: (?:line (\d+)(?:, column (\d+))?: )?(.*)\n(?:(.*)\n([ \t]*)\^\n)?")
 TEXT_LINE = re.compile(r"line (\d+) of the text: ")
 COLUMN = re.compile(r"; column (\d+): ")
 WRITTEN = re.compile(r'write "(.+?)" in place of "(.+?)"(?=$|[,;])')
@@ -131,6 +132,8 @@ class Told:
     has_column: bool
     has_fix: bool
     is_accepted: bool
+    has_mark: bool = False
+    is_mark_wrong: bool = False
 
     def has_place(self):
         """Whether the note names a line and a column, or the very key on the line."""
@@ -182,12 +185,26 @@ def place_of(slip, note):
     found = NOTE.fullmatch(note)
     if not found:
         return None, None, ""
-    line, column, words = found.groups()
+    line, column, words = found.groups()[:3]
     behind = COLUMN.search(words)
     column = column or (behind and behind[1])
     if not line and TEXT_LINE.match(words):
         line = TEXT_LINE.match(words)[1]
     return line and int(line), column and int(column), words
+
+
+def mark_of(slip, note):
+    """Whether a note has a marked line, and whether that isn't the line that it names, or the mark is at another column.
+
+    A long line is shown in part, and isn't compared."""
+    found, (line, column, _) = NOTE.fullmatch(note), place_of(slip, note)
+    if not found or found[4] is None:
+        return False, False
+    shown_line, padding, lines = found[4], found[5], slip.text.split("\n")
+    if shown_line.startswith("..") or shown_line.endswith(".."):
+        return True, False
+    is_there = bool(line) and line <= len(lines) and lines[line - 1].rstrip() == shown_line
+    return True, not is_there or bool(column) and len(padding) != column - 1
 
 
 def with_first(line, wrong, right, near):
@@ -258,7 +275,8 @@ def told(program, slip):
     if got.status == 0:
         return []
     line, column, _ = place_of(slip, got.err.decode())
-    result = Told(slip, got.err.decode(), bool(line), bool(column), False, False)
+    has_mark, is_wrong = mark_of(slip, got.err.decode())
+    result = Told(slip, got.err.decode(), bool(line), bool(column), False, False, has_mark, is_wrong)
     for _ in range(ROUNDS):
         text = fixed(slip, got.err.decode())
         if text is None:
@@ -274,7 +292,7 @@ def told(program, slip):
 def shown(kind, some):
     return (
         f"check_slips: {kind}: {len(some)} slips, {sum(it.has_line for it in some)} with a line, "
-        f"{sum(it.has_column for it in some)} with a column, {sum(it.has_fix for it in some)} with a fix, "
+        f"{sum(it.has_column for it in some)} with a column, {sum(it.has_mark for it in some)} marked, {sum(it.has_fix for it in some)} with a fix, "
         f"{sum(it.is_accepted for it in some)} accepted after it"
     )
 
@@ -291,9 +309,9 @@ def main():
         for it in results:
             if not (it.has_place() and it.is_accepted):
                 print(f"{it.slip.name}: {it.note.strip()}")
-    bad = [it for it in results if not it.has_place()]
+    bad = [it for it in results if not it.has_place() or it.is_mark_wrong]
     for it in bad:
-        print(f"{it.slip.name}: no line or no column: {it.note.strip()}")
+        print(f"{it.slip.name}: no line, no column or a wrong mark: {it.note.strip()}")
     accepted = sum(it.is_accepted for it in results)
     return 1 if bad or len(results) < sum(COUNT.values()) or 2 * accepted < len(results) else 0
 

@@ -9,15 +9,13 @@ with the refusal, or `taken`. A refusal may be followed by a note, of which note
 check_rows.py.
 """
 import csv
-import re
 import sys
 
 sys.dont_write_bytecode = True
-from built_program import TOP, Answer, answer, named_program, on_all_processors, tell
+from built_program import NOTE, TOP, Answer, answer, named_program, on_all_processors, tell
 
 TOP_KEYS = b'nodes = 4\nfaults = 1\nmodulus = 8\nmemory = 8\npulses = 10\ncoins = "ones"\n'
 BEFORE = {"nothing": b"", "top": TOP_KEYS, "version 3": b"version = 3\n" + TOP_KEYS, "version 4": b"version = 4\n" + TOP_KEYS}
-NOTE = re.compile(rb"(note: [^\n]+\n)?")
 LISTED_NODES = 64
 LISTED = """version = 2
 nodes = {nodes}

@@ -28,8 +28,14 @@ export const isCancelled = (why) => why.name === "AbortError";
 export const wordsOf = ({ status, out, err, ended }) =>
   ended || [out, err].map((it) => it.trim()).filter(Boolean).join("\n") || `clockbed ended with status ${status}`;
 
-/** The end of a note, which says what is wrong; before it are the place and the line as it stands. */
-export const endOfNote = (note) => /; (?=[^;]*$)(.*)$/.exec(note)?.[1] ?? note;
+/** What is said without the marked line below a note: the editor marks the line itself. */
+export const withoutMark = (words) => words.replace(/^(note: .*)\n.*\n[ \t]*\^$/m, "$1");
+
+/** The end of a note, which says what is wrong; before it is the place, and in a scenario the line as it stands. */
+export const endOfNote = (words) => {
+  const note = withoutMark(words);
+  return /; (?=[^;]*$)(.*)$/.exec(note)?.[1] ?? note.replace(/^[^]*note: (line \d+(, column \d+)?: )?/, "");
+};
 
 /** One question at a time: a new one cancels the one before. */
 export class Line {

@@ -1,5 +1,5 @@
 // The page as a whole: the scenario's editor, keys, and which part is shown.
-import { NoAnswer, ask, endOfNote } from "./ask.js";
+import { NoAnswer, ask, endOfNote, withoutMark } from "./ask.js";
 import { Editor, undoKey } from "./editor.js";
 import { KEPT } from "./kept.js";
 import { button, get, make, on, say, state, tell } from "./page.js";
@@ -86,8 +86,8 @@ function showEnded(words) {
 }
 
 /** Shows what the program says of the text, at the line that it names. */
-function showRejected(words) {
-  const lines = words.split("\n"), found = LINE.exec(lines.find((it) => it.startsWith("note: ")) || "");
+function showRejected(said) {
+  const words = withoutMark(said), lines = words.split("\n"), found = LINE.exec(lines.find((it) => it.startsWith("note: ")) || "");
   const line = found ? Number(found[1]) : 0, parts = lines.map((it) => make("p", {}, it));
   if (line > 0) {
     editor.mark(line, / BadRule /.test(words) ? endOfNote(words) : lines[0]);

@@ -1,6 +1,6 @@
 // A program text under the scenario, a rule or assembler, checked as one types; a rejected one is explained at its
 // line.
-import { Line, NoAnswer, endOfNote, isCancelled } from "./ask.js";
+import { Line, NoAnswer, endOfNote, isCancelled, withoutMark } from "./ask.js";
 import { Editor } from "./editor.js";
 import { get, make, on, state } from "./page.js";
 import { RULE_HINT } from "./words.js";
@@ -55,7 +55,7 @@ function show(answer) {
   const said = lines.filter((it) => !rows.includes(it)), isTaken = answer.status === 0 && !answer.ended;
   editor.unmark();
   const parts = said.map((it) => make("p", { class: isTaken ? "right" : "wrong" }, it));
-  const note = answer.err.trim() + answer.ended;
+  const note = withoutMark(answer.err.trim()) + answer.ended;
   if (note) parts.push(make("p", { class: "wrong" }, note));
   const at = isTaken ? 0 : lineOf(rows, said[0] || "");
   if (/unknown name/.test(note)) parts.push(make("p", { class: "soft" }, RULE_HINT));

@@ -1,6 +1,5 @@
 -- What proofs and private contracts alone cite.
 pub mod Faults
-pub mod Notes
 pub mod Rejections
 pub mod Responses
 pub mod Left

@@ -1,22 +1,18 @@
 //! What is said after a refusal: where it comes from, and what to do.
-ghost use Rattle.std.specs.Prelude.{IfSome, string_bytes};
 ghost use Rattle.rule_notes.specs.Words.{IsNote};
 ghost use Rattle.command_answers.specs.Said.{SaysNote};
-ghost use Rattle.command_answers.specs.inner.Notes.{IsOneLine};
 ghost use Rattle.command_answers.specs.inner.Rejections.{IsRejectionOf};
 
 use crate::rejection::{Rejection, Uncompiled, Unread};
-use crate::trace_note::note_on_trace;
+use crate::trace_note::words_on_trace;
 use bpf_asm::assemble;
 use bpf_insn::decode;
-use exploration::Unfit;
-use explored::Starts;
 use requests::NodeInPulse;
-use rule_notes::note_on_rule;
+use rule_notes::{Note, note_on_rule};
 use rule_programs::RuleRefusal;
 use rule_syntax::Statement;
 use rule_text::read_rule;
-use scenario_notes::{note_on, words_on_text};
+use scenario_notes::{note_on, note_on_text};
 use scenario_text::Scenario;
 use std::alloc::Global;
 use std::io::Write;
@@ -36,12 +32,8 @@ pub enum Kind {
 }
 
 impl Kind {
-    ghost use Rattle.command_answers.specs.inner.Notes.{IsOneLine};
-
     /// Returns what to do with an input of this kind.
-    fn words(self) -> &'static str
-        ensures { IsOneLine result.now }
-    {
+    fn words(self) -> &'static str {
         match self {
             Kind::Scenario => "this seems to be a scenario; clockbed run FILE runs it",
             Kind::Rule => "this seems to be a rule; clockbed compile FILE prints its image",
@@ -74,19 +66,11 @@ pub enum Advice {
     Long,
     /// A scenario has no seed, and `sweep` needs one.
     Seed,
-    /// A scenario can't be explored, or no law covers a part of what is asked.
-    Unfit(Unfit),
-    /// No law covers every start with any message.
-    EveryStartAnyMessage,
 }
 
 impl Advice {
-    ghost use Rattle.command_answers.specs.inner.Notes.{IsOneLine};
-
     /// Returns the words of the note.
-    fn words(self) -> &'static str
-        ensures { IsOneLine result.now }
-    {
+    fn words(self) -> &'static str {
         match self {
             Advice::Elf =>
                 "this is an ELF file; an image is its .text alone: llvm-objcopy -O binary --only-section=.text FILE IMAGE",
@@ -104,66 +88,20 @@ impl Advice {
                 "a program has at most 2048 slots, and for and count are written out for each node: use fewer of both, or fewer --nodes",
             Advice::Seed =>
                 "sweep runs a scenario once for each seed: it needs a key, and coins = \"chacha\" or a load of noise",
-            Advice::Unfit(unfit) => unfit_words(unfit),
-            Advice::EveryStartAnyMessage =>
-                "no law covers every start with any message of these programs: use --start any --cells, and if need be --mail 0..8",
         }
     }
 }
 
-/// Returns what is said of a scenario that can't be explored.
-fn unfit_words(unfit: Unfit) -> &'static str
-    ensures { IsOneLine result.now }
-{
-    match unfit {
-        Unfit::Load => "explore takes loads of pulse 1 alone: a correct node keeps its program",
-        Unfit::Unload => "explore takes no [[unload]]: a correct node keeps its program",
-        Unfit::Corrupt => "explore takes no [[corrupt]]: --start any tries other initial memories",
-        Unfit::Coin => "explore takes no [[coin]]: it tries both coins of each node",
-        Unfit::Unloaded => "explore needs a node with a program: add a [[load]] of pulse 1",
-        Unfit::Byte =>
-            "--cells names a place past the memory: places go from 0 to one below `memory`",
-        Unfit::Image =>
-            "--images has a memory of another length: each has two digits for each byte of `memory`",
-        Unfit::AnyMessage =>
-            "no law covers any message to these programs: name numbers, as --mail 0..8",
-        Unfit::NoLaw { .. } =>
-            "no law covers every start of these programs: use --start any --cells",
-    }
-}
-
 /// Returns the note with these words, if there is memory for it.
-pub fn advised(alloc: Global, advice: Advice) -> Option<String>
-    ensures { IfSome result (λ note. IsNote (string_bytes note)) }
-{
-    note_with(alloc, advice.words())
-}
-
-fn note_with(alloc: Global, words: &str) -> Option<String>
-    requires { IsOneLine words.now }
-    ensures { IfSome result (λ note. IsNote (string_bytes note)) }
-{
-    match format!(in alloc; "note: {words}\n") {
-        Ok(note) => Some(note),
-        Err(_) => None,
-    }
-}
-
-/// Returns the note with these words, if there are any and they are one line.
-pub fn line_with(alloc: Global, words: &str) -> Option<String>
-    ensures { IfSome result (λ note. IsNote (string_bytes note)) }
-{
-    if words.len() == 0 || words.as_bytes().contains(&b'\n') {
-        return None;
-    }
-    note_with(alloc, words)
+pub fn advised(alloc: Global, advice: Advice) -> Option<Note> {
+    let words = String::from_str(alloc, advice.words()).ok()?;
+    Note::of(alloc, words)
 }
 
 /// Returns the note on a rejection of these bytes, if there is something to say. If they seem to be of another kind than
 /// what the command reads, the note says so.
-pub(crate) fn rejection_note(alloc: Global, rejection: &Rejection, bytes: &[u8]) -> Option<String>
+pub(crate) fn rejection_note(alloc: Global, rejection: &Rejection, bytes: &[u8]) -> Option<Note>
     requires { IsRejectionOf bytes.now rejection.now }
-    ensures { IfSome result (λ note. IsNote (string_bytes note)) }
 {
     if let Some(kind) = other_kind(alloc, rejection, bytes) {
         return advised(alloc, Advice::Kind(kind));
@@ -171,15 +109,9 @@ pub(crate) fn rejection_note(alloc: Global, rejection: &Rejection, bytes: &[u8])
     match rejection {
         Rejection::Program(Unread::Image(_)) => advised(alloc, image_advice(bytes)?),
         Rejection::Program(Unread::Shape) => advised(alloc, Advice::Shape),
-        Rejection::Program(Unread::Text(error)) => {
-            let words = words_on_text(alloc, bytes, *error).ok()?;
-            line_with(alloc, words.as_str())
-        }
+        Rejection::Program(Unread::Text(error)) => note_on_text(alloc, bytes, *error).ok()?,
         Rejection::Rule { why, memory } => uncompiled_note(alloc, *memory, bytes, *why),
-        Rejection::Scenario(rejected) => match note_on(alloc, bytes, rejected) {
-            Ok(note) => note,
-            Err(_) => None,
-        },
+        Rejection::Scenario(rejected) => note_on(alloc, bytes, rejected).ok()?,
     }
 }
 
@@ -232,9 +164,7 @@ fn sets_nodes(line: &str) -> bool {
 }
 
 /// Returns the note on a rule that has no program, on nodes with this many bytes of memory.
-fn uncompiled_note(alloc: Global, memory: u32, text: &[u8], why: Uncompiled) -> Option<String>
-    ensures { IfSome result (λ note. IsNote (string_bytes note)) }
-{
+fn uncompiled_note(alloc: Global, memory: u32, text: &[u8], why: Uncompiled) -> Option<Note> {
     match why {
         Uncompiled::Shape => advised(alloc, Advice::Shape),
         Uncompiled::Sizes => advised(alloc, Advice::Sizes),
@@ -244,10 +174,7 @@ fn uncompiled_note(alloc: Global, memory: u32, text: &[u8], why: Uncompiled) -> 
                 line,
                 column,
             },
-        ) => match note_on_rule(alloc, text, error, line, column) {
-            Ok(note) => note,
-            Err(_) => None,
-        },
+        ) => note_on_rule(alloc, text, error, line, column).ok()?,
         Uncompiled::Rule(RuleRefusal::NoRoom) => advised(alloc, room_advice(alloc, memory, text)?),
         Uncompiled::Rule(RuleRefusal::TooLong) => advised(alloc, Advice::Long),
     }
@@ -285,30 +212,24 @@ fn may_be_of_text(byte: u8) -> bool {
     !byte.is_ascii_control() || byte.is_ascii_whitespace()
 }
 
-/// Returns the note on a scenario that can't be explored from these starts.
-pub fn unfit_note(alloc: Global, start: &Starts, unfit: Unfit) -> Option<String>
-    ensures { IfSome result (λ note. IsNote (string_bytes note)) }
-{
-    match (unfit, start) {
-        (Unfit::AnyMessage, Starts::Every) => advised(alloc, Advice::EveryStartAnyMessage),
-        (unfit, _) => advised(alloc, Advice::Unfit(unfit)),
-    }
-}
-
 /// Returns the note on what a scenario has in place of a node in a pulse.
-pub fn place_note(alloc: Global, place: NodeInPulse, scenario: &Scenario) -> Option<String>
-    ensures { IfSome result (λ note. IsNote (string_bytes note)) }
-{
-    match note_on_trace(alloc, place, scenario) {
-        Ok(note) => note,
-        Err(_) => None,
-    }
+pub fn place_note(alloc: Global, place: NodeInPulse, scenario: &Scenario) -> Option<Note> {
+    let words = words_on_trace(alloc, place, scenario).ok()?;
+    Note::of(alloc, words)
 }
 
-/// Says a note, up to the first call of `write` that fails or takes nothing.
-pub(crate) fn say<E: Write>(note: &[u8], err: &mut E)
-    requires note { IsNote note.now }
+/// Says a note, if there is memory for its text, up to the first call of `write` that fails or takes nothing.
+pub(crate) fn say<E: Write>(alloc: Global, note: &Note, err: &mut E)
     ensures { SaysNote (E.contents err.old) (E.contents err.new) }
 {
-    let _ = write_fully(err, note);
+    if let Some(text) = note.text(alloc) {
+        say_text(text.as_str().as_bytes(), err);
+    }
+}
+
+fn say_text<E: Write>(text: &[u8], err: &mut E)
+    requires note { IsNote text.now }
+    ensures { SaysNote (E.contents err.old) (E.contents err.new) }
+{
+    let _ = write_fully(err, text);
 }

@@ -81,7 +81,7 @@ pub fn reject<W: Write, E: Write>(
     ensures said { IfOk result (λ ending. SaysAt ending (E.contents err.old) (E.contents err.new)) }
     ensures unsaid { IfErr result (λ fault. E.contents err.new ≡ E.contents err.old) }
 {
-    give(rejected(alloc, rejection, bytes), out, err)
+    give(alloc, rejected(alloc, rejection, bytes), out, err)
 }
 
 impl fmt::Display for Unread {

@@ -7,14 +7,16 @@ use crate::ending::Ending;
 use crate::fault::Fault;
 use crate::note::say;
 use crate::output::write_text;
+use rule_notes::Note;
+use std::alloc::Global;
 use std::io::Write;
 
-/// The text of an answer, how the command ends, and the note on a refusal, with its end.
+/// The text of an answer, how the command ends, and the note on it.
 #[derive(Drop)]
 pub struct Response {
     pub text: Vec<u8>,
     pub ending: Ending,
-    pub note: Option<String>,
+    pub note: Option<Note>,
 }
 
 impl Response {
@@ -45,7 +47,9 @@ impl Response {
 }
 
 /// Writes the text of a response, and then says its note on `err`.
+#[tactic(auto, using(crate::proofs::SaidLemmas::said_at))]
 fn write_response<W: Write, E: Write>(
+    alloc: Global,
     response: &Response,
     out: &mut W,
     err: &mut E,
@@ -57,13 +61,14 @@ fn write_response<W: Write, E: Write>(
 {
     write_text(out, &response.text)?;
     if let Some(note) = &response.note {
-        say(note.as_bytes(), err);
+        say(alloc, note, err);
     }
     Ok(response.ending)
 }
 
 /// Writes the response, if there is one.
 pub fn give<W: Write, E: Write>(
+    alloc: Global,
     given: Result<Response, Fault>,
     out: &mut W,
     err: &mut E,
@@ -74,7 +79,7 @@ pub fn give<W: Write, E: Write>(
     ensures unsaid { IfErr result (λ fault. E.contents err.new ≡ E.contents err.old) }
 {
     match given {
-        Ok(response) => write_response(&response, out, err),
+        Ok(response) => write_response(alloc, &response, out, err),
         Err(fault) => Err(fault),
     }
 }

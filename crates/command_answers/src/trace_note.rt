@@ -1,29 +1,11 @@
-//! The note on a run of a node that a scenario doesn't have.
-ghost use Rattle.std.specs.Prelude.{IfOk, IfSome, string_bytes};
-ghost use Rattle.rule_notes.specs.Words.{IsNote};
+//! The words of the note on a run of a node that a scenario doesn't have.
 
 use requests::NodeInPulse;
 use scenario_text::{Load, Scenario};
 use std::alloc::{AllocError, Global};
 
-/// Returns the note on a run of a node that a scenario doesn't have, with its end.
-pub(crate) fn note_on_trace(
-    alloc: Global,
-    options: NodeInPulse,
-    scenario: &Scenario,
-) -> Result<Option<String>, AllocError>
-    ensures { IfOk result (λ found. IfSome found (λ note. IsNote (string_bytes note))) }
-{
-    let words = words_on(alloc, options, scenario)?;
-    if words.as_bytes().contains(&b'\n') {
-        return Ok(None);
-    }
-    let note = format!(in alloc; "note: {words}\n")?;
-    Ok(Some(note))
-}
-
-/// Returns what the scenario has in its place.
-fn words_on(
+/// Returns what the scenario has in place of a node in a pulse.
+pub(crate) fn words_on_trace(
     alloc: Global,
     options: NodeInPulse,
     scenario: &Scenario,

@@ -1,6 +1,7 @@
 //! Which command a word is meant for that names none.
 
 use command_words::command_names;
+use rule_notes::Note;
 use rule_notes::near::nearest;
 use rule_notes::shown::shown;
 use std::alloc::{AllocError, Global};
@@ -20,22 +21,30 @@ fn reader_of(name: &str) -> &'static str {
     }
 }
 
-/// Returns the note on a word in place of a command, with its end: nothing if it isn't known what is meant. If `clap`
-/// has a tip, only a file has a note.
-pub(crate) fn command_note(alloc: Global, word: &str, has_tip: bool) -> Result<String, AllocError> {
+/// Returns the words of the note on a word in place of a command: nothing if it isn't known what is meant. If `clap` has a
+/// tip, only a file has a note.
+fn words_on(alloc: Global, word: &str, has_tip: bool) -> Result<String, AllocError> {
     let reader = reader_of(word);
     if reader.len() > 0 {
         let name = shown(alloc, word)?;
         let name = name.as_str();
-        return format!(in alloc;
-            "note: a command comes before the file: clockbed {reader} {name}\n"
-        );
+        return format!(in alloc; "a command comes before the file: clockbed {reader} {name}");
     }
     if has_tip {
         return Ok(String::new(alloc));
     }
     match nearest(alloc, word, command_names(alloc)?.as_slice())? {
-        Some(command) => format!(in alloc; "note: did you mean {command}?\n"),
+        Some(command) => format!(in alloc; "did you mean {command}?"),
         None => Ok(String::new(alloc)),
     }
+}
+
+/// Returns the note on a word in place of a command, if it is known what is meant.
+pub(crate) fn command_note(
+    alloc: Global,
+    word: &str,
+    has_tip: bool,
+) -> Result<Option<Note>, AllocError> {
+    let words = words_on(alloc, word, has_tip)?;
+    Ok(Note::of(alloc, words))
 }

@@ -27,7 +27,7 @@ use requests::{
 };
 use std::alloc::{AllocError, Global};
 use std::convert::AsStr;
-use std::fmt::InlineText;
+use std::fmt::{InlineText, Write};
 
 /// Why a text names no node's run in a pulse.
 const TRACE_REASON: &str =
@@ -409,9 +409,11 @@ fn noted<S: AsStr>(
         (ErrorKind::InvalidSubcommand, Some(word)) => {
             command_note(alloc, word.as_str(), text.as_str().contains("tip:"))?
         }
-        _ => String::new(alloc),
+        _ => None,
     };
-    text.push_str(note.as_str())?;
+    if let Some(note) = note {
+        write!(text, "{note}")?;
+    }
     Ok(text)
 }
 

@@ -331,7 +331,7 @@ pub const ASK: TextOption = TextOption {
 /// `--mail` of `explore`
 pub const MAIL: TextOption = TextOption {
     name: "mail",
-    help: "Messages of Byzantine nodes, beside none: all, or as 0..7,9 [default: all for the rule's clock, otherwise 0 to the modulus]",
+    help: "Messages of Byzantine nodes, beside none: all, or as 0..7,9 [default: all for the built-in clock, otherwise 0 to the modulus]",
     ..LIST
 };
 
@@ -423,7 +423,7 @@ pub const REACH: TextOption = TextOption {
 pub const GRAPH: TextOption = TextOption {
     name: "graph",
     value: "dot|tra|lab",
-    help: "Print the state space: dot for Graphviz, tra and lab (transitions and labels) for PRISM and Storm",
+    help: "Print the state space: dot for Graphviz, tra and lab (transitions and labels) for PRISM",
     ..LIST
 };
 

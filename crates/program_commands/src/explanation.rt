@@ -1,8 +1,7 @@
 //! `verify --text`, `verify --explain`: the verdict on a text or an image, and what is known at its slots.
-ghost use Rattle.std.specs.Prelude.{◌≡◌, IfOk, IfErr, IfSome, string_bytes};
+ghost use Rattle.std.specs.Prelude.{◌≡◌, IfOk, IfErr, IsSome, string_bytes};
 ghost use Rattle.bpf_verify.specs.Findings.{AreFindings};
 ghost use Rattle.program_commands.specs.Explained as told_specs;
-ghost use Rattle.rule_notes.specs.Words.{IsNote};
 ghost use Rattle.command_answers.specs.declared.ending.Ending.TheVariants.{Refused};
 ghost use Rattle.command_answers.specs.Faults.{IsFaultOfProgram};
 ghost use Rattle.command_answers.specs.inner.Responses.{IsNoted, IsResponse};
@@ -18,6 +17,7 @@ use bpf_verify::{Findings, explain};
 use command_answers::{Ending, Fault, Rejection, Response, rejected};
 use node_env::Shape;
 use requests::{Detail, ExplainOptions};
+use rule_notes::Note;
 use std::alloc::{AllocError, Global};
 
 /// What is told, and how the command ends that writes it.
@@ -145,8 +145,8 @@ fn explained_note(
     read: &ProgramRead,
     bytes: &[u8],
     ending: Ending,
-) -> Option<String>
-    ensures { IfSome result (λ note. (ending ≡ Refused) × IsNote (string_bytes note)) }
+) -> Option<Note>
+    ensures { IsSome result → ending ≡ Refused }
 {
     match options.detail {
         Some(_detail) => None,

@@ -5,7 +5,7 @@ use crate::expected::of_expected;
 use crate::foreign::{of_foreign_name, of_new_name};
 use crate::names::Maker;
 use crate::near::nearest;
-use crate::place::{Place, place_in, shown_line};
+use crate::place::{Place, place_in};
 use crate::reading::{Reading, reading_at};
 use crate::shown::shown;
 use crate::walk::Next;
@@ -136,7 +136,7 @@ pub fn advice_at(
     words_on(alloc, place, error, reading)
 }
 
-/// Returns the line of an error, and what is wrong there.
+/// Returns what is wrong at a place of a text: at least that something is.
 pub(crate) fn advice_on(
     alloc: Global,
     text: &[u8],
@@ -145,9 +145,8 @@ pub(crate) fn advice_on(
     column: usize,
 ) -> Result<String, AllocError> {
     let words = advice_at(alloc, text, error, line, column)?;
-    let line = shown_line(alloc, place_in(text, line, column))?;
-    if line.len() == 0 || words.len() == 0 {
-        return format!(in alloc; "{line}{words}");
+    if words.len() > 0 {
+        return Ok(words);
     }
-    format!(in alloc; "{line}; {words}")
+    String::from_str(alloc, "this can't be here")
 }

@@ -1,4 +1,4 @@
-//! Notes on rejected rules, which tell where to look: docs/RULES.md, "Errors".
+//! Notes, and those on rejected rules, which tell where to look: docs/RULES.md, "Errors".
 #![tactic(auto)]
 
 mod advice;
@@ -7,7 +7,9 @@ mod expected;
 mod foreign;
 mod names;
 pub mod near;
+mod note;
 mod noting;
+pub mod parted;
 mod place;
 mod reading;
 pub mod shown;
@@ -15,4 +17,5 @@ mod token;
 mod walk;
 
 pub use advice::advice_at;
+pub use note::Note;
 pub use noting::note_on_rule;

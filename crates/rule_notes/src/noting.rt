@@ -3,10 +3,12 @@ ghost use Rattle.std.specs.Prelude.{◌≡◌, IfOk, IfSome, string_bytes};
 ghost use Rattle.rule_notes.specs.Words.{TellsPlace};
 
 use crate::advice::advice_on;
+use crate::note::Note;
+use crate::place::line_parted;
 use rule_text::RuleError;
 use std::alloc::{AllocError, Global};
 
-/// Returns the line of the note on an error of a text, with its end, if there is something to say. Line and column
+/// Returns the note on an error of a text, with a mark under its place, if there is something to say. Line and column
 /// count from 1.
 pub fn note_on_rule(
     alloc: Global,
@@ -14,14 +16,10 @@ pub fn note_on_rule(
     error: RuleError,
     line: usize,
     column: usize,
-) -> Result<Option<String>, AllocError>
-    ensures { IfOk result (λ found. IfSome found (λ note. TellsPlace line column (string_bytes note))) }
+) -> Result<Option<Note>, AllocError>
+    ensures { IfOk result (λ found. IfSome found (TellsPlace line column)) }
 {
     let advice = advice_on(alloc, text, error, line, column)?;
     let words = format!(in alloc; "line {line}, column {column}: {advice}")?;
-    if words.as_bytes().contains(&b'\n') {
-        return Ok(None);
-    }
-    let note = format!(in alloc; "note: {words}\n")?;
-    Ok(Some(note))
+    Ok(Note::marked(alloc, words, line_parted(text, line, column)))
 }

@@ -1,18 +1,12 @@
-//! The line of an error, and what a note shows of it.
+//! The line of an error.
 
-use crate::shown::shown;
+use crate::parted::{Parted, parted_at};
 use crate::token::first_of;
-use std::alloc::{AllocError, Global};
 use std::str;
-
-/// The most bytes of a line before a place that are shown.
-const MAX_BEFORE: usize = 100;
 
 /// A place in a line of a text.
 #[derive(Clone, Copy)]
 pub(crate) struct Place<'a> {
-    /// The line without its end.
-    pub(crate) line: &'a [u8],
     /// The bytes of the line before the place.
     pub(crate) before: &'a [u8],
     /// All bytes from the place on.
@@ -54,7 +48,6 @@ pub(crate) fn place_in(text: &[u8], line: usize, column: usize) -> Place<'_> {
         .saturating_add(length)
         .saturating_add(first_of(rest).len());
     Place {
-        line: up_to(from, b'\n'),
         before: &from[..length],
         rest,
         through: &text[..end.min(text.len())],
@@ -67,19 +60,8 @@ pub(crate) fn rest_of_line(place: Place<'_>) -> &str {
     str::from_utf8(rest).unwrap_or_default().trim_end()
 }
 
-/// Returns the line of a place as a note shows it, without its comment: of a long line only what is near the place.
-pub(crate) fn shown_line(alloc: Global, place: Place<'_>) -> Result<String, AllocError> {
-    let line = up_to(place.line, b'#');
-    let cut = if place.before.len() > MAX_BEFORE {
-        place.before.len().saturating_sub(MAX_BEFORE / 2)
-    } else {
-        0
-    };
-    let near = &line[cut.min(line.len())..];
-    let words = shown(alloc, str::from_utf8(near).unwrap_or_default())?;
-    if cut == 0 {
-        return Ok(words);
-    }
-    let words = words.as_str();
-    format!(in alloc; "..{words}")
+/// Returns the line of a place without its end, parted there, with line and column counted from 1, in bytes.
+pub(crate) fn line_parted(text: &[u8], line: usize, column: usize) -> Parted<'_> {
+    let start = line_start(text, line).min(text.len());
+    parted_at(up_to(&text[start..], b'\n'), column)
 }

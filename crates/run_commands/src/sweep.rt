@@ -35,7 +35,7 @@ pub fn sweep<T: Threads + Wait + Sync, W: Write, E: Write>(
     let workers = workers_for(rt, options.workers);
     match key_sweep::sweep(rt, alloc, scenario, options.keys, workers, out) {
         Ok(()) => Ok(Ending::Done),
-        Err(SweepFault::NoKey) => give(no_key(alloc), out, err),
+        Err(SweepFault::NoKey) => give(alloc, no_key(alloc), out, err),
         Err(SweepFault::Part(PartFault::Write { written })) => Err(Fault::Write {
             after: written as usize,
         }),

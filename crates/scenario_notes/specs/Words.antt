@@ -3,10 +3,10 @@ use Rattle.std.specs.Prelude.{ℕ, List, [], ◌++◌, codes, Option, Some, None
 use Rattle.std.specs.Fmt.{decimal}
 use Rattle.bpf_verify.specs.declared.rule.Rule.{Rule}
 use Rattle.bpf_verify.specs.Rules.{rule_name, rule_number}
-use Rattle.scenario_notes.specs.declared.note.Note.{Note}
-use Rattle.scenario_notes.specs.declared.note.Note.TheVariants as notes
-use Rattle.scenario_notes.specs.declared.note.Spot.{Spot}
-use Rattle.scenario_notes.specs.declared.note.UnknownKey.{UnknownKey}
+use Rattle.scenario_notes.specs.declared.remark.Remark.{Remark}
+use Rattle.scenario_notes.specs.declared.remark.Remark.TheVariants as remarks
+use Rattle.scenario_notes.specs.declared.remark.Spot.{Spot}
+use Rattle.scenario_notes.specs.declared.remark.UnknownKey.{UnknownKey}
 
 -- a line of the file, if it is told
 abbrev pub line_words : Option ℕ → List ℕ
@@ -29,13 +29,13 @@ abbrev pub rule_words : Rule → List ℕ
 rule_words rule = codes "rule " ++ (decimal (rule_number rule) ++ (codes ", "
     ++ (rule_name rule ++ codes " (docs/VERIFIER.md)")))
 
-abbrev pub note_words : Note → List ℕ
-note_words (notes.NotToml line column message) = codes "line " ++ (decimal line ++ (codes ", column "
+abbrev pub remark_words : Remark → List ℕ
+remark_words (remarks.NotToml line column message) = codes "line " ++ (decimal line ++ (codes ", column "
     ++ (decimal column ++ (codes ": " ++ string_bytes message))))
-note_words (notes.OfKey unknown) = line_words unknown.line ++ key_words unknown
-note_words (notes.OfLine line shown) = line_words (Some line) ++ string_bytes shown
-note_words (notes.OfText spot) = spot_words spot ++ string_bytes spot.shown
-note_words (notes.OfSlot spot slot rule) = spot_words spot ++ (codes "slot " ++ (decimal slot
+remark_words (remarks.OfKey unknown) = line_words unknown.line ++ key_words unknown
+remark_words (remarks.OfLine line shown) = line_words (Some line) ++ string_bytes shown
+remark_words (remarks.OfText spot) = spot_words spot ++ string_bytes spot.shown
+remark_words (remarks.OfSlot spot slot rule) = spot_words spot ++ (codes "slot " ++ (decimal slot
     ++ (codes ": " ++ (string_bytes spot.shown ++ (codes ": " ++ rule_words rule)))))
-note_words (notes.OfSlotAlone slot rule) = codes "slot " ++ (decimal slot ++ (codes ": " ++ rule_words rule))
-note_words notes.OfNothing = []
+remark_words (remarks.OfSlotAlone slot rule) = codes "slot " ++ (decimal slot ++ (codes ": " ++ rule_words rule))
+remark_words remarks.OfNothing = []

@@ -5,7 +5,9 @@ use crate::finding::{line_at, without_comment};
 use crate::respelled::{readable, readable_with};
 use bpf_asm::TextError;
 use bpf_insn::MAX_SLOTS;
+use rule_notes::Note;
 use rule_notes::near::nearest;
+use rule_notes::parted::parted_at;
 use rule_notes::shown::{shown, written_for};
 use std::alloc::{AllocError, Global};
 use std::str;
@@ -120,30 +122,29 @@ pub(crate) fn instruction_column(line: &str) -> usize {
     }
 }
 
-/// Returns a line of a text, with its number and the column of its instruction.
-fn spot_words(alloc: Global, text: &str, number: usize) -> Result<String, AllocError> {
+/// Returns the note with these words on the instruction of a line.
+pub(crate) fn note_at_line(
+    alloc: Global,
+    text: &str,
+    number: usize,
+    words: &str,
+) -> Result<Option<Note>, AllocError> {
     let line = line_at(text, number).unwrap_or_default();
     let column = instruction_column(line);
-    let words = shown(alloc, without_comment(line))?;
-    let words = words.as_str();
-    format!(in alloc; "line {number}, column {column}: {words}")
+    let words = format!(in alloc; "line {number}, column {column}: {words}")?;
+    Ok(Note::marked(alloc, words, parted_at(line.as_bytes(), column)))
 }
 
-/// Returns where and why a text means no program, without the end of a line: nothing if there is nothing to say.
-pub fn words_on_text(alloc: Global, bytes: &[u8], error: TextError) -> Result<String, AllocError> {
+/// Returns the note on a text that means no program, if there is something to say.
+pub fn note_on_text(
+    alloc: Global,
+    bytes: &[u8],
+    error: TextError,
+) -> Result<Option<Note>, AllocError> {
     let text = str::from_utf8(bytes).unwrap_or_default();
     let advice = of_text(alloc, text, error)?;
-    let Some(number) = error.line() else {
-        return Ok(advice);
-    };
-    let spot = spot_words(alloc, text, number)?;
-    let spot = spot.as_str();
-    let advice = advice.as_str();
-    format!(in alloc; "{spot}; {advice}")
-}
-
-/// Returns the line of a text whose instruction breaks a rule, before what is said of it.
-pub(crate) fn line_words(alloc: Global, bytes: &[u8], line: usize) -> Result<String, AllocError> {
-    let text = str::from_utf8(bytes).unwrap_or_default();
-    spot_words(alloc, text, line)
+    match error.line() {
+        Some(line) => note_at_line(alloc, text, line, advice.as_str()),
+        None => Ok(Note::of(alloc, advice)),
+    }
 }

@@ -1,18 +1,19 @@
 //! The note on a rejected text.
-ghost use Rattle.std.specs.Prelude.{◌≡◌, ℕ, List, IfOk, IfSome, IsTrue, MatchOption, None, Some, string_bytes};
+ghost use Rattle.std.specs.Prelude.{◌≡◌, ℕ, List, IfOk, IfSome, IsTrue, MatchOption, None, Some};
 ghost use Rattle.scenario_text.specs.Texts.{IsParsed};
-ghost use Rattle.scenario_notes.specs.declared.note.Note.TheVariants.{OfNothing};
-ghost use Rattle.scenario_notes.specs.Told.{IsNoteOf, IsOfFault, IsOfLine, IsOfSlot, IsTextLineOfSlot, Tells, rule_line};
+ghost use Rattle.scenario_notes.specs.declared.remark.Remark.TheVariants.{OfNothing};
+ghost use Rattle.scenario_notes.specs.Told.{IsRemarkOf, IsOfFault, IsOfLine, IsOfSlot, IsTextLineOfSlot, Tells, rule_line};
 
 use crate::advice::advice_on;
-use crate::asm_advice::instruction_column;
-use crate::finding::{Sought, find, find_in_text, line_at, value_column, without_comment};
+use crate::finding::{Sought, find, find_in_text, line_at, without_comment};
 use crate::known::{names_at, unknown_key};
-use crate::note::{Note, Spot, UnknownKey};
+use crate::marked::{column_of, place_of_mark};
+use crate::remark::{Remark, Spot, UnknownKey};
 use crate::slot_line::line_of_slot;
 use crate::table::{Source, array_of, key_at, table_at, text_at};
 use crate::toml_fault::toml_note;
 use bpf_verify::Rule;
+use rule_notes::Note;
 use rule_notes::near::nearest;
 use rule_notes::shown::shown;
 use rule_programs::RuleRefusal;
@@ -21,7 +22,7 @@ use std::alloc::{AllocError, Global};
 use std::str;
 
 /// Returns the line of what is sought.
-fn line_note(alloc: Global, file: &[u8], sought: Sought<'_>) -> Result<Option<Note>, AllocError>
+fn line_note(alloc: Global, file: &[u8], sought: Sought<'_>) -> Result<Option<Remark>, AllocError>
     ensures { IfOk result (λ found. IfSome found IsOfLine) }
 {
     let Ok(text) = str::from_utf8(file) else {
@@ -31,7 +32,7 @@ fn line_note(alloc: Global, file: &[u8], sought: Sought<'_>) -> Result<Option<No
         return Ok(None);
     };
     let shown = shown(alloc, words)?;
-    Ok(Some(Note::OfLine { line, shown }))
+    Ok(Some(Remark::OfLine { line, shown }))
 }
 
 /// Returns the first head of the entries of a key.
@@ -59,7 +60,7 @@ fn value_note(
     file: &[u8],
     place: Place,
     key: &str,
-) -> Result<Option<Note>, AllocError> {
+) -> Result<Option<Remark>, AllocError> {
     match (line_note(alloc, file, key_at(place, key))?, place) {
         (None, Place::Top) => line_note(alloc, file, head_of(key)),
         (found, _) => Ok(found),
@@ -70,7 +71,7 @@ fn unknown_key_note(
     alloc: Global,
     source: Source<'_>,
     place: Place,
-) -> Result<Option<Note>, AllocError>
+) -> Result<Option<Remark>, AllocError>
     requires parsed { IsParsed source.text.now source.parsed.now }
 {
     let Some(table) = source.table() else {
@@ -87,7 +88,7 @@ fn unknown_key_note(
         key: shown(alloc, key)?,
         nearest: nearest(alloc, key, names_at(alloc, place)?.as_slice())?,
     };
-    Ok(Some(Note::OfKey { unknown }))
+    Ok(Some(Remark::OfKey { unknown }))
 }
 
 /// Returns a line of the text under a key, shown without its comment.
@@ -133,7 +134,7 @@ fn text_note(
     place: Place,
     key: &str,
     fault: Option<usize>,
-) -> Result<Option<Note>, AllocError>
+) -> Result<Option<Remark>, AllocError>
     requires parsed { IsParsed source.text.now source.parsed.now }
     ensures { IfOk result (λ found. IfSome found (IsOfFault fault)) }
 {
@@ -148,7 +149,7 @@ fn text_note(
         return Ok(None);
     };
     match spot_at(alloc, source.text, sought, text, line)? {
-        Some(spot) => Ok(Some(Note::OfText { spot })),
+        Some(spot) => Ok(Some(Remark::OfText { spot })),
         None => Ok(None),
     }
 }
@@ -184,18 +185,18 @@ fn slot_note(
     key: &str,
     slot: u32,
     rule: Rule,
-) -> Result<Note, AllocError>
+) -> Result<Remark, AllocError>
     requires parsed { IsParsed source.text.now source.parsed.now }
     ensures { IfOk result (IsOfSlot source.entry.text.now place key.now slot rule) }
 {
     match slot_spot(alloc, source, place, key, slot)? {
-        Some(spot) => Ok(Note::OfSlot { spot, slot, rule }),
-        None => Ok(Note::OfSlotAlone { slot, rule }),
+        Some(spot) => Ok(Remark::OfSlot { spot, slot, rule }),
+        None => Ok(Remark::OfSlotAlone { slot, rule }),
     }
 }
 
 /// Returns the note on a text that is not TOML.
-fn not_toml_note(alloc: Global, source: Source<'_>) -> Result<Option<Note>, AllocError> {
+fn not_toml_note(alloc: Global, source: Source<'_>) -> Result<Option<Remark>, AllocError> {
     match source.parsed {
         Parsed::NotToml(error) => toml_note(alloc, source.text, error),
         Parsed::Nothing | Parsed::Table(_) => Ok(None),
@@ -207,9 +208,9 @@ fn place_of(
     alloc: Global,
     source: Source<'_>,
     error: &ScenarioError,
-) -> Result<Option<Note>, AllocError>
+) -> Result<Option<Remark>, AllocError>
     requires parsed { IsParsed source.text.now source.parsed.now }
-    ensures { IfOk result (λ found. IfSome found (IsNoteOf source.entry.text.now error.now)) }
+    ensures { IfOk result (λ found. IfSome found (IsRemarkOf source.entry.text.now error.now)) }
 {
     match error {
         ScenarioError::TooLong | ScenarioError::Memory(_) => Ok(None),
@@ -242,7 +243,7 @@ fn place_of(
 
 /// Returns true if advice alone, with no place, makes a note on the error.
 fn needs_no_place(error: &ScenarioError) -> bool
-    ensures { IsTrue result → (file : List ℕ) → IsNoteOf file error.now OfNothing }
+    ensures { IsTrue result → (file : List ℕ) → IsRemarkOf file error.now OfNothing }
 {
     match error {
         ScenarioError::TooLong
@@ -260,19 +261,19 @@ fn needs_no_place(error: &ScenarioError) -> bool
 }
 
 /// Returns the note on the refusal of a text, if there is something to say.
-fn note_of(
+fn remark_of(
     alloc: Global,
     source: Source<'_>,
     error: &ScenarioError,
-) -> Result<Option<Note>, AllocError>
+) -> Result<Option<Remark>, AllocError>
     requires parsed { IsParsed source.text.now source.parsed.now }
-    ensures { IfOk result (λ found. IfSome found (IsNoteOf source.entry.text.now error.now)) }
+    ensures { IfOk result (λ found. IfSome found (IsRemarkOf source.entry.text.now error.now)) }
 {
     match place_of(alloc, source, error)? {
         Some(note) => Ok(Some(note)),
         None => {
             if needs_no_place(error) {
-                Ok(Some(Note::OfNothing))
+                Ok(Some(Remark::OfNothing))
             } else {
                 Ok(None)
             }
@@ -280,44 +281,11 @@ fn note_of(
     }
 }
 
-/// Returns the column of the instruction of a text that a note names, from 1 on.
-fn column_in_text(source: Source<'_>, error: &ScenarioError, line: usize) -> Option<usize>
-    requires parsed { IsParsed source.text.now source.parsed.now }
-{
-    match error {
-        ScenarioError::BadText { place, key, .. } | ScenarioError::NotAccepted { place, key, .. } =>
-            {
-                let text = text_at(source.table()?, *place, key)?;
-                Some(instruction_column(line_at(text, line)?))
-            }
-        _ => None,
-    }
-}
-
-/// Returns the column of a line of a file that a note names, from 1 on.
-fn column_in_file(source: Source<'_>, line: usize) -> Option<usize> {
-    let text = str::from_utf8(source.text).ok()?;
-    Some(value_column(line_at(text, line)?))
-}
-
-/// Returns the column that a note names, from 1 on, if it isn't among its words already.
-fn column_of(source: Source<'_>, note: &Note, error: &ScenarioError) -> Option<usize>
-    requires parsed { IsParsed source.text.now source.parsed.now }
-{
-    match note {
-        Note::OfLine { line, .. } => column_in_file(source, *line),
-        Note::OfText { spot } => column_in_text(source, error, spot.line),
-        Note::OfSlot { spot, .. } => column_in_text(source, error, spot.line),
-        Note::OfKey { .. } | Note::NotToml { .. } | Note::OfSlotAlone { .. } | Note::OfNothing =>
-            None,
-    }
-}
-
 /// Returns what is said of the fix, after the note, with the column before it.
 fn advice_behind(
     alloc: Global,
     source: Source<'_>,
-    note: &Note,
+    remark: &Remark,
     error: &ScenarioError,
 ) -> Result<String, AllocError>
     requires parsed { IsParsed source.text.now source.parsed.now }
@@ -326,10 +294,10 @@ fn advice_behind(
     if advice.len() == 0 {
         return Ok(advice);
     }
-    if let Note::OfNothing = note {
+    if let Remark::OfNothing = remark {
         return Ok(advice);
     }
-    let column = column_of(source, note, error);
+    let column = column_of(source, remark, error);
     let advice = advice.as_str();
     match column {
         Some(column) => format!(in alloc; "; column {column}: {advice}"),
@@ -337,29 +305,24 @@ fn advice_behind(
     }
 }
 
-/// Returns the line of the note on a rejected text, with its end, if there is something to say. `rejected` is what was
-/// made of this text: its error, and its table or the error of the parser. The text is not parsed again.
-pub fn note_on(
-    alloc: Global,
-    text: &[u8],
-    rejected: &Rejected,
-) -> Result<Option<String>, AllocError>
+/// Returns the note on a rejected text, if there is something to say. `rejected` is what was made of this text: its
+/// error, and its table or the error of the parser. The text is not parsed again.
+pub fn note_on(alloc: Global, text: &[u8], rejected: &Rejected) -> Result<Option<Note>, AllocError>
     requires parsed { IsParsed text.now rejected.now.parsed }
-    ensures { IfOk result (λ found. IfSome found (λ line.
-        Tells text.now rejected.now.error (string_bytes line))) }
+    ensures { IfOk result (λ found. IfSome found (Tells text.now rejected.now.error)) }
 {
     let source = Source {
         text,
         parsed: &rejected.parsed,
     };
-    let Some(note) = note_of(alloc, source, &rejected.error)? else {
+    let Some(remark) = remark_of(alloc, source, &rejected.error)? else {
         return Ok(None);
     };
-    let advice = advice_behind(alloc, source, &note, &rejected.error)?;
-    let words = format!(in alloc; "{note}{advice}")?;
-    if words.len() == 0 || words.as_bytes().contains(&b'\n') {
-        return Ok(None);
-    }
-    let line = format!(in alloc; "note: {words}\n")?;
-    Ok(Some(line))
+    let advice = advice_behind(alloc, source, &remark, &rejected.error)?;
+    let words = format!(in alloc; "{remark}{advice}")?;
+    let note = match place_of_mark(source, &remark, &rejected.error) {
+        Some(place) => Note::marked(alloc, words, place),
+        None => Note::of(alloc, words),
+    };
+    Ok(note)
 }

@@ -1,7 +1,8 @@
 //! What the parser says of a text that it doesn't read.
 
 use crate::finding::without_comment;
-use crate::note::Note;
+use crate::remark::Remark;
+use rule_notes::parted::begins_letter;
 use std::alloc::{AllocError, Global};
 use std::str;
 
@@ -18,11 +19,6 @@ fn place_behind(front: &[u8]) -> (usize, usize) {
         }
     }
     (line, column)
-}
-
-/// Returns true if a byte of UTF-8 is the first of its character.
-fn begins_letter(byte: u8) -> bool {
-    byte & 0xc0 != 0x80
 }
 
 /// Returns the word that is the rest of a line: nothing if the rest isn't one word.
@@ -48,12 +44,12 @@ fn fix(alloc: Global, message: &str, rest: &str) -> Result<String, AllocError> {
     Ok(String::new(alloc))
 }
 
-/// Returns the note on the error of the parser.
+/// Returns the remark on the error of the parser.
 pub(crate) fn toml_note(
     alloc: Global,
     text: &[u8],
     error: &toml::de::Error,
-) -> Result<Option<Note>, AllocError> {
+) -> Result<Option<Remark>, AllocError> {
     let Some(span) = error.span() else {
         return Ok(None);
     };
@@ -63,7 +59,7 @@ pub(crate) fn toml_note(
     let fix = fix(alloc, error.message(), rest)?;
     let fix = fix.as_str();
     let message = format!(in alloc; "{}{fix}", error.message())?;
-    Ok(Some(Note::NotToml {
+    Ok(Some(Remark::NotToml {
         line,
         column,
         message,

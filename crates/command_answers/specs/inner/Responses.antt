@@ -1,11 +1,10 @@
 -- Beside Output: what private contracts alone cite.
-use Rattle.std.specs.Prelude.{◌≡◌, ℕ, List, IfSome, Option, Result, Ok, Err, string_bytes}
+use Rattle.std.specs.Prelude.{◌≡◌, ℕ, List, IsSome, Option, Result, Ok, Err}
 use Rattle.std.specs.Io.KnownBytes.{Appends, Keeps}
-use Rattle.rule_notes.specs.Words.{IsNote}
 use Rattle.command_answers.specs.declared.ending.Ending.{Ending}
-use Rattle.command_answers.specs.declared.ending.Ending.TheVariants.{Refused}
 use Rattle.command_answers.specs.declared.fault.Fault.{Fault}
 use Rattle.command_answers.specs.declared.response.Response.{Response}
+use Rattle.command_answers.specs.Said.{MayHaveNote}
 use Rattle.command_answers.specs.inner.Faults.{IsCut}
 
 -- the text of an answer, with its ending
@@ -13,9 +12,9 @@ abbrev pub IsResponse : {A : Type 0} → (A → Type 0) → (A → List ℕ) →
 IsResponse {A} IsAnswer text ending response =
     (answer : A) × IsAnswer answer × (response.text.items ≡ text answer) × (response.ending ≡ ending answer)
 
--- a note is on a refusal, and is one line
+-- a note is on an ending that may have one
 abbrev pub IsNoted : Response → Type 0
-IsNoted response = IfSome response.note (λ note. (response.ending ≡ Refused) × IsNote (string_bytes note))
+IsNoted response = IsSome response.note → MayHaveNote response.ending
 
 -- the whole text with this ending, or its first bytes if a write failed
 abbrev pub Writes : Option (List ℕ) → Option (List ℕ) → List ℕ → Ending → Result Ending Fault → Type 0

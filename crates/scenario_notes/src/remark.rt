@@ -1,6 +1,6 @@
 //! What a note says, and its words.
 ghost use Rattle.std.specs.Prelude.{Some, option_map};
-ghost use Rattle.scenario_notes.specs.Words.{key_words, line_words, nearest_words, note_words, rule_words, spot_words};
+ghost use Rattle.scenario_notes.specs.Words.{key_words, line_words, nearest_words, remark_words, rule_words, spot_words};
 ghost use Rattle.bpf_verify.specs.Rules.{rule_name};
 
 use bpf_verify::Rule;
@@ -30,7 +30,7 @@ pub struct UnknownKey {
 
 /// What a note says.
 #[derive(Debug, Drop)]
-pub enum Note {
+pub enum Remark {
     /// Where and why the parser of the file stops.
     NotToml {
         line: usize,
@@ -143,32 +143,32 @@ impl fmt::Display for RuleWords {
     }
 }
 
-impl fmt::Display for Note {
-    ghost output = { λ note. Some (note_words note) };
+impl fmt::Display for Remark {
+    ghost output = { λ note. Some (remark_words note) };
 
     fn fmt<W: fmt::Write>(&self, f: &mut fmt::Formatter<W>) -> fmt::Result {
         match self {
-            Note::NotToml {
+            Remark::NotToml {
                 line,
                 column,
                 message,
             } => write!(f, "line {line}, column {column}: {message}"),
-            Note::OfKey { unknown } => {
+            Remark::OfKey { unknown } => {
                 let line = LineWords(unknown.line);
                 write!(f, "{line}{}", KeyWords(unknown))
             }
-            Note::OfLine { line, shown } => write!(f, "line {line}: {shown}"),
-            Note::OfText { spot } => {
+            Remark::OfLine { line, shown } => write!(f, "line {line}: {shown}"),
+            Remark::OfText { spot } => {
                 let shown = spot.shown.as_str();
                 write!(f, "{}{shown}", SpotWords(spot))
             }
-            Note::OfSlot { spot, slot, rule } => {
+            Remark::OfSlot { spot, slot, rule } => {
                 let shown = spot.shown.as_str();
                 let rule = RuleWords(*rule);
                 write!(f, "{}slot {slot}: {shown}: {rule}", SpotWords(spot))
             }
-            Note::OfSlotAlone { slot, rule } => write!(f, "slot {slot}: {}", RuleWords(*rule)),
-            Note::OfNothing => Ok(()),
+            Remark::OfSlotAlone { slot, rule } => write!(f, "slot {slot}: {}", RuleWords(*rule)),
+            Remark::OfNothing => Ok(()),
         }
     }
 }
