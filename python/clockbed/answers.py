@@ -64,7 +64,10 @@ class By(Word):
 
 
 class Agreement(Word):
+    """Is the answer on agreement; NONE if there are fewer than two correct nodes."""
+
     HOLDS = "holds"
+    NONE = "none"
     VIOLATED = "violated"
 
 

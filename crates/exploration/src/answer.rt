@@ -1,6 +1,6 @@
 //! What exploring a bench found.
 ghost use Rattle.std.specs.Prelude.{◌≡◌, Some};
-ghost use Rattle.exploration.specs.Answers.{mark_text, shown_of, unfit_name};
+ghost use Rattle.exploration.specs.Answers.{is_alone, mark_text, shown_of, unfit_name};
 
 use explored::{Cause, MailSpan, Odds, Recovery, Share};
 use std::fmt;
@@ -118,6 +118,18 @@ impl fmt::Display for Unfit {
             Unfit::AnyMessage => write!(f, "AnyMessage"),
             Unfit::NoLaw { byte } => write!(f, "NoLaw {byte}"),
         }
+    }
+}
+
+/// The fewest correct nodes between which agreement is judged.
+const FEWEST: usize = 2;
+
+impl Tried {
+    /// Returns true if there are fewer correct nodes than agreement is between.
+    pub fn is_alone(&self) -> bool
+        ensures { result ≡ is_alone self.now }
+    {
+        self.correct.len() < FEWEST
     }
 }
 

@@ -1,6 +1,6 @@
 //! The lines of an answer.
 ghost use Rattle.std.specs.Prelude.{◌≡◌, IfOk, Some, codes, string_bytes};
-ghost use Rattle.exploration.specs.Answers.{agreed_text, agreement_text, cause_text, chances_text, crowded_text, finding_text, finding_with, found_text, odds_lines, optional_line, reach_text, recovery_text, stability_text, theorem_agreement_line, theorem_agreement_text, theorem_text, tried_with, unfinished_text, violation_text};
+ghost use Rattle.exploration.specs.Answers.{agreed_text, agreement_text, cause_text, chances_text, crowded_text, finding_text, finding_with, found_text, holds_text, odds_lines, optional_line, reach_text, recovery_text, stability_text, theorem_agreement_line, theorem_agreement_text, theorem_text, tried_with, unfinished_text, violation_text};
 
 use crate::answer::{Finding, Found, Reach, Tried};
 use crate::nodes::{Byzantine, Correct};
@@ -21,16 +21,32 @@ fn states(count: u64) -> Counted
     }
 }
 
-/// That agreement holds, or wasn't asked.
+/// That agreement holds, or that there is none to judge.
+#[derive(Clone, Copy)]
+struct HoldsText(bool);
+
+impl fmt::Display for HoldsText {
+    ghost output = { λ text. Some (holds_text text.0) };
+
+    fn fmt<W: fmt::Write>(&self, f: &mut fmt::Formatter<W>) -> fmt::Result {
+        match self.0 {
+            true => write!(f, "agreement none (fewer than two correct nodes)"),
+            false => write!(f, "agreement holds"),
+        }
+    }
+}
+
+/// The same, or that it wasn't asked.
 #[derive(Clone, Copy)]
 struct AgreementText {
+    alone: bool,
     agrees: bool,
     states: u64,
     moves: u64,
 }
 
 impl fmt::Display for AgreementText {
-    ghost output = { λ text. Some (agreement_text text.agrees text.states text.moves) };
+    ghost output = { λ text. Some (agreement_text text.alone text.agrees text.states text.moves) };
 
     fn fmt<W: fmt::Write>(&self, f: &mut fmt::Formatter<W>) -> fmt::Result {
         let states = states(self.states);
@@ -39,7 +55,8 @@ impl fmt::Display for AgreementText {
             word: "transition",
         };
         if self.agrees {
-            write!(f, "agreement holds: {states}, {moves}")
+            let holds = HoldsText(self.alone);
+            write!(f, "{holds}: {states}, {moves}")
         } else {
             write!(f, "agreement not asked: {states}, {moves}")
         }
@@ -288,30 +305,32 @@ impl fmt::Display for UnfinishedText {
 
 /// That agreement holds, by the theorem.
 #[derive(Clone, Copy)]
-struct TheoremAgreement;
+struct TheoremAgreement(bool);
 
 impl fmt::Display for TheoremAgreement {
-    ghost output = { λ text. Some theorem_agreement_text };
+    ghost output = { λ text. Some (theorem_agreement_text text.0) };
 
     fn fmt<W: fmt::Write>(&self, f: &mut fmt::Formatter<W>) -> fmt::Result {
-        write!(f, "agreement holds, by the theorem for all n > 3f")
+        let holds = HoldsText(self.0);
+        write!(f, "{holds}, by the theorem for all n > 3f")
     }
 }
 
 /// The same behind the mark, if that was asked.
 #[derive(Clone, Copy)]
 struct TheoremAgreementLine<'a> {
+    alone: bool,
     mark: &'a str,
     agrees: bool,
 }
 
 impl fmt::Display for TheoremAgreementLine<'_> {
-    ghost output = { λ line. Some (theorem_agreement_line line.mark.now line.agrees) };
+    ghost output = { λ line. Some (theorem_agreement_line line.alone line.mark.now line.agrees) };
 
     fn fmt<W: fmt::Write>(&self, f: &mut fmt::Formatter<W>) -> fmt::Result {
         let mark = self.mark;
         match self.agrees {
-            true => write!(f, "{mark}{}\n", TheoremAgreement),
+            true => write!(f, "{mark}{}\n", TheoremAgreement(self.alone)),
             false => Ok(()),
         }
     }
@@ -355,15 +374,16 @@ impl fmt::Display for TheoremLine<'_> {
 /// What was found, line by line, each behind the mark.
 #[derive(Clone, Copy)]
 struct FoundLines<'a> {
+    alone: bool,
     mark: &'a str,
     found: &'a Found,
 }
 
 impl fmt::Display for FoundLines<'_> {
-    ghost output = { λ lines. Some (found_text lines.mark.now lines.found.now) };
+    ghost output = { λ lines. Some (found_text lines.alone lines.mark.now lines.found.now) };
 
     fn fmt<W: fmt::Write>(&self, f: &mut fmt::Formatter<W>) -> fmt::Result {
-        let mark = self.mark;
+        let FoundLines { alone, mark, .. } = *self;
         match self.found {
             Found::Closed {
                 agrees,
@@ -376,6 +396,7 @@ impl fmt::Display for FoundLines<'_> {
                 ..
             } => {
                 let agreement = AgreementText {
+                    alone,
                     agrees: *agrees,
                     states: *states,
                     moves: *moves,
@@ -401,6 +422,7 @@ impl fmt::Display for FoundLines<'_> {
                     pulses: *pulses,
                 };
                 let agreement = TheoremAgreementLine {
+                    alone,
                     mark,
                     agrees: *agrees,
                 };
@@ -465,12 +487,16 @@ impl fmt::Display for FindingText<'_> {
             Finding::Unfit(unfit) => write!(f, "refused explore {unfit}\n"),
             Finding::Searched { tried, found } => {
                 let mark = found.mark();
+                let lines = FoundLines {
+                    alone: tried.is_alone(),
+                    mark,
+                    found,
+                };
                 let tried = TriedText {
                     digits,
                     start,
                     tried,
                 };
-                let lines = FoundLines { mark, found };
                 write!(f, "{mark}{tried}\n{lines}{}", found.shown())
             }
         }

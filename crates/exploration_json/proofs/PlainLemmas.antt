@@ -21,6 +21,7 @@ use Rattle.explored.specs.declared.options.Memories.{Memories}
 use Rattle.explored.specs.declared.options.Memories.TheVariants as memories
 use Rattle.explored.specs.declared.options.Starts.{Starts}
 use Rattle.explored.specs.declared.options.Starts.TheVariants as starts
+use Rattle.exploration.specs.Answers.{is_alone}
 use Rattle.exploration_json.specs.Data.{agreed_of, agreement_word, answer_members, any_data, byte_span_data, cells_data, exploration_data, exploration_members, image_data, limit_of, method_of, mean_data, mean_of, memories_member, node_members, odds_data, odds_of, odds_parts, pulses_of, question_members, question_word, reach_data, reach_of, scenario_of, search_members, span_data, spans_data, stabilisation_of, stabilisation_word, start_data, states_of, transitions_of, violated_in, word_data}
 
 abbrev AllPlain : ℕ → List Member → Type 0
@@ -135,9 +136,9 @@ plain_odds reach told =
       ),
     )
 
-plain_answer : (found : Found) → AllPlain 5 (answer_members found)
-plain_answer found = (
-  plain_word 5 (agreement_word found),
+plain_answer : (tried : Tried) (found : Found) → AllPlain 5 (answer_members tried found)
+plain_answer tried found = (
+  plain_word 5 (agreement_word (is_alone tried) found),
   (
     plain_count 5 (agreed_of found),
     (
@@ -159,9 +160,10 @@ plain_answer found = (
 pub plain_exploration : (asked : ExploreOptions) (tried : Tried) (found : Found)
     → IsPlain 6 (exploration_data asked tried found)
 plain_exploration asked tried found =
-    let last = both_plain 5 (search_members found) (answer_members found) (plain_search found) (plain_answer found) in
-    let more = both_plain 5 (question_members asked tried) (search_members found ++ answer_members found)
+    let last = both_plain 5 (search_members found) (answer_members tried found) (plain_search found)
+    (plain_answer tried found) in
+    let more = both_plain 5 (question_members asked tried) (search_members found ++ answer_members tried found)
     (plain_question asked tried) last in
     let all = both_plain 5 (node_members tried)
-    (question_members asked tried ++ (search_members found ++ answer_members found)) (plain_nodes tried) more in
+    (question_members asked tried ++ (search_members found ++ answer_members tried found)) (plain_nodes tried) more in
     plain_object 5 (exploration_members asked tried found) all

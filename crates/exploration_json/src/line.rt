@@ -4,7 +4,8 @@ ghost use Rattle.serde_json.specs.Data.{string};
 ghost use Rattle.serde_json.specs.View.{members_view, view};
 ghost use Rattle.json_values.specs.Texts.{ReadsBack, json_line};
 ghost use Rattle.json_values.specs.Values.{list_data, number_data, option_data, with_members};
-ghost use Rattle.exploration_json.specs.Data.{answer_members, exploration_data, mean_data, mean_of, node_members, odds_data, odds_of, odds_parts, pulses_of, question_members, reach_data, reach_of, scenario_of, search_members, stabilisation_of, stabilisation_word, word_data};
+ghost use Rattle.exploration.specs.Answers.{is_alone};
+ghost use Rattle.exploration_json.specs.Data.{agreement_word, answer_members, exploration_data, mean_data, mean_of, node_members, odds_data, odds_of, odds_parts, pulses_of, question_members, reach_data, reach_of, scenario_of, search_members, stabilisation_of, stabilisation_word, word_data};
 
 use crate::spans::{spans_value, start_value};
 use crate::words::{
@@ -235,16 +236,25 @@ fn scenario_value(alloc: Global, found: &Found) -> Result<Value, AllocError>
     }
 }
 
+/// Returns the word for agreement, or null.
+fn agreement_value(alloc: Global, tried: &Tried, found: &Found) -> Result<Value, AllocError>
+    ensures { IfOk result (λ v. view v ≡ word_data (agreement_word (is_alone tried.now) found.now)) }
+{
+    let alone = tried.is_alone();
+    word_or_null(alloc, agreement_word(alone, found))
+}
+
 /// Adds what was found.
 fn add_answer(
     alloc: Global,
     members: &mut Map<String, Value>,
+    tried: &Tried,
     found: &Found,
 ) -> Result<(), AllocError>
     ensures { OnOk result (members_view members.new.entries ≡ with_members (members_view members.old.entries)
-        (answer_members found.now)) }
+        (answer_members tried.now found.now)) }
 {
-    let agreement = word_or_null(alloc, agreement_word(found))?;
+    let agreement = agreement_value(alloc, tried, found)?;
     let stabilisation = stabilisation_value(alloc, found)?;
     let odds = odds_value(alloc, found)?;
     let scenario = scenario_value(alloc, found)?;
@@ -280,7 +290,7 @@ fn exploration_value(
     add_nodes(alloc, &mut members, tried)?;
     add_question(alloc, &mut members, options, tried)?;
     add_search(alloc, &mut members, found)?;
-    add_answer(alloc, &mut members, found)?;
+    add_answer(alloc, &mut members, tried, found)?;
     Ok(Value::Object(members))
 }
 

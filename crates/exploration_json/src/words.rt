@@ -1,6 +1,6 @@
 //! Words and numbers of what was found.
 ghost use Rattle.std.specs.Prelude.{◌≡◌, Option, map, option_map};
-ghost use Rattle.exploration_json.specs.Data.{agreed_of, agreement_word, limit_of, limit_word, method_of, pulses_of, question_word, scenario_of, stabilisation_of, stabilisation_word, states_of, transitions_of, violated_in, within};
+ghost use Rattle.exploration_json.specs.Data.{agreed_of, agreement_word, holds_word, limit_of, limit_word, method_of, pulses_of, question_word, scenario_of, stabilisation_of, stabilisation_word, states_of, transitions_of, violated_in, within};
 
 use exploration::Found;
 use explored::{Cause, Question, Recovery};
@@ -16,12 +16,20 @@ pub(crate) fn question_word(question: Question) -> &'static str
     }
 }
 
+fn holds_word(alone: bool) -> &'static str
+    ensures { result.now ≡ holds_word alone }
+{
+    if alone { "none" } else { "holds" }
+}
+
 /// Returns the word for agreement, if it is known.
-pub(crate) fn agreement_word(found: &Found) -> Option<&'static str>
-    ensures { option_map (λ word. word.now) result ≡ agreement_word found.now }
+pub(crate) fn agreement_word(alone: bool, found: &Found) -> Option<&'static str>
+    ensures { option_map (λ word. word.now) result ≡ agreement_word alone found.now }
 {
     match found {
-        Found::Closed { agrees: true, .. } | Found::Theorem { agrees: true, .. } => Some("holds"),
+        Found::Closed { agrees: true, .. } | Found::Theorem { agrees: true, .. } => {
+            Some(holds_word(alone))
+        }
         Found::Parts { .. } => Some("violated"),
         Found::Closed { .. } | Found::Theorem { .. } | Found::Unfinished { .. } => None,
     }

@@ -7,5 +7,5 @@ mod shown;
 mod words;
 
 pub use graph::graph_text;
-pub use shown::{held_off_text, last_pulse, shown_text};
+pub use shown::{held_off_text, shown_text};
 pub use words::state_words;

@@ -3,4 +3,6 @@ pub mod ExploreLemmas
 pub mod TheoremLemmas
 pub mod RuleSteps
 pub mod RulePaths
+pub mod RulePlays
+pub mod RuleChances
 pub mod RulesFound

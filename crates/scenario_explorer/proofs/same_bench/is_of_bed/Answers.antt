@@ -2,7 +2,7 @@ use Rattle.std.proofs.Common.{rules, ◌≡◌, ◌⊎◌, ℕ, List, Option, No
 use Rattle.bpf_verify.specs.Accepted.{Accepted}
 use Rattle.bench_moves.specs.Bed.{IsCorrect}
 use Rattle.scenario_text.specs.Views.{extent_of, frame_of}
-use Rattle.scenario_explorer.specs.Explore.{HasItsProgram, HaveDifferentPrograms, IsOfBed, all_loaded}
+use Rattle.scenario_explorer.specs.Explore.{HasItsProgram, HaveDifferentPrograms, all_loaded}
 use Rattle.scenario_explorer.proofs.same_bench.is_of_bed.Goals as goal
 
 pub returns : goal.returns
