@@ -1,1 +1,4 @@
 pub mod Command
+pub mod Reasons
+pub mod Words
+pub mod inner

@@ -1,14 +1,24 @@
-//! `--images @FILE`: the memories that a file lists, in place of the word that names it (docs/EXPLORE.md, "Options").
+//! `--images @FILE`: the memories that a file lists, in place of the word that names it (docs/EXPLORE_REFERENCE.md).
+ghost use Rattle.std.specs.Prelude.{◌≡◌, ◌↔◌, ◌≤◌, IfErr, IfOk, IsTrue, List, MatchOption, None, OnOk, length, map, option_map, string_bytes, ℕ};
+ghost use Rattle.clockbed.specs.Words.{AreWordsFor, FollowsOption, IsFaultOfWords, IsListInFile, IsWordFor, NamesFile, NamesSome};
+ghost use Rattle.clockbed.specs.Words.{line_image, list_of_text, with_image, with_line};
+ghost use Rattle.clockbed.specs.declared.images.TheConstants.{MAX_FILE_BYTES};
+ghost use Rattle.command_answers.specs.Faults.{IsOfCommandLine};
 
-use crate::source::{open, tell_reason};
+use crate::failed::Failed;
+use crate::outside::Opener;
+use crate::source::FailureReason;
 use command_answers::Fault;
 use std::alloc::{AllocError, Global};
-use std::io::Write;
+use std::convert::AsStr;
 use std::str;
 use stream_io::{ReadFault, read_at_most};
 
 /// The option whose value can name a file.
 const OPTION: &str = "--images";
+
+/// The option and the name of a file in one word, up to the name.
+const OPTION_WITH_FILE: &str = "--images=@";
 
 /// What stands before the name of a file.
 const MARK: char = '@';
@@ -18,45 +28,80 @@ const MAX_FILE_BYTES: usize = 1_048_576;
 
 const MAX_FILE_CALLS: usize = 65_536;
 
-/// Returns the file that a word names as the value of the option, which it is itself or which is the word before it.
-fn file_named<'a>(before: Option<&str>, word: &'a str) -> Option<&'a str> {
-    let value = if before == Some(OPTION) {
-        word
-    } else {
-        word.strip_prefix(OPTION)?.strip_prefix('=')?
-    };
-    value.strip_prefix(MARK)
+/// Returns true if the word before is the option.
+fn follows_option(before: Option<&str>) -> bool
+    ensures { IsTrue result ↔ FollowsOption (option_map (λ word. word.now) before.entry) }
+{
+    match before {
+        Some(word) => word == OPTION,
+        None => false,
+    }
 }
 
-/// Returns the memories of a text, a line each, with commas between. What follows a `#` is a comment.
-fn listed(alloc: Global, text: &str) -> Result<String, AllocError> {
+/// Returns the path of the file that a word names.
+fn file_named<'a>(before: Option<&str>, word: &'a str) -> Option<&'a str>
+    ensures { MatchOption result
+        ((path : List ℕ) → NamesFile (option_map (λ word. word.now) before.entry) word.now path → ⊥)
+        (λ path. NamesFile (option_map (λ word. word.now) before.entry) word.now path.now) }
+{
+    if follows_option(before) {
+        word.strip_prefix(MARK)
+    } else {
+        word.strip_prefix(OPTION_WITH_FILE)
+    }
+}
+
+/// Returns the memory of a line. What follows a `#` is a comment.
+fn image_of(line: &str) -> &str
+    ensures { result.now ≡ line_image line.now }
+{
+    match line.split_once('#') {
+        Some((image, _comment)) => image.trim(),
+        None => line.trim(),
+    }
+}
+
+/// Adds a memory to the list, if there is one.
+fn add_image(list: &mut String, image: &str) -> Result<(), AllocError>
+    ensures { OnOk result (string_bytes list.new ≡ with_image (string_bytes list.old) image.now) }
+{
+    if image.is_empty() {
+        return Ok(());
+    }
+    if !list.is_empty() {
+        list.push_str(",")?;
+    }
+    list.push_str(image)
+}
+
+/// Returns the memories of a text, a line each, with commas between.
+fn listed(alloc: Global, text: &str) -> Result<String, AllocError>
+    ensures { IfOk result (λ list. string_bytes list ≡ list_of_text text.now) }
+{
     let mut list = String::new(alloc);
     for line in text.lines() {
-        let image = match line.split_once('#') {
-            Some((image, _comment)) => image.trim(),
-            None => line.trim(),
-        };
-        if !image.is_empty() {
-            if !list.is_empty() {
-                list.push_str(",")?;
-            }
-            list.push_str(image)?;
-        }
+        add_image(&mut list, image_of(line))?;
     }
     Ok(list)
 }
 
 /// Returns the fault of a file of too many bytes.
-fn too_long(alloc: Global) -> Fault {
+fn too_long(alloc: Global) -> Fault
+    ensures { IsOfCommandLine result }
+{
     match format!(in alloc; "error: a file of {OPTION} has at most {MAX_FILE_BYTES} bytes\n") {
         Ok(text) => Fault::CommandLine { text },
         Err(_) => Fault::Memory,
     }
 }
 
-/// Returns the value that a file's bytes stand for.
-fn value_of(alloc: Global, bytes: &[u8], is_whole: bool) -> Result<String, Fault> {
-    if !is_whole {
+/// Returns the list of a file's bytes.
+fn list_in(alloc: Global, bytes: &[u8]) -> Result<String, Fault>
+    ensures short { IfOk result (λ list. length bytes.now ≤ MAX_FILE_BYTES) }
+    ensures list { IfOk result (λ list. string_bytes list ≡ list_of_text bytes.now) }
+    ensures fault { IfErr result IsOfCommandLine }
+{
+    if bytes.len() > MAX_FILE_BYTES {
         return Err(too_long(alloc));
     }
     match str::from_utf8(bytes) {
@@ -65,64 +110,63 @@ fn value_of(alloc: Global, bytes: &[u8], is_whole: bool) -> Result<String, Fault
     }
 }
 
-/// Returns the value that stands in this file. If it can't be read, why is said below the fault.
-fn value_in<E: Write>(rt: &HostRuntime, path: &str, err: &mut E) -> Result<String, u8> {
-    let mut file = match open(rt, path) {
+/// Returns the list of the file at this path.
+fn list_at<O: Opener>(alloc: Global, opener: &O, path: &str) -> Result<String, Failed>
+    ensures list { IfOk result (λ list. IsListInFile (O.files opener.now path.now) (string_bytes list)) }
+    ensures fault { IfErr result (λ failed. IsFaultOfWords (Unit {0}) failed.fault) }
+{
+    let owned = String::from_str(alloc, path)?;
+    let mut file = match opener.open(path) {
         Ok(file) => file,
-        Err(reason) => {
-            let status = Fault::Read.tell(err);
-            tell_reason(err, path, reason);
-            return Err(status);
-        }
+        Err(error) => return Err(Failed::at(owned, Some(error))),
     };
-    match read_at_most(rt.alloc(), &mut file, MAX_FILE_BYTES + 1, MAX_FILE_CALLS) {
-        Ok(bytes) => value_of(rt.alloc(), &bytes, bytes.len() <= MAX_FILE_BYTES).map_err(
-            |fault| fault.tell(err),
-        ),
-        Err(ReadFault::Memory) => Err(Fault::Memory.tell(err)),
-        Err(ReadFault::Stream) => {
-            let status = Fault::Read.tell(err);
-            file.tell_reason(err, path);
-            Err(status)
-        }
+    match read_at_most(alloc, &mut file, MAX_FILE_BYTES + 1, MAX_FILE_CALLS) {
+        Ok(bytes) => list_in(alloc, bytes.as_slice()).map_err(|fault| Failed::of(fault)),
+        Err(ReadFault::Memory) => Err(Failed::of(Fault::Memory)),
+        Err(ReadFault::Stream) => Err(Failed::at(owned, file.reason())),
     }
 }
 
-/// Returns the word itself, or the option with the value that stands in the file that the word names.
-fn word_for<E: Write>(
-    rt: &HostRuntime,
+/// Returns the word itself, or the option with the list of the file that the word names.
+fn word_for<O: Opener>(
+    alloc: Global,
+    opener: &O,
     before: Option<&str>,
     word: &str,
-    err: &mut E,
-) -> Result<String, u8> {
-    let alloc = rt.alloc();
-    let made = match file_named(before, word) {
-        None => String::from_str(alloc, word),
-        Some(path) => {
-            let value = value_in(rt, path, err)?;
-            if before == Some(OPTION) {
-                Ok(value)
-            } else {
-                format!(in alloc; "{OPTION}={value}")
-            }
-        }
+) -> Result<String, Failed>
+    ensures word { IfOk result (λ made.
+        IsWordFor (O.files opener.now) (option_map (λ word. word.now) before.entry) word.now (string_bytes made)) }
+    ensures fault { IfErr result (λ failed. IsFaultOfWords
+        ((path : List ℕ) × NamesFile (option_map (λ word. word.now) before.entry) word.now path) failed.fault) }
+{
+    let Some(path) = file_named(before, word) else {
+        return Ok(String::from_str(alloc, word)?);
     };
-    made.map_err(|_| Fault::Memory.tell(err))
+    let list = list_at(alloc, opener, path)?;
+    if follows_option(before) {
+        Ok(list)
+    } else {
+        Ok(format!(in alloc; "{OPTION}={list}")?)
+    }
 }
 
-/// Returns the words, with what a file lists in place of its name. If some file can't be read, the fault is told, and
-/// the exit status returned.
-pub fn with_images<E: Write>(
-    rt: &HostRuntime,
-    words: &[String],
-    err: &mut E,
-) -> Result<Vec<String>, u8> {
-    let mut all = Vec::new(rt.alloc());
+/// Returns the words, with what a file lists in place of its name.
+pub fn with_lists<O: Opener, S: AsStr>(
+    alloc: Global,
+    opener: &O,
+    words: &[S],
+) -> Result<Vec<String>, Failed>
+    ensures words { IfOk result (λ made. AreWordsFor (O.files opener.now) None (map S.text words.now)
+        (map (λ word. string_bytes word) made.items)) }
+    ensures fault { IfErr result (λ failed. IsFaultOfWords (NamesSome None (map S.text words.now)) failed.fault) }
+{
+    let mut all = Vec::new(alloc);
     let mut before: Option<&str> = None;
     for word in words {
-        let word_made = word_for(rt, before, word.as_str(), err)?;
-        all.push(word_made).map_err(|_| Fault::Memory.tell(err))?;
-        before = Some(word.as_str());
+        let text = word.as_str();
+        let made = word_for(alloc, opener, before, text)?;
+        all.push(made).map_err(|_| Failed::of(Fault::Memory))?;
+        before = Some(text);
     }
     Ok(all)
 }

@@ -1,25 +1,45 @@
 //! How far a sweep or an exploration is, told on a terminal.
 ghost use Rattle.std.specs.Prelude.{◌≡◌};
 
-use bench_space::Progress;
+use crate::source::FailureReason;
+use bench_space::{Progress, Silent};
+use std::cell::Cell;
 use std::io;
 use std::io::Write;
 use std::time::{Clock, Duration, Instant};
 
-/// A writer that passes on what it is given, and tells after each write how many lines of keys went by, of how many.
+/// A caller that is told how far a command is.
+pub trait CommandProgress: Progress {
+    /// Tells that a sweep of this many keys begins.
+    fn begin_sweep(&mut self, keys: u64);
+}
+
+impl CommandProgress for Silent {
+    fn begin_sweep(&mut self, _keys: u64) {}
+}
+
+/// A writer that passes on what it is given. In a sweep it tells after each write how many lines of keys went by, of
+/// how many.
 #[derive(Drop)]
 pub struct SweepProgress<'a, W, E, C> {
     out: W,
-    terminal: E,
+    /// None if nothing is told.
+    terminal: Option<E>,
     clock: &'a C,
     began: Option<Instant>,
-    keys: u64,
+    /// How many keys the sweep has, if there is one.
+    keys: &'a Cell<Option<u64>>,
     lines: u64,
 }
 
 impl<'a, W: Write, E: Write, C: Clock> SweepProgress<'a, W, E, C> {
-    /// Returns a writer of the lines of this many keys, after a line of names.
-    pub fn new(out: W, terminal: E, clock: &'a C, keys: u64) -> SweepProgress<'a, W, E, C>
+    /// Returns a writer of the lines of keys, after a line of names.
+    pub fn new(
+        out: W,
+        terminal: Option<E>,
+        clock: &'a C,
+        keys: &'a Cell<Option<u64>>,
+    ) -> SweepProgress<'a, W, E, C>
         ensures { result.out ≡ out }
     {
         let began = Instant::now(clock).ok();
@@ -40,18 +60,21 @@ impl<W: Write, E: Write, C: Clock> Write for SweepProgress<'_, W, E, C> {
     fn write(&mut self, buf: &[u8]) -> io::Result<usize> {
         let taken = self.out.write(buf)?;
         self.lines = self.lines.saturating_add(lines_in(&buf[..taken]));
-        let time = passed(&self.began, self.clock);
-        tell(
-            &mut self.terminal,
-            self.lines.saturating_sub(1),
-            self.keys,
-            time,
-        );
+        if let (Some(terminal), Some(keys)) = (&mut self.terminal, self.keys.get()) {
+            let time = passed(&self.began, self.clock);
+            tell(terminal, self.lines.saturating_sub(1), keys, time);
+        }
         Ok(taken)
     }
 
     fn flush(&mut self) -> io::Result<()> {
         self.out.flush()
+    }
+}
+
+impl<W: FailureReason, E, C> FailureReason for SweepProgress<'_, W, E, C> {
+    fn reason(&self) -> Option<io::Error> {
+        self.out.reason()
     }
 }
 
@@ -93,18 +116,31 @@ pub struct SearchProgress<'a, E, C> {
     began: Option<Instant>,
     /// The second in which it was told last.
     told: u64,
+    /// Where a sweep is told how many keys it has.
+    keys: &'a Cell<Option<u64>>,
 }
 
 impl<'a, E: Write, C: Clock> SearchProgress<'a, E, C> {
-    /// Begins to tell it on the terminal, if there is one.
-    pub fn new(terminal: Option<E>, clock: &'a C) -> SearchProgress<'a, E, C> {
+    /// Begins to tell it on the terminal, if there is one. The keys of a sweep are left in `keys`.
+    pub fn new(
+        terminal: Option<E>,
+        clock: &'a C,
+        keys: &'a Cell<Option<u64>>,
+    ) -> SearchProgress<'a, E, C> {
         let began = Instant::now(clock).ok();
         SearchProgress {
             terminal,
             clock,
             began,
             told: 0,
+            keys,
         }
+    }
+}
+
+impl<E: Write, C: Clock> CommandProgress for SearchProgress<'_, E, C> {
+    fn begin_sweep(&mut self, keys: u64) {
+        self.keys.set(Some(keys));
     }
 }
 

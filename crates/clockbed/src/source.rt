@@ -1,39 +1,47 @@
-//! Streams that keep why they failed.
+//! Streams that keep why they failed, and how that is told.
+ghost use Rattle.std.specs.Prelude.{codes, ◌++◌, ◌≡◌};
+ghost use Rattle.command_answers.specs.Faults.{Says};
+ghost use Rattle.clockbed.specs.Reasons.{SaysReason};
 
-use std::fs::File;
+use std::fmt::InlineText;
 use std::io;
 use std::io::{Read, Write};
+use stream_io::write_fully;
+
+/// A stream that keeps why it failed.
+pub trait FailureReason {
+    /// Returns why its last call that failed did, if one failed.
+    fn reason(&self) -> Option<io::Error>;
+}
 
 /// A stream, and why its last call that failed did.
 #[derive(Drop)]
 pub struct Reasoned<S> {
-    stream: S,
+    pub stream: S,
     reason: Option<io::Error>,
 }
 
 impl<S> Reasoned<S> {
     /// Returns the stream with no failure yet.
-    pub fn of(stream: S) -> Reasoned<S> {
+    pub fn of(stream: S) -> Reasoned<S>
+        ensures { result.stream ≡ stream }
+    {
         Reasoned {
             stream,
             reason: None,
         }
     }
+}
 
-    /// Says why the last call that failed did, if one failed. What `err` doesn't take is dropped.
-    pub fn tell_reason<E: Write>(&self, err: &mut E, name: &str) {
-        if let Some(reason) = self.reason {
-            tell_reason(err, name, reason);
-        }
+impl<S> FailureReason for Reasoned<S> {
+    fn reason(&self) -> Option<io::Error> {
+        self.reason
     }
 }
 
-/// Opens a file to read.
-pub fn open(rt: &HostRuntime, path: &str) -> io::Result<Reasoned<File>> {
-    Ok(Reasoned::of(File::open(rt, path)?))
-}
-
 impl<R: Read> Read for Reasoned<R> {
+    ghost remaining = { λ r. R.remaining r.stream };
+
     fn read(&mut self, buf: &mut [u8]) -> io::Result<usize> {
         let count = self.stream.read(buf);
         if let Err(error) = count {
@@ -44,6 +52,8 @@ impl<R: Read> Read for Reasoned<R> {
 }
 
 impl<W: Write> Write for Reasoned<W> {
+    ghost contents = { λ w. W.contents w.stream };
+
     fn write(&mut self, buf: &[u8]) -> io::Result<usize> {
         let count = self.stream.write(buf);
         if let Err(error) = count {
@@ -57,7 +67,37 @@ impl<W: Write> Write for Reasoned<W> {
     }
 }
 
-/// Says why the stream of this name failed. What `err` doesn't take is dropped.
-pub fn tell_reason<E: Write>(err: &mut E, name: &str, reason: io::Error) {
-    let _ = write!(err, "{name}: {reason}\n");
+/// Why a file could not be read.
+#[derive(Drop)]
+pub struct FileReason {
+    pub path: String,
+    pub error: io::Error,
+}
+
+/// Room for the system's reason, which is shorter.
+const REASON_BYTES: usize = 512;
+
+/// Says in a line why the stream of this name failed, with no memory of its own. What `err` does not take is dropped.
+pub fn tell_reason<E: Write>(err: &mut E, name: &str, error: io::Error)
+    ensures { SaysReason name.now (E.contents err.old) (E.contents err.new) }
+{
+    match write_fully(err, name.as_bytes()) {
+        Ok(()) => say_reason(
+            err,
+            InlineText::<REASON_BYTES>::of(format_args!("{error}\n")).as_str(),
+        ),
+        Err(_) => {}
+    }
+}
+
+/// Says a reason behind a name.
+fn say_reason<E: Write>(err: &mut E, reason: &str)
+    ensures { Says (E.contents err.old) (E.contents err.new) (codes ": " ++ reason.now) }
+{
+    match write_fully(err, b": ") {
+        Ok(()) => {
+            let _ = write_fully(err, reason.as_bytes());
+        }
+        Err(_) => {}
+    }
 }

@@ -1,2 +1,3 @@
-pub mod RunLemmas
+pub mod CauseLemmas
 pub mod FrontLemmas
+pub mod RunLemmas

@@ -48,7 +48,7 @@ unsaid_at Done old = refl
 unsaid_at Refused old = inl refl
 unsaid_at Mismatched old = refl
 unsaid_at Violated old = refl
-unsaid_at Unfinished old = refl
+unsaid_at Unfinished old = inl refl
 
 pub unsaid_in : (ended : Result Ending Fault) (old : Option (List ℕ)) → IfOk ended (λ ending. SaysAt ending old old)
 unsaid_in (Ok ending) old = unsaid_at ending old

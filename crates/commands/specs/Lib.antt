@@ -1,3 +1,4 @@
+pub mod Causes
 pub mod Explore
-pub mod Scenarios
 pub mod Perform
+pub mod Scenarios

@@ -1,5 +1,5 @@
 -- What the program does for a request: what it takes, what it leaves and says, and its exit status (docs/COMMANDS.md).
-use Rattle.std.specs.Prelude.{◌≡◌, ◌⊎◌, ℕ, List, [], Option, Some, None, Result, Ok, Err, string_bytes, take}
+use Rattle.std.specs.Prelude.{◌≡◌, ◌⊎◌, ℕ, List, [], IfSome, Option, Result, Ok, Err, string_bytes, take}
 use Rattle.bench_scenario.specs.declared.run.TheConstants.{MAX_BYTES}
 use Rattle.command_answers.specs.declared.ending.Ending.{Ending}
 use Rattle.command_answers.specs.declared.ending.Ending.TheVariants.{Done}
@@ -52,14 +52,24 @@ Responds (Scenario asked) bytes old new ended =
 Responds (Stress asked) bytes old new ended = LeavesStressed asked old new ended
 Responds (Help text) bytes old new ended = Leaves old new (string_bytes text) Done ended
 
--- if nothing is read, no bytes are answered; of an input that is known its first bytes are, or it couldn't be read, and
--- nothing is left
+-- these bytes were read of an input: its first ones, if it is known
+abbrev pub AreRead : Input → Option (List ℕ) → List ℕ → Type 0
+AreRead input known bytes = IfSome known (λ whole. bytes ≡ take (max_bytes input) whole)
+
+-- the bytes that were read are answered, or none could be read, and nothing is left
+abbrev pub RespondsToBytes : Input → Request → Option (List ℕ) → Option (List ℕ) → Option (List ℕ)
+    → Result Ending Fault → Type 0
+RespondsToBytes input request known old new ended =
+    ((bytes : List ℕ) × AreRead input known bytes × Responds request bytes old new ended)
+    ⊎ LeavesNothing IsFaultOfReading old new ended
+
+-- if nothing is read, no bytes are answered
 abbrev pub RespondsTo : Input → Request → Option (List ℕ) → Option (List ℕ) → Option (List ℕ) → Result Ending Fault
     → Type 0
 RespondsTo inputs.Nothing request known old new ended = Responds request [] old new ended
-RespondsTo input request None old new ended = Unit {0}
-RespondsTo input request (Some whole) old new ended =
-    Responds request (take (max_bytes input) whole) old new ended ⊎ LeavesNothing IsFaultOfReading old new ended
+RespondsTo inputs.Image request known old new ended = RespondsToBytes inputs.Image request known old new ended
+RespondsTo inputs.Text request known old new ended = RespondsToBytes inputs.Text request known old new ended
+RespondsTo inputs.Scenario request known old new ended = RespondsToBytes inputs.Scenario request known old new ended
 
 -- what is left of the input that the request reads
 abbrev pub CarriesOut : Request → Option (List ℕ) → Option (List ℕ) → Option (List ℕ) → Result Ending Fault → Type 0

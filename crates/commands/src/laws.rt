@@ -1,5 +1,5 @@
-//! Laws of answers, listings and verdicts.
-ghost use Rattle.std.specs.Prelude.{◌≡◌, List, Ok, Result, ℕ, false};
+//! Laws of answers, listings, verdicts, reports and faults.
+ghost use Rattle.std.specs.Prelude.{◌≡◌, Bool, List, Ok, Result, ℕ, false};
 ghost use Rattle.bpf_insn.specs.declared.forms.Insn.{Insn};
 ghost use Rattle.bpf_insn.specs.declared.image.ImageError.{ImageError};
 ghost use Rattle.command_answers.specs.declared.answer.Answer.{Answer};
@@ -11,6 +11,9 @@ ghost use Rattle.command_answers.specs.Answer.{Answers, AnswersLeaving, SameAnsw
 ghost use Rattle.command_answers.specs.Left.{Left};
 ghost use Rattle.command_answers.specs.Image.{ReadsImage};
 ghost use Rattle.program_commands.specs.Verdict.{Judges, SameJudgement};
+ghost use Rattle.bench_scenario.specs.Runs.{ReportsRun};
+ghost use Rattle.scenario_text.specs.declared.scenario.Scenario.{Scenario};
+ghost use Rattle.commands.specs.Causes.{ThreadsHaveCause, UnshapedReadsNothing};
 
 use bpf_asm::one_meaning;
 use bpf_insn::one_reading;
@@ -55,3 +58,18 @@ pub fn one_verdict()
     one_reading();
     bpf_verify::one_verdict();
 }
+
+/// A scenario has at most one report, and one verdict on agreement.
+pub fn one_report()
+    ensures { (s : Scenario) (line other : List ℕ) (agrees verdict : Bool) → ReportsRun s line agrees
+        → ReportsRun s other verdict → (line ≡ other) × (agrees ≡ verdict) }
+{
+    bench_workers::laws::one_run();
+}
+
+/// Each fault has its cause: `fault thread` is of a command that needs threads, and a command that has no shape, and so
+/// reads nothing, ends with no `fault read` and no `fault thread`.
+pub fn faults_have_causes()
+    ensures thread { ThreadsHaveCause }
+    ensures unshaped { UnshapedReadsNothing }
+{}

@@ -5,3 +5,4 @@ mod explore;
 pub mod laws;
 pub mod perform;
 mod scenario;
+mod unfinished;

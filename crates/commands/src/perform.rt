@@ -96,14 +96,14 @@ fn respond<T: Threads + Wait + Sync, W: Write, E: Write, P: Progress>(
 {
     match request {
         Request::Exec(options) => exec_bytes(alloc, options, bytes, out, err),
-        Request::Asm { list } => give(asm(alloc, *list, bytes), out, err),
-        Request::Compile(options) => give(compile(alloc, *options, bytes), out, err),
-        Request::Dis { list } => give(dis(alloc, *list, bytes), out, err),
-        Request::Clock(options) => give(clock(alloc, *options), out, err),
-        Request::Verify(options) => give(verify(alloc, *options, bytes), out, err),
-        Request::Explain(options) => give(explanation(alloc, *options, bytes), out, err),
+        Request::Asm { list } => give(alloc, asm(alloc, *list, bytes), out, err),
+        Request::Compile(options) => give(alloc, compile(alloc, *options, bytes), out, err),
+        Request::Dis { list } => give(alloc, dis(alloc, *list, bytes), out, err),
+        Request::Clock(options) => give(alloc, clock(alloc, *options), out, err),
+        Request::Verify(options) => give(alloc, verify(alloc, *options, bytes), out, err),
+        Request::Explain(options) => give(alloc, explanation(alloc, *options, bytes), out, err),
         Request::Scenario(asked) => scenario_bytes(rt, alloc, asked, bytes, out, err, progress),
-        Request::Stress(options) => give(stress(rt, alloc, *options), out, err),
+        Request::Stress(options) => give(alloc, stress(rt, alloc, *options), out, err),
         Request::Help { text } => write_whole(out, text.as_bytes(), Ending::Done),
     }
 }

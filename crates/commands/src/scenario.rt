@@ -81,14 +81,19 @@ fn on_scenario<T: Threads + Wait + Sync, W: Write, E: Write, P: Progress>(
         ScenarioRequest::Run(options) => run(rt, alloc, *options, scenario, out),
         ScenarioRequest::Lines(options) => lines(rt, alloc, *options, scenario, out),
         ScenarioRequest::TracedRun(place) => {
-            give(traced_run(rt, alloc, *place, scenario), out, err)
+            give(alloc, traced_run(rt, alloc, *place, scenario), out, err)
         }
         ScenarioRequest::NodeProgram(options) => {
-            give(node_program(rt, alloc, *options, scenario), out, err)
+            give(alloc, node_program(rt, alloc, *options, scenario), out, err)
         }
         ScenarioRequest::Sweep(options) => sweep(rt, alloc, *options, scenario, out, err),
         ScenarioRequest::Explore(options) => {
-            give(explore(rt, alloc, options, scenario, progress), out, err)
+            give(
+                alloc,
+                explore(rt, alloc, options, scenario, progress),
+                out,
+                err,
+            )
         }
     }
 }

@@ -1,0 +1,62 @@
+-- Which faults come of which requests (docs/COMMANDS.md, "Faults").
+use Rattle.std.specs.Prelude.{ℕ, List, Option, Some, Err}
+use Rattle.command_answers.specs.declared.fault.Fault.{Fault}
+use Rattle.command_answers.specs.declared.fault.Fault.TheVariants as faults
+use Rattle.requests.specs.Shapes.{HasShape}
+use Rattle.requests.specs.declared.request.Request.{Request}
+use Rattle.requests.specs.declared.request.Request.TheVariants.{Exec, Asm, Compile, Dis, Clock, Verify, Explain, Scenario, Stress, Help}
+use Rattle.requests.specs.declared.request.ScenarioRequest.{ScenarioRequest}
+use Rattle.requests.specs.declared.request.ScenarioRequest.TheVariants.{Run, Lines, TracedRun, NodeProgram, Sweep, Explore}
+use Rattle.commands.specs.Perform.{CarriesOut}
+
+-- a command that fails if a thread of its own can't be started
+abbrev pub ScenarioNeedsThreads : ScenarioRequest → Type 0
+ScenarioNeedsThreads (Run asked) = Unit {0}
+ScenarioNeedsThreads (Lines asked) = Unit {0}
+ScenarioNeedsThreads (TracedRun asked) = ⊥
+ScenarioNeedsThreads (NodeProgram asked) = ⊥
+ScenarioNeedsThreads (Sweep asked) = ⊥
+ScenarioNeedsThreads (Explore asked) = ⊥
+
+abbrev pub NeedsThreads : Request → Type 0
+NeedsThreads (Exec asked) = ⊥
+NeedsThreads (Asm list) = ⊥
+NeedsThreads (Compile asked) = ⊥
+NeedsThreads (Dis list) = ⊥
+NeedsThreads (Clock asked) = ⊥
+NeedsThreads (Verify asked) = ⊥
+NeedsThreads (Explain asked) = ⊥
+NeedsThreads (Scenario asked) = ScenarioNeedsThreads asked
+NeedsThreads (Stress asked) = Unit {0}
+NeedsThreads (Help text) = ⊥
+
+-- `exec` or `verify`, with options that have no shape
+abbrev pub HasNoShape : Request → Type 0
+HasNoShape (Exec asked) = HasShape asked.shape → ⊥
+HasNoShape (Asm list) = ⊥
+HasNoShape (Compile asked) = ⊥
+HasNoShape (Dis list) = ⊥
+HasNoShape (Clock asked) = ⊥
+HasNoShape (Verify asked) = HasShape asked → ⊥
+HasNoShape (Explain asked) = HasShape asked.shape → ⊥
+HasNoShape (Scenario asked) = ⊥
+HasNoShape (Stress asked) = ⊥
+HasNoShape (Help text) = ⊥
+
+-- the fault of a command that reads nothing and needs no thread
+abbrev pub IsFaultOfAnswering : Fault → Type 0
+IsFaultOfAnswering faults.Read = ⊥
+IsFaultOfAnswering (faults.Write after) = Unit {0}
+IsFaultOfAnswering faults.Memory = Unit {0}
+IsFaultOfAnswering faults.Thread = ⊥
+IsFaultOfAnswering (faults.CommandLine text) = ⊥
+
+-- of an input that is known, `fault thread` comes only of a command that needs threads
+abbrev pub ThreadsHaveCause : Type 0
+ThreadsHaveCause = (request : Request) (whole : List ℕ) (old new : Option (List ℕ))
+    → CarriesOut request (Some whole) old new (Err faults.Thread) → NeedsThreads request
+
+-- without a shape there is no `fault read` and no `fault thread`
+abbrev pub UnshapedReadsNothing : Type 0
+UnshapedReadsNothing = (request : Request) (known old new : Option (List ℕ)) (fault : Fault) → HasNoShape request
+    → CarriesOut request known old new (Err fault) → IsFaultOfAnswering fault
