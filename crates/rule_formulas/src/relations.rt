@@ -128,8 +128,10 @@ fn remaining(alloc: Global, a: Number, b: Number, r: Number) -> Result<Formula, 
     let few = less(alloc, a, Sum::Two(b, b))?;
     let once = equal(alloc, Sum::Two(r, b), Sum::Only(a))?;
     let next = both(alloc, few, once)?;
+    let far = at_most(alloc, Sum::Two(b, b), Sum::Only(a))?;
     let rest = less(alloc, r, Sum::Only(b))?;
-    let high = either(alloc, next, rest)?;
+    let last = both(alloc, far, rest)?;
+    let high = either(alloc, next, last)?;
     let some = either(alloc, low, high)?;
     Ok(either(alloc, none, some)?)
 }

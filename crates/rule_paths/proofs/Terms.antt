@@ -98,7 +98,8 @@ computes Remainder w a b r x y h =
             | inr more ↦ inr (elim (cases_lt A (B + B)) [
               | inl few ↦ let low = remainder_low A B more few in
                   inl (omega (arith, few), (omega (arith, e, low), omega (arith, e, low)))
-              | inr many ↦ let low = remainder_small A B (omega (arith, some)) in inr (omega (arith, e, low))
+              | inr many ↦ let low = remainder_small A B (omega (arith, some)) in
+                  inr (omega (arith, many), omega (arith, e, low))
             ])
           ])
     ]

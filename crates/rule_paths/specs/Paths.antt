@@ -33,7 +33,8 @@ compared AtMost a b = IsAtMost a b
 compared Greater a b = IsLess b a
 compared AtLeast a b = IsAtMost b a
 
--- r is the result, which has 32 bits. Of a product nothing more is said; a remainder is exact below 2 b.
+-- r is the result, which has 32 bits. Of a product nothing more is said. A remainder is exact below 2 b, and from there on
+-- any number below b.
 abbrev pub computed : Operation → Expression → Expression → Expression → Relation
 computed Sum a b r = AnyOf (IsEqual r (Plus a b)) (IsEqual (Plus r (Constant (2 ^ 32))) (Plus a b))
 computed Difference a b r = AnyOf (IsEqual (Plus r b) a) (IsEqual (Plus r b) (Plus a (Constant (2 ^ 32))))
@@ -42,7 +43,7 @@ computed Quotient a b r = IsAtMost r a
 computed Remainder a b r =
     AnyOf (AllOf (IsAtMost b (Constant 0)) (IsEqual r a))
     (AnyOf (AllOf (IsLess a b) (IsEqual r a))
-    (AnyOf (AllOf (IsLess a (Plus b b)) (IsEqual (Plus r b) a)) (IsLess r b)))
+    (AnyOf (AllOf (IsLess a (Plus b b)) (IsEqual (Plus r b) a)) (AllOf (IsAtMost (Plus b b) a) (IsLess r b))))
 
 abbrev pub succeeds : Expression → Relation
 succeeds a = IsAtMost (Constant 1) a

@@ -11,7 +11,7 @@ returns c v h =
         | inl x ↦ inl (c.in_ok-low.ensures i (c.in_ok-below.ensures v x.0) (c.in_ok-same.ensures v x.1))
         | inr w ↦ inr (c.in_ok-high.ensures i (elim w [
           | inl x ↦ inl (c.in_ok-next.ensures i (c.in_ok-few.ensures v x.0) (c.in_ok-once.ensures v x.1))
-          | inr x ↦ inr (c.in_ok-rest.ensures v x)
+          | inr x ↦ inr (c.in_ok-last.ensures i (c.in_ok-far.ensures v x.0) (c.in_ok-rest.ensures v x.1))
         ]))
       ]))
     ])
