@@ -1,5 +1,20 @@
-//! Texts of what exploring finds: the scenario of a counterexample, the state space, the words of a rule. Nothing is
-//! promised of them: a counterexample is run before it is printed, and scripts of the gate read the others back.
+//! Has texts of what exploring finds: the scenario of a counterexample, the state space, the words of a rule. No
+//! contract promises them: a counterexample is run before it is printed, and scripts of the gate read the others back.
+//!
+//! - `shown_text` returns the scenario of a counterexample.
+//! - `graph_text` returns the state space for Graphviz, PRISM or Storm.
+//! - `state_words` returns the names of the words of the rule.
+//!
+//! ```
+//! use explored_texts::state_words;
+//! use scenario_text::scenario_in;
+//!
+//! let text = b"nodes = 4\nfaults = 1\nmodulus = 8\nmemory = 8\npulses = 1\ncoins = \"ones\"\n";
+//! let scenario = scenario_in(rt.alloc(), text).map_err(|_| "no scenario")?;
+//!
+//! let words = state_words(rt.alloc(), &scenario)?;
+//! assert!(rt; words.is_empty());
+//! ```
 #![tactic(auto)]
 
 mod graph;

@@ -5,3 +5,4 @@ pub mod SpelledTerms
 pub mod StatementLemmas
 pub mod SpelledStatements
 pub mod LineLemmas
+pub mod WordLemmas

@@ -8,3 +8,4 @@ pub mod Spelling
 pub mod Rules
 pub mod Errors
 pub mod Lines
+pub mod Words

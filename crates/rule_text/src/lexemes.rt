@@ -83,7 +83,7 @@ fn begins_name(byte: u8) -> bool
     matches!(byte, b'a'..=b'z' | b'A'..=b'Z' | b'_')
 }
 
-fn is_in(class: Class, byte: u8) -> bool
+pub fn is_in(class: Class, byte: u8) -> bool
     ensures { result ≡ is_in class byte }
 {
     match class {

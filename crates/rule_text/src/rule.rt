@@ -103,7 +103,7 @@ fn header_with<'a>(
 
 /// Reads the lines that name words of the memory, at most this many.
 #[cycle(header)]
-fn header<'a>(
+pub fn header<'a>(
     alloc: Global,
     text: &[u8],
     names: Vec<Entry>,
@@ -137,7 +137,7 @@ fn ended(names: &[Entry], statement: Statement, tokens: &[Token]) -> Result<Rule
     }
 }
 
-fn first_column(tokens: &[Token]) -> usize
+pub fn first_column(tokens: &[Token]) -> usize
     ensures { result ≡ first_column tokens.now }
 {
     match tokens {
