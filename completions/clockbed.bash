@@ -11,11 +11,11 @@ _clockbed_offer() {
 _clockbed() {
   COMPREPLY=()
   if [ "$COMP_CWORD" -le 1 ]; then
-    mapfile -t COMPREPLY < <(compgen -W "exec asm compile dis verify run stress sweep explore help --help --version" -- "${COMP_WORDS[COMP_CWORD]}")
+    mapfile -t COMPREPLY < <(compgen -W "exec asm compile dis verify run stress sweep explore prove help --help --version" -- "${COMP_WORDS[COMP_CWORD]}")
     return
   fi
   case ${COMP_WORDS[1]}:${COMP_WORDS[COMP_CWORD - 1]} in
-    compile:--faults | compile:--memory | compile:--modulus | compile:--nodes | dis:--faults | dis:--modulus | dis:--node | dis:--nodes | exec:--coin | exec:--contents | exec:--fuel | exec:--id | exec:--mail | exec:--memory | exec:--nodes | explore:--ask | explore:--bytes | explore:--cells | explore:--depth | explore:--graph | explore:--images | explore:--mail | explore:--memory | explore:--odds | explore:--reach | explore:--said | explore:--start | explore:--states | run:--from | run:--trace | run:--until | run:--workers | stress:--loaders | stress:--loads | stress:--pulses | stress:--workers | sweep:--keys | sweep:--workers | verify:--memory | verify:--nodes) return ;;
+    compile:--faults | compile:--memory | compile:--modulus | compile:--nodes | dis:--faults | dis:--modulus | dis:--node | dis:--nodes | exec:--coin | exec:--contents | exec:--fuel | exec:--id | exec:--mail | exec:--memory | exec:--nodes | explore:--ask | explore:--bytes | explore:--cells | explore:--depth | explore:--graph | explore:--images | explore:--mail | explore:--memory | explore:--odds | explore:--reach | explore:--said | explore:--start | explore:--states | prove:--claims | prove:--rule | run:--from | run:--trace | run:--until | run:--workers | stress:--loaders | stress:--loads | stress:--pulses | stress:--workers | sweep:--keys | sweep:--workers | verify:--memory | verify:--nodes) return ;;
   esac
   case ${COMP_WORDS[1]} in
     exec) _clockbed_offer "--nodes --memory --text --fuel --id --mail --coin --contents --show --trace --help" files ;;
@@ -27,6 +27,7 @@ _clockbed() {
     stress) _clockbed_offer "--loaders --loads --pulses --workers --help" ;;
     sweep) _clockbed_offer "--keys --workers --help" files ;;
     explore) _clockbed_offer "--ask --mail --start --bytes --cells --images --said --states --depth --memory --odds --reach --graph --json --help" files ;;
+    prove) _clockbed_offer "--rule --claims --help" files ;;
   esac
 }
 

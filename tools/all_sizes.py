@@ -19,11 +19,13 @@ import pathlib
 import sys
 
 sys.dont_write_bytecode = True
+from certificates import NotFound, certificate_of
 from claims_text import note_of, read_claims
 from quorum_formula import OutsideCounts, verdict
 from rule_text import MAX_FRAMES, Reader, Refused
 from sketches import holes_of, sketches
 from small_benches import beginning, refutation, scenario_of
+from step_formulas import NotCovered, step_of
 from symbolic import SAT, UNSAT, NoSolver, Solver
 
 HOLDS, REFUTED, UNDECIDED = "holds for all n, f, M (by z3)", "refuted", "not decided"
@@ -91,6 +93,10 @@ def parsed(words):
         help="file for the first refuted step as a scenario; with holes a folder for those of all choices",
     )
     parser.add_argument(
+        "--certificate", type=pathlib.Path, metavar="FILE",
+        help="file for certificates of the steps that hold, which `clockbed prove` checks; not with holes",
+    )
+    parser.add_argument(
         "--hole", type=hole_of, action="append", default=[], dest="holes", metavar="NAME=TERM,..",
         help="terms to try for ?NAME in the rule [default: sums of n, f and 1]",
     )
@@ -146,11 +152,24 @@ def chosen_steps(options, claims):
     return steps
 
 
-def write_scenario(path, text, rule, claims, step_and_case):
+def certificate_text(rule, claims, step):
+    """The certificate of a step that holds, or nothing and a note why there is none."""
     try:
-        path.write_text(scenario_of(text, rule, claims, *step_and_case), encoding="utf-8")
+        return f"step {step.line}\n{certificate_of(rule, step_of(claims, step, rule.words))}"
+    except (NotCovered, NotFound) as why:
+        print(f"all_sizes.py: line {step.line}: no certificate: {why}", file=sys.stderr)
+        return ""
+
+
+def write(path, text):
+    try:
+        path.write_text(text, encoding="utf-8")
     except OSError as why:
         end(f"all_sizes.py: {path}: {why.strerror}")
+
+
+def write_scenario(path, text, rule, claims, step_and_case):
+    write(path, scenario_of(text, rule, claims, *step_and_case))
 
 
 def make_folder(path):
@@ -169,6 +188,9 @@ def decide(solver, options, text, rule, claims):
         refuted = [it for it in answers.values() if it.kind == REFUTED]
         if options.scenario and refuted == [answers[step.line]]:
             write_scenario(options.scenario, text, rule, claims, (step, refuted[0].case))
+    if options.certificate:
+        holding = [it for it in chosen_steps(options, claims) if answers[it.line].kind == HOLDS]
+        write(options.certificate, "".join(certificate_text(rule, claims, it) for it in holding))
     status = status_of(answers.values())
     if options.scenario and status != STATUS[REFUTED]:
         print(f"all_sizes.py: no step is refuted, so {options.scenario} isn't written", file=sys.stderr)
@@ -212,6 +234,8 @@ def main(words):
     sys.setrecursionlimit(MAX_FRAMES)
     text = read(options.rule)
     holes = holes_of(text)
+    if holes and options.certificate:
+        end("all_sizes.py: --certificate isn't for rules with holes")
     unknown = sorted(set(options.holes) - set(holes))
     if unknown:
         end(f"all_sizes.py: {options.rule} has no hole ?{unknown[0]}")

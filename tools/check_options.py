@@ -37,6 +37,8 @@ load = [{pulse = 1, nodes = [0, 1, 2, 3], program = "clock"}]
 """
 OWN = b"mov64 r0, 7\nexit\n"
 RULE = text("examples/rules/clock.rule")
+RULE_FILE, CLAIMS_FILE = (str(TOP / "examples" / it) for it in ("rules/clock.rule", "claims/clock.claims"))
+CERTIFICATES = text("examples/certificates/clock.txt")
 WORDS = b"state a, b, c, d\nd = clock\nsend d\n"
 LOOP = bytes.fromhex("0500ffff00000000")
 HEARS = "mov64 r6, r1; {}; stxw [r6+0], r0; mov64 r0, 0; exit"
@@ -97,6 +99,8 @@ ROWS = {
     ("explore", "memory"): (["--ask", "stabilisation", "--start", "any", "--cells", "0=0,1,4..6=0,1"], COUNTING, "1"),
     ("explore", "reach"): (["--ask", "stabilisation", "--odds", "8"], THREE, "1/2"),
     ("explore", "graph"): (["--ask", "stabilisation"], THREE, "tra"),
+    ("prove", "rule"): (["--claims", CLAIMS_FILE], CERTIFICATES, RULE_FILE),
+    ("prove", "claims"): (["--rule", RULE_FILE], CERTIFICATES, CLAIMS_FILE),
 }
 
 

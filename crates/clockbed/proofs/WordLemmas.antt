@@ -3,7 +3,7 @@ use Rattle.std.proofs.Common.{◌≡◌, ◌++◌, ◌∷◌, ◌<◌, ◌≤◌
 use Rattle.std.proofs.lemmas.List.{drop_all, drop_more}
 use Rattle.command_answers.specs.declared.fault.Fault.{Fault}
 use Rattle.command_answers.specs.declared.fault.Fault.TheVariants.{Read, Write, Memory, Thread, CommandLine}
-use Rattle.clockbed.specs.Words.{AreWordsFor, IsFaultOfWords, IsWordFor, NamesFile, NamesSome}
+use Rattle.clockbed.specs.Words.{AreWordsFor, IsFaultOfWords, IsWordFor, NamesAny, NamesSome}
 
 -- what is left of a list, from an element on
 rest_at : {X : Type 0} (text : X → List ℕ) (xs : List X) (i : ℕ) (x : X) (word : List ℕ) → i < length xs
@@ -37,7 +37,7 @@ names_more text before xs i x word within at is so_far more =
 names_here : {X : Type 0} (text : X → List ℕ) (before : Option (List ℕ)) (xs : List X) (i : ℕ) (x : X)
     (word : List ℕ) → i < length xs → x ≡ get_or xs i x → word ≡ text x
     → (NamesSome before (map text (drop i xs)) → NamesSome None (map text xs))
-    → (path : List ℕ) × NamesFile before word path → NamesSome None (map text xs)
+    → NamesAny before word → NamesSome None (map text xs)
 names_here text before xs i x word within at is so_far named =
     so_far (subst (NamesSome before) (sym (rest_at text xs i x word within at is)) (inl named))
 
@@ -45,7 +45,7 @@ names_here text before xs i x word within at is so_far named =
 pub fault_here : {X : Type 0} (text : X → List ℕ) (before : Option (List ℕ)) (xs : List X) (i : ℕ) (x : X)
     (word : List ℕ) (fault : Fault) → i < length xs → x ≡ get_or xs i x → word ≡ text x
     → (NamesSome before (map text (drop i xs)) → NamesSome None (map text xs))
-    → IsFaultOfWords ((path : List ℕ) × NamesFile before word path) fault
+    → IsFaultOfWords (NamesAny before word) fault
     → IsFaultOfWords (NamesSome None (map text xs)) fault
 fault_here text before xs i x word Read within at is so_far named =
     names_here text before xs i x word within at is so_far named

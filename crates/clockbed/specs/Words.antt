@@ -1,4 +1,5 @@
--- `--images @FILE`: the words with what a file lists in place of its name (docs/EXPLORE_REFERENCE.md).
+-- `--images @FILE`: the words with what a file lists in place of its name (docs/EXPLORE_REFERENCE.md). `--rule FILE` and
+-- `--claims FILE`: those with the file's text in place of its name (docs/ALL_SIZES.md).
 use Rattle.std.specs.Prelude.{◌≡◌, ◌⊎◌, ◌≤◌, ◌==◌, ℕ, List, [], ◌∷◌, ◌++◌, codes, fold, length, if◌then◌else◌}
 use Rattle.std.specs.Prelude.{IfSome, Option, Some, None}
 use Rattle.std.specs.List.{before_first}
@@ -50,12 +51,26 @@ abbrev pub TakesPlace : Option (List ℕ) → List ℕ → List ℕ → Type 0
 TakesPlace before list made = (FollowsOption before × (made ≡ list))
     ⊎ ((FollowsOption before → ⊥) × (made ≡ codes "--images=" ++ list))
 
--- the word that is made of a word: itself, if it names no file
-abbrev pub IsWordFor : (List ℕ → Option (List ℕ)) → Option (List ℕ) → List ℕ → List ℕ → Type 0
-IsWordFor files before word made =
+-- the word before is one of these options
+abbrev pub FollowsTextOption : Option (List ℕ) → Type 0
+FollowsTextOption None = ⊥
+FollowsTextOption (Some before) = (before ≡ codes "--rule") ⊎ (before ≡ codes "--claims")
+
+-- the text of a file whose bytes are known
+abbrev pub IsTextInFile : Option (List ℕ) → List ℕ → Type 0
+IsTextInFile known text = IfSome known (λ bytes. (length bytes ≤ MAX_FILE_BYTES) × (text ≡ bytes))
+
+-- the word that is made of one that names a file of a list: itself, if it names none
+abbrev pub IsListWordFor : (List ℕ → Option (List ℕ)) → Option (List ℕ) → List ℕ → List ℕ → Type 0
+IsListWordFor files before word made =
     ((path : List ℕ) × (list : List ℕ) × NamesFile before word path × IsListInFile (files path) list
     × TakesPlace before list made)
     ⊎ (((path : List ℕ) → NamesFile before word path → ⊥) × (made ≡ word))
+
+-- the word that is made of a word: the text of the file that it names after an option of a text
+abbrev pub IsWordFor : (List ℕ → Option (List ℕ)) → Option (List ℕ) → List ℕ → List ℕ → Type 0
+IsWordFor files before word made = (FollowsTextOption before × IsTextInFile (files word) made)
+    ⊎ ((FollowsTextOption before → ⊥) × IsListWordFor files before word made)
 
 -- the words that are made of words, of which the first comes after this one
 abbrev pub AreWordsFor : (List ℕ → Option (List ℕ)) → Option (List ℕ) → List (List ℕ) → List (List ℕ) → Type 0
@@ -65,10 +80,14 @@ AreWordsFor files before (word ∷ words) made = (first : List ℕ) × (rest : L
 
 -- ---- faults
 
+-- a word names a file
+abbrev pub NamesAny : Option (List ℕ) → List ℕ → Type 0
+NamesAny before word = FollowsTextOption before ⊎ ((path : List ℕ) × NamesFile before word path)
+
 -- some word names a file
 abbrev pub NamesSome : Option (List ℕ) → List (List ℕ) → Type 0
 NamesSome before [] = ⊥
-NamesSome before (word ∷ words) = ((path : List ℕ) × NamesFile before word path) ⊎ NamesSome (Some word) words
+NamesSome before (word ∷ words) = NamesAny before word ⊎ NamesSome (Some word) words
 
 -- a file that a word names couldn't be read, or is no list, or memory ran out
 abbrev pub IsFaultOfWords : Type 0 → Fault → Type 0

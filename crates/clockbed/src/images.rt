@@ -1,6 +1,8 @@
 //! `--images @FILE`: the memories that a file lists, in place of the word that names it (docs/EXPLORE_REFERENCE.md).
+//! `--rule FILE` and `--claims FILE`: the text of a file, likewise (docs/ALL_SIZES.md).
 ghost use Rattle.std.specs.Prelude.{◌≡◌, ◌↔◌, ◌≤◌, IfErr, IfOk, IsTrue, List, MatchOption, None, OnOk, length, map, option_map, string_bytes, ℕ};
-ghost use Rattle.clockbed.specs.Words.{AreWordsFor, FollowsOption, IsFaultOfWords, IsListInFile, IsWordFor, NamesFile, NamesSome};
+ghost use Rattle.clockbed.specs.Words.{AreWordsFor, FollowsOption, FollowsTextOption, IsFaultOfWords, IsListInFile, IsListWordFor};
+ghost use Rattle.clockbed.specs.Words.{IsTextInFile, IsWordFor, NamesAny, NamesFile, NamesSome};
 ghost use Rattle.clockbed.specs.Words.{line_image, list_of_text, with_image, with_line};
 ghost use Rattle.clockbed.specs.declared.images.TheConstants.{MAX_FILE_BYTES};
 ghost use Rattle.command_answers.specs.Faults.{IsOfCommandLine};
@@ -19,6 +21,14 @@ const OPTION: &str = "--images";
 
 /// The option and the name of a file in one word, up to the name.
 const OPTION_WITH_FILE: &str = "--images=@";
+
+/// The options whose values are the text of a file.
+const RULE_OPTION: &str = "--rule";
+
+const CLAIMS_OPTION: &str = "--claims";
+
+/// These options, as a fault names them.
+const TEXT_OPTION_NAMES: &str = "--rule or --claims";
 
 /// What stands before the name of a file.
 const MARK: char = '@';
@@ -86,10 +96,10 @@ fn listed(alloc: Global, text: &str) -> Result<String, AllocError>
 }
 
 /// Returns the fault of a file of too many bytes.
-fn too_long(alloc: Global) -> Fault
+fn too_long(alloc: Global, option: &str) -> Fault
     ensures { IsOfCommandLine result }
 {
-    match format!(in alloc; "error: a file of {OPTION} has at most {MAX_FILE_BYTES} bytes\n") {
+    match format!(in alloc; "error: a file of {option} has at most {MAX_FILE_BYTES} bytes\n") {
         Ok(text) => Fault::CommandLine { text },
         Err(_) => Fault::Memory,
     }
@@ -97,22 +107,23 @@ fn too_long(alloc: Global) -> Fault
 
 /// Returns the list of a file's bytes.
 fn list_in(alloc: Global, bytes: &[u8]) -> Result<String, Fault>
-    ensures short { IfOk result (λ list. length bytes.now ≤ MAX_FILE_BYTES) }
     ensures list { IfOk result (λ list. string_bytes list ≡ list_of_text bytes.now) }
     ensures fault { IfErr result IsOfCommandLine }
 {
-    if bytes.len() > MAX_FILE_BYTES {
-        return Err(too_long(alloc));
-    }
     match str::from_utf8(bytes) {
         Ok(text) => listed(alloc, text).map_err(|_| Fault::Memory),
         Err(_) => Err(Fault::of_command_line(alloc, "error: a file of --images is not UTF-8\n")),
     }
 }
 
-/// Returns the list of the file at this path.
-fn list_at<O: Opener>(alloc: Global, opener: &O, path: &str) -> Result<String, Failed>
-    ensures list { IfOk result (λ list. IsListInFile (O.files opener.now path.now) (string_bytes list)) }
+/// Returns the bytes of the file at this path, which an option names.
+fn bytes_at<O: Opener>(
+    alloc: Global,
+    opener: &O,
+    path: &str,
+    option: &str,
+) -> Result<Vec<u8>, Failed>
+    ensures bytes { IfOk result (λ read. IsTextInFile (O.files opener.now path.now) read.items) }
     ensures fault { IfErr result (λ failed. IsFaultOfWords (Unit {0}) failed.fault) }
 {
     let owned = String::from_str(alloc, path)?;
@@ -121,13 +132,60 @@ fn list_at<O: Opener>(alloc: Global, opener: &O, path: &str) -> Result<String, F
         Err(error) => return Err(Failed::at(owned, Some(error))),
     };
     match read_at_most(alloc, &mut file, MAX_FILE_BYTES + 1, MAX_FILE_CALLS) {
-        Ok(bytes) => list_in(alloc, bytes.as_slice()).map_err(|fault| Failed::of(fault)),
+        Ok(bytes) => {
+            if bytes.len() > MAX_FILE_BYTES {
+                return Err(Failed::of(too_long(alloc, option)));
+            }
+            Ok(bytes)
+        }
         Err(ReadFault::Memory) => Err(Failed::of(Fault::Memory)),
         Err(ReadFault::Stream) => Err(Failed::at(owned, file.reason())),
     }
 }
 
-/// Returns the word itself, or the option with the list of the file that the word names.
+/// Returns the list of the file at this path.
+fn list_at<O: Opener>(alloc: Global, opener: &O, path: &str) -> Result<String, Failed>
+    ensures list { IfOk result (λ list. IsListInFile (O.files opener.now path.now) (string_bytes list)) }
+    ensures fault { IfErr result (λ failed. IsFaultOfWords (Unit {0}) failed.fault) }
+{
+    let bytes = bytes_at(alloc, opener, path, OPTION)?;
+    list_in(alloc, bytes.as_slice()).map_err(|fault| Failed::of(fault))
+}
+
+/// Returns the text of a file's bytes.
+fn text_in(alloc: Global, bytes: &[u8]) -> Result<String, Fault>
+    ensures text { IfOk result (λ text. string_bytes text ≡ bytes.now) }
+    ensures fault { IfErr result IsOfCommandLine }
+{
+    match str::from_utf8(bytes) {
+        Ok(text) => String::from_str(alloc, text).map_err(|_| Fault::Memory),
+        Err(_) => Err(Fault::of_command_line(
+            alloc,
+            "error: a file of --rule or --claims is not UTF-8\n",
+        )),
+    }
+}
+
+/// Returns the text of the file at this path.
+fn text_at<O: Opener>(alloc: Global, opener: &O, path: &str) -> Result<String, Failed>
+    ensures text { IfOk result (λ text. IsTextInFile (O.files opener.now path.now) (string_bytes text)) }
+    ensures fault { IfErr result (λ failed. IsFaultOfWords (Unit {0}) failed.fault) }
+{
+    let bytes = bytes_at(alloc, opener, path, TEXT_OPTION_NAMES)?;
+    text_in(alloc, bytes.as_slice()).map_err(|fault| Failed::of(fault))
+}
+
+/// Returns true if the word before is an option whose value is the text of a file.
+fn follows_text_option(before: Option<&str>) -> bool
+    ensures { IsTrue result ↔ FollowsTextOption (option_map (λ word. word.now) before.entry) }
+{
+    match before {
+        Some(word) => word == RULE_OPTION || word == CLAIMS_OPTION,
+        None => false,
+    }
+}
+
+/// Returns the word itself, the text of the file that it names, or the option with the list of that file.
 fn word_for<O: Opener>(
     alloc: Global,
     opener: &O,
@@ -136,6 +194,25 @@ fn word_for<O: Opener>(
 ) -> Result<String, Failed>
     ensures word { IfOk result (λ made.
         IsWordFor (O.files opener.now) (option_map (λ word. word.now) before.entry) word.now (string_bytes made)) }
+    ensures fault { IfErr result (λ failed.
+        IsFaultOfWords (NamesAny (option_map (λ word. word.now) before.entry) word.now) failed.fault) }
+{
+    if follows_text_option(before) {
+        text_at(alloc, opener, word)
+    } else {
+        list_word_for(alloc, opener, before, word)
+    }
+}
+
+/// Returns the word itself, or the option with the list of the file that the word names.
+fn list_word_for<O: Opener>(
+    alloc: Global,
+    opener: &O,
+    before: Option<&str>,
+    word: &str,
+) -> Result<String, Failed>
+    ensures word { IfOk result (λ made.
+        IsListWordFor (O.files opener.now) (option_map (λ word. word.now) before.entry) word.now (string_bytes made)) }
     ensures fault { IfErr result (λ failed. IsFaultOfWords
         ((path : List ℕ) × NamesFile (option_map (λ word. word.now) before.entry) word.now path) failed.fault) }
 {

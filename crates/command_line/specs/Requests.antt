@@ -22,6 +22,7 @@ use Rattle.requests.specs.declared.request.ExecOptions.{ExecOptions}
 use Rattle.requests.specs.declared.request.ExplainOptions.{ExplainOptions}
 use Rattle.requests.specs.declared.request.LinesOptions.{LinesOptions}
 use Rattle.requests.specs.declared.request.NodeInPulse.{NodeInPulse}
+use Rattle.requests.specs.declared.request.ProveOptions.{ProveOptions}
 use Rattle.requests.specs.declared.request.Request.{Request}
 use Rattle.requests.specs.declared.request.Request.TheVariants as requests
 use Rattle.requests.specs.declared.request.RunOptions.{RunOptions}
@@ -142,6 +143,11 @@ pub record AsksStress (f : Found) (asked : StressOptions) : Type 0 where
   pub pulses : IsNumberOf PULSES f asked.pulses
   pub workers : IsNumberOf STRESS_WORKERS f asked.workers
 
+-- the texts of a rule and of claims about it
+pub record AsksProve (f : Found) (asked : ProveOptions) : Type 0 where
+  pub rule : first_value f (codes "rule") ≡ Some (string_bytes asked.rule)
+  pub claims : first_value f (codes "claims") ≡ Some (string_bytes asked.claims)
+
 -- ---- requests
 
 abbrev pub IsUntraced : Found → Type 0
@@ -172,6 +178,7 @@ Asks name f (requests.Verify shape) = (name ≡ codes "verify") × AsksShape f s
     × HasFlag f (codes "explain") false
 Asks name f (requests.Explain asked) = (name ≡ codes "verify") × AsksExplained f asked
 Asks name f (requests.Scenario asked) = AsksOfScenario name f asked
+Asks name f (requests.Prove asked) = (name ≡ codes "prove") × AsksProve f asked
 Asks name f (requests.Stress asked) = (name ≡ codes "stress") × AsksStress f asked
 Asks name f (requests.Help text) = ⊥
 
@@ -192,6 +199,7 @@ IsHelp (requests.Clock asked) = ⊥
 IsHelp (requests.Verify shape) = ⊥
 IsHelp (requests.Explain asked) = ⊥
 IsHelp (requests.Scenario asked) = ⊥
+IsHelp (requests.Prove asked) = ⊥
 IsHelp (requests.Stress asked) = ⊥
 IsHelp (requests.Help text) = Unit {0}
 

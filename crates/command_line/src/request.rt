@@ -2,7 +2,7 @@
 ghost use Rattle.std.specs.Prelude.{◌≡◌, IfErr, IfOk, IfSome, MatchOption, codes, option_map, string_bytes};
 ghost use Rattle.clap.specs.Matches.{found_of};
 ghost use Rattle.command_line.specs.Requests.{Asks, AsksCompile, AsksCompiledForm, AsksDetail, AsksFile, AsksFormat, AsksReport};
-ghost use Rattle.command_line.specs.Requests.{AsksRule, AsksRun, AsksShape, AsksSpan, AsksStress};
+ghost use Rattle.command_line.specs.Requests.{AsksProve, AsksRule, AsksRun, AsksShape, AsksSpan, AsksStress};
 ghost use Rattle.command_line.specs.Requests.{AsksSweep, AsksWithFile, IsAskedWithFile, IsHelp, IsKeys};
 ghost use Rattle.command_line.specs.Numbers.{IsNumeralOf};
 ghost use Rattle.command_line.specs.Requests.{IsPlace};
@@ -15,15 +15,15 @@ use crate::options::{flag, number, number_if_named};
 use clap::error::ErrorKind;
 use clap::{ArgMatches, Error};
 use command_words::options::{
-    ALL, CHECK, CLOCK, EXPLAIN, FAULTS, FROM, JSON, KEYS, LISTING, LOADERS, LOADS, MEMORY, MODULUS,
-    NODE, NODES, ODDS, PULSES, RULE_IN_C, RULE_LISTING, STRESS_WORKERS, SWEEPERS, TEXT, TRACE,
-    UNTIL, WORKERS,
+    ALL, CHECK, CLAIMS_FILE, CLOCK, EXPLAIN, FAULTS, FROM, JSON, KEYS, LISTING, LOADERS, LOADS,
+    MEMORY, MODULUS, NODE, NODES, ODDS, PULSES, RULE_FILE, RULE_IN_C, RULE_LISTING, STRESS_WORKERS,
+    SWEEPERS, TEXT, TRACE, UNTIL, WORKERS,
 };
 use command_words::{Helps, command_line};
 use requests::{
     ClockOptions, ClockRule, CompileOptions, CompiledForm, Detail, ExplainOptions, KeySpan,
-    LineFormat, LinesForm, LinesOptions, NodeInPulse, NodeProgramOptions, PulseSpan, Request,
-    RunOptions, ScenarioRequest, ShapeOptions, StressOptions, SweepOptions,
+    LineFormat, LinesForm, LinesOptions, NodeInPulse, NodeProgramOptions, ProveOptions, PulseSpan,
+    Request, RunOptions, ScenarioRequest, ShapeOptions, StressOptions, SweepOptions,
 };
 use std::alloc::{AllocError, Global};
 use std::convert::AsStr;
@@ -150,6 +150,7 @@ fn request_in(alloc: Global, name: &str, options: &ArgMatches<'_>) -> Result<Req
         "verify" => Ok(verify_request(options)),
         "run" => run_request(options),
         "stress" => Ok(Request::Stress(stress_options(options))),
+        "prove" => Ok(Request::Prove(prove_options(alloc, options)?)),
         "explore" => Ok(Request::Scenario(ScenarioRequest::Explore(explore_options(
             alloc, options,
         )?))),
@@ -187,6 +188,22 @@ pub(crate) fn shape_options(options: &ArgMatches<'_>) -> ShapeOptions
         nodes: number(options, &NODES),
         memory: number(options, &MEMORY),
     }
+}
+
+/// Returns the texts of a rule and of claims about it. Both have to be there.
+fn prove_options(alloc: Global, options: &ArgMatches<'_>) -> Result<ProveOptions, OptionsFault>
+    ensures { IfOk result (AsksProve (found_of options.now)) }
+{
+    let Some(rule) = options.get_str(RULE_FILE.name) else {
+        return Err(OptionsFault::Reason("--rule names no file of a rule"));
+    };
+    let Some(claims) = options.get_str(CLAIMS_FILE.name) else {
+        return Err(OptionsFault::Reason("--claims names no file of claims"));
+    };
+    Ok(ProveOptions {
+        rule: String::from_str(alloc, rule)?,
+        claims: String::from_str(alloc, claims)?,
+    })
 }
 
 /// Returns what is told of each slot, where that is asked for.

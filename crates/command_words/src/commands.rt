@@ -1,16 +1,17 @@
 //! The commands, each with its options in the order of its help.
 
 use crate::options::{
-    ALL, ASK, BYTES, CELLS, CHECK, CLOCK, COIN, CONTENTS, DEPTH, EXPLAIN, FAULTS, FROM, FUEL,
-    GRAPH, ID, IMAGES, INBOX, JSON, JSON_ANSWER, KEYS, LISTING, LOADERS, LOADS, MAIL, MEBIBYTES,
-    MEMORY, MODULUS, NODE, NODES, ODDS, PULSES, REACH, RULE_IN_C, RULE_LISTING, SAID, SHOW, START,
-    STATES, STEPS, STRESS_WORKERS, SWEEPERS, TEXT, TRACE, UNTIL, WORKERS,
+    ALL, ASK, BYTES, CELLS, CHECK, CLAIMS_FILE, CLOCK, COIN, CONTENTS, DEPTH, EXPLAIN, FAULTS,
+    FROM, FUEL, GRAPH, ID, IMAGES, INBOX, JSON, JSON_ANSWER, KEYS, LISTING, LOADERS, LOADS, MAIL,
+    MEBIBYTES, MEMORY, MODULUS, NODE, NODES, ODDS, PULSES, REACH, RULE_FILE, RULE_IN_C,
+    RULE_LISTING, SAID, SHOW, START, STATES, STEPS, STRESS_WORKERS, SWEEPERS, TEXT, TRACE, UNTIL,
+    WORKERS,
 };
 use crate::rows::OptionRow::{Flag, Long, LongSpan, Number, Span, Text};
 use crate::rows::{CommandRow, NumberOption, OptionRow};
 
 /// The commands, in the order of the help.
-pub(crate) const COMMANDS: [CommandRow; 9] = [
+pub(crate) const COMMANDS: [CommandRow; 10] = [
     CommandRow {
         name: "exec",
         about: "Run the program of an image",
@@ -72,6 +73,13 @@ pub(crate) const COMMANDS: [CommandRow; 9] = [
         about: "Search all runs of a small bench for a violation of agreement",
         after: "Example: clockbed explore examples/explore/four_nodes.toml\nPage: docs/EXPLORE.md",
         options: &EXPLORE,
+        reads_file: true,
+    },
+    CommandRow {
+        name: "prove",
+        about: "Prove claims about a rule for all sizes by certificates",
+        after: "Example: clockbed prove --rule examples/rules/clock.rule --claims examples/claims/clock.claims examples/certificates/clock.txt\nPage: docs/ALL_SIZES.md",
+        options: &PROVE,
         reads_file: true,
     },
 ];
@@ -166,3 +174,5 @@ const EXPLORE: [OptionRow; 14] = [
     Text(GRAPH),
     Flag(JSON_ANSWER),
 ];
+
+const PROVE: [OptionRow; 2] = [Text(RULE_FILE), Text(CLAIMS_FILE)];

@@ -1,4 +1,16 @@
-//! The words of the command line, with their help: the commands of `clockbed` and their options, as `clap` reads them.
+//! Has the commands of `clockbed` and their options, with ranges, defaults and help, as `clap` reads them.
+//!
+//! - `command_line` returns the command line for `clap`.
+//! - `command_names` returns the names of the commands.
+//! - `options` has a row for each option, as `options::NODES`.
+//!
+//! ```
+//! use command_words::{command_names, options};
+//!
+//! let names = command_names(rt.alloc())?;
+//! assert!(rt; names.as_slice().contains(&"explore"));
+//! assert_eq!(rt; (options::NODES.name, options::NODES.most), ("nodes", 64));
+//! ```
 #![tactic(auto)]
 
 mod arguments;

@@ -114,7 +114,7 @@ pub const RULE_IN_C: FlagOption = FlagOption {
 /// `--clock` of `dis`
 pub const CLOCK: FlagOption = FlagOption {
     name: "clock",
-    help: "Print the clock of the rule in place of an image",
+    help: "Print the built-in clock in place of an image",
     ..FLAG
 };
 
@@ -431,4 +431,24 @@ pub const GRAPH: TextOption = TextOption {
 pub const JSON_ANSWER: FlagOption = FlagOption {
     help: "Print the answer as one line of JSON",
     ..JSON
+};
+
+// ---- claims for all sizes
+
+/// `--rule`
+pub const RULE_FILE: TextOption = TextOption {
+    name: "rule",
+    value: "RULE",
+    help: "File of the rule that the claims are about",
+    may_begin_with_dash: true,
+    ..LIST
+};
+
+/// `--claims`
+pub const CLAIMS_FILE: TextOption = TextOption {
+    name: "claims",
+    value: "CLAIMS",
+    help: "File of the claims whose steps are proved",
+    may_begin_with_dash: true,
+    ..LIST
 };

@@ -18,7 +18,7 @@ use Rattle.command_answers.specs.declared.rejection.Unread.{Unread}
 use Rattle.requests.specs.Shapes.{HasShape}
 use Rattle.requests.specs.declared.request.ExecOptions.{ExecOptions}
 use Rattle.requests.specs.declared.request.Request.{Request}
-use Rattle.requests.specs.declared.request.Request.TheVariants.{Exec, Asm, Compile, Dis, Clock, Verify, Explain, Scenario, Stress, Help}
+use Rattle.requests.specs.declared.request.Request.TheVariants.{Exec, Asm, Compile, Dis, Clock, Verify, Explain, Scenario, Prove, Stress, Help}
 use Rattle.requests.specs.declared.request.ScenarioRequest.{ScenarioRequest}
 use Rattle.requests.specs.declared.request.ScenarioRequest.TheVariants.{Run, Lines, TracedRun, NodeProgram, Sweep, Explore}
 use Rattle.requests.specs.declared.request.ShapeOptions.{ShapeOptions}
@@ -105,6 +105,8 @@ threads_have_cause (Explain asked) whole old new (input, asks, left) =
 threads_have_cause (Scenario asked) whole old new (input, asks, left) =
     thread_of_read asked whole old new
     (subst (λ (i : Input). RespondsTo i (Scenario asked) (Some whole) old new (Err faults.Thread)) asks left)
+threads_have_cause (Prove asked) whole old new (input, asks, left) =
+    no_thread (Prove asked) whole old new input (λ bytes h. h.0) left
 threads_have_cause (Stress asked) whole old new (input, asks, left) = tt
 threads_have_cause (Help text) whole old new (input, asks, left) =
     no_thread (Help text) whole old new input (λ bytes h. h) left
@@ -188,5 +190,6 @@ unshaped_reads_nothing (Explain asked) known old new fault none (input, asks, le
     (of_program asked.text)
     (read_nothing (Explain asked) asked.shape _ input known old new (Err fault) asks none left)
 unshaped_reads_nothing (Scenario asked) known old new fault none carried = absurd none
+unshaped_reads_nothing (Prove asked) known old new fault none carried = absurd none
 unshaped_reads_nothing (Stress asked) known old new fault none carried = absurd none
 unshaped_reads_nothing (Help text) known old new fault none carried = absurd none

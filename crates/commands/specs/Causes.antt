@@ -4,7 +4,7 @@ use Rattle.command_answers.specs.declared.fault.Fault.{Fault}
 use Rattle.command_answers.specs.declared.fault.Fault.TheVariants as faults
 use Rattle.requests.specs.Shapes.{HasShape}
 use Rattle.requests.specs.declared.request.Request.{Request}
-use Rattle.requests.specs.declared.request.Request.TheVariants.{Exec, Asm, Compile, Dis, Clock, Verify, Explain, Scenario, Stress, Help}
+use Rattle.requests.specs.declared.request.Request.TheVariants.{Exec, Asm, Compile, Dis, Clock, Verify, Explain, Scenario, Prove, Stress, Help}
 use Rattle.requests.specs.declared.request.ScenarioRequest.{ScenarioRequest}
 use Rattle.requests.specs.declared.request.ScenarioRequest.TheVariants.{Run, Lines, TracedRun, NodeProgram, Sweep, Explore}
 use Rattle.commands.specs.Perform.{CarriesOut}
@@ -27,6 +27,7 @@ NeedsThreads (Clock asked) = ⊥
 NeedsThreads (Verify asked) = ⊥
 NeedsThreads (Explain asked) = ⊥
 NeedsThreads (Scenario asked) = ScenarioNeedsThreads asked
+NeedsThreads (Prove asked) = ⊥
 NeedsThreads (Stress asked) = Unit {0}
 NeedsThreads (Help text) = ⊥
 
@@ -40,6 +41,7 @@ HasNoShape (Clock asked) = ⊥
 HasNoShape (Verify asked) = HasShape asked → ⊥
 HasNoShape (Explain asked) = HasShape asked.shape → ⊥
 HasNoShape (Scenario asked) = ⊥
+HasNoShape (Prove asked) = ⊥
 HasNoShape (Stress asked) = ⊥
 HasNoShape (Help text) = ⊥
 

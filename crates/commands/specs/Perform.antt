@@ -7,7 +7,7 @@ use Rattle.command_answers.specs.declared.fault.Fault.{Fault}
 use Rattle.command_answers.specs.declared.input.Input.{Input}
 use Rattle.command_answers.specs.declared.input.Input.TheVariants as inputs
 use Rattle.requests.specs.declared.request.Request.{Request}
-use Rattle.requests.specs.declared.request.Request.TheVariants.{Exec, Asm, Compile, Dis, Clock, Verify, Explain, Scenario, Stress, Help}
+use Rattle.requests.specs.declared.request.Request.TheVariants.{Exec, Asm, Compile, Dis, Clock, Verify, Explain, Scenario, Prove, Stress, Help}
 use Rattle.program_commands.specs.Asm.{LeavesImage}
 use Rattle.program_commands.specs.Compile.{LeavesCompiled}
 use Rattle.program_commands.specs.Dis.{LeavesClock, LeavesListing}
@@ -18,6 +18,7 @@ use Rattle.command_answers.specs.Faults.{IsFaultOfReading, Says, fault_status, f
 use Rattle.command_answers.specs.Input.{IsShapedInput, Takes, max_bytes, program_input}
 use Rattle.command_answers.specs.Output.{Leaves, LeavesNothing}
 use Rattle.command_answers.specs.Said.{SaysAt}
+use Rattle.claim_commands.specs.Prove.{LeavesProved}
 use Rattle.commands.specs.Scenarios.{LeavesFor}
 use Rattle.run_commands.specs.Stress.{LeavesStressed}
 use Rattle.program_commands.specs.Verdict.{LeavesVerdict}
@@ -34,6 +35,7 @@ AsksInput (Clock asked) input = input ≡ inputs.Nothing
 AsksInput (Verify asked) input = IsShapedInput asked inputs.Image input
 AsksInput (Explain asked) input = IsShapedInput asked.shape (program_input asked.text) input
 AsksInput (Scenario asked) input = input ≡ inputs.Scenario
+AsksInput (Prove asked) input = input ≡ inputs.Text
 AsksInput (Stress asked) input = input ≡ inputs.Nothing
 AsksInput (Help text) input = input ≡ inputs.Nothing
 
@@ -49,6 +51,7 @@ Responds (Verify asked) bytes old new ended = LeavesVerdict old new asked bytes 
 Responds (Explain asked) bytes old new ended = LeavesExplained old new asked bytes ended
 Responds (Scenario asked) bytes old new ended =
     (text : List ℕ) → bytes ≡ take MAX_BYTES text → LeavesFor asked old new text ended
+Responds (Prove asked) bytes old new ended = LeavesProved old new asked bytes ended
 Responds (Stress asked) bytes old new ended = LeavesStressed asked old new ended
 Responds (Help text) bytes old new ended = Leaves old new (string_bytes text) Done ended
 

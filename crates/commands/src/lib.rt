@@ -1,4 +1,25 @@
-//! What `clockbed COMMAND` does once its command line is read: each command over any streams.
+//! Performs a request over any streams (docs/COMMANDS.md).
+//!
+//! - `perform::perform` returns the exit status, and writes to the two outputs.
+//!
+//! ```
+//! use bench_space::Silent;
+//! use commands::perform::perform;
+//! use requests::Request;
+//!
+//! let (mut text, request): (&[u8], Request) = (b"exit", Request::Asm { list: false });
+//! let (mut out, mut err) = (Vec::new(rt.alloc()), Vec::new(rt.alloc()));
+//! let status = perform(
+//!     &rt,
+//!     rt.alloc(),
+//!     &request,
+//!     &mut text,
+//!     &mut out,
+//!     &mut err,
+//!     &mut Silent,
+//! );
+//! assert_eq!(rt; (status, out.len(), err.len()), (0, 8, 0));
+//! ```
 #![tactic(auto)]
 
 mod explore;

@@ -5,6 +5,7 @@ ghost use Rattle.command_answers.specs.Said.{SaysAt};
 
 use crate::scenario::scenario_bytes;
 use bench_space::Progress;
+use claim_commands::prove_claims;
 use command_answers::{
     Ending, Fault, Input, give, program_input, read_input, shaped_input, write_whole,
 };
@@ -74,7 +75,7 @@ fn input_of(request: &Request) -> Input
         Request::Verify(options) => shaped_input(*options, Input::Image),
         Request::Explain(options) => shaped_input(options.shape, program_input(options.text)),
         Request::Dis { .. } => Input::Image,
-        Request::Asm { .. } | Request::Compile(_) => Input::Text,
+        Request::Asm { .. } | Request::Compile(_) | Request::Prove(_) => Input::Text,
         Request::Scenario(_) => Input::Scenario,
         Request::Clock(_) | Request::Stress(_) | Request::Help { .. } => Input::Nothing,
     }
@@ -103,6 +104,7 @@ fn respond<T: Threads + Wait + Sync, W: Write, E: Write, P: Progress>(
         Request::Verify(options) => give(alloc, verify(alloc, *options, bytes), out, err),
         Request::Explain(options) => give(alloc, explanation(alloc, *options, bytes), out, err),
         Request::Scenario(asked) => scenario_bytes(rt, alloc, asked, bytes, out, err, progress),
+        Request::Prove(options) => give(alloc, prove_claims(alloc, options, bytes), out, err),
         Request::Stress(options) => give(alloc, stress(rt, alloc, *options), out, err),
         Request::Help { text } => write_whole(out, text.as_bytes(), Ending::Done),
     }

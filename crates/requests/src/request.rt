@@ -23,6 +23,8 @@ pub enum Request {
     Explain(ExplainOptions),
     /// A command that reads a scenario.
     Scenario(ScenarioRequest),
+    /// `prove`: the steps of claims about a rule, by certificates.
+    Prove(ProveOptions),
     Stress(StressOptions),
     /// A text whose last line ends.
     Help { text: String },
@@ -123,6 +125,13 @@ pub struct SweepOptions {
     pub keys: KeySpan,
     /// How many workers run whole scenarios; as many as there are processors where none are named.
     pub workers: Option<u32>,
+}
+
+/// The options of `prove`: the texts of a rule and of claims about it.
+#[derive(Debug, Drop)]
+pub struct ProveOptions {
+    pub rule: String,
+    pub claims: String,
 }
 
 /// The options of `exec`.

@@ -1,0 +1,109 @@
+//! The lines of answers and refusals.
+ghost use Rattle.std.specs.Prelude.{◌≡◌, ◌++◌, Some, OnOk, flat_map, string_bytes};
+ghost use Rattle.std.specs.List.{list_all};
+ghost use Rattle.claim_commands.specs.Prove.{answer_lines, certificate_text, is_proved, outcome_text, proof_refusal_line};
+
+use claim_proofs::{Answer, CertificateError, Outcome, Refusal};
+use std::alloc::AllocError;
+use std::fmt;
+
+/// The line of a refusal, without its end.
+#[derive(Clone, Copy)]
+pub(crate) struct RefusalLine(pub(crate) Refusal);
+
+/// What is wrong with certificates.
+#[derive(Clone, Copy)]
+struct CertificateText(CertificateError);
+
+impl fmt::Display for CertificateText {
+    ghost output = { λ text. Some (certificate_text text.0) };
+
+    fn fmt<W: fmt::Write>(&self, f: &mut fmt::Formatter<W>) -> fmt::Result {
+        match self.0 {
+            CertificateError::NotText => write!(f, "NotText"),
+            CertificateError::End => write!(f, "End"),
+            CertificateError::Word { number } => write!(f, "Word {number}"),
+            CertificateError::TooDeep { number } => write!(f, "TooDeep word {number}"),
+        }
+    }
+}
+
+impl fmt::Display for RefusalLine {
+    ghost output = { λ line. Some (proof_refusal_line line.0) };
+
+    fn fmt<W: fmt::Write>(&self, f: &mut fmt::Formatter<W>) -> fmt::Result {
+        match self.0 {
+            Refusal::Rule {
+                error,
+                line,
+                column,
+            } => {
+                let name = error.name();
+                write!(f, "refused rule {name} line {line} column {column}")
+            }
+            Refusal::Claims {
+                error,
+                line,
+                column,
+            } => {
+                let name = error.name();
+                write!(f, "refused claims {name} line {line} column {column}")
+            }
+            Refusal::Certificates(error) => {
+                let text = CertificateText(error);
+                write!(f, "refused certificate {text}")
+            }
+        }
+    }
+}
+
+/// Returns what is said of a step.
+fn outcome_text(outcome: Outcome) -> &'static str
+    ensures { result.now ≡ outcome_text outcome }
+{
+    match outcome {
+        Outcome::Holds => "holds for all n, f, M",
+        Outcome::NoCertificate => "not proved: no certificate",
+        Outcome::Rejected => "not proved: the certificate doesn't prove it",
+        Outcome::Unjudged(_why) => "not proved: the certificate can't be judged",
+    }
+}
+
+/// Returns true if a step is proved.
+fn is_proved(outcome: Outcome) -> bool
+    ensures { result ≡ is_proved outcome }
+{
+    match outcome {
+        Outcome::Holds => true,
+        Outcome::NoCertificate | Outcome::Rejected | Outcome::Unjudged(_) => false,
+    }
+}
+
+/// Returns true if all steps are proved.
+pub(crate) fn are_proved(answers: &[Answer]) -> bool
+    ensures { result ≡ list_all (λ answer. is_proved answer.outcome) answers.now }
+{
+    answers.iter().all(|answer| is_proved(answer.outcome))
+}
+
+/// Adds the lines of an answer.
+fn add_answer(text: &mut String, answer: &Answer) -> Result<(), AllocError>
+    ensures { OnOk result (string_bytes text.new ≡ string_bytes text.old ++ answer_lines answer.now) }
+{
+    let alloc = *text.allocator();
+    let outcome = outcome_text(answer.outcome);
+    let line = answer.line;
+    let shown = answer.text.as_str();
+    let lines = format!(in alloc; "line {line}: {shown}\n  {outcome}\n")?;
+    text.push_str(lines.as_str())
+}
+
+/// Adds the lines of all answers.
+pub(crate) fn add_answers(text: &mut String, answers: &[Answer]) -> Result<(), AllocError>
+    ensures { OnOk result (string_bytes text.new ≡ string_bytes text.old ++ flat_map answer_lines answers.now) }
+{
+    for answer in answers {
+        add_answer(text, answer)?;
+    }
+    Ok(())
+}

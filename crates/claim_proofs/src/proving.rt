@@ -1,0 +1,199 @@
+//! Answers to the steps of claims.
+ghost use Rattle.std.specs.Prelude.{◌≡◌, ℕ, IfOk, IfErr, Ok};
+ghost use Rattle.claim_proofs.specs.declared.proving.Outcome.TheVariants.{Holds};
+ghost use Rattle.claim_proofs.specs.Proved.{AreRight, IsNoAnswer, IsRight};
+ghost use Rattle.rule_steps.specs.Steps as steps;
+ghost use Rattle.step_searches.specs.Claims.{claim_of};
+ghost use Rattle.rule_text.specs.Rules.{rule_form};
+ghost use Rattle.rule_text.specs.Statements.{rule_read};
+
+use crate::reader::{CertificateError, NoCertificates, StepProof, read_certificates};
+use certified_steps::{Unproved, step_holds};
+use claim_text::{ClaimError, ClaimedStep, ReadClaimsError, read_claims};
+use rule_text::{ReadRuleError, Rule, RuleError, read_rule};
+use std::alloc::Global;
+use step_searches::Step;
+
+/// What the certificates say of a step.
+#[derive(Clone, Copy, Debug, PartialEq, Eq)]
+pub enum Outcome {
+    /// It holds for all sizes.
+    Holds,
+    /// No certificate is for its line.
+    NoCertificate,
+    /// Its certificate doesn't prove it.
+    Rejected,
+    /// Its certificate isn't judged, for this reason.
+    Unjudged(Unproved),
+}
+
+/// A step of the claims, and what the certificates say of it.
+#[derive(Drop)]
+pub struct Answer {
+    pub line: usize,
+    /// Its text in the claims.
+    pub text: String,
+    pub step: Step,
+    pub outcome: Outcome,
+}
+
+/// What is wrong with the rule, the claims or the certificates. Lines and columns count from 1.
+#[derive(Clone, Copy, Debug, PartialEq, Eq)]
+pub enum Refusal {
+    Rule {
+        error: RuleError,
+        line: usize,
+        column: usize,
+    },
+    Claims {
+        error: ClaimError,
+        line: usize,
+        column: usize,
+    },
+    Certificates(CertificateError),
+}
+
+/// Why there are no answers.
+#[derive(Clone, Copy, Debug, PartialEq, Eq)]
+pub enum NotProved {
+    Memory,
+    Refused(Refusal),
+}
+
+/// Returns the certificate of a line, if there is one.
+fn proof_of(proofs: &[StepProof], line: usize) -> Option<&StepProof> {
+    proofs.iter().find(|proof| proof.line == line)
+}
+
+/// Returns what a certificate says of a step.
+fn judged(alloc: Global, rule: &Rule, step: &Step, proof: &StepProof) -> Outcome
+    ensures { result ≡ Holds → (free : ℕ → ℕ) → steps.Holds rule.now.statement (claim_of step.now free) }
+{
+    match step_holds(alloc, &rule.statement, step, &proof.proof) {
+        Ok(true) => Outcome::Holds,
+        Ok(false) => Outcome::Rejected,
+        Err(why) => Outcome::Unjudged(why),
+    }
+}
+
+/// Returns what the certificates say of the step in a line.
+fn judged_in(alloc: Global, rule: &Rule, step: &Step, line: usize, proofs: &[StepProof]) -> Outcome
+    ensures { result ≡ Holds → (free : ℕ → ℕ) → steps.Holds rule.now.statement (claim_of step.now free) }
+{
+    match proof_of(proofs, line) {
+        Some(proof) => judged(alloc, rule, step, proof),
+        None => Outcome::NoCertificate,
+    }
+}
+
+/// Returns the answer to a step of a rule.
+fn answer_to(
+    alloc: Global,
+    text: &[u8],
+    rule: &Rule,
+    claimed: ClaimedStep,
+    proofs: &[StepProof],
+) -> Answer
+    requires { rule_read text.now ≡ Ok (rule_form rule.now) }
+    ensures { IsRight text.now result }
+{
+    let ClaimedStep {
+        line,
+        text: shown,
+        step,
+    } = claimed;
+    let outcome = judged_in(alloc, rule, &step, line, proofs);
+    Answer {
+        line,
+        text: shown,
+        step,
+        outcome,
+    }
+}
+
+/// Returns the answers to steps of a rule.
+fn answers(
+    alloc: Global,
+    text: &[u8],
+    rule: &Rule,
+    steps: Vec<ClaimedStep>,
+    proofs: &[StepProof],
+) -> Result<Vec<Answer>, NotProved>
+    requires { rule_read text.now ≡ Ok (rule_form rule.now) }
+    ensures answers { IfOk result (λ all. AreRight text.now all.items) }
+    ensures refused { IfErr result (IsNoAnswer text.now) }
+{
+    let mut all = Vec::new(alloc);
+    for claimed in steps {
+        all.push(answer_to(alloc, text, rule, claimed, proofs))
+            .map_err(|_| NotProved::Memory)?;
+    }
+    Ok(all)
+}
+
+/// Answers each step of the claims about a rule by certificates: where the answer is that it holds, the step holds of the
+/// rule for all n, f and M that it admits. The answers are in the order of the claims. Fails at the first error of the
+/// rule, then of the claims, then of the certificates.
+pub fn prove(
+    alloc: Global,
+    rule: &[u8],
+    claims: &[u8],
+    certificates: &[u8],
+) -> Result<Vec<Answer>, NotProved>
+    ensures answers { IfOk result (λ all. AreRight rule.now all.items) }
+    ensures refused { IfErr result (IsNoAnswer rule.now) }
+{
+    let read = rule_of(alloc, rule)?;
+    let steps = steps_of(alloc, rule, claims)?;
+    let proofs = match read_certificates(alloc, certificates) {
+        Ok(proofs) => proofs,
+        Err(NoCertificates::Memory) => return Err(NotProved::Memory),
+        Err(NoCertificates::Error(error)) => {
+            return Err(NotProved::Refused(Refusal::Certificates(error)));
+        }
+    };
+    answers(alloc, rule, &read, steps, &proofs)
+}
+
+/// Returns the rule of a text.
+fn rule_of(alloc: Global, text: &[u8]) -> Result<Rule, NotProved>
+    ensures rule { IfOk result (λ rule. rule_read text.now ≡ Ok (rule_form rule)) }
+    ensures refused { IfErr result (IsNoAnswer text.now) }
+{
+    match read_rule(alloc, text) {
+        Ok(read) => Ok(read),
+        Err(ReadRuleError::Memory) => Err(NotProved::Memory),
+        Err(
+            ReadRuleError::At {
+                error,
+                line,
+                column,
+            },
+        ) => Err(NotProved::Refused(Refusal::Rule {
+            error,
+            line,
+            column,
+        })),
+    }
+}
+
+/// Returns the steps of a text of claims.
+fn steps_of(alloc: Global, rule: &[u8], claims: &[u8]) -> Result<Vec<ClaimedStep>, NotProved>
+    ensures refused { IfErr result (IsNoAnswer rule.now) }
+{
+    match read_claims(alloc, rule, claims) {
+        Ok(steps) => Ok(steps),
+        Err(ReadClaimsError::Memory) => Err(NotProved::Memory),
+        Err(
+            ReadClaimsError::At {
+                error,
+                line,
+                column,
+            },
+        ) => Err(NotProved::Refused(Refusal::Claims {
+            error,
+            line,
+            column,
+        })),
+    }
+}

@@ -1,0 +1,4 @@
+use Rattle.claim_text.proofs.terms.Terms.+part.Given as goal
+
+abbrev pub decreases-part : goal.decreases-part
+decreases-part l = l.depth

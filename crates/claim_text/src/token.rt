@@ -1,0 +1,112 @@
+//! Tokens of claims.
+
+use crate::errors::{ClaimError, ReadClaimsError};
+
+/// A part of a text.
+#[derive(Clone, Copy, Debug, PartialEq, Eq)]
+pub(crate) struct Span {
+    pub(crate) from: usize,
+    pub(crate) bytes: usize,
+}
+
+impl Span {
+    /// Returns the bytes of the part.
+    pub(crate) fn of(self, text: &[u8]) -> &[u8] {
+        let rest = &text[self.from.min(text.len())..];
+        &rest[..self.bytes.min(rest.len())]
+    }
+}
+
+/// A sign of the language.
+#[derive(Clone, Copy, Debug, PartialEq, Eq)]
+pub(crate) enum Sign {
+    Arrow,
+    Dot,
+    Equal,
+    NotEqual,
+    AtMost,
+    AtLeast,
+    Less,
+    Greater,
+    Plus,
+    Minus,
+    Times,
+    Over,
+    Modulo,
+    Assign,
+    Colon,
+    Comma,
+    Open,
+    Close,
+    OpenSquare,
+    CloseSquare,
+}
+
+/// What a token is.
+#[derive(Clone, Copy, Debug, PartialEq, Eq)]
+pub(crate) enum Kind {
+    Number(u32),
+    Name,
+    Mark(Sign),
+    LineEnd,
+    TextEnd,
+    Fault(ClaimError),
+}
+
+/// A token at its place.
+#[derive(Clone, Copy, Debug, PartialEq, Eq)]
+pub(crate) struct Token {
+    pub(crate) kind: Kind,
+    pub(crate) span: Span,
+    pub(crate) line: usize,
+    pub(crate) column: usize,
+}
+
+impl Token {
+    /// Returns the error at the token: its own fault, if it is one.
+    pub(crate) fn error(self, error: ClaimError) -> ReadClaimsError {
+        let error = match self.kind {
+            Kind::Fault(own) => own,
+            _ => error,
+        };
+        ReadClaimsError::At {
+            error,
+            line: self.line,
+            column: self.column,
+        }
+    }
+}
+
+/// Returns the sign that two bytes are.
+pub(crate) fn long_sign(first: u8, second: u8) -> Option<Sign> {
+    match (first, second) {
+        (b'-', b'>') => Some(Sign::Arrow),
+        (b'=', b'=') => Some(Sign::Equal),
+        (b'!', b'=') => Some(Sign::NotEqual),
+        (b'<', b'=') => Some(Sign::AtMost),
+        (b'>', b'=') => Some(Sign::AtLeast),
+        _ => None,
+    }
+}
+
+/// Returns the sign that a byte is.
+pub(crate) fn short_sign(byte: u8) -> Option<Sign> {
+    match byte {
+        b'.' => Some(Sign::Dot),
+        b'<' => Some(Sign::Less),
+        b'>' => Some(Sign::Greater),
+        b'+' => Some(Sign::Plus),
+        b'-' => Some(Sign::Minus),
+        b'*' => Some(Sign::Times),
+        b'/' => Some(Sign::Over),
+        b'%' => Some(Sign::Modulo),
+        b'=' => Some(Sign::Assign),
+        b':' => Some(Sign::Colon),
+        b',' => Some(Sign::Comma),
+        b'(' => Some(Sign::Open),
+        b')' => Some(Sign::Close),
+        b'[' => Some(Sign::OpenSquare),
+        b']' => Some(Sign::CloseSquare),
+        _ => None,
+    }
+}

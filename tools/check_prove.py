@@ -1,0 +1,205 @@
+#!/usr/bin/env python3
+"""Tries `clockbed prove` on the certificates of examples/certificates/: check_prove.py [PROGRAM]
+
+Each step of their claims that has a certificate must be proved, and each other one not, with the status for that. A step
+that a small bench refutes must not be proved, whatever its certificate is: the certificates are changed word by word, and
+those of other steps are given to it. A certificate that ends early, or has a wrong word, must be refused with the number
+of the word, and claims with an error with line and column. The certificates of the clock are checked within a bound on
+time. If z3 is installed, a certificate that tools/all_sizes.py writes must prove its step. PROGRAM is as for
+check_rows.py.
+"""
+import pathlib
+import random
+import re
+import shutil
+import subprocess
+import sys
+import tempfile
+import time
+
+sys.dont_write_bytecode = True
+from built_program import TOP, answer, named_program, on_all_processors, tell
+
+SEED, CHANGES, SECONDS = 9669, 120, 0.5
+HOLDS, NONE = "holds for all n, f, M", "not proved: no certificate"
+# The steps that have a certificate, and those that have none.
+EXAMPLES = {"clock": ([6, 10, 11, 19, 20, 21, 22], []), "two_coins": ([7, 8, 13, 16, 17], [6])}
+# Wrong rules and claims: what is changed, and the lines whose steps are then refuted by a small bench.
+WRONG = [
+    ("clock", "n > 3 * f", "n > 2 * f", [6]),
+    ("clock", "n > 3 * f", "n >= 3 * f", [6]),
+    ("clock", "support < n - f:", "support < n - f - 1:", [6]),
+    ("clock", "support < n - f:", "support < f + 1:", [6]),
+    ("clock", "support < n - f:", "support < n - f + 1:", [10]),
+    ("clock", "elif mark != 0:", "elif 1 == 0:", [10]),
+    ("two_coins", "n > 3 * f", "n >= 3 * f", [7]),
+    ("two_coins", "zeros >= n - f", "zeros >= n - f - 1", [7]),
+]
+# Claims with an error, and the error.
+FAULTY = [
+    ("asume n > f", "Expected line 1 column 1"),
+    ("set A: p.clok == 1\nstep any -> A", "UnknownName line 1 column 10"),
+    ("set A: p == 1\nstep any -> A", "Expected line 1 column 10"),
+    ("set A: me\nstep any -> A", "Expected line 1 column 8"),
+    ("set As: 1\nstep As -> A", "UnknownName line 2 column 12"),
+    ("set A: 1\nset A: 2", "NameTwice line 2 column 5"),
+    ("assume n $", "BadCharacter line 1 column 10"),
+    ("assume n", "Expected line 1 column 9"),
+    ("set A: p.clock / 2 == 0\nstep any -> A", "NotCovered line 1 column 16"),
+    ("set A: p.clock * q.clock == 0\nstep any -> A", "NotCovered line 1 column 16"),
+    ("set A: p.clock == 4294967296\nstep any -> A", "OutOfRange line 1 column 19"),
+    ("set A: p.clock == 0\nstep any -> A correct", "NotCovered line 2 column 15"),
+]
+# Certificates with an error, and the error.
+BAD = [
+    ("step", "End"),
+    ("step 6 uses 0", "End"),
+    ("stop 6", "Word 1"),
+    ("step six uses 0", "Word 2"),
+    ("step 6 uses 1 one r 0 yes", "Word 6"),
+    ("step 6 uses 0 follow refute sum 0 refute add", "Word 10"),
+    ("step 6 uses 0 " + "follow " * 1001, "TooDeep word 1004"),
+]
+
+
+class Example:
+    """A rule with claims and certificates, or with an edit of one of them."""
+
+    def __init__(self, name, old="", new=""):
+        self.rule, self.claims, self.certificates = (
+            (TOP / f"examples/{place}").read_text(encoding="utf-8")
+            for place in (f"rules/{name}.rule", f"claims/{name}.claims", f"certificates/{name}.txt")
+        )
+        if old:
+            if old not in self.rule + self.claims:
+                raise ValueError(f"{name} has no {old!r}")
+            self.rule, self.claims = self.rule.replace(old, new), self.claims.replace(old, new)
+
+
+def proved(program, room, example):
+    """What the program answers."""
+    for name, text in (("rule", example.rule), ("claims", example.claims)):
+        (room / name).write_text(text, encoding="utf-8")
+    words = ["prove", "--rule", str(room / "rule"), "--claims", str(room / "claims")]
+    return answer(program, words, example.certificates.encode())
+
+
+def lines_of(told):
+    """The answer of each line."""
+    return {int(line): said for line, said in re.findall(r"line (\d+): [^\n]*\n  ([^\n]*)\n", told.out.decode())}
+
+
+def in_a_room(asked):
+    """A function that gives each question a folder of its own."""
+
+    def faults(item):
+        with tempfile.TemporaryDirectory() as room:
+            return list(asked(pathlib.Path(room), item))
+
+    return faults
+
+
+def example_faults(program):
+    def faults(room, name):
+        with_one, without = EXAMPLES[name]
+        began = time.monotonic()
+        told = proved(program, room, Example(name))
+        took = time.monotonic() - began
+        wanted = {**dict.fromkeys(with_one, HOLDS), **dict.fromkeys(without, NONE)}
+        if lines_of(told) != wanted or told.status != (4 if without else 0) or told.err:
+            yield f"{name}: {told}"
+        if took > SECONDS:
+            yield f"{name}: its certificates took {took:.2f} s of {SECONDS} s"
+
+    return in_a_room(faults)
+
+
+def wrong_faults(program):
+    """A wrong step isn't proved by the right one's certificate."""
+
+    def faults(room, item):
+        name, old, new, lines = item
+        told = proved(program, room, Example(name, old, new))
+        answers = lines_of(told)
+        if told.status != 4 or any(answers.get(line, HOLDS) == HOLDS for line in lines):
+            yield f"{name} with {new!r}: {told}"
+
+    return in_a_room(faults)
+
+
+def changed(certificates, drawn):
+    """A certificate with a word changed, left out or said twice."""
+    words = certificates.split()
+    place = drawn.randrange(len(words))
+    kind = drawn.randrange(3)
+    if kind == 0:
+        words[place] = drawn.choice(words)
+    elif kind == 1:
+        del words[place]
+    else:
+        words.insert(place, words[place])
+    return " ".join(words)
+
+
+def change_faults(program):
+    """A refuted step isn't proved by a changed certificate of another one."""
+
+    def faults(room, number):
+        drawn = random.Random(f"{SEED} {number}")
+        example = Example("two_coins")
+        parts = re.split(r"(?m)^step \d+\n", example.certificates)[1:]
+        example.certificates = f"step 6\n{changed(drawn.choice(parts), drawn)}"
+        told = proved(program, room, example)
+        if told.status not in (2, 4) or lines_of(told).get(6) == HOLDS:
+            yield f"changed certificate {number}: {told}"
+
+    return in_a_room(faults)
+
+
+def refused_faults(program):
+    def faults(room, item):
+        kind, text, error = item
+        example = Example("clock")
+        if kind == "claims":
+            example.claims = text
+        else:
+            example.certificates = text
+        told = proved(program, room, example)
+        if (told.status, told.out.decode()) != (2, f"refused {kind} {error}\n"):
+            yield f"{text[:60]!r}: {told}"
+
+    return in_a_room(faults)
+
+
+def written_faults(program):
+    """The certificate that the tool writes of one step."""
+
+    def faults(room, line):
+        names = [str(TOP / "examples/rules/clock.rule"), str(TOP / "examples/claims/clock.claims")]
+        words = [sys.executable, str(TOP / "tools/all_sizes.py"), *names, "--seconds", "300", "--line", str(line)]
+        subprocess.run([*words, "--certificate", str(room / "written")], capture_output=True, check=False)
+        example = Example("clock")
+        example.certificates = (room / "written").read_text(encoding="utf-8")
+        told = proved(program, room, example)
+        if lines_of(told).get(line) != HOLDS:
+            yield f"line {line}, as all_sizes.py writes it: {told}"
+
+    return in_a_room(faults)
+
+
+def main():
+    program = named_program()
+    refused = [("claims", *it) for it in FAULTY] + [("certificate", *it) for it in BAD]
+    found = on_all_processors(example_faults(program), EXAMPLES)
+    found += on_all_processors(wrong_faults(program), WRONG)
+    found += on_all_processors(change_faults(program), range(CHANGES))
+    found += on_all_processors(refused_faults(program), refused)
+    counts = {"examples": len(EXAMPLES), "wrong steps": len(WRONG), "changes": CHANGES, "refusals": len(refused)}
+    if shutil.which("z3"):
+        found += on_all_processors(written_faults(program), [11])
+        counts["written"] = 1
+    return tell("check_prove", counts, found)
+
+
+if __name__ == "__main__":
+    sys.exit(main())
