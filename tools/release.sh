@@ -25,7 +25,7 @@ packed=(README.md CHANGELOG.md CONTRIBUTING.md docs examples completions {benchm
 tools=(tools/{picture,play,plot,readings,built_program,distances,check_table,rule_meaning,rule_text}.py tools/play.html
   tools/{python_package,exercises,grade}.py
   tools/{find,find_randomised,counter_formula,counter_refinement,counter_rule,check_proof,worst_run}.py
-  tools/{all_sizes,claims_text,quorum_formula,sketches,small_benches,symbolic}.py tools/README.md 'tools/lab*')
+  tools/{all_sizes,certificates,claims_text,quorum_formula,sketches,small_benches,step_formulas,symbolic}.py tools/README.md 'tools/lab*')
 
 say() {
   echo "release: $*" >&2

@@ -127,7 +127,7 @@ pub steps_agree : StepsAgree
 steps_agree s acts b b' ok own h p few = agreement s (entries_of acts) b b' ok own
     (steps_are_entries s (new_state s) acts b h) p few
 
--- what a run of the rule's clock leaves is told as it is
+-- what a run of the built-in clock leaves is told as it is
 pub rule_clock_below : RuleClockBelow
 rule_clock_below s history b b' i ok own replay p lt marked =
     (ran_pulse s b b' i ok own (sound_replay s history b ok replay) p lt marked).told

@@ -55,7 +55,7 @@ StepsAgree = (s : Setup) (acts : List Act) (b b' : State) → IsSetup s → HasR
     → Performs s (new_state s) acts b → Pulse s b b'
     → 2 * s.faults + faulty_count b b' < s.shape.nodes → Agree s b b'
 
--- with the rule's clock, a node that ran it has a clock below M, so rows report it unchanged
+-- with the built-in clock, a node that ran it has a clock below M, so rows report it unchanged
 abbrev pub RuleClockBelow : Type 0
 RuleClockBelow = (s : Setup) (history : List Entry) (b b' : State) (i : ℕ) → IsSetup s → HasRuleClock s
     → Replays s history b → Pulse s b b' → i < s.shape.nodes → IsTrue (node_at b'.nodes i).mark

@@ -25,6 +25,6 @@ pub record IsSetup (s : Setup) : Type 0 where
 abbrev pub rule_of : Setup → Rule
 rule_of s = record { nodes = s.shape.nodes; faults = s.faults; modulus = s.modulus }
 
--- the bench's clock has the instructions of its rule's clock. Agreement is proved only of such benches
+-- the bench's clock has the instructions of the built-in clock of its sizes. Agreement is proved only of such benches
 abbrev pub HasRuleClock : Setup → Type 0
 HasRuleClock s = s.clock ≡ clock_listing (rule_of s)

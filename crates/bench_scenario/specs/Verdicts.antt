@@ -32,8 +32,8 @@ abbrev pub are_one : ℕ → List (Option ℕ) → Option ℕ → Bool
 are_one modulus clocks (Some first) = nat_lt first modulus && list_all (is_clock first) clocks
 are_one modulus clocks None = true
 
--- for the rule's clock the record's verdict, by which 0 agrees with every clock; for another clock, all settled clocks
--- are one number below M
+-- for the built-in clock the record's verdict, by which 0 agrees with every clock; for another clock, all settled
+-- clocks are one number below M
 abbrev pub agreement : Bool → ℕ → PulseTold → Option Bool
 agreement own modulus r =
     if nat_lt r.row.settled FEWEST then None

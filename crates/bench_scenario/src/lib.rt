@@ -1,4 +1,18 @@
-//! Scenarios from their texts to their reports: docs/SCENARIOS.md.
+//! Runs scenarios, from their texts to their reports (docs/SCENARIOS.md).
+//!
+//! - `run_scenario` reads a scenario, runs it and writes the report.
+//! - `write_report` writes the report of a scenario that was read, and returns true if no pulse has `agree no`.
+//! - `run_watched` runs a scenario before a watcher.
+//!
+//! ```
+//! use bench_scenario::run_scenario;
+//!
+//! let mut text: &[u8] =
+//!     b"nodes = 1\nfaults = 0\nmodulus = 2\nmemory = 8\npulses = 1\ncoins = \"ones\"\n";
+//! let mut report = Vec::new(rt.alloc());
+//! assert!(rt; run_scenario(&rt, rt.alloc(), &mut text, &mut report, 1).is_ok());
+//! assert!(rt; report.as_slice().ends_with(b"agreed 1 of 1\n"));
+//! ```
 #![tactic(auto)]
 
 mod coins;

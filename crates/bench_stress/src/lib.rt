@@ -1,5 +1,19 @@
-//! Many hands on one bench: loaders in threads of their own beside an engine, and the history of what they did
-//! (docs/THREADS.md, "`stress`").
+//! Runs loaders in threads of their own beside an engine on one bench (docs/THREADS.md, "`stress`").
+//!
+//! - `stress_bench` returns the history of what they did.
+//!
+//! ```
+//! use bench_stress::{StressOptions, stress_bench};
+//!
+//! let options = StressOptions {
+//!     loaders: 2,
+//!     loads: 3,
+//!     pulses: 2,
+//!     workers: 1,
+//! };
+//! let finished = stress_bench(&rt, rt.alloc(), options).map_err(|_| "stopped")?;
+//! assert_eq!(rt; (finished.loads(), finished.closes()), (6, 2));
+//! ```
 #![tactic(auto)]
 
 mod hands;

@@ -1,4 +1,19 @@
-//! The text of programs: docs/ASSEMBLER.md has its lines.
+//! Reads and prints programs as texts (docs/ASSEMBLER.md).
+//!
+//! - `assemble` returns the program of a text, or the first error with its line.
+//! - `disassemble` returns the canonical text of a program.
+//! - `list_program` returns the same with slots and bytes.
+//!
+//! ```
+//! use bpf_asm::{assemble, disassemble};
+//!
+//! let program = assemble(rt.alloc(), b"ja end\nend: exit").map_err(|_| "no program")?;
+//! assert_eq!(rt; program.slot_count(), 2);
+//! assert_eq!(rt;
+//!     disassemble(rt.alloc(), &program)?.as_str(),
+//!     "ja +0\nexit\n"
+//! );
+//! ```
 #![tactic(auto)]
 
 mod assembler;

@@ -1,4 +1,17 @@
-//! BPF instructions (RFC 9669) and their images. docs/INSTRUCTIONS.md has the table.
+//! Has the instructions of BPF (RFC 9669), programs, their images and their arithmetic (docs/INSTRUCTIONS.md).
+//!
+//! - `decode` returns the program of an image, or its first fault.
+//! - `encode` returns the image of a program.
+//! - `Program::insn_at` returns the instruction that begins at a slot, if one does.
+//!
+//! ```
+//! use bpf_insn::{Insn, decode, encode};
+//!
+//! let exit = [0x95, 0, 0, 0, 0, 0, 0, 0];
+//! let program = decode(rt.alloc(), &exit).map_err(|_| "no image")?;
+//! assert_eq!(rt; program.insn_at(0), Some(Insn::Exit));
+//! assert_eq!(rt; encode(rt.alloc(), &program)?.as_slice(), exit.as_slice());
+//! ```
 #![tactic(auto)]
 
 mod arithmetic;

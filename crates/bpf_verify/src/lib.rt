@@ -1,4 +1,25 @@
-//! Accepts a program before it is loaded, and tells the longest path through it (docs/VERIFIER.md).
+//! Accepts a program before it is loaded, and returns the length of its longest path (docs/VERIFIER.md).
+//!
+//! - `verify` returns the accepted program, or the first slot that breaks a rule.
+//! - `check` returns the announced count alone.
+//! - `VerifiedProgram::budget` returns the announced count of an accepted program.
+//!
+//! ```
+//! use bpf_asm::assemble;
+//! use bpf_verify::{Rule, VerifyError, check, verify};
+//! use node_env::Shape;
+//!
+//! let shape = Shape::of(4, 16).ok_or("no shape")?;
+//! let right = assemble(rt.alloc(), b"mov64 r0, 7\nexit").map_err(|_| "no program")?;
+//! let accepted = verify(rt.alloc(), &right, shape).map_err(|_| "not accepted")?;
+//! assert_eq!(rt; accepted.budget(), 2);
+//! let wrong = assemble(rt.alloc(), b"exit").map_err(|_| "no program")?;
+//! let rejected = VerifyError::Refused {
+//!     slot: 0,
+//!     rule: Rule::UnsetRegister,
+//! };
+//! assert_eq!(rt; check(rt.alloc(), &wrong, shape), Err(rejected));
+//! ```
 #![tactic(auto)]
 
 mod abstract_state;

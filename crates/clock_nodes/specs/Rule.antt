@@ -1,5 +1,5 @@
--- The rule of the clocks (docs/CLOCK.md, "The rule"): what a node makes of its memory, its messages and its coin in a
--- pulse.
+-- The rule of the built-in clock (docs/CLOCK.md, "The rule"): what a node makes of its memory, its messages and its
+-- coin in a pulse.
 use Rattle.std.specs.Prelude.{ℕ, zero, suc, ◌+◌, ◌-◌, ◌%◌, ◌<◌, ◌≤◌, ◌==◌, nat_lt, not, if◌then◌else◌, Bool, false, List, ◌++◌, take, drop, Option, Some, None}
 use Rattle.std.specs.Int.{w32, from_le_bytes, to_le_bytes}
 use Rattle.std.specs.Ordering.{nat_cmp}

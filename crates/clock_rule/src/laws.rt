@@ -1,4 +1,4 @@
-//! Laws of the rule of the clocks: its text says what the definition of the pair says, which was written apart.
+//! Laws of the rule of the built-in clock: its text says what the definition of the pair says, which was written apart.
 ghost use Rattle.std.specs.Prelude.{◌≡◌, ◌≤◌, ℕ, List, Some, Ok, length};
 ghost use Rattle.node_env.specs.Env.{IsSetting, Setting};
 ghost use Rattle.clock_nodes.specs.Rule.{IsRule, pair_after, with_pair};
@@ -11,8 +11,8 @@ ghost use Rattle.rule_text.specs.Statements.{rule_read};
 ghost use Rattle.clock_rule.specs.declared.text.TheConstants.{CLOCK_RULE};
 ghost use Rattle.clock_rule.specs.Clock.{clock_statement, clock_rule};
 
-/// States that the rule of the clocks, in the language of rules, means the pair of `clock_nodes`. It leaves this pair
-/// in the memory, keeps all other bytes, and sends the new clock to each node and to no other.
+/// States that the rule of the built-in clock, in the language of rules, means the pair of `clock_nodes`. It leaves
+/// this pair in the memory, keeps all other bytes, and sends the new clock to each node and to no other.
 pub fn the_clock_rule_means_the_pair()
     ensures memory { (rule : Statement) (faults modulus : ℕ) (env : Setting) (before : List ℕ) →
         statement_form rule ≡ clock_statement → IsRule env.shape.nodes faults modulus → 8 ≤ length before →

@@ -1,4 +1,4 @@
-//! The rule of the clocks as a text.
+//! The rule of the built-in clock as a text.
 ghost use Rattle.std.specs.Prelude.{◌≡◌, IfOk, IfErr};
 ghost use Rattle.rule_text.specs.Rules.{rule_form};
 ghost use Rattle.clock_rule.specs.Clock.{clock_rule};
@@ -21,7 +21,7 @@ else:                clock, mark = coin, coin
 send clock
 ";
 
-/// Reads the rule of the clocks from its text.
+/// Reads the rule of the built-in clock from its text.
 pub fn read_clock_rule(alloc: Global) -> Result<Rule, ReadRuleError>
     ensures rule { IfOk result (λ rule. rule_form rule ≡ clock_rule) }
     ensures error { IfErr result (λ e. e ≡ ReadRuleError.Memory) }

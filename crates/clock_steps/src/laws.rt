@@ -1,4 +1,4 @@
-//! Laws of the rule of the clocks, for all numbers of nodes, of which fewer than a third are Byzantine.
+//! Laws of the rule of the built-in clock, for all numbers of nodes, of which fewer than a third are Byzantine.
 ghost use Rattle.std.specs.Prelude.{◌≡◌, ℕ, suc, ◌+◌, ◌%◌, ◌^◌, ◌<◌, ◌≤◌, Bool, false, Some, IsTrue};
 ghost use Rattle.std.specs.FinMap.{get};
 ghost use Rattle.node_env.specs.Env.{Setting};

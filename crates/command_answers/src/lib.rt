@@ -1,4 +1,17 @@
-//! What a command answers: its text, its ending, its fault, and the note beside it (docs/COMMANDS.md).
+//! Has what a command answers: its text, its ending, its fault, and the note beside it (docs/COMMANDS.md).
+//!
+//! - `read_input` returns what a request reads.
+//! - `give` writes a response and its note.
+//! - `Ending::status` returns the exit status.
+//!
+//! ```
+//! use command_answers::{Ending, Input, program_input, write_whole};
+//!
+//! assert_eq!(rt; program_input(true), Input::Text);
+//! let mut written = Vec::new(rt.alloc());
+//! let ending = write_whole(&mut written, b"accepted", Ending::Done).map_err(|_| "a fault")?;
+//! assert_eq!(rt; (ending.status(), written.len()), (0, 8));
+//! ```
 #![tactic(auto)]
 
 mod answer;

@@ -20,7 +20,7 @@ pub enum Unfit {
     Byte,
     /// An image of the start isn't as long as a memory.
     Image,
-    /// Any message is named, and some loaded node doesn't run the rule's clock.
+    /// Any message is named, and some loaded node doesn't run the built-in clock.
     AnyMessage,
     /// Every start is named, and no law covers this byte of a memory.
     NoLaw { byte: u32 },

@@ -1,4 +1,16 @@
-//! What exploring a bench found, and the lines that say it: docs/EXPLORE.md.
+//! Has what exploring a bench found, and the lines that say it (docs/EXPLORE_REFERENCE.md).
+//!
+//! - `finding_text` returns the lines of a finding.
+//! - `odds_table` returns the odds of each number of pulses as CSV.
+//! - `reach_asked` returns when the share that was asked has stabilised.
+//!
+//! ```
+//! use exploration::odds_table;
+//!
+//! let table = odds_table(rt.alloc(), 1, &[0, 1 << 31, 1 << 32])?;
+//! let rows = "pulses,at_least,of\n1,2147483648,4294967296\n2,4294967296,4294967296\n";
+//! assert_eq!(rt; table.as_str(), rows);
+//! ```
 #![tactic(auto)]
 
 mod answer;

@@ -1,5 +1,17 @@
-//! What `explore` is asked and what it finds: types that the search, its answer and the command line share
-//! (docs/EXPLORE.md).
+//! Has what `explore` is asked and what its search finds: types of the search, its answer and the command line
+//! (docs/EXPLORE_REFERENCE.md).
+//!
+//! - `Question::asks_agreement` returns true if agreement is asked.
+//! - `Question::asks_stabilisation` returns true if stabilisation is asked.
+//! - `ExploreOptions` and `Recovery` have no calls: the crates above read their fields.
+//!
+//! ```
+//! use explored::Question;
+//!
+//! let question = Question::Agreement;
+//! assert!(rt; question.asks_agreement());
+//! assert!(rt; !question.asks_stabilisation());
+//! ```
 #![tactic(auto)]
 
 mod found;

@@ -1,4 +1,27 @@
-//! The runs of a scenario with one key after the other: docs/LUCK.md.
+//! Runs a scenario with one seed after the other (docs/LUCK.md).
+//!
+//! - `sweep` writes a row of CSV for each seed.
+//! - `KeySpan` has the seeds from the first to the last.
+//!
+//! ```
+//! use key_sweep::{KeySpan, sweep};
+//! use scenario_text::scenario_in;
+//!
+//! let text = b"version = 2
+//! nodes = 4
+//! faults = 1
+//! modulus = 8
+//! memory = 8
+//! pulses = 1
+//! coins = \"chacha\"
+//! key = 1
+//! ";
+//! let scenario = scenario_in(rt.alloc(), text).map_err(|_| "no scenario")?;
+//! let keys = KeySpan::of(1, 3).ok_or("no keys")?;
+//! let mut rows = Vec::new(rt.alloc());
+//! assert!(rt; sweep(&rt, rt.alloc(), &scenario, keys, 2, &mut rows).is_ok());
+//! assert_eq!(rt; rows.as_slice().split(|byte| *byte == 10).count(), 5);
+//! ```
 #![tactic(auto)]
 
 mod block;

@@ -1,5 +1,17 @@
-//! What a caller chooses of a sweep, of the lines of a run, of an explanation and of stress. The crates that do these
-//! stand above it, and so do the requests of a command line, which wait for none of them.
+//! Has the types that both libraries and requests use: spans of seeds and pulses, formats, options of `stress`.
+//!
+//! - `KeySpan::of` returns the seeds from the first to the last, if there is one.
+//! - `KeySpan::count` returns how many they are.
+//! - `PulseSpan::contains` returns true if a pulse is in the span.
+//!
+//! ```
+//! use parameters::{KeySpan, PulseSpan};
+//!
+//! let keys = KeySpan::of(1, 20).ok_or("no keys")?;
+//! assert_eq!(rt; keys.count(), 20);
+//! let pulses = PulseSpan::of(3, 5).ok_or("no pulses")?;
+//! assert!(rt; pulses.contains(5) && !pulses.contains(6));
+//! ```
 #![tactic(auto)]
 
 mod detail;

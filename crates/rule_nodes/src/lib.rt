@@ -1,4 +1,18 @@
-//! Rules: what a rule means in a pulse, and its compiler to the program of a node.
+//! Compiles a rule to a node's program, and defines what the rule means (docs/RULES.md).
+//!
+//! - `compile_rule` returns the program of a rule for a shape, f and M.
+//! - `compile_with_owners` returns it with the statement of each instruction.
+//!
+//! ```
+//! use node_env::Shape;
+//! use rule_nodes::compile_rule;
+//! use rule_syntax::{Statement, Term};
+//!
+//! let shape = Shape::of(4, 16).ok_or("no shape")?;
+//! let rule = Statement::SendAll(Term::Word(0));
+//! let program = compile_rule(rt.alloc(), &rule, shape, 1, 8).map_err(|_| "no program")?;
+//! assert_eq!(rt; program.slot_count(), 15);
+//! ```
 #![tactic(auto)]
 
 mod assignments;

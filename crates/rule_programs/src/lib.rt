@@ -1,4 +1,18 @@
-//! The programs of rules that are given as texts, and the line of each instruction: docs/RULES.md has both.
+//! Makes the program of a rule that is a text (docs/RULES.md).
+//!
+//! - `program_of_text` returns the program, or why the text has none.
+//! - `program_with_lines` returns it with lines: entry k is the line that made slot k + 1.
+//!
+//! ```
+//! use node_env::Shape;
+//! use rule_programs::program_with_lines;
+//!
+//! let shape = Shape::of(1, 8).ok_or("no shape")?;
+//! let text = b"clock = 3\nsend clock";
+//! let made = program_with_lines(rt.alloc(), text, shape, 0, 8)?.map_err(|_| "no rule")?;
+//! assert_eq!(rt; made.program.slot_count(), 7);
+//! assert_eq!(rt; made.lines.as_slice(), [1, 2, 2, 2].as_slice());
+//! ```
 #![tactic(auto)]
 
 mod program;

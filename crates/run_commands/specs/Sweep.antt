@@ -1,4 +1,4 @@
--- What `sweep` leaves on its output (docs/COMMANDS.md, "What sweep prints").
+-- What `sweep` leaves on its output (docs/COMMANDS.md, "What sweep and explore print").
 use Rattle.std.specs.Prelude.{◌≡◌, ◌⊎◌, false, ℕ, List, codes, Option, Result, Ok, Err}
 use Rattle.parameters.specs.Keys.{KeyRange}
 use Rattle.key_sweep.specs.Sweeps.{LeavesSweep, uses_key}

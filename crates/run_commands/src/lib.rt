@@ -1,4 +1,26 @@
-//! The commands that run benches: `run` with its forms, `dis --node`, `sweep` and `stress` (docs/COMMANDS.md).
+//! Has the commands that run benches: `run` with its forms, `dis --node`, `sweep` and `stress` (docs/COMMANDS.md).
+//!
+//! - `run::run` writes the report of a scenario.
+//! - `lines::lines` writes the lines of `run --json`.
+//! - `sweep::sweep` writes a row for each seed.
+//!
+//! ```
+//! use command_answers::Ending;
+//! use requests::RunOptions;
+//! use run_commands::run::run;
+//! use scenario_text::scenario_in;
+//!
+//! let text = b"nodes = 4\nfaults = 1\nmodulus = 8\nmemory = 8\npulses = 1\ncoins = \"ones\"\n";
+//! let scenario = scenario_in(rt.alloc(), text).map_err(|_| "no scenario")?;
+//!
+//! let options = RunOptions {
+//!     workers: 1,
+//!     check: true,
+//! };
+//! let mut report = Vec::new(rt.alloc());
+//! let ending = run(&rt, rt.alloc(), options, &scenario, &mut report).map_err(|_| "a fault")?;
+//! assert_eq!(rt; ending, Ending::Done);
+//! ```
 #![tactic(auto)]
 
 pub mod lines;

@@ -1,4 +1,29 @@
-//! A run told step by step, as it goes: docs/COMMANDS.md, "A trace".
+//! Prints each step of a run, as it goes (docs/COMMANDS.md, "A trace").
+//!
+//! - `trace` writes a line for each step, and returns how the run ended.
+//! - `listed_trace` returns the lines below those of a rule.
+//!
+//! ```
+//! use bpf_asm::assemble;
+//! use node_env::{Env, Mail, Outbox, Shape};
+//! use run_trace::trace;
+//!
+//! let program = assemble(rt.alloc(), b"mov64 r0, 7\nexit").map_err(|_| "no program")?;
+//! let shape = Shape::of(4, 8).ok_or("no shape")?;
+//! let env = Env::with_mail(rt.alloc(), shape, 0, &Mail::new(rt.alloc(), shape)?, 1)?;
+//! let mut outbox = Outbox::new(rt.alloc(), shape)?;
+//! let (mut lines, mut memory) = (Vec::new(rt.alloc()), [0; 8]);
+//! let traced = trace(
+//!     rt.alloc(),
+//!     &program,
+//!     &env,
+//!     &mut memory,
+//!     &mut outbox,
+//!     9,
+//!     &mut lines,
+//! );
+//! assert!(rt; traced.is_ok() && lines.as_slice().starts_with(b"step 1 slot 0 mov64 r0, 7 #"));
+//! ```
 #![tactic(auto)]
 
 mod laws;

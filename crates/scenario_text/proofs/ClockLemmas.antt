@@ -62,7 +62,7 @@ none_there f keys.Absent ms p none means = means
 none_there f keys.Clock ms p none means = none_meant (get_member (codes "clock") ms) p none means
 none_there f keys.Rule ms p none means = no_rule f (get_member (codes "rule") ms) p none means
 
--- a table has the rule's clock or another one
+-- a table has the built-in clock or another one
 not_both : (g : Global) (f : Frame) (ms : Members) (p : List Insn) → SpellsClock f ms None → SpellsClock f ms (Some p) → ⊥
 not_both g f ms p plain own =
     elim plain [

@@ -159,7 +159,7 @@ clock_draft keys.Absent _ = None
 clock_draft keys.Clock members = option_map assembler_text (text_under (codes "clock") members)
 clock_draft keys.Rule members = option_map rule_text (text_under (codes "rule") members)
 
--- a clock of one's own is what its text means, if that isn't the rule's clock
+-- a clock of one's own is what its text means, if that isn't the built-in clock
 abbrev pub SpellsClock : Frame → Members → Option (List Insn) → Type 0
 SpellsClock f members None =
     HasNoText (clock_key members) members ⊎ MeansClock f (clock_key members) members (clock_listing (clock_rule_of f))

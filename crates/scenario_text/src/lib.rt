@@ -1,4 +1,18 @@
-//! Scenarios as TOML texts say them: docs/SCENARIOS.md has their keys and refusals.
+//! Reads scenarios, which are TOML texts (docs/SCENARIOS.md).
+//!
+//! - `scenario_in` returns the scenario of a text, or why it is rejected.
+//! - `parse_scenario` returns the same, and with a reason the table of the text, for notes.
+//! - `Scenario::rule` returns the numbers n, f and M of its clock.
+//!
+//! ```
+//! use scenario_text::{Coins, scenario_in};
+//!
+//! let text = b"nodes = 4\nfaults = 1\nmodulus = 8\nmemory = 8\npulses = 1\ncoins = \"ones\"\n";
+//! let scenario = scenario_in(rt.alloc(), text).map_err(|_| "no scenario")?;
+//!
+//! assert_eq!(rt; (scenario.nodes, scenario.pulses), (4, 1));
+//! assert_eq!(rt; scenario.coins, Coins::Ones);
+//! ```
 #![tactic(auto)]
 
 mod arrays;

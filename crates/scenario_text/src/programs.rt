@@ -91,7 +91,7 @@ fn taken(alloc: Global, listing: &Program, shape: Shape) -> Result<VerifiedProgr
     }
 }
 
-/// Returns the clock of the rule.
+/// Returns the built-in clock.
 pub(crate) fn rule_clock(
     alloc: Global,
     shape: Shape,

@@ -105,7 +105,7 @@ fn clock_in(
     }
 }
 
-/// Returns true if a program is the clock of the rule.
+/// Returns true if a program is the built-in clock.
 fn is_rule_clock(
     alloc: Global,
     own: &VerifiedProgram,

@@ -1,5 +1,19 @@
-//! Steps of claims for all sizes, and the search that proves one if it finds nothing: two nodes that meet the first
-//! condition, take two paths and don't meet the second one.
+//! Has steps of claims for all sizes as data, and the search that proves one if it finds nothing (docs/ALL_SIZES.md).
+//!
+//! - `cover_rule` returns why the search does not cover a rule, if it does not.
+//! - `cover_step` does so for a step.
+//! - `always_sends` returns true only if a rule sends on each path.
+//!
+//! ```
+//! use rule_syntax::{Statement, Term};
+//! use step_searches::{Uncovered, always_sends, cover_rule};
+//!
+//! let rule = Statement::SendAll(Term::Word(0));
+//! assert!(rt; always_sends(&rule));
+//! assert_eq!(rt; cover_rule(&rule, 1), Ok(()));
+//! let to_one = Statement::SendTo(Term::Word(0), Term::Me);
+//! assert_eq!(rt; cover_rule(&to_one, 1), Err(Uncovered::Receiver));
+//! ```
 #![tactic(auto)]
 
 mod claims;

@@ -1,4 +1,18 @@
-//! Reading and writing whole texts over any stream, within stated bounds and with no retry.
+//! Reads and writes whole texts over any stream, within stated bounds and with no retry.
+//!
+//! - `read_at_most` returns the bytes up to the end or the limit.
+//! - `write_fully` writes all bytes, or returns how many were taken.
+//! - `write_part` writes a part of a longer output.
+//!
+//! ```
+//! use stream_io::{read_at_most, write_fully};
+//!
+//! let mut reader: &[u8] = b"sixteen bytes it";
+//! let bytes = read_at_most(rt.alloc(), &mut reader, 7, 100).map_err(|_| "no bytes")?;
+//! assert_eq!(rt; bytes.as_slice(), b"sixteen".as_slice());
+//! let mut written = Vec::new(rt.alloc());
+//! assert_eq!(rt; write_fully(&mut written, &bytes), Ok(()));
+//! ```
 #![tactic(auto)]
 
 ghost use Rattle.std.specs.Prelude.{◌≡◌, ◌<◌, ◌≤◌, IfOk, IfErr, IfSome, OnOk, length, take, vec_len};
