@@ -15,10 +15,13 @@ from built_program import TOP
 
 TEST_CRATES = ["example_tests", "bench_example_tests"]
 
+UNPROVED = "its example has no proved test yet"
 LAWS = "has laws alone, which a proof cites: there is no call to run"
 
 # crates whose heads have no example, with the reason
 WITHOUT_EXAMPLE = {
+    "bench_engine": UNPROVED,
+    "bench_shared": UNPROVED,
     "clock_steps": LAWS,
     "quorums": LAWS,
     "rule_grammar": LAWS,
