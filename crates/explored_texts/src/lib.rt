@@ -1,8 +1,9 @@
 //! Has texts of what exploring finds: the scenario of a counterexample, the state space, the words of a rule. No
-//! contract promises them: a counterexample is run before it is printed, and scripts of the gate read the others back.
+//! contract promises the first two: a counterexample is run before it is printed, and a script of the gate reads the
+//! state space back.
 //!
 //! - `shown_text` returns the scenario of a counterexample.
-//! - `graph_text` returns the state space for Graphviz, PRISM or Storm.
+//! - `graph_text` returns the state space for Graphviz or PRISM.
 //! - `state_words` returns the names of the words of the rule.
 //!
 //! ```
