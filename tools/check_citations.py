@@ -4,9 +4,9 @@
 Each page that the crates, the scripts and the pages name is there, with the heading that is named beside it, as in
 docs/VERIFIER.md ("Rules"). Each source that a page names is there. The toolchain that pages name is that of `rt version`
 (left out without `rt`). Each count that a page quotes is the one that the files give (tools/believed.py and below), and
-each limit of docs/GLOSSARY.md is the constant's value. Each call or type and each clause that docs/CLAIMS.md and
-docs/THEOREMS.md name as a contract is in the sources of the crate. No two crates define one name in specs/, but for
-those that docs/DECISIONS.md names ("One meaning for each word").
+each limit of docs/GLOSSARY.md is the constant's value. Each call or type and each clause that docs/THEOREMS.md and the
+pages of docs/CLAIMS.md name as a contract is in the sources of the crate, and docs/CLAIMS.md names the page of each
+crate. No two crates define one name in specs/, but for those that docs/DECISIONS.md names ("One meaning for each word").
 """
 import collections
 import re
@@ -38,6 +38,8 @@ CONSTANT = re.compile(r"\bconst ([A-Z_]+): \w+ = ([^;]+);")
 CONSTANT_NAME = re.compile(r"\b[A-Z][A-Z_]+\b")
 QUOTED = r"`\w+`(?:(?:, | and )`\w+`)*"
 CLAIM = re.compile(rf"({QUOTED})(?:: ({QUOTED}))?(?: \(({QUOTED})\))?")
+CLAIMS = [f"docs/{it.name}" for it in sorted(TOP.glob("docs/CLAIMS_*.md"))]
+THEME = re.compile(r"^\|[^|\n]*\| \[(\w+\.md)\]\(\1\) \| ([^|\n]+) \|$", re.M)
 CELL = re.compile(r"^\|[^|\n]*\|[^|\n]*\| ([^|\n]+) \|$", re.M)
 DEFINITION = re.compile(r"^(?:(?:abbrev|unfoldable) pub ([\w-]+) :|pub record (\w+))", re.M)
 SHARED_NAMES = {"between", "begins_name", "rows_of"}
@@ -244,11 +246,25 @@ def sections_of(page):
     return re.split(r"^(?=## )", read(TOP / page), flags=re.M)[1:]
 
 
+def crates_of_heading(section):
+    return names_in(section.split("\n")[0])
+
+
+def theme_faults():
+    """Pages whose crates docs/CLAIMS.md doesn't name in the order of their sections."""
+    told = {f"docs/{page}": names_in(cell) for page, cell in THEME.findall(read(TOP / "docs/CLAIMS.md"))}
+    for page in sorted({*told, *CLAIMS}):
+        has = [it for section in sections_of(page) for it in crates_of_heading(section)] if page in CLAIMS else []
+        if told.get(page) != has:
+            yield f"docs/CLAIMS.md: {page} has sections on {' '.join(has)}, not on {' '.join(told.get(page, []))}"
+
+
 def contracts():
-    """Each contract that the two pages name: the page, the crates that may have it, and what it names."""
-    for section in sections_of("docs/CLAIMS.md"):
-        for claim in claims_of(section):
-            yield "docs/CLAIMS.md", names_in(section.split("\n")[0]), claim
+    """Each contract that the pages name: the page, the crates that may have it, and what it names."""
+    for page in CLAIMS:
+        for section in sections_of(page):
+            for claim in claims_of(section):
+                yield page, crates_of_heading(section), claim
     for section in sections_of("docs/THEOREMS.md"):
         for claim in theorems_of(section):
             yield "docs/THEOREMS.md", re.findall(r"`crates/(\w+)", section), claim
@@ -293,11 +309,11 @@ def main():
     for path in [*sources, *scripts]:
         found += named_faults(path, joined(MARKER.sub("", read(path))))
     found += [*source_faults(sources), *toolchain_faults(), *count_faults(), *name_faults(), *limit_faults()]
-    found += [*contract_faults(), *shared_name_faults()]
+    found += [*theme_faults(), *contract_faults(), *shared_name_faults()]
     for it in found:
         print(it)
     print(f"check_citations: {len(PAGES)} pages, {len(sources) + len(scripts)} other files: {len(found)} faults")
-    return 1 if found or not sources else 0
+    return 1 if found or not sources or not CLAIMS else 0
 
 
 if __name__ == "__main__":
