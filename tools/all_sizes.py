@@ -152,10 +152,10 @@ def chosen_steps(options, claims):
     return steps
 
 
-def certificate_text(rule, claims, step):
-    """The certificate of a step that holds, or nothing and a note why there is none."""
+def certificate_text(rule, claims, step, case):
+    """The certificate of a step that holds and begins in this case, or nothing and a note why there is none."""
     try:
-        return f"step {step.line}\n{certificate_of(rule, step_of(claims, step, rule.words))}"
+        return f"step {step.line}\n{certificate_of(rule, step_of(claims, step, rule.words), case)}"
     except (NotCovered, NotFound) as why:
         print(f"all_sizes.py: line {step.line}: no certificate: {why}", file=sys.stderr)
         return ""
@@ -190,7 +190,8 @@ def decide(solver, options, text, rule, claims):
             write_scenario(options.scenario, text, rule, claims, (step, refuted[0].case))
     if options.certificate:
         holding = [it for it in chosen_steps(options, claims) if answers[it.line].kind == HOLDS]
-        write(options.certificate, "".join(certificate_text(rule, claims, it) for it in holding))
+        texts = (certificate_text(rule, claims, it, answers[it.line].case) for it in holding)
+        write(options.certificate, "".join(texts))
     status = status_of(answers.values())
     if options.scenario and status != STATUS[REFUTED]:
         print(f"all_sizes.py: no step is refuted, so {options.scenario} isn't written", file=sys.stderr)

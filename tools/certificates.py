@@ -423,8 +423,20 @@ def use_words(use):
     return f"{'one' if len(use) == 1 else 'two'} {parts}"
 
 
-def certificate_of(rule, step):
-    """The certificate of a step as sums, as lines of text. Raises NotFound or NotCovered."""
+def counted(numbers):
+    return " ".join(map(str, [len(numbers), *numbers]))
+
+
+def beginning_words(case, step):
+    """The state of a correct node of a case in which the step begins, as a line of text."""
+    sizes = " ".join(str(case.sizes[it]) for it in ("n", "f", "M"))
+    state = next(iter(case.states.values()))
+    free, words = [case.free[it] for it in step.names], [state[it] for it in step.words]
+    return f"begins {sizes} free {counted(free)} sent {state['sent']} words {counted(words)}\n"
+
+
+def certificate_of(rule, step, case):
+    """The certificate of a step as sums that begins in this case, as lines of text. Raises NotFound or NotCovered."""
     formulas, search = StepFormulas(rule, step), Search()
     try:
         uses = all_uses(formulas, most_counts(rule))
@@ -435,4 +447,4 @@ def certificate_of(rule, step):
     finally:
         search.close()
     laws = "".join(f" {use_words(it)}" for it in uses)
-    return f"uses {len(uses)}{laws}\n{plan}"
+    return f"{beginning_words(case, step)}uses {len(uses)}{laws}\n{plan}"

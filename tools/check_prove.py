@@ -3,10 +3,10 @@
 
 Each step of their claims that has a certificate must be proved, and each other one not, with the status for that. A step
 that a small bench refutes must not be proved, whatever its certificate is: the certificates are changed word by word, and
-those of other steps are given to it. A certificate that ends early, or has a wrong word, must be refused with the number
-of the word, and claims with an error with line and column. The certificates of the clock are checked within a bound on
-time. If z3 is installed, a certificate that tools/all_sizes.py writes must prove its step. PROGRAM is as for
-check_rows.py.
+those of other steps are given to it. Nor must a step be proved if the state of its certificate doesn't begin it. A
+certificate that ends early, or has a wrong word, must be refused with the number of the word, and claims with an error
+with line and column. The certificates of the clock are checked within a bound on time. If z3 is installed, a certificate
+that tools/all_sizes.py writes must prove its step. PROGRAM is as for check_rows.py.
 """
 import pathlib
 import random
@@ -21,9 +21,13 @@ sys.dont_write_bytecode = True
 from built_program import TOP, answer, named_program, on_all_processors, tell
 
 SEED, CHANGES, SECONDS = 9669, 120, 0.5
-HOLDS, NONE = "holds for all n, f, M", "not proved: no certificate"
-# The steps that have a certificate, and those that have none.
-EXAMPLES = {"clock": ([6, 10, 11, 19, 20, 21, 22], []), "two_coins": ([7, 8, 13, 16, 17], [6])}
+HOLDS, NONE = "holds for all n, f, M; it begins at n = 4, f = 1, M = ", "not proved: no certificate"
+UNBEGUN = "not proved: the state of the certificate doesn't begin it"
+# The steps that have a certificate, with the M at which each begins, and those that have none.
+EXAMPLES = {
+    "clock": ({6: 2, 10: 2, 11: 2, 19: 2, 20: 3, 21: 2, 22: 2}, []),
+    "two_coins": ({7: 2, 8: 2, 13: 2, 16: 2, 17: 2}, [6]),
+}
 # Wrong rules and claims: what is changed, and the lines whose steps are then refuted by a small bench.
 WRONG = [
     ("clock", "n > 3 * f", "n > 2 * f", [6]),
@@ -34,6 +38,27 @@ WRONG = [
     ("clock", "elif mark != 0:", "elif 1 == 0:", [10]),
     ("two_coins", "n > 3 * f", "n >= 3 * f", [7]),
     ("two_coins", "zeros >= n - f", "zeros >= n - f - 1", [7]),
+]
+# Steps of the clock that no state begins, or not the one of the certificate of line 11: Common[M - 1] -> Common[0].
+IMPOSSIBLE = [
+    ("step Common[M - 1] ->", "step Common[M] ->"),
+    ("set Common[c]: p.clock == c", "set Common[c]: p.clock != p.clock"),
+    ("assume n > 3 * f", "assume n > 3 * f and n < f"),
+    ("assume n > 3 * f", "assume n > 3 * f and n > 4"),
+    ("step Common[M - 1] -> Common[0]", "step Common[M - 1] -> Common[0] if M < 2"),
+    ("step Common[M - 1] -> Common[0]", "step Common[M - 1] -> Common[0] coin 2"),
+]
+# The state of that certificate, and states that don't begin the step.
+BEGUN_11 = "begins 4 1 2 free 0 sent 1 words 2 1 1"
+STATES = [
+    "begins 4 1 2 free 0 sent 1 words 2 0 1",
+    "begins 4 1 2 free 0 sent 0 words 2 1 1",
+    "begins 4 1 2 free 0 sent 1 words 1 1",
+    "begins 3 1 2 free 0 sent 1 words 2 1 1",
+    "begins 4 4 2 free 0 sent 1 words 2 1 1",
+    "begins 0 0 2 free 0 sent 1 words 2 1 1",
+    "begins 4 1 1 free 0 sent 0 words 2 0 1",
+    "begins 4 1 3 free 0 sent 1 words 2 1 1",
 ]
 # Claims with an error, and the error.
 FAULTY = [
@@ -49,16 +74,38 @@ FAULTY = [
     ("set A: p.clock * q.clock == 0\nstep any -> A", "NotCovered line 1 column 16"),
     ("set A: p.clock == 4294967296\nstep any -> A", "OutOfRange line 1 column 19"),
     ("set A: p.clock == 0\nstep any -> A correct", "NotCovered line 2 column 15"),
+    ("set A: 600 * p.clock + 3401 * n > 0\nstep any -> A", "OutOfRange line 1 column 33"),
+    ("set A: " + "1 and " * 4000 + "1\nstep any -> A", "TooLong line 1 column 16388"),
+    ("assume 1\n" * 4000, "TooLong line 1821 column 8"),
+]
+# Claims that are as long and as deep as they may be.
+LONGEST = [
+    "set A: " + "1 and " * 2700 + "1\nstep any -> A",
+    "set A: " + "1 or " * 3200 + "1\nstep any -> A",
+    "assume 1\n" * 1800 + "step any -> any",
+    "set A: 4000 * n >= 0\nstep any -> A",
 ]
 # Certificates with an error, and the error.
+BEGUN = "step 6 begins 4 1 2 free 0 sent 0 words 2 0 0"
 BAD = [
     ("step", "End"),
-    ("step 6 uses 0", "End"),
+    ("step 6 uses 0", "Word 3"),
     ("stop 6", "Word 1"),
     ("step six uses 0", "Word 2"),
-    ("step 6 uses 1 one r 0 yes", "Word 6"),
-    ("step 6 uses 0 follow refute sum 0 refute add", "Word 10"),
-    ("step 6 uses 0 " + "follow " * 1001, "TooDeep word 1004"),
+    ("step 6 begins 4 1 2 free 1 sent 0 words 0", "Word 9"),
+    ("step 6 begins 4 1 4294967296 free 0", "Word 6"),
+    ("step 6 begins 4 1 2 free 0 sent 0 words 3 0 0 uses", "Word 15"),
+    (f"{BEGUN} uses 0", "End"),
+    (f"{BEGUN} uses 1 one r 0 yes", "Word 18"),
+    (f"{BEGUN} uses 0 follow refute sum 0 refute add", "Word 22"),
+    (f"{BEGUN} uses 0 " + "follow " * 1001, "TooDeep word 1016"),
+    (f"{BEGUN} uses 0 refute " + "open 0 " * 600, "TooDeep word 1217"),
+]
+# Plans that are as deep as they may be: they prove nothing.
+DEEPEST = [
+    "refute " + "open 0 " * 599 + "sum 0",
+    "refute " + "cut le 1 1 1 0 le 1 1 -1 1 " * 599 + "sum 0 " * 600,
+    "follow " * 999 + "refute " + "cut le 1 1 1 0 le 1 1 -1 1 " * 599 + "sum 0 " * 600 + "refute sum 0 " * 999,
 ]
 
 
@@ -105,7 +152,7 @@ def example_faults(program):
         began = time.monotonic()
         told = proved(program, room, Example(name))
         took = time.monotonic() - began
-        wanted = {**dict.fromkeys(with_one, HOLDS), **dict.fromkeys(without, NONE)}
+        wanted = {line: f"{HOLDS}{modulus}" for line, modulus in with_one.items()} | dict.fromkeys(without, NONE)
         if lines_of(told) != wanted or told.status != (4 if without else 0) or told.err:
             yield f"{name}: {told}"
         if took > SECONDS:
@@ -121,8 +168,23 @@ def wrong_faults(program):
         name, old, new, lines = item
         told = proved(program, room, Example(name, old, new))
         answers = lines_of(told)
-        if told.status != 4 or any(answers.get(line, HOLDS) == HOLDS for line in lines):
+        if told.status != 4 or any(answers.get(line, HOLDS).startswith(HOLDS) for line in lines):
             yield f"{name} with {new!r}: {told}"
+
+    return in_a_room(faults)
+
+
+def begun_faults(program):
+    """A step isn't proved if no state begins it, or not that of its certificate."""
+
+    def faults(room, item):
+        old, new = item
+        example = Example("clock")
+        example.claims = example.claims.replace(old, new)
+        example.certificates = example.certificates.replace(old, new)
+        told = proved(program, room, example)
+        if (told.status, lines_of(told).get(11)) != (4, UNBEGUN):
+            yield f"clock with {new!r}: {told}"
 
     return in_a_room(faults)
 
@@ -150,8 +212,25 @@ def change_faults(program):
         parts = re.split(r"(?m)^step \d+\n", example.certificates)[1:]
         example.certificates = f"step 6\n{changed(drawn.choice(parts), drawn)}"
         told = proved(program, room, example)
-        if told.status not in (2, 4) or lines_of(told).get(6) == HOLDS:
+        if told.status not in (2, 4) or lines_of(told).get(6, "").startswith(HOLDS):
             yield f"changed certificate {number}: {told}"
+
+    return in_a_room(faults)
+
+
+def depth_faults(program):
+    """Texts at the limits are read, and the program goes on."""
+
+    def faults(room, item):
+        kind, text = item
+        example = Example("clock")
+        if kind == "claims":
+            example.claims, example.certificates = text, ""
+        else:
+            example.certificates = f"{BEGUN} uses 0 {text}"
+        told = proved(program, room, example)
+        if told.status != 4 or told.err:
+            yield f"{text[:60]!r}: {told}"[:400]
 
     return in_a_room(faults)
 
@@ -181,7 +260,7 @@ def written_faults(program):
         example = Example("clock")
         example.certificates = (room / "written").read_text(encoding="utf-8")
         told = proved(program, room, example)
-        if lines_of(told).get(line) != HOLDS:
+        if lines_of(told).get(line) != f"{HOLDS}{EXAMPLES['clock'][0][line]}":
             yield f"line {line}, as all_sizes.py writes it: {told}"
 
     return in_a_room(faults)
@@ -192,9 +271,14 @@ def main():
     refused = [("claims", *it) for it in FAULTY] + [("certificate", *it) for it in BAD]
     found = on_all_processors(example_faults(program), EXAMPLES)
     found += on_all_processors(wrong_faults(program), WRONG)
+    unbegun = [*IMPOSSIBLE, *((BEGUN_11, it) for it in STATES)]
+    found += on_all_processors(begun_faults(program), unbegun)
     found += on_all_processors(change_faults(program), range(CHANGES))
     found += on_all_processors(refused_faults(program), refused)
-    counts = {"examples": len(EXAMPLES), "wrong steps": len(WRONG), "changes": CHANGES, "refusals": len(refused)}
+    deep = [("claims", it) for it in LONGEST] + [("certificate", it) for it in DEEPEST]
+    found += on_all_processors(depth_faults(program), deep)
+    counts = {"examples": len(EXAMPLES), "wrong steps": len(WRONG), "no beginnings": len(unbegun), "changes": CHANGES}
+    counts |= {"refusals": len(refused), "at limits": len(deep)}
     if shutil.which("z3"):
         found += on_all_processors(written_faults(program), [11])
         counts["written"] = 1

@@ -17,7 +17,7 @@ import tempfile
 
 sys.dont_write_bytecode = True
 from check_clock import clock_text
-from refusals import Ran, compiled, contents, program, run
+from refusals import ZERO_CERTIFICATE, Ran, compiled, contents, program, prove_words, run
 
 FOUR = contents("examples/four_clocks.toml")
 RULE = contents("examples/rules/greatest.rule")
@@ -72,9 +72,10 @@ class Asked:
 class Clockbed:
     """The program with the library that is preloaded."""
 
-    def __init__(self, library):
-        self.library = library
+    def __init__(self, room):
+        self.library = compiled(room)
         self.path = program("clockbed")
+        self.prove = prove_words(room)
 
     def line(self, words):
         return [self.path, *words.split()]
@@ -133,6 +134,7 @@ def asked(clockbed):
         ("run --json --workers 1", THREE),
         ("explore", FOUR),
         ("explore", PARTING),
+        (clockbed.prove, ZERO_CERTIFICATE),
         ("stress", b""),
         ("--help", b""),
     ]:
@@ -216,6 +218,7 @@ def bound_checks(clockbed):
         ("verify", (REFUSED, long_image, MAX_IMAGE + 1)),
         ("dis", (REFUSED, long_image, MAX_IMAGE + 1)),
         ("asm", (FAULT, b"", LIMIT + 1)),
+        (clockbed.prove, (FAULT, b"", LIMIT + 1)),
         ("run", (REFUSED, long_text, LIMIT + 1)),
         ("sweep --keys 7..8", (REFUSED, long_text, LIMIT + 1)),
         ("explore", (REFUSED, long_text, LIMIT + 1)),
@@ -243,7 +246,7 @@ def checks(clockbed):
 def main():
     tried = wrong = 0
     with tempfile.TemporaryDirectory() as room, concurrent.futures.ThreadPoolExecutor(os.cpu_count()) as workers:
-        clockbed = Clockbed(compiled(room))
+        clockbed = Clockbed(room)
         rows = list(checks(clockbed))
         for check, got in zip(rows, workers.map(lambda check: check.ask(), rows)):
             tried += 1

@@ -20,6 +20,14 @@ TOP = os.path.dirname(os.path.dirname(os.path.abspath(__file__)))
 SECONDS = 60
 ENDLESS = 1 << 40
 CASE = re.compile(rb"(.+): (done|refused and done)\Z")
+# A rule, a claim about it, and the certificate that tools/all_sizes.py writes of it.
+ZERO_RULE = "clock = 0\nsend clock\n"
+ZERO_CLAIM = "set Zero: p.clock == 0\nstep any -> Zero\n"
+ZERO_CERTIFICATE = b"""step 2
+begins 2 1 2 free 0 sent 0 words 1 0
+uses 0
+refute split 0 sum 1 0 1 sum 1 0 1
+"""
 
 
 def program(name):
@@ -209,6 +217,14 @@ def few_pulses():
     return contents("examples/chacha.toml").replace(b"pulses = 24", b"pulses = 3")
 
 
+def prove_words(room):
+    """The words that prove the claim about the rule, which are written to the folder."""
+    for name, text in (("rule", ZERO_RULE), ("claims", ZERO_CLAIM)):
+        with open(f"{room}/{name}", "w", encoding="utf-8") as it:
+            it.write(text)
+    return f"prove --rule {room}/rule --claims {room}/claims"
+
+
 def commands(library, room, kind):
     """The command lines that are tried."""
     clockbed = program("clockbed")
@@ -261,6 +277,8 @@ def commands(library, room, kind):
         Command("explore", beds(correct=1)),
         Command("explore", beds(correct=2)),
         Command("stress --loaders 2 --loads 4 --pulses 4 --workers 2", b""),
+        Command(prove_words(room), ZERO_CERTIFICATE),
+        Command(prove_words(room), ZERO_CERTIFICATE[:-10]),
         Command("--help", b""),
     ]
 

@@ -5,13 +5,16 @@ use Rattle.std.specs.declared.alloc.Global.{Global}
 use Rattle.std.specs.Fmt.{decimal}
 use Rattle.rule_text.specs.Errors.{error_name}
 use Rattle.claim_text.specs.Errors.{claim_error_name}
+use Rattle.certified_steps.specs.declared.errors.Unproved.{Unproved}
+use Rattle.certified_steps.specs.declared.errors.Unproved.TheVariants as whys
+use Rattle.step_searches.specs.declared.covered.Uncovered.TheVariants.{Loop, Receiver, Name}
 use Rattle.claim_proofs.specs.declared.reader.CertificateError.{CertificateError}
 use Rattle.claim_proofs.specs.declared.reader.CertificateError.TheVariants.{NotText, End, Word, TooDeep}
 use Rattle.claim_proofs.specs.declared.proving.Answer.{Answer}
 use Rattle.claim_proofs.specs.declared.proving.Refusal.{Refusal}
 use Rattle.claim_proofs.specs.declared.proving.Refusal.TheVariants.{Rule, Claims, Certificates}
 use Rattle.claim_proofs.specs.declared.proving.Outcome.{Outcome}
-use Rattle.claim_proofs.specs.declared.proving.Outcome.TheVariants.{Holds, NoCertificate, Rejected, Unjudged}
+use Rattle.claim_proofs.specs.declared.proving.Outcome.TheVariants.{Holds, NoCertificate, Unbegun, Rejected, Unjudged}
 use Rattle.claim_proofs.specs.Proved.{AreRight, IsProofRefusal}
 use Rattle.command_answers.specs.declared.ending.Ending.{Ending}
 use Rattle.command_answers.specs.declared.ending.Ending.TheVariants as endings
@@ -22,7 +25,8 @@ use Rattle.requests.specs.declared.request.ProveOptions.{ProveOptions}
 
 -- ---- answers
 
--- Where it is answered that a step holds, it holds of the rule at all sizes; or a refusal, of the rule by its first error.
+-- Where it is answered that a step holds, it holds of the rule at all sizes, and begins at those of the answer; or a
+-- refusal, of the rule by its first error.
 -- Which steps are those of the claims, and what is wrong with claims and certificates, is tested only.
 abbrev pub Proves : ProveOptions → Result (Vec Answer Global) Refusal → Type 0
 Proves asked (Ok answers) = AreRight (string_bytes asked.rule) answers.items
@@ -30,11 +34,24 @@ Proves asked (Err refusal) = IsProofRefusal (string_bytes asked.rule) refusal
 
 -- ---- lines
 
+-- why a certificate isn't judged
+abbrev pub reason : Unproved → List ℕ
+reason whys.Memory = codes "memory ran out"
+reason (whys.Uncovered Loop) = codes "the rule has a loop"
+reason (whys.Uncovered Receiver) = codes "the rule sends to one node"
+reason (whys.Uncovered Name) = codes "there are too many names"
+reason whys.Silent = codes "the rule sends nothing on some path"
+reason whys.TooMany = codes "there are too many variables"
+reason whys.TooDeep = codes "the rule or the certificate is too deep"
+reason whys.Overflow = codes "a number of the certificate is too large"
+
 abbrev pub outcome_text : Outcome → List ℕ
-outcome_text Holds = codes "holds for all n, f, M"
+outcome_text (Holds n f m) = codes "holds for all n, f, M; it begins at n = " ++ (decimal n
+    ++ (codes ", f = " ++ (decimal f ++ (codes ", M = " ++ decimal m))))
 outcome_text NoCertificate = codes "not proved: no certificate"
+outcome_text Unbegun = codes "not proved: the state of the certificate doesn't begin it"
 outcome_text Rejected = codes "not proved: the certificate doesn't prove it"
-outcome_text (Unjudged why) = codes "not proved: the certificate can't be judged"
+outcome_text (Unjudged why) = codes "not proved: the certificate can't be judged: " ++ reason why
 
 -- the line of a step, and that of its answer
 abbrev pub answer_lines : Answer → List ℕ
@@ -64,8 +81,9 @@ proved_text (Err refusal) = proof_refusal_line refusal ++ codes "\n"
 -- ---- the ending
 
 abbrev pub is_proved : Outcome → Bool
-is_proved Holds = true
+is_proved (Holds n f m) = true
 is_proved NoCertificate = false
+is_proved Unbegun = false
 is_proved Rejected = false
 is_proved (Unjudged why) = false
 

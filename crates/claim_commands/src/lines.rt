@@ -1,19 +1,72 @@
 //! The lines of answers and refusals.
 ghost use Rattle.std.specs.Prelude.{◌≡◌, ◌++◌, Some, OnOk, flat_map, string_bytes};
 ghost use Rattle.std.specs.List.{list_all};
-ghost use Rattle.claim_commands.specs.Prove.{answer_lines, certificate_text, is_proved, outcome_text, proof_refusal_line};
+ghost use Rattle.claim_commands.specs.Prove.{answer_lines, certificate_text, is_proved, outcome_text, proof_refusal_line, reason};
 
+use certified_steps::Unproved;
 use claim_proofs::{Answer, CertificateError, Outcome, Refusal};
 use std::alloc::AllocError;
 use std::fmt;
+use step_searches::Uncovered;
 
 /// The line of a refusal, without its end.
 #[derive(Clone, Copy)]
 pub(crate) struct RefusalLine(pub(crate) Refusal);
 
+/// What is said of a step.
+#[derive(Clone, Copy)]
+struct OutcomeText(Outcome);
+
 /// What is wrong with certificates.
 #[derive(Clone, Copy)]
 struct CertificateText(CertificateError);
+
+/// Returns why a certificate isn't judged.
+fn reason(why: Unproved) -> &'static str
+    ensures { result.now ≡ reason why }
+{
+    match why {
+        Unproved::Memory => "memory ran out",
+        Unproved::Uncovered(Uncovered::Loop) => "the rule has a loop",
+        Unproved::Uncovered(Uncovered::Receiver) => "the rule sends to one node",
+        Unproved::Uncovered(Uncovered::Name) => "there are too many names",
+        Unproved::Silent => "the rule sends nothing on some path",
+        Unproved::TooMany => "there are too many variables",
+        Unproved::TooDeep => "the rule or the certificate is too deep",
+        Unproved::Overflow => "a number of the certificate is too large",
+    }
+}
+
+impl fmt::Display for OutcomeText {
+    ghost output = { λ text. Some (outcome_text text.0) };
+
+    fn fmt<W: fmt::Write>(&self, f: &mut fmt::Formatter<W>) -> fmt::Result {
+        match self.0 {
+            Outcome::Holds {
+                nodes,
+                faults,
+                modulus,
+            } => {
+                write!(
+                    f,
+                    "holds for all n, f, M; it begins at n = {nodes}, f = {faults}, M = {modulus}"
+                )
+            }
+            Outcome::NoCertificate => write!(f, "not proved: no certificate"),
+            Outcome::Unbegun => {
+                write!(
+                    f,
+                    "not proved: the state of the certificate doesn't begin it"
+                )
+            }
+            Outcome::Rejected => write!(f, "not proved: the certificate doesn't prove it"),
+            Outcome::Unjudged(why) => {
+                let reason = reason(why);
+                write!(f, "not proved: the certificate can't be judged: {reason}")
+            }
+        }
+    }
+}
 
 impl fmt::Display for CertificateText {
     ghost output = { λ text. Some (certificate_text text.0) };
@@ -57,25 +110,14 @@ impl fmt::Display for RefusalLine {
     }
 }
 
-/// Returns what is said of a step.
-fn outcome_text(outcome: Outcome) -> &'static str
-    ensures { result.now ≡ outcome_text outcome }
-{
-    match outcome {
-        Outcome::Holds => "holds for all n, f, M",
-        Outcome::NoCertificate => "not proved: no certificate",
-        Outcome::Rejected => "not proved: the certificate doesn't prove it",
-        Outcome::Unjudged(_why) => "not proved: the certificate can't be judged",
-    }
-}
-
 /// Returns true if a step is proved.
 fn is_proved(outcome: Outcome) -> bool
     ensures { result ≡ is_proved outcome }
 {
     match outcome {
-        Outcome::Holds => true,
-        Outcome::NoCertificate | Outcome::Rejected | Outcome::Unjudged(_) => false,
+        Outcome::Holds { .. } => true,
+        Outcome::NoCertificate | Outcome::Unbegun | Outcome::Rejected | Outcome::Unjudged(_) =>
+            false,
     }
 }
 
@@ -91,7 +133,7 @@ fn add_answer(text: &mut String, answer: &Answer) -> Result<(), AllocError>
     ensures { OnOk result (string_bytes text.new ≡ string_bytes text.old ++ answer_lines answer.now) }
 {
     let alloc = *text.allocator();
-    let outcome = outcome_text(answer.outcome);
+    let outcome = OutcomeText(answer.outcome);
     let line = answer.line;
     let shown = answer.text.as_str();
     let lines = format!(in alloc; "line {line}: {shown}\n  {outcome}\n")?;

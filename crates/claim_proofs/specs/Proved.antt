@@ -1,9 +1,11 @@
 -- Steps of claims that certificates prove (docs/ALL_SIZES.md, "Certificates").
 use Rattle.std.specs.Prelude.{◌≡◌, ℕ, List, All, Err}
+use Rattle.rule_syntax.specs.declared.syntax.Statement.{Statement}
 use Rattle.rule_text.specs.declared.errors.ReadRuleError.TheVariants.{At}
 use Rattle.rule_text.specs.Statements.{rule_read}
 use Rattle.rule_programs.specs.Programs.{IsTextOf}
 use Rattle.rule_steps.specs.Steps as steps
+use Rattle.step_beginnings.specs.Beginnings.{IsBegunAt}
 use Rattle.step_searches.specs.declared.claims.Step.{Step}
 use Rattle.step_searches.specs.Claims.{claim_of}
 use Rattle.claim_proofs.specs.declared.proving.Answer.{Answer}
@@ -11,15 +13,29 @@ use Rattle.claim_proofs.specs.declared.proving.NotProved.{NotProved}
 use Rattle.claim_proofs.specs.declared.proving.NotProved.TheVariants.{Memory, Refused}
 use Rattle.claim_proofs.specs.declared.proving.Refusal.{Refusal}
 use Rattle.claim_proofs.specs.declared.proving.Refusal.TheVariants.{Rule, Claims, Certificates}
-use Rattle.claim_proofs.specs.declared.proving.Outcome.TheVariants.{Holds}
+use Rattle.claim_proofs.specs.declared.proving.Outcome.{Outcome}
+use Rattle.claim_proofs.specs.declared.proving.Outcome.TheVariants.{Holds, NoCertificate, Unbegun, Rejected, Unjudged}
 
--- the text is a rule of which the step holds at all sizes, whatever the free names are
-abbrev pub HoldsOfText : List ℕ → Step → Type 0
-HoldsOfText text step = IsTextOf text (λ rule. (free : ℕ → ℕ) → steps.Holds rule.statement (claim_of step free))
+-- the step holds of the rule at all sizes, whatever the free names are
+abbrev pub HoldsOfRule : Statement → Step → Type 0
+HoldsOfRule rule step = (free : ℕ → ℕ) → steps.Holds rule (claim_of step free)
 
--- where the answer is that the step holds, it does
+-- with this many nodes, faults and clock values some nodes begin the step, for some free names and memories of some size
+abbrev pub BeginsWith : Step → ℕ → ℕ → ℕ → Type 0
+BeginsWith step n f m = (free : ℕ → ℕ) × (size : ℕ)
+    × IsBegunAt (claim_of step free) (record { nodes = n; faults = f; modulus = m; memory = size })
+
+-- where the answer is that the step holds, it does, and it begins at the sizes of the answer
+abbrev pub IsRightOutcome : Statement → Step → Outcome → Type 0
+IsRightOutcome rule step (Holds n f m) = HoldsOfRule rule step × BeginsWith step n f m
+IsRightOutcome rule step NoCertificate = Unit {0}
+IsRightOutcome rule step Unbegun = Unit {0}
+IsRightOutcome rule step Rejected = Unit {0}
+IsRightOutcome rule step (Unjudged why) = Unit {0}
+
+-- the text is a rule of which the answer is right
 abbrev pub IsRight : List ℕ → Answer → Type 0
-IsRight text answer = answer.outcome ≡ Holds → HoldsOfText text answer.step
+IsRight text answer = IsTextOf text (λ rule. IsRightOutcome rule.statement answer.step answer.outcome)
 
 abbrev pub AreRight : List ℕ → List Answer → Type 0
 AreRight text answers = All (IsRight text) answers

@@ -1,9 +1,7 @@
 //! Answers to the steps of claims.
 ghost use Rattle.std.specs.Prelude.{◌≡◌, ℕ, IfOk, IfErr, Ok};
-ghost use Rattle.claim_proofs.specs.declared.proving.Outcome.TheVariants.{Holds};
-ghost use Rattle.claim_proofs.specs.Proved.{AreRight, IsNoAnswer, IsRight};
-ghost use Rattle.rule_steps.specs.Steps as steps;
-ghost use Rattle.step_searches.specs.Claims.{claim_of};
+ghost use Rattle.claim_proofs.specs.declared.proving.NotProved.TheVariants.{Memory};
+ghost use Rattle.claim_proofs.specs.Proved.{AreRight, IsNoAnswer, IsRight, IsRightOutcome};
 ghost use Rattle.rule_text.specs.Rules.{rule_form};
 ghost use Rattle.rule_text.specs.Statements.{rule_read};
 
@@ -12,15 +10,22 @@ use certified_steps::{Unproved, step_holds};
 use claim_text::{ClaimError, ClaimedStep, ReadClaimsError, read_claims};
 use rule_text::{ReadRuleError, Rule, RuleError, read_rule};
 use std::alloc::Global;
+use step_beginnings::begins;
 use step_searches::Step;
 
 /// What the certificates say of a step.
 #[derive(Clone, Copy, Debug, PartialEq, Eq)]
 pub enum Outcome {
-    /// It holds for all sizes.
-    Holds,
+    /// It holds for all sizes, and at these sizes some nodes begin it.
+    Holds {
+        nodes: u32,
+        faults: u32,
+        modulus: u32,
+    },
     /// No certificate is for its line.
     NoCertificate,
+    /// The state of its certificate doesn't begin it.
+    Unbegun,
     /// Its certificate doesn't prove it.
     Rejected,
     /// Its certificate isn't judged, for this reason.
@@ -66,23 +71,43 @@ fn proof_of(proofs: &[StepProof], line: usize) -> Option<&StepProof> {
 }
 
 /// Returns what a certificate says of a step.
-fn judged(alloc: Global, rule: &Rule, step: &Step, proof: &StepProof) -> Outcome
-    ensures { result ≡ Holds → (free : ℕ → ℕ) → steps.Holds rule.now.statement (claim_of step.now free) }
+fn judged(alloc: Global, rule: &Rule, step: &Step, proof: &StepProof) -> Result<Outcome, NotProved>
+    ensures outcome { IfOk result (IsRightOutcome rule.now.statement step.now) }
+    ensures refused { IfErr result (λ why. why ≡ Memory) }
 {
-    match step_holds(alloc, &rule.statement, step, &proof.proof) {
-        Ok(true) => Outcome::Holds,
-        Ok(false) => Outcome::Rejected,
-        Err(why) => Outcome::Unjudged(why),
+    let holds = match step_holds(alloc, &rule.statement, step, &proof.proof) {
+        Ok(holds) => holds,
+        Err(Unproved::Memory) => return Err(NotProved::Memory),
+        Err(why) => return Ok(Outcome::Unjudged(why)),
+    };
+    let beginning = &proof.beginning;
+    if !begins(step, beginning) {
+        return Ok(Outcome::Unbegun);
     }
+    if !holds {
+        return Ok(Outcome::Rejected);
+    }
+    Ok(Outcome::Holds {
+        nodes: beginning.nodes,
+        faults: beginning.faults,
+        modulus: beginning.modulus,
+    })
 }
 
 /// Returns what the certificates say of the step in a line.
-fn judged_in(alloc: Global, rule: &Rule, step: &Step, line: usize, proofs: &[StepProof]) -> Outcome
-    ensures { result ≡ Holds → (free : ℕ → ℕ) → steps.Holds rule.now.statement (claim_of step.now free) }
+fn judged_in(
+    alloc: Global,
+    rule: &Rule,
+    step: &Step,
+    line: usize,
+    proofs: &[StepProof],
+) -> Result<Outcome, NotProved>
+    ensures outcome { IfOk result (IsRightOutcome rule.now.statement step.now) }
+    ensures refused { IfErr result (λ why. why ≡ Memory) }
 {
     match proof_of(proofs, line) {
         Some(proof) => judged(alloc, rule, step, proof),
-        None => Outcome::NoCertificate,
+        None => Ok(Outcome::NoCertificate),
     }
 }
 
@@ -93,22 +118,23 @@ fn answer_to(
     rule: &Rule,
     claimed: ClaimedStep,
     proofs: &[StepProof],
-) -> Answer
+) -> Result<Answer, NotProved>
     requires { rule_read text.now ≡ Ok (rule_form rule.now) }
-    ensures { IsRight text.now result }
+    ensures answer { IfOk result (IsRight text.now) }
+    ensures refused { IfErr result (IsNoAnswer text.now) }
 {
     let ClaimedStep {
         line,
         text: shown,
         step,
     } = claimed;
-    let outcome = judged_in(alloc, rule, &step, line, proofs);
-    Answer {
+    let outcome = judged_in(alloc, rule, &step, line, proofs)?;
+    Ok(Answer {
         line,
         text: shown,
         step,
         outcome,
-    }
+    })
 }
 
 /// Returns the answers to steps of a rule.
@@ -125,14 +151,14 @@ fn answers(
 {
     let mut all = Vec::new(alloc);
     for claimed in steps {
-        all.push(answer_to(alloc, text, rule, claimed, proofs))
-            .map_err(|_| NotProved::Memory)?;
+        let answer = answer_to(alloc, text, rule, claimed, proofs)?;
+        all.push(answer).map_err(|_| NotProved::Memory)?;
     }
     Ok(all)
 }
 
 /// Answers each step of the claims about a rule by certificates: where the answer is that it holds, the step holds of the
-/// rule for all n, f and M that it admits. The answers are in the order of the claims. Fails at the first error of the
+/// rule for all n, f and M that it admits, and some nodes begin it at the sizes of the answer. The answers are in the order of the claims. Fails at the first error of the
 /// rule, then of the claims, then of the certificates.
 pub fn prove(
     alloc: Global,

@@ -1,14 +1,19 @@
-//! Certificates as words: `step LINE uses COUNT USE .. PLAN`, for each step.
+//! Certificates as words, for each step `step LINE begins N F M free COUNT NUMBER .. sent NUMBER words COUNT NUMBER ..
+//! uses COUNT USE .. PLAN`.
 
 use certified_steps::{Plan, Proof};
 use linear_certificates::{ReadError, read_certificate};
 use std::alloc::{AllocError, AllocFailed, Global};
 use std::str;
 use std::str::SplitWhitespace;
+use step_beginnings::Beginning;
 use step_searches::{Tested, Use};
 
 /// How deep a plan may be.
 const MAX_DEPTH: u32 = 1000;
+
+/// A node's memory has a multiple of this many words.
+const UNIT_WORDS: usize = 2;
 
 /// Why a text isn't read as certificates, with the number of the word at which reading stopped, from 1.
 #[derive(Clone, Copy, Debug, PartialEq, Eq)]
@@ -30,10 +35,11 @@ pub(crate) enum NoCertificates {
     Error(CertificateError),
 }
 
-/// The proof of the step in a line of the claims.
+/// The proof of the step in a line of the claims, and a state that begins the step.
 #[derive(Drop)]
 pub(crate) struct StepProof {
     pub(crate) line: usize,
+    pub(crate) beginning: Beginning,
     pub(crate) proof: Proof,
 }
 
@@ -111,8 +117,13 @@ fn step_proofs<'a>(
             None => break,
             Some("step") => {
                 let line = number(words)?;
+                let beginning = beginning(alloc, words)?;
                 let proof = proof(alloc, words)?;
-                proofs.push(StepProof { line, proof })?;
+                proofs.push(StepProof {
+                    line,
+                    beginning,
+                    proof,
+                })?;
             }
             Some(_) => return Err(Unread::Word),
         }
@@ -136,11 +147,71 @@ fn number<'a>(words: &mut SplitWhitespace<'a>) -> Result<usize, Unread> {
     }
 }
 
+/// Reads a word that has to be here.
+fn expect<'a>(words: &mut SplitWhitespace<'a>, wanted: &str) -> Result<(), Unread> {
+    if word(words)? == wanted {
+        Ok(())
+    } else {
+        Err(Unread::Word)
+    }
+}
+
+/// Returns the next word as a number of 32 bits.
+fn small_number<'a>(words: &mut SplitWhitespace<'a>) -> Result<u32, Unread> {
+    match word(words)?.parse::<u32>() {
+        Ok(number) => Ok(number),
+        Err(_) => Err(Unread::Word),
+    }
+}
+
+/// Reads numbers behind their count.
+fn small_numbers<'a>(alloc: Global, words: &mut SplitWhitespace<'a>) -> Result<Vec<u32>, Unread> {
+    let count = number(words)?;
+    let mut numbers = Vec::new(alloc);
+    for _ in 0..count {
+        numbers.push(small_number(words)?)?;
+    }
+    Ok(numbers)
+}
+
+/// Returns the memory of these words.
+fn memory_of(alloc: Global, words: &[u32]) -> Result<Vec<u8>, Unread> {
+    let mut memory = Vec::new(alloc);
+    for word in words {
+        memory.extend_from_slice(&word.to_le_bytes())?;
+    }
+    if words.len() % UNIT_WORDS != 0 {
+        memory.extend_from_slice(&[0u8; 4])?;
+    }
+    Ok(memory)
+}
+
+/// Reads a state that begins a step: its sizes, the numbers of the free names, the number that a node sent, and its words.
+fn beginning<'a>(alloc: Global, words: &mut SplitWhitespace<'a>) -> Result<Beginning, Unread> {
+    expect(words, "begins")?;
+    let nodes = small_number(words)?;
+    let faults = small_number(words)?;
+    let modulus = small_number(words)?;
+    expect(words, "free")?;
+    let free = small_numbers(alloc, words)?;
+    expect(words, "sent")?;
+    let sent = small_number(words)?;
+    expect(words, "words")?;
+    let state = small_numbers(alloc, words)?;
+    let memory = memory_of(alloc, &state)?;
+    Ok(Beginning {
+        nodes,
+        faults,
+        modulus,
+        free,
+        sent,
+        memory,
+    })
+}
+
 /// Reads the laws that are used, and the plan.
 fn proof<'a>(alloc: Global, words: &mut SplitWhitespace<'a>) -> Result<Proof, Unread> {
-    if word(words)? != "uses" {
-        return Err(Unread::Word);
-    }
+    expect(words, "uses")?;
     let count = number(words)?;
     let mut uses = Vec::new(alloc);
     for _ in 0..count {

@@ -1,7 +1,7 @@
 -- The names of errors of claims (docs/ALL_SIZES.md, "Certificates").
 use Rattle.std.specs.Prelude.{ℕ, List, codes}
 use Rattle.claim_text.specs.declared.errors.ClaimError.{ClaimError}
-use Rattle.claim_text.specs.declared.errors.ClaimError.TheVariants.{BadCharacter, Expected, UnknownName, NameTwice, OutOfRange, TooDeep, NotCovered}
+use Rattle.claim_text.specs.declared.errors.ClaimError.TheVariants.{BadCharacter, Expected, UnknownName, NameTwice, OutOfRange, TooDeep, TooLong, NotCovered}
 
 abbrev pub claim_error_name : ClaimError → List ℕ
 claim_error_name BadCharacter = codes "BadCharacter"
@@ -10,4 +10,5 @@ claim_error_name UnknownName = codes "UnknownName"
 claim_error_name NameTwice = codes "NameTwice"
 claim_error_name OutOfRange = codes "OutOfRange"
 claim_error_name TooDeep = codes "TooDeep"
+claim_error_name TooLong = codes "TooLong"
 claim_error_name NotCovered = codes "NotCovered"

@@ -4,8 +4,8 @@ use crate::errors::ClaimError;
 use std::alloc::{AllocError, Global};
 use step_searches::{Quantity, Total};
 
-/// The most times that a quantity counts in a sum.
-const MAX_TIMES: u64 = 1000;
+/// The most quantities of a sum, each as often as it counts.
+const MAX_QUANTITIES: u64 = 4000;
 
 /// Why there is no sum: memory ran out, or this error of the text.
 #[derive(Clone, Copy, Debug, PartialEq, Eq)]
@@ -120,9 +120,12 @@ impl Amount {
     /// Returns the sum of what counts more than 0 times, or with `is_less` of what counts less than that.
     pub(crate) fn side(&self, alloc: Global, is_less: bool) -> Result<Total, NoAmount> {
         let mut total = Total::Zero;
+        let mut left = MAX_QUANTITIES;
         for part in &self.parts {
             if (part.times < 0) == is_less {
-                total = repeated(alloc, total, part.quantity, part.times.unsigned_abs())?;
+                let times = part.times.unsigned_abs();
+                left = left.checked_sub(times).ok_or(OUT_OF_RANGE)?;
+                total = repeated(alloc, total, part.quantity, times)?;
             }
         }
         if (self.constant < 0) == is_less {
@@ -139,7 +142,7 @@ fn repeated(
     quantity: Quantity,
     times: u64,
 ) -> Result<Total, NoAmount> {
-    if times > MAX_TIMES {
+    if times > MAX_QUANTITIES {
         return Err(OUT_OF_RANGE);
     }
     let mut total = total;

@@ -17,6 +17,8 @@ pub enum ClaimError {
     OutOfRange,
     /// Too many parts in one another.
     TooDeep,
+    /// More bytes than claims may have.
+    TooLong,
     /// A set, a term or a word of which certificates say nothing.
     NotCovered,
 }
@@ -36,6 +38,7 @@ impl ClaimError {
             ClaimError::NameTwice => "NameTwice",
             ClaimError::OutOfRange => "OutOfRange",
             ClaimError::TooDeep => "TooDeep",
+            ClaimError::TooLong => "TooLong",
             ClaimError::NotCovered => "NotCovered",
         }
     }

@@ -6,6 +6,9 @@ use crate::token::{Kind, Sign, Span, Token, long_sign, short_sign};
 /// The most letters of a name.
 const MAX_LETTERS: usize = 32;
 
+/// The most bytes of a text. It bounds how deep the conditions of a step are.
+const MAX_BYTES: usize = 16_384;
+
 /// A place of a text, with how many brackets are open there.
 #[derive(Clone, Copy, Debug, PartialEq, Eq)]
 pub(crate) struct Place {
@@ -215,6 +218,7 @@ impl<'a> Reader<'a> {
             bytes: self.text.len(),
         };
         self.now = match rest.of(self.text) {
+            _ if self.place.at > MAX_BYTES => self.token(Kind::Fault(ClaimError::TooLong), 0),
             [] => self.token(Kind::TextEnd, 0),
             [b'\n', ..] => self.line_end(),
             [first, second, ..] => match long_sign(*first, *second) {

@@ -26,6 +26,7 @@ mod rule_notes_example;
 mod rule_programs_example;
 mod rule_syntax_example;
 mod rule_text_example;
+mod step_beginnings_example;
 mod step_searches_example;
 mod stream_io_example;
 mod value_range_example;
