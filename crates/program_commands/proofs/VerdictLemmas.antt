@@ -7,7 +7,11 @@ use Rattle.bpf_insn.specs.Programs.{IsProgram, image_of}
 use Rattle.bpf_insn.specs.Images.{RefusesImage}
 use Rattle.bpf_verify.specs.Accepted.{IsFirstBroken}
 use Rattle.bpf_verify.specs.Paths.{IsLongestPath}
-use Rattle.bpf_verify.specs.Typable.{Typable}
+use Rattle.bpf_verify.specs.Typable.{Table, Types, Typable}
+use Rattle.bpf_verify.specs.declared.findings.Findings.{Findings}
+use Rattle.bpf_verify.specs.declared.findings.Verdict.{Verdict as Found}
+use Rattle.bpf_verify.specs.declared.findings.Verdict.TheVariants as found
+use Rattle.bpf_verify.specs.Findings.{AreFindings, IsVerdict, end_of, table_in}
 use Rattle.requests.specs.declared.request.ShapeOptions.{ShapeOptions}
 use Rattle.program_commands.specs.declared.verdict.Verdict.{Verdict}
 use Rattle.program_commands.specs.declared.verdict.Verdict.TheVariants.{Accepted, Refused}
@@ -18,6 +22,7 @@ use Rattle.command_answers.specs.declared.rejection.Unread.TheVariants.{Shape, I
 use Rattle.command_answers.specs.declared.response.Response.{Response}
 use Rattle.requests.specs.Shapes.{HasShape, asked_extent}
 use Rattle.command_answers.specs.Input.{IsUnread}
+use Rattle.program_commands.specs.Explained.{verdict_in}
 use Rattle.program_commands.specs.Verdict.{Judges, JudgesImage, JudgesProgram, SameJudgement, SameVerdict, judged_ending, judged_text, text_of_verdict, verdict_ending}
 use Rattle.program_commands.specs.inner.Input.{ReadsInput}
 use Rattle.command_answers.specs.inner.Responses.{IsResponse}
@@ -49,6 +54,18 @@ pub judged_response : (options : ShapeOptions) (bytes : List ℕ) (read : Progra
 judged_response options bytes read (Ok response) reads is =
     (Ok is.0, judges options bytes read is.0 reads is.1, is.2, is.3)
 judged_response options bytes read (Err fault) reads is = tt
+
+judged_by : (program : List Insn) (shape : Extent) (table : Table) (verdict : Found)
+    → IsVerdict program shape table verdict → Types program shape (end_of program verdict) table
+    → JudgesProgram program shape (verdict_in program verdict)
+judged_by program shape table (found.Accepted announced) is types = (is.0, refl, is.1)
+judged_by program shape table (found.Refused slot rule) is types = (table, types, is)
+
+-- the verdict of findings is one on their program
+pub judged_by_findings : (program : List Insn) (shape : Extent) (findings : Findings)
+    → AreFindings program shape findings → JudgesProgram program shape (verdict_in program findings.verdict)
+judged_by_findings program shape findings are = judged_by program shape (table_in findings) findings.verdict
+    are.verdict are.types
 
 -- ---- one verdict
 
@@ -89,13 +106,13 @@ same_verdict laws shape bytes (Accepted s x) (Accepted t y) first second =
     (λ program one other. (one.1 ∙ sym other.1, laws.one_longest program x y one.2 other.2))
 same_verdict laws shape bytes (Accepted s x) (Refused t q) first second =
     of_one_program laws.one_program _ bytes (Accepted s x) (Refused t q) _ first second
-    (λ program one other. laws.untypable program _ t other one.0)
+    (λ program one other. laws.untypable program _ t other.2.first one.0)
 same_verdict laws shape bytes (Refused s r) (Accepted t y) first second =
     of_one_program laws.one_program _ bytes (Refused s r) (Accepted t y) _ first second
-    (λ program one other. laws.untypable program _ s one other.0)
+    (λ program one other. laws.untypable program _ s one.2.first other.0)
 same_verdict laws shape bytes (Refused s r) (Refused t q) first second =
     of_one_program laws.one_program _ bytes (Refused s r) (Refused t q) _ first second
-    (λ program one other. laws.one_slot program _ s t one other)
+    (λ program one other. laws.one_slot program _ s t one.2.first other.2.first)
 
 pub one_verdict : LawsBelow → (options : ShapeOptions) (bytes : List ℕ) (a b : Result Verdict Unread)
     → Judges options bytes a → Judges options bytes b → SameJudgement a b

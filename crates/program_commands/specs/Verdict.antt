@@ -5,10 +5,11 @@ use Rattle.std.specs.Fmt.{decimal}
 use Rattle.node_env.specs.Env.{Extent}
 use Rattle.bpf_insn.specs.declared.forms.Insn.{Insn}
 use Rattle.bpf_insn.specs.Programs.{IsProgram, image_of, slots_of}
-use Rattle.bpf_verify.specs.Accepted.{IsFirstBroken}
+use Rattle.bpf_verify.specs.declared.rule.Rule.{Rule}
 use Rattle.bpf_verify.specs.Paths.{IsLongestPath}
+use Rattle.bpf_verify.specs.Refusals.{IsRefusedAt}
 use Rattle.bpf_verify.specs.Rules.{rule_number}
-use Rattle.bpf_verify.specs.Typable.{Typable}
+use Rattle.bpf_verify.specs.Typable.{Table, Types, Typable}
 use Rattle.requests.specs.declared.request.ShapeOptions.{ShapeOptions}
 use Rattle.program_commands.specs.declared.verdict.Verdict.{Verdict}
 use Rattle.program_commands.specs.declared.verdict.Verdict.TheVariants.{Accepted, Refused}
@@ -22,13 +23,19 @@ use Rattle.command_answers.specs.Input.{IsUnread}
 use Rattle.command_answers.specs.Output.{LeavesAny}
 use Rattle.command_answers.specs.Rejections.{unread_line}
 
+-- A table types the slots before this one, which is the first that can't be typed. The rule is the lowest that the
+-- instruction there breaks, with what the table has of each edge to it.
+abbrev pub IsRefusedFor : List Insn → Extent → ℕ → Rule → Type 0
+IsRefusedFor program shape slot rule =
+    (table : Table) × Types program shape slot table × IsRefusedAt program shape table slot rule
+
 -- the program keeps the rules, and these are its slots and the instructions on its longest path; or this slot is the
--- first that can't be typed
+-- first that breaks one
 -- (docs/VERIFIER.md, "What is accepted", "The longest path")
 abbrev pub JudgesProgram : List Insn → Extent → Verdict → Type 0
 JudgesProgram program shape (Accepted slots announced) = Typable program shape × (slots ≡ slots_of program)
     × IsLongestPath program announced
-JudgesProgram program shape (Refused slot rule) = IsFirstBroken program shape slot
+JudgesProgram program shape (Refused slot rule) = IsRefusedFor program shape slot rule
 
 -- the bytes are the image of a program (RFC 9669, section 3) of which this is said
 pub record JudgesImage (shape : Extent) (bytes : List ℕ) (verdict : Verdict) : Type 0 where

@@ -5,10 +5,11 @@ ghost use Rattle.program_commands.specs.Explained as told_specs;
 ghost use Rattle.command_answers.specs.declared.ending.Ending.TheVariants.{Refused};
 ghost use Rattle.command_answers.specs.Faults.{IsFaultOfProgram};
 ghost use Rattle.command_answers.specs.inner.Responses.{IsNoted, IsResponse};
+ghost use Rattle.program_commands.specs.Verdict.{verdict_ending};
 ghost use Rattle.requests.specs.Shapes.{asked_extent};
 
 use crate::program::{ProgramRead, program_read};
-use crate::verdict::Verdict;
+use crate::verdict::verdict_in;
 use crate::verdict_note::verdict_note;
 use bpf_asm::instruction_lines;
 use bpf_explain::{reason, rows};
@@ -20,24 +21,12 @@ use requests::{Detail, ExplainOptions};
 use rule_notes::Note;
 use std::alloc::{AllocError, Global};
 
-/// What is told, and how the command ends that writes it.
+/// What is told, how the command ends that writes it, and the note on it.
 #[derive(Drop)]
 struct Told {
     text: String,
     ending: Ending,
-}
-
-/// Returns the verdict of findings.
-fn verdict_in(program: &Program, findings: &Findings) -> Verdict
-    ensures { result ≡ told_specs.verdict_in program.now findings.now.verdict }
-{
-    match findings.verdict() {
-        bpf_verify::Verdict::Accepted { announced } => Verdict::Accepted {
-            slots: program.slot_count(),
-            announced,
-        },
-        bpf_verify::Verdict::Refused { slot, rule } => Verdict::Refused { slot, rule },
-    }
+    note: Option<Note>,
 }
 
 fn rows_told(
@@ -93,22 +82,44 @@ fn explained_text(
     format!(in alloc; "{told}{verdict}\n{why}")
 }
 
-/// Returns what is told of a program whose instructions are on these lines of a text. An image has no lines.
+/// Returns the note on the verdict on a program of these bytes: none if the output has the reason.
+fn explained_note(
+    alloc: Global,
+    options: ExplainOptions,
+    read: &ProgramRead,
+    findings: &Findings,
+    bytes: &[u8],
+) -> Option<Note>
+    ensures { IsSome result
+        → verdict_ending (told_specs.verdict_in read.now.program findings.now.verdict) ≡ Refused }
+{
+    match options.detail {
+        Some(_detail) => None,
+        None if options.text => verdict_note(alloc, read, findings, Some(bytes)),
+        None => verdict_note(alloc, read, findings, None),
+    }
+}
+
+/// Returns what is told of a program that was read from these bytes. Its instructions are on these lines of a text; an
+/// image has no lines.
 fn explain_program(
     alloc: Global,
     options: ExplainOptions,
-    program: &Program,
+    read: &ProgramRead,
     lines: &[usize],
-    shape: Shape,
+    bytes: &[u8],
 ) -> Result<Told, AllocError>
-    requires { shape ≡ asked_extent options.shape }
-    ensures { IfOk result (λ told. told_specs.ExplainsProgram options lines.now program.now
+    requires { read.now.shape ≡ asked_extent options.shape }
+    ensures told { IfOk result (λ told. told_specs.ExplainsProgram options lines.now read.now.program
         (told_specs.explanation (string_bytes told.text) told.ending)) }
+    ensures noted { IfOk result (λ told. IsSome told.note → told.ending ≡ Refused) }
 {
-    let findings = explain(alloc, program, shape)?;
-    let text = explained_text(alloc, program, shape, &findings, lines, options.detail)?;
+    let program = &read.program;
+    let findings = explain(alloc, program, read.shape)?;
+    let text = explained_text(alloc, program, read.shape, &findings, lines, options.detail)?;
     let ending = verdict_in(program, &findings).ending();
-    Ok(Told { text, ending })
+    let note = explained_note(alloc, options, read, &findings, bytes);
+    Ok(Told { text, ending, note })
 }
 
 /// Returns the lines of the instructions of a text; an image has none.
@@ -130,29 +141,13 @@ fn explain_read(
     bytes: &[u8],
 ) -> Result<Told, AllocError>
     requires { read.now.shape ≡ asked_extent options.shape }
-    ensures { IfOk result (λ told. told_specs.ExplainsProgram options
+    ensures told { IfOk result (λ told. told_specs.ExplainsProgram options
         (told_specs.lines_if_text options.text bytes.now) read.now.program
         (told_specs.explanation (string_bytes told.text) told.ending)) }
+    ensures noted { IfOk result (λ told. IsSome told.note → told.ending ≡ Refused) }
 {
     let lines = lines_of(alloc, options.text, bytes)?;
-    explain_program(alloc, options, &read.program, lines.as_slice(), read.shape)
-}
-
-/// Returns the note on the verdict on a program of these bytes: none if the output has the reason.
-fn explained_note(
-    alloc: Global,
-    options: ExplainOptions,
-    read: &ProgramRead,
-    bytes: &[u8],
-    ending: Ending,
-) -> Option<Note>
-    ensures { IsSome result → ending ≡ Refused }
-{
-    match options.detail {
-        Some(_detail) => None,
-        None if options.text => verdict_note(alloc, read, Some(bytes), ending),
-        None => verdict_note(alloc, read, None, ending),
-    }
+    explain_program(alloc, options, read, lines.as_slice(), bytes)
 }
 
 /// Returns the verdict on the program of these bytes, and what is known at its slots.
@@ -168,7 +163,7 @@ pub fn explanation(alloc: Global, options: ExplainOptions, bytes: &[u8]) -> Resu
             Ok(told) => Ok(Response {
                 text: told.text.into_bytes(),
                 ending: told.ending,
-                note: explained_note(alloc, options, &read, bytes, told.ending),
+                note: told.note,
             }),
             Err(_) => Err(Fault::Memory),
         },

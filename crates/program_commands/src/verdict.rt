@@ -1,8 +1,10 @@
 //! What `verify` answers, and the line that says it.
 ghost use Rattle.std.specs.Prelude.{◌≡◌, Some};
+ghost use Rattle.program_commands.specs.Explained as told_specs;
 ghost use Rattle.program_commands.specs.Verdict.{verdict_line};
 
-use bpf_verify::Rule;
+use bpf_insn::Program;
+use bpf_verify::{Findings, Rule};
 use command_answers::Ending;
 use std::fmt;
 
@@ -42,5 +44,18 @@ impl fmt::Display for Verdict {
                 write!(f, "refused rule {} slot {slot}", rule.number())
             }
         }
+    }
+}
+
+/// Returns the verdict of findings.
+pub(crate) fn verdict_in(program: &Program, findings: &Findings) -> Verdict
+    ensures { result ≡ told_specs.verdict_in program.now findings.now.verdict }
+{
+    match findings.verdict() {
+        bpf_verify::Verdict::Accepted { announced } => Verdict::Accepted {
+            slots: program.slot_count(),
+            announced,
+        },
+        bpf_verify::Verdict::Refused { slot, rule } => Verdict::Refused { slot, rule },
     }
 }

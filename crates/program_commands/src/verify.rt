@@ -1,17 +1,17 @@
 //! `verify`: accepts a program for nodes of a shape, or refuses it.
-ghost use Rattle.std.specs.Prelude.{◌≡◌, IfOk, IfErr};
+ghost use Rattle.std.specs.Prelude.{◌≡◌, IfOk, IfErr, IsSome};
+ghost use Rattle.command_answers.specs.declared.ending.Ending.TheVariants.{Refused};
 ghost use Rattle.command_answers.specs.Faults.{IsOutOfMemory};
 ghost use Rattle.program_commands.specs.Verdict.{Judges, JudgesProgram, judged_ending, judged_text, text_of_verdict, verdict_ending};
 ghost use Rattle.command_answers.specs.inner.Responses.{IsNoted, IsResponse};
 
 use crate::program::{ProgramRead, program_read};
-use crate::verdict::Verdict;
+use crate::verdict::{Verdict, verdict_in};
 use crate::verdict_note::verdict_note;
-use bpf_insn::Program;
-use bpf_verify::{VerifyError, check};
+use bpf_verify::{VerifyError, check, explain};
 use command_answers::{Fault, Rejection, Response, rejected};
-use node_env::Shape;
 use requests::ShapeOptions;
+use rule_notes::Note;
 use std::alloc::Global;
 
 /// Accepts the program of these bytes, or refuses it.
@@ -27,6 +27,13 @@ pub fn verify(alloc: Global, options: ShapeOptions, bytes: &[u8]) -> Result<Resp
     }
 }
 
+/// The verdict on a program, and the note on it.
+#[derive(Drop)]
+struct Judged {
+    verdict: Verdict,
+    note: Option<Note>,
+}
+
 /// Returns the line of the verdict on a program.
 fn verdict_response(alloc: Global, read: &ProgramRead) -> Result<Response, Fault>
     ensures response { IfOk result
@@ -34,28 +41,50 @@ fn verdict_response(alloc: Global, read: &ProgramRead) -> Result<Response, Fault
     ensures noted { IfOk result IsNoted }
     ensures fault { IfErr result IsOutOfMemory }
 {
-    let verdict = verdict_on(alloc, &read.program, read.shape)?;
+    let Judged { verdict, note } = verdict_on(alloc, read)?;
     match format!(in alloc; "{verdict}\n") {
         Ok(line) => Ok(Response {
             text: line.into_bytes(),
             ending: verdict.ending(),
-            note: verdict_note(alloc, read, None, verdict.ending()),
+            note,
         }),
         Err(_) => Err(Fault::Memory),
     }
 }
 
 /// Returns what the verifier says of a program.
-fn verdict_on(alloc: Global, program: &Program, shape: Shape) -> Result<Verdict, Fault>
-    ensures verdict { IfOk result (JudgesProgram program.now shape) }
+fn verdict_on(alloc: Global, read: &ProgramRead) -> Result<Judged, Fault>
+    ensures verdict { IfOk result (λ judged.
+        JudgesProgram read.now.program read.now.shape judged.verdict) }
+    ensures noted { IfOk result (λ judged.
+        IsSome judged.note → verdict_ending judged.verdict ≡ Refused) }
     ensures fault { IfErr result IsOutOfMemory }
 {
-    match check(alloc, program, shape) {
-        Ok(announced) => Ok(Verdict::Accepted {
-            slots: program.slot_count(),
-            announced,
+    match check(alloc, &read.program, read.shape) {
+        Ok(announced) => Ok(Judged {
+            verdict: Verdict::Accepted {
+                slots: read.program.slot_count(),
+                announced,
+            },
+            note: None,
         }),
-        Err(VerifyError::Refused { slot, rule }) => Ok(Verdict::Refused { slot, rule }),
+        Err(VerifyError::Refused { .. }) => explained_verdict(alloc, read),
         Err(VerifyError::Memory) => Err(Fault::Memory),
     }
+}
+
+/// Returns what the table of what is known at a program's slots says of it.
+fn explained_verdict(alloc: Global, read: &ProgramRead) -> Result<Judged, Fault>
+    ensures verdict { IfOk result (λ judged.
+        JudgesProgram read.now.program read.now.shape judged.verdict) }
+    ensures noted { IfOk result (λ judged.
+        IsSome judged.note → verdict_ending judged.verdict ≡ Refused) }
+    ensures fault { IfErr result IsOutOfMemory }
+{
+    let Ok(findings) = explain(alloc, &read.program, read.shape) else {
+        return Err(Fault::Memory);
+    };
+    let verdict = verdict_in(&read.program, &findings);
+    let note = verdict_note(alloc, read, &findings, None);
+    Ok(Judged { verdict, note })
 }

@@ -11,7 +11,7 @@ returns-in-Ok-explain_read-clause-response c =
     let reads = rw c.in-Ok.is at c.in_ok-found.ensures.read in
     let told = c.in-Ok-explain_read.told in (
       explanation (string_bytes told.text) told.ending,
-      inr (reads.0, c.in-Ok.read.program, reads.2, c.in-Ok-explain_read.ensures),
+      inr (reads.0, c.in-Ok.read.program, reads.2, c.in-Ok-explain_read.ensures.told),
       ap (λ (v : Vec ℕ Global). v.items) c.into_bytes.ensures.value,
       refl,
     )
