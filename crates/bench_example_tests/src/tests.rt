@@ -1,7 +1,9 @@
 mod bench_core_example;
+mod bench_engine_example;
 mod bench_games_example;
 mod bench_moves_example;
 mod bench_scenario_example;
+mod bench_shared_example;
 mod bench_space_example;
 mod bench_stress_example;
 mod bench_workers_example;
