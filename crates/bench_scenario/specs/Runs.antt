@@ -1,5 +1,5 @@
 -- What the run of a scenario's text leaves on its writer (docs/SCENARIOS.md, "Runs").
-use Rattle.std.specs.Prelude.{◌≡◌, ◌<◌, is_some, Bool, List, ℕ, length, take, Option, Result, Ok, Err}
+use Rattle.std.specs.Prelude.{◌≡◌, ◌<◌, is_some, Bool, IsTrue, List, ℕ, length, take, Option, Result, Ok, Err}
 use Rattle.std.specs.Io.KnownBytes.{Appends, Keeps}
 use Rattle.bench_core.specs.Setup.{Setup}
 use Rattle.bench_core.specs.Told.{PulseTold}
@@ -97,3 +97,17 @@ abbrev pub IsDueOfText : List ℕ → TextFault → Type 0
 IsDueOfText text text_faults.Read = Unit {0}
 IsDueOfText text (text_faults.Refused error) = IsDue text error
 IsDueOfText text text_faults.Memory = Unit {0}
+
+-- if no text could be read, a call of `read` failed
+abbrev pub HasTextCause : (failed : Bool) → TextFault → Type 0
+HasTextCause failed text_faults.Read = IsTrue failed
+HasTextCause failed (text_faults.Refused error) = Unit {0}
+HasTextCause failed text_faults.Memory = Unit {0}
+
+-- the same of a scenario that left no whole report
+abbrev pub HasReportCause : (failed : Bool) → ScenarioFault → Type 0
+HasReportCause failed faults.Read = IsTrue failed
+HasReportCause failed (faults.Refused error) = Unit {0}
+HasReportCause failed (faults.Run stop) = Unit {0}
+HasReportCause failed (faults.Write written) = Unit {0}
+HasReportCause failed faults.Memory = Unit {0}

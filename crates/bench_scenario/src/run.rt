@@ -1,9 +1,9 @@
 //! A scenario from the first byte that is read to the last that is written.
-ghost use Rattle.std.specs.Prelude.{◌≡◌, ◌≤◌, ◌<◌, ℕ, List, Option, [], IfErr, IfOk, IfSome, MatchResult, string_bytes};
+ghost use Rattle.std.specs.Prelude.{◌≡◌, ◌+◌, ◌≤◌, ◌<◌, ℕ, Bool, List, Option, [], IfErr, IfOk, IfSome, MatchResult, string_bytes};
 ghost use Rattle.bench_core.specs.State.{new_state};
 ghost use Rattle.scenario_text.specs.Texts.{ReadsText};
 ghost use Rattle.stream_io.specs.Streams.{TakesAtMost};
-ghost use Rattle.bench_scenario.specs.Runs.{LeavesReport, LeavesRun, ReportsRun, StopsForWant, bench_of};
+ghost use Rattle.bench_scenario.specs.Runs.{HasReportCause, LeavesReport, LeavesRun, ReportsRun, StopsForWant, bench_of};
 ghost use Rattle.bench_scenario.specs.inner.Runs.{IsDueOfRun};
 
 use crate::paying::useful_workers;
@@ -14,10 +14,10 @@ use bench_core::Bench;
 use bench_workers::{MAX_WORKERS, Open, RunFault, run_events_on};
 use scenario_text::{MAX_TEXT, Scenario, ScenarioError};
 use std::alloc::{AllocError, Global};
-use std::io::{Read, Write};
+use std::io::Write;
 use std::sync::Wait;
 use std::thread::Threads;
-use stream_io::{WriteFault, write_fully};
+use stream_io::{Source, WriteFault, write_fully};
 use thiserror::Error;
 
 /// The most bytes that are read: one more than a text may have, by which a text that is too long is known.
@@ -29,7 +29,7 @@ pub const MAX_CALLS: usize = 2_097_152;
 /// Why a scenario left no whole report.
 #[derive(Debug, Drop, Error)]
 pub enum ScenarioFault {
-    /// A call of `read` failed, or their bound was reached.
+    /// A call of `read` failed.
     #[error("reading failed")]
     Read,
     #[error(transparent)]
@@ -137,6 +137,7 @@ fn report_on<T: Threads + Wait + Sync, W: Write>(
     ensures left { (known : Option (List ℕ)) → IfSome known (λ text. ReadsText text scenario.now)
         → IfSome known (λ text. LeavesReport (W.contents writer.old) (W.contents writer.new) text result) }
     ensures want { IfErr result StopsForWant }
+    ensures cause { (failed : Bool) → IfErr result (HasReportCause failed) }
 {
     match write_report(rt, alloc, scenario, workers, writer) {
         Ok(_agrees) => Ok(()),
@@ -148,7 +149,7 @@ fn report_on<T: Threads + Wait + Sync, W: Write>(
 
 /// Reads a scenario's text, runs it on as many of the workers as pay, and writes the report. At most [`MAX_BYTES`]
 /// bytes are read, by at most [`MAX_CALLS`] calls of `read`. The report is whole before its first byte is written.
-pub fn run_scenario<T: Threads + Wait + Sync, R: Read, W: Write>(
+pub fn run_scenario<T: Threads + Wait + Sync, R: Source, W: Write>(
     rt: &T,
     alloc: Global,
     reader: &mut R,
@@ -161,6 +162,8 @@ pub fn run_scenario<T: Threads + Wait + Sync, R: Read, W: Write>(
     ensures left { IfSome (R.remaining reader.old) (λ text.
         LeavesReport (W.contents writer.old) (W.contents writer.new) text result) }
     ensures want { IfErr result StopsForWant }
+    ensures cost { R.calls reader.new ≤ R.calls reader.old + MAX_CALLS }
+    ensures cause { IfErr result (HasReportCause (R.has_failed reader.new)) }
 {
     let scenario = match read_scenario(alloc, reader) {
         Ok(scenario) => scenario,

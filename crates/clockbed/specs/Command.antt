@@ -1,11 +1,11 @@
 -- What the program does with its words, its files and its streams (docs/COMMANDS.md).
-use Rattle.std.specs.Prelude.{◌≡◌, ◌⊎◌, ℕ, List, Option, Some, None, option_map, string_bytes}
+use Rattle.std.specs.Prelude.{◌≡◌, ◌⊎◌, ℕ, Bool, List, Option, Some, None, option_map, string_bytes}
 use Rattle.command_answers.specs.declared.fault.Fault.{Fault}
 use Rattle.command_answers.specs.declared.fault.Fault.TheVariants.{Read, Write, Memory, Thread, CommandLine}
 use Rattle.command_answers.specs.Faults.{Says, fault_status, fault_text}
 use Rattle.command_line.specs.Requests.{IsAskedWithFile}
 use Rattle.command_line.specs.declared.request.Invocation.{Invocation}
-use Rattle.commands.specs.Perform.{PerformsRequest, TakesFor}
+use Rattle.commands.specs.Perform.{CallsFor, PerformsRequest, TakesFor}
 use Rattle.requests.specs.declared.request.Request.{Request}
 use Rattle.clockbed.specs.Reasons.{SaysReasonAt}
 use Rattle.clockbed.specs.Words.{AreWordsFor, NamesSome}
@@ -26,13 +26,22 @@ outside_of files may_fail asks = record { files = files; may_fail = may_fail; as
 abbrev pub standard_input_alone : Outside
 standard_input_alone = outside_of (λ path. None) (λ path. Unit {0}) (λ words asked. IsAskedWithFile asked)
 
--- what is known of the bytes that standard input has left, and that standard output and standard error took
+-- what is known of the bytes that standard input has left, how many calls of `read` it had, and whether one failed
+pub record StandardInput : Type 0 where
+  pub bytes : Option (List ℕ)
+  pub calls : ℕ
+  pub failed : Bool
+
+abbrev pub input_of : Option (List ℕ) → ℕ → Bool → StandardInput
+input_of bytes calls failed = record { bytes = bytes; calls = calls; failed = failed }
+
+-- standard input, and what is known of the bytes that standard output and standard error took
 pub record Streams : Type 0 where
-  pub input : Option (List ℕ)
+  pub input : StandardInput
   pub output : Option (List ℕ)
   pub error : Option (List ℕ)
 
-abbrev pub streams_of : Option (List ℕ) → Option (List ℕ) → Option (List ℕ) → Streams
+abbrev pub streams_of : StandardInput → Option (List ℕ) → Option (List ℕ) → Streams
 streams_of input output error = record { input = input; output = output; error = error }
 
 -- ---- a request is performed
@@ -42,27 +51,30 @@ abbrev pub WordsAsk : Outside → List (List ℕ) → Invocation → Type 0
 WordsAsk outside words asked =
     (expanded : List (List ℕ)) × AreWordsFor outside.files None words expanded × outside.asks expanded asked
 
--- a request reads the file at this path, or standard input if there is none: these are its bytes. Only what it reads is
--- taken
-abbrev pub IsReadFrom : Outside → Request → Option (List ℕ) → Option (List ℕ) → Option (List ℕ) → Option (List ℕ)
-    → Type 0
-IsReadFrom outside request None bytes input left = (bytes ≡ input) × TakesFor request input left
-IsReadFrom outside request (Some path) bytes input left = (bytes ≡ outside.files path) × (left ≡ input)
+-- a request reads the file at this path, or standard input if there is none: these are its bytes, and a call of `read`
+-- failed or none did. Only what it reads is taken, by at most as many calls as it may make. Which calls of a file fail
+-- isn't known
+abbrev pub IsReadFrom : Outside → Request → Option (List ℕ) → Option (List ℕ) → (failed : Bool) → StandardInput
+    → StandardInput → Type 0
+IsReadFrom outside request None bytes failed input left = (bytes ≡ input.bytes) × (failed ≡ left.failed)
+    × TakesFor request input.bytes left.bytes × CallsFor request input.calls left.calls
+IsReadFrom outside request (Some path) bytes failed input left = (bytes ≡ outside.files path) × (left ≡ input)
     × ((rest : Option (List ℕ)) × TakesFor request bytes rest)
 
 -- the file that is named is read
-abbrev pub IsRead : Outside → Invocation → Option (List ℕ) → Option (List ℕ) → Option (List ℕ) → Type 0
-IsRead outside asked bytes input left =
-    IsReadFrom outside asked.request (option_map string_bytes asked.file) bytes input left
+abbrev pub IsRead : Outside → Invocation → Option (List ℕ) → (failed : Bool) → StandardInput → StandardInput → Type 0
+IsRead outside asked bytes failed input left =
+    IsReadFrom outside asked.request (option_map string_bytes asked.file) bytes failed input left
 
 pub record DoesRequest (outside : Outside) (words : List (List ℕ)) (before after : Streams) (status : ℕ)
     : Type 0 where
   pub asked : Invocation
   pub words_ask : WordsAsk outside words asked
   pub bytes : Option (List ℕ)
-  pub read : IsRead outside asked bytes before.input after.input
+  pub failed : Bool
+  pub read : IsRead outside asked bytes failed before.input after.input
   pub performed :
-      PerformsRequest asked.request bytes before.output after.output before.error after.error status
+      PerformsRequest asked.request bytes failed before.output after.output before.error after.error status
 
 -- ---- no request is performed
 

@@ -1,8 +1,8 @@
 //! The program over any files and streams.
 ghost use Rattle.std.specs.Prelude.{◌≡◌, ◌⊎◌, ℕ, List, None, Option, Some, map, string_bytes};
 ghost use Rattle.command_answers.specs.Faults.{IsOfCommandLine, Says, fault_status, fault_text};
-ghost use Rattle.commands.specs.Perform.{PerformsRequest, TakesFor};
-ghost use Rattle.clockbed.specs.Command.{AnswersWords, RunsOn, outside_of, streams_of};
+ghost use Rattle.commands.specs.Perform.{CallsFor, PerformsRequest, TakesFor};
+ghost use Rattle.clockbed.specs.Command.{AnswersWords, RunsOn, input_of, outside_of, streams_of};
 ghost use Rattle.clockbed.specs.Reasons.{SaysReason, SaysReasonAt};
 ghost use Rattle.clockbed.specs.inner.OnFile.{AnswersOnFile};
 
@@ -17,9 +17,10 @@ use commands::perform::perform;
 use requests::{Request, ScenarioRequest};
 use std::alloc::Global;
 use std::convert::AsStr;
-use std::io::{Read, Write};
+use std::io::Write;
 use std::sync::Wait;
 use std::thread::Threads;
+use stream_io::Source;
 
 /// The exit status of a fault.
 const FAULT_STATUS: u8 = 1;
@@ -47,7 +48,7 @@ pub fn run_words<
     O: Opener,
     C: WordsReader,
     S: AsStr,
-    R: Read + FailureReason,
+    R: Source + FailureReason,
     W: Write + FailureReason,
     E: Write,
     P: CommandProgress,
@@ -61,8 +62,12 @@ pub fn run_words<
 ) -> u8
     ensures { RunsOn
         (outside_of (O.files program.now.opener) (O.may_fail program.now.opener) (C.asks program.now.reader))
-        (map S.text words.now) (streams_of (R.remaining input.old) (W.contents out.old) (E.contents err.old))
-        (streams_of (R.remaining input.new) (W.contents out.new) (E.contents err.new)) result }
+        (map S.text words.now)
+        (streams_of (input_of (R.remaining input.old) (R.calls input.old) (R.has_failed input.old))
+        (W.contents out.old) (E.contents err.old))
+        (streams_of (input_of (R.remaining input.new) (R.calls input.new) (R.has_failed input.new))
+        (W.contents out.new) (E.contents err.new))
+        result }
 {
     let answered = answer_words(program, words, input, out, err, progress);
     tell_why(&answered, input, out, err);
@@ -106,7 +111,7 @@ pub fn answer_words<
     O: Opener,
     C: WordsReader,
     S: AsStr,
-    R: Read,
+    R: Source,
     W: Write,
     E: Write,
     P: CommandProgress,
@@ -120,8 +125,12 @@ pub fn answer_words<
 ) -> Answered
     ensures { AnswersWords
         (outside_of (O.files program.now.opener) (O.may_fail program.now.opener) (C.asks program.now.reader))
-        (map S.text words.now) (streams_of (R.remaining input.old) (W.contents out.old) (E.contents err.old))
-        (streams_of (R.remaining input.new) (W.contents out.new) (E.contents err.new)) result.status }
+        (map S.text words.now)
+        (streams_of (input_of (R.remaining input.old) (R.calls input.old) (R.has_failed input.old))
+        (W.contents out.old) (E.contents err.old))
+        (streams_of (input_of (R.remaining input.new) (R.calls input.new) (R.has_failed input.new))
+        (W.contents out.new) (E.contents err.new))
+        result.status }
 {
     let expanded = match with_lists(program.alloc, &program.opener, words) {
         Ok(expanded) => expanded,
@@ -201,7 +210,7 @@ fn answer_on_file<T: Threads + Wait + Sync, O: Opener, C, W: Write, E: Write, P:
 }
 
 /// Performs a request on this input.
-fn performed<T: Threads + Wait + Sync, O, C, R: Read, W: Write, E: Write, P: CommandProgress>(
+fn performed<T: Threads + Wait + Sync, O, C, R: Source, W: Write, E: Write, P: CommandProgress>(
     program: &Program<'_, T, O, C>,
     request: &Request,
     input: &mut R,
@@ -209,9 +218,10 @@ fn performed<T: Threads + Wait + Sync, O, C, R: Read, W: Write, E: Write, P: Com
     err: &mut E,
     progress: &mut P,
 ) -> u8
-    ensures performed { PerformsRequest request.now (R.remaining input.old) (W.contents out.old) (W.contents out.new)
-        (E.contents err.old) (E.contents err.new) result }
+    ensures performed { PerformsRequest request.now (R.remaining input.old) (R.has_failed input.new)
+        (W.contents out.old) (W.contents out.new) (E.contents err.old) (E.contents err.new) result }
     ensures taken { TakesFor request.now (R.remaining input.old) (R.remaining input.new) }
+    ensures cost { CallsFor request.now (R.calls input.old) (R.calls input.new) }
 {
     if let Request::Scenario(ScenarioRequest::Sweep(options)) = request {
         progress.begin_sweep(options.keys.count());

@@ -1,20 +1,21 @@
 //! The program over standard input alone.
 ghost use Rattle.std.specs.Prelude.{map};
-ghost use Rattle.clockbed.specs.Command.{AnswersWords, standard_input_alone, streams_of};
+ghost use Rattle.clockbed.specs.Command.{AnswersWords, input_of, standard_input_alone, streams_of};
 
 use crate::answer::{Program, answer_words};
 use crate::outside::{Clap, NoFiles};
 use bench_space::Silent;
 use std::alloc::Global;
 use std::convert::AsStr;
-use std::io::{Read, Write};
+use std::io::Write;
 use std::sync::Wait;
 use std::thread::Threads;
+use stream_io::Source;
 
 /// Does what the words ask for, of which the first is the program's name, and answers the exit status: 0 done, 1
 /// fault or mismatch, 2 refused, 3 a violation, 4 not finished. There are no files. What `err` does not take is
 /// dropped.
-pub fn command<T: Threads + Wait + Sync, S: AsStr, R: Read, W: Write, E: Write>(
+pub fn command<T: Threads + Wait + Sync, S: AsStr, R: Source, W: Write, E: Write>(
     rt: &T,
     alloc: Global,
     words: &[S],
@@ -23,8 +24,11 @@ pub fn command<T: Threads + Wait + Sync, S: AsStr, R: Read, W: Write, E: Write>(
     err: &mut E,
 ) -> u8
     ensures { AnswersWords standard_input_alone (map S.text words.now)
-        (streams_of (R.remaining reader.old) (W.contents out.old) (E.contents err.old))
-        (streams_of (R.remaining reader.new) (W.contents out.new) (E.contents err.new)) result }
+        (streams_of (input_of (R.remaining reader.old) (R.calls reader.old) (R.has_failed reader.old))
+        (W.contents out.old) (E.contents err.old))
+        (streams_of (input_of (R.remaining reader.new) (R.calls reader.new) (R.has_failed reader.new))
+        (W.contents out.new) (E.contents err.new))
+        result }
 {
     let program = Program {
         threads: rt,

@@ -7,11 +7,11 @@ use crate::source::{FailureReason, Reasoned};
 use command_line::{Invocation, WordsFault, parse_args};
 use std::alloc::Global;
 use std::io;
-use std::io::Read;
+use stream_io::Source;
 
 /// Opens files to read.
 pub trait Opener {
-    type File: Read + FailureReason + Drop;
+    type File: Source + FailureReason + Drop;
 
     // What is known of the bytes of the file at this path.
     ghost files: { Self → List ℕ → Option (List ℕ) };
@@ -21,7 +21,7 @@ pub trait Opener {
 
     /// Opens the file at this path.
     fn open(&self, path: &str) -> io::Result<Self::File>
-        ensures opened { IfOk result (λ file. Self.File.Read.remaining file ≡ files self.now path.now) }
+        ensures opened { IfOk result (λ file. Self.File.Source.remaining file ≡ files self.now path.now) }
         ensures failed { IfErr result (λ _. may_fail self.now path.now) };
 }
 

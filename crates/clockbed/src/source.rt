@@ -1,12 +1,12 @@
 //! Streams that keep why they failed, and how that is told.
-ghost use Rattle.std.specs.Prelude.{codes, ◌++◌, ◌≡◌};
+ghost use Rattle.std.specs.Prelude.{codes, is_some, ◌++◌, ◌≡◌};
 ghost use Rattle.command_answers.specs.Faults.{Says};
 ghost use Rattle.clockbed.specs.Reasons.{SaysReason};
 
 use std::fmt::InlineText;
 use std::io;
 use std::io::{Read, Write};
-use stream_io::write_fully;
+use stream_io::{Source, write_fully};
 
 /// A stream that keeps why it failed.
 pub trait FailureReason {
@@ -14,20 +14,23 @@ pub trait FailureReason {
     fn reason(&self) -> Option<io::Error>;
 }
 
-/// A stream, and why its last call that failed did.
+/// A stream, how many calls of `read` it had, and why its last call that failed did.
 #[derive(Drop)]
 pub struct Reasoned<S> {
     pub stream: S,
+    // From 2^64 - 1 calls on this stays the same.
+    calls: u64,
     reason: Option<io::Error>,
 }
 
 impl<S> Reasoned<S> {
-    /// Returns the stream with no failure yet.
+    /// Returns the stream with no call and no failure yet.
     pub fn of(stream: S) -> Reasoned<S>
         ensures { result.stream ≡ stream }
     {
         Reasoned {
             stream,
+            calls: 0,
             reason: None,
         }
     }
@@ -39,10 +42,15 @@ impl<S> FailureReason for Reasoned<S> {
     }
 }
 
-impl<R: Read> Read for Reasoned<R> {
+impl<R: Read> Source for Reasoned<R> {
     ghost remaining = { λ r. R.remaining r.stream };
 
-    fn read(&mut self, buf: &mut [u8]) -> io::Result<usize> {
+    ghost calls = { λ r. r.calls };
+
+    ghost has_failed = { λ r. is_some r.reason };
+
+    fn read_once(&mut self, buf: &mut [u8]) -> io::Result<usize> {
+        self.calls = self.calls.saturating_add(1);
         let count = self.stream.read(buf);
         if let Err(error) = count {
             self.reason = Some(error);

@@ -1,5 +1,5 @@
 -- Which faults come where, and what is said of them (docs/COMMANDS.md, "Faults").
-use Rattle.std.specs.Prelude.{◌<◌, ℕ, Bool, true, false, List, ◌++◌, codes, length, string_bytes, take, Option}
+use Rattle.std.specs.Prelude.{◌<◌, ℕ, Bool, true, false, IsTrue, List, ◌++◌, codes, length, string_bytes, take, Option}
 use Rattle.std.specs.Fmt.{decimal}
 use Rattle.std.specs.Io.KnownBytes.{Appends}
 use Rattle.command_answers.specs.declared.fault.Fault.{Fault}
@@ -12,13 +12,13 @@ fault_status = 1
 
 -- ---- which fault comes of what
 
--- the input couldn't be read, or memory ran out
-abbrev pub IsFaultOfReading : Fault → Type 0
-IsFaultOfReading Read = Unit {0}
-IsFaultOfReading (Write after) = ⊥
-IsFaultOfReading Memory = Unit {0}
-IsFaultOfReading Thread = ⊥
-IsFaultOfReading (CommandLine text) = ⊥
+-- a call of `read` failed, or memory ran out
+abbrev pub IsFaultOfReading : (failed : Bool) → Fault → Type 0
+IsFaultOfReading failed Read = IsTrue failed
+IsFaultOfReading failed (Write after) = ⊥
+IsFaultOfReading failed Memory = Unit {0}
+IsFaultOfReading failed Thread = ⊥
+IsFaultOfReading failed (CommandLine text) = ⊥
 
 -- memory ran out
 abbrev pub IsOutOfMemory : Fault → Type 0

@@ -1,9 +1,9 @@
 -- What a request reads, and why the bytes may have no program (docs/COMMANDS.md).
 use Rattle.std.specs.Prelude.{◌≡◌, ℕ, ◌+◌, List, Bool, true, false, Option, Ok, Err}
-use Rattle.bench_scenario.specs.declared.run.TheConstants.{MAX_BYTES}
+use Rattle.bench_scenario.specs.declared.run.TheConstants.{MAX_BYTES, MAX_CALLS}
 use Rattle.bpf_insn.specs.declared.forms.Insn.{Insn}
 use Rattle.stream_io.specs.Streams.{TakesAtMost}
-use Rattle.command_answers.specs.declared.input.TheConstants.{IMAGE_BYTES, TEXT_BYTES}
+use Rattle.command_answers.specs.declared.input.TheConstants.{IMAGE_BYTES, IMAGE_CALLS, TEXT_BYTES, TEXT_CALLS}
 use Rattle.command_answers.specs.declared.input.Input.{Input}
 use Rattle.command_answers.specs.declared.input.Input.TheVariants as inputs
 use Rattle.command_answers.specs.declared.rejection.Unread.{Unread}
@@ -21,6 +21,13 @@ max_bytes inputs.Nothing = 0
 max_bytes inputs.Image = IMAGE_BYTES
 max_bytes inputs.Text = TEXT_BYTES + 1
 max_bytes inputs.Scenario = MAX_BYTES
+
+-- the most calls of `read` of an input
+abbrev pub max_calls : Input → ℕ
+max_calls inputs.Nothing = 0
+max_calls inputs.Image = IMAGE_CALLS
+max_calls inputs.Text = TEXT_CALLS
+max_calls inputs.Scenario = MAX_CALLS
 
 -- how much is taken of an input at most
 abbrev pub Takes : Input → Option (List ℕ) → Option (List ℕ) → Type 0

@@ -1,9 +1,9 @@
 //! What a request reads. It is read once, before its command begins.
-ghost use Rattle.std.specs.Prelude.{◌≡◌, ◌≢◌, ◌<◌, [], IfOk, IfErr, IfSome, take};
+ghost use Rattle.std.specs.Prelude.{◌≡◌, ◌≢◌, ◌+◌, ◌<◌, ◌≤◌, [], IfOk, IfErr, IfSome, take};
 ghost use Rattle.stream_io.specs.Streams.{TakesAtMost};
 ghost use Rattle.command_answers.specs.declared.input.Input.TheVariants.{Nothing};
 ghost use Rattle.command_answers.specs.Faults.{IsFaultOfReading};
-ghost use Rattle.command_answers.specs.Input.{IsShapedInput, Takes, max_bytes, program_input};
+ghost use Rattle.command_answers.specs.Input.{IsShapedInput, Takes, max_bytes, max_calls, program_input};
 
 use crate::fault::Fault;
 use bench_scenario::{MAX_BYTES, MAX_CALLS};
@@ -11,8 +11,7 @@ use bpf_insn::MAX_SLOTS;
 use node_env::Shape;
 use requests::ShapeOptions;
 use std::alloc::Global;
-use std::io::Read;
-use stream_io::{ReadFault, read_at_most};
+use stream_io::{ReadFault, Source, read_at_most};
 
 /// The most bytes that are read of an image: one more than the longest image has.
 pub const IMAGE_BYTES: usize = 8 * MAX_SLOTS + 1;
@@ -55,13 +54,14 @@ pub fn shaped_input(options: ShapeOptions, input: Input) -> Input
 }
 
 /// Reads the first bytes of an input, at most as many as it has use for.
-pub fn read_input<R: Read>(alloc: Global, input: Input, reader: &mut R) -> Result<Vec<u8>, Fault>
+pub fn read_input<R: Source>(alloc: Global, input: Input, reader: &mut R) -> Result<Vec<u8>, Fault>
     ensures bytes { IfOk result (λ bytes.
         IfSome (R.remaining reader.old) (λ whole. bytes.items ≡ take (max_bytes input) whole)) }
-    ensures fault { IfErr result IsFaultOfReading }
+    ensures fault { IfErr result (IsFaultOfReading (R.has_failed reader.new)) }
     ensures nothing { IfOk result (λ bytes. input ≡ Nothing → bytes.items ≡ []) }
     ensures something { IfErr result (λ fault. input ≢ Nothing) }
     ensures taken { Takes input (R.remaining reader.old) (R.remaining reader.new) }
+    ensures cost { R.calls reader.new ≤ R.calls reader.old + max_calls input }
 {
     match input {
         Input::Nothing => Ok(Vec::new(alloc)),
@@ -71,18 +71,20 @@ pub fn read_input<R: Read>(alloc: Global, input: Input, reader: &mut R) -> Resul
     }
 }
 
-/// Reads the first bytes, at most this many.
-fn read_bytes<R: Read>(
+/// Reads the first bytes, at most this many. There are so many calls of `read` that their bound is never reached.
+fn read_bytes<R: Source>(
     alloc: Global,
     reader: &mut R,
     limit: usize,
     calls: usize,
 ) -> Result<Vec<u8>, Fault>
-    requires { 0 < limit }
+    requires some { 0 < limit }
+    requires enough { limit ≤ calls }
     ensures bytes { IfOk result (λ bytes.
         IfSome (R.remaining reader.old) (λ whole. bytes.items ≡ take limit whole)) }
-    ensures fault { IfErr result IsFaultOfReading }
+    ensures fault { IfErr result (IsFaultOfReading (R.has_failed reader.new)) }
     ensures taken { TakesAtMost limit (R.remaining reader.old) (R.remaining reader.new) }
+    ensures cost { R.calls reader.new ≤ R.calls reader.old + calls }
 {
     match read_at_most(alloc, reader, limit, calls) {
         Ok(bytes) => Ok(bytes),

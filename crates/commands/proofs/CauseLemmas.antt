@@ -61,55 +61,57 @@ thread_of_scenario (Explore asked) text old new (inr (inl (error, due, none))) =
 thread_of_scenario (Explore asked) text old new (inr (inr (is, keeps))) = is
 
 -- what holds of the bytes that were read, whichever these are, and where none could be read
-from_read : (P : Type 0) (input : Input) (request : Request) (known old new : Option (List ℕ))
-    (ended : Result Ending Fault) → ((bytes : List ℕ) → Responds request bytes old new ended → P)
-    → (LeavesNothing IsFaultOfReading old new ended → P) → RespondsTo input request known old new ended → P
-from_read P inputs.Nothing request known old new ended some none left = some [] left
-from_read P inputs.Image request known old new ended some none (inl (bytes, read, left)) = some bytes left
-from_read P inputs.Image request known old new ended some none (inr nothing) = none nothing
-from_read P inputs.Text request known old new ended some none (inl (bytes, read, left)) = some bytes left
-from_read P inputs.Text request known old new ended some none (inr nothing) = none nothing
-from_read P inputs.Scenario request known old new ended some none (inl (bytes, read, left)) = some bytes left
-from_read P inputs.Scenario request known old new ended some none (inr nothing) = none nothing
+from_read : (P : Type 0) (input : Input) (request : Request) (known : Option (List ℕ)) (failed : Bool)
+    (old new : Option (List ℕ)) (ended : Result Ending Fault)
+    → ((bytes : List ℕ) → Responds request bytes old new ended → P)
+    → (LeavesNothing (IsFaultOfReading failed) old new ended → P)
+    → RespondsTo input request known failed old new ended → P
+from_read P inputs.Nothing request known failed old new ended some none left = some [] left
+from_read P inputs.Image request known failed old new ended some none (inl (bytes, read, left)) = some bytes left
+from_read P inputs.Image request known failed old new ended some none (inr nothing) = none nothing
+from_read P inputs.Text request known failed old new ended some none (inl (bytes, read, left)) = some bytes left
+from_read P inputs.Text request known failed old new ended some none (inr nothing) = none nothing
+from_read P inputs.Scenario request known failed old new ended some none (inl (bytes, read, left)) = some bytes left
+from_read P inputs.Scenario request known failed old new ended some none (inr nothing) = none nothing
 
 -- the bytes of a scenario are the first of the input
-thread_of_read : (asked : ScenarioRequest) (whole : List ℕ) (old new : Option (List ℕ))
-    → RespondsToBytes inputs.Scenario (Scenario asked) (Some whole) old new (Err faults.Thread)
+thread_of_read : (asked : ScenarioRequest) (whole : List ℕ) (failed : Bool) (old new : Option (List ℕ))
+    → RespondsToBytes inputs.Scenario (Scenario asked) (Some whole) failed old new (Err faults.Thread)
     → ScenarioNeedsThreads asked
-thread_of_read asked whole old new (inl (bytes, read, left)) =
+thread_of_read asked whole failed old new (inl (bytes, read, left)) =
     thread_of_scenario asked whole old new (left whole read)
-thread_of_read asked whole old new (inr (is, keeps)) = absurd is
+thread_of_read asked whole failed old new (inr (is, keeps)) = absurd is
 
 -- of a request other than that of a scenario no fault but these two
-no_thread : (request : Request) (whole : List ℕ) (old new : Option (List ℕ)) (input : Input)
+no_thread : (request : Request) (whole : List ℕ) (failed : Bool) (old new : Option (List ℕ)) (input : Input)
     → ((bytes : List ℕ) → Responds request bytes old new (Err faults.Thread) → ⊥)
-    → RespondsTo input request (Some whole) old new (Err faults.Thread) → ⊥
-no_thread request whole old new input none left =
-    from_read ⊥ input request (Some whole) old new (Err faults.Thread) none (λ nothing. nothing.0) left
+    → RespondsTo input request (Some whole) failed old new (Err faults.Thread) → ⊥
+no_thread request whole failed old new input none left =
+    from_read ⊥ input request (Some whole) failed old new (Err faults.Thread) none (λ nothing. nothing.0) left
 
 pub threads_have_cause : ThreadsHaveCause
-threads_have_cause (Exec asked) whole old new (input, asks, left) =
-    no_thread (Exec asked) whole old new input (λ bytes. no_thread_of_exec asked.trace asked bytes old new) left
-threads_have_cause (Asm list) whole old new (input, asks, left) =
-    no_thread (Asm list) whole old new input (λ bytes h. h.0) left
-threads_have_cause (Compile asked) whole old new (input, asks, left) =
-    no_thread (Compile asked) whole old new input (λ bytes h. h.0) left
-threads_have_cause (Dis list) whole old new (input, asks, left) =
-    no_thread (Dis list) whole old new input (λ bytes h. h.0) left
-threads_have_cause (Clock asked) whole old new (input, asks, left) =
-    no_thread (Clock asked) whole old new input (λ bytes h. h) left
-threads_have_cause (Verify asked) whole old new (input, asks, left) =
-    no_thread (Verify asked) whole old new input (λ bytes h. h.0) left
-threads_have_cause (Explain asked) whole old new (input, asks, left) =
-    no_thread (Explain asked) whole old new input (λ bytes h. no_thread_of_program asked.text bytes h.0) left
-threads_have_cause (Scenario asked) whole old new (input, asks, left) =
-    thread_of_read asked whole old new
-    (subst (λ (i : Input). RespondsTo i (Scenario asked) (Some whole) old new (Err faults.Thread)) asks left)
-threads_have_cause (Prove asked) whole old new (input, asks, left) =
-    no_thread (Prove asked) whole old new input (λ bytes h. h.0) left
-threads_have_cause (Stress asked) whole old new (input, asks, left) = tt
-threads_have_cause (Help text) whole old new (input, asks, left) =
-    no_thread (Help text) whole old new input (λ bytes h. h) left
+threads_have_cause (Exec asked) whole failed old new (input, asks, left) =
+    no_thread (Exec asked) whole failed old new input (λ bytes. no_thread_of_exec asked.trace asked bytes old new) left
+threads_have_cause (Asm list) whole failed old new (input, asks, left) =
+    no_thread (Asm list) whole failed old new input (λ bytes h. h.0) left
+threads_have_cause (Compile asked) whole failed old new (input, asks, left) =
+    no_thread (Compile asked) whole failed old new input (λ bytes h. h.0) left
+threads_have_cause (Dis list) whole failed old new (input, asks, left) =
+    no_thread (Dis list) whole failed old new input (λ bytes h. h.0) left
+threads_have_cause (Clock asked) whole failed old new (input, asks, left) =
+    no_thread (Clock asked) whole failed old new input (λ bytes h. h) left
+threads_have_cause (Verify asked) whole failed old new (input, asks, left) =
+    no_thread (Verify asked) whole failed old new input (λ bytes h. h.0) left
+threads_have_cause (Explain asked) whole failed old new (input, asks, left) =
+    no_thread (Explain asked) whole failed old new input (λ bytes h. no_thread_of_program asked.text bytes h.0) left
+threads_have_cause (Scenario asked) whole failed old new (input, asks, left) =
+    thread_of_read asked whole failed old new
+    (subst (λ (i : Input). RespondsTo i (Scenario asked) (Some whole) failed old new (Err faults.Thread)) asks left)
+threads_have_cause (Prove asked) whole failed old new (input, asks, left) =
+    no_thread (Prove asked) whole failed old new input (λ bytes h. h.0) left
+threads_have_cause (Stress asked) whole failed old new (input, asks, left) = tt
+threads_have_cause (Help text) whole failed old new (input, asks, left) =
+    no_thread (Help text) whole failed old new input (λ bytes h. h) left
 
 -- ---- no shape
 
@@ -168,28 +170,28 @@ of_exec false asked old new fault left =
     (λ a. answered_ending a.0) (IsFaultOfProgram asked.text []) old new fault (of_program asked.text) left
 
 -- what is left of no bytes
-read_nothing : (request : Request) (asked : ShapeOptions) (wanted input : Input) (known old new : Option (List ℕ))
-    (ended : Result Ending Fault) → IsShapedInput asked wanted input → (HasShape asked → ⊥)
-    → RespondsTo input request known old new ended → Responds request [] old new ended
-read_nothing request asked wanted input known old new ended shaped none left =
-    subst (λ (i : Input). RespondsTo i request known old new ended) (shaped.unshaped none) left
+read_nothing : (request : Request) (asked : ShapeOptions) (wanted input : Input) (known : Option (List ℕ)) (failed : Bool)
+    (old new : Option (List ℕ)) (ended : Result Ending Fault) → IsShapedInput asked wanted input
+    → (HasShape asked → ⊥) → RespondsTo input request known failed old new ended → Responds request [] old new ended
+read_nothing request asked wanted input known failed old new ended shaped none left =
+    subst (λ (i : Input). RespondsTo i request known failed old new ended) (shaped.unshaped none) left
 
 pub unshaped_reads_nothing : UnshapedReadsNothing
-unshaped_reads_nothing (Exec asked) known old new fault none (input, asks, left) =
+unshaped_reads_nothing (Exec asked) known failed old new fault none (input, asks, left) =
     of_exec asked.trace asked old new fault
-    (read_nothing (Exec asked) asked.shape _ input known old new (Err fault) asks none left)
-unshaped_reads_nothing (Asm list) known old new fault none carried = absurd none
-unshaped_reads_nothing (Compile asked) known old new fault none carried = absurd none
-unshaped_reads_nothing (Dis list) known old new fault none carried = absurd none
-unshaped_reads_nothing (Clock asked) known old new fault none carried = absurd none
-unshaped_reads_nothing (Verify asked) known old new fault none (input, asks, left) =
+    (read_nothing (Exec asked) asked.shape _ input known failed old new (Err fault) asks none left)
+unshaped_reads_nothing (Asm list) known failed old new fault none carried = absurd none
+unshaped_reads_nothing (Compile asked) known failed old new fault none carried = absurd none
+unshaped_reads_nothing (Dis list) known failed old new fault none carried = absurd none
+unshaped_reads_nothing (Clock asked) known failed old new fault none carried = absurd none
+unshaped_reads_nothing (Verify asked) known failed old new fault none (input, asks, left) =
     of_any (Judges asked []) judged_text judged_ending IsOutOfMemory old new fault of_memory
-    (read_nothing (Verify asked) asked _ input known old new (Err fault) asks none left)
-unshaped_reads_nothing (Explain asked) known old new fault none (input, asks, left) =
+    (read_nothing (Verify asked) asked _ input known failed old new (Err fault) asks none left)
+unshaped_reads_nothing (Explain asked) known failed old new fault none (input, asks, left) =
     of_any (Explains asked []) (λ told. told.text) (λ told. told.ending) (IsFaultOfProgram asked.text []) old new fault
     (of_program asked.text)
-    (read_nothing (Explain asked) asked.shape _ input known old new (Err fault) asks none left)
-unshaped_reads_nothing (Scenario asked) known old new fault none carried = absurd none
-unshaped_reads_nothing (Prove asked) known old new fault none carried = absurd none
-unshaped_reads_nothing (Stress asked) known old new fault none carried = absurd none
-unshaped_reads_nothing (Help text) known old new fault none carried = absurd none
+    (read_nothing (Explain asked) asked.shape _ input known failed old new (Err fault) asks none left)
+unshaped_reads_nothing (Scenario asked) known failed old new fault none carried = absurd none
+unshaped_reads_nothing (Prove asked) known failed old new fault none carried = absurd none
+unshaped_reads_nothing (Stress asked) known failed old new fault none carried = absurd none
+unshaped_reads_nothing (Help text) known failed old new fault none carried = absurd none

@@ -1,7 +1,8 @@
 -- Which faults come of which requests (docs/COMMANDS.md, "Faults").
-use Rattle.std.specs.Prelude.{ℕ, List, Option, Some, Err}
+use Rattle.std.specs.Prelude.{ℕ, ◌<◌, Bool, false, List, length, Option, Some, Err}
 use Rattle.command_answers.specs.declared.fault.Fault.{Fault}
 use Rattle.command_answers.specs.declared.fault.Fault.TheVariants as faults
+use Rattle.command_answers.specs.declared.input.TheConstants.{TEXT_BYTES}
 use Rattle.requests.specs.Shapes.{HasShape}
 use Rattle.requests.specs.declared.request.Request.{Request}
 use Rattle.requests.specs.declared.request.Request.TheVariants.{Exec, Asm, Compile, Dis, Clock, Verify, Explain, Scenario, Prove, Stress, Help}
@@ -55,10 +56,16 @@ IsFaultOfAnswering (faults.CommandLine text) = ⊥
 
 -- of an input that is known, `fault thread` comes only of a command that needs threads
 abbrev pub ThreadsHaveCause : Type 0
-ThreadsHaveCause = (request : Request) (whole : List ℕ) (old new : Option (List ℕ))
-    → CarriesOut request (Some whole) old new (Err faults.Thread) → NeedsThreads request
+ThreadsHaveCause = (request : Request) (whole : List ℕ) (failed : Bool) (old new : Option (List ℕ))
+    → CarriesOut request (Some whole) failed old new (Err faults.Thread) → NeedsThreads request
+
+-- of an input that is known and of which no call of `read` failed, `fault read` comes only of a text that is too long
+abbrev pub ReadingHasCause : Type 0
+ReadingHasCause = (request : Request) (whole : List ℕ) (old new : Option (List ℕ))
+    → CarriesOut request (Some whole) false old new (Err faults.Read) → TEXT_BYTES < length whole
 
 -- without a shape there is no `fault read` and no `fault thread`
 abbrev pub UnshapedReadsNothing : Type 0
-UnshapedReadsNothing = (request : Request) (known old new : Option (List ℕ)) (fault : Fault) → HasNoShape request
-    → CarriesOut request known old new (Err fault) → IsFaultOfAnswering fault
+UnshapedReadsNothing = (request : Request) (known : Option (List ℕ)) (failed : Bool) (old new : Option (List ℕ))
+    (fault : Fault) → HasNoShape request → CarriesOut request known failed old new (Err fault)
+    → IsFaultOfAnswering fault

@@ -1,5 +1,5 @@
 -- What the program does for a request: what it takes, what it leaves and says, and its exit status (docs/COMMANDS.md).
-use Rattle.std.specs.Prelude.{◌≡◌, ◌⊎◌, ℕ, List, [], IfSome, Option, Result, Ok, Err, string_bytes, take}
+use Rattle.std.specs.Prelude.{◌≡◌, ◌⊎◌, ◌+◌, ◌≤◌, ℕ, Bool, List, [], IfSome, Option, Result, Ok, Err, string_bytes, take}
 use Rattle.bench_scenario.specs.declared.run.TheConstants.{MAX_BYTES}
 use Rattle.command_answers.specs.declared.ending.Ending.{Ending}
 use Rattle.command_answers.specs.declared.ending.Ending.TheVariants.{Done}
@@ -15,7 +15,7 @@ use Rattle.command_answers.specs.Ending.{status_of}
 use Rattle.program_commands.specs.Exec.{LeavesExec}
 use Rattle.program_commands.specs.Explained.{LeavesExplained}
 use Rattle.command_answers.specs.Faults.{IsFaultOfReading, Says, fault_status, fault_text}
-use Rattle.command_answers.specs.Input.{IsShapedInput, Takes, max_bytes, program_input}
+use Rattle.command_answers.specs.Input.{IsShapedInput, Takes, max_bytes, max_calls, program_input}
 use Rattle.command_answers.specs.Output.{Leaves, LeavesNothing}
 use Rattle.command_answers.specs.Said.{SaysAt}
 use Rattle.claim_commands.specs.Prove.{LeavesProved}
@@ -59,25 +59,30 @@ Responds (Help text) bytes old new ended = Leaves old new (string_bytes text) Do
 abbrev pub AreRead : Input → Option (List ℕ) → List ℕ → Type 0
 AreRead input known bytes = IfSome known (λ whole. bytes ≡ take (max_bytes input) whole)
 
--- the bytes that were read are answered, or none could be read, and nothing is left
-abbrev pub RespondsToBytes : Input → Request → Option (List ℕ) → Option (List ℕ) → Option (List ℕ)
+-- the bytes that were read are answered, or none could be read, and nothing is left. `failed` says whether a call of
+-- `read` of the input failed
+abbrev pub RespondsToBytes : Input → Request → Option (List ℕ) → (failed : Bool) → Option (List ℕ) → Option (List ℕ)
     → Result Ending Fault → Type 0
-RespondsToBytes input request known old new ended =
+RespondsToBytes input request known failed old new ended =
     ((bytes : List ℕ) × AreRead input known bytes × Responds request bytes old new ended)
-    ⊎ LeavesNothing IsFaultOfReading old new ended
+    ⊎ LeavesNothing (IsFaultOfReading failed) old new ended
 
 -- if nothing is read, no bytes are answered
-abbrev pub RespondsTo : Input → Request → Option (List ℕ) → Option (List ℕ) → Option (List ℕ) → Result Ending Fault
-    → Type 0
-RespondsTo inputs.Nothing request known old new ended = Responds request [] old new ended
-RespondsTo inputs.Image request known old new ended = RespondsToBytes inputs.Image request known old new ended
-RespondsTo inputs.Text request known old new ended = RespondsToBytes inputs.Text request known old new ended
-RespondsTo inputs.Scenario request known old new ended = RespondsToBytes inputs.Scenario request known old new ended
+abbrev pub RespondsTo : Input → Request → Option (List ℕ) → (failed : Bool) → Option (List ℕ) → Option (List ℕ)
+    → Result Ending Fault → Type 0
+RespondsTo inputs.Nothing request known failed old new ended = Responds request [] old new ended
+RespondsTo inputs.Image request known failed old new ended =
+    RespondsToBytes inputs.Image request known failed old new ended
+RespondsTo inputs.Text request known failed old new ended =
+    RespondsToBytes inputs.Text request known failed old new ended
+RespondsTo inputs.Scenario request known failed old new ended =
+    RespondsToBytes inputs.Scenario request known failed old new ended
 
 -- what is left of the input that the request reads
-abbrev pub CarriesOut : Request → Option (List ℕ) → Option (List ℕ) → Option (List ℕ) → Result Ending Fault → Type 0
-CarriesOut request known old new ended =
-    (input : Input) × AsksInput request input × RespondsTo input request known old new ended
+abbrev pub CarriesOut : Request → Option (List ℕ) → (failed : Bool) → Option (List ℕ) → Option (List ℕ)
+    → Result Ending Fault → Type 0
+CarriesOut request known failed old new ended =
+    (input : Input) × AsksInput request input × RespondsTo input request known failed old new ended
 
 -- ---- how it ends
 
@@ -92,13 +97,17 @@ SaysOf (Ok ending) old new = SaysAt ending old new
 SaysOf (Err fault) old new = Says old new (fault_text fault)
 
 -- the command is carried out, and told are the status and the fault of how it ended
-pub record PerformsRequest (request : Request) (input old new said_old said_new : Option (List ℕ))
-    (status : ℕ) : Type 0 where
+pub record PerformsRequest (request : Request) (input : Option (List ℕ)) (failed : Bool)
+    (old new said_old said_new : Option (List ℕ)) (status : ℕ) : Type 0 where
   pub ended : Result Ending Fault
-  pub carried_out : CarriesOut request input old new ended
+  pub carried_out : CarriesOut request input failed old new ended
   pub answer : status ≡ status_for ended
   pub said : SaysOf ended said_old said_new
 
 -- how much of its input a command takes at most, whatever comes of it: nothing if its options have no shape
 abbrev pub TakesFor : Request → Option (List ℕ) → Option (List ℕ) → Type 0
 TakesFor request old new = (input : Input) × AsksInput request input × Takes input old new
+
+-- how many calls of `read` of its input a command makes at most, by their counts before and after
+abbrev pub CallsFor : Request → (before after : ℕ) → Type 0
+CallsFor request before after = (input : Input) × AsksInput request input × (after ≤ before + max_calls input)

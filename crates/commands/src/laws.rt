@@ -12,8 +12,9 @@ ghost use Rattle.command_answers.specs.Left.{Left};
 ghost use Rattle.command_answers.specs.Image.{ReadsImage};
 ghost use Rattle.program_commands.specs.Verdict.{Judges, SameJudgement};
 ghost use Rattle.bench_scenario.specs.Runs.{ReportsRun};
+ghost use Rattle.key_sweep.specs.Sweeps.{Lines};
 ghost use Rattle.scenario_text.specs.declared.scenario.Scenario.{Scenario};
-ghost use Rattle.commands.specs.Causes.{ThreadsHaveCause, UnshapedReadsNothing};
+ghost use Rattle.commands.specs.Causes.{ReadingHasCause, ThreadsHaveCause, UnshapedReadsNothing};
 
 use bpf_asm::one_meaning;
 use bpf_insn::one_reading;
@@ -67,9 +68,19 @@ pub fn one_report()
     bench_workers::laws::one_run();
 }
 
-/// Each fault has its cause: `fault thread` is of a command that needs threads, and a command that has no shape, and so
-/// reads nothing, ends with no `fault read` and no `fault thread`.
+/// The seeds of a sweep of a scenario have at most one text of lines.
+pub fn one_sweep()
+    ensures { (s : Scenario) (first count : ℕ) (text other : List ℕ) → Lines s first count text
+        → Lines s first count other → text ≡ other }
+{
+    bench_workers::laws::one_run();
+}
+
+/// Each fault has its cause: `fault thread` is of a command that needs threads, `fault read` is of a call of `read` that
+/// failed or of a text that is too long, and a command that has no shape, and so reads nothing, ends with no `fault read`
+/// and no `fault thread`.
 pub fn faults_have_causes()
     ensures thread { ThreadsHaveCause }
+    ensures read { ReadingHasCause }
     ensures unshaped { UnshapedReadsNothing }
 {}

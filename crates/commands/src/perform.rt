@@ -1,6 +1,6 @@
 //! A request, from its command to the exit status.
 ghost use Rattle.std.specs.Prelude.{◌≡◌, IfErr, IfOk};
-ghost use Rattle.commands.specs.Perform.{AsksInput, CarriesOut, PerformsRequest, Responds, TakesFor};
+ghost use Rattle.commands.specs.Perform.{AsksInput, CallsFor, CarriesOut, PerformsRequest, Responds, TakesFor};
 ghost use Rattle.command_answers.specs.Said.{SaysAt};
 
 use crate::scenario::scenario_bytes;
@@ -18,14 +18,15 @@ use program_commands::verify::verify;
 use requests::Request;
 use run_commands::stress::stress;
 use std::alloc::Global;
-use std::io::{Read, Write};
+use std::io::Write;
 use std::sync::Wait;
 use std::thread::Threads;
+use stream_io::Source;
 
 /// Runs the command, says its fault or the note on its refusal on `err`, and answers the exit status: 0 done, 1 fault
 /// or mismatch, 2 refused, 3 a violation, 4 not finished. What `err` does not take is dropped. `progress` is shown how
 /// far an exploration is.
-pub fn perform<T: Threads + Wait + Sync, R: Read, W: Write, E: Write, P: Progress>(
+pub fn perform<T: Threads + Wait + Sync, R: Source, W: Write, E: Write, P: Progress>(
     rt: &T,
     alloc: Global,
     request: &Request,
@@ -34,9 +35,10 @@ pub fn perform<T: Threads + Wait + Sync, R: Read, W: Write, E: Write, P: Progres
     err: &mut E,
     progress: &mut P,
 ) -> u8
-    ensures performed { PerformsRequest request.now (R.remaining reader.old) (W.contents out.old) (W.contents out.new)
-        (E.contents err.old) (E.contents err.new) result }
+    ensures performed { PerformsRequest request.now (R.remaining reader.old) (R.has_failed reader.new)
+        (W.contents out.old) (W.contents out.new) (E.contents err.old) (E.contents err.new) result }
     ensures taken { TakesFor request.now (R.remaining reader.old) (R.remaining reader.new) }
+    ensures cost { CallsFor request.now (R.calls reader.old) (R.calls reader.new) }
 {
     match carry_out(rt, alloc, request, reader, out, err, progress) {
         Ok(ending) => ending.status(),
@@ -45,7 +47,7 @@ pub fn perform<T: Threads + Wait + Sync, R: Read, W: Write, E: Write, P: Progres
 }
 
 /// Reads what the request reads, and runs its command.
-fn carry_out<T: Threads + Wait + Sync, R: Read, W: Write, E: Write, P: Progress>(
+fn carry_out<T: Threads + Wait + Sync, R: Source, W: Write, E: Write, P: Progress>(
     rt: &T,
     alloc: Global,
     request: &Request,
@@ -54,11 +56,12 @@ fn carry_out<T: Threads + Wait + Sync, R: Read, W: Write, E: Write, P: Progress>
     err: &mut E,
     progress: &mut P,
 ) -> Result<Ending, Fault>
-    ensures carried_out { CarriesOut request.now (R.remaining reader.old) (W.contents out.old)
-        (W.contents out.new) result }
+    ensures carried_out { CarriesOut request.now (R.remaining reader.old) (R.has_failed reader.new)
+        (W.contents out.old) (W.contents out.new) result }
     ensures said { IfOk result (λ ending. SaysAt ending (E.contents err.old) (E.contents err.new)) }
     ensures unsaid { IfErr result (λ fault. E.contents err.new ≡ E.contents err.old) }
     ensures taken { TakesFor request.now (R.remaining reader.old) (R.remaining reader.new) }
+    ensures cost { CallsFor request.now (R.calls reader.old) (R.calls reader.new) }
 {
     match read_input(alloc, input_of(request), reader) {
         Ok(bytes) => respond(rt, alloc, request, bytes.as_slice(), out, err, progress),

@@ -5,10 +5,10 @@
 use bench_scenario::{ScenarioFault, run_scenario};
 use std::env;
 use std::fs::File;
-use std::io::Read;
 use std::process::ExitCode;
 use std::sync::Wait;
 use std::thread::Threads;
+use stream_io::{Counted, Source};
 
 /// The workers of a pulse: the report is the same for any number of them.
 const WORKERS: u32 = 1;
@@ -19,10 +19,10 @@ const UNANSWERED: u8 = 2;
 fn main(rt: HostRuntime) -> ExitCode {
     match named_file(&rt) {
         Some(path) => match File::open(&rt, path.as_str()) {
-            Ok(mut file) => report(&rt, &rt, &mut file),
+            Ok(file) => report(&rt, &rt, &mut Counted::of(file)),
             Err(_) => ExitCode::from(UNANSWERED),
         },
-        None => report(&rt, &rt, &mut rt.stdin()),
+        None => report(&rt, &rt, &mut Counted::of(rt.stdin())),
     }
 }
 
@@ -33,7 +33,7 @@ fn named_file(rt: &HostRuntime) -> Option<String> {
 }
 
 /// Writes the report of the scenario, and returns the exit status.
-fn report<T: Threads + Wait + Sync, R: Read>(
+fn report<T: Threads + Wait + Sync, R: Source>(
     rt: &HostRuntime,
     threads: &T,
     input: &mut R,

@@ -1,7 +1,14 @@
--- What a bounded read takes (docs/COMMANDS.md, "What exec, dis and verify read").
-use Rattle.std.specs.Prelude.{ℕ, ◌≤◌, List, length, Option}
+-- What a bounded read takes, and why it fails (docs/COMMANDS.md, "What exec, dis and verify read").
+use Rattle.std.specs.Prelude.{ℕ, ◌<◌, ◌≤◌, ◌⊎◌, Bool, IsTrue, List, length, Option}
 use Rattle.std.specs.Io.KnownBytes.{Consumes}
+use Rattle.stream_io.specs.declared.reading.ReadFault.{ReadFault}
+use Rattle.stream_io.specs.declared.reading.ReadFault.TheVariants.{Stream, Memory}
 
 -- at most this many bytes were taken from a reader, whatever came of the read
 abbrev pub TakesAtMost : ℕ → Option (List ℕ) → Option (List ℕ) → Type 0
 TakesAtMost limit old new = (front : List ℕ) × Consumes old new front × (length front ≤ limit)
+
+-- a call of `read` failed, or the bound on calls was reached, which is then less than that on bytes; or memory ran out
+abbrev pub HasReadCause : (failed : Bool) (limit calls : ℕ) → ReadFault → Type 0
+HasReadCause failed limit calls Stream = IsTrue failed ⊎ (calls < limit)
+HasReadCause failed limit calls Memory = Unit {0}

@@ -1,7 +1,7 @@
 //! Streams that give and take little at a time, fail in the middle, or take nothing.
 ghost use Rattle.std.specs.Prelude.{◌≡◌, IfOk};
 
-use crate::{PartFault, ReadFault, WriteFault, read_at_most, write_fully, write_part};
+use crate::{Counted, PartFault, ReadFault, WriteFault, read_at_most, write_fully, write_part};
 use std::alloc::Global;
 use std::io;
 use std::io::{ErrorKind, Read, Write};
@@ -101,12 +101,12 @@ impl Write for Narrow {
 #[test]
 fn reads_to_the_end_or_to_the_limit(rt: HostRuntime) {
     for (limit, wanted, calls) in [(1, 1, 1), (15, 15, 15), (16, 16, 16), (17, 16, 17)] {
-        let mut reader = Slow::new(TEXT, Last::Nothing);
+        let mut reader = Counted::of(Slow::new(TEXT, Last::Nothing));
         match read_at_most(rt.alloc(), &mut reader, limit, 100) {
             Ok(bytes) => assert_eq!(rt; bytes.as_slice(), &TEXT[..wanted]),
             Err(fault) => assert!(rt; false, "limit {limit}: {fault:?}"),
         }
-        assert_eq!(rt; reader.calls, calls, "limit {limit}");
+        assert_eq!(rt; reader.stream.calls, calls, "limit {limit}");
     }
 }
 
@@ -127,10 +127,10 @@ fn reads_by_long_pieces(rt: HostRuntime) {
 fn stops_at_the_first_failed_read(rt: HostRuntime) {
     for kind in [ErrorKind::Interrupted, ErrorKind::BrokenPipe] {
         for count in 0..=16usize {
-            let mut reader = Slow::new(&TEXT[..count], Last::Fails(kind));
+            let mut reader = Counted::of(Slow::new(&TEXT[..count], Last::Fails(kind)));
             let read = read_at_most(rt.alloc(), &mut reader, 100, 100);
             assert!(rt; matches!(read, Err(ReadFault::Stream)));
-            assert_eq!(rt; reader.calls, count as u64 + 1);
+            assert_eq!(rt; reader.stream.calls, count as u64 + 1);
         }
     }
 }
@@ -138,10 +138,10 @@ fn stops_at_the_first_failed_read(rt: HostRuntime) {
 #[test]
 fn stops_at_the_bound_on_calls(rt: HostRuntime) {
     for calls in 0..=16usize {
-        let mut reader = Slow::new(TEXT, Last::Nothing);
+        let mut reader = Counted::of(Slow::new(TEXT, Last::Nothing));
         let read = read_at_most(rt.alloc(), &mut reader, 100, calls);
         assert!(rt; matches!(read, Err(ReadFault::Stream)));
-        assert_eq!(rt; reader.calls, calls as u64);
+        assert_eq!(rt; reader.stream.calls, calls as u64);
     }
 }
 

@@ -1,5 +1,5 @@
 -- Beside Command: what a private contract alone cites.
-use Rattle.std.specs.Prelude.{◌≡◌, ◌⊎◌, ℕ, List, Option}
+use Rattle.std.specs.Prelude.{◌≡◌, ◌⊎◌, ℕ, Bool, List, Option}
 use Rattle.command_answers.specs.declared.fault.Fault.TheVariants.{Read}
 use Rattle.command_answers.specs.Faults.{Says, fault_status, fault_text}
 use Rattle.commands.specs.Perform.{PerformsRequest, TakesFor}
@@ -8,7 +8,8 @@ use Rattle.requests.specs.declared.request.Request.{Request}
 -- a request is performed on a file of which this is known
 pub record PerformsOnFile (bytes : Option (List ℕ)) (request : Request) (old new said_old said_new : Option (List ℕ))
     (status : ℕ) : Type 0 where
-  pub performed : PerformsRequest request bytes old new said_old said_new status
+  pub failed : Bool
+  pub performed : PerformsRequest request bytes failed old new said_old said_new status
   pub taken : (rest : Option (List ℕ)) × TakesFor request bytes rest
 
 -- the file doesn't open

@@ -7,5 +7,5 @@ returns-in-Ok-clause-scenario c text taken =
 
 pub returns-in-Err-clause-scenario : goal.returns-in-Err-clause-scenario
 returns-in-Err-clause-scenario c text taken =
-    c.fault_of.ensures text
+    c.fault_of.ensures.due text
     (front_due c.front_reads_as_whole.ensures.due c.args.bytes.now text c.in-Err.error taken c.in-Err.ensures.refused)

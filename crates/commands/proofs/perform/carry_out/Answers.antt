@@ -11,7 +11,7 @@ returns-in-Ok-clause-carried_out g c =
     c.respond.ensures.left in (
       c.input_of.result,
       c.input_of.ensures,
-      responds_to c.args.request.now c.input_of.result c.in-Ok.bytes.items (g.R.Read.remaining c.args.reader.now) old new
+      responds_to c.args.request.now c.input_of.result c.in-Ok.bytes.items (g.R.Source.remaining c.args.reader.now) _ old new
           c.respond.result c.in-Ok.ensures.bytes c.in-Ok.ensures.nothing left,
     )
 
@@ -22,9 +22,15 @@ pub returns-in-Err-clause-carried_out : goal.returns-in-Err-clause-carried_out
 returns-in-Err-clause-carried_out g c = (
   c.input_of.result,
   c.input_of.ensures,
-  unread c.args.request.now c.input_of.result (g.R.Read.remaining c.args.reader.now) _ c.in-Err.fault
+  unread c.args.request.now c.input_of.result (g.R.Source.remaining c.args.reader.now) _ _ c.in-Err.fault
       c.in-Err.ensures.something c.in-Err.ensures.fault,
 )
 
 pub returns-in-Err-clause-taken : goal.returns-in-Err-clause-taken
 returns-in-Err-clause-taken g c = (c.input_of.result, c.input_of.ensures, c.in-Err.ensures.taken)
+
+pub returns-in-Ok-clause-cost : goal.returns-in-Ok-clause-cost
+returns-in-Ok-clause-cost g c = (c.input_of.result, c.input_of.ensures, c.in-Ok.ensures.cost)
+
+pub returns-in-Err-clause-cost : goal.returns-in-Err-clause-cost
+returns-in-Err-clause-cost g c = (c.input_of.result, c.input_of.ensures, c.in-Err.ensures.cost)

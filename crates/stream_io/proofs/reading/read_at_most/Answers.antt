@@ -1,6 +1,6 @@
-use Rattle.std.proofs.Common.{rules, arith, ◌≡◌, ◌≤◌, ◌++◌, length, take, length-append, vec_len}
+use Rattle.std.proofs.Common.{rules, arith, ◌≤◌, ◌++◌, length, take, length-append}
 use Rattle.std.proofs.KnownBytes.{Consumes-trans}
-use Rattle.stream_io.proofs.counted.read_counted.Goals as goal
+use Rattle.stream_io.proofs.reading.read_at_most.Goals as goal
 
 -- what this call took goes behind what the earlier ones took
 pub returns-then-is_err-clause-front : goal.returns-then-is_err-clause-front
