@@ -98,14 +98,14 @@ BAD = [
     (f"{BEGUN} uses 0", "End"),
     (f"{BEGUN} uses 1 one r 0 yes", "Word 18"),
     (f"{BEGUN} uses 0 follow refute sum 0 refute add", "Word 22"),
-    (f"{BEGUN} uses 0 " + "follow " * 1001, "TooDeep word 1016"),
-    (f"{BEGUN} uses 0 refute " + "open 0 " * 600, "TooDeep word 1217"),
+    (f"{BEGUN} uses 0 " + "follow " * 501, "TooDeep word 516"),
+    (f"{BEGUN} uses 0 refute " + "open 0 " * 300, "TooDeep word 617"),
 ]
 # Plans that are as deep as they may be: they prove nothing.
 DEEPEST = [
-    "refute " + "open 0 " * 599 + "sum 0",
-    "refute " + "cut le 1 1 1 0 le 1 1 -1 1 " * 599 + "sum 0 " * 600,
-    "follow " * 999 + "refute " + "cut le 1 1 1 0 le 1 1 -1 1 " * 599 + "sum 0 " * 600 + "refute sum 0 " * 999,
+    "refute " + "open 0 " * 299 + "sum 0",
+    "refute " + "cut le 1 1 1 0 le 1 1 -1 1 " * 299 + "sum 0 " * 300,
+    "follow " * 499 + "refute " + "cut le 1 1 1 0 le 1 1 -1 1 " * 299 + "sum 0 " * 300 + "refute sum 0 " * 499,
 ]
 
 

@@ -10,7 +10,7 @@ use step_beginnings::Beginning;
 use step_searches::{Tested, Use};
 
 /// How deep a plan may be.
-const MAX_DEPTH: u32 = 1000;
+const MAX_DEPTH: u32 = 500;
 
 /// A node's memory has a multiple of this many words.
 const UNIT_WORDS: usize = 2;

@@ -10,7 +10,7 @@ use crate::sums::{add_multiple, constant_of, zero};
 use std::alloc::Global;
 
 /// The depth to which a certificate is read.
-pub const MAX_DEPTH: u32 = 600;
+pub const MAX_DEPTH: u32 = 300;
 
 /// Adds multiples of known atoms, if each of them is one.
 fn sum_of<'a>(
