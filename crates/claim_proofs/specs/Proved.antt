@@ -20,7 +20,7 @@ use Rattle.claim_proofs.specs.declared.proving.Outcome.TheVariants.{Holds, NoCer
 abbrev pub HoldsOfRule : Statement → Step → Type 0
 HoldsOfRule rule step = (free : ℕ → ℕ) → steps.Holds rule (claim_of step free)
 
--- with this many nodes, faults and clock values some nodes begin the step, for some free names and memories of some size
+-- with this many nodes and faults and this modulus some nodes begin the step, for some free names and some memory size
 abbrev pub BeginsWith : Step → ℕ → ℕ → ℕ → Type 0
 BeginsWith step n f m = (free : ℕ → ℕ) × (size : ℕ)
     × IsBegunAt (claim_of step free) (record { nodes = n; faults = f; modulus = m; memory = size })

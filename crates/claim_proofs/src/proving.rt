@@ -158,8 +158,8 @@ fn answers(
 }
 
 /// Answers each step of the claims about a rule by certificates: where the answer is that it holds, the step holds of the
-/// rule for all n, f and M that it admits, and some nodes begin it at the sizes of the answer. The answers are in the order of the claims. Fails at the first error of the
-/// rule, then of the claims, then of the certificates.
+/// rule for all n, f and M that it admits, and some nodes begin it at the sizes of the answer. The answers are in the
+/// order of the claims. Fails at the first error of the rule, then of the claims, then of the certificates.
 pub fn prove(
     alloc: Global,
     rule: &[u8],

@@ -164,7 +164,7 @@ fn small_number<'a>(words: &mut SplitWhitespace<'a>) -> Result<u32, Unread> {
     }
 }
 
-/// Reads numbers behind their count.
+/// Reads a count, and as many numbers.
 fn small_numbers<'a>(alloc: Global, words: &mut SplitWhitespace<'a>) -> Result<Vec<u32>, Unread> {
     let count = number(words)?;
     let mut numbers = Vec::new(alloc);
@@ -186,7 +186,7 @@ fn memory_of(alloc: Global, words: &[u32]) -> Result<Vec<u8>, Unread> {
     Ok(memory)
 }
 
-/// Reads a state that begins a step: its sizes, the numbers of the free names, the number that a node sent, and its words.
+/// Reads a state that begins a step: its sizes, the numbers of the free names, the number that a node sent, its words.
 fn beginning<'a>(alloc: Global, words: &mut SplitWhitespace<'a>) -> Result<Beginning, Unread> {
     expect(words, "begins")?;
     let nodes = small_number(words)?;

@@ -76,9 +76,9 @@ pub fn one_sweep()
     bench_workers::laws::one_run();
 }
 
-/// Each fault has its cause: `fault thread` is of a command that needs threads, `fault read` is of a call of `read` that
-/// failed or of a text that is too long, and a command that has no shape, and so reads nothing, ends with no `fault read`
-/// and no `fault thread`.
+/// Each fault has its cause: `fault thread` is of a command that needs threads, and `fault read` of a call of `read` that
+/// failed or of a text that is too long. A command that has no shape, and so reads nothing, ends with no `fault read` and
+/// no `fault thread`.
 pub fn faults_have_causes()
     ensures thread { ThreadsHaveCause }
     ensures read { ReadingHasCause }

@@ -1,4 +1,5 @@
--- Nodes that are all in one state, and hear from each node the number that it sent, begin a step whose condition they meet.
+-- Nodes that are all in one state, and hear from each node the number that it sent, begin a step whose condition they
+-- meet.
 use Rattle.std.proofs.Common.{◌≡◌, ℕ, zero, suc, ◌+◌, ◌*◌, ◌^◌, ◌<◌, ◌≤◌, Bool, true, not, All, length, replicate, Option, Some, None, IsTrue, refl, ap, sym, ◌∙◌, subst, arith, inl, inr}
 use Rattle.std.specs.Prelude.{nat_le, unwrap_or}
 use Rattle.std.specs.Ordering.{nat_cmp}

@@ -51,7 +51,8 @@ fn numbers_fit(beginning: &Beginning)
 /// Returns true only if the nodes of a beginning begin the step.
 #[tactic(auto, using(crate::proofs::Begun::begun))]
 pub fn begins(step: &Step, beginning: &Beginning) -> bool
-    ensures { IsTrue result → IsBegunAt (claim_of step.now (free_numbers beginning.now.free.items)) (beginning_sizes beginning.now) }
+    ensures { IsTrue result → IsBegunAt (claim_of step.now (free_numbers beginning.now.free.items))
+        (beginning_sizes beginning.now) }
 {
     numbers_fit(beginning);
     let Some(coin) = coin_of(beginning, step.coins) else {
