@@ -196,8 +196,6 @@ fn left<'a>(changed: &'a Option<Changed>, nodes: &'a [NodeSlot]) -> &'a [NodeSlo
 pub(crate) struct Prepared {
     pub(crate) changed: Option<Changed>,
     pub(crate) tasks: Vec<NodeTask>,
-    pub(crate) kept_coins: Vec<u32>,
-    pub(crate) entry_coins: Vec<u32>,
 }
 
 /// What an opening knows of a bench's nodes, what is staged, and whether it hands out tasks.
@@ -233,8 +231,6 @@ pub(crate) fn prepare(
     ensures tasks { IsTrue opening.now.hands_out → IfOk result (λ p. p.tasks.items
         ≡ tasks_from (setup_in pulse.now) pulse.now.mail.now pulse.now.coins.now pulse.now.opening 0
         (nodes_left p.changed pulse.now.nodes.now)) }
-    ensures kept { IfOk result (λ p. p.kept_coins.items ≡ pulse.now.coins.now) }
-    ensures entry { IfOk result (λ p. p.entry_coins.items ≡ pulse.now.coins.now) }
 {
     let changed = make_changed(alloc, pulse, opening.flags, opening.firsts, opening.staged)?;
     let next = OpenPulse {
@@ -247,12 +243,5 @@ pub(crate) fn prepare(
         opening: pulse.opening,
     };
     let tasks = tasks_if(opening.hands_out, alloc, &next, earlier)?;
-    let kept_coins = Vec::from_slice(alloc, pulse.coins)?;
-    let entry_coins = Vec::from_slice(alloc, pulse.coins)?;
-    Ok(Prepared {
-        changed,
-        tasks,
-        kept_coins,
-        entry_coins,
-    })
+    Ok(Prepared { changed, tasks })
 }

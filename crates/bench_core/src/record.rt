@@ -41,11 +41,20 @@ impl Model for PulseRecord {
     } };
 }
 
-/// What is told of a pulse that the bench itself ran, and how many instructions each node ran, 0 if it is empty.
+/// What is told of a pulse that the bench itself ran, its coins, and how many instructions each node ran, 0 if it is
+/// empty. `Bench::reuse` takes the lists back.
 #[derive(Drop)]
 pub struct Ran {
     pub told: PulseRecord,
+    pub coins: Vec<u32>,
     pub steps: Vec<u32>,
+}
+
+/// What is told of a pulse, and its coins.
+#[derive(Drop)]
+pub(crate) struct Finished {
+    pub(crate) told: PulseRecord,
+    pub(crate) coins: Vec<u32>,
 }
 
 /// Room for what will be told of a pulse: the marks before its close, and a place for each clock.

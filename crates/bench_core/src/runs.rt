@@ -23,6 +23,8 @@ use std::mem;
 #[derive(Drop)]
 pub(crate) struct Runs {
     pub(crate) dones: Vec<NodeDone>,
+    /// A list of steps that is no longer used, which the next pulse fills.
+    pub(crate) steps: Vec<u32>,
     inbox: InboxRoom,
     recent: Recent,
     room: RunScratch,
@@ -80,6 +82,7 @@ impl Runs {
     pub(crate) fn new(alloc: Global) -> Runs {
         Runs {
             dones: Vec::new(alloc),
+            steps: Vec::new(alloc),
             inbox: InboxRoom::new(alloc),
             recent: Recent::none(0),
             room: RunScratch::new(),
@@ -198,9 +201,9 @@ fn steps_of(dones: &[NodeDone], found: Found) -> u32
     }
 }
 
-/// Returns how many instructions each of this many nodes took.
+/// Returns how many instructions each of this many nodes took, in the list of earlier ones.
 pub(crate) fn steps_found(
-    alloc: Global,
+    earlier: Vec<u32>,
     count: u32,
     dones: &[NodeDone],
     found: &[Found],
@@ -210,10 +213,10 @@ pub(crate) fn steps_found(
     ensures each { IfOk result (λ steps. (i : ℕ) → i < count
         → get_or steps.items i 0 ≡ steps_at dones.now (found_at found.now i)) }
 {
-    let mut steps = vec![in alloc; 0; count as usize]?;
+    let mut steps = earlier;
+    steps.clear();
     for node in 0..count {
-        let place = node as usize;
-        steps[place] = steps_of(dones, found[place]);
+        steps.push(steps_of(dones, found[node as usize]))?;
     }
     Ok(steps)
 }

@@ -149,13 +149,14 @@ told_so T k k1 o o1 coins steps took after told earlier last same is says =
     }) k1 o1) is says)
 
 pub pulse_watched : {K S : Type 0} (T : K → S → Seen → K → S → Type 0) (old new : BenchValue)
-    (before kept now : List PulseTold) (coins steps took : List ℕ) (told : PulseTold) (last : Option PulseTold)
+    (before kept now : List PulseTold) (coins fell steps took : List ℕ) (told : PulseTold) (last : Option PulseTold)
     (k k1 : K) (o o1 : S) → LeadsByEvent old (PulseEvent coins) (told ∷ []) new
-    → AreSteps old.setup (opened_state old.state coins) coins steps → took ≡ steps → last ≡ last_of before
-    → now ≡ kept ++ told ∷ [] → kept ≡ before
-    → T k o (record { coins = coins; after = new.state; told = told; earlier = last; steps = took }) k1 o1
+    → AreSteps old.setup (opened_state old.state coins) coins steps → fell ≡ coins → took ≡ steps
+    → last ≡ last_of before → now ≡ kept ++ told ∷ [] → kept ≡ before
+    → T k o (record { coins = fell; after = new.state; told = told; earlier = last; steps = took }) k1 o1
     → IsWatched T old before k o (PulseEvent coins) new now k1 o1
-pulse_watched T old new before kept now coins steps took told last k k1 o o1 goes are same is more as_before says =
+pulse_watched T old new before kept now coins fell steps took told last k k1 o o1 goes are given same is more as_before
+    says =
     record {
       xs = record { coins = coins; after = new.state; told = told; earlier = last_of before; steps = steps } ∷ [];
       goes = pulse_seen old new before coins told steps goes are;
@@ -163,7 +164,9 @@ pulse_watched T old new before kept now coins steps took told last k k1 o o1 goe
       watches = (
         k1,
         o1,
-        told_so T k k1 o o1 coins steps took new.state told (last_of before) last same is says,
+        told_so T k k1 o o1 coins steps took new.state told (last_of before) last same is
+            (subst (λ (cs : List ℕ). T k o
+            (record { coins = cs; after = new.state; told = told; earlier = last; steps = took }) k1 o1) given says),
         (refl, refl),
       );
     }

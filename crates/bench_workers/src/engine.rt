@@ -20,8 +20,7 @@ use crate::watched::run_events_watched;
 use crate::watcher::{Nobody, WatchFault};
 use crate::work_error::WorkError;
 use bench_core::{
-    Actor, Bench, Change, OpenError, PulseRecord, Ran, StageError, are_coins, stage_error,
-    steps_by_node,
+    Actor, Bench, Change, OpenError, Ran, StageError, are_coins, stage_error, steps_by_node,
 };
 use clock_nodes::ClockRule;
 use node_env::Shape;
@@ -48,13 +47,6 @@ pub(crate) fn stage(bench: &mut Bench, change: Change) -> Result<(), RunRefusal>
     }
 }
 
-/// What is told of a closed pulse, and how many instructions each node ran.
-#[derive(Drop)]
-pub(crate) struct Closed {
-    pub(crate) told: PulseRecord,
-    pub(crate) steps: Vec<u32>,
-}
-
 /// Opens a pulse, runs its tasks and closes it.
 pub(crate) fn pulse<R: Threads + Wait + Sync, G: Gate + Sync>(
     rt: &R,
@@ -62,22 +54,23 @@ pub(crate) fn pulse<R: Threads + Wait + Sync, G: Gate + Sync>(
     gate: &G,
     workers: u32,
     bench: &mut Bench,
-    coins: &[u32],
-) -> Result<Closed, RunRefusal>
+    coins: Vec<u32>,
+) -> Result<Ran, RunRefusal>
     requires some { 1 ≤ workers }
     requires few { workers ≤ MAX_WORKERS }
     requires closed { bench.old.state.coins ≡ None }
-    ensures ok { IfOk result (λ c. LeadsByEvent bench.old (Pulse coins.now) (c.told ∷ []) bench.new) }
-    ensures steps { IfOk result (λ c.
-        AreSteps bench.old.setup (opened_state bench.old.state coins.now) coins.now c.steps.items) }
-    ensures refusal { IfErr result (IsRefusalOf bench.old.setup (length bench.old.history) (Pulse coins.now)) }
+    ensures ok { IfOk result (λ r. LeadsByEvent bench.old (Pulse coins.items) (r.told ∷ []) bench.new) }
+    ensures coins { IfOk result (λ r. r.coins.items ≡ coins.items) }
+    ensures steps { IfOk result (λ r.
+        AreSteps bench.old.setup (opened_state bench.old.state coins.items) coins.items r.steps.items) }
+    ensures refusal { IfErr result (IsRefusalOf bench.old.setup (length bench.old.history) (Pulse coins.items)) }
     ensures open { G.always gate.now ≡ true → IfErr result (λ e. e ≢ GateShut) }
     ensures alone { workers ≡ 1 → IfErr result (λ e. e ≢ NoThread) }
 {
     if workers == 1 {
         return pulse_alone(alloc, gate, bench, coins);
     }
-    let tasks = match bench.open_pulse(alloc, coins) {
+    let tasks = match bench.open_pulse(alloc, &coins) {
         Ok(tasks) => tasks,
         Err(OpenError::PulseOpen) => unreachable!(),
         Err(OpenError::BadCoins) => return Err(RunRefusal::BadCoins),
@@ -93,7 +86,7 @@ pub(crate) fn pulse<R: Threads + Wait + Sync, G: Gate + Sync>(
         return Err(RunRefusal::Memory);
     };
     match bench.close_own(alloc, dones) {
-        Ok(told) => Ok(Closed { told, steps }),
+        Ok(told) => Ok(Ran { told, coins, steps }),
         Err(_) => Err(RunRefusal::Memory),
     }
 }
@@ -103,13 +96,14 @@ fn pulse_alone<G: Gate>(
     alloc: Global,
     gate: &G,
     bench: &mut Bench,
-    coins: &[u32],
-) -> Result<Closed, RunRefusal>
+    coins: Vec<u32>,
+) -> Result<Ran, RunRefusal>
     requires { bench.old.state.coins ≡ None }
-    ensures ok { IfOk result (λ c. LeadsByEvent bench.old (Pulse coins.now) (c.told ∷ []) bench.new) }
-    ensures steps { IfOk result (λ c.
-        AreSteps bench.old.setup (opened_state bench.old.state coins.now) coins.now c.steps.items) }
-    ensures refusal { IfErr result (IsRefusalOf bench.old.setup (length bench.old.history) (Pulse coins.now)) }
+    ensures ok { IfOk result (λ r. LeadsByEvent bench.old (Pulse coins.items) (r.told ∷ []) bench.new) }
+    ensures coins { IfOk result (λ r. r.coins.items ≡ coins.items) }
+    ensures steps { IfOk result (λ r.
+        AreSteps bench.old.setup (opened_state bench.old.state coins.items) coins.items r.steps.items) }
+    ensures refusal { IfErr result (IsRefusalOf bench.old.setup (length bench.old.history) (Pulse coins.items)) }
     ensures open { G.always gate.now ≡ true → IfErr result (λ e. e ≢ GateShut) }
     ensures alone { IfErr result (λ e. e ≢ NoThread) }
     ensures let_in { OnOk result (G.lets_in gate.now 0 ≡ true) }
@@ -125,7 +119,7 @@ fn pulse_alone<G: Gate>(
         return Err(RunRefusal::GateShut);
     }
     match bench.run_and_close(alloc) {
-        Ok(Ran { told, steps }) => Ok(Closed { told, steps }),
+        Ok(ran) => Ok(ran),
         Err(_) => Err(RunRefusal::Memory),
     }
 }

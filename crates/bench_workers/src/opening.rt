@@ -55,7 +55,8 @@ fn go_on<R: Threads + Wait + Sync>(
             Ok(())
         }
         Event::Pulse(coins) => {
-            let _closed = pulse(rt, alloc, &Open, 1, bench, &coins)?;
+            let ran = pulse(rt, alloc, &Open, 1, bench, coins)?;
+            bench.reuse(ran.coins, ran.steps);
             let _few = bench.history(); // brings its bound
             Ok(())
         }

@@ -14,13 +14,13 @@ use crate::engine::{memories_of, pulse, stage};
 use crate::event::{Event, Run, RunFault, RunRefusal};
 use crate::gate::Gate;
 use crate::watcher::{Shown, Stop, WatchFault, Watcher};
-use bench_core::{Bench, PulseRecord};
+use bench_core::{Bench, PulseRecord, Ran};
 use std::alloc::Global;
 use std::sync::Wait;
 use std::thread::Threads;
 
 /// Why an event isn't done: it is refused, or the watcher stopped the run.
-#[derive(Clone, Copy, Debug, PartialEq, Eq)]
+#[derive(Clone, Copy)]
 pub(crate) enum Halt {
     Refused(RunRefusal),
     Stopped,
@@ -57,22 +57,22 @@ fn show_pulse<R: Threads + Wait + Sync, G: Gate + Sync, S, K: Watcher<S>>(
     workers: u32,
     bench: &mut Bench,
     records: &mut Vec<PulseRecord>,
-    coins: &[u32],
+    coins: Vec<u32>,
     watcher: &mut K,
     sink: &mut S,
 ) -> Result<(), Halt>
     requires some { 1 ≤ workers }
     requires few { workers ≤ MAX_WORKERS }
     requires closed { bench.old.state.coins ≡ None }
-    ensures ok { OnOk result (IsWatched K.tells bench.old records.old.items watcher.old sink.old (Pulse coins.now)
+    ensures ok { OnOk result (IsWatched K.tells bench.old records.old.items watcher.old sink.old (Pulse coins.items)
         bench.new records.new.items watcher.new sink.new) }
-    ensures halt { IfErr result (IsHalted K.stops bench.old records.old.items watcher.old sink.old (Pulse coins.now)
+    ensures halt { IfErr result (IsHalted K.stops bench.old records.old.items watcher.old sink.old (Pulse coins.items)
         bench.new watcher.new sink.new) }
     ensures open { G.always gate.now ≡ true → IfErr result (λ e. e ≢ Refused GateShut) }
     ensures alone { workers ≡ 1 → IfErr result (λ e. e ≢ Refused NoThread) }
 {
-    let closed = match pulse(rt, alloc, gate, workers, bench, coins) {
-        Ok(closed) => closed,
+    let Ran { told, coins, steps } = match pulse(rt, alloc, gate, workers, bench, coins) {
+        Ok(ran) => ran,
         Err(refusal) => return Err(Halt::Refused(refusal)),
     };
     if records.reserve(1).is_err() {
@@ -81,14 +81,15 @@ fn show_pulse<R: Threads + Wait + Sync, G: Gate + Sync, S, K: Watcher<S>>(
     let earlier = records.last();
     let shown = Shown {
         bench,
-        coins,
-        told: &closed.told,
+        coins: &coins,
+        told: &told,
         earlier,
-        steps: &closed.steps,
+        steps: &steps,
     };
     match watcher.see(sink, &shown) {
         Ok(()) => {
-            keep(records, closed.told);
+            keep(records, told);
+            bench.reuse(coins, steps);
             Ok(())
         }
         Err(Stop) => Err(Halt::Stopped),
@@ -128,7 +129,7 @@ fn apply<R: Threads + Wait + Sync, G: Gate + Sync, S, K: Watcher<S>>(
         }
         Event::Pulse(coins) => {
             show_pulse(
-                rt, alloc, gate, workers, bench, records, &coins, watcher, sink,
+                rt, alloc, gate, workers, bench, records, coins, watcher, sink,
             )?;
             let _few = bench.history(); // brings its bound
             Ok(())

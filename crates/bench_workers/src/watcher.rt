@@ -45,7 +45,7 @@ pub enum WatchFault {
 }
 
 /// A watcher that looks at nothing.
-#[derive(Clone, Copy, Debug)]
+#[derive(Clone, Copy)]
 pub(crate) struct Nobody;
 
 impl Watcher<()> for Nobody {

@@ -132,7 +132,7 @@ closed_bench c = record c.self.inside {
   mail = c.swap.new.x;
   spare = c.swap.new.y;
   closed = c.self.inside.closed + 1;
-  coins = None;
+  coins = c.replace.new.dest;
   history = c.add.new.history;
 }
 
@@ -168,7 +168,7 @@ ends c x =
       row = row;
       entered = entered;
       advances = closed_advances b b' c.tell-told.result.row c.self.invariant pulse row entered refl refl refl refl refl
-          refl;
+          c.replace.ensures.after;
     }
 
 record_is : (c : goal.After-add)
@@ -215,11 +215,13 @@ invariant_of-self c =
     (subst (λ (v : BenchValue). IsSome v.state.coins) (sym c.self.view_is) c.requires.open) in
     let before = places_seen b in
     let places = places_seen b' in
+    let shut : ◌≡◌ {A = ℕ} (cond (is_some b'.coins) 1 0) 0 = ap (λ (o : Option (Vec ℕ Global)). cond (is_some o) 1 0)
+    c.replace.ensures.after in
     kept_step b b' (ClosedValue c.tell-told.result.row) kept tt e.advances kept.same flags firsts
-    (ap length c.swap.ensures.y_after ∙ (sound_of b kept).mail) (omega arith) (λ h. absurd cc)
+    (ap length c.swap.ensures.y_after ∙ (sound_of b kept).mail) (omega arith) (λ h. let none = subst IsSome c.replace.ensures.after h in absurd cc)
     (omega (arith, longer, kept.staged))
-    (omega (arith, longer, before, is_open, places, kept.limit))
-    (omega (arith, longer, before, is_open, places, kept.room, c.add.ensures.capacity))
+    (omega (arith, longer, before, is_open, places, shut, kept.limit))
+    (omega (arith, longer, before, is_open, places, shut, kept.room, c.add.ensures.capacity))
 
 -- ---- what it says of itself
 

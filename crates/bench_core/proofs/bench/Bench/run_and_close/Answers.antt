@@ -76,7 +76,7 @@ returns-clause-agrees c =
     let b = view_of c.self.inside in
     subst (λ (w : BenchValue). HasRuleClock w.setup
     → 2 * w.setup.faults + faulty_count w.state (view_of c.self-2.inside).state < w.setup.shape.nodes
-    → IsTrue c.finish-told.result.agree) c.self.view_is
+    → IsTrue c.finish-told.result.told.agree) c.self.view_is
     (subst (λ (v : BenchValue). HasRuleClock b.setup
     → 2 * b.setup.faults + faulty_count b.state v.state < b.setup.shape.nodes
-    → IsTrue c.finish-told.result.agree) (sym c.self-2.view_is) c.finish-told.ensures.agrees)
+    → IsTrue c.finish-told.result.told.agree) (sym c.self-2.view_is) c.finish-told.ensures.agrees)
