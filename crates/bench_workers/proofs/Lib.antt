@@ -1,5 +1,6 @@
 pub mod Dealt
 pub mod Going
 mod OneRun
+mod OneShowing
 pub mod OpeningLemmas
 pub mod Showing

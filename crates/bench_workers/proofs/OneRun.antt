@@ -35,7 +35,7 @@ same_told : (r q : PulseTold) → r.row ≡ q.row → r.clocks ≡ q.clocks → 
 same_told r q row clocks settled steps agree =
     λ k. record { row = row k; clocks = clocks k; settled = settled k; steps = steps k; agree = agree k }
 
-one_record : (s : Setup) (b b' : State) (r q : PulseTold) → IsRecord s b b' r → IsRecord s b b' q → r ≡ q
+pub one_record : (s : Setup) (b b' : State) (r q : PulseTold) → IsRecord s b b' r → IsRecord s b b' q → r ≡ q
 one_record s b b' r q h g =
     same_told r q (h.row ∙ sym g.row) (h.clocks ∙ sym g.clocks) (h.settled ∙ sym g.settled)
     (one_steps s b (coins_of b) r.steps q.steps h.steps g.steps)

@@ -1,5 +1,6 @@
 pub mod CauseLemmas
 pub mod FrontLemmas
+pub mod LineLaws
 pub mod ReadingLemmas
 pub mod RunLemmas
 pub mod SweepLaws

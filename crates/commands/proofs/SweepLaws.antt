@@ -1,13 +1,12 @@
 -- A run has one summary, and so seeds have one text of lines.
 use Rattle.std.proofs.Common.{◌≡◌, ℕ, zero, suc, ◌+◌, ◌<◌, List, [], ◌∷◌, Bool, length, slice_get, Option, Some, None, refl, ap, ap₂, sym, subst, ◌∙◌, arith, inl, inr}
-use Rattle.std.specs.Prelude.{drop}
 use Rattle.std.proofs.lemmas.Bool.{cases_order}
 use Rattle.bench_core.specs.Told.{PulseTold}
 use Rattle.bench_workers.specs.Laws.{OneRun}
 use Rattle.bench_scenario.specs.declared.summary.RunSummary.{RunSummary}
 use Rattle.bench_scenario.specs.Coins.{keyed}
 use Rattle.bench_scenario.specs.Events.{events_of}
-use Rattle.bench_scenario.specs.InStep.{AreInStep, IsInStepSince}
+use Rattle.bench_scenario.specs.InStep.{IsInStepSince}
 use Rattle.bench_scenario.specs.Runs.{bench_of}
 use Rattle.bench_scenario.specs.Summary.{SumsUp}
 use Rattle.bench_scenario.specs.Verdicts.{judged_of}
@@ -43,7 +42,7 @@ same_summary m n agreed judged first_disagreement in_step_since steps =
       steps = steps k;
     }
 
-one_summary : (modulus : ℕ) (rs : List PulseTold) (m n : RunSummary) (own : Bool) (s : Scenario)
+pub one_summary : (modulus : ℕ) (rs : List PulseTold) (m n : RunSummary) (own : Bool) (s : Scenario)
     → SumsUp modulus rs (judged_of (frame_of s) own rs) m → SumsUp modulus rs (judged_of (frame_of s) own rs) n → m ≡ n
 one_summary modulus rs m n own s h g =
     same_summary m n (h.agreed ∙ sym g.agreed) (h.judged ∙ sym g.judged) (h.disagreed ∙ sym g.disagreed)

@@ -13,6 +13,8 @@ ghost use Rattle.command_answers.specs.Image.{ReadsImage};
 ghost use Rattle.program_commands.specs.Verdict.{Judges, SameJudgement};
 ghost use Rattle.bench_scenario.specs.Runs.{ReportsRun};
 ghost use Rattle.key_sweep.specs.Sweeps.{Lines};
+ghost use Rattle.parameters.specs.declared.lines.LinesForm.{LinesForm};
+ghost use Rattle.run_lines.specs.Telling.{IsWholeText};
 ghost use Rattle.scenario_text.specs.declared.scenario.Scenario.{Scenario};
 ghost use Rattle.commands.specs.Causes.{ReadingHasCause, ThreadsHaveCause, UnshapedReadsNothing};
 
@@ -66,6 +68,14 @@ pub fn one_report()
         → ReportsRun s other verdict → (line ≡ other) × (agrees ≡ verdict) }
 {
     bench_workers::laws::one_run();
+}
+
+/// A scenario has at most one text of JSON lines in a form, and one verdict on agreement.
+pub fn one_text_of_lines()
+    ensures { (s : Scenario) (form : LinesForm) (text other : List ℕ) (agrees verdict : Bool)
+        → IsWholeText s form text agrees → IsWholeText s form other verdict → (text ≡ other) × (agrees ≡ verdict) }
+{
+    bench_workers::laws::one_showing();
 }
 
 /// The seeds of a sweep of a scenario have at most one text of lines.
