@@ -25,7 +25,7 @@ struct MarkedRun {
 }
 
 /// What is known after a step.
-#[derive(Clone, Copy, Debug, PartialEq, Eq)]
+#[derive(Clone, Copy)]
 enum Followed {
     /// Runs from alike inputs go on alike.
     Next,

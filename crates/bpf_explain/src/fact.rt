@@ -11,7 +11,7 @@ use std::fmt::Write;
 use value_range::Range;
 
 /// One thing that is known.
-#[derive(Clone, Copy, Debug)]
+#[derive(Clone, Copy)]
 pub(crate) enum Fact {
     /// Nothing reaches the slot.
     NotReached,

@@ -39,7 +39,7 @@ abbrev pub reason : Unproved → List ℕ
 reason whys.Memory = codes "memory ran out"
 reason (whys.Uncovered Loop) = codes "the rule has a loop"
 reason (whys.Uncovered Receiver) = codes "the rule sends to one node"
-reason (whys.Uncovered Name) = codes "there are too many names"
+reason (whys.Uncovered Name) = codes "a word or a free name isn't one of the step's"
 reason whys.Silent = codes "the rule sends nothing on some path"
 reason whys.TooMany = codes "there are too many variables"
 reason whys.TooDeep = codes "the rule or the certificate is too deep"

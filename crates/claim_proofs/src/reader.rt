@@ -29,7 +29,7 @@ pub enum CertificateError {
 }
 
 /// Why there are no certificates.
-#[derive(Clone, Copy, Debug, PartialEq, Eq)]
+#[derive(Clone, Copy)]
 pub(crate) enum NoCertificates {
     Memory,
     Error(CertificateError),
@@ -44,7 +44,7 @@ pub(crate) struct StepProof {
 }
 
 /// Why words aren't read.
-#[derive(Clone, Copy, Debug, PartialEq, Eq)]
+#[derive(Clone, Copy)]
 enum Unread {
     Memory,
     End,

@@ -8,7 +8,7 @@ use step_searches::{Quantity, Total};
 const MAX_QUANTITIES: u64 = 4000;
 
 /// Why there is no sum: memory ran out, or this error of the text.
-#[derive(Clone, Copy, Debug, PartialEq, Eq)]
+#[derive(Clone, Copy)]
 pub(crate) enum NoAmount {
     Memory,
     Error(ClaimError),
@@ -29,7 +29,7 @@ impl<T: Drop> From<std::alloc::AllocFailed<T>> for NoAmount {
 const OUT_OF_RANGE: NoAmount = NoAmount::Error(ClaimError::OutOfRange);
 
 /// A quantity, so many times.
-#[derive(Clone, Copy, Debug, PartialEq, Eq)]
+#[derive(Clone, Copy)]
 struct Part {
     quantity: Quantity,
     times: i64,

@@ -5,7 +5,7 @@ use std::alloc::Global;
 use step_searches::Condition;
 
 /// How two sums are compared.
-#[derive(Clone, Copy, Debug, PartialEq, Eq)]
+#[derive(Clone, Copy)]
 pub(crate) enum Comparison {
     Equal,
     NotEqual,

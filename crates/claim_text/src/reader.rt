@@ -10,7 +10,7 @@ const MAX_LETTERS: usize = 32;
 const MAX_BYTES: usize = 16_384;
 
 /// A place of a text, with how many brackets are open there.
-#[derive(Clone, Copy, Debug, PartialEq, Eq)]
+#[derive(Clone, Copy)]
 pub(crate) struct Place {
     at: usize,
     line: usize,
@@ -56,7 +56,7 @@ pub(crate) struct Reader<'a> {
 }
 
 /// A token of a text, to which a reader can go back.
-#[derive(Clone, Copy, Debug, PartialEq, Eq)]
+#[derive(Clone, Copy)]
 pub(crate) struct Bookmark {
     place: Place,
     now: Token,

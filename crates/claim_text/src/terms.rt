@@ -32,7 +32,7 @@ pub(crate) struct Parameter {
 }
 
 /// What names may be in a term.
-#[derive(Clone, Copy, Debug, PartialEq, Eq)]
+#[derive(Clone, Copy, PartialEq, Eq)]
 pub(crate) enum Scope {
     /// The sizes alone.
     Sizes,
@@ -43,7 +43,7 @@ pub(crate) enum Scope {
 }
 
 /// A layer of the grammar, from the loosest to the tightest.
-#[derive(Clone, Copy, Debug, PartialEq, Eq)]
+#[derive(Clone, Copy, PartialEq, Eq)]
 enum Layer {
     Either,
     Both,

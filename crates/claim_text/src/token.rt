@@ -3,7 +3,7 @@
 use crate::errors::{ClaimError, ReadClaimsError};
 
 /// A part of a text.
-#[derive(Clone, Copy, Debug, PartialEq, Eq)]
+#[derive(Clone, Copy)]
 pub(crate) struct Span {
     pub(crate) from: usize,
     pub(crate) bytes: usize,
@@ -18,7 +18,7 @@ impl Span {
 }
 
 /// A sign of the language.
-#[derive(Clone, Copy, Debug, PartialEq, Eq)]
+#[derive(Clone, Copy, PartialEq, Eq)]
 pub(crate) enum Sign {
     Arrow,
     Dot,
@@ -43,7 +43,7 @@ pub(crate) enum Sign {
 }
 
 /// What a token is.
-#[derive(Clone, Copy, Debug, PartialEq, Eq)]
+#[derive(Clone, Copy, PartialEq, Eq)]
 pub(crate) enum Kind {
     Number(u32),
     Name,
@@ -54,7 +54,7 @@ pub(crate) enum Kind {
 }
 
 /// A token at its place.
-#[derive(Clone, Copy, Debug, PartialEq, Eq)]
+#[derive(Clone, Copy)]
 pub(crate) struct Token {
     pub(crate) kind: Kind,
     pub(crate) span: Span,

@@ -45,14 +45,14 @@ impl<T: Drop> From<AllocFailed<T>> for Unformed {
 pub const MAX_VARIABLES: u32 = 1_000_000_000;
 
 /// A term and a constant.
-#[derive(Clone, Copy, Debug, PartialEq, Eq)]
+#[derive(Clone, Copy)]
 struct Part {
     term: Term,
     constant: i128,
 }
 
 /// Two terms and a constant.
-#[derive(Clone, Copy, Debug, PartialEq, Eq)]
+#[derive(Clone, Copy)]
 struct Parts {
     first: Term,
     second: Term,
