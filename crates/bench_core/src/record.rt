@@ -1,6 +1,7 @@
 //! What is told of a closed pulse.
 ghost use Rattle.std.specs.Prelude.{◌≡◌, ◌≢◌, ◌↔◌, ◌<◌, ◌≤◌, All, IfOk, IsTrue, length, map};
 ghost use Rattle.clock_nodes.specs.declared.rule.TheConstants.{MAX_MODULUS};
+ghost use Rattle.bench_core.specs.declared.found.TheConstants.{PLACES};
 ghost use Rattle.bench_core.specs.declared.limits.TheConstants.{MAX_COUNTED, MAX_BENCH_PULSES};
 ghost use Rattle.bench_core.specs.Settled.{clocks_where};
 ghost use Rattle.bench_core.specs.Told.{row_from, told_clock};
@@ -8,6 +9,7 @@ ghost use Rattle.bench_core.specs.inner.Told.{both_marked, joined_of, IsMostStep
 
 use crate::limits::CLOCKS_DIFFER;
 use crate::node::NodeSlot;
+use crate::node_flags::NodeFlags;
 use crate::row::Row;
 use crate::task::NodeDone;
 use std::alloc::{AllocError, Global};
@@ -20,7 +22,7 @@ pub struct PulseRecord {
     /// The four bytes of each node that ran the bench's clock, also where these are the modulus or more.
     pub clocks: Vec<Option<u32>>,
     /// Which nodes ran it in the closed pulse before as well.
-    pub settled: Vec<bool>,
+    pub settled: NodeFlags,
     /// The greatest number of instructions that a node ran, 0 if none is loaded.
     pub steps: u32,
     /// Whether any two settled clocks that are not 0 are equal, by their values: one past the modulus counts as 0.
@@ -35,7 +37,7 @@ impl Model for PulseRecord {
     ghost view = { λ r. record {
       row = r.row;
       clocks = r.clocks.items;
-      settled = r.settled.items;
+      settled = r.settled;
       steps = r.steps;
       agree = r.agree;
     } };
@@ -60,17 +62,18 @@ pub(crate) struct Finished {
 /// Room for what will be told of a pulse: the marks before its close, and a place for each clock.
 #[derive(Drop)]
 pub(crate) struct RecordScratch {
-    pub(crate) settled: Vec<bool>,
+    pub(crate) settled: NodeFlags,
     pub(crate) clocks: Vec<Option<u32>>,
 }
 
 /// Returns room for what will be told of a pulse of these nodes.
 pub(crate) fn make_room(alloc: Global, nodes: &[NodeSlot]) -> Result<RecordScratch, AllocError>
-    ensures settled { IfOk result (λ r. r.settled.items ≡ map (λ x. x.mark) nodes.now) }
+    requires { length nodes.now ≤ PLACES }
+    ensures settled { IfOk result (λ r. r.settled ≡ map (λ x. x.mark) nodes.now) }
     ensures clocks { IfOk result (λ r. length r.clocks.items ≡ length nodes.now) }
 {
     Ok(RecordScratch {
-        settled: marks(alloc, nodes)?,
+        settled: NodeFlags::marks(nodes),
         clocks: vec![in alloc; None; nodes.len()]?,
     })
 }
@@ -85,53 +88,31 @@ pub(crate) fn tell(
 ) -> PulseRecord
     requires first { 1 ≤ pulse }
     requires last { pulse ≤ MAX_BENCH_PULSES }
-    requires settled { length room.settled.items ≡ length nodes.now }
+    requires settled { length room.settled ≡ length nodes.now }
     requires clocks { length room.clocks.items ≡ length nodes.now }
     requires few { length nodes.now ≤ MAX_COUNTED }
     requires memory { All (λ x. 4 ≤ length x.memory) nodes.now }
     requires small { All (λ c. c < MAX_MODULUS)
-        (clocks_where modulus (both_marked room.settled.items nodes.now) nodes.now) }
-    ensures row { result.row ≡ row_from modulus pulse (both_marked room.settled.items nodes.now) nodes.now }
+        (clocks_where modulus (both_marked room.settled nodes.now) nodes.now) }
+    ensures row { result.row ≡ row_from modulus pulse (both_marked room.settled nodes.now) nodes.now }
     ensures clocks { result.clocks ≡ map told_clock nodes.now }
-    ensures settled { result.settled ≡ both_marked room.settled.items nodes.now }
+    ensures settled { result.settled ≡ both_marked room.settled nodes.now }
     ensures steps { IsMostSteps dones.now result.steps }
     ensures agree { IsTrue result.agree ↔ (result.row.common ≢ CLOCKS_DIFFER) }
 {
     let RecordScratch {
-        mut settled,
+        settled,
         mut clocks,
     } = room;
-    settle(&mut settled, nodes);
+    let settled = settled.kept(nodes);
     tell_clocks(&mut clocks, nodes);
-    let row = row_told(modulus, pulse, &settled, nodes);
+    let row = row_told(modulus, pulse, settled.as_slice(), nodes);
     PulseRecord {
         row,
         clocks,
         settled,
         steps: most_steps(dones),
         agree: row.common != CLOCKS_DIFFER,
-    }
-}
-
-/// Returns the marks of nodes.
-fn marks(alloc: Global, nodes: &[NodeSlot]) -> Result<Vec<bool>, AllocError>
-    ensures { IfOk result (λ marks. marks.items ≡ map (λ x. x.mark) nodes.now) }
-{
-    let mut marks = Vec::with_capacity(alloc, nodes.len())?;
-    for node in nodes {
-        marks.push(node.mark)?;
-    }
-    Ok(marks)
-}
-
-/// Leaves those marks that the nodes have again.
-fn settle(marks: &mut [bool], nodes: &[NodeSlot])
-    requires { length marks.old ≡ length nodes.now }
-    ensures { marks.new ≡ both_marked marks.old nodes.now }
-{
-    for i in 0..nodes.len() {
-        let node = &nodes[i];
-        marks[i] = marks[i] && node.mark;
     }
 }
 

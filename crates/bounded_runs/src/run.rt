@@ -25,7 +25,7 @@ struct MarkedRun {
 }
 
 /// What is known after a step.
-#[derive(Clone, Copy)]
+#[derive(Clone, Copy, Debug, PartialEq, Eq)]
 enum Followed {
     /// Runs from alike inputs go on alike.
     Next,

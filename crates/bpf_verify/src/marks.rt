@@ -12,7 +12,7 @@ pub(crate) const WORD_BITS: u32 = 64;
 const WORDS: usize = (STACK_BYTES / WORD_BITS) as usize;
 
 /// A set of stack bytes: a bit for each.
-#[derive(Clone, Copy)]
+#[derive(Clone, Copy, Debug)]
 pub(crate) struct Marks {
     pub(crate) words: [u64; WORDS],
 }

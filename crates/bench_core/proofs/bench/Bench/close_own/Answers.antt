@@ -1,4 +1,4 @@
-use Rattle.std.proofs.Common.{◌≡◌, ◌<◌, ◌-◌, ℕ, Some, [], List, Option, Vec, sym, ap, subst}
+use Rattle.std.proofs.Common.{◌≡◌, ◌<◌, ◌-◌, ℕ, Some, [], List, Option, Vec, sym, ap, subst, arith}
 use Rattle.std.specs.Prelude.{option_map, unwrap_or}
 use Rattle.std.specs.declared.alloc.Global.{Global}
 use Rattle.bench_core.specs.State.{node_at, coins_of}
@@ -30,6 +30,11 @@ place_results-found-requires-clause-handed c =
     (exact_at c.self.inside c.args.self.now c.in-Some.coins c.deref.result.now c.deref-2.result.now c.deref-3.result.now
     c.args.dones.items c.self.invariant c.self.view_is c.in-Some.is
     c.deref.ensures.value c.deref-2.ensures.value c.deref-3.ensures.value c.requires.exact).no_stranger
+
+pub make_room-requires : goal.make_room-requires
+make_room-requires c =
+    let count = (sound_of c.self.inside c.self.invariant).nodes in
+    rw c.deref-4.ensures.value (omega (arith, count, c.self.invariant.setup.extent.few))
 
 pub finish-told-requires-clause-served : goal.finish-told-requires-clause-served
 finish-told-requires-clause-served c =

@@ -108,12 +108,12 @@ tell-told-requires-clause-small c =
     let kept = c.self.invariant in
     let x = closing_told c in
     let nodes : c.deref-2.result.now ≡ c.close_nodes.new.nodes = c.deref-2.ensures.value ∙ x.items in
-    let marks : c.args.room.settled.items ≡ map (λ x. x.mark) b.nodes.items =
+    let marks : c.args.room.settled ≡ map (λ x. x.mark) b.nodes.items =
     c.requires.settled
     ∙ ap (λ (v : BenchValue). map (λ (x : Node). x.mark) v.state.nodes) (sym c.self.view_is) in
     rw (c.modulus-modulus.ensures.value, nodes) (small_clocks (view_of b).setup (view_of b).state
     (closed_state (view_of b).state c.close_nodes.new.nodes c.close_nodes.new.mail)
-    c.args.room.settled.items kept.setup (sound_of b kept) x.pulse marks)
+    c.args.room.settled kept.setup (sound_of b kept) x.pulse marks)
 
 -- ---- the bench at the end
 
@@ -137,7 +137,7 @@ closed_bench c = record c.self.inside {
 }
 
 record Ends (c : goal.After-add) : Type 0 where
-  settled : both_marked c.args.room.settled.items c.deref-2.result.now
+  settled : both_marked c.args.room.settled c.deref-2.result.now
       ≡ settled_flags c.self.inside.nodes.items (closed_bench c).nodes.items
   row : c.tell-told.result.row ≡ row_from c.self.inside.rule.modulus (c.self.inside.closed + 1)
       (settled_flags c.self.inside.nodes.items (closed_bench c).nodes.items) (closed_bench c).nodes.items
@@ -152,7 +152,7 @@ ends c x =
     let b' = closed_bench c in
     let items = x.items in
     let nodes : c.deref-2.result.now ≡ c.close_nodes.new.nodes = c.deref-2.ensures.value ∙ items in
-    let marks : c.args.room.settled.items ≡ map (λ x. x.mark) b.nodes.items =
+    let marks : c.args.room.settled ≡ map (λ x. x.mark) b.nodes.items =
     c.requires.settled
     ∙ ap (λ (v : BenchValue). map (λ (x : Node). x.mark) v.state.nodes) (sym c.self.view_is) in
     let both = both_settled b.nodes.items c.close_nodes.new.nodes in

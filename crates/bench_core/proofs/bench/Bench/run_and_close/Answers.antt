@@ -33,6 +33,11 @@ run_nodes-requires-clause-parts c =
 pub run_nodes-requires-clause-firsts : goal.run_nodes-requires-clause-firsts
 run_nodes-requires-clause-firsts c = rw (c.deref.ensures.value, c.deref-3.ensures.value) c.self.invariant.firsts
 
+pub make_room-requires : goal.make_room-requires
+make_room-requires c =
+    let count = (sound_of c.self.inside c.self.invariant).nodes in
+    rw c.deref-4.ensures.value (omega (arith, count, c.self.invariant.setup.extent.few))
+
 -- the results that were run serve the bench's nodes, in lists that are equal to its own
 served_own : (b : Inside) (p : State) (coins : Vec ℕ Global) (cs : List ℕ) (ds dones : List Done) (found : List Found)
     → p.nodes ≡ b.nodes.items → p.mail ≡ b.mail → b.coins ≡ Some coins → cs ≡ coins.items → ds ≡ dones

@@ -2,8 +2,8 @@ use Rattle.std.proofs.Common.{◌≡◌, ◌<◌, ◌&&◌, Bool, false, get_or,
 use Rattle.std.proofs.lemmas.List.{get_or_read}
 use Rattle.bench_core.specs.State.{Node, no_node, node_at}
 use Rattle.bench_core.proofs.Telling.{set_more, both_by_place}
-use Rattle.bench_core.proofs.record.settle.Goals as goal
-use Rattle.bench_core.proofs.record.settle.Goals.{then-marks-i, else-marks-i}
+use Rattle.bench_core.proofs.node_flags.settle.Goals as goal
+use Rattle.bench_core.proofs.node_flags.settle.Goals.{then-marks-i, else-marks-i}
 
 pub loop-i-preserved : goal.loop-i-preserved
 loop-i-preserved c =

@@ -1,6 +1,6 @@
 use Rattle.std.proofs.Common.{◌≡◌, ◌<◌, ◌≤◌, ◌&&◌, ℕ, false, get_or}
 use Rattle.bench_core.specs.State.{node_at}
-use Rattle.bench_core.proofs.record.settle.Given as goal
+use Rattle.bench_core.proofs.node_flags.settle.Given as goal
 
 abbrev pub invariant-loop-i : goal.invariant-loop-i
 invariant-loop-i l = record {
