@@ -177,13 +177,12 @@ fn add_front(report: &mut String, pulse: u32) -> Result<(), AllocError>
 fn add_counts(report: &mut String, settled: u32, steps: u32) -> Result<(), AllocError>
     ensures { OnOk result (string_bytes report.new
         ≡ string_bytes report.old ++ (codes " settled " ++ (decimal settled ++ (codes " steps "
-        ++ (decimal steps ++ codes " agree "))))) }
+        ++ decimal steps)))) }
 {
     add(report, " settled ")?;
     add_number(report, settled)?;
     add(report, " steps ")?;
-    add_number(report, steps)?;
-    add(report, " agree ")
+    add_number(report, steps)
 }
 
 fn verdict_text(verdict: Option<bool>) -> &'static str
@@ -196,18 +195,28 @@ fn verdict_text(verdict: Option<bool>) -> &'static str
     }
 }
 
-fn add_counts_end(
-    report: &mut String,
-    scenario: &Scenario,
-    counts: Option<bool>,
-) -> Result<(), AllocError>
-    ensures { OnOk result (string_bytes report.new
-        ≡ string_bytes report.old ++ counts_end (frame_of scenario.now) counts) }
+/// Returns the verdict on agreement, as a line ends that has no other.
+fn agree_end(verdict: Option<bool>) -> &'static str
+    ensures { result.now ≡ codes " agree " ++ (verdict_text verdict ++ codes "\n") }
 {
-    if scenario.is_judged() {
-        add(report, " counts ")?;
-        add(report, verdict_text(counts))?;
+    match verdict {
+        None => " agree none\n",
+        Some(true) => " agree yes\n",
+        Some(false) => " agree no\n",
     }
+}
+
+fn add_verdicts(report: &mut String, scenario: &Scenario, judged: Judged) -> Result<(), AllocError>
+    ensures { OnOk result (string_bytes report.new ≡ string_bytes report.old
+        ++ (codes " agree " ++ (verdict_text judged.agree ++ counts_end (frame_of scenario.now) judged.counts))) }
+{
+    if !scenario.is_judged() {
+        return add(report, agree_end(judged.agree));
+    }
+    add(report, " agree ")?;
+    add(report, verdict_text(judged.agree))?;
+    add(report, " counts ")?;
+    add(report, verdict_text(judged.counts))?;
     add(report, "\n")
 }
 
@@ -223,8 +232,7 @@ fn add_record(
     add_front(report, one.row.pulse)?;
     add_clocks(report, scenario, one.clocks.as_slice())?;
     add_counts(report, one.row.settled, one.steps)?;
-    add(report, verdict_text(judged.agree))?;
-    add_counts_end(report, scenario, judged.counts)
+    add_verdicts(report, scenario, judged)
 }
 
 fn add_records(
