@@ -6,12 +6,13 @@
 //!
 //! ```
 //! use bench_scenario::run_scenario;
+//! use stream_io::Tracked;
 //!
 //! let mut text: &[u8] =
 //!     b"nodes = 1\nfaults = 0\nmodulus = 2\nmemory = 8\npulses = 1\ncoins = \"ones\"\n";
-//! let mut report = Vec::new(rt.alloc());
+//! let mut report = Tracked::of(Vec::new(rt.alloc()));
 //! assert!(rt; run_scenario(&rt, rt.alloc(), &mut text, &mut report, 1).is_ok());
-//! assert!(rt; report.as_slice().ends_with(b"agreed 1 of 1\n"));
+//! assert!(rt; report.stream.as_slice().ends_with(b"agreed 1 of 1\n"));
 //! ```
 #![tactic(auto)]
 

@@ -14,10 +14,9 @@ use bench_core::Bench;
 use bench_workers::{MAX_WORKERS, Open, RunFault, run_events_on};
 use scenario_text::{MAX_TEXT, Scenario, ScenarioError};
 use std::alloc::{AllocError, Global};
-use std::io::Write;
 use std::sync::Wait;
 use std::thread::Threads;
-use stream_io::{Source, WriteFault, write_fully};
+use stream_io::{Sink, Source, WriteFault, write_fully};
 use thiserror::Error;
 
 /// The most bytes that are read: one more than a text may have, by which a text that is too long is known.
@@ -102,7 +101,7 @@ fn report_of<T: Threads + Wait + Sync>(
 
 /// Runs a scenario that was read, on as many of the workers as pay, and writes the report. Returns true if no pulse's
 /// verdict on agreement is no. The report is whole before its first byte is written.
-pub fn write_report<T: Threads + Wait + Sync, W: Write>(
+pub fn write_report<T: Threads + Wait + Sync, W: Sink>(
     rt: &T,
     alloc: Global,
     scenario: &Scenario,
@@ -124,7 +123,7 @@ pub fn write_report<T: Threads + Wait + Sync, W: Write>(
 }
 
 /// Runs a scenario that was read, and writes the report.
-fn report_on<T: Threads + Wait + Sync, W: Write>(
+fn report_on<T: Threads + Wait + Sync, W: Sink>(
     rt: &T,
     alloc: Global,
     scenario: &Scenario,
@@ -149,7 +148,7 @@ fn report_on<T: Threads + Wait + Sync, W: Write>(
 
 /// Reads a scenario's text, runs it on as many of the workers as pay, and writes the report. At most [`MAX_BYTES`]
 /// bytes are read, by at most [`MAX_CALLS`] calls of `read`. The report is whole before its first byte is written.
-pub fn run_scenario<T: Threads + Wait + Sync, R: Source, W: Write>(
+pub fn run_scenario<T: Threads + Wait + Sync, R: Source, W: Sink>(
     rt: &T,
     alloc: Global,
     reader: &mut R,

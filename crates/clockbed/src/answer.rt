@@ -17,10 +17,9 @@ use commands::perform::perform;
 use requests::{Request, ScenarioRequest};
 use std::alloc::Global;
 use std::convert::AsStr;
-use std::io::Write;
 use std::sync::Wait;
 use std::thread::Threads;
-use stream_io::Source;
+use stream_io::{Sink, Source};
 
 /// The exit status of a fault.
 const FAULT_STATUS: u8 = 1;
@@ -49,8 +48,8 @@ pub fn run_words<
     C: WordsReader,
     S: AsStr,
     R: Source + FailureReason,
-    W: Write + FailureReason,
-    E: Write,
+    W: Sink + FailureReason,
+    E: Sink,
     P: CommandProgress,
 >(
     program: &Program<'_, T, O, C>,
@@ -75,7 +74,7 @@ pub fn run_words<
 }
 
 /// Says why a file or a stream failed, below a fault.
-fn tell_why<R: FailureReason, W: FailureReason, E: Write>(
+fn tell_why<R: FailureReason, W: FailureReason, E: Sink>(
     answered: &Answered,
     input: &R,
     out: &W,
@@ -93,7 +92,7 @@ fn tell_why<R: FailureReason, W: FailureReason, E: Write>(
 }
 
 /// Says why a stream failed, if one failed.
-fn tell_stream<R: FailureReason, W: FailureReason, E: Write>(input: &R, out: &W, err: &mut E)
+fn tell_stream<R: FailureReason, W: FailureReason, E: Sink>(input: &R, out: &W, err: &mut E)
     ensures { (name : List ℕ) × SaysReason name (E.contents err.old) (E.contents err.new) }
 {
     match (input.reason(), out.reason()) {
@@ -112,8 +111,8 @@ pub fn answer_words<
     C: WordsReader,
     S: AsStr,
     R: Source,
-    W: Write,
-    E: Write,
+    W: Sink,
+    E: Sink,
     P: CommandProgress,
 >(
     program: &Program<'_, T, O, C>,
@@ -154,7 +153,7 @@ pub fn answer_words<
 }
 
 /// Says a fault that comes before a command.
-fn told<E: Write>(failed: Failed, err: &mut E) -> Answered
+fn told<E: Sink>(failed: Failed, err: &mut E) -> Answered
     ensures status { result.status ≡ fault_status }
     ensures said { Says (E.contents err.old) (E.contents err.new) (fault_text failed.fault) }
 {
@@ -176,7 +175,7 @@ fn fault_of(fault: WordsFault) -> Fault
 }
 
 /// Performs a request on the file at this path.
-fn answer_on_file<T: Threads + Wait + Sync, O: Opener, C, W: Write, E: Write, P: CommandProgress>(
+fn answer_on_file<T: Threads + Wait + Sync, O: Opener, C, W: Sink, E: Sink, P: CommandProgress>(
     program: &Program<'_, T, O, C>,
     request: &Request,
     path: String,
@@ -210,7 +209,7 @@ fn answer_on_file<T: Threads + Wait + Sync, O: Opener, C, W: Write, E: Write, P:
 }
 
 /// Performs a request on this input.
-fn performed<T: Threads + Wait + Sync, O, C, R: Source, W: Write, E: Write, P: CommandProgress>(
+fn performed<T: Threads + Wait + Sync, O, C, R: Source, W: Sink, E: Sink, P: CommandProgress>(
     program: &Program<'_, T, O, C>,
     request: &Request,
     input: &mut R,

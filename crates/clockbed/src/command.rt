@@ -7,15 +7,14 @@ use crate::outside::{Clap, NoFiles};
 use bench_space::Silent;
 use std::alloc::Global;
 use std::convert::AsStr;
-use std::io::Write;
 use std::sync::Wait;
 use std::thread::Threads;
-use stream_io::Source;
+use stream_io::{Sink, Source};
 
 /// Does what the words ask for, of which the first is the program's name, and answers the exit status: 0 done, 1
 /// fault or mismatch, 2 refused, 3 a violation, 4 not finished. There are no files. What `err` does not take is
 /// dropped.
-pub fn command<T: Threads + Wait + Sync, S: AsStr, R: Source, W: Write, E: Write>(
+pub fn command<T: Threads + Wait + Sync, S: AsStr, R: Source, W: Sink, E: Sink>(
     rt: &T,
     alloc: Global,
     words: &[S],

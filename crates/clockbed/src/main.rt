@@ -23,9 +23,10 @@ use std::rt::Stderr;
 use std::sync::Wait;
 use std::thread::Threads;
 use std::{env, io};
+use stream_io::Tracked;
 
 fn main(rt: HostRuntime) -> ExitCode {
-    let mut err = rt.stderr();
+    let mut err = Tracked::of(rt.stderr());
     let status = match words_of(&rt) {
         Ok(words) => run_on_host(&rt, &rt, words.as_slice(), &mut err),
         Err(fault) => fault.tell(&mut err),
@@ -67,14 +68,19 @@ fn run_on_host<T: Threads + Wait + Sync>(
     rt: &HostRuntime,
     threads: &T,
     words: &[String],
-    err: &mut Stderr,
+    err: &mut Tracked<Stderr>,
 ) -> u8 {
     let stdout = rt.stdout();
-    let is_told = err.is_terminal();
+    let is_told = err.stream.is_terminal();
     let is_apart = is_told && !stdout.is_terminal();
     let keys = Cell::new(None);
     let mut input = Reasoned::of(rt.stdin());
-    let mut out = SweepProgress::new(Reasoned::of(stdout), terminal_if(rt, is_apart), rt, &keys);
+    let mut out = SweepProgress::new(
+        Reasoned::of(Tracked::of(stdout)),
+        terminal_if(rt, is_apart),
+        rt,
+        &keys,
+    );
     let mut progress = SearchProgress::new(terminal_if(rt, is_told), rt, &keys);
     let program = Program {
         threads,

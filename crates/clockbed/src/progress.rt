@@ -7,6 +7,7 @@ use std::cell::Cell;
 use std::io;
 use std::io::Write;
 use std::time::{Clock, Duration, Instant};
+use stream_io::Sink;
 
 /// A caller that is told how far a command is.
 pub trait CommandProgress: Progress {
@@ -52,23 +53,44 @@ impl<'a, W: Write, E: Write, C: Clock> SweepProgress<'a, W, E, C> {
             lines: 0,
         }
     }
+
+    /// Counts the lines of these bytes, which were taken, and tells how many keys went by.
+    fn pass(&mut self, taken: &[u8])
+        ensures { self.new.out ≡ self.old.out }
+    {
+        self.lines = self.lines.saturating_add(lines_in(taken));
+        if let (Some(terminal), Some(keys)) = (&mut self.terminal, self.keys.get()) {
+            let time = passed(&self.began, self.clock);
+            tell(terminal, self.lines.saturating_sub(1), keys, time);
+        }
+    }
 }
 
 impl<W: Write, E: Write, C: Clock> Write for SweepProgress<'_, W, E, C> {
     ghost contents = { λ p. W.contents p.out };
 
     fn write(&mut self, buf: &[u8]) -> io::Result<usize> {
-        let taken = self.out.write(buf)?;
-        self.lines = self.lines.saturating_add(lines_in(&buf[..taken]));
-        if let (Some(terminal), Some(keys)) = (&mut self.terminal, self.keys.get()) {
-            let time = passed(&self.began, self.clock);
-            tell(terminal, self.lines.saturating_sub(1), keys, time);
+        let count = self.out.write(buf);
+        if let Ok(taken) = count {
+            self.pass(&buf[..taken]);
         }
-        Ok(taken)
+        count
     }
 
     fn flush(&mut self) -> io::Result<()> {
         self.out.flush()
+    }
+}
+
+impl<W: Sink, E: Write, C: Clock> Sink for SweepProgress<'_, W, E, C> {
+    ghost has_failed = { λ p. W.has_failed p.out };
+
+    fn write_once(&mut self, buf: &[u8]) -> io::Result<usize> {
+        let count = self.out.write_once(buf);
+        if let Ok(taken) = count {
+            self.pass(&buf[..taken]);
+        }
+        count
     }
 }
 

@@ -6,7 +6,7 @@ ghost use Rattle.clockbed.specs.Reasons.{SaysReason};
 use std::fmt::InlineText;
 use std::io;
 use std::io::{Read, Write};
-use stream_io::{Source, write_fully};
+use stream_io::{Sink, Source, write_fully};
 
 /// A stream that keeps why it failed.
 pub trait FailureReason {
@@ -75,6 +75,18 @@ impl<W: Write> Write for Reasoned<W> {
     }
 }
 
+impl<W: Sink> Sink for Reasoned<W> {
+    ghost has_failed = { λ w. W.has_failed w.stream };
+
+    fn write_once(&mut self, buf: &[u8]) -> io::Result<usize> {
+        let count = self.stream.write_once(buf);
+        if let Err(error) = count {
+            self.reason = Some(error);
+        }
+        count
+    }
+}
+
 /// Why a file could not be read.
 #[derive(Drop)]
 pub struct FileReason {
@@ -86,7 +98,7 @@ pub struct FileReason {
 const REASON_BYTES: usize = 512;
 
 /// Says in a line why the stream of this name failed, with no memory of its own. What `err` does not take is dropped.
-pub fn tell_reason<E: Write>(err: &mut E, name: &str, error: io::Error)
+pub fn tell_reason<E: Sink>(err: &mut E, name: &str, error: io::Error)
     ensures { SaysReason name.now (E.contents err.old) (E.contents err.new) }
 {
     match write_fully(err, name.as_bytes()) {
@@ -99,7 +111,7 @@ pub fn tell_reason<E: Write>(err: &mut E, name: &str, error: io::Error)
 }
 
 /// Says a reason behind a name.
-fn say_reason<E: Write>(err: &mut E, reason: &str)
+fn say_reason<E: Sink>(err: &mut E, reason: &str)
     ensures { Says (E.contents err.old) (E.contents err.new) (codes ": " ++ reason.now) }
 {
     match write_fully(err, b": ") {

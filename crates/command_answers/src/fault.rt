@@ -10,8 +10,7 @@ ghost use Rattle.command_answers.specs.declared.fault.TheConstants.{LINE_BYTES};
 use itoa::Buffer;
 use std::alloc::Global;
 use std::fmt::{InlineText, Write as _};
-use std::io::Write;
-use stream_io::{WriteFault, write_fully};
+use stream_io::{Sink, WriteFault, write_fully};
 
 /// Why a command gave no whole answer.
 #[derive(Debug, Drop)]
@@ -59,7 +58,7 @@ impl Fault {
 
     /// Says it on standard error, with no memory of its own, and answers the exit status.
     /// What `err` does not take is dropped.
-    pub fn tell<E: Write>(&self, err: &mut E) -> u8
+    pub fn tell<E: Sink>(&self, err: &mut E) -> u8
         ensures status { result ≡ fault_status }
         ensures said { Says (E.contents err.old) (E.contents err.new) (fault_text self.now) }
     {
@@ -68,7 +67,7 @@ impl Fault {
     }
 
     /// Says it, up to the first call of `write` that fails.
-    fn say<E: Write>(&self, err: &mut E) -> Result<(), WriteFault>
+    fn say<E: Sink>(&self, err: &mut E) -> Result<(), WriteFault>
         ensures whole { OnOk result (Appends (E.contents err.old) (E.contents err.new) (fault_text self.now)) }
         ensures part { IfErr result (λ fault. fault.written < length (fault_text self.now)) }
         ensures prefix { IfErr result (λ fault.

@@ -6,11 +6,12 @@
 //!
 //! ```
 //! use command_answers::{Ending, Input, program_input, write_whole};
+//! use stream_io::Tracked;
 //!
 //! assert_eq!(rt; program_input(true), Input::Text);
-//! let mut written = Vec::new(rt.alloc());
+//! let mut written = Tracked::of(Vec::new(rt.alloc()));
 //! let ending = write_whole(&mut written, b"accepted", Ending::Done).map_err(|_| "a fault")?;
-//! assert_eq!(rt; (ending.status(), written.len()), (0, 8));
+//! assert_eq!(rt; (ending.status(), written.stream.len()), (0, 8));
 //! ```
 #![tactic(auto)]
 

@@ -15,9 +15,8 @@ use rule_text::read_rule;
 use scenario_notes::{note_on, note_on_text};
 use scenario_text::Scenario;
 use std::alloc::Global;
-use std::io::Write;
 use std::str;
-use stream_io::write_fully;
+use stream_io::{Sink, write_fully};
 
 /// How an ELF file begins.
 const ELF_BEGINNING: &[u8] = b"\x7fELF";
@@ -219,7 +218,7 @@ pub fn place_note(alloc: Global, place: NodeInPulse, scenario: &Scenario) -> Opt
 }
 
 /// Says a note, if there is memory for its text, up to the first call of `write` that fails or takes nothing.
-pub(crate) fn say<E: Write>(alloc: Global, note: &Note, err: &mut E)
+pub(crate) fn say<E: Sink>(alloc: Global, note: &Note, err: &mut E)
     ensures { SaysNote (E.contents err.old) (E.contents err.new) }
 {
     if let Some(text) = note.text(alloc) {
@@ -227,7 +226,7 @@ pub(crate) fn say<E: Write>(alloc: Global, note: &Note, err: &mut E)
     }
 }
 
-fn say_text<E: Write>(text: &[u8], err: &mut E)
+fn say_text<E: Sink>(text: &[u8], err: &mut E)
     requires note { IsNote text.now }
     ensures { SaysNote (E.contents err.old) (E.contents err.new) }
 {

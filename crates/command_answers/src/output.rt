@@ -6,11 +6,10 @@ ghost use Rattle.command_answers.specs.Output.{Leaves};
 
 use crate::ending::Ending;
 use crate::fault::Fault;
-use std::io::Write;
-use stream_io::write_fully;
+use stream_io::{Sink, write_fully};
 
 /// Writes all the bytes, and stops at the first call of `write` that fails or takes nothing.
-pub fn write_text<W: Write>(out: &mut W, text: &[u8]) -> Result<(), Fault>
+pub fn write_text<W: Sink>(out: &mut W, text: &[u8]) -> Result<(), Fault>
     ensures whole { OnOk result (Appends (W.contents out.old) (W.contents out.new) text.now) }
     ensures cut { IfErr result (IsCut (W.contents out.old) (W.contents out.new) text.now) }
 {
@@ -20,7 +19,7 @@ pub fn write_text<W: Write>(out: &mut W, text: &[u8]) -> Result<(), Fault>
 }
 
 /// Writes the whole text of an answer, with which the command ends so.
-pub fn write_whole<W: Write>(out: &mut W, text: &[u8], ending: Ending) -> Result<Ending, Fault>
+pub fn write_whole<W: Sink>(out: &mut W, text: &[u8], ending: Ending) -> Result<Ending, Fault>
     ensures { Leaves (W.contents out.old) (W.contents out.new) text.now ending result }
 {
     write_text(out, text)?;

@@ -18,7 +18,7 @@ use rule_programs::RuleRefusal;
 use scenario_text::{RefusalLine, Rejected};
 use std::alloc::Global;
 use std::fmt;
-use std::io::Write;
+use stream_io::Sink;
 
 /// Why there is no program to work on. Its text is the line of the refusal, without its end.
 #[derive(Clone, Copy, Debug, PartialEq, Eq)]
@@ -68,7 +68,7 @@ pub fn rejected(alloc: Global, rejection: &Rejection, bytes: &[u8]) -> Result<Re
 }
 
 /// Writes the line of a rejection of these bytes, and says the note on it on `err`.
-pub fn reject<W: Write, E: Write>(
+pub fn reject<W: Sink, E: Sink>(
     alloc: Global,
     rejection: &Rejection,
     bytes: &[u8],

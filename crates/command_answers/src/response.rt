@@ -9,7 +9,7 @@ use crate::note::say;
 use crate::output::write_text;
 use rule_notes::Note;
 use std::alloc::Global;
-use std::io::Write;
+use stream_io::Sink;
 
 /// The text of an answer, how the command ends, and the note on it.
 #[derive(Drop)]
@@ -48,7 +48,7 @@ impl Response {
 
 /// Writes the text of a response, and then says its note on `err`.
 #[tactic(auto, using(crate::proofs::SaidLemmas::said_at))]
-fn write_response<W: Write, E: Write>(
+fn write_response<W: Sink, E: Sink>(
     alloc: Global,
     response: &Response,
     out: &mut W,
@@ -67,7 +67,7 @@ fn write_response<W: Write, E: Write>(
 }
 
 /// Writes the response, if there is one.
-pub fn give<W: Write, E: Write>(
+pub fn give<W: Sink, E: Sink>(
     alloc: Global,
     given: Result<Response, Fault>,
     out: &mut W,

@@ -6,9 +6,11 @@
 //! use bench_space::Silent;
 //! use commands::perform::perform;
 //! use requests::Request;
+//! use stream_io::Tracked;
 //!
 //! let (mut text, request): (&[u8], Request) = (b"exit", Request::Asm { list: false });
-//! let (mut out, mut err) = (Vec::new(rt.alloc()), Vec::new(rt.alloc()));
+//! let mut out = Tracked::of(Vec::new(rt.alloc()));
+//! let mut err = Tracked::of(Vec::new(rt.alloc()));
 //! let status = perform(
 //!     &rt,
 //!     rt.alloc(),
@@ -18,7 +20,7 @@
 //!     &mut err,
 //!     &mut Silent,
 //! );
-//! assert_eq!(rt; (status, out.len(), err.len()), (0, 8, 0));
+//! assert_eq!(rt; (status, out.stream.len(), err.stream.len()), (0, 8, 0));
 //! ```
 #![tactic(auto)]
 

@@ -18,15 +18,14 @@ use program_commands::verify::verify;
 use requests::Request;
 use run_commands::stress::stress;
 use std::alloc::Global;
-use std::io::Write;
 use std::sync::Wait;
 use std::thread::Threads;
-use stream_io::Source;
+use stream_io::{Sink, Source};
 
 /// Runs the command, says its fault or the note on its refusal on `err`, and answers the exit status: 0 done, 1 fault
 /// or mismatch, 2 refused, 3 a violation, 4 not finished. What `err` does not take is dropped. `progress` is shown how
 /// far an exploration is.
-pub fn perform<T: Threads + Wait + Sync, R: Source, W: Write, E: Write, P: Progress>(
+pub fn perform<T: Threads + Wait + Sync, R: Source, W: Sink, E: Sink, P: Progress>(
     rt: &T,
     alloc: Global,
     request: &Request,
@@ -47,7 +46,7 @@ pub fn perform<T: Threads + Wait + Sync, R: Source, W: Write, E: Write, P: Progr
 }
 
 /// Reads what the request reads, and runs its command.
-fn carry_out<T: Threads + Wait + Sync, R: Source, W: Write, E: Write, P: Progress>(
+fn carry_out<T: Threads + Wait + Sync, R: Source, W: Sink, E: Sink, P: Progress>(
     rt: &T,
     alloc: Global,
     request: &Request,
@@ -85,7 +84,7 @@ fn input_of(request: &Request) -> Input
 }
 
 /// Runs the command of a request on the bytes of its input, or says why these are rejected.
-fn respond<T: Threads + Wait + Sync, W: Write, E: Write, P: Progress>(
+fn respond<T: Threads + Wait + Sync, W: Sink, E: Sink, P: Progress>(
     rt: &T,
     alloc: Global,
     request: &Request,

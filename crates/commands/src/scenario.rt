@@ -18,12 +18,12 @@ use run_commands::traced_run::traced_run;
 use scenario_text::laws::front_reads_as_whole;
 use scenario_text::{Rejected, Scenario, ScenarioError, parse_scenario};
 use std::alloc::Global;
-use std::io::Write;
 use std::sync::Wait;
 use std::thread::Threads;
+use stream_io::Sink;
 
 /// Does what is asked for on the scenario of a text that begins with these bytes.
-pub(crate) fn scenario_bytes<T: Threads + Wait + Sync, W: Write, E: Write, P: Progress>(
+pub(crate) fn scenario_bytes<T: Threads + Wait + Sync, W: Sink, E: Sink, P: Progress>(
     rt: &T,
     alloc: Global,
     asked: &ScenarioRequest,
@@ -63,7 +63,7 @@ fn scenario_read(alloc: Global, bytes: &[u8]) -> Result<Result<Scenario, Rejecte
 }
 
 /// Does what is asked for on a scenario that was read.
-fn on_scenario<T: Threads + Wait + Sync, W: Write, E: Write, P: Progress>(
+fn on_scenario<T: Threads + Wait + Sync, W: Sink, E: Sink, P: Progress>(
     rt: &T,
     alloc: Global,
     asked: &ScenarioRequest,

@@ -8,7 +8,7 @@ use std::fs::File;
 use std::process::ExitCode;
 use std::sync::Wait;
 use std::thread::Threads;
-use stream_io::{Counted, Source};
+use stream_io::{Counted, Source, Tracked};
 
 /// The workers of a pulse: the report is the same for any number of them.
 const WORKERS: u32 = 1;
@@ -38,7 +38,8 @@ fn report<T: Threads + Wait + Sync, R: Source>(
     threads: &T,
     input: &mut R,
 ) -> ExitCode {
-    match run_scenario(threads, rt.alloc(), input, &mut rt.stdout(), WORKERS) {
+    let mut out = Tracked::of(rt.stdout());
+    match run_scenario(threads, rt.alloc(), input, &mut out, WORKERS) {
         Ok(()) => ExitCode::SUCCESS,
         Err(ScenarioFault::Write { .. }) => ExitCode::FAILURE,
         Err(_) => ExitCode::from(UNANSWERED),

@@ -6,6 +6,7 @@
 //! ```
 //! use key_sweep::{KeySpan, sweep};
 //! use scenario_text::scenario_in;
+//! use stream_io::Tracked;
 //!
 //! let text = b"version = 2
 //! nodes = 4
@@ -18,9 +19,9 @@
 //! ";
 //! let scenario = scenario_in(rt.alloc(), text).map_err(|_| "no scenario")?;
 //! let keys = KeySpan::of(1, 3).ok_or("no keys")?;
-//! let mut rows = Vec::new(rt.alloc());
+//! let mut rows = Tracked::of(Vec::new(rt.alloc()));
 //! assert!(rt; sweep(&rt, rt.alloc(), &scenario, keys, 2, &mut rows).is_ok());
-//! assert_eq!(rt; rows.as_slice().split(|byte| *byte == 10).count(), 5);
+//! assert_eq!(rt; rows.stream.as_slice().split(|byte| *byte == 10).count(), 5);
 //! ```
 #![tactic(auto)]
 

@@ -8,10 +8,9 @@ use crate::rows::{names_row, rows_text};
 use parameters::KeySpan;
 use scenario_text::{Coins, Scenario};
 use std::alloc::Global;
-use std::io::Write;
 use std::sync::Wait;
 use std::thread::Threads;
-use stream_io::{PartFault, write_part};
+use stream_io::{PartFault, Sink, write_part};
 use thiserror::Error;
 
 /// The most workers that are of use: one for each key that is shared out at once.
@@ -58,7 +57,7 @@ fn are_drawn(coins: Coins) -> bool
 }
 
 /// Runs the keys block by block, and writes their lines.
-fn write_keys<T: Threads + Wait + Sync, W: Write>(
+fn write_keys<T: Threads + Wait + Sync, W: Sink>(
     rt: &T,
     alloc: Global,
     scenario: &Scenario,
@@ -97,7 +96,7 @@ fn write_keys<T: Threads + Wait + Sync, W: Write>(
 /// Runs a scenario that was read, of which something is drawn by a key, with each of these keys in place of its own,
 /// and writes a line for each, in their order, after one of names. Each of at most this many workers runs whole
 /// scenarios; where no thread can be started, the caller's runs them.
-pub fn sweep<T: Threads + Wait + Sync, W: Write>(
+pub fn sweep<T: Threads + Wait + Sync, W: Sink>(
     rt: &T,
     alloc: Global,
     scenario: &Scenario,

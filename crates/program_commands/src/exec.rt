@@ -17,10 +17,10 @@ use command_answers::{Answer, Ending, Fault, LeftByRun, Rejection, add_left, rej
 use node_env::{Outbox, Shape};
 use requests::ExecOptions;
 use std::alloc::{AllocError, Global};
-use std::io::Write;
+use stream_io::Sink;
 
 /// Runs the program of these bytes.
-pub fn exec_bytes<W: Write, E: Write>(
+pub fn exec_bytes<W: Sink, E: Sink>(
     alloc: Global,
     options: &ExecOptions,
     bytes: &[u8],
@@ -40,7 +40,7 @@ pub fn exec_bytes<W: Write, E: Write>(
 
 /// Runs a program in the case that is asked for, and writes the line of the answer. If asked, it also writes the line
 /// of each step before it, and what the run leaves after it.
-pub(crate) fn exec<W: Write>(
+pub(crate) fn exec<W: Sink>(
     alloc: Global,
     options: &ExecOptions,
     read: &ProgramRead,
@@ -128,7 +128,7 @@ fn text_of(alloc: Global, options: &ExecOptions, reply: &Reply) -> Result<String
 }
 
 /// Writes what is told of a reply.
-pub(crate) fn write_reply<W: Write>(
+pub(crate) fn write_reply<W: Sink>(
     alloc: Global,
     options: &ExecOptions,
     reply: &Reply,

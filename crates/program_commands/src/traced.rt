@@ -13,11 +13,10 @@ use node_env::{Env, Outbox, Shape};
 use requests::ExecOptions;
 use run_trace::trace;
 use std::alloc::{AllocError, Global};
-use std::io::Write;
-use stream_io::PartFault;
+use stream_io::{PartFault, Sink};
 
 /// Writes the line of each step of the run of a program, and then what is told of its answer.
-pub(crate) fn trace_program<W: Write>(
+pub(crate) fn trace_program<W: Sink>(
     alloc: Global,
     shape: Shape,
     program: &Program,
@@ -53,7 +52,7 @@ fn case_parts(
 }
 
 /// Returns the run of a program in the case that is asked for, whose steps are told, and how many bytes were written.
-fn trace_case<W: Write>(
+fn trace_case<W: Sink>(
     alloc: Global,
     shape: Shape,
     program: &Program,

@@ -11,14 +11,13 @@ use requests::{LinesOptions, PulseSpan};
 use run_lines::{LinesFault, tell_lines};
 use scenario_text::Scenario;
 use std::alloc::Global;
-use std::io::Write;
 use std::sync::Wait;
 use std::thread::Threads;
-use stream_io::PartFault;
+use stream_io::{PartFault, Sink};
 
 /// Writes the lines of the run of a scenario that was read. If that is to be checked, the ending tells of a pulse that
 /// doesn't agree.
-pub fn lines<T: Threads + Wait + Sync, W: Write>(
+pub fn lines<T: Threads + Wait + Sync, W: Sink>(
     rt: &T,
     alloc: Global,
     options: LinesOptions,

@@ -23,6 +23,7 @@ use run_trace::{ListedRun, RuleCode, listed_trace, more_fuel_tells_no_more, trac
 use scenario_text::Scenario;
 use std::alloc::{AllocError, Global};
 use std::fmt::Write as _;
+use stream_io::Tracked;
 
 /// How a node's run ended, and what it left.
 #[derive(Drop)]
@@ -178,11 +179,11 @@ fn plain_lines(
     ensures lines { IfOk result (λ ran. ran.listing.items
         ≡ trace_text program.now (steps_of program.now env.now memory.old fuel)) }
 {
-    let mut listing = Vec::new(alloc);
+    let mut listing = Tracked::of(Vec::new(alloc));
     match trace(alloc, program, env, memory, outbox, fuel, &mut listing) {
         Ok(traced) => Ok(ListedRun {
             outcome: traced.outcome,
-            listing,
+            listing: listing.stream,
         }),
         Err(_) => Err(AllocError),
     }

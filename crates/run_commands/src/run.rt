@@ -11,13 +11,13 @@ use command_answers::{Ending, Fault};
 use requests::RunOptions;
 use scenario_text::Scenario;
 use std::alloc::Global;
-use std::io::Write;
 use std::sync::Wait;
 use std::thread::Threads;
+use stream_io::Sink;
 
 /// Writes the report of the run of a scenario that was read. If that is to be checked, the ending tells of a pulse that
 /// doesn't agree. Clamps the number of workers to `1..=MAX_WORKERS`.
-pub fn run<T: Threads + Wait + Sync, W: Write>(
+pub fn run<T: Threads + Wait + Sync, W: Sink>(
     rt: &T,
     alloc: Global,
     options: RunOptions,

@@ -13,13 +13,12 @@ use key_sweep::{MAX_SWEEPERS, SweepFault};
 use requests::SweepOptions;
 use scenario_text::Scenario;
 use std::alloc::Global;
-use std::io::Write;
 use std::sync::Wait;
 use std::thread::{Threads, available_parallelism};
-use stream_io::PartFault;
+use stream_io::{PartFault, Sink};
 
 /// Writes a line for each of the keys of a scenario that was read, or the line that refuses it, with the note on it.
-pub fn sweep<T: Threads + Wait + Sync, W: Write, E: Write>(
+pub fn sweep<T: Threads + Wait + Sync, W: Sink, E: Sink>(
     rt: &T,
     alloc: Global,
     options: SweepOptions,

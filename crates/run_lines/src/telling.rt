@@ -13,13 +13,12 @@ use bench_workers::MAX_WORKERS;
 use parameters::{LineFormat, LinesForm};
 use scenario_text::Scenario;
 use std::alloc::Global;
-use std::io::Write;
 use std::sync::Wait;
 use std::thread::Threads;
-use stream_io::{PartFault, write_part};
+use stream_io::{PartFault, Sink, write_part};
 
 /// Writes the first line, and answers how many bytes it has.
-fn write_first<W: Write>(
+fn write_first<W: Sink>(
     alloc: Global,
     scenario: &Scenario,
     format: LineFormat,
@@ -36,7 +35,7 @@ fn write_first<W: Write>(
 /// Runs a scenario that was read, and writes its lines: the first, those of the pulses within the span, each as its
 /// pulse is closed, and the last. The answer is whether no pulse's verdict on agreement is no. One line is held at a
 /// time.
-pub fn tell_lines<T: Threads + Wait + Sync, W: Write>(
+pub fn tell_lines<T: Threads + Wait + Sync, W: Sink>(
     rt: &T,
     alloc: Global,
     scenario: &Scenario,

@@ -15,8 +15,7 @@ use bench_workers::{Shown, Stop, Watcher};
 use parameters::LinesForm;
 use scenario_text::Scenario;
 use std::alloc::Global;
-use std::io::Write;
-use stream_io::{PartFault, write_part};
+use stream_io::{PartFault, Sink, write_part};
 
 /// Returns the number of a pulse.
 fn pulse_of(shown: &Shown) -> u32
@@ -76,7 +75,7 @@ impl<'a> LineWriter<'a> {
     }
 
     /// Judges a pulse, and writes its line if it is within the span.
-    fn tell<W: Write>(&mut self, out: &mut W, shown: &Shown) -> Result<(), PartFault>
+    fn tell<W: Sink>(&mut self, out: &mut W, shown: &Shown) -> Result<(), PartFault>
         ensures told { OnOk result (TellsPulse W.contents self.old out.old (seen_of shown.now) self.new out.new) }
         ensures fault { IfErr result (IsPartFault (W.contents out.old) (W.contents out.new) self.old.written
             (line_within self.old.scenario.now self.old.form (seen_of shown.now))) }
@@ -95,7 +94,7 @@ impl<'a> LineWriter<'a> {
     }
 
     /// Writes the last line, and answers whether no pulse's verdict on agreement is no.
-    pub(crate) fn write_last<W: Write>(
+    pub(crate) fn write_last<W: Sink>(
         &self,
         records: &[PulseRecord],
         out: &mut W,
@@ -114,7 +113,7 @@ impl<'a> LineWriter<'a> {
     }
 }
 
-impl<'a, W: Write> Watcher<W> for LineWriter<'a> {
+impl<'a, W: Sink> Watcher<W> for LineWriter<'a> {
     ghost use Rattle.run_lines.specs.inner.Writing.{KeepsReason, TellsPulse};
 
     ghost tells = { TellsPulse W.contents };

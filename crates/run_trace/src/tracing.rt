@@ -13,8 +13,7 @@ use bpf_insn::Program;
 use bpf_machine::{Outcome, State, Turn};
 use node_env::{Env, Outbox};
 use std::alloc::Global;
-use std::io::Write;
-use stream_io::{PartFault, write_part};
+use stream_io::{PartFault, Sink, write_part};
 
 /// What a run came to whose steps were told, and how many bytes were written: no more are counted than the number has
 /// room for.
@@ -25,7 +24,7 @@ pub struct Traced {
 }
 
 /// Writes the line with its end after this many bytes, and answers how many there are then.
-fn write_line<W: Write>(
+fn write_line<W: Sink>(
     alloc: Global,
     out: &mut W,
     before: u64,
@@ -43,7 +42,7 @@ fn write_line<W: Write>(
 /// Runs a program as `run_checked` of `bpf_machine` does, and writes a line for each step once it is taken, and for the
 /// state in which the run gets stuck (docs/COMMANDS.md, "A trace"). The outbox is emptied first. `memory` is the
 /// node's, and `outbox` has a slot for each node. After a fault they hold what the steps before wrote.
-pub fn trace<W: Write>(
+pub fn trace<W: Sink>(
     alloc: Global,
     program: &Program,
     env: &Env,

@@ -1,5 +1,6 @@
--- What a bounded read takes, and why it fails (docs/COMMANDS.md, "What exec, dis and verify read").
-use Rattle.std.specs.Prelude.{ℕ, ◌<◌, ◌≤◌, ◌⊎◌, Bool, IsTrue, List, length, Option}
+-- What a bounded read takes, and why it fails (docs/COMMANDS.md, "What exec, dis and verify read"); and when a write
+-- takes nothing.
+use Rattle.std.specs.Prelude.{◌≡◌, ℕ, ◌<◌, ◌≤◌, ◌⊎◌, Bool, IsTrue, List, length, Option, Result, Ok, Err}
 use Rattle.std.specs.Io.KnownBytes.{Consumes}
 use Rattle.stream_io.specs.declared.reading.ReadFault.{ReadFault}
 use Rattle.stream_io.specs.declared.reading.ReadFault.TheVariants.{Stream, Memory}
@@ -12,3 +13,8 @@ TakesAtMost limit old new = (front : List ℕ) × Consumes old new front × (len
 abbrev pub HasReadCause : (failed : Bool) (limit calls : ℕ) → ReadFault → Type 0
 HasReadCause failed limit calls Stream = IsTrue failed ⊎ (calls < limit)
 HasReadCause failed limit calls Memory = Unit {0}
+
+-- a call of `write` with these bytes failed, or took none of them, and there were some
+abbrev pub TakesNone : {E : Type 0} → Result ℕ E → List ℕ → Type 0
+TakesNone (Ok count) bytes = (count ≡ 0) × (0 < length bytes)
+TakesNone (Err error) bytes = Unit {0}

@@ -2,16 +2,16 @@
 //!
 //! - `read_at_most` returns the bytes up to the end or the limit. It reads a `Source`: a slice, or any reader in
 //!   `Counted::of`.
-//! - `write_fully` writes all bytes, or returns how many were taken.
+//! - `write_fully` writes all bytes, or returns how many were taken. It writes to a `Sink`: any writer in `Tracked::of`.
 //! - `write_part` writes a part of a longer output.
 //!
 //! ```
-//! use stream_io::{read_at_most, write_fully};
+//! use stream_io::{Tracked, read_at_most, write_fully};
 //!
 //! let mut reader: &[u8] = b"sixteen bytes it";
 //! let bytes = read_at_most(rt.alloc(), &mut reader, 7, 100).map_err(|_| "no bytes")?;
 //! assert_eq!(rt; bytes.as_slice(), b"sixteen".as_slice());
-//! let mut written = Vec::new(rt.alloc());
+//! let mut written = Tracked::of(Vec::new(rt.alloc()));
 //! assert_eq!(rt; write_fully(&mut written, &bytes), Ok(()));
 //! ```
 #![tactic(auto)]
@@ -21,12 +21,13 @@ ghost use Rattle.std.specs.Io.KnownBytes.{Appends};
 
 mod parts;
 mod reading;
+mod sink;
 mod source;
 
 pub use parts::{PartFault, write_part};
 pub use reading::{ReadFault, read_at_most};
+pub use sink::{Sink, Tracked};
 pub use source::{Counted, Source};
-use std::io::Write;
 
 #[cfg(test)]
 mod tests;
@@ -38,7 +39,7 @@ pub struct WriteFault {
 }
 
 /// Writes all the bytes, and stops at the first call of `write` that fails or takes nothing.
-pub fn write_fully<W: Write>(writer: &mut W, bytes: &[u8]) -> Result<(), WriteFault>
+pub fn write_fully<W: Sink>(writer: &mut W, bytes: &[u8]) -> Result<(), WriteFault>
     ensures all { OnOk result
         (Appends (W.contents writer.old) (W.contents writer.new) bytes.now) }
     ensures part { IfErr result (λ fault. fault.written < length bytes.now) }
@@ -47,7 +48,7 @@ pub fn write_fully<W: Write>(writer: &mut W, bytes: &[u8]) -> Result<(), WriteFa
 {
     let mut written = 0;
     while written < bytes.len() {
-        match writer.write(&bytes[written..]) {
+        match writer.write_once(&bytes[written..]) {
             Ok(0) | Err(_) => return Err(WriteFault { written }),
             Ok(count) => written += count,
         }

@@ -2,9 +2,9 @@
 ghost use Rattle.std.specs.Prelude.{IfErr, IfOk};
 ghost use Rattle.stream_io.specs.Parts.{Adds, IsPartFault};
 
+use crate::sink::Sink;
 use crate::write_fully;
 use std::alloc::AllocError;
-use std::io::Write;
 use thiserror::Error;
 
 /// Why a text that is written part by part isn't whole.
@@ -30,7 +30,7 @@ impl From<AllocError> for PartFault {
 
 /// Writes the next part of a text of which this many bytes are written, and returns how many are written then: no more
 /// than the number has room for.
-pub fn write_part<W: Write>(writer: &mut W, before: u64, part: &[u8]) -> Result<u64, PartFault>
+pub fn write_part<W: Sink>(writer: &mut W, before: u64, part: &[u8]) -> Result<u64, PartFault>
     ensures whole { IfOk result (Adds (W.contents writer.old) (W.contents writer.new) before part.now) }
     ensures fault { IfErr result (IsPartFault (W.contents writer.old) (W.contents writer.new) before part.now) }
 {

@@ -1,7 +1,9 @@
 //! Streams that give and take little at a time, fail in the middle, or take nothing.
 ghost use Rattle.std.specs.Prelude.{◌≡◌, IfOk};
 
-use crate::{Counted, PartFault, ReadFault, WriteFault, read_at_most, write_fully, write_part};
+use crate::{
+    Counted, PartFault, ReadFault, Tracked, WriteFault, read_at_most, write_fully, write_part,
+};
 use std::alloc::Global;
 use std::io;
 use std::io::{ErrorKind, Read, Write};
@@ -148,10 +150,10 @@ fn stops_at_the_bound_on_calls(rt: HostRuntime) {
 #[test]
 fn writes_all_in_small_steps(rt: HostRuntime) {
     for (step, calls) in [(1, 16), (5, 4), (16, 1), (99, 1)] {
-        let mut writer = Narrow::new(rt.alloc(), step, 99, Last::Nothing);
+        let mut writer = Tracked::of(Narrow::new(rt.alloc(), step, 99, Last::Nothing));
         assert_eq!(rt; write_fully(&mut writer, TEXT), Ok(()));
-        assert_eq!(rt; writer.taken.as_slice(), TEXT);
-        assert_eq!(rt; writer.calls, calls);
+        assert_eq!(rt; writer.stream.taken.as_slice(), TEXT);
+        assert_eq!(rt; writer.stream.calls, calls);
     }
 }
 
@@ -164,26 +166,26 @@ fn tells_how_much_was_written(rt: HostRuntime) {
     ];
     for last in ends {
         for room in 0..16usize {
-            let mut writer = Narrow::new(rt.alloc(), 1, room, last);
+            let mut writer = Tracked::of(Narrow::new(rt.alloc(), 1, room, last));
             let wrote = write_fully(&mut writer, TEXT);
             assert_eq!(rt; wrote, Err(WriteFault { written: room }));
-            assert_eq!(rt; writer.taken.as_slice(), &TEXT[..room]);
-            assert_eq!(rt; writer.calls, room as u64 + 1);
+            assert_eq!(rt; writer.stream.taken.as_slice(), &TEXT[..room]);
+            assert_eq!(rt; writer.stream.calls, room as u64 + 1);
         }
     }
 }
 
 #[test]
 fn writes_nothing_without_a_call(rt: HostRuntime) {
-    let mut writer = Narrow::new(rt.alloc(), 1, 0, Last::Nothing);
+    let mut writer = Tracked::of(Narrow::new(rt.alloc(), 1, 0, Last::Nothing));
     assert_eq!(rt; write_fully(&mut writer, b""), Ok(()));
-    assert_eq!(rt; writer.calls, 0);
+    assert_eq!(rt; writer.stream.calls, 0);
 }
 
 #[test]
 fn counts_the_bytes_of_all_parts(rt: HostRuntime) {
     for room in 0..=16usize {
-        let mut writer = Narrow::new(rt.alloc(), 3, room, Last::Nothing);
+        let mut writer = Tracked::of(Narrow::new(rt.alloc(), 3, room, Last::Nothing));
         let front = write_part(&mut writer, 0, &TEXT[..10]);
         if room < 10 {
             let written = room as u64;
@@ -199,6 +201,6 @@ fn counts_the_bytes_of_all_parts(rt: HostRuntime) {
             };
             assert_eq!(rt; whole, wanted);
         }
-        assert_eq!(rt; writer.taken.as_slice(), &TEXT[..room]);
+        assert_eq!(rt; writer.stream.taken.as_slice(), &TEXT[..room]);
     }
 }

@@ -9,6 +9,7 @@ use scenario_text::{Place, Scenario, ScenarioError, scenario_in};
 use std::alloc::Global;
 use std::sync::Wait;
 use std::thread::Threads;
+use stream_io::Tracked;
 
 const TEXT: &[u8] = b"nodes = 4
 faults = 1
@@ -118,11 +119,11 @@ pub fn runs<R: Threads + Wait + Sync>(rt: &R, alloc: Global, workers: u32) -> Re
 fn written<R: Threads + Wait + Sync>(rt: &R, alloc: Global, workers: u32) -> Result<Vec<u8>, Stop> {
     let workers = workers.clamp(1, MAX_WORKERS);
     let mut reader = TEXT;
-    let mut writer = Vec::with_capacity(alloc, REPORT.len())?;
+    let mut writer = Tracked::of(Vec::with_capacity(alloc, REPORT.len())?);
     match run_scenario(rt, alloc, &mut reader, &mut writer, workers) {
-        Ok(()) => Ok(writer),
+        Ok(()) => Ok(writer.stream),
         Err(fault) => {
-            expect(writer.is_empty(), Wrong::Changed)?;
+            expect(writer.stream.is_empty(), Wrong::Changed)?;
             Err(stop_of_scenario(fault))
         }
     }

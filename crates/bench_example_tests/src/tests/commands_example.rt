@@ -2,11 +2,13 @@ use bench_space::Silent;
 use commands::perform::perform;
 use requests::Request;
 use std::test::Fail;
+use stream_io::Tracked;
 
 #[test]
 fn commands_example(rt: HostRuntime) -> Result<(), Fail> {
     let (mut text, request): (&[u8], Request) = (b"exit", Request::Asm { list: false });
-    let (mut out, mut err) = (Vec::new(rt.alloc()), Vec::new(rt.alloc()));
+    let mut out = Tracked::of(Vec::new(rt.alloc()));
+    let mut err = Tracked::of(Vec::new(rt.alloc()));
     let status = perform(
         &rt,
         rt.alloc(),
@@ -16,6 +18,6 @@ fn commands_example(rt: HostRuntime) -> Result<(), Fail> {
         &mut err,
         &mut Silent,
     );
-    assert_eq!(rt; (status, out.len(), err.len()), (0, 8, 0));
+    assert_eq!(rt; (status, out.stream.len(), err.stream.len()), (0, 8, 0));
     Ok(())
 }

@@ -2,6 +2,7 @@ use bpf_asm::assemble;
 use node_env::{Env, Mail, Outbox, Shape};
 use run_trace::trace;
 use std::test::Fail;
+use stream_io::Tracked;
 
 #[test]
 fn run_trace_example(rt: HostRuntime) -> Result<(), Fail> {
@@ -9,7 +10,7 @@ fn run_trace_example(rt: HostRuntime) -> Result<(), Fail> {
     let shape = Shape::of(4, 8).ok_or("no shape")?;
     let env = Env::with_mail(rt.alloc(), shape, 0, &Mail::new(rt.alloc(), shape)?, 1)?;
     let mut outbox = Outbox::new(rt.alloc(), shape)?;
-    let (mut lines, mut memory) = (Vec::new(rt.alloc()), [0; 8]);
+    let (mut lines, mut memory) = (Tracked::of(Vec::new(rt.alloc())), [0; 8]);
     let traced = trace(
         rt.alloc(),
         &program,
@@ -19,6 +20,7 @@ fn run_trace_example(rt: HostRuntime) -> Result<(), Fail> {
         9,
         &mut lines,
     );
-    assert!(rt; traced.is_ok() && lines.as_slice().starts_with(b"step 1 slot 0 mov64 r0, 7 #"));
+    let told = lines.stream.as_slice();
+    assert!(rt; traced.is_ok() && told.starts_with(b"step 1 slot 0 mov64 r0, 7 #"));
     Ok(())
 }
