@@ -1,5 +1,5 @@
 -- A text that is written part by part (docs/COMMANDS.md, "Faults").
-use Rattle.std.specs.Prelude.{◌≡◌, ℕ, ◌-◌, ◌^◌, ◌<◌, min, List, ◌++◌, length, take, Option}
+use Rattle.std.specs.Prelude.{◌≡◌, ℕ, ◌-◌, ◌^◌, ◌<◌, min, Bool, IsTrue, List, ◌++◌, length, take, Option}
 use Rattle.std.specs.Io.KnownBytes.{Appends, Keeps}
 use Rattle.stream_io.specs.declared.parts.PartFault.{PartFault}
 use Rattle.stream_io.specs.declared.parts.PartFault.TheVariants as faults
@@ -30,3 +30,8 @@ abbrev pub IsPartFault : (old new : Option (List ℕ)) (before : ℕ) (part : Li
 IsPartFault old new before part (faults.Write written) =
     (start : Option (List ℕ)) (text : List ℕ) → Wrote start old text before → Breaks start new (text ++ part) written
 IsPartFault old new before part faults.Memory = Keeps old new
+
+-- a call of `write` failed or took nothing; or memory ran out
+abbrev pub HasPartCause : (failed : Bool) → PartFault → Type 0
+HasPartCause failed (faults.Write written) = IsTrue failed
+HasPartCause failed faults.Memory = Unit {0}

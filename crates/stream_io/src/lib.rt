@@ -16,7 +16,7 @@
 //! ```
 #![tactic(auto)]
 
-ghost use Rattle.std.specs.Prelude.{◌<◌, IfErr, OnOk, length, take};
+ghost use Rattle.std.specs.Prelude.{◌<◌, IfErr, IsTrue, OnOk, length, take};
 ghost use Rattle.std.specs.Io.KnownBytes.{Appends};
 
 mod parts;
@@ -45,6 +45,7 @@ pub fn write_fully<W: Sink>(writer: &mut W, bytes: &[u8]) -> Result<(), WriteFau
     ensures part { IfErr result (λ fault. fault.written < length bytes.now) }
     ensures prefix { IfErr result (λ fault.
         Appends (W.contents writer.old) (W.contents writer.new) (take fault.written bytes.now)) }
+    ensures cause { IfErr result (λ _. IsTrue (W.has_failed writer.new)) }
 {
     let mut written = 0;
     while written < bytes.len() {

@@ -1,6 +1,6 @@
 //! A text that is written part by part, and how many of its bytes are written.
 ghost use Rattle.std.specs.Prelude.{IfErr, IfOk};
-ghost use Rattle.stream_io.specs.Parts.{Adds, IsPartFault};
+ghost use Rattle.stream_io.specs.Parts.{Adds, HasPartCause, IsPartFault};
 
 use crate::sink::Sink;
 use crate::write_fully;
@@ -33,6 +33,7 @@ impl From<AllocError> for PartFault {
 pub fn write_part<W: Sink>(writer: &mut W, before: u64, part: &[u8]) -> Result<u64, PartFault>
     ensures whole { IfOk result (Adds (W.contents writer.old) (W.contents writer.new) before part.now) }
     ensures fault { IfErr result (IsPartFault (W.contents writer.old) (W.contents writer.new) before part.now) }
+    ensures cause { IfErr result (HasPartCause (W.has_failed writer.new)) }
 {
     match write_fully(writer, part) {
         Ok(()) => Ok(before.saturating_add(part.len() as u64)),
