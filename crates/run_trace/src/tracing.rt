@@ -5,7 +5,7 @@ ghost use Rattle.bpf_machine.specs.Run.{RunAnswers};
 ghost use Rattle.run_trace.specs.Steps.{steps_of};
 ghost use Rattle.run_trace.specs.Traces.{LeavesTrace};
 ghost use Rattle.run_trace.specs.inner.Parts.{step_line_in};
-ghost use Rattle.stream_io.specs.Parts.{Adds, IsPartFault};
+ghost use Rattle.stream_io.specs.Parts.{Adds, HasPartCause, IsPartFault};
 
 use crate::line::Line;
 use crate::telling::told_step;
@@ -34,6 +34,7 @@ fn write_line<W: Sink>(
         (Adds (W.contents out.old) (W.contents out.new) before (step_line_in line.now ++ codes "\n")) }
     ensures fault { IfErr result
         (IsPartFault (W.contents out.old) (W.contents out.new) before (step_line_in line.now ++ codes "\n")) }
+    ensures cause { IfErr result (HasPartCause (W.has_failed out.new)) }
 {
     let text = format!(in alloc; "{line}\n")?;
     write_part(out, before, text.as_bytes())
@@ -58,6 +59,7 @@ pub fn trace<W: Sink>(
     ensures nodes { outbox.new.nodes ≡ outbox.old.nodes }
     ensures trace { LeavesTrace (W.contents out.old) (W.contents out.new) program.now
         (steps_of program.now env.now memory.old fuel) result }
+    ensures cause { IfErr result (HasPartCause (W.has_failed out.new)) }
 {
     outbox.clear();
     let mut state = State::entry(env);
