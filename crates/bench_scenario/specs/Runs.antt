@@ -104,10 +104,16 @@ HasTextCause failed text_faults.Read = IsTrue failed
 HasTextCause failed (text_faults.Refused error) = Unit {0}
 HasTextCause failed text_faults.Memory = Unit {0}
 
--- the same of a scenario that left no whole report
-abbrev pub HasReportCause : (failed : Bool) → ScenarioFault → Type 0
-HasReportCause failed faults.Read = IsTrue failed
-HasReportCause failed (faults.Refused error) = Unit {0}
-HasReportCause failed (faults.Run stop) = Unit {0}
-HasReportCause failed (faults.Write written) = Unit {0}
-HasReportCause failed faults.Memory = Unit {0}
+-- if the report of a run couldn't be written, a call of `write` failed or took nothing
+abbrev pub HasRunCause : (failed : Bool) → ReportFault → Type 0
+HasRunCause failed (report_faults.Run stop) = Unit {0}
+HasRunCause failed (report_faults.Write written) = IsTrue failed
+HasRunCause failed report_faults.Memory = Unit {0}
+
+-- both of a scenario that left no whole report: whether a call of `read` failed, and whether one of `write` did
+abbrev pub HasReportCause : (unread unwritten : Bool) → ScenarioFault → Type 0
+HasReportCause unread unwritten faults.Read = IsTrue unread
+HasReportCause unread unwritten (faults.Refused error) = Unit {0}
+HasReportCause unread unwritten (faults.Run stop) = Unit {0}
+HasReportCause unread unwritten (faults.Write written) = IsTrue unwritten
+HasReportCause unread unwritten faults.Memory = Unit {0}

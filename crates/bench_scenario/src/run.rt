@@ -3,7 +3,7 @@ ghost use Rattle.std.specs.Prelude.{◌≡◌, ◌+◌, ◌≤◌, ◌<◌, ℕ,
 ghost use Rattle.bench_core.specs.State.{new_state};
 ghost use Rattle.scenario_text.specs.Texts.{ReadsText};
 ghost use Rattle.stream_io.specs.Streams.{TakesAtMost};
-ghost use Rattle.bench_scenario.specs.Runs.{HasReportCause, LeavesReport, LeavesRun, ReportsRun, StopsForWant, bench_of};
+ghost use Rattle.bench_scenario.specs.Runs.{HasReportCause, HasRunCause, LeavesReport, LeavesRun, ReportsRun, StopsForWant, bench_of};
 ghost use Rattle.bench_scenario.specs.inner.Runs.{IsDueOfRun};
 
 use crate::paying::useful_workers;
@@ -111,7 +111,8 @@ pub fn write_report<T: Threads + Wait + Sync, W: Sink>(
     requires some { 1 ≤ workers }
     requires few { workers ≤ MAX_WORKERS }
     requires reads { (text : List ℕ) × ReadsText text scenario.now }
-    ensures { LeavesRun (W.contents writer.old) (W.contents writer.new) scenario.now result }
+    ensures left { LeavesRun (W.contents writer.old) (W.contents writer.new) scenario.now result }
+    ensures cause { IfErr result (HasRunCause (W.has_failed writer.new)) }
 {
     let report = report_of(rt, alloc, scenario, workers)?;
     match write_fully(writer, report.text.as_bytes()) {
@@ -136,7 +137,7 @@ fn report_on<T: Threads + Wait + Sync, W: Sink>(
     ensures left { (known : Option (List ℕ)) → IfSome known (λ text. ReadsText text scenario.now)
         → IfSome known (λ text. LeavesReport (W.contents writer.old) (W.contents writer.new) text result) }
     ensures want { IfErr result StopsForWant }
-    ensures cause { (failed : Bool) → IfErr result (HasReportCause failed) }
+    ensures cause { (unread : Bool) → IfErr result (HasReportCause unread (W.has_failed writer.new)) }
 {
     match write_report(rt, alloc, scenario, workers, writer) {
         Ok(_agrees) => Ok(()),
@@ -162,7 +163,7 @@ pub fn run_scenario<T: Threads + Wait + Sync, R: Source, W: Sink>(
         LeavesReport (W.contents writer.old) (W.contents writer.new) text result) }
     ensures want { IfErr result StopsForWant }
     ensures cost { R.calls reader.new ≤ R.calls reader.old + MAX_CALLS }
-    ensures cause { IfErr result (HasReportCause (R.has_failed reader.new)) }
+    ensures cause { IfErr result (HasReportCause (R.has_failed reader.new) (W.has_failed writer.new)) }
 {
     let scenario = match read_scenario(alloc, reader) {
         Ok(scenario) => scenario,
