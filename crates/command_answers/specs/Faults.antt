@@ -20,6 +20,14 @@ IsFaultOfReading failed Memory = Unit {0}
 IsFaultOfReading failed Thread = ⊥
 IsFaultOfReading failed (CommandLine text) = ⊥
 
+-- `Write` comes only if a call of `write` of the output failed or took nothing
+abbrev pub HasWriteCause : (failed : Bool) → Fault → Type 0
+HasWriteCause failed Read = Unit {0}
+HasWriteCause failed (Write after) = IsTrue failed
+HasWriteCause failed Memory = Unit {0}
+HasWriteCause failed Thread = Unit {0}
+HasWriteCause failed (CommandLine text) = Unit {0}
+
 -- memory ran out
 abbrev pub IsOutOfMemory : Fault → Type 0
 IsOutOfMemory Read = ⊥

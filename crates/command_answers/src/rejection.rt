@@ -3,7 +3,7 @@ ghost use Rattle.std.specs.Prelude.{◌≡◌, ◌++◌, Some, IfErr, IfOk, code
 ghost use Rattle.command_answers.specs.declared.ending.Ending.TheVariants.{Refused};
 ghost use Rattle.command_answers.specs.inner.Rejections.{IsRejectionOf, rejection_line};
 ghost use Rattle.command_answers.specs.inner.Responses.{IsNoted};
-ghost use Rattle.command_answers.specs.Faults.{IsOutOfMemory};
+ghost use Rattle.command_answers.specs.Faults.{HasWriteCause, IsOutOfMemory};
 ghost use Rattle.command_answers.specs.Output.{Leaves};
 ghost use Rattle.command_answers.specs.Said.{SaysAt};
 ghost use Rattle.command_answers.specs.Rejections.{uncompiled_line, unread_line};
@@ -80,6 +80,7 @@ pub fn reject<W: Sink, E: Sink>(
         result }
     ensures said { IfOk result (λ ending. SaysAt ending (E.contents err.old) (E.contents err.new)) }
     ensures unsaid { IfErr result (λ fault. E.contents err.new ≡ E.contents err.old) }
+    ensures cause { IfErr result (HasWriteCause (W.has_failed out.new)) }
 {
     give(alloc, rejected(alloc, rejection, bytes), out, err)
 }

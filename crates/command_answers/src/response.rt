@@ -1,5 +1,6 @@
 //! What a command answers, and how that is written.
-ghost use Rattle.std.specs.Prelude.{◌≡◌, IfErr, IfOk};
+ghost use Rattle.std.specs.Prelude.{◌≡◌, false, IfErr, IfOk};
+ghost use Rattle.command_answers.specs.Faults.{HasWriteCause};
 ghost use Rattle.command_answers.specs.Said.{SaysAt};
 ghost use Rattle.command_answers.specs.inner.Responses.{Gives, IsNoted, Writes};
 
@@ -58,6 +59,7 @@ fn write_response<W: Sink, E: Sink>(
     ensures left { Writes (W.contents out.old) (W.contents out.new) response.now.text.items response.now.ending result }
     ensures said { IfOk result (λ ending. SaysAt ending (E.contents err.old) (E.contents err.new)) }
     ensures unsaid { IfErr result (λ fault. E.contents err.new ≡ E.contents err.old) }
+    ensures cause { IfErr result (HasWriteCause (W.has_failed out.new)) }
 {
     write_text(out, &response.text)?;
     if let Some(note) = &response.note {
@@ -77,6 +79,7 @@ pub fn give<W: Sink, E: Sink>(
     ensures left { Gives (W.contents out.old) (W.contents out.new) given result }
     ensures said { IfOk result (λ ending. SaysAt ending (E.contents err.old) (E.contents err.new)) }
     ensures unsaid { IfErr result (λ fault. E.contents err.new ≡ E.contents err.old) }
+    ensures cause { IfErr given (HasWriteCause false) → IfErr result (HasWriteCause (W.has_failed out.new)) }
 {
     match given {
         Ok(response) => write_response(alloc, &response, out, err),
