@@ -15,7 +15,7 @@ use Rattle.bench_scenario.specs.Summary.{IsSummary}
 use Rattle.bench_scenario.specs.declared.summary.RunSummary.{RunSummary}
 use Rattle.stream_io.specs.declared.parts.PartFault.{PartFault}
 use Rattle.stream_io.specs.declared.parts.PartFault.TheVariants as parts
-use Rattle.stream_io.specs.Parts.{Breaks}
+use Rattle.stream_io.specs.Parts.{Breaks, HasPartCause}
 use Rattle.parameters.specs.Keys.{KeyRange, count_of}
 use Rattle.key_sweep.specs.declared.sweeping.SweepFault.{SweepFault}
 use Rattle.key_sweep.specs.declared.sweeping.SweepFault.TheVariants as faults
@@ -71,3 +71,8 @@ abbrev pub LeavesSweep : Option (List ℕ) → Option (List ℕ) → Scenario �
 LeavesSweep old new s keys (Err faults.NoKey) = (uses_key s ≡ false) × Keeps old new
 LeavesSweep old new s keys (Err (faults.Part fault)) = IsTrue (uses_key s) × LeavesRows old new s keys (Err fault)
 LeavesSweep old new s keys (Ok done) = IsTrue (uses_key s) × LeavesRows old new s keys (Ok done)
+
+-- if not all lines could be written, a call of `write` failed or took nothing; or memory ran out, or there is no key
+abbrev pub HasSweepCause : (failed : Bool) → SweepFault → Type 0
+HasSweepCause failed faults.NoKey = Unit {0}
+HasSweepCause failed (faults.Part fault) = HasPartCause failed fault

@@ -1,7 +1,8 @@
 //! A sweep, from the scenario that was read to the last byte that is written.
-ghost use Rattle.std.specs.Prelude.{◌≡◌, ℕ, List, ◌≤◌};
+ghost use Rattle.std.specs.Prelude.{◌≡◌, ℕ, List, ◌≤◌, IfErr};
 ghost use Rattle.scenario_text.specs.Texts.{ReadsText};
-ghost use Rattle.key_sweep.specs.Sweeps.{LeavesRows, LeavesSweep, are_drawn, uses_key};
+ghost use Rattle.stream_io.specs.Parts.{HasPartCause};
+ghost use Rattle.key_sweep.specs.Sweeps.{HasSweepCause, LeavesRows, LeavesSweep, are_drawn, uses_key};
 
 use crate::block::summaries_of;
 use crate::rows::{names_row, rows_text};
@@ -67,7 +68,8 @@ fn write_keys<T: Threads + Wait + Sync, W: Sink>(
 ) -> Result<(), PartFault>
     requires reads { (text : List ℕ) × ReadsText text scenario.now }
     requires workers { 1 ≤ workers }
-    ensures { LeavesRows (W.contents writer.old) (W.contents writer.new) scenario.now keys result }
+    ensures left { LeavesRows (W.contents writer.old) (W.contents writer.new) scenario.now keys result }
+    ensures cause { IfErr result (HasPartCause (W.has_failed writer.new)) }
 {
     let Ok(names) = names_row(alloc) else {
         return Err(PartFault::Memory);
@@ -106,7 +108,8 @@ pub fn sweep<T: Threads + Wait + Sync, W: Sink>(
 ) -> Result<(), SweepFault>
     requires reads { (text : List ℕ) × ReadsText text scenario.now }
     requires workers { 1 ≤ workers }
-    ensures { LeavesSweep (W.contents writer.old) (W.contents writer.new) scenario.now keys result }
+    ensures left { LeavesSweep (W.contents writer.old) (W.contents writer.new) scenario.now keys result }
+    ensures cause { IfErr result (HasSweepCause (W.has_failed writer.new)) }
 {
     if !uses_key(scenario) {
         return Err(SweepFault::NoKey);

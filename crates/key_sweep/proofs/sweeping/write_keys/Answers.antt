@@ -3,8 +3,8 @@ use Rattle.key_sweep.specs.Rows.{csv_rows}
 use Rattle.key_sweep.proofs.LineLemmas.{front_of_names, front_of_rows, some_swept, swept_more, swept_names}
 use Rattle.key_sweep.proofs.sweeping.write_keys.Goals as goal
 
-pub returns-in_err-told : goal.returns-in_err-told
-returns-in_err-told g c =
+pub returns-in_err-told-clause-left : goal.returns-in_err-told-clause-left
+returns-in_err-told-clause-left g c =
     front_of_names _ _ c.args.scenario.now c.args.keys c.as_slice.result.now c.in_err-told.field-0.0
     c.from_residual.result (c.as_slice.ensures.value ∙ c.in-Ok.ensures) c.in_err-told.ensures.fault
     c.from_residual.ensures.1
@@ -22,8 +22,8 @@ loop-next-init g c = record {
       omega (arith, first, last, order);
 }
 
-pub returns-in_err-told-2 : goal.returns-in_err-told-2
-returns-in_err-told-2 g c =
+pub returns-in_err-told-2-clause-left : goal.returns-in_err-told-2-clause-left
+returns-in_err-told-2-clause-left g c =
     let past = c.loop-next.invariant.past in
     let count = c.min-count.ensures in
     let few = c.in-Ok-summaries_of.ensures.few in
@@ -36,8 +36,8 @@ returns-in_err-told-2 g c =
     (omega (arith, past, before)) (omega (arith, past, count, few, before)) c.in_err-told-2.ensures.fault
     c.from_residual-in_err-told-2.ensures.1
 
-pub returns-then-front-count : goal.returns-then-front-count
-returns-then-front-count g c =
+pub returns-then-front-count-clause-left : goal.returns-then-front-count-clause-left
+returns-then-front-count-clause-left g c =
     let past = c.loop-next.invariant.past in
     let count = c.min-count.ensures in
     let fewer = c.if-front-count.true in
