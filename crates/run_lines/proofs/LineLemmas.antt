@@ -31,7 +31,7 @@ use Rattle.run_lines.specs.Data.{judged_seen}
 use Rattle.run_lines.specs.Lines.{first_line, front_text, summary_line, line_within, told_line, whole_text}
 use Rattle.parameters.specs.declared.lines.LinesForm.{LinesForm}
 use Rattle.parameters.specs.Pulses.{is_within}
-use Rattle.run_lines.specs.Telling.{AreShown, IsFrontText, IsWholeText, LeavesFront, LeavesLines}
+use Rattle.run_lines.specs.Telling.{AreShown, HasLinesCause, IsFrontText, IsWholeText, LeavesFront, LeavesLines}
 use Rattle.run_lines.proofs.JudgingLaws.{judges_as_the_report}
 use Rattle.run_lines.specs.inner.Writing.{IsEndOfLines, IsReason, KeepsReason, TellsPulse}
 
@@ -181,11 +181,12 @@ line_broken contents old new s form seen x event k o parts.Memory stands shown k
       },
     )
 
-line_stopped : {S : Type 0} (contents : S → Option (List ℕ)) (old : Option (List ℕ)) (s : Scenario) (form : LinesForm)
-    (k k' : LineWriter) (o o' : S) (event : ℕ) (fault : LinesFault) → Stands contents old s form [] k o
-    → StoppedAt (TellsPulse contents) (KeepsReason contents) (bench_of s) (events_of s) event k o k' o'
+line_stopped : {S : Type 0} (contents : S → Option (List ℕ)) (has_failed : S → Bool) (old : Option (List ℕ))
+    (s : Scenario) (form : LinesForm) (k k' : LineWriter) (o o' : S) (event : ℕ) (fault : LinesFault)
+    → Stands contents old s form [] k o
+    → StoppedAt (TellsPulse contents) (KeepsReason contents has_failed) (bench_of s) (events_of s) event k o k' o'
     → IfSome k'.stopped (λ why. fault ≡ faults.Part why) → LeavesLines old (contents o') s form (Err fault)
-line_stopped contents old s form k k' o o' event fault stands ends told =
+line_stopped contents has_failed old s form k k' o o' event fault stands ends told =
     let now = stands_all contents old s form [] ends.before k ends.k1 o ends.o1 stands ends.watches in
     let same : fault ≡ faults.Part ends.stops.fault =
     subst (λ kept. IfSome kept (λ f. fault ≡ faults.Part f)) ends.stops.kept told in
@@ -197,19 +198,20 @@ line_stopped contents old s form k k' o o' event fault stands ends told =
     (ends.last, ends.shows) broken)
 
 -- no pulse was run; the run stopped at an event; or the watcher stopped it
-pub ends_early : {S : Type 0} (contents : S → Option (List ℕ)) (old : Option (List ℕ)) (s : Scenario) (form : LinesForm)
-    (k k' : LineWriter) (o o' : S) (end : WatchedFault) (fault : LinesFault) → Stands contents old s form [] k o
-    → ScenarioEndsAt (TellsPulse contents) (KeepsReason contents) s k o k' o' end → IsReason k'.stopped end fault
-    → LeavesLines old (contents o') s form (Err fault)
+pub ends_early : {S : Type 0} (contents : S → Option (List ℕ)) (has_failed : S → Bool) (old : Option (List ℕ))
+    (s : Scenario) (form : LinesForm) (k k' : LineWriter) (o o' : S) (end : WatchedFault) (fault : LinesFault)
+    → Stands contents old s form [] k o
+    → ScenarioEndsAt (TellsPulse contents) (KeepsReason contents has_failed) s k o k' o' end
+    → IsReason k'.stopped end fault → LeavesLines old (contents o') s form (Err fault)
 unfolding no_pulse
-ends_early {S} contents old s form k k' o o' watched.Memory fault stands ends reason =
+ends_early {S} contents has_failed old s form k k' o o' watched.Memory fault stands ends reason =
     subst (λ f. LeavesLines old (contents o') s form (Err f)) (sym reason)
     (inr (
       0,
       subst (λ (y : S). LeavesFront old (contents y) s form 0) (sym ends.1)
           (front_left contents old s form [] 0 k o stands (no_pulse s form).shown),
     ))
-ends_early contents old s form k k' o o' (watched.Run stop) fault stands ends reason =
+ends_early contents has_failed old s form k k' o o' (watched.Run stop) fault stands ends reason =
     let xs = ends.2.0 in
     let shown = ends.2.1 in
     subst (λ f. LeavesLines old (contents o') s form (Err f)) (sym reason) (
@@ -218,8 +220,22 @@ ends_early contents old s form k k' o o' (watched.Run stop) fault stands ends re
       front_left contents old s form xs stop.event k' o'
           (stands_all contents old s form [] xs k k' o o' stands shown.watches) (shown.last, shown.shows),
     )
-ends_early contents old s form k k' o o' (watched.Stopped event) fault stands ends reason =
-    line_stopped contents old s form k k' o o' event fault stands ends reason
+ends_early contents has_failed old s form k k' o o' (watched.Stopped event) fault stands ends reason =
+    line_stopped contents has_failed old s form k k' o o' event fault stands ends reason
+
+-- a write that failed is the cause if the watcher stopped it for that
+pub caused_early : {S : Type 0} (contents : S → Option (List ℕ)) (has_failed : S → Bool) (s : Scenario)
+    (k k' : LineWriter) (o o' : S) (end : WatchedFault) (fault : LinesFault)
+    → ScenarioEndsAt (TellsPulse contents) (KeepsReason contents has_failed) s k o k' o' end
+    → IsReason k'.stopped end fault → HasLinesCause (has_failed o') fault
+caused_early contents has_failed s k k' o o' watched.Memory fault ends reason =
+    subst (HasLinesCause (has_failed o')) (sym reason) tt
+caused_early contents has_failed s k k' o o' (watched.Run stop) fault ends reason =
+    subst (HasLinesCause (has_failed o')) (sym reason) tt
+caused_early contents has_failed s k k' o o' (watched.Stopped event) fault ends reason =
+    let same : fault ≡ faults.Part ends.stops.fault =
+    subst (λ kept. IfSome kept (λ f. fault ≡ faults.Part f)) ends.stops.kept reason in
+    subst (HasLinesCause (has_failed o')) (sym same) ends.stops.cause
 
 -- ---- the last line
 

@@ -13,7 +13,7 @@ use Rattle.bench_scenario.specs.Reports.{all_agree}
 use Rattle.bench_scenario.specs.Runs.{IsMemoryOrThread, bench_of}
 use Rattle.bench_scenario.specs.Summary.{IsSummary}
 use Rattle.stream_io.specs.declared.parts.PartFault.TheVariants as parts
-use Rattle.stream_io.specs.Parts.{Breaks}
+use Rattle.stream_io.specs.Parts.{Breaks, HasPartCause}
 use Rattle.run_lines.specs.declared.fault.LinesFault.{LinesFault}
 use Rattle.run_lines.specs.declared.fault.LinesFault.TheVariants as faults
 use Rattle.run_lines.specs.Lines.{front_text, whole_text}
@@ -62,3 +62,8 @@ LeavesLines old new s form (Err (faults.Part parts.Memory)) =
 LeavesLines old new s form (Err (faults.Run stop)) =
     IsEventFault (bench_of s) (events_of s) stop.event stop.fault × IsMemoryOrThread stop.fault
     × LeavesFront old new s form stop.event
+
+-- if not all lines could be written, a call of `write` failed or took nothing; or memory ran out, or the run stopped
+abbrev pub HasLinesCause : (failed : Bool) → LinesFault → Type 0
+HasLinesCause failed (faults.Run stop) = Unit {0}
+HasLinesCause failed (faults.Part fault) = HasPartCause failed fault

@@ -2,8 +2,8 @@
 ghost use Rattle.std.specs.Prelude.{◌≡◌, ◌≤◌, ℕ, List, IfErr, IfOk};
 ghost use Rattle.scenario_text.specs.Texts.{ReadsText};
 ghost use Rattle.run_lines.specs.Lines.{first_line};
-ghost use Rattle.run_lines.specs.Telling.{LeavesLines};
-ghost use Rattle.stream_io.specs.Parts.{Adds, IsPartFault};
+ghost use Rattle.run_lines.specs.Telling.{HasLinesCause, LeavesLines};
+ghost use Rattle.stream_io.specs.Parts.{Adds, HasPartCause, IsPartFault};
 
 use crate::fault::LinesFault;
 use crate::formats;
@@ -27,6 +27,7 @@ fn write_first<W: Sink>(
     ensures told { IfOk result (Adds (W.contents out.old) (W.contents out.new) 0 (first_line format scenario.now)) }
     ensures fault { IfErr result (IsPartFault (W.contents out.old) (W.contents out.new) 0
         (first_line format scenario.now)) }
+    ensures cause { IfErr result (HasPartCause (W.has_failed out.new)) }
 {
     let line = formats::first_line(alloc, format, scenario)?;
     write_part(out, 0, line.as_bytes())
@@ -47,6 +48,7 @@ pub fn tell_lines<T: Threads + Wait + Sync, W: Sink>(
     requires few { workers ≤ MAX_WORKERS }
     requires reads { (text : List ℕ) × ReadsText text scenario.now }
     ensures left { LeavesLines (W.contents out.old) (W.contents out.new) scenario.now form result }
+    ensures cause { IfErr result (HasLinesCause (W.has_failed out.new)) }
 {
     let written = write_first(alloc, scenario, form.format, out)?;
     let mut writer = LineWriter::new(alloc, scenario, form, written);

@@ -3,7 +3,7 @@ ghost use Rattle.std.specs.Prelude.{◌≡◌, [], IfErr, OnOk, is_some};
 ghost use Rattle.bench_workers.specs.Watching.{seen_of};
 ghost use Rattle.scenario_text.specs.Views.{frame_of};
 ghost use Rattle.bench_scenario.specs.Verdicts.{judged_of};
-ghost use Rattle.stream_io.specs.Parts.{IsPartFault};
+ghost use Rattle.stream_io.specs.Parts.{HasPartCause, IsPartFault};
 ghost use Rattle.run_lines.specs.inner.Writing.{IsEndOfLines, IsReason, TellsPulse};
 ghost use Rattle.run_lines.specs.Lines.{line_within};
 
@@ -79,6 +79,7 @@ impl<'a> LineWriter<'a> {
         ensures told { OnOk result (TellsPulse W.contents self.old out.old (seen_of shown.now) self.new out.new) }
         ensures fault { IfErr result (IsPartFault (W.contents out.old) (W.contents out.new) self.old.written
             (line_within self.old.scenario.now self.old.form (seen_of shown.now))) }
+        ensures cause { IfErr result (HasPartCause (W.has_failed out.new)) }
     {
         let judged = judgement(self.alloc, self.scenario, shown.earlier, shown.told)?;
         if self.judged.push(judged).is_err() {
@@ -101,8 +102,9 @@ impl<'a> LineWriter<'a> {
     ) -> Result<bool, PartFault>
         requires { self.now.judged.items
             ≡ judged_of (frame_of self.now.scenario.now) (is_some self.now.scenario.now.clock) records.now }
-        ensures { IsEndOfLines (W.contents out.old) (W.contents out.new) self.now.scenario.now
+        ensures end { IsEndOfLines (W.contents out.old) (W.contents out.new) self.now.scenario.now
             self.now.form.format self.now.written records.now result }
+        ensures cause { IfErr result (HasPartCause (W.has_failed out.new)) }
     {
         let judged = self.judged.as_slice();
         let agrees = none_disagrees(judged);
@@ -118,7 +120,7 @@ impl<'a, W: Sink> Watcher<W> for LineWriter<'a> {
 
     ghost tells = { TellsPulse W.contents };
 
-    ghost stops = { KeepsReason W.contents };
+    ghost stops = { KeepsReason W.contents W.has_failed };
 
     fn see(&mut self, sink: &mut W, shown: &Shown) -> Result<(), Stop> {
         match self.tell(sink, shown) {

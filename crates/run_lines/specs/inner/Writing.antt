@@ -11,7 +11,7 @@ use Rattle.bench_scenario.specs.declared.watched.WatchedFault.TheVariants as wat
 use Rattle.bench_scenario.specs.Summary.{IsSummary}
 use Rattle.stream_io.specs.declared.parts.PartFault.{PartFault}
 use Rattle.stream_io.specs.declared.parts.PartFault.TheVariants.{Memory}
-use Rattle.stream_io.specs.Parts.{Adds, IsPartFault}
+use Rattle.stream_io.specs.Parts.{Adds, HasPartCause, IsPartFault}
 use Rattle.run_lines.specs.declared.fault.LinesFault.{LinesFault}
 use Rattle.run_lines.specs.declared.fault.LinesFault.TheVariants as faults
 use Rattle.parameters.specs.declared.lines.LineFormat.{LineFormat}
@@ -36,12 +36,13 @@ pub record TellsPulse {S : Type 0} (contents : S → Option (List ℕ)) (k : Lin
   pub adds : Adds (contents o) (contents o') k.written (line_within k.scenario.now k.form x) k'.written
 
 -- it keeps why it didn't
-pub record KeepsReason {S : Type 0} (contents : S → Option (List ℕ)) (k : LineWriter) (o : S) (x : Seen)
-    (k' : LineWriter)
+pub record KeepsReason {S : Type 0} (contents : S → Option (List ℕ)) (has_failed : S → Bool) (k : LineWriter) (o : S)
+    (x : Seen) (k' : LineWriter)
     (o' : S) : Type 0 where
   pub fault : PartFault
   pub kept : k'.stopped ≡ Some fault
   pub why : IsPartFault (contents o) (contents o') k.written (line_within k.scenario.now k.form x) fault
+  pub cause : HasPartCause (has_failed o') fault
 
 -- why not all lines were written, where the run that it watched has no end
 abbrev pub IsReason : Option PartFault → WatchedFault → LinesFault → Type 0
