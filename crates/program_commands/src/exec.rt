@@ -2,6 +2,7 @@
 ghost use Rattle.std.specs.Prelude.{◌≡◌, ◌++◌, IfErr, IfOk, OnOk, string_bytes};
 ghost use Rattle.command_answers.specs.declared.ending.Ending.TheVariants.{Done};
 ghost use Rattle.command_answers.specs.Answer.{shown_lines, told_text};
+ghost use Rattle.command_answers.specs.Faults.{HasWriteCause};
 ghost use Rattle.program_commands.specs.Exec.{LeavesExec};
 ghost use Rattle.requests.specs.Shapes.{asked_extent};
 ghost use Rattle.command_answers.specs.Output.{Leaves};
@@ -30,6 +31,7 @@ pub fn exec_bytes<W: Sink, E: Sink>(
     ensures left { LeavesExec (W.contents out.old) (W.contents out.new) options.now bytes.now result }
     ensures said { IfOk result (λ ending. SaysAt ending (E.contents err.old) (E.contents err.new)) }
     ensures unsaid { IfErr result (λ fault. E.contents err.new ≡ E.contents err.old) }
+    ensures cause { IfErr result (HasWriteCause (W.has_failed out.new)) }
 {
     let found = program_read(alloc, options.shape, options.text, bytes)?;
     match found {
@@ -47,8 +49,9 @@ pub(crate) fn exec<W: Sink>(
     out: &mut W,
 ) -> Result<Ending, Fault>
     requires { read.now.shape ≡ asked_extent options.now.shape }
-    ensures { LeavesRunOf options.now.trace (W.contents out.old) (W.contents out.new) options.now read.now.program
+    ensures left { LeavesRunOf options.now.trace (W.contents out.old) (W.contents out.new) options.now read.now.program
         result }
+    ensures cause { IfErr result (HasWriteCause (W.has_failed out.new)) }
 {
     if options.trace {
         return trace_program(alloc, read.shape, &read.program, options, out);
@@ -134,8 +137,9 @@ pub(crate) fn write_reply<W: Sink>(
     reply: &Reply,
     out: &mut W,
 ) -> Result<Ending, Fault>
-    ensures { Leaves (W.contents out.old) (W.contents out.new)
+    ensures left { Leaves (W.contents out.old) (W.contents out.new)
         (told_text options.now (answer_in options.now.fuel reply.now) (left_in reply.now.left)) Done result }
+    ensures cause { IfErr result (HasWriteCause (W.has_failed out.new)) }
 {
     let text = text_of(alloc, options, reply).map_err(|_| Fault::Memory)?;
     write_whole(out, text.as_bytes(), Ending::Done)

@@ -1,5 +1,6 @@
 //! `exec --trace`: the steps of the run, and then what it comes to.
 ghost use Rattle.std.specs.Prelude.{◌≡◌, IfErr, IfOk, Err, length};
+ghost use Rattle.command_answers.specs.Faults.{HasWriteCause};
 ghost use Rattle.requests.specs.Case.{case_memory, case_setting};
 ghost use Rattle.program_commands.specs.Exec.{LeavesSteps, case_trace};
 ghost use Rattle.requests.specs.Shapes.{asked_extent};
@@ -24,7 +25,8 @@ pub(crate) fn trace_program<W: Sink>(
     out: &mut W,
 ) -> Result<Ending, Fault>
     requires { shape ≡ asked_extent options.now.shape }
-    ensures { LeavesSteps (W.contents out.old) (W.contents out.new) options.now program.now result }
+    ensures left { LeavesSteps (W.contents out.old) (W.contents out.new) options.now program.now result }
+    ensures cause { IfErr result (HasWriteCause (W.has_failed out.new)) }
 {
     let (reply, written) = trace_case(alloc, shape, program, options, out)?;
     match write_reply(alloc, options, &reply, out) {
@@ -65,6 +67,7 @@ fn trace_case<W: Sink>(
         Wrote (W.contents out.old) (W.contents out.new) (case_trace options.now program.now) told.1) }
     ensures fault { IfErr result (λ fault.
         LeavesSteps (W.contents out.old) (W.contents out.new) options.now program.now (Err fault)) }
+    ensures cause { IfErr result (HasWriteCause (W.has_failed out.new)) }
 {
     let Ok((env, mut memory, mut outbox)) = case_parts(alloc, shape, options) else {
         return Err(Fault::Memory);
