@@ -3,7 +3,7 @@ use Rattle.std.proofs.Common.{◌≡◌, Global, List, None, Option, Some, Strin
 use Rattle.std.specs.Prelude.{option_map}
 use Rattle.command_answers.specs.declared.fault.Fault.TheVariants.{Read}
 use Rattle.command_line.specs.declared.request.Invocation.{Invocation}
-use Rattle.clockbed.specs.Command.{AnswersWords, IsReadFrom, Outside, StandardInput, streams_of}
+use Rattle.clockbed.specs.Command.{AnswersWords, IsReadFrom, Outside, StandardInput, StandardOutput, streams_of}
 use Rattle.clockbed.specs.Words.{AreWordsFor}
 use Rattle.clockbed.specs.inner.OnFile.{AnswersOnFile}
 
@@ -12,7 +12,7 @@ path_of : (asked : Invocation) (path : String Global) → asked.file ≡ Some pa
 path_of asked path is = ap (λ (file : Option (String Global)). option_map string_bytes file) is
 
 pub does_on_file : (outside : Outside) (words expanded : List (List ℕ)) (asked : Invocation) (path : String Global)
-    (input : StandardInput) (old new said_old said_new : Option (List ℕ)) (status : ℕ)
+    (input : StandardInput) (old new : StandardOutput) (said_old said_new : Option (List ℕ)) (status : ℕ)
     → AreWordsFor outside.files None words expanded → outside.asks expanded asked → asked.file ≡ Some path
     → AnswersOnFile (outside.files (string_bytes path)) (outside.may_fail (string_bytes path)) asked.request
     old new said_old said_new status

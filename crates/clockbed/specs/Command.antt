@@ -35,13 +35,21 @@ pub record StandardInput : Type 0 where
 abbrev pub input_of : Option (List ℕ) → ℕ → Bool → StandardInput
 input_of bytes calls failed = record { bytes = bytes; calls = calls; failed = failed }
 
--- standard input, and what is known of the bytes that standard output and standard error took
+-- what is known of the bytes that standard output took, and whether a call of `write` failed or took nothing
+pub record StandardOutput : Type 0 where
+  pub bytes : Option (List ℕ)
+  pub failed : Bool
+
+abbrev pub output_of : Option (List ℕ) → Bool → StandardOutput
+output_of bytes failed = record { bytes = bytes; failed = failed }
+
+-- standard input and standard output, and what is known of the bytes that standard error took
 pub record Streams : Type 0 where
   pub input : StandardInput
-  pub output : Option (List ℕ)
+  pub output : StandardOutput
   pub error : Option (List ℕ)
 
-abbrev pub streams_of : StandardInput → Option (List ℕ) → Option (List ℕ) → Streams
+abbrev pub streams_of : StandardInput → StandardOutput → Option (List ℕ) → Streams
 streams_of input output error = record { input = input; output = output; error = error }
 
 -- ---- a request is performed
@@ -74,7 +82,8 @@ pub record DoesRequest (outside : Outside) (words : List (List ℕ)) (before aft
   pub failed : Bool
   pub read : IsRead outside asked bytes failed before.input after.input
   pub performed :
-      PerformsRequest asked.request bytes failed before.output after.output before.error after.error status
+      PerformsRequest asked.request bytes failed before.output.bytes after.output.bytes after.output.failed
+      before.error after.error status
 
 -- ---- no request is performed
 

@@ -2,7 +2,7 @@
 ghost use Rattle.std.specs.Prelude.{◌≡◌, ◌⊎◌, ℕ, List, None, Option, Some, map, string_bytes};
 ghost use Rattle.command_answers.specs.Faults.{IsOfCommandLine, Says, fault_status, fault_text};
 ghost use Rattle.commands.specs.Perform.{CallsFor, PerformsRequest, TakesFor};
-ghost use Rattle.clockbed.specs.Command.{AnswersWords, RunsOn, input_of, outside_of, streams_of};
+ghost use Rattle.clockbed.specs.Command.{AnswersWords, RunsOn, input_of, output_of, outside_of, streams_of};
 ghost use Rattle.clockbed.specs.Reasons.{SaysReason, SaysReasonAt};
 ghost use Rattle.clockbed.specs.inner.OnFile.{AnswersOnFile};
 
@@ -63,9 +63,9 @@ pub fn run_words<
         (outside_of (O.files program.now.opener) (O.may_fail program.now.opener) (C.asks program.now.reader))
         (map S.text words.now)
         (streams_of (input_of (R.remaining input.old) (R.calls input.old) (R.has_failed input.old))
-        (W.contents out.old) (E.contents err.old))
+        (output_of (W.contents out.old) (W.has_failed out.old)) (E.contents err.old))
         (streams_of (input_of (R.remaining input.new) (R.calls input.new) (R.has_failed input.new))
-        (W.contents out.new) (E.contents err.new))
+        (output_of (W.contents out.new) (W.has_failed out.new)) (E.contents err.new))
         result }
 {
     let answered = answer_words(program, words, input, out, err, progress);
@@ -126,9 +126,9 @@ pub fn answer_words<
         (outside_of (O.files program.now.opener) (O.may_fail program.now.opener) (C.asks program.now.reader))
         (map S.text words.now)
         (streams_of (input_of (R.remaining input.old) (R.calls input.old) (R.has_failed input.old))
-        (W.contents out.old) (E.contents err.old))
+        (output_of (W.contents out.old) (W.has_failed out.old)) (E.contents err.old))
         (streams_of (input_of (R.remaining input.new) (R.calls input.new) (R.has_failed input.new))
-        (W.contents out.new) (E.contents err.new))
+        (output_of (W.contents out.new) (W.has_failed out.new)) (E.contents err.new))
         result.status }
 {
     let expanded = match with_lists(program.alloc, &program.opener, words) {
@@ -185,7 +185,9 @@ fn answer_on_file<T: Threads + Wait + Sync, O: Opener, C, W: Sink, E: Sink, P: C
 ) -> Answered
     ensures { AnswersOnFile
         (O.files program.now.opener (string_bytes path)) (O.may_fail program.now.opener (string_bytes path))
-        request.now (W.contents out.old) (W.contents out.new) (E.contents err.old) (E.contents err.new) result.status }
+        request.now (output_of (W.contents out.old) (W.has_failed out.old))
+        (output_of (W.contents out.new) (W.has_failed out.new)) (E.contents err.old) (E.contents err.new)
+        result.status }
 {
     let mut file = match program.opener.open(path.as_str()) {
         Ok(file) => file,
@@ -218,7 +220,8 @@ fn performed<T: Threads + Wait + Sync, O, C, R: Source, W: Sink, E: Sink, P: Com
     progress: &mut P,
 ) -> u8
     ensures performed { PerformsRequest request.now (R.remaining input.old) (R.has_failed input.new)
-        (W.contents out.old) (W.contents out.new) (E.contents err.old) (E.contents err.new) result }
+        (W.contents out.old) (W.contents out.new) (W.has_failed out.new) (E.contents err.old) (E.contents err.new)
+        result }
     ensures taken { TakesFor request.now (R.remaining input.old) (R.remaining input.new) }
     ensures cost { CallsFor request.now (R.calls input.old) (R.calls input.new) }
 {

@@ -1,6 +1,6 @@
 //! The program over standard input alone.
 ghost use Rattle.std.specs.Prelude.{map};
-ghost use Rattle.clockbed.specs.Command.{AnswersWords, input_of, standard_input_alone, streams_of};
+ghost use Rattle.clockbed.specs.Command.{AnswersWords, input_of, output_of, standard_input_alone, streams_of};
 
 use crate::answer::{Program, answer_words};
 use crate::outside::{Clap, NoFiles};
@@ -24,9 +24,9 @@ pub fn command<T: Threads + Wait + Sync, S: AsStr, R: Source, W: Sink, E: Sink>(
 ) -> u8
     ensures { AnswersWords standard_input_alone (map S.text words.now)
         (streams_of (input_of (R.remaining reader.old) (R.calls reader.old) (R.has_failed reader.old))
-        (W.contents out.old) (E.contents err.old))
+        (output_of (W.contents out.old) (W.has_failed out.old)) (E.contents err.old))
         (streams_of (input_of (R.remaining reader.new) (R.calls reader.new) (R.has_failed reader.new))
-        (W.contents out.new) (E.contents err.new))
+        (output_of (W.contents out.new) (W.has_failed out.new)) (E.contents err.new))
         result }
 {
     let program = Program {

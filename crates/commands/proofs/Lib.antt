@@ -4,3 +4,4 @@ pub mod LineLaws
 pub mod ReadingLemmas
 pub mod RunLemmas
 pub mod SweepLaws
+mod WritingLemmas

@@ -1,5 +1,5 @@
 -- Which faults come of which requests (docs/COMMANDS.md, "Faults").
-use Rattle.std.specs.Prelude.{ℕ, ◌<◌, Bool, false, List, length, Option, Some, Err}
+use Rattle.std.specs.Prelude.{◌≡◌, ℕ, ◌<◌, Bool, false, List, length, Option, Some, Err}
 use Rattle.command_answers.specs.declared.fault.Fault.{Fault}
 use Rattle.command_answers.specs.declared.fault.Fault.TheVariants as faults
 use Rattle.command_answers.specs.declared.input.TheConstants.{TEXT_BYTES}
@@ -8,7 +8,7 @@ use Rattle.requests.specs.declared.request.Request.{Request}
 use Rattle.requests.specs.declared.request.Request.TheVariants.{Exec, Asm, Compile, Dis, Clock, Verify, Explain, Scenario, Prove, Stress, Help}
 use Rattle.requests.specs.declared.request.ScenarioRequest.{ScenarioRequest}
 use Rattle.requests.specs.declared.request.ScenarioRequest.TheVariants.{Run, Lines, TracedRun, NodeProgram, Sweep, Explore}
-use Rattle.commands.specs.Perform.{CarriesOut}
+use Rattle.commands.specs.Perform.{CarriesOut, PerformsRequest}
 
 -- a command that fails if a thread of its own can't be started
 abbrev pub ScenarioNeedsThreads : ScenarioRequest → Type 0
@@ -63,6 +63,13 @@ ThreadsHaveCause = (request : Request) (whole : List ℕ) (failed : Bool) (old n
 abbrev pub ReadingHasCause : Type 0
 ReadingHasCause = (request : Request) (whole : List ℕ) (old new : Option (List ℕ))
     → CarriesOut request (Some whole) false old new (Err faults.Read) → TEXT_BYTES < length whole
+
+-- if no call of `write` of the output failed or took nothing, no request ends with `fault write`
+abbrev pub WritingHasCause : Type 0
+WritingHasCause = (request : Request) (known : Option (List ℕ)) (failed : Bool)
+    (old new said_old said_new : Option (List ℕ)) (status after : ℕ)
+    → (performed : PerformsRequest request known failed old new false said_old said_new status)
+    → performed.ended ≡ Err (faults.Write after) → ⊥
 
 -- without a shape there is no `fault read` and no `fault thread`
 abbrev pub UnshapedReadsNothing : Type 0

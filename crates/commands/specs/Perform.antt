@@ -1,5 +1,5 @@
 -- What the program does for a request: what it takes, what it leaves and says, and its exit status (docs/COMMANDS.md).
-use Rattle.std.specs.Prelude.{◌≡◌, ◌⊎◌, ◌+◌, ◌≤◌, ℕ, Bool, List, [], IfSome, Option, Result, Ok, Err, string_bytes, take}
+use Rattle.std.specs.Prelude.{◌≡◌, ◌⊎◌, ◌+◌, ◌≤◌, ℕ, Bool, List, [], IfErr, IfSome, Option, Result, Ok, Err, string_bytes, take}
 use Rattle.bench_scenario.specs.declared.run.TheConstants.{MAX_BYTES}
 use Rattle.command_answers.specs.declared.ending.Ending.{Ending}
 use Rattle.command_answers.specs.declared.ending.Ending.TheVariants.{Done}
@@ -14,7 +14,7 @@ use Rattle.program_commands.specs.Dis.{LeavesClock, LeavesListing}
 use Rattle.command_answers.specs.Ending.{status_of}
 use Rattle.program_commands.specs.Exec.{LeavesExec}
 use Rattle.program_commands.specs.Explained.{LeavesExplained}
-use Rattle.command_answers.specs.Faults.{IsFaultOfReading, Says, fault_status, fault_text}
+use Rattle.command_answers.specs.Faults.{HasWriteCause, IsFaultOfReading, Says, fault_status, fault_text}
 use Rattle.command_answers.specs.Input.{IsShapedInput, Takes, max_bytes, max_calls, program_input}
 use Rattle.command_answers.specs.Output.{Leaves, LeavesNothing}
 use Rattle.command_answers.specs.Said.{SaysAt}
@@ -96,11 +96,13 @@ abbrev pub SaysOf : Result Ending Fault → Option (List ℕ) → Option (List �
 SaysOf (Ok ending) old new = SaysAt ending old new
 SaysOf (Err fault) old new = Says old new (fault_text fault)
 
--- the command is carried out, and told are the status and the fault of how it ended
-pub record PerformsRequest (request : Request) (input : Option (List ℕ)) (failed : Bool)
-    (old new said_old said_new : Option (List ℕ)) (status : ℕ) : Type 0 where
+-- the command is carried out, and told are the status and the fault of how it ended. `unwritten` says whether a call of
+-- `write` of the output failed or took nothing
+pub record PerformsRequest (request : Request) (input : Option (List ℕ)) (failed : Bool) (old new : Option (List ℕ))
+    (unwritten : Bool) (said_old said_new : Option (List ℕ)) (status : ℕ) : Type 0 where
   pub ended : Result Ending Fault
   pub carried_out : CarriesOut request input failed old new ended
+  pub cause : IfErr ended (HasWriteCause unwritten)
   pub answer : status ≡ status_for ended
   pub said : SaysOf ended said_old said_new
 

@@ -1,6 +1,7 @@
 //! A request, from its command to the exit status.
 ghost use Rattle.std.specs.Prelude.{◌≡◌, IfErr, IfOk};
 ghost use Rattle.commands.specs.Perform.{AsksInput, CallsFor, CarriesOut, PerformsRequest, Responds, TakesFor};
+ghost use Rattle.command_answers.specs.Faults.{HasWriteCause};
 ghost use Rattle.command_answers.specs.Said.{SaysAt};
 
 use crate::scenario::scenario_bytes;
@@ -35,7 +36,8 @@ pub fn perform<T: Threads + Wait + Sync, R: Source, W: Sink, E: Sink, P: Progres
     progress: &mut P,
 ) -> u8
     ensures performed { PerformsRequest request.now (R.remaining reader.old) (R.has_failed reader.new)
-        (W.contents out.old) (W.contents out.new) (E.contents err.old) (E.contents err.new) result }
+        (W.contents out.old) (W.contents out.new) (W.has_failed out.new) (E.contents err.old) (E.contents err.new)
+        result }
     ensures taken { TakesFor request.now (R.remaining reader.old) (R.remaining reader.new) }
     ensures cost { CallsFor request.now (R.calls reader.old) (R.calls reader.new) }
 {
@@ -59,6 +61,7 @@ fn carry_out<T: Threads + Wait + Sync, R: Source, W: Sink, E: Sink, P: Progress>
         (W.contents out.old) (W.contents out.new) result }
     ensures said { IfOk result (λ ending. SaysAt ending (E.contents err.old) (E.contents err.new)) }
     ensures unsaid { IfErr result (λ fault. E.contents err.new ≡ E.contents err.old) }
+    ensures cause { IfErr result (HasWriteCause (W.has_failed out.new)) }
     ensures taken { TakesFor request.now (R.remaining reader.old) (R.remaining reader.new) }
     ensures cost { CallsFor request.now (R.calls reader.old) (R.calls reader.new) }
 {
@@ -96,6 +99,7 @@ fn respond<T: Threads + Wait + Sync, W: Sink, E: Sink, P: Progress>(
     ensures left { Responds request.now bytes.now (W.contents out.old) (W.contents out.new) result }
     ensures said { IfOk result (λ ending. SaysAt ending (E.contents err.old) (E.contents err.new)) }
     ensures unsaid { IfErr result (λ fault. E.contents err.new ≡ E.contents err.old) }
+    ensures cause { IfErr result (HasWriteCause (W.has_failed out.new)) }
 {
     match request {
         Request::Exec(options) => exec_bytes(alloc, options, bytes, out, err),

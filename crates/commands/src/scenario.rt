@@ -2,7 +2,7 @@
 ghost use Rattle.std.specs.Prelude.{◌≡◌, ℕ, List, IfErr, IfOk, MatchResult, take};
 ghost use Rattle.bench_scenario.specs.declared.run.TheConstants.{MAX_BYTES};
 ghost use Rattle.scenario_text.specs.Texts.{IsDue, IsParsed, ReadsText};
-ghost use Rattle.command_answers.specs.Faults.{IsOutOfMemory};
+ghost use Rattle.command_answers.specs.Faults.{HasWriteCause, IsOutOfMemory};
 ghost use Rattle.command_answers.specs.Said.{SaysAt};
 ghost use Rattle.commands.specs.Scenarios.{LeavesFor, LeavesOf};
 
@@ -36,6 +36,7 @@ pub(crate) fn scenario_bytes<T: Threads + Wait + Sync, W: Sink, E: Sink, P: Prog
         → LeavesFor asked.now (W.contents out.old) (W.contents out.new) text result }
     ensures said { IfOk result (λ ending. SaysAt ending (E.contents err.old) (E.contents err.new)) }
     ensures unsaid { IfErr result (λ fault. E.contents err.new ≡ E.contents err.old) }
+    ensures cause { IfErr result (HasWriteCause (W.has_failed out.new)) }
 {
     let read = scenario_read(alloc, bytes)?;
     match read {
@@ -76,6 +77,7 @@ fn on_scenario<T: Threads + Wait + Sync, W: Sink, E: Sink, P: Progress>(
     ensures left { LeavesOf asked.now (W.contents out.old) (W.contents out.new) scenario.now result }
     ensures said { IfOk result (λ ending. SaysAt ending (E.contents err.old) (E.contents err.new)) }
     ensures unsaid { IfErr result (λ fault. E.contents err.new ≡ E.contents err.old) }
+    ensures cause { IfErr result (HasWriteCause (W.has_failed out.new)) }
 {
     match asked {
         ScenarioRequest::Run(options) => run(rt, alloc, *options, scenario, out),

@@ -1,6 +1,7 @@
 //! `run --json`: the lines of a scenario's run.
-ghost use Rattle.std.specs.Prelude.{ℕ, List};
+ghost use Rattle.std.specs.Prelude.{ℕ, IfErr, List};
 ghost use Rattle.scenario_text.specs.Texts.{ReadsText};
+ghost use Rattle.command_answers.specs.Faults.{HasWriteCause};
 ghost use Rattle.run_commands.specs.Lines.{LeavesLined};
 ghost use Rattle.run_commands.specs.inner.Lines.{IsPast};
 
@@ -25,7 +26,9 @@ pub fn lines<T: Threads + Wait + Sync, W: Sink>(
     out: &mut W,
 ) -> Result<Ending, Fault>
     requires reads { (text : List ℕ) × ReadsText text scenario.now }
-    ensures { LeavesLined options.run.check (W.contents out.old) (W.contents out.new) scenario.now options.form result }
+    ensures left { LeavesLined options.run.check (W.contents out.old) (W.contents out.new) scenario.now options.form
+        result }
+    ensures cause { IfErr result (HasWriteCause (W.has_failed out.new)) }
 {
     let LinesOptions { run, form } = options;
     if scenario.pulses < form.span.first() {

@@ -1,7 +1,8 @@
 //! `run`: the report of a scenario's run.
-ghost use Rattle.std.specs.Prelude.{◌≡◌, List, ℕ};
+ghost use Rattle.std.specs.Prelude.{◌≡◌, IfErr, List, ℕ};
 ghost use Rattle.bench_scenario.specs.Runs.{IsMemoryOrThread};
 ghost use Rattle.scenario_text.specs.Texts.{ReadsText};
+ghost use Rattle.command_answers.specs.Faults.{HasWriteCause};
 ghost use Rattle.command_answers.specs.inner.Faults.{IsRunFault};
 ghost use Rattle.run_commands.specs.Run.{LeavesReported, report_ending};
 
@@ -25,7 +26,8 @@ pub fn run<T: Threads + Wait + Sync, W: Sink>(
     out: &mut W,
 ) -> Result<Ending, Fault>
     requires reads { (text : List ℕ) × ReadsText text scenario.now }
-    ensures { LeavesReported options.check (W.contents out.old) (W.contents out.new) scenario.now result }
+    ensures left { LeavesReported options.check (W.contents out.old) (W.contents out.new) scenario.now result }
+    ensures cause { IfErr result (HasWriteCause (W.has_failed out.new)) }
 {
     let workers = options.workers.clamp(1, MAX_WORKERS);
     match write_report(rt, alloc, scenario, workers, out) {

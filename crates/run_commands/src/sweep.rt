@@ -3,7 +3,7 @@ ghost use Rattle.std.specs.Prelude.{◌≡◌, ◌≤◌, IfErr, IfOk, List, ℕ
 ghost use Rattle.key_sweep.specs.declared.sweeping.TheConstants.{MAX_SWEEPERS};
 ghost use Rattle.scenario_text.specs.Texts.{ReadsText};
 ghost use Rattle.command_answers.specs.declared.ending.Ending.TheVariants.{Refused};
-ghost use Rattle.command_answers.specs.Faults.{IsOutOfMemory};
+ghost use Rattle.command_answers.specs.Faults.{HasWriteCause, IsOutOfMemory};
 ghost use Rattle.command_answers.specs.Said.{SaysAt};
 ghost use Rattle.run_commands.specs.Sweep.{LeavesSwept, no_key_line};
 ghost use Rattle.command_answers.specs.inner.Responses.{IsNoted};
@@ -30,6 +30,7 @@ pub fn sweep<T: Threads + Wait + Sync, W: Sink, E: Sink>(
     ensures left { LeavesSwept (W.contents out.old) (W.contents out.new) scenario.now options.keys result }
     ensures said { IfOk result (λ ending. SaysAt ending (E.contents err.old) (E.contents err.new)) }
     ensures unsaid { IfErr result (λ fault. E.contents err.new ≡ E.contents err.old) }
+    ensures cause { IfErr result (HasWriteCause (W.has_failed out.new)) }
 {
     let workers = workers_for(rt, options.workers);
     match key_sweep::sweep(rt, alloc, scenario, options.keys, workers, out) {

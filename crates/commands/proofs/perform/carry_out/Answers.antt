@@ -1,4 +1,5 @@
 use Rattle.std.proofs.Common.{List, ℕ, subst}
+use Rattle.command_answers.proofs.WriteLemmas.{of_reading}
 use Rattle.commands.specs.Perform.{Responds}
 use Rattle.commands.proofs.FrontLemmas.{responds_to, unread}
 use Rattle.commands.proofs.perform.carry_out.Goals as goal
@@ -34,3 +35,6 @@ returns-in-Ok-clause-cost g c = (c.input_of.result, c.input_of.ensures, c.in-Ok.
 
 pub returns-in-Err-clause-cost : goal.returns-in-Err-clause-cost
 returns-in-Err-clause-cost g c = (c.input_of.result, c.input_of.ensures, c.in-Err.ensures.cost)
+
+pub returns-in-Err-clause-cause : goal.returns-in-Err-clause-cause
+returns-in-Err-clause-cause g c = of_reading _ _ c.in-Err.fault c.in-Err.ensures.fault

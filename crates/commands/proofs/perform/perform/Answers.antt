@@ -6,6 +6,7 @@ pub returns-in-Ok-clause-performed : goal.returns-in-Ok-clause-performed
 returns-in-Ok-clause-performed g c = record {
   ended = Ok c.in-Ok.ending;
   carried_out = c.in-Ok.ensures.carried_out;
+  cause = tt;
   answer = c.status.ensures;
   said = c.in-Ok.ensures.said;
 }
@@ -14,6 +15,7 @@ pub returns-in-Err-clause-performed : goal.returns-in-Err-clause-performed
 returns-in-Err-clause-performed g c = record {
   ended = Err c.in-Err.fault;
   carried_out = c.in-Err.ensures.carried_out;
+  cause = c.in-Err.ensures.cause;
   answer = c.tell.ensures.status;
   said = subst (λ (o : Option (List ℕ)). Says o (g.E.Write.contents c.tell.new.err) (fault_text c.in-Err.fault))
       c.in-Err.ensures.unsaid c.tell.ensures.said;
