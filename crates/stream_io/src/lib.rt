@@ -2,7 +2,8 @@
 //!
 //! - `read_at_most` returns the bytes up to the end or the limit. It reads a `Source`: a slice, or any reader in
 //!   `Counted::of`.
-//! - `write_fully` writes all bytes, or returns how many were taken. It writes to a `Sink`: any writer in `Tracked::of`.
+//! - `write_fully` writes all bytes, or returns how many were taken. It writes to a `Sink`: any writer in
+//!   `Tracked::of`.
 //! - `write_part` writes a part of a longer output.
 //!
 //! ```

@@ -15,4 +15,5 @@ returns-clause-left g c =
 
 pub returns-clause-cause : goal.returns-clause-cause
 returns-clause-cause g c =
-    rw c.behind.ensures (caused_behind (g.W.Sink.has_failed c.write_reply.new.out) _ c.in-Err.fault c.in-Err.ensures.cause)
+    rw c.behind.ensures
+    (caused_behind (g.W.Sink.has_failed c.write_reply.new.out) _ c.in-Err.fault c.in-Err.ensures.cause)
