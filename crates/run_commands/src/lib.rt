@@ -9,6 +9,7 @@
 //! use requests::RunOptions;
 //! use run_commands::run::run;
 //! use scenario_text::scenario_in;
+//! use stream_io::Tracked;
 //!
 //! let text = b"nodes = 4\nfaults = 1\nmodulus = 8\nmemory = 8\npulses = 1\ncoins = \"ones\"\n";
 //! let scenario = scenario_in(rt.alloc(), text).map_err(|_| "no scenario")?;
@@ -17,7 +18,7 @@
 //!     workers: 1,
 //!     check: true,
 //! };
-//! let mut report = Vec::new(rt.alloc());
+//! let mut report = Tracked::of(Vec::new(rt.alloc()));
 //! let ending = run(&rt, rt.alloc(), options, &scenario, &mut report).map_err(|_| "a fault")?;
 //! assert_eq!(rt; ending, Ending::Done);
 //! ```

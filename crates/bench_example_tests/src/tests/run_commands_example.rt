@@ -3,6 +3,7 @@ use requests::RunOptions;
 use run_commands::run::run;
 use scenario_text::scenario_in;
 use std::test::Fail;
+use stream_io::Tracked;
 
 #[test]
 fn run_commands_example(rt: HostRuntime) -> Result<(), Fail> {
@@ -13,7 +14,7 @@ fn run_commands_example(rt: HostRuntime) -> Result<(), Fail> {
         workers: 1,
         check: true,
     };
-    let mut report = Vec::new(rt.alloc());
+    let mut report = Tracked::of(Vec::new(rt.alloc()));
     let ending = run(&rt, rt.alloc(), options, &scenario, &mut report).map_err(|_| "a fault")?;
     assert_eq!(rt; ending, Ending::Done);
     Ok(())
