@@ -54,12 +54,12 @@ impl<'a, W: Write, E: Write, C: Clock> SweepProgress<'a, W, E, C> {
         }
     }
 
-    /// Counts the lines of these bytes, which were taken, and tells how many keys went by.
+    /// Counts the lines of these bytes, which were taken, and tells how many keys went by, if that is told.
     fn pass(&mut self, taken: &[u8])
         ensures { self.new.out ≡ self.old.out }
     {
-        self.lines = self.lines.saturating_add(lines_in(taken));
         if let (Some(terminal), Some(keys)) = (&mut self.terminal, self.keys.get()) {
+            self.lines = self.lines.saturating_add(lines_in(taken));
             let time = passed(&self.began, self.clock);
             tell(terminal, self.lines.saturating_sub(1), keys, time);
         }
