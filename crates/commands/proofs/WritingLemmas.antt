@@ -1,5 +1,5 @@
 -- Why `fault write` comes.
-use Rattle.std.proofs.Common.{◌≡◌, ℕ, Bool, true, false, List, Option, Result, Err, subst}
+use Rattle.std.proofs.Common.{◌≡◌, Bool, true, false, Result, Err, subst}
 use Rattle.std.specs.Prelude.{IfErr}
 use Rattle.command_answers.specs.Faults.{HasWriteCause}
 use Rattle.command_answers.specs.declared.ending.Ending.{Ending}
@@ -9,7 +9,6 @@ use Rattle.commands.specs.Causes.{WritingHasCause}
 
 pub writing_has_cause : WritingHasCause
 writing_has_cause request known failed old new said_old said_new status after performed ended =
-    let cause : IfErr (Err (faults.Write after)) (HasWriteCause false) =
+    let no : false ≡ true =
     subst (λ (r : Result Ending Fault). IfErr r (HasWriteCause false)) ended performed.cause in
-    let no : false ≡ true = cause in
     absurd cc
