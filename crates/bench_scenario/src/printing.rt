@@ -195,7 +195,7 @@ fn verdict_text(verdict: Option<bool>) -> &'static str
     }
 }
 
-/// Returns the verdict on agreement, as a line ends that has no other.
+/// Returns the end of a line that has no verdict on counting.
 fn agree_end(verdict: Option<bool>) -> &'static str
     ensures { result.now ≡ codes " agree " ++ (verdict_text verdict ++ codes "\n") }
 {
