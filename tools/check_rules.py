@@ -22,7 +22,7 @@ OPERATORS = ["+", "-", "*", "/", "%", "==", "!=", "<", "<=", ">", ">=", "and", "
 
 
 class Drawing:
-    """Draws rules: two words of memory, at most three lets, and loops that are at most one inside another."""
+    """Draws rules: two words of memory, any number of lets, and loops that are at most one inside another."""
 
     def __init__(self, dice):
         self.dice = dice
@@ -59,7 +59,9 @@ class Drawing:
         if kind == 0:
             return f"{front}{self.dice.choice(targets)} = {term}\n"
         if kind == 1:
-            return f"{front}clock, mark = {term}, {self.term(names, 1)}\n"
+            chosen = self.dice.sample(targets, self.dice.randint(2, len(targets)))
+            terms = [term, *(self.term(names, 1) for _ in chosen[1:])]
+            return f"{front}{', '.join(chosen)} = {', '.join(terms)}\n"
         if kind == 2:
             return f"{front}send {term}\n"
         if kind == 3:
@@ -70,10 +72,10 @@ class Drawing:
         return f"{front}for j{indent}:\n{inner([f'j{indent}'])}"
 
     def rule(self):
-        lets = [f"x{it}" for it in range(self.dice.choice([0, 0, 1, 1, 2, 2, 3]))]
+        lets = [f"x{it}" for it in range(self.dice.choice([0, 1, 1, 2, 2, 3, 4, 5, 8, 40]))]
         text = "state mark\n"
         for number, name in enumerate(lets):
-            text += f"let {name} = {self.term(lets[:number], 2)}\n"
+            text += f"let {name} = {self.term(lets[:number], 1 if number % 3 else 2)}\n"
         targets = ["clock", "mark", *lets]
         return text + "".join(self.statement(lets, targets, 0, 2) for _ in range(self.dice.randint(1, 4)))
 

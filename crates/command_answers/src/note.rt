@@ -82,7 +82,7 @@ impl Advice {
             Advice::Words =>
                 "clock and each name of state take 4 bytes of the memory: use a greater --memory, or fewer names",
             Advice::Numbers =>
-                "at most 3 numbers are in use at once, of let, count and unfinished terms: keep one in a name of state, or split a term",
+                "at most 131 numbers are in use at once, of let, count and unfinished terms: keep one in a name of state, or split a term",
             Advice::Long =>
                 "a program has at most 2048 slots, and for and count are written out for each node: use fewer of both, or fewer --nodes",
             Advice::Seed =>

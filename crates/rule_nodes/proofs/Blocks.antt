@@ -1,8 +1,8 @@
 -- The runs of statements.
-use Rattle.std.proofs.Common.{◌≡◌, ◌≢◌, ℕ, zero, suc, ◌+◌, ◌*◌, ◌%◌, ◌^◌, ◌<◌, ◌≤◌, ◌==◌, Bool, true, false, if◌then◌else◌, ◌&&◌, ◌||◌, nat_lt, nat_le, Option, None, List, [], ◌∷◌, ◌++◌, length, Some, Ok, All, pos, slice_set, refl, sym, ap, ◌∙◌, arith, subst, inl, inr, length-append}
+use Rattle.std.proofs.Common.{◌≡◌, ◌≢◌, ℕ, zero, suc, ◌+◌, ◌*◌, ◌%◌, ◌^◌, ◌<◌, ◌≤◌, Bool, true, false, if◌then◌else◌, ◌&&◌, ◌||◌, nat_lt, nat_le, Option, None, List, [], ◌∷◌, ◌++◌, length, Some, Ok, All, pos, slice_set, refl, sym, ap, ◌∙◌, arith, subst, inl, inr, length-append}
 use Rattle.std.specs.Int.{w32, w64, cast_signed, cast_unsigned}
 use Rattle.std.specs.FinMap.{get, insert}
-use Rattle.std.proofs.lemmas.Option.{same_Some, none-some}
+use Rattle.std.proofs.lemmas.Option.{none-some}
 use Rattle.std.proofs.lemmas.Bool.{cases_Bool, cases_eq, eq-eqb, eqb-true, ne_eqb, and_parts, ltb-true, ltb-false, le-leb, lt-leb, cond-true, cond-false, or_cases}
 use Rattle.std.proofs.lemmas.List.Elements.{All-push}
 use Rattle.node_env.specs.Env.{Setting}
@@ -17,12 +17,16 @@ use Rattle.bpf_insn.specs.Programs.{insn_at}
 use Rattle.bpf_insn.specs.Edges.{BeginsAt}
 use Rattle.bpf_machine.specs.declared.word.Word.TheVariants.{Num}
 use Rattle.bpf_machine.specs.Machine.{MachineState, Running}
-use Rattle.bpf_machine.specs.Step.{step, with_number}
+use Rattle.bpf_machine.specs.Step.{step, with_number, after_call}
 use Rattle.clock_nodes.proofs.Places.{Stands}
 use Rattle.clock_nodes.proofs.Forms.{put_same, put_other, call_keeps, put, at, sending, storing, moves, sends, stores}
 use Rattle.rule_syntax.specs.declared.syntax.Sizes.{Sizes}
 use Rattle.rule_syntax.specs.declared.syntax.Comparison.TheVariants.{AtLeast}
+use Rattle.rule_nodes.specs.declared.numbers.TheConstants.{PLACES}
+use Rattle.rule_nodes.specs.declared.numbers.Place.{Place}
+use Rattle.rule_nodes.specs.declared.numbers.Place.TheVariants.{InRegister, OnStack}
 use Rattle.rule_nodes.specs.declared.numbers.Purpose.TheVariants.{Value, Jump}
+use Rattle.rule_syntax.specs.declared.syntax.Operation.{Operation}
 use Rattle.rule_syntax.specs.declared.syntax.Target.{Target}
 use Rattle.rule_syntax.specs.declared.syntax.Target.TheVariants.{ToLocal, ToWord}
 use Rattle.rule_syntax.specs.declared.syntax.Assignment.{Assignment}
@@ -37,41 +41,40 @@ use Rattle.rule_syntax.specs.declared.syntax.Operator.TheVariants.{Compute}
 use Rattle.rule_nodes.specs.Meaning.{NodeState, apply, value, count_below, word_at, truth, with_local, assigned, all_assigned, with_sent, sent_below, each_below, after}
 use Rattle.rule_nodes.specs.Operands.{is_constant, constant_number, is_local, is_operand, is_asked, is_steady, depth_behind, term_source}
 use Rattle.rule_nodes.specs.Fits.{HasPlace, Fits, TargetFits, AssignmentFits, BlockFits}
-use Rattle.rule_nodes.specs.Code.{place_register, copy, cond_of, counted_code, term_code, stored_code, passed_code, send_to_constant_code, assign_code, set_code, given_code, alu_op_of, changing_insn, one_code, also_code, assignment_code, get_code, send_code, send_codes, send_all_code, send_to_code, each_code, is_nothing, block_code}
+use Rattle.rule_nodes.specs.Code.{number_place, fetch_code, keep_code, copy, cond_of, counted_code, count_test, term_code, stored_code, passed_code, send_to_constant_code, assign_code, place_code, word_code, set_code, given_code, alu_op_of, change_place, changing_insn, one_code, also_code, assignment_code, get_code, send_code, send_codes, send_all_code, send_to_code, each_code, is_nothing, block_code}
 use Rattle.rule_nodes.proofs.Small.{compared, imm_low, apply_small}
 use Rattle.rule_nodes.proofs.Forms.{copies, operates_in, stores_number, stays, once, chain, further}
 use Rattle.rule_nodes.proofs.Words.{word_small, word_stored, word_low, word_length, word_bytes}
-use Rattle.rule_nodes.proofs.States.{stands_front, stands_back, place_number, Holds, still_holds, IsSized}
+use Rattle.rule_nodes.proofs.Places.{inside, IsInside, IsPlace, place_is, not_frame, IsIn, At, IsFramed, in_alike, framed_alike, Placed, fetches, keeps_at, put_at}
+use Rattle.rule_nodes.proofs.States.{stands_front, stands_back, Same, same_self, same_put, same_placed, alike_same, Holds, still_holds, IsSized}
 use Rattle.rule_nodes.proofs.Sources.{is_found}
-use Rattle.rule_nodes.proofs.TermRuns.{hop, behind_more, behind_few, IsAt, found_same, source_is, Fetched, get_steps, Has, Gets, gets, here_is, branch_leads, if_runs, counted_runs, constant_is, constant_small, term_runs, nodes_few}
+use Rattle.rule_nodes.proofs.TermRuns.{hop, behind_more, behind_few, IsAt, found_same, source_is, Fetched, get_steps, Has, Gets, gets, here_is, branch_leads, fetch_runs, keep_runs, if_runs, counted_runs, constant_is, constant_small, term_runs, nodes_few}
 
 -- ---- what holds after a write
 
-pub holds_local : (env : Setting) (d e k v : ℕ) (u : NodeState) (s : MachineState) (to : ℕ) → k < 3
-    → ((j : ℕ) → j < e → j ≢ k → j < d) → v < 2 ^ 32 → Holds env d u s
-    → Holds env e (with_local k v u) (put s to (place_register k) (Num v))
-holds_local env d e k v u s to small below fits h =
-    let p = register_number (place_register k) in
-    let number : p ≡ 7 + k = place_number k small in
-    let m = s.frame.registers in
+-- a number goes into place k, which is a local or the next one
+pub holds_local : (env : Setting) (d e k v : ℕ) (u : NodeState) (s t : MachineState) → e ≤ PLACES
+    → ((j : ℕ) → j < e → j ≢ k → j < d) → v < 2 ^ 32 → Placed k v s t → Holds env d u s
+    → Holds env e (with_local k v u) t
+holds_local env d e k v u s t few below fits p h =
     record {
-      r6 = put_other m p (Num v) 6 (λ e. omega arith) ∙ h.r6;
+      r6 = p.r6 ∙ h.r6;
       locals = λ j lt. elim (cases_eq j k) [
         | inl same ↦
-            let there : 7 + j ≡ p = omega (arith, same, number) in
             let is : v ≡ (with_local k v u).locals j = rw (eq-eqb j k same) refl in
-            ap (get (insert m p (Num v))) there ∙ put_same m p (Num v) ∙ ap (λ x. Some (Num x)) is
+            subst (λ (x : ℕ). At j t x) is (subst (λ (i : ℕ). At i t v) (sym same) p.there)
         | inr other ↦
             let is : u.locals j ≡ (with_local k v u).locals j = rw (ne_eqb j k other) refl in
-            put_other m p (Num v) (7 + j) (λ e. other (omega (arith, e, number))) ∙ h.locals j (below j lt other)
-            ∙ ap (λ x. Some (Num x)) is
+            subst (λ (x : ℕ). At j t x) is
+            (p.others j (u.locals j) other (omega (arith, lt, few)) (h.locals j (below j lt other)))
       ];
+      framed = p.framed h.framed;
       small = λ j lt. elim (cases_eq j k) [
         | inl same ↦ rw (eq-eqb j k same) fits
         | inr other ↦ rw (ne_eqb j k other) (h.small j (below j lt other))
       ];
-      memory = h.memory;
-      sent = h.sent;
+      memory = p.memory ∙ h.memory;
+      sent = p.sent ∙ h.sent;
       room = h.room;
       bytes = h.bytes;
     }
@@ -80,6 +83,7 @@ pub holds_less : (env : Setting) (d : ℕ) (u : NodeState) (s : MachineState) �
 holds_less env d u s h = record {
   r6 = h.r6;
   locals = λ k lt. h.locals k (omega arith);
+  framed = h.framed;
   small = λ k lt. h.small k (omega arith);
   memory = h.memory;
   sent = h.sent;
@@ -92,6 +96,7 @@ holds_at : (env : Setting) (d : ℕ) (u : NodeState) (s : MachineState) (to : �
 holds_at env d u s to h = record {
   r6 = h.r6;
   locals = h.locals;
+  framed = h.framed;
   small = h.small;
   memory = h.memory;
   sent = h.sent;
@@ -104,6 +109,7 @@ holds_word : (env : Setting) (d k v : ℕ) (u : NodeState) (s : MachineState) (t
 holds_word env d k v u s to h = record {
   r6 = h.r6;
   locals = h.locals;
+  framed = h.framed;
   small = h.small;
   memory = ap (λ m. with_number slice_set m (4 * k) 4 v) h.memory ∙ word_stored k v u.memory;
   sent = h.sent;
@@ -117,6 +123,7 @@ holds_low : (env : Setting) (d k v raw : ℕ) (u : NodeState) (s : MachineState)
 holds_low env d k v raw u s to low h = record {
   r6 = h.r6;
   locals = h.locals;
+  framed = h.framed;
   small = h.small;
   memory = ap (λ m. with_number slice_set m (4 * k) 4 raw) h.memory ∙ word_stored k raw u.memory
       ∙ word_low k raw v u.memory low;
@@ -126,19 +133,19 @@ holds_low env d k v raw u s to low h = record {
 }
 
 -- a number that is in its place already
-holds_there : (env : Setting) (d v : ℕ) (u : NodeState) (t : MachineState) → v < 2 ^ 32
-    → get t.frame.registers (7 + d) ≡ Some (Num v) → Holds env d u t → Holds env (d + 1) (with_local d v u) t
+holds_there : (env : Setting) (d v : ℕ) (u : NodeState) (t : MachineState) → v < 2 ^ 32 → At d t v
+    → Holds env d u t → Holds env (d + 1) (with_local d v u) t
 holds_there env d v u t fits there h = record {
   r6 = h.r6;
   locals = λ j lt. elim (cases_eq j d) [
     | inl same ↦
-        let at_d : 7 + j ≡ 7 + d = omega (arith, same) in
         let is : v ≡ (with_local d v u).locals j = rw (eq-eqb j d same) refl in
-        ap (get t.frame.registers) at_d ∙ there ∙ ap (λ x. Some (Num x)) is
+        subst (λ (x : ℕ). At j t x) is (subst (λ (i : ℕ). At i t v) (sym same) there)
     | inr other ↦
         let is : u.locals j ≡ (with_local d v u).locals j = rw (ne_eqb j d other) refl in
-        h.locals j (omega (arith, lt, other)) ∙ ap (λ x. Some (Num x)) is
+        subst (λ (x : ℕ). At j t x) is (h.locals j (omega (arith, lt, other)))
   ];
+  framed = h.framed;
   small = λ j lt. elim (cases_eq j d) [
     | inl same ↦ rw (eq-eqb j d same) fits
     | inr other ↦ rw (ne_eqb j d other) (h.small j (omega (arith, lt, other)))
@@ -149,78 +156,71 @@ holds_there env d v u t fits there h = record {
   bytes = h.bytes;
 }
 
--- place d is free
-holds_free : (env : Setting) (lets d v : ℕ) (u : NodeState) (s : MachineState) (to : ℕ) → lets ≤ d → d < 3
-    → Holds env lets u s → Holds env lets u (put s to (place_register d) (Num v))
-holds_free env lets d v u s to le small h =
-    let p = register_number (place_register d) in
-    let number : p ≡ 7 + d = place_number d small in
-    let m = s.frame.registers in
-    record {
-      r6 = put_other m p (Num v) 6 (λ e. omega arith) ∙ h.r6;
-      locals = λ k lt. put_other m p (Num v) (7 + k) (λ e. omega arith) ∙ h.locals k lt;
-      small = h.small;
-      memory = h.memory;
-      sent = h.sent;
-      room = h.room;
-      bytes = h.bytes;
-    }
-
 -- a register below r6 is free
 holds_put : (env : Setting) (d : ℕ) (u : NodeState) (s : MachineState) (to v : ℕ) (dst : Reg) → register_number dst < 6
     → Holds env d u s → Holds env d u (put s to dst (Num v))
 holds_put env d u s to v dst low h =
-    let p = register_number dst in
+    still_holds env d d u s (put s to dst (Num v)) (omega arith) h (same_put d s s to dst (Num v) low (same_self d s))
+
+holds_sent : (env : Setting) (d j v : ℕ) (u : NodeState) (s : MachineState) (to : ℕ) → Holds env d u s
+    → Holds env d (with_sent j v u) (sending s to j v)
+holds_sent env d j v u s to h =
     let m = s.frame.registers in
+    let n = (after_call s.frame 0).registers in
+    let same : (k : ℕ) → 5 < k → get n k ≡ get m k = λ k from. call_keeps s.frame 0 k from in
     record {
-      r6 = put_other m p (Num v) 6 (λ e. omega (arith, e, low)) ∙ h.r6;
-      locals = λ k lt. put_other m p (Num v) (7 + k) (λ e. omega (arith, e, low)) ∙ h.locals k lt;
+      r6 = same 6 (omega arith) ∙ h.r6;
+      locals = λ k lt. in_alike (number_place k) m n s.frame.stack (u.locals k) (inside k) same (h.locals k lt);
+      framed = framed_alike m n s.frame.kept same h.framed;
       small = h.small;
       memory = h.memory;
-      sent = h.sent;
+      sent = ap (λ m. insert m j v) h.sent;
       room = h.room;
       bytes = h.bytes;
     }
 
-holds_sent : (env : Setting) (d j v : ℕ) (u : NodeState) (s : MachineState) (to : ℕ) → Holds env d u s
-    → Holds env d (with_sent j v u) (sending s to j v)
-holds_sent env d j v u s to h = record {
-  r6 = call_keeps s.frame 0 6 (omega arith) ∙ h.r6;
-  locals = λ k lt. call_keeps s.frame 0 (7 + k) (omega arith) ∙ h.locals k lt;
-  small = h.small;
-  memory = h.memory;
-  sent = ap (λ m. insert m j v) h.sent;
-  room = h.room;
-  bytes = h.bytes;
-}
-
--- the registers from r6 on and the memory are alike
+-- the registers from r6 on, the stack and the memory are alike
 pub record Near (s t : MachineState) : Type 0 where
-  pub registers : (k : ℕ) → 5 < k → get t.frame.registers k ≡ get s.frame.registers k
+  pub r6 : get t.frame.registers 6 ≡ get s.frame.registers 6
+  pub places : (k v : ℕ) → At k s v → At k t v
+  pub framed : IsFramed s → IsFramed t
   pub memory : t.memory ≡ s.memory
 
 near_self : (s : MachineState) → Near s s
-near_self s = record { registers = λ k a. refl; memory = refl }
+near_self s = record { r6 = refl; places = λ k v x. x; framed = λ x. x; memory = refl }
 
 near_put : (s t : MachineState) (to v : ℕ) (dst : Reg) → register_number dst < 6 → Near s t
     → Near s (put t to dst (Num v))
-near_put s t to v dst low h = record {
-  registers = λ k a. put_other t.frame.registers (register_number dst) (Num v) k (λ e. omega (arith, e, low, a))
-      ∙ h.registers k a;
-  memory = h.memory;
-}
+near_put s t to v dst low h =
+    let m = t.frame.registers in
+    let n = insert m (register_number dst) (Num v) in
+    let same : (k : ℕ) → 5 < k → get n k ≡ get m k =
+    λ k from. put_other m (register_number dst) (Num v) k (λ e. omega (arith, e, low, from)) in
+    record {
+      r6 = same 6 (omega arith) ∙ h.r6;
+      places = λ k w x. in_alike (number_place k) m n t.frame.stack w (inside k) same (h.places k w x);
+      framed = λ x. framed_alike m n t.frame.kept same (h.framed x);
+      memory = h.memory;
+    }
 
 near_sent : (s t : MachineState) (to j v : ℕ) → Near s t → Near s (sending t to j v)
-near_sent s t to j v h = record {
-  registers = λ k a. call_keeps t.frame 0 k a ∙ h.registers k a;
-  memory = h.memory;
-}
+near_sent s t to j v h =
+    let m = t.frame.registers in
+    let n = (after_call t.frame 0).registers in
+    let same : (k : ℕ) → 5 < k → get n k ≡ get m k = λ k from. call_keeps t.frame 0 k from in
+    record {
+      r6 = same 6 (omega arith) ∙ h.r6;
+      places = λ k w x. in_alike (number_place k) m n t.frame.stack w (inside k) same (h.places k w x);
+      framed = λ x. framed_alike m n t.frame.kept same (h.framed x);
+      memory = h.memory;
+    }
 
 near_holds : (env : Setting) (lets : ℕ) (u : NodeState) (s t : MachineState) → Near s t → Holds env lets u s
     → Holds env lets (record { locals = u.locals; memory = u.memory; sent = t.sent }) t
 near_holds env lets u s t near h = record {
-  r6 = near.registers 6 (omega arith) ∙ h.r6;
-  locals = λ k lt. near.registers (7 + k) (omega arith) ∙ h.locals k lt;
+  r6 = near.r6 ∙ h.r6;
+  locals = λ k lt. near.places k (u.locals k) (h.locals k lt);
+  framed = near.framed h.framed;
   small = h.small;
   memory = near.memory ∙ h.memory;
   sent = refl;
@@ -244,7 +244,7 @@ found_small env (FromWord k) z lets v u s found is memory h = subst (λ (n : ℕ
     (word_small k u.memory (omega (arith, is.0, memory, h.room)) h.bytes)
 found_small env Computed z lets v u s found is memory h = absurd (let no : false ≡ true = found in cc)
 
-pub computed_place : (found : Bool) (d : ℕ) → found ≡ false → HasPlace found d → d < 3
+pub computed_place : (found : Bool) (d : ℕ) → found ≡ false → HasPlace found d → d < PLACES
 computed_place true d e free = absurd (let no : true ≡ false = e in cc)
 computed_place false d e free = free
 
@@ -260,12 +260,25 @@ pub record Sending (env : Setting) (lets : ℕ) (u : NodeState) (s t : MachineSt
 -- a state with this number in place d besides
 pub record Keeps (env : Setting) (d : ℕ) (u : NodeState) (v : ℕ) (t : MachineState) : Type 0 where
   pub holds : Holds env d u t
-  pub place : get t.frame.registers (7 + d) ≡ Some (Num v)
+  pub there : At d t v
 
 -- a state of this rule state, in which the places from lets up to d are as they were
 pub record Assigned (env : Setting) (lets d : ℕ) (u : NodeState) (s t : MachineState) : Type 0 where
   pub holds : Holds env lets u t
-  pub kept : (k : ℕ) → lets ≤ k → k < d → get t.frame.registers (7 + k) ≡ get s.frame.registers (7 + k)
+  pub kept : (k v : ℕ) → lets ≤ k → k < d → At k s v → At k t v
+
+-- a state with this number in place d, while the places below stay
+record KeptNumber (d v : ℕ) (s t : MachineState) : Type 0 where
+  same : Same d s t
+  there : At d t v
+  small : v < 2 ^ 32
+
+-- a state after this number is put into place k
+record PlaceGiven (env : Setting) (lets k v : ℕ) (u : NodeState) (s t : MachineState) : Type 0 where
+  before : MachineState
+  same : Same PLACES s before
+  placed : Placed k v before t
+  small : v < 2 ^ 32
 
 module _ (program : List Insn) (env : Setting) (last : ℕ) (solid : (k : ℕ) → k ≤ last → BeginsAt program k) where
   abbrev Leads : MachineState → List Insn → (MachineState → Type 0) → Type 0
@@ -273,36 +286,34 @@ module _ (program : List Insn) (env : Setting) (last : ℕ) (solid : (k : ℕ) �
 
   -- ---- a number into a place
 
-  -- the value, and its copy into place k
-  stored_runs : (e : Term) (z : Sizes) (J : List ℕ) (d k : ℕ) (rest : List Insn) (u : NodeState) (s : MachineState)
-      (P : MachineState → Type 0) → IsSized z env → All (λ j. j < z.nodes) J → d ≤ 3 → k < 3 → Fits e z (length J) d d
-      → Holds env d u s → Stands program s.frame.slot (term_code e z J d Value ++ (copy (place_register k) R0 ∷ rest))
-      → s.frame.slot + length (term_code e z J d Value ++ (copy (place_register k) R0 ∷ rest)) ≤ last
-      → ((t : MachineState) (to : ℕ) → Has d s (value e z env J u) t → Stands program to rest → to + length rest ≤ last
-      → Leads (put t to (place_register k) (Num (value e z env J u))) rest P)
-      → Leads s (term_code e z J d Value ++ (copy (place_register k) R0 ∷ rest)) P
-  stored_runs e z J d k rest u s P sized nodes few small fits h stands room next =
+  -- the value, and its copy into place d
+  stored_runs : (e : Term) (z : Sizes) (J : List ℕ) (d : ℕ) (rest : List Insn) (u : NodeState) (s : MachineState)
+      (P : MachineState → Type 0) → IsSized z env → All (λ j. j < z.nodes) J → d < PLACES → Fits e z (length J) d d
+      → Holds env d u s → Stands program s.frame.slot (term_code e z J d Value ++ (keep_code (number_place d) ∷ rest))
+      → s.frame.slot + length (term_code e z J d Value ++ (keep_code (number_place d) ∷ rest)) ≤ last
+      → ((t w : MachineState) → Has d s (value e z env J u) t → Placed d (value e z env J u) t w
+      → Stands program w.frame.slot rest → w.frame.slot + length rest ≤ last → Leads w rest P)
+      → Leads s (term_code e z J d Value ++ (keep_code (number_place d) ∷ rest)) P
+  stored_runs e z J d rest u s P sized nodes small fits h stands room next =
       let v = value e z env J u in
       let code = term_code e z J d Value in
-      let back = copy (place_register k) R0 ∷ rest in
-      let number : register_number (place_register k) ≡ 7 + k = place_number k small in
-      let writable : (register_number (place_register k) == 10) ≡ false = ap (λ (n : ℕ). n == 10) number
-      ∙ ne_eqb (7 + k) 10 (λ e. omega arith) in
+      let back = keep_code (number_place d) ∷ rest in
       let len : length (code ++ back) ≡ length code + (1 + length rest) = omega (arith, length-append code back) in
-      let c = term_runs program env last solid e z J d d Value u s sized nodes few (omega arith) fits h
+      let c = term_runs program env last solid e z J d d Value u s sized nodes (omega (arith, small)) (omega arith) fits h
       (stands_front program s.frame.slot code back stands) (omega (arith, len, room)) in
       let t = c.new in
       let there = here_is program env last solid t _ back c.slot (stands_back program s.frame.slot code back stands) in
-      let t1 = put t (t.frame.slot + 1) (place_register k) (Num v) in
-      let e1 : step program env t ≡ Ok (Running t1) = copies program env t (t.frame.slot + 1)
-      (place_register k) R0 v there.0 refl (solid _ (omega (arith, len, room, c.slot))) c.fact.r0 c.fact.small writable in
-      let g = next t (t.frame.slot + 1) c.fact there.1 (omega (arith, len, room, c.slot)) in
+      let p = keeps_at program env d v t (t.frame.slot + 1) small there.0 refl
+      (solid _ (omega (arith, len, room, c.slot))) c.fact.r0 (c.fact.same.framed h.framed) c.fact.small in
+      let t1 = p.new in
+      let g = next t t1 c.fact p.fact (here_is program env last solid t1 _ rest p.slot there.1)
+      (omega (arith, len, room, c.slot, p.slot)) in
       record {
         new = g.new;
         run = chain program env s t1 g.new (length code + 1) (length rest) (length (code ++ back))
-            (further program env s t t1 (length code) (length code + 1) c.run e1 (omega arith)) g.run
+            (further program env s t t1 (length code) (length code + 1) c.run p.runs (omega arith)) g.run
             (omega (arith, len));
-        slot = omega (arith, len, c.slot, g.slot);
+        slot = omega (arith, len, c.slot, p.slot, g.slot);
         fact = g.fact;
       }
 
@@ -374,7 +385,7 @@ module _ (program : List Insn) (env : Setting) (last : ℕ) (solid : (k : ℕ) �
 
   -- a found number
   found_sends : (x : Source) (z : Sizes) (lets v : ℕ) (u : NodeState) (s : MachineState) → is_found x ≡ true
-      → IsAt z lets u x v → IsSized z env → lets ≤ 3 → Holds env lets u s
+      → IsAt z lets u x v → IsSized z env → lets ≤ PLACES → Holds env lets u s
       → Stands program s.frame.slot (send_codes x z.nodes) → s.frame.slot + length (send_codes x z.nodes) ≤ last
       → Leads s (send_codes x z.nodes) (Holds env lets (sent_below z.nodes v u))
   found_sends x z lets v u s found is sized few h stands room =
@@ -391,7 +402,7 @@ module _ (program : List Insn) (env : Setting) (last : ℕ) (solid : (k : ℕ) �
 
   -- a found number to a node
   found_sent : (x : Source) (z : Sizes) (lets v m : ℕ) (u : NodeState) (s : MachineState) → is_found x ≡ true
-      → IsAt z lets u x v → IsSized z env → m < z.nodes → lets ≤ 3 → Holds env lets u s
+      → IsAt z lets u x v → IsSized z env → m < z.nodes → lets ≤ PLACES → Holds env lets u s
       → Stands program s.frame.slot (send_code x m) → s.frame.slot + 3 ≤ last
       → Leads s (send_code x m) (Holds env lets (with_sent m v u))
   found_sent x z lets v m u s found is sized lt few h stands room =
@@ -408,7 +419,7 @@ module _ (program : List Insn) (env : Setting) (last : ℕ) (solid : (k : ℕ) �
 
   -- to the node of a constant
   passed_runs : (x : Source) (e : Term) (z : Sizes) (J : List ℕ) (d m : ℕ) (u : NodeState) (s : MachineState)
-      → IsAt z d u x (value e z env J u) → IsSized z env → All (λ j. j < z.nodes) J → d ≤ 3 → m < z.nodes
+      → IsAt z d u x (value e z env J u) → IsSized z env → All (λ j. j < z.nodes) J → d ≤ PLACES → m < z.nodes
       → Fits e z (length J) d d → Holds env d u s
       → Stands program s.frame.slot (passed_code x m (term_code e z J d Value))
       → s.frame.slot + length (passed_code x m (term_code e z J d Value)) ≤ last
@@ -444,7 +455,7 @@ module _ (program : List Insn) (env : Setting) (last : ℕ) (solid : (k : ℕ) �
       }
 
   constant_runs : (e k : Term) (z : Sizes) (J : List ℕ) (d : ℕ) (u : NodeState) (s : MachineState)
-      → is_constant k ≡ true → IsSized z env → All (λ j. j < z.nodes) J → d ≤ 3 → Fits e z (length J) d d
+      → is_constant k ≡ true → IsSized z env → All (λ j. j < z.nodes) J → d ≤ PLACES → Fits e z (length J) d d
       → Holds env d u s
       → Stands program s.frame.slot (send_to_constant_code (term_source e z J) (constant_number k z J) z.nodes
       (term_code e z J d Value))
@@ -476,7 +487,7 @@ module _ (program : List Insn) (env : Setting) (last : ℕ) (solid : (k : ℕ) �
       subst (λ (j : ℕ). Leads s (if nat_lt m z.nodes then code else []) (Holds env d (End j))) is (both stands room)
 
   -- with the number in place d and the receiver in r0
-  send_to_runs : (d v x : ℕ) (z : Sizes) (u : NodeState) (t : MachineState) → IsSized z env → d < 3 → v < 2 ^ 32
+  send_to_runs : (d v x : ℕ) (z : Sizes) (u : NodeState) (t : MachineState) → IsSized z env → d < PLACES → v < 2 ^ 32
       → x < 2 ^ 32 → Keeps env d u v t → get t.frame.registers 0 ≡ Some (Num x)
       → Stands program t.frame.slot (send_to_code d z.nodes) → t.frame.slot + 4 ≤ last
       → Gets program env last solid t (t.frame.slot + 4) 4
@@ -487,21 +498,13 @@ module _ (program : List Insn) (env : Setting) (last : ℕ) (solid : (k : ℕ) �
       let c = branch_leads program env last solid t t 0 3 (cond_of AtLeast) R0 (operand.Imm (pos n)) x n (nat_le n x)
       (stays program env t) stands.0 r0 refl (compared AtLeast x n x_fits few) (omega (arith, room)) in
       let w = c.new in
-      let number : register_number (place_register d) ≡ 7 + d = place_number d small in
-      let holds : Holds env d u w = record {
-        r6 = ap (λ m. get m 6) c.fact.registers ∙ k.holds.r6;
-        locals = λ j lt. ap (λ m. get m (7 + j)) c.fact.registers ∙ k.holds.locals j lt;
-        small = k.holds.small;
-        memory = c.fact.memory ∙ k.holds.memory;
-        sent = c.fact.sent ∙ k.holds.sent;
-        room = k.holds.room;
-        bytes = k.holds.bytes;
-      } in
+      let alike : Same (d + 1) t w = alike_same (d + 1) t w c.fact in
+      let holds : Holds env d u w = still_holds env d (d + 1) u t w (omega arith) k.holds alike in
       elim (cases_Bool (nat_lt x n)) [
         | inl so ↦
             let miss : hop (nat_le n x) 3 ≡ 0 = rw (lt-leb n x (ltb-true x n so)) refl in
             let slot : w.frame.slot ≡ t.frame.slot + 1 = omega (arith, c.slot, miss) in
-            let there = here_is program env last solid w _ (copy R1 R0 ∷ copy R2 (place_register d) ∷ i.Call (pos 3) ∷ []) slot
+            let there = here_is program env last solid w _ (copy R1 R0 ∷ fetch_code R2 (number_place d) ∷ i.Call (pos 3) ∷ []) slot
             stands.1 in
             let m0 = w.frame.registers in
             let w1 = put w (w.frame.slot + 1) R1 (Num x) in
@@ -509,14 +512,15 @@ module _ (program : List Insn) (env : Setting) (last : ℕ) (solid : (k : ℕ) �
             let w2 = put w1 (w.frame.slot + 1 + 1) R2 (Num v) in
             let w3 = sending w2 (w.frame.slot + 1 + 1 + 1) x v in
             let from0 : get m0 0 ≡ Some (Num x) = ap (λ m. get m 0) c.fact.registers ∙ r0 in
-            let from : get m1 (register_number (place_register d)) ≡ Some (Num v) = ap (get m1) number
-            ∙ put_other m0 1 (Num x) (7 + d) (λ e. omega arith) ∙ ap (λ m. get m (7 + d)) c.fact.registers ∙ k.place in
+            let same1 : Same (d + 1) w w1 = same_put (d + 1) w w (w.frame.slot + 1) R1 (Num x) (omega arith)
+            (same_self (d + 1) w) in
+            let from : At d w1 v = same1.places d v (omega arith) (alike.places d v (omega arith) k.there) in
             let to1 : get w2.frame.registers 1 ≡ Some (Num x) = put_other m1 2 (Num v) 1 (λ e. omega arith)
             ∙ put_same m0 1 (Num x) in
             let e1 : step program env w ≡ Ok (Running w1) = copies program env w (w.frame.slot + 1) R1 R0 x there.0 refl
             (solid _ (omega (arith, room, slot))) from0 x_fits refl in
-            let e2 : step program env w1 ≡ Ok (Running w2) = copies program env w1 (w.frame.slot + 1 + 1) R2 (place_register d) v
-            there.1.0 refl (solid _ (omega (arith, room, slot))) from fits refl in
+            let e2 : step program env w1 ≡ Ok (Running w2) = fetches program env (number_place d) w1 (w.frame.slot + 1 + 1) R2 v
+            (inside d) there.1.0 refl (solid _ (omega (arith, room, slot))) from (same1.framed holds.framed) fits refl in
             let e3 : step program env w2 ≡ Ok (Running w3) = sends program env w2 (w.frame.slot + 1 + 1 + 1) x v
             there.1.1.0 refl (solid _ (omega (arith, room, slot))) to1 (put_same m1 2 (Num v))
             (omega (arith, ltb-true x n so, sized.nodes)) fits in
@@ -577,26 +581,19 @@ module _ (program : List Insn) (env : Setting) (last : ℕ) (solid : (k : ℕ) �
   -- ---- statements
 
   assign_runs : (target : Target) (z : Sizes) (lets d v : ℕ) (u : NodeState) (t : MachineState) → IsSized z env
-      → lets ≤ d → d ≤ 3 → TargetFits target z.memory lets → get t.frame.registers 0 ≡ Some (Num v) → v < 2 ^ 32
+      → lets ≤ d → d ≤ PLACES → TargetFits target z.memory lets → get t.frame.registers 0 ≡ Some (Num v) → v < 2 ^ 32
       → Holds env lets u t → Stands program t.frame.slot (assign_code target ∷ []) → t.frame.slot + 1 ≤ last
       → Gets program env last solid t (t.frame.slot + 1) 1 (Assigned env lets d (assigned target v u) t)
   assign_runs (ToLocal k) z lets d v u t sized le few fits r0 small h stands room =
-      let p = register_number (place_register k) in
-      let number : p ≡ 7 + k = place_number k (omega (arith, fits, le, few)) in
-      let writable : (p == 10) ≡ false = ap (λ (n : ℕ). n == 10) number
-      ∙ ne_eqb (7 + k) 10 (λ e. omega (arith, e, fits, le, few)) in
-      let t1 = put t (t.frame.slot + 1) (place_register k) (Num v) in
-      let e1 : step program env t ≡ Ok (Running t1) = copies program env t (t.frame.slot + 1)
-      (place_register k) R0 v stands.0 refl (solid _ room) r0 small writable in
+      let p = keeps_at program env k v t (t.frame.slot + 1) (omega (arith, fits, le, few)) stands.0 refl (solid _ room) r0
+      h.framed small in
       record {
-        new = t1;
-        run = once program env t t1 e1;
-        slot = refl;
+        new = p.new;
+        run = once program env t p.new p.runs;
+        slot = p.slot;
         fact = record {
-          holds = holds_local env lets lets k v u t (t.frame.slot + 1) (omega (arith, fits, le, few)) (λ j lt other. lt)
-              small h;
-          kept = λ j from below. put_other t.frame.registers p (Num v) (7 + j)
-              (λ e. omega (arith, e, number, from, fits));
+          holds = holds_local env lets lets k v u t p.new (omega (arith, le, few)) (λ j lt other. lt) small p.fact h;
+          kept = λ j w from below x. p.fact.others j w (λ e. omega (arith, e, from, fits)) (omega (arith, below, few)) x;
         };
       }
   assign_runs (ToWord k) z lets d v u t sized le few fits r0 small h stands room =
@@ -611,7 +608,7 @@ module _ (program : List Insn) (env : Setting) (last : ℕ) (solid : (k : ℕ) �
         slot = refl;
         fact = record {
           holds = holds_word env lets k v u t (t.frame.slot + 1) h;
-          kept = λ j from below. refl;
+          kept = λ j w from below x. x;
         };
       }
 
@@ -630,30 +627,102 @@ module _ (program : List Insn) (env : Setting) (last : ℕ) (solid : (k : ℕ) �
 
   -- ---- found numbers to their targets
 
+  -- a found number goes into place k
+  placed_in_runs : (p : Place) (x : Source) (z : Sizes) (lets k v : ℕ) (u : NodeState) (s : MachineState)
+      → number_place k ≡ p → is_found x ≡ true → IsAt z lets u x v → IsSized z env → lets ≤ PLACES → k < PLACES
+      → Holds env lets u s → Stands program s.frame.slot (place_code p x)
+      → s.frame.slot + length (place_code p x) ≤ last
+      → Leads s (place_code p x) (PlaceGiven env lets k v u s)
+  placed_in_runs (InRegister register) x z lets k v u s same found is sized few small h stands room =
+      let ours : IsPlace (InRegister register) k = subst (λ (p : Place). IsPlace p k) same (place_is k small) in
+      let writable = not_frame register (omega (arith, ours.0, ours.1)) in
+      let g = get_steps program env last solid register x z lets v u s writable found is sized few h stands.0 room in
+      record {
+        new = put s (s.frame.slot + 1) register (Num v);
+        run = once program env s _ g.fetched;
+        slot = refl;
+        fact = record {
+          before = s;
+          same = same_self PLACES s;
+          placed = put_at program env register k v s (s.frame.slot + 1) same ours.0 ours.1;
+          small = g.small;
+        };
+      }
+  placed_in_runs (OnStack off) x z lets k v u s same found is sized few small h stands room =
+      let g = get_steps program env last solid R0 x z lets v u s refl found is sized few h stands.0
+      (omega (arith, room)) in
+      let t = put s (s.frame.slot + 1) R0 (Num v) in
+      let kept : Same PLACES s t = same_put PLACES s s (s.frame.slot + 1) R0 (Num v) (omega arith)
+      (same_self PLACES s) in
+      let here : insn_at program t.frame.slot ≡ Some (keep_code (number_place k)) =
+      subst (λ (p : Place). insn_at program t.frame.slot ≡ Some (keep_code p)) (sym same) stands.1.0 in
+      let p = keeps_at program env k v t (t.frame.slot + 1) small here refl (solid _ (omega (arith, room)))
+      (put_same s.frame.registers 0 (Num v)) (kept.framed h.framed) g.small in
+      record {
+        new = p.new;
+        run = further program env s t p.new 1 2 (once program env s t g.fetched) p.runs (omega arith);
+        slot = omega (arith, p.slot);
+        fact = record { before = t; same = kept; placed = p.fact; small = g.small };
+      }
+
+  place_given : (x : Source) (z : Sizes) (lets k v : ℕ) (u : NodeState) (s : MachineState) → is_found x ≡ true
+      → IsAt z lets u x v → IsSized z env → lets ≤ PLACES → k < PLACES → Holds env lets u s
+      → Stands program s.frame.slot (place_code (number_place k) x)
+      → s.frame.slot + length (place_code (number_place k) x) ≤ last
+      → Leads s (place_code (number_place k) x) (PlaceGiven env lets k v u s)
+  place_given x z lets k v u s found is sized few small h stands room =
+      placed_in_runs (number_place k) x z lets k v u s refl found is sized few small h stands room
+
+  -- a place into a word
+  word_runs : (p : Place) (k : ℕ) (z : Sizes) (lets d v : ℕ) (u : NodeState) (s : MachineState) → IsInside p
+      → IsIn p s.frame.registers s.frame.stack v → v < 2 ^ 32 → IsSized z env → lets ≤ d → d ≤ PLACES
+      → 4 * k + 4 ≤ z.memory → Holds env lets u s → Stands program s.frame.slot (word_code k p)
+      → s.frame.slot + length (word_code k p) ≤ last
+      → Leads s (word_code k p) (Assigned env lets d (assigned (ToWord k) v u) s)
+  word_runs (InRegister register) k z lets d v u s ok from small sized le few fits h stands room =
+      let zero_off : 0 + 4 * k ≡ 4 * k = omega arith in
+      let s1 = storing s (s.frame.slot + 1) (4 * k) v in
+      let e1 : step program env s ≡ Ok (Running s1) = stores program env s (s.frame.slot + 1) R6 register (pos (4 * k))
+      (4 * k) v stands.0 refl (solid _ room) h.r6 from (ap pos zero_off)
+      (le-leb (4 * k + 4) env.shape.memory (omega (arith, fits, sized.memory))) in
+      record {
+        new = s1;
+        run = once program env s s1 e1;
+        slot = refl;
+        fact = record { holds = holds_word env lets k v u s (s.frame.slot + 1) h; kept = λ i w from below x. x };
+      }
+  word_runs (OnStack off) k z lets d v u s ok from small sized le few fits h stands room =
+      let s1 = put s (s.frame.slot + 1) R0 (Num v) in
+      let e1 : step program env s ≡ Ok (Running s1) = fetches program env (OnStack off) s (s.frame.slot + 1) R0 v ok
+      stands.0 refl (solid _ (omega (arith, room))) from h.framed small refl in
+      let a = assign_runs (ToWord k) z lets d v u s1 sized le few fits (put_same s.frame.registers 0 (Num v)) small
+      (holds_put env lets u s (s.frame.slot + 1) v R0 (omega arith) h) stands.1 (omega (arith, room)) in
+      record {
+        new = a.new;
+        run = chain program env s s1 a.new 1 1 2 (once program env s s1 e1) a.run (omega arith);
+        slot = omega (arith, a.slot);
+        fact = record {
+          holds = a.fact.holds;
+          kept = λ i w from below x. a.fact.kept i w from below
+              ((same_put d s s (s.frame.slot + 1) R0 (Num v) (omega arith) (same_self d s)).places i w below x);
+        };
+      }
+
   set_runs : (target : Target) (x : Source) (z : Sizes) (lets d v : ℕ) (u : NodeState) (s : MachineState)
-      → is_found x ≡ true → IsAt z lets u x v → IsSized z env → lets ≤ d → d ≤ 3 → TargetFits target z.memory lets
+      → is_found x ≡ true → IsAt z lets u x v → IsSized z env → lets ≤ d → d ≤ PLACES → TargetFits target z.memory lets
       → Holds env lets u s → Stands program s.frame.slot (set_code target x)
       → s.frame.slot + length (set_code target x) ≤ last
       → Leads s (set_code target x) (Assigned env lets d (assigned target v u) s)
   set_runs (ToLocal k) x z lets d v u s found is sized le few fits h stands room =
-      let p = register_number (place_register k) in
-      let number : p ≡ 7 + k = place_number k (omega (arith, fits, le, few)) in
-      let writable : (p == 10) ≡ false = ap (λ (n : ℕ). n == 10) number
-      ∙ ne_eqb (7 + k) 10 (λ e. omega (arith, e, fits, le, few)) in
-      let g = get_steps program env last solid (place_register k) x z lets v u s writable found is sized
-      (omega (arith, le, few)) h stands.0 room in
-      let s1 = put s (s.frame.slot + 1) (place_register k) (Num v) in
-      record {
-        new = s1;
-        run = once program env s s1 g.fetched;
-        slot = refl;
-        fact = record {
-          holds = holds_local env lets lets k v u s (s.frame.slot + 1) (omega (arith, fits, le, few)) (λ j lt other. lt)
-              g.small h;
-          kept = λ j from below. put_other s.frame.registers p (Num v) (7 + j)
-              (λ e. omega (arith, e, number, from, fits));
-        };
-      }
+      gets program env last solid s _ _ _ _ (PlaceGiven env lets k v u s) (Assigned env lets d (with_local k v u) s)
+      refl (omega arith)
+      (λ t g. record {
+        holds = holds_local env lets lets k v u g.before t (omega (arith, le, few)) (λ j lt other. lt) g.small g.placed
+            (still_holds env lets PLACES u s g.before (omega (arith, le, few)) h g.same);
+        kept = λ j w from below y. g.placed.others j w (λ e. omega (arith, e, from, fits)) (omega (arith, below, few))
+            (g.same.places j w (omega (arith, below, few)) y);
+      })
+      (place_given x z lets k v u s found is sized (omega (arith, le, few)) (omega (arith, fits, le, few)) h stands room)
   set_runs (ToWord k) (Constant c) z lets d v u s found is sized le few fits h stands room =
       let zero_off : 0 + 4 * k ≡ 4 * k = omega arith in
       let raw = cast_unsigned w64 (cast_signed w32 c) in
@@ -668,24 +737,12 @@ module _ (program : List Insn) (env : Setting) (last : ℕ) (solid : (k : ℕ) �
         slot = refl;
         fact = record {
           holds = holds_low env lets k v raw u s (s.frame.slot + 1) low h;
-          kept = λ j from below. refl;
+          kept = λ j w from below x. x;
         };
       }
   set_runs (ToWord k) (FromLocal j) z lets d v u s found is sized le few fits h stands room =
-      let zero_off : 0 + 4 * k ≡ 4 * k = omega arith in
-      let number : register_number (place_register j) ≡ 7 + j = place_number j (omega (arith, is.0, le, few)) in
-      let from : get s.frame.registers (register_number (place_register j)) ≡ Some (Num v) = ap (get s.frame.registers) number
-      ∙ h.locals j is.0 ∙ ap (λ n. Some (Num n)) is.1 in
-      let s1 = storing s (s.frame.slot + 1) (4 * k) v in
-      let e1 : step program env s ≡ Ok (Running s1) = stores program env s (s.frame.slot + 1) R6 (place_register j) (pos (4 * k))
-      (4 * k) v stands.0 refl (solid _ room) h.r6 from (ap pos zero_off)
-      (le-leb (4 * k + 4) env.shape.memory (omega (arith, fits, sized.memory))) in
-      record {
-        new = s1;
-        run = once program env s s1 e1;
-        slot = refl;
-        fact = record { holds = holds_word env lets k v u s (s.frame.slot + 1) h; kept = λ i from below. refl };
-      }
+      word_runs (number_place j) k z lets d v u s (inside j) (subst (λ (x : ℕ). At j s x) is.1 (h.locals j is.0))
+      (subst (λ (x : ℕ). x < 2 ^ 32) is.1 (h.small j is.0)) sized le few fits h stands room
   set_runs (ToWord k) (FromWord j) z lets d v u s found is sized le few fits h stands room =
       let g = get_steps program env last solid R0 (FromWord j) z lets v u s refl found is sized
       (omega (arith, le, few)) h stands.0 (omega (arith, room)) in
@@ -698,8 +755,8 @@ module _ (program : List Insn) (env : Setting) (last : ℕ) (solid : (k : ℕ) �
         slot = omega (arith, a.slot);
         fact = record {
           holds = a.fact.holds;
-          kept = λ i from below. a.fact.kept i from below
-              ∙ put_other s.frame.registers 0 (Num v) (7 + i) (λ q. omega (arith, q));
+          kept = λ i w from below x. a.fact.kept i w from below
+              ((same_put d s s (s.frame.slot + 1) R0 (Num v) (omega arith) (same_self d s)).places i w below x);
         };
       }
   set_runs (ToWord k) Computed z lets d v u s found is sized le few fits h stands room =
@@ -707,7 +764,7 @@ module _ (program : List Insn) (env : Setting) (last : ℕ) (solid : (k : ℕ) �
 
   given_runs : (x : Source) (target : Target) (e : Term) (z : Sizes) (J : List ℕ) (d lets : ℕ) (u : NodeState)
       (s : MachineState) → IsAt z lets u x (value e z env J u) → IsSized z env → All (λ j. j < z.nodes) J → lets ≤ d
-      → d ≤ 3 → TargetFits target z.memory lets → Fits e z (length J) lets d → Holds env lets u s
+      → d ≤ PLACES → TargetFits target z.memory lets → Fits e z (length J) lets d → Holds env lets u s
       → Stands program s.frame.slot (given_code x target (term_code e z J d Value))
       → s.frame.slot + length (given_code x target (term_code e z J d Value)) ≤ last
       → Leads s (given_code x target (term_code e z J d Value))
@@ -735,8 +792,66 @@ module _ (program : List Insn) (env : Setting) (last : ℕ) (solid : (k : ℕ) �
         slot = omega (arith, len, c.slot, g.slot);
         fact = record {
           holds = g.fact.holds;
-          kept = λ k from below. g.fact.kept k from below
-              ∙ c.fact.same.registers (7 + k) (omega arith) (omega (arith, below));
+          kept = λ k w from below x. g.fact.kept k w from below (c.fact.same.places k w below x);
+        };
+      }
+
+  -- a number is computed, and kept in place d
+  value_kept : (e : Term) (z : Sizes) (J : List ℕ) (d lets : ℕ) (rest : List Insn) (u : NodeState) (s : MachineState)
+      → IsSized z env → All (λ j. j < z.nodes) J → lets ≤ PLACES → lets ≤ d → d < PLACES → Fits e z (length J) lets d
+      → Holds env lets u s → Stands program s.frame.slot (term_code e z J d Value ++ (keep_code (number_place d) ∷ rest))
+      → s.frame.slot + length (term_code e z J d Value ++ (keep_code (number_place d) ∷ rest)) ≤ last
+      → Gets program env last solid s (s.frame.slot + length (term_code e z J d Value) + 1)
+      (length (term_code e z J d Value) + 1) (KeptNumber d (value e z env J u) s)
+  value_kept e z J d lets rest u s sized nodes few le free fits h stands room =
+      let v = value e z env J u in
+      let code = term_code e z J d Value in
+      let all = keep_code (number_place d) ∷ rest in
+      let len : length (code ++ all) ≡ length code + (1 + length rest) = omega (arith, length-append code all) in
+      let c = term_runs program env last solid e z J d lets Value u s sized nodes few le fits h
+      (stands_front program s.frame.slot code all stands) (omega (arith, len, room)) in
+      let there = here_is program env last solid c.new _ all c.slot (stands_back program s.frame.slot code all stands) in
+      let p = keep_runs program env last solid d v s c.new (length code) free c.run c.fact h.framed there.0
+      (omega (arith, len, room, c.slot)) in
+      record {
+        new = p.new;
+        run = p.run;
+        slot = omega (arith, p.slot, c.slot);
+        fact = record { same = p.fact.same; there = p.fact.there; small = c.fact.small };
+      }
+
+  -- other targets are set, and then this one to the number in place d
+  put_back : (target : Target) (first : List Insn) (z : Sizes) (d lets v : ℕ) (u w : NodeState) (t : MachineState)
+      → IsSized z env → lets ≤ d → d ≤ PLACES → TargetFits target z.memory lets → d < PLACES → v < 2 ^ 32
+      → Holds env lets u t → At d t v
+      → Stands program t.frame.slot (first ++ (fetch_code R0 (number_place d) ∷ assign_code target ∷ []))
+      → t.frame.slot + length (first ++ (fetch_code R0 (number_place d) ∷ assign_code target ∷ [])) ≤ last
+      → ((x : MachineState) → Holds env lets u x → Stands program x.frame.slot first
+      → x.frame.slot + length first ≤ last → Leads x first (Assigned env lets (d + 1) w x))
+      → Leads t (first ++ (fetch_code R0 (number_place d) ∷ assign_code target ∷ []))
+      (Assigned env lets d (assigned target v w) t)
+  put_back target first z d lets v u w t sized le few ours free small h there stands room before =
+      let back = fetch_code R0 (number_place d) ∷ assign_code target ∷ [] in
+      let len : length (first ++ back) ≡ length first + 2 = length-append first back in
+      let f = before t h (stands_front program t.frame.slot first back stands) (omega (arith, len, room)) in
+      let x = f.new in
+      let at_back = here_is program env last solid x _ back f.slot (stands_back program t.frame.slot first back stands) in
+      let kept : At d x v = f.fact.kept d v le (omega arith) there in
+      let c = fetch_runs program env last solid d d v x small kept f.fact.holds.framed (at_back.0, tt)
+      (omega (arith, len, room, f.slot)) in
+      let x1 = c.new in
+      let set = here_is program env last solid x1 _ (assign_code target ∷ []) c.slot at_back.1 in
+      let g = assign_runs target z lets d v w x1 sized le few ours c.fact.r0 small
+      (still_holds env lets d w x x1 le f.fact.holds c.fact.same) set (omega (arith, len, room, f.slot, c.slot)) in
+      let run = chain program env t x x1 (length first) 1 (length first + 1) f.run c.run (omega arith) in
+      record {
+        new = g.new;
+        run = chain program env t x1 g.new (length first + 1) 1 (length (first ++ back)) run g.run (omega (arith, len));
+        slot = omega (arith, len, f.slot, c.slot, g.slot);
+        fact = record {
+          holds = g.fact.holds;
+          kept = λ k y from below q. g.fact.kept k y from below
+              (c.fact.same.places k y below (f.fact.kept k y from (omega (arith, below)) q));
         };
       }
 
@@ -744,7 +859,7 @@ module _ (program : List Insn) (env : Setting) (last : ℕ) (solid : (k : ℕ) �
   also_runs : (steady : Bool) (x : Source) (e : Term) (target : Target) (first : List Insn) (z : Sizes) (J : List ℕ)
       (d lets : ℕ) (u w : NodeState) (s : MachineState) → is_steady e ≡ steady → IsAt z lets w x (value e z env J w)
       → IsSized z env → All (λ j. j < z.nodes) J → lets ≤ d
-      → d ≤ 3 → TargetFits target z.memory lets → Fits e z (length J) lets d → HasPlace steady d → Holds env lets u s
+      → d ≤ PLACES → TargetFits target z.memory lets → Fits e z (length J) lets d → HasPlace steady d → Holds env lets u s
       → Stands program s.frame.slot (also_code steady d x target (term_code e z J d Value) first)
       → s.frame.slot + length (also_code steady d x target (term_code e z J d Value) first) ≤ last
       → ((t : MachineState) → Holds env lets u t → Stands program t.frame.slot first
@@ -769,60 +884,30 @@ module _ (program : List Insn) (env : Setting) (last : ℕ) (solid : (k : ℕ) �
         slot = omega (arith, len, f.slot, g.slot);
         fact = record {
           holds = subst (λ (n : ℕ). Holds env lets (assigned target n w) g.new) same g.fact.holds;
-          kept = λ k from below. g.fact.kept k from below ∙ f.fact.kept k from below;
+          kept = λ k y from below x. g.fact.kept k y from below (f.fact.kept k y from below x);
         };
       }
   also_runs false y e target first z J d lets u w s steady at_w sized nodes le few ours fits free h stands room before =
       let v = value e z env J u in
-      let p = register_number (place_register d) in
-      let number : p ≡ 7 + d = place_number d free in
-      let writable : (p == 10) ≡ false = ap (λ (n : ℕ). n == 10) number
-      ∙ ne_eqb (7 + d) 10 (λ q. omega (arith, q, free)) in
       let code = term_code e z J d Value in
-      let back = copy R0 (place_register d) ∷ assign_code target ∷ [] in
-      let rest = copy (place_register d) R0 ∷ (first ++ back) in
-      let len : length (code ++ rest) ≡ length code + (1 + (length first + 2)) = omega
-      (arith, length-append code rest, length-append first back) in
-      let c = term_runs program env last solid e z J d lets Value u s sized nodes (omega (arith, le, few)) le fits h
-      (stands_front program s.frame.slot code rest stands) (omega (arith, len, room)) in
+      let rest = first ++ (fetch_code R0 (number_place d) ∷ assign_code target ∷ []) in
+      let all = keep_code (number_place d) ∷ rest in
+      let len : length (code ++ all) ≡ length code + (1 + length rest) = omega (arith, length-append code all) in
+      let c = value_kept e z J d lets rest u s sized nodes (omega (arith, le, few)) le free fits h stands room in
       let t = c.new in
-      let at_rest = here_is program env last solid t _ rest c.slot
-      (stands_back program s.frame.slot code rest stands) in
-      let t1 = put t (t.frame.slot + 1) (place_register d) (Num v) in
-      let e1 : step program env t ≡ Ok (Running t1) = copies program env t (t.frame.slot + 1)
-      (place_register d) R0 v at_rest.0 refl (solid _ (omega (arith, len, room, c.slot))) c.fact.r0 c.fact.small writable in
-      let h1 : Holds env lets u t1 = holds_free env lets d v u t (t.frame.slot + 1) le free
-      (still_holds env lets d u s t le h c.fact.same) in
-      let f = before t1 h1 (stands_front program t1.frame.slot first back at_rest.1)
-      (omega (arith, len, room, c.slot)) in
-      let x = f.new in
-      let at_back = here_is program env last solid x _ back f.slot
-      (stands_back program t1.frame.slot first back at_rest.1) in
-      let kept : get x.frame.registers p ≡ Some (Num v) = ap (get x.frame.registers) number
-      ∙ f.fact.kept d le (omega arith) ∙ ap (get t1.frame.registers) (sym number)
-      ∙ put_same t.frame.registers p (Num v) in
-      let x1 = put x (x.frame.slot + 1) R0 (Num v) in
-      let e2 : step program env x ≡ Ok (Running x1) = copies program env x (x.frame.slot + 1) R0
-      (place_register d) v at_back.0 refl (solid _ (omega (arith, len, room, c.slot, f.slot))) kept c.fact.small refl in
-      let g = assign_runs target z lets d v w x1 sized le few ours (put_same x.frame.registers 0 (Num v)) c.fact.small
-      (holds_put env lets w x (x.frame.slot + 1) v R0 (omega arith) f.fact.holds) at_back.1
-      (omega (arith, len, room, c.slot, f.slot)) in
-      let n = length code in
-      let run1 = further program env s t t1 n (n + 1) c.run e1 (omega arith) in
-      let run2 = chain program env s t1 x (n + 1) (length first) (n + 1 + length first) run1 f.run (omega arith) in
-      let run3 = further program env s x x1 (n + 1 + length first) (n + 1 + length first + 1) run2 e2 (omega arith) in
+      let h1 = still_holds env lets d u s t le h c.fact.same in
+      let there = here_is program env last solid t _ rest c.slot
+      (stands_back program s.frame.slot code all stands).1 in
+      let g = put_back target first z d lets v u w t sized le few ours free c.fact.small h1 c.fact.there there
+      (omega (arith, len, room, c.slot)) before in
       record {
         new = g.new;
-        run = chain program env s x1 g.new (n + 1 + length first + 1) 1 (length (code ++ rest)) run3 g.run
+        run = chain program env s t g.new (length code + 1) (length rest) (length (code ++ all)) c.run g.run
             (omega (arith, len));
-        slot = omega (arith, len, c.slot, f.slot, g.slot);
+        slot = omega (arith, len, c.slot, g.slot);
         fact = record {
           holds = g.fact.holds;
-          kept = λ k from below. g.fact.kept k from below
-              ∙ put_other x.frame.registers 0 (Num v) (7 + k) (λ q. omega (arith, q))
-              ∙ f.fact.kept k from (omega (arith, below))
-              ∙ put_other t.frame.registers p (Num v) (7 + k) (λ q. omega (arith, q, number, below))
-              ∙ c.fact.same.registers (7 + k) (omega arith) (omega (arith, below));
+          kept = λ k y from below q. g.fact.kept k y from below (c.fact.same.places k y below q);
         };
       }
 
@@ -831,53 +916,64 @@ module _ (program : List Insn) (env : Setting) (last : ℕ) (solid : (k : ℕ) �
   local_is (Local j) k z J u e = ap u.locals (eqb-true j k e)
   local_is a k z J u e = absurd (let no : false ≡ true = e in cc)
 
+  -- a place that is changed where it is
+  changed_runs : (p : Place) (op : Operation) (k c : ℕ) (insn : Insn) (z : Sizes) (d lets : ℕ) (u : NodeState)
+      (s : MachineState) → number_place k ≡ p → change_place p op c ≡ Some insn → c < 2 ^ 32 → lets ≤ d → d ≤ PLACES → k < lets
+      → Holds env lets u s → Stands program s.frame.slot (insn ∷ []) → s.frame.slot + 1 ≤ last
+      → Leads s (insn ∷ []) (Assigned env lets d (with_local k (apply op (u.locals k) c) u) s)
+  changed_runs (InRegister register) op k c insn z d lets u s same is low_c le few ours h stands room =
+      let act = i.Alu (alu_op_of op) W32 register (operand.Imm (cast_signed w32 c)) in
+      let mine : IsPlace (InRegister register) k = subst (λ (p : Place). IsPlace p k) same
+      (place_is k (omega (arith, ours, le, few))) in
+      let writable = not_frame register (omega (arith, mine.0, mine.1)) in
+      let x = u.locals k in
+      let from : get s.frame.registers (register_number register) ≡ Some (Num x) =
+      subst (λ (p : Place). IsIn p s.frame.registers s.frame.stack x) same (h.locals k ours) in
+      let v = apply op x c in
+      let raw = cast_unsigned w64 (cast_signed w32 c) in
+      let s1 = put s (s.frame.slot + 1) register (Num v) in
+      let here : insn_at program s.frame.slot ≡ Some act = stands.0 ∙ sym is in
+      let e1 : step program env s ≡ Ok (Running s1) = operates_in program env op s (s.frame.slot + 1) x c raw
+      register (operand.Imm (cast_signed w32 c)) here refl (solid _ room) from refl writable (imm_low c low_c)
+      (h.small k ours) low_c in
+      let p = put_at program env register k v s (s.frame.slot + 1) same mine.0 mine.1 in
+      record {
+        new = s1;
+        run = once program env s s1 e1;
+        slot = refl;
+        fact = record {
+          holds = holds_local env lets lets k v u s s1 (omega (arith, le, few)) (λ j lt other. lt)
+              (apply_small op x c (h.small k ours) low_c) p h;
+          kept = λ j w start below y. p.others j w (λ e. omega (arith, e, start, ours)) (omega (arith, below, few)) y;
+        };
+      }
+  changed_runs (OnStack off) op k c insn z d lets u s same is low_c le few ours h stands room = absurd (none-some insn is)
+
   -- a local that is changed in its place
   change_runs : (target : Target) (e : Term) (insn : Insn) (z : Sizes) (J : List ℕ) (d lets : ℕ) (u : NodeState)
       (s : MachineState) → changing_insn target e z J ≡ Some insn → IsSized z env → All (λ j. j < z.nodes) J → lets ≤ d
-      → d ≤ 3 → TargetFits target z.memory lets → Fits e z (length J) lets d → Holds env lets u s
+      → d ≤ PLACES → TargetFits target z.memory lets → Fits e z (length J) lets d → Holds env lets u s
       → Stands program s.frame.slot (insn ∷ []) → s.frame.slot + 1 ≤ last
       → Leads s (insn ∷ []) (Assigned env lets d (assigned target (value e z env J u) u) s)
   change_runs (ToLocal k) (Binary' (Compute op) p a q b) insn z J d lets u s is sized nodes le few ours fits h stands
       room =
       let c = constant_number b z J in
-      let act = i.Alu (alu_op_of op) W32 (place_register k) (operand.Imm (cast_signed w32 c)) in
+      let act = change_place (number_place k) op c in
       let test = is_local a k && is_constant b in
       elim (cases_Bool test) [
         | inl so ↦
             let parts = and_parts (is_local a k) (is_constant b) so in
-            let same : act ≡ insn = same_Some act insn (sym (cond-true test (Some act) None so) ∙ is) in
-            let small : k < 3 = omega (arith, ours, le, few) in
-            let reg = register_number (place_register k) in
-            let number : reg ≡ 7 + k = place_number k small in
-            let writable : (reg == 10) ≡ false = ap (λ (n : ℕ). n == 10) number
-            ∙ ne_eqb (7 + k) 10 (λ e. omega (arith, e, small)) in
+            let same : act ≡ Some insn = sym (cond-true test act None so) ∙ is in
             let low_c : c < 2 ^ 32 = constant_small program env last solid b z J lets
             (depth_behind (is_operand a || is_operand b) d) parts.1 sized nodes fits.2 in
             let x = u.locals k in
-            let from : get s.frame.registers reg ≡ Some (Num x) = ap (get s.frame.registers) number ∙ h.locals k ours in
             let v = apply op x c in
-            let raw = cast_unsigned w64 (cast_signed w32 c) in
-            let s1 = put s (s.frame.slot + 1) (place_register k) (Num v) in
-            let here : insn_at program s.frame.slot ≡ Some act = stands.0 ∙ ap (λ (y : Insn). Some y) (sym same) in
-            let e1 : step program env s ≡ Ok (Running s1) = operates_in program env op s (s.frame.slot + 1) x c raw
-            (place_register k) (operand.Imm (cast_signed w32 c)) here refl (solid _ room) from refl writable (imm_low c low_c)
-            (h.small k ours) low_c in
             let means : v ≡ apply op (value a z env J u) (value b z env J u) =
             ap (λ (y : ℕ). apply op y c) (sym (local_is a k z J u parts.0))
             ∙ ap (λ (y : ℕ). apply op (value a z env J u) y) (constant_is program env last solid b z J u parts.1) in
-            let held : Holds env lets (with_local k v u) s1 = holds_local env lets lets k v u s (s.frame.slot + 1) small
-            (λ j lt other. lt) (apply_small op x c (h.small k ours) low_c) h in
-            record {
-              new = s1;
-              run = once program env s s1 e1;
-              slot = refl;
-              fact = record {
-                holds = subst (λ (n : ℕ). Holds env lets (with_local k n u) s1) means held;
-                kept = λ j start below. put_other s.frame.registers reg (Num v) (7 + j)
-                    (λ e. omega (arith, e, number, start, ours));
-              };
-            }
-        | inr other ↦ absurd (none-some insn (sym (cond-false test (Some act) None other) ∙ is))
+            subst (λ (n : ℕ). Leads s (insn ∷ []) (Assigned env lets d (with_local k n u) s)) means
+            (changed_runs (number_place k) op k c insn z d lets u s refl same low_c le few ours h stands room)
+        | inr other ↦ absurd (none-some insn (sym (cond-false test act None other) ∙ is))
       ]
   change_runs (ToWord k) (Binary' o p a q b) insn z J d lets u s is sized nodes le few ours fits h stands room =
       absurd (none-some insn is)
@@ -885,7 +981,7 @@ module _ (program : List Insn) (env : Setting) (last : ℕ) (solid : (k : ℕ) �
 
   one_runs : (found : Option Insn) (target : Target) (e : Term) (z : Sizes) (J : List ℕ) (d lets : ℕ) (u : NodeState)
       (s : MachineState) → changing_insn target e z J ≡ found → IsSized z env → All (λ j. j < z.nodes) J → lets ≤ d
-      → d ≤ 3 → TargetFits target z.memory lets → Fits e z (length J) lets d → Holds env lets u s
+      → d ≤ PLACES → TargetFits target z.memory lets → Fits e z (length J) lets d → Holds env lets u s
       → Stands program s.frame.slot (one_code found (given_code (term_source e z J) target (term_code e z J d Value)))
       → s.frame.slot + length (one_code found (given_code (term_source e z J) target (term_code e z J d Value))) ≤ last
       → Leads s (one_code found (given_code (term_source e z J) target (term_code e z J d Value)))
@@ -897,7 +993,7 @@ module _ (program : List Insn) (env : Setting) (last : ℕ) (solid : (k : ℕ) �
       change_runs target e insn z J d lets u s is sized nodes le few ours fits h stands room
 
   assignment_runs : (a : Assignment) (z : Sizes) (J : List ℕ) (d lets : ℕ) (u : NodeState) (s : MachineState)
-      → IsSized z env → All (λ j. j < z.nodes) J → lets ≤ d → d ≤ 3 → AssignmentFits a z (length J) lets d
+      → IsSized z env → All (λ j. j < z.nodes) J → lets ≤ d → d ≤ PLACES → AssignmentFits a z (length J) lets d
       → Holds env lets u s → Stands program s.frame.slot (assignment_code a z J d)
       → s.frame.slot + length (assignment_code a z J d) ≤ last
       → Leads s (assignment_code a z J d) (Assigned env lets d (all_assigned a z env J u) s)
@@ -907,15 +1003,15 @@ module _ (program : List Insn) (env : Setting) (last : ℕ) (solid : (k : ℕ) �
       let behind = depth_behind (is_steady e) d in
       let w = all_assigned front z env J u in
       let more : d ≤ behind = behind_more (is_steady e) d in
-      let deep : behind ≤ 3 = behind_few (is_steady e) d few fits.2 in
+      let deep : behind ≤ PLACES = behind_few (is_steady e) d few fits.2 in
       also_runs (is_steady e) (term_source e z J) e target (assignment_code front z J behind) z J d lets u w s refl
       (source_is program env last solid e z J lets d w sized nodes fits.1) sized nodes le few fits.0 fits.1
       fits.2 h stands room
       (λ t k st l. assignment_runs front z J behind lets u t sized nodes (omega (arith, le, more)) deep fits.3 k st l)
 
   send_all_runs : (x : Source) (e : Term) (z : Sizes) (J : List ℕ) (d : ℕ) (u : NodeState) (s : MachineState)
-      → IsAt z d u x (value e z env J u) → IsSized z env → All (λ j. j < z.nodes) J → d ≤ 3 →
-      (is_found x ≡ false → d < 3) → Fits e z (length J) d d → Holds env d u s
+      → IsAt z d u x (value e z env J u) → IsSized z env → All (λ j. j < z.nodes) J → d ≤ PLACES →
+      (is_found x ≡ false → d < PLACES) → Fits e z (length J) d d → Holds env d u s
       → Stands program s.frame.slot (send_all_code x d z.nodes (term_code e z J d Value))
       → s.frame.slot + length (send_all_code x d z.nodes (term_code e z J d Value)) ≤ last
       → Leads s (send_all_code x d z.nodes (term_code e z J d Value))
@@ -930,21 +1026,18 @@ module _ (program : List Insn) (env : Setting) (last : ℕ) (solid : (k : ℕ) �
       let v = value e z env J u in
       let codes = send_codes (FromLocal d) z.nodes in
       let end = sent_below z.nodes v u in
-      let deep : d < 3 = free refl in
-      let number : register_number (place_register d) ≡ 7 + d = place_number d deep in
-      stored_runs e z J d d codes u s (Holds env d end) sized nodes few deep fits h stands room
-      (λ t to has st l.
-      let t1 = put t to (place_register d) (Num v) in
+      let deep : d < PLACES = free refl in
+      stored_runs e z J d codes u s (Holds env d end) sized nodes deep fits h stands room
+      (λ t t1 has p st l.
       let h1 = still_holds env d d u s t (omega arith) h has.same in
-      let h2 : Holds env d u t1 = holds_free env d d v u t to (omega arith) deep h1 in
-      let kept : get t1.frame.registers (7 + d) ≡ Some (Num v) = ap (get t1.frame.registers) (sym number)
-      ∙ put_same t.frame.registers (register_number (place_register d)) (Num v) in
+      let h2 : Holds env d u t1 = still_holds env d d u t t1 (omega arith) h1
+      (same_placed d d v t t1 (omega arith) deep p) in
       gets program env last solid t1 _ _ _ _ (Sending env d end t1) (Holds env d end) refl (omega arith)
       (λ x k. k.holds)
       (sends_run (FromLocal d) d v z.nodes u t1 t1 has.small (omega (arith, sized.nodes)) (near_self t1) h2 st l
       (λ x near here l2. record {
-        fetched = copies program env x (x.frame.slot + 1) R2 (place_register d) v here refl (solid _ l2)
-            (ap (get x.frame.registers) number ∙ near.registers (7 + d) (omega arith) ∙ kept) has.small refl;
+        fetched = fetches program env (number_place d) x (x.frame.slot + 1) R2 v (inside d) here refl (solid _ l2)
+            (near.places d v p.there) (near.framed h2.framed) has.small refl;
         small = has.small;
       })))
 
@@ -952,34 +1045,34 @@ module _ (program : List Insn) (env : Setting) (last : ℕ) (solid : (k : ℕ) �
 
   -- a found number goes to place d
   found_placed : (x : Source) (z : Sizes) (d v : ℕ) (rest : List Insn) (u : NodeState) (s : MachineState)
-      (P : MachineState → Type 0) → is_found x ≡ true → IsAt z d u x v → IsSized z env → d < 3 → Holds env d u s
-      → Stands program s.frame.slot (get_code (place_register d) x ∷ rest)
-      → s.frame.slot + length (get_code (place_register d) x ∷ rest) ≤ last
+      (P : MachineState → Type 0) → is_found x ≡ true → IsAt z d u x v → IsSized z env → d < PLACES → Holds env d u s
+      → Stands program s.frame.slot (place_code (number_place d) x ++ rest)
+      → s.frame.slot + length (place_code (number_place d) x ++ rest) ≤ last
       → ((t : MachineState) → Holds env (d + 1) (with_local d v u) t → Stands program t.frame.slot rest
       → t.frame.slot + length rest ≤ last → Leads t rest P)
-      → Leads s (get_code (place_register d) x ∷ rest) P
+      → Leads s (place_code (number_place d) x ++ rest) P
   found_placed x z d v rest u s P found is sized small h stands room next =
-      let number : register_number (place_register d) ≡ 7 + d = place_number d small in
-      let writable : (register_number (place_register d) == 10) ≡ false = ap (λ (n : ℕ). n == 10) number
-      ∙ ne_eqb (7 + d) 10 (λ e. omega (arith, e, small)) in
-      let f = get_steps program env last solid (place_register d) x z d v u s writable found is sized (omega (arith, small)) h
-      stands.0 (omega (arith, room)) in
-      let t = put s (s.frame.slot + 1) (place_register d) (Num v) in
-      let h1 : Holds env (d + 1) (with_local d v u) t = holds_local env d (d + 1) d v u s (s.frame.slot + 1) small
-      (λ j lt other. omega arith) f.small h in
-      let g = next t h1 stands.1 (omega (arith, room)) in
+      let front = place_code (number_place d) x in
+      let len : length (front ++ rest) ≡ length front + length rest = length-append front rest in
+      let c = place_given x z d d v u s found is sized (omega (arith, small)) small h
+      (stands_front program s.frame.slot front rest stands) (omega (arith, len, room)) in
+      let t = c.new in
+      let h0 = still_holds env d PLACES u s c.fact.before (omega (arith, small)) h c.fact.same in
+      let h1 : Holds env (d + 1) (with_local d v u) t = holds_local env d (d + 1) d v u c.fact.before t
+      (omega (arith, small)) (λ j lt other. omega (arith, lt, other)) c.fact.small c.fact.placed h0 in
+      let g = next t h1 (here_is program env last solid t _ rest c.slot
+      (stands_back program s.frame.slot front rest stands)) (omega (arith, len, room, c.slot)) in
       record {
         new = g.new;
-        run = chain program env s t g.new 1 (length rest) (length (get_code (place_register d) x ∷ rest))
-            (once program env s t f.fetched) g.run
-            (omega arith);
-        slot = omega (arith, g.slot);
+        run = chain program env s t g.new (length front) (length rest) (length (front ++ rest)) c.run g.run
+            (omega (arith, len));
+        slot = omega (arith, len, c.slot, g.slot);
         fact = g.fact;
       }
 
   placed_runs : (x : Source) (e : Term) (z : Sizes) (J : List ℕ) (d : ℕ) (rest : List Insn) (u : NodeState)
       (s : MachineState) (P : MachineState → Type 0) → IsAt z d u x (value e z env J u) → IsSized z env
-      → All (λ j. j < z.nodes) J → d ≤ 3 → d < 3 → Fits e z (length J) d d → Holds env d u s
+      → All (λ j. j < z.nodes) J → d ≤ PLACES → d < PLACES → Fits e z (length J) d d → Holds env d u s
       → Stands program s.frame.slot (stored_code x d (term_code e z J d Value) rest)
       → s.frame.slot + length (stored_code x d (term_code e z J d Value) rest) ≤ last
       → ((t : MachineState) → Holds env (d + 1) (with_local d (value e z env J u) u) t
@@ -993,28 +1086,27 @@ module _ (program : List Insn) (env : Setting) (last : ℕ) (solid : (k : ℕ) �
       found_placed (FromWord k) z d (value e z env J u) rest u s P refl is sized small h stands room next
   placed_runs Computed e z J d rest u s P is sized nodes few small fits h stands room next =
       let v = value e z env J u in
-      stored_runs e z J d d rest u s P sized nodes few small fits h stands room
-      (λ t to has st l.
-      let t1 = put t to (place_register d) (Num v) in
+      stored_runs e z J d rest u s P sized nodes small fits h stands room
+      (λ t t1 has p st l.
       let h1 = still_holds env d d u s t (omega arith) h has.same in
-      let h2 : Holds env (d + 1) (with_local d v u) t1 = holds_local env d (d + 1) d v u t to small
-      (λ j lt other. omega arith) has.small h1 in
+      let h2 : Holds env (d + 1) (with_local d v u) t1 = holds_local env d (d + 1) d v u t t1 (omega (arith, small))
+      (λ j lt other. omega (arith, lt, other)) has.small p h1 in
       next t1 h2 st l)
 
   -- ---- a number to a node
 
   to_runs : (constant : Bool) (e k : Term) (z : Sizes) (J : List ℕ) (d : ℕ) (u : NodeState) (s : MachineState)
-      → is_constant k ≡ constant → IsSized z env → All (λ j. j < z.nodes) J → d ≤ 3 → HasPlace constant d
+      → is_constant k ≡ constant → IsSized z env → All (λ j. j < z.nodes) J → d ≤ PLACES → HasPlace constant d
       → Fits e z (length J) d d → Fits k z (length J) d (depth_behind constant d) → Holds env d u s
       → Stands program s.frame.slot (if constant then send_to_constant_code (term_source e z J) (constant_number k z J)
       z.nodes (term_code e z J d Value) else term_code e z J d Value
-      ++ (copy (place_register d) R0 ∷ (term_code k z J (d + 1) Value ++ send_to_code d z.nodes)))
+      ++ (keep_code (number_place d) ∷ (term_code k z J (d + 1) Value ++ send_to_code d z.nodes)))
       → s.frame.slot + length (if constant then send_to_constant_code (term_source e z J) (constant_number k z J)
       z.nodes (term_code e z J d Value) else term_code e z J d Value
-      ++ (copy (place_register d) R0 ∷ (term_code k z J (d + 1) Value ++ send_to_code d z.nodes))) ≤ last
+      ++ (keep_code (number_place d) ∷ (term_code k z J (d + 1) Value ++ send_to_code d z.nodes))) ≤ last
       → Leads s (if constant then send_to_constant_code (term_source e z J) (constant_number k z J)
       z.nodes (term_code e z J d Value) else term_code e z J d Value
-      ++ (copy (place_register d) R0 ∷ (term_code k z J (d + 1) Value ++ send_to_code d z.nodes)))
+      ++ (keep_code (number_place d) ∷ (term_code k z J (d + 1) Value ++ send_to_code d z.nodes)))
       (Holds env d (after (SendTo e k) z env d J u))
   to_runs true e k z J d u s is sized nodes few free fits k_fits h stands room =
       constant_runs e k z J d u s is sized nodes few fits h stands room
@@ -1024,22 +1116,19 @@ module _ (program : List Insn) (env : Setting) (last : ℕ) (solid : (k : ℕ) �
       let code = term_code k z J (d + 1) Value in
       let back = send_to_code d z.nodes in
       let end = if nat_lt x z.nodes then with_sent x v u else u in
-      let number : register_number (place_register d) ≡ 7 + d = place_number d free in
       let len : length (code ++ back) ≡ length code + 4 = length-append code back in
-      stored_runs e z J d d (code ++ back) u s (Holds env d end) sized nodes few free fits h stands room
-      (λ t to has st l.
-      let t1 = put t to (place_register d) (Num v) in
+      stored_runs e z J d (code ++ back) u s (Holds env d end) sized nodes free fits h stands room
+      (λ t t1 has p st l.
       let h1 = still_holds env d d u s t (omega arith) h has.same in
-      let h2 : Holds env d u t1 = holds_free env d d v u t to (omega arith) free h1 in
+      let h2 : Holds env d u t1 = still_holds env d d u t t1 (omega arith) h1
+      (same_placed d d v t t1 (omega arith) free p) in
       let c = term_runs program env last solid k z J (d + 1) d Value u t1 sized nodes few (omega arith) k_fits h2
-      (stands_front program to code back st) (omega (arith, len, l)) in
+      (stands_front program t1.frame.slot code back st) (omega (arith, len, l)) in
       let w = c.new in
-      let there = here_is program env last solid w _ back c.slot (stands_back program to code back st) in
-      let kept : get w.frame.registers (7 + d) ≡ Some (Num v) =
-      c.fact.same.registers (7 + d) (omega arith) (omega arith) ∙ ap (get t1.frame.registers) (sym number)
-      ∙ put_same t.frame.registers (register_number (place_register d)) (Num v) in
+      let there = here_is program env last solid w _ back c.slot (stands_back program t1.frame.slot code back st) in
+      let kept : At d w v = c.fact.same.places d v (omega arith) p.there in
       let h3 = still_holds env d (d + 1) u t1 w (omega arith) h2 c.fact.same in
-      let g = send_to_runs d v x z u w sized free has.small c.fact.small (record { holds = h3; place = kept })
+      let g = send_to_runs d v x z u w sized free has.small c.fact.small (record { holds = h3; there = kept })
       c.fact.r0 there (omega (arith, len, l, c.slot)) in
       record {
         new = g.new;
@@ -1049,7 +1138,7 @@ module _ (program : List Insn) (env : Setting) (last : ℕ) (solid : (k : ℕ) �
       })
 
   pub block_runs : (b : Statement) (z : Sizes) (J : List ℕ) (d : ℕ) (u : NodeState) (s : MachineState) → IsSized z env
-      → All (λ j. j < z.nodes) J → d ≤ 3 → BlockFits b z (length J) d → Holds env d u s
+      → All (λ j. j < z.nodes) J → d ≤ PLACES → BlockFits b z (length J) d → Holds env d u s
       → Stands program s.frame.slot (block_code b z J d) → s.frame.slot + length (block_code b z J d) ≤ last
       → Leads s (block_code b z J d) (Holds env d (after b z env d J u))
   block_runs Nothing z J d u s sized nodes few fits h stands room = record {
@@ -1076,7 +1165,7 @@ module _ (program : List Insn) (env : Setting) (last : ℕ) (solid : (k : ℕ) �
         fact = g.fact;
       }
   block_runs (Let' (Count' q t) p rest) z J d u s sized nodes few fits h stands room =
-      let test = λ (j : ℕ). term_code t z (J ++ j ∷ []) (d + 1) (Jump false 1) in
+      let test = λ (j : ℕ). term_code t z (J ++ j ∷ []) (d + 1) (count_test d) in
       let holds = λ (j : ℕ). value t z env (J ++ j ∷ []) u in
       let v = count_below z.nodes holds in
       let u1 = with_local d v u in
@@ -1085,16 +1174,16 @@ module _ (program : List Insn) (env : Setting) (last : ℕ) (solid : (k : ℕ) �
       let end = after rest z env (d + 1) J u1 in
       let small = nodes_few program env last solid z sized in
       let len : length (front ++ back) ≡ length front + length back = length-append front back in
-      let c = counted_runs program env last solid d z.nodes test holds s fits.0 small
+      let c = counted_runs program env last solid d z.nodes test holds s fits.0 small h.framed
       (stands_front program s.frame.slot front back stands) (omega (arith, len, room))
       (λ j w lt same st l.
       let more : length J + 1 ≡ length (J ++ j ∷ []) = omega (arith, length-append J (j ∷ [])) in
-      term_runs program env last solid t z (J ++ j ∷ []) (d + 1) d (Jump false 1) u w sized
+      term_runs program env last solid t z (J ++ j ∷ []) (d + 1) d (count_test d) u w sized
       (All-push (λ i. i < z.nodes) J j nodes lt) few (omega arith)
       (subst (λ (n : ℕ). Fits t z n d (d + 1)) more fits.1.1) (still_holds env d d u s w (omega arith) h same) st l) in
       let there = here_is program env last solid c.new _ back c.slot
       (stands_back program s.frame.slot front back stands) in
-      let h1 = holds_there env d v u c.new (omega (arith, c.fact.few, small)) c.fact.place
+      let h1 = holds_there env d v u c.new (omega (arith, c.fact.few, small)) c.fact.there
       (still_holds env d d u s c.new (omega arith) h c.fact.same) in
       let g = block_runs rest z J (d + 1) u1 c.new sized nodes (omega (arith, fits.0)) fits.2 h1 there
       (omega (arith, len, room, c.slot)) in

@@ -1,10 +1,8 @@
 -- The code of a part is no longer than that of the whole, so a part that is too long makes the whole too long.
 use Rattle.std.proofs.Common.{◌≡◌, ℕ, zero, suc, ◌+◌, ◌<◌, ◌≤◌, Bool, true, false, if◌then◌else◌, ◌||◌, ◌&&◌, ◌⊎◌, nat_lt, Option, Some, None, List, [], ◌∷◌, ◌++◌, length, Result, Ok, Err, IfErr, IsErrAnd, pos, refl, sym, ap, ◌∙◌, arith, subst, inl, inr, length-append}
-use Rattle.std.specs.Int.{w32, cast_signed}
 use Rattle.std.proofs.lemmas.Option.{none-some}
 use Rattle.std.proofs.lemmas.Bool.{cases_Bool, cases_lt, cond-true, cond-false, and_parts, lt-ltb}
 use Rattle.bpf_insn.specs.declared.forms.Width.TheVariants.{W32}
-use Rattle.bpf_insn.specs.declared.forms.AluOp.TheVariants.{Add}
 use Rattle.bpf_insn.specs.declared.forms.Reg.TheVariants.{R0, R1}
 use Rattle.bpf_insn.specs.declared.forms.Operand.{Operand}
 use Rattle.bpf_insn.specs.declared.forms.Operand.TheVariants as operand
@@ -13,10 +11,13 @@ use Rattle.bpf_insn.specs.declared.forms.Insn.TheVariants as i
 use Rattle.rule_nodes.specs.declared.errors.CompileError.{CompileError}
 use Rattle.rule_nodes.specs.declared.errors.CompileError.TheVariants.{NoRoom, TooLong, Memory}
 use Rattle.rule_syntax.specs.declared.syntax.Sizes.{Sizes}
+use Rattle.rule_syntax.specs.declared.syntax.Comparison.{Comparison}
 use Rattle.rule_syntax.specs.declared.syntax.Comparison.TheVariants.{NotEqual}
 use Rattle.rule_syntax.specs.declared.syntax.Operation.{Operation}
 use Rattle.rule_syntax.specs.declared.syntax.Operator.{Operator}
 use Rattle.rule_syntax.specs.declared.syntax.Operator.TheVariants.{Compute, Compare}
+use Rattle.rule_nodes.specs.declared.numbers.Place.{Place}
+use Rattle.rule_nodes.specs.declared.numbers.Place.TheVariants.{InRegister, OnStack}
 use Rattle.rule_nodes.specs.declared.numbers.Purpose.{Purpose}
 use Rattle.rule_nodes.specs.declared.numbers.Purpose.TheVariants.{Value, Jump}
 use Rattle.rule_syntax.specs.declared.syntax.Target.{Target}
@@ -32,7 +33,7 @@ use Rattle.rule_syntax.specs.declared.syntax.Statement.TheVariants.{Let', For', 
 use Rattle.rule_nodes.specs.Meaning.{apply_operator}
 use Rattle.rule_nodes.specs.Operands.{is_constant, is_local, is_operand, is_steady, constant_number, depth_behind, fetched_source, term_source, IsSourceWithin}
 use Rattle.rule_nodes.specs.Fits.{Fits, AssignmentFits, BlockFits}
-use Rattle.rule_nodes.specs.Code.{place_register, set_number, set_node, copy, mirror, jump_on, jump_by, jump_at, jump_place, alu_op_of, far_of, when_of, beyond_purpose, behind_test, by_value, truth_code, get_code, load_code, operand_code, by_operator, left_code, two_code, binary_code, message_code, message_by, count_codes, counted_code, count_code, term_code, stored_code, let_code, assign_code, set_code, given_code, changing_insn, one_code, also_code, send_codes, send_code, send_all_code, passed_code, send_to_constant_code, each_code, assignment_code, block_code}
+use Rattle.rule_nodes.specs.Code.{number_place, fetch_code, keep_code, increment_code, set_number, set_node, copy, mirror, jump_on, jump_by, jump_at, jump_register, alu_op_of, far_of, when_of, beyond_purpose, behind_test, by_value, truth_code, get_code, load_code, operand_code, by_operator, left_code, right_code, beside_code, two_code, binary_code, message_code, message_by, count_codes, counted_code, count_code, count_test, term_code, stored_code, let_code, assign_code, place_code, word_code, set_code, given_code, change_place, changing_insn, one_code, also_code, send_codes, send_code, send_all_code, passed_code, send_to_constant_code, each_code, assignment_code, block_code}
 use Rattle.rule_nodes.specs.Refusals.{IsUnmade}
 use Rattle.rule_nodes.proofs.Sources.{is_found}
 
@@ -120,7 +121,7 @@ operator_long (Compare r) src purpose code =
     omega (arith, test_long purpose (code ++ jump), length-append code jump)
 
 right_long : (o : Operator) (y : Source) (purpose : Purpose) (left : List Insn)
-    → length left + 1 ≤ length (by_operator o (operand_code y) purpose (left ++ load_code y)) + beyond_purpose purpose
+    → length left + 1 ≤ length (right_code o y purpose left) + beyond_purpose purpose
 right_long o y purpose left = omega (
   arith,
   operator_long o (operand_code y) purpose (left ++ load_code y),
@@ -134,6 +135,15 @@ left_long (Compute op) x purpose right =
     omega (arith, operator_long (Compute op) (operand.Reg R1) purpose (right ++ back), length-append right back)
 left_long (Compare r) x purpose right = right_long (Compare (mirror r)) x purpose right
 
+beside_long : (p : Place) (r : Comparison) (c : ℕ) (purpose : Purpose) (left : List Insn) → length left ≡ 1
+    → 1 ≤ length (beside_code p r c purpose left) + beyond_purpose purpose
+beside_long (InRegister register) r c purpose left one =
+    let l = test_long purpose (jump_register register (jump_on (when_of purpose) r) c (far_of purpose) ∷ []) in
+    omega arith
+beside_long (OnStack off) r c purpose left one =
+    let l = right_long (Compare r) (Constant c) purpose left in
+    omega arith
+
 -- a side whose number is found has one instruction
 pub sides_long : (y x : Source) (o : Operator) (d : ℕ) (purpose : Purpose) (left right : List Insn)
     → (is_found x ≡ true → length left ≡ 1) → (is_found y ≡ true → length right ≡ 1)
@@ -142,8 +152,7 @@ pub sides_long : (y x : Source) (o : Operator) (d : ℕ) (purpose : Purpose) (le
 sides_long (Constant c) (FromLocal k) (Compare r) d purpose left right f g =
     let a = f refl in
     let b = g refl in
-    let code = jump_place k (jump_on (when_of purpose) r) c (far_of purpose) ∷ [] in
-    let l = test_long purpose code in
+    let l = beside_long (number_place k) r c purpose left a in
     (omega arith, omega arith)
 sides_long (Constant c) (FromLocal k) (Compute op) d purpose left right f g =
     let b = g refl in
@@ -183,8 +192,8 @@ sides_long Computed (FromWord k) o d purpose left right f g =
     let l = left_long o (FromWord k) purpose right in
     (omega arith, omega arith)
 sides_long Computed Computed o d purpose left right f g =
-    let back = copy R1 R0 ∷ copy R0 (place_register d) ∷ [] in
-    let rest = copy (place_register d) R0 ∷ (right ++ back) in
+    let back = copy R1 R0 ∷ fetch_code R0 (number_place d) ∷ [] in
+    let rest = keep_code (number_place d) ∷ (right ++ back) in
     let l = operator_long o (operand.Reg R1) purpose (two_code d left right) in
     let e1 = length-append left rest in
     let e2 = length-append right back in
@@ -212,9 +221,10 @@ cases_last n m le = elim (cases_lt m (suc n)) [
 ]
 
 one_count : (d m : ℕ) (test : ℕ → List Insn)
-    → length (count_codes d test (suc m)) ≡ length (count_codes d test m) + (length (test m) + 1)
+    → length (count_codes d test (suc m)) ≡ length (count_codes d test m)
+    + (length (test m) + length (increment_code (number_place d)))
 one_count d m test =
-    let add = i.Alu Add W32 (place_register d) (operand.Imm (pos 1)) ∷ [] in
+    let add = increment_code (number_place d) in
     omega (arith, length-append (count_codes d test m) (test m ++ add), length-append (test m) add)
 
 pub counts_long : (d n m : ℕ) (test : ℕ → List Insn) → m ≤ n
@@ -228,18 +238,26 @@ counts_long d (suc n) m test le = elim (cases_last n m le) [
 ]
 
 pub test_in_counts : (d n m : ℕ) (test : ℕ → List Insn) → m < n
-    → length (test m) + 1 ≤ length (count_codes d test n)
+    → length (test m) + length (increment_code (number_place d)) ≤ length (count_codes d test n)
 test_in_counts d n m test lt = omega (arith, one_count d m test, counts_long d n (suc m) test (omega (arith, lt)))
 
 pub count_long : (d n : ℕ) (test : ℕ → List Insn) → length (count_code d n test) ≡ length (count_codes d test n) + 2
-count_long d n test = omega (arith, length-append (counted_code d n test) (copy R0 (place_register d) ∷ []))
+count_long d n test = omega (arith, length-append (counted_code d n test) (fetch_code R0 (number_place d) ∷ []))
 
 -- ---- statements
 
+placed_long : (p : Place) (x : Source) → 1 ≤ length (place_code p x)
+placed_long (InRegister register) x = omega arith
+placed_long (OnStack off) x = omega arith
+
+word_long : (k : ℕ) (p : Place) → 1 ≤ length (word_code k p)
+word_long k (InRegister register) = omega arith
+word_long k (OnStack off) = omega arith
+
 set_long : (target : Target) (x : Source) → 1 ≤ length (set_code target x)
-set_long (ToLocal k) x = omega arith
+set_long (ToLocal k) x = placed_long (number_place k) x
 set_long (ToWord k) (Constant c) = omega arith
-set_long (ToWord k) (FromLocal j) = omega arith
+set_long (ToWord k) (FromLocal j) = word_long k (number_place j)
 set_long (ToWord k) (FromWord j) = omega arith
 set_long (ToWord k) Computed = omega arith
 
@@ -259,8 +277,8 @@ also_long true d x target code first f =
     let e = length-append first (given_code x target code) in
     (omega arith, omega arith)
 also_long false d x target code first f =
-    let back = copy R0 (place_register d) ∷ assign_code target ∷ [] in
-    let e1 = length-append code (copy (place_register d) R0 ∷ (first ++ back)) in
+    let back = fetch_code R0 (number_place d) ∷ assign_code target ∷ [] in
+    let e1 = length-append code (keep_code (number_place d) ∷ (first ++ back)) in
     let e2 = length-append first back in
     (omega arith, omega arith)
 
@@ -274,7 +292,7 @@ send_all_long (Constant c) d n code some f = omega (arith, f refl, sends_long (C
 send_all_long (FromLocal k) d n code some f = omega (arith, f refl, sends_long (FromLocal k) n some)
 send_all_long (FromWord k) d n code some f = omega (arith, f refl, sends_long (FromWord k) n some)
 send_all_long Computed d n code some f =
-    omega (arith, length-append code (copy (place_register d) R0 ∷ send_codes (FromLocal d) n))
+    omega (arith, length-append code (keep_code (number_place d) ∷ send_codes (FromLocal d) n))
 
 one_each : (m : ℕ) (body : ℕ → List Insn) → length (each_code body (suc m)) ≡ length (each_code body m) + length (body m)
 one_each m body = length-append (each_code body m) (body m)
@@ -345,22 +363,23 @@ right_within whole a b b1 p q o z J lets d e e1 few fits =
     subst (λ (x : Term). IsSourceWithin (term_source x z J) 256) (sym e1)
     (source_within b z J (length J) lets (depth_behind (is_operand a || is_operand b) d) few parts.2)
 
-pub test_part : (whole t t1 : Term) (p : _) (z : Sizes) (J J1 J2 : List ℕ) (d n : ℕ) (purpose : Purpose)
-    → whole ≡ Count' p t → t1 ≡ t → J1 ≡ J ++ n ∷ [] → J2 ≡ J1 → n < z.nodes
-    → length (term_code t1 z J2 (d + 1) (Jump false 1)) + 1 ≤ length (term_code whole z J d purpose) + beyond_purpose purpose
-test_part whole t t1 p z J J1 J2 d n purpose e e1 e2 e3 lt =
-    let test = λ (j : ℕ). term_code t z (J ++ j ∷ []) (d + 1) (Jump false 1) in
+pub test_part : (whole t t1 : Term) (p : _) (z : Sizes) (J J1 J2 : List ℕ) (d n : ℕ) (purpose skip : Purpose)
+    → whole ≡ Count' p t → skip ≡ count_test d → t1 ≡ t → J1 ≡ J ++ n ∷ [] → J2 ≡ J1 → n < z.nodes
+    → length (term_code t1 z J2 (d + 1) skip) + beyond_purpose skip
+    ≤ length (term_code whole z J d purpose) + beyond_purpose purpose
+test_part whole t t1 p z J J1 J2 d n purpose skip e e0 e1 e2 e3 lt =
+    let test = λ (j : ℕ). term_code t z (J ++ j ∷ []) (d + 1) (count_test d) in
     let l1 = value_long purpose (count_code d z.nodes test) in
     let l2 = count_long d z.nodes test in
     let l3 = test_in_counts d z.nodes n test lt in
-    rw (e, e1, e3, e2) (omega (arith, l1, l2, l3))
+    rw (e, e0, e1, e3, e2) (omega (arith, l1, l2, l3))
 
 pub counts_part : (whole t : Term) (p : _) (z : Sizes) (J : List ℕ) (d n : ℕ) (purpose : Purpose) (new : List Insn)
     → whole ≡ Count' p t → n + 1 ≤ z.nodes
-    → new ≡ count_codes d (λ j. term_code t z (J ++ j ∷ []) (d + 1) (Jump false 1)) (n + 1)
+    → new ≡ count_codes d (λ j. term_code t z (J ++ j ∷ []) (d + 1) (count_test d)) (n + 1)
     → length new ≤ length (term_code whole z J d purpose) + beyond_purpose purpose
 counts_part whole t p z J d n purpose new e le e1 =
-    let test = λ (j : ℕ). term_code t z (J ++ j ∷ []) (d + 1) (Jump false 1) in
+    let test = λ (j : ℕ). term_code t z (J ++ j ∷ []) (d + 1) (count_test d) in
     let l1 = value_long purpose (count_code d z.nodes test) in
     let l2 = count_long d z.nodes test in
     let l3 = counts_long d z.nodes (n + 1) test le in
@@ -372,7 +391,7 @@ local_changed : (a : Term) (k : ℕ) (op : Operation) (p q : _) (b : Term) (z : 
     → is_local a k ≡ true → is_constant b ≡ true → length (term_code (Binary' (Compute op) p a q b) z J d Value) ≡ 2
 local_changed (Local j) k op p q b z J d e f =
     let right = term_code b z J (depth_behind true d) Value in
-    ap (λ (y : Source). length (binary_code y (FromLocal j) (Compute op) d Value (copy R0 (place_register j) ∷ []) right))
+    ap (λ (y : Source). length (binary_code y (FromLocal j) (Compute op) d Value (fetch_code R0 (number_place j) ∷ []) right))
     (cond-true (is_constant b) (Constant (constant_number b z J)) (fetched_source b) f)
 local_changed a k op p q b z J d e f = absurd (let no : false ≡ true = e in cc)
 
@@ -381,12 +400,12 @@ changed_long : (target : Target) (e : Term) (z : Sizes) (J : List ℕ) (d : ℕ)
     → changing_insn target e z J ≡ Some insn → length (term_code e z J d Value) ≡ 2
 changed_long (ToLocal k) (Binary' (Compute op) p a q b) z J d insn is =
     let test = is_local a k && is_constant b in
-    let act = i.Alu (alu_op_of op) W32 (place_register k) (operand.Imm (cast_signed w32 (constant_number b z J))) in
+    let act = change_place (number_place k) op (constant_number b z J) in
     elim (cases_Bool test) [
       | inl so ↦
           let parts = and_parts (is_local a k) (is_constant b) so in
           local_changed a k op p q b z J d parts.0 parts.1
-      | inr other ↦ absurd (none-some insn (sym (cond-false test (Some act) None other) ∙ is))
+      | inr other ↦ absurd (none-some insn (sym (cond-false test act None other) ∙ is))
     ]
 changed_long (ToWord k) (Binary' o p a q b) z J d insn is = absurd (none-some insn is)
 changed_long target e z J d insn is = absurd (none-some insn is)
@@ -425,19 +444,28 @@ also_within whole front p target e x z J lets d is same few fits =
 
 stored_long : (x : Source) (d : ℕ) (code rest : List Insn) → (is_found x ≡ true → length code ≡ 1)
     → (length code ≤ length (stored_code x d code rest) + 1) × (length rest ≤ length (stored_code x d code rest))
-stored_long (Constant c) d code rest f = let one = f refl in (omega arith, omega arith)
-stored_long (FromLocal k) d code rest f = let one = f refl in (omega arith, omega arith)
-stored_long (FromWord k) d code rest f = let one = f refl in (omega arith, omega arith)
+stored_long (Constant c) d code rest f =
+    let one = f refl in
+    let l = length-append (place_code (number_place d) (Constant c)) rest in
+    (omega arith, omega arith)
+stored_long (FromLocal k) d code rest f =
+    let one = f refl in
+    let l = length-append (place_code (number_place d) (FromLocal k)) rest in
+    (omega arith, omega arith)
+stored_long (FromWord k) d code rest f =
+    let one = f refl in
+    let l = length-append (place_code (number_place d) (FromWord k)) rest in
+    (omega arith, omega arith)
 stored_long Computed d code rest f =
-    let l = length-append code (copy (place_register d) R0 ∷ rest) in
+    let l = length-append code (keep_code (number_place d) ∷ rest) in
     (omega arith, omega arith)
 
 let_long : (e : Term) (z : Sizes) (J : List ℕ) (d : ℕ) (rest : List Insn)
     → (length (term_code e z J d Value) ≤ length (let_code e z J d rest) + 1)
     × (length rest ≤ length (let_code e z J d rest))
 let_long (Count' p t) z J d rest =
-    let test = λ (j : ℕ). term_code t z (J ++ j ∷ []) (d + 1) (Jump false 1) in
-    let l1 = length-append (counted_code d z.nodes test) (copy R0 (place_register d) ∷ []) in
+    let test = λ (j : ℕ). term_code t z (J ++ j ∷ []) (d + 1) (count_test d) in
+    let l1 = length-append (counted_code d z.nodes test) (fetch_code R0 (number_place d) ∷ []) in
     let l2 = length-append (counted_code d z.nodes test) rest in
     (omega arith, omega arith)
 let_long e z J d rest = stored_long (term_source e z J) d (term_code e z J d Value) rest (found_short e z J d)

@@ -1,4 +1,5 @@
 pub mod Sources
+pub mod Places
 pub mod Lengths
 pub mod Small
 pub mod Forms

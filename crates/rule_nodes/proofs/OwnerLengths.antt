@@ -2,7 +2,6 @@
 use Rattle.std.proofs.Common.{◌≡◌, ℕ, zero, suc, ◌+◌, ◌≤◌, Bool, true, false, if◌then◌else◌, List, [], ◌∷◌, ◌++◌, length, pos, refl, ap, arith, length-append}
 use Rattle.std.specs.Prelude.{replicate}
 use Rattle.std.proofs.lemmas.List.{length-replicate}
-use Rattle.bpf_insn.specs.declared.forms.Reg.TheVariants.{R0}
 use Rattle.bpf_insn.specs.declared.forms.Insn.{Insn}
 use Rattle.bpf_insn.specs.declared.forms.Insn.TheVariants.{Ja}
 use Rattle.rule_nodes.specs.declared.numbers.Purpose.TheVariants.{Value, Jump}
@@ -14,24 +13,27 @@ use Rattle.rule_syntax.specs.declared.syntax.Term.TheVariants.{Count'}
 use Rattle.rule_syntax.specs.declared.syntax.Statement.{Statement}
 use Rattle.rule_syntax.specs.declared.syntax.Statement.TheVariants.{Nothing, Then', Let', Assign, If', For', SendAll, SendTo}
 use Rattle.rule_nodes.specs.Operands.{term_source}
-use Rattle.rule_nodes.specs.Code.{place_register, copy, counted_code, term_code, stored_code, let_code, if_code, is_nothing, each_code, block_code, tail_code, rule_code}
+use Rattle.rule_nodes.specs.Code.{number_place, keep_code, place_code, counted_code, count_test, term_code, stored_code, let_code, if_code, is_nothing, each_code, block_code, tail_code, rule_code}
 use Rattle.rule_nodes.specs.Owners.{statements_in, jump_slots, test_slots, each_owners, owners_of}
 use Rattle.rule_nodes.proofs.Blocks.{nothing_here}
 
+placed_split : (front rest : List Insn) → length (front ++ rest) ≡ length (front ++ []) + length rest
+placed_split front rest = omega (arith, length-append front rest, length-append front [])
+
 stored_split : (x : Source) (d : ℕ) (code rest : List Insn)
     → length (stored_code x d code rest) ≡ length (stored_code x d code []) + length rest
-stored_split (Constant c) d code rest = omega arith
-stored_split (FromLocal k) d code rest = omega arith
-stored_split (FromWord k) d code rest = omega arith
+stored_split (Constant c) d code rest = placed_split (place_code (number_place d) (Constant c)) rest
+stored_split (FromLocal k) d code rest = placed_split (place_code (number_place d) (FromLocal k)) rest
+stored_split (FromWord k) d code rest = placed_split (place_code (number_place d) (FromWord k)) rest
 stored_split Computed d code rest =
-    let l = length-append code (copy (place_register d) R0 ∷ rest) in
-    let l0 = length-append code (copy (place_register d) R0 ∷ []) in
+    let l = length-append code (keep_code (number_place d) ∷ rest) in
+    let l0 = length-append code (keep_code (number_place d) ∷ []) in
     omega arith
 
 let_split : (e : Term) (z : Sizes) (J : List ℕ) (d : ℕ) (rest : List Insn)
     → length (let_code e z J d rest) ≡ length (let_code e z J d []) + length rest
 let_split (Count' p t) z J d rest =
-    let code = counted_code d z.nodes (λ j. term_code t z (J ++ j ∷ []) (d + 1) (Jump false 1)) in
+    let code = counted_code d z.nodes (λ j. term_code t z (J ++ j ∷ []) (d + 1) (count_test d)) in
     let l = length-append code rest in
     let l0 = length-append code [] in
     omega arith

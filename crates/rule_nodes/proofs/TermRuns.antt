@@ -1,14 +1,13 @@
 -- The runs of terms.
-use Rattle.std.proofs.Common.{◌≡◌, ◌≢◌, ℕ, zero, suc, ◌+◌, ◌%◌, ◌*◌, ◌^◌, ◌<◌, ◌≤◌, ◌==◌, Bool, true, false, not, if◌then◌else◌, ◌&&◌, ◌||◌, ◌⊎◌, nat_lt, List, [], ◌∷◌, ◌++◌, length, Some, Ok, All, pos, slice_index, slice_get, refl, sym, ap, ◌∙◌, arith, subst, inl, inr, length-append}
+use Rattle.std.proofs.Common.{◌≡◌, ℕ, zero, suc, ◌+◌, ◌%◌, ◌*◌, ◌^◌, ◌<◌, ◌≤◌, ◌==◌, Bool, true, false, not, if◌then◌else◌, ◌&&◌, ◌||◌, ◌⊎◌, nat_lt, List, [], ◌∷◌, ◌++◌, length, Some, Ok, All, pos, slice_index, slice_get, refl, sym, ap, ◌∙◌, arith, subst, inl, inr, length-append}
 use Rattle.std.specs.Int.{w32, w64, cast_signed, cast_unsigned}
 use Rattle.std.specs.FinMap.{get}
-use Rattle.std.proofs.lemmas.Bool.{cases_Bool, ne_eqb, ltb-true, le-leb, cond-true, cond-false, and_parts}
+use Rattle.std.proofs.lemmas.Bool.{cases_Bool, ltb-true, le-leb, cond-true, cond-false, and_parts}
 use Rattle.std.proofs.lemmas.List.Elements.{All-get_or, All-push}
 use Rattle.node_env.specs.Env.{Setting, received}
 use Rattle.bpf_insn.specs.declared.forms.Reg.{Reg}
 use Rattle.bpf_insn.specs.declared.forms.Reg.TheVariants.{R0, R1, R6}
 use Rattle.bpf_insn.specs.declared.forms.Width.TheVariants.{W32}
-use Rattle.bpf_insn.specs.declared.forms.AluOp.TheVariants.{Add}
 use Rattle.bpf_insn.specs.declared.forms.Size.TheVariants as size
 use Rattle.bpf_insn.specs.declared.forms.Cond.{Cond}
 use Rattle.bpf_insn.specs.declared.forms.Operand.{Operand}
@@ -33,6 +32,9 @@ use Rattle.rule_syntax.specs.declared.syntax.Operator.{Operator}
 use Rattle.rule_syntax.specs.declared.syntax.Operator.TheVariants.{Compute, Compare}
 use Rattle.rule_syntax.specs.declared.syntax.Connective.{Connective}
 use Rattle.rule_syntax.specs.declared.syntax.Connective.TheVariants.{And, Or}
+use Rattle.rule_nodes.specs.declared.numbers.TheConstants.{PLACES}
+use Rattle.rule_nodes.specs.declared.numbers.Place.{Place}
+use Rattle.rule_nodes.specs.declared.numbers.Place.TheVariants.{InRegister, OnStack}
 use Rattle.rule_nodes.specs.declared.numbers.Purpose.{Purpose}
 use Rattle.rule_nodes.specs.declared.numbers.Purpose.TheVariants.{Value, Jump}
 use Rattle.rule_nodes.specs.declared.numbers.Source.{Source}
@@ -42,12 +44,13 @@ use Rattle.rule_syntax.specs.declared.syntax.Term.TheVariants.{Number, Nodes, Fa
 use Rattle.rule_nodes.specs.Meaning.{NodeState, value, word_at, apply, compare, bit_of, truth, apply_operator, combine, message_from, count_below}
 use Rattle.rule_nodes.specs.Operands.{is_constant, is_fetched, is_operand, constant_number, depth_behind, fetched_source, term_source}
 use Rattle.rule_nodes.specs.Fits.{HasPlace, Fits}
-use Rattle.rule_nodes.specs.Code.{place_register, set_number, copy, alu_op_of, cond_of, jump_on, jump_by, jump_at, beyond_purpose, truth_code, by_value, by_test, two_code, get_code, operand_code, load_code, jump_place, by_operator, left_code, binary_code, choice_code, if_code, decides, both_far, both_code, message_code, message_by, mirror, set_node, count_codes, counted_code, count_code, term_code}
+use Rattle.rule_nodes.specs.Code.{number_place, fetch_code, keep_code, increment_code, place_operand, load_place, set_number, copy, alu_op_of, cond_of, jump_on, jump_by, jump_at, beyond_purpose, truth_code, by_value, by_test, two_code, get_code, operand_code, load_code, jump_register, by_operator, left_code, right_code, beside_code, binary_code, choice_code, if_code, decides, both_far, both_code, message_code, message_by, mirror, set_node, count_codes, counted_code, count_code, count_test, term_code}
+use Rattle.rule_nodes.proofs.Places.{inside, IsInside, IsPlace, place_is, not_frame, IsIn, At, IsFramed, Placed, fetches, keeps_at, clears_at, put_at}
 use Rattle.rule_nodes.proofs.Sources.{is_found}
 use Rattle.rule_nodes.proofs.Small.{low, imm_low, mirrored, apply_small, operate_small, taken, compared, truth_of, jump_compared, jump_by_zero, not_not}
 use Rattle.rule_nodes.proofs.Words.{word_loaded, word_small}
 use Rattle.rule_nodes.proofs.Forms.{sets_number, copies, operates, counts, passes, jumps, numbers, Reaches, stays, once, chain, further}
-use Rattle.rule_nodes.proofs.States.{stands_front, stands_back, place_number, Same, same_self, same_then, same_less, same_at, same_put, same_call, Alike, same_alike, free_place, Holds, still_holds, IsSized}
+use Rattle.rule_nodes.proofs.States.{stands_front, stands_back, Same, same_self, same_then, same_below, same_less, same_at, same_put, same_call, same_placed, Alike, same_alike, Holds, still_holds, IsSized}
 
 abbrev pub hop : Bool → ℕ → ℕ
 hop hit far = if hit then far else 0
@@ -107,11 +110,7 @@ IsAt z lets u Computed v = Unit {0}
 
 has_less : (d e v : ℕ) (s t : MachineState) → d ≤ e → Has e s v t → Has d s v t
 has_less d e v s t le h = record {
-  same = record {
-    registers = λ k a b. h.same.registers k a (omega (arith, b, le));
-    memory = h.same.memory;
-    sent = h.same.sent;
-  };
+  same = same_below d e s t le h.same;
   r0 = h.r0;
   small = h.small;
 }
@@ -138,12 +137,12 @@ pub behind_more : (steady : Bool) (d : ℕ) → d ≤ depth_behind steady d
 behind_more true d = omega arith
 behind_more false d = omega arith
 
-pub behind_few : (steady : Bool) (d : ℕ) → d ≤ 3 → HasPlace steady d → depth_behind steady d ≤ 3
+pub behind_few : (steady : Bool) (d : ℕ) → d ≤ PLACES → HasPlace steady d → depth_behind steady d ≤ PLACES
 behind_few true d few free = few
 behind_few false d few free = omega (arith, free)
 
 pub free_beside : (a b : Bool) (d : ℕ) → a ≡ false → b ≡ false → HasPlace (a || b) d
-    → (d < 3) × (depth_behind (a || b) d ≡ d + 1)
+    → (d < PLACES) × (depth_behind (a || b) d ≡ d + 1)
 free_beside false false d e f free = (free, refl)
 free_beside true b d e f free = absurd (let no : true ≡ false = e in cc)
 free_beside false true d e f free = absurd (let no : true ≡ false = f in cc)
@@ -151,13 +150,6 @@ free_beside false true d e f free = absurd (let no : true ≡ false = f in cc)
 pub same_depth : (a b : Bool) (d : ℕ) → a ≡ true → depth_behind (a || b) d ≡ d
 same_depth true b d e = refl
 same_depth false b d e = absurd (let no : false ≡ true = e in cc)
-
--- r0 is free
-r0_free : (d k : ℕ) → 5 < k → k < 7 + d → k ≢ 0
-r0_free d k a b e = omega arith
-
-r1_free : (d k : ℕ) → 5 < k → k < 7 + d → k ≢ 1
-r1_free d k a b e = omega arith
 
 module _ (program : List Insn) (env : Setting) (last : ℕ) (solid : (k : ℕ) → k ≤ last → BeginsAt program k) where
   -- the state leads, in at most `limit` steps, to a state at this slot with this property
@@ -190,26 +182,49 @@ module _ (program : List Insn) (env : Setting) (last : ℕ) (solid : (k : ℕ) �
         (solid _ le) small refl);
     slot = refl;
     fact = record {
-      same = same_put d s s (s.frame.slot + 1) R0 (Num v) (r0_free d) (same_self d s);
+      same = same_put d s s (s.frame.slot + 1) R0 (Num v) (omega arith) (same_self d s);
       r0 = put_same s.frame.registers 0 (Num v);
       small = small;
     };
   }
 
-  pub copy_runs : (d v : ℕ) (s : MachineState) (src : Reg) → v < 2 ^ 32
-      → get s.frame.registers (register_number src) ≡ Some (Num v) → Stands program s.frame.slot (copy R0 src ∷ [])
-      → s.frame.slot + 1 ≤ last → Gets s (s.frame.slot + 1) 1 (Has d s v)
-  copy_runs d v s src small e stands le = record {
+  -- a place into r0
+  pub fetch_runs : (d k v : ℕ) (s : MachineState) → v < 2 ^ 32 → At k s v → IsFramed s
+      → Stands program s.frame.slot (fetch_code R0 (number_place k) ∷ []) → s.frame.slot + 1 ≤ last
+      → Gets s (s.frame.slot + 1) 1 (Has d s v)
+  fetch_runs d k v s small e framed stands le = record {
     new = put s (s.frame.slot + 1) R0 (Num v);
-    run = once program env s _ (copies program env s (s.frame.slot + 1) R0 src v stands.0 refl
-        (solid _ le) e small refl);
+    run = once program env s _ (fetches program env (number_place k) s (s.frame.slot + 1) R0 v (inside k) stands.0 refl
+        (solid _ le) e framed small refl);
     slot = refl;
     fact = record {
-      same = same_put d s s (s.frame.slot + 1) R0 (Num v) (r0_free d) (same_self d s);
+      same = same_put d s s (s.frame.slot + 1) R0 (Num v) (omega arith) (same_self d s);
       r0 = put_same s.frame.registers 0 (Num v);
       small = small;
     };
   }
+
+  -- a state with this number in place d
+  pub record InPlace (d : ℕ) (s : MachineState) (v : ℕ) (t : MachineState) : Type 0 where
+    pub same : Same d s t
+    pub there : At d t v
+
+  -- r0 into place d, after a run
+  pub keep_runs : (d v : ℕ) (s t : MachineState) (k : ℕ) → d < PLACES → Reaches program env s t k → Has d s v t
+      → IsFramed s → insn_at program t.frame.slot ≡ Some (keep_code (number_place d)) → t.frame.slot + 1 ≤ last
+      → Gets s (t.frame.slot + 1) (k + 1) (InPlace d s v)
+  keep_runs d v s t k few run has framed here le =
+      let p = keeps_at program env d v t (t.frame.slot + 1) few here refl (solid _ le) has.r0
+      (has.same.framed framed) has.small in
+      record {
+        new = p.new;
+        run = further program env s t p.new k (k + 1) run p.runs (omega arith);
+        slot = p.slot;
+        fact = record {
+          same = same_then d s t p.new has.same (same_placed d d v t p.new (omega arith) few p.fact);
+          there = p.fact.there;
+        };
+      }
 
   -- a jump by a condition, after a run
   pub branch_leads : (s t : MachineState) (k far : ℕ) (test : Cond) (dst : Reg) (src : Operand) (a b : ℕ) (hit : Bool)
@@ -225,7 +240,7 @@ module _ (program : List Insn) (env : Setting) (last : ℕ) (solid : (k : ℕ) �
         new = at t to;
         run = further program env s t (at t to) k (k + 1) run one (omega arith);
         slot = refl;
-        fact = record { registers = refl; memory = refl; sent = refl };
+        fact = record { registers = refl; stack = refl; kept = refl; memory = refl; sent = refl };
       }
   branch_leads s t k far test dst src a b false run here e f h le =
       let to = t.frame.slot + 1 in
@@ -235,7 +250,7 @@ module _ (program : List Insn) (env : Setting) (last : ℕ) (solid : (k : ℕ) �
         new = at t to;
         run = further program env s t (at t to) k (k + 1) run one (omega arith);
         slot = omega arith;
-        fact = record { registers = refl; memory = refl; sent = refl };
+        fact = record { registers = refl; stack = refl; kept = refl; memory = refl; sent = refl };
       }
 
   pub branch_runs : (d : ℕ) (s t : MachineState) (k far : ℕ) (test : Cond) (dst : Reg) (src : Operand) (a b : ℕ)
@@ -296,7 +311,7 @@ module _ (program : List Insn) (env : Setting) (last : ℕ) (solid : (k : ℕ) �
             (further program env s t t1 limit (limit + 1) run e1 (omega arith)) e2 (omega arith);
         slot = refl;
         fact = record {
-          same = same_at d s t1 (to + 3) (same_put d s t (to + 1) R0 (Num 1) (r0_free d) same);
+          same = same_at d s t1 (to + 3) (same_put d s t (to + 1) R0 (Num 1) (omega arith) same);
           r0 = put_same t.frame.registers 0 (Num 1);
           small = omega arith;
         };
@@ -311,7 +326,7 @@ module _ (program : List Insn) (env : Setting) (last : ℕ) (solid : (k : ℕ) �
         run = further program env s t t1 limit (limit + 3) run e1 (omega arith);
         slot = refl;
         fact = record {
-          same = same_put d s t (to + 3) R0 (Num 0) (r0_free d) same;
+          same = same_put d s t (to + 3) R0 (Num 0) (omega arith) same;
           r0 = put_same t.frame.registers 0 (Num 0);
           small = omega arith;
         };
@@ -334,56 +349,49 @@ module _ (program : List Insn) (env : Setting) (last : ℕ) (solid : (k : ℕ) �
 
   -- ---- two numbers
 
-  pub two_runs : (d : ℕ) (left right : List Insn) (s : MachineState) (a b : ℕ) → d < 3
+  pub two_runs : (d : ℕ) (left right : List Insn) (s : MachineState) (a b : ℕ) → d < PLACES → IsFramed s
       → Stands program s.frame.slot (two_code d left right) → s.frame.slot + length (two_code d left right) ≤ last
       → (Stands program s.frame.slot left → s.frame.slot + length left ≤ last
       → Gets s (s.frame.slot + length left) (length left) (Has d s a))
       → ((t : MachineState) → Same d s t → Stands program t.frame.slot right → t.frame.slot + length right ≤ last
       → Gets t (t.frame.slot + length right) (length right) (Has (d + 1) t b))
       → Gets s (s.frame.slot + length (two_code d left right)) (length (two_code d left right)) (HasTwo d s a b)
-  two_runs d left right s a b few stands le first second =
-      let p = register_number (place_register d) in
-      let number : p ≡ 7 + d = place_number d few in
-      let free : (p == 10) ≡ false = ap (λ (n : ℕ). n == 10) number ∙ ne_eqb (7 + d) 10 (λ e. omega arith) in
-      let back = copy R1 R0 ∷ copy R0 (place_register d) ∷ [] in
-      let rest = copy (place_register d) R0 ∷ (right ++ back) in
+  two_runs d left right s a b few framed stands le first second =
+      let back = copy R1 R0 ∷ fetch_code R0 (number_place d) ∷ [] in
+      let rest = keep_code (number_place d) ∷ (right ++ back) in
       let len : length (left ++ rest) ≡ length left + (1 + (length right + 2)) = omega
       (arith, length-append left rest, length-append right back) in
       let c = first (stands_front program s.frame.slot left rest stands) (omega (arith, len, le)) in
-      let t = c.new in
-      let at_rest = here_is t _ rest c.slot (stands_back program s.frame.slot left rest stands) in
-      let t1 = put t (t.frame.slot + 1) (place_register d) (Num a) in
-      let e1 : step program env t ≡ Ok (Running t1) = copies program env t (t.frame.slot + 1) (place_register d) R0 a at_rest.0
-      refl (solid _ (omega (arith, len, le, c.slot))) c.fact.r0 c.fact.small free in
-      let same1 : Same d s t1 = same_put d s t (t.frame.slot + 1) (place_register d) (Num a) (free_place d d few (omega arith))
-      c.fact.same in
-      let g = second t1 same1 (stands_front program t1.frame.slot right back at_rest.1)
-      (omega (arith, len, le, c.slot)) in
+      let at_rest = here_is c.new _ rest c.slot (stands_back program s.frame.slot left rest stands) in
+      let p = keep_runs d a s c.new (length left) few c.run c.fact framed at_rest.0 (omega (arith, len, le, c.slot)) in
+      let t = p.new in
+      let at_right = here_is t _ (right ++ back) p.slot at_rest.1 in
+      let g = second t p.fact.same (stands_front program t.frame.slot right back at_right)
+      (omega (arith, len, le, c.slot, p.slot)) in
       let w = g.new in
-      let at_back = here_is w _ back g.slot (stands_back program t1.frame.slot right back at_rest.1) in
-      let kept : get w.frame.registers p ≡ Some (Num a) = g.fact.same.registers p (omega arith) (omega arith)
-      ∙ put_same t.frame.registers p (Num a) in
+      let at_back = here_is w _ back g.slot (stands_back program t.frame.slot right back at_right) in
+      let kept : At d w a = g.fact.same.places d a (omega arith) p.fact.there in
+      let same2 : Same d s w = same_then d s t w p.fact.same (same_less d t w g.fact.same) in
       let w1 = put w (w.frame.slot + 1) R1 (Num b) in
       let w2 = put w1 (w.frame.slot + 1 + 1) R0 (Num a) in
+      let same3 : Same (d + 1) w w1 = same_put (d + 1) w w (w.frame.slot + 1) R1 (Num b) (omega arith)
+      (same_self (d + 1) w) in
       let e2 : step program env w ≡ Ok (Running w1) = copies program env w (w.frame.slot + 1) R1 R0 b at_back.0
-      refl (solid _ (omega (arith, len, le, c.slot, g.slot))) g.fact.r0 g.fact.small refl in
-      let kept1 : get w1.frame.registers p ≡ Some (Num a) = put_other w.frame.registers 1 (Num b) p (λ e. omega arith)
-      ∙ kept in
-      let e3 : step program env w1 ≡ Ok (Running w2) = copies program env w1 (w.frame.slot + 1 + 1) R0 (place_register d) a
-      at_back.1.0 refl (solid _ (omega (arith, len, le, c.slot, g.slot))) kept1 c.fact.small refl in
-      let run1 = further program env s t t1 (length left) (length left + 1) c.run e1 (omega arith) in
-      let run2 = chain program env s t1 w (length left + 1) (length right) (length left + 1 + length right) run1 g.run
+      refl (solid _ (omega (arith, len, le, c.slot, p.slot, g.slot))) g.fact.r0 g.fact.small refl in
+      let e3 : step program env w1 ≡ Ok (Running w2) = fetches program env (number_place d) w1 (w.frame.slot + 1 + 1) R0 a
+      (inside d) at_back.1.0 refl (solid _ (omega (arith, len, le, c.slot, p.slot, g.slot)))
+      (same3.places d a (omega arith) kept) (same3.framed (same2.framed framed)) c.fact.small refl in
+      let run2 = chain program env s t w (length left + 1) (length right) (length left + 1 + length right) p.run g.run
       (omega arith) in
       let run3 = further program env s w w1 _ (length left + 1 + length right + 1) run2 e2 (omega arith) in
       let run4 = further program env s w1 w2 _ (length (left ++ rest)) run3 e3 (omega (arith, len)) in
-      let same2 : Same d s w = same_then d s t1 w same1 (same_less d t1 w g.fact.same) in
       record {
         new = w2;
         run = run4;
-        slot = omega (arith, len, c.slot, g.slot);
+        slot = omega (arith, len, c.slot, p.slot, g.slot);
         fact = record {
-          same = same_put d s w1 (w.frame.slot + 1 + 1) R0 (Num a) (r0_free d)
-              (same_put d s w (w.frame.slot + 1) R1 (Num b) (r1_free d) same2);
+          same = same_put d s w1 (w.frame.slot + 1 + 1) R0 (Num a) (omega arith)
+              (same_put d s w (w.frame.slot + 1) R1 (Num b) (omega arith) same2);
           r0 = put_same w1.frame.registers 0 (Num a);
           r1 = put_other w1.frame.registers 0 (Num a) 1 (λ e. omega arith) ∙ put_same w.frame.registers 1 (Num b);
           left = c.fact.small;
@@ -602,7 +610,7 @@ module _ (program : List Insn) (env : Setting) (last : ℕ) (solid : (k : ℕ) �
               slot = omega (arith, slot);
               fact = record {
                 same = same_call d s w1 (w.frame.slot + 1 + 1) (received env x)
-                    (same_put d s w (w.frame.slot + 1) R1 (Num x) (r1_free d) same);
+                    (same_put d s w (w.frame.slot + 1) R1 (Num x) (omega arith) same);
                 r0 = put_same _ 0 (Num (received env x)) ∙ ap (λ v. Some (Num v)) is;
                 small = rw so (received_fits env x sized.setting);
               };
@@ -626,7 +634,7 @@ module _ (program : List Insn) (env : Setting) (last : ℕ) (solid : (k : ℕ) �
               slot = omega (arith, slot);
               fact = record {
                 same = same_at d s w1 (w.frame.slot + 1 + 1 + 2)
-                    (same_put d s w (w.frame.slot + 1) R0 (Num 4294967295) (r0_free d) same);
+                    (same_put d s w (w.frame.slot + 1) R0 (Num 4294967295) (omega arith) same);
                 r0 = put_same w.frame.registers 0 (Num 4294967295) ∙ ap (λ v. Some (Num v)) is;
                 small = rw other (omega arith);
               };
@@ -635,36 +643,93 @@ module _ (program : List Insn) (env : Setting) (last : ℕ) (solid : (k : ℕ) �
 
   -- ---- counts
 
+  -- one more in place d
+  increment_runs : (d v : ℕ) (s : MachineState) → d < PLACES → v + 1 < 2 ^ 32 → At d s v → IsFramed s
+      → Stands program s.frame.slot (increment_code (number_place d))
+      → s.frame.slot + length (increment_code (number_place d)) ≤ last
+      → Gets s (s.frame.slot + length (increment_code (number_place d))) (length (increment_code (number_place d)))
+      (InPlace d s (v + 1))
+  increment_runs d v s few small at framed stands le = by (number_place d) refl
+    where
+      by : (p : Place) → number_place d ≡ p → Gets s (s.frame.slot + length (increment_code (number_place d)))
+          (length (increment_code (number_place d))) (InPlace d s (v + 1))
+      by (InRegister register) is =
+          let ours : IsPlace (InRegister register) d = subst (λ (p : Place). IsPlace p d) is (place_is d few) in
+          let st : Stands program s.frame.slot (increment_code (InRegister register)) =
+          subst (λ (p : Place). Stands program s.frame.slot (increment_code p)) is stands in
+          let l : s.frame.slot + 1 ≤ last =
+          subst (λ (p : Place). s.frame.slot + length (increment_code p) ≤ last) is le in
+          let from : get s.frame.registers (register_number register) ≡ Some (Num v) =
+          subst (λ (p : Place). IsIn p s.frame.registers s.frame.stack v) is at in
+          let t = put s (s.frame.slot + 1) register (Num (v + 1)) in
+          let e : step program env s ≡ Ok (Running t) = counts program env s (s.frame.slot + 1) register v st.0 refl
+          (solid _ l) from (not_frame register (omega (arith, ours.0, ours.1))) small in
+          let f : Placed d (v + 1) s t = put_at program env register d (v + 1) s (s.frame.slot + 1) is ours.0 ours.1 in
+          let long : 1 ≡ length (increment_code (number_place d)) = ap (λ (p : Place). length (increment_code p)) (sym is) in
+          record {
+            new = t;
+            run = chain program env s t t 1 0 _ (once program env s t e) (stays program env t) (omega (arith, long));
+            slot = omega (arith, long);
+            fact = record { same = same_placed d d (v + 1) s t (omega arith) few f; there = f.there };
+          }
+      by (OnStack off) is =
+          let st : Stands program s.frame.slot (increment_code (OnStack off)) =
+          subst (λ (p : Place). Stands program s.frame.slot (increment_code p)) is stands in
+          let l : s.frame.slot + 3 ≤ last =
+          subst (λ (p : Place). s.frame.slot + length (increment_code p) ≤ last) is le in
+          let here : insn_at program s.frame.slot ≡ Some (fetch_code R0 (number_place d)) =
+          subst (λ (p : Place). insn_at program s.frame.slot ≡ Some (fetch_code R0 p)) (sym is) st.0 in
+          let last_one : insn_at program (s.frame.slot + 1 + 1) ≡ Some (keep_code (number_place d)) =
+          subst (λ (p : Place). insn_at program (s.frame.slot + 1 + 1) ≡ Some (keep_code p)) (sym is) st.1.1.0 in
+          let c = fetch_runs d d v s (omega (arith, small)) at framed (here, tt) (omega (arith, l)) in
+          let t = c.new in
+          let t1 = put t (t.frame.slot + 1) R0 (Num (v + 1)) in
+          let e : step program env t ≡ Ok (Running t1) = counts program env t (t.frame.slot + 1) R0 v
+          (ap (insn_at program) c.slot ∙ st.1.0) refl (solid _ (omega (arith, l, c.slot))) c.fact.r0 refl small in
+          let has : Has d s (v + 1) t1 = record {
+            same = same_put d s t (t.frame.slot + 1) R0 (Num (v + 1)) (omega arith) c.fact.same;
+            r0 = put_same t.frame.registers 0 (Num (v + 1));
+            small = small;
+          } in
+          let there : insn_at program (t.frame.slot + 1) ≡ Some (keep_code (number_place d)) =
+          ap (λ (n : ℕ). insn_at program (n + 1)) c.slot ∙ last_one in
+          let k = keep_runs d (v + 1) s t1 2 few (further program env s t t1 1 2 c.run e (omega arith)) has framed there
+          (omega (arith, l, c.slot)) in
+          let long : 3 ≡ length (increment_code (number_place d)) = ap (λ (p : Place). length (increment_code p)) (sym is) in
+          gets s _ _ _ _ (InPlace d s (v + 1)) (InPlace d s (v + 1)) (omega (arith, long, c.slot)) (omega (arith, long))
+          (λ w h. h) k
+
   -- a state with this number, at most m, in place d
   pub record Counts (d : ℕ) (s : MachineState) (m v : ℕ) (t : MachineState) : Type 0 where
     pub same : Same d s t
-    pub place : get t.frame.registers (7 + d) ≡ Some (Num v)
+    pub there : At d t v
     pub few : v ≤ m
 
-  counts_run : (d n : ℕ) (test : ℕ → List Insn) (holds : ℕ → ℕ) (s : MachineState) (m : ℕ) → d < 3 → n < 2 ^ 31
-      → m ≤ n → Stands program s.frame.slot (count_codes d test m)
-      → s.frame.slot + length (count_codes d test m) ≤ last → get s.frame.registers (7 + d) ≡ Some (Num 0)
-      → ((j : ℕ) (t : MachineState) → j < n → Same d s t → Stands program t.frame.slot (test j)
-      → t.frame.slot + length (test j) + 1 ≤ last
-      → Gets t (t.frame.slot + length (test j) + landing false (holds j) 1) (length (test j)) (Same (d + 1) t))
+  -- the runs of the tests of a count
+  abbrev pub CountTests : ℕ → ℕ → (ℕ → List Insn) → (ℕ → ℕ) → MachineState → Type 0
+  CountTests d n test holds s = (j : ℕ) (t : MachineState) → j < n → Same d s t → Stands program t.frame.slot (test j)
+      → t.frame.slot + length (test j) + length (increment_code (number_place d)) ≤ last
+      → Gets t (t.frame.slot + length (test j) + landing false (holds j) (length (increment_code (number_place d))))
+      (length (test j)) (Same (d + 1) t)
+
+  counts_run : (d n : ℕ) (test : ℕ → List Insn) (holds : ℕ → ℕ) (s : MachineState) (m : ℕ) → d < PLACES → n < 2 ^ 31
+      → m ≤ n → IsFramed s → Stands program s.frame.slot (count_codes d test m)
+      → s.frame.slot + length (count_codes d test m) ≤ last → At d s 0 → CountTests d n test holds s
       → Gets s (s.frame.slot + length (count_codes d test m)) (length (count_codes d test m))
       (Counts d s m (count_below m holds))
-  counts_run d n test holds s zero small few le stands fits start each = record {
+  counts_run d n test holds s zero small few le framed stands fits start each = record {
     new = s;
     run = stays program env s;
     slot = omega arith;
-    fact = record { same = same_self d s; place = start; few = omega arith };
+    fact = record { same = same_self d s; there = start; few = omega arith };
   }
-  counts_run d n test holds s (suc m) small few le stands fits start each =
-      let p = register_number (place_register d) in
-      let number : p ≡ 7 + d = place_number d small in
-      let writable : (p == 10) ≡ false = ap (λ (n : ℕ). n == 10) number ∙ ne_eqb (7 + d) 10 (λ e. omega arith) in
+  counts_run d n test holds s (suc m) small few le framed stands fits start each =
       let front = count_codes d test m in
-      let add = i.Alu Add W32 (place_register d) (operand.Imm (pos 1)) ∷ [] in
+      let add = increment_code (number_place d) in
       let back = test m ++ add in
-      let len : length (front ++ back) ≡ length front + (length (test m) + 1) = omega
+      let len : length (front ++ back) ≡ length front + (length (test m) + length add) = omega
       (arith, length-append front back, length-append (test m) add) in
-      let c = counts_run d n test holds s m small few (omega (arith, le))
+      let c = counts_run d n test holds s m small few (omega (arith, le)) framed
       (stands_front program s.frame.slot front back stands) (omega (arith, len, fits)) start each in
       let t = c.new in
       let at_back = here_is t _ back c.slot (stands_back program s.frame.slot front back stands) in
@@ -672,36 +737,31 @@ module _ (program : List Insn) (env : Setting) (last : ℕ) (solid : (k : ℕ) �
       (omega (arith, len, fits, c.slot)) in
       let w = g.new in
       let v = count_below m holds in
-      let kept : get w.frame.registers (7 + d) ≡ Some (Num v) = g.fact.registers (7 + d) (omega arith) (omega arith)
-      ∙ c.fact.place in
+      let kept : At d w v = g.fact.places d v (omega arith) c.fact.there in
       let same : Same d s w = same_then d s t w c.fact.same (same_less d t w g.fact) in
       let run = chain program env s t w (length front) (length (test m)) (length front + length (test m)) c.run g.run
       (omega arith) in
       elim (cases_Bool (truth (holds m))) [
         | inl so ↦
-            let none : landing false (holds m) 1 ≡ 0 = rw so refl in
+            let none : landing false (holds m) (length add) ≡ 0 = rw so refl in
             let slot : w.frame.slot ≡ t.frame.slot + length (test m) = omega (arith, g.slot, none) in
             let there = here_is w _ add slot (stands_back program t.frame.slot (test m) add at_back) in
-            let w1 = put w (w.frame.slot + 1) (place_register d) (Num (v + 1)) in
-            let old : get w.frame.registers p ≡ Some (Num v) = ap (get w.frame.registers) number ∙ kept in
-            let e1 : step program env w ≡ Ok (Running w1) = counts program env w (w.frame.slot + 1) (place_register d) v there.0
-            refl (solid _ (omega (arith, len, fits, slot, c.slot))) old writable (omega (arith, c.fact.few, few, le)) in
             let one : v + 1 ≡ count_below (suc m) holds = rw so refl in
+            let x = increment_runs d v w small (omega (arith, c.fact.few, few, le)) kept (same.framed framed) there
+            (omega (arith, len, fits, slot, c.slot)) in
             record {
-              new = w1;
-              run = further program env s w w1 _ (length (front ++ back)) run e1 (omega (arith, len));
-              slot = omega (arith, len, slot, c.slot);
+              new = x.new;
+              run = chain program env s w x.new _ (length add) (length (front ++ back)) run x.run (omega (arith, len));
+              slot = omega (arith, len, slot, c.slot, x.slot);
               fact = record {
-                same = same_put d s w (w.frame.slot + 1) (place_register d) (Num (v + 1))
-                    (free_place d d small (omega arith)) same;
-                place = ap (get w1.frame.registers) (sym number) ∙ put_same w.frame.registers p (Num (v + 1))
-                    ∙ ap (λ x. Some (Num x)) one;
+                same = same_then d s w x.new same x.fact.same;
+                there = subst (λ (y : ℕ). At d x.new y) one x.fact.there;
                 few = omega (arith, c.fact.few, one);
               };
             }
         | inr other ↦
-            let one : landing false (holds m) 1 ≡ 1 = rw other refl in
-            let slot : w.frame.slot ≡ t.frame.slot + length (test m) + 1 = omega (arith, g.slot, one) in
+            let all : landing false (holds m) (length add) ≡ length add = rw other refl in
+            let slot : w.frame.slot ≡ t.frame.slot + length (test m) + length add = omega (arith, g.slot, all) in
             let none : v + 0 ≡ count_below (suc m) holds = rw other refl in
             let stay : v ≡ count_below (suc m) holds = omega (arith, none) in
             record {
@@ -710,76 +770,61 @@ module _ (program : List Insn) (env : Setting) (last : ℕ) (solid : (k : ℕ) �
               slot = omega (arith, len, slot, c.slot);
               fact = record {
                 same = same;
-                place = kept ∙ ap (λ x. Some (Num x)) stay;
+                there = subst (λ (y : ℕ). At d w y) stay kept;
                 few = omega (arith, c.fact.few, stay);
               };
             }
       ]
 
-  pub counted_runs : (d n : ℕ) (test : ℕ → List Insn) (holds : ℕ → ℕ) (s : MachineState) → d < 3 → n < 2 ^ 31
-      → Stands program s.frame.slot (counted_code d n test) → s.frame.slot + length (counted_code d n test) ≤ last
-      → ((j : ℕ) (t : MachineState) → j < n → Same d s t → Stands program t.frame.slot (test j)
-      → t.frame.slot + length (test j) + 1 ≤ last
-      → Gets t (t.frame.slot + length (test j) + landing false (holds j) 1) (length (test j)) (Same (d + 1) t))
+  pub counted_runs : (d n : ℕ) (test : ℕ → List Insn) (holds : ℕ → ℕ) (s : MachineState) → d < PLACES → n < 2 ^ 31
+      → IsFramed s → Stands program s.frame.slot (counted_code d n test)
+      → s.frame.slot + length (counted_code d n test) ≤ last → CountTests d n test holds s
       → Gets s (s.frame.slot + length (counted_code d n test)) (length (counted_code d n test))
       (Counts d s n (count_below n holds))
-  counted_runs d n test holds s small few stands fits each =
-      let p = register_number (place_register d) in
-      let number : p ≡ 7 + d = place_number d small in
-      let writable : (p == 10) ≡ false = ap (λ (n : ℕ). n == 10) number ∙ ne_eqb (7 + d) 10 (λ e. omega arith) in
+  counted_runs d n test holds s small few framed stands fits each =
       let codes = count_codes d test n in
-      let s1 = put s (s.frame.slot + 1) (place_register d) (Num 0) in
-      let e1 : step program env s ≡ Ok (Running s1) = sets_number program env s (s.frame.slot + 1)
-      (place_register d) 0 stands.0 refl (solid _ (omega (arith, fits))) (omega arith) writable in
-      let same1 : Same d s s1 = same_put d s s (s.frame.slot + 1) (place_register d) (Num 0) (free_place d d small (omega arith))
-      (same_self d s) in
-      let start : get s1.frame.registers (7 + d) ≡ Some (Num 0) = ap (get s1.frame.registers) (sym number)
-      ∙ put_same s.frame.registers p (Num 0) in
-      let c = counts_run d n test holds s1 n small few (omega arith) stands.1 (omega (arith, fits)) start
+      let p = clears_at program env d s (s.frame.slot + 1) small stands.0 refl (solid _ (omega (arith, fits))) framed in
+      let s1 = p.new in
+      let same1 : Same d s s1 = same_placed d d 0 s s1 (omega arith) small p.fact in
+      let c = counts_run d n test holds s1 n small few (omega arith) (p.fact.framed framed)
+      (here_is s1 _ codes p.slot stands.1) (omega (arith, fits, p.slot)) p.fact.there
       (λ j t lt same. each j t lt (same_then d s s1 t same1 same)) in
       record {
         new = c.new;
         run = chain program env s s1 c.new 1 (length codes) (length (counted_code d n test))
-            (once program env s s1 e1) c.run (omega arith);
-        slot = omega (arith, c.slot);
+            (once program env s s1 p.runs) c.run (omega arith);
+        slot = omega (arith, c.slot, p.slot);
         fact = record {
           same = same_then d s s1 c.new same1 c.fact.same;
-          place = c.fact.place;
+          there = c.fact.there;
           few = c.fact.few;
         };
       }
 
-  pub count_runs : (d n : ℕ) (test : ℕ → List Insn) (holds : ℕ → ℕ) (s : MachineState) → d < 3 → n < 2 ^ 31
-      → Stands program s.frame.slot (count_code d n test) → s.frame.slot + length (count_code d n test) ≤ last
-      → ((j : ℕ) (t : MachineState) → j < n → Same d s t → Stands program t.frame.slot (test j)
-      → t.frame.slot + length (test j) + 1 ≤ last
-      → Gets t (t.frame.slot + length (test j) + landing false (holds j) 1) (length (test j)) (Same (d + 1) t))
+  pub count_runs : (d n : ℕ) (test : ℕ → List Insn) (holds : ℕ → ℕ) (s : MachineState) → d < PLACES → n < 2 ^ 31
+      → IsFramed s → Stands program s.frame.slot (count_code d n test)
+      → s.frame.slot + length (count_code d n test) ≤ last → CountTests d n test holds s
       → Gets s (s.frame.slot + length (count_code d n test)) (length (count_code d n test))
       (Has d s (count_below n holds))
-  count_runs d n test holds s small few stands fits each =
-      let p = register_number (place_register d) in
-      let number : p ≡ 7 + d = place_number d small in
+  count_runs d n test holds s small few framed stands fits each =
       let codes = counted_code d n test in
-      let last_one = copy R0 (place_register d) ∷ [] in
+      let last_one = fetch_code R0 (number_place d) ∷ [] in
       let len : length (codes ++ last_one) ≡ length codes + 1 = length-append codes last_one in
-      let c = counted_runs d n test holds s small few (stands_front program s.frame.slot codes last_one stands)
+      let c = counted_runs d n test holds s small few framed (stands_front program s.frame.slot codes last_one stands)
       (omega (arith, len, fits)) each in
       let w = c.new in
       let v = count_below n holds in
       let there = here_is w _ last_one c.slot (stands_back program s.frame.slot codes last_one stands) in
-      let w1 = put w (w.frame.slot + 1) R0 (Num v) in
-      let small_v : v < 2 ^ 32 = omega (arith, c.fact.few, few) in
-      let e3 : step program env w ≡ Ok (Running w1) = copies program env w (w.frame.slot + 1) R0
-      (place_register d) v there.0 refl (solid _ (omega (arith, len, fits, c.slot))) (ap (get w.frame.registers) number
-      ∙ c.fact.place) small_v refl in
+      let g = fetch_runs d d v w (omega (arith, c.fact.few, few)) c.fact.there (c.fact.same.framed framed) there
+      (omega (arith, len, fits, c.slot)) in
       record {
-        new = w1;
-        run = further program env s w w1 (length codes) (length (codes ++ last_one)) c.run e3 (omega (arith, len));
-        slot = omega (arith, len, c.slot);
+        new = g.new;
+        run = chain program env s w g.new (length codes) 1 (length (codes ++ last_one)) c.run g.run (omega (arith, len));
+        slot = omega (arith, len, c.slot, g.slot);
         fact = record {
-          same = same_put d s w (w.frame.slot + 1) R0 (Num v) (r0_free d) c.fact.same;
-          r0 = put_same w.frame.registers 0 (Num v);
-          small = small_v;
+          same = same_then d s w g.new c.fact.same g.fact.same;
+          r0 = g.fact.r0;
+          small = g.fact.small;
         };
       }
 
@@ -815,7 +860,7 @@ module _ (program : List Insn) (env : Setting) (last : ℕ) (solid : (k : ℕ) �
         run = once program env s _ e;
         slot = refl;
         fact = record {
-          same = same_put d s s (s.frame.slot + 1) R0 (Num v) (r0_free d) (same_self d s);
+          same = same_put d s s (s.frame.slot + 1) R0 (Num v) (omega arith) (same_self d s);
           r0 = put_same s.frame.registers 0 (Num v);
           small = word_small k u.memory room h.bytes;
         };
@@ -844,7 +889,7 @@ module _ (program : List Insn) (env : Setting) (last : ℕ) (solid : (k : ℕ) �
         run = further program env s t t1 (length code) (length (code ++ act)) c.run e (omega (arith, len));
         slot = omega (arith, len, c.slot);
         fact = record {
-          same = same_put d s t (t.frame.slot + 1) R0 (Num v) (r0_free d) c.fact.same;
+          same = same_put d s t (t.frame.slot + 1) R0 (Num v) (omega arith) c.fact.same;
           r0 = put_same t.frame.registers 0 (Num v);
           small = apply_small op a b c.fact.left c.fact.right;
         };
@@ -939,7 +984,7 @@ module _ (program : List Insn) (env : Setting) (last : ℕ) (solid : (k : ℕ) �
     pub small : v < 2 ^ 32
 
   pub get_steps : (dst : Reg) (x : Source) (z : Sizes) (lets v : ℕ) (u : NodeState) (t : MachineState)
-      → (register_number dst == 10) ≡ false → is_found x ≡ true → IsAt z lets u x v → IsSized z env → lets ≤ 3
+      → (register_number dst == 10) ≡ false → is_found x ≡ true → IsAt z lets u x v → IsSized z env → lets ≤ PLACES
       → Holds env lets u t → insn_at program t.frame.slot ≡ Some (get_code dst x) → t.frame.slot + 1 ≤ last
       → Fetched dst t v
   get_steps dst (Constant c) z lets v u t free found is sized few h here le =
@@ -948,10 +993,9 @@ module _ (program : List Insn) (env : Setting) (last : ℕ) (solid : (k : ℕ) �
         small = is.1;
       })
   get_steps dst (FromLocal k) z lets v u t free found is sized few h here le =
-      let number : register_number (place_register k) ≡ 7 + k = place_number k (omega (arith, is.0, few)) in
       subst (λ (x : ℕ). Fetched dst t x) is.1 (record {
-        fetched = copies program env t (t.frame.slot + 1) dst (place_register k) (u.locals k) here refl (solid _ le)
-            (ap (get t.frame.registers) number ∙ h.locals k is.0) (h.small k is.0) free;
+        fetched = fetches program env (number_place k) t (t.frame.slot + 1) dst (u.locals k) (inside k) here refl (solid _ le)
+            (h.locals k is.0) h.framed (h.small k is.0) free;
         small = h.small k is.0;
       })
   get_steps dst (FromWord k) z lets v u t free found is sized few h here le =
@@ -989,7 +1033,7 @@ module _ (program : List Insn) (env : Setting) (last : ℕ) (solid : (k : ℕ) �
             (omega (arith, len));
         slot = omega (arith, len, c.slot);
         fact = record {
-          same = same_put d s t (t.frame.slot + 1) R1 (Num b) (r1_free d) c.fact.same;
+          same = same_put d s t (t.frame.slot + 1) R1 (Num b) (omega arith) c.fact.same;
           r0 = put_other t.frame.registers 1 (Num b) 0 (λ e. omega arith) ∙ c.fact.r0;
           r1 = put_same t.frame.registers 1 (Num b);
           left = c.fact.small;
@@ -997,9 +1041,42 @@ module _ (program : List Insn) (env : Setting) (last : ℕ) (solid : (k : ℕ) �
         };
       }
 
+  -- the left number in r0, and the one of a place where its operand says
+  place_loaded : (p : Place) (d a b : ℕ) (left : List Insn) (s : MachineState) → IsInside p
+      → ((t : MachineState) → Same d s t → IsIn p t.frame.registers t.frame.stack b) → IsFramed s → b < 2 ^ 32
+      → Stands program s.frame.slot (left ++ load_place p) → s.frame.slot + length (left ++ load_place p) ≤ last
+      → (Stands program s.frame.slot left → s.frame.slot + length left ≤ last
+      → Gets s (s.frame.slot + length left) (length left) (Has d s a))
+      → Gets s (s.frame.slot + length (left ++ load_place p)) (length (left ++ load_place p))
+      (HasPair (place_operand p) d s a b)
+  place_loaded (InRegister register) d a b left s ok at framed small stands room first =
+      let len : length (left ++ []) ≡ length left + 0 = length-append left [] in
+      let P = HasPair (operand.Reg register) d s a b in
+      gets s _ _ _ _ (Has d s a) P (omega (arith, len)) (omega (arith, len))
+      (λ t k.
+      let e : get t.frame.registers (register_number register) ≡ Some (Num b) = at t k.same in
+      record {
+        same = k.same;
+        r0 = k.r0;
+        raw = b;
+        other = rw e refl;
+        low_bits = low b small;
+        left = k.small;
+        right = small;
+      }) (first (stands_front program s.frame.slot left [] stands) (omega (arith, len, room)))
+  place_loaded (OnStack off) d a b left s ok at framed small stands room first =
+      gets s _ _ _ _ (HasTwo d s a b) (HasPair (operand.Reg R1) d s a b) refl (omega arith)
+      (λ t k. has_pair d s a b t k)
+      (operand_runs d left (fetch_code R1 (OnStack off)) s a b stands room first
+      (λ t same here l. record {
+        fetched = fetches program env (OnStack off) t (t.frame.slot + 1) R1 b ok here refl (solid _ l) (at t same)
+            (same.framed framed) small refl;
+        small = small;
+      }))
+
   -- the left number in r0, and the found one where its operand says
   loaded_runs : (y : Source) (z : Sizes) (d lets a b : ℕ) (u : NodeState) (left : List Insn) (s : MachineState)
-      → is_found y ≡ true → IsAt z lets u y b → IsSized z env → lets ≤ 3 → lets ≤ d → Holds env lets u s
+      → is_found y ≡ true → IsAt z lets u y b → IsSized z env → lets ≤ PLACES → lets ≤ d → Holds env lets u s
       → Stands program s.frame.slot (left ++ load_code y) → s.frame.slot + length (left ++ load_code y) ≤ last
       → (Stands program s.frame.slot left → s.frame.slot + length left ≤ last
       → Gets s (s.frame.slot + length left) (length left) (Has d s a))
@@ -1019,23 +1096,9 @@ module _ (program : List Insn) (env : Setting) (last : ℕ) (solid : (k : ℕ) �
         right = subst (λ (x : ℕ). x < 2 ^ 32) is.0 is.1;
       }) (first (stands_front program s.frame.slot left [] stands) (omega (arith, len, room)))
   loaded_runs (FromLocal j) z d lets a b u left s found is sized few le h stands room first =
-      let len : length (left ++ []) ≡ length left + 0 = length-append left [] in
-      let number : register_number (place_register j) ≡ 7 + j = place_number j (omega (arith, is.0, few)) in
-      let P = HasPair (operand_code (FromLocal j)) d s a b in
-      gets s _ _ _ _ (Has d s a) P (omega (arith, len)) (omega (arith, len))
-      (λ t k.
-      let h1 = still_holds env lets d u s t le h k.same in
-      let e : get t.frame.registers (register_number (place_register j)) ≡ Some (Num (u.locals j)) =
-      ap (get t.frame.registers) number ∙ h1.locals j is.0 in
-      record {
-        same = k.same;
-        r0 = k.r0;
-        raw = u.locals j;
-        other = rw e refl;
-        low_bits = low (u.locals j) (h.small j is.0) ∙ is.1;
-        left = k.small;
-        right = subst (λ (x : ℕ). x < 2 ^ 32) is.1 (h.small j is.0);
-      }) (first (stands_front program s.frame.slot left [] stands) (omega (arith, len, room)))
+      place_loaded (number_place j) d a b left s (inside j)
+      (λ t same. subst (λ (x : ℕ). At j t x) is.1 ((still_holds env lets d u s t le h same).locals j is.0))
+      h.framed (subst (λ (x : ℕ). x < 2 ^ 32) is.1 (h.small j is.0)) stands room first
   loaded_runs (FromWord j) z d lets a b u left s found is sized few le h stands room first =
       gets s _ _ _ _ (HasTwo d s a b) (HasPair (operand.Reg R1) d s a b) refl (omega arith)
       (λ t k. has_pair d s a b t k)
@@ -1048,7 +1111,7 @@ module _ (program : List Insn) (env : Setting) (last : ℕ) (solid : (k : ℕ) �
 
   -- the right number is computed into r0, and the left one is found
   turned_runs : (x : Source) (z : Sizes) (d lets a b : ℕ) (u : NodeState) (right : List Insn) (s : MachineState)
-      → is_found x ≡ true → IsAt z lets u x a → IsSized z env → lets ≤ 3 → lets ≤ d → Holds env lets u s
+      → is_found x ≡ true → IsAt z lets u x a → IsSized z env → lets ≤ PLACES → lets ≤ d → Holds env lets u s
       → Stands program s.frame.slot (right ++ (copy R1 R0 ∷ get_code R0 x ∷ []))
       → s.frame.slot + length (right ++ (copy R1 R0 ∷ get_code R0 x ∷ [])) ≤ last
       → (Stands program s.frame.slot right → s.frame.slot + length right ≤ last
@@ -1064,13 +1127,13 @@ module _ (program : List Insn) (env : Setting) (last : ℕ) (solid : (k : ℕ) �
       let t1 = put t (t.frame.slot + 1) R1 (Num b) in
       let e1 : step program env t ≡ Ok (Running t1) = copies program env t (t.frame.slot + 1) R1 R0 b there.0 refl
       (solid _ (omega (arith, len, room, c.slot))) c.fact.r0 c.fact.small refl in
-      let same1 : Same d s t1 = same_put d s t (t.frame.slot + 1) R1 (Num b) (r1_free d) c.fact.same in
+      let same1 : Same d s t1 = same_put d s t (t.frame.slot + 1) R1 (Num b) (omega arith) c.fact.same in
       let g = get_steps R0 x z lets a u t1 refl found is sized few (still_holds env lets d u s t1 le h same1) there.1.0
       (omega (arith, len, room, c.slot)) in
       let t2 = put t1 (t.frame.slot + 1 + 1) R0 (Num a) in
       let run1 = further program env s t t1 (length right) (length right + 1) c.run e1 (omega arith) in
       let two : HasTwo d s a b t2 = record {
-        same = same_put d s t1 (t.frame.slot + 1 + 1) R0 (Num a) (r0_free d) same1;
+        same = same_put d s t1 (t.frame.slot + 1 + 1) R0 (Num a) (omega arith) same1;
         r0 = put_same t1.frame.registers 0 (Num a);
         r1 = put_other t1.frame.registers 0 (Num a) 1 (λ e. omega arith) ∙ put_same t.frame.registers 1 (Num b);
         left = g.small;
@@ -1085,7 +1148,7 @@ module _ (program : List Insn) (env : Setting) (last : ℕ) (solid : (k : ℕ) �
       }
 
   left_runs : (o : Operator) (x : Source) (purpose : Purpose) (z : Sizes) (d lets a b : ℕ) (u : NodeState)
-      (right : List Insn) (s : MachineState) → is_found x ≡ true → IsAt z lets u x a → IsSized z env → lets ≤ 3
+      (right : List Insn) (s : MachineState) → is_found x ≡ true → IsAt z lets u x a → IsSized z env → lets ≤ PLACES
       → lets ≤ d → Holds env lets u s → Stands program s.frame.slot (left_code o x purpose right)
       → s.frame.slot + length (left_code o x purpose right) + beyond_purpose purpose ≤ last
       → (Stands program s.frame.slot right → s.frame.slot + length right ≤ last
@@ -1104,37 +1167,50 @@ module _ (program : List Insn) (env : Setting) (last : ℕ) (solid : (k : ℕ) �
       (λ st l. loaded_runs x z d lets b a u right s found is sized few le h st l first))
 
   right_runs : (o : Operator) (y : Source) (purpose : Purpose) (z : Sizes) (d lets a b : ℕ) (u : NodeState)
-      (left : List Insn) (s : MachineState) → is_found y ≡ true → IsAt z lets u y b → IsSized z env → lets ≤ 3
+      (left : List Insn) (s : MachineState) → is_found y ≡ true → IsAt z lets u y b → IsSized z env → lets ≤ PLACES
       → lets ≤ d → Holds env lets u s
-      → Stands program s.frame.slot (by_operator o (operand_code y) purpose (left ++ load_code y))
-      → s.frame.slot + length (by_operator o (operand_code y) purpose (left ++ load_code y)) + beyond_purpose purpose ≤ last
+      → Stands program s.frame.slot (right_code o y purpose left)
+      → s.frame.slot + length (right_code o y purpose left) + beyond_purpose purpose ≤ last
       → (Stands program s.frame.slot left → s.frame.slot + length left ≤ last
       → Gets s (s.frame.slot + length left) (length left) (Has d s a))
-      → Reached purpose d s (s.frame.slot + length (by_operator o (operand_code y) purpose (left ++ load_code y)))
-      (length (by_operator o (operand_code y) purpose (left ++ load_code y))) (apply_operator o a b)
+      → Reached purpose d s (s.frame.slot + length (right_code o y purpose left))
+      (length (right_code o y purpose left)) (apply_operator o a b)
   right_runs o y purpose z d lets a b u left s found is sized few le h stands room first =
       operator_runs o (operand_code y) purpose d a b (left ++ load_code y) s stands room
       (λ st l. loaded_runs y z d lets a b u left s found is sized few le h st l first)
 
-  place_test_runs : (r : Comparison) (k c : ℕ) (z : Sizes) (d lets a b : ℕ) (u : NodeState) (s : MachineState)
-      → IsAt z lets u (Constant c) b → IsAt z lets u (FromLocal k) a → lets ≤ 3 → Holds env lets u s
-      → TestRuns (λ when far. jump_place k (jump_on when r) c far ∷ []) d (bit_of (compare r a b)) s
-  place_test_runs r k c z d lets a b u s at_y at_x few h when far stands room =
+  register_test_runs : (register : Reg) (r : Comparison) (c : ℕ) (z : Sizes) (d lets a b : ℕ) (u : NodeState)
+      (s : MachineState) → IsAt z lets u (Constant c) b
+      → get s.frame.registers (register_number register) ≡ Some (Num a) → a < 2 ^ 32
+      → TestRuns (λ when far. jump_register register (jump_on when r) c far ∷ []) d (bit_of (compare r a b)) s
+  register_test_runs register r c z d lets a b u s at_y from small when far stands room =
       let raw = cast_unsigned w64 (cast_signed w32 c) in
-      let number : register_number (place_register k) ≡ 7 + k = place_number k (omega (arith, at_x.0, few)) in
-      let from : get s.frame.registers (register_number (place_register k)) ≡ Some (Num a) = ap (get s.frame.registers) number
-      ∙ h.locals k at_x.0 ∙ ap (λ n. Some (Num n)) at_x.1 in
-      let small : a < 2 ^ 32 = subst (λ (n : ℕ). n < 2 ^ 32) at_x.1 (h.small k at_x.0) in
       let hit = taken when (bit_of (compare r a b)) in
-      let end = branch_runs d s s 0 far (cond_of (jump_on when r)) (place_register k) (operand.Imm (cast_signed w32 c)) a raw hit
+      let end = branch_runs d s s 0 far (cond_of (jump_on when r)) register (operand.Imm (cast_signed w32 c)) a raw hit
       (stays program env s) (same_self d s) stands.0 from refl
       (jump_compared when r a b raw small (imm_low c at_y.1 ∙ at_y.0)) room in
       gets s _ _ _ _ (Same d s) (Same d s) refl (omega arith) (λ t h. h) end
 
+  -- a place beside a constant
+  beside_runs : (p : Place) (r : Comparison) (c : ℕ) (purpose : Purpose) (z : Sizes) (d lets a b : ℕ) (u : NodeState)
+      (left : List Insn) (s : MachineState) → IsAt z lets u (Constant c) b
+      → IsIn p s.frame.registers s.frame.stack a → a < 2 ^ 32 → IsSized z env → lets ≤ PLACES → lets ≤ d
+      → Holds env lets u s → Stands program s.frame.slot (beside_code p r c purpose left)
+      → s.frame.slot + length (beside_code p r c purpose left) + beyond_purpose purpose ≤ last
+      → (Stands program s.frame.slot left → s.frame.slot + length left ≤ last
+      → Gets s (s.frame.slot + length left) (length left) (Has d s a))
+      → Reached purpose d s (s.frame.slot + length (beside_code p r c purpose left))
+      (length (beside_code p r c purpose left)) (bit_of (compare r a b))
+  beside_runs (InRegister register) r c purpose z d lets a b u left s at_y at_x small sized few le h stands room first =
+      by_test_runs purpose (λ when far. jump_register register (jump_on when r) c far ∷ []) d (compare r a b) s stands room
+      (register_test_runs register r c z d lets a b u s at_y at_x small)
+  beside_runs (OnStack off) r c purpose z d lets a b u left s at_y at_x small sized few le h stands room first =
+      right_runs (Compare r) (Constant c) purpose z d lets a b u left s refl at_y sized few le h stands room first
+
   -- the right number is computed at a depth of its own
   sides_run : (y x : Source) (o : Operator) (purpose : Purpose) (z : Sizes) (d deep lets a b : ℕ) (u : NodeState)
-      (left right : List Insn) (s : MachineState) → IsAt z lets u y b → IsAt z lets u x a → IsSized z env → lets ≤ 3
-      → lets ≤ d → d ≤ deep → (is_found x ≡ false → is_found y ≡ false → (d < 3) × (deep ≡ d + 1)) → Holds env lets u s
+      (left right : List Insn) (s : MachineState) → IsAt z lets u y b → IsAt z lets u x a → IsSized z env → lets ≤ PLACES
+      → lets ≤ d → d ≤ deep → (is_found x ≡ false → is_found y ≡ false → (d < PLACES) × (deep ≡ d + 1)) → Holds env lets u s
       → Stands program s.frame.slot (binary_code y x o d purpose left right)
       → s.frame.slot + length (binary_code y x o d purpose left right) + beyond_purpose purpose ≤ last
       → (Stands program s.frame.slot left → s.frame.slot + length left ≤ last
@@ -1145,8 +1221,9 @@ module _ (program : List Insn) (env : Setting) (last : ℕ) (solid : (k : ℕ) �
       (length (binary_code y x o d purpose left right)) (apply_operator o a b)
   sides_run (Constant c) (FromLocal k) (Compare r) purpose z d deep lets a b u left right s at_y at_x sized few
       le more free h stands room first second =
-      by_test_runs purpose (λ when far. jump_place k (jump_on when r) c far ∷ []) d (compare r a b) s stands room
-      (place_test_runs r k c z d lets a b u s at_y at_x few h)
+      beside_runs (number_place k) r c purpose z d lets a b u left s at_y
+      (subst (λ (x : ℕ). At k s x) at_x.1 (h.locals k at_x.0))
+      (subst (λ (x : ℕ). x < 2 ^ 32) at_x.1 (h.small k at_x.0)) sized few le h stands room first
   sides_run (Constant c) (FromLocal k) (Compute op) purpose z d deep lets a b u left right s at_y at_x sized few
       le more free h stands room first second =
       right_runs (Compute op) (Constant c) purpose z d lets a b u left s refl at_y sized few le h stands room first
@@ -1191,7 +1268,7 @@ module _ (program : List Insn) (env : Setting) (last : ℕ) (solid : (k : ℕ) �
       operator_runs o (operand.Reg R1) purpose d a b (two_code d left right) s stands room
       (λ st l. gets s _ _ _ _ (HasTwo d s a b) (HasPair (operand.Reg R1) d s a b) refl (omega arith)
       (λ t k. has_pair d s a b t k)
-      (two_runs d left right s a b deeper.0 st l first
+      (two_runs d left right s a b deeper.0 h.framed st l first
       (λ t same st2 l2. gets t _ _ _ _ (Has deep t b) (Has (d + 1) t b) refl (omega arith)
       (λ w k. has_less (d + 1) deep b t w (omega (arith, deeper.1)) k) (second t same st2 l2))))
 
@@ -1227,7 +1304,7 @@ module _ (program : List Insn) (env : Setting) (last : ℕ) (solid : (k : ℕ) �
         slot = omega arith;
         fact = record {
           same = same_call d s s1 (s.frame.slot + 1 + 1) (received env j)
-              (same_put d s s (s.frame.slot + 1) R1 (Num j) (r1_free d) (same_self d s));
+              (same_put d s s (s.frame.slot + 1) R1 (Num j) (omega arith) (same_self d s));
           r0 = put_same _ 0 (Num (received env j));
           small = received_fits env j sized.setting;
         };
@@ -1295,7 +1372,7 @@ module _ (program : List Insn) (env : Setting) (last : ℕ) (solid : (k : ℕ) �
   -- ---- terms
 
   pub term_runs : (t : Term) (z : Sizes) (J : List ℕ) (d lets : ℕ) (purpose : Purpose) (u : NodeState)
-      (s : MachineState) → IsSized z env → All (λ j. j < z.nodes) J → lets ≤ 3 → lets ≤ d → Fits t z (length J) lets d
+      (s : MachineState) → IsSized z env → All (λ j. j < z.nodes) J → lets ≤ PLACES → lets ≤ d → Fits t z (length J) lets d
       → Holds env lets u s
       → Stands program s.frame.slot (term_code t z J d purpose)
       → s.frame.slot + length (term_code t z J d purpose) + beyond_purpose purpose ≤ last
@@ -1327,9 +1404,8 @@ module _ (program : List Insn) (env : Setting) (last : ℕ) (solid : (k : ℕ) �
       (λ st l. number_runs d v s (omega (arith, lt, nodes_few z sized)) st l)
   term_runs (Local k) z J d lets purpose u s sized nodes few le fits h stands room =
       let v = u.locals k in
-      let number : register_number (place_register k) ≡ 7 + k = place_number k (omega (arith, fits, few)) in
-      by_value_runs purpose (copy R0 (place_register k) ∷ []) d v s stands room
-      (λ st l. copy_runs d v s (place_register k) (h.small k fits) (ap (get s.frame.registers) number ∙ h.locals k fits) st l)
+      by_value_runs purpose (fetch_code R0 (number_place k) ∷ []) d v s stands room
+      (λ st l. fetch_runs d k v s (h.small k fits) (h.locals k fits) h.framed st l)
   term_runs (Word k) z J d lets purpose u s sized nodes few le fits h stands room =
       by_value_runs purpose (i.Load size.W R0 R6 (pos (4 * k)) ∷ []) d (word_at k u.memory) s stands room
       (λ st l. load_runs d lets k u s (omega (arith, fits, sized.memory)) h st l)
@@ -1394,12 +1470,12 @@ module _ (program : List Insn) (env : Setting) (last : ℕ) (solid : (k : ℕ) �
       (omega (arith, l2))))
       (λ x to k. has_at d v s x to k))
   term_runs (Count' p t) z J d lets purpose u s sized nodes few le fits h stands room =
-      let test = λ (j : ℕ). term_code t z (J ++ j ∷ []) (d + 1) (Jump false 1) in
+      let test = λ (j : ℕ). term_code t z (J ++ j ∷ []) (d + 1) (count_test d) in
       let holds = λ (j : ℕ). value t z env (J ++ j ∷ []) u in
       by_value_runs purpose (count_code d z.nodes test) d (count_below z.nodes holds) s stands room
-      (λ st l. count_runs d z.nodes test holds s fits.0 (nodes_few z sized) st l
+      (λ st l. count_runs d z.nodes test holds s fits.0 (nodes_few z sized) h.framed st l
       (λ j w lt same st2 l2.
       let more : length J + 1 ≡ length (J ++ j ∷ []) = omega (arith, length-append J (j ∷ [])) in
-      term_runs t z (J ++ j ∷ []) (d + 1) lets (Jump false 1) u w sized (All-push (λ i. i < z.nodes) J j nodes lt) few
+      term_runs t z (J ++ j ∷ []) (d + 1) lets (count_test d) u w sized (All-push (λ i. i < z.nodes) J j nodes lt) few
       (omega (arith, le)) (subst (λ (n : ℕ). Fits t z n lets (d + 1)) more fits.1)
       (still_holds env lets d u s w le h same) st2 l2))

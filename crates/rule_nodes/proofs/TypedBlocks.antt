@@ -1,34 +1,34 @@
 -- The code of statements, and of whole rules, is typed.
-use Rattle.std.proofs.Common.{◌≡◌, ℕ, zero, suc, ◌+◌, ◌-◌, ◌*◌, ◌^◌, ◌%◌, ◌<◌, ◌≤◌, ◌==◌, nat_lt, Bool, true, false, if◌then◌else◌, ◌||◌, ◌&&◌, List, [], ◌∷◌, ◌++◌, length, Option, Some, None, pos, slice_get, refl, sym, ap, ◌∙◌, arith, subst, inl, inr, length-append}
+use Rattle.std.proofs.Common.{◌≡◌, ℕ, zero, suc, ◌+◌, ◌-◌, ◌*◌, ◌^◌, ◌%◌, ◌<◌, ◌≤◌, nat_lt, Bool, true, false, if◌then◌else◌, ◌||◌, ◌&&◌, List, [], ◌∷◌, ◌++◌, length, Option, Some, None, pos, slice_get, refl, sym, ap, ◌∙◌, arith, subst, inl, inr, length-append}
 use Rattle.std.specs.Int.{w32, w64, cast_signed, cast_unsigned}
-use Rattle.std.proofs.lemmas.Bool.{cases_Bool, cond-true, cond-false, lt-ltb, le-ltb, ltb-true, ne_eqb}
+use Rattle.std.proofs.lemmas.Bool.{cases_Bool, cond-true, cond-false, lt-ltb, le-ltb, ltb-true, and_parts}
 use Rattle.std.proofs.Math.Nat.{mod-eq_of_lt}
 use Rattle.std.proofs.lemmas.Option.{same_Some, none-some}
 use Rattle.node_env.specs.Env.{Extent, IsExtent}
+use Rattle.bpf_insn.specs.declared.forms.Reg.{Reg}
 use Rattle.bpf_insn.specs.declared.forms.Reg.TheVariants.{R0, R1, R2, R6}
 use Rattle.bpf_insn.specs.declared.forms.Width.TheVariants.{W32, W64}
 use Rattle.bpf_insn.specs.declared.forms.Size.TheVariants as size
-use Rattle.bpf_insn.specs.declared.forms.AluOp.TheVariants.{Add, Sub, Mul, Div, Mod, Mov}
+use Rattle.bpf_insn.specs.declared.forms.AluOp.TheVariants.{Mov}
 use Rattle.bpf_insn.specs.declared.forms.Operand.TheVariants as operand
 use Rattle.bpf_insn.specs.declared.forms.Insn.{Insn}
 use Rattle.bpf_insn.specs.declared.forms.Insn.TheVariants as i
-use Rattle.bpf_insn.specs.declared.edges.Way.TheVariants.{Onward, Jumping}
-use Rattle.bpf_insn.specs.Registers.{register_number}
 use Rattle.bpf_insn.specs.Edges.{BeginsAt, target}
 use Rattle.value_range.specs.Results.{alu_of as range_of}
-use Rattle.value_range.specs.Span.{Span, just, full_of}
+use Rattle.value_range.specs.Span.{just}
 use Rattle.bpf_verify.specs.declared.abstract_value.AbstractValue.{AbstractValue}
 use Rattle.bpf_verify.specs.declared.abstract_value.AbstractValue.TheVariants.{Unset, Number}
-use Rattle.bpf_verify.specs.States.{AbstractState, IsKindIn, IsContainedIn, IsProper, entry_state, kind_of, is_unset_kind, is_pointer_kind}
-use Rattle.bpf_verify.specs.Outcomes.{outcome, with_kind, of_number_kind, of_number_kinds}
+use Rattle.bpf_verify.specs.States.{AbstractState, stack_base, IsContainedIn, IsProper, entry_state, kind_of, is_unset_kind, is_pointer_kind}
 use Rattle.bpf_verify.specs.Typable.{Table, IsCovered, Typable}
 use Rattle.bpf_verify.proofs.StateLaws.{kind_in_itself, contained_in_itself, contained_further}
-use Rattle.clock_nodes.proofs.Taken.{state, proper, within, covered, KeepsOwn, keeps_own, sound_end, Sound, Sounds, marks_whole, typed}
+use Rattle.clock_nodes.proofs.Taken.{covered, KeepsOwn, keeps_own, sound_end, Sound, Sounds, marks_whole, typed}
 use Rattle.rule_syntax.specs.declared.syntax.Sizes.{Sizes}
 use Rattle.rule_syntax.specs.declared.syntax.Operation.{Operation}
-use Rattle.rule_syntax.specs.declared.syntax.Operation.TheVariants.{Sum, Difference, Product, Quotient, Remainder}
 use Rattle.rule_syntax.specs.declared.syntax.Operator.TheVariants.{Compute}
 use Rattle.rule_syntax.specs.declared.syntax.Comparison.TheVariants.{AtLeast}
+use Rattle.rule_nodes.specs.declared.numbers.TheConstants.{PLACES}
+use Rattle.rule_nodes.specs.declared.numbers.Place.{Place}
+use Rattle.rule_nodes.specs.declared.numbers.Place.TheVariants.{InRegister, OnStack}
 use Rattle.rule_nodes.specs.declared.numbers.Purpose.TheVariants.{Value, Jump}
 use Rattle.rule_syntax.specs.declared.syntax.Term.TheVariants.{Binary', Count'}
 use Rattle.rule_syntax.specs.declared.syntax.Target.{Target}
@@ -42,15 +42,15 @@ use Rattle.rule_syntax.specs.declared.syntax.Statement.{Statement}
 use Rattle.rule_syntax.specs.declared.syntax.Statement.TheVariants.{Nothing, Then', Let', Assign, If', For', SendAll, SendTo}
 use Rattle.rule_nodes.specs.Operands.{is_constant, constant_number, is_local, is_operand, is_steady, depth_behind, term_source}
 use Rattle.rule_nodes.specs.Fits.{HasPlace, Fits, TargetFits, AssignmentFits, BlockFits}
-use Rattle.rule_nodes.specs.Code.{place_register, copy, set_node, cond_of, jump_at, counted_code, term_code, stored_code, passed_code, send_to_constant_code, assign_code, set_code, given_code, alu_op_of, changing_insn, one_code, also_code, assignment_code, get_code, set_number, send_code, send_codes, send_all_code, send_to_code, each_code, is_nothing, block_code, tail_code, rule_code}
-use Rattle.rule_nodes.proofs.Typing.{memory_place, word, known, plain, valued, proper_known, some_word, into, short, Typing, typed_then, typed_as, typed_none, one_on, one_fork, fetch_typed, keep_typed, AllSound, seen}
+use Rattle.rule_nodes.specs.Code.{number_place, fetch_code, keep_code, copy, set_node, cond_of, jump_at, counted_code, count_test, term_code, stored_code, passed_code, send_to_constant_code, assign_code, place_code, word_code, set_code, given_code, alu_op_of, change_place, changing_insn, one_code, also_code, assignment_code, get_code, set_number, send_code, send_codes, send_all_code, send_to_code, each_code, is_nothing, block_code, tail_code, rule_code}
+use Rattle.rule_nodes.proofs.Typing.{memory_place, word, written_at, state, known, plain, valued, proper, within, proper_known, some_word, into, Grows, grows_none, grows_one, placed_in, register_kind, short, Typing, typed_then, typed_as, typed_none, one_on, one_fork, number_typed, fetch_place, keep_place, fetch_typed, keep_typed, change_typed, AllSound, seen}
 use Rattle.rule_nodes.proofs.Whole.{all_begin, rule_length, ones_rule}
 use Rattle.rule_nodes.specs.Ends.{AreSizes}
-use Rattle.rule_nodes.proofs.States.{place_number}
+use Rattle.rule_nodes.proofs.Places.{IsPlace, place_is, not_frame}
 use Rattle.rule_nodes.proofs.Sources.{is_found}
 use Rattle.rule_nodes.proofs.TermRuns.{behind_more, behind_few, found_same}
 use Rattle.rule_nodes.proofs.Blocks.{computed_place}
-use Rattle.rule_nodes.proofs.TypedTerms.{known_less, covers_less, left_imm, typed_seq, typed_at, if_typed, some_node, proper_node, node_in_r0, not_above_node, name_typed, node_typed, load_typed, placed_in, placed_new, place_word, word_result, IsThere, source_there, counted_typed, term_typed}
+use Rattle.rule_nodes.proofs.TypedTerms.{known_less, covers_less, left_imm, typed_seq, typed_at, if_typed, some_node, proper_node, node_in_r0, not_above_node, name_typed, node_typed, load_typed, register_typed, alter_typed, IsThere, source_there, counted_typed, term_typed}
 
 module _ (program : List Insn) (shape : Extent) (last : ℕ) (solid : (k : ℕ) → k ≤ last → BeginsAt program k) where
   abbrev T : ℕ → List Insn → (Table → Type 0) → (Table → Type 0) → Type 0
@@ -67,82 +67,30 @@ module _ (program : List Insn) (shape : Extent) (last : ℕ) (solid : (k : ℕ) 
       let room : nat_lt shape.memory (0 + 4 * k + 4) ≡ false = le-ltb shape.memory (0 + 4 * k + 4)
       (omega (arith, inside)) in
       one_on program shape last solid slot (i.StoreReg size.W R6 (pos (4 * k)) R0) (valued d) _ (plain d) refl refl refl
-      (into _ d Unset Unset Unset tt tt tt refl refl refl refl)
+      (into _ d Unset Unset Unset tt tt tt refl)
       (proper_known d word Unset Unset some_word tt tt) (keeps_own _ _ _ (rw room refl)) le
 
-  -- r0 into a place that is in use
-  change_typed : (k d slot : ℕ) → k < d → d ≤ 3 → slot + 1 ≤ last
-      → T slot (copy (place_register k) R0 ∷ []) (C (valued d) slot) (C (plain d) (slot + 1))
-  change_typed zero zero slot lt few le = absurd (omega (arith, lt))
-  change_typed (suc k) zero slot lt few le = absurd (omega (arith, lt))
-  change_typed (suc k) (suc zero) slot lt few le = absurd (omega (arith, lt))
-  change_typed (suc (suc k)) (suc (suc zero)) slot lt few le = absurd (omega (arith, lt))
-  change_typed (suc (suc (suc k))) (suc (suc (suc zero))) slot lt few le = absurd (omega (arith, lt))
-  change_typed k (suc (suc (suc (suc d)))) slot lt few le = absurd (omega (arith, few))
-  change_typed zero (suc zero) slot lt few le = one_on program shape last solid slot (copy (place_register 0) R0)
-      (valued 1) _ (plain 1) refl refl refl (into _ 1 Unset Unset Unset tt tt tt refl refl refl refl)
-      (proper_known 1 word Unset Unset some_word tt tt) (keeps_own _ _ _ refl) le
-  change_typed zero (suc (suc zero)) slot lt few le = one_on program shape last solid slot
-      (copy (place_register 0) R0) (valued 2) _ (plain 2) refl refl refl
-      (into _ 2 Unset Unset Unset tt tt tt refl refl refl refl)
-      (proper_known 2 word Unset Unset some_word tt tt) (keeps_own _ _ _ refl) le
-  change_typed zero (suc (suc (suc zero))) slot lt few le = one_on program shape last solid slot
-      (copy (place_register 0) R0) (valued 3) _ (plain 3) refl refl refl
-      (into _ 3 Unset Unset Unset tt tt tt refl refl refl refl)
-      (proper_known 3 word Unset Unset some_word tt tt) (keeps_own _ _ _ refl) le
-  change_typed (suc zero) (suc (suc zero)) slot lt few le = one_on program shape last solid slot
-      (copy (place_register 1) R0) (valued 2) _ (plain 2) refl refl refl
-      (into _ 2 Unset Unset Unset tt tt tt refl refl refl refl)
-      (proper_known 2 word Unset Unset some_word tt tt) (keeps_own _ _ _ refl) le
-  change_typed (suc zero) (suc (suc (suc zero))) slot lt few le = one_on program shape last solid slot
-      (copy (place_register 1) R0) (valued 3) _ (plain 3) refl refl refl
-      (into _ 3 Unset Unset Unset tt tt tt refl refl refl refl)
-      (proper_known 3 word Unset Unset some_word tt tt) (keeps_own _ _ _ refl) le
-  change_typed (suc (suc zero)) (suc (suc (suc zero))) slot lt few le = one_on program shape last solid slot
-      (copy (place_register 2) R0) (valued 3) _ (plain 3) refl refl refl
-      (into _ 3 Unset Unset Unset tt tt tt refl refl refl refl)
-      (proper_known 3 word Unset Unset some_word tt tt) (keeps_own _ _ _ refl) le
-
-  assign_typed : (target : Target) (lets d slot : ℕ) → lets ≤ d → d ≤ 3 → TargetFits target shape.memory lets
+  assign_typed : (target : Target) (lets d slot : ℕ) → lets ≤ d → d ≤ PLACES → TargetFits target shape.memory lets
       → slot + 1 ≤ last → T slot (assign_code target ∷ []) (C (valued d) slot) (C (plain d) (slot + 1))
-  assign_typed (ToLocal k) lets d slot below few fits le = change_typed k d slot (omega (arith, fits, below)) few le
+  assign_typed (ToLocal k) lets d slot below few fits le =
+      change_typed program shape last solid k d slot (omega (arith, fits, below)) few le
   assign_typed (ToWord k) lets d slot below few fits le = store_typed d k slot fits le
 
   -- ---- found numbers to their targets
 
-  -- an instruction that puts a number of 32 bits into a place, after which e places are in use, and keeps all other
-  -- rules by itself
-  place_typed_to : (k d e slot : ℕ) (insn : Insn) (K : AbstractValue) → target insn slot Onward ≡ Some (slot + 1)
-      → target insn slot Jumping ≡ None → outcome shape insn (plain d) Onward ≡ Some (with_kind (plain d) (place_register k) K)
-      → IsContainedIn (with_kind (plain d) (place_register k) K) (plain e) → KeepsOwn shape insn (plain d) → slot + 1 ≤ last
-      → T slot (insn ∷ []) (C (plain d) slot) (C (plain e) (slot + 1))
-  place_typed_to k d e slot insn K on off out inside own le =
-      one_on program shape last solid slot insn (plain d) (with_kind (plain d) (place_register k) K) (plain e) on off out
-      inside (proper_known d Unset Unset Unset tt tt tt) own le
-
-  place_typed : (k d slot : ℕ) (insn : Insn) (K : AbstractValue) → k < 3 → target insn slot Onward ≡ Some (slot + 1)
-      → target insn slot Jumping ≡ None → outcome shape insn (plain d) Onward ≡ Some (with_kind (plain d) (place_register k) K)
-      → IsKindIn K word → KeepsOwn shape insn (plain d) → slot + 1 ≤ last
-      → T slot (insn ∷ []) (C (plain d) slot) (C (plain d) (slot + 1))
-  place_typed k d slot insn K lt on off out inside own le =
-      place_typed_to k d d slot insn K on off out (placed_in k d K lt inside) own le
-
-  writable : (k : ℕ) → k < 3 → (register_number (place_register k) == 10) ≡ false
-  writable k lt = ap (λ (n : ℕ). n == 10) (place_number k lt) ∙ ne_eqb (7 + k) 10 (λ e. omega (arith, e, lt))
-
-  place_reached : (x : Source) (k d e lets slot : ℕ)
-      → ((K : AbstractValue) → IsKindIn K word → IsContainedIn (with_kind (plain d) (place_register k) K) (plain e)) → is_found x ≡ true
-      → IsThere x lets shape.memory → lets ≤ d → d ≤ 3 → k < 3 → slot + 1 ≤ last
-      → T slot (get_code (place_register k) x ∷ []) (C (plain d) slot) (C (plain e) (slot + 1))
-  place_reached (Constant c) k d e lets slot inside found there below few lt le =
+  -- a found number into the register of place k, after which e places are in use
+  register_reached : (x : Source) (register : Reg) (k d e lets slot : ℕ) → IsPlace (InRegister register) k → Grows k d e
+      → is_found x ≡ true → IsThere x lets shape.memory → lets ≤ d → d ≤ PLACES → slot + 1 ≤ last
+      → T slot (get_code register x ∷ []) (C (plain d) slot) (C (plain e) (slot + 1))
+  register_reached (Constant c) register k d e lets slot is grows found there below few le =
       let x = cast_unsigned w64 (cast_signed w32 c) % 2 ^ 32 in
-      place_typed_to k d e slot (set_number (place_register k) c) (Number (range_of Mov W32 (just x) (just x))) refl refl
-      refl (inside (Number (range_of Mov W32 (just x) (just x))) (short x))
+      register_typed program shape last solid register k d e slot (set_number register c)
+      (Number (range_of Mov W32 (just x) (just x))) is grows refl refl refl (short x)
       (record {
         forward = refl;
         known = refl;
         set = refl;
-        frame = writable k lt;
+        frame = not_frame register (omega (arith, is.0, is.1));
         pointer = refl;
         region = refl;
         stack = refl;
@@ -150,33 +98,21 @@ module _ (program : List Insn) (shape : Extent) (last : ℕ) (solid : (k : ℕ) 
         exit = refl;
         base = refl;
       }) le
-  place_reached (FromLocal j) k d e lets slot inside found there below few lt le =
-      let known_as : kind_of (plain d) (place_register j) ≡ word = place_word j d (omega (arith, there, below)) few in
-      let same = λ (n : Span). range_of Mov W32 n n in
-      place_typed_to k d e slot (copy (place_register k) (place_register j)) (of_number_kind same (kind_of (plain d) (place_register j)))
-      refl refl refl (inside (of_number_kind same (kind_of (plain d) (place_register j)))
-      (full_of 32, ap (of_number_kind same) known_as, record { low = omega arith; high = omega arith }))
-      (record {
-        forward = refl;
-        known = refl;
-        set = ap (λ (q : AbstractValue). is_unset_kind q || false) known_as;
-        frame = writable k lt;
-        pointer = ap is_pointer_kind known_as;
-        region = refl;
-        stack = refl;
-        argument = refl;
-        exit = refl;
-        base = refl;
-      }) le
-  place_reached (FromWord j) k d e lets slot inside found there below few lt le =
+  register_reached (FromLocal j) register k d e lets slot is grows found there below few le =
+      fetch_place program shape last solid (number_place j) j d register Unset Unset Unset (plain e) slot
+      (place_is j (omega (arith, there, below, few))) (omega (arith, there, below)) tt tt tt
+      (not_frame register (omega (arith, is.0, is.1)))
+      (placed_in register k d e (plain d) word is grows refl (kind_in_itself word)) le
+  register_reached (FromWord j) register k d e lets slot is grows found there below few le =
       let room : nat_lt shape.memory (0 + 4 * j + 4) ≡ false = le-ltb shape.memory (0 + 4 * j + 4)
       (omega (arith, there)) in
-      place_typed_to k d e slot (get_code (place_register k) (FromWord j)) word refl refl refl (inside word (kind_in_itself word))
+      register_typed program shape last solid register k d e slot (get_code register (FromWord j)) word is grows
+      refl refl refl (kind_in_itself word)
       (record {
         forward = refl;
         known = refl;
         set = refl;
-        frame = writable k lt;
+        frame = not_frame register (omega (arith, is.0, is.1));
         pointer = rw room refl;
         region = rw room refl;
         stack = refl;
@@ -184,18 +120,48 @@ module _ (program : List Insn) (shape : Extent) (last : ℕ) (solid : (k : ℕ) 
         exit = refl;
         base = refl;
       }) le
-  place_reached Computed k d e lets slot inside found there below few lt le = absurd (let no : false ≡ true = found in cc)
+  register_reached Computed register k d e lets slot is grows found there below few le =
+      absurd (let no : false ≡ true = found in cc)
 
-  into_place : (x : Source) (k d lets slot : ℕ) → is_found x ≡ true → IsThere x lets shape.memory → lets ≤ d → d ≤ 3
-      → k < 3 → slot + 1 ≤ last
-      → T slot (get_code (place_register k) x ∷ []) (C (plain d) slot) (C (plain d) (slot + 1))
+  -- a found number into r0
+  found_typed : (x : Source) (d lets slot : ℕ) → is_found x ≡ true → IsThere x lets shape.memory → lets ≤ d → d ≤ PLACES
+      → slot + 1 ≤ last
+      → T slot (get_code R0 x ∷ []) (C (plain d) slot) (C (valued d) (slot + 1))
+  found_typed (Constant c) d lets slot found there below few le = number_typed program shape last solid d c slot le
+  found_typed (FromLocal k) d lets slot found there below few le =
+      fetch_typed program shape last solid k d Unset slot (omega (arith, there, below)) few tt le
+  found_typed (FromWord k) d lets slot found there below few le = load_typed program shape last solid d k slot there le
+  found_typed Computed d lets slot found there below few le = absurd (let no : false ≡ true = found in cc)
+
+  -- a found number into place k, after which e places are in use
+  place_reached : (p : Place) (x : Source) (k d e lets slot : ℕ) → IsPlace p k → Grows k d e → is_found x ≡ true
+      → IsThere x lets shape.memory → lets ≤ d → d ≤ PLACES → slot + length (place_code p x) ≤ last
+      → T slot (place_code p x) (C (plain d) slot) (C (plain e) (slot + length (place_code p x)))
+  place_reached (InRegister register) x k d e lets slot is grows found there below few le =
+      register_reached x register k d e lets slot is grows found there below few le
+  place_reached (OnStack off) x k d e lets slot is grows found there below few le =
+      let p1 = slot + 1 in
+      let eq : p1 + 1 ≡ slot + 2 = omega arith in
+      let keep = keep_code (OnStack off) ∷ [] in
+      let a = found_typed x d lets slot found there below few (omega (arith, le)) in
+      let b = typed_at program shape last solid p1 (p1 + 1) (slot + 2) keep (C (valued d) p1) (plain e) eq
+      (keep_place program shape last solid (OnStack off) k d e p1 is grows (omega (arith, le))) in
+      typed_seq program shape last solid slot p1 (get_code R0 x ∷ []) keep (C (plain d) slot) (C (valued d) p1)
+      (C (plain e) (slot + 2)) refl a b
+
+  into_place : (x : Source) (k d lets slot : ℕ) → is_found x ≡ true → IsThere x lets shape.memory → lets ≤ d → d ≤ PLACES
+      → k < d → slot + length (place_code (number_place k) x) ≤ last
+      → T slot (place_code (number_place k) x) (C (plain d) slot) (C (plain d) (slot + length (place_code (number_place k) x)))
   into_place x k d lets slot found there below few lt le =
-      place_reached x k d d lets slot (λ K h. placed_in k d K lt h) found there below few lt le
+      place_reached (number_place k) x k d d lets slot (place_is k (omega (arith, lt, few))) (grows_none k d lt) found there below
+      few le
 
-  into_new : (x : Source) (d slot : ℕ) → is_found x ≡ true → IsThere x d shape.memory → d < 3 → slot + 1 ≤ last
-      → T slot (get_code (place_register d) x ∷ []) (C (plain d) slot) (C (plain (d + 1)) (slot + 1))
+  into_new : (x : Source) (d slot : ℕ) → is_found x ≡ true → IsThere x d shape.memory → d < PLACES
+      → slot + length (place_code (number_place d) x) ≤ last
+      → T slot (place_code (number_place d) x) (C (plain d) slot) (C (plain (d + 1)) (slot + length (place_code (number_place d) x)))
   into_new x d slot found there lt le =
-      place_reached x d d (d + 1) d slot (λ K h. placed_new d K lt h) found there (omega arith) (omega (arith, lt)) lt le
+      place_reached (number_place d) x d d (d + 1) d slot (place_is d lt) (grows_one d) found there (omega arith)
+      (omega (arith, lt)) le
 
   number_stored : (d k v slot : ℕ) → 4 * k + 4 ≤ shape.memory → slot + 1 ≤ last
       → T slot (i.StoreImm size.W R6 (pos (4 * k)) (cast_signed w32 v) ∷ []) (C (plain d) slot) (C (plain d) (slot + 1))
@@ -204,62 +170,53 @@ module _ (program : List Insn) (shape : Extent) (last : ℕ) (solid : (k : ℕ) 
       (omega (arith, inside)) in
       one_on program shape last solid slot (i.StoreImm size.W R6 (pos (4 * k)) (cast_signed w32 v))
       (plain d) _ (plain d)
-      refl refl refl (into _ d Unset Unset Unset tt tt tt refl refl refl refl)
+      refl refl refl (into _ d Unset Unset Unset tt tt tt refl)
       (proper_known d Unset Unset Unset tt tt tt) (keeps_own _ _ _ (rw room refl)) le
 
-  place_stored : (j d k slot : ℕ) → j < d → d ≤ 3 → 4 * k + 4 ≤ shape.memory → slot + 1 ≤ last
-      → T slot (i.StoreReg size.W R6 (pos (4 * k)) (place_register j) ∷ []) (C (plain d) slot) (C (plain d) (slot + 1))
-  place_stored zero zero k slot lt few inside le = absurd (omega (arith, lt))
-  place_stored (suc j) zero k slot lt few inside le = absurd (omega (arith, lt))
-  place_stored (suc j) (suc zero) k slot lt few inside le = absurd (omega (arith, lt))
-  place_stored (suc (suc j)) (suc (suc zero)) k slot lt few inside le = absurd (omega (arith, lt))
-  place_stored (suc (suc (suc j))) (suc (suc (suc zero))) k slot lt few inside le = absurd (omega (arith, lt))
-  place_stored j (suc (suc (suc (suc d)))) k slot lt few inside le = absurd (omega (arith, few))
-  place_stored zero (suc zero) k slot lt few inside le =
+  -- a place into a word
+  place_stored : (p : Place) (j d k slot : ℕ) → number_place j ≡ p → j < d → d ≤ PLACES → 4 * k + 4 ≤ shape.memory
+      → slot + length (word_code k p) ≤ last
+      → T slot (word_code k p) (C (plain d) slot) (C (plain d) (slot + length (word_code k p)))
+  place_stored (InRegister register) j d k slot same lt few inside le =
+      let is : IsPlace (InRegister register) j = subst (λ (p : Place). IsPlace p j) same
+      (place_is j (omega (arith, lt, few))) in
+      let e : kind_of (plain d) register ≡ word = register_kind register j d Unset Unset Unset is lt in
       let room : nat_lt shape.memory (0 + 4 * k + 4) ≡ false = le-ltb shape.memory (0 + 4 * k + 4)
       (omega (arith, inside)) in
-      one_on program shape last solid slot (i.StoreReg size.W R6 (pos (4 * k)) (place_register 0)) (plain 1) _ (plain 1)
-      refl refl refl (into _ 1 Unset Unset Unset tt tt tt refl refl refl refl)
-      (proper_known 1 Unset Unset Unset tt tt tt) (keeps_own _ _ _ (rw room refl)) le
-  place_stored zero (suc (suc zero)) k slot lt few inside le =
-      let room : nat_lt shape.memory (0 + 4 * k + 4) ≡ false = le-ltb shape.memory (0 + 4 * k + 4)
-      (omega (arith, inside)) in
-      one_on program shape last solid slot (i.StoreReg size.W R6 (pos (4 * k)) (place_register 0)) (plain 2) _ (plain 2)
-      refl refl refl (into _ 2 Unset Unset Unset tt tt tt refl refl refl refl)
-      (proper_known 2 Unset Unset Unset tt tt tt) (keeps_own _ _ _ (rw room refl)) le
-  place_stored zero (suc (suc (suc zero))) k slot lt few inside le =
-      let room : nat_lt shape.memory (0 + 4 * k + 4) ≡ false = le-ltb shape.memory (0 + 4 * k + 4)
-      (omega (arith, inside)) in
-      one_on program shape last solid slot (i.StoreReg size.W R6 (pos (4 * k)) (place_register 0)) (plain 3) _ (plain 3)
-      refl refl refl (into _ 3 Unset Unset Unset tt tt tt refl refl refl refl)
-      (proper_known 3 Unset Unset Unset tt tt tt) (keeps_own _ _ _ (rw room refl)) le
-  place_stored (suc zero) (suc (suc zero)) k slot lt few inside le =
-      let room : nat_lt shape.memory (0 + 4 * k + 4) ≡ false = le-ltb shape.memory (0 + 4 * k + 4)
-      (omega (arith, inside)) in
-      one_on program shape last solid slot (i.StoreReg size.W R6 (pos (4 * k)) (place_register 1)) (plain 2) _ (plain 2)
-      refl refl refl (into _ 2 Unset Unset Unset tt tt tt refl refl refl refl)
-      (proper_known 2 Unset Unset Unset tt tt tt) (keeps_own _ _ _ (rw room refl)) le
-  place_stored (suc zero) (suc (suc (suc zero))) k slot lt few inside le =
-      let room : nat_lt shape.memory (0 + 4 * k + 4) ≡ false = le-ltb shape.memory (0 + 4 * k + 4)
-      (omega (arith, inside)) in
-      one_on program shape last solid slot (i.StoreReg size.W R6 (pos (4 * k)) (place_register 1)) (plain 3) _ (plain 3)
-      refl refl refl (into _ 3 Unset Unset Unset tt tt tt refl refl refl refl)
-      (proper_known 3 Unset Unset Unset tt tt tt) (keeps_own _ _ _ (rw room refl)) le
-  place_stored (suc (suc zero)) (suc (suc (suc zero))) k slot lt few inside le =
-      let room : nat_lt shape.memory (0 + 4 * k + 4) ≡ false = le-ltb shape.memory (0 + 4 * k + 4)
-      (omega (arith, inside)) in
-      one_on program shape last solid slot (i.StoreReg size.W R6 (pos (4 * k)) (place_register 2)) (plain 3) _ (plain 3)
-      refl refl refl (into _ 3 Unset Unset Unset tt tt tt refl refl refl refl)
-      (proper_known 3 Unset Unset Unset tt tt tt) (keeps_own _ _ _ (rw room refl)) le
+      let own : KeepsOwn shape (i.StoreReg size.W R6 (pos (4 * k)) register) (plain d) = record {
+        forward = refl;
+        known = refl;
+        set = ap (λ (q : AbstractValue). is_unset_kind q || false) e;
+        frame = refl;
+        pointer = ap (λ (q : AbstractValue). is_pointer_kind q && true) e;
+        region = rw room refl;
+        stack = refl;
+        argument = refl;
+        exit = refl;
+        base = refl;
+      } in
+      one_on program shape last solid slot (i.StoreReg size.W R6 (pos (4 * k)) register) (plain d) _ (plain d)
+      refl refl refl (into _ d Unset Unset Unset tt tt tt refl)
+      (proper_known d Unset Unset Unset tt tt tt) own le
+  place_stored (OnStack off) j d k slot same lt few inside le =
+      let p1 = slot + 1 in
+      let set = assign_code (ToWord k) ∷ [] in
+      let a = subst (λ (p : Place). T slot (fetch_code R0 p ∷ []) (C (plain d) slot) (C (valued d) p1)) same
+      (fetch_typed program shape last solid j d Unset slot lt few tt (omega (arith, le))) in
+      let e : p1 + 1 ≡ slot + 2 = omega arith in
+      let b = typed_at program shape last solid p1 (p1 + 1) (slot + 2) set (C (valued d) p1) (plain d) e
+      (store_typed d k p1 inside (omega (arith, le))) in
+      typed_seq program shape last solid slot p1 (fetch_code R0 (OnStack off) ∷ []) set (C (plain d) slot)
+      (C (valued d) p1) (C (plain d) (slot + 2)) refl a b
 
   set_typed : (target : Target) (x : Source) (d lets slot : ℕ) → is_found x ≡ true → IsThere x lets shape.memory
-      → lets ≤ d → d ≤ 3 → TargetFits target shape.memory lets → slot + length (set_code target x) ≤ last
+      → lets ≤ d → d ≤ PLACES → TargetFits target shape.memory lets → slot + length (set_code target x) ≤ last
       → T slot (set_code target x) (C (plain d) slot) (C (plain d) (slot + length (set_code target x)))
   set_typed (ToLocal k) x d lets slot found there below few fits le =
-      into_place x k d lets slot found there below few (omega (arith, fits, below, few)) le
+      into_place x k d lets slot found there below few (omega (arith, fits, below)) le
   set_typed (ToWord k) (Constant c) d lets slot found there below few fits le = number_stored d k c slot fits le
   set_typed (ToWord k) (FromLocal j) d lets slot found there below few fits le =
-      place_stored j d k slot (omega (arith, there, below)) few fits le
+      place_stored (number_place j) j d k slot refl (omega (arith, there, below)) few fits le
   set_typed (ToWord k) (FromWord j) d lets slot found there below few fits le =
       let p1 = slot + 1 in
       let set = assign_code (ToWord k) ∷ [] in
@@ -275,54 +232,17 @@ module _ (program : List Insn) (shape : Extent) (last : ℕ) (solid : (k : ℕ) 
   -- ---- sending
 
   -- a place into r2
-  pass_typed : (k d slot : ℕ) → k < d → d ≤ 3 → slot + 1 ≤ last
-      → T slot (copy R2 (place_register k) ∷ []) (C (known d Unset (some_node program shape last solid) Unset) slot)
+  pass_typed : (k d slot : ℕ) → k < d → d ≤ PLACES → slot + 1 ≤ last
+      → T slot (fetch_code R2 (number_place k) ∷ []) (C (known d Unset (some_node program shape last solid) Unset) slot)
       (C (known d Unset (some_node program shape last solid) word) (slot + 1))
-  pass_typed zero zero slot lt few le = absurd (omega (arith, lt))
-  pass_typed (suc k) zero slot lt few le = absurd (omega (arith, lt))
-  pass_typed (suc k) (suc zero) slot lt few le = absurd (omega (arith, lt))
-  pass_typed (suc (suc k)) (suc (suc zero)) slot lt few le = absurd (omega (arith, lt))
-  pass_typed (suc (suc (suc k))) (suc (suc (suc zero))) slot lt few le = absurd (omega (arith, lt))
-  pass_typed k (suc (suc (suc (suc d)))) slot lt few le = absurd (omega (arith, few))
-  pass_typed zero (suc zero) slot lt few le =
+  pass_typed k d slot lt few le =
       let N = some_node program shape last solid in
-      one_on program shape last solid slot (copy R2 (place_register 0)) (known 1 Unset N Unset) _ (known 1 Unset N word)
-      refl refl refl
-      (into _ 1 Unset N word tt (kind_in_itself N) (kind_in_itself word) refl refl refl refl)
-      (proper_known 1 Unset N Unset tt (proper_node program shape last solid) tt) (keeps_own _ _ _ refl) le
-  pass_typed zero (suc (suc zero)) slot lt few le =
-      let N = some_node program shape last solid in
-      one_on program shape last solid slot (copy R2 (place_register 0)) (known 2 Unset N Unset) _ (known 2 Unset N word)
-      refl refl refl
-      (into _ 2 Unset N word tt (kind_in_itself N) (kind_in_itself word) refl refl refl refl)
-      (proper_known 2 Unset N Unset tt (proper_node program shape last solid) tt) (keeps_own _ _ _ refl) le
-  pass_typed zero (suc (suc (suc zero))) slot lt few le =
-      let N = some_node program shape last solid in
-      one_on program shape last solid slot (copy R2 (place_register 0)) (known 3 Unset N Unset) _ (known 3 Unset N word)
-      refl refl refl
-      (into _ 3 Unset N word tt (kind_in_itself N) (kind_in_itself word) refl refl refl refl)
-      (proper_known 3 Unset N Unset tt (proper_node program shape last solid) tt) (keeps_own _ _ _ refl) le
-  pass_typed (suc zero) (suc (suc zero)) slot lt few le =
-      let N = some_node program shape last solid in
-      one_on program shape last solid slot (copy R2 (place_register 1)) (known 2 Unset N Unset) _ (known 2 Unset N word)
-      refl refl refl
-      (into _ 2 Unset N word tt (kind_in_itself N) (kind_in_itself word) refl refl refl refl)
-      (proper_known 2 Unset N Unset tt (proper_node program shape last solid) tt) (keeps_own _ _ _ refl) le
-  pass_typed (suc zero) (suc (suc (suc zero))) slot lt few le =
-      let N = some_node program shape last solid in
-      one_on program shape last solid slot (copy R2 (place_register 1)) (known 3 Unset N Unset) _ (known 3 Unset N word)
-      refl refl refl
-      (into _ 3 Unset N word tt (kind_in_itself N) (kind_in_itself word) refl refl refl refl)
-      (proper_known 3 Unset N Unset tt (proper_node program shape last solid) tt) (keeps_own _ _ _ refl) le
-  pass_typed (suc (suc zero)) (suc (suc (suc zero))) slot lt few le =
-      let N = some_node program shape last solid in
-      one_on program shape last solid slot (copy R2 (place_register 2)) (known 3 Unset N Unset) _ (known 3 Unset N word)
-      refl refl refl
-      (into _ 3 Unset N word tt (kind_in_itself N) (kind_in_itself word) refl refl refl refl)
-      (proper_known 3 Unset N Unset tt (proper_node program shape last solid) tt) (keeps_own _ _ _ refl) le
+      fetch_place program shape last solid (number_place k) k d R2 Unset N Unset (known d Unset N word) slot
+      (place_is k (omega (arith, lt, few))) lt tt (proper_node program shape last solid) tt refl
+      (into _ d Unset N word tt (kind_in_itself N) (kind_in_itself word) refl) le
 
   -- a found number into r2
-  get_typed : (x : Source) (d lets slot : ℕ) → is_found x ≡ true → IsThere x lets shape.memory → lets ≤ d → d ≤ 3
+  get_typed : (x : Source) (d lets slot : ℕ) → is_found x ≡ true → IsThere x lets shape.memory → lets ≤ d → d ≤ PLACES
       → slot + 1 ≤ last
       → T slot (get_code R2 x ∷ []) (C (known d Unset (some_node program shape last solid) Unset) slot)
       (C (known d Unset (some_node program shape last solid) word) (slot + 1))
@@ -331,7 +251,7 @@ module _ (program : List Insn) (shape : Extent) (last : ℕ) (solid : (k : ℕ) 
       one_on program shape last solid slot (set_number R2 c) (known d Unset N Unset) _ (known d Unset N word)
       refl refl refl
       (into _ d Unset N word tt (kind_in_itself N) (short (cast_unsigned w64 (cast_signed w32 c) % 2 ^ 32))
-      refl refl refl refl) (proper_known d Unset N Unset tt (proper_node program shape last solid) tt)
+      refl) (proper_known d Unset N Unset tt (proper_node program shape last solid) tt)
       (keeps_own _ _ _ refl) le
   get_typed (FromLocal k) d lets slot found there below few le = pass_typed k d slot
       (omega (arith, there, below)) few le
@@ -340,7 +260,7 @@ module _ (program : List Insn) (shape : Extent) (last : ℕ) (solid : (k : ℕ) 
       let room : nat_lt shape.memory (0 + 4 * k + 4) ≡ false = le-ltb shape.memory (0 + 4 * k + 4)
       (omega (arith, there)) in
       one_on program shape last solid slot (get_code R2 (FromWord k)) (known d Unset N Unset) _ (known d Unset N word)
-      refl refl refl (into _ d Unset N word tt (kind_in_itself N) (kind_in_itself word) refl refl refl refl)
+      refl refl refl (into _ d Unset N word tt (kind_in_itself N) (kind_in_itself word) refl)
       (proper_known d Unset N Unset tt (proper_node program shape last solid) tt) (keeps_own _ _ _ (rw room refl)) le
   get_typed Computed d lets slot found there below few le = absurd (let no : false ≡ true = found in cc)
 
@@ -352,12 +272,12 @@ module _ (program : List Insn) (shape : Extent) (last : ℕ) (solid : (k : ℕ) 
       let one_of : nat_lt (shape.nodes - 1) shape.nodes ≡ true = lt-ltb (shape.nodes - 1) shape.nodes
       (omega (arith, some)) in
       one_on program shape last solid slot (i.Call (pos 3)) (known d Unset N word) _ (plain d) refl refl refl
-      (into _ d Unset Unset Unset tt tt tt refl refl refl refl)
+      (into _ d Unset Unset Unset tt tt tt refl)
       (proper_known d Unset N word tt (proper_node program shape last solid) some_word)
       (keeps_own _ _ _ (rw one_of refl)) le
 
   -- r1 has a node's number: a found number goes there
-  hand_typed : (x : Source) (d lets slot : ℕ) → is_found x ≡ true → IsThere x lets shape.memory → lets ≤ d → d ≤ 3
+  hand_typed : (x : Source) (d lets slot : ℕ) → is_found x ≡ true → IsThere x lets shape.memory → lets ≤ d → d ≤ PLACES
       → 1 ≤ shape.nodes → slot + 2 ≤ last
       → T slot (get_code R2 x ∷ i.Call (pos 3) ∷ []) (C (known d Unset (some_node program shape last solid) Unset) slot)
       (C (plain d) (slot + 1 + 1))
@@ -368,7 +288,7 @@ module _ (program : List Insn) (shape : Extent) (last : ℕ) (solid : (k : ℕ) 
 
   -- a found number to node j
   found_sent_typed : (x : Source) (d lets slot j : ℕ) → is_found x ≡ true → IsThere x lets shape.memory → lets ≤ d
-      → d ≤ 3 → j < shape.nodes → shape.nodes ≤ 64 → slot + 3 ≤ last
+      → d ≤ PLACES → j < shape.nodes → shape.nodes ≤ 64 → slot + 3 ≤ last
       → T slot (send_code x j) (C (plain d) slot) (C (plain d) (slot + 1 + 1 + 1))
   found_sent_typed x d lets slot j found there below few lt most le =
       let hand = get_code R2 x ∷ i.Call (pos 3) ∷ [] in
@@ -389,9 +309,9 @@ module _ (program : List Insn) (shape : Extent) (last : ℕ) (solid : (k : ℕ) 
       let a = one_on program shape last solid slot (set_node R1 j) (valued d) _ (known d word N Unset) refl refl refl
       (into _ d word N Unset (kind_in_itself word)
       (just (cast_unsigned w64 (pos j) % 2 ^ 64), refl, record { low = omega arith; high = omega (arith, lt, imm) }) tt
-      refl refl refl refl) (proper_known d word Unset Unset some_word tt tt) (keeps_own _ _ _ refl) (omega (arith, le)) in
+      refl) (proper_known d word Unset Unset some_word tt tt) (keeps_own _ _ _ refl) (omega (arith, le)) in
       let b = one_on program shape last solid p1 (copy R2 R0) (known d word N Unset) _ (known d Unset N word)
-      refl refl refl (into _ d Unset N word tt (kind_in_itself N) (kind_in_itself word) refl refl refl refl)
+      refl refl refl (into _ d Unset N word tt (kind_in_itself N) (kind_in_itself word) refl)
       (proper_known d word N Unset some_word (proper_node program shape last solid) tt) (keeps_own _ _ _ refl)
       (omega (arith, le)) in
       let c = send_typed d p2 (omega (arith, lt)) (omega (arith, le)) in
@@ -400,7 +320,7 @@ module _ (program : List Insn) (shape : Extent) (last : ℕ) (solid : (k : ℕ) 
       typed_seq program shape last solid slot p1 (set_node R1 j ∷ []) (copy R2 R0 ∷ i.Call (pos 3) ∷ []) (C (valued d) slot)
       (C (known d word N Unset) p1) (C (plain d) end) refl a bc
 
-  sends_typed : (x : Source) (d lets slot n : ℕ) → is_found x ≡ true → IsThere x lets shape.memory → lets ≤ d → d ≤ 3
+  sends_typed : (x : Source) (d lets slot n : ℕ) → is_found x ≡ true → IsThere x lets shape.memory → lets ≤ d → d ≤ PLACES
       → n ≤ shape.nodes → shape.nodes ≤ 64 → slot + length (send_codes x n) ≤ last
       → T slot (send_codes x n) (C (plain d) slot) (C (plain d) (slot + length (send_codes x n)))
   sends_typed x d lets slot zero found there below few le most room =
@@ -420,7 +340,7 @@ module _ (program : List Insn) (shape : Extent) (last : ℕ) (solid : (k : ℕ) 
       (C S slot) S e
       (typed_seq program shape last solid slot p1 front back (C S slot) (C S p1) (C S (p1 + 1 + 1 + 1)) refl f ab)
 
-  send_to_typed : (d n slot : ℕ) → d < 3 → n ≡ shape.nodes → 1 ≤ n → n ≤ 64 → slot + 4 ≤ last
+  send_to_typed : (d n slot : ℕ) → d < PLACES → n ≡ shape.nodes → 1 ≤ n → n ≤ 64 → slot + 4 ≤ last
       → T slot (send_to_code d n) (C (valued (d + 1)) slot) (C (plain (d + 1)) (slot + 4))
   send_to_typed d n slot small same some few le =
       let p1 = slot + 1 in
@@ -437,15 +357,15 @@ module _ (program : List Insn) (shape : Extent) (last : ℕ) (solid : (k : ℕ) 
       (proper_known (d + 1) word Unset Unset some_word tt tt) (keeps_own _ _ _ refl) (omega (arith, le)) in
       let a = name_typed program shape last solid (d + 1) p1 (omega (arith, same, few)) (omega (arith, le)) in
       let e1 : p2 + 1 + 1 ≡ end = omega arith in
-      let b = typed_at program shape last solid p2 (p2 + 1 + 1) end (copy R2 (place_register d) ∷ i.Call (pos 3) ∷ [])
+      let b = typed_at program shape last solid p2 (p2 + 1 + 1) end (fetch_code R2 (number_place d) ∷ i.Call (pos 3) ∷ [])
       (C (known (d + 1) Unset N Unset) p2) S e1 (hand_typed (FromLocal d) (d + 1) (d + 1) p2 refl (omega arith)
       (omega arith) (omega (arith, small)) (omega (arith, same, some))
       (omega (arith, le))) in
-      let ab = typed_seq program shape last solid p1 p2 (copy R1 R0 ∷ []) (copy R2 (place_register d) ∷ i.Call
+      let ab = typed_seq program shape last solid p1 p2 (copy R1 R0 ∷ []) (fetch_code R2 (number_place d) ∷ i.Call
       (pos 3) ∷ []) (C A p1) (C (known (d + 1) Unset N Unset) p2) (C S end) refl a b in
       let e2 : end ≡ slot + 1 + 3 = omega arith in
       let all = typed_then program shape last solid slot p1 (jump_at AtLeast n 3 ∷ [])
-      (copy R1 R0 ∷ copy R2 (place_register d) ∷ i.Call (pos 3) ∷ []) (C V slot)
+      (copy R1 R0 ∷ fetch_code R2 (number_place d) ∷ i.Call (pos 3) ∷ []) (C V slot)
       (λ table. C A p1 table × C S (p1 + 3) table) (C A p1) (C S end) refl f ab
       (λ table o asks. (o, subst (λ (k : ℕ). C S k table) e2 asks)) in
       typed_as program shape last solid slot (send_to_code d n) (λ table. C V slot table × C A p1 table)
@@ -477,13 +397,13 @@ module _ (program : List Insn) (shape : Extent) (last : ℕ) (solid : (k : ℕ) 
 
   -- a value into place d, and what follows at depth d + 1
   stored_typed : (e : Term) (z : Sizes) (J : List ℕ) (d slot : ℕ) (rest : List Insn) → z.nodes ≡ shape.nodes
-      → 1 ≤ z.nodes → z.nodes ≤ 64 → z.memory ≡ shape.memory → d < 3 → Fits e z (length J) d d
-      → slot + length (term_code e z J d Value ++ (copy (place_register d) R0 ∷ rest)) ≤ last
+      → 1 ≤ z.nodes → z.nodes ≤ 64 → z.memory ≡ shape.memory → d < PLACES → Fits e z (length J) d d
+      → slot + length (term_code e z J d Value ++ (keep_code (number_place d) ∷ rest)) ≤ last
       → ((to : ℕ) → to + length rest ≤ last → BlockTyped (d + 1) to rest)
-      → BlockTyped d slot (term_code e z J d Value ++ (copy (place_register d) R0 ∷ rest))
+      → BlockTyped d slot (term_code e z J d Value ++ (keep_code (number_place d) ∷ rest))
   stored_typed e z J d slot rest same some few room small fits le next =
       let code = term_code e z J d Value in
-      let back = copy (place_register d) R0 ∷ rest in
+      let back = keep_code (number_place d) ∷ rest in
       let len : length (code ++ back) ≡ length code + (1 + length rest) = omega (arith, length-append code back) in
       let p1 = slot + length code in
       let p2 = p1 + 1 in
@@ -497,14 +417,14 @@ module _ (program : List Insn) (shape : Extent) (last : ℕ) (solid : (k : ℕ) 
       let c1 = typed_as program shape last solid p2 rest (C (plain (d + 1)) p2) (C (plain (d + 1)) end)
       (C (plain (d + 1)) p2) (C (plain d) end) (λ table h. h)
       (λ table h. covers_less table (plain (d + 1)) (plain d) end (known_less d Unset Unset Unset) h) c in
-      let bc = typed_seq program shape last solid p1 p2 (copy (place_register d) R0 ∷ []) rest (C (valued d) p1)
+      let bc = typed_seq program shape last solid p1 p2 (keep_code (number_place d) ∷ []) rest (C (valued d) p1)
       (C (plain (d + 1)) p2) (C (plain d) end) refl b c1 in
       typed_seq program shape last solid slot p1 code back (C (plain d) slot) (C (valued d) p1)
       (C (plain d) end) refl a bc
 
   given_typed : (x : Source) (target : Target) (e : Term) (z : Sizes) (J : List ℕ) (d lets slot : ℕ)
       → IsThere x lets shape.memory → z.nodes ≡ shape.nodes → 1 ≤ z.nodes → z.nodes ≤ 64 → z.memory ≡ shape.memory
-      → lets ≤ d → d ≤ 3 → TargetFits target z.memory lets → Fits e z (length J) lets d
+      → lets ≤ d → d ≤ PLACES → TargetFits target z.memory lets → Fits e z (length J) lets d
       → slot + length (given_code x target (term_code e z J d Value)) ≤ last
       → BlockTyped d slot (given_code x target (term_code e z J d Value))
   given_typed (Constant c) target e z J d lets slot there same some few room below small ours fits le =
@@ -533,7 +453,7 @@ module _ (program : List Insn) (shape : Extent) (last : ℕ) (solid : (k : ℕ) 
 
   also_typed : (steady : Bool) (x : Source) (e : Term) (target : Target) (first : List Insn) (z : Sizes) (J : List ℕ)
       (d lets slot : ℕ) → IsThere x lets shape.memory → z.nodes ≡ shape.nodes → 1 ≤ z.nodes → z.nodes ≤ 64
-      → z.memory ≡ shape.memory → lets ≤ d → d ≤ 3 → TargetFits target z.memory lets → Fits e z (length J) lets d
+      → z.memory ≡ shape.memory → lets ≤ d → d ≤ PLACES → TargetFits target z.memory lets → Fits e z (length J) lets d
       → HasPlace steady d → slot + length (also_code steady d x target (term_code e z J d Value) first) ≤ last
       → ((to : ℕ) → to + length first ≤ last → BlockTyped (depth_behind steady d) to first)
       → BlockTyped d slot (also_code steady d x target (term_code e z J d Value) first)
@@ -551,8 +471,8 @@ module _ (program : List Insn) (shape : Extent) (last : ℕ) (solid : (k : ℕ) 
   also_typed false x e target first z J d lets slot there same some few room below small ours fits free le before =
       let code = term_code e z J d Value in
       let set = assign_code target ∷ [] in
-      let back = copy R0 (place_register d) ∷ set in
-      let rest = copy (place_register d) R0 ∷ (first ++ back) in
+      let back = fetch_code R0 (number_place d) ∷ set in
+      let rest = keep_code (number_place d) ∷ (first ++ back) in
       let len : length (code ++ rest) ≡ length code + (1 + (length first + 2)) = omega
       (arith, length-append code rest, length-append first back) in
       let p1 = slot + length code in
@@ -575,144 +495,42 @@ module _ (program : List Insn) (shape : Extent) (last : ℕ) (solid : (k : ℕ) 
       (omega (arith, len, le))) in
       let g1 = typed_as program shape last solid p4 set (C V p4) (C S end) (C V p4) (C (plain d) end) (λ table h. h)
       (λ table h. covers_less table S (plain d) end (known_less d Unset Unset Unset) h) g in
-      let fg = typed_seq program shape last solid p3 p4 (copy R0 (place_register d) ∷ []) set (C S p3) (C V p4)
+      let fg = typed_seq program shape last solid p3 p4 (fetch_code R0 (number_place d) ∷ []) set (C S p3) (C V p4)
       (C (plain d) end) refl f g1 in
       let cfg = typed_seq program shape last solid p2 p3 first back (C S p2) (C S p3) (C (plain d) end) refl c fg in
-      let bcfg = typed_seq program shape last solid p1 p2 (copy (place_register d) R0 ∷ []) (first ++ back)
+      let bcfg = typed_seq program shape last solid p1 p2 (keep_code (number_place d) ∷ []) (first ++ back)
       (C (valued d) p1) (C S p2) (C (plain d) end) refl b cfg in
       typed_seq program shape last solid slot p1 code rest (C (plain d) slot) (C (valued d) p1)
       (C (plain d) end) refl a bcfg
 
-  -- a local that is changed in its place
-  alter_typed : (op : Operation) (k v d slot : ℕ) → k < d → d ≤ 3 → slot + 1 ≤ last
-      → T slot (i.Alu (alu_op_of op) W32 (place_register k) (operand.Imm (cast_signed w32 v)) ∷ []) (C (plain d) slot)
-      (C (plain d) (slot + 1))
-  alter_typed Sum k v d slot lt few le =
-      let n = cast_unsigned w64 (cast_signed w32 v) % 2 ^ 32 in
-      let small : k < 3 = omega (arith, lt, few) in
-      let e : kind_of (plain d) (place_register k) ≡ word = place_word k d lt few in
-      place_typed k d slot (i.Alu Add W32 (place_register k) (operand.Imm (cast_signed w32 v)))
-      (of_number_kinds (range_of Add W32) (kind_of (plain d) (place_register k)) (Number (just n))) small refl refl refl
-      (subst (λ (q : AbstractValue). IsKindIn (of_number_kinds (range_of Add W32) q (Number (just n))) word) (sym e)
-      (word_result Add (Number (just n)) (just n) refl (record { ordered = omega arith })
-      (record { low = omega arith; high = omega arith }) refl))
-      (record {
-        forward = refl;
-        known = refl;
-        set = ap (λ (q : AbstractValue). is_unset_kind q || false) e;
-        frame = writable k small;
-        pointer = ap (λ (q : AbstractValue). is_pointer_kind q || false) e;
-        region = refl;
-        stack = refl;
-        argument = refl;
-        exit = refl;
-        base = refl;
-      }) le
-  alter_typed Difference k v d slot lt few le =
-      let n = cast_unsigned w64 (cast_signed w32 v) % 2 ^ 32 in
-      let small : k < 3 = omega (arith, lt, few) in
-      let e : kind_of (plain d) (place_register k) ≡ word = place_word k d lt few in
-      place_typed k d slot (i.Alu Sub W32 (place_register k) (operand.Imm (cast_signed w32 v)))
-      (of_number_kinds (range_of Sub W32) (kind_of (plain d) (place_register k)) (Number (just n))) small refl refl refl
-      (subst (λ (q : AbstractValue). IsKindIn (of_number_kinds (range_of Sub W32) q (Number (just n))) word) (sym e)
-      (word_result Sub (Number (just n)) (just n) refl (record { ordered = omega arith })
-      (record { low = omega arith; high = omega arith }) refl))
-      (record {
-        forward = refl;
-        known = refl;
-        set = ap (λ (q : AbstractValue). is_unset_kind q || false) e;
-        frame = writable k small;
-        pointer = ap (λ (q : AbstractValue). is_pointer_kind q || false) e;
-        region = refl;
-        stack = refl;
-        argument = refl;
-        exit = refl;
-        base = refl;
-      }) le
-  alter_typed Product k v d slot lt few le =
-      let n = cast_unsigned w64 (cast_signed w32 v) % 2 ^ 32 in
-      let small : k < 3 = omega (arith, lt, few) in
-      let e : kind_of (plain d) (place_register k) ≡ word = place_word k d lt few in
-      place_typed k d slot (i.Alu Mul W32 (place_register k) (operand.Imm (cast_signed w32 v)))
-      (of_number_kinds (range_of Mul W32) (kind_of (plain d) (place_register k)) (Number (just n))) small refl refl refl
-      (subst (λ (q : AbstractValue). IsKindIn (of_number_kinds (range_of Mul W32) q (Number (just n))) word) (sym e)
-      (word_result Mul (Number (just n)) (just n) refl (record { ordered = omega arith })
-      (record { low = omega arith; high = omega arith }) refl))
-      (record {
-        forward = refl;
-        known = refl;
-        set = ap (λ (q : AbstractValue). is_unset_kind q || false) e;
-        frame = writable k small;
-        pointer = ap (λ (q : AbstractValue). is_pointer_kind q || false) e;
-        region = refl;
-        stack = refl;
-        argument = refl;
-        exit = refl;
-        base = refl;
-      }) le
-  alter_typed Quotient k v d slot lt few le =
-      let n = cast_unsigned w64 (cast_signed w32 v) % 2 ^ 32 in
-      let small : k < 3 = omega (arith, lt, few) in
-      let e : kind_of (plain d) (place_register k) ≡ word = place_word k d lt few in
-      place_typed k d slot (i.Alu Div W32 (place_register k) (operand.Imm (cast_signed w32 v)))
-      (of_number_kinds (range_of Div W32) (kind_of (plain d) (place_register k)) (Number (just n))) small refl refl refl
-      (subst (λ (q : AbstractValue). IsKindIn (of_number_kinds (range_of Div W32) q (Number (just n))) word) (sym e)
-      (word_result Div (Number (just n)) (just n) refl (record { ordered = omega arith })
-      (record { low = omega arith; high = omega arith }) refl))
-      (record {
-        forward = refl;
-        known = refl;
-        set = ap (λ (q : AbstractValue). is_unset_kind q || false) e;
-        frame = writable k small;
-        pointer = ap (λ (q : AbstractValue). is_pointer_kind q || false) e;
-        region = refl;
-        stack = refl;
-        argument = refl;
-        exit = refl;
-        base = refl;
-      }) le
-  alter_typed Remainder k v d slot lt few le =
-      let n = cast_unsigned w64 (cast_signed w32 v) % 2 ^ 32 in
-      let small : k < 3 = omega (arith, lt, few) in
-      let e : kind_of (plain d) (place_register k) ≡ word = place_word k d lt few in
-      place_typed k d slot (i.Alu Mod W32 (place_register k) (operand.Imm (cast_signed w32 v)))
-      (of_number_kinds (range_of Mod W32) (kind_of (plain d) (place_register k)) (Number (just n))) small refl refl refl
-      (subst (λ (q : AbstractValue). IsKindIn (of_number_kinds (range_of Mod W32) q (Number (just n))) word) (sym e)
-      (word_result Mod (Number (just n)) (just n) refl (record { ordered = omega arith })
-      (record { low = omega arith; high = omega arith }) refl))
-      (record {
-        forward = refl;
-        known = refl;
-        set = ap (λ (q : AbstractValue). is_unset_kind q || false) e;
-        frame = writable k small;
-        pointer = ap (λ (q : AbstractValue). is_pointer_kind q || false) e;
-        region = refl;
-        stack = refl;
-        argument = refl;
-        exit = refl;
-        base = refl;
-      }) le
+  -- a place that is changed where it is
+  changed_typed : (p : Place) (op : Operation) (k c d slot : ℕ) (insn : Insn) → number_place k ≡ p
+      → change_place p op c ≡ Some insn → k < d → d ≤ PLACES → slot + 1 ≤ last
+      → T slot (insn ∷ []) (C (plain d) slot) (C (plain d) (slot + 1))
+  changed_typed (InRegister register) op k c d slot insn same is lt few room =
+      let act = i.Alu (alu_op_of op) W32 register (operand.Imm (cast_signed w32 c)) in
+      subst (λ (x : Insn). T slot (x ∷ []) (C (plain d) slot) (C (plain d) (slot + 1))) (same_Some act insn is)
+      (alter_typed program shape last solid op register k c d slot
+      (subst (λ (p : Place). IsPlace p k) same (place_is k (omega (arith, lt, few)))) lt room)
+  changed_typed (OnStack off) op k c d slot insn same is lt few room = absurd (none-some insn is)
 
   change_typed_in : (target : Target) (e : Term) (insn : Insn) (z : Sizes) (J : List ℕ) (d lets slot : ℕ)
-      → changing_insn target e z J ≡ Some insn → lets ≤ d → d ≤ 3 → TargetFits target z.memory lets → slot + 1 ≤ last
+      → changing_insn target e z J ≡ Some insn → lets ≤ d → d ≤ PLACES → TargetFits target z.memory lets → slot + 1 ≤ last
       → T slot (insn ∷ []) (C (plain d) slot) (C (plain d) (slot + 1))
   change_typed_in (ToLocal k) (Binary' (Compute op) p a q b) insn z J d lets slot is le few ours room =
-      let c = constant_number b z J in
-      let act = i.Alu (alu_op_of op) W32 (place_register k) (operand.Imm (cast_signed w32 c)) in
+      let act = change_place (number_place k) op (constant_number b z J) in
       let test = is_local a k && is_constant b in
       elim (cases_Bool test) [
-        | inl so ↦
-            let same : act ≡ insn = same_Some act insn (sym (cond-true test (Some act) None so) ∙ is) in
-            subst (λ (x : Insn). T slot (x ∷ []) (C (plain d) slot) (C (plain d) (slot + 1))) same
-            (alter_typed op k c d slot (omega (arith, ours, le)) few room)
-        | inr other ↦ absurd (none-some insn (sym (cond-false test (Some act) None other) ∙ is))
+        | inl so ↦ changed_typed (number_place k) op k (constant_number b z J) d slot insn refl
+            (sym (cond-true test act None so) ∙ is) (omega (arith, ours, le)) few room
+        | inr other ↦ absurd (none-some insn (sym (cond-false test act None other) ∙ is))
       ]
   change_typed_in (ToWord k) (Binary' o p a q b) insn z J d lets slot is le few ours room = absurd (none-some insn is)
   change_typed_in target e insn z J d lets slot is le few ours room = absurd (none-some insn is)
 
   one_typed : (found : Option Insn) (target : Target) (e : Term) (z : Sizes) (J : List ℕ) (d lets slot : ℕ)
       → changing_insn target e z J ≡ found → z.nodes ≡ shape.nodes → 1 ≤ z.nodes → z.nodes ≤ 64 → z.memory ≡ shape.memory
-      → lets ≤ d → d ≤ 3 → TargetFits target z.memory lets → Fits e z (length J) lets d
+      → lets ≤ d → d ≤ PLACES → TargetFits target z.memory lets → Fits e z (length J) lets d
       → slot + length (one_code found (given_code (term_source e z J) target (term_code e z J d Value))) ≤ last
       → BlockTyped d slot (one_code found (given_code (term_source e z J) target (term_code e z J d Value)))
   one_typed None target e z J d lets slot is same some few room below small ours fits le =
@@ -723,7 +541,7 @@ module _ (program : List Insn) (shape : Extent) (last : ℕ) (solid : (k : ℕ) 
       change_typed_in target e insn z J d lets slot is below small ours le
 
   assignment_typed : (a : Assignment) (z : Sizes) (J : List ℕ) (d lets slot : ℕ) → z.nodes ≡ shape.nodes → 1 ≤ z.nodes
-      → z.nodes ≤ 64 → z.memory ≡ shape.memory → lets ≤ d → d ≤ 3 → AssignmentFits a z (length J) lets d
+      → z.nodes ≤ 64 → z.memory ≡ shape.memory → lets ≤ d → d ≤ PLACES → AssignmentFits a z (length J) lets d
       → slot + length (assignment_code a z J d) ≤ last → BlockTyped d slot (assignment_code a z J d)
   assignment_typed (One target e) z J d lets slot same some few room below small fits le =
       one_typed (changing_insn target e z J) target e z J d lets slot refl same some few room below small fits.0 fits.1 le
@@ -739,8 +557,8 @@ module _ (program : List Insn) (shape : Extent) (last : ℕ) (solid : (k : ℕ) 
       (behind_few (is_steady e) d small fits.2) fits.3 l)
 
   send_all_typed : (x : Source) (e : Term) (z : Sizes) (J : List ℕ) (d slot : ℕ) → IsThere x d shape.memory
-      → z.nodes ≡ shape.nodes → 1 ≤ z.nodes → z.nodes ≤ 64 → z.memory ≡ shape.memory → d ≤ 3
-      → (is_found x ≡ false → d < 3) → Fits e z (length J) d d
+      → z.nodes ≡ shape.nodes → 1 ≤ z.nodes → z.nodes ≤ 64 → z.memory ≡ shape.memory → d ≤ PLACES
+      → (is_found x ≡ false → d < PLACES) → Fits e z (length J) d d
       → slot + length (send_all_code x d z.nodes (term_code e z J d Value)) ≤ last
       → BlockTyped d slot (send_all_code x d z.nodes (term_code e z J d Value))
   send_all_typed (Constant c) e z J d slot there same some few room small free fits le =
@@ -753,7 +571,7 @@ module _ (program : List Insn) (shape : Extent) (last : ℕ) (solid : (k : ℕ) 
       sends_typed (FromWord k) d d slot z.nodes refl there (omega arith) small (omega (arith, same))
       (omega (arith, same, few)) le
   send_all_typed Computed e z J d slot there same some few room small free fits le =
-      let deep : d < 3 = free refl in
+      let deep : d < PLACES = free refl in
       stored_typed e z J d slot (send_codes (FromLocal d) z.nodes) same some few room deep fits le
       (λ to l. sends_typed (FromLocal d) (d + 1) (d + 1) to z.nodes refl (omega arith) (omega arith)
       (omega (arith, deep))
@@ -763,25 +581,27 @@ module _ (program : List Insn) (shape : Extent) (last : ℕ) (solid : (k : ℕ) 
 
   -- a found number into place d, and what follows at depth d + 1
   found_placed_typed : (x : Source) (d slot : ℕ) (rest : List Insn) → is_found x ≡ true → IsThere x d shape.memory
-      → d < 3 → slot + length (get_code (place_register d) x ∷ rest) ≤ last
+      → d < PLACES → slot + length (place_code (number_place d) x ++ rest) ≤ last
       → ((to : ℕ) → to + length rest ≤ last → BlockTyped (d + 1) to rest)
-      → BlockTyped d slot (get_code (place_register d) x ∷ rest)
+      → BlockTyped d slot (place_code (number_place d) x ++ rest)
   found_placed_typed x d slot rest found there small le next =
-      let p1 = slot + 1 in
-      let end = slot + length (get_code (place_register d) x ∷ rest) in
-      let a = into_new x d slot found there small (omega (arith, le)) in
-      let eq : p1 + length rest ≡ end = omega arith in
+      let front = place_code (number_place d) x in
+      let len : length (front ++ rest) ≡ length front + length rest = length-append front rest in
+      let p1 = slot + length front in
+      let end = slot + length (front ++ rest) in
+      let a = into_new x d slot found there small (omega (arith, len, le)) in
+      let eq : p1 + length rest ≡ end = omega (arith, len) in
       let c = typed_at program shape last solid p1 (p1 + length rest) end rest (C (plain (d + 1)) p1) (plain (d + 1)) eq
-      (next p1 (omega (arith, le))) in
+      (next p1 (omega (arith, len, le))) in
       let c1 = typed_as program shape last solid p1 rest (C (plain (d + 1)) p1) (C (plain (d + 1)) end)
       (C (plain (d + 1)) p1) (C (plain d) end) (λ table h. h)
       (λ table h. covers_less table (plain (d + 1)) (plain d) end (known_less d Unset Unset Unset) h) c in
-      typed_seq program shape last solid slot p1 (get_code (place_register d) x ∷ []) rest (C (plain d) slot)
+      typed_seq program shape last solid slot p1 front rest (C (plain d) slot)
       (C (plain (d + 1)) p1) (C (plain d) end) refl a c1
 
   placed_typed : (x : Source) (e : Term) (z : Sizes) (J : List ℕ) (d slot : ℕ) (rest : List Insn)
       → IsThere x d shape.memory → z.nodes ≡ shape.nodes → 1 ≤ z.nodes → z.nodes ≤ 64 → z.memory ≡ shape.memory
-      → d < 3 → Fits e z (length J) d d → slot + length (stored_code x d (term_code e z J d Value) rest) ≤ last
+      → d < PLACES → Fits e z (length J) d d → slot + length (stored_code x d (term_code e z J d Value) rest) ≤ last
       → ((to : ℕ) → to + length rest ≤ last → BlockTyped (d + 1) to rest)
       → BlockTyped d slot (stored_code x d (term_code e z J d Value) rest)
   placed_typed (Constant c) e z J d slot rest there same some few room small fits le next =
@@ -796,7 +616,7 @@ module _ (program : List Insn) (shape : Extent) (last : ℕ) (solid : (k : ℕ) 
   -- ---- a number to a node
 
   passed_typed : (x : Source) (e : Term) (z : Sizes) (J : List ℕ) (d slot j : ℕ) → IsThere x d shape.memory
-      → z.nodes ≡ shape.nodes → 1 ≤ z.nodes → z.nodes ≤ 64 → z.memory ≡ shape.memory → d ≤ 3 → j < z.nodes
+      → z.nodes ≡ shape.nodes → 1 ≤ z.nodes → z.nodes ≤ 64 → z.memory ≡ shape.memory → d ≤ PLACES → j < z.nodes
       → Fits e z (length J) d d → slot + length (passed_code x j (term_code e z J d Value)) ≤ last
       → BlockTyped d slot (passed_code x j (term_code e z J d Value))
   passed_typed (Constant c) e z J d slot j there same some few room small lt fits le =
@@ -826,7 +646,7 @@ module _ (program : List Insn) (shape : Extent) (last : ℕ) (solid : (k : ℕ) 
       (value_sent_typed d p1 j (omega (arith, lt, same)) (omega (arith, same, few)) (omega (arith, len, le))))
 
   constant_typed : (found : Bool) (e : Term) (z : Sizes) (J : List ℕ) (d slot j : ℕ) → nat_lt j z.nodes ≡ found
-      → z.nodes ≡ shape.nodes → 1 ≤ z.nodes → z.nodes ≤ 64 → z.memory ≡ shape.memory → d ≤ 3
+      → z.nodes ≡ shape.nodes → 1 ≤ z.nodes → z.nodes ≤ 64 → z.memory ≡ shape.memory → d ≤ PLACES
       → Fits e z (length J) d d
       → slot + length (if found then passed_code (term_source e z J) j (term_code e z J d Value) else []) ≤ last
       → BlockTyped d slot (if found then passed_code (term_source e z J) j (term_code e z J d Value) else [])
@@ -840,14 +660,14 @@ module _ (program : List Insn) (shape : Extent) (last : ℕ) (solid : (k : ℕ) 
       (typed_none program shape last solid slot (C (plain d) slot))
 
   to_typed : (constant : Bool) (e k : Term) (z : Sizes) (J : List ℕ) (d slot : ℕ) → is_constant k ≡ constant
-      → z.nodes ≡ shape.nodes → 1 ≤ z.nodes → z.nodes ≤ 64 → z.memory ≡ shape.memory → d ≤ 3 → HasPlace constant d
+      → z.nodes ≡ shape.nodes → 1 ≤ z.nodes → z.nodes ≤ 64 → z.memory ≡ shape.memory → d ≤ PLACES → HasPlace constant d
       → Fits e z (length J) d d → Fits k z (length J) d (depth_behind constant d)
       → slot + length (if constant then send_to_constant_code (term_source e z J) (constant_number k z J)
       z.nodes (term_code e z J d Value) else term_code e z J d Value
-      ++ (copy (place_register d) R0 ∷ (term_code k z J (d + 1) Value ++ send_to_code d z.nodes))) ≤ last
+      ++ (keep_code (number_place d) ∷ (term_code k z J (d + 1) Value ++ send_to_code d z.nodes))) ≤ last
       → BlockTyped d slot (if constant then send_to_constant_code (term_source e z J) (constant_number k z J)
       z.nodes (term_code e z J d Value) else term_code e z J d Value
-      ++ (copy (place_register d) R0 ∷ (term_code k z J (d + 1) Value ++ send_to_code d z.nodes)))
+      ++ (keep_code (number_place d) ∷ (term_code k z J (d + 1) Value ++ send_to_code d z.nodes)))
   to_typed true e k z J d slot is same some few room small free fits k_fits le =
       let j = constant_number k z J in
       constant_typed (nat_lt j z.nodes) e z J d slot j refl same some few room small fits le
@@ -869,7 +689,7 @@ module _ (program : List Insn) (shape : Extent) (last : ℕ) (solid : (k : ℕ) 
       (send_to_typed d z.nodes p1 free same some few (omega (arith, len, l)))))
 
   pub block_typed : (b : Statement) (z : Sizes) (J : List ℕ) (d slot : ℕ) → z.nodes ≡ shape.nodes → 1 ≤ z.nodes
-      → z.nodes ≤ 64 → z.memory ≡ shape.memory → d ≤ 3 → BlockFits b z (length J) d
+      → z.nodes ≤ 64 → z.memory ≡ shape.memory → d ≤ PLACES → BlockFits b z (length J) d
       → slot + length (block_code b z J d) ≤ last → BlockTyped d slot (block_code b z J d)
   block_typed Nothing z J d slot same some few room small fits le =
       let e : slot ≡ slot + 0 = omega arith in
@@ -888,7 +708,7 @@ module _ (program : List Insn) (shape : Extent) (last : ℕ) (solid : (k : ℕ) 
       (block_typed a z J d slot same some few room small fits.0 (omega (arith, len, le)))
       (block_typed b z J d p1 same some few room small fits.1 (omega (arith, len, le))))
   block_typed (Let' (Count' q t) p rest) z J d slot same some few room small fits le =
-      let test = λ (j : ℕ). term_code t z (J ++ j ∷ []) (d + 1) (Jump false 1) in
+      let test = λ (j : ℕ). term_code t z (J ++ j ∷ []) (d + 1) (count_test d) in
       let front = counted_code d z.nodes test in
       let back = block_code rest z J (d + 1) in
       let len : length (front ++ back) ≡ length front + length back = length-append front back in
@@ -898,7 +718,7 @@ module _ (program : List Insn) (shape : Extent) (last : ℕ) (solid : (k : ℕ) 
       let c = counted_typed program shape last solid d slot z.nodes test fits.0 (omega (arith, len, le))
       (λ j to l.
       let more : length J + 1 ≡ length (J ++ j ∷ []) = omega (arith, length-append J (j ∷ [])) in
-      term_typed program shape last solid t z (J ++ j ∷ []) (d + 1) d (Jump false 1) to same some few room (omega arith)
+      term_typed program shape last solid t z (J ++ j ∷ []) (d + 1) d (count_test d) to same some few room (omega arith)
       (omega (arith, fits.0)) (subst (λ (n : ℕ). Fits t z n d (d + 1)) more fits.1.1) l) in
       let r = block_typed rest z J (d + 1) p1 same some few room (omega (arith, fits.0)) fits.2
       (omega (arith, len, le)) in
@@ -940,23 +760,22 @@ module _ (program : List Insn) (shape : Extent) (last : ℕ) (solid : (k : ℕ) 
   -- ---- the whole
 
   abbrev pub at_entry : AbstractState
-  at_entry = state Unset memory_place Unset Unset Unset Unset Unset
+  at_entry = state Unset memory_place Unset Unset Unset Unset Unset stack_base (written_at 0)
 
   proper_entry : IsProper at_entry
-  proper_entry = proper Unset memory_place Unset Unset Unset Unset Unset tt (record { ordered = omega arith })
-      tt tt tt tt tt
+  proper_entry = proper Unset memory_place Unset Unset Unset Unset Unset stack_base (written_at 0) tt
+      (record { ordered = omega arith }) tt tt tt tt tt (record { ordered = omega arith })
 
   head_typed : (slot : ℕ) → slot + 1 ≤ last
       → T slot (i.Alu Mov W64 R6 (operand.Reg R1) ∷ []) (C at_entry slot) (C (plain 0) (slot + 1))
   head_typed slot le = one_on program shape last solid slot (i.Alu Mov W64 R6 (operand.Reg R1)) at_entry _ (plain 0)
-      refl refl refl (into _ 0 Unset Unset Unset tt tt tt refl refl refl refl) proper_entry (keeps_own _ _ _ refl) le
+      refl refl refl (into _ 0 Unset Unset Unset tt tt tt refl) proper_entry (keeps_own _ _ _ refl) le
 
   zero_typed : (slot : ℕ) → slot + 1 ≤ last
       → T slot (i.Alu Mov W64 R0 (operand.Imm (pos 0)) ∷ []) (C (plain 0) slot) (C (valued 0) (slot + 1))
   zero_typed slot le = one_on program shape last solid slot (i.Alu Mov W64 R0 (operand.Imm (pos 0)))
       (plain 0) _ (valued 0) refl refl refl
-      (into _ 0 word Unset Unset (just 0, refl, record { low = omega arith; high = omega arith }) tt tt refl
-      refl refl refl)
+      (into _ 0 word Unset Unset (just 0, refl, record { low = omega arith; high = omega arith }) tt tt refl)
       (proper_known 0 Unset Unset Unset tt tt tt) (keeps_own _ _ _ refl) le
 
   exit_typed : (slot : ℕ) → T slot (i.Exit ∷ []) (C (valued 0) slot) (λ table. Unit {0})
@@ -998,6 +817,12 @@ module _ (program : List Insn) (shape : Extent) (last : ℕ) (solid : (k : ℕ) 
         sounds_of table (suc k) is (subst (λ (s : ℕ). AllSound program shape last solid table s is) f h.1),
       )
 
+-- no byte of the stack
+none_written : (byte : ℕ) → written_at 0 byte ≡ true → false ≡ true
+none_written byte h =
+    let parts = and_parts (nat_lt 523 (byte + 4 * 0)) (nat_lt byte 512) h in
+    absurd (omega (arith, ltb-true 523 (byte + 4 * 0) parts.0, ltb-true byte 512 parts.1))
+
 pub rule_typable : (rule : Statement) (z : Sizes) (shape : Extent) → AreSizes z shape
     → IsExtent shape.nodes shape.memory → BlockFits rule z 0 0 → Typable (rule_code rule z) shape
 rule_typable rule z shape sizes extent fits =
@@ -1012,8 +837,8 @@ rule_typable rule z shape sizes extent fits =
     let w = t.works table (marks_whole t.states) tt in
     let first = seen table (at_entry p shape last solid) 0 w.0 in
     let start : IsContainedIn (entry_state shape) (at_entry p shape last solid) =
-    within (entry_state shape) Unset memory_place Unset Unset Unset Unset Unset tt (kind_in_itself memory_place) tt
-    tt tt tt tt in
+    within (entry_state shape) Unset memory_place Unset Unset Unset Unset Unset stack_base (written_at 0) tt
+    (kind_in_itself memory_place) tt tt tt tt tt (kind_in_itself stack_base) none_written in
     typed p shape t.states first.there ones first.stands
     (contained_further (entry_state shape) (at_entry p shape last solid) first.there start first.inside)
     (sounds_of p shape last solid table 0 p w.1)

@@ -1,5 +1,5 @@
 -- The code of terms is typed.
-use Rattle.std.proofs.Common.{◌≡◌, ℕ, zero, suc, ◌+◌, ◌-◌, ◌*◌, ◌^◌, ◌%◌, ◌<◌, ◌≤◌, nat_lt, Bool, true, false, not, ◌||◌, if◌then◌else◌, min, ◌⊎◌, List, [], ◌∷◌, ◌++◌, length, Option, Some, None, ℤ, pos, slice_index, refl, sym, ap, ◌∙◌, arith, subst, inl, inr, length-append}
+use Rattle.std.proofs.Common.{◌≡◌, ℕ, zero, suc, ◌+◌, ◌-◌, ◌*◌, ◌^◌, ◌%◌, ◌<◌, ◌≤◌, ◌==◌, nat_lt, Bool, true, false, not, ◌||◌, min, ◌⊎◌, List, [], ◌∷◌, ◌++◌, length, Option, Some, None, ℤ, pos, slice_index, refl, sym, ap, ◌∙◌, arith, subst, inl, inr, length-append}
 use Rattle.std.proofs.lemmas.Option.{same_Some, none-some}
 use Rattle.std.proofs.lemmas.Bool.{cases_lt, lt-ltb, le-ltb, ltb-true, ne_eqb, cases_Bool, cond-true, cond-false}
 use Rattle.std.proofs.Math.Nat.{mod-eq_of_lt}
@@ -16,7 +16,10 @@ use Rattle.bpf_insn.specs.declared.forms.Cond.TheVariants.{Lt, Ge}
 use Rattle.bpf_insn.specs.declared.forms.Operand.TheVariants as operand
 use Rattle.bpf_insn.specs.declared.forms.Insn.{Insn}
 use Rattle.bpf_insn.specs.declared.forms.Insn.TheVariants as i
-use Rattle.bpf_insn.specs.Edges.{BeginsAt}
+use Rattle.bpf_insn.specs.declared.forms.Reg.{Reg}
+use Rattle.bpf_insn.specs.declared.edges.Way.TheVariants.{Onward, Jumping}
+use Rattle.bpf_insn.specs.Registers.{register_number}
+use Rattle.bpf_insn.specs.Edges.{BeginsAt, target}
 use Rattle.value_range.specs.Span.{Span, span, just, full_of, IsInside, HasMembers}
 use Rattle.value_range.proofs.Growing.{alu_grows}
 use Rattle.value_range.specs.Results.{alu_of as range_of}
@@ -24,12 +27,12 @@ use Rattle.value_range.specs.Conditions.{less, branch_of, ArePairsInside}
 use Rattle.value_range.proofs.GrowingPairs.{branch_grows}
 use Rattle.bpf_verify.specs.declared.abstract_value.AbstractValue.{AbstractValue}
 use Rattle.bpf_verify.specs.declared.abstract_value.AbstractValue.TheVariants.{Unset, Number}
-use Rattle.bpf_verify.specs.States.{AbstractState, IsKindIn, IsContainedIn, IsProper, IsProperKind, is_pointer_kind, is_unset_kind, kind_of}
+use Rattle.bpf_verify.specs.States.{AbstractState, stack_base, IsKindIn, IsContainedIn, IsProper, IsProperKind, is_pointer_kind, is_unset_kind, kind_of}
 use Rattle.bpf_verify.specs.Rules.{operand_kind, some_unset}
-use Rattle.bpf_verify.specs.Outcomes.{refined_by, branch_outcome, of_number_kind, with_kind}
+use Rattle.bpf_verify.specs.Outcomes.{outcome, refined_by, branch_outcome, of_number_kind, of_number_kinds, with_kind}
 use Rattle.bpf_verify.specs.Typable.{Table, IsCovered}
 use Rattle.bpf_verify.proofs.StateLaws.{kind_in_itself, contained_further}
-use Rattle.clock_nodes.proofs.Taken.{within, covered, keeps_own, KeepsOwn}
+use Rattle.clock_nodes.proofs.Taken.{covered, keeps_own, KeepsOwn}
 use Rattle.rule_syntax.specs.declared.syntax.Sizes.{Sizes}
 use Rattle.rule_syntax.specs.declared.syntax.Operation.{Operation}
 use Rattle.rule_syntax.specs.declared.syntax.Operation.TheVariants.{Sum, Difference, Product, Quotient, Remainder}
@@ -37,6 +40,9 @@ use Rattle.rule_syntax.specs.declared.syntax.Comparison.{Comparison}
 use Rattle.rule_syntax.specs.declared.syntax.Comparison.TheVariants.{Equal, NotEqual, Less, AtMost, Greater, AtLeast}
 use Rattle.rule_syntax.specs.declared.syntax.Operator.{Operator}
 use Rattle.rule_syntax.specs.declared.syntax.Operator.TheVariants.{Compute, Compare}
+use Rattle.rule_nodes.specs.declared.numbers.TheConstants.{PLACES}
+use Rattle.rule_nodes.specs.declared.numbers.Place.{Place}
+use Rattle.rule_nodes.specs.declared.numbers.Place.TheVariants.{InRegister, OnStack}
 use Rattle.rule_nodes.specs.declared.numbers.Purpose.{Purpose}
 use Rattle.rule_nodes.specs.declared.numbers.Purpose.TheVariants.{Value, Jump}
 use Rattle.rule_nodes.specs.declared.numbers.Source.{Source}
@@ -46,10 +52,11 @@ use Rattle.rule_syntax.specs.declared.syntax.Term.TheVariants.{Number as Numeral
 use Rattle.rule_nodes.specs.Meaning.{apply_operator}
 use Rattle.rule_nodes.specs.Operands.{is_constant, is_operand, constant_number, depth_behind, fetched_source, term_source}
 use Rattle.rule_nodes.specs.Fits.{Fits}
-use Rattle.rule_nodes.specs.Code.{place_register, set_number, copy, alu_op_of, cond_of, jump_on, jump_by, jump_at, beyond_purpose, truth_code, by_value, by_test, two_code, get_code, operand_code, load_code, jump_place, by_operator, left_code, binary_code, message_by, mirror, set_node, choice_code, if_code, decides, both_far, both_code, message_code, count_codes, counted_code, count_code, term_code}
+use Rattle.rule_nodes.specs.Code.{number_place, fetch_code, keep_code, clear_code, increment_code, place_operand, load_place, set_number, copy, alu_op_of, cond_of, jump_on, jump_by, jump_at, beyond_purpose, truth_code, by_value, by_test, two_code, get_code, operand_code, load_code, jump_register, by_operator, left_code, right_code, beside_code, binary_code, message_by, mirror, set_node, choice_code, if_code, decides, both_far, both_code, message_code, count_codes, counted_code, count_code, count_test, term_code}
+use Rattle.rule_nodes.proofs.Places.{IsPlace, place_is, not_frame}
 use Rattle.rule_nodes.proofs.Sources.{is_found}
 use Rattle.rule_nodes.proofs.TermRuns.{found_same, behind_more, free_beside, same_depth}
-use Rattle.rule_nodes.proofs.Typing.{memory_place, word, held, known, plain, valued, proper_known, some_word, into, short, seen, Typing, typed_then, typed_as, typed_none, one_on, one_jump, one_fork, number_typed, fetch_typed, keep_typed, second_typed}
+use Rattle.rule_nodes.proofs.Typing.{memory_place, word, held, written_at, known, plain, valued, within, proper_known, some_word, into, Grows, grows_none, written_less, placed_in, register_kind, short, seen, Typing, typed_then, typed_as, typed_none, one_on, one_jump, one_fork, number_typed, fetch_place, fetch_typed, keep_typed, change_typed, begin_typed, second_typed}
 
 held_less : (k d : ℕ) → IsKindIn (held k (d + 1)) (held k d)
 held_less k d = elim (cases_lt k d) [
@@ -58,9 +65,10 @@ held_less k d = elim (cases_lt k d) [
 ]
 
 pub known_less : (d : ℕ) (k0 k1 k2 : AbstractValue) → IsContainedIn (known (d + 1) k0 k1 k2) (known d k0 k1 k2)
-known_less d k0 k1 k2 = within (known (d + 1) k0 k1 k2) k0 k1 k2 memory_place (held 0 d) (held 1 d) (held 2 d)
+known_less d k0 k1 k2 =
+    within (known (d + 1) k0 k1 k2) k0 k1 k2 memory_place (held 0 d) (held 1 d) (held 2 d) stack_base (written_at d)
     (kind_in_itself k0) (kind_in_itself k1) (kind_in_itself k2) (kind_in_itself memory_place) (held_less 0 d)
-    (held_less 1 d) (held_less 2 d)
+    (held_less 1 d) (held_less 2 d) (kind_in_itself stack_base) (written_less d (d + 1) (omega arith))
 
 pub covers_less : (table : Table) (A C : AbstractState) (to : ℕ) → IsContainedIn A C → IsCovered table C to
     → IsCovered table A to
@@ -72,13 +80,13 @@ pub left_imm : (d : ℕ) (v : _) (found : Option (Span × Span)) (C : AbstractSt
     → refined_by (valued d) R0 (operand.Imm v) found ≡ Some C → IsContainedIn C (plain d)
 left_imm d v None C e = absurd (none-some C e)
 left_imm d v (Some pair) C e = subst (λ (x : AbstractState). IsContainedIn x (plain d)) (same_Some _ C e)
-    (into _ d Unset Unset Unset tt tt tt refl refl refl refl)
+    (into _ d Unset Unset Unset tt tt tt refl)
 
 left_reg : (d : ℕ) (found : Option (Span × Span)) (C : AbstractState)
     → refined_by (known d word word Unset) R0 (operand.Reg R1) found ≡ Some C → IsContainedIn C (plain d)
 left_reg d None C e = absurd (none-some C e)
 left_reg d (Some pair) C e = subst (λ (x : AbstractState). IsContainedIn x (plain d)) (same_Some _ C e)
-    (into _ d Unset Unset Unset tt tt tt refl refl refl refl)
+    (into _ d Unset Unset Unset tt tt tt refl)
 
 -- a source is in scope, or in the memory
 abbrev pub IsThere : Source → ℕ → ℕ → Type 0
@@ -105,66 +113,28 @@ source_there t z J loops lets d fits =
     ]
 
 -- what r1 holds beside r0
+abbrev pub place_r1 : Place → AbstractValue
+place_r1 (InRegister register) = Unset
+place_r1 (OnStack off) = word
+
 abbrev pub r1_kind : Source → AbstractValue
 r1_kind (Constant c) = Unset
-r1_kind (FromLocal k) = Unset
+r1_kind (FromLocal k) = place_r1 (number_place k)
 r1_kind (FromWord k) = word
 r1_kind Computed = word
+
+proper_r1 : (p : Place) → IsProperKind (place_r1 p)
+proper_r1 (InRegister register) = tt
+proper_r1 (OnStack off) = some_word
 
 abbrev pub paired : Source → ℕ → AbstractState
 paired y d = known d word (r1_kind y) Unset
 
 proper_paired : (y : Source) (d : ℕ) → IsProper (paired y d)
 proper_paired (Constant c) d = proper_known d word Unset Unset some_word tt tt
-proper_paired (FromLocal k) d = proper_known d word Unset Unset some_word tt tt
+proper_paired (FromLocal k) d = proper_known d word (place_r1 (number_place k)) Unset some_word (proper_r1 (number_place k)) tt
 proper_paired (FromWord k) d = proper_known d word word Unset some_word some_word tt
 proper_paired Computed d = proper_known d word word Unset some_word some_word tt
-
--- a number of 32 bits into a place
-in_held : (k d : ℕ) (K : AbstractValue) → IsKindIn K word → IsKindIn K (held k d)
-in_held k d K h = by (nat_lt k d)
-  where
-    by : (b : Bool) → IsKindIn K (if b then word else Unset)
-    by true = h
-    by false = tt
-
-pub placed_in : (k d : ℕ) (K : AbstractValue) → k < 3 → IsKindIn K word → IsContainedIn
-    (with_kind (plain d) (place_register k) K) (plain d)
-placed_in zero d K lt h = within _ Unset Unset Unset memory_place (held 0 d) (held 1 d) (held 2 d) tt tt tt
-    (kind_in_itself memory_place) (in_held 0 d K h) (kind_in_itself (held 1 d)) (kind_in_itself (held 2 d))
-placed_in (suc zero) d K lt h = within _ Unset Unset Unset memory_place (held 0 d) (held 1 d) (held 2 d) tt tt tt
-    (kind_in_itself memory_place) (kind_in_itself (held 0 d)) (in_held 1 d K h) (kind_in_itself (held 2 d))
-placed_in (suc (suc zero)) d K lt h = within _ Unset Unset Unset memory_place (held 0 d) (held 1 d) (held 2 d) tt tt tt
-    (kind_in_itself memory_place) (kind_in_itself (held 0 d)) (kind_in_itself (held 1 d)) (in_held 2 d K h)
-placed_in (suc (suc (suc k))) d K lt h = absurd (omega (arith, lt))
-
--- and of a new place
-pub placed_new : (d : ℕ) (K : AbstractValue) → d < 3 → IsKindIn K word
-    → IsContainedIn (with_kind (plain d) (place_register d) K) (plain (d + 1))
-placed_new zero K lt h =
-    within _ Unset Unset Unset memory_place word Unset Unset tt tt tt (kind_in_itself memory_place) h tt tt
-placed_new (suc zero) K lt h =
-    within _ Unset Unset Unset memory_place word word Unset tt tt tt (kind_in_itself memory_place) (kind_in_itself word)
-    h tt
-placed_new (suc (suc zero)) K lt h =
-    within _ Unset Unset Unset memory_place word word word tt tt tt (kind_in_itself memory_place) (kind_in_itself word)
-    (kind_in_itself word) h
-placed_new (suc (suc (suc d))) K lt h = absurd (omega (arith, lt))
-
--- what is known of a place in use
-pub place_word : (k d : ℕ) → k < d → d ≤ 3 → kind_of (plain d) (place_register k) ≡ word
-place_word zero zero lt few = absurd (omega (arith, lt))
-place_word (suc k) zero lt few = absurd (omega (arith, lt))
-place_word (suc k) (suc zero) lt few = absurd (omega (arith, lt))
-place_word (suc (suc k)) (suc (suc zero)) lt few = absurd (omega (arith, lt))
-place_word (suc (suc (suc k))) (suc (suc (suc zero))) lt few = absurd (omega (arith, lt))
-place_word k (suc (suc (suc (suc d)))) lt few = absurd (omega (arith, few))
-place_word zero (suc zero) lt few = refl
-place_word zero (suc (suc zero)) lt few = refl
-place_word zero (suc (suc (suc zero))) lt few = refl
-place_word (suc zero) (suc (suc zero)) lt few = refl
-place_word (suc zero) (suc (suc (suc zero))) lt few = refl
-place_word (suc (suc zero)) (suc (suc (suc zero))) lt few = refl
 
 -- an operand is a number of 32 bits
 record OperandIs (src : Operand) (A : AbstractState) : Type 0 where
@@ -177,27 +147,21 @@ record OperandIs (src : Operand) (A : AbstractState) : Type 0 where
 word_inside : IsInside (full_of 32) (full_of 32)
 word_inside = record { low = omega arith; high = omega arith }
 
-place_is : (k d : ℕ) → k < d → d ≤ 3 → OperandIs (operand.Reg (place_register k)) (valued d)
-place_is zero zero lt few = absurd (omega (arith, lt))
-place_is (suc k) zero lt few = absurd (omega (arith, lt))
-place_is (suc k) (suc zero) lt few = absurd (omega (arith, lt))
-place_is (suc (suc k)) (suc (suc zero)) lt few = absurd (omega (arith, lt))
-place_is (suc (suc (suc k))) (suc (suc (suc zero))) lt few = absurd (omega (arith, lt))
-place_is k (suc (suc (suc (suc d)))) lt few = absurd (omega (arith, few))
-place_is zero (suc zero) lt few =
-    record { range = full_of 32; kind = refl; set = refl; ordered = some_word; inside = word_inside }
-place_is zero (suc (suc zero)) lt few =
-    record { range = full_of 32; kind = refl; set = refl; ordered = some_word; inside = word_inside }
-place_is zero (suc (suc (suc zero))) lt few =
-    record { range = full_of 32; kind = refl; set = refl; ordered = some_word; inside = word_inside }
-place_is (suc zero) (suc (suc zero)) lt few =
-    record { range = full_of 32; kind = refl; set = refl; ordered = some_word; inside = word_inside }
-place_is (suc zero) (suc (suc (suc zero))) lt few =
-    record { range = full_of 32; kind = refl; set = refl; ordered = some_word; inside = word_inside }
-place_is (suc (suc zero)) (suc (suc (suc zero))) lt few =
+place_operand_is : (p : Place) (k d : ℕ) → IsPlace p k → k < d
+    → OperandIs (place_operand p) (known d word (place_r1 p) Unset)
+place_operand_is (InRegister register) k d is lt =
+    let e : kind_of (known d word Unset Unset) register ≡ word = register_kind register k d word Unset Unset is lt in
+    record {
+      range = full_of 32;
+      kind = e;
+      set = ap (λ (q : AbstractValue). is_unset_kind q || false) e;
+      ordered = some_word;
+      inside = word_inside;
+    }
+place_operand_is (OnStack off) k d is lt =
     record { range = full_of 32; kind = refl; set = refl; ordered = some_word; inside = word_inside }
 
-operand_is : (y : Source) (d lets memory : ℕ) → IsThere y lets memory → lets ≤ d → d ≤ 3
+operand_is : (y : Source) (d lets memory : ℕ) → IsThere y lets memory → lets ≤ d → d ≤ PLACES
     → OperandIs (operand_code y) (paired y d)
 operand_is (Constant c) d lets memory there below few = record {
   range = just (cast_unsigned w64 (cast_signed w32 c) % 2 ^ 32);
@@ -206,7 +170,8 @@ operand_is (Constant c) d lets memory there below few = record {
   ordered = record { ordered = omega arith };
   inside = record { low = omega arith; high = omega arith };
 }
-operand_is (FromLocal k) d lets memory there below few = place_is k d (omega (arith, there, below)) few
+operand_is (FromLocal k) d lets memory there below few =
+    place_operand_is (number_place k) k d (place_is k (omega (arith, there, below, few))) (omega (arith, there, below))
 operand_is (FromWord k) d lets memory there below few =
     record { range = full_of 32; kind = refl; set = refl; ordered = some_word; inside = word_inside }
 operand_is Computed d lets memory there below few =
@@ -331,69 +296,45 @@ branch_first AtLeast false n pair small e =
     (record { ordered = omega arith }) word_inside (record { low = omega arith; high = omega (arith, small) })) in
     inside_further pair.0 _ all.0 (record { low = omega arith; high = omega arith })
 
-left_place : (r : Comparison) (taken : Bool) (k d n : ℕ) (v : ℤ) (K : AbstractValue) (C : AbstractState) → k < 3 → n < 2 ^ 32
-    → K ≡ word
-    → branch_outcome (plain d) (cond_of r) W32 (place_register k) (operand.Imm v) taken K (Number (just n)) ≡ Some C
+left_place : (r : Comparison) (taken : Bool) (register : Reg) (k d n : ℕ) (v : ℤ) (K : AbstractValue) (C : AbstractState)
+    → IsPlace (InRegister register) k → k < d → n < 2 ^ 32 → K ≡ word
+    → branch_outcome (plain d) (cond_of r) W32 register (operand.Imm v) taken K (Number (just n)) ≡ Some C
     → IsContainedIn C (plain d)
-left_place r taken k d n v K C lt small e q =
-    let h = subst (λ (x : AbstractValue). branch_outcome (plain d) (cond_of r) W32 (place_register k) (operand.Imm v) taken x
+left_place r taken register k d n v K C is lt small e q =
+    let h = subst (λ (x : AbstractValue). branch_outcome (plain d) (cond_of r) W32 register (operand.Imm v) taken x
     (Number (just n)) ≡ Some C) e q in
     by (branch_of (cond_of r) W32 (full_of 32) (just n) taken) refl h
   where
     by : (found : Option (Span × Span)) → branch_of (cond_of r) W32 (full_of 32) (just n) taken ≡ found
-        → refined_by (plain d) (place_register k) (operand.Imm v) found ≡ Some C → IsContainedIn C (plain d)
+        → refined_by (plain d) register (operand.Imm v) found ≡ Some C → IsContainedIn C (plain d)
     by None f h = absurd (none-some C h)
     by (Some pair) f h = subst (λ (x : AbstractState). IsContainedIn x (plain d)) (same_Some _ C h)
-        (placed_in k d (Number pair.0) lt (pair.0, refl, branch_first r taken n pair small f))
+        (placed_in register k d d (plain d) (Number pair.0) is (grows_none k d lt) refl
+        (pair.0, refl, branch_first r taken n pair small f))
 
--- what a comparison of r0 and a place leaves, at depth 1, 2 and 3
-left_0_1 : (found : Option (Span × Span)) (C : AbstractState)
-    → ((pair : Span × Span) → found ≡ Some pair → IsInside pair.1 (full_of 32))
-    → refined_by (valued 1) R0 (operand.Reg (place_register 0)) found ≡ Some C → IsContainedIn C (plain 1)
-left_0_1 None C h e = absurd (none-some C e)
-left_0_1 (Some pair) C h e = subst (λ (x : AbstractState). IsContainedIn x (plain 1)) (same_Some _ C e)
-    (within _ Unset Unset Unset memory_place word Unset Unset tt tt tt (kind_in_itself memory_place)
-    (pair.1, refl, h pair refl) tt tt)
+-- what a comparison of r0 and the register of a place leaves
+left_register : (r : Comparison) (taken : Bool) (register : Reg) (k d : ℕ) (K : AbstractValue) (C : AbstractState)
+    → IsPlace (InRegister register) k → k < d → K ≡ word
+    → branch_outcome (valued d) (cond_of r) W32 R0 (operand.Reg register) taken word K ≡ Some C
+    → IsContainedIn C (plain d)
+left_register r taken register k d K C is lt e q =
+    let h = subst (λ (x : AbstractValue). branch_outcome (valued d) (cond_of r) W32 R0 (operand.Reg register) taken word x
+    ≡ Some C) e q in
+    by (branch_of (cond_of r) W32 (full_of 32) (full_of 32) taken) refl h
+  where
+    apart : (register_number register == 0) ≡ false
+    apart = ne_eqb (register_number register) 0 (λ q. omega (arith, q, is.0))
 
-left_0_2 : (found : Option (Span × Span)) (C : AbstractState)
-    → ((pair : Span × Span) → found ≡ Some pair → IsInside pair.1 (full_of 32))
-    → refined_by (valued 2) R0 (operand.Reg (place_register 0)) found ≡ Some C → IsContainedIn C (plain 2)
-left_0_2 None C h e = absurd (none-some C e)
-left_0_2 (Some pair) C h e = subst (λ (x : AbstractState). IsContainedIn x (plain 2)) (same_Some _ C e)
-    (within _ Unset Unset Unset memory_place word word Unset tt tt tt (kind_in_itself memory_place)
-    (pair.1, refl, h pair refl) (kind_in_itself word) tt)
-
-left_0_3 : (found : Option (Span × Span)) (C : AbstractState)
-    → ((pair : Span × Span) → found ≡ Some pair → IsInside pair.1 (full_of 32))
-    → refined_by (valued 3) R0 (operand.Reg (place_register 0)) found ≡ Some C → IsContainedIn C (plain 3)
-left_0_3 None C h e = absurd (none-some C e)
-left_0_3 (Some pair) C h e = subst (λ (x : AbstractState). IsContainedIn x (plain 3)) (same_Some _ C e)
-    (within _ Unset Unset Unset memory_place word word word tt tt tt (kind_in_itself memory_place)
-    (pair.1, refl, h pair refl) (kind_in_itself word) (kind_in_itself word))
-
-left_1_2 : (found : Option (Span × Span)) (C : AbstractState)
-    → ((pair : Span × Span) → found ≡ Some pair → IsInside pair.1 (full_of 32))
-    → refined_by (valued 2) R0 (operand.Reg (place_register 1)) found ≡ Some C → IsContainedIn C (plain 2)
-left_1_2 None C h e = absurd (none-some C e)
-left_1_2 (Some pair) C h e = subst (λ (x : AbstractState). IsContainedIn x (plain 2)) (same_Some _ C e)
-    (within _ Unset Unset Unset memory_place word word Unset tt tt tt (kind_in_itself memory_place)
-    (kind_in_itself word) (pair.1, refl, h pair refl) tt)
-
-left_1_3 : (found : Option (Span × Span)) (C : AbstractState)
-    → ((pair : Span × Span) → found ≡ Some pair → IsInside pair.1 (full_of 32))
-    → refined_by (valued 3) R0 (operand.Reg (place_register 1)) found ≡ Some C → IsContainedIn C (plain 3)
-left_1_3 None C h e = absurd (none-some C e)
-left_1_3 (Some pair) C h e = subst (λ (x : AbstractState). IsContainedIn x (plain 3)) (same_Some _ C e)
-    (within _ Unset Unset Unset memory_place word word word tt tt tt (kind_in_itself memory_place)
-    (kind_in_itself word) (pair.1, refl, h pair refl) (kind_in_itself word))
-
-left_2_3 : (found : Option (Span × Span)) (C : AbstractState)
-    → ((pair : Span × Span) → found ≡ Some pair → IsInside pair.1 (full_of 32))
-    → refined_by (valued 3) R0 (operand.Reg (place_register 2)) found ≡ Some C → IsContainedIn C (plain 3)
-left_2_3 None C h e = absurd (none-some C e)
-left_2_3 (Some pair) C h e = subst (λ (x : AbstractState). IsContainedIn x (plain 3)) (same_Some _ C e)
-    (within _ Unset Unset Unset memory_place word word word tt tt tt (kind_in_itself memory_place)
-    (kind_in_itself word) (kind_in_itself word) (pair.1, refl, h pair refl))
+    by : (found : Option (Span × Span)) → branch_of (cond_of r) W32 (full_of 32) (full_of 32) taken ≡ found
+        → refined_by (valued d) R0 (operand.Reg register) found ≡ Some C → IsContainedIn C (plain d)
+    by None f h = absurd (none-some C h)
+    by (Some pair) f h =
+        let A = with_kind (valued d) R0 (Number pair.0) in
+        let B = with_kind A register (Number pair.1) in
+        let both : refined_by (valued d) R0 (operand.Reg register) (Some pair) ≡ Some B = rw apart refl in
+        subst (λ (x : AbstractState). IsContainedIn x (plain d)) (same_Some B C (sym both ∙ h))
+        (placed_in register k d d A (Number pair.1) is (grows_none k d lt) refl
+        (pair.1, refl, branch_inside r taken pair f))
 
 module _ (program : List Insn) (shape : Extent) (last : ℕ) (solid : (k : ℕ) → k ≤ last → BeginsAt program k) where
   abbrev T : ℕ → List Insn → (Table → Type 0) → (Table → Type 0) → Type 0
@@ -483,14 +424,14 @@ module _ (program : List Insn) (shape : Extent) (last : ℕ) (solid : (k : ℕ) 
       (C (valued d) (to + 3)) refl (t false 2 (omega (arith, len, le))) (truth_typed d to (omega (arith, len, le))))
   by_test_typed (Jump when far) d slot test le t = t when far le
 
-  two_typed : (d slot : ℕ) (left right : List Insn) → d < 3 → slot + length (two_code d left right) ≤ last
+  two_typed : (d slot : ℕ) (left right : List Insn) → d < PLACES → slot + length (two_code d left right) ≤ last
       → (slot + length left ≤ last → TermTyped Value d slot left)
       → ((to : ℕ) → to + length right ≤ last → TermTyped Value (d + 1) to right)
       → T slot (two_code d left right) (C (plain d) slot) (C (known d word word Unset)
       (slot + length (two_code d left right)))
   two_typed d slot left right few le first second =
-      let back = copy R1 R0 ∷ copy R0 (place_register d) ∷ [] in
-      let rest = copy (place_register d) R0 ∷ (right ++ back) in
+      let back = copy R1 R0 ∷ fetch_code R0 (number_place d) ∷ [] in
+      let rest = keep_code (number_place d) ∷ (right ++ back) in
       let len : length (left ++ rest) ≡ length left + (1 + (length right + 2)) = omega
       (arith, length-append left rest, length-append right back) in
       let p1 = slot + length left in
@@ -506,15 +447,15 @@ module _ (program : List Insn) (shape : Extent) (last : ℕ) (solid : (k : ℕ) 
       let f = fetch_typed program shape last solid d (d + 1) word p4 (omega arith) (omega (arith, few)) some_word
       (omega (arith, len, le)) in
       let e : p4 + 1 ≡ end = omega (arith, len) in
-      let f1 = typed_at p4 (p4 + 1) end (copy R0 (place_register d) ∷ []) (C (known (d + 1) Unset word Unset) p4) both e f in
-      let f2 = typed_as program shape last solid p4 (copy R0 (place_register d) ∷ []) (C (known (d + 1) Unset word Unset) p4)
+      let f1 = typed_at p4 (p4 + 1) end (fetch_code R0 (number_place d) ∷ []) (C (known (d + 1) Unset word Unset) p4) both e f in
+      let f2 = typed_as program shape last solid p4 (fetch_code R0 (number_place d) ∷ []) (C (known (d + 1) Unset word Unset) p4)
       (C both end) (C (known (d + 1) Unset word Unset) p4) (C (known d word word Unset) end) (λ table h. h)
       (λ table h. covers_less table both (known d word word Unset) end (known_less d word word Unset) h) f1 in
-      let sf = typed_seq p3 p4 (copy R1 R0 ∷ []) (copy R0 (place_register d) ∷ []) (C (valued (d + 1)) p3)
+      let sf = typed_seq p3 p4 (copy R1 R0 ∷ []) (fetch_code R0 (number_place d) ∷ []) (C (valued (d + 1)) p3)
       (C (known (d + 1) Unset word Unset) p4) (C (known d word word Unset) end) refl s f2 in
       let csf = typed_seq p2 p3 right back (C (plain (d + 1)) p2) (C (valued (d + 1)) p3)
       (C (known d word word Unset) end) refl c sf in
-      let bcsf = typed_seq p1 p2 (copy (place_register d) R0 ∷ []) (right ++ back) (C (valued d) p1) (C (plain (d + 1)) p2)
+      let bcsf = typed_seq p1 p2 (keep_code (number_place d) ∷ []) (right ++ back) (C (valued d) p1) (C (plain (d + 1)) p2)
       (C (known d word word Unset) end) refl b csf in
       typed_seq slot p1 left rest (C (plain d) slot) (C (valued d) p1) (C (known d word word Unset) end) refl a bcsf
 
@@ -527,18 +468,18 @@ module _ (program : List Insn) (shape : Extent) (last : ℕ) (solid : (k : ℕ) 
       let room : nat_lt shape.memory (0 + 4 * k + 4) ≡ false = le-ltb shape.memory (0 + 4 * k + 4)
       (omega (arith, inside)) in
       one_on program shape last solid slot (i.Load size.W R1 R6 (pos (4 * k))) (valued d) _ (known d word word Unset)
-      refl refl refl (into _ d word word Unset (kind_in_itself word) (kind_in_itself word) tt refl refl refl refl)
+      refl refl refl (into _ d word word Unset (kind_in_itself word) (kind_in_itself word) tt refl)
       (proper_known d word Unset Unset some_word tt tt) (keeps_own _ _ _ (rw room refl)) le
 
   -- into r0, beside r1
-  get_typed : (x : Source) (d lets slot : ℕ) → is_found x ≡ true → IsThere x lets shape.memory → lets ≤ d → d ≤ 3
+  get_typed : (x : Source) (d lets slot : ℕ) → is_found x ≡ true → IsThere x lets shape.memory → lets ≤ d → d ≤ PLACES
       → slot + 1 ≤ last
       → T slot (get_code R0 x ∷ []) (C (known d Unset word Unset) slot) (C (known d word word Unset) (slot + 1))
   get_typed (Constant c) d lets slot found there below few le =
       one_on program shape last solid slot (set_number R0 c) (known d Unset word Unset) _ (known d word word Unset)
       refl refl refl
       (into _ d word word Unset (short (cast_unsigned w64 (cast_signed w32 c) % 2 ^ 32)) (kind_in_itself word) tt
-      refl refl refl refl) (proper_known d Unset word Unset tt some_word tt) (keeps_own _ _ _ refl) le
+      refl) (proper_known d Unset word Unset tt some_word tt) (keeps_own _ _ _ refl) le
   get_typed (FromLocal k) d lets slot found there below few le =
       fetch_typed program shape last solid k d word slot (omega (arith, there, below)) few some_word le
   get_typed (FromWord k) d lets slot found there below few le =
@@ -546,7 +487,7 @@ module _ (program : List Insn) (shape : Extent) (last : ℕ) (solid : (k : ℕ) 
       (omega (arith, there)) in
       one_on program shape last solid slot (get_code R0 (FromWord k)) (known d Unset word Unset) _
       (known d word word Unset)
-      refl refl refl (into _ d word word Unset (kind_in_itself word) (kind_in_itself word) tt refl refl refl refl)
+      refl refl refl (into _ d word word Unset (kind_in_itself word) (kind_in_itself word) tt refl)
       (proper_known d Unset word Unset tt some_word tt) (keeps_own _ _ _ (rw room refl)) le
   get_typed Computed d lets slot found there below few le = absurd (let no : false ≡ true = found in cc)
 
@@ -563,12 +504,33 @@ module _ (program : List Insn) (shape : Extent) (last : ℕ) (solid : (k : ℕ) 
       (first (omega (arith, len, le)))
       (typed_none program shape last solid p1 (C (valued d) p1)))
 
+  -- the left number in r0, beside one of a place
+  place_loaded_typed : (p : Place) (k d slot : ℕ) (left : List Insn) → IsPlace p k → k < d
+      → slot + length (left ++ load_place p) ≤ last → (slot + length left ≤ last → TermTyped Value d slot left)
+      → T slot (left ++ load_place p) (C (plain d) slot)
+      (C (known d word (place_r1 p) Unset) (slot + length (left ++ load_place p)))
+  place_loaded_typed (InRegister register) k d slot left is lt le first = unloaded_typed d slot left le first
+  place_loaded_typed (OnStack off) k d slot left is lt le first =
+      let load = fetch_code R1 (OnStack off) ∷ [] in
+      let len : length (left ++ load) ≡ length left + 1 = length-append left load in
+      let p1 = slot + length left in
+      let e : p1 + 1 ≡ slot + length (left ++ load) = omega (arith, len) in
+      typed_at slot (p1 + 1) (slot + length (left ++ load)) (left ++ load) (C (plain d) slot)
+      (known d word word Unset) e
+      (typed_seq slot p1 left load (C (plain d) slot) (C (valued d) p1) (C (known d word word Unset) (p1 + 1)) refl
+      (first (omega (arith, len, le)))
+      (fetch_place program shape last solid (OnStack off) k d R1 word Unset Unset (known d word word Unset) p1 is lt
+      some_word tt tt refl (into _ d word word Unset (kind_in_itself word) (kind_in_itself word) tt refl)
+      (omega (arith, len, le))))
+
   loaded_typed : (y : Source) (d lets slot : ℕ) (left : List Insn) → is_found y ≡ true → IsThere y lets shape.memory
-      → slot + length (left ++ load_code y) ≤ last → (slot + length left ≤ last → TermTyped Value d slot left)
+      → lets ≤ d → d ≤ PLACES → slot + length (left ++ load_code y) ≤ last → (slot + length left ≤ last → TermTyped Value d slot left)
       → T slot (left ++ load_code y) (C (plain d) slot) (C (paired y d) (slot + length (left ++ load_code y)))
-  loaded_typed (Constant c) d lets slot left found there le first = unloaded_typed d slot left le first
-  loaded_typed (FromLocal k) d lets slot left found there le first = unloaded_typed d slot left le first
-  loaded_typed (FromWord k) d lets slot left found there le first =
+  loaded_typed (Constant c) d lets slot left found there below few le first = unloaded_typed d slot left le first
+  loaded_typed (FromLocal k) d lets slot left found there below few le first =
+      place_loaded_typed (number_place k) k d slot left (place_is k (omega (arith, there, below, few)))
+      (omega (arith, there, below)) le first
+  loaded_typed (FromWord k) d lets slot left found there below few le first =
       let load = get_code R1 (FromWord k) ∷ [] in
       let len : length (left ++ load) ≡ length left + 1 = length-append left load in
       let p1 = slot + length left in
@@ -577,7 +539,7 @@ module _ (program : List Insn) (shape : Extent) (last : ℕ) (solid : (k : ℕ) 
       (known d word word Unset) e
       (typed_seq slot p1 left load (C (plain d) slot) (C (valued d) p1) (C (known d word word Unset) (p1 + 1)) refl
       (first (omega (arith, len, le))) (load_one d k p1 there (omega (arith, len, le))))
-  loaded_typed Computed d lets slot left found there le first = absurd (let no : false ≡ true = found in cc)
+  loaded_typed Computed d lets slot left found there below few le first = absurd (let no : false ≡ true = found in cc)
 
   -- ---- operators
 
@@ -649,70 +611,48 @@ module _ (program : List Insn) (shape : Extent) (last : ℕ) (solid : (k : ℕ) 
       → T slot (i.Alu (alu_op_of op) W32 R0 src ∷ []) (C (known d word k1 Unset) slot) (C (valued d) (slot + 1))
   alu_typed Sum src d k1 slot q is le = one_on program shape last solid slot (i.Alu (alu_op_of Sum) W32 R0 src)
       (known d word k1 Unset) _ (valued d) refl refl refl
-      (into _ d word Unset Unset (word_result Add _ q.range q.kind q.ordered q.inside refl) tt tt refl
-      refl refl refl) is
+      (into _ d word Unset Unset (word_result Add _ q.range q.kind q.ordered q.inside refl) tt tt refl) is
       (alu_keeps Sum src d k1 q) le
   alu_typed Difference src d k1 slot q is le = one_on program shape last solid slot
       (i.Alu (alu_op_of Difference) W32 R0 src) (known d word k1 Unset) _ (valued d) refl refl refl
-      (into _ d word Unset Unset (word_result Sub _ q.range q.kind q.ordered q.inside refl) tt tt refl
-      refl refl refl) is
+      (into _ d word Unset Unset (word_result Sub _ q.range q.kind q.ordered q.inside refl) tt tt refl) is
       (alu_keeps Difference src d k1 q) le
   alu_typed Product src d k1 slot q is le = one_on program shape last solid slot (i.Alu (alu_op_of Product) W32 R0 src)
       (known d word k1 Unset) _ (valued d) refl refl refl
-      (into _ d word Unset Unset (word_result Mul _ q.range q.kind q.ordered q.inside refl) tt tt refl
-      refl refl refl) is
+      (into _ d word Unset Unset (word_result Mul _ q.range q.kind q.ordered q.inside refl) tt tt refl) is
       (alu_keeps Product src d k1 q) le
   alu_typed Quotient src d k1 slot q is le = one_on program shape last solid slot (i.Alu (alu_op_of Quotient) W32 R0 src)
       (known d word k1 Unset) _ (valued d) refl refl refl
-      (into _ d word Unset Unset (word_result Div _ q.range q.kind q.ordered q.inside refl) tt tt refl
-      refl refl refl) is
+      (into _ d word Unset Unset (word_result Div _ q.range q.kind q.ordered q.inside refl) tt tt refl) is
       (alu_keeps Quotient src d k1 q) le
   alu_typed Remainder src d k1 slot q is le = one_on program shape last solid slot (i.Alu (alu_op_of Remainder) W32 R0 src)
       (known d word k1 Unset) _ (valued d) refl refl refl
-      (into _ d word Unset Unset (word_result Mod _ q.range q.kind q.ordered q.inside refl) tt tt refl
-      refl refl refl) is
+      (into _ d word Unset Unset (word_result Mod _ q.range q.kind q.ordered q.inside refl) tt tt refl) is
       (alu_keeps Remainder src d k1 q) le
 
-  -- r0 beside a place
-  place_fork : (r : Comparison) (k d slot far : ℕ) → k < d → d ≤ 3 → slot + 1 + far ≤ last
-      → T slot (jump_by r (operand.Reg (place_register k)) far ∷ []) (C (valued d) slot)
+  -- r0 beside a register
+  register_fork : (r : Comparison) (register : Reg) (k d slot far : ℕ) → IsPlace (InRegister register) k → k < d
+      → slot + 1 + far ≤ last
+      → T slot (jump_by r (operand.Reg register) far ∷ []) (C (valued d) slot)
       (λ table. C (plain d) (slot + 1) table × C (plain d) (slot + 1 + far) table)
-  place_fork r zero zero slot far lt few le = absurd (omega (arith, lt))
-  place_fork r (suc k) zero slot far lt few le = absurd (omega (arith, lt))
-  place_fork r (suc k) (suc zero) slot far lt few le = absurd (omega (arith, lt))
-  place_fork r (suc (suc k)) (suc (suc zero)) slot far lt few le = absurd (omega (arith, lt))
-  place_fork r (suc (suc (suc k))) (suc (suc (suc zero))) slot far lt few le = absurd (omega (arith, lt))
-  place_fork r k (suc (suc (suc (suc d)))) slot far lt few le = absurd (omega (arith, few))
-  place_fork r zero (suc zero) slot far lt few le = one_fork program shape last solid slot far (cond_of r) R0
-      (operand.Reg (place_register 0)) (valued 1) (plain 1) (plain 1)
-      (λ x e. left_0_1 _ x (λ pair f. branch_inside r false pair f) e)
-      (λ x e. left_0_1 _ x (λ pair f. branch_inside r true pair f) e)
-      (proper_known 1 word Unset Unset some_word tt tt) (keeps_own _ _ _ refl) le
-  place_fork r zero (suc (suc zero)) slot far lt few le = one_fork program shape last solid slot far (cond_of r) R0
-      (operand.Reg (place_register 0)) (valued 2) (plain 2) (plain 2)
-      (λ x e. left_0_2 _ x (λ pair f. branch_inside r false pair f) e)
-      (λ x e. left_0_2 _ x (λ pair f. branch_inside r true pair f) e)
-      (proper_known 2 word Unset Unset some_word tt tt) (keeps_own _ _ _ refl) le
-  place_fork r zero (suc (suc (suc zero))) slot far lt few le = one_fork program shape last solid slot far
-      (cond_of r) R0 (operand.Reg (place_register 0)) (valued 3) (plain 3) (plain 3)
-      (λ x e. left_0_3 _ x (λ pair f. branch_inside r false pair f) e)
-      (λ x e. left_0_3 _ x (λ pair f. branch_inside r true pair f) e)
-      (proper_known 3 word Unset Unset some_word tt tt) (keeps_own _ _ _ refl) le
-  place_fork r (suc zero) (suc (suc zero)) slot far lt few le = one_fork program shape last solid slot far
-      (cond_of r) R0 (operand.Reg (place_register 1)) (valued 2) (plain 2) (plain 2)
-      (λ x e. left_1_2 _ x (λ pair f. branch_inside r false pair f) e)
-      (λ x e. left_1_2 _ x (λ pair f. branch_inside r true pair f) e)
-      (proper_known 2 word Unset Unset some_word tt tt) (keeps_own _ _ _ refl) le
-  place_fork r (suc zero) (suc (suc (suc zero))) slot far lt few le = one_fork program shape last solid slot far
-      (cond_of r) R0 (operand.Reg (place_register 1)) (valued 3) (plain 3) (plain 3)
-      (λ x e. left_1_3 _ x (λ pair f. branch_inside r false pair f) e)
-      (λ x e. left_1_3 _ x (λ pair f. branch_inside r true pair f) e)
-      (proper_known 3 word Unset Unset some_word tt tt) (keeps_own _ _ _ refl) le
-  place_fork r (suc (suc zero)) (suc (suc (suc zero))) slot far lt few le = one_fork program shape last solid slot far
-      (cond_of r) R0 (operand.Reg (place_register 2)) (valued 3) (plain 3) (plain 3)
-      (λ x e. left_2_3 _ x (λ pair f. branch_inside r false pair f) e)
-      (λ x e. left_2_3 _ x (λ pair f. branch_inside r true pair f) e)
-      (proper_known 3 word Unset Unset some_word tt tt) (keeps_own _ _ _ refl) le
+  register_fork r register k d slot far is lt le =
+      let e : kind_of (valued d) register ≡ word = register_kind register k d word Unset Unset is lt in
+      let own : KeepsOwn shape (jump_by r (operand.Reg register) far) (valued d) = record {
+        forward = refl;
+        known = refl;
+        set = ap (λ (q : AbstractValue). is_unset_kind q || false) e;
+        frame = refl;
+        pointer = ap is_pointer_kind e;
+        region = refl;
+        stack = refl;
+        argument = refl;
+        exit = refl;
+        base = refl;
+      } in
+      one_fork program shape last solid slot far (cond_of r) R0 (operand.Reg register) (valued d) (plain d) (plain d)
+      (λ x q. left_register r false register k d (kind_of (valued d) register) x is lt e q)
+      (λ x q. left_register r true register k d (kind_of (valued d) register) x is lt e q)
+      (proper_known d word Unset Unset some_word tt tt) own le
 
   reg_fork : (r : Comparison) (d slot far : ℕ) → slot + 1 + far ≤ last
       → T slot (jump_by r (operand.Reg R1) far ∷ []) (C (known d word word Unset) slot)
@@ -721,7 +661,13 @@ module _ (program : List Insn) (shape : Extent) (last : ℕ) (solid : (k : ℕ) 
       (known d word word Unset) (plain d) (plain d) (λ x e. left_reg d _ x e) (λ x e. left_reg d _ x e)
       (proper_known d word word Unset some_word some_word tt) (keeps_own _ _ _ refl) le
 
-  compare_typed : (r : Comparison) (y : Source) (d lets slot far : ℕ) → IsThere y lets shape.memory → lets ≤ d → d ≤ 3
+  place_fork : (r : Comparison) (p : Place) (k d slot far : ℕ) → IsPlace p k → k < d → slot + 1 + far ≤ last
+      → T slot (jump_by r (place_operand p) far ∷ []) (C (known d word (place_r1 p) Unset) slot)
+      (λ table. C (plain d) (slot + 1) table × C (plain d) (slot + 1 + far) table)
+  place_fork r (InRegister register) k d slot far is lt le = register_fork r register k d slot far is lt le
+  place_fork r (OnStack off) k d slot far is lt le = reg_fork r d slot far le
+
+  compare_typed : (r : Comparison) (y : Source) (d lets slot far : ℕ) → IsThere y lets shape.memory → lets ≤ d → d ≤ PLACES
       → slot + 1 + far ≤ last
       → T slot (jump_by r (operand_code y) far ∷ []) (C (paired y d) slot)
       (λ table. C (plain d) (slot + 1) table × C (plain d) (slot + 1 + far) table)
@@ -731,12 +677,12 @@ module _ (program : List Insn) (shape : Extent) (last : ℕ) (solid : (k : ℕ) 
       (λ x e. left_imm d (cast_signed w32 c) _ x e) (λ x e. left_imm d (cast_signed w32 c) _ x e)
       (proper_known d word Unset Unset some_word tt tt) (keeps_own _ _ _ refl) le
   compare_typed r (FromLocal k) d lets slot far there below few le =
-      place_fork r k d slot far (omega (arith, there, below)) few le
+      place_fork r (number_place k) k d slot far (place_is k (omega (arith, there, below, few))) (omega (arith, there, below)) le
   compare_typed r (FromWord k) d lets slot far there below few le = reg_fork r d slot far le
   compare_typed r Computed d lets slot far there below few le = reg_fork r d slot far le
 
   operator_typed : (o : Operator) (y : Source) (purpose : Purpose) (d lets slot : ℕ) (code : List Insn)
-      → IsThere y lets shape.memory → lets ≤ d → d ≤ 3
+      → IsThere y lets shape.memory → lets ≤ d → d ≤ PLACES
       → slot + length (by_operator o (operand_code y) purpose code) + beyond_purpose purpose ≤ last
       → (slot + length code ≤ last → T slot code (C (plain d) slot) (C (paired y d) (slot + length code)))
       → TermTyped purpose d slot (by_operator o (operand_code y) purpose code)
@@ -769,7 +715,7 @@ module _ (program : List Insn) (shape : Extent) (last : ℕ) (solid : (k : ℕ) 
       (two (omega (arith, len, l))) b1)
 
   left_typed : (o : Operator) (x : Source) (purpose : Purpose) (d lets slot : ℕ) (right : List Insn) → is_found x ≡ true
-      → IsThere x lets shape.memory → lets ≤ d → d ≤ 3
+      → IsThere x lets shape.memory → lets ≤ d → d ≤ PLACES
       → slot + length (left_code o x purpose right) + beyond_purpose purpose ≤ last
       → (slot + length right ≤ last → TermTyped Value d slot right)
       → TermTyped purpose d slot (left_code o x purpose right)
@@ -792,27 +738,28 @@ module _ (program : List Insn) (shape : Extent) (last : ℕ) (solid : (k : ℕ) 
       typed_seq slot p1 right back (C (plain d) slot) (C (valued d) p1) (C (known d word word Unset) end) refl a bc)
   left_typed (Compare r) x purpose d lets slot right found there below few le first =
       operator_typed (Compare (mirror r)) x purpose d lets slot (right ++ load_code x) there below few le
-      (λ l. loaded_typed x d lets slot right found there l first)
+      (λ l. loaded_typed x d lets slot right found there below few l first)
 
   right_typed : (o : Operator) (y : Source) (purpose : Purpose) (d lets slot : ℕ) (left : List Insn) → is_found y ≡ true
-      → IsThere y lets shape.memory → lets ≤ d → d ≤ 3
-      → slot + length (by_operator o (operand_code y) purpose (left ++ load_code y)) + beyond_purpose purpose ≤ last
+      → IsThere y lets shape.memory → lets ≤ d → d ≤ PLACES
+      → slot + length (right_code o y purpose left) + beyond_purpose purpose ≤ last
       → (slot + length left ≤ last → TermTyped Value d slot left)
-      → TermTyped purpose d slot (by_operator o (operand_code y) purpose (left ++ load_code y))
+      → TermTyped purpose d slot (right_code o y purpose left)
   right_typed o y purpose d lets slot left found there below few le first =
       operator_typed o y purpose d lets slot (left ++ load_code y) there below few le
-      (λ l. loaded_typed y d lets slot left found there l first)
+      (λ l. loaded_typed y d lets slot left found there below few l first)
 
-  -- a local beside a constant
-  place_test_typed : (r : Comparison) (k c d slot far : ℕ) → k < d → d ≤ 3 → slot + 1 + far ≤ last
-      → T slot (jump_place k r c far ∷ []) (C (plain d) slot)
+  -- a place beside a constant
+  place_test_typed : (r : Comparison) (register : Reg) (k c d slot far : ℕ) → IsPlace (InRegister register) k → k < d
+      → slot + 1 + far ≤ last
+      → T slot (jump_register register r c far ∷ []) (C (plain d) slot)
       (λ table. C (plain d) (slot + 1) table × C (plain d) (slot + 1 + far) table)
-  place_test_typed r k c d slot far lt few le =
+  place_test_typed r register k c d slot far is lt le =
       let v = cast_signed w32 c in
       let n = cast_unsigned w64 v % 2 ^ 32 in
-      let e : kind_of (plain d) (place_register k) ≡ word = place_word k d lt few in
+      let e : kind_of (plain d) register ≡ word = register_kind register k d Unset Unset Unset is lt in
       let small : n < 2 ^ 32 = omega arith in
-      let own : KeepsOwn shape (jump_place k r c far) (plain d) = record {
+      let own : KeepsOwn shape (jump_register register r c far) (plain d) = record {
         forward = refl;
         known = refl;
         set = ap (λ (q : AbstractValue). is_unset_kind q || false) e;
@@ -824,23 +771,33 @@ module _ (program : List Insn) (shape : Extent) (last : ℕ) (solid : (k : ℕ) 
         exit = refl;
         base = refl;
       } in
-      one_fork program shape last solid slot far (cond_of r) (place_register k) (operand.Imm v) (plain d) (plain d) (plain d)
-      (λ x q. left_place r false k d n v (kind_of (plain d) (place_register k)) x (omega (arith, lt, few)) small e q)
-      (λ x q. left_place r true k d n v (kind_of (plain d) (place_register k)) x (omega (arith, lt, few)) small e q)
+      one_fork program shape last solid slot far (cond_of r) register (operand.Imm v) (plain d) (plain d) (plain d)
+      (λ x q. left_place r false register k d n v (kind_of (plain d) register) x is lt small e q)
+      (λ x q. left_place r true register k d n v (kind_of (plain d) register) x is lt small e q)
       (proper_known d Unset Unset Unset tt tt tt) own le
 
+  beside_typed : (p : Place) (r : Comparison) (k c : ℕ) (purpose : Purpose) (d lets slot : ℕ) (left : List Insn)
+      → IsPlace p k → k < d → lets ≤ d → d ≤ PLACES
+      → slot + length (beside_code p r c purpose left) + beyond_purpose purpose ≤ last
+      → (slot + length left ≤ last → TermTyped Value d slot left)
+      → TermTyped purpose d slot (beside_code p r c purpose left)
+  beside_typed (InRegister register) r k c purpose d lets slot left is lt below few le first =
+      by_test_typed purpose d slot (λ when far. jump_register register (jump_on when r) c far ∷ []) le
+      (λ when far l. place_test_typed (jump_on when r) register k c d slot far is lt (omega (arith, l)))
+  beside_typed (OnStack off) r k c purpose d lets slot left is lt below few le first =
+      right_typed (Compare r) (Constant c) purpose d lets slot left refl tt below few le first
+
   sides_typed : (y x : Source) (o : Operator) (purpose : Purpose) (d deep lets slot : ℕ) (left right : List Insn)
-      → IsThere y lets shape.memory → IsThere x lets shape.memory → lets ≤ d → d ≤ 3 → (is_found x ≡ true → deep ≡ d)
-      → (is_found x ≡ false → is_found y ≡ false → (d < 3) × (deep ≡ d + 1))
+      → IsThere y lets shape.memory → IsThere x lets shape.memory → lets ≤ d → d ≤ PLACES → (is_found x ≡ true → deep ≡ d)
+      → (is_found x ≡ false → is_found y ≡ false → (d < PLACES) × (deep ≡ d + 1))
       → slot + length (binary_code y x o d purpose left right) + beyond_purpose purpose ≤ last
       → (slot + length left ≤ last → TermTyped Value d slot left)
-      → ((to : ℕ) → deep ≤ 3 → to + length right ≤ last → TermTyped Value deep to right)
+      → ((to : ℕ) → deep ≤ PLACES → to + length right ≤ last → TermTyped Value deep to right)
       → TermTyped purpose d slot (binary_code y x o d purpose left right)
   sides_typed (Constant c) (FromLocal k) (Compare r) purpose d deep lets slot left right at_y at_x below
       few same free le first second =
-      by_test_typed purpose d slot (λ when far. jump_place k (jump_on when r) c far ∷ []) le
-      (λ when far l. place_test_typed (jump_on when r) k c d slot far (omega (arith, at_x, below)) few
-      (omega (arith, l)))
+      beside_typed (number_place k) r k c purpose d lets slot left (place_is k (omega (arith, at_x, below, few)))
+      (omega (arith, at_x, below)) below few le first
   sides_typed (Constant c) (FromLocal k) (Compute op) purpose d deep lets slot left right at_y at_x below
       few same free le first second = right_typed (Compute op) (Constant c) purpose d lets slot left refl at_y
       below few le first
@@ -982,23 +939,159 @@ module _ (program : List Insn) (shape : Extent) (last : ℕ) (solid : (k : ℕ) 
 
   -- ---- counts
 
-  add_typed : (d slot : ℕ) → d < 3 → slot + 1 ≤ last
-      → T slot (i.Alu Add W32 (place_register d) (operand.Imm (pos 1)) ∷ []) (C (plain (d + 1)) slot)
-      (C (plain (d + 1)) (slot + 1))
-  add_typed zero slot lt le = one_on program shape last solid slot (i.Alu Add W32 (place_register 0) (operand.Imm (pos 1)))
-      (plain 1) _ (plain 1) refl refl refl (into _ 1 Unset Unset Unset tt tt tt refl refl refl refl)
-      (proper_known 1 Unset Unset Unset tt tt tt) (keeps_own _ _ _ refl) le
-  add_typed (suc zero) slot lt le = one_on program shape last solid slot (i.Alu Add W32 (place_register 1) (operand.Imm (pos 1)))
-      (plain 2) _ (plain 2) refl refl refl (into _ 2 Unset Unset Unset tt tt tt refl refl refl refl)
-      (proper_known 2 Unset Unset Unset tt tt tt) (keeps_own _ _ _ refl) le
-  add_typed (suc (suc zero)) slot lt le = one_on program shape last solid slot
-      (i.Alu Add W32 (place_register 2) (operand.Imm (pos 1))) (plain 3) _ (plain 3) refl refl refl
-      (into _ 3 Unset Unset Unset tt tt tt refl refl refl refl)
-      (proper_known 3 Unset Unset Unset tt tt tt) (keeps_own _ _ _ refl) le
-  add_typed (suc (suc (suc d))) slot lt le = absurd (omega (arith, lt))
+  -- a number of 32 bits into a register, after which e places are in use; all other rules are kept by itself
+  pub register_typed : (register : Reg) (k d e slot : ℕ) (insn : Insn) (K : AbstractValue)
+      → IsPlace (InRegister register) k → Grows k d e → target insn slot Onward ≡ Some (slot + 1)
+      → target insn slot Jumping ≡ None → outcome shape insn (plain d) Onward ≡ Some (with_kind (plain d) register K)
+      → IsKindIn K word → KeepsOwn shape insn (plain d) → slot + 1 ≤ last
+      → T slot (insn ∷ []) (C (plain d) slot) (C (plain e) (slot + 1))
+  register_typed register k d e slot insn K is grows on off out inside own le =
+      one_on program shape last solid slot insn (plain d) (with_kind (plain d) register K) (plain e) on off out
+      (placed_in register k d e (plain d) K is grows refl inside) (proper_known d Unset Unset Unset tt tt tt) own le
 
-  counts_typed : (d slot n : ℕ) (test : ℕ → List Insn) → d < 3 → slot + length (count_codes d test n) ≤ last
-      → ((j to : ℕ) → to + length (test j) + 1 ≤ last → TermTyped (Jump false 1) (d + 1) to (test j))
+  -- what an operation in a register keeps
+  alter_keeps : (op : Operation) (register : Reg) (v k d : ℕ) → IsPlace (InRegister register) k → k < d
+      → KeepsOwn shape (i.Alu (alu_op_of op) W32 register (operand.Imm (cast_signed w32 v))) (plain d)
+  alter_keeps op register v k d is lt = by op
+    where
+      e : kind_of (plain d) register ≡ word
+      e = register_kind register k d Unset Unset Unset is lt
+
+      free : (register_number register == 10) ≡ false
+      free = not_frame register (omega (arith, is.0, is.1))
+
+      set : (is_unset_kind (kind_of (plain d) register) || false) ≡ false
+      set = ap (λ (q : AbstractValue). is_unset_kind q || false) e
+
+      number : (is_pointer_kind (kind_of (plain d) register) || false) ≡ false
+      number = ap (λ (q : AbstractValue). is_pointer_kind q || false) e
+
+      by : (op : Operation)
+          → KeepsOwn shape (i.Alu (alu_op_of op) W32 register (operand.Imm (cast_signed w32 v))) (plain d)
+      by Sum = record {
+        forward = refl;
+        known = refl;
+        set = set;
+        frame = free;
+        pointer = number;
+        region = refl;
+        stack = refl;
+        argument = refl;
+        exit = refl;
+        base = refl;
+      }
+      by Difference = record {
+        forward = refl;
+        known = refl;
+        set = set;
+        frame = free;
+        pointer = number;
+        region = refl;
+        stack = refl;
+        argument = refl;
+        exit = refl;
+        base = refl;
+      }
+      by Product = record {
+        forward = refl;
+        known = refl;
+        set = set;
+        frame = free;
+        pointer = number;
+        region = refl;
+        stack = refl;
+        argument = refl;
+        exit = refl;
+        base = refl;
+      }
+      by Quotient = record {
+        forward = refl;
+        known = refl;
+        set = set;
+        frame = free;
+        pointer = number;
+        region = refl;
+        stack = refl;
+        argument = refl;
+        exit = refl;
+        base = refl;
+      }
+      by Remainder = record {
+        forward = refl;
+        known = refl;
+        set = set;
+        frame = free;
+        pointer = number;
+        region = refl;
+        stack = refl;
+        argument = refl;
+        exit = refl;
+        base = refl;
+      }
+
+  -- the register of a place that is changed where it is
+  pub alter_typed : (op : Operation) (register : Reg) (k v d slot : ℕ) → IsPlace (InRegister register) k → k < d
+      → slot + 1 ≤ last
+      → T slot (i.Alu (alu_op_of op) W32 register (operand.Imm (cast_signed w32 v)) ∷ []) (C (plain d) slot)
+      (C (plain d) (slot + 1))
+  alter_typed op register k v d slot is lt le = by op
+    where
+      n : ℕ
+      n = cast_unsigned w64 (cast_signed w32 v) % 2 ^ 32
+
+      e : kind_of (plain d) register ≡ word
+      e = register_kind register k d Unset Unset Unset is lt
+
+      result : (op : AluOp) → range_of op W32 (full_of 32) (full_of 32) ≡ full_of 32
+          → IsKindIn (of_number_kinds (range_of op W32) (kind_of (plain d) register) (Number (just n))) word
+      result op same =
+          subst (λ (q : AbstractValue). IsKindIn (of_number_kinds (range_of op W32) q (Number (just n))) word) (sym e)
+          (word_result op (Number (just n)) (just n) refl (record { ordered = omega arith })
+          (record { low = omega arith; high = omega arith }) same)
+
+      by : (op : Operation) → T slot (i.Alu (alu_op_of op) W32 register (operand.Imm (cast_signed w32 v)) ∷ [])
+          (C (plain d) slot) (C (plain d) (slot + 1))
+      by Sum = register_typed register k d d slot _ _ is (grows_none k d lt) refl refl refl (result Add refl)
+          (alter_keeps Sum register v k d is lt) le
+      by Difference = register_typed register k d d slot _ _ is (grows_none k d lt) refl refl refl (result Sub refl)
+          (alter_keeps Difference register v k d is lt) le
+      by Product = register_typed register k d d slot _ _ is (grows_none k d lt) refl refl refl (result Mul refl)
+          (alter_keeps Product register v k d is lt) le
+      by Quotient = register_typed register k d d slot _ _ is (grows_none k d lt) refl refl refl (result Div refl)
+          (alter_keeps Quotient register v k d is lt) le
+      by Remainder = register_typed register k d d slot _ _ is (grows_none k d lt) refl refl refl (result Mod refl)
+          (alter_keeps Remainder register v k d is lt) le
+
+  -- one more in a place that is in use
+  increment_typed : (p : Place) (k d slot : ℕ) → number_place k ≡ p → k < d → d ≤ PLACES
+      → slot + length (increment_code p) ≤ last
+      → T slot (increment_code p) (C (plain d) slot) (C (plain d) (slot + length (increment_code p)))
+  increment_typed (InRegister register) k d slot same lt few le =
+      alter_typed Sum register k 1 d slot
+      (subst (λ (p : Place). IsPlace p k) same (place_is k (omega (arith, lt, few)))) lt le
+  increment_typed (OnStack off) k d slot same lt few le =
+      let fetch = fetch_code R0 (OnStack off) ∷ [] in
+      let add = i.Alu Add W32 R0 (operand.Imm (pos 1)) ∷ [] in
+      let keep = keep_code (OnStack off) ∷ [] in
+      let p1 = slot + 1 in
+      let p2 = p1 + 1 in
+      let S = plain d in
+      let V = valued d in
+      let f = subst (λ (p : Place). T slot (fetch_code R0 p ∷ []) (C S slot) (C V p1)) same
+      (fetch_typed program shape last solid k d Unset slot lt few tt (omega (arith, le))) in
+      let a = alu_typed Sum (operand.Imm (pos 1)) d Unset p1 (operand_is (Constant 1) d d 0 tt (omega arith) few)
+      (proper_known d word Unset Unset some_word tt tt) (omega (arith, le)) in
+      let g = subst (λ (p : Place). T p2 (keep_code p ∷ []) (C V p2) (C S (p2 + 1))) same
+      (change_typed program shape last solid k d p2 lt few (omega (arith, le))) in
+      let e : p2 + 1 ≡ slot + 3 = omega arith in
+      let g1 = typed_at p2 (p2 + 1) (slot + 3) keep (C V p2) S e g in
+      let ag = typed_seq p1 p2 add keep (C V p1) (C V p2) (C S (slot + 3)) refl a g1 in
+      typed_seq slot p1 fetch (i.Alu Add W32 R0 (operand.Imm (pos 1)) ∷ keep_code (OnStack off) ∷ []) (C S slot)
+      (C V p1) (C S (slot + 3)) refl f ag
+
+  counts_typed : (d slot n : ℕ) (test : ℕ → List Insn) → d < PLACES → slot + length (count_codes d test n) ≤ last
+      → ((j to : ℕ) → to + length (test j) + length (increment_code (number_place d)) ≤ last
+      → TermTyped (count_test d) (d + 1) to (test j))
       → T slot (count_codes d test n) (C (plain (d + 1)) slot)
       (C (plain (d + 1)) (slot + length (count_codes d test n)))
   counts_typed d slot zero test small le each =
@@ -1007,65 +1100,48 @@ module _ (program : List Insn) (shape : Extent) (last : ℕ) (solid : (k : ℕ) 
       (typed_none program shape last solid slot (C (plain (d + 1)) slot))
   counts_typed d slot (suc n) test small le each =
       let front = count_codes d test n in
-      let add = i.Alu Add W32 (place_register d) (operand.Imm (pos 1)) ∷ [] in
+      let add = increment_code (number_place d) in
       let back = test n ++ add in
-      let len : length (front ++ back) ≡ length front + (length (test n) + 1) = omega
+      let len : length (front ++ back) ≡ length front + (length (test n) + length add) = omega
       (arith, length-append front back, length-append (test n) add) in
       let p1 = slot + length front in
       let p2 = p1 + length (test n) in
+      let p3 = p2 + length add in
       let S = plain (d + 1) in
       let f = counts_typed d slot n test small (omega (arith, len, le)) each in
       let t = each n p1 (omega (arith, len, le)) in
-      let a = add_typed d p2 small (omega (arith, len, le)) in
-      let ta = typed_then program shape last solid p1 p2 (test n) add (C S p1) (λ table. C S p2 table × C S
-      (p2 + 1) table) (C S p2) (C S (p2 + 1)) refl t a (λ table o asks. (o, asks)) in
-      let ta1 = typed_as program shape last solid p1 back (λ table. C S p1 table × C S p2 table) (C S (p2 + 1)) (C S p1)
-      (C S (p2 + 1)) (λ table h. h.0) (λ table h. h) ta in
-      let e : p2 + 1 ≡ slot + length (front ++ back) = omega (arith, len) in
-      typed_at slot (p2 + 1) (slot + length (front ++ back)) (front ++ back) (C S slot) S e
-      (typed_seq slot p1 front back (C S slot) (C S p1) (C S (p2 + 1)) refl f ta1)
-
-  -- 0 into the next place
-  begin_typed : (d slot : ℕ) → d < 3 → slot + 1 ≤ last
-      → T slot (set_number (place_register d) 0 ∷ []) (C (plain d) slot) (C (plain (d + 1)) (slot + 1))
-  begin_typed zero slot lt le = one_on program shape last solid slot (set_number (place_register 0) 0) (plain 0) _ (plain 1)
-      refl refl refl
-      (within _ Unset Unset Unset memory_place word Unset Unset tt tt tt (kind_in_itself memory_place)
-      (short (cast_unsigned w64 (cast_signed w32 0) % 2 ^ 32)) tt tt)
-      (proper_known 0 Unset Unset Unset tt tt tt) (keeps_own _ _ _ refl) le
-  begin_typed (suc zero) slot lt le = one_on program shape last solid slot (set_number (place_register 1) 0)
-      (plain 1) _ (plain 2) refl refl refl
-      (within _ Unset Unset Unset memory_place word word Unset tt tt tt (kind_in_itself memory_place)
-      (kind_in_itself word) (short (cast_unsigned w64 (cast_signed w32 0) % 2 ^ 32)) tt)
-      (proper_known 1 Unset Unset Unset tt tt tt) (keeps_own _ _ _ refl) le
-  begin_typed (suc (suc zero)) slot lt le = one_on program shape last solid slot (set_number (place_register 2) 0)
-      (plain 2) _ (plain 3) refl refl refl
-      (within _ Unset Unset Unset memory_place word word word tt tt tt (kind_in_itself memory_place)
-      (kind_in_itself word) (kind_in_itself word) (short (cast_unsigned w64 (cast_signed w32 0) % 2 ^ 32)))
-      (proper_known 2 Unset Unset Unset tt tt tt) (keeps_own _ _ _ refl) le
-  begin_typed (suc (suc (suc d))) slot lt le = absurd (omega (arith, lt))
+      let a = increment_typed (number_place d) d (d + 1) p2 refl (omega arith) (omega (arith, small)) (omega (arith, len, le)) in
+      let ta = typed_then program shape last solid p1 p2 (test n) add (C S p1) (λ table. C S p2 table × C S p3 table)
+      (C S p2) (C S p3) refl t a (λ table o asks. (o, asks)) in
+      let ta1 = typed_as program shape last solid p1 back (λ table. C S p1 table × C S p2 table) (C S p3) (C S p1)
+      (C S p3) (λ table h. h.0) (λ table h. h) ta in
+      let e : p3 ≡ slot + length (front ++ back) = omega (arith, len) in
+      typed_at slot p3 (slot + length (front ++ back)) (front ++ back) (C S slot) S e
+      (typed_seq slot p1 front back (C S slot) (C S p1) (C S p3) refl f ta1)
 
   -- a count that stays in the next place
-  pub counted_typed : (d slot n : ℕ) (test : ℕ → List Insn) → d < 3 → slot + length (counted_code d n test) ≤ last
-      → ((j to : ℕ) → to + length (test j) + 1 ≤ last → TermTyped (Jump false 1) (d + 1) to (test j))
+  pub counted_typed : (d slot n : ℕ) (test : ℕ → List Insn) → d < PLACES → slot + length (counted_code d n test) ≤ last
+      → ((j to : ℕ) → to + length (test j) + length (increment_code (number_place d)) ≤ last
+      → TermTyped (count_test d) (d + 1) to (test j))
       → T slot (counted_code d n test) (C (plain d) slot) (C (plain (d + 1)) (slot + length (counted_code d n test)))
   counted_typed d slot n test small le each =
       let codes = count_codes d test n in
       let p2 = slot + 1 in
       let end = slot + length (counted_code d n test) in
-      let b = begin_typed d slot small (omega (arith, le)) in
+      let b = begin_typed program shape last solid d slot small (omega (arith, le)) in
       let e : p2 + length codes ≡ end = omega arith in
       let c = typed_at p2 (p2 + length codes) end codes (C (plain (d + 1)) p2) (plain (d + 1)) e
       (counts_typed d p2 n test small (omega (arith, le)) each) in
-      typed_seq slot p2 (set_number (place_register d) 0 ∷ []) codes (C (plain d) slot) (C (plain (d + 1)) p2)
+      typed_seq slot p2 (clear_code (number_place d) ∷ []) codes (C (plain d) slot) (C (plain (d + 1)) p2)
       (C (plain (d + 1)) end) refl b c
 
-  count_typed : (d slot n : ℕ) (test : ℕ → List Insn) → d < 3 → slot + length (count_code d n test) ≤ last
-      → ((j to : ℕ) → to + length (test j) + 1 ≤ last → TermTyped (Jump false 1) (d + 1) to (test j))
+  count_typed : (d slot n : ℕ) (test : ℕ → List Insn) → d < PLACES → slot + length (count_code d n test) ≤ last
+      → ((j to : ℕ) → to + length (test j) + length (increment_code (number_place d)) ≤ last
+      → TermTyped (count_test d) (d + 1) to (test j))
       → TermTyped Value d slot (count_code d n test)
   count_typed d slot n test small le each =
       let codes = counted_code d n test in
-      let last_one = copy R0 (place_register d) ∷ [] in
+      let last_one = fetch_code R0 (number_place d) ∷ [] in
       let len : length (codes ++ last_one) ≡ length codes + 1 = length-append codes last_one in
       let p3 = slot + length codes in
       let end = slot + length (codes ++ last_one) in
@@ -1093,13 +1169,13 @@ module _ (program : List Insn) (shape : Extent) (last : ℕ) (solid : (k : ℕ) 
               (arith, few);
         },
       ) tt tt
-      refl refl refl refl) (proper_known d Unset Unset Unset tt tt tt) (keeps_own _ _ _ refl) le
+      refl) (proper_known d Unset Unset Unset tt tt tt) (keeps_own _ _ _ refl) le
 
   coin_typed : (d slot : ℕ) → slot + 1 ≤ last
       → T slot (i.Call (pos 4) ∷ []) (C (plain d) slot) (C (valued d) (slot + 1))
   coin_typed d slot le = one_on program shape last solid slot (i.Call (pos 4)) (plain d) _ (valued d) refl refl refl
       (into _ d word Unset Unset (span 0 1, refl, record { low = omega arith; high = omega arith }) tt tt
-      refl refl refl refl) (proper_known d Unset Unset Unset tt tt tt) (keeps_own _ _ _ refl) le
+      refl) (proper_known d Unset Unset Unset tt tt tt) (keeps_own _ _ _ refl) le
 
   pub load_typed : (d k slot : ℕ) → 4 * k + 4 ≤ shape.memory → slot + 1 ≤ last
       → T slot (i.Load size.W R0 R6 (pos (4 * k)) ∷ []) (C (plain d) slot) (C (valued d) (slot + 1))
@@ -1107,7 +1183,7 @@ module _ (program : List Insn) (shape : Extent) (last : ℕ) (solid : (k : ℕ) 
       let room : nat_lt shape.memory (0 + 4 * k + 4) ≡ false = le-ltb shape.memory (0 + 4 * k + 4)
       (omega (arith, inside)) in
       one_on program shape last solid slot (i.Load size.W R0 R6 (pos (4 * k))) (plain d) _ (valued d) refl refl refl
-      (into _ d word Unset Unset (kind_in_itself word) tt tt refl refl refl refl)
+      (into _ d word Unset Unset (kind_in_itself word) tt tt refl)
       (proper_known d Unset Unset Unset tt tt tt) (keeps_own _ _ _ (rw room refl)) le
 
   -- a node's number in r0
@@ -1122,7 +1198,7 @@ module _ (program : List Insn) (shape : Extent) (last : ℕ) (solid : (k : ℕ) 
       → refined_by (valued d) R0 (operand.Imm v) found ≡ Some X → IsContainedIn X (known d some_node Unset Unset)
   node_in_r0 d v None X h e = absurd (none-some X e)
   node_in_r0 d v (Some pair) X h e = subst (λ (x : AbstractState). IsContainedIn x (known d some_node Unset Unset))
-      (same_Some _ X e) (into _ d some_node Unset Unset (h pair refl) tt tt refl refl refl refl)
+      (same_Some _ X e) (into _ d some_node Unset Unset (h pair refl) tt tt refl)
 
   less_node : (n : ℕ) (pair : Span × Span) → n ≡ shape.nodes → n ≤ 64 → less (full_of 32) (just n) ≡ Some pair
       → IsKindIn (Number pair.0) some_node
@@ -1166,7 +1242,7 @@ module _ (program : List Insn) (shape : Extent) (last : ℕ) (solid : (k : ℕ) 
       → T slot (copy R1 R0 ∷ []) (C (known d some_node Unset Unset) slot) (C (known d Unset some_node Unset) (slot + 1))
   name_typed d slot few le = one_on program shape last solid slot (copy R1 R0) (known d some_node Unset Unset) _
       (known d Unset some_node Unset) refl refl refl
-      (into _ d Unset some_node Unset tt (moved_node (shape.nodes - 1) (omega (arith, few))) tt refl refl refl refl)
+      (into _ d Unset some_node Unset tt (moved_node (shape.nodes - 1) (omega (arith, few))) tt refl)
       (proper_known d some_node Unset Unset proper_node tt tt) (keeps_own _ _ _ refl) le
 
   recv_typed : (d slot : ℕ) → 1 ≤ shape.nodes → slot + 1 ≤ last
@@ -1175,7 +1251,7 @@ module _ (program : List Insn) (shape : Extent) (last : ℕ) (solid : (k : ℕ) 
       let one_of : nat_lt (shape.nodes - 1) shape.nodes ≡ true = lt-ltb (shape.nodes - 1) shape.nodes
       (omega (arith, some)) in
       one_on program shape last solid slot (i.Call (pos 2)) (known d Unset some_node Unset) _ (valued d) refl refl refl
-      (into _ d word Unset Unset (kind_in_itself word) tt tt refl refl refl refl)
+      (into _ d word Unset Unset (kind_in_itself word) tt tt refl)
       (proper_known d Unset some_node Unset tt proper_node tt) (keeps_own _ _ _ (rw one_of refl)) le
 
   message_typed : (d n slot : ℕ) → n ≡ shape.nodes → 1 ≤ n → n ≤ 64 → slot + 5 ≤ last
@@ -1223,7 +1299,7 @@ module _ (program : List Insn) (shape : Extent) (last : ℕ) (solid : (k : ℕ) 
       one_on program shape last solid slot (set_node R1 j) (plain d) _ (known d Unset some_node Unset) refl refl refl
       (into _ d Unset some_node Unset tt
       (just (cast_unsigned w64 (pos j) % 2 ^ 64), refl, record { low = omega arith; high = omega (arith, lt, imm) }) tt
-      refl refl refl refl) (proper_known d Unset Unset Unset tt tt tt) (keeps_own _ _ _ refl) le
+      refl) (proper_known d Unset Unset Unset tt tt tt) (keeps_own _ _ _ refl) le
 
   some_node_typed : (d n slot : ℕ) (code : List Insn) → n ≡ shape.nodes → 1 ≤ n → n ≤ 64
       → slot + length (code ++ message_code n) ≤ last → (slot + length code ≤ last → TermTyped Value d slot code)
@@ -1270,7 +1346,7 @@ module _ (program : List Insn) (shape : Extent) (last : ℕ) (solid : (k : ℕ) 
   -- ---- terms
 
   pub term_typed : (t : Term) (z : Sizes) (J : List ℕ) (d lets : ℕ) (purpose : Purpose) (slot : ℕ)
-      → z.nodes ≡ shape.nodes → 1 ≤ z.nodes → z.nodes ≤ 64 → z.memory ≡ shape.memory → lets ≤ d → d ≤ 3
+      → z.nodes ≡ shape.nodes → 1 ≤ z.nodes → z.nodes ≤ 64 → z.memory ≡ shape.memory → lets ≤ d → d ≤ PLACES
       → Fits t z (length J) lets d → slot + length (term_code t z J d purpose) + beyond_purpose purpose ≤ last
       → TermTyped purpose d slot (term_code t z J d purpose)
   term_typed (Numeral v) z J d lets purpose slot same some few room below small fits le =
@@ -1292,7 +1368,7 @@ module _ (program : List Insn) (shape : Extent) (last : ℕ) (solid : (k : ℕ) 
       by_value_typed purpose d slot (set_number R0 (slice_index J k) ∷ []) le
       (λ l. number_typed program shape last solid d (slice_index J k) slot l)
   term_typed (Local k) z J d lets purpose slot same some few room below small fits le =
-      by_value_typed purpose d slot (copy R0 (place_register k) ∷ []) le
+      by_value_typed purpose d slot (fetch_code R0 (number_place k) ∷ []) le
       (λ l. fetch_typed program shape last solid k d Unset slot (omega (arith, fits, below)) small tt l)
   term_typed (Word k) z J d lets purpose slot same some few room below small fits le =
       by_value_typed purpose d slot (i.Load size.W R0 R6 (pos (4 * k)) ∷ []) le
@@ -1336,10 +1412,10 @@ module _ (program : List Insn) (shape : Extent) (last : ℕ) (solid : (k : ℕ) 
       (λ to k. term_typed a z J d lets Value to same some few room below small fits.1 (omega (arith, k)))
       (λ to k. term_typed b z J d lets Value to same some few room below small fits.2 (omega (arith, k))))
   term_typed (Count' p t) z J d lets purpose slot same some few room below small fits le =
-      let test = λ (j : ℕ). term_code t z (J ++ j ∷ []) (d + 1) (Jump false 1) in
+      let test = λ (j : ℕ). term_code t z (J ++ j ∷ []) (d + 1) (count_test d) in
       by_value_typed purpose d slot (count_code d z.nodes test) le
       (λ l. count_typed d slot z.nodes test fits.0 l
       (λ j to k.
       let more : length J + 1 ≡ length (J ++ j ∷ []) = omega (arith, length-append J (j ∷ [])) in
-      term_typed t z (J ++ j ∷ []) (d + 1) lets (Jump false 1) to same some few room (omega (arith, below))
+      term_typed t z (J ++ j ∷ []) (d + 1) lets (count_test d) to same some few room (omega (arith, below))
       (omega (arith, fits.0)) (subst (λ (n : ℕ). Fits t z n lets (d + 1)) more fits.1) k))

@@ -5,8 +5,9 @@ use Rattle.std.proofs.lemmas.Option.{slice_get-get_or, same_Some, none-some}
 use Rattle.std.proofs.lemmas.Bool.{cases_Bool, cond-true, cond-false}
 use Rattle.std.specs.Int.{w32, cast_signed}
 use Rattle.bpf_insn.specs.declared.forms.Width.TheVariants.{W32}
-use Rattle.std.specs.FinMap.{get}
-use Rattle.node_env.specs.declared.region.Region.TheVariants.{Mem}
+use Rattle.std.specs.Ordering.{nat_cmp}
+use Rattle.std.specs.FinMap.{get, get-empty}
+use Rattle.node_env.specs.declared.region.Region.TheVariants.{Mem, Stack}
 use Rattle.node_env.specs.Env.{Extent, Setting}
 use Rattle.bpf_insn.specs.declared.forms.Reg.TheVariants.{R0, R1, R2, R6}
 use Rattle.bpf_insn.specs.declared.forms.Reg.{Reg}
@@ -21,11 +22,15 @@ use Rattle.bpf_machine.specs.Machine.{Running, Ended, entry}
 use Rattle.bpf_machine.specs.Step.{step}
 use Rattle.clock_nodes.specs.Ends.{IsNodeStart, HasRuns, EndsBy}
 use Rattle.clock_nodes.proofs.Places.{begins, Ones, ones_append, found, stands_whole}
-use Rattle.clock_nodes.proofs.Forms.{put_same, put, moves, exits}
+use Rattle.clock_nodes.proofs.Forms.{put_same, put_other, put, moves, exits}
 use Rattle.clock_nodes.proofs.Runs.{HasEnd, one_end}
 use Rattle.rule_syntax.specs.declared.syntax.Sizes.{Sizes}
 use Rattle.rule_syntax.specs.declared.syntax.Operator.{Operator}
 use Rattle.rule_syntax.specs.declared.syntax.Operator.TheVariants.{Compute, Compare}
+use Rattle.rule_nodes.specs.declared.numbers.Place.{Place}
+use Rattle.rule_nodes.specs.declared.numbers.Place.TheVariants.{InRegister, OnStack}
+use Rattle.rule_syntax.specs.declared.syntax.Operation.{Operation}
+use Rattle.rule_syntax.specs.declared.syntax.Comparison.{Comparison}
 use Rattle.rule_nodes.specs.declared.numbers.Purpose.{Purpose}
 use Rattle.rule_nodes.specs.declared.numbers.Purpose.TheVariants.{Value, Jump}
 use Rattle.rule_syntax.specs.declared.syntax.Target.{Target}
@@ -41,7 +46,7 @@ use Rattle.rule_syntax.specs.declared.syntax.Statement.TheVariants.{Nothing, The
 use Rattle.rule_nodes.specs.Meaning.{initial_state}
 use Rattle.rule_nodes.specs.Operands.{is_constant, constant_number, is_local, is_operand, is_steady, depth_behind, term_source}
 use Rattle.rule_nodes.specs.Fits.{BlockFits}
-use Rattle.rule_nodes.specs.Code.{place_register, set_number, set_node, get_code, operand_code, load_code, left_code, binary_code, mirror, message_by, copy, truth_code, by_value, by_test, by_operator, two_code, choice_code, if_code, is_nothing, decides, both_far, both_code, jump_on, jump_by, jump_place, message_code, count_codes, term_code, assign_code, set_code, given_code, alu_op_of, changing_insn, one_code, also_code, assignment_code, stored_code, let_code, send_code, send_codes, send_all_code, passed_code, send_to_code, each_code, block_code, tail_code, rule_code}
+use Rattle.rule_nodes.specs.Code.{number_place, fetch_code, keep_code, clear_code, increment_code, load_place, set_number, set_node, get_code, operand_code, load_code, left_code, right_code, beside_code, binary_code, mirror, message_by, copy, truth_code, by_value, by_test, by_operator, two_code, choice_code, if_code, is_nothing, decides, both_far, both_code, jump_on, jump_by, jump_register, message_code, count_codes, count_test, term_code, assign_code, place_code, word_code, set_code, change_place, given_code, alu_op_of, changing_insn, one_code, also_code, assignment_code, stored_code, let_code, send_code, send_codes, send_all_code, passed_code, send_to_code, each_code, block_code, tail_code, rule_code}
 use Rattle.rule_nodes.specs.Ends.{AreSizes, IsRuleEnd}
 use Rattle.rule_nodes.proofs.Forms.{leads_add, once, chain, further}
 use Rattle.rule_nodes.proofs.States.{stands_front, stands_back, Holds, IsSized}
@@ -59,8 +64,29 @@ ones_test : (purpose : Purpose) (test : Bool → ℕ → List Insn) → ((when :
 ones_test Value test h = ones_append (test false 2) truth_code (h false 2) (refl, (refl, (refl, tt)))
 ones_test (Jump when far) test h = h when far
 
+one_fetch : (dst : Reg) (p : Place) → slots_taken (fetch_code dst p) ≡ 1
+one_fetch dst (InRegister register) = refl
+one_fetch dst (OnStack off) = refl
+
+one_keep : (p : Place) → slots_taken (keep_code p) ≡ 1
+one_keep (InRegister register) = refl
+one_keep (OnStack off) = refl
+
+one_clear : (p : Place) → slots_taken (clear_code p) ≡ 1
+one_clear (InRegister register) = refl
+one_clear (OnStack off) = refl
+
+ones_increment : (p : Place) → Ones (increment_code p)
+ones_increment (InRegister register) = (refl, tt)
+ones_increment (OnStack off) = (refl, (refl, (refl, tt)))
+
+ones_place : (p : Place) → Ones (load_place p)
+ones_place (InRegister register) = tt
+ones_place (OnStack off) = (refl, tt)
+
 ones_two : (d : ℕ) (a b : List Insn) → Ones a → Ones b → Ones (two_code d a b)
-ones_two d a b h g = ones_append a _ h (refl, ones_append b _ g (refl, (refl, tt)))
+ones_two d a b h g =
+    ones_append a _ h (one_keep (number_place d), ones_append b _ g (refl, (one_fetch R0 (number_place d), tt)))
 
 ones_operator : (o : Operator) (src : Operand) (purpose : Purpose) (code : List Insn) → Ones code
     → Ones (by_operator o src purpose code)
@@ -70,13 +96,13 @@ ones_operator (Compare r) src purpose code h = ones_test purpose (λ when far. c
 
 ones_load : (y : Source) → Ones (load_code y)
 ones_load (Constant c) = tt
-ones_load (FromLocal k) = tt
+ones_load (FromLocal k) = ones_place (number_place k)
 ones_load (FromWord k) = (refl, tt)
 ones_load Computed = tt
 
 takes_one : (dst : Reg) (x : Source) → slots_taken (get_code dst x) ≡ 1
 takes_one dst (Constant c) = refl
-takes_one dst (FromLocal k) = refl
+takes_one dst (FromLocal k) = one_fetch dst (number_place k)
 takes_one dst (FromWord k) = refl
 takes_one dst Computed = refl
 
@@ -90,14 +116,20 @@ ones_left (Compare r) x purpose right h =
     (ones_append right _ h (ones_load x))
 
 ones_right : (o : Operator) (y : Source) (purpose : Purpose) (left : List Insn) → Ones left
-    → Ones (by_operator o (operand_code y) purpose (left ++ load_code y))
+    → Ones (right_code o y purpose left)
 ones_right o y purpose left h =
     ones_operator o (operand_code y) purpose (left ++ load_code y) (ones_append left _ h (ones_load y))
+
+ones_beside : (p : Place) (r : Comparison) (c : ℕ) (purpose : Purpose) (left : List Insn) → Ones left
+    → Ones (beside_code p r c purpose left)
+ones_beside (InRegister register) r c purpose left h =
+    ones_test purpose (λ when far. jump_register register (jump_on when r) c far ∷ []) (λ when far. (refl, tt))
+ones_beside (OnStack off) r c purpose left h = ones_right (Compare r) (Constant c) purpose left h
 
 ones_binary : (y x : Source) (o : Operator) (d : ℕ) (purpose : Purpose) (left right : List Insn)
     → Ones left → Ones right → Ones (binary_code y x o d purpose left right)
 ones_binary (Constant c) (FromLocal k) (Compare r) d purpose left right h g =
-    ones_test purpose (λ when far. jump_place k (jump_on when r) c far ∷ []) (λ when far. (refl, tt))
+    ones_beside (number_place k) r c purpose left h
 ones_binary (Constant c) (FromLocal k) (Compute op) d purpose left right h g =
     ones_right (Compute op) (Constant c) purpose left h
 ones_binary (Constant c) (Constant b) o d purpose left right h g = ones_value purpose _ (refl, tt)
@@ -134,7 +166,7 @@ ones_if false test a b k h g = ones_choice test a b k h g
 ones_counts : (d : ℕ) (test : ℕ → List Insn) (n : ℕ) → ((j : ℕ) → Ones (test j)) → Ones (count_codes d test n)
 ones_counts d test zero h = tt
 ones_counts d test (suc n) h = ones_append (count_codes d test n) _ (ones_counts d test n h)
-    (ones_append (test n) _ (h n) (refl, tt))
+    (ones_append (test n) _ (h n) (ones_increment (number_place d)))
 
 ones_term : (t : Term) (z : Sizes) (J : List ℕ) (d : ℕ) (purpose : Purpose) → Ones (term_code t z J d purpose)
 ones_term (Number v) z J d purpose = ones_value purpose _ (refl, tt)
@@ -144,7 +176,7 @@ ones_term Modulus z J d purpose = ones_value purpose _ (refl, tt)
 ones_term Me z J d purpose = ones_value purpose _ (refl, tt)
 ones_term Coin z J d purpose = ones_value purpose _ (refl, tt)
 ones_term (LoopNode k) z J d purpose = ones_value purpose _ (refl, tt)
-ones_term (Local k) z J d purpose = ones_value purpose _ (refl, tt)
+ones_term (Local k) z J d purpose = ones_value purpose _ (one_fetch R0 (number_place k), tt)
 ones_term (Word k) z J d purpose = ones_value purpose _ (refl, tt)
 ones_term (Message' p a) z J d purpose = ones_value purpose _
     (ones_message (term_source a z J) z.nodes (term_code a z J d Value) (ones_term a z J d Value))
@@ -163,20 +195,28 @@ ones_term (Choice' p t q a r b) z J d purpose = ones_value purpose _
     (ones_choice (λ far. term_code t z J d (Jump false far)) _ _ (λ far. ones_term t z J d (Jump false far))
     (ones_term a z J d Value) (ones_term b z J d Value))
 ones_term (Count' p t) z J d purpose = ones_value purpose _ (
-  refl,
-  ones_append (count_codes d (λ j. term_code t z (J ++ j ∷ []) (d + 1) (Jump false 1)) z.nodes) _
-      (ones_counts d (λ j. term_code t z (J ++ j ∷ []) (d + 1) (Jump false 1)) z.nodes
-      (λ j. ones_term t z (J ++ j ∷ []) (d + 1) (Jump false 1))) (refl, tt),
+  one_clear (number_place d),
+  ones_append (count_codes d (λ j. term_code t z (J ++ j ∷ []) (d + 1) (count_test d)) z.nodes) _
+      (ones_counts d (λ j. term_code t z (J ++ j ∷ []) (d + 1) (count_test d)) z.nodes
+      (λ j. ones_term t z (J ++ j ∷ []) (d + 1) (count_test d))) (one_fetch R0 (number_place d), tt),
 )
 
 ones_assign : (target : Target) → Ones (assign_code target ∷ [])
-ones_assign (ToLocal k) = (refl, tt)
+ones_assign (ToLocal k) = (one_keep (number_place k), tt)
 ones_assign (ToWord k) = (refl, tt)
 
+ones_placed : (p : Place) (x : Source) → Ones (place_code p x)
+ones_placed (InRegister register) x = (takes_one register x, tt)
+ones_placed (OnStack off) x = (takes_one R0 x, (refl, tt))
+
+ones_word : (k : ℕ) (p : Place) → Ones (word_code k p)
+ones_word k (InRegister register) = (refl, tt)
+ones_word k (OnStack off) = (refl, (refl, tt))
+
 ones_set : (target : Target) (x : Source) → Ones (set_code target x)
-ones_set (ToLocal k) x = (takes_one (place_register k) x, tt)
+ones_set (ToLocal k) x = ones_placed (number_place k) x
 ones_set (ToWord k) (Constant c) = (refl, tt)
-ones_set (ToWord k) (FromLocal j) = (refl, tt)
+ones_set (ToWord k) (FromLocal j) = ones_word k (number_place j)
 ones_set (ToWord k) (FromWord j) = (refl, (refl, tt))
 ones_set (ToWord k) Computed = (refl, (refl, tt))
 
@@ -190,20 +230,25 @@ ones_also : (steady : Bool) (d : ℕ) (x : Source) (target : Target) (code first
     → Ones (also_code steady d x target code first)
 ones_also true d x target code first h g = ones_append first _ g (ones_given x target code h)
 ones_also false d x target code first h g = ones_append code _ h (
-  refl,
+  one_keep (number_place d),
   ones_append first _ g
-      (refl, ones_assign target),
+      (one_fetch R0 (number_place d), ones_assign target),
 )
+
+one_change : (p : Place) (op : Operation) (c : ℕ) (insn : Insn) → change_place p op c ≡ Some insn → slots_taken insn ≡ 1
+one_change (InRegister register) op c insn is =
+    let act = i.Alu (alu_op_of op) W32 register (operand.Imm (cast_signed w32 c)) in
+    subst (λ (x : Insn). slots_taken x ≡ 1) (same_Some act insn is) refl
+one_change (OnStack off) op c insn is = absurd (none-some insn is)
 
 one_slot : (target : Target) (e : Term) (insn : Insn) (z : Sizes) (J : List ℕ) → changing_insn target e z J ≡ Some insn
     → slots_taken insn ≡ 1
 one_slot (ToLocal k) (Binary' (Compute op) p a q b) insn z J is =
-    let act = i.Alu (alu_op_of op) W32 (place_register k) (operand.Imm (cast_signed w32 (constant_number b z J))) in
+    let act = change_place (number_place k) op (constant_number b z J) in
     let test = is_local a k && is_constant b in
     elim (cases_Bool test) [
-      | inl so ↦ subst (λ (x : Insn). slots_taken x ≡ 1)
-          (same_Some act insn (sym (cond-true test (Some act) None so) ∙ is)) refl
-      | inr other ↦ absurd (none-some insn (sym (cond-false test (Some act) None other) ∙ is))
+      | inl so ↦ one_change (number_place k) op (constant_number b z J) insn (sym (cond-true test act None so) ∙ is)
+      | inr other ↦ absurd (none-some insn (sym (cond-false test act None other) ∙ is))
     ]
 one_slot (ToWord k) (Binary' o p a q b) insn z J is = absurd (none-some insn is)
 one_slot target e insn z J is = absurd (none-some insn is)
@@ -229,24 +274,27 @@ ones_send_all : (x : Source) (d n : ℕ) (code : List Insn) → Ones code → On
 ones_send_all (Constant c) d n code h = ones_sends (Constant c) n
 ones_send_all (FromLocal k) d n code h = ones_sends (FromLocal k) n
 ones_send_all (FromWord k) d n code h = ones_sends (FromWord k) n
-ones_send_all Computed d n code h = ones_append code _ h (refl, ones_sends (FromLocal d) n)
+ones_send_all Computed d n code h = ones_append code _ h (one_keep (number_place d), ones_sends (FromLocal d) n)
 
 ones_each : (body : ℕ → List Insn) (n : ℕ) → ((j : ℕ) → Ones (body j)) → Ones (each_code body n)
 ones_each body zero h = tt
 ones_each body (suc n) h = ones_append (each_code body n) (body n) (ones_each body n h) (h n)
 
 ones_stored : (x : Source) (d : ℕ) (code rest : List Insn) → Ones code → Ones rest → Ones (stored_code x d code rest)
-ones_stored (Constant c) d code rest h g = (refl, g)
-ones_stored (FromLocal k) d code rest h g = (refl, g)
-ones_stored (FromWord k) d code rest h g = (refl, g)
-ones_stored Computed d code rest h g = ones_append code (copy (place_register d) R0 ∷ rest) h (refl, g)
+ones_stored (Constant c) d code rest h g = ones_append (place_code (number_place d) (Constant c)) rest
+    (ones_placed (number_place d) (Constant c)) g
+ones_stored (FromLocal k) d code rest h g = ones_append (place_code (number_place d) (FromLocal k)) rest
+    (ones_placed (number_place d) (FromLocal k)) g
+ones_stored (FromWord k) d code rest h g = ones_append (place_code (number_place d) (FromWord k)) rest
+    (ones_placed (number_place d) (FromWord k)) g
+ones_stored Computed d code rest h g = ones_append code (keep_code (number_place d) ∷ rest) h (one_keep (number_place d), g)
 
 ones_let : (e : Term) (z : Sizes) (J : List ℕ) (d : ℕ) (rest : List Insn) → Ones rest → Ones (let_code e z J d rest)
 ones_let (Count' p t) z J d rest h = (
-  refl,
-  ones_append (count_codes d (λ j. term_code t z (J ++ j ∷ []) (d + 1) (Jump false 1)) z.nodes) rest
-      (ones_counts d (λ j. term_code t z (J ++ j ∷ []) (d + 1) (Jump false 1)) z.nodes
-      (λ j. ones_term t z (J ++ j ∷ []) (d + 1) (Jump false 1))) h,
+  one_clear (number_place d),
+  ones_append (count_codes d (λ j. term_code t z (J ++ j ∷ []) (d + 1) (count_test d)) z.nodes) rest
+      (ones_counts d (λ j. term_code t z (J ++ j ∷ []) (d + 1) (count_test d)) z.nodes
+      (λ j. ones_term t z (J ++ j ∷ []) (d + 1) (count_test d))) h,
 )
 ones_let e z J d rest h =
     ones_stored (term_source e z J) d (term_code e z J d Value) rest (ones_term e z J d Value) h
@@ -282,9 +330,9 @@ ones_block (SendTo e k) z J d =
     (ones_cond (nat_lt (constant_number k z J) z.nodes) code []
     (ones_passed (term_source e z J) (constant_number k z J) (term_code e z J d Value) (ones_term e z J d Value)) tt)
     (ones_append (term_code e z J d Value) _ (ones_term e z J d Value) (
-      refl,
+      one_keep (number_place d),
       ones_append (term_code k z J (d + 1) Value) (send_to_code d z.nodes) (ones_term k z J (d + 1) Value)
-          (refl, (refl, (refl, (refl, tt)))),
+          (refl, (refl, (one_fetch R2 (number_place d), (refl, tt)))),
     ))
 
 pub ones_rule : (rule : Statement) (z : Sizes) → Ones (rule_code rule z)
@@ -323,9 +371,12 @@ rule_has_end rule z shape env memory sizes fits start =
       modulus = sizes.modulus;
       setting = start.setting;
     } in
+    let r10 : get m 10 ≡ Some (Ptr Stack 512) = put_other _ 1 (Ptr Mem 0) 10 (λ e. omega arith)
+    ∙ put_other _ 2 (Num env.id) 10 (λ e. omega arith) ∙ put_same _ 10 (Ptr Stack 512) in
     let h : Holds env 0 u s1 = record {
       r6 = put_same m 6 (Ptr Mem 0);
       locals = λ k lt. absurd (omega arith);
+      framed = record { r10 = put_other m 6 (Ptr Mem 0) 10 (λ e. omega arith) ∙ r10; free = λ j. get-empty nat_cmp j };
       small = λ k lt. absurd (omega arith);
       memory = refl;
       sent = refl;

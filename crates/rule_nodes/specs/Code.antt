@@ -1,9 +1,10 @@
--- The instructions of a rule. r6 has the memory's place, r0 the number just computed, r1 and r2 are scratch; place k is
--- r7, r8, r9 for k = 0, 1, 2. At depth d the places below d are in use.
-use Rattle.std.specs.Prelude.{ℕ, zero, suc, ◌+◌, ◌*◌, pos, Bool, true, false, not, nat_lt, ◌&&◌, ◌||◌, if◌then◌else◌, Option, Some, None, List, [], ◌∷◌, ◌++◌, length, slice_index}
+-- The instructions of a rule. r6 has the memory's place, r0 the number just computed, r1 and r2 are scratch. Numbers in
+-- use are kept in places: r7, r8 and r9, and then four bytes of the stack for each. At depth d the places below d are in
+-- use.
+use Rattle.std.specs.Prelude.{ℕ, zero, suc, ◌+◌, ◌-◌, ◌*◌, min, pos, negsuc, Bool, true, false, not, nat_lt, ◌&&◌, ◌||◌, if◌then◌else◌, Option, Some, None, List, [], ◌∷◌, ◌++◌, length, slice_index}
 use Rattle.std.specs.Int.{w32, cast_signed}
 use Rattle.bpf_insn.specs.declared.forms.Reg as regs
-use Rattle.bpf_insn.specs.declared.forms.Reg.TheVariants.{R0, R1, R2, R6, R7, R8, R9}
+use Rattle.bpf_insn.specs.declared.forms.Reg.TheVariants.{R0, R1, R2, R6, R7, R8, R9, R10}
 use Rattle.bpf_insn.specs.declared.forms.Width.TheVariants.{W32, W64}
 use Rattle.bpf_insn.specs.declared.forms.Size.TheVariants as size
 use Rattle.bpf_insn.specs.declared.forms.AluOp.{AluOp}
@@ -31,6 +32,9 @@ use Rattle.rule_syntax.specs.declared.syntax.Assignment.{Assignment}
 use Rattle.rule_syntax.specs.declared.syntax.Assignment.TheVariants.{One, Also'}
 use Rattle.rule_nodes.specs.declared.numbers.Purpose.{Purpose}
 use Rattle.rule_nodes.specs.declared.numbers.Purpose.TheVariants.{Value, Jump}
+use Rattle.rule_nodes.specs.declared.numbers.TheConstants.{PLACES}
+use Rattle.rule_nodes.specs.declared.numbers.Place.{Place}
+use Rattle.rule_nodes.specs.declared.numbers.Place.TheVariants.{InRegister, OnStack}
 use Rattle.rule_nodes.specs.declared.numbers.Source.{Source}
 use Rattle.rule_nodes.specs.declared.numbers.Source.TheVariants.{Constant, FromLocal, FromWord, Computed}
 use Rattle.rule_syntax.specs.declared.syntax.Term.{Term}
@@ -39,11 +43,6 @@ use Rattle.rule_syntax.specs.declared.syntax.Statement.{Statement}
 use Rattle.rule_syntax.specs.declared.syntax.Statement.TheVariants.{Nothing, Then', Let', Assign, If', For', SendAll, SendTo}
 
 -- ---- instructions
-
-abbrev pub place_register : ℕ → regs.Reg
-place_register zero = R7
-place_register (suc zero) = R8
-place_register (suc (suc k)) = R9
 
 -- a number of 32 bits into a register
 abbrev pub set_number : regs.Reg → ℕ → Insn
@@ -55,6 +54,48 @@ set_node dst v = Alu Mov W64 dst (Imm (pos v))
 
 abbrev pub copy : regs.Reg → regs.Reg → Insn
 copy dst src = Alu Mov W32 dst (Reg src)
+
+-- ---- places
+
+-- where number k is kept: from the fourth on in the four bytes from r10 - 4(k - 2) on. Past the last of the PLACES, where
+-- no rule that fits has a number, it is the last
+abbrev pub number_place : ℕ → Place
+number_place zero = InRegister R7
+number_place (suc zero) = InRegister R8
+number_place (suc (suc zero)) = InRegister R9
+number_place (suc (suc (suc k))) = OnStack (negsuc (4 * min k (PLACES - 4) + 3))
+
+-- a place into a register
+abbrev pub fetch_code : regs.Reg → Place → Insn
+fetch_code dst (InRegister register) = copy dst register
+fetch_code dst (OnStack off) = Load size.W dst R10 off
+
+-- r0 into a place
+abbrev pub keep_code : Place → Insn
+keep_code (InRegister register) = copy register R0
+keep_code (OnStack off) = StoreReg size.W R10 off R0
+
+-- 0 into a place
+abbrev pub clear_code : Place → Insn
+clear_code (InRegister register) = set_number register 0
+clear_code (OnStack off) = StoreImm size.W R10 off (pos 0)
+
+-- one more in a place: on the stack by r0
+abbrev pub increment_code : Place → List Insn
+increment_code (InRegister register) = Alu Add W32 register (Imm (pos 1)) ∷ []
+increment_code (OnStack off) =
+    fetch_code R0 (OnStack off) ∷ Alu Add W32 R0 (Imm (pos 1)) ∷ keep_code (OnStack off) ∷ []
+
+-- a place as the operand of an instruction: one on the stack is loaded into r1 first
+abbrev pub place_operand : Place → Operand
+place_operand (InRegister register) = Reg register
+place_operand (OnStack off) = Reg R1
+
+abbrev pub load_place : Place → List Insn
+load_place (InRegister register) = []
+load_place (OnStack off) = fetch_code R1 (OnStack off) ∷ []
+
+-- ---- jumps
 
 abbrev pub alu_op_of : Operation → AluOp
 alu_op_of Sum = Add
@@ -136,23 +177,25 @@ by_test purpose test = behind_test purpose (test (when_of purpose) (far_of purpo
 
 -- the left number into r0 and the right one into r1
 abbrev pub two_code : ℕ → List Insn → List Insn → List Insn
-two_code d left right = left ++ (copy (place_register d) R0 ∷ (right ++ copy R1 R0 ∷ copy R0 (place_register d) ∷ []))
+two_code d left right =
+    left ++ (keep_code (number_place d) ∷ (right ++ copy R1 R0 ∷ fetch_code R0 (number_place d) ∷ []))
 
 -- the instruction that puts a found number into a register
 abbrev pub get_code : regs.Reg → Source → Insn
 get_code dst (Constant v) = set_number dst v
-get_code dst (FromLocal k) = copy dst (place_register k)
+get_code dst (FromLocal k) = fetch_code dst (number_place k)
 get_code dst (FromWord k) = Load size.W dst R6 (pos (4 * k))
 get_code dst Computed = copy dst R0
 
 -- how a found number is the operand of an instruction: a word is loaded into r1 first
 abbrev pub operand_code : Source → Operand
 operand_code (Constant v) = Imm (cast_signed w32 v)
-operand_code (FromLocal k) = Reg (place_register k)
+operand_code (FromLocal k) = place_operand (number_place k)
 operand_code (FromWord k) = Reg R1
 operand_code Computed = Reg R1
 
 abbrev pub load_code : Source → List Insn
+load_code (FromLocal k) = load_place (number_place k)
 load_code (FromWord k) = get_code R1 (FromWord k) ∷ []
 load_code _ = []
 
@@ -168,19 +211,28 @@ left_code (Compute op) x purpose right =
 left_code (Compare r) x purpose right =
     by_operator (Compare (mirror r)) (operand_code x) purpose (right ++ load_code x)
 
--- a jump that compares a local in its place with a constant
-abbrev pub jump_place : ℕ → Comparison → ℕ → ℕ → Insn
-jump_place k r v far = Branch (cond_of r) W32 (place_register k) (Imm (cast_signed w32 v)) (pos far)
+-- a jump that compares a register with a constant
+abbrev pub jump_register : regs.Reg → Comparison → ℕ → ℕ → Insn
+jump_register register r v far = Branch (cond_of r) W32 register (Imm (cast_signed w32 v)) (pos far)
+
+-- the right number is found
+abbrev pub right_code : Operator → Source → Purpose → List Insn → List Insn
+right_code o y purpose left = by_operator o (operand_code y) purpose (left ++ load_code y)
+
+-- a comparison of a place with a constant: a register is compared where it is
+abbrev pub beside_code : Place → Comparison → ℕ → Purpose → List Insn → List Insn
+beside_code (InRegister register) r c purpose left =
+    by_test purpose (λ when far. jump_register register (jump_on when r) c far ∷ [])
+beside_code (OnStack off) r c purpose left = right_code (Compare r) (Constant c) purpose left
 
 -- by where the right number y and the left number x are found: two constants give a constant
 abbrev pub binary_code : Source → Source → Operator → ℕ → Purpose → List Insn → List Insn → List Insn
 binary_code (Constant c) (Constant b) o d purpose left right = by_value purpose (set_number R0
     (apply_operator o b c) ∷ [])
-binary_code (Constant c) (FromLocal k) (Compare r) d purpose left right =
-    by_test purpose (λ when far. jump_place k (jump_on when r) c far ∷ [])
+binary_code (Constant c) (FromLocal k) (Compare r) d purpose left right = beside_code (number_place k) r c purpose left
 binary_code Computed Computed o d purpose left right = by_operator o (Reg R1) purpose (two_code d left right)
 binary_code Computed x o d purpose left right = left_code o x purpose right
-binary_code y x o d purpose left right = by_operator o (operand_code y) purpose (left ++ load_code y)
+binary_code y x o d purpose left right = right_code o y purpose left
 
 -- a test that skips the first, and the first skips the second
 abbrev pub choice_code : (ℕ → List Insn) → List Insn → List Insn → List Insn
@@ -217,13 +269,17 @@ message_by _ n code = code ++ message_code n
 -- one more in place d for each node below n at which the test doesn't jump
 abbrev pub count_codes : ℕ → (ℕ → List Insn) → ℕ → List Insn
 count_codes d test zero = []
-count_codes d test (suc n) = count_codes d test n ++ (test n ++ Alu Add W32 (place_register d) (Imm (pos 1)) ∷ [])
+count_codes d test (suc n) = count_codes d test n ++ (test n ++ increment_code (number_place d))
 
 abbrev pub counted_code : ℕ → ℕ → (ℕ → List Insn) → List Insn
-counted_code d n test = set_number (place_register d) 0 ∷ count_codes d test n
+counted_code d n test = clear_code (number_place d) ∷ count_codes d test n
 
 abbrev pub count_code : ℕ → ℕ → (ℕ → List Insn) → List Insn
-count_code d n test = counted_code d n test ++ copy R0 (place_register d) ∷ []
+count_code d n test = counted_code d n test ++ fetch_code R0 (number_place d) ∷ []
+
+-- the test of a count jumps over this
+abbrev pub count_test : ℕ → Purpose
+count_test d = Jump false (length (increment_code (number_place d)))
 
 -- of a term at depth d
 abbrev pub term_code : Term → Sizes → List ℕ → ℕ → Purpose → List Insn
@@ -234,7 +290,7 @@ term_code Modulus z J d purpose = by_value purpose (set_number R0 z.modulus ∷ 
 term_code Me z J d purpose = by_value purpose (Call (pos 1) ∷ [])
 term_code Coin z J d purpose = by_value purpose (Call (pos 4) ∷ [])
 term_code (LoopNode i) z J d purpose = by_value purpose (set_number R0 (slice_index J i) ∷ [])
-term_code (Local k) z J d purpose = by_value purpose (copy R0 (place_register k) ∷ [])
+term_code (Local k) z J d purpose = by_value purpose (fetch_code R0 (number_place k) ∷ [])
 term_code (Word k) z J d purpose = by_value purpose (Load size.W R0 R6 (pos (4 * k)) ∷ [])
 term_code (Message' p a) z J d purpose = by_value purpose (message_by (term_source a z J) z.nodes
     (term_code a z J d Value))
@@ -247,19 +303,29 @@ term_code (Not' p a) z J d purpose = by_test purpose (λ when far. term_code a z
 term_code (Choice' p t q a r b) z J d purpose = by_value purpose
     (choice_code (λ far. term_code t z J d (Jump false far)) (term_code a z J d Value) (term_code b z J d Value))
 term_code (Count' p t) z J d purpose = by_value purpose
-    (count_code d z.nodes (λ j. term_code t z (J ++ j ∷ []) (d + 1) (Jump false 1)))
+    (count_code d z.nodes (λ j. term_code t z (J ++ j ∷ []) (d + 1) (count_test d)))
 
 -- ---- statements
 
 abbrev pub assign_code : Target → Insn
-assign_code (ToLocal k) = copy (place_register k) R0
+assign_code (ToLocal k) = keep_code (number_place k)
 assign_code (ToWord k) = StoreReg size.W R6 (pos (4 * k)) R0
+
+-- a found number into a place: on the stack by r0
+abbrev pub place_code : Place → Source → List Insn
+place_code (InRegister register) x = get_code register x ∷ []
+place_code (OnStack off) x = get_code R0 x ∷ keep_code (OnStack off) ∷ []
+
+-- a place into a word
+abbrev pub word_code : ℕ → Place → List Insn
+word_code k (InRegister register) = StoreReg size.W R6 (pos (4 * k)) register ∷ []
+word_code k (OnStack off) = fetch_code R0 (OnStack off) ∷ assign_code (ToWord k) ∷ []
 
 -- sets a target to a found number
 abbrev pub set_code : Target → Source → List Insn
-set_code (ToLocal k) x = get_code (place_register k) x ∷ []
+set_code (ToLocal k) x = place_code (number_place k) x
 set_code (ToWord k) (Constant v) = StoreImm size.W R6 (pos (4 * k)) (cast_signed w32 v) ∷ []
-set_code (ToWord k) (FromLocal j) = StoreReg size.W R6 (pos (4 * k)) (place_register j) ∷ []
+set_code (ToWord k) (FromLocal j) = word_code k (number_place j)
 set_code (ToWord k) x = get_code R0 x ∷ assign_code (ToWord k) ∷ []
 
 -- sets a target to a number, by where that is found
@@ -267,11 +333,15 @@ abbrev pub given_code : Source → Target → List Insn → List Insn
 given_code Computed target code = code ++ assign_code target ∷ []
 given_code x target code = set_code target x
 
+-- the instruction that changes a place by an operation on itself and a constant, if it is a register
+abbrev pub change_place : Place → Operation → ℕ → Option Insn
+change_place (InRegister register) op c = Some (Alu (alu_op_of op) W32 register (Imm (cast_signed w32 c)))
+change_place (OnStack off) op c = None
+
 -- the instruction that changes a local in its place, if a target is set to an operation on itself and a constant
 abbrev pub change_by : Target → Operator → Term → Term → Sizes → List ℕ → Option Insn
 change_by (ToLocal k) (Compute op) a b z J =
-    if is_local a k && is_constant b then Some (Alu (alu_op_of op) W32 (place_register k)
-    (Imm (cast_signed w32 (constant_number b z J)))) else None
+    if is_local a k && is_constant b then change_place (number_place k) op (constant_number b z J) else None
 change_by target o a b z J = None
 
 abbrev pub changing_insn : Target → Term → Sizes → List ℕ → Option Insn
@@ -286,7 +356,7 @@ one_code None code = code
 abbrev pub also_code : Bool → ℕ → Source → Target → List Insn → List Insn → List Insn
 also_code true d x target code first = first ++ given_code x target code
 also_code false d x target code first =
-    code ++ (copy (place_register d) R0 ∷ (first ++ copy R0 (place_register d) ∷ assign_code target ∷ []))
+    code ++ (keep_code (number_place d) ∷ (first ++ fetch_code R0 (number_place d) ∷ assign_code target ∷ []))
 
 -- of an assignment at depth d
 abbrev pub assignment_code : Assignment → Sizes → List ℕ → ℕ → List Insn
@@ -307,7 +377,7 @@ send_codes x (suc n) = send_codes x n ++ send_code x n
 
 -- a computed number is sent from place d
 abbrev pub send_all_code : Source → ℕ → ℕ → List Insn → List Insn
-send_all_code Computed d n code = code ++ (copy (place_register d) R0 ∷ send_codes (FromLocal d) n)
+send_all_code Computed d n code = code ++ (keep_code (number_place d) ∷ send_codes (FromLocal d) n)
 send_all_code x d n code = send_codes x n
 
 -- a found number, or a computed one, to a node
@@ -321,7 +391,7 @@ send_to_constant_code x j n code = if nat_lt j n then passed_code x j code else 
 
 -- to the node in r0, if there is one, from place d
 abbrev pub send_to_code : ℕ → ℕ → List Insn
-send_to_code d n = jump_at AtLeast n 3 ∷ copy R1 R0 ∷ copy R2 (place_register d) ∷ Call (pos 3) ∷ []
+send_to_code d n = jump_at AtLeast n 3 ∷ copy R1 R0 ∷ fetch_code R2 (number_place d) ∷ Call (pos 3) ∷ []
 
 abbrev pub each_code : (ℕ → List Insn) → ℕ → List Insn
 each_code body zero = []
@@ -329,13 +399,13 @@ each_code body (suc n) = each_code body n ++ body n
 
 -- a found number, or a computed one, goes to place d; then comes what follows
 abbrev pub stored_code : Source → ℕ → List Insn → List Insn → List Insn
-stored_code Computed d code rest = code ++ (copy (place_register d) R0 ∷ rest)
-stored_code x d code rest = get_code (place_register d) x ∷ rest
+stored_code Computed d code rest = code ++ (keep_code (number_place d) ∷ rest)
+stored_code x d code rest = place_code (number_place d) x ++ rest
 
 -- a let at depth d, and what follows: a count stays where it was counted
 abbrev pub let_code : Term → Sizes → List ℕ → ℕ → List Insn → List Insn
 let_code (Count' p t) z J d rest =
-    counted_code d z.nodes (λ j. term_code t z (J ++ j ∷ []) (d + 1) (Jump false 1)) ++ rest
+    counted_code d z.nodes (λ j. term_code t z (J ++ j ∷ []) (d + 1) (count_test d)) ++ rest
 let_code e z J d rest = stored_code (term_source e z J) d (term_code e z J d Value) rest
 
 abbrev pub is_nothing : Statement → Bool
@@ -356,7 +426,7 @@ block_code (SendTo e k) z J d =
     if is_constant k then send_to_constant_code (term_source e z J) (constant_number k z J) z.nodes
     (term_code e z J d Value)
     else term_code e z J d Value
-    ++ (copy (place_register d) R0 ∷ (term_code k z J (d + 1) Value ++ send_to_code d z.nodes))
+    ++ (keep_code (number_place d) ∷ (term_code k z J (d + 1) Value ++ send_to_code d z.nodes))
 
 abbrev pub head_code : List Insn
 head_code = Alu Mov W64 R6 (Reg R1) ∷ []

@@ -10,13 +10,14 @@ use Rattle.rule_syntax.specs.declared.syntax.Term.{Term}
 use Rattle.rule_syntax.specs.declared.syntax.Term.TheVariants.{Number, Nodes, Faults, Modulus, Me, Coin, LoopNode, Local, Word, Message', Binary', Logical', Not', Choice', Count'}
 use Rattle.rule_syntax.specs.declared.syntax.Statement.{Statement}
 use Rattle.rule_syntax.specs.declared.syntax.Statement.TheVariants.{Nothing, Then', Let', Assign, If', For', SendAll, SendTo}
+use Rattle.rule_nodes.specs.declared.numbers.TheConstants.{PLACES}
 use Rattle.rule_nodes.specs.Operands.{is_constant, is_operand, is_steady, depth_behind}
 
 -- true: no place is needed; false: depth d has a free place. Two computed sides need one for the left number, as does a
 -- computed number that is sent to all, or assigned with others, and a number that is sent to a node that is no constant
 abbrev pub HasPlace : Bool → ℕ → Type 0
 HasPlace true d = Unit {0}
-HasPlace false d = d < 3
+HasPlace false d = d < PLACES
 
 -- a term at depth d, in a number of loops and with a number of lets in scope
 abbrev pub Fits : Term → Sizes → ℕ → ℕ → ℕ → Type 0
@@ -36,7 +37,7 @@ Fits (Binary' o p a q b) z loops lets d =
 Fits (Logical' c p a q b) z loops lets d = Fits a z loops lets d × Fits b z loops lets d
 Fits (Not' p a) z loops lets d = Fits a z loops lets d
 Fits (Choice' p t q a r b) z loops lets d = Fits t z loops lets d × Fits a z loops lets d × Fits b z loops lets d
-Fits (Count' p t) z loops lets d = (d < 3) × Fits t z (loops + 1) lets (d + 1)
+Fits (Count' p t) z loops lets d = (d < PLACES) × Fits t z (loops + 1) lets (d + 1)
 
 abbrev pub TargetFits : Target → ℕ → ℕ → Type 0
 TargetFits (ToLocal k) memory lets = k < lets
@@ -52,7 +53,7 @@ AssignmentFits (Also' p front target e) z loops lets d =
 abbrev pub BlockFits : Statement → Sizes → ℕ → ℕ → Type 0
 BlockFits Nothing z loops d = Unit {0}
 BlockFits (Then' p a q b) z loops d = BlockFits a z loops d × BlockFits b z loops d
-BlockFits (Let' e p rest) z loops d = (d < 3) × Fits e z loops d d × BlockFits rest z loops (d + 1)
+BlockFits (Let' e p rest) z loops d = (d < PLACES) × Fits e z loops d d × BlockFits rest z loops (d + 1)
 BlockFits (Assign a) z loops d = AssignmentFits a z loops d d
 BlockFits (If' t p a q b) z loops d = Fits t z loops d d × BlockFits a z loops d × BlockFits b z loops d
 BlockFits (For' p body) z loops d = BlockFits body z (loops + 1) d

@@ -4,17 +4,14 @@ ghost use Rattle.bpf_insn.specs.declared.forms.Reg.TheVariants.{R0, R6};
 ghost use Rattle.bpf_insn.specs.declared.forms.Size.TheVariants as size;
 ghost use Rattle.bpf_insn.specs.declared.forms.Insn.TheVariants as i;
 ghost use Rattle.rule_syntax.specs.declared.syntax.Target.TheVariants.{ToWord};
-ghost use Rattle.std.specs.Int.{w32, cast_signed};
-ghost use Rattle.bpf_insn.specs.declared.forms.Width.TheVariants.{W32};
-ghost use Rattle.bpf_insn.specs.declared.forms.Operand.TheVariants as operand;
 ghost use Rattle.rule_nodes.specs.Operands.{is_local, is_steady, IsSourceWithin, IsTargetInMemory};
 ghost use Rattle.rule_nodes.specs.Fits.{AssignmentFits};
-ghost use Rattle.rule_nodes.specs.Code.{place_register, copy, alu_op_of, assign_code, set_code, given_code, change_by, changing_insn, one_code, also_code, assignment_code};
+ghost use Rattle.rule_nodes.specs.Code.{number_place, fetch_code, keep_code, assign_code, place_code, word_code, set_code, given_code, change_place, change_by, changing_insn, one_code, also_code, assignment_code};
 ghost use Rattle.rule_nodes.specs.Refusals.{IsUnmade};
 
 use crate::errors::CompileError;
-use crate::insns::{copy_of, operation_of, place_of, word_offset};
-use crate::numbers::{Purpose, Source};
+use crate::insns::{fetch_of, keep_of, operation_of, place_of, word_offset};
+use crate::numbers::{PLACES, Place, Purpose, Source};
 use crate::operands::{constant_of, depth_behind_of, get_of, is_constant_of, source};
 use crate::parts::{joined, short, single};
 use crate::terms::term;
@@ -41,7 +38,7 @@ fn assign_of(target: Target) -> Insn
     ensures { result ≡ assign_code target }
 {
     match target {
-        Target::ToLocal(k) => copy_of(place_of(k), Reg::R0),
+        Target::ToLocal(k) => keep_of(place_of(k)),
         Target::ToWord(k) => store_of(k, Reg::R0),
     }
 }
@@ -53,6 +50,36 @@ pub fn is_steady_of(t: &Term) -> bool
     match t {
         Term::Me | Term::Coin => true,
         _ => is_constant_of(t),
+    }
+}
+
+/// Returns the code that puts a found number into a place.
+pub fn placed_of(alloc: Global, place: Place, source: Source) -> Result<Vec<Insn>, AllocError>
+    requires { IsSourceWithin source 256 }
+    ensures { IfOk result (λ c. c.items ≡ place_code place source) }
+{
+    match place {
+        Place::InRegister(register) => single(alloc, get_of(register, source)),
+        Place::OnStack(_) => {
+            let get = get_of(Reg::R0, source);
+            joined(Vec::new(alloc), &[get, keep_of(place)])
+        }
+    }
+}
+
+/// Returns the code that sets a word to the number in a place.
+fn word_of(alloc: Global, k: u32, place: Place) -> Result<Vec<Insn>, AllocError>
+    requires { 4 * k + 4 ≤ 256 }
+    ensures { IfOk result (λ c. c.items ≡ word_code k place) }
+{
+    match place {
+        Place::InRegister(register) => single(alloc, store_of(k, register)),
+        Place::OnStack(_) => {
+            joined(
+                Vec::new(alloc),
+                &[fetch_of(Reg::R0, place), store_of(k, Reg::R0)],
+            )
+        }
     }
 }
 
@@ -72,7 +99,7 @@ fn set_word(alloc: Global, k: u32, source: Source) -> Result<Vec<Insn>, AllocErr
                 imm: v.cast_signed(),
             },
         ),
-        Source::FromLocal(j) => single(alloc, store_of(k, place_of(j))),
+        Source::FromLocal(j) => word_of(alloc, k, place_of(j)),
         Source::FromWord(_) => {
             let get = get_of(Reg::R0, source);
             joined(Vec::new(alloc), &[get, store_of(k, Reg::R0)])
@@ -91,7 +118,7 @@ fn set_of(alloc: Global, target: Target, source: Source) -> Result<Vec<Insn>, Al
     ensures { IfOk result (λ c. c.items ≡ set_code target source) }
 {
     match target {
-        Target::ToLocal(k) => single(alloc, get_of(place_of(k), source)),
+        Target::ToLocal(k) => placed_of(alloc, place_of(k), source),
         Target::ToWord(k) => set_word(alloc, k, source),
     }
 }
@@ -143,7 +170,7 @@ fn changed_by(
             match operator {
                 Operator::Compute(op) => {
                     if is_local_of(a, k) && is_constant_of(b) {
-                        Some(change(k, op, constant_of(b, sizes, loops)))
+                        change_of(place_of(k), op, constant_of(b, sizes, loops))
                     } else {
                         None
                     }
@@ -155,15 +182,18 @@ fn changed_by(
     }
 }
 
-/// Returns an operation on a place and a constant.
-fn change(k: u32, op: Operation, v: u32) -> Insn
-    ensures { result ≡ i.Alu (alu_op_of op) W32 (place_register k) (operand.Imm (cast_signed w32 v)) }
+/// Returns an operation on a place and a constant, if the place is a register.
+fn change_of(place: Place, op: Operation, v: u32) -> Option<Insn>
+    ensures { result ≡ change_place place op v }
 {
-    Insn::Alu {
-        op: operation_of(op),
-        width: Width::W32,
-        dst: place_of(k),
-        src: Operand::Imm(v.cast_signed()),
+    match place {
+        Place::InRegister(register) => Some(Insn::Alu {
+            op: operation_of(op),
+            width: Width::W32,
+            dst: register,
+            src: Operand::Imm(v.cast_signed()),
+        }),
+        Place::OnStack(_) => None,
     }
 }
 
@@ -190,11 +220,11 @@ fn one_of(alloc: Global, insn: Option<Insn>, code: Vec<Insn>) -> Result<Vec<Insn
 /// Returns the code that keeps a number in a place, sets the targets before, and then sets this one.
 fn kept(depth: u32, set: Insn, code: Vec<Insn>, first: Vec<Insn>) -> Result<Vec<Insn>, AllocError>
     ensures { IfOk result (λ c. c.items ≡
-        code.items ++ (copy (place_register depth) R0 ∷ (first.items ++ copy R0 (place_register depth) ∷ set ∷ []))) }
+        code.items ++ (keep_code (number_place depth) ∷ (first.items ++ fetch_code R0 (number_place depth) ∷ set ∷ []))) }
 {
     let place = place_of(depth);
-    let held = joined(code, &[copy_of(place, Reg::R0)])?;
-    let others = joined(first, &[copy_of(Reg::R0, place), set])?;
+    let held = joined(code, &[keep_of(place)])?;
+    let others = joined(first, &[fetch_of(Reg::R0, place), set])?;
     joined(held, &others)
 }
 
@@ -210,7 +240,7 @@ pub fn assignment(
     requires some { 1 ≤ sizes.nodes }
     requires few { sizes.nodes ≤ 64 }
     requires memory { sizes.memory ≤ 256 }
-    requires deep { depth ≤ 3 }
+    requires deep { depth ≤ PLACES }
     requires fits { AssignmentFits a.now sizes (length loops.now) lets depth }
     ensures code { IfOk result (λ c. c.items ≡ assignment_code a.now sizes loops.now depth) }
     ensures short { IfOk result (λ c. length c.items ≤ MAX_SLOTS) }

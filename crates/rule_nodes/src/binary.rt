@@ -2,16 +2,17 @@
 ghost use Rattle.std.specs.Prelude.{◌≡◌, ◌≤◌, ◌++◌, [], IfOk};
 ghost use Rattle.rule_nodes.specs.declared.numbers.Source.TheVariants.{Constant, FromLocal, Computed};
 ghost use Rattle.rule_nodes.specs.Operands.{term_source, IsSourceWithin};
-ghost use Rattle.rule_nodes.specs.Code.{far_of, operand_code, load_code, by_operator, left_code, binary_code};
+ghost use Rattle.rule_nodes.specs.Code.{far_of, by_operator, left_code, right_code, beside_code, binary_code};
 
 use crate::insns::{
-    copy_of, jump_by_of, jump_on_of, jump_place_of, mirror_of, operation_of, set_number_of,
+    copy_of, jump_by_of, jump_on_of, jump_register_of, mirror_of, operation_of, place_of,
+    set_number_of,
 };
-use crate::numbers::{Purpose, Source};
+use crate::numbers::{Place, Purpose, Source};
 use crate::operands::{get_of, operand_of, operate_of, source, with_load};
 use crate::parts::{behind_test_of, by_value_of, far_for, joined, single, two_of, when_for};
 use bpf_insn::{Insn, MAX_SLOTS, Operand, Reg, Width};
-use rule_syntax::{Operator, Sizes, Term};
+use rule_syntax::{Comparison, Operator, Sizes, Term};
 use std::alloc::{AllocError, Global};
 
 /// Returns the code of an operator on r0 and an operand, for a purpose.
@@ -51,7 +52,7 @@ fn right_found(
 ) -> Result<Vec<Insn>, AllocError>
     requires near { far_of purpose ≤ MAX_SLOTS }
     requires within { IsSourceWithin y 256 }
-    ensures { IfOk result (λ c. c.items ≡ by_operator operator (operand_code y) purpose (left.items ++ load_code y)) }
+    ensures { IfOk result (λ c. c.items ≡ right_code operator y purpose left.items) }
 {
     by_operator_of(operator, operand_of(y), with_load(left, y)?, purpose)
 }
@@ -102,6 +103,35 @@ fn right_computed(
     }
 }
 
+/// Returns the code that compares a place with a constant.
+fn place_beside(
+    alloc: Global,
+    place: Place,
+    comparison: Comparison,
+    c: u32,
+    left: Vec<Insn>,
+    purpose: Purpose,
+) -> Result<Vec<Insn>, AllocError>
+    requires { far_of purpose ≤ MAX_SLOTS }
+    ensures { IfOk result (λ a. a.items ≡ beside_code place comparison c purpose left.items) }
+{
+    match place {
+        Place::InRegister(register) => {
+            let on = jump_on_of(when_for(purpose), comparison);
+            let jump = jump_register_of(register, on, c, far_for(purpose));
+            behind_test_of(single(alloc, jump)?, purpose)
+        }
+        Place::OnStack(_) => {
+            right_found(
+                Operator::Compare(comparison),
+                Source::Constant(c),
+                left,
+                purpose,
+            )
+        }
+    }
+}
+
 /// Returns the code of an operator between a local and a constant.
 fn local_beside(
     alloc: Global,
@@ -117,9 +147,7 @@ fn local_beside(
     match operator {
         Operator::Compute(_) => right_found(operator, Source::Constant(c), left, purpose),
         Operator::Compare(comparison) => {
-            let on = jump_on_of(when_for(purpose), comparison);
-            let jump = jump_place_of(k, on, c, far_for(purpose));
-            behind_test_of(single(alloc, jump)?, purpose)
+            place_beside(alloc, place_of(k), comparison, c, left, purpose)
         }
     }
 }

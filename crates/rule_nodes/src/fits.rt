@@ -7,6 +7,7 @@ ghost use Rattle.rule_nodes.specs.Refusals.{IsUnfit};
 use crate::assignments::is_steady_of;
 use crate::errors::CompileError;
 use crate::insns::has_word;
+use crate::numbers::PLACES;
 use crate::operands::{beside_operand, depth_behind_of, is_constant_of, is_operand_of};
 use rule_syntax::{Assignment, Sizes, Statement, Target, Term};
 
@@ -15,7 +16,7 @@ fn needs_place(simple: bool, depth: u32) -> Result<(), CompileError>
     ensures fits { IfOk result (λ _. HasPlace simple depth) }
     ensures unfit { IfErr result (IsUnfit (HasPlace simple depth)) }
 {
-    if simple || depth < 3 {
+    if simple || depth < PLACES {
         Ok(())
     } else {
         Err(CompileError::NoRoom)
@@ -77,7 +78,7 @@ fn term_fits(
     lets: u32,
     depth: u32,
 ) -> Result<(), CompileError>
-    requires { depth ≤ 3 }
+    requires { depth ≤ PLACES }
     ensures fits { IfOk result (λ _. Fits t.now sizes loops lets depth) }
     ensures unfit { IfErr result (IsUnfit (Fits t.now sizes loops lets depth)) }
 {
@@ -108,7 +109,7 @@ fn term_fits(
             term_fits(b, sizes, loops, lets, depth)
         }
         Term::Count(c) => {
-            needs_less(depth, 3)?;
+            needs_less(depth, PLACES)?;
             let inner = one_more(loops)?;
             term_fits(c, sizes, inner, lets, depth + 1)
         }
@@ -132,7 +133,7 @@ fn assignment_fits(
     lets: u32,
     depth: u32,
 ) -> Result<(), CompileError>
-    requires { depth ≤ 3 }
+    requires { depth ≤ PLACES }
     ensures fits { IfOk result (λ _. AssignmentFits a.now sizes loops lets depth) }
     ensures unfit { IfErr result (IsUnfit (AssignmentFits a.now sizes loops lets depth)) }
 {
@@ -158,7 +159,7 @@ pub fn block_fits(
     loops: usize,
     depth: u32,
 ) -> Result<(), CompileError>
-    requires { depth ≤ 3 }
+    requires { depth ≤ PLACES }
     ensures fits { IfOk result (λ _. BlockFits statement.now sizes loops depth) }
     ensures unfit { IfErr result (IsUnfit (BlockFits statement.now sizes loops depth)) }
 {
@@ -169,7 +170,7 @@ pub fn block_fits(
             block_fits(b, sizes, loops, depth)
         }
         Statement::Let(e, rest) => {
-            needs_less(depth, 3)?;
+            needs_less(depth, PLACES)?;
             term_fits(e, sizes, loops, depth, depth)?;
             block_fits(rest, sizes, loops, depth + 1)
         }

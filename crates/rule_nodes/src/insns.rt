@@ -1,22 +1,12 @@
 //! The instructions that the code of rules is made of.
-ghost use Rattle.std.specs.Prelude.{◌≡◌, ◌≤◌, ◌<◌, ◌+◌, ◌*◌, pos, length, IsTrue, ◌↔◌};
+ghost use Rattle.std.specs.Prelude.{◌≡◌, ◌≤◌, ◌<◌, ◌+◌, ◌-◌, ◌*◌, min, pos, negsuc, length, IsTrue, ◌↔◌};
 ghost use Rattle.bpf_insn.specs.declared.forms.Reg.TheVariants.{R1};
 ghost use Rattle.bpf_insn.specs.declared.forms.Insn.TheVariants as i;
-ghost use Rattle.rule_nodes.specs.Code.{place_register, set_number, copy, alu_op_of, cond_of, opposite, mirror, jump_on, jump_by, jump_place, jump_at, set_node};
+ghost use Rattle.rule_nodes.specs.Code.{number_place, fetch_code, keep_code, clear_code, place_operand, set_number, copy, alu_op_of, cond_of, opposite, mirror, jump_on, jump_by, jump_register, jump_at, set_node};
 
-use bpf_insn::{AluOp, Cond, Insn, MAX_SLOTS, Operand, Reg, Width};
+use crate::numbers::{PLACES, Place};
+use bpf_insn::{AluOp, Cond, Insn, MAX_SLOTS, Operand, Reg, Size, Width};
 use rule_syntax::{Comparison, Operation};
-
-/// Returns the register of a place.
-pub fn place_of(k: u32) -> Reg
-    ensures { result ≡ place_register k }
-{
-    match k {
-        0 => Reg::R7,
-        1 => Reg::R8,
-        _ => Reg::R9,
-    }
-}
 
 /// Returns a move of a number of 32 bits.
 pub fn set_number_of(dst: Reg, v: u32) -> Insn
@@ -41,6 +31,91 @@ pub fn copy_of(dst: Reg, src: Reg) -> Insn
         src: Operand::Reg(src),
     }
 }
+
+// ---- places
+
+/// Returns the offset of a place on the stack. A place past the last one has that of the last.
+fn stack_offset(k: u32) -> i16
+    requires { 3 ≤ k }
+    ensures { result ≡ negsuc (4 * min (k - 3) (PLACES - 4) + 3) }
+{
+    let number = if k - 3 < PLACES - 4 {
+        k - 3
+    } else {
+        PLACES - 4
+    };
+    -1 - (4 * number + 3) as i16
+}
+
+/// Returns the place of a number.
+#[tactic(auto, using(crate::proofs::Places::place_on_stack))]
+pub fn place_of(k: u32) -> Place
+    ensures { result ≡ number_place k }
+{
+    match k {
+        0 => Place::InRegister(Reg::R7),
+        1 => Place::InRegister(Reg::R8),
+        2 => Place::InRegister(Reg::R9),
+        _ => Place::OnStack(stack_offset(k)),
+    }
+}
+
+/// Returns the instruction that puts the number of a place into a register.
+pub fn fetch_of(dst: Reg, place: Place) -> Insn
+    ensures { result ≡ fetch_code dst place }
+{
+    match place {
+        Place::InRegister(register) => copy_of(dst, register),
+        Place::OnStack(off) => Insn::Load {
+            size: Size::W,
+            dst,
+            base: Reg::R10,
+            off,
+        },
+    }
+}
+
+/// Returns the instruction that puts r0 into a place.
+pub fn keep_of(place: Place) -> Insn
+    ensures { result ≡ keep_code place }
+{
+    match place {
+        Place::InRegister(register) => copy_of(register, Reg::R0),
+        Place::OnStack(off) => Insn::StoreReg {
+            size: Size::W,
+            base: Reg::R10,
+            off,
+            src: Reg::R0,
+        },
+    }
+}
+
+/// Returns the instruction that puts 0 into a place.
+pub fn clear_of(place: Place) -> Insn
+    ensures { result ≡ clear_code place }
+{
+    match place {
+        Place::InRegister(register) => set_number_of(register, 0),
+        Place::OnStack(off) => Insn::StoreImm {
+            size: Size::W,
+            base: Reg::R10,
+            off,
+            imm: 0,
+        },
+    }
+}
+
+/// Returns a place as the operand of an instruction.
+pub fn place_operand_of(place: Place) -> Operand
+    ensures { result ≡ place_operand place }
+{
+    match place {
+        Place::InRegister(register) => Operand::Reg(register),
+        Place::OnStack(_) => Operand::Reg(Reg::R1),
+    }
+}
+
+// ---- nodes, operations and jumps
 
 /// Returns the instruction that puts a node's number into r1.
 pub fn set_node_of(node: u32) -> Insn
@@ -141,15 +216,15 @@ pub fn jump_by_of(comparison: Comparison, src: Operand, far: usize) -> Insn
     }
 }
 
-/// Returns a jump that compares a local in its place with a constant.
-pub fn jump_place_of(k: u32, comparison: Comparison, v: u32, far: usize) -> Insn
+/// Returns a jump that compares a register with a constant.
+pub fn jump_register_of(register: Reg, comparison: Comparison, v: u32, far: usize) -> Insn
     requires { far ≤ MAX_SLOTS }
-    ensures { result ≡ jump_place k comparison v far }
+    ensures { result ≡ jump_register register comparison v far }
 {
     Insn::Branch {
         cond: condition_of(comparison),
         width: Width::W32,
-        dst: place_of(k),
+        dst: register,
         src: Operand::Imm(v.cast_signed()),
         off: distance(far),
     }

@@ -3,10 +3,10 @@ ghost use Rattle.std.specs.Prelude.{◌≡◌, ◌≤◌, ◌++◌, ◌||◌, sl
 ghost use Rattle.rule_nodes.specs.Meaning.{apply, compare, apply_operator};
 ghost use Rattle.rule_nodes.specs.Operands.{is_constant, is_operand, constant_number, depth_behind, fetched_source, term_source, IsSourceWithin};
 ghost use Rattle.rule_nodes.specs.Fits.{HasPlace};
-ghost use Rattle.rule_nodes.specs.Code.{get_code, operand_code, load_code};
+ghost use Rattle.rule_nodes.specs.Code.{load_place, get_code, operand_code, load_code};
 
-use crate::insns::{copy_of, place_of, set_number_of, word_offset};
-use crate::numbers::Source;
+use crate::insns::{copy_of, fetch_of, place_of, place_operand_of, set_number_of, word_offset};
+use crate::numbers::{PLACES, Place, Source};
 use crate::parts::joined;
 use bpf_insn::{Insn, Operand, Reg, Size};
 use rule_syntax::{Comparison, Operation, Operator, Sizes, Term};
@@ -124,7 +124,7 @@ pub fn get_of(dst: Reg, source: Source) -> Insn
 {
     match source {
         Source::Constant(v) => set_number_of(dst, v),
-        Source::FromLocal(k) => copy_of(dst, place_of(k)),
+        Source::FromLocal(k) => fetch_of(dst, place_of(k)),
         Source::FromWord(k) => Insn::Load {
             size: Size::W,
             dst,
@@ -141,12 +141,22 @@ pub fn operand_of(source: Source) -> Operand
 {
     match source {
         Source::Constant(v) => Operand::Imm(v.cast_signed()),
-        Source::FromLocal(k) => Operand::Reg(place_of(k)),
+        Source::FromLocal(k) => place_operand_of(place_of(k)),
         Source::FromWord(_) | Source::Computed => Operand::Reg(Reg::R1),
     }
 }
 
-/// Returns the code, with the load of a word that is an operand.
+/// Returns the code, with the load of a place that is an operand and not in a register.
+fn with_place(code: Vec<Insn>, place: Place) -> Result<Vec<Insn>, AllocError>
+    ensures { IfOk result (λ c. c.items ≡ code.items ++ load_place place) }
+{
+    match place {
+        Place::InRegister(_) => joined(code, &[]),
+        Place::OnStack(_) => joined(code, &[fetch_of(Reg::R1, place)]),
+    }
+}
+
+/// Returns the code, with the load of an operand that is not in a register.
 pub fn with_load(code: Vec<Insn>, source: Source) -> Result<Vec<Insn>, AllocError>
     requires { IsSourceWithin source 256 }
     ensures { IfOk result (λ c. c.items ≡ code.items ++ load_code source) }
@@ -154,7 +164,7 @@ pub fn with_load(code: Vec<Insn>, source: Source) -> Result<Vec<Insn>, AllocErro
     match source {
         Source::FromWord(_) => joined(code, &[get_of(Reg::R1, source)]),
         Source::Constant(_) => joined(code, &[]),
-        Source::FromLocal(_) => joined(code, &[]),
+        Source::FromLocal(k) => with_place(code, place_of(k)),
         Source::Computed => joined(code, &[]),
     }
 }
@@ -168,10 +178,10 @@ pub fn beside_operand(left: &Term, right: &Term) -> bool
 
 /// Returns the depth behind a number that isn't kept if it is simple.
 pub fn depth_behind_of(simple: bool, depth: u32) -> u32
-    requires deep { depth ≤ 3 }
+    requires deep { depth ≤ PLACES }
     requires place { HasPlace simple depth }
     ensures is { result ≡ depth_behind simple depth }
-    ensures deep { result ≤ 3 }
+    ensures deep { result ≤ PLACES }
 {
     if simple { depth } else { depth + 1 }
 }

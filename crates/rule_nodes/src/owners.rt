@@ -10,7 +10,7 @@ ghost use Rattle.rule_nodes.specs.Refusals.{RefusesRule};
 use crate::compile::compile_rule;
 use crate::errors::CompileError;
 use crate::fits::one_more;
-use crate::numbers::Purpose;
+use crate::numbers::{PLACES, Purpose};
 use crate::parts::within;
 use crate::statements::{block, is_nothing_of, let_of};
 use crate::terms::term;
@@ -75,7 +75,7 @@ fn owners(
     requires some { 1 ≤ sizes.nodes }
     requires few { sizes.nodes ≤ 64 }
     requires memory { sizes.memory ≤ 256 }
-    requires deep { depth ≤ 3 }
+    requires deep { depth ≤ PLACES }
     requires fits { BlockFits statement.now sizes (length loops.now) depth }
     ensures { IfOk result (λ v. v.items ≡ owners_of statement.now sizes loops.now depth number) }
 {

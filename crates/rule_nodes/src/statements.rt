@@ -1,20 +1,20 @@
 //! The code of statements.
 ghost use Rattle.std.specs.Prelude.{◌≡◌, ◌≤◌, ◌<◌, ◌+◌, ◌-◌, ◌++◌, [], ◌∷◌, pos, length, take, IfOk, IfErr};
 ghost use Rattle.rule_nodes.specs.declared.numbers.Purpose.TheVariants.{Value};
-ghost use Rattle.bpf_insn.specs.declared.forms.Reg.TheVariants.{R0, R1};
+ghost use Rattle.bpf_insn.specs.declared.forms.Reg.TheVariants.{R1};
 ghost use Rattle.bpf_insn.specs.declared.forms.Insn.TheVariants as i;
 ghost use Rattle.rule_syntax.specs.declared.syntax.Statement.TheVariants.{SendAll, SendTo};
 ghost use Rattle.rule_nodes.specs.Operands.{term_source, IsSourceWithin};
 ghost use Rattle.rule_nodes.specs.Fits.{Fits, BlockFits};
-ghost use Rattle.rule_nodes.specs.Code.{place_register, copy, set_node, term_code, stored_code, let_code, send_codes, send_all_code, passed_code, send_to_constant_code, send_to_code, is_nothing, block_code};
+ghost use Rattle.rule_nodes.specs.Code.{number_place, keep_code, set_node, term_code, stored_code, let_code, send_codes, send_all_code, passed_code, send_to_constant_code, send_to_code, is_nothing, block_code};
 ghost use Rattle.rule_nodes.specs.Refusals.{IsUnmade};
 
-use crate::assignments::assignment;
+use crate::assignments::{assignment, placed_of};
 use crate::errors::CompileError;
-use crate::insns::{copy_of, jump_at_of, place_of, set_node_of};
-use crate::numbers::{Purpose, Source};
+use crate::insns::{copy_of, fetch_of, jump_at_of, keep_of, place_of, set_node_of};
+use crate::numbers::{PLACES, Purpose, Source};
 use crate::operands::{constant_of, get_of, is_constant_of, source};
-use crate::parts::{if_of, if_test, joined, short, single, within};
+use crate::parts::{if_of, if_test, joined, short, within};
 use crate::terms::term;
 use bpf_insn::{Insn, MAX_SLOTS, Reg};
 use rule_syntax::{Comparison, Sizes, Statement, Term};
@@ -50,16 +50,16 @@ fn send_to_of(depth: u32, nodes: u32) -> [Insn; 4]
     [
         jump_at_of(Comparison::AtLeast, nodes, 3),
         copy_of(Reg::R1, Reg::R0),
-        copy_of(Reg::R2, place_of(depth)),
+        fetch_of(Reg::R2, place_of(depth)),
         Insn::Call { id: 3 },
     ]
 }
 
 /// Returns the code of a number, its copy into a place, and what follows.
 fn stored(code: Vec<Insn>, depth: u32, rest: &[Insn]) -> Result<Vec<Insn>, AllocError>
-    ensures { IfOk result (λ c. c.items ≡ code.items ++ (copy (place_register depth) R0 ∷ rest.now)) }
+    ensures { IfOk result (λ c. c.items ≡ code.items ++ (keep_code (number_place depth) ∷ rest.now)) }
 {
-    let kept = joined(code, &[copy_of(place_of(depth), Reg::R0)])?;
+    let kept = joined(code, &[keep_of(place_of(depth))])?;
     joined(kept, rest)
 }
 
@@ -74,12 +74,11 @@ fn stored_from(
     requires { IsSourceWithin source 256 }
     ensures { IfOk result (λ c. c.items ≡ stored_code source depth code.items rest.now) }
 {
-    let get = get_of(place_of(depth), source);
     match source {
         Source::Computed => stored(code, depth, rest),
-        Source::Constant(_) => joined(single(alloc, get)?, rest),
-        Source::FromLocal(_) => joined(single(alloc, get)?, rest),
-        Source::FromWord(_) => joined(single(alloc, get)?, rest),
+        Source::Constant(_) => joined(placed_of(alloc, place_of(depth), source)?, rest),
+        Source::FromLocal(_) => joined(placed_of(alloc, place_of(depth), source)?, rest),
+        Source::FromWord(_) => joined(placed_of(alloc, place_of(depth), source)?, rest),
     }
 }
 
@@ -122,7 +121,7 @@ fn send_all(
     requires some { 1 ≤ sizes.nodes }
     requires few { sizes.nodes ≤ 64 }
     requires memory { sizes.memory ≤ 256 }
-    requires deep { depth ≤ 3 }
+    requires deep { depth ≤ PLACES }
     requires fits { BlockFits (SendAll e.now) sizes (length loops.now) depth }
     ensures code { IfOk result (λ c. c.items ≡ block_code (SendAll e.now) sizes loops.now depth) }
     ensures short { IfOk result (λ c. length c.items ≤ MAX_SLOTS) }
@@ -187,7 +186,7 @@ fn send_to_constant(
     requires some { 1 ≤ sizes.nodes }
     requires few { sizes.nodes ≤ 64 }
     requires memory { sizes.memory ≤ 256 }
-    requires deep { depth ≤ 3 }
+    requires deep { depth ≤ PLACES }
     requires fits { Fits e.now sizes (length loops.now) depth depth }
     ensures code { IfOk result (λ c. c.items ≡ send_to_constant_code
         (term_source e.now sizes loops.now) node sizes.nodes
@@ -215,7 +214,7 @@ fn send_to(
     requires some { 1 ≤ sizes.nodes }
     requires few { sizes.nodes ≤ 64 }
     requires memory { sizes.memory ≤ 256 }
-    requires deep { depth ≤ 3 }
+    requires deep { depth ≤ PLACES }
     requires fits { BlockFits (SendTo e.now k.now) sizes (length loops.now) depth }
     ensures code { IfOk result (λ c. c.items ≡ block_code (SendTo e.now k.now) sizes loops.now depth) }
     ensures short { IfOk result (λ c. length c.items ≤ MAX_SLOTS) }
@@ -251,7 +250,7 @@ pub fn block(
     requires some { 1 ≤ sizes.nodes }
     requires few { sizes.nodes ≤ 64 }
     requires memory { sizes.memory ≤ 256 }
-    requires deep { depth ≤ 3 }
+    requires deep { depth ≤ PLACES }
     requires fits { BlockFits statement.now sizes (length loops.now) depth }
     ensures code { IfOk result (λ c. c.items ≡ block_code statement.now sizes loops.now depth) }
     ensures short { IfOk result (λ c. length c.items ≤ MAX_SLOTS) }

@@ -10,12 +10,12 @@ ghost use Rattle.rule_nodes.specs.Refusals.{IsUnmade};
 
 use crate::binary::binary_of;
 use crate::errors::CompileError;
-use crate::insns::{copy_of, place_of, set_number_of, word_offset};
-use crate::numbers::Purpose;
+use crate::insns::{fetch_of, place_of, set_number_of, word_offset};
+use crate::numbers::{PLACES, Purpose};
 use crate::operands::{beside_operand, depth_behind_of, source};
 use crate::parts::{
-    behind_test_of, by_value_of, chosen, count_of, counted, first_test, joined, message_by_of,
-    near, opposite_test, short, single, skip_test, test_of, within,
+    behind_test_of, by_value_of, chosen, count_of, count_test_of, counted, first_test, joined,
+    message_by_of, near, opposite_test, short, single, skip_test, test_of, within,
 };
 use bpf_insn::{Insn, MAX_SLOTS, Reg, Size};
 use rule_syntax::{Sizes, Term};
@@ -81,7 +81,7 @@ pub fn term(
     requires some { 1 ≤ sizes.nodes }
     requires few { sizes.nodes ≤ 64 }
     requires memory { sizes.memory ≤ 256 }
-    requires deep { depth ≤ 3 }
+    requires deep { depth ≤ PLACES }
     requires fits { Fits t.now sizes (length loops.now) lets depth }
     ensures code { IfOk result (λ c. c.items ≡ term_code t.now sizes loops.now depth purpose) }
     ensures short { IfOk result (λ c. length c.items ≤ MAX_SLOTS) }
@@ -97,7 +97,7 @@ pub fn term(
         Term::Me => short(given_by(alloc, Insn::Call { id: 1 }, purpose)?),
         Term::Coin => short(given_by(alloc, Insn::Call { id: 4 }, purpose)?),
         Term::LoopNode(k) => short(number(alloc, loops[*k as usize], purpose)?),
-        Term::Local(k) => short(given_by(alloc, copy_of(Reg::R0, place_of(*k)), purpose)?),
+        Term::Local(k) => short(given_by(alloc, fetch_of(Reg::R0, place_of(*k)), purpose)?),
         Term::Word(k) => short(given_by(alloc, load_of(*k), purpose)?),
         Term::Message(a) => {
             let index = term(alloc, a, sizes, loops, lets, depth, Purpose::Value)?;
@@ -127,10 +127,10 @@ pub fn term(
         }
         Term::Count(c) => {
             let place = place_of(depth);
+            let skip = count_test_of(depth);
             let mut counts = Vec::new(alloc);
             for node in 0..sizes.nodes {
                 let inner = within(alloc, loops, node)?;
-                let skip = Purpose::Jump(false, 1);
                 let test = term(alloc, c, sizes, &inner, lets, depth + 1, skip)?;
                 counts = short(counted(counts, &test, place)?)?;
             }

@@ -1,21 +1,17 @@
 -- The code of a rule, and whether it fits, don't depend on where its boxes lie: rules of one form have the same.
-use Rattle.std.proofs.Common.{◌≡◌, ℕ, ◌+◌, ◌<◌, ◌&&◌, ◌||◌, not, false, if◌then◌else◌, List, [], ◌∷◌, ◌++◌, Some, None, refl, ap, sym, subst, ◌∙◌, Box, Global}
-use Rattle.std.specs.Int.{w32, cast_signed}
+use Rattle.std.proofs.Common.{◌≡◌, ℕ, ◌+◌, ◌<◌, ◌&&◌, ◌||◌, not, false, if◌then◌else◌, List, [], ◌∷◌, ◌++◌, None, refl, ap, sym, subst, ◌∙◌, Box, Global}
 use denote.RawPtr.{null_ptr}
 use Rattle.bpf_insn.specs.declared.forms.Insn.{Insn}
-use Rattle.bpf_insn.specs.declared.forms.Insn.TheVariants.{Alu}
-use Rattle.bpf_insn.specs.declared.forms.Operand.TheVariants.{Imm}
-use Rattle.bpf_insn.specs.declared.forms.Reg.TheVariants.{R0}
-use Rattle.bpf_insn.specs.declared.forms.Width.TheVariants.{W32}
 use Rattle.rule_nodes.specs.Meaning.{apply_operator}
 use Rattle.rule_nodes.specs.Operands.{is_constant, is_fetched, is_local, is_operand, is_asked, is_steady, depth_behind, constant_number, fetched_source, term_source}
-use Rattle.rule_nodes.specs.Code.{place_register, copy, by_value, by_test, binary_code, alu_op_of, choice_code, decides, both_code, message_by, count_code, counted_code, term_code, given_code, change_by, changing_insn, one_code, also_code, assignment_code, stored_code, send_all_code, send_to_constant_code, send_to_code, each_code, if_code, is_nothing, let_code, block_code, head_code, tail_code, rule_code}
+use Rattle.rule_nodes.specs.Code.{number_place, keep_code, by_value, by_test, binary_code, choice_code, decides, both_code, message_by, count_code, counted_code, count_test, term_code, given_code, change_place, change_by, changing_insn, one_code, also_code, assignment_code, stored_code, send_all_code, send_to_constant_code, send_to_code, each_code, if_code, is_nothing, let_code, block_code, head_code, tail_code, rule_code}
 use Rattle.rule_nodes.specs.Fits.{HasPlace, Fits, TargetFits, AssignmentFits, BlockFits}
 use Rattle.rule_syntax.specs.declared.syntax.Operator.{Operator}
 use Rattle.rule_syntax.specs.declared.syntax.Operator.TheVariants.{Compute, Compare}
 use Rattle.rule_syntax.specs.declared.syntax.Sizes.{Sizes}
 use Rattle.rule_syntax.specs.declared.syntax.Target.{Target}
 use Rattle.rule_syntax.specs.declared.syntax.Target.TheVariants.{ToLocal, ToWord}
+use Rattle.rule_nodes.specs.declared.numbers.TheConstants.{PLACES}
 use Rattle.rule_nodes.specs.declared.numbers.Purpose.{Purpose}
 use Rattle.rule_nodes.specs.declared.numbers.Purpose.TheVariants.{Value, Jump}
 use Rattle.rule_nodes.specs.declared.numbers.Source.TheVariants.{Constant}
@@ -122,7 +118,7 @@ code_same g (Choice' p t q a r b) z J d purpose =
     (code_same g b z J d Value k))
 code_same g (Count' p t) z J d purpose =
     λ k. by_value purpose
-    (count_code d z.nodes (λ j. code_same g t z (J ++ j ∷ []) (d + 1) (Jump false 1) k))
+    (count_code d z.nodes (λ j. code_same g t z (J ++ j ∷ []) (d + 1) (count_test d) k))
 code_same g Me z J d purpose = refl
 code_same g _ z J d purpose = refl
 
@@ -139,7 +135,7 @@ fits_same g (Logical' c p a q b) z loops lets d = λ k. fits_same g a z loops le
 fits_same g (Not' p a) z loops lets d = fits_same g a z loops lets d
 fits_same g (Choice' p t q a r b) z loops lets d =
     λ k. fits_same g t z loops lets d k × fits_same g a z loops lets d k × fits_same g b z loops lets d k
-fits_same g (Count' p t) z loops lets d = λ k. (d < 3) × fits_same g t z (loops + 1) lets (d + 1) k
+fits_same g (Count' p t) z loops lets d = λ k. (d < PLACES) × fits_same g t z (loops + 1) lets (d + 1) k
 fits_same g Me z loops lets d = refl
 fits_same g _ z loops lets d = refl
 
@@ -155,8 +151,7 @@ local_same g _ j = refl
 change_by_same : (g : Global) (target : Target) (o : Operator) (a b : Term) (z : Sizes) (J : List ℕ)
     → change_by target o a b z J ≡ change_by target o (lifted g a) (lifted g b) z J
 change_by_same g (ToLocal j) (Compute op) a b z J =
-    λ k. if local_same g a j k && constant_same g b k then Some (Alu (alu_op_of op) W32 (place_register j)
-    (Imm (cast_signed w32 (number_same g b z J k)))) else None
+    λ k. if local_same g a j k && constant_same g b k then change_place (number_place j) op (number_same g b z J k) else None
 change_by_same g (ToLocal j) (Compare r) a b z J = refl
 change_by_same g (ToWord j) o a b z J = refl
 
@@ -202,7 +197,7 @@ nothing_same g _ = refl
 let_same : (g : Global) (e : Term) (z : Sizes) (J : List ℕ) (d : ℕ) (rest after : List Insn) → rest ≡ after
     → let_code e z J d rest ≡ let_code (lifted g e) z J d after
 let_same g (Count' p t) z J d rest after same =
-    λ k. counted_code d z.nodes (λ j. code_same g t z (J ++ j ∷ []) (d + 1) (Jump false 1) k) ++ same k
+    λ k. counted_code d z.nodes (λ j. code_same g t z (J ++ j ∷ []) (d + 1) (count_test d) k) ++ same k
 let_same g e z J d rest after same = λ k. stored_code (source_same g e z J k) d (code_same g e z J d Value k) (same k)
 
 block_same : (g : Global) (s : Statement) (z : Sizes) (J : List ℕ) (d : ℕ)
@@ -219,14 +214,14 @@ block_same g (SendAll e) z J d = λ k. send_all_code (source_same g e z J k) d z
 block_same g (SendTo e to) z J d =
     λ k. if constant_same g to k then send_to_constant_code (source_same g e z J k) (number_same g to z J k) z.nodes
     (code_same g e z J d Value k) else code_same g e z J d Value k
-    ++ (copy (place_register d) R0 ∷ (code_same g to z J (d + 1) Value k ++ send_to_code d z.nodes))
+    ++ (keep_code (number_place d) ∷ (code_same g to z J (d + 1) Value k ++ send_to_code d z.nodes))
 
 block_fits_same : (g : Global) (s : Statement) (z : Sizes) (loops d : ℕ)
     → BlockFits s z loops d ≡ BlockFits (lifted_block g s) z loops d
 block_fits_same g Nothing z loops d = refl
 block_fits_same g (Then' p a q b) z loops d = λ k. block_fits_same g a z loops d k × block_fits_same g b z loops d k
 block_fits_same g (Let' e p rest) z loops d =
-    λ k. (d < 3) × fits_same g e z loops d d k × block_fits_same g rest z loops (d + 1) k
+    λ k. (d < PLACES) × fits_same g e z loops d d k × block_fits_same g rest z loops (d + 1) k
 block_fits_same g (Assign a) z loops d = all_fit_same g a z loops d d
 block_fits_same g (If' t p a q b) z loops d =
     λ k. fits_same g t z loops d d k × block_fits_same g a z loops d k × block_fits_same g b z loops d k

@@ -21,7 +21,7 @@ use toml::Table;
 
 /// What a rule has too much of.
 const NO_ROOM_WORDS: &str =
-    "clock and each name of state take 4 bytes of the memory, and at most 3 numbers are in use at once";
+    "clock and each name of state take 4 bytes of the memory, and at most 131 numbers are in use at once";
 
 /// The keys that have lists of tables.
 const ENTRY_KEYS: [&str; 4] = ["load", "unload", "corrupt", "coin"];

@@ -35,7 +35,7 @@ binary_of-requires-clause-right t c =
 pub returns-in_err-test-in-Count-clause-long : goal.returns-in_err-test-in-Count-clause-long
 returns-in_err-test-in-Count-clause-long t c =
     passed_on c.from_residual-in_err-test-in-Count.result c.in_err-test-in-Count.field-0.0 _ _
-    (test_part _ _ _ _ _ _ _ _ _ _ _ c.in-Count.is c.deref-in-loop-node.ensures c.in_ok-inner-in-Count.ensures
+    (test_part _ _ _ _ _ _ _ _ _ _ _ _ c.in-Count.is c.count_test_of-skip.ensures c.deref-in-loop-node.ensures c.in_ok-inner-in-Count.ensures
     c.deref-in-loop-node-2.ensures.value c.loop-node-test.true) c.in_err-test-in-Count.ensures.long
     c.from_residual-in_err-test-in-Count.ensures.1
 
@@ -44,7 +44,8 @@ returns-in_err-counts-in-Count-clause-long t c =
     let more : c.loop-node.node + 1 ≤ c.args.sizes.nodes = omega (arith, c.loop-node-test.true) in
     passed_on c.from_residual-in_err-counts-in-Count.result c.in_err-counts-in-Count.field-0.0 _ _
     (counts_part _ _ _ _ _ _ _ _ _ c.in-Count.is more
-    (count_kept _ _ _ _ _ _ _ _ _ _ _ _ _ c.place_of-place.ensures c.deref-in-loop-node.ensures
+    (count_kept _ _ _ _ _ _ _ _ _ _ _ _ _ _ c.place_of-place.ensures c.count_test_of-skip.ensures
+    c.deref-in-loop-node.ensures
     c.in_ok-inner-in-Count.ensures c.deref-in-loop-node-2.ensures.value c.in_ok-test-in-Count.ensures.code
     c.deref-in-loop-node-3.ensures.value c.in_ok-counted-in-Count.ensures c.loop-node.invariant.code))
     c.in_err-counts-in-Count.ensures.long c.from_residual-in_err-counts-in-Count.ensures.1
