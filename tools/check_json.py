@@ -40,6 +40,8 @@ def must(holds, what):
 def head_of(frame):
     version = "" if frame["format"] == 1 else f"version {frame['format']} "
     clock = f" clock {frame['clock']}" if frame["format"] >= 3 else ""
+    if frame.get("zero_agrees") and frame["clock"] == "own":
+        clock += " zero agrees"
     return f"{version}nodes {frame['nodes']} faults {frame['faults']} modulus {frame['modulus']}{clock}"
 
 

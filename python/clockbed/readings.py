@@ -7,7 +7,7 @@ from collections.abc import Sequence
 from dataclasses import dataclass
 from typing import Any, NamedTuple, Optional
 
-HEAD = re.compile(r"(?:version [234] )?nodes (\d+) faults (\d+) modulus (\d+)(?: clock (rule|bed|own))?")
+HEAD = re.compile(r"(?:version [2-5] )?nodes (\d+) faults (\d+) modulus (\d+)(?: clock (rule|bed|own)( zero agrees)?)?")
 PULSE = re.compile(
     r"pulse (\d+) clocks ((?:(?:\d+|-|!) )+)settled (\d+) steps (\d+) agree (yes|no|none)(?: counts (?:yes|no|none))?"
 )
@@ -37,7 +37,7 @@ class Run:
     nodes: int
     faults: int
     modulus: int
-    is_own: bool
+    is_strict: bool
     count: int
     pulses: list[Pulse]
     agreed: int
@@ -85,7 +85,7 @@ def contradicts(run: Run, pulse: Pulse) -> list[bool]:
     """The nodes whose clocks make the pulse's verdict a no."""
     if pulse.agrees is not False:
         return [False] * run.nodes
-    if not run.is_own:
+    if not run.is_strict:
         return [is_settled and clock != 0 for clock, is_settled in zip(pulse.clocks, pulse.settled)]
     told = {clock for clock, is_settled in zip(pulse.clocks, pulse.settled) if is_settled}
     return [is_settled and (len(told) > 1 or clock == PAST) for clock, is_settled in zip(pulse.clocks, pulse.settled)]
@@ -111,7 +111,7 @@ def read_report(text: str) -> Run:
     lines = text.splitlines()
     if len(lines) < 3:
         raise NoReport(f"too few lines: {text.strip()[:200]}")
-    *numbers, clock = matched(HEAD, lines[0], "first line")
+    *numbers, clock, zero = matched(HEAD, lines[0], "first line")
     nodes, faults, modulus = map(int, numbers)
     pulses: list[Pulse] = []
     before: list[Optional[int]] = [None] * nodes
@@ -123,7 +123,8 @@ def read_report(text: str) -> Run:
     if (agreed, judged) != (sum(verdicts), len(verdicts)):
         raise NoReport(f"the pulses don't add up: {lines[-1]}")
     since = in_step_since(pulses, modulus)
-    return Run(nodes, faults, modulus, clock == "own", len(pulses), pulses, agreed, judged, since, None)
+    is_strict = clock == "own" and not zero
+    return Run(nodes, faults, modulus, is_strict, len(pulses), pulses, agreed, judged, since, None)
 
 
 def read_inside(told: dict[str, Any], nodes: int, modulus: int) -> Pulse:
@@ -148,8 +149,8 @@ def read_lines(text: str) -> Run:
         raise NoReport("the pulses don't follow one another")
     if len(pulses) == frame["pulses"] and since != in_step_since(pulses, modulus):
         raise NoReport(f"the pulses are in step since {in_step_since(pulses, modulus)}: {lines[-1]}")
-    is_own = frame.get("clock") == "own"
-    return Run(nodes, frame["faults"], modulus, is_own, frame["pulses"], pulses, agreed, judged, since, lines)
+    is_strict = frame.get("clock") == "own" and not frame.get("zero_agrees", False)
+    return Run(nodes, frame["faults"], modulus, is_strict, frame["pulses"], pulses, agreed, judged, since, lines)
 
 
 def read_run(text: str) -> Run:

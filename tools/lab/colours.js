@@ -58,7 +58,7 @@ export const equivocates = (sent, from) => new Set(sent[from].filter((_, to) => 
 export function diverging({ frame }, pulse) {
   const { agree, clocks, settled } = pulse;
   if (agree !== false) return clocks.map(() => false);
-  if (frame.clock !== "own") return clocks.map((clock, node) => settled[node] && clock !== 0);
+  if (frame.clock !== "own" || frame.zero_agrees) return clocks.map((clock, node) => settled[node] && clock !== 0);
   const told = new Set(clocks.filter((_, node) => settled[node]));
   return clocks.map((clock, node) => settled[node] && (told.size > 1 || clock >= frame.modulus));
 }

@@ -24,10 +24,15 @@ abbrev pub clock_name : ℕ → Bool → List ℕ
 clock_name version own =
     if own then codes "own" else if version == CLOCK_VERSION then codes "rule" else codes "bed"
 
+-- whether a clock of 0 of one's own agrees with every clock
+abbrev pub zero_text : Frame → Bool → List ℕ
+zero_text f own = if own && f.zero_agrees then codes " zero agrees" else []
+
 -- the end of the line: from version 3 on it says whose clock it is
 abbrev pub clock_end : Frame → Bool → List ℕ
 clock_end f own =
-    if is_judged f.version then codes " clock " ++ (clock_name f.version own ++ codes "\n") else codes "\n"
+    if is_judged f.version then codes " clock " ++ (clock_name f.version own ++ (zero_text f own ++ codes "\n"))
+    else codes "\n"
 
 abbrev pub head_line : Frame → Bool → List ℕ
 head_line f own = version_text f ++ (shape_text f ++ clock_end f own)

@@ -3,7 +3,7 @@ use Rattle.std.specs.Prelude.{ℕ, ◌+◌, ◌%◌, ◌==◌, ◌&&◌, nat_lt,
 use Rattle.std.specs.List.{list_all}
 use Rattle.bench_core.specs.Told.{PulseTold}
 use Rattle.scenario_text.specs.declared.scenario.Frame.{Frame}
-use Rattle.scenario_text.specs.Views.{is_judged}
+use Rattle.scenario_text.specs.Views.{is_judged, is_strict}
 use Rattle.bench_scenario.specs.declared.verdicts.TheConstants.{FEWEST}
 use Rattle.bench_scenario.specs.declared.verdicts.Judged.{Judged}
 
@@ -32,12 +32,12 @@ abbrev pub are_one : ℕ → List (Option ℕ) → Option ℕ → Bool
 are_one modulus clocks (Some first) = nat_lt first modulus && list_all (is_clock first) clocks
 are_one modulus clocks None = true
 
--- for the built-in clock the record's verdict, by which 0 agrees with every clock; for another clock, all settled
--- clocks are one number below M
+-- strictly, all settled clocks are one number below M; otherwise the record's verdict, by which 0 agrees with every
+-- clock, as for the built-in clock
 abbrev pub agreement : Bool → ℕ → PulseTold → Option Bool
-agreement own modulus r =
+agreement strict modulus r =
     if nat_lt r.row.settled FEWEST then None
-    else if own then Some (are_one modulus (settled_in r) (first_clock (settled_in r))) else Some r.agree
+    else if strict then Some (are_one modulus (settled_in r) (first_clock (settled_in r))) else Some r.agree
 
 -- ---- counting
 
@@ -67,8 +67,8 @@ counting modulus (b ∷ before) (a ∷ after) = joined_verdict (step_of modulus 
 
 -- from version 3 on, with the settled clocks of the pulse before
 abbrev pub judged_by : Bool → ℕ → List (Option ℕ) → PulseTold → Judged
-judged_by own modulus before r = record {
-  agree = agreement own modulus r;
+judged_by strict modulus before r = record {
+  agree = agreement strict modulus r;
   counts = counting modulus before (settled_in r);
 }
 
@@ -84,19 +84,20 @@ settled_before (Some earlier) = settled_in earlier
 -- by the record of the pulse and that of the pulse before
 abbrev pub judgement : Frame → Bool → Option PulseTold → PulseTold → Judged
 judgement f own earlier r =
-    if is_judged f.version then judged_by own f.modulus (settled_before earlier) r else judged_plainly r
+    if is_judged f.version then judged_by (is_strict f own) f.modulus (settled_before earlier) r else judged_plainly r
 
 -- ---- a run
 
 -- pulse after pulse, each with the settled clocks of the one before
 abbrev pub judged_after : Bool → ℕ → List (Option ℕ) → List PulseTold → List Judged
-judged_after own modulus before [] = []
-judged_after own modulus before (r ∷ rs) =
-    judged_by own modulus before r ∷ judged_after own modulus (settled_in r) rs
+judged_after strict modulus before [] = []
+judged_after strict modulus before (r ∷ rs) =
+    judged_by strict modulus before r ∷ judged_after strict modulus (settled_in r) rs
 
 -- what is judged of each pulse
 abbrev pub judged_of : Frame → Bool → List PulseTold → List Judged
-judged_of f own rs = if is_judged f.version then judged_after own f.modulus [] rs else map judged_plainly rs
+judged_of f own rs =
+    if is_judged f.version then judged_after (is_strict f own) f.modulus [] rs else map judged_plainly rs
 
 -- no verdict on agreement is no
 abbrev pub none_disagrees : List Judged → Bool

@@ -4,7 +4,7 @@ ghost use Rattle.std.specs.Fmt.{decimal};
 ghost use Rattle.bench_scenario.specs.Reports.{agreed, agreement_judged, all_agree, clock_end, clock_name, clock_text};
 ghost use Rattle.bench_scenario.specs.Reports.{clocks_text, counted_end, counts_end, head_line, is_past, is_yes, last_line};
 ghost use Rattle.bench_scenario.specs.Reports.{record_line, record_lines, report_of, report_text, shape_text, verdict_text};
-ghost use Rattle.bench_scenario.specs.Reports.{version_text};
+ghost use Rattle.bench_scenario.specs.Reports.{version_text, zero_text};
 ghost use Rattle.scenario_text.specs.Views.{frame_of};
 
 use crate::verdicts::{Judged, judged_of, none_disagrees};
@@ -68,6 +68,17 @@ pub fn clock_name(version: u32, own: bool) -> &'static str
     }
 }
 
+/// Returns the words that say whether a clock of 0 of one's own agrees with every clock.
+fn zero_text(scenario: &Scenario) -> &'static str
+    ensures { result.now ≡ zero_text (frame_of scenario.now) (is_some scenario.now.clock) }
+{
+    if scenario.clock.is_some() && scenario.zero_agrees {
+        " zero agrees"
+    } else {
+        ""
+    }
+}
+
 fn add_clock_end(report: &mut String, scenario: &Scenario) -> Result<(), AllocError>
     ensures { OnOk result (string_bytes report.new
         ≡ string_bytes report.old ++ clock_end (frame_of scenario.now) (is_some scenario.now.clock)) }
@@ -78,6 +89,7 @@ fn add_clock_end(report: &mut String, scenario: &Scenario) -> Result<(), AllocEr
             report,
             clock_name(scenario.version, scenario.clock.is_some()),
         )?;
+        add(report, zero_text(scenario))?;
     }
     add(report, "\n")
 }

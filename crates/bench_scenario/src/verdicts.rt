@@ -80,15 +80,20 @@ pub(crate) fn are_one(modulus: u32, clocks: &[Option<u32>]) -> bool
     }
 }
 
-/// Returns whether the settled clocks of a pulse agree: nothing if fewer than two nodes are settled. Another clock than
-/// the rule's (`own`) is held to one value below the modulus; for the rule's, the pulse's record has the answer.
-fn agreement(own: bool, modulus: u32, one: &PulseRecord, clocks: &[Option<u32>]) -> Option<bool>
+/// Returns whether the settled clocks of a pulse agree: nothing if fewer than two nodes are settled. If it is judged
+/// strictly, they have to be one value below the modulus; otherwise the pulse's record has the answer.
+fn agreement(
+    strict: bool,
+    modulus: u32,
+    one: &PulseRecord,
+    clocks: &[Option<u32>],
+) -> Option<bool>
     requires { clocks.now ≡ settled_in one.now }
-    ensures { result ≡ agreement own modulus one.now }
+    ensures { result ≡ agreement strict modulus one.now }
 {
     if one.row.settled < FEWEST {
         None
-    } else if own {
+    } else if strict {
         Some(are_one(modulus, clocks))
     } else {
         Some(one.agree)
@@ -135,17 +140,17 @@ pub(crate) fn counting(modulus: u32, before: &[Option<u32>], after: &[Option<u32
 
 /// Returns what is judged of a pulse from version 3 on, with the settled clocks of the pulse before and its own.
 fn judged_by(
-    own: bool,
+    strict: bool,
     modulus: u32,
     one: &PulseRecord,
     before: &[Option<u32>],
     clocks: &[Option<u32>],
 ) -> Judged
     requires { clocks.now ≡ settled_in one.now }
-    ensures { result ≡ judged_by own modulus before.now one.now }
+    ensures { result ≡ judged_by strict modulus before.now one.now }
 {
     Judged {
-        agree: agreement(own, modulus, one, clocks),
+        agree: agreement(strict, modulus, one, clocks),
         counts: counting(modulus, before, clocks),
     }
 }
@@ -193,11 +198,11 @@ pub fn judgement(
     if !scenario.is_judged() {
         return Ok(judged_plainly(one));
     }
-    let own = scenario.clock.is_some();
+    let strict = scenario.is_strict();
     let before = settled_before(alloc, earlier)?;
     let clocks = settled_in(alloc, one)?;
     Ok(judged_by(
-        own,
+        strict,
         scenario.modulus,
         one,
         before.as_slice(),
@@ -209,17 +214,17 @@ pub fn judgement(
 /// one.
 fn judged_in_turn(
     alloc: Global,
-    own: bool,
+    strict: bool,
     modulus: u32,
     records: &[PulseRecord],
 ) -> Result<Vec<Judged>, AllocError>
-    ensures { IfOk result (λ judged. judged.items ≡ judged_after own modulus [] records.now) }
+    ensures { IfOk result (λ judged. judged.items ≡ judged_after strict modulus [] records.now) }
 {
     let mut judged = Vec::with_capacity(alloc, records.len())?;
     let mut before = Vec::new(alloc);
     for one in records {
         let clocks = settled_in(alloc, one)?;
-        judged.push(judged_by(own, modulus, one, before.as_slice(), clocks.as_slice()))?;
+        judged.push(judged_by(strict, modulus, one, before.as_slice(), clocks.as_slice()))?;
         before = clocks;
     }
     Ok(judged)
@@ -246,7 +251,7 @@ pub fn judged_of(
         ≡ judged_of (frame_of scenario.now) (is_some scenario.now.clock) records.now) }
 {
     if scenario.is_judged() {
-        judged_in_turn(alloc, scenario.clock.is_some(), scenario.modulus, records)
+        judged_in_turn(alloc, scenario.is_strict(), scenario.modulus, records)
     } else {
         all_judged_plainly(alloc, records)
     }

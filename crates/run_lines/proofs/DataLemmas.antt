@@ -1,6 +1,6 @@
 -- What the lines tell has no float, and nests no deeper than three levels.
 use Rattle.std.proofs.Common.{ℕ, List, [], ◌∷◌, length}
-use Rattle.std.specs.Prelude.{Bool, true, false, Option, codes, if◌then◌else◌, is_some}
+use Rattle.std.specs.Prelude.{Bool, true, false, Option, codes, if◌then◌else◌, is_some, nat_le}
 use Rattle.std.specs.List.{AllByRecursion}
 use Rattle.std.specs.Ordering.{nat_cmp}
 use Rattle.std.specs.FinMap.{FinMap, get}
@@ -8,6 +8,7 @@ use Rattle.serde_json.specs.Data.{boolean, null, string}
 use Rattle.bench_core.specs.State.{Node}
 use Rattle.bench_workers.specs.Watching.{Seen}
 use Rattle.scenario_text.specs.Views.{is_judged}
+use Rattle.scenario_text.specs.declared.limits.TheConstants.{ZERO_VERSION}
 use Rattle.scenario_text.specs.declared.scenario.Frame.{Frame}
 use Rattle.bench_scenario.specs.Coins.{places_below}
 use Rattle.bench_scenario.specs.Reports.{clock_name}
@@ -15,7 +16,7 @@ use Rattle.bench_scenario.specs.declared.summary.RunSummary.{RunSummary}
 use Rattle.bench_scenario.specs.declared.verdicts.Judged.{Judged}
 use Rattle.json_values.proofs.PlainLemmas.{IsPlain, plain_boolean, plain_list, plain_null, plain_number, plain_object, plain_option, plain_string}
 use Rattle.json_values.specs.Values.{Member, number_data, option_data}
-use Rattle.run_lines.specs.Data.{clock_members, frame_data, frame_members, load_kind_text, last_data, memory_data, pulse_data, pulse_members, ran_data, sent_data, staged_data, verdict_members}
+use Rattle.run_lines.specs.Data.{clock_members, frame_data, frame_members, load_kind_text, last_data, memory_data, pulse_data, pulse_members, ran_data, sent_data, staged_data, verdict_members, zero_members}
 use Rattle.run_lines.specs.Staged.{StagedTold, Loaded, Unloaded, Corrupted}
 
 abbrev AllPlain : ℕ → List Member → Type 0
@@ -28,9 +29,12 @@ either_plain false levels ms ns first second = second
 
 pub plain_frame : (f : Frame) (own : Bool) → IsPlain 1 (frame_data f own)
 plain_frame f own =
+    let zero : AllPlain 0 (zero_members f) =
+    either_plain (nat_le ZERO_VERSION f.version) 0 ((codes "zero_agrees", boolean f.zero_agrees) ∷ []) []
+    (plain_boolean 0 f.zero_agrees, tt) tt in
     let clock : AllPlain 0 (clock_members f own) =
-    either_plain (is_judged f.version) 0 ((codes "clock", string (clock_name f.version own)) ∷ []) []
-    (plain_string 0 (clock_name f.version own), tt) tt in
+    either_plain (is_judged f.version) 0 ((codes "clock", string (clock_name f.version own)) ∷ zero_members f) []
+    (plain_string 0 (clock_name f.version own), zero) tt in
     let last : AllPlain 0 ((codes "memory", number_data f.memory) ∷ (codes "pulses", number_data f.pulses)
     ∷ clock_members f own) = (plain_number 0 f.memory, (plain_number 0 f.pulses, clock)) in
     let each : AllPlain 0 (frame_members f own) = (

@@ -7,7 +7,7 @@ use Rattle.bench_core.specs.State.{State, new_state, staged_state}
 use Rattle.bench_workers.specs.Events.{Event, Stage}
 use Rattle.bench_workers.specs.Events.{Pulse as PulseEvent}
 use Rattle.bench_workers.specs.Watching.{Seen, Shows}
-use Rattle.scenario_text.specs.Views.{is_judged}
+use Rattle.scenario_text.specs.Views.{is_judged, is_strict}
 use Rattle.scenario_text.specs.declared.scenario.Frame.{Frame}
 use Rattle.bench_scenario.specs.Verdicts.{judged_after, judged_by, judged_plainly, settled_before}
 use Rattle.run_lines.specs.Laws.{AreOfReport}
@@ -41,4 +41,4 @@ either_each false own modulus s es xs last shows = plain_each xs
 
 pub judges_as_the_report : (f : Frame) (own : Bool) (s : Setup) (es : List Event) (xs : List Seen) (b : State)
     → Shows s (new_state s) 0 None es xs b → AreOfReport f own xs
-judges_as_the_report f own s es xs b shows = either_each (is_judged f.version) own f.modulus s es xs b shows
+judges_as_the_report f own s es xs b shows = either_each (is_judged f.version) (is_strict f own) f.modulus s es xs b shows

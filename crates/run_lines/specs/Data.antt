@@ -1,5 +1,5 @@
 -- What the lines of a run tell, as values of JSON (docs/OUTPUT.md, "JSON lines").
-use Rattle.std.specs.Prelude.{ℕ, if◌then◌else◌, is_some, Bool, List, [], ◌∷◌, length, codes}
+use Rattle.std.specs.Prelude.{ℕ, if◌then◌else◌, is_some, nat_le, Bool, List, [], ◌∷◌, length, codes}
 use Rattle.std.specs.Ordering.{nat_cmp}
 use Rattle.std.specs.FinMap.{FinMap, get}
 use Rattle.hex.specs.Hex.{encode_lower}
@@ -8,6 +8,7 @@ use Rattle.bench_core.specs.State.{Node}
 use Rattle.bench_workers.specs.Watching.{Seen}
 use Rattle.scenario_text.specs.Views.{is_judged}
 use Rattle.scenario_text.specs.declared.scenario.Frame.{Frame}
+use Rattle.scenario_text.specs.declared.limits.TheConstants.{ZERO_VERSION}
 use Rattle.scenario_text.specs.declared.scenario.Kind.{Kind}
 use Rattle.scenario_text.specs.declared.scenario.Kind.TheVariants.{Clock, Say, Echo, Asm, Rule, Noise}
 use Rattle.bench_scenario.specs.Coins.{places_below}
@@ -20,9 +21,14 @@ use Rattle.run_lines.specs.Staged.{StagedTold, Loaded, Unloaded, Corrupted}
 
 -- ---- the first line
 
+-- the member `zero_agrees`, from version 5 on
+abbrev pub zero_members : Frame → List Member
+zero_members f = if nat_le ZERO_VERSION f.version then (codes "zero_agrees", boolean f.zero_agrees) ∷ [] else []
+
 -- the member `clock`, from version 3 on
 abbrev pub clock_members : Frame → Bool → List Member
-clock_members f own = if is_judged f.version then (codes "clock", string (clock_name f.version own)) ∷ [] else []
+clock_members f own =
+    if is_judged f.version then (codes "clock", string (clock_name f.version own)) ∷ zero_members f else []
 
 abbrev pub frame_members : Frame → Bool → List Member
 frame_members f own =

@@ -4,11 +4,11 @@ ghost use Rattle.serde_json.specs.View.{members_view, view};
 ghost use Rattle.scenario_text.specs.Views.{frame_of};
 ghost use Rattle.json_values.specs.Texts.{json_line};
 ghost use Rattle.json_values.specs.Values.{number_data, with_members};
-ghost use Rattle.run_lines.specs.Data.{clock_members, frame_data, last_data};
+ghost use Rattle.run_lines.specs.Data.{clock_members, frame_data, last_data, zero_members};
 
 use bench_scenario::{RunSummary, clock_name};
 use json_values::{line_of, place_or_null};
-use scenario_text::Scenario;
+use scenario_text::{Scenario, ZERO_VERSION};
 use serde_json::{Map, Value, put};
 use std::alloc::{AllocError, Global};
 
@@ -44,7 +44,22 @@ fn add_extent(
     put(members, alloc, "pulses", Value::from(scenario.pulses))
 }
 
-/// Adds whose clock it is, if the version knows that.
+/// Adds whether 0 agrees with every clock, if the version knows that.
+fn add_zero(
+    alloc: Global,
+    members: &mut Map<String, Value>,
+    scenario: &Scenario,
+) -> Result<(), AllocError>
+    ensures { OnOk result (members_view members.new.entries ≡ with_members (members_view members.old.entries)
+        (zero_members (frame_of scenario.now))) }
+{
+    if u64::from(scenario.version) < ZERO_VERSION {
+        return Ok(());
+    }
+    put(members, alloc, "zero_agrees", Value::from(scenario.zero_agrees))
+}
+
+/// Adds whose clock it is, and whether 0 agrees with every clock, if the version knows that.
 fn add_clock(
     alloc: Global,
     members: &mut Map<String, Value>,
@@ -57,7 +72,8 @@ fn add_clock(
         return Ok(());
     }
     let clock = clock_name(scenario.version, scenario.clock.is_some());
-    put(members, alloc, "clock", Value::try_from_str(alloc, clock)?)
+    put(members, alloc, "clock", Value::try_from_str(alloc, clock)?)?;
+    add_zero(alloc, members, scenario)
 }
 
 /// Returns what the first line tells.

@@ -14,7 +14,9 @@ use rule_notes::near::nearest;
 use rule_notes::shown::shown;
 use rule_programs::RuleRefusal;
 use scenario_text::keys::Key;
-use scenario_text::{CLOCK_VERSION, MAX_TEXT, NOISE_VERSION, Place, RULE_VERSION, ScenarioError};
+use scenario_text::{
+    CLOCK_VERSION, MAX_TEXT, NOISE_VERSION, Place, RULE_VERSION, ScenarioError, ZERO_VERSION,
+};
 use std::alloc::{AllocError, Global};
 use std::str;
 use toml::Table;
@@ -175,6 +177,7 @@ fn of_unlike(alloc: Global, key: Key) -> Result<String, AllocError> {
     match key {
         Key::Clock => format!(in alloc; "clock needs version = {CLOCK_VERSION}"),
         Key::Rule => format!(in alloc; "rule needs version = {RULE_VERSION}, and no key clock"),
+        Key::ZeroAgrees => format!(in alloc; "zero_agrees needs version = {ZERO_VERSION}"),
         Key::Values => String::from_str(alloc, "values goes with program = \"say\""),
         Key::Text => String::from_str(alloc, "text goes with program = \"asm\" or \"rule\""),
         _ => Ok(String::new(alloc)),

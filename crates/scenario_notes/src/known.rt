@@ -1,16 +1,16 @@
 //! The keys that tables know (docs/SCENARIOS.md, "Keys"), and the one that a table doesn't.
 
 use scenario_text::keys::{
-    CLOCK_KEYS, COIN_KEYS, CORRUPT_KEYS, Key, LOAD_KEYS, SOURCE_KEYS, TOP_KEYS, UNLOAD_KEYS,
+    BESIDE_KEYS, COIN_KEYS, CORRUPT_KEYS, Key, LOAD_KEYS, SOURCE_KEYS, TOP_KEYS, UNLOAD_KEYS,
 };
-use scenario_text::{CLOCK_VERSION, Place, RULE_VERSION};
+use scenario_text::{CLOCK_VERSION, Place, RULE_VERSION, ZERO_VERSION};
 use std::alloc::{AllocError, Global};
 use toml::{Table, Value};
 
 /// Returns the keys of a table there, and those that are known only beside others.
 fn keys_at(place: Place) -> (&'static [Key], &'static [Key]) {
     match place {
-        Place::Top => (&TOP_KEYS, &CLOCK_KEYS),
+        Place::Top => (&TOP_KEYS, &BESIDE_KEYS),
         Place::Load(_) => (&LOAD_KEYS, &SOURCE_KEYS),
         Place::Unload(_) => (&UNLOAD_KEYS, &[]),
         Place::Corrupt(_) => (&CORRUPT_KEYS, &[]),
@@ -68,6 +68,7 @@ fn has_its_like(table: &Table, key: Key) -> bool {
     match key {
         Key::Clock => has_version(table, CLOCK_VERSION),
         Key::Rule => has_version(table, RULE_VERSION) && table.get("clock").is_none(),
+        Key::ZeroAgrees => has_version(table, ZERO_VERSION),
         Key::Values => program == Some("say"),
         Key::Text => matches!(program, Some("asm" | "rule")),
         _ => true,

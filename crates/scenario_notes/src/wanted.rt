@@ -130,6 +130,7 @@ fn wanted_at_top(alloc: Global, table: &Table, key: &str) -> Result<String, Allo
         "key" => number(alloc, key, 0, MAX_KEY),
         "clock" => String::from_str(alloc, "clock is the text of a program"),
         "rule" => String::from_str(alloc, "rule is the text of a rule (docs/RULES.md)"),
+        "zero_agrees" => String::from_str(alloc, "zero_agrees is true or false"),
         "load" => load_words(alloc, table),
         "coin" => array_words(alloc, key, MAX_COIN_ENTRIES),
         _ => array_words(alloc, key, MAX_CHANGES),

@@ -1,7 +1,7 @@
 -- A key holds one number at most.
 use Rattle.std.proofs.Common.{◌≡◌, ◌≤◌, ℕ, arith, ◌-◌, ◌%◌, List, ap, sym, subst, ◌∙◌, inl, inr, Global}
-use Rattle.std.specs.Prelude.{true, false, ◌==◌, if◌then◌else◌, pos, Option, Some, None, codes, MatchOption, IfErr, Result, Ok, Err}
-use Rattle.toml.specs.Data.{Data, integer, Members}
+use Rattle.std.specs.Prelude.{true, false, Bool, ◌==◌, if◌then◌else◌, pos, Option, Some, None, codes, MatchOption, IfErr, Result, Ok, Err}
+use Rattle.toml.specs.Data.{Data, boolean, integer, Members}
 use Rattle.bpf_insn.specs.declared.forms.Insn.{Insn}
 use Rattle.scenario_text.specs.declared.scenario.Frame.{Frame}
 use Rattle.scenario_text.specs.declared.refusal.ScenarioError.{ScenarioError}
@@ -12,7 +12,7 @@ use Rattle.scenario_text.specs.inner.Faults.{IsOfSpelling}
 use Rattle.scenario_text.specs.Drafts.{Draft}
 use Rattle.scenario_text.specs.Tables.{HasNumber, MayBeArray, IsTable}
 use Rattle.scenario_text.proofs.ClockLemmas.{one_clock}
-use Rattle.scenario_text.specs.Spelling.{HasVersion, HasFrame, SpellsClock, most_nodes, Spelled, SpellsNothing}
+use Rattle.scenario_text.specs.Spelling.{MayHaveFlag, HasVersion, HasFrame, SpellsClock, most_nodes, Spelled, SpellsNothing}
 use Rattle.scenario_text.specs.declared.limits.TheConstants.{FIRST_VERSION, FIRST_MAX_NODES}
 use Rattle.clock_nodes.specs.Rule.{IsRule}
 use Rattle.node_env.specs.Env.{IsExtent}
@@ -56,6 +56,21 @@ pub no_units : (ms : Members) (memory : ℕ) → HasNumber ms (codes "memory") M
     → (f : Frame) → HasFrame ms f → ⊥
 no_units ms memory held odd f has = odd (ap (λ m. m % MEMORY_UNIT)
     (one_number ms (codes "memory") _ _ _ _ memory f.memory held has.memory) ∙ has.units)
+
+-- a key holds one flag at most
+abbrev flag_held : Option Data → Bool
+flag_held (Some (boolean flag)) = flag
+flag_held _ = false
+
+pub one_flag : (ms : Members) (key : List ℕ) (a b : Bool) → MayHaveFlag ms key a → MayHaveFlag ms key b → a ≡ b
+one_flag ms key a b (inl first) (inl second) = first.1 ∙ sym second.1
+one_flag ms key a b (inl first) (inr second) = absurd (nothing (sym first.0 ∙ second))
+one_flag ms key a b (inr first) (inl second) = absurd (nothing (sym second.0 ∙ first))
+one_flag ms key a b (inr first) (inr second) = ap flag_held (sym first ∙ second)
+
+pub no_flag : (ms : Members) → ((flag : Bool) → MayHaveFlag ms (codes "zero_agrees") flag → ⊥) → (f : Frame)
+    → HasFrame ms f → ⊥
+no_flag ms none f has = none f.zero_agrees has.zero_agrees
 
 -- a refusal for the spelling excludes what has no spelling
 pub excludes : (e : ScenarioError) (none : Type 0) → IsOfSpelling e → none → Excludes e none
@@ -130,6 +145,7 @@ one_frame ms f g a b = λ k. record {
   modulus = one_number ms (codes "modulus") _ _ _ _ f.modulus g.modulus a.modulus b.modulus k;
   memory = one_number ms (codes "memory") _ _ _ _ f.memory g.memory a.memory b.memory k;
   pulses = one_number ms (codes "pulses") _ _ _ _ f.pulses g.pulses a.pulses b.pulses k;
+  zero_agrees = one_flag ms (codes "zero_agrees") f.zero_agrees g.zero_agrees a.zero_agrees b.zero_agrees k;
 }
 
 -- what the frame and the clock that were read have no entries for has no spelling

@@ -32,7 +32,7 @@ pub no_arrays : (ms : Members) → (HasArrays ms → ⊥) → SpellsNothing ms
 no_arrays ms none d spelled = none (spelled_arrays ms d spelled)
 
 -- what is read of all keys is spelled, where the arrays aren't too long
-pub spelled_whole : (ms : Members) (d : Draft) → knows (top_keys (clock_key ms)) ms ≡ true
+pub spelled_whole : (ms : Members) (d : Draft) → knows (top_keys ms) ms ≡ true
     → HasFrame ms d.frame → HasCoins ms d.coins
     → HasKey ms d.coins d.key → d.clock_text ≡ clock_draft (clock_key ms) ms → SpellsClock d.frame ms d.clock
     → MayBeArray (IsTable (SpelledLoad d.frame d.clock)) (get_member (codes "load") ms) d.loads

@@ -1,11 +1,11 @@
 -- How a table spells a scenario (docs/SCENARIOS.md, "Keys").
-use Rattle.std.specs.Prelude.{◌≡◌, ℕ, pos, negsuc, ◌+◌, ◌-◌, ◌%◌, ◌≤◌, ◌==◌, ◌++◌, ◌⊎◌, if◌then◌else◌, Bool, true, List, [], ◌∷◌, codes, length, replicate, Option, Some, None, is_some, option_map, option_to_list}
-use Rattle.toml.specs.Data.{Data, string, integer, Members, get_member}
+use Rattle.std.specs.Prelude.{◌≡◌, ℕ, pos, negsuc, ◌+◌, ◌-◌, ◌%◌, ◌≤◌, ◌==◌, ◌++◌, ◌⊎◌, if◌then◌else◌, Bool, true, false, ◌||◌, nat_le, List, [], ◌∷◌, codes, length, replicate, Option, Some, None, is_some, option_map, option_to_list}
+use Rattle.toml.specs.Data.{Data, string, integer, boolean, Members, get_member}
 use Rattle.bpf_insn.specs.declared.forms.Insn.{Insn}
 use Rattle.bpf_asm.specs.Meaning.{Means}
 use Rattle.scenario_text.specs.declared.keys.Key.{Key}
 use Rattle.scenario_text.specs.declared.keys.Key.TheVariants as names
-use Rattle.scenario_text.specs.declared.keys.TheConstants.{COIN_KEYS, CORRUPT_KEYS, LOAD_KEYS, TOP_KEYS, UNLOAD_KEYS}
+use Rattle.scenario_text.specs.declared.keys.TheConstants.{COIN_KEYS, CORRUPT_KEYS, LATER_TOP_KEYS, LOAD_KEYS, TOP_KEYS, UNLOAD_KEYS}
 use Rattle.scenario_text.specs.Keys.{names_of}
 use Rattle.scenario_text.specs.declared.scenario.Coins.{Coins}
 use Rattle.scenario_text.specs.declared.scenario.Coins.TheVariants.{Zeros, Ones, Chacha}
@@ -23,7 +23,7 @@ use Rattle.clock_nodes.specs.declared.rule.TheConstants.{LEAST_MODULUS, MAX_MODU
 use Rattle.rule_syntax.specs.declared.syntax.Sizes.{Sizes}
 use Rattle.rule_programs.specs.Programs.{IsProgramOfText}
 use Rattle.node_env.specs.declared.shape.TheConstants.{MAX_NODES, MAX_MEMORY, MEMORY_UNIT}
-use Rattle.scenario_text.specs.declared.limits.TheConstants.{FIRST_VERSION, LAST_VERSION, CLOCK_VERSION, RULE_VERSION, NOISE_VERSION, FIRST_MAX_NODES, MAX_PULSES, MAX_KEY, MAX_SAID, MAX_CHANGES, MAX_COIN_ENTRIES}
+use Rattle.scenario_text.specs.declared.limits.TheConstants.{FIRST_VERSION, LAST_VERSION, CLOCK_VERSION, RULE_VERSION, NOISE_VERSION, ZERO_VERSION, FIRST_MAX_NODES, MAX_PULSES, MAX_KEY, MAX_SAID, MAX_CHANGES, MAX_COIN_ENTRIES}
 use Rattle.scenario_text.specs.Tables.{knows, IsNumber, HasNumber, HasText, text_under, IsArray, MayBeArray, IsTable}
 use Rattle.scenario_text.specs.declared.scenario.Frame.{Frame}
 
@@ -34,7 +34,7 @@ use Rattle.scenario_text.specs.declared.scenario.Frame.{Frame}
 abbrev pub key_of_version : ℕ → Bool → ClockKey
 key_of_version version with_clock =
     if version == CLOCK_VERSION then keys.Clock
-    else if version == RULE_VERSION then (if with_clock then keys.Clock else keys.Rule)
+    else if (version == RULE_VERSION) || (version == ZERO_VERSION) then (if with_clock then keys.Clock else keys.Rule)
     else keys.Absent
 
 abbrev pub key_by : Option Data → Bool → ClockKey
@@ -50,15 +50,31 @@ text_key keys.Absent = None
 text_key keys.Clock = Some names.Clock
 text_key keys.Rule = Some names.Rule
 
--- the top keys of every version, with that of the clock's text
-abbrev pub top_keys : ClockKey → List (List ℕ)
-top_keys clock = names_of (TOP_KEYS ++ option_to_list (text_key clock))
+-- from ZERO_VERSION on a scenario may say whether 0 agrees with every clock
+abbrev pub knows_zero : Option Data → Bool
+knows_zero (Some (integer (pos version))) = nat_le ZERO_VERSION version
+knows_zero _ = false
+
+-- the top keys without that of the clock's text
+abbrev pub frame_keys : Bool → List Key
+frame_keys true = LATER_TOP_KEYS
+frame_keys false = TOP_KEYS
+
+-- the top keys of the table's version, with that of the clock's text
+abbrev pub top_keys : Members → List (List ℕ)
+top_keys members = names_of (frame_keys (knows_zero (get_member (codes "version") members))
+    ++ option_to_list (text_key (clock_key members)))
 
 -- the version is FIRST_VERSION if the key is absent
 abbrev pub HasVersion : Members → ℕ → Type 0
 HasVersion members version =
     ((get_member (codes "version") members ≡ None) × (version ≡ FIRST_VERSION))
     ⊎ HasNumber members (codes "version") FIRST_VERSION LAST_VERSION version
+
+-- the flag is false if the key is absent
+abbrev pub MayHaveFlag : Members → List ℕ → Bool → Type 0
+MayHaveFlag members key flag =
+    ((get_member key members ≡ None) × (flag ≡ false)) ⊎ (get_member key members ≡ Some (boolean flag))
 
 -- the first version has fewer nodes
 abbrev pub most_nodes : ℕ → ℕ
@@ -72,6 +88,7 @@ pub record HasFrame (members : Members) (f : Frame) : Type 0 where
   pub memory : HasNumber members (codes "memory") MEMORY_UNIT MAX_MEMORY f.memory
   pub units : f.memory % MEMORY_UNIT ≡ 0
   pub pulses : HasNumber members (codes "pulses") 1 MAX_PULSES f.pulses
+  pub zero_agrees : MayHaveFlag members (codes "zero_agrees") f.zero_agrees
 
 abbrev pub coins_name : Coins → List ℕ
 coins_name Zeros = codes "zeros"
@@ -228,7 +245,7 @@ load_count [] = 0
 load_count (load ∷ loads) = length load.nodes + load_count loads
 
 pub record Spelled (members : Members) (d : Draft) : Type 0 where
-  pub known : knows (top_keys (clock_key members)) members ≡ true
+  pub known : knows (top_keys members) members ≡ true
   pub frame : HasFrame members d.frame
   pub coins : HasCoins members d.coins
   pub key : HasKey members d.coins d.key

@@ -1,5 +1,5 @@
 -- What a scenario is as plain data, and when a table reads as it.
-use Rattle.std.specs.Prelude.{◌≡◌, ℕ, Bool, nat_le, map, All, IfSome, option_map, string_bytes}
+use Rattle.std.specs.Prelude.{◌≡◌, ℕ, Bool, not, ◌&&◌, nat_le, map, All, IfSome, option_map, string_bytes}
 use Rattle.toml.specs.Data.{Members}
 use Rattle.node_env.specs.Env.{Extent}
 use Rattle.bpf_verify.specs.Accepted.{Accepted}
@@ -38,6 +38,7 @@ frame_of s = record {
   modulus = s.modulus;
   memory = s.memory;
   pulses = s.pulses;
+  zero_agrees = s.zero_agrees;
 }
 
 abbrev pub draft_of : Scenario → Draft
@@ -56,6 +57,10 @@ draft_of s = record {
 -- the report judges whether clocks count, and says whose clock it is
 abbrev pub is_judged : ℕ → Bool
 is_judged version = nat_le CLOCK_VERSION version
+
+-- clocks agree only if they are one number below the modulus: for a clock of one's own, unless 0 agrees with every clock
+abbrev pub is_strict : Frame → Bool → Bool
+is_strict f own = own && not f.zero_agrees
 
 abbrev pub extent_of : Frame → Extent
 extent_of f = record { nodes = f.nodes; memory = f.memory }

@@ -13,6 +13,7 @@ pub enum Key {
     Key,
     Clock,
     Rule,
+    ZeroAgrees,
     Load,
     Unload,
     Corrupt,
@@ -45,6 +46,7 @@ impl Key {
             Key::Key => "key",
             Key::Clock => "clock",
             Key::Rule => "rule",
+            Key::ZeroAgrees => "zero_agrees",
             Key::Load => "load",
             Key::Unload => "unload",
             Key::Corrupt => "corrupt",
@@ -60,7 +62,7 @@ impl Key {
     }
 }
 
-/// The top keys of every version.
+/// The top keys of the versions before `ZERO_VERSION`.
 pub const TOP_KEYS: [Key; 12] = [
     Key::Version,
     Key::Nodes,
@@ -76,8 +78,25 @@ pub const TOP_KEYS: [Key; 12] = [
     Key::Coin,
 ];
 
-/// The top keys of which a version has at most one: the text of the clock.
-pub const CLOCK_KEYS: [Key; 2] = [Key::Clock, Key::Rule];
+/// The top keys from `ZERO_VERSION` on.
+pub const LATER_TOP_KEYS: [Key; 13] = [
+    Key::Version,
+    Key::Nodes,
+    Key::Faults,
+    Key::Modulus,
+    Key::Memory,
+    Key::Pulses,
+    Key::Coins,
+    Key::Key,
+    Key::ZeroAgrees,
+    Key::Load,
+    Key::Unload,
+    Key::Corrupt,
+    Key::Coin,
+];
+
+/// The top keys that only some versions know.
+pub const BESIDE_KEYS: [Key; 3] = [Key::Clock, Key::Rule, Key::ZeroAgrees];
 
 /// The keys of every load.
 pub const LOAD_KEYS: [Key; 3] = [Key::Pulse, Key::Nodes, Key::Program];

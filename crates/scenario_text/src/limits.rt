@@ -4,7 +4,7 @@
 pub const FIRST_VERSION: u64 = 1;
 
 /// The greatest version.
-pub const LAST_VERSION: u64 = 4;
+pub const LAST_VERSION: u64 = 5;
 
 /// The first version in which a scenario may have a clock of its own, and in which its report judges more.
 pub const CLOCK_VERSION: u64 = 3;
@@ -14,6 +14,9 @@ pub const RULE_VERSION: u64 = 4;
 
 /// The first version in which a load may be noise.
 pub const NOISE_VERSION: u64 = 4;
+
+/// The first version in which a scenario may say that a clock of 0 agrees with every clock.
+pub const ZERO_VERSION: u64 = 5;
 
 /// The most nodes of a scenario of the first version.
 pub const FIRST_MAX_NODES: u64 = 32;

@@ -58,7 +58,8 @@ pub enum ProgramText {
     Rule(String),
 }
 
-/// The numbers of the top keys, on which the ranges of the entries rest.
+/// The numbers of the top keys, on which the ranges of the entries rest. `zero_agrees` is true if a clock of 0 of the
+/// scenario's own clock agrees with every clock, as that of the built-in clock does.
 #[derive(Clone, Copy, Debug, PartialEq, Eq)]
 pub struct Frame {
     pub version: u32,
@@ -67,6 +68,7 @@ pub struct Frame {
     pub modulus: u32,
     pub memory: u32,
     pub pulses: u32,
+    pub zero_agrees: bool,
 }
 
 /// One `[[load]]`: before this pulse the program, of the kind that its table names, comes into each of the nodes.
@@ -113,6 +115,7 @@ pub struct Scenario {
     pub modulus: u32,
     pub memory: u32,
     pub pulses: u32,
+    pub zero_agrees: bool,
     pub coins: Coins,
     pub key: Option<u64>,
     pub clock_text: Option<ProgramText>,
@@ -129,7 +132,8 @@ impl Scenario {
     ghost use Rattle.std.specs.Prelude.{◌≡◌, map};
     ghost use Rattle.scenario_text.specs.Noise.{any_noise};
     ghost use Rattle.scenario_text.specs.Spelling.{clock_rule_of};
-    ghost use Rattle.scenario_text.specs.Views.{extent_of, frame_of, is_judged, load_draft};
+    ghost use Rattle.std.specs.Prelude.{is_some};
+    ghost use Rattle.scenario_text.specs.Views.{extent_of, frame_of, is_judged, is_strict, load_draft};
 
     /// Returns the shape of the nodes.
     pub fn shape(&self) -> Shape
@@ -156,6 +160,14 @@ impl Scenario {
         ensures { result ≡ is_judged self.now.version }
     {
         self.version as u64 >= CLOCK_VERSION
+    }
+
+    /// Returns true if clocks agree only if they are one number below the modulus: the clock is the scenario's own, and
+    /// the scenario doesn't say that 0 agrees with every clock.
+    pub fn is_strict(&self) -> bool
+        ensures { result ≡ is_strict (frame_of self.now) (is_some self.now.clock) }
+    {
+        self.clock.is_some() && !self.zero_agrees
     }
 
     /// Returns true if a load is one of noise.

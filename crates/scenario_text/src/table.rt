@@ -1,5 +1,5 @@
 //! What the keys of a table hold.
-ghost use Rattle.std.specs.Prelude.{◌≡◌, ◌≤◌, ◌^◌, ◌<◌, ◌++◌, ℕ, List, Some, IfErr, MatchResult, IfOk, map, option_map, option_to_list, is_ok, is_some, string_bytes};
+ghost use Rattle.std.specs.Prelude.{◌≡◌, ◌≤◌, ◌^◌, ◌<◌, ◌++◌, ℕ, Bool, List, Some, IfErr, MatchResult, IfOk, map, option_map, option_to_list, is_ok, is_some, string_bytes};
 ghost use Rattle.std.specs.BTreeMap.{keys};
 ghost use Rattle.std.specs.List.{list_all, list_any};
 ghost use Rattle.std.specs.Str.{bytes_eq};
@@ -8,6 +8,7 @@ ghost use Rattle.toml.specs.View.{view, table_view, array_view};
 ghost use Rattle.scenario_text.specs.inner.Arrays.{are_tables, is_table, all_tables};
 ghost use Rattle.scenario_text.specs.inner.Faults.{IsOfSpelling};
 ghost use Rattle.scenario_text.specs.Keys.{key_name, names_of};
+ghost use Rattle.scenario_text.specs.Spelling.{MayHaveFlag};
 ghost use Rattle.scenario_text.specs.Tables.{HasNumber, knows, text_under};
 
 use crate::keys::Key;
@@ -89,6 +90,24 @@ pub(crate) fn number_at(
     match u64::try_from(signed) {
         Ok(number) if low <= number && number <= high => Ok(number),
         _ => Err(ScenarioError::OutOfRange { place, key }),
+    }
+}
+
+/// Returns the flag under a top key: false if the key is absent.
+pub(crate) fn flag_at(table: &Table, key: &'static str) -> Result<bool, ScenarioError>
+    ensures fault { IfErr result IsOfSpelling }
+    ensures flag { MatchResult result (MayHaveFlag (table_view table.now) key.entry.now)
+        (λ _. (flag : Bool) → MayHaveFlag (table_view table.now) key.entry.now flag → ⊥) }
+{
+    let Some(value) = value_at(table, key) else {
+        return Ok(false);
+    };
+    match value.as_bool() {
+        Some(flag) => Ok(flag),
+        None => Err(ScenarioError::WrongKind {
+            place: Place::Top,
+            key,
+        }),
     }
 }
 

@@ -12,7 +12,7 @@ ghost use Rattle.scenario_text.specs.Spelling.{HasFrame, HasVersion, HasCoins, H
 use crate::limits::{FIRST_MAX_NODES, FIRST_VERSION, LAST_VERSION, MAX_KEY, MAX_PULSES};
 use crate::refusal::{Place, ScenarioError};
 use crate::scenario::{Coins, Frame, Kind};
-use crate::table::{number_at, value_at};
+use crate::table::{flag_at, number_at, value_at};
 use clock_nodes::{LEAST_MODULUS, MAX_MODULUS};
 use node_env::{MAX_MEMORY, MAX_NODES, MEMORY_UNIT};
 use toml::Table;
@@ -101,7 +101,7 @@ pub(crate) fn key_at(table: &Table, coins: Coins) -> Result<Option<u64>, Scenari
 }
 
 /// Returns the numbers of the top keys.
-#[tactic(auto, using(crate::proofs::FrameLemmas::no_version, crate::proofs::FrameLemmas::no_nodes, crate::proofs::FrameLemmas::no_faults, crate::proofs::FrameLemmas::no_units, crate::proofs::FrameLemmas::frame_extent, crate::proofs::FrameLemmas::frame_rule))]
+#[tactic(auto, using(crate::proofs::FrameLemmas::no_version, crate::proofs::FrameLemmas::no_nodes, crate::proofs::FrameLemmas::no_faults, crate::proofs::FrameLemmas::no_units, crate::proofs::FrameLemmas::no_flag, crate::proofs::FrameLemmas::frame_extent, crate::proofs::FrameLemmas::frame_rule))]
 pub(crate) fn frame_at(table: &Table) -> Result<Frame, ScenarioError>
     ensures fault { IfErr result IsOfSpelling }
     ensures frame { MatchResult result (HasFrame (table_view table.now))
@@ -139,6 +139,7 @@ pub(crate) fn frame_at(table: &Table) -> Result<Frame, ScenarioError>
         });
     }
     let pulses = number_at(table, place, "pulses", 1, MAX_PULSES)?;
+    let zero_agrees = flag_at(table, "zero_agrees")?;
     Ok(Frame {
         version: version as u32,
         nodes: nodes as u32,
@@ -146,5 +147,6 @@ pub(crate) fn frame_at(table: &Table) -> Result<Frame, ScenarioError>
         modulus: modulus as u32,
         memory: memory as u32,
         pulses: pulses as u32,
+        zero_agrees,
     })
 }

@@ -1,16 +1,17 @@
 //! A whole table.
-ghost use Rattle.std.specs.Prelude.{◌≡◌, IfOk, IfErr, option_map};
+ghost use Rattle.std.specs.Prelude.{◌≡◌, IfOk, IfErr, codes, option_map};
+ghost use Rattle.toml.specs.Data.{get_member};
 ghost use Rattle.toml.specs.View.{table_view};
 ghost use Rattle.scenario_text.specs.Broken.{BrokenAt};
 ghost use Rattle.scenario_text.specs.Faults.{Refuses};
-ghost use Rattle.scenario_text.specs.Spelling.{SpellsNothing, clock_key, clock_draft, key_of_version, text_key};
+ghost use Rattle.scenario_text.specs.Spelling.{SpellsNothing, clock_key, clock_draft, frame_keys, key_of_version, knows_zero, text_key, top_keys};
 ghost use Rattle.scenario_text.specs.Tables.{knows};
 ghost use Rattle.scenario_text.specs.Views.{ReadsAs, text_draft};
 
 use crate::arrays::arrays_at;
 use crate::entries::entries_of;
-use crate::keys::{Key, TOP_KEYS};
-use crate::limits::{CLOCK_VERSION, RULE_VERSION};
+use crate::keys::{Key, LATER_TOP_KEYS, TOP_KEYS};
+use crate::limits::{CLOCK_VERSION, RULE_VERSION, ZERO_VERSION};
 use crate::noise::judge_noise;
 use crate::refusal::{Place, ScenarioError};
 use crate::scenario::{ClockKey, ProgramText, Scenario};
@@ -26,7 +27,7 @@ fn key_of_version(version: u64, with_clock: bool) -> ClockKey
 {
     if version == CLOCK_VERSION {
         ClockKey::Clock
-    } else if version == RULE_VERSION {
+    } else if version == RULE_VERSION || version == ZERO_VERSION {
         if with_clock {
             ClockKey::Clock
         } else {
@@ -51,6 +52,34 @@ fn clock_key(table: &Table) -> ClockKey
     match u64::try_from(version) {
         Ok(version) => key_of_version(version, with_clock),
         Err(_) => ClockKey::Absent,
+    }
+}
+
+/// Returns true if the version of a table is one in which a scenario may say whether 0 agrees with every clock.
+fn knows_zero(table: &Table) -> bool
+    ensures { result ≡ knows_zero (get_member (codes "version") (table_view table.now)) }
+{
+    let Some(value) = value_at(table, "version") else {
+        return false;
+    };
+    let Some(version) = value.as_integer() else {
+        return false;
+    };
+    match u64::try_from(version) {
+        Ok(version) => ZERO_VERSION <= version,
+        Err(_) => false,
+    }
+}
+
+/// Returns true if each top key is one of the table's version, or that of the clock's text.
+fn knows_top_keys(table: &Table, clock: ClockKey) -> bool
+    requires { clock ≡ clock_key (table_view table.now) }
+    ensures { result ≡ knows (top_keys (table_view table.now)) (table_view table.now) }
+{
+    if knows_zero(table) {
+        knows_keys(table, &LATER_TOP_KEYS, text_key(clock))
+    } else {
+        knows_keys(table, &TOP_KEYS, text_key(clock))
     }
 }
 
@@ -88,7 +117,7 @@ pub fn scenario_of(alloc: Global, table: &Table) -> Result<Scenario, ScenarioErr
         (BrokenAt (table_view table.now))) }
 {
     let clock = clock_key(table);
-    if !knows_keys(table, &TOP_KEYS, text_key(clock)) {
+    if !knows_top_keys(table, clock) {
         return Err(ScenarioError::UnknownKey { place: Place::Top });
     }
     let frame = frame_at(table)?;
@@ -112,6 +141,7 @@ pub fn scenario_of(alloc: Global, table: &Table) -> Result<Scenario, ScenarioErr
         modulus: frame.modulus,
         memory: frame.memory,
         pulses: frame.pulses,
+        zero_agrees: frame.zero_agrees,
         coins,
         key,
         clock_text,

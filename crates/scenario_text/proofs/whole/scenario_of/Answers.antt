@@ -112,11 +112,8 @@ returns-clause-reads c =
     let f = setup.frame in
     let ms = table_view c.args.table.now in
     let held = c.in_ok-arrays.ensures in
-    let is_known : c.knows_keys.result ≡ true = search rules in
-    let known : knows (top_keys (clock_key ms)) ms ≡ true =
-    subst (λ k. knows (top_keys k) ms ≡ true) c.clock_key-clock.ensures
-    (subst (λ m. knows (names_of (TOP_KEYS ++ option_to_list m)) ms ≡ true) c.text_key.ensures
-    (sym c.knows_keys.ensures ∙ is_known)) in
+    let is_known : c.knows_top_keys.result ≡ true = search rules in
+    let known : knows (top_keys ms) ms ≡ true = sym c.knows_top_keys.ensures ∙ is_known in
     record {
       spelled = spelled_whole _ _ known
           (subst (HasFrame ms) (sym c.in_ok-setup.ensures.frame) c.in_ok-frame.ensures.frame)
