@@ -41,6 +41,7 @@ mod found;
 mod laws;
 mod limits;
 mod node;
+mod node_clocks;
 mod node_flags;
 mod pulse;
 mod recent;
@@ -62,6 +63,7 @@ pub use laws::{
     rows_count, steps_are_entries,
 };
 pub use limits::{CLOCKS_DIFFER, MAX_BENCH_PULSES, MAX_COUNTED, MAX_ENTRIES};
+pub use node_clocks::NodeClocks;
 pub use node_flags::NodeFlags;
 pub use recent::Recent;
 pub use record::{PulseRecord, Ran};

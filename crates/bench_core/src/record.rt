@@ -5,10 +5,11 @@ ghost use Rattle.bench_core.specs.declared.found.TheConstants.{PLACES};
 ghost use Rattle.bench_core.specs.declared.limits.TheConstants.{MAX_COUNTED, MAX_BENCH_PULSES};
 ghost use Rattle.bench_core.specs.Settled.{clocks_where};
 ghost use Rattle.bench_core.specs.Told.{row_from, told_clock};
-ghost use Rattle.bench_core.specs.inner.Told.{both_marked, joined_of, IsMostSteps};
+ghost use Rattle.bench_core.specs.inner.Told.{both_marked, joined_of, HoldsClocks, IsMostSteps};
 
 use crate::limits::CLOCKS_DIFFER;
 use crate::node::NodeSlot;
+use crate::node_clocks::NodeClocks;
 use crate::node_flags::NodeFlags;
 use crate::row::Row;
 use crate::task::NodeDone;
@@ -20,7 +21,7 @@ use std::marker::Model;
 pub struct PulseRecord {
     pub row: Row,
     /// The four bytes of each node that ran the bench's clock, also where these are the modulus or more.
-    pub clocks: Vec<Option<u32>>,
+    pub clocks: NodeClocks,
     /// Which nodes ran it in the closed pulse before as well.
     pub settled: NodeFlags,
     /// The greatest number of instructions that a node ran, 0 if none is loaded.
@@ -36,7 +37,7 @@ impl Model for PulseRecord {
 
     ghost view = { λ r. record {
       row = r.row;
-      clocks = r.clocks.items;
+      clocks = r.clocks;
       settled = r.settled;
       steps = r.steps;
       agree = r.agree;
@@ -59,7 +60,7 @@ pub(crate) struct Finished {
     pub(crate) coins: Vec<u32>,
 }
 
-/// Room for what will be told of a pulse: the marks before its close, and a place for each clock.
+/// Room for what will be told of a pulse: the marks before its close, and the list that its clocks need.
 #[derive(Drop)]
 pub(crate) struct RecordScratch {
     pub(crate) settled: NodeFlags,
@@ -70,11 +71,11 @@ pub(crate) struct RecordScratch {
 pub(crate) fn make_room(alloc: Global, nodes: &[NodeSlot]) -> Result<RecordScratch, AllocError>
     requires { length nodes.now ≤ PLACES }
     ensures settled { IfOk result (λ r. r.settled ≡ map (λ x. x.mark) nodes.now) }
-    ensures clocks { IfOk result (λ r. length r.clocks.items ≡ length nodes.now) }
+    ensures clocks { IfOk result (λ r. HoldsClocks (length nodes.now) r.clocks.items) }
 {
     Ok(RecordScratch {
         settled: NodeFlags::marks(nodes),
-        clocks: vec![in alloc; None; nodes.len()]?,
+        clocks: NodeClocks::room(alloc, nodes.len())?,
     })
 }
 
@@ -89,7 +90,7 @@ pub(crate) fn tell(
     requires first { 1 ≤ pulse }
     requires last { pulse ≤ MAX_BENCH_PULSES }
     requires settled { length room.settled ≡ length nodes.now }
-    requires clocks { length room.clocks.items ≡ length nodes.now }
+    requires clocks { HoldsClocks (length nodes.now) room.clocks.items }
     requires few { length nodes.now ≤ MAX_COUNTED }
     requires memory { All (λ x. 4 ≤ length x.memory) nodes.now }
     requires small { All (λ c. c < MAX_MODULUS)
@@ -100,12 +101,9 @@ pub(crate) fn tell(
     ensures steps { IsMostSteps dones.now result.steps }
     ensures agree { IsTrue result.agree ↔ (result.row.common ≢ CLOCKS_DIFFER) }
 {
-    let RecordScratch {
-        settled,
-        mut clocks,
-    } = room;
+    let RecordScratch { settled, clocks } = room;
     let settled = settled.kept(nodes);
-    tell_clocks(&mut clocks, nodes);
+    let clocks = NodeClocks::told(clocks, nodes);
     let row = row_told(modulus, pulse, settled.as_slice(), nodes);
     PulseRecord {
         row,
@@ -113,18 +111,6 @@ pub(crate) fn tell(
         settled,
         steps: most_steps(dones),
         agree: row.common != CLOCKS_DIFFER,
-    }
-}
-
-/// Tells the clocks of nodes that ran the clock program.
-fn tell_clocks(clocks: &mut [Option<u32>], nodes: &[NodeSlot])
-    requires count { length clocks.old ≡ length nodes.now }
-    requires room { All (λ x. 4 ≤ length x.memory) nodes.now }
-    ensures { clocks.new ≡ map told_clock nodes.now }
-{
-    for i in 0..nodes.len() {
-        let node = &nodes[i];
-        clocks[i] = node.told_clock();
     }
 }
 

@@ -41,6 +41,19 @@ impl Halt {
     }
 }
 
+/// What an event adds to the history at most: a pulse is opened and closed.
+const ENTRIES_OF_EVENT: usize = 2;
+
+/// Returns no records, with room for those of this many events if there is memory for them.
+fn records_of(alloc: Global, events: usize) -> Vec<PulseRecord>
+    ensures { result.items ≡ [] }
+{
+    match Vec::with_capacity(alloc, events) {
+        Ok(records) => records,
+        Err(_) => Vec::new(alloc),
+    }
+}
+
 /// Puts a record if there is room.
 fn keep(records: &mut Vec<PulseRecord>, told: PulseRecord)
     requires { vec_len records.old < vec_capacity records.old }
@@ -164,7 +177,8 @@ pub fn run_events_watched<R: Threads + Wait + Sync, G: Gate + Sync, S, K: Watche
     let fault = RunRefusal::Memory;
     let nodes = bench.shape().nodes();
     let mut bench = bench;
-    let mut records = Vec::new(alloc);
+    bench.expect_entries(events.len().saturating_mul(ENTRIES_OF_EVENT));
+    let mut records = records_of(alloc, events.len());
     let mut place = 0;
     for event in events {
         match apply(

@@ -88,8 +88,8 @@ fn four_clocks_for_each_number_of_workers(rt: HostRuntime) -> Result<(), Fail> {
         assert_eq!(rt; run.records.len(), 3);
         let wanted = [(0, 0, 36), (1, 4, 44), (2, 4, 41)];
         for (told, (clock, settled, steps)) in run.records.iter().zip(wanted.iter()) {
-            assert!(rt; told.clocks.iter().all(|c| *c == Some(*clock)));
-            assert_eq!(rt; told.clocks.len(), 4);
+            assert!(rt; told.clocks.as_slice().iter().all(|c| *c == Some(*clock)));
+            assert_eq!(rt; told.clocks.as_slice().len(), 4);
             assert_eq!(rt; told.row.settled, *settled);
             assert_eq!(rt; told.steps, *steps);
             assert!(rt; told.agree);

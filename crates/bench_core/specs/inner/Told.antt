@@ -1,6 +1,9 @@
 -- What the code tells of a closed pulse, one node after the other.
-use Rattle.std.specs.Prelude.{◌≡◌, ◌⊎◌, ℕ, ◌≤◌, ◌==◌, ◌&&◌, ◌||◌, Bool, if◌then◌else◌, List, [], ◌∷◌, All, Contains}
+use Rattle.std.specs.Prelude.{◌≡◌, ◌⊎◌, ℕ, ◌<◌, ◌≤◌, ◌==◌, ◌&&◌, ◌||◌, Bool, if◌then◌else◌, List, Option, [], ◌∷◌, All, Contains, length}
 use Rattle.bench_core.specs.declared.limits.TheConstants.{CLOCKS_DIFFER}
+use Rattle.bench_core.specs.declared.node_clocks.Held.{Held}
+use Rattle.bench_core.specs.declared.node_clocks.Held.TheVariants.{Few, Many}
+use Rattle.bench_core.specs.declared.node_clocks.TheConstants.{FEW}
 use Rattle.bench_core.specs.State.{Node}
 use Rattle.bench_core.specs.Tasks.{Done}
 
@@ -22,3 +25,12 @@ joined_all common (c ∷ cs) = joined_all (joined_of common c) cs
 pub record IsMostSteps (dones : List Done) (steps : ℕ) : Type 0 where
   pub most : All (λ d. d.end.steps ≤ steps) dones
   pub reached : ((one : Done) × Contains dones one × (one.end.steps ≡ steps)) ⊎ ((dones ≡ []) × (steps ≡ 0))
+
+-- a list of a place for each clock of this many nodes, if a record needs one
+abbrev pub HoldsClocks : ℕ → List (Option ℕ) → Type 0
+HoldsClocks nodes list = FEW < nodes → length list ≡ nodes
+
+-- the clocks that are held
+abbrev pub clocks_in : Held → List (Option ℕ)
+clocks_in (Few few) = few
+clocks_in (Many list) = list.items

@@ -3,7 +3,7 @@ use Rattle.std.proofs.lemmas.List.{get_or_read}
 use Rattle.bench_core.specs.State.{no_node, node_at}
 use Rattle.bench_core.specs.Told.{told_clock}
 use Rattle.bench_core.proofs.Telling.{set_more, map_by_place}
-use Rattle.bench_core.proofs.record.tell_clocks.Goals as goal
+use Rattle.bench_core.proofs.node_clocks.tell_clocks.Goals as goal
 
 pub loop-i-preserved : goal.loop-i-preserved
 loop-i-preserved c =
