@@ -82,12 +82,7 @@ pub(crate) fn are_one(modulus: u32, clocks: &[Option<u32>]) -> bool
 
 /// Returns whether the settled clocks of a pulse agree: nothing if fewer than two nodes are settled. If it is judged
 /// strictly, they have to be one value below the modulus; otherwise the pulse's record has the answer.
-fn agreement(
-    strict: bool,
-    modulus: u32,
-    one: &PulseRecord,
-    clocks: &[Option<u32>],
-) -> Option<bool>
+fn agreement(strict: bool, modulus: u32, one: &PulseRecord, clocks: &[Option<u32>]) -> Option<bool>
     requires { clocks.now ≡ settled_in one.now }
     ensures { result ≡ agreement strict modulus one.now }
 {

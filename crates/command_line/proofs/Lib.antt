@@ -1,5 +1,7 @@
 mod Among
+mod CountLemmas
 mod EntryLemmas
 mod NumberLemmas
 mod RangeLemmas
+mod RejectedLemmas
 mod SpanLemmas

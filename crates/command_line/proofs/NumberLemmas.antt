@@ -1,6 +1,6 @@
 -- Numbers that are added to a set, one after another.
 use Rattle.std.proofs.Common.{◌≡◌, ◌⊎◌, ◌↔◌, ◌+◌, ◌<◌, ◌≤◌, ℕ, List, [], ◌∷◌, ◌++◌, map, length}
-use Rattle.std.proofs.Common.{Any, Contains, arith, inl, inr, ⊎_elim, refl, sym, ap, subst, ◌∙◌}
+use Rattle.std.proofs.Common.{Any, Contains, arith, get_or, inl, inr, suc, zero, ⊎_elim, refl, sym, ap, subst, ◌∙◌}
 use Rattle.std.specs.BTreeSet.{insert_key}
 use Rattle.std.specs.List.{AllZip}
 use Rattle.std.specs.Ordering.{MatchOrdering, match_ordering, nat_cmp}
@@ -105,3 +105,17 @@ zip_push R [] [] x y h r = (r, tt)
 zip_push R [] (z ∷ ys) x y h r = elim h [ ]
 zip_push R (w ∷ xs) [] x y h r = elim h [ ]
 zip_push R (w ∷ xs) (z ∷ ys) x y h r = (h.0, zip_push R xs ys x y h.1 r)
+
+pub zip_length : {X Y : Type 0} (R : X → Y → Type 0) (xs : List X) (ys : List Y) → AllZip R xs ys → length xs ≡ length ys
+zip_length R [] [] h = refl
+zip_length R [] (y ∷ ys) h = elim h [ ]
+zip_length R (x ∷ xs) [] h = elim h [ ]
+zip_length R (x ∷ xs) (y ∷ ys) h = ap suc (zip_length R xs ys h.1)
+
+-- nothing goes with an item with which no entry goes
+pub zip_none : {X Y : Type 0} (R : X → Y → Type 0) (xs : List X) (i : ℕ) (x : X) → i < length xs
+    → x ≡ get_or xs i x → ((y : Y) → R x y → ⊥) → (ys : List Y) → AllZip R xs ys → ⊥
+zip_none R [] i x inside is none ys h = absurd (omega arith)
+zip_none R (z ∷ xs) i x inside is none [] h = h
+zip_none R (z ∷ xs) zero x inside is none (y ∷ ys) h = none y (subst (λ w. R w y) (sym is) h.0)
+zip_none R (z ∷ xs) (suc i) x inside is none (y ∷ ys) h = zip_none R xs i x (omega arith) is none ys h.1

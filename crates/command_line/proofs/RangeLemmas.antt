@@ -1,16 +1,16 @@
 -- A part of a list is one range.
-use Rattle.std.proofs.Common.{◌≡◌, ◌↔◌, ◌<◌, ℕ, List, [], ◌∷◌, ◌++◌}
+use Rattle.std.proofs.Common.{◌≡◌, ◌≢◌, ◌↔◌, ◌<◌, ◌≤◌, ◌^◌, ℕ, zero, suc, ◌+◌, List, [], ◌∷◌, ◌++◌, get_or, length, codes}
 use Rattle.std.proofs.Common.{arith, inl, inr, ⊎_elim, refl, sym, ap, subst, ◌∙◌}
 use Rattle.std.specs.Char.{digit_value}
 use Rattle.std.specs.Str.Parse.{AllDigits, digits_value}
-use Rattle.command_line.specs.Lists.{IsRange, IsInSpan, Names}
+use Rattle.command_line.specs.Lists.{IsPart, IsRange, IsInSpan, Names}
 use Rattle.command_line.specs.inner.Spans.{AddsPart, AddsSpan}
 
-no_dot : (a b : List ℕ) → AllDigits 10 (a ++ (46 ∷ b)) → ⊥
+pub no_dot : (a b : List ℕ) → AllDigits 10 (a ++ (46 ∷ b)) → ⊥
 no_dot [] b h = absurd (omega (arith, h.0))
 no_dot (x ∷ a) b h = no_dot a b h.1
 
-dot_is_no_digit : (x : ℕ) → digit_value x < 10 → x ≡ 46 → ⊥
+pub dot_is_no_digit : (x : ℕ) → digit_value x < 10 → x ≡ 46 → ⊥
 dot_is_no_digit x h e =
     let dot : digit_value 46 < 10 = subst (λ y. digit_value y < 10) e h in absurd (omega (arith, dot))
 
@@ -50,3 +50,45 @@ adds_part part first last old new range adds = λ n.
       (λ h. ⊎_elim (λ o. inl o) (λ w. inr (same.1 w)) ((adds n).0 h)),
       (λ h. (adds n).1 (⊎_elim (λ o. inl o) (λ w. inr (same.0 w)) h)),
     )
+
+-- ---- parts that are none
+
+-- a part of one range is a part only if the range doesn't fall and is below the limit
+pub part_is : (limit : ℕ) (part : List ℕ) (first last : ℕ) → IsRange part first last → IsPart limit part
+    → (first ≤ last) × (last < limit)
+part_is limit part first last range (low, high, is) =
+    let same = one_range part first last low high range is.range in
+    let s = same.0 in let t = same.1 in let rises = is.rises in let below = is.below in (omega arith, omega arith)
+
+-- no byte is a sign of equality
+abbrev pub Unequal : List ℕ → Type 0
+Unequal [] = Unit {0}
+Unequal (x ∷ xs) = (x ≢ 61) × Unequal xs
+
+equals_is_no_digit : (x : ℕ) → digit_value x < 10 → x ≢ 61
+equals_is_no_digit x h e =
+    let equals : digit_value 61 < 10 = subst (λ y. digit_value y < 10) e h in absurd (omega (arith, equals))
+
+unequal_digits : (xs : List ℕ) → AllDigits 10 xs → Unequal xs
+unequal_digits [] h = tt
+unequal_digits (x ∷ xs) h = (equals_is_no_digit x h.0, unequal_digits xs h.1)
+
+unequal_append : (xs ys : List ℕ) → Unequal xs → Unequal ys → Unequal (xs ++ ys)
+unequal_append [] ys left right = right
+unequal_append (x ∷ xs) ys left right = (left.0, unequal_append xs ys left.1 right)
+
+pub unequal_range : (part : List ℕ) (first last : ℕ) → IsRange part first last → Unequal part
+unequal_range part first last (inl p) = unequal_digits part p.0.0.1
+unequal_range part first last (inr (left, right, e, p, r)) =
+    let dots : Unequal (codes ".." ++ right) =
+    ((λ e. absurd (omega arith)), ((λ e. absurd (omega arith)), unequal_digits right r.0.1)) in
+    subst Unequal (sym e) (unequal_append left (codes ".." ++ right) (unequal_digits left p.0.1) dots)
+
+pub unequal_at : (xs : List ℕ) → Unequal xs → (i : ℕ) → i < length xs → get_or xs i 0 ≢ 61
+unequal_at [] h i l = absurd (omega arith)
+unequal_at (x ∷ xs) h zero l = h.0
+unequal_at (x ∷ xs) h (suc i) l = unequal_at xs h.1 i (omega arith)
+
+pub unequal_cut : (a b : List ℕ) → Unequal (a ++ (61 ∷ b)) → ⊥
+unequal_cut [] b h = h.0 refl
+unequal_cut (x ∷ a) b h = unequal_cut a b h.1

@@ -9,6 +9,11 @@ use Rattle.node_env.specs.declared.shape.TheConstants.{MAX_MEMORY}
 use Rattle.explored.specs.declared.options.ByteSpan.{ByteSpan}
 use Rattle.explored.specs.declared.options.Cells.{Cells}
 use Rattle.explored.specs.declared.options.MailSpan.{MailSpan}
+use Rattle.command_line.specs.declared.exec_words.CaseFault.{CaseFault}
+use Rattle.command_line.specs.declared.exec_words.CaseFault.TheVariants as cases
+use Rattle.command_line.specs.declared.lists.MailFault.{MailFault}
+use Rattle.command_line.specs.declared.lists.MailFault.TheVariants as faults
+use Rattle.command_line.specs.declared.lists.TheConstants.{MAX_MAIL}
 
 -- the parts of a text between commas
 abbrev pub comma_parts : List ℕ → List (List ℕ)
@@ -97,6 +102,22 @@ AreEntries parts (cells ∷ rest) = (head : List ℕ) × (more : List (List ℕ)
 abbrev pub AreCells : List ℕ → List Cells → Type 0
 AreCells text all = AreEntries (comma_parts text) all
 
+-- ---- texts that are no list
+
+-- no list has this text; or each that has it has more numbers than a list may have
+abbrev pub IsNoMailList : List ℕ → MailFault → Type 0
+IsNoMailList text faults.NotNumbers = (mail : List MailSpan) → IsMailList text mail → ⊥
+IsNoMailList text faults.Falls = (mail : List MailSpan) → IsMailList text mail → ⊥
+IsNoMailList text faults.TooMany =
+    (mail : List MailSpan) → IsMailList text mail → MAX_MAIL < span_length (mail_spans mail)
+IsNoMailList text faults.Memory = Unit {0}
+
+abbrev pub IsNoBytes : List ℕ → Type 0
+IsNoBytes text = (all : List Cells) → IsBytes text all → ⊥
+
+abbrev pub IsNoCells : List ℕ → Type 0
+IsNoCells text = (all : List Cells) → AreCells text all → ⊥
+
 -- ---- the lists of `exec`
 
 -- a number, or a dash for none
@@ -112,3 +133,17 @@ AreMailSlots nodes text mail = AllZip IsMailSlot (comma_parts text) mail × (len
 -- `--contents`: pairs of hexadecimal digits, at most as many as there is room for
 abbrev pub AreContents : ℕ → List ℕ → List ℕ → Type 0
 AreContents room text contents = (decode_of text ≡ Ok contents) × (length contents ≤ room)
+
+-- no mail of this many nodes has the text
+abbrev pub IsNoMail : ℕ → List ℕ → CaseFault → Type 0
+IsNoMail nodes text cases.Mail = (mail : List (Option ℕ)) → AreMailSlots nodes text mail → ⊥
+IsNoMail nodes text cases.Memory = Unit {0}
+IsNoMail nodes text cases.Id = ⊥
+IsNoMail nodes text cases.Contents = ⊥
+
+-- no contents for this room have the text
+abbrev pub AreNoContents : ℕ → List ℕ → CaseFault → Type 0
+AreNoContents room text cases.Contents = (contents : List ℕ) → AreContents room text contents → ⊥
+AreNoContents room text cases.Memory = Unit {0}
+AreNoContents room text cases.Id = ⊥
+AreNoContents room text cases.Mail = ⊥

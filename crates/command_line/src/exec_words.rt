@@ -1,7 +1,8 @@
 //! What the words of `exec` ask for.
-ghost use Rattle.std.specs.Prelude.{◌↔◌, IfOk, IsTrue, codes};
+ghost use Rattle.std.specs.Prelude.{◌≡◌, ◌↔◌, ℕ, IfErr, IfOk, IsTrue, Option, codes};
 ghost use Rattle.clap.specs.Matches.{found_of};
-ghost use Rattle.command_line.specs.Lists.{AreContents, AreMailSlots, IsMailSlot};
+ghost use Rattle.command_line.specs.Lists.{AreContents, AreMailSlots, AreNoContents, IsMailSlot, IsNoMail};
+ghost use Rattle.command_line.specs.declared.exec_words.CaseFault.TheVariants.{Mail};
 ghost use Rattle.command_line.specs.Requests.{AsksCase, AsksExec, HasContents, HasSlots};
 ghost use Rattle.command_line.specs.Numbers.{OptionHasNumber};
 
@@ -88,12 +89,18 @@ fn contents_asked(alloc: Global, options: &ArgMatches<'_>, room: u32) -> Result<
 
 /// Returns the mail of a list that has as many places as there are nodes.
 fn mail_in(alloc: Global, list: &str, nodes: u32) -> Result<Vec<Option<u32>>, CaseFault>
-    ensures { IfOk result (λ mail. AreMailSlots nodes list.now mail.items) }
+    ensures mail { IfOk result (λ mail. AreMailSlots nodes list.now mail.items) }
+    ensures rejected { IfErr result (IsNoMail nodes list.now) }
 {
     let mut mail = Vec::new(alloc);
     for word in list.split(',') {
-        let slot = slot_in(word)?;
-        mail.push(slot).map_err(|_| CaseFault::Memory)?;
+        let slot = match slot_in(word) {
+            Ok(slot) => slot,
+            Err(fault) => return Err(fault),
+        };
+        if mail.push(slot).is_err() {
+            return Err(CaseFault::Memory);
+        }
     }
     if mail.len() == nodes as usize {
         Ok(mail)
@@ -104,7 +111,8 @@ fn mail_in(alloc: Global, list: &str, nodes: u32) -> Result<Vec<Option<u32>>, Ca
 
 /// Returns a number, or a dash for none.
 fn slot_in(word: &str) -> Result<Option<u32>, CaseFault>
-    ensures { IfOk result (IsMailSlot word.now) }
+    ensures slot { IfOk result (IsMailSlot word.now) }
+    ensures other { IfErr result (λ fault. (fault ≡ Mail) × ((slot : Option ℕ) → IsMailSlot word.now slot → ⊥)) }
 {
     if word == "-" {
         return Ok(None);
@@ -117,7 +125,8 @@ fn slot_in(word: &str) -> Result<Option<u32>, CaseFault>
 
 /// Bytes for which there is room.
 fn contents_in(alloc: Global, text: &str, room: u32) -> Result<Vec<u8>, CaseFault>
-    ensures { IfOk result (λ contents. AreContents room text.now contents.items) }
+    ensures contents { IfOk result (λ contents. AreContents room text.now contents.items) }
+    ensures rejected { IfErr result (AreNoContents room text.now) }
 {
     match hex::decode(alloc, text) {
         Ok(bytes) if bytes.len() <= room as usize => Ok(bytes),

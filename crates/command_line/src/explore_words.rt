@@ -1,5 +1,6 @@
 //! What the words of `explore` ask for.
-ghost use Rattle.std.specs.Prelude.{◌≡◌, IfOk, IfSome, IsTrue, Ok, Some, map};
+ghost use Rattle.std.specs.Prelude.{◌≡◌, ◌⊎◌, IfErr, IfOk, IfSome, IsTrue, List, Ok, Some, map, ℕ};
+ghost use Rattle.command_line.specs.declared.request.OptionsFault.TheVariants.{Memory};
 ghost use Rattle.clap.specs.Matches.{found_of};
 ghost use Rattle.command_line.specs.Explore.{AreImages, AsksExplore, AsksForm, AsksGraph, AsksMail, AsksMemories};
 ghost use Rattle.command_line.specs.Explore.{ArePulses, AsksOdds, AsksQuestion, AsksReach, AsksStart, HasMail, IsMemoryImage, IsOddsText, IsShareText};
@@ -256,7 +257,8 @@ fn cells_named(
 
 /// Returns the memory of a part of a list.
 fn image_in(alloc: Global, part: &str) -> Result<Vec<u8>, OptionsFault>
-    ensures { IfOk result (λ image. IsMemoryImage part.now image.items) }
+    ensures image { IfOk result (λ image. IsMemoryImage part.now image.items) }
+    ensures other { IfErr result (λ fault. (fault ≡ Memory) ⊎ ((image : List ℕ) → IsMemoryImage part.now image → ⊥)) }
 {
     match hex::decode(alloc, part) {
         Ok(bytes) => Ok(bytes),
@@ -267,12 +269,19 @@ fn image_in(alloc: Global, part: &str) -> Result<Vec<u8>, OptionsFault>
 
 /// Returns the memories of a list.
 fn images_in(alloc: Global, text: &str) -> Result<Vec<Vec<u8>>, OptionsFault>
-    ensures { IfOk result (λ images. AreImages text.now (map (λ v. v.items) images.items)) }
+    ensures images { IfOk result (λ images. AreImages text.now (map (λ v. v.items) images.items)) }
+    ensures rejected { IfErr result (λ fault. (fault ≡ Memory)
+        ⊎ ((images : List (List ℕ)) → AreImages text.now images → ⊥)) }
 {
     let mut images = Vec::new(alloc);
     for part in text.split(',') {
-        let image = image_in(alloc, part)?;
-        images.push(image).map_err(|_| OptionsFault::Memory)?;
+        let image = match image_in(alloc, part) {
+            Ok(image) => image,
+            Err(fault) => return Err(fault),
+        };
+        if images.push(image).is_err() {
+            return Err(OptionsFault::Memory);
+        }
     }
     Ok(images)
 }

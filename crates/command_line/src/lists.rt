@@ -1,13 +1,15 @@
 //! The lists of `--mail`, `--said`, `--bytes` and `--cells`: numbers and ranges, with commas between.
-ghost use Rattle.std.specs.Prelude.{◌≡◌, ◌↔◌, ◌<◌, ◌≤◌, ◌+◌, ◌^◌, Any, Contains, IfOk, IfSome, IsTrue, OnOk, ℕ};
-ghost use Rattle.std.specs.Bool.{OnTrue};
+ghost use Rattle.std.specs.Prelude.{◌≡◌, ◌↔◌, ◌<◌, ◌≤◌, ◌+◌, ◌^◌, [], All, Any, Contains, IfErr, IfNone, IfOk, IfSome, OnErr};
+ghost use Rattle.std.specs.Prelude.{IsTrue, OnOk, ℕ};
+ghost use Rattle.std.specs.Bool.{OnFalse, OnTrue};
 ghost use Rattle.std.specs.BTreeSet.{btree_set_len};
-ghost use Rattle.command_line.specs.Lists.{AreCells, AreLongest, IsBytes, IsDecimal, IsMailList, IsPart, IsRange, IsSpan};
-ghost use Rattle.command_line.specs.Lists.{IsInSpan, byte_spans, span_length, mail_spans};
+ghost use Rattle.command_line.specs.Lists.{AreCells, AreLongest, IsBytes, IsDecimal, IsMailList, IsNoBytes, IsNoCells, IsNoMailList};
+ghost use Rattle.command_line.specs.Lists.{IsInSpan, IsPart, IsRange, IsSpan, byte_spans, span_length, mail_spans};
 ghost use Rattle.command_line.specs.Numbers.{IsNumeralOf};
 ghost use Rattle.command_line.specs.declared.lists.TheConstants.{MAX_MAIL};
-ghost use Rattle.command_line.specs.inner.Spans.{AddsPart, AddsSpan, JoinsSpan, with_span_number};
-ghost use Rattle.command_line.specs.inner.Entries.{AddsCells, AddsValue, BeginsEntry};
+ghost use Rattle.command_line.specs.inner.Spans.{AddsPart, AddsSpan, EndsList, JoinsSpan, with_span_number};
+ghost use Rattle.command_line.specs.declared.lists.MailFault.TheVariants.{NotNumbers};
+ghost use Rattle.command_line.specs.inner.Entries.{AddsCells, AddsValue, BeginsEntry, EndsCells};
 ghost use Rattle.node_env.specs.declared.shape.TheConstants.{MAX_MEMORY};
 
 use node_env::MAX_MEMORY;
@@ -37,6 +39,11 @@ pub enum MailFault {
 }
 
 impl From<AllocError> for MailFault {
+    ghost use Rattle.std.specs.Prelude.{◌≡◌};
+    ghost use Rattle.command_line.specs.declared.lists.MailFault.TheVariants.{Memory};
+
+    ghost from_gives = { λ _ fault. fault ≡ Memory };
+
     fn from(_: AllocError) -> MailFault {
         MailFault::Memory
     }
@@ -57,14 +64,18 @@ impl MailFault {
     }
 }
 
-/// Returns the list of a text, in rising order, each number once.
+/// Returns the list of a text, in rising order, each number once. Fails only if no list has the text, or if each that has
+/// it has too many numbers.
 pub fn mail_in(alloc: Global, text: &str) -> Result<Vec<MailSpan>, MailFault>
     ensures list { IfOk result (λ mail. IsMailList text.now mail.items) }
     ensures few { IfOk result (λ mail. span_length (mail_spans mail.items) ≤ MAX_MAIL) }
+    ensures rejected { IfErr result (IsNoMailList text.now) }
 {
     let mut numbers = BTreeSet::new(alloc);
     for part in text.split(',') {
-        add_part_numbers(&mut numbers, part)?;
+        if let Err(fault) = add_part_numbers(&mut numbers, part) {
+            return Err(fault);
+        }
     }
     Ok(spans_of(alloc, &numbers)?)
 }
@@ -74,6 +85,7 @@ fn add_part_numbers(numbers: &mut BTreeSet<u32>, part: &str) -> Result<(), MailF
     ensures part { OnOk result (IsPart (2 ^ 32) part.now) }
     ensures added { OnOk result (AddsPart numbers.old.keys numbers.new.keys part.now) }
     ensures few { OnOk result (btree_set_len numbers.new ≤ MAX_MAIL) }
+    ensures ends { IfErr result (EndsList numbers.old.keys part.now) }
 {
     let span = span_in(part)?;
     if span.last < span.first {
@@ -104,7 +116,8 @@ fn insert_span(numbers: &mut BTreeSet<u32>, span: MailSpan) -> Result<(), AllocE
 
 /// Returns the entry of `--bytes`: these values for the first eight bytes; none if the text isn't a list of bytes.
 pub fn bytes_in(alloc: Global, text: &str) -> Result<Option<Vec<Cells>>, AllocError>
-    ensures { IfOk result (λ named. IfSome named (λ all. IsBytes text.now all.items)) }
+    ensures bytes { IfOk result (λ named. IfSome named (λ all. IsBytes text.now all.items)) }
+    ensures rejected { IfOk result (λ named. IfNone named (IsNoBytes text.now)) }
 {
     let mut bytes = BTreeSet::new(alloc);
     for part in text.split(',') {
@@ -112,9 +125,7 @@ pub fn bytes_in(alloc: Global, text: &str) -> Result<Option<Vec<Cells>>, AllocEr
             return Ok(None);
         }
     }
-    let Some(values) = byte_spans_of(alloc, &bytes)? else {
-        return Ok(None);
-    };
+    let values = byte_spans_of(alloc, &bytes)?;
     let mut all = Vec::new(alloc);
     all.push(Cells {
         first: 0,
@@ -126,7 +137,8 @@ pub fn bytes_in(alloc: Global, text: &str) -> Result<Option<Vec<Cells>>, AllocEr
 
 /// Returns the entries of `--cells`, each PLACES=VALUES with more values after commas; none if the text isn't that.
 pub fn cells_in(alloc: Global, text: &str) -> Result<Option<Vec<Cells>>, AllocError>
-    ensures { IfOk result (λ named. IfSome named (λ all. AreCells text.now all.items)) }
+    ensures cells { IfOk result (λ named. IfSome named (λ all. AreCells text.now all.items)) }
+    ensures rejected { IfOk result (λ named. IfNone named (IsNoCells text.now)) }
 {
     let mut all = Vec::new(alloc);
     for part in text.split(',') {
@@ -139,11 +151,18 @@ pub fn cells_in(alloc: Global, text: &str) -> Result<Option<Vec<Cells>>, AllocEr
 
 /// Adds the entry that a part begins, or the values that it adds to the last one. Answers whether the part is right.
 fn add_cells(alloc: Global, all: &mut Vec<Cells>, part: &str) -> Result<bool, AllocError>
-    ensures { IfOk result (λ fits. OnTrue fits (AddsCells all.old.items all.new.items part.now)) }
+    ensures adds { IfOk result (λ fits. OnTrue fits (AddsCells all.old.items all.new.items part.now)) }
+    ensures ends { IfOk result (λ fits. OnFalse fits (EndsCells all.old.items part.now)) }
 {
     match part.split_once('=') {
-        Some((places, value)) => begin_entry(alloc, all, places, value),
-        None => add_value(alloc, all, part),
+        Some((places, value)) => {
+            let begun = begin_entry(alloc, all, places, value)?;
+            Ok(begun)
+        }
+        None => {
+            let added = add_value(alloc, all, part)?;
+            Ok(added)
+        }
     }
 }
 
@@ -154,14 +173,14 @@ fn begin_entry(
     places: &str,
     value: &str,
 ) -> Result<bool, AllocError>
-    ensures { IfOk result (λ fits. OnTrue fits (BeginsEntry all.old.items all.new.items places.now value.now)) }
+    ensures begins { IfOk result (λ fits. OnTrue fits (BeginsEntry all.old.items all.new.items places.now value.now)) }
+    ensures other { IfOk result (λ fits.
+        OnFalse fits (IsPart MAX_MEMORY places.now → IsPart 256 value.now → ⊥)) }
 {
     let (Some(places), Some(span)) = (places_in(places), byte_span_in(value)) else {
         return Ok(false);
     };
-    let Some(values) = joined_values(alloc, &[], span)? else {
-        return Ok(false);
-    };
+    let values = joined_values(alloc, &[], span)?;
     all.push(Cells {
         first: places.first,
         last: places.last,
@@ -172,7 +191,8 @@ fn begin_entry(
 
 /// Returns a place, or a range of places that doesn't fall.
 fn places_in(part: &str) -> Option<MailSpan>
-    ensures { IfSome result (λ span. IsSpan MAX_MEMORY part.now span.first span.last) }
+    ensures place { IfSome result (λ span. IsSpan MAX_MEMORY part.now span.first span.last) }
+    ensures none { IfNone result (IsPart MAX_MEMORY part.now → ⊥) }
 {
     let span = rising(part)?;
     if span.last >= MAX_MEMORY {
@@ -183,7 +203,8 @@ fn places_in(part: &str) -> Option<MailSpan>
 
 /// Adds values to the last entry. Answers whether there is one and the values are bytes.
 fn add_value(alloc: Global, all: &mut Vec<Cells>, part: &str) -> Result<bool, AllocError>
-    ensures { IfOk result (λ fits. OnTrue fits (AddsValue all.old.items all.new.items part.now)) }
+    ensures adds { IfOk result (λ fits. OnTrue fits (AddsValue all.old.items all.new.items part.now)) }
+    ensures other { IfOk result (λ fits. OnFalse fits (IsPart 256 part.now → all.old.items ≡ [])) }
 {
     let Some(span) = byte_span_in(part) else {
         return Ok(false);
@@ -191,9 +212,7 @@ fn add_value(alloc: Global, all: &mut Vec<Cells>, part: &str) -> Result<bool, Al
     let Some(cells) = all.pop() else {
         return Ok(false);
     };
-    let Some(values) = joined_values(alloc, cells.values.as_slice(), span)? else {
-        return Ok(false);
-    };
+    let values = joined_values(alloc, cells.values.as_slice(), span)?;
     all.push(Cells {
         first: cells.first,
         last: cells.last,
@@ -202,27 +221,28 @@ fn add_value(alloc: Global, all: &mut Vec<Cells>, part: &str) -> Result<bool, Al
     Ok(true)
 }
 
-/// Returns the longest spans of the bytes of these spans and one more; none if a number is no byte.
+/// Returns the longest spans of the bytes of these spans and one more.
 fn joined_values(
     alloc: Global,
     values: &[ByteSpan],
     span: MailSpan,
-) -> Result<Option<Vec<ByteSpan>>, AllocError>
-    ensures numbers { IfOk result (λ named. IfSome named (λ spans.
-        JoinsSpan (byte_spans values.now) (byte_spans spans.items) (span.first, span.last))) }
-    ensures longest { IfOk result (λ named. IfSome named (λ spans. AreLongest (byte_spans spans.items))) }
+) -> Result<Vec<ByteSpan>, AllocError>
+    requires { span.last < 256 }
+    ensures numbers { IfOk result (λ spans.
+        JoinsSpan (byte_spans values.now) (byte_spans spans.items) (span.first, span.last)) }
+    ensures longest { IfOk result (λ spans. AreLongest (byte_spans spans.items)) }
 {
     let mut bytes = bytes_of(alloc, values)?;
     insert_span(&mut bytes, span)?;
-    let Some(spans) = byte_spans_of(alloc, &bytes)? else {
-        return Ok(None);
-    };
-    Ok(Some(spans))
+    let spans = byte_spans_of(alloc, &bytes)?;
+    Ok(spans)
 }
 
 /// Returns the bytes of spans.
 fn bytes_of(alloc: Global, values: &[ByteSpan]) -> Result<BTreeSet<u32>, AllocError>
-    ensures { IfOk result (λ bytes. (n : ℕ) → Contains bytes.keys n ↔ Any (IsInSpan n) (byte_spans values.now)) }
+    ensures numbers { IfOk result (λ bytes.
+        (n : ℕ) → Contains bytes.keys n ↔ Any (IsInSpan n) (byte_spans values.now)) }
+    ensures below { IfOk result (λ bytes. (n : ℕ) → Contains bytes.keys n → n < 256) }
 {
     let mut bytes = BTreeSet::new(alloc);
     for span in values {
@@ -235,6 +255,7 @@ fn bytes_of(alloc: Global, values: &[ByteSpan]) -> Result<BTreeSet<u32>, AllocEr
 fn wide_span(span: ByteSpan) -> MailSpan
     ensures first { result.first ≡ span.first }
     ensures last { result.last ≡ span.last }
+    ensures below { result.last < 256 }
 {
     MailSpan {
         first: u32::from(span.first),
@@ -246,6 +267,7 @@ fn wide_span(span: ByteSpan) -> MailSpan
 fn add_bytes(bytes: &mut BTreeSet<u32>, part: &str) -> Result<bool, AllocError>
     ensures part { IfOk result (λ fits. OnTrue fits (IsPart 256 part.now)) }
     ensures added { IfOk result (λ fits. OnTrue fits (AddsPart bytes.old.keys bytes.new.keys part.now)) }
+    ensures other { IfOk result (λ fits. OnFalse fits (IsPart 256 part.now → ⊥)) }
 {
     let Some(span) = byte_span_in(part) else {
         return Ok(false);
@@ -256,9 +278,12 @@ fn add_bytes(bytes: &mut BTreeSet<u32>, part: &str) -> Result<bool, AllocError>
 
 /// Returns a number, or a range that doesn't fall.
 fn rising(part: &str) -> Option<MailSpan>
-    ensures { IfSome result (λ span. IsSpan (2 ^ 32) part.now span.first span.last) }
+    ensures span { IfSome result (λ span. IsSpan (2 ^ 32) part.now span.first span.last) }
+    ensures none { IfNone result (IsPart (2 ^ 32) part.now → ⊥) }
 {
-    let span = span_in(part).ok()?;
+    let Ok(span) = span_in(part) else {
+        return None;
+    };
     if span.last < span.first {
         return None;
     }
@@ -267,7 +292,8 @@ fn rising(part: &str) -> Option<MailSpan>
 
 /// Returns a byte, or a range of bytes that doesn't fall.
 fn byte_span_in(part: &str) -> Option<MailSpan>
-    ensures { IfSome result (λ span. IsSpan 256 part.now span.first span.last) }
+    ensures span { IfSome result (λ span. IsSpan 256 part.now span.first span.last) }
+    ensures none { IfNone result (IsPart 256 part.now → ⊥) }
 {
     let span = rising(part)?;
     if span.last > LAST_BYTE {
@@ -280,16 +306,27 @@ fn byte_span_in(part: &str) -> Option<MailSpan>
 fn span_in(part: &str) -> Result<MailSpan, MailFault>
     ensures range { IfOk result (λ span. IsRange part.now span.first span.last) }
     ensures below { IfOk result (λ span. span.last < 2 ^ 32) }
+    ensures fault { IfErr result (λ fault. fault ≡ NotNumbers) }
+    ensures other { OnErr result (IsPart (2 ^ 32) part.now → ⊥) }
 {
-    let Some((left, right)) = part.split_once("..") else {
-        let number = number_in(part).ok_or(MailFault::NotNumbers)?;
-        return Ok(MailSpan {
-            first: number,
-            last: number,
-        });
+    let Some((left, rest)) = part.split_once('.') else {
+        return match number_in(part) {
+            Some(number) => Ok(MailSpan {
+                first: number,
+                last: number,
+            }),
+            None => Err(MailFault::NotNumbers),
+        };
     };
-    let first = number_in(left).ok_or(MailFault::NotNumbers)?;
-    let last = number_in(right).ok_or(MailFault::NotNumbers)?;
+    let Some(right) = rest.strip_prefix('.') else {
+        return Err(MailFault::NotNumbers);
+    };
+    let Some(first) = number_in(left) else {
+        return Err(MailFault::NotNumbers);
+    };
+    let Some(last) = number_in(right) else {
+        return Err(MailFault::NotNumbers);
+    };
     Ok(MailSpan { first, last })
 }
 
@@ -297,12 +334,12 @@ fn span_in(part: &str) -> Result<MailSpan, MailFault>
 pub fn number_in(text: &str) -> Option<u32>
     ensures number { IfSome result (IsNumeralOf 32 text.now) }
     ensures digits { IfSome result (IsDecimal text.now) }
+    ensures none { IfNone result ((n : ℕ) → IsDecimal text.now n → n < 2 ^ 32 → ⊥) }
 {
-    if text.bytes().all(|byte| byte.is_ascii_digit()) {
-        text.parse().ok()
-    } else {
-        None
+    if text.starts_with('+') {
+        return None;
     }
+    text.parse().ok()
 }
 
 /// Returns the longest spans of the numbers.
@@ -338,41 +375,41 @@ fn add_number(spans: &mut Vec<MailSpan>, number: u32) -> Result<(), AllocError>
     }
 }
 
-/// Returns the longest spans of bytes; none if a number is no byte.
-fn byte_spans_of(alloc: Global, bytes: &BTreeSet<u32>) -> Result<Option<Vec<ByteSpan>>, AllocError>
-    ensures numbers { IfOk result (λ named. IfSome named (λ spans.
-        (n : ℕ) → Any (IsInSpan n) (byte_spans spans.items) ↔ Contains bytes.now.keys n)) }
-    ensures longest { IfOk result (λ named. IfSome named (λ spans. AreLongest (byte_spans spans.items))) }
+/// Returns the longest spans of bytes.
+fn byte_spans_of(alloc: Global, bytes: &BTreeSet<u32>) -> Result<Vec<ByteSpan>, AllocError>
+    requires { (n : ℕ) → Contains bytes.now.keys n → n < 256 }
+    ensures numbers { IfOk result (λ spans.
+        (n : ℕ) → Any (IsInSpan n) (byte_spans spans.items) ↔ Contains bytes.now.keys n) }
+    ensures longest { IfOk result (λ spans. AreLongest (byte_spans spans.items)) }
 {
     let wide = spans_of(alloc, bytes)?;
-    let Some(spans) = narrowed(alloc, wide.as_slice())? else {
-        return Ok(None);
-    };
-    Ok(Some(spans))
+    let spans = narrowed(alloc, wide.as_slice())?;
+    Ok(spans)
 }
 
 /// Returns the same spans, as spans of bytes.
-fn narrowed(alloc: Global, wide: &[MailSpan]) -> Result<Option<Vec<ByteSpan>>, AllocError>
-    ensures { IfOk result (λ named. IfSome named (λ spans. byte_spans spans.items ≡ mail_spans wide.now)) }
+fn narrowed(alloc: Global, wide: &[MailSpan]) -> Result<Vec<ByteSpan>, AllocError>
+    requires { All (λ span. (span.first < 256) × (span.last < 256)) wide.now }
+    ensures { IfOk result (λ spans. byte_spans spans.items ≡ mail_spans wide.now) }
 {
     let mut spans = Vec::new(alloc);
     for span in wide {
-        let Some(narrow) = byte_span_of(*span) else {
-            return Ok(None);
-        };
-        spans.push(narrow)?;
+        spans.push(byte_span_of(*span))?;
     }
-    Ok(Some(spans))
+    Ok(spans)
 }
 
-/// Returns the span, if its numbers are bytes.
-fn byte_span_of(span: MailSpan) -> Option<ByteSpan>
-    ensures { IfSome result (λ bytes. (bytes.first ≡ span.first) × (bytes.last ≡ span.last)) }
+/// Returns the span, whose numbers are bytes.
+fn byte_span_of(span: MailSpan) -> ByteSpan
+    requires first { span.first < 256 }
+    requires last { span.last < 256 }
+    ensures first { result.first ≡ span.first }
+    ensures last { result.last ≡ span.last }
 {
-    Some(ByteSpan {
-        first: u8::try_from(span.first).ok()?,
-        last: u8::try_from(span.last).ok()?,
-    })
+    ByteSpan {
+        first: span.first as u8,
+        last: span.last as u8,
+    }
 }
 
 /// Returns true if the number is the next one after the span.

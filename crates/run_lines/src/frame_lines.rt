@@ -56,7 +56,12 @@ fn add_zero(
     if u64::from(scenario.version) < ZERO_VERSION {
         return Ok(());
     }
-    put(members, alloc, "zero_agrees", Value::from(scenario.zero_agrees))
+    put(
+        members,
+        alloc,
+        "zero_agrees",
+        Value::from(scenario.zero_agrees),
+    )
 }
 
 /// Adds whose clock it is, and whether 0 agrees with every clock, if the version knows that.

@@ -1,6 +1,6 @@
 -- What a part adds to the entries of `--cells`.
 use Rattle.std.specs.Prelude.{◌≡◌, ◌⊎◌, ℕ, List, [], ◌∷◌, ◌++◌, codes}
-use Rattle.command_line.specs.Lists.{AreLongest, IsSpan, byte_spans}
+use Rattle.command_line.specs.Lists.{AreLongest, IsPart, IsSpan, byte_spans}
 use Rattle.command_line.specs.inner.Spans.{JoinsSpan}
 use Rattle.explored.specs.declared.options.Cells.{Cells}
 use Rattle.node_env.specs.declared.shape.TheConstants.{MAX_MEMORY}
@@ -36,3 +36,9 @@ abbrev pub AddsCells : List Cells → List Cells → List ℕ → Type 0
 AddsCells old new part = AddsValue old new part
     ⊎ ((places : List ℕ) × (value : List ℕ) × (part ≡ places ++ (codes "=" ++ value))
     × BeginsEntry old new places value)
+
+-- a part that adds to no entries: it begins none, and it has no values for a last one
+pub record EndsCells (old : List Cells) (part : List ℕ) : Type 0 where
+  pub begins : (places value : List ℕ) → part ≡ places ++ (codes "=" ++ value) → IsPart MAX_MEMORY places
+      → IsPart 256 value → ⊥
+  pub adds : IsPart 256 part → old ≡ []
