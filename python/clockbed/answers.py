@@ -103,6 +103,7 @@ class Frame:
     memory: int
     pulses: int
     clock: ClockKind | None = None
+    zero_agrees: bool | None = None
 
 
 @dataclass(frozen=True)
