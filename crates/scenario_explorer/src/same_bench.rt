@@ -81,6 +81,7 @@ fn is_of_bed(alloc: Global, bed: &Bed, scenario: &Scenario) -> Result<bool, Allo
     if shape != bed.shape()
         || scenario.faults != bed.faults()
         || scenario.modulus != bed.modulus()
+        || scenario.is_strict() != bed.is_own()
     {
         return Ok(false);
     }
