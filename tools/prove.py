@@ -2,8 +2,9 @@
 """Proves every crate that the program stands on, and builds the program: ./clockbed --prove
 
 It works on a mirror of these crates among the user's cached files (XDG_CACHE_HOME, or .cache in the home folder), so
-that crates which only tests and trials need aren't proved. What a stopped run proved is kept there, and the next run
-goes on from it. The program is copied to crates/clockbed/out/clockbed.
+that crates which only tests and trials need aren't proved. `rt ci` proves them there, and keeps what passed on this
+machine, so that a run after one that was stopped goes on from it. The gate's proofs count here, too. The program is
+copied to crates/clockbed/out/clockbed.
 """
 import contextlib
 import filecmp
@@ -22,8 +23,6 @@ TOP = pathlib.Path(__file__).resolve().parent.parent
 CACHE = pathlib.Path(os.environ.get("XDG_CACHE_HOME") or pathlib.Path.home() / ".cache")
 MIRROR = CACHE / "clockbed" / hashlib.sha256(bytes(TOP)).hexdigest()[:16]
 PROGRAM = "clockbed"
-# A check takes up to so many bytes of memory.
-BYTES_OF_A_CHECK = 3_000_000_000
 PARTS = ("src", "specs", "proofs", "stdin", "stdout", "args", "status", "data")
 
 
@@ -61,7 +60,7 @@ def copy_changed(source, target):
 
 
 def mirror(crates, names):
-    """Copies what changed, and removes what is gone. What earlier checks kept in out/ stays."""
+    """Copies what changed, and removes what is gone. What is in out/ stays."""
     lines = [line for name, (line, _) in crates.items() if name in names]
     MIRROR.mkdir(parents=True, exist_ok=True)
     (MIRROR / "crates.txt").write_text("\n".join(lines) + "\n", encoding="utf-8")
@@ -78,23 +77,15 @@ def mirror(crates, names):
             path.unlink()
 
 
-def crates_at_once():
-    """How many crates are proved side by side: one that waits for those below it counts too, and each needs memory."""
-    found = re.search(r"^MemAvailable:\s+(\d+)", pathlib.Path("/proc/meminfo").read_text(encoding="ascii"), re.M)
-    room = max(int(found[1]) * 1024 // BYTES_OF_A_CHECK, 1)
-    return min(2 * len(os.sched_getaffinity(0)), room)
-
-
 class Progress:
     """Shows how far the proof is, on one line of a terminal, or as a line for each crate."""
 
     def __init__(self, sizes):
-        self.sizes, self.done, self.functions, self.began = sizes, set(), 0, time.monotonic()
+        self.sizes, self.done, self.began = sizes, set(), time.monotonic()
 
     def read(self, line):
-        if (found := re.match(r"(?:fn|law) .*: proved", line)):
-            self.functions += 1
-        elif (found := re.match(r"crate (\w+): modules", line)) and found[1] in self.sizes and found[1] not in self.done:
+        found = re.match(r"rt: (\w+) (?:proved|is kept)", line)
+        if found and found[1] in self.sizes and found[1] not in self.done:
             self.done.add(found[1])
             if not sys.stderr.isatty():
                 self.show()
@@ -127,7 +118,7 @@ class Progress:
 
     def show(self, ends=False):
         passed = int(time.monotonic() - self.began)
-        text = f"clockbed: {len(self.done)} of {len(self.sizes)} crates and {self.functions} functions proved"
+        text = f"clockbed: {len(self.done)} of {len(self.sizes)} crates proved"
         text += f", {passed // 60}:{passed % 60:02} minutes, {self.left()}"
         if sys.stderr.isatty():
             print(f"\r\033[K{text}", end="\n" if ends else "", file=sys.stderr, flush=True)
@@ -136,11 +127,11 @@ class Progress:
 
 
 def prove(sizes, log):
-    """Runs the checks, and answers their status."""
+    """Proves the crates and builds the program. Answers the status."""
     progress = Progress(sizes)
-    words = ["rt", "all", "check", "--jobs", str(crates_at_once())]
     how = {"stdin": subprocess.DEVNULL, "stdout": subprocess.PIPE, "stderr": subprocess.STDOUT, "text": True}
-    with subprocess.Popen(words, cwd=MIRROR, errors="replace", start_new_session=True, **how) as job, progress.shown():
+    how |= {"errors": "replace", "start_new_session": True}
+    with subprocess.Popen(["rt", "ci"], cwd=MIRROR, **how) as job, progress.shown():
         try:
             for line in job.stdout:
                 log.write(line)
@@ -149,12 +140,6 @@ def prove(sizes, log):
             os.killpg(job.pid, signal.SIGTERM)
             sys.exit("clockbed: stopped; what was proved is kept, and ./clockbed --prove goes on from there")
     return job.returncode
-
-
-def build(log):
-    folder = MIRROR / "crates" / PROGRAM
-    how = {"stdin": subprocess.DEVNULL, "stdout": log, "stderr": subprocess.STDOUT}
-    return subprocess.run(["rt", "run", "--", "--help"], cwd=folder, check=False, **how).returncode
 
 
 def install(began):
@@ -176,7 +161,7 @@ def main():
     sizes = {name: sum(len(path.read_bytes().splitlines()) for path in files_of(name)) for name in names}
     path = MIRROR / "log"
     with open(path, "w", encoding="utf-8") as log:
-        status = prove(sizes, log) or build(log)
+        status = prove(sizes, log)
     if status:
         print(*path.read_text(encoding="utf-8").splitlines()[-40:], sep="\n", file=sys.stderr)
         sys.exit("clockbed: not every crate is proved, and the program isn't built")
