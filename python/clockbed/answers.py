@@ -254,14 +254,23 @@ class Sweep:
 
 @dataclass(frozen=True)
 class Mean:
-    """Is a bound on the expected number of pulses: `parts` of which a pulse has `of`."""
+    """Is a bound on the expected number of pulses: `parts` of which a pulse has `of`.
+
+    Some adversary makes it at least `least_parts`; None if that isn't known.
+    """
 
     parts: int
     of: int
+    least_parts: int | None = None
 
     @property
     def pulses(self) -> float:
         return self.parts / self.of
+
+    @property
+    def at_least(self) -> float | None:
+        """Returns the pulses that some adversary makes it at least, rounded down to a hundredth, or None."""
+        return None if self.least_parts is None else 100 * self.least_parts // self.of / 100
 
     @property
     def at_most(self) -> float:
@@ -280,12 +289,16 @@ class Reach:
 
 @dataclass(frozen=True)
 class Odds:
-    """Is a bound on the odds of stabilisation: `parts` of `of` for 0, 1, 2 and more pulses, or None if undecided."""
+    """Is a bound on the odds of stabilisation: `parts` of `of` for 0, 1, 2 and more pulses, or None if undecided.
+
+    Some adversary keeps them at most `most_parts`; None if that isn't known.
+    """
 
     of: int
     parts: tuple[int, ...] | None
     mean: Mean | None
     reach: Reach | None
+    most_parts: tuple[int, ...] | None = None
 
     def within(self, pulses: int) -> float:
         """Returns the least probability that the clocks stabilise within so many pulses."""

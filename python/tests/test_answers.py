@@ -193,6 +193,7 @@ send clock
 
     def test_bounds_are_rounded_to_their_side(self):
         self.assertEqual(Mean(1, 3).at_most, 0.34)
+        self.assertEqual((Mean(1, 3).at_least, Mean(1, 3, least_parts=1).at_least), (None, 0.33))
         self.assertEqual(Odds(3, (0, 2), None, None).percent(1), 66.6)
 
     def test_odds_that_were_not_asked(self):

@@ -21,13 +21,13 @@ abbrev pub HoldsOfRule : Statement → Step → Type 0
 HoldsOfRule rule step = (free : ℕ → ℕ) → steps.Holds rule (claim_of step free)
 
 -- with this many nodes and faults and this modulus some nodes begin the step, for some free names and some memory size
-abbrev pub BeginsWith : Step → ℕ → ℕ → ℕ → Type 0
-BeginsWith step n f m = (free : ℕ → ℕ) × (size : ℕ)
+abbrev pub BeginsAtSizes : Step → ℕ → ℕ → ℕ → Type 0
+BeginsAtSizes step n f m = (free : ℕ → ℕ) × (size : ℕ)
     × IsBegunAt (claim_of step free) (record { nodes = n; faults = f; modulus = m; memory = size })
 
 -- where the answer is that the step holds, it does, and it begins at the sizes of the answer
 abbrev pub IsRightOutcome : Statement → Step → Outcome → Type 0
-IsRightOutcome rule step (Holds n f m) = HoldsOfRule rule step × BeginsWith step n f m
+IsRightOutcome rule step (Holds n f m) = HoldsOfRule rule step × BeginsAtSizes step n f m
 IsRightOutcome rule step NoCertificate = Unit {0}
 IsRightOutcome rule step Unbegun = Unit {0}
 IsRightOutcome rule step Rejected = Unit {0}

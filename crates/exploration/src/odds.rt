@@ -1,6 +1,6 @@
 //! Odds, the mean, and when a share has stabilised, as text.
-ghost use Rattle.std.specs.Prelude.{◌≡◌, ◌-◌, Some, codes, get_or, length};
-ghost use Rattle.exploration.specs.Answers.{last_pulses, mean_text, odds_text, percent_text, pulses_text, reach_text, with_count};
+ghost use Rattle.std.specs.Prelude.{◌≡◌, ◌-◌, Some, codes, length, option_map};
+ghost use Rattle.exploration.specs.Answers.{hundredths_down, hundredths_up, is_most_shown, last_pulses, last_share, least_mean_text, mean_text, most_odds_text, odds_text, percent_text, pulses_text, reach_text, tenths_down, tenths_up, with_count, within_text};
 
 use crate::answer::Reach;
 use explored::{MEAN_UNIT, ODDS_WHOLE, Odds, Share};
@@ -37,17 +37,30 @@ pub(crate) fn pulses(count: u64) -> Counted
     }
 }
 
-/// A share of the whole in percent with one decimal place, rounded down.
+/// Returns a share of the whole in tenths of a percent, rounded down.
+fn tenths_down(parts: u64) -> u128
+    ensures { result ≡ tenths_down parts }
+{
+    u128::from(parts) * 1000 / u128::from(ODDS_WHOLE)
+}
+
+/// Returns a share of the whole in tenths of a percent, rounded up.
+fn tenths_up(parts: u64) -> u128
+    ensures { result ≡ tenths_up parts }
+{
+    (u128::from(parts) * 1000 + u128::from(ODDS_WHOLE - 1)) / u128::from(ODDS_WHOLE)
+}
+
+/// Tenths of a percent, in percent with one decimal place.
 #[derive(Clone, Copy)]
-struct Percent(u64);
+struct Percent(u128);
 
 impl fmt::Display for Percent {
     ghost output = { λ percent. Some (percent_text percent.0) };
 
     fn fmt<W: fmt::Write>(&self, f: &mut fmt::Formatter<W>) -> fmt::Result {
-        let tenths = u128::from(self.0) * 1000 / u128::from(ODDS_WHOLE);
-        let whole = tenths / 10;
-        let rest = tenths % 10;
+        let whole = self.0 / 10;
+        let rest = self.0 % 10;
         write!(f, "{whole}.{rest} %")
     }
 }
@@ -55,12 +68,94 @@ impl fmt::Display for Percent {
 /// Returns the number of the last entry, and the entry: 0 of none.
 fn last_of(parts: &[u64]) -> (u64, u64)
     ensures last { result.0 ≡ length parts.now - 1 }
-    ensures share { result.1 ≡ get_or parts.now (length parts.now - 1) 0 }
+    ensures share { result.1 ≡ last_share parts.now }
 {
     let last = parts.len().saturating_sub(1);
     match parts.get(last) {
         Some(share) => (last as u64, *share),
         None => (last as u64, 0),
+    }
+}
+
+/// Returns the last entry of the other side, if it is known.
+fn last_most(most_parts: &Option<Vec<u64>>) -> Option<u64>
+    ensures { result ≡ option_map (λ most. last_share most.items) most_parts.now }
+{
+    match most_parts {
+        Some(most) => Some(last_of(most).1),
+        None => None,
+    }
+}
+
+/// Returns true if the other side is less than the whole, and differs from the share at the precision that is shown.
+fn is_most_shown(share: u64, most: u64) -> bool
+    ensures { result ≡ is_most_shown share most }
+{
+    most < ODDS_WHOLE && tenths_down(share) < tenths_down(most)
+}
+
+/// How unlikely some adversary keeps it that the clocks stabilise, if that is shown.
+#[derive(Clone, Copy)]
+struct MostOdds {
+    share: u64,
+    most: Option<u64>,
+}
+
+impl fmt::Display for MostOdds {
+    ghost output = { λ odds. Some (most_odds_text odds.share odds.most) };
+
+    fn fmt<W: fmt::Write>(&self, f: &mut fmt::Formatter<W>) -> fmt::Result {
+        let Some(most) = self.most else {
+            return Ok(());
+        };
+        if is_most_shown(self.share, most) {
+            let percent = Percent(tenths_up(most));
+            write!(f, "; some adversary keeps them at most {percent}")
+        } else {
+            Ok(())
+        }
+    }
+}
+
+/// How likely the clocks stabilise within some pulses: at least, and at most.
+#[derive(Clone, Copy)]
+struct OddsWithin {
+    pulses: u64,
+    share: u64,
+    most: Option<u64>,
+}
+
+impl fmt::Display for OddsWithin {
+    ghost output = { λ odds. Some (within_text odds.pulses odds.share odds.most) };
+
+    fn fmt<W: fmt::Write>(&self, f: &mut fmt::Formatter<W>) -> fmt::Result {
+        let OddsWithin {
+            pulses: count,
+            share,
+            most,
+        } = *self;
+        let percent = Percent(tenths_down(share));
+        let pulses = pulses(count);
+        let other = MostOdds { share, most };
+        write!(
+            f,
+            "odds: at least {percent} within {pulses} ({share} of {ODDS_WHOLE} parts), whatever the adversary sends{other}"
+        )
+    }
+}
+
+/// Returns the odds within the last number of pulses.
+fn odds_within(parts: &Vec<u64>, most_parts: &Option<Vec<u64>>) -> OddsWithin
+    ensures pulses { result.pulses ≡ length parts.now.items - 1 }
+    ensures share { result.share ≡ last_share parts.now.items }
+    ensures most { result.most ≡ option_map (λ most. last_share most.items) most_parts.now }
+{
+    let (pulses, share) = last_of(parts);
+    let most = last_most(most_parts);
+    OddsWithin {
+        pulses,
+        share,
+        most,
     }
 }
 
@@ -73,14 +168,13 @@ impl fmt::Display for OddsText<'_> {
 
     fn fmt<W: fmt::Write>(&self, f: &mut fmt::Formatter<W>) -> fmt::Result {
         match self.0 {
-            Odds::Known { parts, .. } => {
-                let (last, share) = last_of(parts);
-                let percent = Percent(share);
-                let pulses = pulses(last);
-                write!(
-                    f,
-                    "odds: at least {percent} within {pulses} ({share} of {ODDS_WHOLE} parts), whatever the adversary sends"
-                )
+            Odds::Known {
+                parts,
+                most_parts,
+                ..
+            } => {
+                let odds = odds_within(parts, most_parts);
+                write!(f, "{odds}")
             }
             Odds::Unknown { memory: true } => write!(
                 f,
@@ -96,37 +190,79 @@ impl fmt::Display for OddsText<'_> {
     }
 }
 
-/// The parts of a pulse in pulses with two decimal places, rounded up.
+/// Returns the parts of a pulse in hundredths of a pulse, rounded up.
+fn hundredths_up(parts: u64) -> u128
+    ensures { result ≡ hundredths_up parts }
+{
+    (u128::from(parts) * 100 + u128::from(MEAN_UNIT - 1)) / u128::from(MEAN_UNIT)
+}
+
+/// Returns the parts of a pulse in hundredths of a pulse, rounded down.
+fn hundredths_down(parts: u64) -> u128
+    ensures { result ≡ hundredths_down parts }
+{
+    u128::from(parts) * 100 / u128::from(MEAN_UNIT)
+}
+
+/// Hundredths of a pulse, in pulses with two decimal places.
 #[derive(Clone, Copy)]
-struct Hundredths(u64);
+struct Hundredths(u128);
 
 impl fmt::Display for Hundredths {
-    ghost output = { λ parts. Some (pulses_text parts.0) };
+    ghost output = { λ hundredths. Some (pulses_text hundredths.0) };
 
     fn fmt<W: fmt::Write>(&self, f: &mut fmt::Formatter<W>) -> fmt::Result {
-        let hundredths = (u128::from(self.0) * 100 + u128::from(MEAN_UNIT - 1))
-            / u128::from(MEAN_UNIT);
-        let whole = hundredths / 100;
-        let tenth = hundredths / 10 % 10;
-        let hundredth = hundredths % 10;
+        let whole = self.0 / 100;
+        let tenth = self.0 / 10 % 10;
+        let hundredth = self.0 % 10;
         write!(f, "{whole}.{tenth}{hundredth}")
     }
 }
 
-/// How many pulses pass on average.
+/// How many pulses some adversary makes the mean at least, if that differs from the bound as shown.
 #[derive(Clone, Copy)]
-pub(crate) struct MeanText(pub(crate) Option<u64>);
+struct LeastMean {
+    most: u64,
+    least: Option<u64>,
+}
 
-impl fmt::Display for MeanText {
-    ghost output = { λ mean. Some (mean_text mean.0) };
+impl fmt::Display for LeastMean {
+    ghost output = { λ mean. Some (least_mean_text mean.most mean.least) };
 
     fn fmt<W: fmt::Write>(&self, f: &mut fmt::Formatter<W>) -> fmt::Result {
-        match self.0 {
-            Some(parts) => {
-                let pulses = Hundredths(parts);
+        let Some(least) = self.least else {
+            return Ok(());
+        };
+        if hundredths_up(least) < hundredths_up(self.most) {
+            let pulses = Hundredths(hundredths_down(least));
+            write!(f, "; some adversary makes it at least {pulses}")
+        } else {
+            Ok(())
+        }
+    }
+}
+
+/// How many pulses pass on average: at most, and at least.
+#[derive(Clone, Copy)]
+pub(crate) struct MeanText {
+    pub(crate) most: Option<u64>,
+    pub(crate) least: Option<u64>,
+}
+
+impl fmt::Display for MeanText {
+    ghost output = { λ mean. Some (mean_text mean.most mean.least) };
+
+    fn fmt<W: fmt::Write>(&self, f: &mut fmt::Formatter<W>) -> fmt::Result {
+        match self.most {
+            Some(most) => {
+                let pulses = Hundredths(hundredths_up(most));
+                let other = LeastMean {
+                    most,
+                    least: self.least,
+                };
                 write!(
                     f,
-                    "mean: at most {pulses} pulses until the clocks stabilise, whatever the adversary sends"
+                    "mean: at most {pulses} pulses until the clocks stabilise, whatever the adversary sends{other}"
                 )
             }
             None => write!(f, "mean: no bound found"),

@@ -211,8 +211,15 @@ impl fmt::Display for OddsLines<'_> {
         let mark = self.mark;
         let first = OddsText(self.odds);
         match self.odds {
-            Odds::Known { mean, .. } => {
-                let second = MeanText(*mean);
+            Odds::Known {
+                mean,
+                least_mean,
+                ..
+            } => {
+                let second = MeanText {
+                    most: *mean,
+                    least: *least_mean,
+                };
                 write!(f, "{mark}{first}\n{mark}{second}\n")
             }
             Odds::Unknown { .. } => write!(f, "{mark}{first}\n"),

@@ -22,7 +22,7 @@ use Rattle.explored.specs.declared.options.Memories.TheVariants as memories
 use Rattle.explored.specs.declared.options.Starts.{Starts}
 use Rattle.explored.specs.declared.options.Starts.TheVariants as starts
 use Rattle.exploration.specs.Answers.{is_alone}
-use Rattle.exploration_json.specs.Data.{agreed_of, agreement_word, answer_members, any_data, byte_span_data, cells_data, exploration_data, exploration_members, image_data, limit_of, method_of, mean_data, mean_of, memories_member, node_members, odds_data, odds_of, odds_parts, pulses_of, question_members, question_word, reach_data, reach_of, scenario_of, search_members, span_data, spans_data, stabilisation_of, stabilisation_word, start_data, states_of, transitions_of, violated_in, word_data}
+use Rattle.exploration_json.specs.Data.{agreed_of, agreement_word, answer_members, any_data, byte_span_data, cells_data, exploration_data, exploration_members, image_data, limit_of, least_mean_of, method_of, mean_data, mean_of, memories_member, node_members, odds_data, odds_most_parts, odds_of, odds_parts, pulses_of, question_members, question_word, reach_data, reach_of, scenario_of, search_members, span_data, spans_data, stabilisation_of, stabilisation_word, start_data, states_of, transitions_of, violated_in, word_data}
 
 abbrev AllPlain : ℕ → List Member → Type 0
 AllPlain levels ms = AllByRecursion (λ m. IsPlain levels m.1) ms
@@ -105,10 +105,12 @@ plain_search found = (
   (plain_number 5 (states_of found), (plain_count 5 (transitions_of found), (plain_word 5 (limit_of found), tt))),
 )
 
-plain_mean : (parts : ℕ) → IsPlain 4 (mean_data parts)
-plain_mean parts =
-    plain_object 3 ((codes "of", number_data MEAN_UNIT) ∷ (codes "parts", number_data parts) ∷ [])
-    (plain_number 3 MEAN_UNIT, (plain_number 3 parts, tt))
+plain_mean : (least : Option ℕ) (parts : ℕ) → IsPlain 4 (mean_data least parts)
+plain_mean least parts =
+    plain_object 3 (
+    (codes "least_parts", option_data number_data least) ∷ (codes "of", number_data MEAN_UNIT)
+    ∷ (codes "parts", number_data parts) ∷ []
+    ) (plain_count 3 least, (plain_number 3 MEAN_UNIT, (plain_number 3 parts, tt)))
 
 plain_reach : (reach : Reach) → IsPlain 4 (reach_data reach)
 plain_reach reach =
@@ -117,21 +119,25 @@ plain_reach reach =
     ∷ (codes "pulses", option_data number_data reach.pulses) ∷ []
     ) (plain_number 3 reach.share.of, (plain_number 3 reach.share.parts, (plain_count 3 reach.pulses, tt)))
 
+plain_counts : (counts : Option (List ℕ)) → IsPlain 4 (option_data (list_data number_data) counts)
+plain_counts counts =
+    plain_option (list_data number_data) 4 (λ parts. plain_list number_data 3 (plain_number 3) parts) counts
+
 plain_odds : (reach : Option Reach) (told : Odds) → IsPlain 5 (odds_data reach told)
 plain_odds reach told =
     plain_object 4 (
-    (codes "mean", option_data mean_data (mean_of told))
+    (codes "mean", option_data (mean_data (least_mean_of told)) (mean_of told))
+    ∷ (codes "most_parts", option_data (list_data number_data) (odds_most_parts told))
     ∷ (codes "of", number_data ODDS_WHOLE)
     ∷ (codes "parts", option_data (list_data number_data) (odds_parts told))
     ∷ (codes "reach", option_data reach_data reach) ∷ []
     ) (
-      plain_option mean_data 4 plain_mean (mean_of told),
+      plain_option (mean_data (least_mean_of told)) 4 (plain_mean (least_mean_of told)) (mean_of told),
       (
-        plain_number 4 ODDS_WHOLE,
+        plain_counts (odds_most_parts told),
         (
-          plain_option (list_data number_data) 4 (λ parts. plain_list number_data 3 (plain_number 3) parts)
-              (odds_parts told),
-          (plain_option reach_data 4 plain_reach reach, tt),
+          plain_number 4 ODDS_WHOLE,
+          (plain_counts (odds_parts told), (plain_option reach_data 4 plain_reach reach, tt)),
         ),
       ),
     )

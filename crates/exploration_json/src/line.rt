@@ -5,7 +5,7 @@ ghost use Rattle.serde_json.specs.View.{members_view, view};
 ghost use Rattle.json_values.specs.Texts.{ReadsBack, json_line};
 ghost use Rattle.json_values.specs.Values.{list_data, number_data, option_data, with_members};
 ghost use Rattle.exploration.specs.Answers.{is_alone};
-ghost use Rattle.exploration_json.specs.Data.{agreement_word, answer_members, exploration_data, mean_data, mean_of, node_members, odds_data, odds_of, odds_parts, pulses_of, question_members, reach_data, reach_of, scenario_of, search_members, stabilisation_of, stabilisation_word, word_data};
+ghost use Rattle.exploration_json.specs.Data.{agreement_word, answer_members, exploration_data, least_mean_of, mean_data, mean_of, node_members, odds_data, odds_most_parts, odds_of, odds_parts, pulses_of, question_members, reach_data, reach_of, scenario_of, search_members, stabilisation_of, stabilisation_word, word_data};
 
 use crate::spans::{spans_value, start_value};
 use crate::words::{
@@ -143,24 +143,43 @@ fn parts_value(alloc: Global, odds: &Odds) -> Result<Value, AllocError>
     }
 }
 
-/// Returns the bound on the mean number of pulses, or null.
+/// Returns those that some adversary leaves at most, or null.
+fn most_parts_value(alloc: Global, odds: &Odds) -> Result<Value, AllocError>
+    ensures { IfOk result (λ v. view v ≡ option_data (list_data number_data) (odds_most_parts odds.now)) }
+{
+    match odds {
+        Odds::Known {
+            most_parts: Some(parts),
+            ..
+        } => counts(alloc, parts),
+        Odds::Known {
+            most_parts: None,
+            ..
+        }
+        | Odds::Unknown { .. } => Ok(Value::Null),
+    }
+}
+
+/// Returns the bounds on the mean number of pulses, or null.
 fn mean_value(alloc: Global, odds: &Odds) -> Result<Value, AllocError>
-    ensures { IfOk result (λ v. view v ≡ option_data mean_data (mean_of odds.now)) }
+    ensures { IfOk result (λ v. view v ≡ option_data (mean_data (least_mean_of odds.now)) (mean_of odds.now)) }
 {
     match odds {
         Odds::Known {
             mean: Some(parts),
+            least_mean,
             ..
-        } => mean_object(alloc, *parts),
+        } => mean_object(alloc, *parts, *least_mean),
         Odds::Known { mean: None, .. } | Odds::Unknown { .. } => Ok(Value::Null),
     }
 }
 
-/// Returns the parts of a pulse that a unit has, and the bound in them.
-fn mean_object(alloc: Global, parts: u64) -> Result<Value, AllocError>
-    ensures { IfOk result (λ v. view v ≡ mean_data parts) }
+/// Returns the bound from below or null, the parts of a pulse that a unit has, and the bound from above in them.
+fn mean_object(alloc: Global, parts: u64, least: Option<u64>) -> Result<Value, AllocError>
+    ensures { IfOk result (λ v. view v ≡ mean_data least parts) }
 {
     let mut members = Map::new(alloc);
+    put(&mut members, alloc, "least_parts", count_or_null(least))?;
     put(&mut members, alloc, "of", Value::from(MEAN_UNIT))?;
     put(&mut members, alloc, "parts", Value::from(parts))?;
     Ok(Value::Object(members))
@@ -197,15 +216,17 @@ fn reach_value(alloc: Global, reach: Option<Reach>) -> Result<Value, AllocError>
     }
 }
 
-/// Returns the mean, the whole and its parts, and when a share has stabilised.
+/// Returns the mean, the whole and its parts from both sides, and when a share has stabilised.
 fn odds_object(alloc: Global, odds: &Odds, reach: Option<Reach>) -> Result<Value, AllocError>
     ensures { IfOk result (λ v. view v ≡ odds_data reach odds.now) }
 {
     let mean = mean_value(alloc, odds)?;
+    let most_parts = most_parts_value(alloc, odds)?;
     let parts = parts_value(alloc, odds)?;
     let reached = reach_value(alloc, reach)?;
     let mut members = Map::new(alloc);
     put(&mut members, alloc, "mean", mean)?;
+    put(&mut members, alloc, "most_parts", most_parts)?;
     put(&mut members, alloc, "of", Value::from(ODDS_WHOLE))?;
     put(&mut members, alloc, "parts", parts)?;
     put(&mut members, alloc, "reach", reached)?;
